@@ -1,0 +1,13 @@
+.PHONY: run test check
+
+# Runs the stored guest on the plain kernel.
+run:
+	cd crates/guest_host && rt run
+
+# Proves every crate from nothing, tries the must-fail edits, runs the tests and the programs.
+test:
+	rt ci
+
+# Proves what an edit changed.
+check:
+	rt all check

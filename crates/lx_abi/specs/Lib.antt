@@ -1,0 +1,5 @@
+pub mod Errors
+pub mod Lending
+pub mod Log
+pub mod Scripts
+pub mod Signals

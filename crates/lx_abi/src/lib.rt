@@ -1,0 +1,24 @@
+//! What the kernel, the tracer and the programs share: numbers, scripts, boots and log items.
+#![tactic(auto)]
+
+pub mod boot;
+pub mod bytes;
+pub mod errno;
+pub mod log;
+pub mod map;
+pub mod outcome;
+pub mod script;
+pub mod seq;
+pub mod signal;
+pub mod when;
+
+pub use boot::{Boot, GuestFile};
+pub use bytes::Bytes;
+pub use errno::Errno;
+pub use log::{Call, Cause, Item, Mode};
+pub use map::Map;
+pub use outcome::{Ended, Node, Outcome, OutcomeFile};
+pub use script::{Choice, Rule, Script, Set};
+pub use seq::Seq;
+pub use signal::Signal;
+pub use when::When;
