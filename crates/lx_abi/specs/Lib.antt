@@ -1,3 +1,4 @@
+pub mod Errnos
 pub mod Errors
 pub mod Lending
 pub mod Log

@@ -1,0 +1,5 @@
+pub mod Machine
+pub mod Turn
+pub mod Kernel
+pub mod Finite
+pub mod Laws

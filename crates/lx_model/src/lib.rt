@@ -1,0 +1,8 @@
+//! The mode table of a process and the kernel of many, over any machine: definitions, and their laws as
+//! public functions with empty bodies.
+#![tactic(auto)]
+
+pub mod laws;
+pub mod stage;
+
+pub use stage::{Own, Stage};
