@@ -1,0 +1,21 @@
+//! The instructions of RV64I: from a word of memory, and back.
+//!
+//! The terms, the formats and the table of instructions are those of The RISC-V Instruction Set
+//! Manual, Volume I: Unprivileged ISA, version 20191213.
+#![tactic(auto)]
+
+mod decoding;
+mod encoding;
+mod inst;
+mod operations;
+mod register;
+#[cfg(test)]
+mod tests;
+
+pub use decoding::{decode, one_instruction};
+pub use encoding::{Unencodable, encode};
+pub use inst::Inst;
+pub use operations::{
+    Condition, ImmediateOperation, LoadKind, Operation, Shift, StoreKind, WordOperation,
+};
+pub use register::Register;
