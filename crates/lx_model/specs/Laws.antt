@@ -4,6 +4,10 @@ use Rattle.lx_model.specs.Machine.{Machine}
 use Rattle.lx_model.specs.Kernel.{Script, Kernel, kernel_run}
 use Rattle.lx_model.specs.Finite.{Running, running, Is}
 
--- the values that code has run as the kernel does, on every machine, under every script
+-- the values that code has run as the kernel does, under every script
 abbrev pub RunsAlike : {S B : Type 0} → Machine S B → Type 0
 RunsAlike {S} {B} m = (script : Script) (follow : Bool) (v : Running S B) (k : Kernel S B) → Is v k → (pids : List ℕ) → Is (running m script follow v pids) (kernel_run m script follow k pids)
+
+-- on every machine over these two types
+abbrev pub KernelsRunAlike : Type 0 → Type 0 → Type 0
+KernelsRunAlike S B = (m : Machine S B) → RunsAlike m

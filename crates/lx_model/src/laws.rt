@@ -1,1 +1,8 @@
-//! Laws of the definitions.
+//! Laws of the definitions, each as the contract of a function with an empty body: call it to cite it.
+
+ghost use Rattle.lx_model.specs.Laws.{KernelsRunAlike};
+
+/// The kernel over finite maps runs as the kernel over functions does.
+pub fn kernels_run_alike<S, B>()
+    ensures { KernelsRunAlike S B }
+{}
