@@ -1,0 +1,5 @@
+pub mod Laid
+pub mod Lists
+pub mod Pages
+pub mod RoundTrip
+pub mod Spelled

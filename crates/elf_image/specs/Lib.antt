@@ -1,0 +1,6 @@
+pub mod Checks
+pub mod Fields
+pub mod Files
+pub mod Headers
+pub mod Images
+pub mod Layout
