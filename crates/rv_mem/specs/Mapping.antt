@@ -1,6 +1,6 @@
 -- What it means to map and unmap addresses, how many pages a memory may have, and where there is room.
 -- POSIX.1-2017, mmap and munmap: a page is 4,096 bytes here, and begins at a multiple of 4,096.
-use Rattle.std.specs.Prelude.{ℕ, zero, suc, ◌+◌, ◌*◌, ◌/◌, ◌%◌, ◌==◌, nat_lt, nat_le, Bool, true, map, Option, Some, None, is_none, if◌then◌else◌, ◌||◌, ◌&&◌}
+use Rattle.std.specs.Prelude.{ℕ, zero, suc, ◌+◌, ◌*◌, ◌/◌, ◌%◌, ◌==◌, nat_le, Bool, true, map, Option, Some, None, is_none, if◌then◌else◌, ◌||◌, ◌&&◌}
 use Rattle.std.specs.Ordering.{nat_cmp}
 use Rattle.std.specs.FinMap.{get, insert, remove, keys}
 use Rattle.std.specs.FinSet as set
