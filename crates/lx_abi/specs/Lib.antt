@@ -4,3 +4,4 @@ pub mod Lending
 pub mod Log
 pub mod Scripts
 pub mod Signals
+pub mod Status
