@@ -10,9 +10,9 @@ use Rattle.std.specs.FinMap as maps
 use mathlib.Core.Path.{fun_ext}
 use Rattle.lx_abi.specs.Log.{Noted, items_of, entries}
 use Rattle.lx_model.specs.Machine.{Machine}
-use Rattle.lx_model.specs.Turn.{Own, Alive, Born, Gone, Event, Plain, Execed, Forked, Out, turn}
+use Rattle.lx_model.specs.Turn.{Own, Alive, Dying, Born, Gone, Event, Plain, Execed, Forked, Out, turn}
 use Rattle.lx_model.specs.Kernel.{Script, put, traces, choice_at, Kernel, after_turn, with_child, turn_of, kernel_turn, kernel_run}
-use Rattle.lx_model.specs.Finite.{at, item_of, Running, ran, bore, turn_out, running_turn, running, Is}
+use Rattle.lx_model.specs.Finite.{at, item_of, placed, Running, ran, bore, turn_out, running_turn, running, Is}
 
 same_key : (q p : ℕ) → eq_by_cmp nat_cmp q p ≡ (p == q)
 same_key q p = grind (arith, nat_tests)
@@ -24,6 +24,18 @@ at-insert {X} d table p x = fun_ext (λ q. rw (maps.get-insert nat_cmp_total tab
     go : (q : ℕ) (b : Bool) → unwrap_or (cond b (Some x) (maps.get table q)) d ≡ cond b x (unwrap_or (maps.get table q) d)
     go q true = refl
     go q false = refl
+
+at-remove : {X : Type 0} (d : X) (table : maps.FinMap nat_cmp X) (p : ℕ) → at d (maps.remove table p) ≡ put (at d table) p d
+at-remove {X} d table p = fun_ext (λ q. rw (maps.get-remove nat_cmp_total table p q, same_key q p) (go q (p == q)))
+  where
+    go : (q : ℕ) (b : Bool) → unwrap_or (cond b None (maps.get table q)) d ≡ cond b d (unwrap_or (maps.get table q) d)
+    go q true = refl
+    go q false = refl
+
+at-placed : {B : Type 0} (owns : maps.FinMap nat_cmp (Own B)) (p : ℕ) (own : Own B) → at Gone (placed owns p own) ≡ put (at Gone owns) p own
+at-placed owns p (Alive b stage) = at-insert Gone owns p (Alive b stage)
+at-placed owns p (Dying w) = at-insert Gone owns p (Dying w)
+at-placed owns p Gone = at-remove Gone owns p
 
 one_item : (o : Option Noted) → option_to_list (option_map (λ (n : Noted). n.item) o) ≡ items_of (option_to_list o)
 one_item None = refl
@@ -38,7 +50,7 @@ module _ {S B : Type 0} (m : Machine S B) (script : Script) (follow : Bool) wher
   ran_is : (v : Running S B) (k : Kernel S B) → Is v k → (p : ℕ) (x : Out S B) → Is (ran v p x) (after_turn k p x)
   ran_is v k e p x = record {
     shared = refl;
-    owns = at-insert Gone v.owns p x.own ∙ ap (λ f. put f p x.own) e.owns;
+    owns = at-placed v.owns p x.own ∙ ap (λ f. put f p x.own) e.owns;
     child = e.child;
     log = ap (λ l. l ++ option_to_list (item_of x)) e.log ∙ ap (λ l. items_of k.log ++ l) (one_item x.item) ∙ sym (map-append (λ (n : Noted). n.item) k.log (option_to_list x.item));
   }

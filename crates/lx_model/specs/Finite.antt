@@ -27,8 +27,14 @@ pub record Running (S B : Type 0) : Type 0 where
   pub child : ℕ
   pub log : List Item
 
+-- a table in which the process has this part; who is gone is not in it
+abbrev pub placed : {B : Type 0} → maps.FinMap nat_cmp (Own B) → ℕ → Own B → maps.FinMap nat_cmp (Own B)
+placed owns p (Alive b stage) = maps.insert owns p (Alive b stage)
+placed owns p (Dying w) = maps.insert owns p (Dying w)
+placed owns p Gone = maps.remove owns p
+
 abbrev pub ran : {S B : Type 0} → Running S B → ℕ → Out S B → Running S B
-ran v p o = record { shared = o.shared; owns = maps.insert v.owns p o.own; child = v.child; log = v.log ++ option_to_list (item_of o) }
+ran v p o = record { shared = o.shared; owns = placed v.owns p o.own; child = v.child; log = v.log ++ option_to_list (item_of o) }
 
 abbrev pub bore : {S B : Type 0} → Running S B → Event B → Running S B
 bore v Plain = v
