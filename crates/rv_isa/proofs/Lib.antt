@@ -1,2 +1,3 @@
+mod Found
 mod Reading
 mod Unique

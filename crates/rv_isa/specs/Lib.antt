@@ -1,3 +1,4 @@
+pub mod Decoding
 pub mod Fields
 pub mod Spelling
 pub mod Table

@@ -1,5 +1,6 @@
 ghost use Rattle.std.specs.Prelude.{◌≡◌, ℕ, ◌↔◌, Some, IfSome, IfNone};
 ghost use Rattle.rv_isa.specs.Fields.{rd_of, rs1_of, rs2_of, funct3_of, funct7_of, i_immediate, s_immediate, b_immediate, j_immediate};
+ghost use Rattle.rv_isa.specs.Decoding.{instruction};
 ghost use Rattle.rv_isa.specs.Spelling.{Spells};
 ghost use Rattle.rv_isa.specs.declared.inst.Inst.{Inst};
 
@@ -199,7 +200,8 @@ fn spelled(word: u32) -> Option<Inst>
 
 /// The instruction that a word spells. A word of which there is none is illegal.
 pub fn decode(word: u32) -> Option<Inst>
-    ensures { (i : Inst) → (result ≡ Some i) ↔ Spells i word }
+    ensures exact { (i : Inst) → (result ≡ Some i) ↔ Spells i word }
+    ensures value { result ≡ instruction word }
 {
     one_instruction();
     spelled(word)
