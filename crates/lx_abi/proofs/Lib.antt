@@ -1,1 +1,4 @@
+pub mod ErrnoNumbers
 pub mod Maps
+pub mod Finds
+pub mod SignalNumbers

@@ -1,3 +1,4 @@
+pub mod Calls
 pub mod Errnos
 pub mod Errors
 pub mod Lending
@@ -5,3 +6,4 @@ pub mod Log
 pub mod Scripts
 pub mod Signals
 pub mod Status
+pub mod Tables

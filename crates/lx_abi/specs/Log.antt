@@ -1,5 +1,5 @@
 -- The log: whose an item is, which occurrence of a call an entry is, and items with what a printer reads.
-use Rattle.std.specs.Prelude.{ℕ, Bool, true, false, ◌==◌, ◌&&◌, List, length, map, filter}
+use Rattle.std.specs.Prelude.{ℕ, Bool, false, ◌==◌, ◌&&◌, List, length, map, filter}
 use Rattle.lx_abi.specs.declared.log.Item.{Item}
 use Rattle.lx_abi.specs.declared.log.Item.TheVariants.{Enter, Done, Taken, Exit}
 

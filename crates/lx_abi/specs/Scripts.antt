@@ -1,5 +1,5 @@
 -- What a script does to each occurrence of a call (strace(1), tampering).
-use Rattle.std.specs.Prelude.{ℕ, ◌-◌, ◌%◌, List, [], ◌∷◌, Option, Some, None, Bool, true, false, ◌&&◌, not, if◌then◌else◌, nat_eq, nat_le, reverse, find}
+use Rattle.std.specs.Prelude.{ℕ, ◌-◌, ◌%◌, List, Option, Some, None, Bool, true, ◌&&◌, not, if◌then◌else◌, nat_eq, nat_le, reverse, find}
 use Rattle.std.specs.List.{list_any}
 use Rattle.lx_abi.specs.declared.script.Set.{Set}
 use Rattle.lx_abi.specs.declared.script.Set.TheVariants.{Only, AllBut}

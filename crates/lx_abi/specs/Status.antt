@@ -1,7 +1,6 @@
 -- Status words of wait(2), and what they report of a tracee (ptrace(2), "Stopped states").
 use Rattle.std.specs.Prelude.{ℕ, ◌+◌, ◌*◌, ◌/◌, ◌%◌, ◌==◌, ◌&&◌, ◌||◌, Bool, true, false, cond, nat_lt, Option, Some, None}
 use Rattle.std.specs.Option.{option_map}
-use Rattle.lx_abi.specs.declared.signal.Signal.{Signal}
 use Rattle.lx_abi.specs.declared.status.EventStop.TheVariants.{Fork, Exec, Stop as Started}
 use Rattle.lx_abi.specs.declared.status.Stop.{Stop}
 use Rattle.lx_abi.specs.declared.status.Stop.TheVariants.{Syscall, Signal as By_signal, Event, Ended}

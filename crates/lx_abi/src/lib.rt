@@ -3,6 +3,7 @@
 
 pub mod boot;
 pub mod bytes;
+pub mod calls;
 pub mod errno;
 pub mod log;
 pub mod map;
@@ -17,6 +18,7 @@ pub mod when;
 
 pub use boot::{Boot, GuestFile};
 pub use bytes::Bytes;
+pub use calls::{Argument, Class, Format};
 pub use errno::Errno;
 pub use log::{Call, Cause, Item, Mode};
 pub use map::Map;

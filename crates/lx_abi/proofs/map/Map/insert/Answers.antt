@@ -1,4 +1,4 @@
-use Rattle.std.proofs.Common.{ap, sym, ◌∙◌}
+use Rattle.std.proofs.Common.{ap, ◌∙◌}
 use Rattle.std.specs.FinMap as maps
 use Rattle.lx_abi.proofs.Maps.{made_by_insert}
 use Rattle.lx_abi.proofs.map.Map.insert.Goals as goal

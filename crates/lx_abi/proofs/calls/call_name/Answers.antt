@@ -1,0 +1,12 @@
+use Rattle.std.proofs.Common.{rules, ◌≡◌, ◌==◌, ◌∙◌, option_map, find, ap}
+use Rattle.std.specs.Option.{option_copied}
+use Rattle.lx_abi.specs.Calls.{calls, call_name}
+use Rattle.lx_abi.specs.Tables.{call_row}
+use Rattle.lx_abi.proofs.calls.call_name.Goals as goal
+
+pub returns : goal.returns
+unfolding call_name calls
+returns c =
+    let row : option_map call_row (option_copied c.row_numbered.result) ≡ find (λ row. row.0 == c.args.number) calls = c.row_numbered.ensures in
+    let f : option_map (λ t. t.now) c.map.result ≡ option_map (λ row. row.1) (option_map call_row (option_copied c.row_numbered.result)) = search rules in
+    f ∙ ap (λ o. option_map (λ row. row.1) o) row

@@ -1,0 +1,11 @@
+use Rattle.std.proofs.Common.{rules, tests, ◌==◌, ◌∙◌, sym, ap, option_map}
+use Rattle.std.proofs.lemmas.Iterator.{YieldsList-from_slice}
+use Rattle.std.proofs.lemmas.Iterator.Search.{find_from_yields_List}
+use Rattle.lx_abi.specs.Tables.{call_row}
+use Rattle.lx_abi.proofs.Finds.{find-map}
+use Rattle.lx_abi.proofs.calls.row_numbered.Goals as goal
+
+pub returns : goal.returns
+returns c =
+    let found = find_from_yields_List (λ row. row.0 == c.args.number) _ _ c.find.result c.find.ensures.ran (YieldsList-from_slice c.args.rows.now (cc)) (λ x b q k. search (rules, tests)) in
+    ap (λ o. option_map call_row o) found ∙ sym (find-map call_row (λ row. row.0 == c.args.number) c.args.rows.now)
