@@ -84,6 +84,11 @@ pub fn one_instruction()
     ensures { (w : ℕ) (i j : Inst) → Spells i w → Spells j w → i ≡ j }
 {}
 
+/// The instruction of a word as a function of the word, for every number.
+pub fn instruction_is_spelled()
+    ensures { (w : ℕ) (i : Inst) → (instruction w ≡ Some i) ↔ Spells i w }
+{}
+
 /// The instruction that the word spells, if there is one.
 fn spelled(word: u32) -> Option<Inst>
     ensures found { IfSome result (λ i. Spells i word) }

@@ -12,7 +12,7 @@ mod register;
 #[cfg(test)]
 mod tests;
 
-pub use decoding::{decode, one_instruction};
+pub use decoding::{decode, instruction_is_spelled, one_instruction};
 pub use encoding::{Unencodable, encode};
 pub use inst::Inst;
 pub use operations::{
