@@ -1,5 +1,5 @@
 -- The values run as the definitions do.
-use Rattle.std.proofs.Common.{◌≡◌, ℕ, suc, Bool, true, false, cond, List, [], ◌∷◌, ◌++◌, map, Option, Some, None, refl, sym, ap, ap₂, ◌∙◌, arith, unwrap_or}
+use Rattle.std.proofs.Common.{◌≡◌, ℕ, suc, Bool, true, false, cond, List, [], ◌∷◌, ◌++◌, Option, Some, None, refl, sym, ap, ap₂, ◌∙◌, arith, unwrap_or}
 use Rattle.std.specs.Prelude.{◌==◌}
 use Rattle.std.specs.Option.{option_map, option_to_list}
 use Rattle.std.proofs.lemmas.List.{map-append}
@@ -8,10 +8,10 @@ use Rattle.std.specs.Ordering.{nat_cmp, eq_by_cmp}
 use Rattle.std.proofs.lemmas.Cmp.{nat_cmp_total}
 use Rattle.std.specs.FinMap as maps
 use mathlib.Core.Path.{fun_ext}
-use Rattle.lx_abi.specs.Log.{Noted, items_of, entries}
+use Rattle.lx_abi.specs.Log.{Noted, items_of}
 use Rattle.lx_model.specs.Machine.{Machine}
-use Rattle.lx_model.specs.Turn.{Own, Alive, Dying, Born, Gone, Event, Plain, Execed, Forked, Out, turn}
-use Rattle.lx_model.specs.Kernel.{Script, put, traces, choice_at, Kernel, after_turn, with_child, turn_of, kernel_turn, kernel_run}
+use Rattle.lx_model.specs.Turn.{Own, Alive, Dying, Born, Gone, Event, Plain, Execed, Forked, Out}
+use Rattle.lx_model.specs.Kernel.{Script, put, Kernel, after_turn, with_child, turn_of, kernel_turn, kernel_run}
 use Rattle.lx_model.specs.Finite.{at, item_of, placed, Running, ran, bore, turn_out, running_turn, running, Is}
 
 same_key : (q p : ℕ) → eq_by_cmp nat_cmp q p ≡ (p == q)

@@ -1,1 +1,9 @@
 pub mod Bridge
+pub mod Registers
+pub mod Phases
+pub mod Maps
+pub mod Views
+pub mod Words
+pub mod Local
+pub mod Whole
+pub mod Final

@@ -3,3 +3,10 @@ pub mod Turn
 pub mod Kernel
 pub mod Finite
 pub mod Laws
+pub mod Ptrace
+pub mod Requests
+pub mod Parts
+pub mod Tracer
+pub mod World
+pub mod View
+pub mod Headline

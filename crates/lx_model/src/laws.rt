@@ -6,3 +6,10 @@ ghost use Rattle.lx_model.specs.Laws.{KernelsRunAlike};
 pub fn kernels_run_alike<S, B>()
     ensures { KernelsRunAlike S B }
 {}
+
+ghost use Rattle.lx_model.specs.Headline.{IsTransparent};
+
+/// A traced run has the outcome of the untraced kernel under the script, turn by turn, and its trace is that kernel's.
+pub fn tracing_is_transparent<S, B>()
+    ensures { IsTransparent S B }
+{}

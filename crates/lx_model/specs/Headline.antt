@@ -1,0 +1,75 @@
+-- Transparency: a traced run does what the untraced kernel does under the script, and tells of it.
+use Rattle.std.specs.Prelude.{◌≡◌, ℕ, Bool, true, false, List, [], ◌++◌, Some, None}
+use Rattle.lx_abi.specs.declared.log.Call.{Call}
+use Rattle.lx_abi.specs.declared.log.Cause.{Cause}
+use Rattle.lx_abi.specs.declared.outcome.Outcome.{Outcome}
+use Rattle.lx_abi.specs.declared.schedule.Event.{Event}
+use Rattle.lx_abi.specs.declared.signal.Signal.{Signal}
+use Rattle.lx_abi.specs.Status.{is_end}
+use Rattle.lx_model.specs.Machine.{Machine, IsMachine, Ends, Kills}
+use Rattle.lx_model.specs.Turn.{Own, Alive, Dying, Gone}
+use Rattle.lx_model.specs.Kernel.{Script, traces, Kernel, kernel_run, first_kernel}
+use Rattle.lx_model.specs.Requests.{may_join, may_peek}
+use Rattle.lx_model.specs.Parts.{Half, Texts, Options, Part}
+use Rattle.lx_model.specs.Tracer.{Focus, Waiting, Serving, Asking_outcome, Over, Turns_over}
+use Rattle.lx_model.specs.World.{World, world_run, effective, first_world}
+use Rattle.lx_model.specs.View.{view, traced, reads, most_reads, parts}
+
+-- a process ends with a wait word: an exit code times 256, or a signal's number (wait(2))
+pub record HasWaitWords {S B : Type 0} (m : Machine S B) : Type 0 where
+  pub of_call : (s : S) (child p : ℕ) (c : Call) (b : B) (word : ℕ) → m.call s child p c b ≡ Ends word → is_end word ≡ true
+  pub of_signal : (s : S) (p : ℕ) (signal : Signal) (cause : Cause) (b : B) (word : ℕ) → m.take s p signal cause b ≡ Kills word → is_end word ≡ true
+
+-- each read is one that is answered, and a text is whole after so many
+pub record IsTexts (t : Texts) : Type 0 where
+  pub stops : (half : Half) (peek : ℕ → ℕ → List ℕ) → t.wants half (reads t peek half most_reads []) ≡ None
+  pub fits : (half : Half) (got : List (List ℕ)) (w : ℕ × ℕ) → t.wants half got ≡ Some w → may_peek w.1 ≡ true
+
+-- a joined signal is one that kill(2) takes
+abbrev pub IsScript : Script → Type 0
+IsScript script = (call n : ℕ) (signal : Signal) → (script call n).signal ≡ Some signal → may_join signal.number ≡ true
+
+-- what is shown begins a view's parts, and is all of them once no tracee is left
+pub record TellsView (printed view : List Part) (over : Type 0) : Type 0 where
+  pub later : List Part
+  pub begins : printed ++ later ≡ view
+  pub whole : over → printed ≡ view
+
+-- Wait was answered ECHILD
+abbrev pub IsPast : Focus → Type 0
+IsPast Waiting = ⊥
+IsPast (Serving p place) = ⊥
+IsPast Asking_outcome = Unit {0}
+IsPast (Over x) = Unit {0}
+IsPast Turns_over = ⊥
+
+-- the run of the world
+abbrev pub traced_run : {S B : Type 0} → Machine S B → (S → Outcome) → Options → Script → S → B → List Event → World S B
+traced_run m outcome o script s b events = world_run m outcome o script (first_world s b) events
+
+-- the untraced kernel's, of the same effective turns
+abbrev pub plain_run : {S B : Type 0} → Machine S B → (S → Outcome) → Options → Script → S → B → List Event → Kernel S B
+plain_run m outcome o script s b events = kernel_run m script o.follow (first_kernel s b) (effective m outcome o script (first_world s b) events)
+
+abbrev pub is_alive : {B : Type 0} → Own B → Bool
+is_alive (Alive b stage) = true
+is_alive (Dying word) = false
+is_alive Gone = false
+
+-- Files, output and statuses are the same at every moment, and the reply to Outcome says them; the trace
+-- is a view's; and no tracee lives on.
+pub record Headline {S B : Type 0} (outcome : S → Outcome) (o : Options) (w : World S B) (k : Kernel S B) : Type 0 where
+  pub same_outcome : outcome w.host.shared ≡ outcome k.shared
+  pub replied : (x : Outcome) → w.tracer.focus ≡ Over x → x ≡ outcome k.shared
+  pub lost : ℕ → Bool
+  pub tells : TellsView w.printed (parts o (view lost (traced o.follow k.log))) (IsPast w.tracer.focus)
+  pub none_left : IsPast w.tracer.focus → (q : ℕ) → traces o.follow q ≡ true → is_alive (k.owns q) ≡ false
+
+-- for every set of options, script, beginning and list of events
+abbrev pub HeadlineAt : {S B : Type 0} → Machine S B → Type 0
+HeadlineAt {S} {B} m = (outcome : S → Outcome) (o : Options) → IsTexts o.texts → (script : Script) → IsScript script → (s : S) (b : B) (events : List Event) →
+    Headline outcome o (traced_run m outcome o script s b events) (plain_run m outcome o script s b events)
+
+-- for every machine over these two types
+abbrev pub IsTransparent : Type 0 → Type 0 → Type 0
+IsTransparent S B = (m : Machine S B) → IsMachine m → HasWaitWords m → HeadlineAt m
