@@ -1,0 +1,5 @@
+pub mod Faults
+pub mod Registers
+pub mod Arithmetic
+pub mod Transfers
+pub mod Steps

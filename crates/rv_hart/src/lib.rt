@@ -1,0 +1,15 @@
+//! One step of a RISC-V hart: RV64I over the memory of one guest.
+//!
+//! The definitions follow The RISC-V Instruction Set Manual, Volume I: Unprivileged ISA, version
+//! 20191213. Instructions are 32 bits wide, so a jump must go to a multiple of 4.
+#![tactic(auto)]
+
+mod execute;
+mod hart;
+mod operate;
+mod outcome;
+mod transfer;
+
+pub use execute::step;
+pub use hart::Hart;
+pub use outcome::{FaultKind, Step};
