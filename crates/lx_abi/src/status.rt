@@ -1,6 +1,7 @@
 //! Status words of wait(2).
 
 ghost use Rattle.std.specs.Prelude.{◌≡◌};
+ghost use Rattle.lx_abi.specs.Status.{stop_by, end_by};
 
 use crate::signal::Signal;
 
@@ -28,6 +29,51 @@ pub enum Stop {
 #[derive(Clone, Copy, Debug, PartialEq, Eq)]
 pub struct Status {
     pub word: u32,
+}
+
+/// What stands above the low byte of a stopped tracee's word.
+fn stopped_by(high: u32) -> Option<Stop>
+    ensures { result ≡ stop_by high }
+{
+    match high {
+        0x85 => Some(Stop::Syscall { good: true }),
+        0x105 => Some(Stop::Event {
+            event: EventStop::Fork,
+        }),
+        0x405 => Some(Stop::Event {
+            event: EventStop::Exec,
+        }),
+        0x8005 => Some(Stop::Event {
+            event: EventStop::Stop,
+        }),
+        _ => Signal::from_number(u64::from(high)).map(|signal| Stop::Signal { signal }),
+    }
+}
+
+fn ended_by(word: u32) -> Option<Stop>
+    ensures { result ≡ end_by word }
+{
+    if (word % 256 == 0 && word < 0x10000) || (0 < word && word < 32) {
+        Some(Stop::Ended { word })
+    } else {
+        None
+    }
+}
+
+impl Status {
+    ghost use Rattle.lx_abi.specs.Status.{stop_of};
+
+    /// What the word reports of a tracee that has PTRACE_O_TRACESYSGOOD; none for a word of no stop and no end.
+    #[tactic(auto, unfolding(crate::specs::Status::stop_of))]
+    pub fn stop(self) -> Option<Stop>
+        ensures { result ≡ stop_of self.word }
+    {
+        if self.word % 256 == 0x7f {
+            stopped_by(self.word / 256)
+        } else {
+            ended_by(self.word)
+        }
+    }
 }
 
 impl Stop {
