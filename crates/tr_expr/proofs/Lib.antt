@@ -1,0 +1,3 @@
+pub mod Lowest
+pub mod Marks
+pub mod Numerals

@@ -1,0 +1,9 @@
+pub mod Exprs
+pub mod Faults
+pub mod Numbers
+pub mod Parts
+pub mod Rules
+pub mod Saids
+pub mod Sets
+pub mod Texts
+pub mod Whens
