@@ -4,8 +4,8 @@ use Rattle.std.specs.Str.{bytes_eq}
 use Rattle.lx_abi.specs.declared.errno.Errno.{Errno}
 
 -- its negative, as a word of 64 bits (the Linux convention of syscall(2))
-abbrev pub error_word : Errno → ℕ
-error_word e = 2 ^ 64 - e.number
+abbrev pub error_word : ℕ → ℕ
+error_word number = 2 ^ 64 - number
 
 -- 1 to 4095
 abbrev pub is_errno : ℕ → Bool

@@ -79,7 +79,7 @@ impl Errno {
 
     /// What a call that fails leaves in a0.
     pub fn word(self) -> u64
-        ensures { result ≡ error_word self }
+        ensures { result ≡ error_word self.number }
     {
         0u64.wrapping_sub(u64::from(self.number))
     }

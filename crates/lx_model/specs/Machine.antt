@@ -1,10 +1,9 @@
 -- A machine: what processes share (S), what each has to itself beside its stage (B, its body), and
 -- what instructions, calls and signals do to these.
-use Rattle.std.specs.Prelude.{◌≡◌, ℕ, ◌+◌, ◌-◌, ◌^◌, ◌%◌, Bool, List, [], ◌∷◌, length, get_or, set}
+use Rattle.std.specs.Prelude.{◌≡◌, ℕ, zero, suc, ◌+◌, ◌-◌, ◌^◌, ◌%◌, Bool, List, [], ◌∷◌, length, get_or, set}
 use Rattle.lx_abi.specs.declared.log.Call.{Call}
 use Rattle.lx_abi.specs.declared.log.Cause.{Cause}
 use Rattle.lx_abi.specs.declared.signal.Signal.{Signal}
-use Rattle.lx_abi.specs.declared.errno.Errno.{Errno}
 use Rattle.lx_abi.specs.Errnos.{enosys}
 
 -- pc and x1 to x31 (RISC-V Unprivileged ISA 20191213, section 2.1; x0 is always 0)
@@ -57,8 +56,8 @@ pub data Ran (S B : Type 0) : Type 0 where
 
 -- what a call does
 pub data Answer (S B : Type 0) : Type 0 where
-  -- nothing, and its result is the error
-  Refused : Errno → Answer S B
+  -- nothing, and its result is the error with this number
+  Refused : ℕ → Answer S B
   -- these changes, and the result
   Returns : S → B → ℕ → Answer S B
   -- the same, and pc and a0 stand already
