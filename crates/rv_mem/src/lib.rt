@@ -3,6 +3,7 @@
 
 mod access;
 pub mod fault;
+mod mapping;
 mod page;
 pub mod rights;
 mod space;
