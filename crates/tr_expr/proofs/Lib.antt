@@ -1,3 +1,5 @@
 pub mod Lowest
 pub mod Marks
 pub mod Numerals
+pub mod Refusals
+pub mod Runs
