@@ -7,3 +7,5 @@ pub mod Words
 pub mod Local
 pub mod Whole
 pub mod Final
+pub mod TinyMachine
+pub mod Computed

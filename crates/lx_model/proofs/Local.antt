@@ -1,5 +1,5 @@
 -- One process at a time: a turn, and a served request, lead from a phase to a phase.
-use Rattle.std.proofs.Common.{zero, suc, ◌≡◌, ◌⊎◌, inl, inr, ⊎_elim, ℕ, ◌+◌, Bool, true, false, cond, List, [], ◌∷◌, ◌++◌, map, Option, Some, None, length, refl, sym, ap, ap₂, subst, ◌∙◌, add-zero, append-nil, arith, unwrap_or}
+use Rattle.std.proofs.Common.{zero, suc, ◌≡◌, ◌⊎◌, inl, inr, ⊎_elim, ℕ, ◌+◌, ◌≤◌, Bool, true, false, cond, List, [], ◌∷◌, ◌++◌, map, Option, Some, None, length, length-append, refl, sym, ap, ap₂, subst, ◌∙◌, add-zero, append-nil, arith, unwrap_or}
 use Rattle.std.specs.Prelude.{◌==◌, ◌||◌}
 use Rattle.std.specs.Option.{option_to_list}
 use Rattle.std.proofs.lemmas.Bool.Decides.{nat_tests}
@@ -320,8 +320,17 @@ module _ {S B : Type 0} (m : Machine S B) (laws : IsMachine m) (o : Options) (te
   read_all peek half got zero r w = r.whole
   read_all peek half got (suc n) r w = ap (read_on peek (reads o.texts peek half n) got) (sym w) ∙ r.whole
 
+  -- after so many reads nothing is wanted
+  reads_end : (peek : ℕ → ℕ → List ℕ) (half : Half) (n : ℕ) (got : List (List ℕ)) → most_reads ≤ length got + n → o.texts.wants half (reads o.texts peek half n got) ≡ None
+  reads_end peek half zero got l = texts.stops half got (omega (arith, l))
+  reads_end peek half (suc n) got l = go (o.texts.wants half got) refl (λ w. reads_end peek half n (got ++ peek w.0 w.1 ∷ []) (omega (arith, l, length-append got (peek w.0 w.1 ∷ []))))
+    where
+      go : (w : Option (ℕ × ℕ)) → o.texts.wants half got ≡ w → ((x : ℕ × ℕ) → o.texts.wants half (reads o.texts peek half n (got ++ peek x.0 x.1 ∷ [])) ≡ None) → o.texts.wants half (read_on peek (reads o.texts peek half n) got w) ≡ None
+      go None e again = e
+      go (Some x) e again = again x
+
   read_more : (peek : ℕ → ℕ → List ℕ) (half : Half) (got : List (List ℕ)) (n : ℕ) (w : ℕ × ℕ) → Reading o peek half got n → o.texts.wants half got ≡ Some w → (j : ℕ) × Reading o peek half (got ++ peek w.0 w.1 ∷ []) j
-  read_more peek half got zero w r q = absurd (cc (r.whole, texts.stops half peek, q))
+  read_more peek half got zero w r q = absurd (cc (r.whole, reads_end peek half most_reads [] (omega arith), q))
   read_more peek half got (suc n) w r q = (n, record { whole = ap (read_on peek (reads o.texts peek half n) got) (sym q) ∙ r.whole })
 
   abbrev entry_half : B → Half

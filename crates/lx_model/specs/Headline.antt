@@ -1,5 +1,5 @@
 -- Transparency: a traced run does what the untraced kernel does under the script, and tells of it.
-use Rattle.std.specs.Prelude.{◌≡◌, ℕ, Bool, true, false, List, [], ◌++◌, Some, None}
+use Rattle.std.specs.Prelude.{◌≡◌, ℕ, ◌≤◌, Bool, true, false, List, ◌++◌, Some, None, length}
 use Rattle.lx_abi.specs.declared.log.Call.{Call}
 use Rattle.lx_abi.specs.declared.log.Cause.{Cause}
 use Rattle.lx_abi.specs.declared.outcome.Outcome.{Outcome}
@@ -13,16 +13,16 @@ use Rattle.lx_model.specs.Requests.{may_join, may_peek}
 use Rattle.lx_model.specs.Parts.{Half, Texts, Options, Part}
 use Rattle.lx_model.specs.Tracer.{Focus, Waiting, Serving, Asking_outcome, Over, Turns_over}
 use Rattle.lx_model.specs.World.{World, world_run, effective, first_world}
-use Rattle.lx_model.specs.View.{view, traced, reads, most_reads, parts}
+use Rattle.lx_model.specs.View.{view, traced, most_reads, parts}
 
 -- a process ends with a wait word: an exit code times 256, or a signal's number (wait(2))
 pub record HasWaitWords {S B : Type 0} (m : Machine S B) : Type 0 where
   pub of_call : (s : S) (child p : ℕ) (c : Call) (b : B) (word : ℕ) → m.call s child p c b ≡ Ends word → is_end word ≡ true
   pub of_signal : (s : S) (p : ℕ) (signal : Signal) (cause : Cause) (b : B) (word : ℕ) → m.take s p signal cause b ≡ Kills word → is_end word ≡ true
 
--- each read is one that is answered, and a text is whole after so many
+-- each read is one that is answered, and a text is whole after so many, whatever was read
 pub record IsTexts (t : Texts) : Type 0 where
-  pub stops : (half : Half) (peek : ℕ → ℕ → List ℕ) → t.wants half (reads t peek half most_reads []) ≡ None
+  pub stops : (half : Half) (got : List (List ℕ)) → most_reads ≤ length got → t.wants half got ≡ None
   pub fits : (half : Half) (got : List (List ℕ)) (w : ℕ × ℕ) → t.wants half got ≡ Some w → may_peek w.1 ≡ true
 
 -- a joined signal is one that kill(2) takes

@@ -10,3 +10,7 @@ pub mod Tracer
 pub mod World
 pub mod View
 pub mod Headline
+pub mod Tiny
+pub mod TinyRuns
+pub mod ModeRows
+pub mod RequestRows

@@ -3,6 +3,7 @@
 #![tactic(auto)]
 
 pub mod laws;
+pub mod rows;
 pub mod stage;
 
 pub use stage::{Own, Stage};
