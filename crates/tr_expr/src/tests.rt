@@ -2,6 +2,7 @@
 
 use crate::{Expr, ExprFault, Rule, Script, parse_expr, parse_fault, parse_inject, parse_trace};
 use std::alloc::Global;
+use std::test::Fail;
 
 const WRITE: u64 = 64;
 
@@ -104,8 +105,8 @@ fn names_calls(rt: HostRuntime) {
 fn results_of(rules: Vec<Rule>) -> [Option<i64>; 8] {
     let script = Script::new(rules);
     let mut results = [None; 8];
-    for (i, n) in (0..8).zip(1..) {
-        results[i] = script.choose(WRITE, n).result;
+    for (i, place) in results.iter_mut().enumerate() {
+        *place = script.choose(WRITE, i as u64 + 1).result;
     }
     results
 }
@@ -157,4 +158,78 @@ fn chooses_occurrences(rt: HostRuntime) {
         let results = rules_of(rt.alloc(), &texts).map(results_of);
         assert_eq!(rt; results, Some(wanted), "{} {}", texts[0], texts[1]);
     }
+}
+
+/// What a word asks for: whether it traces, whether it names the call, and the result at the first occurrence.
+fn asked_by(alloc: Global, word: &str, call: u64) -> Result<(bool, bool, Option<i64>), ExprFault> {
+    Ok(match parse_expr(alloc, word)? {
+        Expr::Trace(set) => (true, set.contains(call), None),
+        Expr::Inject(rule) => (false, rule.calls.contains(call), rule.choice.result),
+    })
+}
+
+#[test]
+fn reads_words(rt: HostRuntime) {
+    for (word, call, wanted) in [
+        ("trace=write", WRITE, Ok((true, true, None))),
+        ("write", WRITE, Ok((true, true, None))),
+        ("!write", WRITE, Ok((true, false, None))),
+        ("inject=getpid:retval=9", GETPID, Ok((false, true, Some(9)))),
+        ("fault=getpid:when=2", GETPID, Ok((false, true, Some(-38)))),
+        ("fault=getpid", READ, Ok((false, false, Some(-38)))),
+        (
+            "fault=getpid:error=EPERM",
+            GETPID,
+            Ok((false, true, Some(-1))),
+        ),
+        ("inject=write", WRITE, Err(ExprFault::NothingToDo)),
+        ("write:error=EIO", WRITE, Err(ExprFault::UnknownCall)),
+        ("signal=none", WRITE, Err(ExprFault::UnknownCall)),
+        ("trace", WRITE, Err(ExprFault::UnknownCall)),
+    ] {
+        assert_eq!(rt; asked_by(rt.alloc(), word, call), wanted, "{word}");
+    }
+}
+
+fn fault_parts_refused(alloc: Global, text: &str) -> Option<ExprFault> {
+    parse_fault(alloc, text).err()
+}
+
+#[test]
+fn refuses_faults(rt: HostRuntime) {
+    for (text, fault) in [
+        ("write:retval=1", ExprFault::UnknownPart),
+        ("write:signal=USR1", ExprFault::UnknownPart),
+        ("write:retval=x:error=0", ExprFault::BadNumber),
+        ("write:when=0", ExprFault::BadWhen),
+    ] {
+        assert_eq!(rt;
+            fault_parts_refused(rt.alloc(), text),
+            Some(fault),
+            "{text}"
+        );
+    }
+}
+
+/// The faults by number, as their number and text give them.
+#[test]
+fn numbers_and_texts(rt: HostRuntime) -> Result<(), Fail> {
+    for (fault, wanted) in [
+        (ExprFault::UnknownCall, "1 no system call has this name"),
+        (
+            ExprFault::NothingToDo,
+            "8 neither an error nor a return value nor a signal is given",
+        ),
+        (
+            ExprFault::UnknownPart,
+            "11 a part is not one that this expression takes",
+        ),
+    ] {
+        let number = fault.number();
+        assert_eq!(rt;
+            format!(in rt.alloc(); "{number} {fault}")?.as_str(),
+            wanted
+        );
+    }
+    Ok(())
 }
