@@ -16,9 +16,10 @@ use Rattle.lx_model.specs.Ptrace.{Report}
 use Rattle.lx_model.specs.Requests.{serve_wait}
 use Rattle.lx_model.specs.Parts.{Options}
 use Rattle.lx_model.specs.Tracer.{Known, Place, Focus, Waiting, Serving, Asking_outcome, Over, Turns_over, focus_on, took_status, next_at, request}
-use Rattle.lx_model.specs.World.{World, met, happens_asked, happens, world_run, first_world}
+use Rattle.lx_model.specs.World.{World, met, happens_asked, happens, world_run, effective, first_world}
 use Rattle.lx_model.specs.View.{parts}
 use Rattle.lx_model.specs.Headline.{IsPast, IsTransparent, traced_run, plain_run}
+use Rattle.lx_model.proofs.Apart.{the_dead_have_ended}
 use Rattle.lx_model.proofs.Phases.{Phase, Boot_held, Unborn, items_in, is_unborn}
 use Rattle.lx_model.proofs.Whole.{Tie, Tied, run_tied, is_past, hand_at, told_so_far, all_told, none_left}
 
@@ -132,5 +133,5 @@ transparent m laws words outcome o texts script scripts s b events =
         begins = told_so_far m o script w k t;
         whole = λ h. all_told m o script w k t (is_past_if w.tracer.focus h);
       };
-      none_left = λ h. none_left m o script w k t (is_past_if w.tracer.focus h);
+      all_ended = λ h q l g tr. the_dead_have_ended m script o.follow s b (effective m outcome o script (first_world s b) events) q l g (none_left m o script w k t (is_past_if w.tracer.focus h) q tr);
     }

@@ -9,3 +9,4 @@ pub mod Whole
 pub mod Final
 pub mod TinyMachine
 pub mod Computed
+pub mod Apart

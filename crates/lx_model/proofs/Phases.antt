@@ -1,5 +1,5 @@
 -- The table: where a process is between the kernel and the tracer, and what every part knows there.
-use Rattle.std.proofs.Common.{◌≡◌, ℕ, ◌+◌, Bool, true, false, cond, ◌||◌, List, [], ◌∷◌, ◌++◌, Option, Some, None, filter}
+use Rattle.std.proofs.Common.{◌≡◌, ℕ, ◌+◌, Bool, true, false, cond, List, [], ◌∷◌, ◌++◌, Option, Some, None, filter}
 use Rattle.std.specs.Prelude.{◌==◌}
 use Rattle.lx_abi.specs.declared.log.Call.{Call}
 use Rattle.lx_abi.specs.declared.log.Cause.{Cause}
@@ -18,7 +18,7 @@ use Rattle.lx_model.specs.Kernel.{Script}
 use Rattle.lx_model.specs.Ptrace.{Watch, Proc, Report}
 use Rattle.lx_model.specs.Parts.{Half, At_entry, At_exit, Options}
 use Rattle.lx_model.specs.Tracer.{Known, Place, Seizing, Entry_regs, Entry_peek, Entry_set, Exit_regs, Exit_set, Exit_peek, Signal_info, Resuming, signal_word}
-use Rattle.lx_model.specs.View.{may_lose, reads, most_reads}
+use Rattle.lx_model.specs.View.{has_exit, may_lose, reads, most_reads}
 use Rattle.lx_model.proofs.Registers.{no_such_result}
 
 pub data Phase (B : Type 0) : Type 0 where
@@ -328,16 +328,6 @@ DuesOf p (i ∷ dues) = (due_pid i ≡ p) × DuesOf p dues
 abbrev pub AllOf : ℕ → List Noted → Type 0
 AllOf p [] = Unit {0}
 AllOf p (i ∷ items) = (pid_of i.item ≡ p) × AllOf p items
-
-abbrev pub is_exit : ℕ → Item → Bool
-is_exit p (Enter q c) = false
-is_exit p (Done q c x b) = false
-is_exit p (Signalled q n cause) = false
-is_exit p (Exit q w m) = p == q
-
-abbrev pub has_exit : ℕ → List Noted → Bool
-has_exit p [] = false
-has_exit p (i ∷ items) = is_exit p i.item || has_exit p items
 
 -- does it add nothing more to the trace
 abbrev pub dead : {B : Type 0} → Phase B → Bool

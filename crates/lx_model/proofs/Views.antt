@@ -7,8 +7,8 @@ use Rattle.lx_abi.specs.declared.log.Mode.{Mode}
 use Rattle.lx_abi.specs.Log.{Noted, pid_of}
 use Rattle.lx_model.specs.Kernel.{put}
 use Rattle.lx_model.specs.Ptrace.{is_there}
-use Rattle.lx_model.specs.View.{first_of, may_lose, is_kill, kills, view}
-use Rattle.lx_model.proofs.Phases.{noted_of, AllOf, exit_of, has_exit, is_exit}
+use Rattle.lx_model.specs.View.{first_of, has_exit, is_exit, may_lose, is_kill, kills, view}
+use Rattle.lx_model.proofs.Phases.{noted_of, AllOf, exit_of}
 use Rattle.lx_model.proofs.Maps.{same_or_not, is_same, is_not_same, put_here, put_apart, items_without}
 
 abbrev first_or : Option Noted → Option Noted → Option Noted

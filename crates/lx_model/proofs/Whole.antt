@@ -31,10 +31,11 @@ use Rattle.lx_model.specs.Requests.{Answered, answer, answered, take_report, ser
 use Rattle.lx_model.specs.Parts.{Options, Part}
 use Rattle.lx_model.specs.Tracer.{Known, Place, Resuming, asks, Heard, hears, Focus, Waiting, Serving, Asking_outcome, Over, Turns_over, focus_on, heard, turned_over, took_status, next_at, request}
 use Rattle.lx_model.specs.World.{World, met, happens_asked, happens, world_run, turns_of, effective}
-use Rattle.lx_model.specs.View.{view, traced, part, parts}
-use Rattle.lx_model.specs.Headline.{HasWaitWords, IsTexts, IsScript, is_alive}
+use Rattle.lx_model.specs.View.{has_exit, view, traced, part, parts}
+use Rattle.lx_model.specs.Laws.{is_alive}
+use Rattle.lx_model.specs.Headline.{HasWaitWords, IsTexts, IsScript}
 use Rattle.lx_model.proofs.Words.{syscall_back, signal_stop_back, event_back, end_back}
-use Rattle.lx_model.proofs.Phases.{Phase, Enter_due, Enter_asked, Enter_peeking, Exit_due, Exit_asked, Exit_setting, Exit_peeking, Exit_resuming, Sig_due, Sig_asked, Dead_due, Dead, Nobody, Unborn, Boot_held, Born_due, Born_resuming, Event_due, Event_resuming, Loose, Due, Logged, Unlogged, due_pid, items_in, dues_of, DuesOf, watch, is_unborn, is_traced, enter_of, done_of, signal_of, exit_of, own_of, proc_of, due_in, stage_of, Knows, hand_in, dead, reaped, has_exit, Fate, Goes_on, Says_nothing, Owes_nothing, Loses, report_of, noted_of, AllOf}
+use Rattle.lx_model.proofs.Phases.{Phase, Enter_due, Enter_asked, Enter_peeking, Exit_due, Exit_asked, Exit_setting, Exit_peeking, Exit_resuming, Sig_due, Sig_asked, Dead_due, Dead, Nobody, Unborn, Boot_held, Born_due, Born_resuming, Event_due, Event_resuming, Loose, Due, Logged, Unlogged, due_pid, items_in, dues_of, DuesOf, watch, is_unborn, is_traced, enter_of, done_of, signal_of, exit_of, own_of, proc_of, due_in, stage_of, Knows, hand_in, dead, reaped, Fate, Goes_on, Says_nothing, Owes_nothing, Loses, report_of, noted_of, AllOf}
 use Rattle.lx_model.proofs.Local.{Turned, turned, Birth, No_birth, Loose_birth, Traced_birth, Seizes, Not_seized, Seized, is_out, Served, served}
 use Rattle.lx_model.proofs.Maps.{same_or_not, is_same, is_not_same, put_here, put_apart, items_without, without-map, noted_of-append, items_in-append, items_in-without, items_in-of, dues_without, dues_of-append, dues_of_same-without, dues_of_other-without, dues_of_own, dues_of_other, noted_of_own, noted_of_other, no_entry, entries-append, traced_own, traced-append, parts-append}
 use Rattle.lx_model.proofs.Views.{view-append, view_killed, drop_last_behind, without_none, has_exit-append, no_exit_other}

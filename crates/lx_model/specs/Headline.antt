@@ -1,5 +1,5 @@
 -- Transparency: a traced run does what the untraced kernel does under the script, and tells of it.
-use Rattle.std.specs.Prelude.{◌≡◌, ℕ, ◌≤◌, Bool, true, false, List, ◌++◌, Some, None, length}
+use Rattle.std.specs.Prelude.{◌≡◌, ℕ, ◌≤◌, ◌<◌, Bool, true, List, ◌++◌, Some, None, length}
 use Rattle.lx_abi.specs.declared.log.Call.{Call}
 use Rattle.lx_abi.specs.declared.log.Cause.{Cause}
 use Rattle.lx_abi.specs.declared.outcome.Outcome.{Outcome}
@@ -7,13 +7,12 @@ use Rattle.lx_abi.specs.declared.schedule.Event.{Event}
 use Rattle.lx_abi.specs.declared.signal.Signal.{Signal}
 use Rattle.lx_abi.specs.Status.{is_end}
 use Rattle.lx_model.specs.Machine.{Machine, IsMachine, Ends, Kills}
-use Rattle.lx_model.specs.Turn.{Own, Alive, Dying, Gone}
 use Rattle.lx_model.specs.Kernel.{Script, traces, Kernel, kernel_run, first_kernel}
 use Rattle.lx_model.specs.Requests.{may_join, may_peek}
 use Rattle.lx_model.specs.Parts.{Half, Texts, Options, Part}
 use Rattle.lx_model.specs.Tracer.{Focus, Waiting, Serving, Asking_outcome, Over, Turns_over}
 use Rattle.lx_model.specs.World.{World, world_run, effective, first_world}
-use Rattle.lx_model.specs.View.{view, traced, most_reads, parts}
+use Rattle.lx_model.specs.View.{has_exit, view, traced, most_reads, parts}
 
 -- a process ends with a wait word: an exit code times 256, or a signal's number (wait(2))
 pub record HasWaitWords {S B : Type 0} (m : Machine S B) : Type 0 where
@@ -51,19 +50,14 @@ traced_run m outcome o script s b events = world_run m outcome o script (first_w
 abbrev pub plain_run : {S B : Type 0} → Machine S B → (S → Outcome) → Options → Script → S → B → List Event → Kernel S B
 plain_run m outcome o script s b events = kernel_run m script o.follow (first_kernel s b) (effective m outcome o script (first_world s b) events)
 
-abbrev pub is_alive : {B : Type 0} → Own B → Bool
-is_alive (Alive b stage) = true
-is_alive (Dying word) = false
-is_alive Gone = false
-
 -- Files, output and statuses are the same at every moment, and the reply to Outcome says them; the trace
--- is a view's; and no tracee lives on.
+-- is a view's; and once no tracee is left, each that was born has logged its end.
 pub record Headline {S B : Type 0} (outcome : S → Outcome) (o : Options) (w : World S B) (k : Kernel S B) : Type 0 where
   pub same_outcome : outcome w.host.shared ≡ outcome k.shared
   pub replied : (x : Outcome) → w.tracer.focus ≡ Over x → x ≡ outcome k.shared
   pub lost : ℕ → Bool
   pub tells : TellsView w.printed (parts o (view lost (traced o.follow k.log))) (IsPast w.tracer.focus)
-  pub none_left : IsPast w.tracer.focus → (q : ℕ) → traces o.follow q ≡ true → is_alive (k.owns q) ≡ false
+  pub all_ended : IsPast w.tracer.focus → (q : ℕ) → 1 ≤ q → q < k.child → traces o.follow q ≡ true → has_exit q k.log ≡ true
 
 -- for every set of options, script, beginning and list of events
 abbrev pub HeadlineAt : {S B : Type 0} → Machine S B → Type 0

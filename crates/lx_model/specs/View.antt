@@ -1,6 +1,6 @@
 -- A view of a log: what of it may be shown, and as which parts. At an end by SIGKILL the last item of its
 -- process before it may be left out, where its report was not yet told; that is the one freedom of a trace.
-use Rattle.std.specs.Prelude.{ℕ, zero, suc, ◌==◌, Bool, true, false, cond, ◌&&◌, List, [], ◌∷◌, ◌++◌, Option, Some, None, filter}
+use Rattle.std.specs.Prelude.{ℕ, zero, suc, ◌==◌, Bool, true, false, cond, ◌&&◌, ◌||◌, List, [], ◌∷◌, ◌++◌, Option, Some, None, filter}
 use Rattle.lx_abi.specs.declared.log.Mode.{Mode}
 use Rattle.lx_abi.specs.declared.log.Mode.TheVariants as mode
 use Rattle.lx_abi.specs.declared.log.Item.{Item}
@@ -48,6 +48,17 @@ view lost (n ∷ log) = cond (lost (pid_of n.item) && kills (first_of (pid_of n.
 -- the items of tracees
 abbrev pub traced : Bool → List Noted → List Noted
 traced follow log = filter (λ n. traces follow (pid_of n.item)) log
+
+-- the process's end stands in the log
+abbrev pub is_exit : ℕ → Item → Bool
+is_exit p (Enter q call) = false
+is_exit p (Done q call result replaced) = false
+is_exit p (Signalled q signal cause) = false
+is_exit p (Exit q word left) = p == q
+
+abbrev pub has_exit : ℕ → List Noted → Bool
+has_exit p [] = false
+has_exit p (n ∷ log) = is_exit p n.item || has_exit p log
 
 -- Parts
 
