@@ -8,6 +8,8 @@ mod execute;
 mod hart;
 mod operate;
 mod outcome;
+#[cfg(test)]
+mod tests;
 mod transfer;
 
 pub use execute::step;
