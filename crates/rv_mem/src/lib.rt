@@ -12,3 +12,6 @@ mod table;
 pub use fault::MemFault;
 pub use rights::{Access, Rights};
 pub use space::Space;
+
+#[cfg(test)]
+mod tests;

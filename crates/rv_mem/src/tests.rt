@@ -1,0 +1,250 @@
+use crate::fault::MemFault;
+use crate::rights::Rights;
+use crate::space::Space;
+use std::alloc::{AllocError, Global};
+use std::test::Fail;
+
+const NONE: Rights = Rights {
+    read: false,
+    write: false,
+    execute: false,
+};
+
+const READ: Rights = Rights { read: true, ..NONE };
+
+const READ_WRITE: Rights = Rights {
+    write: true,
+    ..READ
+};
+
+const EXECUTE: Rights = Rights {
+    execute: true,
+    ..NONE
+};
+
+// The calls again without what they promise, so that a test may make many.
+
+fn map(space: &mut Space, first: u16, pages: u16, rights: Rights) -> Result<(), MemFault> {
+    space.map(4096 * u64::from(first), u64::from(pages), rights)
+}
+
+fn unmap(space: &mut Space, first: u16, pages: u16) {
+    space.unmap(4096 * u64::from(first), u64::from(pages));
+}
+
+fn read(space: &Space, address: u64, len: usize) -> Result<Vec<u8>, MemFault> {
+    space.read(address, len)
+}
+
+fn peek(space: &Space, address: u64, len: usize) -> Result<Vec<u8>, AllocError> {
+    space.peek(address, len)
+}
+
+fn write(space: &mut Space, address: u64, bytes: &[u8]) -> Result<(), MemFault> {
+    space.write(address, bytes)
+}
+
+fn load(space: &mut Space, address: u64, bytes: &[u8]) -> Result<(), MemFault> {
+    space.load(address, bytes)
+}
+
+fn fetch(space: &mut Space, address: u64) -> Result<u32, MemFault> {
+    space.fetch(address)
+}
+
+fn load_double(space: &mut Space, address: u64) -> Result<u64, MemFault> {
+    Ok(u64::from_le_bytes(space.read_array(address)?))
+}
+
+fn store_double(space: &mut Space, address: u64, value: u64) -> Result<(), MemFault> {
+    space.write_array(address, value.to_le_bytes())
+}
+
+fn highest_free(space: &Space, pages: u64, low: u64, high: u64) -> Option<u64> {
+    space.highest_free(pages, low, high)
+}
+
+fn fork(space: &Space) -> Result<Space, AllocError> {
+    space.fork()
+}
+
+/// Pages 1 to 3 for reading and writing, 4 for reading, 5 and 6 for execution, 8 with no right.
+fn example(alloc: Global) -> Result<Space, MemFault> {
+    let mut space = Space::new(alloc);
+    map(&mut space, 1, 3, READ_WRITE)?;
+    map(&mut space, 4, 1, READ)?;
+    map(&mut space, 5, 2, EXECUTE)?;
+    map(&mut space, 8, 1, NONE)?;
+    Ok(space)
+}
+
+#[test]
+fn bytes_across_pages(rt: HostRuntime) -> Result<(), Fail> {
+    let mut space = example(rt.alloc())?;
+    let long = vec![in rt.alloc(); 7u8; 4100]?;
+    write(&mut space, 0x1ffe, &long)?;
+    write(&mut space, 0x1ffe, &[1, 2, 3, 4])?;
+    for (address, want) in [
+        (0x1ff8, [0, 0, 0, 0, 0, 0, 1, 2]),
+        (0x1ffc, [0, 0, 1, 2, 3, 4, 7, 7]),
+        (0x2ffe, [7, 7, 7, 7, 0, 0, 0, 0]),
+    ] {
+        assert_eq!(rt;
+            read(&space, address, 8)?.as_slice(),
+            want.as_slice(),
+            "at {address}"
+        );
+        assert_eq!(rt;
+            load_double(&mut space, address),
+            Ok(u64::from_le_bytes(want))
+        );
+    }
+    store_double(&mut space, 0x1ffd, 0x8877_6655_4433_2211)?;
+    assert_eq!(rt; load_double(&mut space, 0x1ffd), Ok(0x8877_6655_4433_2211));
+    assert_eq!(rt;
+        read(&space, 0x2000, 2)?.as_slice(),
+        [0x44, 0x55].as_slice()
+    );
+    Ok(())
+}
+
+#[test]
+fn words_are_fetched_at_any_address(rt: HostRuntime) -> Result<(), Fail> {
+    let mut space = example(rt.alloc())?;
+    load(&mut space, 0x5ffe, &[0x13, 0x05, 0x10, 0x00])?;
+    for (address, want) in [
+        (0x5ffe, Ok(0x0010_0513)),
+        (0x5000, Ok(0)),
+        (0x6ffd, Err(MemFault::Unmapped(0x7000))),
+        (0x4ffe, Err(MemFault::Forbidden(0x4ffe))),
+    ] {
+        assert_eq!(rt; fetch(&mut space, address), want, "at {address}");
+    }
+    Ok(())
+}
+
+#[test]
+fn first_bad_byte_is_named(rt: HostRuntime) -> Result<(), Fail> {
+    let mut space = example(rt.alloc())?;
+    let (unmapped, forbidden) = (MemFault::Unmapped, MemFault::Forbidden);
+    for (address, on_load, on_store) in [
+        (0xfff, Err(unmapped(0xfff)), Err(unmapped(0xfff))),
+        (0x3ff9, Ok(0), Err(forbidden(0x4000))),
+        (0x4ff9, Err(forbidden(0x5000)), Err(forbidden(0x4ff9))),
+        (0x7ffc, Err(unmapped(0x7ffc)), Err(unmapped(0x7ffc))),
+        (0x8fff, Err(forbidden(0x8fff)), Err(forbidden(0x8fff))),
+        (u64::MAX, Err(unmapped(u64::MAX)), Err(unmapped(u64::MAX))),
+        (
+            u64::MAX - 7,
+            Err(unmapped(u64::MAX - 7)),
+            Err(unmapped(u64::MAX - 7)),
+        ),
+    ] {
+        assert_eq!(rt; load_double(&mut space, address), on_load, "at {address}");
+        assert_eq!(rt;
+            store_double(&mut space, address, 1),
+            on_store,
+            "at {address}"
+        );
+    }
+    assert_eq!(rt; load_double(&mut space, 0x3ff8), Ok(0));
+    assert_eq!(rt; read(&space, u64::MAX, 0)?.len(), 0);
+    Ok(())
+}
+
+#[test]
+fn peek_stops_at_the_first_unmapped_byte(rt: HostRuntime) -> Result<(), Fail> {
+    let mut space = example(rt.alloc())?;
+    load(&mut space, 0x8ffe, &[5, 6])?;
+    for (address, len, want) in [
+        (0x8ffe, 9, [5, 6].as_slice()),
+        (0x8ffe, 1, [5].as_slice()),
+        (0x7fff, 2, [].as_slice()),
+        (u64::MAX, 2, [].as_slice()),
+    ] {
+        assert_eq!(rt;
+            peek(&space, address, len)?.as_slice(),
+            want,
+            "at {address}"
+        );
+    }
+    assert_eq!(rt; peek(&space, 0x4800, 0x3000)?.len(), 0x2800);
+    Ok(())
+}
+
+#[test]
+fn mapped_pages_keep_bytes_and_gain_rights(rt: HostRuntime) -> Result<(), Fail> {
+    let mut space = example(rt.alloc())?;
+    load(&mut space, 0x4000, &[9])?;
+    map(&mut space, 0, 10, READ)?;
+    assert_eq!(rt; read(&space, 0, 0xa000)?.len(), 0xa000);
+    assert_eq!(rt; read(&space, 0x4000, 1)?.as_slice(), [9].as_slice());
+    assert_eq!(rt;
+        write(&mut space, 0x4000, &[1]),
+        Err(MemFault::Forbidden(0x4000))
+    );
+    assert_eq!(rt; fetch(&mut space, 0x5000), Ok(0));
+    unmap(&mut space, 2, 20);
+    assert_eq!(rt; read(&space, 0x1000, 0x2000).is_ok(), false);
+    assert_eq!(rt; peek(&space, 0, 0x3000)?.len(), 0x2000);
+    Ok(())
+}
+
+#[test]
+fn room_is_found_from_the_top(rt: HostRuntime) -> Result<(), Fail> {
+    let space = example(rt.alloc())?;
+    for (pages, low, high, want) in [
+        (1, 0, 0xa000, Some(0x9000)),
+        (1, 0, 0x9fff, Some(0x7000)),
+        (2, 0, 0x9fff, None),
+        (1, 0x7000, 0x9000, Some(0x7000)),
+        (1, 0x7001, 0x9000, None),
+        (1, 0, 0x1000, Some(0)),
+        (0, 1, 0x8fff, Some(0x8000)),
+        (0, 1, 0xfff, None),
+        (3, 0, u64::MAX, Some(0xffff_ffff_ffff_c000)),
+        (u64::MAX, 0, u64::MAX, None),
+    ] {
+        assert_eq!(rt;
+            highest_free(&space, pages, low, high),
+            want,
+            "{pages} pages below {high}"
+        );
+    }
+    Ok(())
+}
+
+#[test]
+fn forked_spaces_go_their_own_ways(rt: HostRuntime) -> Result<(), Fail> {
+    let mut parent = example(rt.alloc())?;
+    write(&mut parent, 0x1000, &[7])?;
+    let mut child = fork(&parent)?;
+    write(&mut child, 0x1000, &[9])?;
+    unmap(&mut child, 2, 1);
+    assert_eq!(rt; read(&parent, 0x1000, 1)?.as_slice(), [7].as_slice());
+    assert_eq!(rt; read(&parent, 0x2000, 1)?.as_slice(), [0].as_slice());
+    assert_eq!(rt; read(&child, 0x1000, 1)?.as_slice(), [9].as_slice());
+    assert_eq!(rt; peek(&child, 0x2000, 1)?.len(), 0);
+    Ok(())
+}
+
+#[test]
+fn pages_are_limited(rt: HostRuntime) -> Result<(), Fail> {
+    let mut space = Space::new(rt.alloc());
+    map(&mut space, 5, 16_000, READ)?;
+    for (first, pages, want) in [
+        (20_000, 385, Err(MemFault::TooLarge)),
+        (20_000, 384, Ok(())),
+        (4, 1, Err(MemFault::TooLarge)),
+        (5, 16_000, Ok(())),
+        (4, 2, Err(MemFault::TooLarge)),
+    ] {
+        assert_eq!(rt;
+            map(&mut space, first, pages, READ),
+            want,
+            "{pages} pages from {first}"
+        );
+    }
+    assert_eq!(rt; peek(&space, 0x4000, 1)?.len(), 0);
+    Ok(())
+}
