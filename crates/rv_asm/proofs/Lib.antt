@@ -1,0 +1,5 @@
+pub mod LabelSteps
+pub mod LineSteps
+pub mod NumberSteps
+pub mod Registers
+pub mod StringSteps

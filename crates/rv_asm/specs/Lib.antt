@@ -1,0 +1,11 @@
+pub mod Codes
+pub mod Forms
+pub mod Lines
+pub mod Listing
+pub mod Names
+pub mod Numbered
+pub mod Numbers
+pub mod Operands
+pub mod Statements
+pub mod Strings
+pub mod Text
