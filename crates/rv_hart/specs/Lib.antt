@@ -2,4 +2,5 @@ pub mod Faults
 pub mod Registers
 pub mod Arithmetic
 pub mod Transfers
+pub mod Runs
 pub mod Steps

@@ -1,4 +1,4 @@
-//! One step of a RISC-V hart: RV64I over the memory of one guest.
+//! The steps of a RISC-V hart: RV64I over the memory of one guest.
 //!
 //! The definitions follow The RISC-V Instruction Set Manual, Volume I: Unprivileged ISA, version
 //! 20191213. Instructions are 32 bits wide, so a jump must go to a multiple of 4.
@@ -8,6 +8,7 @@ mod execute;
 mod hart;
 mod operate;
 mod outcome;
+mod running;
 #[cfg(test)]
 mod tests;
 mod transfer;
@@ -15,3 +16,4 @@ mod transfer;
 pub use execute::step;
 pub use hart::Hart;
 pub use outcome::{FaultKind, Step};
+pub use running::{Progress, run};
