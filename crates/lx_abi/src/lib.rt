@@ -14,6 +14,8 @@ pub mod script;
 pub mod seq;
 pub mod signal;
 pub mod status;
+#[cfg(test)]
+mod tests;
 pub mod when;
 
 pub use boot::{Boot, GuestFile};
