@@ -5,6 +5,7 @@ pub mod Maps
 pub mod Views
 pub mod Words
 pub mod Local
+pub mod Admitted
 pub mod Whole
 pub mod Final
 pub mod TinyMachine

@@ -140,3 +140,6 @@ traced-append follow xs ys = filter-append (λ i. traces follow (pid_of i.item))
 pub parts-append : (o : Options) (xs ys : List Noted) → parts o (xs ++ ys) ≡ parts o xs ++ parts o ys
 parts-append o [] ys = refl
 parts-append o (i ∷ xs) ys = ap (λ r. part o i ++ r) (parts-append o xs ys) ∙ sym (append_assoc (part o i) (parts o xs) (parts o ys))
+
+pub equal_if : (p q : ℕ) → (q == p) ≡ true → p ≡ q
+equal_if p q h = grind (arith, nat_tests)

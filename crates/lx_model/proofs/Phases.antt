@@ -15,8 +15,9 @@ use Rattle.lx_abi.specs.Status.{is_end}
 use Rattle.lx_model.specs.Machine.{Regs, call_of, a0_of, a7_of, sp_of, with_a0, with_a7, no_call, Machine, with_result}
 use Rattle.lx_model.specs.Turn.{Stage, Born, Run, Faulting, Entered, Doing, Replaced, Acted, Finished, Taken, Own, Alive, Dying, Gone, note_of, no_note, result_word}
 use Rattle.lx_model.specs.Kernel.{Script}
-use Rattle.lx_model.specs.Ptrace.{Watch, Proc, Report}
+use Rattle.lx_model.specs.Ptrace.{Watch, Proc, Report, is_there}
 use Rattle.lx_model.specs.Parts.{Half, At_entry, At_exit, Options}
+use Rattle.lx_model.specs.Admissible.{Standing, Unmet, Between, After_signal, Unread, Read, After_event, event_fits, end_fits}
 use Rattle.lx_model.specs.Tracer.{Known, Place, Seizing, Entry_regs, Entry_peek, Entry_set, Exit_regs, Exit_set, Exit_peek, Signal_info, Resuming, signal_word}
 use Rattle.lx_model.specs.View.{has_exit, may_lose, reads, most_reads}
 use Rattle.lx_model.proofs.Registers.{no_such_result}
@@ -252,24 +253,69 @@ module _ {S B : Type 0} (m : Machine S B) where
   stage_of _ = None
 
 -- what the tracer knows of p, beside how often p entered each call
+
+abbrev pub is_between : Standing → Bool
+is_between Between = true
+is_between After_signal = true
+is_between _ = false
+
+abbrev pub is_read : Standing → Bool
+is_read Read = true
+is_read After_event = true
+is_read _ = false
+
+pub record Unseen (k : Known) (e : ℕ → ℕ) : Type 0 where
+  pub outside : k.inside ≡ false
+  pub unmet : k.standing ≡ Unmet
+  pub same : (n : ℕ) → e n ≡ k.counts n
+
 pub record Outside (k : Known) (e : ℕ → ℕ) : Type 0 where
   pub outside : k.inside ≡ false
+  pub between : is_between k.standing ≡ true
   pub same : (n : ℕ) → e n ≡ k.counts n
+
+pub record Passing (k : Known) (e : ℕ → ℕ) : Type 0 where
+  pub outside : k.inside ≡ false
+  pub passing : k.standing ≡ After_signal
+  pub same : (n : ℕ) → e n ≡ k.counts n
+
+-- before a syscall stop at an entry was told, and after
+abbrev pub entry_stands : Bool → Standing → Type 0
+entry_stands false standing = is_between standing ≡ true
+entry_stands true standing = standing ≡ Unread
 
 pub record Entering (inside : Bool) (r : Regs) (k : Known) (e : ℕ → ℕ) : Type 0 where
   pub inside_is : k.inside ≡ inside
+  pub stands : entry_stands inside k.standing
   pub one_more : (n : ℕ) → e n ≡ k.counts n + cond (n == a7_of r) 1 0
+
+-- before a syscall stop at an exit was told, and after
+abbrev pub call_stands : Bool → Standing → Bool
+call_stands true standing = is_read standing
+call_stands false standing = is_between standing
 
 pub record Calling (inside : Bool) (saved : Option ℕ) (c : Call) (k : Known) (e : ℕ → ℕ) : Type 0 where
   pub inside_is : k.inside ≡ inside
   pub saved_is : k.saved ≡ saved
   pub called_is : k.called ≡ c
+  pub stands : call_stands inside k.standing ≡ true
   pub same : (n : ℕ) → e n ≡ k.counts n
 
 pub record Chosen (script : Script) (r : Regs) (x : Option ℕ) (n : Option Signal) (k : Known) (e : ℕ → ℕ) : Type 0 where
   pub calling : Calling true x (call_of r) k e
+  pub read : k.standing ≡ Read
   pub result : result_word (script (a7_of r) (e (a7_of r))) ≡ x
   pub signal : (script (a7_of r) (e (a7_of r))).signal ≡ n
+
+-- nobody dies while he is seized
+abbrev pub is_other : Option Place → Bool
+is_other None = true
+is_other (Some Seizing) = false
+is_other (Some _) = true
+
+-- a word that may be told as the end
+abbrev pub fits_end : Known → ℕ → Bool
+fits_end k w = end_fits k.called.number (is_there k.saved) k.standing w
 
 -- what is still to be read leads to what the item shows
 pub record Reading (o : Options) (peek : ℕ → ℕ → List ℕ) (half : Half) (got : List (List ℕ)) (n : ℕ) : Type 0 where
@@ -284,7 +330,7 @@ module _ {S B : Type 0} (m : Machine S B) (o : Options) (script : Script) where
   Knows (Enter_setting b v n) k e = Chosen script (m.regs b) (Some v) n k e
   Knows (Enter_resuming b r n) k e = Chosen script (m.regs b) r n k e
   Knows (Enter_free b r n) k e = Chosen script (m.regs b) r n k e
-  Knows (In_call b c) k e = Calling true None c k e
+  Knows (In_call b c) k e = Calling true None c k e × (k.standing ≡ Read)
   Knows (In_replaced b v) k e = Calling true (Some v) (call_of (m.regs b)) k e
   Knows (Has_acted b c r) k e = Calling true r (call_in m b c r) k e
   Knows (Exit_due b c r) k e = Calling true r (call_in m b c r) k e
@@ -295,18 +341,18 @@ module _ {S B : Type 0} (m : Machine S B) (o : Options) (script : Script) where
   Knows (Exit_free b) k e = Outside k e
   Knows (Fault_free b n cause) k e = Outside k e
   Knows (Sig_due b n cause) k e = Outside k e
-  Knows (Sig_asked b n cause) k e = Outside k e
-  Knows (Sig_resuming b n cause) k e = Outside k e
-  Knows (Sig_free b n cause) k e = Outside k e
-  Knows (Dead_due w mode s) k e = is_end w ≡ true
+  Knows (Sig_asked b n cause) k e = Passing k e
+  Knows (Sig_resuming b n cause) k e = Passing k e
+  Knows (Sig_free b n cause) k e = Passing k e
+  Knows (Dead_due w mode s) k e = (is_end w ≡ true) × (fits_end k w ≡ true) × (is_other s ≡ true)
   Knows (Dead w) k e = Unit {0}
   Knows Nobody k e = Unit {0}
-  Knows (Unborn t) k e = Outside k e
-  Knows (Boot_held b) k e = Outside k e
-  Knows (Born_due b) k e = Outside k e
+  Knows (Unborn t) k e = Unseen k e
+  Knows (Boot_held b) k e = Unseen k e
+  Knows (Born_due b) k e = Unseen k e
   Knows (Born_resuming b) k e = Outside k e
   Knows (Born_free b) k e = Outside k e
-  Knows (Event_due n b c) k e = Calling true None c k e
+  Knows (Event_due n b c) k e = Calling true None c k e × (k.standing ≡ Read) × (event_fits o.follow c.number n ≡ true)
   Knows (Event_resuming b c) k e = Calling true None c k e
   Knows (Loose h) k e = Unit {0}
 

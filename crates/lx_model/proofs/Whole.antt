@@ -18,26 +18,29 @@ use Rattle.lx_abi.specs.declared.schedule.Event.{Event as Step}
 use Rattle.lx_abi.specs.declared.schedule.Event.TheVariants.{Turn, Serve}
 use Rattle.lx_abi.specs.declared.signal.Signal.{Signal}
 use Rattle.lx_abi.specs.declared.status.EventStop.{EventStop}
-use Rattle.lx_abi.specs.declared.status.EventStop.TheVariants.{Stop as At_start}
+use Rattle.lx_abi.specs.declared.ptrace.Ask.TheVariants.{Seize}
+use Rattle.lx_abi.specs.declared.status.EventStop.TheVariants.{Fork as At_fork, Exec as At_exec, Stop as At_start}
 use Rattle.lx_abi.specs.declared.status.Stop.{Stop}
 use Rattle.lx_abi.specs.declared.status.Stop.TheVariants.{Syscall as Syscall_stop, Signal as Signal_stop, Event as Event_stop, Ended}
 use Rattle.lx_abi.specs.Log.{Noted, pid_of, items_of, entries}
 use Rattle.lx_abi.specs.Status.{word_of, stop_of}
 use Rattle.lx_model.specs.Machine.{Machine, IsMachine}
-use Rattle.lx_model.specs.Turn.{Own, Alive, Born, Event, Plain, Execed, Forked, Out}
+use Rattle.lx_model.specs.Turn.{Own, Alive, Dying, Gone, Born, Event, Plain, Execed, Forked, Out}
 use Rattle.lx_model.specs.Kernel.{Script, put, traces, Kernel, after_turn, with_child, turn_of, kernel_turn, kernel_run}
-use Rattle.lx_model.specs.Ptrace.{Watch, Proc, Report, Host, without, stop_at, is_dying, is_there, reports_of, is_effective, proc_after, moved, newborn, inherits, bears, host_turn_of}
-use Rattle.lx_model.specs.Requests.{Answered, answer, answered, take_report, serve_wait, serve}
+use Rattle.lx_model.specs.Ptrace.{watch_of, Watch, Proc, Report, Host, without, stop_at, is_dying, is_there, reports_of, is_effective, proc_after, moved, newborn, inherits, bears, host_turn_of}
+use Rattle.lx_model.specs.Requests.{Answered, answer_at, answer, answered, seize, echild, take_report, serve_wait, serve}
+use Rattle.lx_model.specs.Admissible.{Standing, Unmet, Between, After_signal, Unread, Read, After_event, stop_fits, event_fits, admits_answer}
 use Rattle.lx_model.specs.Parts.{Options, Part}
-use Rattle.lx_model.specs.Tracer.{Known, Place, Resuming, asks, Heard, hears, Focus, Waiting, Serving, Asking_outcome, Over, Turns_over, focus_on, heard, turned_over, took_status, next_at, request}
+use Rattle.lx_model.specs.Tracer.{Known, Place, Seizing, Resuming, asks, options_word, Heard, hears, Focus, Waiting, Serving, Asking_outcome, Over, Turns_over, Faulted, focus_on, heard, stays, stands_at, turned_over, event_standing, took_status, next_at, request, admits_stop, is_empty, is_among, with_tracee, told_tracees, tracees_after, Moved, takes, faults}
 use Rattle.lx_model.specs.World.{World, met, happens_asked, happens, world_run, turns_of, effective}
 use Rattle.lx_model.specs.View.{has_exit, view, traced, part, parts}
 use Rattle.lx_model.specs.Laws.{is_alive}
-use Rattle.lx_model.specs.Headline.{HasWaitWords, IsTexts, IsScript}
+use Rattle.lx_model.specs.Headline.{IsTold, IsTexts, IsScript}
 use Rattle.lx_model.proofs.Words.{syscall_back, signal_stop_back, event_back, end_back}
-use Rattle.lx_model.proofs.Phases.{Phase, Enter_due, Enter_asked, Enter_peeking, Exit_due, Exit_asked, Exit_setting, Exit_peeking, Exit_resuming, Sig_due, Sig_asked, Dead_due, Dead, Nobody, Unborn, Boot_held, Born_due, Born_resuming, Event_due, Event_resuming, Loose, Due, Logged, Unlogged, due_pid, items_in, dues_of, DuesOf, watch, is_unborn, is_traced, enter_of, done_of, signal_of, exit_of, own_of, proc_of, due_in, stage_of, Knows, hand_in, dead, reaped, Fate, Goes_on, Says_nothing, Owes_nothing, Loses, report_of, noted_of, AllOf}
+use Rattle.lx_model.proofs.Phases.{Phase, Enter_due, Enter_asked, Enter_peeking, Exit_due, Exit_asked, Exit_setting, Exit_peeking, Exit_resuming, Sig_due, Sig_asked, Dead_due, Dead, Nobody, Unborn, Boot_held, Born_due, Born_resuming, Event_due, Event_resuming, Loose, Due, Logged, Unlogged, due_pid, items_in, dues_of, DuesOf, watch, is_unborn, is_traced, enter_of, done_of, signal_of, exit_of, own_of, proc_of, due_in, stage_of, Knows, hand_in, dead, reaped, Fate, Goes_on, Says_nothing, Owes_nothing, Loses, report_of, noted_of, AllOf, is_between, is_read, fits_end}
 use Rattle.lx_model.proofs.Local.{Turned, turned, Birth, No_birth, Loose_birth, Traced_birth, Seizes, Not_seized, Seized, is_out, Served, served}
-use Rattle.lx_model.proofs.Maps.{same_or_not, is_same, is_not_same, put_here, put_apart, items_without, without-map, noted_of-append, items_in-append, items_in-without, items_in-of, dues_without, dues_of-append, dues_of_same-without, dues_of_other-without, dues_of_own, dues_of_other, noted_of_own, noted_of_other, no_entry, entries-append, traced_own, traced-append, parts-append}
+use Rattle.lx_model.proofs.Admitted.{admitted}
+use Rattle.lx_model.proofs.Maps.{report_pid, equal_if, same_or_not, is_same, is_not_same, put_here, put_apart, items_without, without-map, noted_of-append, items_in-append, items_in-without, items_in-of, dues_without, dues_of-append, dues_of_same-without, dues_of_other-without, dues_of_own, dues_of_other, noted_of_own, noted_of_other, no_entry, entries-append, traced_own, traced-append, parts-append}
 use Rattle.lx_model.proofs.Views.{view-append, view_killed, drop_last_behind, without_none, has_exit-append, no_exit_other}
 
 abbrev released : {B : Type 0} → Proc B → Own B → Proc B
@@ -49,6 +52,7 @@ stage_at q (Serving p st) = cond (p == q) (Some st) None
 stage_at q Asking_outcome = None
 stage_at q (Over x) = None
 stage_at q Turns_over = None
+stage_at q Faulted = None
 
 -- the item that the tracer has in hand
 abbrev pub hand_at : {S B : Type 0} → Machine S B → (ℕ → Phase B) → Focus → List Noted
@@ -57,6 +61,7 @@ hand_at m phases (Serving p st) = hand_in m p (phases p)
 hand_at m phases Asking_outcome = []
 hand_at m phases (Over x) = []
 hand_at m phases Turns_over = []
+hand_at m phases Faulted = []
 
 -- was Wait answered that no tracee is left
 abbrev pub is_past : Focus → Bool
@@ -65,10 +70,7 @@ is_past (Serving p st) = false
 is_past Asking_outcome = true
 is_past (Over x) = true
 is_past Turns_over = false
-
-abbrev pub is_among : ℕ → List ℕ → Bool
-is_among q [] = false
-is_among q (p ∷ ps) = (q == p) || is_among q ps
+is_past Faulted = false
 
 -- a process that has not ended, and the log of the tracees
 pub record Living (lost : ℕ → Bool) (log : List Noted) (q : ℕ) : Type 0 where
@@ -99,6 +101,9 @@ pub record Tied {S B : Type 0} (m : Machine S B) (o : Options) (script : Script)
   pub told : w.printed ≡ parts o past
   pub viewed : past ++ (hand_at m phases w.tracer.focus ++ items_in rest) ≡ view lost (traced o.follow kernel.log)
   pub over : is_past w.tracer.focus ≡ true → w.host.tracees ≡ []
+  -- whom the tracer knows, the host has not let go
+  pub heeded : (q : ℕ) → is_among q w.tracer.tracees ≡ true → is_among q w.host.tracees ≡ true
+  pub sane : w.tracer.focus ≡ Faulted → ⊥
   pub child : w.host.child ≡ kernel.child
   pub many : 2 ≤ w.host.child
   pub fresh : (q : ℕ) → w.host.child ≤ q → is_unborn (phases q) ≡ true
@@ -162,6 +167,8 @@ module _ {S B : Type 0} (m : Machine S B) (o : Options) (script : Script) (w : W
   hand_after false p phases next (Over x) h = refl
   hand_after true p phases next Turns_over h = refl
   hand_after false p phases next Turns_over h = refl
+  hand_after true p phases next Faulted h = refl
+  hand_after false p phases next Faulted h = refl
   hand_after dying p phases next (Serving q st) h = ⊎_elim
       (λ (e : p ≡ q). subst (λ x. hand_in m x (put phases p next x) ≡ cond dying (items_without p (hand_in m x (phases x))) (hand_in m x (phases x))) e (ap (hand_in m p) (put_here phases p next) ∙ dropped_one dying p (hand_in m p (phases p)) (hand_in m p next) (hand_own p (phases p)) h))
       (λ (d : p ≢ q). ap (hand_in m q) (put_apart phases p next q d) ∙ dropped_none dying p q (hand_in m q (phases q)) d (hand_own q (phases q)))
@@ -182,6 +189,7 @@ module _ {S B : Type 0} (m : Machine S B) (o : Options) (script : Script) (w : W
   in_hand p phases Asking_outcome h = sym (no_hand p (phases p) h)
   in_hand p phases (Over x) h = sym (no_hand p (phases p) h)
   in_hand p phases Turns_over h = sym (no_hand p (phases p) h)
+  in_hand p phases Faulted h = sym (no_hand p (phases p) h)
   in_hand p phases (Serving q st) h = ⊎_elim
       (λ (e : p ≡ q). subst (λ x. noted_of p (hand_in m x (phases x)) ≡ hand_in m p (phases p)) e (noted_of_own p (hand_in m p (phases p)) (hand_own p (phases p))))
       (λ (d : p ≢ q). noted_of_other q p (hand_in m q (phases q)) (λ e. d (sym e)) (hand_own q (phases q)) ∙ sym (no_hand p (phases p) (h ∙ rw (is_not_same q p (λ e. d (sym e))) refl)))
@@ -281,22 +289,24 @@ module _ {S B : Type 0} (m : Machine S B) (o : Options) (script : Script) (w : W
         told = t.told;
         viewed = ap (λ x. t.past ++ (x ++ items_in (cond (is_dying host.own) (dues_without p t.rest) t.rest ++ u.dues))) (hand_after (is_dying host.own) p t.phases u.next w.tracer.focus u.hand) ∙ ap (λ x. t.past ++ x) (joined (is_dying host.own) p (hand_at m t.phases w.tracer.focus) items t.rest u.dues u.logged) ∙ viewed_after t p u.next (is_dying host.own) items u.fate own ∙ ap (view (lost_after p t.lost u.fate)) (sym log);
         over = t.over;
+        heeded = t.heeded;
+        sane = t.sane;
         child = t.child;
         many = t.many;
         fresh = λ q l. still_fresh p u.next t.phases u.unborn q (t.fresh q l);
       }
 
-  turn_here : IsMachine m → HasWaitWords m → (t : Tied m o script w kernel) (p : ℕ) → is_effective m w.host.shared p (w.host.procs p) ≡ true → Turned m o.follow o script p (t.phases p) (w.tracer.known p) (λ n. entries p n (items_of kernel.log)) (turn_of m script o.follow kernel p) (host_turn_of m w.host p)
-  turn_here laws words t p f = rw ((t.each p).sort, (t.each p).own, ← t.shared, ← t.child, (t.each p).proc) (turned m laws words o script w.host.shared w.host.child p (w.tracer.known p) (λ n. entries p n (items_of kernel.log)) o.follow (t.phases p) (t.each p).knows (rw (t.each p).proc at f))
+  turn_here : IsMachine m → IsTold m → (t : Tied m o script w kernel) (p : ℕ) → is_effective m w.host.shared p (w.host.procs p) ≡ true → Turned m o.follow o script p (t.phases p) (w.tracer.known p) (λ n. entries p n (items_of kernel.log)) (turn_of m script o.follow kernel p) (host_turn_of m w.host p)
+  turn_here laws words t p f = rw ((t.each p).sort, (t.each p).own, ← t.shared, ← t.child, (t.each p).proc) (turned m laws words o script w.host.shared w.host.child p (w.tracer.known p) (λ n. entries p n (items_of kernel.log)) o.follow refl (t.phases p) (t.each p).knows (rw (t.each p).proc at f))
+
+  or_true : (b : Bool) → (b || true) ≡ true
+  or_true true = refl
+  or_true false = refl
 
   -- a child is born
   unborn_is : (ph : Phase B) → is_unborn ph ≡ true → (x : Bool) × (ph ≡ Unborn x)
   unborn_is (Unborn x) h = (x, refl)
   unborn_is _ h = absurd (cc h)
-
-  or_true : (b : Bool) → (b || true) ≡ true
-  or_true true = refl
-  or_true false = refl
 
   later : (c q : ℕ) → c ≡ q → suc c ≤ q → ⊥
   later c q e l = omega (arith, e, l)
@@ -343,6 +353,8 @@ module _ {S B : Type 0} (m : Machine S B) (o : Options) (script : Script) (w : W
         told = t.told;
         viewed = ap (λ x. t.past ++ (x ++ items_in (t.rest ++ Unlogged c At_start ∷ []))) (hand_after false c t.phases (Born_due b) w.tracer.focus (ap (hand_in m c) (sym was.1))) ∙ ap (λ x. t.past ++ (hand_at m t.phases w.tracer.focus ++ x)) (items_in-append t.rest (Unlogged c At_start ∷ []) ∙ append-nil (items_in t.rest)) ∙ t.viewed;
         over = λ q. absurd (going q);
+        heeded = λ q l. rw (t.heeded q l) (or_true (q == c));
+        sane = t.sane;
         child = refl;
         many = omega (arith, t.many);
         fresh = λ q l. ap is_unborn (put_apart t.phases c (Born_due b) q (λ e. later c q e l)) ∙ t.fresh q (omega (arith, l));
@@ -389,6 +401,8 @@ module _ {S B : Type 0} (m : Machine S B) (o : Options) (script : Script) (w : W
         told = t.told;
         viewed = ap (λ x. t.past ++ (x ++ items_in t.rest)) (hand_after false c t.phases (Loose (Alive b Born)) w.tracer.focus (ap (hand_in m c) (sym was.1))) ∙ t.viewed;
         over = t.over;
+        heeded = t.heeded;
+        sane = t.sane;
         child = refl;
         many = omega (arith, t.many);
         fresh = λ q l. ap is_unborn (put_apart t.phases c (Loose (Alive b Born)) q (λ e. later c q e l)) ∙ t.fresh q (omega (arith, l));
@@ -462,18 +476,40 @@ module _ {S B : Type 0} (m : Machine S B) (o : Options) (script : Script) (w : W
   seized_among p q true tracees h = rw h (or_true (q == p))
   seized_among p q false tracees h = h
 
-  abbrev replied : ℕ → Answered B → Heard → World S B
-  replied p a h = record { host = answered w.host p a; tracer = record { known = put w.tracer.known p h.known; focus = focus_on p h.next }; printed = w.printed ++ h.printed }
+  abbrev replied : ℕ → Place → Answered B → Heard → World S B
+  replied p st a h = record { host = answered w.host p a; tracer = record { known = put w.tracer.known p h.known; tracees = tracees_after w.tracer.tracees (Serving p st) a.reply; focus = focus_on p h.next; taken = suc w.tracer.taken }; printed = w.printed ++ h.printed }
 
-  replied_tied : (t : Tied m o script w kernel) (p : ℕ) (st : Place) → w.tracer.focus ≡ Serving p st → (a : Answered B) (h : Heard) → Served m o.follow o script p (t.phases p) (λ n. entries p n (items_of kernel.log)) a h → Tied m o script (replied p a h) kernel
-  replied_tied t p st f a h u = record {
+  not_faulted : (p : ℕ) (x : Option Place) → focus_on p x ≡ Faulted → ⊥
+  not_faulted p None e = cc e
+  not_faulted p (Some st) e = cc e
+
+  -- one more tracee that is known
+  with_heeded : (p : ℕ) (known tracees : List ℕ) → ((q : ℕ) → is_among q known ≡ true → is_among q tracees ≡ true) → is_among p tracees ≡ true → (q : ℕ) → is_among q (with_tracee known p) ≡ true → is_among q tracees ≡ true
+  with_heeded p known tracees h here q = go (is_among p known)
+    where
+      one : (b : Bool) → (q == p) ≡ b → (b || is_among q known) ≡ true → is_among q tracees ≡ true
+      one true e l = subst (λ x. is_among x tracees ≡ true) (equal_if p q e) here
+      one false e l = h q l
+
+      go : (b : Bool) → is_among q (cond b known (p ∷ known)) ≡ true → is_among q tracees ≡ true
+      go true l = h q l
+      go false l = one (q == p) refl l
+
+  known_after : (p : ℕ) (st : Place) (known tracees : List ℕ) (a : Answered B) → (st ≡ Seizing → a.reply ≡ Agreed → a.seized ≡ true) → ((q : ℕ) → is_among q known ≡ true → is_among q tracees ≡ true) → (reply : Reply) → a.reply ≡ reply → (q : ℕ) → is_among q (tracees_after known (Serving p st) reply) ≡ true → is_among q (cond a.seized (p ∷ tracees) tracees) ≡ true
+  known_after p Seizing known tracees a seizes h Agreed e q l =
+      let s : a.seized ≡ true = seizes refl e in
+      rw s (with_heeded p known (p ∷ tracees) (λ x g. rw (h x g) (or_true (x == p))) (rw (is_same p) refl) q l)
+  known_after p st known tracees a seizes h reply e q l = seized_among p q a.seized tracees (h q l)
+
+  replied_tied : (t : Tied m o script w kernel) (p : ℕ) (st : Place) → w.tracer.focus ≡ Serving p st → (a : Answered B) (h : Heard) → (st ≡ Seizing → a.reply ≡ Agreed → a.seized ≡ true) → Served m o.follow o script p (t.phases p) (λ n. entries p n (items_of kernel.log)) a h → Tied m o script (replied p st a h) kernel
+  replied_tied t p st f a h seizes u = record {
     phases = put t.phases p u.next;
     past = t.past ++ u.said;
     rest = rest_of t.rest u.seized;
     lost = t.lost;
     shared = t.shared;
     queue = seized_queue p (t.phases p) u.next a.seized t.rest w.host.queue u.seized t.queue;
-    each = changed t.lost t.lost t.rest (rest_of t.rest u.seized) t.phases t.each (replied p a h) kernel p u.next
+    each = changed t.lost t.lost t.rest (rest_of t.rest u.seized) t.phases t.each (replied p st a h) kernel p u.next
         (record {
           proc = put_here w.host.procs p a.proc ∙ u.proc;
           own = (t.each p).own ∙ sym u.own;
@@ -497,6 +533,8 @@ module _ {S B : Type 0} (m : Machine S B) (o : Options) (script : Script) (w : W
     told = ap₂ (λ x y. x ++ y) t.told u.printed ∙ sym (parts-append o t.past u.said);
     viewed = ap (λ x. (t.past ++ u.said) ++ (hand_at m (put t.phases p u.next) (focus_on p h.next) ++ x)) (seized_items p (t.phases p) u.next a.seized t.rest u.seized) ∙ ap (λ x. (t.past ++ u.said) ++ (x ++ items_in t.rest)) (hand_said p t.phases u.next h.next u.stage) ∙ append_assoc t.past u.said _ ∙ ap (λ x. t.past ++ x) (sym (append_assoc u.said (hand_in m p u.next) (items_in t.rest)) ∙ ap (λ x. x ++ items_in t.rest) (u.hand ∙ sym (ap (hand_at m t.phases) f))) ∙ t.viewed;
     over = λ e. absurd (not_past p h.next e);
+    heeded = known_after p st w.tracer.tracees w.host.tracees a seizes t.heeded a.reply refl;
+    sane = not_faulted p h.next;
     child = t.child;
     many = t.many;
     fresh = λ q l. still_fresh p u.next t.phases u.unborn q (t.fresh q l);
@@ -517,17 +555,40 @@ module _ {S B : Type 0} (m : Machine S B) (o : Options) (script : Script) (w : W
   served_here : IsMachine m → IsTexts o.texts → IsScript script → (t : Tied m o script w kernel) (p : ℕ) (st : Place) → w.tracer.focus ≡ Serving p st → Served m o.follow o script p (t.phases p) (λ n. entries p n (items_of kernel.log)) (answer m (w.host.messages p) (w.host.procs p) (asks o st)) (hears o script p (w.tracer.known p) st (answer m (w.host.messages p) (w.host.procs p) (asks o st)).reply)
   served_here laws texts scripts t p st f = rw (t.each p).proc (served m laws o texts script scripts p (w.tracer.known p) (λ n. entries p n (items_of kernel.log)) (w.host.messages p) (t.phases p) (t.each p).knows st ((t.each p).stage ∙ ap (stage_at p) f ∙ stage_here p (Some st)))
 
-  serving_tied : (outcome : S → Outcome) → IsMachine m → IsTexts o.texts → IsScript script → (t : Tied m o script w kernel) (p : ℕ) (st : Place) → w.tracer.focus ≡ Serving p st → Tied m o script (met o script w (Serving p st) (serve m outcome w.host (To p (asks o st))).host (serve m outcome w.host (To p (asks o st))).reply) kernel
-  serving_tied outcome laws texts scripts t p st f =
+  -- a Seize that is agreed to makes a tracee
+  abbrev SeizesIt : Answered B → Type 0
+  SeizesIt a = a.reply ≡ Agreed → a.seized ≡ true
+
+  seize_made : (t : Proc B) (x : Option Watch) → SeizesIt (seize t x)
+  seize_made t None h = absurd (cc h)
+  seize_made t (Some x) h = refl
+
+  seize_at : (message : ℕ) (t : Proc B) (is_held : Bool) (x : Option Watch) (own : Own B) (options : ℕ) → SeizesIt (answer_at m message t is_held x own (Seize options))
+  seize_at message t true (Some x) (Alive b stage) options h = absurd (cc h)
+  seize_at message t true (Some x) (Dying v) options h = absurd (cc h)
+  seize_at message t true (Some x) Gone options h = absurd (cc h)
+  seize_at message t true None own options h = seize_made t (watch_of options) h
+  seize_at message t false x own options h = absurd (cc h)
+
+  seizes_at : (message : ℕ) (t : Proc B) (st : Place) → st ≡ Seizing → SeizesIt (answer m message t (asks o st))
+  seizes_at message t st e = subst (λ x. SeizesIt (answer m message t (asks o x))) (sym e) (seize_at message t t.held t.watch t.own (options_word o.follow))
+
+  abbrev met_with : Host S B → Moved → World S B
+  met_with h x = record { host = h; tracer = x.tracer; printed = w.printed ++ x.printed }
+
+  serving_tied : (outcome : S → Outcome) → IsMachine m → IsTold m → IsTexts o.texts → IsScript script → (t : Tied m o script w kernel) (p : ℕ) (st : Place) → w.tracer.focus ≡ Serving p st → Tied m o script (met o script w (Serving p st) (serve m outcome w.host (To p (asks o st))).host (serve m outcome w.host (To p (asks o st))).reply) kernel
+  serving_tied outcome laws words texts scripts t p st f =
       let a : Answered B = answer m (w.host.messages p) (w.host.procs p) (asks o st) in
       let u : Served m o.follow o script p (t.phases p) (λ n. entries p n (items_of kernel.log)) a (hears o script p (w.tracer.known p) st a.reply) = served_here laws texts scripts t p st f in
-      subst (λ x. Tied m o script (record { host = answered w.host p a; tracer = x.tracer; printed = w.printed ++ x.printed }) kernel) (sym (next_serving w.tracer.known p st a.reply u.in_turns)) (replied_tied t p st f a (hears o script p (w.tracer.known p) st a.reply) u)
+      let ok : admits_answer (asks o st) a.reply ≡ true = rw (t.each p).proc (admitted m words o texts script scripts (w.tracer.known p) (λ n. entries p n (items_of kernel.log)) (w.host.messages p) (t.phases p) (t.each p).knows st ((t.each p).stage ∙ ap (stage_at p) f ∙ stage_here p (Some st))) in
+      subst (λ b. Tied m o script (met_with (answered w.host p a) (cond b (takes w.tracer (Serving p st) a.reply (next_at o script w.tracer.known (Serving p st) a.reply)) (faults w.tracer))) kernel) (sym ok)
+      (subst (λ x. Tied m o script (met_with (answered w.host p a) (takes w.tracer (Serving p st) a.reply x)) kernel) (sym (next_serving w.tracer.known p st a.reply u.in_turns)) (replied_tied t p st f a (hears o script p (w.tracer.known p) st a.reply) (seizes_at (w.host.messages p) (w.host.procs p) st) u))
 
   -- Serve, while the tracer waits
 
   -- the same with another focus, of no process
-  refocused : (t : Tied m o script w kernel) (focus : Focus) (printed : List Part) → printed ≡ w.printed → ((q : ℕ) → stage_at q w.tracer.focus ≡ stage_at q focus) → ((phases : ℕ → Phase B) → hand_at m phases focus ≡ hand_at m phases w.tracer.focus) → (is_past focus ≡ true → w.host.tracees ≡ []) → Tied m o script (record { host = w.host; tracer = record { known = w.tracer.known; focus = focus }; printed = printed }) kernel
-  refocused t focus printed same stages hands over = record {
+  refocused : (t : Tied m o script w kernel) (focus : Focus) (taken : ℕ) (printed : List Part) → printed ≡ w.printed → ((q : ℕ) → stage_at q w.tracer.focus ≡ stage_at q focus) → ((phases : ℕ → Phase B) → hand_at m phases focus ≡ hand_at m phases w.tracer.focus) → (is_past focus ≡ true → w.host.tracees ≡ []) → (focus ≡ Faulted → ⊥) → Tied m o script (record { host = w.host; tracer = record { known = w.tracer.known; tracees = w.tracer.tracees; focus = focus; taken = taken }; printed = printed }) kernel
+  refocused t focus taken printed same stages hands over sane = record {
     phases = t.phases;
     past = t.past;
     rest = t.rest;
@@ -538,6 +599,8 @@ module _ {S B : Type 0} (m : Machine S B) (o : Options) (script : Script) (w : W
     told = same ∙ t.told;
     viewed = ap (λ x. t.past ++ (x ++ items_in t.rest)) (hands t.phases) ∙ t.viewed;
     over = over;
+    heeded = t.heeded;
+    sane = sane;
     child = t.child;
     many = t.many;
     fresh = t.fresh;
@@ -552,12 +615,15 @@ module _ {S B : Type 0} (m : Machine S B) (o : Options) (script : Script) (w : W
   no_event_hand p (Sig_asked b n cause) h = absurd (cc h)
   no_event_hand p _ h = refl
 
-  -- Wait took this report, and the tracer read it
-  abbrev read_as : List Report → ℕ → Stop → Option Stop → World S B
-  read_as rest p s x = record { host = take_report w.host rest p s; tracer = (took_status o w.tracer.known p x).tracer; printed = w.printed ++ (took_status o w.tracer.known p x).printed }
+  -- Wait took this report, the tracer read it, and admitted it or not
+  abbrev takes_as : ℕ → Option Stop → Moved
+  takes_as p x = record { tracer = record { known = (took_status o w.tracer.known p x).known; tracees = told_tracees w.tracer.tracees p x; focus = (took_status o w.tracer.known p x).focus; taken = suc w.tracer.taken }; printed = (took_status o w.tracer.known p x).printed }
+
+  abbrev read_as : List Report → ℕ → Stop → Option Stop → Bool → World S B
+  read_as rest p s x ok = met_with (take_report w.host rest p s) (cond ok (takes_as p x) (faults w.tracer))
 
   abbrev waited : List Report → ℕ → Stop → World S B
-  waited rest p s = read_as rest p s (Some s)
+  waited rest p s = read_as rest p s (Some s) true
 
   -- the first report is taken: what becomes of its process
   record Taken_up (lost : ℕ → Bool) (p : ℕ) (ph : Phase B) (after : List Due) (i : Due) (v : World S B) : Type 0 where
@@ -576,6 +642,9 @@ module _ {S B : Type 0} (m : Machine S B) (o : Options) (script : Script) (w : W
     listed : (q : ℕ) → p ≢ q → is_among q w.host.tracees ≡ true → is_among q v.host.tracees ≡ true
     not_yet : is_past v.tracer.focus ≡ true → ⊥
     read : stop_of (word_of (report_of i).stop) ≡ Some (report_of i).stop
+    fits : admits_stop o p (w.tracer.known p) (Some (report_of i).stop) ≡ true
+    heeded : (q : ℕ) → is_among q v.tracer.tracees ≡ true → is_among q v.host.tracees ≡ true
+    sane : v.tracer.focus ≡ Faulted → ⊥
 
   taken_up_tied : (t : Tied m o script w kernel) (i : Due) (after : List Due) → t.rest ≡ i ∷ after → w.tracer.focus ≡ Waiting → (v : World S B) → Taken_up t.lost (due_pid i) (t.phases (due_pid i)) after i v → Tied m o script v kernel
   taken_up_tied t i after e f v u = record {
@@ -599,6 +668,8 @@ module _ {S B : Type 0} (m : Machine S B) (o : Options) (script : Script) (w : W
     told = u.printed ∙ ap (λ x. x ++ parts o u.said) t.told ∙ sym (parts-append o t.past u.said);
     viewed = append_assoc t.past u.said _ ∙ ap (λ x. t.past ++ x) (sym (append_assoc u.said _ (items_in after)) ∙ ap (λ x. x ++ items_in after) (u.hand t.phases) ∙ sym (items_in-append (i ∷ []) after) ∙ ap items_in (sym e) ∙ ap (λ x. hand_at m t.phases x ++ items_in t.rest) (sym f)) ∙ t.viewed;
     over = λ q. absurd (u.not_yet q);
+    heeded = u.heeded;
+    sane = u.sane;
     child = u.child ∙ t.child;
     many = subst (λ c. 2 ≤ c) (sym u.child) t.many;
     fresh = λ q l. still_fresh (due_pid i) u.next t.phases u.unborn q (t.fresh q (subst (λ c. c ≤ q) u.child l));
@@ -632,7 +703,73 @@ module _ {S B : Type 0} (m : Machine S B) (o : Options) (script : Script) (w : W
   no_part : (p : ℕ) (b : B) (c : Call) → o.shows c.number ≡ false → part o (done_of m p b c None) ≡ []
   no_part p b c h = rw h refl
 
-  module _ (lost : ℕ → Bool) (rest after : List Due) (waiting : w.tracer.focus ≡ Waiting) where
+  none_among : (p : ℕ) (ps : List ℕ) → is_among p (filter (λ x. not (p == x)) ps) ≡ false
+  none_among p [] = refl
+  none_among p (x ∷ ps) = grind (arith, nat_tests, none_among p ps)
+
+  among_more : (p q : ℕ) (ps : List ℕ) → is_among q (filter (λ x. not (p == x)) ps) ≡ true → is_among q ps ≡ true
+  among_more p q [] h = h
+  among_more p q (x ∷ ps) h = go (p == x) h (among_more p q ps)
+    where
+      either : (c : Bool) → (c || is_among q (filter (λ y. not (p == y)) ps)) ≡ true → (is_among q (filter (λ y. not (p == y)) ps) ≡ true → is_among q ps ≡ true) → (c || is_among q ps) ≡ true
+      either true g again = refl
+      either false g again = again g
+
+      go : (b : Bool) → is_among q (cond (not b) (x ∷ filter (λ y. not (p == y)) ps) (filter (λ y. not (p == y)) ps)) ≡ true → (is_among q (filter (λ y. not (p == y)) ps) ≡ true → is_among q ps ≡ true) → ((q == x) || is_among q ps) ≡ true
+      go true g again = rw (again g) (or_true (q == x))
+      go false g again = either (q == x) g again
+
+  -- a tracee whose end was told is known no more
+  without_heeded : (p : ℕ) (known tracees : List ℕ) → ((q : ℕ) → is_among q known ≡ true → is_among q tracees ≡ true) → (q : ℕ) → is_among q (filter (λ x. not (p == x)) known) ≡ true → is_among q (filter (λ x. not (p == x)) tracees) ≡ true
+  without_heeded p known tracees h q l = ⊎_elim
+      (λ (e : p ≡ q). absurd (cc (none_among p known, subst (λ x. is_among x (filter (λ y. not (p == y)) known) ≡ true) (sym e) l)))
+      (λ (d : p ≢ q). still_among p q d tracees (h q (among_more p q known l)))
+      (same_or_not p q)
+
+  -- a stop that fits where a tracee stands
+  syscall_fits : (p : ℕ) (k : Known) → traces o.follow p ≡ true → is_between k.standing ≡ true → admits_stop o p k (Some (Syscall_stop true)) ≡ true
+  syscall_fits p k tr st = rw tr (go k.called.number (is_there k.saved) k.standing st)
+    where
+      go : (n : ℕ) (r : Bool) (x : Standing) → is_between x ≡ true → stop_fits o.follow n r x (Syscall_stop true) ≡ true
+      go n r Between g = refl
+      go n r After_signal g = refl
+      go n r _ g = absurd (cc g)
+
+  exit_fits : (p : ℕ) (k : Known) → traces o.follow p ≡ true → is_read k.standing ≡ true → admits_stop o p k (Some (Syscall_stop true)) ≡ true
+  exit_fits p k tr st = rw tr (go k.called.number (is_there k.saved) k.standing st)
+    where
+      go : (n : ℕ) (r : Bool) (x : Standing) → is_read x ≡ true → stop_fits o.follow n r x (Syscall_stop true) ≡ true
+      go n r Read g = refl
+      go n r After_event g = refl
+      go n r _ g = absurd (cc g)
+
+  signal_fits : (p : ℕ) (k : Known) (n : Signal) → traces o.follow p ≡ true → is_between k.standing ≡ true → admits_stop o p k (Some (Signal_stop n)) ≡ true
+  signal_fits p k s tr st = rw tr (go k.called.number (is_there k.saved) k.standing st)
+    where
+      go : (n : ℕ) (r : Bool) (x : Standing) → is_between x ≡ true → stop_fits o.follow n r x (Signal_stop s) ≡ true
+      go n r Between g = refl
+      go n r After_signal g = refl
+      go n r _ g = absurd (cc g)
+
+  start_fits : (p : ℕ) (k : Known) → traces o.follow p ≡ true → k.standing ≡ Unmet → admits_stop o p k (Some (Event_stop At_start)) ≡ true
+  start_fits p k tr st = rw (tr, st) refl
+
+  call_event_fits : (p : ℕ) (k : Known) (c : Call) (n : EventStop) → traces o.follow p ≡ true → k.standing ≡ Read → k.called ≡ c → event_fits o.follow c.number n ≡ true → admits_stop o p k (Some (Event_stop n)) ≡ true
+  call_event_fits p k c n tr st called fits = rw (tr, st, called) fits
+
+  end_admitted : (p : ℕ) (k : Known) (v : ℕ) → traces o.follow p ≡ true → fits_end k v ≡ true → admits_stop o p k (Some (Ended v)) ≡ true
+  end_admitted p k v tr fits = rw tr fits
+
+  -- the event standing leads on
+  event_outside : (n : EventStop) → n ≡ At_start → event_standing n ≡ Between
+  event_outside n e = ap event_standing e
+
+  event_read : (follow : Bool) (c : ℕ) (n : EventStop) → event_fits follow c n ≡ true → is_read (event_standing n) ≡ true
+  event_read follow c At_fork h = refl
+  event_read follow c At_exec h = refl
+  event_read follow c At_start h = absurd (cc h)
+
+  module _ (lost : ℕ → Bool) (rest after : List Due) (waiting : w.tracer.focus ≡ Waiting) (known : (q : ℕ) → is_among q w.tracer.tracees ≡ true → is_among q w.host.tracees ≡ true) where
     at_entry : (p : ℕ) (b : B) → Tie m o script lost w kernel rest p (Enter_due b) → [] ≡ dues_of p after → Taken_up lost p (Enter_due b) after (Logged (enter_of m p b)) (waited (map report_of after) p (Syscall_stop true))
     at_entry p b tie tail = record {
       next = Enter_asked b;
@@ -641,7 +778,7 @@ module _ {S B : Type 0} (m : Machine S B) (o : Options) (script : Script) (w : W
       here = record {
         proc = tie.proc;
         own = tie.own;
-        knows = rw (put_here w.tracer.known p (turned_over (w.tracer.known p))) (record { inside_is = ap not tie.knows.inside_is; one_more = tie.knows.one_more });
+        knows = rw (put_here w.tracer.known p (turned_over (w.tracer.known p))) (record { inside_is = ap not tie.knows.inside_is; stands = ap (λ x. cond x Between Unread) tie.knows.inside_is; one_more = tie.knows.one_more });
         stage = rw (is_same p, tie.knows.inside_is) refl;
         due = tail;
         living = tie.living;
@@ -659,6 +796,9 @@ module _ {S B : Type 0} (m : Machine S B) (o : Options) (script : Script) (w : W
       child = refl;
       unborn = refl;
       read = syscall_back;
+      fits = syscall_fits p (w.tracer.known p) tie.sort tie.knows.stands;
+      heeded = with_heeded p w.tracer.tracees w.host.tracees known (tie.listed refl);
+      sane = λ e. cc e;
     }
 
     at_exit : (p : ℕ) (b : B) (c : Call) (r : Option ℕ) → Tie m o script lost w kernel rest p (Exit_due b c r) → [] ≡ dues_of p after → (shown : Bool) → (o.shows (w.tracer.known p).called.number || is_there (w.tracer.known p).saved) ≡ shown → Taken_up lost p (Exit_due b c r) after (Logged (done_of m p b c r)) (waited (map report_of after) p (Syscall_stop true))
@@ -669,7 +809,7 @@ module _ {S B : Type 0} (m : Machine S B) (o : Options) (script : Script) (w : W
       here = record {
         proc = tie.proc;
         own = tie.own;
-        knows = rw (put_here w.tracer.known p (turned_over (w.tracer.known p))) (record { inside_is = ap not tie.knows.inside_is; saved_is = tie.knows.saved_is; called_is = tie.knows.called_is; same = tie.knows.same });
+        knows = rw (put_here w.tracer.known p (turned_over (w.tracer.known p))) (record { inside_is = ap not tie.knows.inside_is; saved_is = tie.knows.saved_is; called_is = tie.knows.called_is; stands = ap (λ x. is_between (cond x Between Unread)) tie.knows.inside_is; same = tie.knows.same });
         stage = rw (is_same p, tie.knows.inside_is, shown) refl;
         due = tail;
         living = tie.living;
@@ -687,6 +827,9 @@ module _ {S B : Type 0} (m : Machine S B) (o : Options) (script : Script) (w : W
       child = refl;
       unborn = refl;
       read = syscall_back;
+      fits = exit_fits p (w.tracer.known p) tie.sort tie.knows.stands;
+      heeded = with_heeded p w.tracer.tracees w.host.tracees known (tie.listed refl);
+      sane = λ e. cc e;
     }
     at_exit p b c (Some v) tie tail false shown = absurd (cc (ap is_there tie.knows.saved_is, or_second (o.shows (w.tracer.known p).called.number) (is_there (w.tracer.known p).saved) shown))
     at_exit p b c None tie tail false shown = record {
@@ -696,7 +839,7 @@ module _ {S B : Type 0} (m : Machine S B) (o : Options) (script : Script) (w : W
       here = record {
         proc = tie.proc;
         own = tie.own;
-        knows = rw (put_here w.tracer.known p (turned_over (w.tracer.known p))) (record { outside = ap not tie.knows.inside_is; same = tie.knows.same });
+        knows = rw (put_here w.tracer.known p (turned_over (w.tracer.known p))) (record { outside = ap not tie.knows.inside_is; between = ap (λ x. is_between (cond x Between Unread)) tie.knows.inside_is; same = tie.knows.same });
         stage = rw (is_same p, tie.knows.inside_is, shown) refl;
         due = tail;
         living = tie.living;
@@ -714,6 +857,9 @@ module _ {S B : Type 0} (m : Machine S B) (o : Options) (script : Script) (w : W
       child = refl;
       unborn = refl;
       read = syscall_back;
+      fits = exit_fits p (w.tracer.known p) tie.sort tie.knows.stands;
+      heeded = with_heeded p w.tracer.tracees w.host.tracees known (tie.listed refl);
+      sane = λ e. cc e;
     }
 
     at_signal : (p : ℕ) (b : B) (n : Signal) (cause : Cause) → Tie m o script lost w kernel rest p (Sig_due b n cause) → [] ≡ dues_of p after → Taken_up lost p (Sig_due b n cause) after (Logged (signal_of m p b n cause)) (waited (map report_of after) p (Signal_stop n))
@@ -724,7 +870,7 @@ module _ {S B : Type 0} (m : Machine S B) (o : Options) (script : Script) (w : W
       here = record {
         proc = tie.proc;
         own = tie.own;
-        knows = tie.knows;
+        knows = rw (put_here w.tracer.known p (stands_at (w.tracer.known p) After_signal)) (record { outside = tie.knows.outside; passing = refl; same = tie.knows.same });
         stage = rw (is_same p) refl;
         due = tail;
         living = tie.living;
@@ -732,7 +878,7 @@ module _ {S B : Type 0} (m : Machine S B) (o : Options) (script : Script) (w : W
         sort = tie.sort;
       };
       procs = λ q d. refl;
-      knowns = λ q d. refl;
+      knowns = λ q d. put_apart w.tracer.known p _ q d;
       stages = λ q d. rw (is_not_same p q d) refl;
       said = [];
       printed = refl;
@@ -742,19 +888,22 @@ module _ {S B : Type 0} (m : Machine S B) (o : Options) (script : Script) (w : W
       child = refl;
       unborn = refl;
       read = signal_stop_back n;
+      fits = signal_fits p (w.tracer.known p) n tie.sort tie.knows.between;
+      heeded = with_heeded p w.tracer.tracees w.host.tracees known (tie.listed refl);
+      sane = λ e. cc e;
     }
 
     at_event : (p : ℕ) (n : EventStop) (ph next : Phase B) → Tie m o script lost w kernel rest p ph → [] ≡ dues_of p after →
-        proc_of m o.follow ph ≡ proc_of m o.follow next → own_of m ph ≡ own_of m next → stage_of m next ≡ Some (Resuming 0) → Knows m o script next (w.tracer.known p) (λ n. entries p n (items_of kernel.log)) → due_in m p next ≡ [] → is_unborn next ≡ is_unborn ph → (dead next ≡ false → dead ph ≡ false) → (reaped next ≡ false → reaped ph ≡ false) → is_traced ph ≡ is_traced next →
+        proc_of m o.follow ph ≡ proc_of m o.follow next → own_of m ph ≡ own_of m next → stage_of m next ≡ Some (Resuming 0) → Knows m o script next (stands_at (w.tracer.known p) (event_standing n)) (λ x. entries p x (items_of kernel.log)) → due_in m p next ≡ [] → is_unborn next ≡ is_unborn ph → (dead next ≡ false → dead ph ≡ false) → (reaped next ≡ false → reaped ph ≡ false) → is_traced ph ≡ is_traced next → reaped ph ≡ false → admits_stop o p (w.tracer.known p) (Some (Event_stop n)) ≡ true →
         Taken_up lost p ph after (Unlogged p n) (waited (map report_of after) p (Event_stop n))
-    at_event p n ph next tie tail pr ha st kn du un de re so = record {
+    at_event p n ph next tie tail pr ha st kn du un de re so here fits = record {
       next = next;
       shared = refl;
       queue = refl;
       here = record {
         proc = tie.proc ∙ pr;
         own = tie.own ∙ ha;
-        knows = kn;
+        knows = rw (put_here w.tracer.known p (stands_at (w.tracer.known p) (event_standing n))) kn;
         stage = st ∙ sym (stage_here p (Some (Resuming 0)));
         due = du ∙ tail;
         living = λ l. tie.living (de l);
@@ -762,7 +911,7 @@ module _ {S B : Type 0} (m : Machine S B) (o : Options) (script : Script) (w : W
         sort = tie.sort ∙ so;
       };
       procs = λ q d. refl;
-      knowns = λ q d. refl;
+      knowns = λ q d. put_apart w.tracer.known p _ q d;
       stages = λ q d. rw (is_not_same p q d) refl;
       said = [];
       printed = refl;
@@ -772,6 +921,9 @@ module _ {S B : Type 0} (m : Machine S B) (o : Options) (script : Script) (w : W
       child = refl;
       unborn = un;
       read = event_back n;
+      fits = fits;
+      heeded = with_heeded p w.tracer.tracees w.host.tracees known (tie.listed here);
+      sane = λ e. cc e;
     }
 
     at_end : (p v : ℕ) (mode : Mode) (st : Option Place) → Tie m o script lost w kernel rest p (Dead_due v mode st) → [] ≡ dues_of p after → Taken_up lost p (Dead_due v mode st) after (Logged (exit_of p v mode)) (waited (map report_of after) p (Ended v))
@@ -790,7 +942,7 @@ module _ {S B : Type 0} (m : Machine S B) (o : Options) (script : Script) (w : W
         sort = tie.sort;
       };
       procs = λ q d. put_apart w.host.procs p _ q d;
-      knowns = λ q d. refl;
+      knowns = λ q d. put_apart w.tracer.known p _ q d;
       stages = λ q d. refl;
       said = exit_of p v mode ∷ [];
       printed = refl;
@@ -799,7 +951,10 @@ module _ {S B : Type 0} (m : Machine S B) (o : Options) (script : Script) (w : W
       not_yet = λ e. cc e;
       child = refl;
       unborn = refl;
-      read = end_back v tie.knows;
+      read = end_back v tie.knows.0;
+      fits = end_admitted p (w.tracer.known p) v tie.sort tie.knows.1;
+      heeded = without_heeded p w.tracer.tracees w.host.tracees known;
+      sane = λ e. cc e;
     }
 
     -- the head of the queue is what is due of its process
@@ -818,38 +973,47 @@ module _ {S B : Type 0} (m : Machine S B) (o : Options) (script : Script) (w : W
         subst (λ x. Taken_up lost p (Dead_due v mode st) after x (waited (map report_of after) (report_of x).pid (report_of x).stop)) (head_is _ _ _ _ h) (at_end p v mode st tie (tail_is _ _ _ _ h))
     take_up i p e f (Born_due b) tie =
         let h : Unlogged p At_start ∷ [] ≡ i ∷ dues_of p after = due_head p i rest after _ e f tie.due in
-        subst (λ x. Taken_up lost p (Born_due b) after x (waited (map report_of after) (report_of x).pid (report_of x).stop)) (head_is _ _ _ _ h) (at_event p At_start (Born_due b) (Born_resuming b) tie (tail_is _ _ _ _ h) refl refl refl tie.knows refl refl (λ l. refl) (λ l. refl) refl)
+        subst (λ x. Taken_up lost p (Born_due b) after x (waited (map report_of after) (report_of x).pid (report_of x).stop)) (head_is _ _ _ _ h) (at_event p At_start (Born_due b) (Born_resuming b) tie (tail_is _ _ _ _ h) refl refl refl (record { outside = tie.knows.outside; between = refl; same = tie.knows.same }) refl refl (λ l. refl) (λ l. refl) refl refl (start_fits p (w.tracer.known p) tie.sort tie.knows.unmet))
     take_up i p e f (Event_due n b c) tie =
         let h : Unlogged p n ∷ [] ≡ i ∷ dues_of p after = due_head p i rest after _ e f tie.due in
-        subst (λ x. Taken_up lost p (Event_due n b c) after x (waited (map report_of after) (report_of x).pid (report_of x).stop)) (head_is _ _ _ _ h) (at_event p n (Event_due n b c) (Event_resuming b c) tie (tail_is _ _ _ _ h) refl refl refl tie.knows refl refl (λ l. refl) (λ l. refl) refl)
+        subst (λ x. Taken_up lost p (Event_due n b c) after x (waited (map report_of after) (report_of x).pid (report_of x).stop)) (head_is _ _ _ _ h) (at_event p n (Event_due n b c) (Event_resuming b c) tie (tail_is _ _ _ _ h) refl refl refl (record { inside_is = tie.knows.0.inside_is; saved_is = tie.knows.0.saved_is; called_is = tie.knows.0.called_is; stands = event_read o.follow c.number n tie.knows.2; same = tie.knows.0.same }) refl refl (λ l. refl) (λ l. refl) refl refl (call_event_fits p (w.tracer.known p) c n tie.sort tie.knows.1 tie.knows.0.called_is tie.knows.2))
     take_up i p e f _ tie = absurd (no_item _ _ (due_head p i rest after _ e f tie.due))
 
-  wait_first : (t : Tied m o script w kernel) → w.tracer.focus ≡ Waiting → (r : Report) (rs : List Report) (rest : List Due) → t.rest ≡ rest → r ∷ rs ≡ map report_of rest → Tied m o script (read_as rs r.pid r.stop (stop_of (word_of r.stop))) kernel
+  wait_first : (t : Tied m o script w kernel) → w.tracer.focus ≡ Waiting → (r : Report) (rs : List Report) (rest : List Due) → t.rest ≡ rest → r ∷ rs ≡ map report_of rest → Tied m o script (read_as rs r.pid r.stop (stop_of (word_of r.stop)) (admits_stop o r.pid (w.tracer.known r.pid) (stop_of (word_of r.stop)))) kernel
   wait_first t f r rs [] e g = absurd (cc g)
   wait_first t f r rs (i ∷ after) e g =
       let here : r ≡ report_of i = cc g in
       let behind : rs ≡ map report_of after = cc g in
-      let u : Taken_up t.lost (due_pid i) (t.phases (due_pid i)) after i (waited (map report_of after) (report_of i).pid (report_of i).stop) = take_up t.lost t.rest after f i (due_pid i) refl e (t.phases (due_pid i)) (t.each (due_pid i)) in
-      rw (here, behind) (subst (λ x. Tied m o script (read_as (map report_of after) (report_of i).pid (report_of i).stop x) kernel) (sym u.read) (taken_up_tied t i after e f (waited (map report_of after) (report_of i).pid (report_of i).stop) u))
+      let pid : (report_of i).pid ≡ due_pid i = report_pid i in
+      let u : Taken_up t.lost (due_pid i) (t.phases (due_pid i)) after i (waited (map report_of after) (report_of i).pid (report_of i).stop) = take_up t.lost t.rest after f t.heeded i (due_pid i) refl e (t.phases (due_pid i)) (t.each (due_pid i)) in
+      let ok : admits_stop o (report_of i).pid (w.tracer.known (report_of i).pid) (Some (report_of i).stop) ≡ true = rw pid u.fits in
+      rw (here, behind) (subst (λ x. Tied m o script (read_as (map report_of after) (report_of i).pid (report_of i).stop x (admits_stop o (report_of i).pid (w.tracer.known (report_of i).pid) x)) kernel) (sym u.read)
+      (subst (λ b. Tied m o script (read_as (map report_of after) (report_of i).pid (report_of i).stop (Some (report_of i).stop) b) kernel) (sym ok)
+      (taken_up_tied t i after e f (waited (map report_of after) (report_of i).pid (report_of i).stop) u)))
+
+  nobody_known : (known : List ℕ) → ((q : ℕ) → is_among q known ≡ true → is_among q [] ≡ true) → is_empty known ≡ true
+  nobody_known [] h = refl
+  nobody_known (p ∷ ps) h = absurd (cc (h p (rw (is_same p) refl)))
 
   wait_tied : (t : Tied m o script w kernel) → w.tracer.focus ≡ Waiting → (queue : List Report) → w.host.queue ≡ queue → (tracees : List ℕ) → w.host.tracees ≡ tracees → Tied m o script (met o script w Waiting (serve_wait w.host queue tracees).host (serve_wait w.host queue tracees).reply) kernel
-  wait_tied t f [] e [] g = refocused t Asking_outcome (w.printed ++ []) (append-nil w.printed) (λ q. ap (stage_at q) f) (λ phases. sym (ap (hand_at m phases) f)) (λ q. g)
-  wait_tied t f [] e (q ∷ qs) g = refocused t Waiting w.printed refl (λ q. ap (stage_at q) f) (λ phases. sym (ap (hand_at m phases) f)) (λ q. absurd (cc q))
+  wait_tied t f [] e [] g = subst (λ b. Tied m o script (met_with w.host (cond b (takes w.tracer Waiting echild (stays w.tracer.known Asking_outcome)) (faults w.tracer))) kernel) (sym (nobody_known w.tracer.tracees (λ q l. ap (is_among q) (sym g) ∙ t.heeded q l))) (refocused t Asking_outcome (suc w.tracer.taken) (w.printed ++ []) (append-nil w.printed) (λ q. ap (stage_at q) f) (λ phases. sym (ap (hand_at m phases) f)) (λ q. g) (λ x. cc x))
+  wait_tied t f [] e (q ∷ qs) g = t
   wait_tied t f (r ∷ rs) e tracees g = wait_first t f r rs t.rest refl (sym e ∙ t.queue)
 
   -- a request is served, if one is pending
-  serve_tied : (outcome : S → Outcome) → IsMachine m → IsTexts o.texts → IsScript script → (t : Tied m o script w kernel) (focus : Focus) → w.tracer.focus ≡ focus → Tied m o script (happens_asked m outcome o script w focus (request o focus) Serve) kernel
-  serve_tied outcome laws texts scripts t Waiting f = wait_tied t f w.host.queue refl w.host.tracees refl
-  serve_tied outcome laws texts scripts t (Serving p st) f = serving_tied outcome laws texts scripts t p st f
-  serve_tied outcome laws texts scripts t Asking_outcome f = refocused t (Over (outcome w.host.shared)) (w.printed ++ []) (append-nil w.printed) (λ q. ap (stage_at q) f) (λ phases. sym (ap (hand_at m phases) f)) (λ q. t.over (ap is_past f))
-  serve_tied outcome laws texts scripts t (Over x) f = t
-  serve_tied outcome laws texts scripts t Turns_over f = t
+  serve_tied : (outcome : S → Outcome) → IsMachine m → IsTold m → IsTexts o.texts → IsScript script → (t : Tied m o script w kernel) (focus : Focus) → w.tracer.focus ≡ focus → Tied m o script (happens_asked m outcome o script w focus (request o focus) Serve) kernel
+  serve_tied outcome laws words texts scripts t Waiting f = wait_tied t f w.host.queue refl w.host.tracees refl
+  serve_tied outcome laws words texts scripts t (Serving p st) f = serving_tied outcome laws words texts scripts t p st f
+  serve_tied outcome laws words texts scripts t Asking_outcome f = refocused t (Over (outcome w.host.shared)) (suc w.tracer.taken) (w.printed ++ []) (append-nil w.printed) (λ q. ap (stage_at q) f) (λ phases. sym (ap (hand_at m phases) f)) (λ q. t.over (ap is_past f)) (λ x. cc x)
+  serve_tied outcome laws words texts scripts t (Over x) f = t
+  serve_tied outcome laws words texts scripts t Turns_over f = t
+  serve_tied outcome laws words texts scripts t Faulted f = t
 
 module _ {S B : Type 0} (m : Machine S B) (o : Options) (script : Script) (w : World S B) (kernel : Kernel S B) where
   abbrev host_after : ℕ → Option Watch → Host S B
   host_after p x = bears (moved w.host p x (host_turn_of m w.host p)) x (host_turn_of m w.host p).event
 
-  turn_tied : IsMachine m → HasWaitWords m → (t : Tied m o script w kernel) (p : ℕ) (effective : Bool) → is_effective m w.host.shared p (w.host.procs p) ≡ effective → Tied m o script (record { host = cond effective (host_after p (w.host.procs p).watch) w.host; tracer = w.tracer; printed = w.printed }) (kernel_run m script o.follow kernel (cond effective (p ∷ []) []))
+  turn_tied : IsMachine m → IsTold m → (t : Tied m o script w kernel) (p : ℕ) (effective : Bool) → is_effective m w.host.shared p (w.host.procs p) ≡ effective → Tied m o script (record { host = cond effective (host_after p (w.host.procs p).watch) w.host; tracer = w.tracer; printed = w.printed }) (kernel_run m script o.follow kernel (cond effective (p ∷ []) []))
   turn_tied laws words t p true f =
       let u : Turned m o.follow o script p (t.phases p) (w.tracer.known p) (λ n. entries p n (items_of kernel.log)) (turn_of m script o.follow kernel p) (host_turn_of m w.host p) = turn_here m o script w kernel laws words t p f in
       let x : Option Watch = (proc_of m o.follow (t.phases p)).watch in
@@ -860,12 +1024,12 @@ module _ {S B : Type 0} (m : Machine S B) (o : Options) (script : Script) (w : W
       (λ r past. cc ((t.each p).listed r, ap (is_among p) (t.over past))) u.birth))
   turn_tied laws words t p false f = t
 
-  asked_tied : (outcome : S → Outcome) → IsMachine m → HasWaitWords m → IsTexts o.texts → IsScript script → (t : Tied m o script w kernel) (focus : Focus) → w.tracer.focus ≡ focus → (q : Option Request) → request o focus ≡ q → (e : Step) → Tied m o script (happens_asked m outcome o script w focus q e) (kernel_run m script o.follow kernel (turns_of m w q e))
+  asked_tied : (outcome : S → Outcome) → IsMachine m → IsTold m → IsTexts o.texts → IsScript script → (t : Tied m o script w kernel) (focus : Focus) → w.tracer.focus ≡ focus → (q : Option Request) → request o focus ≡ q → (e : Step) → Tied m o script (happens_asked m outcome o script w focus q e) (kernel_run m script o.follow kernel (turns_of m w q e))
   asked_tied outcome laws words texts scripts t focus f None g e = t
   asked_tied outcome laws words texts scripts t focus f (Some q) g (Turn p) = turn_tied laws words t p (is_effective m w.host.shared p (w.host.procs p)) refl
-  asked_tied outcome laws words texts scripts t focus f (Some q) g Serve = subst (λ x. Tied m o script (happens_asked m outcome o script w focus x Serve) kernel) g (serve_tied m o script w kernel outcome laws texts scripts t focus f)
+  asked_tied outcome laws words texts scripts t focus f (Some q) g Serve = subst (λ x. Tied m o script (happens_asked m outcome o script w focus x Serve) kernel) g (serve_tied m o script w kernel outcome laws words texts scripts t focus f)
 
-  pub happens_tied : (outcome : S → Outcome) → IsMachine m → HasWaitWords m → IsTexts o.texts → IsScript script → Tied m o script w kernel → (e : Step) → Tied m o script (happens m outcome o script w e) (kernel_run m script o.follow kernel (turns_of m w (request o w.tracer.focus) e))
+  pub happens_tied : (outcome : S → Outcome) → IsMachine m → IsTold m → IsTexts o.texts → IsScript script → Tied m o script w kernel → (e : Step) → Tied m o script (happens m outcome o script w e) (kernel_run m script o.follow kernel (turns_of m w (request o w.tracer.focus) e))
   happens_tied outcome laws words texts scripts t e = asked_tied outcome laws words texts scripts t w.tracer.focus refl (request o w.tracer.focus) refl e
 
 kernel_run-append : {S B : Type 0} (m : Machine S B) (script : Script) (follow : Bool) (kernel : Kernel S B) (ps qs : List ℕ) → kernel_run m script follow kernel (ps ++ qs) ≡ kernel_run m script follow (kernel_run m script follow kernel ps) qs
@@ -873,7 +1037,7 @@ kernel_run-append m script follow kernel [] qs = refl
 kernel_run-append m script follow kernel (p ∷ ps) qs = kernel_run-append m script follow (kernel_turn m script follow kernel p) ps qs
 
 -- every list of events keeps the tie
-pub run_tied : {S B : Type 0} (m : Machine S B) (outcome : S → Outcome) (o : Options) (script : Script) → IsMachine m → HasWaitWords m → IsTexts o.texts → IsScript script → (events : List Step) (w : World S B) (kernel : Kernel S B) → Tied m o script w kernel → Tied m o script (world_run m outcome o script w events) (kernel_run m script o.follow kernel (effective m outcome o script w events))
+pub run_tied : {S B : Type 0} (m : Machine S B) (outcome : S → Outcome) (o : Options) (script : Script) → IsMachine m → IsTold m → IsTexts o.texts → IsScript script → (events : List Step) (w : World S B) (kernel : Kernel S B) → Tied m o script w kernel → Tied m o script (world_run m outcome o script w events) (kernel_run m script o.follow kernel (effective m outcome o script w events))
 run_tied m outcome o script laws words texts scripts [] w kernel t = t
 run_tied m outcome o script laws words texts scripts (e ∷ es) w kernel t = rw (kernel_run-append m script o.follow kernel (turns_of m w (request o w.tracer.focus) e) (effective m outcome o script (happens m outcome o script w e) es)) (run_tied m outcome o script laws words texts scripts es (happens m outcome o script w e) (kernel_run m script o.follow kernel (turns_of m w (request o w.tracer.focus) e)) (happens_tied m o script w kernel outcome laws words texts scripts t e))
 
@@ -904,6 +1068,7 @@ module _ {S B : Type 0} (m : Machine S B) (o : Options) (script : Script) (w : W
   no_hand_past phases Asking_outcome h = refl
   no_hand_past phases (Over x) h = refl
   no_hand_past phases Turns_over h = refl
+  no_hand_past phases Faulted h = refl
 
   pub all_told : (t : Tied m o script w kernel) → is_past w.tracer.focus ≡ true → w.printed ≡ parts o (view t.lost (traced o.follow kernel.log))
   all_told t f =
@@ -927,6 +1092,7 @@ module _ {S B : Type 0} (m : Machine S B) (o : Options) (script : Script) (w : W
   no_stage q Asking_outcome h = refl
   no_stage q (Over x) h = refl
   no_stage q Turns_over h = refl
+  no_stage q Faulted h = refl
 
   pub none_left : (t : Tied m o script w kernel) → is_past w.tracer.focus ≡ true → (q : ℕ) → traces o.follow q ≡ true → is_alive (kernel.owns q) ≡ false
   none_left t f q tr = ap is_alive (t.each q).own ∙ gone_phase (t.phases q) (is_reaped (reaped (t.phases q)) q w.host.tracees (t.over f) (t.each q).listed) (sym (t.each q).sort ∙ tr) ((t.each q).stage ∙ no_stage q w.tracer.focus f)

@@ -5,19 +5,25 @@ use Rattle.lx_abi.specs.declared.log.Cause.{Cause}
 use Rattle.lx_abi.specs.declared.outcome.Outcome.{Outcome}
 use Rattle.lx_abi.specs.declared.schedule.Event.{Event}
 use Rattle.lx_abi.specs.declared.signal.Signal.{Signal}
-use Rattle.lx_abi.specs.Status.{is_end}
-use Rattle.lx_model.specs.Machine.{Machine, IsMachine, Ends, Kills}
+use Rattle.lx_abi.specs.Signals.{is_signal}
+use Rattle.lx_model.specs.Machine.{Machine, IsMachine, Execs, Bears, Ends, Kills}
 use Rattle.lx_model.specs.Kernel.{Script, traces, Kernel, kernel_run, first_kernel}
 use Rattle.lx_model.specs.Requests.{may_join, may_peek}
+use Rattle.lx_model.specs.Admissible.{clone_number, execve_number, is_exit_number, is_exit_word}
 use Rattle.lx_model.specs.Parts.{Half, Texts, Options, Part}
-use Rattle.lx_model.specs.Tracer.{Focus, Waiting, Serving, Asking_outcome, Over, Turns_over}
+use Rattle.lx_model.specs.Tracer.{Focus, Waiting, Serving, Asking_outcome, Over, Turns_over, Faulted}
 use Rattle.lx_model.specs.World.{World, world_run, effective, first_world}
 use Rattle.lx_model.specs.View.{has_exit, view, traced, most_reads, parts}
 
--- a process ends with a wait word: an exit code times 256, or a signal's number (wait(2))
-pub record HasWaitWords {S B : Type 0} (m : Machine S B) : Type 0 where
-  pub of_call : (s : S) (child p : ℕ) (c : Call) (b : B) (word : ℕ) → m.call s child p c b ≡ Ends word → is_end word ≡ true
-  pub of_signal : (s : S) (p : ℕ) (signal : Signal) (cause : Cause) (b : B) (word : ℕ) → m.take s p signal cause b ≡ Kills word → is_end word ≡ true
+-- what a tracer is told of calls fits their numbers (wait(2), ptrace(2)): children come of clone, new
+-- programs of execve, exit codes of exit and exit_group, and other ends of a signal; no read of a memory
+-- gives more bytes than were asked for
+pub record IsTold {S B : Type 0} (m : Machine S B) : Type 0 where
+  pub by_clone : (s t : S) (child p : ℕ) (c : Call) (b d born : B) → m.call s child p c b ≡ Bears t d born → c.number ≡ clone_number
+  pub by_execve : (s t : S) (child p : ℕ) (c : Call) (b d : B) → m.call s child p c b ≡ Execs t d → c.number ≡ execve_number
+  pub by_exit : (s : S) (child p : ℕ) (c : Call) (b : B) (word : ℕ) → m.call s child p c b ≡ Ends word → (is_exit_number c.number ≡ true) × (is_exit_word word ≡ true)
+  pub by_signal : (s : S) (p : ℕ) (signal : Signal) (cause : Cause) (b : B) (word : ℕ) → m.take s p signal cause b ≡ Kills word → is_signal word ≡ true
+  pub peeks : (b : B) (address most : ℕ) → length (m.peek b address most) ≤ most
 
 -- each read is one that is answered, and a text is whole after so many, whatever was read
 pub record IsTexts (t : Texts) : Type 0 where
@@ -41,6 +47,7 @@ IsPast (Serving p place) = ⊥
 IsPast Asking_outcome = Unit {0}
 IsPast (Over x) = Unit {0}
 IsPast Turns_over = ⊥
+IsPast Faulted = ⊥
 
 -- the run of the world
 abbrev pub traced_run : {S B : Type 0} → Machine S B → (S → Outcome) → Options → Script → S → B → List Event → World S B
@@ -50,10 +57,11 @@ traced_run m outcome o script s b events = world_run m outcome o script (first_w
 abbrev pub plain_run : {S B : Type 0} → Machine S B → (S → Outcome) → Options → Script → S → B → List Event → Kernel S B
 plain_run m outcome o script s b events = kernel_run m script o.follow (first_kernel s b) (effective m outcome o script (first_world s b) events)
 
--- Files, output and statuses are the same at every moment, and the reply to Outcome says them; the trace
--- is a view's; and once no tracee is left, each that was born has logged its end.
+-- Files, output and statuses are the same at every moment, every reply is admitted, and the reply to
+-- Outcome says them; the trace is a view's; and once no tracee is left, each that was born has logged its end.
 pub record Headline {S B : Type 0} (outcome : S → Outcome) (o : Options) (w : World S B) (k : Kernel S B) : Type 0 where
   pub same_outcome : outcome w.host.shared ≡ outcome k.shared
+  pub admitted : w.tracer.focus ≡ Faulted → ⊥
   pub replied : (x : Outcome) → w.tracer.focus ≡ Over x → x ≡ outcome k.shared
   pub lost : ℕ → Bool
   pub tells : TellsView w.printed (parts o (view lost (traced o.follow k.log))) (IsPast w.tracer.focus)
@@ -66,4 +74,4 @@ HeadlineAt {S} {B} m = (outcome : S → Outcome) (o : Options) → IsTexts o.tex
 
 -- for every machine over these two types
 abbrev pub IsTransparent : Type 0 → Type 0 → Type 0
-IsTransparent S B = (m : Machine S B) → IsMachine m → HasWaitWords m → HeadlineAt m
+IsTransparent S B = (m : Machine S B) → IsMachine m → IsTold m → HeadlineAt m

@@ -6,6 +6,7 @@ pub mod Laws
 pub mod Ptrace
 pub mod Requests
 pub mod Parts
+pub mod Admissible
 pub mod Tracer
 pub mod World
 pub mod View

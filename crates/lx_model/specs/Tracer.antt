@@ -1,6 +1,6 @@
 -- The tracer: from each reply, what it knows next, what it asks next, and what it shows. It holds one
 -- tracee at a time in hand, from its status to its resumption (ptrace(2), strace(1)).
-use Rattle.std.specs.Prelude.{ℕ, ◌+◌, ◌==◌, Bool, true, false, cond, not, ◌||◌, List, [], ◌∷◌, ◌++◌, Option, Some, None}
+use Rattle.std.specs.Prelude.{ℕ, suc, ◌+◌, ◌==◌, Bool, true, false, cond, not, ◌&&◌, ◌||◌, List, [], ◌∷◌, ◌++◌, Option, Some, None, filter}
 use Rattle.lx_abi.specs.declared.log.Call.{Call}
 use Rattle.lx_abi.specs.declared.outcome.Outcome.{Outcome}
 use Rattle.lx_abi.specs.declared.ptrace.Ask.{Ask}
@@ -11,12 +11,15 @@ use Rattle.lx_abi.specs.declared.ptrace.Request.{Request}
 use Rattle.lx_abi.specs.declared.ptrace.Request.TheVariants.{Wait, To, Outcome as Ask_outcome}
 use Rattle.lx_abi.specs.declared.script.Choice.{Choice}
 use Rattle.lx_abi.specs.declared.signal.Signal.{Signal}
+use Rattle.lx_abi.specs.declared.status.EventStop.{EventStop}
+use Rattle.lx_abi.specs.declared.status.EventStop.TheVariants.{Fork as At_fork, Exec as At_exec, Stop as At_start}
 use Rattle.lx_abi.specs.declared.status.Stop.{Stop}
 use Rattle.lx_abi.specs.declared.status.Stop.TheVariants.{Syscall as Syscall_stop, Signal as Signal_stop, Event as Event_stop, Ended}
 use Rattle.lx_abi.specs.Status.{stop_of}
 use Rattle.lx_model.specs.Machine.{Regs, call_of, a0_of, a7_of, sp_of, with_a0, with_a7, no_call}
 use Rattle.lx_model.specs.Turn.{result_word}
-use Rattle.lx_model.specs.Kernel.{Script, put}
+use Rattle.lx_model.specs.Kernel.{Script, put, traces}
+use Rattle.lx_model.specs.Admissible.{Standing, Unmet, Between, After_signal, Unread, Read, After_event, At_end, stop_fits, admits_answer}
 use Rattle.lx_model.specs.Ptrace.{is_there}
 use Rattle.lx_model.specs.Parts.{At_entry, At_exit, Options, Part, Part_signal, Part_exit, enter_part, done_part}
 
@@ -29,6 +32,8 @@ pub record Known : Type 0 where
   pub saved : Option ℕ
   -- how often it entered each call, by number
   pub counts : ℕ → ℕ
+  -- what it may be told of next
+  pub standing : Standing
 
 -- what is being asked of the tracee in hand
 pub data Place : Type 0 where
@@ -81,7 +86,7 @@ signal_word (Some signal) = signal.number
 
 -- a call is counted, and becomes the open one
 abbrev pub opened : Known → Regs → Option ℕ → Known
-opened k r saved = record { inside = k.inside; called = call_of r; saved = saved; counts = put k.counts (a7_of r) (k.counts (a7_of r) + 1) }
+opened k r saved = record { inside = k.inside; called = call_of r; saved = saved; counts = put k.counts (a7_of r) (k.counts (a7_of r) + 1); standing = Read }
 
 abbrev pub entry_with : Options → ℕ → Regs → List (List ℕ) → Known → ℕ → Option ℕ → Heard
 entry_with o p r got k signal None = record { known = opened k r None; next = Some (Resuming signal); printed = enter_part o p (call_of r) (sp_of r) got }
@@ -105,7 +110,7 @@ read_entry o script p r got k true = look_entry o script p r got k (o.texts.want
 read_entry o script p r got k false = entry o script p r [] k
 
 abbrev pub closed : Known → Known
-closed k = record { inside = k.inside; called = k.called; saved = None; counts = k.counts }
+closed k = record { inside = k.inside; called = k.called; saved = None; counts = k.counts; standing = k.standing }
 
 abbrev pub exit : Options → ℕ → ℕ → Bool → List (List ℕ) → Known → Heard
 exit o p x replaced got k = record { known = closed k; next = Some (Resuming 0); printed = done_part o p k.called x replaced got }
@@ -160,13 +165,18 @@ pub data Focus : Type 0 where
   -- the tracee in hand
   Serving : ℕ → Place → Focus
   Asking_outcome : Focus
-  -- nothing more: the run is whole, or was answered OutOfTurns
+  -- nothing more: the run is whole, was answered OutOfTurns, or met a reply that isn't admitted
   Over : Outcome → Focus
   Turns_over : Focus
+  Faulted : Focus
 
 pub record Tracer : Type 0 where
   pub known : ℕ → Known
+  -- the tracees that it knows and whose end wasn't told, in no order
+  pub tracees : List ℕ
   pub focus : Focus
+  -- how many replies it took, with the one to Boot
+  pub taken : ℕ
 
 -- the next request, or none at the end
 abbrev pub request : Options → Focus → Option Request
@@ -175,20 +185,23 @@ request o (Serving p place) = Some (To p (asks o place))
 request o Asking_outcome = Some Ask_outcome
 request o (Over x) = None
 request o Turns_over = None
+request o Faulted = None
 
+-- what a reply that is admitted leads to
 pub record Next : Type 0 where
-  pub tracer : Tracer
+  pub known : ℕ → Known
+  pub focus : Focus
   pub printed : List Part
 
 abbrev pub stays : (ℕ → Known) → Focus → Next
-stays known focus = record { tracer = record { known = known; focus = focus }; printed = [] }
+stays known focus = record { known = known; focus = focus; printed = [] }
 
 abbrev pub focus_on : ℕ → Option Place → Focus
 focus_on p (Some place) = Serving p place
 focus_on p None = Waiting
 
 abbrev pub heard : (ℕ → Known) → ℕ → Heard → Next
-heard known p h = record { tracer = record { known = put known p h.known; focus = focus_on p h.next }; printed = h.printed }
+heard known p h = record { known = put known p h.known; focus = focus_on p h.next; printed = h.printed }
 
 -- at an exit the registers are wanted where the call is shown or replaced
 abbrev pub exit_place : Bool → Place
@@ -199,15 +212,24 @@ abbrev pub first_place : Options → Known → Bool → Place
 first_place o k true = exit_place (o.shows k.called.number || is_there k.saved)
 first_place o k false = Entry_regs
 
+abbrev pub stands_at : Known → Standing → Known
+stands_at k standing = record { inside = k.inside; called = k.called; saved = k.saved; counts = k.counts; standing = standing }
+
+-- at a syscall stop a call begins, or ends
 abbrev pub turned_over : Known → Known
-turned_over k = record { inside = not k.inside; called = k.called; saved = k.saved; counts = k.counts }
+turned_over k = record { inside = not k.inside; called = k.called; saved = k.saved; counts = k.counts; standing = cond k.inside Between Unread }
+
+abbrev pub event_standing : EventStop → Standing
+event_standing At_fork = After_event
+event_standing At_exec = After_event
+event_standing At_start = Between
 
 -- a status was taken: entry and exit stops alternate (ptrace(2), "Syscall-stops")
 abbrev pub took_stop : Options → (ℕ → Known) → ℕ → Stop → Next
 took_stop o known p (Syscall_stop good) = stays (put known p (turned_over (known p))) (Serving p (first_place o (known p) (known p).inside))
-took_stop o known p (Signal_stop signal) = stays known (Serving p (Signal_info signal.number))
-took_stop o known p (Event_stop event) = stays known (Serving p (Resuming 0))
-took_stop o known p (Ended word) = record { tracer = record { known = known; focus = Waiting }; printed = Part_exit p word ∷ [] }
+took_stop o known p (Signal_stop signal) = stays (put known p (stands_at (known p) After_signal)) (Serving p (Signal_info signal.number))
+took_stop o known p (Event_stop event) = stays (put known p (stands_at (known p) (event_standing event))) (Serving p (Resuming 0))
+took_stop o known p (Ended word) = record { known = put known p (stands_at (known p) At_end); focus = Waiting; printed = Part_exit p word ∷ [] }
 
 abbrev pub took_status : Options → (ℕ → Known) → ℕ → Option Stop → Next
 took_status o known p None = stays known Waiting
@@ -222,12 +244,72 @@ next_at o script known Asking_outcome (Outcome_is x) = stays known (Over x)
 next_at o script known focus Out_of_turns = stays known Turns_over
 next_at o script known focus _ = stays known focus
 
-abbrev pub next : Options → Script → Tracer → Reply → Next
-next o script t reply = next_at o script t.known t.focus reply
+-- Admission
+
+-- only tracees are told of, and each as it stands
+abbrev pub admits_stop : Options → ℕ → Known → Option Stop → Bool
+admits_stop o p k None = false
+admits_stop o p k (Some stop) = traces o.follow p && stop_fits o.follow k.called.number (is_there k.saved) k.standing stop
+
+abbrev pub is_empty : List ℕ → Bool
+is_empty [] = true
+is_empty (p ∷ ps) = false
+
+-- ECHILD is admitted once the end of every tracee that is known was told
+abbrev pub admits_at : Options → (ℕ → Known) → List ℕ → Focus → Reply → Bool
+admits_at o known tracees Waiting (Status_is p status) = admits_stop o p (known p) (stop_of status.word)
+admits_at o known tracees Waiting (Errno_is n) = (n == 10) && is_empty tracees
+admits_at o known tracees Waiting Out_of_turns = true
+admits_at o known tracees Waiting reply = false
+admits_at o known tracees (Serving p place) reply = admits_answer (asks o place) reply
+admits_at o known tracees Asking_outcome (Outcome_is x) = true
+admits_at o known tracees Asking_outcome Out_of_turns = true
+admits_at o known tracees Asking_outcome reply = false
+admits_at o known tracees (Over x) reply = false
+admits_at o known tracees Turns_over reply = false
+admits_at o known tracees Faulted reply = false
+
+abbrev pub is_among : ℕ → List ℕ → Bool
+is_among q [] = false
+is_among q (p ∷ ps) = (q == p) || is_among q ps
+
+abbrev pub with_tracee : List ℕ → ℕ → List ℕ
+with_tracee tracees p = cond (is_among p tracees) tracees (p ∷ tracees)
+
+abbrev pub told_tracees : List ℕ → ℕ → Option Stop → List ℕ
+told_tracees tracees p None = tracees
+told_tracees tracees p (Some (Syscall_stop good)) = with_tracee tracees p
+told_tracees tracees p (Some (Signal_stop signal)) = with_tracee tracees p
+told_tracees tracees p (Some (Event_stop event)) = with_tracee tracees p
+told_tracees tracees p (Some (Ended word)) = filter (λ q. not (p == q)) tracees
+
+-- process 1 is known from Seize's Done, and every other from its first status
+abbrev pub tracees_after : List ℕ → Focus → Reply → List ℕ
+tracees_after tracees Waiting (Status_is p status) = told_tracees tracees p (stop_of status.word)
+tracees_after tracees (Serving p Seizing) Agreed = with_tracee tracees p
+tracees_after tracees focus reply = tracees
+
+-- the tracer after a reply, and what it shows
+pub record Moved : Type 0 where
+  pub tracer : Tracer
+  pub printed : List Part
+
+abbrev pub takes : Tracer → Focus → Reply → Next → Moved
+takes t focus reply n = record { tracer = record { known = n.known; tracees = tracees_after t.tracees focus reply; focus = n.focus; taken = suc t.taken }; printed = n.printed }
+
+abbrev pub faults : Tracer → Moved
+faults t = record { tracer = record { known = t.known; tracees = t.tracees; focus = Faulted; taken = t.taken }; printed = [] }
+
+-- with this request pending; after a fault every reply is a fault, and shows nothing
+abbrev pub next_from : Options → Script → Tracer → Focus → Reply → Moved
+next_from o script t focus reply = cond (admits_at o t.known t.tracees focus reply) (takes t focus reply (next_at o script t.known focus reply)) (faults t)
+
+abbrev pub next : Options → Script → Tracer → Reply → Moved
+next o script t reply = next_from o script t t.focus reply
 
 abbrev pub new_known : Known
-new_known = record { inside = false; called = record { number = no_call; arguments = 0 ∷ 0 ∷ 0 ∷ 0 ∷ 0 ∷ 0 ∷ [] }; saved = None; counts = λ n. 0 }
+new_known = record { inside = false; called = record { number = no_call; arguments = 0 ∷ 0 ∷ 0 ∷ 0 ∷ 0 ∷ 0 ∷ [] }; saved = None; counts = λ n. 0; standing = Unmet }
 
--- its first request is to seize process 1
+-- its first request is to seize process 1; the reply to Boot was taken
 abbrev pub first_tracer : Tracer
-first_tracer = record { known = λ p. new_known; focus = Serving 1 Seizing }
+first_tracer = record { known = λ p. new_known; tracees = []; focus = Serving 1 Seizing; taken = 1 }

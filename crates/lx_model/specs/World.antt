@@ -10,7 +10,7 @@ use Rattle.lx_model.specs.Kernel.{Script, born}
 use Rattle.lx_model.specs.Ptrace.{Host, host_turn, is_effective, first_host}
 use Rattle.lx_model.specs.Requests.{serve}
 use Rattle.lx_model.specs.Parts.{Options, Part}
-use Rattle.lx_model.specs.Tracer.{Focus, Waiting, Serving, Asking_outcome, Over, Turns_over, Tracer, request, next_at, first_tracer}
+use Rattle.lx_model.specs.Tracer.{Focus, Waiting, Serving, Asking_outcome, Over, Turns_over, Faulted, Tracer, request, next_from, first_tracer}
 
 pub record World (S B : Type 0) : Type 0 where
   pub host : Host S B
@@ -19,8 +19,8 @@ pub record World (S B : Type 0) : Type 0 where
 
 -- a request was served: its reply, if there is one, comes to the tracer, which asks the next
 abbrev pub met : {S B : Type 0} → Options → Script → World S B → Focus → Host S B → Option Reply → World S B
-met o script w focus h None = record { host = h; tracer = record { known = w.tracer.known; focus = focus }; printed = w.printed }
-met o script w focus h (Some r) = record { host = h; tracer = (next_at o script w.tracer.known focus r).tracer; printed = w.printed ++ (next_at o script w.tracer.known focus r).printed }
+met o script w focus h None = record { host = h; tracer = w.tracer; printed = w.printed }
+met o script w focus h (Some r) = record { host = h; tracer = (next_from o script w.tracer focus r).tracer; printed = w.printed ++ (next_from o script w.tracer focus r).printed }
 
 -- an event, while this request is pending; after the last request nothing happens
 abbrev pub happens_asked : {S B : Type 0} → Machine S B → (S → Outcome) → Options → Script → World S B → Focus → Option Request → Event → World S B
@@ -50,6 +50,8 @@ effective m outcome o script w (e ∷ es) = turns_of m w (request o w.tracer.foc
 pub data End : Type 0 where
   Whole : Outcome → End
   Events_used_up : End
+  -- a reply wasn't admitted; the host's own all are
+  Fault : End
 
 abbrev pub end_of : Focus → End
 end_of Waiting = Events_used_up
@@ -57,6 +59,7 @@ end_of (Serving p place) = Events_used_up
 end_of Asking_outcome = Events_used_up
 end_of (Over x) = Whole x
 end_of Turns_over = Events_used_up
+end_of Faulted = Fault
 
 abbrev pub first_world : {S B : Type 0} → S → B → World S B
 first_world s b = record { host = first_host s (λ p. born (p == 1) b); tracer = first_tracer; printed = [] }

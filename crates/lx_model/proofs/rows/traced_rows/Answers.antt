@@ -1,5 +1,5 @@
 use Rattle.lx_model.proofs.Final.{transparent}
-use Rattle.lx_model.proofs.TinyMachine.{tiny_is, tiny_ends, runs_of_tiny}
+use Rattle.lx_model.proofs.TinyMachine.{tiny_is, tiny_told, runs_of_tiny}
 use Rattle.lx_model.specs.Tiny.{tiny}
 use Rattle.lx_model.proofs.rows.traced_rows.Goals as goal
 
@@ -7,4 +7,4 @@ pub returns-clause-runs : goal.returns-clause-runs
 returns-clause-runs c = runs_of_tiny
 
 pub returns-clause-transparent : goal.returns-clause-transparent
-returns-clause-transparent c = transparent tiny tiny_is tiny_ends
+returns-clause-transparent c = transparent tiny tiny_is tiny_told
