@@ -22,7 +22,7 @@ use Rattle.lx_model.specs.View.{parts}
 use Rattle.lx_model.specs.Headline.{IsPast, IsTransparent, traced_run, plain_run}
 use Rattle.lx_model.proofs.Apart.{the_dead_have_ended}
 use Rattle.lx_model.proofs.Phases.{Phase, Boot_held, Unborn, items_in, is_unborn}
-use Rattle.lx_model.proofs.Whole.{Tie, Tied, run_tied, is_past, hand_at, told_so_far, all_told, none_left}
+use Rattle.lx_model.proofs.Whole.{Tie, Tied, run_tied, is_past, hand_at, told_at_wait, told_so_far, all_told, none_left}
 
 module _ {S B : Type 0} (m : Machine S B) (o : Options) (script : Script) (s : S) (b : B) where
   abbrev first_phase : Bool → ℕ → Phase B
@@ -144,5 +144,6 @@ transparent m laws words outcome o texts script scripts s b events =
         begins = told_so_far m o script w k t;
         whole = λ h. all_told m o script w k t (is_past_if w.tracer.focus h);
       };
+      nothing_owed = told_at_wait m o script w k t;
       all_ended = λ h q l g tr. the_dead_have_ended m script o.follow s b (effective m outcome o script (first_world s b) events) q l g (none_left m o script w k t (is_past_if w.tracer.focus h) q tr);
     }

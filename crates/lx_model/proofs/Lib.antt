@@ -11,3 +11,4 @@ pub mod Final
 pub mod TinyMachine
 pub mod Computed
 pub mod Apart
+pub mod Composition

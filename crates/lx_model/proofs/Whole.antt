@@ -1075,6 +1075,16 @@ module _ {S B : Type 0} (m : Machine S B) (o : Options) (script : Script) (w : W
       let none : t.rest ≡ [] = nothing_left t.rest (λ q. sym (t.each q).due ∙ nothing_due q (t.phases q) (is_reaped (reaped (t.phases q)) q w.host.tracees (t.over f) (t.each q).listed)) in
       t.told ∙ ap (parts o) (sym (append-nil t.past) ∙ ap (λ x. t.past ++ x) (sym (rw (no_hand_past t.phases w.tracer.focus f, none) refl)) ∙ t.viewed)
 
+  -- where Wait is asked and nothing is reported, all is told
+  pub told_at_wait : (t : Tied m o script w kernel) → w.tracer.focus ≡ Waiting → w.host.queue ≡ [] → w.printed ≡ parts o (view t.lost (traced o.follow kernel.log))
+  told_at_wait t f e =
+      let none : t.rest ≡ [] = no_due t.rest (sym t.queue ∙ e) in
+      t.told ∙ ap (parts o) (sym (append-nil t.past) ∙ ap (λ x. t.past ++ x) (sym (rw (f, none) refl)) ∙ t.viewed)
+    where
+      no_due : (rest : List Due) → map report_of rest ≡ [] → rest ≡ []
+      no_due [] h = refl
+      no_due (i ∷ rest) h = absurd (cc h)
+
   pub told_so_far : (t : Tied m o script w kernel) → w.printed ++ parts o (hand_at m t.phases w.tracer.focus ++ items_in t.rest) ≡ parts o (view t.lost (traced o.follow kernel.log))
   told_so_far t = ap (λ x. x ++ parts o (hand_at m t.phases w.tracer.focus ++ items_in t.rest)) t.told ∙ sym (parts-append o t.past _) ∙ ap (parts o) t.viewed
 

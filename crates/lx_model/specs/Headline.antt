@@ -1,5 +1,5 @@
 -- Transparency: a traced run does what the untraced kernel does under the script, and tells of it.
-use Rattle.std.specs.Prelude.{◌≡◌, ℕ, ◌≤◌, ◌<◌, Bool, true, List, ◌++◌, Some, None, length}
+use Rattle.std.specs.Prelude.{◌≡◌, ℕ, ◌≤◌, ◌<◌, Bool, true, List, [], ◌++◌, Some, None, length}
 use Rattle.lx_abi.specs.declared.log.Call.{Call}
 use Rattle.lx_abi.specs.declared.log.Cause.{Cause}
 use Rattle.lx_abi.specs.declared.outcome.Outcome.{Outcome}
@@ -58,13 +58,15 @@ abbrev pub plain_run : {S B : Type 0} → Machine S B → (S → Outcome) → Op
 plain_run m outcome o script s b events = kernel_run m script o.follow (first_kernel s b) (effective m outcome o script (first_world s b) events)
 
 -- Files, output and statuses are the same at every moment, every reply is admitted, and the reply to
--- Outcome says them; the trace is a view's; and once no tracee is left, each that was born has logged its end.
+-- Outcome says them; the trace is a view's, and all of it where
+-- Wait is asked and no report stands in the queue; and once no tracee is left, each that was born has logged its end.
 pub record Headline {S B : Type 0} (outcome : S → Outcome) (o : Options) (w : World S B) (k : Kernel S B) : Type 0 where
   pub same_outcome : outcome w.host.shared ≡ outcome k.shared
   pub admitted : w.tracer.focus ≡ Faulted → ⊥
   pub replied : (x : Outcome) → w.tracer.focus ≡ Over x → x ≡ outcome k.shared
   pub lost : ℕ → Bool
   pub tells : TellsView w.printed (parts o (view lost (traced o.follow k.log))) (IsPast w.tracer.focus)
+  pub nothing_owed : w.tracer.focus ≡ Waiting → w.host.queue ≡ [] → w.printed ≡ parts o (view lost (traced o.follow k.log))
   pub all_ended : IsPast w.tracer.focus → (q : ℕ) → 1 ≤ q → q < k.child → traces o.follow q ≡ true → has_exit q k.log ≡ true
 
 -- for every set of options, script, beginning and list of events

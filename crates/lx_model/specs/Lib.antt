@@ -11,6 +11,7 @@ pub mod Tracer
 pub mod World
 pub mod View
 pub mod Headline
+pub mod Replies
 pub mod Tiny
 pub mod TinyRuns
 pub mod ModeRows

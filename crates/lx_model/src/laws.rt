@@ -1,6 +1,7 @@
 //! Laws of the definitions, each as the contract of a function with an empty body: call it to cite it.
 
 ghost use Rattle.lx_model.specs.Headline.{IsTransparent};
+ghost use Rattle.lx_model.specs.Replies.{RepliesTellAll, TracesGrow, FaultsAreForGood, FailuresLeaveAPrefix};
 ghost use Rattle.lx_model.specs.Laws.{KernelsRunAlike, KernelTurnsApart, HostTurnsApart, TheDeadHaveEnded};
 ghost use Rattle.lx_model.specs.Laws.{TheHeldAreStill, TheHeldCanBeKilled};
 ghost use Rattle.lx_model.specs.Laws.{FirstReportIsTold, ForkIsToldFirst, OneReportAStop, NoOtherReport};
@@ -38,4 +39,20 @@ pub fn stops_are_told_once<S, B>()
     ensures fork { ForkIsToldFirst S B }
     ensures one { OneReportAStop S B }
     ensures no_other { NoOtherReport S B }
+{}
+
+/// What a tracer asks and shows is a function of its options, its script and the replies, whatever these are.
+pub fn replies_tell_all<S, B>()
+    ensures { RepliesTellAll S B }
+{}
+
+/// What was shown stays, and after a reply that isn't admitted the tracer is at fault for good.
+pub fn traces_grow_until_a_fault()
+    ensures grow { TracesGrow }
+    ensures fault { FaultsAreForGood }
+{}
+
+/// Wherever a host fails, what was shown begins a view of what was done until then.
+pub fn failures_leave_a_prefix<S, B>()
+    ensures { FailuresLeaveAPrefix S B }
 {}
