@@ -1,8 +1,8 @@
 //! Pages in the order of their numbers: mapped, unmapped, and the room between them.
 ghost use Rattle.std.specs.Prelude.{◌≡◌, ℕ, ◌+◌, ◌-◌, ◌*◌, ◌^◌, ◌<◌, ◌≤◌, ◌++◌, List, length, take, drop, All, None, Some, IfOk, IfErr, OnOk, OnErr, slice_index, vec_len, vec_capacity};
 ghost use Rattle.rv_mem.specs.Memory.{or_memory};
-ghost use Rattle.rv_mem.specs.Mapping.{either_rights, mapped, unmapped, limit_fault, highest_free};
-ghost use Rattle.rv_mem.specs.Pages.{RisesFrom, Splits, IsBlank, IsRun, numbers, memory_of};
+ghost use Rattle.rv_mem.specs.Mapping.{either_rights, limit_fault, highest_free};
+ghost use Rattle.rv_mem.specs.Pages.{RisesFrom, Splits, IsBlank, IsRun, numbers, memory_of, with_pages, without_pages};
 
 use crate::fault::MemFault;
 use crate::page::Page;
@@ -36,9 +36,9 @@ pub(crate) fn map(
     requires rising { first ≤ end }
     requires within { end ≤ 2 ^ 26 }
     ensures order { RisesFrom 0 pages.new.items }
-    ensures ok { OnOk result (limit_fault (mapped (memory_of pages.old.items) (4096 * first) (4096 * (end - first)) rights) ≡ None) }
-    ensures mapped { OnOk result (memory_of pages.new.items ≡ mapped (memory_of pages.old.items) (4096 * first) (4096 * (end - first)) rights) }
-    ensures fault { IfErr result (λ e. e ≡ or_memory (limit_fault (mapped (memory_of pages.old.items) (4096 * first) (4096 * (end - first)) rights))) }
+    ensures ok { OnOk result (limit_fault (with_pages pages.old.items first end rights) ≡ None) }
+    ensures mapped { OnOk result (memory_of pages.new.items ≡ with_pages pages.old.items first end rights) }
+    ensures fault { IfErr result (λ e. e ≡ or_memory (limit_fault (with_pages pages.old.items first end rights))) }
     ensures unchanged { OnErr result (memory_of pages.new.items ≡ memory_of pages.old.items) }
 {
     let low = position(pages, first);
@@ -87,7 +87,7 @@ fn add(
     requires blank { All IsBlank blanks.items }
     requires room { vec_len pages.old + vec_len blanks ≤ vec_capacity pages.old }
     ensures order { RisesFrom 0 pages.new.items }
-    ensures mapped { memory_of pages.new.items ≡ mapped (memory_of pages.old.items) (4096 * first) (4096 * (end - first)) rights }
+    ensures mapped { memory_of pages.new.items ≡ with_pages pages.old.items first end rights }
 {
     let mut blanks = blanks;
     let mut at = low;
@@ -119,7 +119,7 @@ fn add_next(
     ensures order { RisesFrom 0 pages.new.items }
     ensures onward { number < result }
     ensures within { result ≤ end }
-    ensures mapped { memory_of pages.new.items ≡ mapped (memory_of pages.old.items) (4096 * number) (4096 * (result - number)) rights }
+    ensures mapped { memory_of pages.new.items ≡ with_pages pages.old.items number result rights }
     ensures low { Splits pages.new.items (at + (result - number)) result }
     ensures high { Splits pages.new.items (at + (result - number) + (end - result - vec_len blanks.new)) end }
     ensures few { vec_len blanks.new ≤ end - result }
@@ -206,13 +206,14 @@ pub(crate) fn unmap(pages: &mut Vec<Page>, first: u64, end: u64)
     requires order { RisesFrom 0 pages.old.items }
     requires rising { first ≤ end }
     ensures order { RisesFrom 0 pages.new.items }
-    ensures unmapped { memory_of pages.new.items ≡ unmapped (memory_of pages.old.items) (4096 * first) (4096 * (end - first)) }
+    ensures unmapped { memory_of pages.new.items ≡ without_pages pages.old.items first end }
 {
     let low = position(pages, first);
     let high = position(pages, end);
     take_out(pages, low, high);
 }
 
+/// Takes away the pages from a place up to another.
 fn take_out(pages: &mut Vec<Page>, low: usize, high: usize)
     requires rising { low ≤ high }
     requires within { high ≤ vec_len pages.old }

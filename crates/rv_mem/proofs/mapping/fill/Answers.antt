@@ -10,7 +10,7 @@ loop-number-preserved c =
     let popped = All-pop IsBlank c.loop-number.blanks.items c.pop.new.self.items (Some c.in-Some.bytes) c.in-Some.ensures.items inv.blank in
     let grown = Run-grown c.args.first c.args.rights c.args.pages.now.items c.loop-number.pages.items c.push_reserved.new.self.items (c.loop-number.number - c.args.first) _ c.push_reserved.ensures.items inv.added (omega arith) refl popped.1 in
     record {
-      added = (grown.0, grown.1, (let more : c.loop-number.number - c.args.first + 1 ≡ c.loop-number.number + 1 - c.args.first = omega arith in grown.2 ∙ more), grown.3);
+      added = (grown.0, grown.1, omega (arith, grown.2, c.loop-number.auto.number), grown.3);
       taken = omega (arith, c.in-Some.ensures.cases, inv.taken);
       blank = popped.0;
       room = c.push_reserved.ensures.capacity ∙ inv.room;
