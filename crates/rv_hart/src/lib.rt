@@ -4,6 +4,7 @@
 //! 20191213. Instructions are 32 bits wide, so a jump must go to a multiple of 4.
 #![tactic(auto)]
 
+mod decoder;
 mod execute;
 mod hart;
 mod operate;
@@ -13,7 +14,8 @@ mod running;
 mod tests;
 mod transfer;
 
-pub use execute::step;
+pub use decoder::Decoder;
+pub use execute::{step, step_with};
 pub use hart::Hart;
 pub use outcome::{FaultKind, Step};
 pub use running::{Progress, run};
