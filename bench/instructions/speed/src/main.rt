@@ -5,7 +5,7 @@ use std::alloc::Global;
 use std::io;
 use std::time::Instant;
 
-use rv_hart::{Hart, Step, step};
+use rv_hart::{Decoder, Hart, Step, run, step};
 use rv_isa::decode;
 use rv_mem::{MemFault, Rights, Space};
 
@@ -64,7 +64,7 @@ fn fetches(space: &mut Space, decoded: bool, count: u64) -> u64 {
     legal
 }
 
-fn run(rt: &HostRuntime, name: &str, words: &[u32], rounds: u64) -> io::Result<()> {
+fn by_steps(rt: &HostRuntime, name: &str, words: &[u32], rounds: u64) -> io::Result<()> {
     let Ok(mut space) = space_of(rt.alloc(), words) else {
         return println!(rt; "{name}: no memory");
     };
@@ -74,7 +74,21 @@ fn run(rt: &HostRuntime, name: &str, words: &[u32], rounds: u64) -> io::Result<(
     let steps = steps_of(&mut hart, &mut space);
     let time = start.elapsed(rt)?.as_micros();
     let x10 = hart.registers[10];
-    println!(rt; "{name}: {steps} instructions in {time} us, x10 = {x10}")
+    println!(rt; "{name} by steps: {steps} instructions in {time} us, x10 = {x10}")
+}
+
+fn by_run(rt: &HostRuntime, name: &str, words: &[u32], rounds: u64) -> io::Result<()> {
+    let Ok(mut space) = space_of(rt.alloc(), words) else {
+        return println!(rt; "{name}: no memory");
+    };
+    let mut decoder = Decoder::new(rt.alloc())?;
+    let mut hart = Hart::new(CODE);
+    hart.registers[6] = rounds;
+    let start = Instant::now(rt)?;
+    let progress = run(&mut hart, &mut space, &mut decoder, u64::MAX)?;
+    let time = start.elapsed(rt)?.as_micros();
+    let (steps, x10) = (progress.ran, hart.registers[10]);
+    println!(rt; "{name} by run: {steps} instructions in {time} us, x10 = {x10}")
 }
 
 fn parts(rt: &HostRuntime, name: &str, decoded: bool) -> io::Result<()> {
@@ -88,8 +102,10 @@ fn parts(rt: &HostRuntime, name: &str, decoded: bool) -> io::Result<()> {
 }
 
 fn main(rt: HostRuntime) -> io::Result<()> {
-    run(&rt, "mix", &MIX, 12_500_000)?;
-    run(&rt, "crc", &CRC, 400)?;
+    by_steps(&rt, "mix", &MIX, 12_500_000)?;
+    by_steps(&rt, "crc", &CRC, 400)?;
+    by_run(&rt, "mix", &MIX, 12_500_000)?;
+    by_run(&rt, "crc", &CRC, 400)?;
     parts(&rt, "fetch alone", false)?;
     parts(&rt, "fetch and decode", true)?;
     Ok(())
