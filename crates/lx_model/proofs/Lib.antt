@@ -12,3 +12,5 @@ pub mod TinyMachine
 pub mod Computed
 pub mod Apart
 pub mod Composition
+pub mod Asking
+pub mod Counting

@@ -2,6 +2,7 @@
 
 ghost use Rattle.lx_model.specs.Headline.{IsTransparent};
 ghost use Rattle.lx_model.specs.Replies.{RepliesTellAll, TracesGrow, FaultsAreForGood, FailuresLeaveAPrefix};
+ghost use Rattle.lx_model.specs.Replies.{FewRequests, NobodyIsLeftHeld};
 ghost use Rattle.lx_model.specs.Laws.{KernelsRunAlike, KernelTurnsApart, HostTurnsApart, TheDeadHaveEnded};
 ghost use Rattle.lx_model.specs.Laws.{TheHeldAreStill, TheHeldCanBeKilled};
 ghost use Rattle.lx_model.specs.Laws.{FirstReportIsTold, ForkIsToldFirst, OneReportAStop, NoOtherReport};
@@ -55,4 +56,14 @@ pub fn traces_grow_until_a_fault()
 /// Wherever a host fails, what was shown begins a view of what was done until then.
 pub fn failures_leave_a_prefix<S, B>()
     ensures { FailuresLeaveAPrefix S B }
+{}
+
+/// A tracee is let go, or has met ESRCH, before the next Wait.
+pub fn nobody_is_left_held()
+    ensures { NobodyIsLeftHeld }
+{}
+
+/// At most 100 requests come before the first status, between two, and after the last.
+pub fn requests_are_few()
+    ensures { FewRequests }
 {}
