@@ -1,10 +1,10 @@
 -- What `from_str_radix` reads, and the numbers of texts.
-use Rattle.std.proofs.Common.{ℕ, ◌≡◌, ◌≤◌, ◌<◌, ◌≢◌, ◌^◌, List, [], ◌∷◌, Option, Some, None, Bool, true, false, ◌&&◌, Result, Ok, Err, length, get_or, refl, sym, ap, ◌∙◌, subst, arith, nat_lt, if◌then◌else◌}
-use Rattle.std.specs.Str.Parse.{AllDigits, IsNumeral, digits_value, ParsesUnsigned, without_leading_plus}
+use Rattle.std.proofs.Common.{ℕ, ◌≡◌, ◌<◌, ◌≢◌, ◌^◌, List, [], ◌∷◌, Some, None, Bool, true, false, ◌&&◌, Ok, get_or, refl, sym, ap, subst, arith, if◌then◌else◌}
+use Rattle.std.specs.Str.Parse.{AllDigits, IsNumeral, digits_value, without_leading_plus}
 use Rattle.std.specs.Bool.{then_some}
-use Rattle.std.specs.Result.{MatchResult, OkIff}
+use Rattle.std.specs.Result.{OkIff}
 use Rattle.std.proofs.lemmas.Str.Parse.{without_leading_plus_none}
-use Rattle.std.proofs.lemmas.Bool.Decides.{nat_tests, Decides-and}
+use Rattle.std.proofs.lemmas.Bool.Decides.{nat_tests}
 use Rattle.tr_expr.specs.Numbers.{all_digits, is_numeral, within, number}
 
 pub digits_yes : (radix : ℕ) (ds : List ℕ) → AllDigits radix ds → all_digits radix ds ≡ true

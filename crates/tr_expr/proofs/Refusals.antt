@@ -3,7 +3,7 @@ use Rattle.std.proofs.Common.{ℕ, ◌≡◌, ◌∙◌, ◌++◌, List, Option,
 use Rattle.std.specs.List.{flat_map}
 use Rattle.tr_expr.specs.Faults.{found}
 use Rattle.tr_expr.specs.Sets as sets
-use Rattle.tr_expr.specs.Parts.{Part, part_causes, error_in, retval_in, signal_in, last_said}
+use Rattle.tr_expr.specs.Parts.{Part, part_causes, error_in, retval_in, last_said}
 use Rattle.tr_expr.specs.Rules.{all_causes, whole_causes}
 use Rattle.tr_expr.specs.Saids.{IsSaidBy}
 use Rattle.tr_expr.specs.declared.fault.ExprFault.{ExprFault}

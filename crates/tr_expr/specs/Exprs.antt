@@ -17,7 +17,11 @@ pub data Word : Type 0 where
   Tampered : Tampering → List ℕ → Word
 
 abbrev pub word_of : List ℕ → Word
-word_of text = if starts_with nat_eq text (codes "trace=") then Traced (drop 6 text) else (if starts_with nat_eq text (codes "inject=") then Tampered Inject (drop 7 text) else (if starts_with nat_eq text (codes "fault=") then Tampered Fault (drop 6 text) else Traced text))
+word_of text =
+    if starts_with nat_eq text (codes "trace=") then Traced (drop 6 text)
+    else (if starts_with nat_eq text (codes "inject=") then Tampered Inject (drop 7 text)
+    else (if starts_with nat_eq text (codes "fault=") then Tampered Fault (drop 6 text)
+    else Traced text))
 
 -- the kinds of refusal that the word is a cause of
 abbrev pub causes : Word → List ExprFault

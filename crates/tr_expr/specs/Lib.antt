@@ -2,6 +2,7 @@ pub mod Exprs
 pub mod Faults
 pub mod Numbers
 pub mod Parts
+pub mod Picks
 pub mod Rules
 pub mod Saids
 pub mod Sets

@@ -17,4 +17,6 @@ within low high n = nat_le low n && nat_le n high
 
 -- the number that the digits spell, if it lies in the range
 abbrev pub number : ℕ → ℕ → ℕ → List ℕ → Option ℕ
-number radix low high ds = if is_numeral radix ds && within low high (digits_value radix ds) then Some (digits_value radix ds) else None
+number radix low high ds =
+    if is_numeral radix ds && within low high (digits_value radix ds) then Some (digits_value radix ds)
+    else None

@@ -1,5 +1,5 @@
 -- The parts of a tampering expression (strace(1), Tampering).
-use Rattle.std.specs.Prelude.{ℕ, ℤ, pos, neg_ℤ, List, [], ◌∷◌, Option, Some, None, Result, Ok, Err, Bool, false, if◌then◌else◌, nat_eq, drop, option_map, codes}
+use Rattle.std.specs.Prelude.{ℕ, ℤ, pos, neg_ℤ, List, [], ◌∷◌, Option, None, Result, Err, Bool, false, if◌then◌else◌, nat_eq, drop, option_map, codes}
 use Rattle.std.specs.Option.{ok_or, option_or}
 use Rattle.std.specs.Result.{result_ok}
 use Rattle.std.specs.Str.{bytes_eq}
@@ -10,8 +10,6 @@ use Rattle.tr_expr.specs.Numbers.{number, within}
 use Rattle.tr_expr.specs.Texts.{has_mark, before_mark, after_mark}
 use Rattle.tr_expr.specs.Whens.{Occurrences, when_value}
 use Rattle.tr_expr.specs.Faults.{refusal_of}
-use Rattle.tr_expr.specs.declared.part.Part.{Part as Read}
-use Rattle.tr_expr.specs.declared.part.Part.TheVariants.{Error as ReadError, Retval as ReadRetval, Signal as ReadSignal, When as ReadWhen, Unknown as ReadUnknown}
 use Rattle.tr_expr.specs.declared.rule.Tampering.{Tampering}
 use Rattle.tr_expr.specs.declared.rule.Tampering.TheVariants.{Inject, Fault}
 use Rattle.tr_expr.specs.declared.fault.ExprFault.{ExprFault}
@@ -25,14 +23,6 @@ pub data Part : Type 0 where
   When : List ℕ → Part
   Unknown : Part
 
--- a part as it was read
-abbrev pub shown : Read → Part
-shown (ReadError value) = Error value.now
-shown (ReadRetval value) = Retval value.now
-shown (ReadSignal value) = Signal value.now
-shown (ReadWhen value) = When value.now
-shown ReadUnknown = Unknown
-
 -- fault= knows error and when alone
 abbrev pub taken : Tampering → Part → Part
 taken Inject part = part
@@ -43,11 +33,16 @@ taken Fault (When value) = When value
 taken Fault Unknown = Unknown
 
 abbrev pub keyed : List ℕ → List ℕ → Part
-keyed key value = if bytes_eq key (codes "error") then Error value else (if bytes_eq key (codes "retval") then Retval value else (if bytes_eq key (codes "signal") then Signal value else (if bytes_eq key (codes "when") then When value else Unknown)))
+keyed key value =
+    if bytes_eq key (codes "error") then Error value
+    else (if bytes_eq key (codes "retval") then Retval value
+    else (if bytes_eq key (codes "signal") then Signal value
+    else (if bytes_eq key (codes "when") then When value else Unknown)))
 
 -- a part is cut at its first =
 abbrev pub part_of : Tampering → List ℕ → Part
-part_of form text = taken form (if has_mark 61 text then keyed (before_mark 61 text) (after_mark 61 text) else Unknown)
+part_of form text =
+    taken form (if has_mark 61 text then keyed (before_mark 61 text) (after_mark 61 text) else Unknown)
 
 abbrev pub begins_with_digit : List ℕ → Bool
 begins_with_digit [] = false
@@ -55,11 +50,17 @@ begins_with_digit (b ∷ bs) = within 48 57 b
 
 -- a number from 1 to 4095, or a name
 unfoldable pub errno_value : List ℕ → Result ℕ ExprFault
-errno_value text = if begins_with_digit text then ok_or (number 10 1 4095 text) BadNumber else ok_or (errno_number text) UnknownErrno
+errno_value text =
+    if begins_with_digit text then ok_or (number 10 1 4095 text) BadNumber
+    else ok_or (errno_number text) UnknownErrno
 
 -- 0 to 2^63 - 1, decimal or behind 0x
 unfoldable pub retval_value : List ℕ → Result ℕ ExprFault
-retval_value text = ok_or (if starts_with nat_eq text (codes "0x") then number 16 0 0x7fffffffffffffff (drop 2 text) else number 10 0 0x7fffffffffffffff text) BadNumber
+retval_value text =
+    ok_or
+    (if starts_with nat_eq text (codes "0x") then number 16 0 0x7fffffffffffffff (drop 2 text)
+    else number 10 0 0x7fffffffffffffff text)
+    BadNumber
 
 -- no signal is joined yet
 abbrev pub signal_value : List ℕ → Result Posix ExprFault

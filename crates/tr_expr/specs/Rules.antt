@@ -34,10 +34,15 @@ result_by form error retval = option_or (option_or error retval) (usual_result f
 
 -- the kinds of refusal that the parts together are a cause of: an error beside a value, or nothing to do
 abbrev pub whole_causes : Tampering → Option ℤ → Option ℤ → Option Signal → List ExprFault
-whole_causes form error retval signal = where_true (is_some error && is_some retval) BothResults ++ where_true (is_none (result_by form error retval) && is_none signal) NothingToDo
+whole_causes form error retval signal =
+    where_true (is_some error && is_some retval) BothResults
+    ++ where_true (is_none (result_by form error retval) && is_none signal) NothingToDo
 
 abbrev pub all_causes : Tampering → List ℕ → List Part → List ExprFault
-all_causes form set ps = sets.causes set ++ (flat_map part_causes ps ++ whole_causes form (last_said error_in ps) (last_said retval_in ps) (last_said signal_in ps))
+all_causes form set ps =
+    sets.causes set
+    ++ (flat_map part_causes ps
+    ++ whole_causes form (last_said error_in ps) (last_said retval_in ps) (last_said signal_in ps))
 
 -- the kinds of refusal that the expression is a cause of
 unfoldable pub causes : Tampering → List ℕ → List ExprFault
@@ -45,7 +50,8 @@ causes form text = all_causes form (set_text text) (parts form text)
 
 -- what replaces the call's result
 abbrev pub result_of : Tampering → List ℕ → Option ℤ
-result_of form text = result_by form (last_said error_in (parts form text)) (last_said retval_in (parts form text))
+result_of form text =
+    result_by form (last_said error_in (parts form text)) (last_said retval_in (parts form text))
 
 abbrev pub signal_of : Tampering → List ℕ → Option Signal
 signal_of form text = last_said signal_in (parts form text)

@@ -1,10 +1,20 @@
 -- What was read of the parts of a tampering expression.
 use Rattle.std.specs.Prelude.{◌≡◌, List, None, option_map}
 use Rattle.std.specs.List.{flat_map}
+use Rattle.tr_expr.specs.declared.part.Part.{Part as Read}
+use Rattle.tr_expr.specs.declared.part.Part.TheVariants.{Error as ReadError, Retval as ReadRetval, Signal as ReadSignal, When as ReadWhen, Unknown as ReadUnknown}
 use Rattle.tr_expr.specs.declared.said.Said.{Said}
-use Rattle.tr_expr.specs.Parts.{Part, part_causes, error_in, retval_in, signal_in, when_in, last_said}
+use Rattle.tr_expr.specs.Parts.{Part, Error, Retval, Signal, When, Unknown, part_causes, error_in, retval_in, signal_in, when_in, last_said}
 use Rattle.tr_expr.specs.Whens.{view}
 use Rattle.tr_expr.specs.Faults.{found}
+
+-- a part as it was read
+abbrev pub shown : Read → Part
+shown (ReadError value) = Error value.now
+shown (ReadRetval value) = Retval value.now
+shown (ReadSignal value) = Signal value.now
+shown (ReadWhen value) = When value.now
+shown ReadUnknown = Unknown
 
 -- what the parts say, each the last that says so, and the fault that is found first
 pub record IsSaidBy (parts : List Part) (said : Said) : Type 0 where

@@ -1,12 +1,10 @@
 -- Sets of calls (strace(1), Filtering): items joined by commas, behind a ! that negates the whole.
-use Rattle.std.specs.Prelude.{ℕ, List, [], ◌∷◌, ◌≡◌, Option, Some, None, Bool, true, false, ◌||◌, not, if◌then◌else◌, ◌==◌, is_some, is_none, codes}
+use Rattle.std.specs.Prelude.{ℕ, List, [], ◌∷◌, ◌≡◌, Option, Some, None, Bool, true, false, not, if◌then◌else◌, ◌==◌, is_some, is_none, codes}
 use Rattle.std.specs.Str.{bytes_eq}
 use Rattle.std.specs.List.{list_any, slice_split, flat_map}
 use Rattle.lx_abi.specs.Calls.{call_number}
-use Rattle.lx_abi.specs.Scripts.{includes, among}
+use Rattle.lx_abi.specs.Scripts.{includes}
 use Rattle.lx_abi.specs.declared.script.Set.{Set}
-use Rattle.tr_expr.specs.declared.item.Picks.{Picks}
-use Rattle.tr_expr.specs.declared.item.Picks.TheVariants.{Every as Every', Nothing as Nothing', Call}
 use Rattle.tr_expr.specs.Texts.{after}
 use Rattle.tr_expr.specs.Faults.{where_true}
 use Rattle.tr_expr.specs.declared.fault.ExprFault.{ExprFault}
@@ -23,10 +21,14 @@ pub data Item : Type 0 where
 
 abbrev pub marked : List ℕ → Item
 marked [] = Name []
-marked (b ∷ bs) = if b == 63 then Perhaps bs else (if b == 37 then Class bs else (if b == 47 then Pattern bs else Name (b ∷ bs)))
+marked (b ∷ bs) =
+    if b == 63 then Perhaps bs
+    else (if b == 37 then Class bs else (if b == 47 then Pattern bs else Name (b ∷ bs)))
 
 abbrev pub item_of : List ℕ → Item
-item_of text = if bytes_eq text (codes "all") then Every else (if bytes_eq text (codes "none") then Nothing else marked text)
+item_of text =
+    if bytes_eq text (codes "all") then Every
+    else (if bytes_eq text (codes "none") then Nothing else marked text)
 
 abbrev pub is_number : Option ℕ → ℕ → Bool
 is_number None n = false
@@ -99,13 +101,3 @@ names text n = turned (is_some (after 33 text)) (list_any (λ item. text_picks i
 pub record SaysSet (text : List ℕ) (set : Set) : Type 0 where
   pub sound : causes text ≡ []
   pub calls : (n : ℕ) → includes set n ≡ names text n
-
--- what read items pick
-abbrev pub picked : Bool → List ℕ → ℕ → Bool
-picked every numbers n = every || among numbers n
-
--- what a read item picks
-abbrev pub has : Picks → ℕ → Bool
-has Every' n = true
-has Nothing' n = false
-has (Call m) n = m == n

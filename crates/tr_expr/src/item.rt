@@ -1,7 +1,8 @@
 //! One item of a set.
 
 ghost use Rattle.std.specs.Prelude.{◌≡◌, ℕ, MatchResult, [], ◌∷◌, false};
-ghost use Rattle.tr_expr.specs.Sets.{has, text_picks, text_causes};
+ghost use Rattle.tr_expr.specs.Picks.{has};
+ghost use Rattle.tr_expr.specs.Sets.{text_picks, text_causes};
 
 use crate::fault::ExprFault;
 use crate::text;

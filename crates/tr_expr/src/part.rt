@@ -2,7 +2,7 @@
 
 ghost use Rattle.std.specs.Prelude.{◌≡◌, ◌≤◌, ◌<◌, ◌^◌, IfOk};
 ghost use Rattle.tr_expr.specs.Parts as spec;
-ghost use Rattle.tr_expr.specs.Parts.{shown};
+ghost use Rattle.tr_expr.specs.Saids.{shown};
 
 use crate::fault::ExprFault;
 use crate::number::number;

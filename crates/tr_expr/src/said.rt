@@ -2,12 +2,12 @@
 
 ghost use Rattle.std.specs.Prelude.{◌≡◌, map, option_map};
 ghost use Rattle.std.specs.Option.{option_or};
-ghost use Rattle.tr_expr.specs.Parts.{part_of, part_causes, error_in, retval_in, signal_in, when_in, shown};
+ghost use Rattle.tr_expr.specs.Parts.{part_of, part_causes, error_in, retval_in, signal_in, when_in};
 ghost use Rattle.tr_expr.specs.Sets.{pieces};
 ghost use Rattle.tr_expr.specs.Rules.{result_by, whole_causes};
 ghost use Rattle.tr_expr.specs.Faults.{found, sooner};
 ghost use Rattle.tr_expr.specs.Whens.{view};
-ghost use Rattle.tr_expr.specs.Saids.{IsSaidBy};
+ghost use Rattle.tr_expr.specs.Saids.{IsSaidBy, shown};
 
 use crate::fault::ExprFault;
 use crate::occurrences::read_when;

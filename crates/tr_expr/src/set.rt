@@ -5,6 +5,7 @@ ghost use Rattle.std.specs.List.{flat_map, list_any};
 ghost use Rattle.lx_abi.specs.Scripts.{includes};
 ghost use Rattle.tr_expr.specs.Sets as spec;
 ghost use Rattle.tr_expr.specs.Sets.{SaysSet, pieces, text_causes, text_picks};
+ghost use Rattle.tr_expr.specs.Picks.{picked};
 ghost use Rattle.tr_expr.specs.Texts.{after};
 ghost use Rattle.tr_expr.specs.Faults.{IsRefusal, found};
 ghost use Rattle.tr_expr.specs.declared.fault.ExprFault.TheVariants.{Memory};
@@ -26,8 +27,8 @@ pub(crate) struct Picked {
 impl Picked {
     fn take(&mut self, item: &str) -> Result<(), ExprFault>
         ensures found { OnOk result (self.new.fault ≡ found self.old.fault (text_causes item.now)) }
-        ensures picks { OnOk result ((n : ℕ) → spec.picked self.new.every self.new.numbers.items n
-            ≡ (spec.picked self.old.every self.old.numbers.items n || text_picks item.now n)) }
+        ensures picks { OnOk result ((n : ℕ) → picked self.new.every self.new.numbers.items n
+            ≡ (picked self.old.every self.old.numbers.items n || text_picks item.now n)) }
         ensures err { IfErr result (λ e. e ≡ Memory) }
     {
         match read_item(item) {
@@ -42,7 +43,7 @@ impl Picked {
 
 /// The calls that the items pick, or all but them.
 pub(crate) fn set_of(negated: bool, every: bool, mut numbers: Vec<u64>) -> Set
-    ensures { (n : ℕ) → includes result n ≡ spec.turned negated (spec.picked every numbers.items n) }
+    ensures { (n : ℕ) → includes result n ≡ spec.turned negated (picked every numbers.items n) }
 {
     if every {
         numbers.clear();
@@ -56,7 +57,7 @@ pub(crate) fn set_of(negated: bool, every: bool, mut numbers: Vec<u64>) -> Set
 
 fn picked_of(alloc: Global, list: &str) -> Result<Picked, ExprFault>
     ensures found { IfOk result (λ p. p.fault ≡ found None (flat_map text_causes (pieces 44 list.now))) }
-    ensures picks { IfOk result (λ p. (n : ℕ) → spec.picked p.every p.numbers.items n
+    ensures picks { IfOk result (λ p. (n : ℕ) → picked p.every p.numbers.items n
         ≡ list_any (λ item. text_picks item n) (pieces 44 list.now)) }
     ensures err { IfErr result (λ e. e ≡ Memory) }
 {
@@ -85,7 +86,7 @@ fn negation(text: &str) -> (bool, &str)
 /// Whether the text is negated, and what its items pick.
 pub(crate) fn read_set(alloc: Global, text: &str) -> Result<(bool, Picked), ExprFault>
     ensures found { IfOk result (λ p. p.1.fault ≡ found None (spec.causes text.now)) }
-    ensures names { IfOk result (λ p. (n : ℕ) → spec.turned p.0 (spec.picked p.1.every p.1.numbers.items n) ≡ spec.names text.now n) }
+    ensures names { IfOk result (λ p. (n : ℕ) → spec.turned p.0 (picked p.1.every p.1.numbers.items n) ≡ spec.names text.now n) }
     ensures err { IfErr result (λ e. e ≡ Memory) }
 {
     let (negated, list) = negation(text);

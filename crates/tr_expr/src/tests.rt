@@ -191,7 +191,7 @@ fn reads_words(rt: HostRuntime) {
     }
 }
 
-fn fault_parts_refused(alloc: Global, text: &str) -> Option<ExprFault> {
+fn parts_fault_of(alloc: Global, text: &str) -> Option<ExprFault> {
     parse_fault(alloc, text).err()
 }
 
@@ -203,11 +203,7 @@ fn refuses_faults(rt: HostRuntime) {
         ("write:retval=x:error=0", ExprFault::BadNumber),
         ("write:when=0", ExprFault::BadWhen),
     ] {
-        assert_eq!(rt;
-            fault_parts_refused(rt.alloc(), text),
-            Some(fault),
-            "{text}"
-        );
+        assert_eq!(rt; parts_fault_of(rt.alloc(), text), Some(fault), "{text}");
     }
 }
 

@@ -1,4 +1,4 @@
-use Rattle.std.proofs.Common.{◌≡◌, ◌∙◌, sym, ap, Some, None, rules}
+use Rattle.std.proofs.Common.{◌≡◌, ◌∙◌, sym, ap, Some, None}
 use Rattle.tr_expr.specs.Faults.{found}
 use Rattle.tr_expr.specs.Rules.{whole_causes}
 use Rattle.tr_expr.proofs.Lowest.{joined_found}

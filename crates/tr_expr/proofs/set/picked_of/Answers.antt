@@ -1,9 +1,9 @@
-use Rattle.std.proofs.Common.{◌≡◌, ◌∙◌, ◌||◌, None, map, sym, ap, lit<}
+use Rattle.std.proofs.Common.{◌∙◌, ◌||◌, None, map, sym, ap, lit<}
 use Rattle.std.specs.List.{flat_map, list_any}
 use Rattle.std.proofs.lemmas.Iterator.Consumers.{YieldsList-end}
 use Rattle.std.proofs.lemmas.Iterator.Splits.{YieldsList-from_str_split}
 use Rattle.tr_expr.specs.Faults.{found}
-use Rattle.tr_expr.specs.Sets.{text_causes, text_picks, picked}
+use Rattle.tr_expr.specs.Sets.{text_causes, text_picks}
 use Rattle.tr_expr.proofs.Runs.{map_push, found_push, any_push}
 use Rattle.tr_expr.proofs.set.picked_of.Goals as goal
 

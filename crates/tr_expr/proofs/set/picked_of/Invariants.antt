@@ -1,7 +1,8 @@
 use Rattle.std.proofs.Common.{◌≡◌, ℕ, None, map}
 use Rattle.std.specs.List.{flat_map, list_any}
 use Rattle.tr_expr.specs.Faults.{found}
-use Rattle.tr_expr.specs.Sets.{text_causes, text_picks, picked}
+use Rattle.tr_expr.specs.Sets.{text_causes, text_picks}
+use Rattle.tr_expr.specs.Picks.{picked}
 use Rattle.tr_expr.proofs.set.picked_of.Given as goal
 
 abbrev pub invariant-loop-item : goal.invariant-loop-item
