@@ -2,4 +2,5 @@ pub mod LabelSteps
 pub mod LineSteps
 pub mod NumberSteps
 pub mod Registers
+pub mod Sizes
 pub mod StringSteps

@@ -1,8 +1,8 @@
 -- The mnemonics, each with its operands and what it stands for.
 -- Unprivileged ISA 20191213, chapter 24 for the instructions, chapter 25 for the pseudoinstructions.
 use Rattle.std.specs.Prelude.{ℕ, List, [], ◌∷◌, codes, Option, Some, None, if◌then◌else◌}
+use Rattle.std.proofs.Common.{Bor}
 use Rattle.rv_asm.specs.Text.{is_text}
-use Rattle.rv_asm.specs.declared.forms.Entry.{Entry}
 use Rattle.rv_asm.specs.declared.forms.Meaning.{Meaning}
 use Rattle.rv_asm.specs.declared.forms.Meaning.TheVariants as meaning
 use Rattle.rv_asm.specs.declared.forms.Form.{Form}
@@ -38,8 +38,8 @@ abbrev pub is : List ℕ → Meaning → Mnemonic
 is n m = record { name = n; meaning = m }
 
 -- a row of the code's table
-abbrev pub row : Entry → Mnemonic
-row e = record { name = e.name.now; meaning = e.meaning }
+abbrev pub row : Bor (List ℕ) × Meaning → Mnemonic
+row e = record { name = e.0.now; meaning = e.1 }
 
 abbrev pub instruction : Form → Meaning
 instruction f = meaning.Instruction f

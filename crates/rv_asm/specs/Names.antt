@@ -1,8 +1,8 @@
 -- The names of registers: x0 to x31, and the names of the calling convention.
 -- RISC-V ELF psABI, "Integer Register Convention".
 use Rattle.std.specs.Prelude.{ℕ, List, [], ◌∷◌, codes, Option, Some, None, option_map, if◌then◌else◌}
+use Rattle.std.proofs.Common.{Bor}
 use Rattle.rv_isa.specs.declared.register.Register.{Register}
-use Rattle.rv_asm.specs.declared.names.Name.{Name}
 use Rattle.rv_asm.specs.Numbered.{numbered}
 use Rattle.rv_asm.specs.Text.{is_text}
 
@@ -14,8 +14,8 @@ abbrev pub named : List ℕ → ℕ → Named
 named s n = record { name = s; number = n }
 
 -- a row of the code's table
-abbrev pub row : Name → Named
-row n = record { name = n.text.now; number = n.number }
+abbrev pub row : Bor (List ℕ) × ℕ → Named
+row n = record { name = n.0.now; number = n.1 }
 
 unfoldable pub register_names : List Named
 register_names =

@@ -1,9 +1,10 @@
 //! The bytes of a statement: how many, and which.
 
-ghost use Rattle.std.specs.Prelude.{◌≡◌, ◌≤◌, ◌<◌, ◌+◌, ◌*◌, ◌++◌, ◌^◌, map, option_map, IfSome, IfOk, OnOk, replicate, length};
+ghost use Rattle.std.specs.Prelude.{◌≡◌, ◌≤◌, ◌<◌, ◌+◌, ◌*◌, ◌++◌, ◌^◌, map, option_map, IfSome, IfOk, OnOk, Ok, ℕ, List, replicate, length};
 ghost use Rattle.std.specs.List.{list_all};
-ghost use Rattle.rv_asm.specs.Codes.{bytes_in, size_of, padding, place_of, place_named, address_of, distance, upper_part, lower_part, add, setting, pointing, fits, if_so, instructions_of, encoded, words_of, AllSpelled, number_bytes, numbers_bytes, words_bytes, bytes_of};
-ghost use Rattle.rv_asm.specs.Statements.{said};
+ghost use Rattle.rv_asm.specs.Codes.{Place, bytes_in, size_of, padding, place_of, place_named, address_of, distance, upper_part, lower_part, add, setting, pointing, fits, if_so, instructions_of, encoded, words_of, AllSpelled, number_bytes, numbers_bytes, words_bytes, bytes_of};
+ghost use Rattle.rv_asm.specs.Statements.{Said, said};
+ghost use Rattle.rv_asm.specs.declared.code.Expansion.{Expansion};
 ghost use Rattle.rv_isa.specs.declared.inst.Inst.{Inst};
 
 use crate::fault::AsmKind;
@@ -252,6 +253,18 @@ pub fn words(instructions: Expansion<Inst>) -> Result<Expansion<u32>, AsmKind>
         }
     }
 }
+
+/// The words of a statement spell its instructions: what decoding a word gives is the statement's
+/// instruction, since a word spells one instruction alone.
+pub fn words_spell_instructions()
+    ensures { (is : Expansion Inst) (ws : Expansion ℕ) → words_of is ≡ Ok ws → AllSpelled is ws }
+{}
+
+/// The bytes of a statement are as many as its size says, so that a label stands where the sizes
+/// before it say.
+pub fn sizes_agree()
+    ensures { (ps : List Place) (at : ℕ) (s : Said) (is : Expansion Inst) (ws : Expansion ℕ) → instructions_of ps at s ≡ Ok is → words_of is ≡ Ok ws → length (bytes_of at s ws) ≡ size_of at s }
+{}
 
 fn put_number(out: &mut Vec<u8>, width: Width, number: &Number) -> Result<(), AllocError>
     ensures { OnOk result (out.new.items ≡ out.old.items ++ number_bytes width number.now) }

@@ -111,342 +111,281 @@ pub enum Meaning {
     Directive(Directive),
 }
 
-/// A mnemonic and its meaning.
-#[derive(Clone, Copy)]
-pub struct Entry {
-    name: &'static [u8],
-    meaning: Meaning,
-}
-
-const MNEMONICS: [Entry; 67] = [
-    Entry {
-        name: b"add",
-        meaning: Meaning::Instruction(Form::ThreeRegisters(ThreeRegisters::Operation(
-            Operation::Add,
-        ))),
-    },
-    Entry {
-        name: b"sub",
-        meaning: Meaning::Instruction(Form::ThreeRegisters(ThreeRegisters::Operation(
-            Operation::Sub,
-        ))),
-    },
-    Entry {
-        name: b"sll",
-        meaning: Meaning::Instruction(Form::ThreeRegisters(ThreeRegisters::Operation(
-            Operation::ShiftLeft,
-        ))),
-    },
-    Entry {
-        name: b"slt",
-        meaning: Meaning::Instruction(Form::ThreeRegisters(ThreeRegisters::Operation(
-            Operation::SetLess,
-        ))),
-    },
-    Entry {
-        name: b"sltu",
-        meaning: Meaning::Instruction(Form::ThreeRegisters(ThreeRegisters::Operation(
+/// The mnemonics, and what they stand for.
+const MNEMONICS: [(&[u8], Meaning); 67] = [
+    (
+        b"add",
+        Meaning::Instruction(Form::ThreeRegisters(ThreeRegisters::Operation(Operation::Add))),
+    ),
+    (
+        b"sub",
+        Meaning::Instruction(Form::ThreeRegisters(ThreeRegisters::Operation(Operation::Sub))),
+    ),
+    (
+        b"sll",
+        Meaning::Instruction(Form::ThreeRegisters(ThreeRegisters::Operation(Operation::ShiftLeft))),
+    ),
+    (
+        b"slt",
+        Meaning::Instruction(Form::ThreeRegisters(ThreeRegisters::Operation(Operation::SetLess))),
+    ),
+    (
+        b"sltu",
+        Meaning::Instruction(Form::ThreeRegisters(ThreeRegisters::Operation(
             Operation::SetLessUnsigned,
         ))),
-    },
-    Entry {
-        name: b"xor",
-        meaning: Meaning::Instruction(Form::ThreeRegisters(ThreeRegisters::Operation(
-            Operation::Xor,
-        ))),
-    },
-    Entry {
-        name: b"srl",
-        meaning: Meaning::Instruction(Form::ThreeRegisters(ThreeRegisters::Operation(
+    ),
+    (
+        b"xor",
+        Meaning::Instruction(Form::ThreeRegisters(ThreeRegisters::Operation(Operation::Xor))),
+    ),
+    (
+        b"srl",
+        Meaning::Instruction(Form::ThreeRegisters(ThreeRegisters::Operation(
             Operation::ShiftRightLogical,
         ))),
-    },
-    Entry {
-        name: b"sra",
-        meaning: Meaning::Instruction(Form::ThreeRegisters(ThreeRegisters::Operation(
+    ),
+    (
+        b"sra",
+        Meaning::Instruction(Form::ThreeRegisters(ThreeRegisters::Operation(
             Operation::ShiftRightArithmetic,
         ))),
-    },
-    Entry {
-        name: b"or",
-        meaning: Meaning::Instruction(Form::ThreeRegisters(ThreeRegisters::Operation(
-            Operation::Or,
-        ))),
-    },
-    Entry {
-        name: b"and",
-        meaning: Meaning::Instruction(Form::ThreeRegisters(ThreeRegisters::Operation(
-            Operation::And,
-        ))),
-    },
-    Entry {
-        name: b"addw",
-        meaning: Meaning::Instruction(Form::ThreeRegisters(ThreeRegisters::WordOperation(
+    ),
+    (
+        b"or",
+        Meaning::Instruction(Form::ThreeRegisters(ThreeRegisters::Operation(Operation::Or))),
+    ),
+    (
+        b"and",
+        Meaning::Instruction(Form::ThreeRegisters(ThreeRegisters::Operation(Operation::And))),
+    ),
+    (
+        b"addw",
+        Meaning::Instruction(Form::ThreeRegisters(ThreeRegisters::WordOperation(
             WordOperation::Add,
         ))),
-    },
-    Entry {
-        name: b"subw",
-        meaning: Meaning::Instruction(Form::ThreeRegisters(ThreeRegisters::WordOperation(
+    ),
+    (
+        b"subw",
+        Meaning::Instruction(Form::ThreeRegisters(ThreeRegisters::WordOperation(
             WordOperation::Sub,
         ))),
-    },
-    Entry {
-        name: b"sllw",
-        meaning: Meaning::Instruction(Form::ThreeRegisters(ThreeRegisters::WordOperation(
+    ),
+    (
+        b"sllw",
+        Meaning::Instruction(Form::ThreeRegisters(ThreeRegisters::WordOperation(
             WordOperation::ShiftLeft,
         ))),
-    },
-    Entry {
-        name: b"srlw",
-        meaning: Meaning::Instruction(Form::ThreeRegisters(ThreeRegisters::WordOperation(
+    ),
+    (
+        b"srlw",
+        Meaning::Instruction(Form::ThreeRegisters(ThreeRegisters::WordOperation(
             WordOperation::ShiftRightLogical,
         ))),
-    },
-    Entry {
-        name: b"sraw",
-        meaning: Meaning::Instruction(Form::ThreeRegisters(ThreeRegisters::WordOperation(
+    ),
+    (
+        b"sraw",
+        Meaning::Instruction(Form::ThreeRegisters(ThreeRegisters::WordOperation(
             WordOperation::ShiftRightArithmetic,
         ))),
-    },
-    Entry {
-        name: b"addi",
-        meaning: Meaning::Instruction(Form::TwoAndNumber(TwoAndNumber::Immediate(
-            ImmediateOperation::Add,
-        ))),
-    },
-    Entry {
-        name: b"slti",
-        meaning: Meaning::Instruction(Form::TwoAndNumber(TwoAndNumber::Immediate(
+    ),
+    (
+        b"addi",
+        Meaning::Instruction(Form::TwoAndNumber(TwoAndNumber::Immediate(ImmediateOperation::Add))),
+    ),
+    (
+        b"slti",
+        Meaning::Instruction(Form::TwoAndNumber(TwoAndNumber::Immediate(
             ImmediateOperation::SetLess,
         ))),
-    },
-    Entry {
-        name: b"sltiu",
-        meaning: Meaning::Instruction(Form::TwoAndNumber(TwoAndNumber::Immediate(
+    ),
+    (
+        b"sltiu",
+        Meaning::Instruction(Form::TwoAndNumber(TwoAndNumber::Immediate(
             ImmediateOperation::SetLessUnsigned,
         ))),
-    },
-    Entry {
-        name: b"xori",
-        meaning: Meaning::Instruction(Form::TwoAndNumber(TwoAndNumber::Immediate(
-            ImmediateOperation::Xor,
-        ))),
-    },
-    Entry {
-        name: b"ori",
-        meaning: Meaning::Instruction(Form::TwoAndNumber(TwoAndNumber::Immediate(
-            ImmediateOperation::Or,
-        ))),
-    },
-    Entry {
-        name: b"andi",
-        meaning: Meaning::Instruction(Form::TwoAndNumber(TwoAndNumber::Immediate(
-            ImmediateOperation::And,
-        ))),
-    },
-    Entry {
-        name: b"slli",
-        meaning: Meaning::Instruction(Form::TwoAndNumber(TwoAndNumber::Shift(Shift::Left))),
-    },
-    Entry {
-        name: b"srli",
-        meaning: Meaning::Instruction(Form::TwoAndNumber(TwoAndNumber::Shift(Shift::RightLogical))),
-    },
-    Entry {
-        name: b"srai",
-        meaning: Meaning::Instruction(Form::TwoAndNumber(TwoAndNumber::Shift(
-            Shift::RightArithmetic,
-        ))),
-    },
-    Entry {
-        name: b"addiw",
-        meaning: Meaning::Instruction(Form::TwoAndNumber(TwoAndNumber::AddWord)),
-    },
-    Entry {
-        name: b"slliw",
-        meaning: Meaning::Instruction(Form::TwoAndNumber(TwoAndNumber::ShiftWord(Shift::Left))),
-    },
-    Entry {
-        name: b"srliw",
-        meaning: Meaning::Instruction(Form::TwoAndNumber(TwoAndNumber::ShiftWord(
-            Shift::RightLogical,
-        ))),
-    },
-    Entry {
-        name: b"sraiw",
-        meaning: Meaning::Instruction(Form::TwoAndNumber(TwoAndNumber::ShiftWord(
-            Shift::RightArithmetic,
-        ))),
-    },
-    Entry {
-        name: b"lui",
-        meaning: Meaning::Instruction(Form::RegisterAndNumber(RegisterAndNumber::Lui)),
-    },
-    Entry {
-        name: b"auipc",
-        meaning: Meaning::Instruction(Form::RegisterAndNumber(RegisterAndNumber::Auipc)),
-    },
-    Entry {
-        name: b"li",
-        meaning: Meaning::Instruction(Form::RegisterAndNumber(RegisterAndNumber::SetNumber)),
-    },
-    Entry {
-        name: b"lb",
-        meaning: Meaning::Instruction(Form::Memory(Memory::Load(LoadKind::Byte))),
-    },
-    Entry {
-        name: b"lh",
-        meaning: Meaning::Instruction(Form::Memory(Memory::Load(LoadKind::Half))),
-    },
-    Entry {
-        name: b"lw",
-        meaning: Meaning::Instruction(Form::Memory(Memory::Load(LoadKind::Word))),
-    },
-    Entry {
-        name: b"ld",
-        meaning: Meaning::Instruction(Form::Memory(Memory::Load(LoadKind::Double))),
-    },
-    Entry {
-        name: b"lbu",
-        meaning: Meaning::Instruction(Form::Memory(Memory::Load(LoadKind::ByteUnsigned))),
-    },
-    Entry {
-        name: b"lhu",
-        meaning: Meaning::Instruction(Form::Memory(Memory::Load(LoadKind::HalfUnsigned))),
-    },
-    Entry {
-        name: b"lwu",
-        meaning: Meaning::Instruction(Form::Memory(Memory::Load(LoadKind::WordUnsigned))),
-    },
-    Entry {
-        name: b"sb",
-        meaning: Meaning::Instruction(Form::Memory(Memory::Store(StoreKind::Byte))),
-    },
-    Entry {
-        name: b"sh",
-        meaning: Meaning::Instruction(Form::Memory(Memory::Store(StoreKind::Half))),
-    },
-    Entry {
-        name: b"sw",
-        meaning: Meaning::Instruction(Form::Memory(Memory::Store(StoreKind::Word))),
-    },
-    Entry {
-        name: b"sd",
-        meaning: Meaning::Instruction(Form::Memory(Memory::Store(StoreKind::Double))),
-    },
-    Entry {
-        name: b"jalr",
-        meaning: Meaning::Instruction(Form::Memory(Memory::JumpToRegister)),
-    },
-    Entry {
-        name: b"beq",
-        meaning: Meaning::Instruction(Form::TwoAndLabel(Condition::Equal)),
-    },
-    Entry {
-        name: b"bne",
-        meaning: Meaning::Instruction(Form::TwoAndLabel(Condition::NotEqual)),
-    },
-    Entry {
-        name: b"blt",
-        meaning: Meaning::Instruction(Form::TwoAndLabel(Condition::Less)),
-    },
-    Entry {
-        name: b"bge",
-        meaning: Meaning::Instruction(Form::TwoAndLabel(Condition::GreaterEqual)),
-    },
-    Entry {
-        name: b"bltu",
-        meaning: Meaning::Instruction(Form::TwoAndLabel(Condition::LessUnsigned)),
-    },
-    Entry {
-        name: b"bgeu",
-        meaning: Meaning::Instruction(Form::TwoAndLabel(Condition::GreaterEqualUnsigned)),
-    },
-    Entry {
-        name: b"beqz",
-        meaning: Meaning::Instruction(Form::RegisterAndLabel(RegisterAndLabel::BranchZero(
+    ),
+    (
+        b"xori",
+        Meaning::Instruction(Form::TwoAndNumber(TwoAndNumber::Immediate(ImmediateOperation::Xor))),
+    ),
+    (
+        b"ori",
+        Meaning::Instruction(Form::TwoAndNumber(TwoAndNumber::Immediate(ImmediateOperation::Or))),
+    ),
+    (
+        b"andi",
+        Meaning::Instruction(Form::TwoAndNumber(TwoAndNumber::Immediate(ImmediateOperation::And))),
+    ),
+    (
+        b"slli",
+        Meaning::Instruction(Form::TwoAndNumber(TwoAndNumber::Shift(Shift::Left))),
+    ),
+    (
+        b"srli",
+        Meaning::Instruction(Form::TwoAndNumber(TwoAndNumber::Shift(Shift::RightLogical))),
+    ),
+    (
+        b"srai",
+        Meaning::Instruction(Form::TwoAndNumber(TwoAndNumber::Shift(Shift::RightArithmetic))),
+    ),
+    (
+        b"addiw",
+        Meaning::Instruction(Form::TwoAndNumber(TwoAndNumber::AddWord)),
+    ),
+    (
+        b"slliw",
+        Meaning::Instruction(Form::TwoAndNumber(TwoAndNumber::ShiftWord(Shift::Left))),
+    ),
+    (
+        b"srliw",
+        Meaning::Instruction(Form::TwoAndNumber(TwoAndNumber::ShiftWord(Shift::RightLogical))),
+    ),
+    (
+        b"sraiw",
+        Meaning::Instruction(Form::TwoAndNumber(TwoAndNumber::ShiftWord(Shift::RightArithmetic))),
+    ),
+    (
+        b"lui",
+        Meaning::Instruction(Form::RegisterAndNumber(RegisterAndNumber::Lui)),
+    ),
+    (
+        b"auipc",
+        Meaning::Instruction(Form::RegisterAndNumber(RegisterAndNumber::Auipc)),
+    ),
+    (
+        b"li",
+        Meaning::Instruction(Form::RegisterAndNumber(RegisterAndNumber::SetNumber)),
+    ),
+    (
+        b"lb",
+        Meaning::Instruction(Form::Memory(Memory::Load(LoadKind::Byte))),
+    ),
+    (
+        b"lh",
+        Meaning::Instruction(Form::Memory(Memory::Load(LoadKind::Half))),
+    ),
+    (
+        b"lw",
+        Meaning::Instruction(Form::Memory(Memory::Load(LoadKind::Word))),
+    ),
+    (
+        b"ld",
+        Meaning::Instruction(Form::Memory(Memory::Load(LoadKind::Double))),
+    ),
+    (
+        b"lbu",
+        Meaning::Instruction(Form::Memory(Memory::Load(LoadKind::ByteUnsigned))),
+    ),
+    (
+        b"lhu",
+        Meaning::Instruction(Form::Memory(Memory::Load(LoadKind::HalfUnsigned))),
+    ),
+    (
+        b"lwu",
+        Meaning::Instruction(Form::Memory(Memory::Load(LoadKind::WordUnsigned))),
+    ),
+    (
+        b"sb",
+        Meaning::Instruction(Form::Memory(Memory::Store(StoreKind::Byte))),
+    ),
+    (
+        b"sh",
+        Meaning::Instruction(Form::Memory(Memory::Store(StoreKind::Half))),
+    ),
+    (
+        b"sw",
+        Meaning::Instruction(Form::Memory(Memory::Store(StoreKind::Word))),
+    ),
+    (
+        b"sd",
+        Meaning::Instruction(Form::Memory(Memory::Store(StoreKind::Double))),
+    ),
+    (
+        b"jalr",
+        Meaning::Instruction(Form::Memory(Memory::JumpToRegister)),
+    ),
+    (
+        b"beq",
+        Meaning::Instruction(Form::TwoAndLabel(Condition::Equal)),
+    ),
+    (
+        b"bne",
+        Meaning::Instruction(Form::TwoAndLabel(Condition::NotEqual)),
+    ),
+    (
+        b"blt",
+        Meaning::Instruction(Form::TwoAndLabel(Condition::Less)),
+    ),
+    (
+        b"bge",
+        Meaning::Instruction(Form::TwoAndLabel(Condition::GreaterEqual)),
+    ),
+    (
+        b"bltu",
+        Meaning::Instruction(Form::TwoAndLabel(Condition::LessUnsigned)),
+    ),
+    (
+        b"bgeu",
+        Meaning::Instruction(Form::TwoAndLabel(Condition::GreaterEqualUnsigned)),
+    ),
+    (
+        b"beqz",
+        Meaning::Instruction(Form::RegisterAndLabel(RegisterAndLabel::BranchZero(
             Condition::Equal,
         ))),
-    },
-    Entry {
-        name: b"bnez",
-        meaning: Meaning::Instruction(Form::RegisterAndLabel(RegisterAndLabel::BranchZero(
+    ),
+    (
+        b"bnez",
+        Meaning::Instruction(Form::RegisterAndLabel(RegisterAndLabel::BranchZero(
             Condition::NotEqual,
         ))),
-    },
-    Entry {
-        name: b"jal",
-        meaning: Meaning::Instruction(Form::RegisterAndLabel(RegisterAndLabel::JumpAndLink)),
-    },
-    Entry {
-        name: b"la",
-        meaning: Meaning::Instruction(Form::RegisterAndLabel(RegisterAndLabel::SetAddress)),
-    },
-    Entry {
-        name: b"j",
-        meaning: Meaning::Instruction(Form::Label),
-    },
-    Entry {
-        name: b"mv",
-        meaning: Meaning::Instruction(Form::TwoRegisters),
-    },
-    Entry {
-        name: b"ret",
-        meaning: Meaning::Instruction(Form::Alone(Alone::Return)),
-    },
-    Entry {
-        name: b"nop",
-        meaning: Meaning::Instruction(Form::Alone(Alone::Nothing)),
-    },
-    Entry {
-        name: b"fence",
-        meaning: Meaning::Instruction(Form::Alone(Alone::Fence)),
-    },
-    Entry {
-        name: b"ecall",
-        meaning: Meaning::Instruction(Form::Alone(Alone::EnvironmentCall)),
-    },
-    Entry {
-        name: b"ebreak",
-        meaning: Meaning::Instruction(Form::Alone(Alone::EnvironmentBreak)),
-    },
-    Entry {
-        name: b".byte",
-        meaning: Meaning::Directive(Directive::Numbers(Width::Byte)),
-    },
-    Entry {
-        name: b".word",
-        meaning: Meaning::Directive(Directive::Numbers(Width::Word)),
-    },
-    Entry {
-        name: b".dword",
-        meaning: Meaning::Directive(Directive::Numbers(Width::Double)),
-    },
-    Entry {
-        name: b".ascii",
-        meaning: Meaning::Directive(Directive::Ascii),
-    },
-    Entry {
-        name: b".asciz",
-        meaning: Meaning::Directive(Directive::Asciz),
-    },
-    Entry {
-        name: b".space",
-        meaning: Meaning::Directive(Directive::Space),
-    },
-    Entry {
-        name: b".align",
-        meaning: Meaning::Directive(Directive::Align),
-    },
+    ),
+    (
+        b"jal",
+        Meaning::Instruction(Form::RegisterAndLabel(RegisterAndLabel::JumpAndLink)),
+    ),
+    (
+        b"la",
+        Meaning::Instruction(Form::RegisterAndLabel(RegisterAndLabel::SetAddress)),
+    ),
+    (b"j", Meaning::Instruction(Form::Label)),
+    (b"mv", Meaning::Instruction(Form::TwoRegisters)),
+    (b"ret", Meaning::Instruction(Form::Alone(Alone::Return))),
+    (b"nop", Meaning::Instruction(Form::Alone(Alone::Nothing))),
+    (b"fence", Meaning::Instruction(Form::Alone(Alone::Fence))),
+    (
+        b"ecall",
+        Meaning::Instruction(Form::Alone(Alone::EnvironmentCall)),
+    ),
+    (
+        b"ebreak",
+        Meaning::Instruction(Form::Alone(Alone::EnvironmentBreak)),
+    ),
+    (
+        b".byte",
+        Meaning::Directive(Directive::Numbers(Width::Byte)),
+    ),
+    (
+        b".word",
+        Meaning::Directive(Directive::Numbers(Width::Word)),
+    ),
+    (
+        b".dword",
+        Meaning::Directive(Directive::Numbers(Width::Double)),
+    ),
+    (b".ascii", Meaning::Directive(Directive::Ascii)),
+    (b".asciz", Meaning::Directive(Directive::Asciz)),
+    (b".space", Meaning::Directive(Directive::Space)),
+    (b".align", Meaning::Directive(Directive::Align)),
 ];
 
-fn meaning_in(entries: &[Entry], name: &[u8]) -> Option<Meaning>
+fn meaning_in(entries: &[(&[u8], Meaning)], name: &[u8]) -> Option<Meaning>
     ensures { result ≡ meaning_in (map row entries.now) name.now }
 {
-    for entry in entries {
-        if entry.name == name {
-            return Some(entry.meaning);
+    for (mnemonic, meaning) in entries {
+        if *mnemonic == name {
+            return Some(*meaning);
         }
     }
     None

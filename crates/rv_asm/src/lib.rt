@@ -2,20 +2,21 @@
 #![tactic(auto)]
 
 mod assembling;
-pub mod code;
+mod code;
 pub mod fault;
-pub mod forms;
+mod forms;
 mod line;
 mod listing;
-pub mod names;
-pub mod numbers;
+mod names;
+mod numbers;
 mod operands;
-pub mod statement;
-pub mod strings;
-pub mod symbol;
+mod statement;
+mod strings;
+mod symbol;
 mod text;
 
 pub use assembling::assemble;
+pub use code::{sizes_agree, words_spell_instructions};
 pub use fault::{AsmFault, AsmKind};
 
 #[cfg(test)]

@@ -6,274 +6,73 @@ ghost use Rattle.rv_asm.specs.Numbered.{numbered};
 
 use rv_isa::Register;
 
-/// A name of a register.
-#[derive(Clone, Copy)]
-pub struct Name {
-    text: &'static [u8],
-    number: u8,
-}
-
-const NAMES: [Name; 65] = [
-    Name {
-        text: b"x0",
-        number: 0,
-    },
-    Name {
-        text: b"x1",
-        number: 1,
-    },
-    Name {
-        text: b"x2",
-        number: 2,
-    },
-    Name {
-        text: b"x3",
-        number: 3,
-    },
-    Name {
-        text: b"x4",
-        number: 4,
-    },
-    Name {
-        text: b"x5",
-        number: 5,
-    },
-    Name {
-        text: b"x6",
-        number: 6,
-    },
-    Name {
-        text: b"x7",
-        number: 7,
-    },
-    Name {
-        text: b"x8",
-        number: 8,
-    },
-    Name {
-        text: b"x9",
-        number: 9,
-    },
-    Name {
-        text: b"x10",
-        number: 10,
-    },
-    Name {
-        text: b"x11",
-        number: 11,
-    },
-    Name {
-        text: b"x12",
-        number: 12,
-    },
-    Name {
-        text: b"x13",
-        number: 13,
-    },
-    Name {
-        text: b"x14",
-        number: 14,
-    },
-    Name {
-        text: b"x15",
-        number: 15,
-    },
-    Name {
-        text: b"x16",
-        number: 16,
-    },
-    Name {
-        text: b"x17",
-        number: 17,
-    },
-    Name {
-        text: b"x18",
-        number: 18,
-    },
-    Name {
-        text: b"x19",
-        number: 19,
-    },
-    Name {
-        text: b"x20",
-        number: 20,
-    },
-    Name {
-        text: b"x21",
-        number: 21,
-    },
-    Name {
-        text: b"x22",
-        number: 22,
-    },
-    Name {
-        text: b"x23",
-        number: 23,
-    },
-    Name {
-        text: b"x24",
-        number: 24,
-    },
-    Name {
-        text: b"x25",
-        number: 25,
-    },
-    Name {
-        text: b"x26",
-        number: 26,
-    },
-    Name {
-        text: b"x27",
-        number: 27,
-    },
-    Name {
-        text: b"x28",
-        number: 28,
-    },
-    Name {
-        text: b"x29",
-        number: 29,
-    },
-    Name {
-        text: b"x30",
-        number: 30,
-    },
-    Name {
-        text: b"x31",
-        number: 31,
-    },
-    Name {
-        text: b"zero",
-        number: 0,
-    },
-    Name {
-        text: b"ra",
-        number: 1,
-    },
-    Name {
-        text: b"sp",
-        number: 2,
-    },
-    Name {
-        text: b"gp",
-        number: 3,
-    },
-    Name {
-        text: b"tp",
-        number: 4,
-    },
-    Name {
-        text: b"t0",
-        number: 5,
-    },
-    Name {
-        text: b"t1",
-        number: 6,
-    },
-    Name {
-        text: b"t2",
-        number: 7,
-    },
-    Name {
-        text: b"s0",
-        number: 8,
-    },
-    Name {
-        text: b"fp",
-        number: 8,
-    },
-    Name {
-        text: b"s1",
-        number: 9,
-    },
-    Name {
-        text: b"a0",
-        number: 10,
-    },
-    Name {
-        text: b"a1",
-        number: 11,
-    },
-    Name {
-        text: b"a2",
-        number: 12,
-    },
-    Name {
-        text: b"a3",
-        number: 13,
-    },
-    Name {
-        text: b"a4",
-        number: 14,
-    },
-    Name {
-        text: b"a5",
-        number: 15,
-    },
-    Name {
-        text: b"a6",
-        number: 16,
-    },
-    Name {
-        text: b"a7",
-        number: 17,
-    },
-    Name {
-        text: b"s2",
-        number: 18,
-    },
-    Name {
-        text: b"s3",
-        number: 19,
-    },
-    Name {
-        text: b"s4",
-        number: 20,
-    },
-    Name {
-        text: b"s5",
-        number: 21,
-    },
-    Name {
-        text: b"s6",
-        number: 22,
-    },
-    Name {
-        text: b"s7",
-        number: 23,
-    },
-    Name {
-        text: b"s8",
-        number: 24,
-    },
-    Name {
-        text: b"s9",
-        number: 25,
-    },
-    Name {
-        text: b"s10",
-        number: 26,
-    },
-    Name {
-        text: b"s11",
-        number: 27,
-    },
-    Name {
-        text: b"t3",
-        number: 28,
-    },
-    Name {
-        text: b"t4",
-        number: 29,
-    },
-    Name {
-        text: b"t5",
-        number: 30,
-    },
-    Name {
-        text: b"t6",
-        number: 31,
-    },
+/// The names, and the numbers that they stand for.
+const NAMES: [(&[u8], u8); 65] = [
+    (b"x0", 0),
+    (b"x1", 1),
+    (b"x2", 2),
+    (b"x3", 3),
+    (b"x4", 4),
+    (b"x5", 5),
+    (b"x6", 6),
+    (b"x7", 7),
+    (b"x8", 8),
+    (b"x9", 9),
+    (b"x10", 10),
+    (b"x11", 11),
+    (b"x12", 12),
+    (b"x13", 13),
+    (b"x14", 14),
+    (b"x15", 15),
+    (b"x16", 16),
+    (b"x17", 17),
+    (b"x18", 18),
+    (b"x19", 19),
+    (b"x20", 20),
+    (b"x21", 21),
+    (b"x22", 22),
+    (b"x23", 23),
+    (b"x24", 24),
+    (b"x25", 25),
+    (b"x26", 26),
+    (b"x27", 27),
+    (b"x28", 28),
+    (b"x29", 29),
+    (b"x30", 30),
+    (b"x31", 31),
+    (b"zero", 0),
+    (b"ra", 1),
+    (b"sp", 2),
+    (b"gp", 3),
+    (b"tp", 4),
+    (b"t0", 5),
+    (b"t1", 6),
+    (b"t2", 7),
+    (b"s0", 8),
+    (b"fp", 8),
+    (b"s1", 9),
+    (b"a0", 10),
+    (b"a1", 11),
+    (b"a2", 12),
+    (b"a3", 13),
+    (b"a4", 14),
+    (b"a5", 15),
+    (b"a6", 16),
+    (b"a7", 17),
+    (b"s2", 18),
+    (b"s3", 19),
+    (b"s4", 20),
+    (b"s5", 21),
+    (b"s6", 22),
+    (b"s7", 23),
+    (b"s8", 24),
+    (b"s9", 25),
+    (b"s10", 26),
+    (b"s11", 27),
+    (b"t3", 28),
+    (b"t4", 29),
+    (b"t5", 30),
+    (b"t6", 31),
 ];
 
 /// The register of a number, of which the low five bits count.
@@ -285,12 +84,12 @@ pub fn numbered(number: u8) -> Register
     }
 }
 
-fn number_in(names: &[Name], text: &[u8]) -> Option<u8>
+fn number_in(names: &[(&[u8], u8)], text: &[u8]) -> Option<u8>
     ensures { result ≡ number_in (map row names.now) text.now }
 {
-    for name in names {
-        if name.text == text {
-            return Some(name.number);
+    for (name, number) in names {
+        if *name == text {
+            return Some(*number);
         }
     }
     None
