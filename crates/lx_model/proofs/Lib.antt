@@ -14,3 +14,4 @@ pub mod Apart
 pub mod Composition
 pub mod Asking
 pub mod Counting
+pub mod Admission

@@ -57,16 +57,18 @@ traced_run m outcome o script s b events = world_run m outcome o script (first_w
 abbrev pub plain_run : {S B : Type 0} → Machine S B → (S → Outcome) → Options → Script → S → B → List Event → Kernel S B
 plain_run m outcome o script s b events = kernel_run m script o.follow (first_kernel s b) (effective m outcome o script (first_world s b) events)
 
--- Files, output and statuses are the same at every moment, every reply is admitted, and the reply to
--- Outcome says them; the trace is a view's, and all of it where
--- Wait is asked and no report stands in the queue; and once no tracee is left, each that was born has logged its end.
+-- what is claimed of a world and the plain kernel of its effective turns, at every moment
 pub record Headline {S B : Type 0} (outcome : S → Outcome) (o : Options) (w : World S B) (k : Kernel S B) : Type 0 where
+  -- files, output and statuses are the same, and the reply to Outcome says them
   pub same_outcome : outcome w.host.shared ≡ outcome k.shared
-  pub admitted : w.tracer.focus ≡ Faulted → ⊥
   pub replied : (x : Outcome) → w.tracer.focus ≡ Over x → x ≡ outcome k.shared
+  -- every reply was admitted
+  pub admitted : w.tracer.focus ≡ Faulted → ⊥
+  -- the trace begins a view's parts; it is all of them at a Wait with nothing to report, and at the end
   pub lost : ℕ → Bool
   pub tells : TellsView w.printed (parts o (view lost (traced o.follow k.log))) (IsPast w.tracer.focus)
   pub nothing_owed : w.tracer.focus ≡ Waiting → w.host.queue ≡ [] → w.printed ≡ parts o (view lost (traced o.follow k.log))
+  -- once no tracee is left, each that was born has logged its end
   pub all_ended : IsPast w.tracer.focus → (q : ℕ) → 1 ≤ q → q < k.child → traces o.follow q ≡ true → has_exit q k.log ≡ true
 
 -- for every set of options, script, beginning and list of events

@@ -12,6 +12,7 @@ use Rattle.lx_model.specs.Kernel.{Script}
 use Rattle.lx_model.specs.Ptrace.{is_there}
 use Rattle.lx_model.specs.Requests.{esrch, serve}
 use Rattle.lx_model.specs.Parts.{Options, Part}
+use Rattle.lx_model.specs.Admissible.{answers}
 use Rattle.lx_model.specs.Tracer.{Place, Seizing, Entry_regs, Entry_peek, Entry_set, Exit_regs, Exit_set, Exit_peek, Signal_info, Resuming, Focus, Waiting, Serving, Faulted, Tracer, Moved, request, admits_at, next, first_tracer}
 use Rattle.lx_model.specs.World.{World, happens, world_run, first_world}
 use Rattle.lx_model.specs.View.{view, traced, parts}
@@ -48,6 +49,10 @@ RepliesTellAll S B = (m : Machine S B) (outcome : S → Outcome) (o : Options) (
 
 abbrev pub admits : Options → Tracer → Reply → Bool
 admits o t r = admits_at o t.known t.tracees t.focus r
+
+-- a reply that is admitted is of a kind that answers what was asked
+abbrev pub AdmittedRepliesAnswer : Type 0
+AdmittedRepliesAnswer = (o : Options) (t : Tracer) (q : Request) (r : Reply) → request o t.focus ≡ Some q → admits o t r ≡ true → answers q r ≡ true
 
 -- what is shown stays shown
 abbrev pub TracesGrow : Type 0

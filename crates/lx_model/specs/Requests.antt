@@ -98,7 +98,7 @@ says t r = record { proc = t; reply = r; seized = false }
 abbrev pub let_go : {B : Type 0} → Proc B → B → Stage → Answered B
 let_go t b stage = says (record { own = Alive b stage; held = false; watch = t.watch }) Agreed
 
--- 0, or a signal that kill(2) takes: all but those of job control
+-- a signal that kill(2) takes: all but those of job control (signal(7))
 abbrev pub may_join : ℕ → Bool
 may_join n = is_signal n && not (nat_le 18 n && nat_le n 22)
 

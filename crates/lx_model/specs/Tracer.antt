@@ -109,6 +109,7 @@ abbrev pub read_entry : Options → Script → ℕ → Regs → List (List ℕ) 
 read_entry o script p r got k true = look_entry o script p r got k (o.texts.wants (At_entry (call_of r) (sp_of r)) got)
 read_entry o script p r got k false = entry o script p r [] k
 
+-- the call has returned
 abbrev pub closed : Known → Known
 closed k = record { inside = k.inside; called = k.called; saved = None; counts = k.counts; standing = k.standing }
 
@@ -123,6 +124,7 @@ abbrev pub read_exit : Options → ℕ → ℕ → Bool → List (List ℕ) → 
 read_exit o p x replaced got k true = look_exit o p x replaced got k (o.texts.wants (At_exit k.called x) got)
 read_exit o p x replaced got k false = exit o p x replaced [] k
 
+-- at an exit stop a replaced call gets its number back, and the scripted result
 abbrev pub exit_with : Options → ℕ → Regs → Known → Option ℕ → Heard
 exit_with o p r k None = read_exit o p (a0_of r) false [] k (o.shows k.called.number)
 exit_with o p r k (Some x) = moves k (Exit_set (with_a7 (with_a0 r x) k.called.number) x)
@@ -148,7 +150,8 @@ abbrev pub peeked_exit : Options → ℕ → ℕ → Bool → List (List ℕ) �
 peeked_exit o p x replaced got k (Some bytes) = read_exit o p x replaced (got ++ bytes ∷ []) k true
 peeked_exit o p x replaced got k None = nothing k
 
--- a reply that concerns the tracee in hand; after ESRCH, SIGKILL has come, and its end is waited for
+-- a reply that concerns the tracee in hand. After Seize and a resumption, and after ESRCH, which SIGKILL
+-- alone brings, nothing more is asked of it: these are the replies of the last line that are admitted.
 abbrev pub hears : Options → Script → ℕ → Known → Place → Reply → Heard
 hears o script p k Entry_regs (Registers_are r) = read_entry o script p r [] k (o.shows (a7_of r))
 hears o script p k (Entry_peek r got w) reply = peeked_entry o script p r got k (bytes_of reply)
@@ -235,6 +238,7 @@ abbrev pub took_status : Options → (ℕ → Known) → ℕ → Option Stop →
 took_status o known p None = stays known Waiting
 took_status o known p (Some stop) = took_stop o known p stop
 
+-- a reply that is admitted, while this is asked
 abbrev pub next_at : Options → Script → (ℕ → Known) → Focus → Reply → Next
 next_at o script known Waiting (Status_is p status) = took_status o known p (stop_of status.word)
 next_at o script known Waiting (Errno_is n) = stays known (cond (n == 10) Asking_outcome Waiting)

@@ -2,7 +2,7 @@
 
 ghost use Rattle.lx_model.specs.Headline.{IsTransparent};
 ghost use Rattle.lx_model.specs.Replies.{RepliesTellAll, TracesGrow, FaultsAreForGood, FailuresLeaveAPrefix};
-ghost use Rattle.lx_model.specs.Replies.{FewRequests, NobodyIsLeftHeld};
+ghost use Rattle.lx_model.specs.Replies.{AdmittedRepliesAnswer, FewRequests, NobodyIsLeftHeld};
 ghost use Rattle.lx_model.specs.Laws.{KernelsRunAlike, KernelTurnsApart, HostTurnsApart, TheDeadHaveEnded};
 ghost use Rattle.lx_model.specs.Laws.{TheHeldAreStill, TheHeldCanBeKilled};
 ghost use Rattle.lx_model.specs.Laws.{FirstReportIsTold, ForkIsToldFirst, OneReportAStop, NoOtherReport};
@@ -66,4 +66,9 @@ pub fn nobody_is_left_held()
 /// At most 100 requests come before the first status, between two, and after the last.
 pub fn requests_are_few()
     ensures { FewRequests }
+{}
+
+/// A reply that is admitted is of a kind that answers the request.
+pub fn admitted_replies_answer()
+    ensures { AdmittedRepliesAnswer }
 {}
