@@ -1,4 +1,4 @@
-use Rattle.std.proofs.Common.{◌≡◌, ◌+◌, ◌-◌, arith, ◌∙◌, refl, Some}
+use Rattle.std.proofs.Common.{◌-◌, arith, ◌∙◌, refl, Some}
 use Rattle.std.proofs.lemmas.List.Elements.{All-pop}
 use Rattle.rv_mem.specs.Pages.{IsBlank}
 use Rattle.rv_mem.proofs.Lists.{Run-grown}
