@@ -1,5 +1,5 @@
 -- What the tracer shows, by its replies.
-use Rattle.std.proofs.Common.{◌≡◌, Bool, true, false, List, [], ◌∷◌, ◌++◌, Option, Some, None, refl, sym, ap, subst, ◌∙◌, append-nil, append_assoc}
+use Rattle.std.proofs.Common.{◌≡◌, suc, ◌+◌, length, add-zero, arith, Bool, true, false, List, [], ◌∷◌, ◌++◌, Option, Some, None, refl, sym, ap, subst, ◌∙◌, append-nil, append_assoc}
 use Rattle.std.specs.Option.{option_to_list}
 use Rattle.lx_abi.specs.declared.outcome.Outcome.{Outcome}
 use Rattle.lx_abi.specs.declared.ptrace.Reply.{Reply}
@@ -14,7 +14,7 @@ use Rattle.lx_model.specs.Parts.{Options, Part}
 use Rattle.lx_model.specs.Tracer.{Faulted, Moved, request, admits_at, next, first_tracer}
 use Rattle.lx_model.specs.World.{World, met, happens_asked, happens, world_run, first_world}
 use Rattle.lx_model.specs.Headline.{Headline, traced_run, plain_run}
-use Rattle.lx_model.specs.Replies.{after, after_all, told_by, reply_to, replies, RepliesTellAll, admits, TracesGrow, FaultsAreForGood, FailuresLeaveAPrefix}
+use Rattle.lx_model.specs.Replies.{after, after_all, told_by, reply_to, replies, RepliesTellAll, admits, TracesGrow, FaultsAreForGood, TakenIsCounted, FailuresLeaveAPrefix}
 use Rattle.lx_model.proofs.Final.{transparent}
 
 pub after_all-append : (o : Options) (script : Script) (x : Moved) (rs more : List Reply) → after_all o script x (rs ++ more) ≡ after_all o script (after_all o script x rs) more
@@ -78,6 +78,19 @@ faults_are_for_good o script rs more bad e =
     let s : Stuck x (after_all o script x (bad ∷ more)) = stays_stuck o script x (after o script x bad) more (first_fault o script x bad e) in
     let t : Stuck x (told_by o script (rs ++ bad ∷ more)) = subst (λ y. Stuck x y) (sym (after_all-append o script (record { tracer = first_tracer; printed = [] }) rs (bad ∷ more))) s in
     (t.shown, t.focus, t.taken)
+
+taken_more : (o : Options) (script : Script) (x : Moved) (rs : List Reply) → ((after_all o script x rs).tracer.focus ≡ Faulted → ⊥) → (after_all o script x rs).tracer.taken ≡ x.tracer.taken + length rs
+taken_more o script x [] h = sym (add-zero x.tracer.taken)
+taken_more o script x (r ∷ rs) h = go (admits o x.tracer r) refl (taken_more o script (after o script x r) rs h)
+  where
+    go : (b : Bool) → admits o x.tracer r ≡ b → (after_all o script (after o script x r) rs).tracer.taken ≡ (after o script x r).tracer.taken + length rs → (after_all o script (after o script x r) rs).tracer.taken ≡ x.tracer.taken + length (r ∷ rs)
+    go true e again =
+        let one : (after o script x r).tracer.taken ≡ suc x.tracer.taken = rw e refl in
+        omega (arith, again, one)
+    go false e again = absurd (h (stays_stuck o script x (after o script x r) rs (first_fault o script x r e)).focus)
+
+pub taken_is_counted : TakenIsCounted
+taken_is_counted o script rs h = taken_more o script (record { tracer = first_tracer; printed = [] }) rs h
 
 pub failures_leave_a_prefix : {S B : Type 0} → FailuresLeaveAPrefix S B
 failures_leave_a_prefix {S} {B} m laws words outcome o texts script scripts s b events rs more e =

@@ -1,5 +1,5 @@
 -- The tracer alone, by the replies that it was given, whatever they are.
-use Rattle.std.specs.Prelude.{◌≡◌, ◌⊎◌, ℕ, ◌+◌, ◌≤◌, Bool, true, false, cond, ◌&&◌, List, [], ◌∷◌, ◌++◌, Option, Some, None}
+use Rattle.std.specs.Prelude.{◌≡◌, ◌⊎◌, ℕ, ◌+◌, ◌≤◌, Bool, true, false, cond, ◌&&◌, List, [], ◌∷◌, ◌++◌, Option, Some, None, length}
 use Rattle.std.specs.Option.{option_to_list}
 use Rattle.lx_abi.specs.declared.outcome.Outcome.{Outcome}
 use Rattle.lx_abi.specs.declared.ptrace.Reply.{Reply}
@@ -62,6 +62,10 @@ TracesGrow = (o : Options) (script : Script) (rs more : List Reply) → (later :
 abbrev pub FaultsAreForGood : Type 0
 FaultsAreForGood = (o : Options) (script : Script) (rs more : List Reply) (bad : Reply) → admits o (told_by o script rs).tracer bad ≡ false →
     ((told_by o script (rs ++ bad ∷ more)).printed ≡ (told_by o script rs).printed) × ((told_by o script (rs ++ bad ∷ more)).tracer.focus ≡ Faulted) × ((told_by o script (rs ++ bad ∷ more)).tracer.taken ≡ (told_by o script rs).tracer.taken)
+
+-- the count of replies counts them, until a fault
+abbrev pub TakenIsCounted : Type 0
+TakenIsCounted = (o : Options) (script : Script) (rs : List Reply) → ((told_by o script rs).tracer.focus ≡ Faulted → ⊥) → (told_by o script rs).tracer.taken ≡ 1 + length rs
 
 -- Wherever a host fails, the trace is the beginning of a view of what was done until then: rs are the
 -- replies that came before it failed.

@@ -1,7 +1,7 @@
 //! Laws of the definitions, each as the contract of a function with an empty body: call it to cite it.
 
 ghost use Rattle.lx_model.specs.Headline.{IsTransparent};
-ghost use Rattle.lx_model.specs.Replies.{RepliesTellAll, TracesGrow, FaultsAreForGood, FailuresLeaveAPrefix};
+ghost use Rattle.lx_model.specs.Replies.{RepliesTellAll, TracesGrow, FaultsAreForGood, TakenIsCounted, FailuresLeaveAPrefix};
 ghost use Rattle.lx_model.specs.Replies.{AdmittedRepliesAnswer, FewRequests, NobodyIsLeftHeld};
 ghost use Rattle.lx_model.specs.Laws.{KernelsRunAlike, KernelTurnsApart, HostTurnsApart, TheDeadHaveEnded};
 ghost use Rattle.lx_model.specs.Laws.{TheHeldAreStill, TheHeldCanBeKilled};
@@ -51,6 +51,7 @@ pub fn replies_tell_all<S, B>()
 pub fn traces_grow_until_a_fault()
     ensures grow { TracesGrow }
     ensures fault { FaultsAreForGood }
+    ensures count { TakenIsCounted }
 {}
 
 /// Wherever a host fails, what was shown begins a view of what was done until then.
