@@ -1,4 +1,5 @@
 pub mod LabelSteps
+pub mod LaidOut
 pub mod LineSteps
 pub mod NumberSteps
 pub mod Registers

@@ -1,8 +1,10 @@
 //! From a text to an image.
 
-ghost use Rattle.std.specs.Prelude.{◌≡◌, ◌≢◌, ◌==◌, map, IfOk, IfErr, Ok, Err};
+ghost use Rattle.std.specs.Prelude.{◌≡◌, ◌≢◌, ◌==◌, ◌<◌, ℕ, List, All, map, IfOk, IfErr, Ok, Err};
 ghost use Rattle.rv_asm.specs.Listing.{image_at, image_of, listing_of};
 ghost use Rattle.rv_asm.specs.Text.{texts};
+ghost use Rattle.elf_image.specs.Images.{IsLaidOut};
+ghost use Rattle.elf_image.specs.declared.image.Image.{Image};
 ghost use Rattle.rv_asm.specs.declared.fault.AsmKind.TheVariants.{Memory};
 
 use crate::code::find_address;
@@ -71,3 +73,9 @@ pub fn assemble(alloc: Global, text: &str) -> Result<Image, AsmFault>
         Err(_) => Err(OUT_OF_MEMORY),
     }
 }
+
+/// An image that has bytes is laid out, so that the file which `elf_image::write` makes of it is read
+/// as that image.
+pub fn listings_are_laid_out()
+    ensures { (text : List ℕ) (image : Image) → listing_of text ≡ Ok image → All (λ s. 0 < s.size) image.segments → IsLaidOut image }
+{}

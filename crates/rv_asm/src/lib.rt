@@ -15,7 +15,7 @@ mod strings;
 mod symbol;
 mod text;
 
-pub use assembling::assemble;
+pub use assembling::{assemble, listings_are_laid_out};
 pub use code::{sizes_agree, words_spell_instructions};
 pub use fault::{AsmFault, AsmKind};
 
