@@ -27,14 +27,14 @@ static struct page *page_of(struct space *s, uint64_t number) {
     return &s->pages[at];
 }
 
-static __attribute__((noinline)) int load(struct space *s, uint64_t address, void *out, size_t size) {
+static inline int load(struct space *s, uint64_t address, void *out, size_t size) {
     struct page *p = page_of(s, address / 4096);
     if (!p || !p->read || address % 4096 + size > 4096) return 0;
     memcpy(out, p->bytes + address % 4096, size);
     return 1;
 }
 
-static __attribute__((noinline)) int store(struct space *s, uint64_t address, const void *from, size_t size) {
+static inline int store(struct space *s, uint64_t address, const void *from, size_t size) {
     struct page *p = page_of(s, address / 4096);
     if (!p || !p->write || address % 4096 + size > 4096) return 0;
     memcpy(p->bytes + address % 4096, from, size);
