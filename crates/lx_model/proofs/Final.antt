@@ -22,7 +22,8 @@ use Rattle.lx_model.specs.View.{parts}
 use Rattle.lx_model.specs.Headline.{IsPast, IsTransparent, traced_run, plain_run}
 use Rattle.lx_model.proofs.Apart.{the_dead_have_ended}
 use Rattle.lx_model.proofs.Phases.{Phase, Boot_held, Unborn, items_in, is_unborn}
-use Rattle.lx_model.proofs.Whole.{Tie, Tied, run_tied, is_past, hand_at, told_at_wait, told_so_far, all_told, none_left}
+use Rattle.lx_model.proofs.Ties.{Tie, Tied, hand_at, is_past}
+use Rattle.lx_model.proofs.Whole.{run_tied, told_at_wait, told_so_far, all_told, none_left}
 
 module _ {S B : Type 0} (m : Machine S B) (o : Options) (script : Script) (s : S) (b : B) where
   abbrev first_phase : Bool → ℕ → Phase B

@@ -6,6 +6,8 @@ pub mod Views
 pub mod Words
 pub mod Local
 pub mod Admitted
+pub mod Ties
+pub mod Serving
 pub mod Whole
 pub mod Final
 pub mod TinyMachine
