@@ -1,0 +1,17 @@
+pub mod Padding
+pub mod Tables
+pub mod Trees
+pub mod Counting
+pub mod Steps
+pub mod Resuming
+pub mod Releasing
+pub mod Placing
+pub mod Turning
+pub mod Moving
+pub mod Starts
+pub mod Reading
+pub mod LinuxLaws
+pub mod Starting
+pub mod Directories
+pub mod Listed
+pub mod Outcomes

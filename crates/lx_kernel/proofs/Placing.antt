@@ -1,0 +1,69 @@
+-- The table of processes' own parts after a turn.
+use Rattle.std.proofs.Common.{◌≡◌, ℕ, Bool, true, false, cond, Option, Some, None, refl, ap, sym, subst, ◌∙◌, unwrap_or}
+use Rattle.std.specs.Ordering.{nat_cmp, eq_by_cmp, is_eq}
+use Rattle.std.specs.declared.cmp.Ordering.{Ordering}
+use Rattle.std.specs.declared.cmp.Ordering.TheVariants.{Less, Equal, Greater}
+use Rattle.std.proofs.lemmas.Cmp.{nat_cmp_total}
+use Rattle.std.specs.FinMap as maps
+use Rattle.std.specs.FinMap.{FinMap}
+use Rattle.lx_model.specs.declared.stage.Own.{Own}
+use Rattle.lx_model.specs.declared.stage.Own.TheVariants.{Alive, Dying, Gone}
+use Rattle.lx_model.specs.Finite.{at, placed}
+use Rattle.lx_kernel.specs.State.{Shared, Body}
+use Rattle.lx_kernel.specs.Turned.{Turned, is_gone, event_of}
+use Rattle.lx_kernel.specs.Turns.{Turns}
+use Rattle.lx_kernel.specs.declared.kernel.Logged.{Logged}
+
+equal_is : (o : Ordering) → is_eq o ≡ true → o ≡ Equal
+equal_is Less e = absurd (cc e)
+equal_is Equal e = refl
+equal_is Greater e = absurd (cc e)
+
+module _ {X : Type 0} (m : FinMap nat_cmp X) (p : ℕ) where
+  same : (b : Bool) (x : X) (y : Option X) → cond b None (cond b (Some x) y) ≡ cond b None y
+  same true x y = refl
+  same false x y = refl
+
+  -- what is put in and taken out again
+  pub remove-insert : (x : X) → maps.remove (maps.insert m p x) p ≡ maps.remove m p
+  remove-insert x = maps.same_map nat_cmp_total maps.nat_cmp-IsAntisymmetric _ _ (λ q.
+      maps.get-remove nat_cmp_total (maps.insert m p x) p q
+      ∙ ap (cond (eq_by_cmp nat_cmp q p) None) (maps.get-insert nat_cmp_total m p x q)
+      ∙ same (eq_by_cmp nat_cmp q p) x (maps.get m q)
+      ∙ sym (maps.get-remove nat_cmp_total m p q))
+
+  here : (q : ℕ) (b : Bool) → eq_by_cmp nat_cmp q p ≡ b → maps.get m p ≡ None → cond b None (maps.get m q) ≡ maps.get m q
+  here q true e none = sym (ap (maps.get m) (maps.nat_cmp-IsAntisymmetric q p (equal_is (nat_cmp q p) e)) ∙ none)
+  here q false e none = refl
+
+  -- nothing is taken out where nothing is
+  pub remove_absent : maps.get m p ≡ None → maps.remove m p ≡ m
+  remove_absent none = maps.same_map nat_cmp_total maps.nat_cmp-IsAntisymmetric _ _ (λ q.
+      maps.get-remove nat_cmp_total m p q ∙ here q (eq_by_cmp nat_cmp q p) refl none)
+
+abbrev Owns : Type 0
+Owns = FinMap nat_cmp (Own Body)
+
+pub placed_gone : (m : Owns) (p : ℕ) (own : Own Body) → is_gone own ≡ true → placed m p own ≡ maps.remove (maps.insert m p own) p
+placed_gone m p (Alive b stage) e = absurd (cc e)
+placed_gone m p (Dying w) e = absurd (cc e)
+placed_gone m p Gone e = sym (remove-insert m p Gone)
+
+pub placed_there : (m : Owns) (p : ℕ) (own : Own Body) → is_gone own ≡ false → placed m p own ≡ maps.insert m p own
+placed_there m p (Alive b stage) e = refl
+placed_there m p (Dying w) e = refl
+placed_there m p Gone e = absurd (cc e)
+
+-- the turn of a process with a part of its own
+pub somebody : (g : Own Body → Turned) (owns owns' : Owns) (p : ℕ) (own own' : Own Body) (l : Logged) (s : Shared)
+    → Some own ≡ maps.get owns p → g own ≡ record { shared = s; own = own'; item = l.item; event = event_of l.execed } → placed owns p own' ≡ owns' → Turns (g (at Gone owns p)) owns p l s owns'
+somebody g owns owns' p own own' l s there is placed_is =
+    let at_is : at Gone owns p ≡ own = ap (λ o. unwrap_or o Gone) (sym there) in
+    subst (λ t. Turns t owns p l s owns') (sym (ap g at_is ∙ is)) (record { shared_is = refl; owns_is = placed_is; item_is = refl; event_is = refl })
+
+-- and of one without
+pub nobody : (g : Own Body → Turned) (owns owns' : Owns) (p : ℕ) (l : Logged) (s : Shared)
+    → None ≡ maps.get owns p → g Gone ≡ record { shared = s; own = Gone; item = None; event = event_of false } → owns' ≡ owns → l ≡ record { item = None; execed = false; gone = true } → Turns (g (at Gone owns p)) owns p l s owns'
+nobody g owns owns' p l s none is same nothing =
+    let at_is : at Gone owns p ≡ Gone = ap (λ o. unwrap_or o Gone) (sym none) in
+    subst (λ t. Turns t owns p l s owns') (sym (ap g at_is ∙ is)) (record { shared_is = refl; owns_is = remove_absent owns p (sym none) ∙ sym same; item_is = ap (λ l. l.item) (sym nothing); event_is = ap (λ l. event_of l.execed) (sym nothing) })

@@ -1,0 +1,40 @@
+-- A turn of the kernel, from what the turn of one process leaves.
+use Rattle.std.proofs.Common.{◌≡◌, ℕ, Bool, true, false, List, ◌++◌, refl, ap, sym, subst, ◌∙◌}
+use Rattle.std.specs.Ordering.{nat_cmp}
+use Rattle.std.specs.Option.{option_to_list}
+use Rattle.std.specs.FinMap.{FinMap}
+use mathlib.Core.Path.{fun_ext}
+use Rattle.lx_abi.specs.declared.script.Rule.{Rule}
+use Rattle.lx_abi.specs.Scripts.{choice_of}
+use Rattle.lx_abi.specs.Log.{entries}
+use Rattle.lx_model.specs.Turn.{turn, Out}
+use Rattle.lx_model.specs.declared.stage.Own.{Own}
+use Rattle.lx_model.specs.declared.stage.Own.TheVariants.{Gone}
+use Rattle.lx_model.specs.Kernel.{traces, choice_at}
+use Rattle.lx_model.specs.Finite.{at, item_of, Running, ran, bore, turn_out, running_turn}
+use Rattle.lx_kernel.specs.State.{Shared, Body}
+use Rattle.lx_kernel.specs.Linux.{linux}
+use Rattle.lx_kernel.specs.Turned.{turned, event_of}
+use Rattle.lx_kernel.specs.Turns.{Turns}
+use Rattle.lx_kernel.specs.declared.kernel.Logged.{Logged}
+
+no_child : (v : Running Shared Body) (b : Bool) → bore v (event_of b) ≡ v
+no_child v true = refl
+no_child v false = refl
+
+module _ (v : Running Shared Body) (rules : List Rule) (follow : Bool) (p : ℕ) (count : ℕ → ℕ) (agrees : (n : ℕ) → count n ≡ entries p n v.log) (l : Logged) (s : Shared) (owns : FinMap nat_cmp (Own Body))
+    (turns : (child : ℕ) → Turns (turned (turn linux (choice_at linux (choice_of rules) (traces follow p) count (at Gone v.owns p)) v.shared child p (at Gone v.owns p))) v.owns p l s owns) where
+  abbrev out : Out Shared Body
+  out = turn_out linux (choice_of rules) follow v p
+
+  turned_out : Turns (turned out) v.owns p l s owns
+  turned_out = subst (λ (f : ℕ → ℕ). Turns (turned (turn linux (choice_at linux (choice_of rules) (traces follow p) f (at Gone v.owns p)) v.shared v.child p (at Gone v.owns p))) v.owns p l s owns) (fun_ext agrees) (turns v.child)
+
+  pub kernel_item : l.item ≡ item_of out
+  kernel_item = sym turned_out.item_is
+
+  pub kernel_turned : record { shared = s; owns = owns; child = v.child; log = v.log ++ option_to_list l.item } ≡ running_turn linux (choice_of rules) follow v p
+  kernel_turned =
+      (λ i. record { shared = sym turned_out.shared_is i; owns = sym turned_out.owns_is i; child = v.child; log = v.log ++ option_to_list (kernel_item i) })
+      ∙ sym (no_child (ran v p out) l.execed)
+      ∙ ap (bore (ran v p out)) (sym turned_out.event_is)

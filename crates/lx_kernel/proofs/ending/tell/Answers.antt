@@ -1,0 +1,17 @@
+use Rattle.std.proofs.Common.{◌≡◌, subst, ap, sym, ◌∙◌}
+use Rattle.std.specs.Prelude.{OnSome}
+use Rattle.std.specs.FinMap as maps
+use Rattle.lx_kernel.specs.State.{Entry}
+use Rattle.lx_kernel.specs.Signals.{signals_of, with_pending}
+use Rattle.lx_kernel.specs.Ends.{told, sigchld}
+use Rattle.lx_kernel.proofs.Tables.{changed_by}
+use Rattle.lx_kernel.proofs.ending.tell.Goals as goal
+
+pub returns-in_ok-make_pending-in-Some : goal.returns-in_ok-make_pending-in-Some
+returns-in_ok-make_pending-in-Some c =
+    let m = c.args.entries.now in
+    let e = c.in-Some.entry.now in
+    let w : Entry = signals_of e c.make_pending.new.signals in
+    subst (λ r. OnSome r (c.get_mut.follows.lender w ≡ maps.insert m c.args.parent w)) c.in-Some.is (c.get_mut.follows.holds w)
+    ∙ ap (λ x. maps.insert m c.args.parent (signals_of e x)) (c.in_ok-make_pending-in-Some.ensures ∙ ap (with_pending e.signals sigchld) c.cause.ensures)
+    ∙ sym (changed_by m c.args.parent (λ e. told e c.args.pid c.args.word) e c.in-Some.ensures.value)

@@ -1,0 +1,7 @@
+use Rattle.std.proofs.Common.{◌≡◌, drop}
+use Rattle.std.specs.Prelude.{fold}
+use Rattle.lx_kernel.specs.Programs.{with_segment}
+use Rattle.lx_kernel.proofs.programs.load_segments.Given as goal
+
+abbrev pub invariant-loop-segment : goal.invariant-loop-segment
+invariant-loop-segment l = fold with_segment l.space (drop l.segment-index l.segments) ≡ fold with_segment l.fn.space l.segments

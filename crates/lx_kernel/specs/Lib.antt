@@ -1,0 +1,17 @@
+pub mod Boots
+pub mod Calls
+pub mod Ends
+pub mod Files
+pub mod First
+pub mod Linux
+pub mod Occurrences
+pub mod Outcomes
+pub mod Programs
+pub mod Read
+pub mod Runs
+pub mod Signals
+pub mod State
+pub mod Tampering
+pub mod Texts
+pub mod Turned
+pub mod Turns

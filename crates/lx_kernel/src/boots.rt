@@ -1,0 +1,181 @@
+//! What a boot is refused for.
+
+ghost use Rattle.std.specs.Prelude.{◌≡◌, ◌-◌, ◌≤◌, ◌==◌, nat_le, SomeIff};
+ghost use Rattle.std.specs.List.{list_any, slice_split, sum_by};
+ghost use Rattle.lx_kernel.specs.Programs.{start_size, start_limit};
+ghost use Rattle.lx_kernel.specs.Boots.{fault_number, fault_of, is_bad_part as is_bad_part_of, is_bad_path as is_bad_path_of, is_under as is_under_path, is_misplaced as is_misplaced_among, has_bad_path as has_bad_path_of, has_duplicate as has_duplicate_of, has_nul as has_nul_of, has_no_program as has_no_program_of, cost_of};
+ghost use Rattle.std.specs.Str.{bytes_eq};
+
+use lx_abi::{Boot, Bytes, GuestFile};
+use std::alloc::AllocError;
+
+/// The most bytes that the words, the environment and the vector of a program's start may take.
+const START_LIMIT: usize = 65536;
+
+/// Why a boot is refused. The checks have an order, and the first that fails names the fault.
+#[derive(Clone, Copy, Debug, PartialEq, Eq)]
+pub enum BootFault {
+    /// A path is not absolute, is the root, has an empty, `.` or `..` part, or lies under another file.
+    BadPath = 1,
+    /// Two files have one path.
+    Duplicate = 2,
+    /// The words name no program, or one of them or of the environment has a NUL byte.
+    NoProgram = 3,
+    /// The words and the environment do not fit a program's start.
+    TooLarge = 4,
+    /// Memory ran out.
+    Memory = 5,
+}
+
+impl BootFault {
+    /// The number by which programs show the fault.
+    pub fn number(self) -> u8
+        ensures { result ≡ fault_number self }
+    {
+        self as u8
+    }
+
+    /// What is wrong, in plain words.
+    pub fn text(self) -> &'static str {
+        match self {
+            BootFault::BadPath =>
+                "a file's path is not plain and absolute, or lies under another file",
+            BootFault::Duplicate => "two files have the same path",
+            BootFault::NoProgram => "no program is named, or a word has a NUL byte",
+            BootFault::TooLarge => "the words and the environment are too large",
+            BootFault::Memory => "memory ran out",
+        }
+    }
+}
+
+impl From<AllocError> for BootFault {
+    ghost use Rattle.lx_kernel.specs.declared.boots.BootFault.TheVariants.{Memory};
+
+    ghost from_gives = { λ _ e. e ≡ Memory };
+
+    fn from(_: AllocError) -> BootFault {
+        BootFault::Memory
+    }
+}
+
+#[tactic(auto, unfolding(crate::specs::Boots::is_bad_part))]
+fn is_bad_part(part: &[u8]) -> bool
+    ensures { result ≡ is_bad_part_of part.now }
+{
+    part == b"".as_slice() || part == b".".as_slice() || part == b"..".as_slice()
+}
+
+fn has_bad_part(parts: &[u8]) -> bool
+    ensures { result ≡ list_any is_bad_part_of (slice_split (λ c. c == 47) parts.now) }
+{
+    parts.split(|b| *b == b'/').any(|part| is_bad_part(part))
+}
+
+#[tactic(auto, unfolding(crate::specs::Boots::is_bad_path))]
+fn is_bad_path(path: &[u8]) -> bool
+    ensures { result ≡ is_bad_path_of path.now }
+{
+    match path.split_first() {
+        Some((b'/', parts)) => has_bad_part(parts),
+        _ => true,
+    }
+}
+
+fn is_under(path: &[u8], above: &[u8]) -> bool
+    ensures { result ≡ is_under_path path.now above.now }
+{
+    path.starts_with(above) && path.get(above.len()) == Some(&b'/')
+}
+
+fn is_under_any(path: &[u8], files: &[GuestFile]) -> bool
+    ensures { result ≡ list_any (λ g. is_under_path path.now g.path) files.now }
+{
+    files
+        .iter()
+        .any(|other| is_under(path, other.path.as_slice()))
+}
+
+#[tactic(auto, unfolding(crate::specs::Boots::is_misplaced))]
+fn is_misplaced(path: &[u8], files: &[GuestFile]) -> bool
+    ensures { result ≡ is_misplaced_among files.now path.now }
+{
+    is_bad_path(path) || is_under_any(path, files)
+}
+
+fn has_bad_path(files: &[GuestFile]) -> bool
+    ensures { result ≡ has_bad_path_of files.now }
+{
+    files
+        .iter()
+        .any(|file| is_misplaced(file.path.as_slice(), files))
+}
+
+fn is_among(path: &[u8], files: &[GuestFile]) -> bool
+    ensures { result ≡ list_any (λ g. bytes_eq path.now g.path) files.now }
+{
+    files.iter().any(|other| path == other.path.as_slice())
+}
+
+fn has_duplicate(files: &[GuestFile]) -> bool
+    ensures { result ≡ has_duplicate_of files.now }
+{
+    let mut left = files;
+    while let Some((file, rest)) = left.split_first() {
+        if is_among(file.path.as_slice(), rest) {
+            return true;
+        }
+        left = rest;
+    }
+    false
+}
+
+fn has_nul(words: &[Bytes]) -> bool
+    ensures { result ≡ has_nul_of words.now }
+{
+    words.iter().any(|word| word.as_slice().contains(&0))
+}
+
+fn has_no_program(argv: &[Bytes], env: &[Bytes]) -> bool
+    ensures { result ≡ has_no_program_of argv.now env.now }
+{
+    argv.is_empty() || has_nul(argv) || has_nul(env)
+}
+
+/// What is left of a budget of bytes after these words, each with its NUL and its pointer.
+fn spend(budget: usize, words: &[Bytes]) -> Option<usize>
+    ensures { SomeIff result (sum_by cost_of words.now ≤ budget) (budget - sum_by cost_of words.now) }
+{
+    let mut left = budget;
+    for word in words {
+        left = left.checked_sub(word.len())?.checked_sub(9)?;
+    }
+    Some(left)
+}
+
+/// The words and the environment fit the start of a program.
+pub fn start_fits(argv: &[Bytes], env: &[Bytes]) -> bool
+    ensures { result ≡ nat_le (start_size argv.now env.now) start_limit }
+{
+    // argc, two null pointers and the auxiliary vector take seven doublewords
+    match spend(START_LIMIT - 7 * 8, argv) {
+        None => false,
+        Some(left) => spend(left, env).is_some(),
+    }
+}
+
+/// Why a boot is refused, if it is.
+pub fn boot_fault(boot: &Boot) -> Option<BootFault>
+    ensures { result ≡ fault_of boot.now }
+{
+    if has_bad_path(boot.files.as_slice()) {
+        Some(BootFault::BadPath)
+    } else if has_duplicate(boot.files.as_slice()) {
+        Some(BootFault::Duplicate)
+    } else if has_no_program(boot.argv.as_slice(), boot.env.as_slice()) {
+        Some(BootFault::NoProgram)
+    } else if start_fits(boot.argv.as_slice(), boot.env.as_slice()) {
+        None
+    } else {
+        Some(BootFault::TooLarge)
+    }
+}

@@ -1,0 +1,99 @@
+//! The first state of a kernel.
+
+ghost use Rattle.std.specs.Prelude.{◌≡◌, ◌≤◌, IfOk, OnOk, IfErr, None, Some};
+ghost use Rattle.lx_kernel.specs.Boots.{fault_of as fault_in, Refuses};
+ghost use Rattle.lx_kernel.specs.First.{first_entry as entry_of_first, first_shared as shared_at_first, first_owns as owns_at_first, first_run};
+ghost use Rattle.lx_kernel.specs.Programs.{start_size, start_limit};
+ghost use Rattle.lx_kernel.specs.declared.boots.BootFault.{BootFault};
+ghost use Rattle.std.specs.declared.result.Result.TheVariants.{Err};
+
+use crate::boots::{BootFault, boot_fault};
+use crate::files::Files;
+use crate::kernel::Kernel;
+use crate::programs::begin_stub;
+use crate::state::{Body, Entry, Life, Shared, Signals};
+use lx_abi::{Boot, Bytes, GuestFile, Map, Script};
+use lx_model::{Own, Stage};
+use std::alloc::{AllocError, Global};
+
+/// Process 1 has no parent.
+fn first_entry(alloc: Global) -> Entry
+    ensures { result ≡ entry_of_first }
+{
+    Entry {
+        life: Life::Alive,
+        parent: 0,
+        signals: Signals {
+            pending: Map::new(alloc),
+            mask: 0,
+            actions: Map::new(alloc),
+        },
+    }
+}
+
+/// What processes share at first.
+fn first_shared(alloc: Global, files: &[GuestFile], input: Bytes) -> Result<Shared, AllocError>
+    ensures { IfOk result (λ s. s ≡ shared_at_first files.now input) }
+{
+    let files = Files::of_boot(alloc, files)?;
+    let mut entries = Map::new(alloc);
+    entries.insert(1, first_entry(alloc))?;
+    Ok(Shared {
+        files,
+        input,
+        console: Bytes::new(alloc),
+        entries,
+    })
+}
+
+/// The own part of process 1, alone.
+fn first_owns(alloc: Global, argv: &[Bytes], env: &[Bytes]) -> Result<Map<Own<Body>>, AllocError>
+    requires { start_size argv.now env.now ≤ start_limit }
+    ensures { IfOk result (λ o. o ≡ owns_at_first argv.now env.now) }
+{
+    let body = begin_stub(alloc, argv, env)?;
+    let mut owns = Map::new(alloc);
+    owns.insert(
+        1,
+        Own::Alive {
+            body,
+            stage: Stage::Born,
+        },
+    )?;
+    Ok(owns)
+}
+
+/// The kernel of an accepted boot.
+fn first(alloc: Global, boot: Boot, script: Script) -> Result<Kernel, AllocError>
+    requires { start_size boot.argv boot.env ≤ start_limit }
+    ensures { IfOk result (λ k. k ≡ first_run boot script) }
+{
+    let Boot {
+        files,
+        argv,
+        env,
+        input,
+        follow,
+    } = boot;
+    let shared = first_shared(alloc, files.as_slice(), input)?;
+    let owns = first_owns(alloc, argv.as_slice(), env.as_slice())?;
+    Ok(Kernel::new(alloc, shared, owns, script, follow))
+}
+
+impl Kernel {
+    /// A kernel with process 1 alone, in a first program that is execve of argv[0].
+    pub fn boot(alloc: Global, boot: Boot, script: Script) -> Result<Self, BootFault>
+        ensures first { IfOk result (λ k. k ≡ first_run boot script) }
+        ensures accepted { OnOk result (fault_in boot ≡ None) }
+        ensures fault { IfErr result (Refuses boot) }
+
+        // A boot with a fault is refused with it, whatever the memory.
+        ensures refused { (e : BootFault) → fault_in boot ≡ Some e → result ≡ Err e }
+    {
+        if let Some(fault) = boot_fault(&boot) {
+            return Err(fault);
+        }
+        let kernel = first(alloc, boot, script)?;
+        Ok(kernel)
+    }
+}
