@@ -2,7 +2,7 @@
 
 # Runs the stored guest on the plain kernel.
 run:
-	cd crates/guest_host && rt run
+	cd crates/guest_host && rt run -- plain --file /p=data/hello -- /p
 
 # Proves every crate from nothing, tries the must-fail edits, runs the tests and the programs.
 test:

@@ -9,11 +9,9 @@ use Rattle.std.specs.Ordering.{nat_cmp}
 use Rattle.std.specs.Cmp.{nat_cmp_total}
 use Rattle.std.proofs.lemmas.Cmp.{nat_list_cmp_total}
 use Rattle.lx_abi.specs.declared.outcome.Ended.{Ended}
+use Rattle.lx_kernel.proofs.Trees.{path_cmp-IsAntisymmetric}
 use Rattle.lx_kernel.specs.Outcomes.{file_of, files_of, ended_of, words_in}
 use Rattle.lx_kernel.proofs.Listed.{entries-keyed}
-
-path_cmp-IsAntisymmetric : maps.IsAntisymmetric path_cmp
-path_cmp-IsAntisymmetric = maps.slice_cmp-IsAntisymmetric maps.nat_cmp-IsAntisymmetric
 
 abbrev pub Held : Type 0
 Held = Vec ℕ Global × Node

@@ -9,7 +9,7 @@ use Rattle.std.specs.BTreeMap.{is_at, insert_entry}
 use Rattle.std.specs.FinMap as maps
 use Rattle.lx_kernel.specs.Files.{path_cmp}
 
-path_cmp-IsAntisymmetric : maps.IsAntisymmetric path_cmp
+pub path_cmp-IsAntisymmetric : maps.IsAntisymmetric path_cmp
 path_cmp-IsAntisymmetric = maps.slice_cmp-IsAntisymmetric maps.nat_cmp-IsAntisymmetric
 
 equal_is : (a b : List ℕ) → eq_by_cmp path_cmp a b ≡ true → a ≡ b

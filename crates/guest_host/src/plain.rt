@@ -1,0 +1,184 @@
+//! A run on the untraced kernel.
+
+use crate::fault::{Fault, HOST, USAGE};
+use crate::schedule::Schedule;
+use crate::{log, words};
+use clap::ArgMatches;
+use lx_abi::{Boot, Bytes, GuestFile, Item, Mode, Rule, Script, Seq};
+use lx_kernel::Kernel;
+use std::alloc::{AllocError, Global};
+use std::io::{Read, Write};
+use std::rt::Files;
+use std::{fs, io};
+use tr_expr::{Expr, ExprFault, parse_expr};
+
+/// Turns ended with a process alive.
+const ALIVE: u8 = 4;
+
+/// Pids are 1 to this one.
+const LAST_PID: u32 = 255;
+
+/// The rules of the tampering expressions; a trace set has no effect here.
+fn script(alloc: Global, words: &[&str]) -> Result<Script, Fault> {
+    let mut rules: Vec<Rule> = Vec::new(alloc);
+    for text in words.iter().copied() {
+        match parse_expr(alloc, text) {
+            Ok(Expr::Trace(_set)) => {}
+            Ok(Expr::Inject(rule)) => rules.push(rule)?,
+            Err(ExprFault::Memory) => return Err(Fault::from(AllocError)),
+            Err(fault) => {
+                let number = fault.number();
+                return Err(Fault::usage(format!(in alloc;
+                    "guest_host: -e {text}: {fault} (expression fault {number})"
+                )));
+            }
+        }
+    }
+    Ok(Script::new(rules))
+}
+
+/// The guest's files, each from a word GUEST=PATH.
+fn files<R: Files + AllocGlobal>(rt: &R, words: &[&str]) -> Result<Seq<GuestFile>, Fault> {
+    let alloc = rt.alloc();
+    let mut files = Seq::new(alloc);
+    for word in words.iter().copied() {
+        let Some((guest, path)) = word.split_once('=') else {
+            return Err(Fault::usage(format!(in alloc;
+                "guest_host: --file {word}: no = between the guest's path and the file's"
+            )));
+        };
+        match fs::read(rt, path) {
+            Ok(content) => {
+                let path = Bytes::from_slice(alloc, guest.as_bytes())?;
+                files.push(GuestFile {
+                    path,
+                    content: Bytes::from_vec(content),
+                })?;
+            }
+            Err(error) => {
+                return Err(Fault::usage(format!(in alloc; "guest_host: --file {word}: {error}")));
+            }
+        }
+    }
+    Ok(files)
+}
+
+/// The program's words.
+fn argv(alloc: Global, words: &[&str]) -> Result<Seq<Bytes>, Fault> {
+    let mut argv = Seq::new(alloc);
+    for word in words.iter().copied() {
+        argv.push(Bytes::from_slice(alloc, word.as_bytes())?)?;
+    }
+    Ok(argv)
+}
+
+/// Input to its end.
+fn all_of<I: Read>(alloc: Global, input: &mut I) -> Result<Bytes, Fault> {
+    let mut bytes = Vec::new(alloc);
+    match input.read_to_end(&mut bytes) {
+        Ok(_) => Ok(Bytes::from_vec(bytes)),
+        Err(error) => Err(Fault::usage(format!(in alloc; "guest_host: standard input: {error}"))),
+    }
+}
+
+/// Some process is before its end.
+fn is_alive(kernel: &Kernel) -> bool {
+    (1..LAST_PID + 1).any(|pid| {
+        !matches!(
+            kernel.mode(pid),
+            None | Some(Mode::Dying) | Some(Mode::Zombie)
+        )
+    })
+}
+
+/// Process 1's exit code, or 128 and the signal that ended it.
+fn status_of(log: &[Item]) -> u8 {
+    for item in log {
+        if let Item::Exit { pid: 1, word, .. } = item {
+            return if word % 128 == 0 {
+                (word / 256 % 256) as u8
+            } else {
+                128 + (word % 128) as u8
+            };
+        }
+    }
+    ALIVE
+}
+
+/// What a run came to.
+#[derive(Clone, Copy)]
+enum Finish {
+    /// No process is able, or the limit is reached.
+    Turns,
+    /// Memory was refused.
+    Memory,
+}
+
+/// Turns by the default schedule, each item printed as it is logged.
+fn turns<E: Write>(kernel: &mut Kernel, limit: u64, err: &mut E) -> io::Result<Finish> {
+    let mut schedule = Schedule::new();
+    for _ in 0..limit {
+        let Some(pid) = schedule.next(kernel) else {
+            return Ok(Finish::Turns);
+        };
+        match kernel.turn(pid) {
+            Err(_) => return Ok(Finish::Memory),
+            Ok(moved) => {
+                if let Some(item) = moved.item {
+                    log::print(err, &item)?;
+                }
+            }
+        }
+    }
+    Ok(Finish::Turns)
+}
+
+/// Runs the program; the console goes to `out`, the log to `err`.
+pub fn run<R: Files + AllocGlobal, I: Read, O: Write, E: Write>(
+    rt: &R,
+    matches: &ArgMatches,
+    input: &mut I,
+    out: &mut O,
+    err: &mut E,
+) -> Result<u8, Fault> {
+    let alloc = rt.alloc();
+    let script = script(alloc, matches.get_strs("expression").unwrap_or(&[]))?;
+    let files = files(rt, matches.get_strs("file").unwrap_or(&[]))?;
+    let argv = argv(alloc, matches.get_strs("program").unwrap_or(&[]))?;
+    let input = all_of(alloc, input)?;
+    let boot = Boot {
+        files,
+        argv,
+        env: Seq::new(alloc),
+        input,
+        follow: true,
+    };
+    let mut kernel = match Kernel::boot(alloc, boot, script) {
+        Ok(kernel) => kernel,
+        Err(fault) => {
+            let (number, text) = (fault.number(), fault.text());
+            let status = if number == 5 { HOST } else { USAGE };
+            let text = format!(in alloc; "guest_host: boot fault {number}: {text}").ok();
+            return Err(Fault { status, text });
+        }
+    };
+    let finish = turns(&mut kernel, words::limit(matches), err);
+    if out.write_all(kernel.console()).is_err() || out.flush().is_err() {
+        return Err(Fault {
+            status: HOST,
+            text: Some(format!(in alloc; "guest_host: output fault")?),
+        });
+    }
+    match finish {
+        Err(_) => Err(Fault {
+            status: HOST,
+            text: Some(format!(in alloc; "guest_host: output fault")?),
+        }),
+        Ok(Finish::Memory) => Err(Fault {
+            status: HOST,
+            text: None,
+        }),
+        Ok(Finish::Turns) if is_alive(&kernel) => Ok(ALIVE),
+        Ok(Finish::Turns) => Ok(status_of(kernel.log())),
+    }
+}
