@@ -13,9 +13,8 @@ for crate in rv_isa rv_mem rv_hart; do
         cp -r "$top/crates/$crate/$part" "$work/crates/$crate/$part"
     done
 done
-mkdir -p "$work/crates/speed"
-rm -rf "$work/crates/speed/src"
-cp -r "$here/speed/src" "$work/crates/speed/src"
+mkdir -p "$work/crates/speed/src"
+cp "$here/speed.rattle" "$work/crates/speed/src/main.rt"
 printf 'rv_isa:\nrv_mem:\nrv_hart: rv_isa rv_mem\nspeed: rv_isa rv_mem rv_hart\n' > "$work/crates.txt"
 [ -d "$work/.git" ] || git init -q "$work"
 (cd "$work/crates/speed" && rt run > "$work/build.log" 2>&1) || { tail -20 "$work/build.log"; exit 1; }
