@@ -2,6 +2,7 @@
 
 use crate::fault::{Fault, HOST};
 use crate::{asm, plain, words};
+use clap::{ArgMatches, Error};
 use std::alloc::{AllocError, Global};
 use std::io::{Read, Write};
 use std::rt::Files;
@@ -40,27 +41,39 @@ fn done<R: Files + AllocGlobal, I: Read, O: Write, E: Write>(
     out: &mut O,
     err: &mut E,
 ) -> Result<u8, Fault> {
-    let alloc = rt.alloc();
-    let matches = match words::parse(alloc, words) {
-        Ok(matches) => matches,
-        Err(error) if !error.use_stderr() => {
-            return match write!(out, "{error}") {
-                Ok(()) => Ok(0),
-                Err(_) => Err(Fault {
-                    status: HOST,
-                    text: None,
-                }),
-            };
-        }
-        Err(error) => {
-            let text = format!(in alloc; "{error}")?;
-            return Err(Fault::usage(usage_line(alloc, text.as_str())));
-        }
-    };
+    match words::parse(rt.alloc(), words) {
+        Ok(matches) => obeyed(rt, &matches, input, out, err),
+        Err(error) => told(rt.alloc(), error, out),
+    }
+}
+
+/// Does what the words ask for.
+fn obeyed<R: Files + AllocGlobal, I: Read, O: Write, E: Write>(
+    rt: &R,
+    matches: &ArgMatches,
+    input: &mut I,
+    out: &mut O,
+    err: &mut E,
+) -> Result<u8, Fault> {
     match matches.subcommand() {
         Some(("plain", matches)) => plain::run(rt, matches, input, out, err),
         Some(("asm", matches)) => asm::run(rt, matches),
-        _ => Err(Fault::usage(format!(in alloc; "guest_host: no such command"))),
+        _ => Err(Fault::usage(format!(in rt.alloc(); "guest_host: no such command"))),
+    }
+}
+
+/// Help on `out`, or what is wrong with the words.
+fn told<O: Write>(alloc: Global, error: Error, out: &mut O) -> Result<u8, Fault> {
+    let text = format!(in alloc; "{error}")?;
+    if error.use_stderr() {
+        return Err(Fault::usage(usage_line(alloc, text.as_str())));
+    }
+    match out.write_all(text.as_bytes()) {
+        Ok(()) => Ok(0),
+        Err(_) => Err(Fault {
+            status: HOST,
+            text: None,
+        }),
     }
 }
 

@@ -1,11 +1,11 @@
 //! A run on the untraced kernel.
 
-use crate::fault::{Fault, HOST, USAGE};
+use crate::fault::{Fault, HOST};
 use crate::schedule::Schedule;
 use crate::{log, words};
 use clap::ArgMatches;
 use lx_abi::{Boot, Bytes, GuestFile, Item, Mode, Rule, Script, Seq};
-use lx_kernel::Kernel;
+use lx_kernel::{BootFault, Kernel};
 use std::alloc::{AllocError, Global};
 use std::io::{Read, Write};
 use std::rt::Files;
@@ -133,6 +133,65 @@ fn turns<E: Write>(kernel: &mut Kernel, limit: u64, err: &mut E) -> io::Result<F
     Ok(Finish::Turns)
 }
 
+/// The kernel of a boot, or why it is refused.
+fn boot(alloc: Global, boot: Boot, script: Script) -> Result<Kernel, Fault> {
+    match Kernel::boot(alloc, boot, script) {
+        Ok(kernel) => Ok(kernel),
+        Err(BootFault::Memory) => Err(Fault::from(AllocError)),
+        Err(fault) => {
+            let (number, text) = (fault.number(), fault.text());
+            Err(Fault::usage(format!(in alloc; "guest_host: boot fault {number}: {text}")))
+        }
+    }
+}
+
+/// The kernel that the words ask for.
+fn kernel<R: Files + AllocGlobal, I: Read>(
+    rt: &R,
+    matches: &ArgMatches,
+    input: &mut I,
+) -> Result<Kernel, Fault> {
+    let alloc = rt.alloc();
+    let script = script(alloc, matches.get_strs("expression").unwrap_or(&[]))?;
+    let files = files(rt, matches.get_strs("file").unwrap_or(&[]))?;
+    let argv = argv(alloc, matches.get_strs("program").unwrap_or(&[]))?;
+    let input = all_of(alloc, input)?;
+    boot(
+        alloc,
+        Boot {
+            files,
+            argv,
+            env: Seq::new(alloc),
+            input,
+            follow: true,
+        },
+        script,
+    )
+}
+
+/// Output was refused.
+fn output_fault(alloc: Global) -> Fault {
+    Fault {
+        status: HOST,
+        text: format!(in alloc; "guest_host: output fault").ok(),
+    }
+}
+
+/// Writes the console's bytes.
+fn show<O: Write>(kernel: &Kernel, out: &mut O) -> io::Result<()> {
+    out.write_all(kernel.console())?;
+    out.flush()
+}
+
+/// The exit status of a run that came to its end.
+fn status(kernel: &Kernel) -> u8 {
+    if is_alive(kernel) {
+        ALIVE
+    } else {
+        status_of(kernel.log())
+    }
+}
+
 /// Runs the program; the console goes to `out`, the log to `err`.
 pub fn run<R: Files + AllocGlobal, I: Read, O: Write, E: Write>(
     rt: &R,
@@ -141,44 +200,12 @@ pub fn run<R: Files + AllocGlobal, I: Read, O: Write, E: Write>(
     out: &mut O,
     err: &mut E,
 ) -> Result<u8, Fault> {
-    let alloc = rt.alloc();
-    let script = script(alloc, matches.get_strs("expression").unwrap_or(&[]))?;
-    let files = files(rt, matches.get_strs("file").unwrap_or(&[]))?;
-    let argv = argv(alloc, matches.get_strs("program").unwrap_or(&[]))?;
-    let input = all_of(alloc, input)?;
-    let boot = Boot {
-        files,
-        argv,
-        env: Seq::new(alloc),
-        input,
-        follow: true,
-    };
-    let mut kernel = match Kernel::boot(alloc, boot, script) {
-        Ok(kernel) => kernel,
-        Err(fault) => {
-            let (number, text) = (fault.number(), fault.text());
-            let status = if number == 5 { HOST } else { USAGE };
-            let text = format!(in alloc; "guest_host: boot fault {number}: {text}").ok();
-            return Err(Fault { status, text });
-        }
-    };
+    let mut kernel = kernel(rt, matches, input)?;
     let finish = turns(&mut kernel, words::limit(matches), err);
-    if out.write_all(kernel.console()).is_err() || out.flush().is_err() {
-        return Err(Fault {
-            status: HOST,
-            text: Some(format!(in alloc; "guest_host: output fault")?),
-        });
-    }
-    match finish {
-        Err(_) => Err(Fault {
-            status: HOST,
-            text: Some(format!(in alloc; "guest_host: output fault")?),
-        }),
-        Ok(Finish::Memory) => Err(Fault {
-            status: HOST,
-            text: None,
-        }),
-        Ok(Finish::Turns) if is_alive(&kernel) => Ok(ALIVE),
-        Ok(Finish::Turns) => Ok(status_of(kernel.log())),
+    let shown = show(&kernel, out);
+    match (finish, shown) {
+        (Ok(Finish::Turns), Ok(())) => Ok(status(&kernel)),
+        (Ok(Finish::Memory), Ok(())) => Err(Fault::from(AllocError)),
+        _ => Err(output_fault(rt.alloc())),
     }
 }
