@@ -6,26 +6,36 @@ use lx_abi::{Bytes, GuestFile, Item, Mode, Script, Seq};
 use std::alloc::{AllocError, Global};
 use std::test::Fail;
 
-fn words(alloc: Global, words: &[&str]) -> Result<Seq<Bytes>, AllocError> {
+/// The words of a text, between spaces.
+fn words(alloc: Global, text: &str) -> Result<Seq<Bytes>, AllocError> {
     let mut all = Seq::new(alloc);
-    for word in words {
-        all.push(Bytes::from_slice(alloc, word.as_bytes())?)?;
+    for word in text.split(' ') {
+        if !word.is_empty() {
+            all.push(Bytes::from_slice(alloc, word.as_bytes())?)?;
+        }
     }
     Ok(all)
 }
 
-/// A boot with empty files at these paths.
-fn boot(alloc: Global, paths: &[&str], argv: &[&str]) -> Result<Boot, AllocError> {
+/// Empty files at the paths of a text, between spaces.
+fn files(alloc: Global, text: &str) -> Result<Seq<GuestFile>, AllocError> {
     let mut files = Seq::new(alloc);
-    for path in paths {
-        let path = Bytes::from_slice(alloc, path.as_bytes())?;
-        files.push(GuestFile {
-            path,
-            content: Bytes::new(alloc),
-        })?;
+    for path in text.split(' ') {
+        if !path.is_empty() {
+            let path = Bytes::from_slice(alloc, path.as_bytes())?;
+            files.push(GuestFile {
+                path,
+                content: Bytes::new(alloc),
+            })?;
+        }
     }
+    Ok(files)
+}
+
+/// A boot with empty files at these paths.
+fn boot(alloc: Global, paths: &str, argv: &str) -> Result<Boot, AllocError> {
     Ok(Boot {
-        files,
+        files: files(alloc, paths)?,
         argv: words(alloc, argv)?,
         env: Seq::new(alloc),
         input: Bytes::new(alloc),
@@ -34,9 +44,9 @@ fn boot(alloc: Global, paths: &[&str], argv: &[&str]) -> Result<Boot, AllocError
 }
 
 /// The number of a boot's fault, 0 where it is accepted.
-fn fault(alloc: Global, paths: &[&str], argv: &[&str]) -> Result<u8, AllocError> {
+fn fault(alloc: Global, paths: &str, argv: &str) -> Result<u8, AllocError> {
     match Kernel::boot(alloc, boot(alloc, paths, argv)?, Script::empty(alloc)) {
-        Ok(_) => Ok(0),
+        Ok(_kernel) => Ok(0),
         Err(BootFault::Memory) => Err(AllocError),
         Err(fault) => Ok(fault.number()),
     }
@@ -44,19 +54,19 @@ fn fault(alloc: Global, paths: &[&str], argv: &[&str]) -> Result<u8, AllocError>
 
 #[test]
 fn boots_are_refused_in_order(rt: HostRuntime) -> Result<(), Fail> {
-    let rows: [(&[&str], &[&str], u8); 12] = [
-        (&["/p"], &["/p"], 0),
-        (&["a"], &["/p"], 1),
-        (&["/a//b"], &["/p"], 1),
-        (&["/"], &["/p"], 1),
-        (&["/a/../b"], &["/p"], 1),
-        (&["/a/."], &["/p"], 1),
-        (&["/a", "/a/b"], &["/p"], 1),
-        (&["/a/b", "/a/c"], &["/p"], 0),
-        (&["/p", "/p"], &["/p"], 2),
-        (&["/p"], &[], 3),
-        (&["/p"], &["/p", "a\0b"], 3),
-        (&["/a", "/a", "b"], &[], 1),
+    let rows = [
+        ("/p", "/p", 0),
+        ("a", "/p", 1),
+        ("/a//b", "/p", 1),
+        ("/", "/p", 1),
+        ("/a/../b", "/p", 1),
+        ("/a/.", "/p", 1),
+        ("/a /a/b", "/p", 1),
+        ("/a/b /a/c", "/p", 0),
+        ("/p /p", "/p", 2),
+        ("/p", "", 3),
+        ("/p", "/p a\0b", 3),
+        ("/a /a b", "", 1),
     ];
     for (paths, argv, number) in rows {
         assert_eq!(rt; fault(rt.alloc(), paths, argv)?, number);
@@ -66,8 +76,7 @@ fn boots_are_refused_in_order(rt: HostRuntime) -> Result<(), Fail> {
 
 /// A kernel without files after so many turns of process 1.
 fn after(alloc: Global, turns: u32) -> Result<Kernel, AllocError> {
-    let Ok(mut kernel) = Kernel::boot(alloc, boot(alloc, &[], &["/p"])?, Script::empty(alloc))
-    else {
+    let Ok(mut kernel) = Kernel::boot(alloc, boot(alloc, "", "/p")?, Script::empty(alloc)) else {
         return Err(AllocError);
     };
     for _ in 0..turns {
