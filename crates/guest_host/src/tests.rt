@@ -26,10 +26,9 @@ struct Run {
     err: Vec<u8>,
 }
 
-/// Runs the program on these words, with the stored guest in a file.
+/// Runs the program on these words.
 fn run_of(rt: &HostRuntime, words: &[&str]) -> Result<Run, Fail> {
     let alloc = rt.alloc();
-    fs::write(rt, "hello.elf", HELLO.as_slice())?;
     let mut all: Vec<String> = Vec::new(alloc);
     all.push(format!(in alloc; "guest_host")?)?;
     for word in words {
@@ -71,6 +70,7 @@ X 1 32512
 
 #[test]
 fn runs_of_the_stored_guest(rt: HostRuntime) -> Result<(), Fail> {
+    fs::write(&rt, "hello.elf", HELLO.as_slice())?;
     let file = "/p=hello.elf";
     let rows: [(&[&str], u8, &str, &str); 5] = [
         (&["plain", "--file", file, "--", "/p"], 0, "hi\n", HELLO_LOG),
@@ -127,6 +127,7 @@ fn runs_of_the_stored_guest(rt: HostRuntime) -> Result<(), Fail> {
 /// Each is refused with a status, by one line that begins so, and nothing on standard output.
 #[test]
 fn bad_words(rt: HostRuntime) -> Result<(), Fail> {
+    fs::write(&rt, "other.elf", HELLO.as_slice())?;
     let rows: [(&[&str], u8, &str); 7] = [
         (
             &["plain", "--file", "/p=nowhere", "--", "/p"],
@@ -154,7 +155,7 @@ fn bad_words(rt: HostRuntime) -> Result<(), Fail> {
             "guest_host: -e fault=wrote: ",
         ),
         (
-            &["plain", "--file", "p=hello.elf", "--", "/p"],
+            &["plain", "--file", "p=other.elf", "--", "/p"],
             2,
             "guest_host: boot fault 1: ",
         ),
