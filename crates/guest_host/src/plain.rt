@@ -1,11 +1,11 @@
 //! A run on the untraced kernel.
 
 use crate::fault::{Fault, HOST};
-use crate::schedule::Schedule;
+use crate::schedule::{Schedule, Slice};
 use crate::{log, words};
 use clap::ArgMatches;
 use lx_abi::{Boot, Bytes, GuestFile, Item, Mode, Rule, Script, Seq};
-use lx_kernel::{BootFault, Kernel};
+use lx_kernel::{BootFault, Failed, Kernel};
 use std::alloc::{AllocError, Global};
 use std::io::{Read, Write};
 use std::rt::Files;
@@ -114,21 +114,38 @@ enum Finish {
     Memory,
 }
 
+/// Turns of one process, as many as a slice has: those that run instructions at once, and one more
+/// where they end before it does. How many there were.
+fn slice<E: Write>(kernel: &mut Kernel, slice: Slice, err: &mut E) -> io::Result<Result<u64, Failed>> {
+    let ran = match kernel.run(slice.pid, slice.turns) {
+        Err(failed) => return Ok(Err(failed)),
+        Ok(ran) if ran == slice.turns => return Ok(Ok(ran)),
+        Ok(ran) => ran,
+    };
+    match kernel.turn(slice.pid) {
+        Err(failed) => Ok(Err(failed)),
+        Ok(moved) => {
+            if let Some(item) = moved.item {
+                log::print(err, &item)?;
+            }
+            Ok(Ok(ran + 1))
+        }
+    }
+}
+
 /// Turns by the default schedule, each item printed as it is logged.
 fn turns<E: Write>(kernel: &mut Kernel, limit: u64, err: &mut E) -> io::Result<Finish> {
     let mut schedule = Schedule::new();
-    for _ in 0..limit {
-        let Some(pid) = schedule.next(kernel) else {
+    let mut left = limit;
+    while left > 0 {
+        let Some(Slice { pid, turns }) = schedule.next(kernel) else {
             return Ok(Finish::Turns);
         };
-        match kernel.turn(pid) {
-            Err(_) => return Ok(Finish::Memory),
-            Ok(moved) => {
-                if let Some(item) = moved.item {
-                    log::print(err, &item)?;
-                }
-            }
-        }
+        let Ok(taken) = slice(kernel, Slice { pid, turns: turns.min(left) }, err)? else {
+            return Ok(Finish::Memory);
+        };
+        schedule.took(taken);
+        left -= taken;
     }
     Ok(Finish::Turns)
 }

@@ -15,3 +15,6 @@ pub mod Starting
 pub mod Directories
 pub mod Listed
 pub mod Outcomes
+pub mod Placed
+pub mod Continuing
+pub mod Running

@@ -1,4 +1,5 @@
 pub mod Boots
+pub mod Bursts
 pub mod Calls
 pub mod Ends
 pub mod Files

@@ -14,6 +14,7 @@ use crate::programs::begin_stub;
 use crate::state::{Body, Entry, Life, Shared, Signals};
 use lx_abi::{Boot, Bytes, GuestFile, Map, Script};
 use lx_model::{Own, Stage};
+use rv_hart::Decoder;
 use std::alloc::{AllocError, Global};
 
 /// Process 1 has no parent.
@@ -77,7 +78,8 @@ fn first(alloc: Global, boot: Boot, script: Script) -> Result<Kernel, AllocError
     } = boot;
     let shared = first_shared(alloc, files.as_slice(), input)?;
     let owns = first_owns(alloc, argv.as_slice(), env.as_slice())?;
-    Ok(Kernel::new(alloc, shared, owns, script, follow))
+    let decoder = Decoder::new(alloc)?;
+    Ok(Kernel::new(alloc, shared, owns, decoder, script, follow))
 }
 
 impl Kernel {

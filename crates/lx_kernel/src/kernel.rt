@@ -10,11 +10,13 @@ ghost use Rattle.lx_kernel.specs.Turned.{turned, turned_by, event_of, is_gone};
 ghost use Rattle.lx_kernel.specs.Turns.{Turns};
 ghost use Rattle.lx_kernel.specs.Outcomes.{outcome_of};
 ghost use Rattle.lx_kernel.specs.Tampering.{choice_of_call, choice_of_own};
+ghost use Rattle.lx_kernel.specs.Bursts.{Burst};
 ghost use Rattle.lx_kernel.specs.Runs.{turn_in, after_turn, is_able_in, mode_in, own_mode as own_mode_of, life_mode};
 ghost use Rattle.lx_kernel.specs.Occurrences.{count_of, Agree};
 ghost use Rattle.lx_abi.specs.Log.{is_entry};
 ghost use Rattle.std.specs.Option.{option_to_list};
 
+use crate::bursts;
 use crate::ending::{bury, die};
 use crate::occurrences::Occurrences;
 use crate::outcome::outcome;
@@ -24,6 +26,7 @@ use crate::state::{Body, Life, Shared};
 use crate::tampering::Tampering;
 use lx_abi::{Item, Map, Mode, Outcome, Script};
 use lx_model::{Own, Stage};
+use rv_hart::Decoder;
 use std::alloc::{AllocError, Global};
 use std::marker::Model;
 
@@ -165,6 +168,8 @@ pub struct Kernel {
     child: u32,
     log: Vec<Item>,
     occurrences: Occurrences,
+    /// The instructions that were met lately, of any process.
+    decoder: Decoder,
     script: Script,
     follow: bool,
     failed: bool,
@@ -250,6 +255,7 @@ impl Kernel {
         alloc: Global,
         shared: Shared,
         owns: Map<Own<Body>>,
+        decoder: Decoder,
         script: Script,
         follow: bool,
     ) -> Self
@@ -262,6 +268,7 @@ impl Kernel {
             child: 2,
             log: Vec::new(alloc),
             occurrences: Occurrences::new(alloc),
+            decoder,
             script,
             follow,
             failed: false,
@@ -304,6 +311,30 @@ impl Kernel {
             after,
             item: logged.item,
         })
+    }
+
+    /// Turns of a process while each begins and ends in Run, at most `limit`: how many there were.
+    ///
+    /// These are the turns that log nothing and change nothing but the process's own registers and
+    /// memory, so many of them cost one look at the tables.
+    pub fn run(&mut self, pid: u32, limit: u64) -> Result<u64, Failed>
+        ensures burst { IfOk result (λ n. Burst self.old pid limit n self.new) }
+        ensures failed { OnErr result (IsTrue self.new.failed) }
+        ensures failed_before { IsTrue self.old.failed → IsErr result }
+    {
+        if self.failed {
+            return Err(Failed);
+        }
+        self.failed = true;
+        let ran = bursts::run(
+            &self.shared,
+            &mut self.owns,
+            &mut self.decoder,
+            pid,
+            limit,
+        )?;
+        self.failed = false;
+        Ok(ran)
     }
 
     /// A turn of the process would run an instruction or change its mode.

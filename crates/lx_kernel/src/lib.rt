@@ -2,6 +2,7 @@
 #![tactic(auto)]
 
 pub mod boots;
+pub mod bursts;
 pub mod calls;
 pub mod ending;
 pub mod files;

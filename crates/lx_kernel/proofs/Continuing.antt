@@ -1,0 +1,104 @@
+-- Turns of one process in a row that stay in Run: of a body alone.
+use Rattle.std.proofs.Common.{◌≡◌, ◌≢◌, ℕ, zero, suc, ◌+◌, ◌<◌, ◌≤◌, Option, Some, None, refl, ap, sym, subst, arith, ◌∙◌}
+use Rattle.rv_mem.specs.Memory.{Memory}
+use Rattle.rv_hart.specs.declared.hart.Hart.{Hart}
+use Rattle.rv_hart.specs.declared.outcome.FaultKind.{FaultKind}
+use Rattle.rv_hart.specs.declared.outcome.Step.{Step}
+use Rattle.rv_hart.specs.declared.outcome.Step.TheVariants as step
+use Rattle.rv_hart.specs.Faults.{signal_code}
+use Rattle.rv_hart.specs.Steps.{Outcome, outcome}
+use Rattle.rv_hart.specs.Steps as hart
+use Rattle.rv_hart.specs.Runs.{Course, course, after, goes_on, run_of}
+use Rattle.lx_abi.specs.declared.log.Cause.{Cause}
+use Rattle.lx_abi.specs.declared.log.Cause.TheVariants.{Fault}
+use Rattle.lx_abi.specs.declared.signal.Signal.{Signal}
+use Rattle.lx_model.specs.Machine.{Ran, Goes, Calls, Faults, Takes}
+use Rattle.lx_kernel.specs.State.{Shared, Body, Interrupted}
+use Rattle.lx_kernel.specs.Linux.{resumed, ran_by, made_again, fault_signal}
+use Rattle.lx_kernel.specs.Bursts.{Follows, Halts, Continues}
+use Rattle.lx_kernel.proofs.Steps.{kept_by}
+
+abbrev Turns : Type 0
+Turns = Ran Shared Body
+
+calls_no_body : (d : Body) → ◌≢◌ {A = Turns} Calls (Goes d)
+calls_no_body d = λ e. cc
+
+faults_no_body : (signal : Signal) (cause : Cause) (d : Body) → ◌≢◌ {A = Turns} (Faults signal cause) (Goes d)
+faults_no_body signal cause d = λ e. cc
+
+-- what leads nowhere is no turn from its body
+halts_by : (b : Body) (r : Turns) → resumed b b.interrupted ≡ r → ((d : Body) → r ≢ Goes d) → Halts b
+halts_by b r is never = λ d e. never d (sym is ∙ e)
+
+-- no turn
+none_follows : (limit n : ℕ) (b c : Body) → 0 ≡ n → b ≡ c → (0 < limit → Halts b) → Continues limit n b c
+none_follows limit n b c none same halts =
+    record {
+      within = omega (arith, none);
+      follows = subst (λ n. Follows n b c) none same;
+      halts = λ l. subst Halts same (halts (omega (arith, none, l)));
+    }
+
+-- one turn more
+pub one_more : (limit n : ℕ) (b d c : Body) → resumed b b.interrupted ≡ Goes d → Continues limit n d c → Continues (suc limit) (suc n) b c
+one_more limit n b d c goes rest =
+    let within : n ≤ limit = rest.within in
+    record {
+      within = omega (arith, within);
+      follows = (d, goes, rest.follows);
+      halts = λ l. rest.halts (omega (arith, l));
+    }
+
+module _ (b : Body) (none : b.interrupted ≡ None) where
+  abbrev first : Outcome
+  first = hart.stepped b.hart b.memory
+
+  -- the body after its first step
+  abbrev next : Body
+  next = record b { hart = first.hart; memory = first.memory }
+
+  -- what the first step did, as a turn
+  resumed_by : (t : Step) → first.step ≡ t → resumed b b.interrupted ≡ ran_by b first t
+  resumed_by t is = ap (resumed b) none ∙ ap (ran_by b first) is
+
+  -- a step that ran nothing left the body
+  same_body : (t : Step) (s : Step) (h : Hart) (m : Memory) → (first.hart ≡ b.hart) × (first.memory ≡ b.memory) → first ≡ outcome s h m → b ≡ record b { hart = h; memory = m }
+  same_body t s h m kept last =
+      let harts : b.hart ≡ h = sym kept.0 ∙ ap (λ o. o.hart) last in
+      let memories : b.memory ≡ m = sym kept.1 ∙ ap (λ o. o.memory) last in
+      λ i. record b { hart = harts i; memory = memories i }
+
+  by_first : (t : Step) (l n : ℕ) (s : Step) (h : Hart) (m : Memory) → first.step ≡ t → goes_on t first (run_of l first.hart first.memory) ≡ course n (outcome s h m)
+      → ((k : ℕ) → run_of l first.hart first.memory ≡ course k (outcome s h m) → Continues l k next (record b { hart = h; memory = m }))
+      → Continues (suc l) n b (record b { hart = h; memory = m })
+  by_first step.Ran l n s h m is e rest =
+      let ran : Course = run_of l first.hart first.memory in
+      let counted : ran.ran + 1 ≡ n = ap (λ q. q.ran) e in
+      let count : suc ran.ran ≡ n = omega (arith, counted) in
+      subst (λ n. Continues (suc l) n b (record b { hart = h; memory = m })) count
+      (one_more l ran.ran b next (record b { hart = h; memory = m }) (resumed_by step.Ran is) (rest ran.ran (ap (λ q. course ran.ran q.last) e)))
+  by_first step.Call l n s h m is e rest =
+      none_follows (suc l) n b (record b { hart = h; memory = m }) (ap (λ q. q.ran) e)
+      (same_body step.Call s h m (kept_by b.hart b.memory step.Call first.hart first.memory (ap (λ t. outcome t first.hart first.memory) is)) (ap (λ q. q.last) e))
+      (λ l. halts_by b Calls (resumed_by step.Call is) calls_no_body)
+  by_first (step.Fault kind address) l n s h m is e rest =
+      none_follows (suc l) n b (record b { hart = h; memory = m }) (ap (λ q. q.ran) e)
+      (same_body (step.Fault kind address) s h m (kept_by b.hart b.memory (step.Fault kind address) first.hart first.memory (ap (λ t. outcome t first.hart first.memory) is)) (ap (λ q. q.last) e))
+      (λ l. halts_by b (Faults (fault_signal kind) (Fault (signal_code kind) address)) (resumed_by (step.Fault kind address) is) (faults_no_body (fault_signal kind) (Fault (signal_code kind) address)))
+
+-- a run of instructions is a row of turns
+pub run_continues : (limit : ℕ) (b : Body) → b.interrupted ≡ None → (n : ℕ) (s : Step) (h : Hart) (m : Memory) → run_of limit b.hart b.memory ≡ course n (outcome s h m) → Continues limit n b (record b { hart = h; memory = m })
+unfolding run_of
+run_continues zero b none n s h m e =
+    none_follows zero n b (record b { hart = h; memory = m }) (ap (λ q. q.ran) e)
+    (λ i. record b { hart = (e i).last.hart; memory = (e i).last.memory }) (λ l. absurd (omega (arith, l)))
+run_continues (suc l) b none n s h m e =
+    by_first b none (hart.stepped b.hart b.memory).step l n s h m refl e (λ k. run_continues l (next b none) none k s h m)
+
+-- an interrupted call is made again, and then instructions run
+pub again_continues : (limit n : ℕ) (b c : Body) (at : Interrupted) → b.interrupted ≡ Some at → Continues limit n (made_again b at) c → Continues (suc limit) (suc n) b c
+again_continues limit n b c at is rest = one_more limit n b (made_again b at) c (ap (resumed b) is) rest
+
+pub no_turns : (b : Body) → Continues 0 0 b b
+no_turns b = none_follows 0 0 b b refl refl (λ l. absurd (omega (arith, l)))

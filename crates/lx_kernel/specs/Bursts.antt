@@ -1,0 +1,54 @@
+-- Turns of one process in a row that all begin and end in Run.
+use Rattle.std.specs.Prelude.{◌≡◌, ◌≢◌, ◌⊎◌, ℕ, zero, suc, ◌<◌, ◌≤◌, Some}
+use Rattle.std.specs.Ordering.{nat_cmp}
+use Rattle.std.specs.FinMap.{FinMap}
+use Rattle.lx_abi.specs.declared.log.Mode.TheVariants as mode
+use Rattle.lx_model.specs.Machine.{Goes}
+use Rattle.lx_model.specs.declared.stage.Own.{Own}
+use Rattle.lx_model.specs.declared.stage.Own.TheVariants.{Alive}
+use Rattle.lx_model.specs.declared.stage.Stage.TheVariants as stages
+use Rattle.lx_kernel.specs.State.{Body}
+use Rattle.lx_kernel.specs.Linux.{resumed}
+use Rattle.lx_kernel.specs.Runs.{Run, after_turn, mode_in}
+
+-- the kernel after so many turns of one process
+unfoldable pub after_turns : Run → ℕ → ℕ → Run
+after_turns k pid zero = k
+after_turns k pid (suc n) = after_turns (after_turn k pid) pid n
+
+-- the next turn of the process begins and ends in Run: an instruction runs, or an interrupted call is made again
+abbrev pub StaysInRun : Run → ℕ → Type 0
+StaysInRun k pid = (mode_in k pid ≡ Some mode.Run) × (mode_in (after_turn k pid) pid ≡ Some mode.Run)
+
+-- k' comes from k by n turns of the process that stay in Run, and n is the limit or the turn after them would not
+pub record Burst (k : Run) (pid limit n : ℕ) (k' : Run) : Type 0 where
+  pub within : n ≤ limit
+  pub turned : k' ≡ after_turns k pid n
+  pub in_run : (i : ℕ) → i < n → StaysInRun (after_turns k pid i) pid
+  pub stopped : n < limit → StaysInRun k' pid → ⊥
+
+-- A body alone.
+
+-- c comes from b by n turns in Run
+abbrev pub Follows : ℕ → Body → Body → Type 0
+Follows zero b c = b ≡ c
+Follows (suc n) b c = (d : Body) × (resumed b b.interrupted ≡ Goes d) × Follows n d c
+
+-- no turn leads on from it
+abbrev pub Halts : Body → Type 0
+Halts b = (d : Body) → resumed b b.interrupted ≢ Goes d
+
+pub record Continues (limit n : ℕ) (b c : Body) : Type 0 where
+  pub within : n ≤ limit
+  pub follows : Follows n b c
+  pub halts : n < limit → Halts c
+
+-- a process that stands in Run goes on with its body; one that stands elsewhere stays as it is
+abbrev pub OwnContinues : ℕ → ℕ → Own Body → Own Body → Type 0
+OwnContinues limit n own own' =
+    ((b : Body) × (c : Body) × (own ≡ Alive b stages.Run) × (own' ≡ Alive c stages.Run) × Continues limit n b c)
+    ⊎ ((n ≡ 0) × (own' ≡ own) × ((b : Body) → own ≢ Alive b stages.Run))
+
+-- the kernel with other parts of its processes' own
+abbrev pub with_owns : Run → FinMap nat_cmp (Own Body) → Run
+with_owns k owns = record k { running = record k.running { owns = owns } }
