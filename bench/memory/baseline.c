@@ -1,30 +1,42 @@
-/* The same work over the same tables in plain C: pages in the order of their numbers, and a hint that is looked at first. */
+/* The same work over like tables in plain C: pages in any order, a hint that is looked at first, and an index from number
+   to place, which is the red-black tree of <search.h>. */
+#define _GNU_SOURCE
+#include <search.h>
 #include <stdint.h>
 #include <stdio.h>
 #include <stdlib.h>
 #include <string.h>
 #include <time.h>
 
-enum { ROUNDS = 3, ACCESSES = 10000000, READS = 100000, MAPS = 5000 };
+enum { ROUNDS = 3, ACCESSES = 10000000, READS = 100000, MAPS = 500000 };
 
 struct page { uint64_t number; uint8_t read, write, execute; uint8_t *bytes; };
-struct space { struct page *pages; size_t count, room, hint; };
+struct index_entry { uint64_t number; size_t place; };
+struct space { struct page *pages; size_t count, room, hint; void *index; };
 
-static size_t place(const struct space *s, uint64_t number) {
-    size_t low = 0, high = s->count;
-    while (low < high) {
-        size_t middle = low + (high - low) / 2;
-        if (s->pages[middle].number < number) low = middle + 1; else high = middle;
-    }
-    return low;
+static int compare(const void *a, const void *b) {
+    uint64_t x = ((const struct index_entry *)a)->number, y = ((const struct index_entry *)b)->number;
+    return x < y ? -1 : x > y;
+}
+
+static struct index_entry *entry_of(const struct space *s, uint64_t number) {
+    struct index_entry key = {number, 0};
+    void *found = tfind(&key, &s->index, compare);
+    return found ? *(struct index_entry **)found : NULL;
+}
+
+static void add_entry(struct space *s, uint64_t number, size_t place) {
+    struct index_entry *e = malloc(sizeof *e);
+    *e = (struct index_entry){number, place};
+    tsearch(e, &s->index, compare);
 }
 
 static struct page *page_of(struct space *s, uint64_t number) {
     if (s->hint < s->count && s->pages[s->hint].number == number) return &s->pages[s->hint];
-    size_t at = place(s, number);
-    if (at == s->count || s->pages[at].number != number) return NULL;
-    s->hint = at;
-    return &s->pages[at];
+    struct index_entry *e = entry_of(s, number);
+    if (!e) return NULL;
+    s->hint = e->place;
+    return &s->pages[s->hint];
 }
 
 static inline int load(struct space *s, uint64_t address, void *out, size_t size) {
@@ -42,23 +54,29 @@ static inline int store(struct space *s, uint64_t address, const void *from, siz
 }
 
 static void map(struct space *s, uint64_t number) {
-    size_t at = place(s, number);
+    if (entry_of(s, number)) return;
     if (s->count == s->room) s->pages = realloc(s->pages, (s->room = s->room * 2 + 4) * sizeof *s->pages);
-    memmove(s->pages + at + 1, s->pages + at, (s->count++ - at) * sizeof *s->pages);
-    s->pages[at] = (struct page){number, 1, 1, 1, calloc(1, 4096)};
+    add_entry(s, number, s->count);
+    s->pages[s->count++] = (struct page){number, 1, 1, 1, calloc(1, 4096)};
 }
 
 static void unmap(struct space *s, uint64_t number) {
-    size_t at = place(s, number);
-    free(s->pages[at].bytes);
-    memmove(s->pages + at, s->pages + at + 1, (--s->count - at) * sizeof *s->pages);
+    struct index_entry *e = entry_of(s, number);
+    if (!e) return;
+    size_t place = e->place;
+    tdelete(e, &s->index, compare);
+    free(e);
+    free(s->pages[place].bytes);
+    s->pages[place] = s->pages[--s->count];
+    if (place < s->count) entry_of(s, s->pages[place].number)->place = place;
 }
 
 static struct space space_fork(const struct space *s) {
-    struct space other = {malloc((s->count + 1) * sizeof *s->pages), s->count, s->count + 1, s->hint};
+    struct space other = {malloc((s->count + 1) * sizeof *s->pages), s->count, s->count + 1, s->hint, NULL};
     for (size_t i = 0; i < s->count; i++) {
         other.pages[i] = s->pages[i];
         other.pages[i].bytes = memcpy(malloc(4096), s->pages[i].bytes, 4096);
+        add_entry(&other, s->pages[i].number, i);
     }
     return other;
 }
@@ -66,6 +84,7 @@ static struct space space_fork(const struct space *s) {
 static void space_free(struct space *s) {
     for (size_t i = 0; i < s->count; i++) free(s->pages[i].bytes);
     free(s->pages);
+    tdestroy(s->index, free);
 }
 
 static double now(void) {
@@ -96,7 +115,7 @@ static uint64_t done(int work, struct space *s, uint64_t pages, uint64_t *calls)
             free(bytes);
         }
     else if (work == 6)
-        for (uint64_t i = 0; i < MAPS; i++) { map(s, 0x11); unmap(s, 0x11); sum++; }
+        for (uint64_t i = 0; i < MAPS / 2; i++) { map(s, 0x11); map(s, 0x13); unmap(s, 0x11); unmap(s, 0x13); sum += 2; }
     else {
         struct space other = space_fork(s);
         sum = other.count != 0;
@@ -106,7 +125,7 @@ static uint64_t done(int work, struct space *s, uint64_t pages, uint64_t *calls)
 }
 
 int main(void) {
-    static const uint64_t sizes[] = {1, 300, 16383};
+    static const uint64_t sizes[] = {1, 300, 16382};
     static const char *const names[] = {"load, one page", "load, page to page", "store, one page", "store, page to page",
         "fetch", "read of 4096 bytes", "map and unmap a page", "fork"};
     for (int n = 0; n < 3; n++) {

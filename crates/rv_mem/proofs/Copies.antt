@@ -1,8 +1,9 @@
 -- Pages copied: what stands in them is the same.
-use Rattle.std.proofs.Common.{◌≡◌, ℕ, ◌+◌, ◌*◌, ◌<◌, ◌≤◌, ◌^◌, List, [], ◌∷◌, ◌++◌, map, refl, sym, ◌∙◌, ap}
+use Rattle.std.proofs.Common.{◌≡◌, ℕ, ◌*◌, List, [], ◌∷◌, ◌++◌, length, map, suc, refl, sym, ◌∙◌, ap}
+use Rattle.std.specs.List.{AllZip}
 use Rattle.std.specs.FinMap.{from_entries}
 use Rattle.rv_mem.specs.Memory.{Cell}
-use Rattle.rv_mem.specs.Pages.{cells, all_cells, memory_of, RisesFrom}
+use Rattle.rv_mem.specs.Pages.{cells, all_cells, memory_of, numbers}
 use Rattle.rv_mem.specs.declared.page.Page.{Page}
 use Rattle.rv_mem.specs.declared.rights.Rights.{Rights}
 
@@ -29,17 +30,22 @@ pub memory_of-shown : (ps qs : List Page) → shown_all ps ≡ shown_all qs → 
 unfolding memory_of
 memory_of-shown ps qs e = ap (λ (es : List (ℕ × Cell)). from_entries es) (all_cells-shown ps ∙ ap shown_cells e ∙ sym (all_cells-shown qs))
 
-abbrev ShownRises : ℕ → List Shown → Type 0
-ShownRises n [] = Unit {0}
-ShownRises n (s ∷ ss) = (n ≤ s.0) × (s.0 < 2 ^ 26) × ShownRises (s.0 + 1) ss
+pub numbers-shown : (ps qs : List Page) → shown_all ps ≡ shown_all qs → numbers ps ≡ numbers qs
+numbers-shown ps qs e = of_shown ps ∙ ap (map (λ (s : Shown). s.0)) e ∙ sym (of_shown qs)
+  where
+    of_shown : (xs : List Page) → numbers xs ≡ map (λ (s : Shown). s.0) (shown_all xs)
+    of_shown [] = refl
+    of_shown (x ∷ xs) = ap (λ (ns : List ℕ). x.number ∷ ns) (of_shown xs)
 
-to_shown : (n : ℕ) (ps : List Page) → RisesFrom n ps → ShownRises n (shown_all ps)
-to_shown n [] r = tt
-to_shown n (p ∷ ps) r = (r.0, r.1, to_shown (p.number + 1) ps r.2)
+pub same_length : (ps qs : List Page) → numbers qs ≡ numbers ps → length qs ≡ length ps
+same_length [] [] e = refl
+same_length [] (q ∷ qs) e = absurd (let no : ⊥ = cc e in no)
+same_length (p ∷ ps) [] e = absurd (let no : ⊥ = cc e in no)
+same_length (p ∷ ps) (q ∷ qs) e = ap suc (same_length ps qs (let rest : numbers qs ≡ numbers ps = cc e in rest))
 
-from_shown : (n : ℕ) (ps : List Page) → ShownRises n (shown_all ps) → RisesFrom n ps
-from_shown n [] r = tt
-from_shown n (p ∷ ps) r = (r.0, r.1, from_shown (p.number + 1) ps r.2)
-
-pub RisesFrom-shown : (n : ℕ) (ps qs : List Page) → shown_all ps ≡ shown_all qs → RisesFrom n qs → RisesFrom n ps
-RisesFrom-shown n ps qs e r = from_shown n ps (rw e (to_shown n qs r))
+-- entries copied one by one
+pub same_entries : (xs ys : List (ℕ × ℕ)) → AllZip (λ x y. (y.0 ≡ x.0) × (y.1 ≡ x.1)) xs ys → ys ≡ xs
+same_entries [] [] h = refl
+same_entries [] (y ∷ ys) h = absurd h
+same_entries (x ∷ xs) [] h = absurd h
+same_entries (x ∷ xs) (y ∷ ys) h = ap (λ n. (n, y.1) ∷ ys) h.0.0 ∙ ap (λ n. (x.0, n) ∷ ys) h.0.1 ∙ ap (λ es. x ∷ es) (same_entries xs ys h.1)

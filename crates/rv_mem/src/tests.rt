@@ -234,6 +234,8 @@ fn pages_are_limited(rt: HostRuntime) -> Result<(), Fail> {
     map(&mut space, 5, 16_000, READ)?;
     for (first, pages, want) in [
         (20_000, 385, Err(MemFault::TooLarge)),
+        (4, 16_385, Err(MemFault::TooLarge)),
+        (0, u16::MAX, Err(MemFault::TooLarge)),
         (20_000, 384, Ok(())),
         (4, 1, Err(MemFault::TooLarge)),
         (5, 16_000, Ok(())),
@@ -246,5 +248,101 @@ fn pages_are_limited(rt: HostRuntime) -> Result<(), Fail> {
         );
     }
     assert_eq!(rt; peek(&space, 0x4000, 1)?.len(), 0);
+    Ok(())
+}
+
+/// The first byte of each of the first eight pages; a dot stands for a page that is missing.
+fn first_bytes(space: &Space, alloc: Global) -> Result<Vec<u8>, AllocError> {
+    let mut bytes = Vec::new(alloc);
+    for number in 0..8u64 {
+        let byte = peek(space, 4096 * number, 1)?.first().copied();
+        bytes.push(byte.unwrap_or(b'.'))?;
+    }
+    Ok(bytes)
+}
+
+/// Pages 1 to 6, each of which begins with its number as a digit.
+fn numbered(alloc: Global) -> Result<Space, MemFault> {
+    let mut space = Space::new(alloc);
+    map(&mut space, 1, 6, READ_WRITE)?;
+    for digit in b'1'..b'7' {
+        write(&mut space, 4096 * u64::from(digit - b'0'), &[digit])?;
+    }
+    Ok(space)
+}
+
+#[test]
+fn pages_stay_where_others_are_unmapped(rt: HostRuntime) -> Result<(), Fail> {
+    let mut space = numbered(rt.alloc())?;
+    for (first, pages, want) in [
+        (3, 1, ".12.456."),
+        (8, 9, ".12.456."),
+        (6, 60_000, ".12.45.."),
+        (0, 3, "....45.."),
+        (4, 1, ".....5.."),
+        (0, 60_000, "........"),
+    ] {
+        unmap(&mut space, first, pages);
+        assert_eq!(rt;
+            first_bytes(&space, rt.alloc())?.as_slice(),
+            want.as_bytes(),
+            "{pages} pages from {first} taken away"
+        );
+    }
+    Ok(())
+}
+
+#[test]
+fn pages_come_back_blank(rt: HostRuntime) -> Result<(), Fail> {
+    let mut space = numbered(rt.alloc())?;
+    unmap(&mut space, 2, 2);
+    map(&mut space, 0, 6, READ)?;
+    assert_eq!(rt;
+        first_bytes(&space, rt.alloc())?.as_slice(),
+        b"\x001\x00\x00456.".as_slice()
+    );
+    assert_eq!(rt;
+        write(&mut space, 0x1fff, &[7, 7]),
+        Err(MemFault::Forbidden(0x2000))
+    );
+    assert_eq!(rt; peek(&space, 0x1fff, 1)?.as_slice(), [0].as_slice());
+    Ok(())
+}
+
+#[test]
+fn pages_are_crossed_in_whatever_order_they_were_mapped(rt: HostRuntime) -> Result<(), Fail> {
+    let mut space = Space::new(rt.alloc());
+    for number in [7, 5, 6] {
+        map(&mut space, number, 1, READ_WRITE)?;
+    }
+    let bytes = vec![in rt.alloc(); 3u8; 4098]?;
+    for (address, want) in [
+        (0x5fff, Ok(())),
+        (0x4fff, Err(MemFault::Unmapped(0x4fff))),
+        (0x6fff, Err(MemFault::Unmapped(0x8000))),
+    ] {
+        assert_eq!(rt; write(&mut space, address, &bytes), want, "at {address}");
+    }
+    assert_eq!(rt;
+        read(&space, 0x6ffe, 4)?.as_slice(),
+        [3, 3, 3, 0].as_slice()
+    );
+    Ok(())
+}
+
+/// With each allocation made to fail in turn, this shows that a call that is refused memory changes nothing.
+#[test]
+fn a_refused_map_changes_nothing(rt: HostRuntime) -> Result<(), Fail> {
+    let mut space = numbered(rt.alloc())?;
+    unmap(&mut space, 3, 1);
+    if map(&mut space, 0, 40, EXECUTE).is_err() {
+        assert_eq!(rt;
+            first_bytes(&space, rt.alloc())?.as_slice(),
+            b".12.456.".as_slice()
+        );
+        assert_eq!(rt; fetch(&mut space, 0x1000), Err(MemFault::Forbidden(0x1000)));
+    } else {
+        assert_eq!(rt; fetch(&mut space, 0x27ffc), Ok(0));
+    }
     Ok(())
 }
