@@ -11,6 +11,7 @@ pub mod Moving
 pub mod Starts
 pub mod Reading
 pub mod LinuxLaws
+pub mod LinuxTold
 pub mod Starting
 pub mod Directories
 pub mod Listed
