@@ -14,5 +14,6 @@ pub mod LinuxLaws
 pub mod LinuxTold
 pub mod Starting
 pub mod Directories
+pub mod Nodes
 pub mod Listed
 pub mod Outcomes

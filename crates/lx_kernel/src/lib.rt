@@ -8,6 +8,9 @@ pub mod files;
 pub mod first;
 pub mod kernel;
 pub mod laws;
+#[cfg(test)]
+mod limit_tests;
+pub mod limits;
 pub mod occurrences;
 pub mod outcome;
 pub mod programs;
