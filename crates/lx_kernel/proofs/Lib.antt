@@ -16,4 +16,6 @@ pub mod Starting
 pub mod Directories
 pub mod Nodes
 pub mod Listed
+pub mod Lists
+pub mod Looking
 pub mod Outcomes

@@ -19,7 +19,7 @@ use Rattle.lx_model.proofs.Maps.{equal_if}
 use Rattle.lx_kernel.specs.State.{Shared, Body}
 use Rattle.lx_kernel.specs.Texts.{Text, Whole, TooLong, Unreadable, text_at, list_at}
 use Rattle.lx_kernel.specs.Linux.{linux, reacted, ends_at}
-use Rattle.lx_kernel.specs.Calls.{does, write, exit_group, execve, given, runs, runs_at, with_lists, with_path, argument, low_argument, most_moved, path_limit}
+use Rattle.lx_kernel.specs.Calls.{does, write, exit_group, given, runs, runs_at, with_path, argument, low_argument, most_moved, path_limit}
 use Rattle.lx_kernel.specs.Programs.{start_size, start_limit}
 
 -- an answer fits the call's number

@@ -4,6 +4,8 @@
 pub mod boots;
 pub mod calls;
 pub mod ending;
+#[cfg(test)]
+mod execve_tests;
 pub mod files;
 pub mod first;
 pub mod kernel;

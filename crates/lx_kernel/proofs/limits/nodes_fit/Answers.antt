@@ -1,4 +1,4 @@
-use Rattle.std.proofs.Common.{◌≡◌, ◌<◌, ◌+◌, length, ap, ◌∙◌, arith}
+use Rattle.std.proofs.Common.{◌≡◌, length, ap, ◌∙◌, arith}
 use Rattle.lx_kernel.specs.Limits.{new_directories}
 use Rattle.lx_kernel.proofs.Nodes.{too_many, one_file_less, one_file_too_many, all_counted}
 use Rattle.lx_kernel.proofs.limits.nodes_fit.Goals as goal
