@@ -156,8 +156,8 @@ fn boot(alloc: Global, boot: Boot, script: Script) -> Result<Kernel, Fault> {
         Ok(kernel) => Ok(kernel),
         Err(BootFault::Memory) => Err(Fault::from(AllocError)),
         Err(fault) => {
-            let (number, text) = (fault.number(), fault.text());
-            Err(Fault::usage(format!(in alloc; "guest_host: boot fault {number}: {text}")))
+            let number = fault.number();
+            Err(Fault::usage(format!(in alloc; "guest_host: boot fault {number}: {fault}")))
         }
     }
 }

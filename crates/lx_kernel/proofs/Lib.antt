@@ -11,9 +11,13 @@ pub mod Moving
 pub mod Starts
 pub mod Reading
 pub mod LinuxLaws
+pub mod LinuxTold
 pub mod Starting
 pub mod Directories
+pub mod Nodes
 pub mod Listed
+pub mod Lists
+pub mod Looking
 pub mod Outcomes
 pub mod Placed
 pub mod Continuing

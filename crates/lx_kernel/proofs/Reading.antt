@@ -35,7 +35,7 @@ one_byte : (m : Memory) (a : ℕ) → bytes_at m a 1 ≡ byte_at m a ∷ []
 unfolding bytes_at
 one_byte m a = refl
 
-is_no_nul : (b : ℕ) → ¬ (b ≡ 0) → eqb b 0 ≡ false
+pub is_no_nul : (b : ℕ) → ¬ (b ≡ 0) → eqb b 0 ≡ false
 is_no_nul b h = grind (arith, nat_tests)
 
 -- a byte that can't be read

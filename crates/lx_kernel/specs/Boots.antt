@@ -1,11 +1,13 @@
 -- What a boot is refused for.
-use Rattle.std.specs.Prelude.{◌≡◌, ◌≢◌, ℕ, ◌+◌, Bool, true, false, not, ◌==◌, ◌&&◌, ◌||◌, nat_le, nat_eq, if◌then◌else◌, List, [], ◌∷◌, length, slice_index, Option, Some, None}
-use Rattle.std.specs.List.{list_any, slice_split, starts_with}
+use Rattle.std.specs.Prelude.{◌≡◌, ◌≢◌, ℕ, ◌+◌, Bool, true, false, not, ◌==◌, ◌&&◌, ◌||◌, nat_le, if◌then◌else◌, List, [], ◌∷◌, length, Option, Some, None}
+use Rattle.std.specs.List.{list_any, slice_split}
 use Rattle.std.specs.Str.{bytes_eq}
 use Rattle.lx_abi.specs.declared.boot.Boot.{Boot}
 use Rattle.lx_abi.specs.declared.boot.GuestFile.{GuestFile}
 use Rattle.lx_kernel.specs.declared.boots.BootFault.{BootFault}
 use Rattle.lx_kernel.specs.declared.boots.BootFault.TheVariants.{BadPath, Duplicate, NoProgram, TooLarge, Memory}
+use Rattle.lx_kernel.specs.Files.{is_under}
+use Rattle.lx_kernel.specs.Limits.{files_fit}
 use Rattle.lx_kernel.specs.Programs.{start_size, start_limit}
 
 -- the number of a fault, as programs show it
@@ -24,10 +26,6 @@ is_bad_part part = bytes_eq part [] || bytes_eq part (46 ∷ []) || bytes_eq par
 unfoldable pub is_bad_path : List ℕ → Bool
 is_bad_path [] = true
 is_bad_path (b ∷ parts) = not (b == 47) || list_any is_bad_part (slice_split (λ c. c == 47) parts)
-
--- the path goes on, behind the other, with a slash
-abbrev pub is_under : List ℕ → List ℕ → Bool
-is_under path above = starts_with nat_eq path above && (slice_index path (length above) == 47)
 
 -- a path that is bad, or under a file's
 unfoldable pub is_misplaced : List GuestFile → List ℕ → Bool
@@ -54,13 +52,17 @@ has_no_program (word ∷ words) env = has_nul (word ∷ words) || has_nul env
 abbrev pub cost_of : List ℕ → ℕ
 cost_of word = length word + 9
 
+-- within the limits of files, and of a program's start
+abbrev pub fits : Boot → Bool
+fits boot = files_fit boot.files && nat_le (start_size boot.argv boot.env) start_limit
+
 -- the first fault that applies
 abbrev pub fault_of : Boot → Option BootFault
 fault_of boot =
     if has_bad_path boot.files then Some BadPath
     else if has_duplicate boot.files then Some Duplicate
     else if has_no_program boot.argv boot.env then Some NoProgram
-    else if nat_le (start_size boot.argv boot.env) start_limit then None
+    else if fits boot then None
     else Some TooLarge
 
 -- the fault is the boot's own, unless memory was refused

@@ -5,6 +5,7 @@ use Rattle.lx_abi.specs.Errnos.{enoent, e2big, enoexec, ebadf, eacces, efault, e
 use Rattle.lx_abi.specs.declared.log.Call.{Call}
 use Rattle.lx_abi.specs.declared.outcome.Node.{Node}
 use Rattle.lx_abi.specs.declared.outcome.Node.TheVariants as node
+use Rattle.elf_image.specs.declared.image.Image.{Image}
 use Rattle.elf_image.specs.Checks.{fault_of}
 use Rattle.elf_image.specs.Images.{image_of}
 use Rattle.rv_mem.specs.Memory.{first_fault, bytes_at}
@@ -53,11 +54,11 @@ exit_group call = Ends (argument call 0 % 256 * 256)
 
 -- execve(path, argv, envp)
 
+abbrev pub begins : Shared → Image → List (List ℕ) → List (List ℕ) → Answers
+begins s image argv env = if nat_lt start_limit (start_size argv env) then Refused e2big else Execs s (started image argv env)
+
 abbrev pub runs : Shared → List ℕ → List (List ℕ) → List (List ℕ) → Answers
-runs s content argv env =
-    if is_some (fault_of content) then Refused enoexec
-    else if nat_lt start_limit (start_size argv env) then Refused e2big
-    else Execs s (started (image_of content) argv env)
+runs s content argv env = if is_some (fault_of content) then Refused enoexec else begins s (image_of content) argv env
 
 abbrev pub runs_at : Shared → Option Node → List (List ℕ) → List (List ℕ) → Answers
 runs_at s None argv env = Refused enoent

@@ -1,5 +1,6 @@
 -- The files of a run, by absolute path.
-use Rattle.std.specs.Prelude.{ℕ, zero, suc, ◌==◌, ◌&&◌, nat_lt, Bool, List, take, length, slice_index, if◌then◌else◌, fold}
+use Rattle.std.specs.Prelude.{ℕ, zero, suc, ◌==◌, ◌&&◌, nat_lt, nat_eq, Bool, List, take, length, slice_index, if◌then◌else◌, fold}
+use Rattle.std.specs.List.{starts_with}
 use Rattle.std.specs.Ordering.{nat_cmp}
 use Rattle.std.specs.Cmp.Lexicographic.{slice_cmp}
 use Rattle.std.specs.declared.cmp.Ordering.{Ordering}
@@ -15,6 +16,10 @@ path_cmp = slice_cmp nat_cmp
 
 abbrev pub Tree : Type 0
 Tree = FinMap path_cmp Node
+
+-- the path goes on, behind the other, with a slash
+abbrev pub is_under : List ℕ → List ℕ → Bool
+is_under path above = starts_with nat_eq path above && (slice_index path (length above) == 47)
 
 -- a slash stands at this place, and it isn't the first
 abbrev pub ends_directory : List ℕ → ℕ → Bool

@@ -4,6 +4,7 @@ pub mod Calls
 pub mod Ends
 pub mod Files
 pub mod First
+pub mod Limits
 pub mod Linux
 pub mod Occurrences
 pub mod Outcomes

@@ -3,27 +3,35 @@
 ghost use Rattle.std.specs.Prelude.{◌≡◌, ◌-◌, ◌≤◌, ◌==◌, nat_le, SomeIff};
 ghost use Rattle.std.specs.List.{list_any, slice_split, sum_by};
 ghost use Rattle.lx_kernel.specs.Programs.{start_size, start_limit};
-ghost use Rattle.lx_kernel.specs.Boots.{fault_number, fault_of, is_bad_part as is_bad_part_of, is_bad_path as is_bad_path_of, is_under as is_under_path, is_misplaced as is_misplaced_among, has_bad_path as has_bad_path_of, has_duplicate as has_duplicate_of, has_nul as has_nul_of, has_no_program as has_no_program_of, cost_of};
+ghost use Rattle.lx_kernel.specs.Boots.{fault_number, fault_of, is_bad_part as is_bad_part_of, is_bad_path as is_bad_path_of, is_misplaced as is_misplaced_among, has_bad_path as has_bad_path_of, has_duplicate as has_duplicate_of, has_nul as has_nul_of, has_no_program as has_no_program_of, cost_of, fits as fits_of};
+ghost use Rattle.lx_kernel.specs.Files.{is_under as is_under_path};
 ghost use Rattle.std.specs.Str.{bytes_eq};
 
+use crate::limits::files_fit;
 use lx_abi::{Boot, Bytes, GuestFile};
 use std::alloc::AllocError;
+use thiserror::Error;
 
 /// The most bytes that the words, the environment and the vector of a program's start may take.
 const START_LIMIT: usize = 65536;
 
 /// Why a boot is refused. The checks have an order, and the first that fails names the fault.
-#[derive(Clone, Copy, Debug, PartialEq, Eq)]
+#[derive(Clone, Copy, Debug, PartialEq, Eq, Error)]
 pub enum BootFault {
     /// A path is not absolute, is the root, has an empty, `.` or `..` part, or lies under another file.
+    #[error("a file's path is not plain and absolute, or lies under another file")]
     BadPath = 1,
     /// Two files have one path.
+    #[error("two files have the same path")]
     Duplicate = 2,
     /// The words name no program, or one of them or of the environment has a NUL byte.
+    #[error("no program is named, or a word has a NUL byte")]
     NoProgram = 3,
-    /// The words and the environment do not fit a program's start.
+    /// A path, a name in it, a file, all files together, or the words and the environment are over a limit.
+    #[error("the files, or the words and the environment, are too large")]
     TooLarge = 4,
     /// Memory ran out.
+    #[error("memory ran out")]
     Memory = 5,
 }
 
@@ -33,18 +41,6 @@ impl BootFault {
         ensures { result ≡ fault_number self }
     {
         self as u8
-    }
-
-    /// What is wrong, in plain words.
-    pub fn text(self) -> &'static str {
-        match self {
-            BootFault::BadPath =>
-                "a file's path is not plain and absolute, or lies under another file",
-            BootFault::Duplicate => "two files have the same path",
-            BootFault::NoProgram => "no program is named, or a word has a NUL byte",
-            BootFault::TooLarge => "the words and the environment are too large",
-            BootFault::Memory => "memory ran out",
-        }
     }
 }
 
@@ -163,6 +159,13 @@ pub fn start_fits(argv: &[Bytes], env: &[Bytes]) -> bool
     }
 }
 
+/// The files are within their limits, and the words and the environment within those of a program's start.
+fn fits(boot: &Boot) -> bool
+    ensures { result ≡ fits_of boot.now }
+{
+    files_fit(boot.files.as_slice()) && start_fits(boot.argv.as_slice(), boot.env.as_slice())
+}
+
 /// Why a boot is refused, if it is.
 pub fn boot_fault(boot: &Boot) -> Option<BootFault>
     ensures { result ≡ fault_of boot.now }
@@ -173,7 +176,7 @@ pub fn boot_fault(boot: &Boot) -> Option<BootFault>
         Some(BootFault::Duplicate)
     } else if has_no_program(boot.argv.as_slice(), boot.env.as_slice()) {
         Some(BootFault::NoProgram)
-    } else if start_fits(boot.argv.as_slice(), boot.env.as_slice()) {
+    } else if fits(boot) {
         None
     } else {
         Some(BootFault::TooLarge)

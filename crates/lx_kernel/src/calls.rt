@@ -1,18 +1,21 @@
 //! What each call does.
 
-ghost use Rattle.std.specs.Prelude.{◌≡◌, IfOk, ◌<◌, not, nat_lt};
+ghost use Rattle.std.specs.Prelude.{◌≡◌, ℕ, List, IfOk, ◌<◌, not, nat_lt};
+ghost use Rattle.std.specs.List.{All};
 ghost use Rattle.std.specs.FinMap as maps;
+ghost use Rattle.elf_image.specs.Images.{IsInRange};
 ghost use Rattle.lx_kernel.specs.Programs.{start_size, start_limit};
 ghost use Rattle.lx_kernel.specs.declared.state.Shared.{Shared};
-ghost use Rattle.lx_kernel.specs.Calls.{does as meaning, write as meaning_of_write, execve as meaning_of_execve, runs as meaning_of_run, runs_at as meaning_of_run_at, low_argument};
+ghost use Rattle.lx_kernel.specs.Calls.{does as meaning, write as meaning_of_write, execve as meaning_of_execve, begins, runs as meaning_of_run, runs_at as meaning_of_run_at, low_argument};
+ghost use Rattle.lx_kernel.specs.Read.{Reads};
 ghost use Rattle.lx_kernel.specs.Turned.{answer_of, Kept};
 
 use crate::boots::start_fits;
 use crate::programs::begin_program;
 use crate::state::{Body, Shared};
-use crate::texts::{Text, list_at, text_at};
-use elf_image::ElfFault;
-use lx_abi::{Bytes, Call, Errno, Node};
+use crate::texts::{Text, Words, list_at, text_at};
+use elf_image::{ElfFault, Image};
+use lx_abi::{Call, Errno, Node};
 use rv_mem::MemFault;
 use std::alloc::{AllocError, Global};
 
@@ -62,25 +65,46 @@ fn write(shared: &mut Shared, call: &Call, body: &mut Body) -> Result<Reply, All
     }
 }
 
+/// A program takes the place of the caller's, if its words are not too large for its start.
+fn begin(
+    alloc: Global,
+    image: &Image,
+    argv: &Words,
+    env: &Words,
+    body: &mut Body,
+) -> Result<Reply, AllocError>
+    requires { All IsInRange image.now.segments }
+    ensures answer { IfOk result (λ r. (s : Shared) (a e : List (List ℕ)) → Reads argv.now (Some a) → Reads env.now (Some e) → answer_of r s body.new ≡ begins s image.now a e) }
+    ensures kept { IfOk result (λ r. (s : Shared) → Kept r s body.old s body.new) }
+{
+    let Words::Whole(argv) = argv else {
+        return Ok(Reply::Refused(Errno::E2BIG));
+    };
+    let Words::Whole(env) = env else {
+        return Ok(Reply::Refused(Errno::E2BIG));
+    };
+    if !start_fits(argv, env) {
+        return Ok(Reply::Refused(Errno::E2BIG));
+    }
+    *body = begin_program(alloc, image, argv, env)?;
+    Ok(Reply::Execed)
+}
+
 /// A file's program takes the place of the caller's.
 fn run(
     alloc: Global,
     content: &[u8],
-    argv: &[Bytes],
-    env: &[Bytes],
+    argv: &Words,
+    env: &Words,
     body: &mut Body,
 ) -> Result<Reply, AllocError>
-    ensures answer { IfOk result (λ r. (s : Shared) → answer_of r s body.new ≡ meaning_of_run s content.now argv.now env.now) }
+    ensures answer { IfOk result (λ r. (s : Shared) (a e : List (List ℕ)) → Reads argv.now (Some a) → Reads env.now (Some e) → answer_of r s body.new ≡ meaning_of_run s content.now a e) }
     ensures kept { IfOk result (λ r. (s : Shared) → Kept r s body.old s body.new) }
 {
     match elf_image::read(alloc, content) {
         Err(ElfFault::Memory) => Err(AllocError),
         Err(_) => Ok(Reply::Refused(Errno::ENOEXEC)),
-        Ok(_) if !start_fits(argv, env) => Ok(Reply::Refused(Errno::E2BIG)),
-        Ok(image) => {
-            *body = begin_program(alloc, &image, argv, env)?;
-            Ok(Reply::Execed)
-        }
+        Ok(image) => begin(alloc, &image, argv, env, body),
     }
 }
 
@@ -89,11 +113,11 @@ fn run_at(
     alloc: Global,
     shared: &Shared,
     path: &[u8],
-    argv: &[Bytes],
-    env: &[Bytes],
+    argv: &Words,
+    env: &Words,
     body: &mut Body,
 ) -> Result<Reply, AllocError>
-    ensures answer { IfOk result (λ r. answer_of r shared.now body.new ≡ meaning_of_run_at shared.now (maps.get shared.now.files path.now) argv.now env.now) }
+    ensures answer { IfOk result (λ r. (a e : List (List ℕ)) → Reads argv.now (Some a) → Reads env.now (Some e) → answer_of r shared.now body.new ≡ meaning_of_run_at shared.now (maps.get shared.now.files path.now) a e) }
     ensures kept { IfOk result (λ r. Kept r shared.now body.old shared.now body.new) }
 {
     match shared.files.get(path) {
@@ -113,20 +137,15 @@ fn execve(alloc: Global, shared: &Shared, call: &Call, body: &mut Body) -> Resul
         Text::TooLong => return Ok(Reply::Refused(Errno::ENAMETOOLONG)),
         Text::Unreadable => return Ok(Reply::Refused(Errno::EFAULT)),
     };
-    let Some(argv) = list_at(alloc, &mut body.memory, call.arguments[1])? else {
+    let argv = list_at(alloc, &mut body.memory, call.arguments[1])?;
+    if argv.is_unreadable() {
         return Ok(Reply::Refused(Errno::EFAULT));
-    };
-    let Some(env) = list_at(alloc, &mut body.memory, call.arguments[2])? else {
+    }
+    let env = list_at(alloc, &mut body.memory, call.arguments[2])?;
+    if env.is_unreadable() {
         return Ok(Reply::Refused(Errno::EFAULT));
-    };
-    run_at(
-        alloc,
-        shared,
-        path.as_slice(),
-        argv.as_slice(),
-        env.as_slice(),
-        body,
-    )
+    }
+    run_at(alloc, shared, path.as_slice(), &argv, &env, body)
 }
 
 /// The call is done, if it can be.

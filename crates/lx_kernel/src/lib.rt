@@ -5,10 +5,15 @@ pub mod boots;
 pub mod bursts;
 pub mod calls;
 pub mod ending;
+#[cfg(test)]
+mod execve_tests;
 pub mod files;
 pub mod first;
 pub mod kernel;
 pub mod laws;
+#[cfg(test)]
+mod limit_tests;
+pub mod limits;
 pub mod occurrences;
 pub mod outcome;
 pub mod programs;

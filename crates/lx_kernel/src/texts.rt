@@ -1,9 +1,8 @@
 //! Words that a guest has in its memory.
 
-ghost use Rattle.std.specs.Prelude.{◌≡◌, IfOk};
-ghost use Rattle.std.specs.Option.{option_map};
-ghost use Rattle.lx_kernel.specs.Texts.{any_length, text_at as text_in, texts_at as texts_in, list_at as list_in};
-ghost use Rattle.lx_kernel.specs.Read.{text_of};
+ghost use Rattle.std.specs.Prelude.{◌≡◌, ◌≤◌, IfOk, is_some};
+ghost use Rattle.lx_kernel.specs.Texts.{any_length, whole, text_at as text_in, texts_at as texts_in, list_at as list_in};
+ghost use Rattle.lx_kernel.specs.Read.{text_of, ReadsWithin, Reads, is_unreadable, too_large_if};
 
 use lx_abi::Bytes;
 use rv_mem::Space;
@@ -11,6 +10,12 @@ use std::alloc::{AllocError, Global};
 
 /// As many bytes as an address space has.
 const ANY_LENGTH: u64 = 1 << 38;
+
+/// The most bytes that a program's start may have.
+const START_LIMIT: u64 = 65_536;
+
+/// What a word takes of a program's start beside its bytes: its NUL and its pointer.
+const WORD_COST: u64 = 9;
 
 /// What stands at an address where a text is wanted.
 #[derive(Drop)]
@@ -21,6 +26,29 @@ pub enum Text {
     TooLong,
     /// No NUL before the first byte that cannot be read.
     Unreadable,
+}
+
+/// What stands at an address where a list of texts is wanted.
+#[derive(Drop)]
+pub enum Words {
+    /// The texts, up to the null pointer.
+    Whole(Vec<Bytes>),
+    /// All can be read, and are more than a program's start may have. None is kept.
+    TooLarge,
+    /// A pointer or a text cannot be read.
+    Unreadable,
+}
+
+impl Words {
+    /// A pointer or a text cannot be read.
+    pub fn is_unreadable(&self) -> bool
+        ensures { result ≡ is_unreadable self.now }
+    {
+        match self {
+            Words::Whole(_) | Words::TooLarge => false,
+            Words::Unreadable => true,
+        }
+    }
 }
 
 /// The text at an address, of at most `limit` bytes with its NUL. Addresses wrap at 64 bits.
@@ -48,46 +76,113 @@ pub fn text_at(
     Ok(Text::TooLong)
 }
 
-/// The texts at the pointers from an address on, up to a null pointer; none where a pointer or a text cannot be read.
-fn texts_at(
+/// The text at an address, unless it cannot be read or has more bytes than there is room for.
+fn text_within(
     alloc: Global,
     memory: &mut Space,
     address: u64,
-) -> Result<Option<Vec<Bytes>>, AllocError>
-    ensures texts { IfOk result (λ l. option_map (λ v. v.items) l ≡ texts_in memory.old any_length address) }
+    room: u64,
+) -> Result<Option<Bytes>, AllocError>
+    requires { room ≤ any_length }
+    ensures text { IfOk result (λ t. ReadsWithin t room (whole (text_in memory.old any_length address))) }
     ensures kept { memory.new ≡ memory.old }
 {
-    let mut texts = Vec::new(alloc);
+    match text_at(alloc, memory, address, room)? {
+        Text::Whole(text) => Ok(Some(text)),
+        Text::TooLong | Text::Unreadable => Ok(None),
+    }
+}
+
+/// The text at an address can be read. Nothing of it is kept.
+fn is_text(memory: &mut Space, address: u64) -> bool
+    ensures text { result ≡ is_some (whole (text_in memory.old any_length address)) }
+    ensures kept { memory.new ≡ memory.old }
+{
     let mut at = address;
     for _ in 0..ANY_LENGTH {
+        let Ok(byte) = memory.read_array::<1>(at) else {
+            return false;
+        };
+        if byte[0] == 0 {
+            return true;
+        }
+        at = at.wrapping_add(1);
+    }
+    false
+}
+
+/// The pointers from an address on, of which there are fewer than `limit` before a null pointer, and the texts at them
+/// can be read. Nothing of them is kept.
+fn are_texts(memory: &mut Space, address: u64, limit: u64) -> bool
+    ensures texts { result ≡ is_some (texts_in memory.old limit address) }
+    ensures kept { memory.new ≡ memory.old }
+{
+    let mut at = address;
+    for _ in 0..limit {
         let Ok(bytes) = memory.read_array::<8>(at) else {
-            return Ok(None);
+            return false;
         };
         let pointer = u64::from_le_bytes(bytes);
         if pointer == 0 {
-            return Ok(Some(texts));
+            return true;
         }
-        let Text::Whole(text) = text_at(alloc, memory, pointer, ANY_LENGTH)? else {
-            return Ok(None);
+        if !is_text(memory, pointer) {
+            return false;
+        }
+        at = at.wrapping_add(8);
+    }
+    false
+}
+
+/// What a list is that has at least one text too many from here on, if all of them can be read.
+fn too_large(memory: &mut Space, address: u64, limit: u64) -> Words
+    ensures words { result ≡ too_large_if (is_some (texts_in memory.old limit address)) }
+    ensures kept { memory.new ≡ memory.old }
+{
+    if are_texts(memory, address, limit) {
+        Words::TooLarge
+    } else {
+        Words::Unreadable
+    }
+}
+
+/// The texts at the pointers from an address on, up to a null pointer.
+fn texts_at(alloc: Global, memory: &mut Space, address: u64) -> Result<Words, AllocError>
+    ensures words { IfOk result (λ w. Reads w (texts_in memory.old any_length address)) }
+    ensures kept { memory.new ≡ memory.old }
+{
+    let mut texts = Vec::new(alloc);
+    let mut room = START_LIMIT;
+    let mut at = address;
+    for i in 0..ANY_LENGTH {
+        let Ok(bytes) = memory.read_array::<8>(at) else {
+            return Ok(Words::Unreadable);
         };
+        let pointer = u64::from_le_bytes(bytes);
+        if pointer == 0 {
+            return Ok(Words::Whole(texts));
+        }
+        let Some(text) = text_within(alloc, memory, pointer, room)? else {
+            return Ok(too_large(memory, at, ANY_LENGTH - i));
+        };
+        let Some(less) = room.checked_sub(text.len() as u64 + WORD_COST) else {
+            return Ok(too_large(memory, at, ANY_LENGTH - i));
+        };
+        room = less;
         texts.push(text)?;
         at = at.wrapping_add(8);
     }
-    Ok(None)
+    Ok(Words::Unreadable)
 }
 
 /// A list of texts, as `execve` takes it: no text at address 0, and else those at the pointers from the address on, up
-/// to a null pointer. None where a pointer or a text cannot be read.
-pub fn list_at(
-    alloc: Global,
-    memory: &mut Space,
-    address: u64,
-) -> Result<Option<Vec<Bytes>>, AllocError>
-    ensures list { IfOk result (λ l. option_map (λ v. v.items) l ≡ list_in memory.old address) }
+/// to a null pointer. What a program's start has no room for is looked at, and not kept.
+pub fn list_at(alloc: Global, memory: &mut Space, address: u64) -> Result<Words, AllocError>
+    ensures list { IfOk result (λ w. Reads w (list_in memory.old address)) }
     ensures kept { memory.new ≡ memory.old }
 {
     if address == 0 {
-        return Ok(Some(Vec::new(alloc)));
+        return Ok(Words::Whole(Vec::new(alloc)));
     }
     texts_at(alloc, memory, address)
 }
