@@ -1,25 +1,45 @@
-# CRC-32 of the 4,096 bytes at 0x11000, bit by bit.
-# x6: rounds. The code stands at 0x10000, the result in x10.
-        lui   x11, 0xedb88
-        addi  x11, x11, 0x320
-        slli  x11, x11, 32
-        srli  x11, x11, 32
-        addi  x10, x0, -1
-        srli  x10, x10, 32
-round:  lui   x5, 0x11
-        lui   x7, 0x12
-byte:   lbu   x8, 0(x5)
-        xor   x10, x10, x8
-        addi  x9, x0, 8
-bit:    andi  x12, x10, 1
-        sub   x12, x0, x12
-        and   x12, x12, x11
-        srli  x10, x10, 1
-        xor   x10, x10, x12
-        addi  x9, x9, -1
-        bne   x9, x0, bit
-        addi  x5, x5, 1
-        bne   x5, x7, byte
-        addi  x6, x6, -1
-        bne   x6, x0, round
+# CRC-32 (IEEE 802.3) of 4,096 bytes, bit by bit, going on over the same bytes for 40 rounds.
+# The bytes are 0 to 255, sixteen times. Writes the value as four bytes, the lowest first.
+# 10,006,709 instructions run, calls included.
+
+_start: li s0, 40           # rounds
+        lui s1, 0xedb88     # the polynomial, its lowest power first
+        addi s1, s1, 0x320
+        slli s1, s1, 32
+        srli s1, s1, 32
+        li a0, -1
+        srli a0, a0, 32
+        la t0, bytes
+        la t1, value
+fill:   sb t0, 0(t0)
+        addi t0, t0, 1
+        bne t0, t1, fill
+round:  la t0, bytes
+byte:   lbu t2, 0(t0)
+        xor a0, a0, t2
+        li t3, 8
+bit:    andi t4, a0, 1
+        sub t4, zero, t4    # all ones, or zero
+        and t4, t4, s1
+        srli a0, a0, 1
+        xor a0, a0, t4
+        addi t3, t3, -1
+        bnez t3, bit
+        addi t0, t0, 1
+        bne t0, t1, byte
+        addi s0, s0, -1
+        bnez s0, round
+        xori a0, a0, -1
+        sw a0, 0(t1)
+        li a0, 1
+        mv a1, t1
+        li a2, 4
+        li a7, 64           # write
         ecall
+        li a0, 0
+        li a7, 94           # exit_group
+        ecall
+
+        .align 4096
+bytes:  .space 4096
+value:  .space 4

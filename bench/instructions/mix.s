@@ -1,12 +1,19 @@
-# Loads, stores, arithmetic and a branch: eight instructions a round.
-# x6: rounds. The code stands at 0x10000, data at 0x11000.
-        lui   x5, 0x11
-round:  ld    x7, 0(x5)
-        addi  x7, x7, 3
-        sd    x7, 0(x5)
-        andi  x8, x7, 255
-        add   x9, x5, x8
-        lbu   x10, 8(x9)
-        addi  x6, x6, -1
-        bne   x6, x0, round
+# Loads, stores, arithmetic and branches: eight instructions a round, 1,250,000 rounds.
+# 10,000,007 instructions run, the last ecall included. The status is the low byte of the sum, 112.
+
+_start: li s0, 1250000      # rounds
+        la s1, cell
+round:  ld t0, 0(s1)
+        addi t0, t0, 3
+        sd t0, 0(s1)
+        andi t1, t0, 255
+        add t2, s1, t1
+        lbu a0, 8(t2)
+        addi s0, s0, -1
+        bnez s0, round
+        ld a0, 0(s1)
+        li a7, 94           # exit_group
         ecall
+
+        .align 4096
+cell:   .space 512

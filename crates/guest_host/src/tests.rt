@@ -1,5 +1,7 @@
 //! The program as a function of its words.
 
+mod listings;
+
 use crate::command::command;
 use std::fs;
 use std::test::Fail;
@@ -24,6 +26,14 @@ struct Run {
     status: u8,
     out: Vec<u8>,
     err: Vec<u8>,
+}
+
+/// Standard error is one line, which begins so.
+fn is_line_of(run: &Run, start: &str) -> bool {
+    match run.err.as_slice().strip_suffix(b"\n") {
+        Some(line) => line.starts_with(start.as_bytes()) && !line.contains(&b'\n'),
+        None => false,
+    }
 }
 
 /// Runs the program on these words.
@@ -121,10 +131,11 @@ fn runs_of_the_stored_guest(rt: HostRuntime) -> Result<(), Fail> {
         assert_eq!(rt; run.out.as_slice(), out.as_bytes());
         assert_eq!(rt; run.err.as_slice(), err.as_bytes());
     }
+    fs::remove_file(&rt, "hello.elf")?;
     Ok(())
 }
 
-/// Each is refused with a status, by one line that begins so, and nothing on standard output.
+/// Each is refused with a status, by one line that begins so, and with nothing on standard output.
 #[test]
 fn bad_words(rt: HostRuntime) -> Result<(), Fail> {
     fs::write(&rt, "other.elf", HELLO.as_slice())?;
@@ -142,7 +153,7 @@ fn bad_words(rt: HostRuntime) -> Result<(), Fail> {
         (
             &["plain", "--loud", "--", "/p"],
             2,
-            "guest_host: unexpected argument '--loud' found\n",
+            "guest_host: unexpected argument '--loud' found",
         ),
         (
             &["plain"],
@@ -165,7 +176,8 @@ fn bad_words(rt: HostRuntime) -> Result<(), Fail> {
         let run = run_of(&rt, words)?;
         assert_eq!(rt; run.status, status);
         assert_eq!(rt; run.out.len(), 0);
-        assert!(rt; run.err.as_slice().starts_with(err.as_bytes()));
+        assert!(rt; is_line_of(&run, err));
     }
+    fs::remove_file(&rt, "other.elf")?;
     Ok(())
 }
