@@ -4,9 +4,11 @@
 //! 20191213. Instructions are 32 bits wide, so a jump must go to a multiple of 4.
 #![tactic(auto)]
 
+mod control;
 mod decoder;
 mod execute;
 mod hart;
+mod near;
 mod operate;
 mod outcome;
 mod running;
