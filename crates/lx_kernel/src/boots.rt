@@ -13,7 +13,10 @@ use std::alloc::AllocError;
 use thiserror::Error;
 
 /// The most bytes that the words, the environment and the vector of a program's start may take.
-const START_LIMIT: usize = 65536;
+pub const START_LIMIT: usize = 65_536;
+
+/// What a word takes of a program's start beside its bytes: its NUL and its pointer.
+pub const WORD_COST: usize = 9;
 
 /// Why a boot is refused. The checks have an order, and the first that fails names the fault.
 #[derive(Clone, Copy, Debug, PartialEq, Eq, Error)]
@@ -143,7 +146,7 @@ fn spend(budget: usize, words: &[Bytes]) -> Option<usize>
 {
     let mut left = budget;
     for word in words {
-        left = left.checked_sub(word.len())?.checked_sub(9)?;
+        left = left.checked_sub(word.len())?.checked_sub(WORD_COST)?;
     }
     Some(left)
 }

@@ -201,6 +201,24 @@ fn nodes_have_a_limit(rt: HostRuntime) -> Result<(), Fail> {
     Ok(())
 }
 
+/// As many nodes are counted as there are: 63 files of 65 nodes each, beside the root.
+#[test]
+fn the_most_nodes_are_there(rt: HostRuntime) -> Result<(), Fail> {
+    let size = Size {
+        files: 63,
+        path: 130,
+        name: 1,
+        ..SMALL
+    };
+    let boot = boot(rt.alloc(), &size)?;
+    let Ok(kernel) = Kernel::boot(rt.alloc(), boot, Script::empty(rt.alloc())) else {
+        return Err(Fail::from(AllocError));
+    };
+    let outcome = kernel.outcome()?;
+    assert_eq!(rt; outcome.files.as_slice().len(), 4095);
+    Ok(())
+}
+
 #[test]
 fn starts_have_a_limit(rt: HostRuntime) -> Result<(), Fail> {
     let rows = [

@@ -4,18 +4,13 @@ ghost use Rattle.std.specs.Prelude.{◌≡◌, ◌≤◌, IfOk, is_some};
 ghost use Rattle.lx_kernel.specs.Texts.{any_length, whole, text_at as text_in, texts_at as texts_in, list_at as list_in};
 ghost use Rattle.lx_kernel.specs.Read.{text_of, ReadsWithin, Reads, is_unreadable, too_large_if};
 
+use crate::boots::{START_LIMIT, WORD_COST};
 use lx_abi::Bytes;
 use rv_mem::Space;
 use std::alloc::{AllocError, Global};
 
 /// As many bytes as an address space has.
 const ANY_LENGTH: u64 = 1 << 38;
-
-/// The most bytes that a program's start may have.
-const START_LIMIT: u64 = 65_536;
-
-/// What a word takes of a program's start beside its bytes: its NUL and its pointer.
-const WORD_COST: u64 = 9;
 
 /// What stands at an address where a text is wanted.
 #[derive(Drop)]
@@ -152,7 +147,7 @@ fn texts_at(alloc: Global, memory: &mut Space, address: u64) -> Result<Words, Al
     ensures kept { memory.new ≡ memory.old }
 {
     let mut texts = Vec::new(alloc);
-    let mut room = START_LIMIT;
+    let mut room = START_LIMIT as u64;
     let mut at = address;
     for i in 0..ANY_LENGTH {
         let Ok(bytes) = memory.read_array::<8>(at) else {
@@ -165,7 +160,7 @@ fn texts_at(alloc: Global, memory: &mut Space, address: u64) -> Result<Words, Al
         let Some(text) = text_within(alloc, memory, pointer, room)? else {
             return Ok(too_large(memory, at, ANY_LENGTH - i));
         };
-        let Some(less) = room.checked_sub(text.len() as u64 + WORD_COST) else {
+        let Some(less) = room.checked_sub((text.len() + WORD_COST) as u64) else {
             return Ok(too_large(memory, at, ANY_LENGTH - i));
         };
         room = less;
