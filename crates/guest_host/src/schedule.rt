@@ -5,7 +5,10 @@ use lx_kernel::Kernel;
 /// The most turns in a row that one process has while another is able.
 const MOST_IN_A_ROW: u64 = 1000;
 
-/// Whose turn is next, and the most turns in a row that it may have.
+/// Pids are 1 to this one.
+const LAST_PID: u32 = 255;
+
+/// Whose turn is next, and the most turns that it may have before another is asked for.
 #[derive(Clone, Copy)]
 pub struct Slice {
     pub pid: u32,
@@ -16,31 +19,50 @@ pub struct Slice {
 #[derive(Clone, Copy)]
 pub struct Schedule {
     last: u32,
-    in_a_row: u64,
+    /// The turns of its row that the last process still has.
+    left: u64,
 }
 
 impl Schedule {
     pub fn new() -> Self {
-        Schedule {
-            last: 0,
-            in_a_row: MOST_IN_A_ROW,
-        }
+        Schedule { last: 0, left: 0 }
     }
 
     /// The next turns; none where no process is able.
+    ///
+    /// A process that alone is able has row after row: where all its turns are instructions, none of
+    /// them makes another able.
     pub fn next(&mut self, kernel: &Kernel) -> Option<Slice> {
-        if self.in_a_row >= MOST_IN_A_ROW || !kernel.able(self.last) {
-            self.last = kernel.next_able(self.last)?;
-            self.in_a_row = 0;
+        if self.left > 0 && kernel.able(self.last) {
+            return Some(Slice {
+                pid: self.last,
+                turns: self.left,
+            });
         }
+        let pid = next_able(kernel, self.last)?;
+        let alone = pid == self.last;
+        self.last = pid;
+        self.left = MOST_IN_A_ROW;
         Some(Slice {
-            pid: self.last,
-            turns: MOST_IN_A_ROW - self.in_a_row,
+            pid,
+            turns: if alone { u64::MAX } else { MOST_IN_A_ROW },
         })
     }
 
-    /// The process had so many of its turns.
+    /// The process had so many turns; at the end of a row the next one begins.
     pub fn took(&mut self, turns: u64) {
-        self.in_a_row += turns;
+        if turns <= self.left {
+            self.left -= turns;
+        } else {
+            let begun = (turns - self.left) % MOST_IN_A_ROW;
+            self.left = (MOST_IN_A_ROW - begun) % MOST_IN_A_ROW;
+        }
     }
+}
+
+/// The next able pid after this one, in cyclic order.
+fn next_able(kernel: &Kernel, last: u32) -> Option<u32> {
+    (1..LAST_PID + 1)
+        .find(|pid| *pid > last && kernel.able(*pid))
+        .or_else(|| (1..LAST_PID + 1).find(|pid| *pid <= last && kernel.able(*pid)))
 }
