@@ -7,6 +7,19 @@ use std::alloc::AllocError;
 use std::fs;
 use std::rt::Files;
 
+/// What is wrong with a line, in plain words.
+fn text_of(kind: AsmKind) -> &'static str {
+    match kind {
+        AsmKind::Mnemonic => "no such mnemonic or directive",
+        AsmKind::Operand => "these are not its operands",
+        AsmKind::Range => "a number or a distance does not fit",
+        AsmKind::Label => "no line has this label",
+        AsmKind::Duplicate => "the label stands before",
+        AsmKind::TooLarge => "the listing fills more than 65536 bytes",
+        AsmKind::Memory => "memory ran out",
+    }
+}
+
 /// Assembles the file IN and writes the file OUT.
 pub fn run<R: Files + AllocGlobal>(rt: &R, matches: &ArgMatches) -> Result<u8, Fault> {
     let alloc = rt.alloc();
@@ -25,8 +38,8 @@ pub fn run<R: Files + AllocGlobal>(rt: &R, matches: &ArgMatches) -> Result<u8, F
             },
         ) => return Err(Fault::from(AllocError)),
         Err(fault) => {
-            let (line, kind) = (fault.line, fault.kind.number());
-            return Err(Fault::usage(format!(in alloc; "asm: line {line} kind {kind}")));
+            let (line, number, text) = (fault.line, fault.kind.number(), text_of(fault.kind));
+            return Err(Fault::usage(format!(in alloc; "asm: line {line} kind {number}: {text}")));
         }
     };
     let file = elf_image::write(alloc, &image)?;

@@ -91,19 +91,19 @@ fn guests_that_end(rt: HostRuntime) -> Result<(), Fail> {
 #[test]
 fn faulty_listings(rt: HostRuntime) -> Result<(), Fail> {
     let rows = [
-        ("mul a0, a0, a0\n", "asm: line 1 kind 1\n"),
-        ("addi x1,x2\n", "asm: line 1 kind 2\n"),
-        ("li a0, 4294967296\n", "asm: line 1 kind 3\n"),
-        ("j nowhere\n", "asm: line 1 kind 4\n"),
-        ("here: nop\nhere: nop\n", "asm: line 2 kind 5\n"),
-        ("nop\n\n.space 65536\n", "asm: line 3 kind 6\n"),
+        ("mul a0, a0, a0\n", "asm: line 1 kind 1"),
+        ("addi x1,x2\n", "asm: line 1 kind 2"),
+        ("li a0, 4294967296\n", "asm: line 1 kind 3"),
+        ("j nowhere\n", "asm: line 1 kind 4"),
+        ("here: nop\nhere: nop\n", "asm: line 2 kind 5"),
+        ("nop\n\n.space 65536\n", "asm: line 3 kind 6"),
     ];
     for (listing, told) in rows {
         fs::write(&rt, "faulty.s", listing)?;
         let run = run_of(&rt, &["asm", "faulty.s", "faulty.elf"])?;
         assert_eq!(rt; run.status, 2, "{listing}");
         assert_eq!(rt; run.out.len(), 0, "{listing}");
-        assert_eq!(rt; run.err.as_slice(), told.as_bytes(), "{listing}");
+        assert!(rt; is_line_of(&run, told), "{listing}");
         assert!(rt; fs::read(&rt, "faulty.elf").is_err(), "{listing}");
     }
     fs::remove_file(&rt, "faulty.s")?;
