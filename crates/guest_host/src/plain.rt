@@ -114,14 +114,20 @@ enum Finish {
     Memory,
 }
 
-/// Turns of one process, as many as a slice has: those that run instructions at once, and one more
-/// where they end before it does. How many there were.
-fn slice<E: Write>(kernel: &mut Kernel, slice: Slice, err: &mut E) -> io::Result<Result<u64, Failed>> {
+/// Turns of one process, at most so many: those that run instructions, and one more where they end
+/// sooner, whose item is printed. How many there were.
+fn turns_of<E: Write>(
+    kernel: &mut Kernel,
+    slice: Slice,
+    err: &mut E,
+) -> io::Result<Result<u64, Failed>> {
     let ran = match kernel.run(slice.pid, slice.turns) {
-        Err(failed) => return Ok(Err(failed)),
-        Ok(ran) if ran == slice.turns => return Ok(Ok(ran)),
         Ok(ran) => ran,
+        Err(failed) => return Ok(Err(failed)),
     };
+    if ran >= slice.turns {
+        return Ok(Ok(ran));
+    }
     match kernel.turn(slice.pid) {
         Err(failed) => Ok(Err(failed)),
         Ok(moved) => {
@@ -137,15 +143,20 @@ fn slice<E: Write>(kernel: &mut Kernel, slice: Slice, err: &mut E) -> io::Result
 fn turns<E: Write>(kernel: &mut Kernel, limit: u64, err: &mut E) -> io::Result<Finish> {
     let mut schedule = Schedule::new();
     let mut left = limit;
-    while left > 0 {
-        let Some(Slice { pid, turns }) = schedule.next(kernel) else {
-            return Ok(Finish::Turns);
+    // Each slice has a turn at least.
+    for _ in 0..limit {
+        if left == 0 {
+            break;
+        }
+        let Some(mut slice) = schedule.next(kernel) else {
+            break;
         };
-        let Ok(taken) = slice(kernel, Slice { pid, turns: turns.min(left) }, err)? else {
+        slice.turns = slice.turns.min(left);
+        let Ok(taken) = turns_of(kernel, slice, err)? else {
             return Ok(Finish::Memory);
         };
         schedule.took(taken);
-        left -= taken;
+        left = left.saturating_sub(taken);
     }
     Ok(Finish::Turns)
 }

@@ -133,3 +133,26 @@ fn what_is_left_of_a_run(rt: HostRuntime) -> Result<(), Fail> {
     assert_eq!(rt; ended, Some((1, 127 * 256)));
     Ok(())
 }
+
+/// Turns in a row: two instructions stand between the first program's calls.
+#[test]
+fn turns_that_stay_in_run(rt: HostRuntime) -> Result<(), Fail> {
+    let rows = [
+        (0, 5, 0),
+        (1, 5, 0),
+        (6, 0, 0),
+        (6, 1, 1),
+        (6, 2, 2),
+        (6, 9, 2),
+        (7, 9, 1),
+        (9, 9, 0),
+        (12, 9, 0),
+    ];
+    for (turns, limit, ran) in rows {
+        let mut kernel = after(rt.alloc(), turns)?;
+        let before = kernel.mode(1);
+        assert_eq!(rt; kernel.run(1, limit).ok(), Some(ran));
+        assert_eq!(rt; kernel.mode(1), before);
+    }
+    Ok(())
+}
