@@ -326,13 +326,7 @@ impl Kernel {
             return Err(Failed);
         }
         self.failed = true;
-        let ran = bursts::run(
-            &self.shared,
-            &mut self.owns,
-            &mut self.decoder,
-            pid,
-            limit,
-        )?;
+        let ran = bursts::run(&self.shared, &mut self.owns, &mut self.decoder, pid, limit)?;
         self.failed = false;
         Ok(ran)
     }
