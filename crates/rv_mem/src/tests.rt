@@ -346,3 +346,27 @@ fn a_refused_map_changes_nothing(rt: HostRuntime) -> Result<(), Fail> {
     }
     Ok(())
 }
+
+/// What is near is what was used last; elsewhere there is no answer.
+#[test]
+fn near_accesses(rt: HostRuntime) -> Result<(), Fail> {
+    let mut space = Space::new(rt.alloc());
+    map(&mut space, 1, 1, READ_WRITE)?;
+    map(&mut space, 2, 1, EXECUTE)?;
+    map(&mut space, 3, 1, READ)?;
+    load(&mut space, 0x2000, &[0x73, 0, 0, 0])?;
+    store_double(&mut space, 0x1008, 0x0102)?;
+    assert_eq!(rt; fetch(&mut space, 0x2000)?, 0x73);
+    assert_eq!(rt; space.fetch_near(0x2000), Some(0x73));
+    assert_eq!(rt; space.fetch_near(0x1008), None);
+    assert_eq!(rt; space.code_near(0x2abc).map(|page| page.len()), Some(4096));
+    assert_eq!(rt; space.code_near(0x1008).map(|page| page.len()), None);
+    assert_eq!(rt; space.read_near(0x1008), Some([2u8, 1]));
+    assert_eq!(rt; space.read_near::<2>(0x3000), None);
+    assert_eq!(rt; space.write_near(0x1009, [7u8]), true);
+    assert_eq!(rt; space.read_near(0x1008), Some([2u8, 7]));
+    assert_eq!(rt; load_double(&mut space, 0x3000)?, 0);
+    assert_eq!(rt; space.write_near(0x3000, [7u8]), false);
+    assert_eq!(rt; space.write_near(0x1009, [7u8]), false);
+    Ok(())
+}
