@@ -4,3 +4,4 @@ pub mod Arithmetic
 pub mod Transfers
 pub mod Runs
 pub mod Steps
+pub mod Mnemonics

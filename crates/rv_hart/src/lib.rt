@@ -5,19 +5,23 @@
 #![tactic(auto)]
 
 mod control;
+mod decoded;
 mod decoder;
 mod execute;
+mod fields;
 mod hart;
+mod mnemonic;
 mod near;
 mod operate;
 mod outcome;
+mod perform;
 mod running;
 #[cfg(test)]
 mod tests;
 mod transfer;
 
 pub use decoder::Decoder;
-pub use execute::{step, step_with};
+pub use execute::step;
 pub use hart::Hart;
 pub use outcome::{FaultKind, Step};
 pub use running::{Progress, run};

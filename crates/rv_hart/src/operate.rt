@@ -25,6 +25,7 @@ fn low_word(value: u64) -> u32
     (value & 0xffff_ffff) as u32
 }
 
+#[inline(always)]
 pub(crate) fn operate(operation: Operation, a: u64, b: u64) -> u64
     ensures { result ≡ operated operation a b }
 {
@@ -71,6 +72,7 @@ pub(crate) fn add_word(a: u64, b: u64) -> u64
     extend_word(low_word(a.wrapping_add(b)))
 }
 
+#[inline(always)]
 pub(crate) fn operate_word(operation: WordOperation, a: u64, b: u64) -> u64
     ensures { result ≡ operated_word operation a b }
 {
@@ -99,6 +101,7 @@ pub(crate) fn shift_word(shift: Shift, a: u64, amount: u32) -> u64
 }
 
 /// Whether a branch on two registers is taken.
+#[inline(always)]
 pub(crate) fn holds(condition: Condition, a: u64, b: u64) -> bool
     ensures { result ≡ taken condition a b }
 {
