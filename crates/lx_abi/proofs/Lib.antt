@@ -1,4 +1,5 @@
 pub mod ErrnoNumbers
 pub mod Maps
+pub mod NextKeys
 pub mod Finds
 pub mod SignalNumbers

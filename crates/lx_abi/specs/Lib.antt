@@ -1,6 +1,8 @@
 pub mod Calls
 pub mod Errnos
 pub mod Errors
+pub mod Flags
+pub mod Keys
 pub mod Lending
 pub mod Log
 pub mod Scripts

@@ -1,5 +1,5 @@
 -- The signals of signal(7), by number and name.
-use Rattle.std.specs.Prelude.{◌≡◌, ℕ, Bool, true, false, ◌&&◌, ◌==◌, nat_lt, nat_eq, List, [], ◌∷◌, Option, Some, None, option_map, find, codes, drop, refl, if◌then◌else◌}
+use Rattle.std.specs.Prelude.{◌≡◌, ℕ, Bool, true, false, ◌&&◌, ◌==◌, not, nat_le, nat_lt, nat_eq, List, [], ◌∷◌, Option, Some, None, option_map, find, codes, drop, refl, if◌then◌else◌}
 use Rattle.std.specs.Str.{bytes_eq}
 use Rattle.std.specs.List.{starts_with}
 use Rattle.lx_abi.specs.declared.signal.Signal.{Signal}
@@ -15,6 +15,15 @@ numbered n false e = None
 -- the signal with this number
 unfoldable pub signal_numbered : ℕ → Option Signal
 signal_numbered n = numbered n (is_signal n) refl
+
+-- kill(2) takes it: a signal, and none of job control's (CONT, STOP, TSTP, TTIN, TTOU)
+abbrev pub may_join : ℕ → Bool
+may_join n = is_signal n && not (nat_le 18 n && nat_le n 22)
+
+-- a signal that is joined to a call, if there is one, is one that kill takes
+abbrev pub is_joinable : Option Signal → Bool
+is_joinable None = true
+is_joinable (Some signal) = may_join signal.number
 
 -- number and name of each signal, without SIG
 unfoldable pub signals : List (ℕ × List ℕ)

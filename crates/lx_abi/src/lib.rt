@@ -5,6 +5,7 @@ pub mod boot;
 pub mod bytes;
 pub mod calls;
 pub mod errno;
+pub mod flags;
 pub mod log;
 pub mod map;
 pub mod outcome;
@@ -14,8 +15,6 @@ pub mod script;
 pub mod seq;
 pub mod signal;
 pub mod status;
-#[cfg(test)]
-mod tests;
 pub mod when;
 
 pub use boot::{Boot, GuestFile};

@@ -5,10 +5,12 @@ ghost use Rattle.std.specs.Ordering.{nat_cmp};
 ghost use Rattle.std.specs.Option.{option_copied};
 ghost use Rattle.std.specs.FinMap as maps;
 ghost use Rattle.std.specs.Coded.{coded_ℕ};
+ghost use Rattle.lx_abi.specs.Keys.{IsNextKey};
 
 use std::alloc::{AllocError, Global};
 use std::collections::BTreeMap;
 use std::marker::Model;
+use std::ops::Bound;
 
 #[derive(Drop)]
 pub struct Map<V> {
@@ -36,6 +38,17 @@ impl<V> Map<V> {
         ensures { option_copied result ≡ maps.get self.now key }
     {
         self.tree.get(&key)
+    }
+
+    /// The least key above a number.
+    pub fn next_key(&self, number: u32) -> Option<u32>
+        ensures { IsNextKey self.now number result }
+    {
+        let above = (Bound::Excluded(number), Bound::Unbounded);
+        match self.tree.range(above).next() {
+            None => None,
+            Some((key, _value)) => Some(*key),
+        }
     }
 }
 

@@ -1,6 +1,7 @@
 //! Which occurrences of which calls are replaced or joined.
 
-ghost use Rattle.std.specs.Prelude.{◌≡◌, []};
+ghost use Rattle.std.specs.Prelude.{◌≡◌, [], IsTrue};
+ghost use Rattle.lx_abi.specs.Signals.{is_joinable};
 
 use crate::seq::Seq;
 use crate::signal::Signal;
@@ -42,21 +43,14 @@ impl Choice {
     };
 }
 
+/// What is done to which occurrences of which calls.
 #[derive(Drop)]
 pub struct Rule {
     pub calls: Set,
     pub choice: Choice,
     pub when: When,
-}
-
-ghost use Rattle.lx_abi.specs.Scripts.{last_naming};
-ghost use Rattle.std.specs.Option.{option_copied};
-
-/// The last rule that names the call.
-fn deciding(rules: &[Rule], call: u64) -> Option<&Rule>
-    ensures { option_copied result ≡ last_naming rules.now call }
-{
-    rules.iter().rev().find(|rule| rule.calls.contains(call))
+    /// A joined signal is one that kill(2) takes.
+    pub ghost joins: { IsTrue (is_joinable choice.signal) },
 }
 
 /// Rules, of which the last that names a call decides, whether its occurrences cover it or not.
@@ -75,7 +69,8 @@ impl Model for Script {
 }
 
 impl Script {
-    ghost use Rattle.lx_abi.specs.Scripts.{choice_of};
+    ghost use Rattle.lx_abi.specs.Scripts.{choice_of, last_naming};
+    ghost use Rattle.std.specs.Option.{option_copied};
 
     pub fn new(rules: Vec<Rule>) -> Self
         ensures { result ≡ rules.items }
@@ -92,12 +87,22 @@ impl Script {
         }
     }
 
+    /// The last rule that names the call.
+    fn deciding(&self, call: u64) -> Option<&Rule>
+        ensures { option_copied result ≡ last_naming self.now call }
+    {
+        self.rules
+            .iter()
+            .rev()
+            .find(|rule| rule.calls.contains(call))
+    }
+
     /// What is done to the nth occurrence of a call, counted from 1.
     #[tactic(auto, unfolding(crate::specs::Scripts::choice_of))]
     pub fn choose(&self, call: u64, n: u64) -> Choice
         ensures { result ≡ choice_of self.now call n }
     {
-        match deciding(self.rules.as_slice(), call) {
+        match self.deciding(call) {
             Some(rule) if rule.when.covers(n) => rule.choice,
             _ => Choice::NOTHING,
         }
