@@ -11,10 +11,11 @@ use mathlib.Core.Path.{fun_ext}
 use Rattle.lx_abi.specs.Log.{Noted, items_of}
 use Rattle.lx_model.specs.Machine.{Machine}
 use Rattle.lx_model.specs.Turn.{Own, Alive, Dying, Born, Gone, Event, Plain, Execed, Forked, Out}
-use Rattle.lx_model.specs.Kernel.{Script, put, Kernel, after_turn, with_child, turn_of, kernel_turn, kernel_run}
+use Rattle.lx_model.specs.Kernel.{Script, put, born, Kernel, after_turn, with_child, turn_of, kernel_turn, kernel_run}
 use Rattle.lx_model.specs.Finite.{at, item_of, placed, Running, ran, bore, turn_out, running_turn, running, Is}
+use Rattle.lx_model.specs.Laws.{KernelsBeginAlike}
 
-same_key : (q p : ℕ) → eq_by_cmp nat_cmp q p ≡ (p == q)
+pub same_key : (q p : ℕ) → eq_by_cmp nat_cmp q p ≡ (p == q)
 same_key q p = grind (arith, nat_tests)
 
 -- a table after an insertion is the function after a put
@@ -25,14 +26,14 @@ at-insert {X} d table p x = fun_ext (λ q. rw (maps.get-insert nat_cmp_total tab
     go q true = refl
     go q false = refl
 
-at-remove : {X : Type 0} (d : X) (table : maps.FinMap nat_cmp X) (p : ℕ) → at d (maps.remove table p) ≡ put (at d table) p d
+pub at-remove : {X : Type 0} (d : X) (table : maps.FinMap nat_cmp X) (p : ℕ) → at d (maps.remove table p) ≡ put (at d table) p d
 at-remove {X} d table p = fun_ext (λ q. rw (maps.get-remove nat_cmp_total table p q, same_key q p) (go q (p == q)))
   where
     go : (q : ℕ) (b : Bool) → unwrap_or (cond b None (maps.get table q)) d ≡ cond b d (unwrap_or (maps.get table q) d)
     go q true = refl
     go q false = refl
 
-at-placed : {B : Type 0} (owns : maps.FinMap nat_cmp (Own B)) (p : ℕ) (own : Own B) → at Gone (placed owns p own) ≡ put (at Gone owns) p own
+pub at-placed : {B : Type 0} (owns : maps.FinMap nat_cmp (Own B)) (p : ℕ) (own : Own B) → at Gone (placed owns p own) ≡ put (at Gone owns) p own
 at-placed owns p (Alive b stage) = at-insert Gone owns p (Alive b stage)
 at-placed owns p (Dying w) = at-insert Gone owns p (Dying w)
 at-placed owns p Gone = at-remove Gone owns p
@@ -71,3 +72,18 @@ module _ {S B : Type 0} (m : Machine S B) (script : Script) (follow : Bool) wher
   pub run_is : (v : Running S B) (k : Kernel S B) → Is v k → (ps : List ℕ) → Is (running m script follow v ps) (kernel_run m script follow k ps)
   run_is v k e [] = e
   run_is v k e (p ∷ ps) = run_is (running_turn m script follow v p) (kernel_turn m script follow k p) (turn_is v k e p) ps
+
+-- The beginning
+
+pub one_first : (q : ℕ) → (1 == q) ≡ (q == 1)
+one_first q = grind (arith, nat_tests)
+
+pub owns_first : {B : Type 0} (b : B) → at Gone (maps.insert maps.empty 1 (Alive b Born)) ≡ (λ q. born (q == 1) b)
+owns_first b = at-insert Gone maps.empty 1 (Alive b Born) ∙ fun_ext (λ q. rw (one_first q, maps.get-empty nat_cmp q) (go (q == 1)))
+  where
+    go : (c : Bool) → cond c (Alive b Born) Gone ≡ born c b
+    go true = refl
+    go false = refl
+
+pub kernels_begin_alike : {S B : Type 0} → KernelsBeginAlike S B
+kernels_begin_alike s b = record { shared = refl; owns = owns_first b; child = refl; log = refl }

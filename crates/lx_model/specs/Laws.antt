@@ -1,16 +1,12 @@
--- What the definitions owe each other, and laws that show what they mean.
-use Rattle.std.specs.Prelude.{◌≡◌, ◌≢◌, ℕ, ◌+◌, ◌==◌, ◌≤◌, ◌<◌, Bool, true, false, cond, List, [], ◌∷◌, ◌++◌, Some, length, filter}
-use Rattle.lx_abi.specs.declared.outcome.Outcome.{Outcome}
-use Rattle.lx_abi.specs.declared.ptrace.Request.TheVariants.{Wait}
-use Rattle.lx_abi.specs.declared.status.EventStop.TheVariants.{Fork as At_fork, Stop as At_start}
-use Rattle.lx_abi.specs.declared.status.Stop.TheVariants.{Event as Event_stop}
+-- The kernel over finite maps, which code has as a value, runs as the kernel over functions does.
+use Rattle.std.specs.Prelude.{ℕ, Bool, List}
 use Rattle.lx_model.specs.Machine.{Machine}
-use Rattle.lx_model.specs.Turn.{Stage, Own, Alive, Dying, Gone, kill_word, Forked}
-use Rattle.lx_model.specs.Kernel.{Script, Kernel, kernel_turn, kernel_run, first_kernel}
-use Rattle.lx_model.specs.Finite.{Running, running, Is}
-use Rattle.lx_model.specs.Ptrace.{Watch, Host, Report, is_dying, is_effective, host_turn, host_turn_of}
-use Rattle.lx_model.specs.Requests.{told, serve}
-use Rattle.lx_model.specs.View.{has_exit}
+use Rattle.lx_model.specs.Kernel.{Script, Kernel, kernel_run, first_kernel}
+use Rattle.lx_model.specs.Finite.{Running, first_running, running, Is}
+
+-- the plain kernel begins as its definition does
+abbrev pub KernelsBeginAlike : Type 0 → Type 0 → Type 0
+KernelsBeginAlike S B = (s : S) (b : B) → Is (first_running s b) (first_kernel s b)
 
 -- the values that code has run as the kernel does, under every script
 abbrev pub RunsAlike : {S B : Type 0} → Machine S B → Type 0
@@ -19,57 +15,3 @@ RunsAlike {S} {B} m = (script : Script) (follow : Bool) (v : Running S B) (k : K
 -- on every machine over these two types
 abbrev pub KernelsRunAlike : Type 0 → Type 0 → Type 0
 KernelsRunAlike S B = (m : Machine S B) → RunsAlike m
-
--- a turn of one process leaves what every other has to itself
-abbrev pub KernelTurnsApart : Type 0 → Type 0 → Type 0
-KernelTurnsApart S B = (m : Machine S B) (script : Script) (follow : Bool) (k : Kernel S B) (p q : ℕ) → p ≢ q → k.child ≢ q → (kernel_turn m script follow k p).owns q ≡ k.owns q
-
-abbrev pub HostTurnsApart : Type 0 → Type 0 → Type 0
-HostTurnsApart S B = (m : Machine S B) (h : Host S B) (p q : ℕ) → p ≢ q → h.child ≢ q → (host_turn m h p).procs q ≡ h.procs q
-
-abbrev pub is_alive : {B : Type 0} → Own B → Bool
-is_alive (Alive b stage) = true
-is_alive (Dying word) = false
-is_alive Gone = false
-
--- a process that was born and lives no more has logged its end
-abbrev pub TheDeadHaveEnded : Type 0 → Type 0 → Type 0
-TheDeadHaveEnded S B = (m : Machine S B) (script : Script) (follow : Bool) (s : S) (b : B) (pids : List ℕ) (q : ℕ) →
-    let k : Kernel S B = kernel_run m script follow (first_kernel s b) pids in
-    1 ≤ q → q < k.child → is_alive (k.owns q) ≡ false → has_exit q k.log ≡ true
-
--- a turn of a held process changes nothing
-abbrev pub TheHeldAreStill : Type 0 → Type 0 → Type 0
-TheHeldAreStill S B = (m : Machine S B) (h : Host S B) (p : ℕ) → (h.procs p).held ≡ true → m.killed h.shared p ≡ false → host_turn m h p ≡ h
-
--- but for SIGKILL, by which a held tracee that lives is dying
-abbrev pub TheHeldCanBeKilled : Type 0 → Type 0 → Type 0
-TheHeldCanBeKilled S B = (m : Machine S B) (h : Host S B) (p : ℕ) (b : B) (stage : Stage) (w : Watch) → h.procs p ≡ record { own = Alive b stage; held = true; watch = Some w } → m.killed h.shared p ≡ true →
-    (host_turn m h p).procs p ≡ record { own = Dying kill_word; held = true; watch = Some w }
-
--- Wait tells the first report, and takes it
-abbrev pub FirstReportIsTold : Type 0 → Type 0 → Type 0
-FirstReportIsTold S B = (m : Machine S B) (outcome : S → Outcome) (h : Host S B) (r : Report) (rest : List Report) → h.queue ≡ r ∷ rest →
-    ((serve m outcome h Wait).reply ≡ Some (told r.pid r.stop)) × ((serve m outcome h Wait).host.queue ≡ rest)
-
--- under TRACEFORK the parent's EVENT_FORK comes before the child's EVENT_STOP, and both come last
-abbrev pub ForkIsToldFirst : Type 0 → Type 0 → Type 0
-ForkIsToldFirst S B = (m : Machine S B) (h : Host S B) (p : ℕ) (w : Watch) (born : B) → (h.procs p).watch ≡ Some w → w.forks ≡ true → is_effective m h.shared p (h.procs p) ≡ true → (host_turn_of m h p).event ≡ Forked born →
-    (host_turn m h p).queue ≡ h.queue ++ record { pid = p; stop = Event_stop At_fork } ∷ record { pid = h.child; stop = Event_stop At_start } ∷ []
-
--- how many reports of a process stand in the queue
-abbrev pub reports_for : ℕ → List Report → ℕ
-reports_for q queue = length (filter (λ r. q == r.pid) queue)
-
-abbrev pub one_if : Bool → ℕ
-one_if b = cond b 1 0
-
--- a turn that reaches the kernel reports its process once where it leaves it held, and else not at all;
--- a dying process has no other report
-abbrev pub OneReportAStop : Type 0 → Type 0 → Type 0
-OneReportAStop S B = (m : Machine S B) (h : Host S B) (p : ℕ) → p ≢ h.child → is_effective m h.shared p (h.procs p) ≡ true →
-    reports_for p (host_turn m h p).queue ≡ cond (is_dying (host_turn_of m h p).own) 0 (reports_for p h.queue) + one_if ((host_turn m h p).procs p).held
-
--- and it reports nobody else, but for a child
-abbrev pub NoOtherReport : Type 0 → Type 0 → Type 0
-NoOtherReport S B = (m : Machine S B) (h : Host S B) (p q : ℕ) → p ≢ q → h.child ≢ q → reports_for q (host_turn m h p).queue ≡ reports_for q h.queue

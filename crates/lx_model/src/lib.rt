@@ -3,7 +3,6 @@
 #![tactic(auto)]
 
 pub mod laws;
-pub mod rows;
 pub mod stage;
 
-pub use stage::{Own, Stage};
+pub use stage::{Deed, Own, Stage};

@@ -1,5 +1,0 @@
-use Rattle.lx_model.proofs.Composition.{failures_leave_a_prefix}
-use Rattle.lx_model.proofs.laws.failures_leave_a_prefix.Goals as goal
-
-pub returns : goal.returns
-returns g c = λ m. failures_leave_a_prefix m

@@ -1,0 +1,139 @@
+-- Which replies a tracer admits: of a kind that answers its request, and fitting what it knows of the
+-- tracee. Any other is a fault of the host.
+use Rattle.std.specs.Prelude.{ℕ, ◌%◌, ◌==◌, nat_le, nat_lt, Bool, true, false, ◌&&◌, ◌||◌, length}
+use Rattle.lx_abi.specs.declared.ptrace.Ask.{Ask}
+use Rattle.lx_abi.specs.declared.ptrace.Ask.TheVariants.{Seize, SetOptions, GetRegs, SetRegs, Peek, Syscall, EventMsg, SigInfo}
+use Rattle.lx_abi.specs.declared.ptrace.Reply.{Reply}
+use Rattle.lx_abi.specs.declared.ptrace.Reply.TheVariants.{Done as Agreed, Status as Status_is, Registers as Registers_are, Bytes as Bytes_are, Message as Message_is, Info as Info_is, Outcome as Outcome_is, Errno as Errno_is, OutOfTurns as Out_of_turns, Refused as Boot_refused}
+use Rattle.lx_abi.specs.declared.ptrace.Request.{Request}
+use Rattle.lx_abi.specs.declared.ptrace.Request.TheVariants.{Boot as Boot_with, Wait, To, Outcome as Ask_outcome}
+use Rattle.lx_abi.specs.declared.status.EventStop.{EventStop}
+use Rattle.lx_abi.specs.declared.status.EventStop.TheVariants.{Fork as At_fork, Exec as At_exec, Stop as At_start}
+use Rattle.lx_abi.specs.declared.status.Stop.{Stop}
+use Rattle.lx_abi.specs.declared.status.Stop.TheVariants.{Syscall as Syscall_stop, Signal as Signal_stop, Event as Event_stop, Ended}
+use Rattle.lx_abi.specs.Signals.{is_signal}
+pub use Rattle.pt_model.specs.declared.standing.Standing.{Standing}
+pub use Rattle.pt_model.specs.declared.standing.Standing.TheVariants.{Unmet, Between, AfterSignal as After_signal, Unread, Read, AfterEvent as After_event, AtEnd as At_end}
+
+-- Kinds
+
+abbrev pub answers_ask : Ask → Reply → Bool
+answers_ask (Seize options) Agreed = true
+answers_ask (SetOptions options) Agreed = true
+answers_ask GetRegs (Registers_are r) = true
+answers_ask (SetRegs r) Agreed = true
+answers_ask (Peek address length) (Bytes_are bytes) = true
+answers_ask (Syscall signal) Agreed = true
+answers_ask EventMsg (Message_is p) = true
+answers_ask SigInfo (Info_is info) = true
+answers_ask q (Errno_is n) = true
+answers_ask q Out_of_turns = true
+answers_ask q r = false
+
+-- the kinds of replies that answer a request
+abbrev pub answers : Request → Reply → Bool
+answers (Boot_with boot limit words) Agreed = true
+answers (Boot_with boot limit words) (Boot_refused fault) = true
+answers (Boot_with boot limit words) r = false
+answers Wait (Status_is p status) = true
+answers Wait (Errno_is n) = true
+answers (To p q) r = answers_ask q r
+answers Ask_outcome (Outcome_is outcome) = true
+answers q Out_of_turns = true
+answers q r = false
+
+-- Replies to requests of one process
+
+-- ESRCH, by SIGKILL, at every place but Seize; EIO where nothing is mapped at Peek's address
+abbrev pub admits_errno : Ask → ℕ → Bool
+admits_errno (Seize options) n = false
+admits_errno (SetOptions options) n = n == 3
+admits_errno GetRegs n = n == 3
+admits_errno (SetRegs r) n = n == 3
+admits_errno (Peek address length) n = (n == 3) || (n == 5)
+admits_errno (Syscall signal) n = n == 3
+admits_errno EventMsg n = n == 3
+admits_errno SigInfo n = n == 3
+
+-- Bytes are at least one, and at most as many as were asked for
+abbrev pub admits_answer : Ask → Reply → Bool
+admits_answer (Seize options) Agreed = true
+admits_answer (SetOptions options) Agreed = true
+admits_answer GetRegs (Registers_are r) = true
+admits_answer (SetRegs r) Agreed = true
+admits_answer (Peek address most) (Bytes_are bytes) = nat_le 1 (length bytes) && nat_le (length bytes) most
+admits_answer (Syscall signal) Agreed = true
+admits_answer EventMsg (Message_is p) = true
+admits_answer SigInfo (Info_is info) = true
+admits_answer q (Errno_is n) = admits_errno q n
+admits_answer q Out_of_turns = true
+admits_answer q r = false
+
+-- Statuses
+
+-- the registers at its call's entry were read
+abbrev pub was_read : Standing → Bool
+was_read Unmet = false
+was_read Between = false
+was_read After_signal = false
+was_read Unread = false
+was_read Read = true
+was_read After_event = true
+was_read At_end = false
+
+abbrev pub clone_number : ℕ
+clone_number = 220
+
+abbrev pub execve_number : ℕ
+execve_number = 221
+
+-- exit and exit_group
+abbrev pub is_exit_number : ℕ → Bool
+is_exit_number n = (n == 93) || (n == 94)
+
+-- WIFEXITED of wait(2)
+abbrev pub is_exit_word : ℕ → Bool
+is_exit_word word = (word % 256 == 0) && nat_lt word 65536
+
+-- the event stop that a call of this number may come to
+abbrev pub event_fits : Bool → ℕ → EventStop → Bool
+event_fits follow number At_fork = follow && (number == clone_number)
+event_fits follow number At_exec = number == execve_number
+event_fits follow number At_start = false
+
+-- SIGKILL ends a tracee everywhere, an exit only in its own call, unless that is replaced
+abbrev pub end_fits : ℕ → Bool → Standing → ℕ → Bool
+end_fits number replaced Unmet word = word == 9
+end_fits number replaced Between word = word == 9
+end_fits number replaced After_signal word = is_signal word
+end_fits number replaced Unread word = word == 9
+end_fits number true Read word = word == 9
+end_fits number false Read word = (word == 9) || (is_exit_number number && is_exit_word word)
+end_fits number replaced After_event word = word == 9
+end_fits number replaced At_end word = false
+
+-- the stop may be told of a tracee with this standing, the number of its call, and whether that is replaced
+abbrev pub stop_fits : Bool → ℕ → Bool → Standing → Stop → Bool
+stop_fits follow number replaced Unmet (Syscall_stop good) = false
+stop_fits follow number replaced Between (Syscall_stop good) = true
+stop_fits follow number replaced After_signal (Syscall_stop good) = true
+stop_fits follow number replaced Unread (Syscall_stop good) = true
+stop_fits follow number replaced Read (Syscall_stop good) = true
+stop_fits follow number replaced After_event (Syscall_stop good) = true
+stop_fits follow number replaced At_end (Syscall_stop good) = false
+stop_fits follow number replaced Unmet (Signal_stop signal) = false
+stop_fits follow number replaced Between (Signal_stop signal) = true
+stop_fits follow number replaced After_signal (Signal_stop signal) = true
+stop_fits follow number replaced Unread (Signal_stop signal) = false
+stop_fits follow number replaced Read (Signal_stop signal) = false
+stop_fits follow number replaced After_event (Signal_stop signal) = false
+stop_fits follow number replaced At_end (Signal_stop signal) = false
+stop_fits follow number replaced Unmet (Event_stop At_start) = true
+stop_fits follow number replaced Unmet (Event_stop event) = false
+stop_fits follow number replaced Between (Event_stop event) = false
+stop_fits follow number replaced After_signal (Event_stop event) = false
+stop_fits follow number replaced Unread (Event_stop event) = false
+stop_fits follow number replaced Read (Event_stop event) = event_fits follow number event
+stop_fits follow number replaced After_event (Event_stop event) = false
+stop_fits follow number replaced At_end (Event_stop event) = false
+stop_fits follow number replaced standing (Ended word) = end_fits number replaced standing word

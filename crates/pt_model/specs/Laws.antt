@@ -1,0 +1,81 @@
+-- What the definitions owe each other, and laws that show what they mean.
+use Rattle.std.specs.Prelude.{◌≡◌, ◌≢◌, ℕ, ◌+◌, ◌==◌, ◌≤◌, ◌<◌, Bool, true, false, cond, List, [], ◌∷◌, ◌++◌, Some, length, filter}
+use Rattle.lx_abi.specs.declared.outcome.Outcome.{Outcome}
+use Rattle.lx_abi.specs.declared.ptrace.Request.TheVariants.{Wait}
+use Rattle.lx_abi.specs.declared.status.EventStop.TheVariants.{Fork as At_fork, Stop as At_start}
+use Rattle.lx_abi.specs.declared.status.Stop.TheVariants.{Event as Event_stop}
+use Rattle.lx_abi.specs.declared.script.Rule.{Rule}
+use Rattle.lx_abi.specs.Log.{Noted}
+use Rattle.lx_abi.specs.Scripts.{choice_of}
+use Rattle.lx_model.specs.Machine.{Machine}
+use Rattle.lx_model.specs.Turn.{kill_word, Forked}
+use Rattle.lx_model.specs.declared.stage.Stage.{Stage}
+use Rattle.lx_model.specs.declared.stage.Own.{Own}
+use Rattle.lx_model.specs.declared.stage.Own.TheVariants.{Alive, Dying, Gone}
+use Rattle.lx_model.specs.Kernel.{Script, Kernel, kernel_turn, kernel_run, first_kernel}
+use Rattle.pt_model.specs.Ptrace.{Watch, Host, Report, is_dying, is_effective, host_turn, host_turn_of}
+use Rattle.pt_model.specs.Requests.{told, serve}
+use Rattle.pt_model.specs.Headline.{IsScript}
+use Rattle.pt_model.specs.View.{view, has_exit, has_kill}
+
+-- a turn of one process leaves what every other has to itself
+abbrev pub KernelTurnsApart : Type 0 → Type 0 → Type 0
+KernelTurnsApart S B = (m : Machine S B) (script : Script) (follow : Bool) (k : Kernel S B) (p q : ℕ) → p ≢ q → k.child ≢ q → (kernel_turn m script follow k p).owns q ≡ k.owns q
+
+abbrev pub HostTurnsApart : Type 0 → Type 0 → Type 0
+HostTurnsApart S B = (m : Machine S B) (h : Host S B) (p q : ℕ) → p ≢ q → h.child ≢ q → (host_turn m h p).procs q ≡ h.procs q
+
+abbrev pub is_alive : {B : Type 0} → Own B → Bool
+is_alive (Alive b stage) = true
+is_alive (Dying word) = false
+is_alive Gone = false
+
+-- a process that was born and lives no more has logged its end
+abbrev pub TheDeadHaveEnded : Type 0 → Type 0 → Type 0
+TheDeadHaveEnded S B = (m : Machine S B) (script : Script) (follow : Bool) (s : S) (b : B) (pids : List ℕ) (q : ℕ) →
+    let k : Kernel S B = kernel_run m script follow (first_kernel s b) pids in
+    1 ≤ q → q < k.child → is_alive (k.owns q) ≡ false → has_exit q k.log ≡ true
+
+-- a turn of a held process changes nothing
+abbrev pub TheHeldAreStill : Type 0 → Type 0 → Type 0
+TheHeldAreStill S B = (m : Machine S B) (h : Host S B) (p : ℕ) → (h.procs p).held ≡ true → m.killed h.shared p ≡ false → host_turn m h p ≡ h
+
+-- but for SIGKILL, by which a held tracee that lives is dying
+abbrev pub TheHeldCanBeKilled : Type 0 → Type 0 → Type 0
+TheHeldCanBeKilled S B = (m : Machine S B) (h : Host S B) (p : ℕ) (b : B) (stage : Stage) (w : Watch) → h.procs p ≡ record { own = Alive b stage; held = true; watch = Some w } → m.killed h.shared p ≡ true →
+    (host_turn m h p).procs p ≡ record { own = Dying kill_word; held = true; watch = Some w }
+
+-- Wait tells the first report, and takes it
+abbrev pub FirstReportIsTold : Type 0 → Type 0 → Type 0
+FirstReportIsTold S B = (m : Machine S B) (outcome : S → Outcome) (h : Host S B) (r : Report) (rest : List Report) → h.queue ≡ r ∷ rest →
+    ((serve m outcome h Wait).reply ≡ Some (told r.pid r.stop)) × ((serve m outcome h Wait).host.queue ≡ rest)
+
+-- under TRACEFORK the parent's EVENT_FORK comes before the child's EVENT_STOP, and both come last
+abbrev pub ForkIsToldFirst : Type 0 → Type 0 → Type 0
+ForkIsToldFirst S B = (m : Machine S B) (h : Host S B) (p : ℕ) (w : Watch) (born : B) → (h.procs p).watch ≡ Some w → w.forks ≡ true → is_effective m h.shared p (h.procs p) ≡ true → (host_turn_of m h p).event ≡ Forked born →
+    (host_turn m h p).queue ≡ h.queue ++ record { pid = p; stop = Event_stop At_fork } ∷ record { pid = h.child; stop = Event_stop At_start } ∷ []
+
+-- how many reports of a process stand in the queue
+abbrev pub reports_for : ℕ → List Report → ℕ
+reports_for q queue = length (filter (λ r. q == r.pid) queue)
+
+abbrev pub one_if : Bool → ℕ
+one_if b = cond b 1 0
+
+-- a turn that reaches the kernel reports its process once where it leaves it held, and else not at all;
+-- a dying process has no other report
+abbrev pub OneReportAStop : Type 0 → Type 0 → Type 0
+OneReportAStop S B = (m : Machine S B) (h : Host S B) (p : ℕ) → p ≢ h.child → is_effective m h.shared p (h.procs p) ≡ true →
+    reports_for p (host_turn m h p).queue ≡ cond (is_dying (host_turn_of m h p).own) 0 (reports_for p h.queue) + one_if ((host_turn m h p).procs p).held
+
+-- and it reports nobody else, but for a child
+abbrev pub NoOtherReport : Type 0 → Type 0 → Type 0
+NoOtherReport S B = (m : Machine S B) (h : Host S B) (p q : ℕ) → p ≢ q → h.child ≢ q → reports_for q (host_turn m h p).queue ≡ reports_for q h.queue
+
+-- every script that is written as rules is one
+abbrev pub EveryScriptIsOne : Type 0
+EveryScriptIsOne = (rules : List Rule) → IsScript (choice_of rules)
+
+-- a log without an end by SIGKILL has one view, itself
+abbrev pub NoKillNoLoss : Type 0
+NoKillNoLoss = (lost : ℕ → Bool) (log : List Noted) → has_kill log ≡ false → view lost log ≡ log

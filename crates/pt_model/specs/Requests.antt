@@ -1,0 +1,218 @@
+-- How a request is answered (ptrace(2), wait(2)).
+use Rattle.std.specs.Prelude.{ℕ, ◌==◌, nat_le, Bool, true, false, cond, not, ◌&&◌, ◌||◌, List, [], ◌∷◌, ◌++◌, Option, Some, None, filter}
+use Rattle.lx_abi.specs.declared.log.Cause.{Cause}
+use Rattle.lx_abi.specs.declared.log.Cause.TheVariants.{Sent, Kernel as By_kernel, Exited, Killed, Fault}
+use Rattle.lx_abi.specs.declared.outcome.Outcome.{Outcome}
+use Rattle.lx_abi.specs.declared.ptrace.Ask.{Ask}
+use Rattle.lx_abi.specs.declared.ptrace.Ask.TheVariants.{Seize, SetOptions, GetRegs, SetRegs, Peek, Syscall, EventMsg, SigInfo}
+use Rattle.lx_abi.specs.declared.ptrace.Info.{Info}
+use Rattle.lx_abi.specs.declared.ptrace.Reply.{Reply}
+use Rattle.lx_abi.specs.declared.ptrace.Reply.TheVariants.{Done as Agreed, Status as Status_is, Registers as Registers_are, Bytes as Bytes_are, Message as Message_is, Info as Info_is, Outcome as Outcome_is, Errno as Errno_is}
+use Rattle.lx_abi.specs.declared.ptrace.Request.{Request}
+use Rattle.lx_abi.specs.declared.ptrace.Request.TheVariants.{Boot as Boot_with, Wait, To, Outcome as Ask_outcome}
+use Rattle.lx_abi.specs.declared.signal.Signal.{Signal}
+use Rattle.lx_abi.specs.declared.status.EventStop.TheVariants.{Stop as At_start}
+use Rattle.lx_abi.specs.declared.status.Stop.{Stop}
+use Rattle.lx_abi.specs.declared.status.Stop.TheVariants.{Syscall as Syscall_stop, Signal as Signal_stop, Event as Event_stop, Ended}
+use Rattle.lx_abi.specs.Signals.{may_join, signal_numbered}
+use Rattle.lx_abi.specs.Status.{word_of}
+use Rattle.lx_model.specs.Machine.{Machine}
+use Rattle.lx_model.specs.declared.stage.Stage.{Stage}
+use Rattle.lx_model.specs.declared.stage.Stage.TheVariants.{Born, Run, Faulting, Entered, Doing, Replaced, Acted, Finished, Taken, Dropped}
+use Rattle.lx_model.specs.declared.stage.Own.{Own}
+use Rattle.lx_model.specs.declared.stage.Own.TheVariants.{Alive, Dying, Gone}
+use Rattle.lx_model.specs.Kernel.{put}
+use Rattle.pt_model.specs.Ptrace.{Watch, watch_of, Proc, Report, Host}
+
+-- The errors of errno(3) that requests have
+
+abbrev pub esrch : Reply
+esrch = Errno_is 3
+
+abbrev pub eio : Reply
+eio = Errno_is 5
+
+abbrev pub echild : Reply
+echild = Errno_is 10
+
+abbrev pub einval : Reply
+einval = Errno_is 22
+
+-- SigInfo: the siginfo_t of a taken signal (sigaction(2))
+
+-- si_code: SI_USER, SI_KERNEL, CLD_EXITED, CLD_KILLED, or the fault's own
+abbrev pub code_of : Cause → ℕ
+code_of (Sent p) = 0
+code_of By_kernel = 0x80
+code_of (Exited p v) = 1
+code_of (Killed p v) = 2
+code_of (Fault code a) = code
+
+abbrev pub sender_of : Cause → ℕ
+sender_of (Sent p) = p
+sender_of By_kernel = 0
+sender_of (Exited p v) = p
+sender_of (Killed p v) = p
+sender_of (Fault code a) = 0
+
+abbrev pub status_of : Cause → ℕ
+status_of (Sent p) = 0
+status_of By_kernel = 0
+status_of (Exited p v) = v
+status_of (Killed p v) = v
+status_of (Fault code a) = 0
+
+abbrev pub address_of : Cause → ℕ
+address_of (Sent p) = 0
+address_of By_kernel = 0
+address_of (Exited p v) = 0
+address_of (Killed p v) = 0
+address_of (Fault code a) = a
+
+abbrev pub info_of : Signal → Cause → Info
+info_of signal cause = record { signal = signal.number; code = code_of cause; pid = sender_of cause; status = status_of cause; address = address_of cause }
+
+-- at another stop than a signal's the answer is EINVAL
+abbrev pub info_at : Stage → Reply
+info_at Born = einval
+info_at Run = einval
+info_at (Faulting signal cause) = einval
+info_at (Entered joined) = einval
+info_at (Doing call) = einval
+info_at (Replaced call result) = einval
+info_at (Acted call result replaced) = einval
+info_at Finished = einval
+info_at (Taken signal cause) = Info_is (info_of signal cause)
+info_at Dropped = einval
+
+-- One process
+
+-- what a request to a process leaves of it, and its reply
+pub record Answered (B : Type 0) : Type 0 where
+  pub proc : Proc B
+  pub reply : Reply
+  -- it has become a tracee, and its EVENT_STOP is reported
+  pub seized : Bool
+
+abbrev pub says : {B : Type 0} → Proc B → Reply → Answered B
+says t r = record { proc = t; reply = r; seized = false }
+
+-- Syscall: it goes on from this stage
+abbrev pub let_go : {B : Type 0} → Proc B → B → Stage → Answered B
+let_go t b stage = says (record { own = Alive b stage; held = false; watch = t.watch }) Agreed
+
+abbrev pub plainly : {B : Type 0} → Proc B → B → Stage → ℕ → Answered B
+plainly t b stage n = cond (n == 0) (let_go t b stage) (says t eio)
+
+-- Syscall with a signal's number: at an entry stop the signal is joined; at a signal stop its own number
+-- passes it on and 0 drops it; elsewhere, and with any other number, EIO
+abbrev pub resumed : {B : Type 0} → Proc B → B → Stage → ℕ → Answered B
+resumed t b Born n = plainly t b Born n
+resumed t b Run n = plainly t b Run n
+resumed t b (Faulting signal cause) n = plainly t b (Faulting signal cause) n
+resumed t b (Entered joined) n = cond ((n == 0) || may_join n) (let_go t b (Entered (signal_numbered n))) (says t eio)
+resumed t b (Doing call) n = plainly t b (Doing call) n
+resumed t b (Replaced call result) n = plainly t b (Replaced call result) n
+resumed t b (Acted call result replaced) n = plainly t b (Acted call result replaced) n
+resumed t b Finished n = plainly t b Finished n
+resumed t b (Taken signal cause) n = cond (signal.number == n) (let_go t b (Taken signal cause)) (plainly t b Dropped n)
+resumed t b Dropped n = plainly t b Dropped n
+
+abbrev pub may_peek : ℕ → Bool
+may_peek n = nat_le 1 n && nat_le n 4096
+
+abbrev pub peeked : List ℕ → Reply
+peeked [] = eio
+peeked (x ∷ bytes) = Bytes_are (x ∷ bytes)
+
+abbrev pub set_options : {B : Type 0} → Proc B → Option Watch → Answered B
+set_options t None = says t einval
+set_options t (Some w) = says (record { own = t.own; held = t.held; watch = Some w }) Agreed
+
+-- a held tracee that lives; its message is EventMsg's
+abbrev pub stopped : {S B : Type 0} → Machine S B → Proc B → B → Stage → ℕ → Ask → Answered B
+stopped m t b stage message (Seize options) = says t esrch
+stopped m t b stage message (SetOptions options) = set_options t (watch_of options)
+stopped m t b stage message GetRegs = says t (Registers_are (m.regs b))
+stopped m t b stage message (SetRegs r) = says (record { own = Alive (m.with_regs b r) stage; held = t.held; watch = t.watch }) Agreed
+stopped m t b stage message (Peek address length) = says t (cond (may_peek length) (peeked (m.peek b address length)) einval)
+stopped m t b stage message (Syscall n) = resumed t b stage n
+stopped m t b stage message EventMsg = says t (Message_is message)
+stopped m t b stage message SigInfo = says t (info_at stage)
+
+abbrev pub seize : {B : Type 0} → Proc B → Option Watch → Answered B
+seize t None = says t einval
+seize t (Some w) = record { proc = record { own = t.own; held = t.held; watch = Some w }; reply = Agreed; seized = true }
+
+-- held, and no tracee: process 1 before Seize, the one process that can be seized
+abbrev pub unseized : {B : Type 0} → Proc B → Ask → Answered B
+unseized t (Seize options) = seize t (watch_of options)
+unseized t (SetOptions options) = says t esrch
+unseized t GetRegs = says t esrch
+unseized t (SetRegs r) = says t esrch
+unseized t (Peek address length) = says t esrch
+unseized t (Syscall n) = says t esrch
+unseized t EventMsg = says t esrch
+unseized t SigInfo = says t esrch
+
+-- ESRCH comes before any other refusal: the process is not held, not a tracee, or ending
+abbrev pub answer_at : {S B : Type 0} → Machine S B → ℕ → Proc B → Bool → Option Watch → Own B → Ask → Answered B
+answer_at m message t true (Some w) (Alive b stage) q = stopped m t b stage message q
+answer_at m message t true (Some w) (Dying word) q = says t esrch
+answer_at m message t true (Some w) Gone q = says t esrch
+answer_at m message t true None own q = unseized t q
+answer_at m message t false w own q = says t esrch
+
+abbrev pub answer : {S B : Type 0} → Machine S B → ℕ → Proc B → Ask → Answered B
+answer m message t q = answer_at m message t t.held t.watch t.own q
+
+abbrev pub answered : {S B : Type 0} → Host S B → ℕ → Answered B → Host S B
+answered h p a = record {
+  shared = h.shared;
+  procs = put h.procs p a.proc;
+  queue = cond a.seized (h.queue ++ record { pid = p; stop = Event_stop At_start } ∷ []) h.queue;
+  tracees = cond a.seized (h.tracees ++ p ∷ []) h.tracees;
+  messages = h.messages;
+  child = h.child;
+}
+
+-- Wait
+
+abbrev pub with_queue : {S B : Type 0} → Host S B → List Report → Host S B
+with_queue h queue = record { shared = h.shared; procs = h.procs; queue = queue; tracees = h.tracees; messages = h.messages; child = h.child }
+
+-- the first report is taken; a process whose end was told is no tracee any more, and goes on to its zombie
+abbrev pub take_report : {S B : Type 0} → Host S B → List Report → ℕ → Stop → Host S B
+take_report h rest p (Syscall_stop good) = with_queue h rest
+take_report h rest p (Signal_stop signal) = with_queue h rest
+take_report h rest p (Event_stop event) = with_queue h rest
+take_report h rest p (Ended word) = record {
+  shared = h.shared;
+  procs = put h.procs p (record { own = (h.procs p).own; held = false; watch = (h.procs p).watch });
+  queue = rest;
+  tracees = filter (λ q. not (p == q)) h.tracees;
+  messages = h.messages;
+  child = h.child;
+}
+
+pub record Served (S B : Type 0) : Type 0 where
+  pub host : Host S B
+  -- none where Wait stays pending
+  pub reply : Option Reply
+
+abbrev pub told : ℕ → Stop → Reply
+told p stop = Status_is p (record { word = word_of stop })
+
+-- the first report; with none, ECHILD if no tracee is left
+abbrev pub serve_wait : {S B : Type 0} → Host S B → List Report → List ℕ → Served S B
+serve_wait h [] [] = record { host = h; reply = Some echild }
+serve_wait h [] (q ∷ qs) = record { host = h; reply = None }
+serve_wait h (r ∷ rest) qs = record { host = take_report h rest r.pid r.stop; reply = Some (told r.pid r.stop) }
+
+-- A request is served whole. The outcome is a function of what processes share. A boot is no request of
+-- a host that runs.
+abbrev pub serve : {S B : Type 0} → Machine S B → (S → Outcome) → Host S B → Request → Served S B
+serve m outcome h (Boot_with boot limit words) = record { host = h; reply = None }
+serve m outcome h Wait = serve_wait h h.queue h.tracees
+serve m outcome h (To p q) = record { host = answered h p (answer m (h.messages p) (h.procs p) q); reply = Some (answer m (h.messages p) (h.procs p) q).reply }
+serve m outcome h Ask_outcome = record { host = h; reply = Some (Outcome_is (outcome h.shared)) }

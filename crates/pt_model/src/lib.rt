@@ -1,0 +1,11 @@
+//! The ptrace machine, the tracer and the world of both, over any machine: definitions, and their laws as public
+//! functions with empty bodies.
+#![tactic(auto)]
+
+pub mod laws;
+pub mod ptrace;
+pub mod rows;
+pub mod standing;
+
+pub use ptrace::{Deed, Report, Traced, Watch};
+pub use standing::Standing;
