@@ -16,7 +16,7 @@ use Rattle.lx_kernel.proofs.Reading.{texts_before, is_no_nul}
 -- A limit.
 
 -- what a look at more bytes finds
-abbrev Finds : Text → Text → ℕ → Type 0
+abbrev pub Finds : Text → Text → ℕ → Type 0
 Finds (Whole bytes) further k = further ≡ Whole bytes
 Finds TooLong further k = (bytes : List ℕ) → further ≡ Whole bytes → k ≤ length bytes
 Finds Unreadable further k = further ≡ Unreadable
@@ -44,7 +44,7 @@ finds_on : (fault : Option MemFault) (b : ℕ) (near further : Text) (k : ℕ) �
 finds_on (Some f) b near further k h = refl
 finds_on None b near further k h = finds_byte (eqb b 0) b near further k h
 
-finds : (m : Memory) (k n a : ℕ) → k ≤ n → Finds (text_at m k a) (text_at m n a) k
+pub finds : (m : Memory) (k n a : ℕ) → k ≤ n → Finds (text_at m k a) (text_at m n a) k
 unfolding text_at
 finds m zero n a le = λ bytes e. omega arith
 finds m (suc k) zero a le = absurd (omega (arith, le))
@@ -116,15 +116,6 @@ text_never_ends m n i a total le so_far =
 
 -- Whether a list can be read.
 
-readable_first : (first : Option (List ℕ)) (rest : Option (List (List ℕ))) → is_some first ≡ true → is_some (with_first first rest) ≡ is_some rest
-readable_first None rest h = absurd (cc h)
-readable_first (Some t) None h = refl
-readable_first (Some t) (Some ts) h = refl
-
-unreadable_first : (first : Option (List ℕ)) (rest : Option (List (List ℕ))) → is_some first ≡ false → is_some (with_first first rest) ≡ false
-unreadable_first None rest h = refl
-unreadable_first (Some t) rest h = absurd (cc h)
-
 pub pointer_not_readable : (m : Memory) (n i a : ℕ) (total : Bool) (f : MemFault) → i < n → first_fault access.Read m a 8 ≡ Some f → is_some (texts_at m (n - i) a) ≡ total → false ≡ total
 unfolding texts_at
 pointer_not_readable m n i a total f lt fault so_far =
@@ -141,22 +132,12 @@ texts_readable m n i a total lt fine null so_far =
     sym one ∙ so_far
 
 -- one text, and those behind it
-one_text : (m : Memory) (n i a : ℕ) → i < n → first_fault access.Read m a 8 ≡ None → ¬ (pointer_at m a ≡ 0)
+pub one_text : (m : Memory) (n i a : ℕ) → i < n → first_fault access.Read m a 8 ≡ None → ¬ (pointer_at m a ≡ 0)
     → texts_at m (n - i) a ≡ with_first (whole (text_at m any_length (pointer_at m a))) (texts_at m (n - (i + 1)) (next_address a 8))
 unfolding texts_at
 one_text m n i a lt fine more =
     let k : n - i ≡ suc (n - (i + 1)) = omega arith in
     rw (k, fine, is_no_nul (pointer_at m a) more) refl
-
-pub text_of_list_not_readable : (m : Memory) (n i a : ℕ) (total : Bool) → i < n → first_fault access.Read m a 8 ≡ None → ¬ (pointer_at m a ≡ 0)
-    → is_readable (text_at m any_length (pointer_at m a)) ≡ false → is_some (texts_at m (n - i) a) ≡ total → false ≡ total
-text_of_list_not_readable m n i a total lt fine more none so_far =
-    sym (unreadable_first (whole (text_at m any_length (pointer_at m a))) (texts_at m (n - (i + 1)) (next_address a 8)) none) ∙ sym (ap is_some (one_text m n i a lt fine more)) ∙ so_far
-
-pub texts_looked_on : (m : Memory) (n i a : ℕ) (total : Bool) → i < n → first_fault access.Read m a 8 ≡ None → ¬ (pointer_at m a ≡ 0)
-    → is_readable (text_at m any_length (pointer_at m a)) ≡ true → is_some (texts_at m (n - i) a) ≡ total → is_some (texts_at m (n - (i + 1)) (next_address a 8)) ≡ total
-texts_looked_on m n i a total lt fine more some so_far =
-    sym (readable_first (whole (text_at m any_length (pointer_at m a))) (texts_at m (n - (i + 1)) (next_address a 8)) some) ∙ sym (ap is_some (one_text m n i a lt fine more)) ∙ so_far
 
 pub texts_never_end : (m : Memory) (n i a : ℕ) (total : Bool) → n ≤ i → is_some (texts_at m (n - i) a) ≡ total → false ≡ total
 unfolding texts_at

@@ -30,3 +30,8 @@ set_in_rest n (y ∷ r) i x h = ap (λ t. y ∷ set t i x) (sym (padded_same n r
 pub later_register : (n i : ℕ) (r : List ℕ) → i < n → get_or (padded n (drop 1 r)) i 0 ≡ get_or r (suc i) 0
 later_register n i [] h = get_or-padded n i [] h
 later_register n i (x ∷ r) h = get_or-padded n i r h
+
+-- the first of them set, in the whole list and before that of the others
+pub first_set : (n : ℕ) (r : List ℕ) (x : ℕ) → length r ≡ suc n → set r 0 x ≡ padded (suc n) (x ∷ drop 1 r)
+first_set n [] x h = absurd (cc h)
+first_set n (y ∷ r) x h = ap (λ t. x ∷ t) (sym (padded_same n r (ap pred h)))

@@ -1,12 +1,15 @@
 -- A turn of the kernel, from what the turn of one process leaves.
-use Rattle.std.proofs.Common.{◌≡◌, ℕ, Bool, true, false, List, ◌++◌, refl, ap, sym, subst, ◌∙◌}
+use Rattle.std.proofs.Common.{◌≡◌, ℕ, Bool, true, false, List, ◌++◌, Option, Some, None, Result, Ok, Err, OnErr, refl, ap, sym, subst, ◌∙◌}
 use Rattle.std.specs.Ordering.{nat_cmp}
 use Rattle.std.specs.Option.{option_to_list}
 use Rattle.std.specs.FinMap.{FinMap}
 use mathlib.Core.Path.{fun_ext}
+use Rattle.std.specs.Prelude.{IsSome}
+use Rattle.lx_abi.specs.declared.log.Item.{Item}
 use Rattle.lx_abi.specs.declared.script.Rule.{Rule}
 use Rattle.lx_abi.specs.Scripts.{choice_of}
 use Rattle.lx_abi.specs.Log.{entries}
+use Rattle.lx_model.specs.Deeds.{deed_of}
 use Rattle.lx_model.specs.Turn.{turn, Out}
 use Rattle.lx_model.specs.declared.stage.Own.{Own}
 use Rattle.lx_model.specs.declared.stage.Own.TheVariants.{Gone}
@@ -17,6 +20,11 @@ use Rattle.lx_kernel.specs.Linux.{linux}
 use Rattle.lx_kernel.specs.Turned.{turned, event_of}
 use Rattle.lx_kernel.specs.Turns.{Turns}
 use Rattle.lx_kernel.specs.declared.kernel.Logged.{Logged}
+use Rattle.lx_kernel.proofs.Consoles.{turn_keeps}
+
+pub on_err : {T E : Type 0} (P : Type 0) (r : Result T E) → P → OnErr r P
+on_err P (Ok x) h = tt
+on_err P (Err e) h = h
 
 no_child : (v : Running Shared Body) (b : Bool) → bore v (event_of b) ≡ v
 no_child v true = refl
@@ -32,6 +40,17 @@ module _ (v : Running Shared Body) (rules : List Rule) (follow : Bool) (p : ℕ)
 
   pub kernel_item : l.item ≡ item_of out
   kernel_item = sym turned_out.item_is
+
+  pub kernel_deed : deed_of (event_of l.execed) ≡ deed_of out.event
+  kernel_deed = ap deed_of (sym turned_out.event_is)
+
+  logged_keeps : (o : Option Item) → IsSome o → o ≡ item_of out → out.shared.console ≡ v.shared.console
+  logged_keeps None some e = absurd (cc some)
+  logged_keeps (Some i) some e = turn_keeps (choice_at linux (choice_of rules) (traces follow p) (λ n. entries p n v.log) (at Gone v.owns p)) v.shared v.child p (at Gone v.owns p) i (sym e)
+
+  -- a turn that logged left the console
+  pub kernel_console : IsSome l.item → s.console ≡ v.shared.console
+  kernel_console some = ap (λ (x : Shared). x.console) (sym turned_out.shared_is) ∙ logged_keeps l.item some kernel_item
 
   pub kernel_turned : record { shared = s; owns = owns; child = v.child; log = v.log ++ option_to_list l.item } ≡ running_turn linux (choice_of rules) follow v p
   kernel_turned =

@@ -17,3 +17,6 @@ pub mod Tampering
 pub mod Texts
 pub mod Turned
 pub mod Turns
+pub mod Tracing
+pub mod Laws
+pub mod Scheduling

@@ -1,9 +1,10 @@
 -- What the code reads of a guest's memory, in the definitions' terms.
-use Rattle.std.specs.Prelude.{◌≡◌, ℕ, ◌<◌, ◌≤◌, Bool, true, false, List, length, Option, Some, None}
+use Rattle.std.specs.Prelude.{◌≡◌, ℕ, ◌<◌, ◌≤◌, Bool, true, false, not, is_some, List, length, Option, Some, None}
 use Rattle.std.specs.List.{sum_by}
 use Rattle.lx_kernel.specs.Boots.{cost_of}
 use Rattle.lx_kernel.specs.Programs.{start_limit}
-use Rattle.lx_kernel.specs.Texts.{Text, Whole, TooLong, Unreadable}
+use Rattle.rv_mem.specs.Memory.{Memory}
+use Rattle.lx_kernel.specs.Texts.{Text, Whole, TooLong, Unreadable, text_at, any_length, whole}
 use Rattle.lx_kernel.specs.declared.texts.Text.TheVariants as answer
 use Rattle.lx_kernel.specs.declared.texts.Text.{Text as Answer}
 use Rattle.lx_kernel.specs.declared.texts.Words.TheVariants as words
@@ -33,3 +34,14 @@ is_unreadable words.Unreadable = true
 abbrev pub too_large_if : Bool → Words
 too_large_if true = words.TooLarge
 too_large_if false = words.Unreadable
+
+-- the text at an address can be read
+abbrev pub is_text : Memory → ℕ → Bool
+is_text m a = is_some (whole (text_at m any_length a))
+
+abbrev pub is_no_text : Memory → ℕ → Bool
+is_no_text m a = not (is_text m a)
+
+-- so can the texts at all addresses from one to another
+abbrev pub AreTexts : Memory → ℕ → ℕ → Type 0
+AreTexts m from to = (a : ℕ) → from ≤ a → a ≤ to → is_text m a ≡ true

@@ -1,6 +1,6 @@
 //! What each call does.
 
-ghost use Rattle.std.specs.Prelude.{◌≡◌, ℕ, List, IfOk, ◌<◌, not, nat_lt};
+ghost use Rattle.std.specs.Prelude.{◌≡◌, ℕ, List, IfOk, OnErr, ◌<◌, not, nat_lt};
 ghost use Rattle.std.specs.List.{All};
 ghost use Rattle.std.specs.FinMap as maps;
 ghost use Rattle.elf_image.specs.Images.{IsInRange};
@@ -49,6 +49,7 @@ fn low_argument(call: &Call, n: usize) -> u32
 fn write(shared: &mut Shared, call: &Call, body: &mut Body) -> Result<Reply, AllocError>
     ensures answer { IfOk result (λ r. answer_of r shared.new body.new ≡ meaning_of_write shared.old call.now body.old) }
     ensures kept { IfOk result (λ r. Kept r shared.old body.old shared.new body.new) }
+    ensures console { OnErr result (shared.new.console ≡ shared.old.console) }
 {
     let fd = low_argument(call, 0);
     if fd != 1 && fd != 2 {
@@ -158,6 +159,7 @@ pub fn does(
 ) -> Result<Reply, AllocError>
     ensures answer { IfOk result (λ r. answer_of r shared.new body.new ≡ meaning shared.old call.now body.old) }
     ensures kept { IfOk result (λ r. Kept r shared.old body.old shared.new body.new) }
+    ensures console { OnErr result (shared.new.console ≡ shared.old.console) }
 {
     match call.number {
         64 => write(shared, call, body),

@@ -1,6 +1,6 @@
 //! The end of a process.
 
-ghost use Rattle.std.specs.Prelude.{◌≡◌, ◌+◌, OnOk};
+ghost use Rattle.std.specs.Prelude.{◌≡◌, ◌+◌, OnOk, OnErr};
 ghost use Rattle.std.specs.FinMap as maps;
 ghost use Rattle.lx_kernel.specs.State.{changed};
 ghost use Rattle.lx_kernel.specs.declared.state.Life.TheVariants.{Zombie};
@@ -128,7 +128,8 @@ fn lay_out(entries: &mut Map<Entry>, pid: u32, word: u32, parent: u32) -> Result
 /// A process leaves Dying.
 #[tactic(auto, unfolding(crate::specs::Ends::buried))]
 pub fn bury(shared: &mut Shared, pid: u32, word: u32) -> Result<(), AllocError>
-    ensures { OnOk result (shared.new ≡ buried shared.old pid word) }
+    ensures buried { OnOk result (shared.new ≡ buried shared.old pid word) }
+    ensures console { OnErr result (shared.new.console ≡ shared.old.console) }
 {
     let Some(entry) = shared.entries.get(pid) else {
         return Ok(());

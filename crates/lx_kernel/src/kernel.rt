@@ -1,8 +1,9 @@
 //! The kernel: one turn of one process at a time.
 
-ghost use Rattle.std.specs.Prelude.{◌≡◌, ◌↔◌, ◌++◌, ◌+◌, [], None, false, not, if◌then◌else◌, IfOk, OnOk, OnErr, IsErr, IsTrue, ℕ};
+ghost use Rattle.std.specs.Prelude.{◌≡◌, ◌↔◌, ◌++◌, ◌+◌, [], None, false, not, is_some, if◌then◌else◌, IfOk, OnOk, OnErr, IsOk, IsErr, IsOkAnd, IsSome, IsTrue, ℕ};
 ghost use Rattle.std.specs.FinMap as maps;
 ghost use Rattle.lx_model.specs.Finite.{at, item_of};
+ghost use Rattle.lx_model.specs.Deeds.{deed_of};
 ghost use Rattle.lx_model.specs.Turn.{turn};
 ghost use Rattle.lx_model.specs.declared.stage.Own.TheVariants.{Alive, Gone};
 ghost use Rattle.lx_kernel.specs.Linux.{linux};
@@ -11,21 +12,25 @@ ghost use Rattle.lx_kernel.specs.Turns.{Turns};
 ghost use Rattle.lx_kernel.specs.Outcomes.{outcome_of};
 ghost use Rattle.lx_kernel.specs.Tampering.{choice_of_call, choice_of_own};
 ghost use Rattle.lx_kernel.specs.Bursts.{Burst};
+ghost use Rattle.lx_kernel.specs.Tracing.{own_in, regs_of, peek_of, signal_of, with_regs, with_joined, with_dropped, with_part};
+ghost use Rattle.lx_kernel.specs.State.{Body};
+ghost use Rattle.lx_kernel.specs.Scheduling.{IsNextOf};
 ghost use Rattle.lx_kernel.specs.Runs.{turn_in, after_turn, is_able_in, mode_in, own_mode as own_mode_of, life_mode};
 ghost use Rattle.lx_kernel.specs.Occurrences.{count_of, Agree};
 ghost use Rattle.lx_abi.specs.Log.{is_entry};
 ghost use Rattle.std.specs.Option.{option_to_list};
 
-use crate::bursts;
 use crate::ending::{bury, die};
 use crate::occurrences::Occurrences;
 use crate::outcome::outcome;
+use crate::scheduling::{first_there, is_there, next_there};
 use crate::signals::is_killed;
 use crate::stages::{Went, go, mode};
 use crate::state::{Body, Life, Shared};
 use crate::tampering::Tampering;
-use lx_abi::{Item, Map, Mode, Outcome, Script};
-use lx_model::{Own, Stage};
+use crate::{bursts, tracing};
+use lx_abi::{Bytes, Cause, Item, Map, Mode, Outcome, Registers, Script, Signal};
+use lx_model::{Deed, Own, Stage};
 use rv_hart::Decoder;
 use std::alloc::{AllocError, Global};
 use std::marker::Model;
@@ -43,12 +48,14 @@ impl From<AllocError> for Failed {
     }
 }
 
-/// A process's mode before a turn and after it, and what was logged; no mode where it isn't in the table.
+/// A process's mode before a turn and after it, what was logged, and what its call did beside; no mode where it isn't
+/// in the table.
 #[derive(Clone, Copy, Debug, PartialEq, Eq)]
 pub struct Moved {
     pub before: Option<Mode>,
     pub after: Option<Mode>,
     pub item: Option<Item>,
+    pub deed: Deed,
 }
 
 /// What one turn logged, and whether its process is gone, beside what it left in the parts that it was lent.
@@ -70,6 +77,17 @@ impl Logged {
             gone,
         }
     }
+
+    /// What the turn did beside.
+    fn deed(&self) -> Deed
+        ensures { result ≡ deed_of {B = Body} (event_of self.now.execed) }
+    {
+        if self.execed {
+            Deed::Execed
+        } else {
+            Deed::Plain
+        }
+    }
 }
 
 /// One turn of a living process.
@@ -81,7 +99,8 @@ fn turn_alive(
     body: &mut Body,
     stage: Stage,
 ) -> Result<Went, AllocError>
-    ensures { IfOk result (λ w. (child : ℕ) → turned (turn linux (choice_of_call tampering.now pid body.old) shared.old child pid (Alive body.old stage)) ≡ turned_by w shared.new body.new pid stage) }
+    ensures turned { IfOk result (λ w. (child : ℕ) → turned (turn linux (choice_of_call tampering.now pid body.old) shared.old child pid (Alive body.old stage)) ≡ turned_by w shared.new body.new pid stage) }
+    ensures console { OnErr result (shared.new.console ≡ shared.old.console) }
 {
     if is_killed(shared, pid) {
         return Ok(Went::Ended { word: KILL_WORD });
@@ -100,6 +119,8 @@ fn turn_own(
 ) -> Result<Logged, AllocError>
     ensures turned { IfOk result (λ l. (child : ℕ) → turned (turn linux (choice_of_own tampering.now pid own.old) shared.old child pid own.old) ≡ record { shared = shared.new; own = own.new; item = l.item; event = event_of l.execed }) }
     ensures gone { IfOk result (λ l. l.gone ≡ is_gone own.new) }
+    ensures absent { own.old ≡ Gone → IsOkAnd result (λ l. l.item ≡ None) }
+    ensures console { OnErr result (shared.new.console ≡ shared.old.console) }
 {
     match own {
         Own::Gone => Ok(Logged::nothing(true)),
@@ -146,7 +167,9 @@ fn turn_at(
     tampering: &Tampering,
     pid: u32,
 ) -> Result<Logged, AllocError>
-    ensures { IfOk result (λ l. (child : ℕ) → Turns (turned (turn linux (choice_of_own tampering.now pid (at Gone owns.old pid)) shared.old child pid (at Gone owns.old pid))) owns.old pid l shared.new owns.new) }
+    ensures turns { IfOk result (λ l. (child : ℕ) → Turns (turned (turn linux (choice_of_own tampering.now pid (at Gone owns.old pid)) shared.old child pid (at Gone owns.old pid))) owns.old pid l shared.new owns.new) }
+    ensures absent { at Gone owns.old pid ≡ Gone → IsOkAnd result (λ l. l.item ≡ None) }
+    ensures console { OnErr result (shared.new.console ≡ shared.old.console) }
 {
     let logged = match owns.get_mut(pid) {
         None => return Ok(Logged::nothing(true)),
@@ -191,16 +214,6 @@ impl Model for Kernel {
     ghost invariant = { λ k. k.failed ≡ false → Agree k.occurrences k.log.items };
 }
 
-/// The process has a part of its own.
-fn is_there(owns: &Map<Own<Body>>, pid: u32) -> bool
-    ensures { result ≡ not (is_gone (at Gone owns.now pid)) }
-{
-    match owns.get(pid) {
-        Some(Own::Alive { .. } | Own::Dying { .. }) => true,
-        Some(Own::Gone) | None => false,
-    }
-}
-
 /// Where a process stands.
 fn mode_of(shared: &Shared, owns: &Map<Own<Body>>, pid: u32) -> Option<Mode>
     ensures { result ≡ own_mode_of (maps.get shared.now.entries pid) (at Gone owns.now pid) }
@@ -240,6 +253,9 @@ fn log_item(
 ) -> Result<(), AllocError>
     ensures log { OnOk result (log.new.items ≡ log.old.items ++ option_to_list item) }
     ensures counted { OnOk result (Agree occurrences.old log.old.items → Agree occurrences.new log.new.items) }
+    ensures kept { OnErr result (log.new.items ≡ log.old.items) }
+    ensures none { item ≡ None → IsOk result }
+    ensures some { OnErr result (IsSome item) }
 {
     let Some(item) = item else {
         return Ok(());
@@ -280,11 +296,17 @@ impl Kernel {
         ensures before { IfOk result (λ m. m.before ≡ mode_in self.old pid) }
         ensures after { IfOk result (λ m. m.after ≡ mode_in self.new pid) }
         ensures item { IfOk result (λ m. m.item ≡ item_of (turn_in self.old pid)) }
+        ensures deed { IfOk result (λ m. m.deed ≡ deed_of (turn_in self.old pid).event) }
         ensures turned { OnOk result (self.new ≡ after_turn self.old pid) }
 
-        // Once want of memory was met, every turn answers so.
+        // Once want of memory was met, every turn answers so; the log and the console stay as they were.
         ensures failed { OnErr result (IsTrue self.new.failed) }
         ensures failed_before { IsTrue self.old.failed → IsErr result }
+        ensures log { OnErr result (self.new.running.log ≡ self.old.running.log) }
+        ensures console { OnErr result (self.new.running.shared.console ≡ self.old.running.shared.console) }
+
+        // A process that isn't there needs no memory.
+        ensures absent { self.old.failed ≡ false → own_in self.old pid ≡ Gone → IsOk result }
     {
         if self.failed {
             return Err(Failed);
@@ -310,6 +332,7 @@ impl Kernel {
             before,
             after,
             item: logged.item,
+            deed: logged.deed(),
         })
     }
 
@@ -321,6 +344,8 @@ impl Kernel {
         ensures burst { IfOk result (λ n. Burst self.old pid limit n self.new) }
         ensures failed { OnErr result (IsTrue self.new.failed) }
         ensures failed_before { IsTrue self.old.failed → IsErr result }
+        ensures log { OnErr result (self.new.running.log ≡ self.old.running.log) }
+        ensures console { OnErr result (self.new.running.shared.console ≡ self.old.running.shared.console) }
     {
         if self.failed {
             return Err(Failed);
@@ -338,11 +363,81 @@ impl Kernel {
         is_there(&self.owns, pid)
     }
 
+    /// The next process that can take a turn, in the cycle of pids: the first above this pid, or else the first.
+    pub fn next_able(&self, after: u32) -> Option<u32>
+        ensures { IsNextOf self.now after result }
+    {
+        match next_there(&self.owns, after) {
+            Some(pid) => Some(pid),
+            None => first_there(&self.owns),
+        }
+    }
+
     /// Where the process stands, if it is in the table.
     pub fn mode(&self, pid: u32) -> Option<Mode>
         ensures { result ≡ mode_in self.now pid }
     {
         mode_of(&self.shared, &self.owns, pid)
+    }
+
+    /// The pid that the next child gets.
+    pub fn next_pid(&self) -> u32
+        ensures { result ≡ self.now.running.child }
+    {
+        self.child
+    }
+
+    /// SIGKILL is pending for the process.
+    pub fn is_killed(&self, pid: u32) -> bool
+        ensures { result ≡ linux.killed self.now.running.shared pid }
+    {
+        is_killed(&self.shared, pid)
+    }
+
+    /// pc and x1 to x31 of the process, if it lives.
+    pub fn regs(&self, pid: u32) -> Option<Registers>
+        ensures { result ≡ regs_of (own_in self.now pid) }
+    {
+        tracing::regs(&self.owns, pid)
+    }
+
+    /// The bytes of the process's memory from an address on, up to the first that is not mapped, if it lives.
+    pub fn peek(&self, pid: u32, address: u64, length: usize) -> Result<Option<Bytes>, AllocError>
+        ensures { IfOk result (λ bytes. bytes ≡ peek_of (own_in self.now pid) address length) }
+    {
+        tracing::peek(&self.owns, pid, address, length)
+    }
+
+    /// The signal that the process has taken and stands at, and why it came first.
+    pub fn siginfo(&self, pid: u32) -> Option<(Signal, Cause)>
+        ensures { result ≡ signal_of (own_in self.now pid) }
+    {
+        tracing::signal(&self.owns, pid)
+    }
+
+    /// Sets pc and x1 to x31 of the process: false, and nothing is changed, where it doesn't live.
+    pub fn set_regs(&mut self, pid: u32, registers: &Registers) -> bool
+        ensures part { self.new ≡ with_part self.old pid (with_regs registers.now (own_in self.old pid)) }
+        ensures there { result ≡ is_some (with_regs registers.now (own_in self.old pid)) }
+    {
+        tracing::set_regs(&mut self.owns, pid, registers)
+    }
+
+    /// Sets the signal that the next turn joins to the call that the process has entered: false, and nothing is
+    /// changed, where it stands elsewhere.
+    pub fn join(&mut self, pid: u32, signal: Option<Signal>) -> bool
+        ensures part { self.new ≡ with_part self.old pid (with_joined signal (own_in self.old pid)) }
+        ensures there { result ≡ is_some (with_joined signal (own_in self.old pid)) }
+    {
+        tracing::join(&mut self.owns, pid, signal)
+    }
+
+    /// Drops the signal that the process has taken: false, and nothing is changed, where it stands elsewhere.
+    pub fn skip(&mut self, pid: u32) -> bool
+        ensures part { self.new ≡ with_part self.old pid (with_dropped (own_in self.old pid)) }
+        ensures there { result ≡ is_some (with_dropped (own_in self.old pid)) }
+    {
+        tracing::skip(&mut self.owns, pid)
     }
 
     /// What was logged so far.

@@ -1,28 +1,22 @@
 //! Laws of the definitions.
 
 ghost use Rattle.lx_model.specs.Machine.{IsMachine};
-ghost use Rattle.lx_model.specs.Headline.{IsTold, HeadlineAt};
 ghost use Rattle.lx_kernel.specs.Linux.{linux};
+ghost use Rattle.lx_kernel.specs.Laws.{BootsAreFirst, TurnsAreSteps, BootsRunAlike};
 
 use crate::state::{Body, Shared};
-use lx_model::laws::tracing_is_transparent;
+use lx_model::laws::kernels_run_alike;
 
 /// Linux is a machine: its registers can be read and replaced, and the number -1 names no call.
 pub fn linux_is_a_machine()
     ensures { IsMachine linux }
 {}
 
-/// What wait(2) tells of Linux's calls fits their numbers, and no read of a memory gives more bytes than were asked for.
-pub fn linux_is_told()
-    ensures { IsTold linux }
-{}
-
-/// A traced run at Linux has the outcome of the untraced kernel under the script, turn by turn, and its trace is that
-/// kernel's.
-pub fn linux_is_transparent()
-    ensures { HeadlineAt linux }
+/// A boot gives the untraced kernel of the definitions in its first state, and turns are that kernel's.
+pub fn boots_are_first_runs()
+    ensures first { BootsAreFirst }
+    ensures steps { TurnsAreSteps }
+    ensures runs { BootsRunAlike }
 {
-    linux_is_a_machine();
-    linux_is_told();
-    tracing_is_transparent::<Shared, Body>();
+    kernels_run_alike::<Shared, Body>();
 }

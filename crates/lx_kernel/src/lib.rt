@@ -5,26 +5,22 @@ pub mod boots;
 pub mod bursts;
 pub mod calls;
 pub mod ending;
-#[cfg(test)]
-mod execve_tests;
 pub mod files;
 pub mod first;
 pub mod kernel;
 pub mod laws;
-#[cfg(test)]
-mod limit_tests;
 pub mod limits;
 pub mod occurrences;
 pub mod outcome;
 pub mod programs;
 pub mod registers;
+pub mod scheduling;
 pub mod signals;
 pub mod stages;
 pub mod state;
 pub mod tampering;
-#[cfg(test)]
-mod tests;
 pub mod texts;
+pub mod tracing;
 
 pub use boots::BootFault;
 pub use files::Files;

@@ -2,10 +2,10 @@
 
 ghost use Rattle.std.specs.Prelude.{◌≡◌, slice_set, length};
 ghost use Rattle.lx_model.specs.Machine.{call_of, a0_of, with_result};
-ghost use Rattle.lx_kernel.specs.Linux.{linux, regs, made_again};
+ghost use Rattle.lx_kernel.specs.Linux.{linux, regs, with_regs, made_again};
 
 use crate::state::{Body, Interrupted};
-use lx_abi::Call;
+use lx_abi::{Call, Registers};
 
 /// The call that the registers ask for.
 pub fn call(body: &Body) -> Call
@@ -48,4 +48,31 @@ pub fn make_again(body: &mut Body, at: Interrupted)
     body.hart.pc = at.pc;
     set_a0(&mut body.hart.registers, at.a0);
     body.interrupted = None;
+}
+
+/// Sets the place of x0.
+fn set_first(registers: &mut [u64; 32], value: u64)
+    ensures first { registers.new ≡ slice_set registers.old 0 value }
+    ensures length { length registers.old ≡ 32 }
+{
+    registers[0] = value;
+}
+
+/// pc and x1 to x31.
+pub fn all(body: &Body) -> Registers
+    ensures { result ≡ regs body.now }
+{
+    let mut registers = body.hart.registers;
+    set_first(&mut registers, body.hart.pc);
+    registers
+}
+
+/// Sets pc and x1 to x31.
+pub fn set_all(body: &mut Body, registers: &Registers)
+    ensures { body.new ≡ with_regs body.old registers.now }
+{
+    let x0 = body.hart.registers[0];
+    body.hart.pc = registers[0];
+    body.hart.registers = *registers;
+    body.hart.registers[0] = x0;
 }

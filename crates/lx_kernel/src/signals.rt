@@ -1,6 +1,6 @@
 //! Which signals come, and what they do.
 
-ghost use Rattle.std.specs.Prelude.{◌≡◌, ◌<◌, ◌&&◌, OnOk, is_some, find};
+ghost use Rattle.std.specs.Prelude.{◌≡◌, ◌<◌, ◌&&◌, OnOk, OnErr, is_some, find};
 ghost use Rattle.std.specs.List.{range_with_len};
 ghost use Rattle.std.specs.FinMap as maps;
 ghost use Rattle.lx_kernel.specs.State.{with_entries, changed};
@@ -67,7 +67,8 @@ pub fn take(shared: &mut Shared, pid: u32, signal: Signal) -> Cause
 
 /// Makes a signal of the kernel's pending, unless it is.
 pub fn join(shared: &mut Shared, pid: u32, signal: Signal) -> Result<(), AllocError>
-    ensures { OnOk result (shared.new ≡ joined shared.old pid signal) }
+    ensures joined { OnOk result (shared.new ≡ joined shared.old pid signal) }
+    ensures console { OnErr result (shared.new.console ≡ shared.old.console) }
 {
     match shared.entries.get_mut(pid) {
         None => Ok(()),

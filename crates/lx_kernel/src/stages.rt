@@ -1,6 +1,6 @@
 //! One turn of a living process, stage by stage.
 
-ghost use Rattle.std.specs.Prelude.{◌≡◌, IfOk, OnOk, Some, None, false, ℕ};
+ghost use Rattle.std.specs.Prelude.{◌≡◌, IfOk, OnOk, OnErr, Some, None, false, ℕ};
 ghost use Rattle.rv_hart.specs.Faults.{signal_number};
 ghost use Rattle.std.specs.FinMap as maps;
 ghost use Rattle.lx_model.specs.Turn.{stage_mode, joins, chosen, stepped, answered, took, lives, result_word};
@@ -126,7 +126,8 @@ fn resume(pid: u32, body: &mut Body) -> Result<Went, AllocError>
 
 /// A turn in Run.
 fn run(shared: &mut Shared, pid: u32, body: &mut Body) -> Result<Went, AllocError>
-    ensures { IfOk result (λ w. turned (stepped linux shared.old pid body.old (runs shared.old pid body.old (next_of (maps.get shared.old.entries pid)))) ≡ turned_by w shared.new body.new pid stages.Run) }
+    ensures turned { IfOk result (λ w. turned (stepped linux shared.old pid body.old (runs shared.old pid body.old (next_of (maps.get shared.old.entries pid)))) ≡ turned_by w shared.new body.new pid stages.Run) }
+    ensures console { OnErr result (shared.new.console ≡ shared.old.console) }
 {
     match signals::next(shared, pid) {
         Some(signal) => {
@@ -142,7 +143,8 @@ fn run(shared: &mut Shared, pid: u32, body: &mut Body) -> Result<Went, AllocErro
 
 /// The signals that are joined to a call are made pending.
 fn join(shared: &mut Shared, pid: u32, signal: Option<Signal>) -> Result<(), AllocError>
-    ensures { OnOk result (shared.new ≡ joins linux shared.old pid signal) }
+    ensures joined { OnOk result (shared.new ≡ joins linux shared.old pid signal) }
+    ensures console { OnErr result (shared.new.console ≡ shared.old.console) }
 {
     match signal {
         None => Ok(()),
@@ -171,7 +173,8 @@ fn do_call(
     body: &mut Body,
     call: Call,
 ) -> Result<Went, AllocError>
-    ensures { IfOk result (λ w. (child : ℕ) → turned (answered linux shared.old child pid body.old call (meaning shared.old call body.old)) ≡ turned_by w shared.new body.new pid (stages.Doing call)) }
+    ensures turned { IfOk result (λ w. (child : ℕ) → turned (answered linux shared.old child pid body.old call (meaning shared.old call body.old)) ≡ turned_by w shared.new body.new pid (stages.Doing call)) }
+    ensures console { OnErr result (shared.new.console ≡ shared.old.console) }
 {
     match does(alloc, shared, &call, body)? {
         Reply::Refused(error) => {
@@ -229,7 +232,8 @@ pub fn go(
     body: &mut Body,
     stage: Stage,
 ) -> Result<Went, AllocError>
-    ensures { IfOk result (λ w. (child : ℕ) → turned (lives linux (choice_of_call tampering.now pid body.old) shared.old child pid body.old stage) ≡ turned_by w shared.new body.new pid stage) }
+    ensures turned { IfOk result (λ w. (child : ℕ) → turned (lives linux (choice_of_call tampering.now pid body.old) shared.old child pid body.old stage) ≡ turned_by w shared.new body.new pid stage) }
+    ensures console { OnErr result (shared.new.console ≡ shared.old.console) }
 {
     match stage {
         Stage::Born | Stage::Finished | Stage::Dropped => Ok(Went::on(Stage::Run)),

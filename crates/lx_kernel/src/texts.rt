@@ -1,8 +1,9 @@
 //! Words that a guest has in its memory.
 
-ghost use Rattle.std.specs.Prelude.{◌≡◌, ◌≤◌, IfOk, is_some};
+ghost use Rattle.std.specs.Prelude.{◌≡◌, ◌≤◌, IfOk, IfSome, IfNone, is_some, not, false};
+ghost use Rattle.std.specs.List.{list_any};
 ghost use Rattle.lx_kernel.specs.Texts.{any_length, whole, text_at as text_in, texts_at as texts_in, list_at as list_in};
-ghost use Rattle.lx_kernel.specs.Read.{text_of, ReadsWithin, Reads, is_unreadable, too_large_if};
+ghost use Rattle.lx_kernel.specs.Read.{text_of, ReadsWithin, Reads, is_unreadable, too_large_if, is_text as is_text_at, is_no_text, AreTexts};
 
 use crate::boots::{START_LIMIT, WORD_COST};
 use lx_abi::Bytes;
@@ -88,56 +89,123 @@ fn text_within(
     }
 }
 
-/// The text at an address can be read. Nothing of it is kept.
-fn is_text(memory: &mut Space, address: u64) -> bool
-    ensures text { result ≡ is_some (whole (text_in memory.old any_length address)) }
+/// Where the NUL of the text at an address stands, if the text can be read. Nothing of it is kept.
+fn text_end(memory: &mut Space, address: u64) -> Option<u64>
+    ensures text { is_some result ≡ is_text_at memory.old address }
+    ensures passed { IfSome result (AreTexts memory.old address) }
     ensures kept { memory.new ≡ memory.old }
 {
     let mut at = address;
     for _ in 0..ANY_LENGTH {
         let Ok(byte) = memory.read_array::<1>(at) else {
-            return false;
+            return None;
         };
         if byte[0] == 0 {
-            return true;
+            return Some(at);
         }
         at = at.wrapping_add(1);
     }
-    false
+    None
 }
 
-/// The pointers from an address on, of which there are fewer than `limit` before a null pointer, and the texts at them
-/// can be read. Nothing of them is kept.
-fn are_texts(memory: &mut Space, address: u64, limit: u64) -> bool
-    ensures texts { result ≡ is_some (texts_in memory.old limit address) }
+/// Addresses from one to another whose texts can be read, as was seen last.
+#[derive(Clone, Copy)]
+struct Seen {
+    from: u64,
+    to: u64,
+}
+
+/// The text at an address can be read. What was seen isn't read again.
+fn is_text(memory: &mut Space, seen: &mut Seen, address: u64) -> bool
+    requires { AreTexts memory.old seen.old.from seen.old.to }
+    ensures text { result ≡ is_text_at memory.old address }
+    ensures seen { AreTexts memory.old seen.new.from seen.new.to }
     ensures kept { memory.new ≡ memory.old }
 {
+    if seen.from <= address && address <= seen.to {
+        return true;
+    }
+    match text_end(memory, address) {
+        None => false,
+        Some(to) => {
+            *seen = Seen { from: address, to };
+            true
+        }
+    }
+}
+
+/// The texts at all these addresses can be read. Where the addresses ascend, no byte is read twice.
+fn are_texts(memory: &mut Space, addresses: &[u64]) -> bool
+    ensures texts { result ≡ not (list_any (is_no_text memory.old) addresses.now) }
+    ensures kept { memory.new ≡ memory.old }
+{
+    let mut seen = Seen { from: 1, to: 0 };
+    for address in addresses {
+        if !is_text(memory, &mut seen, *address) {
+            return false;
+        }
+    }
+    true
+}
+
+/// The pointers from an address on, of which there are fewer than `limit`, up to a null pointer. What they point to is
+/// not looked at.
+fn pointers_at(
+    alloc: Global,
+    memory: &mut Space,
+    address: u64,
+    limit: u64,
+) -> Result<Option<Vec<u64>>, AllocError>
+    ensures none { IfOk result (λ p. IfNone p (is_some (texts_in memory.old limit address) ≡ false)) }
+    ensures some { IfOk result (λ p. IfSome p (λ v. is_some (texts_in memory.old limit address) ≡ not (list_any (is_no_text memory.old) v.items))) }
+    ensures kept { memory.new ≡ memory.old }
+{
+    let mut pointers = Vec::new(alloc);
     let mut at = address;
     for _ in 0..limit {
         let Ok(bytes) = memory.read_array::<8>(at) else {
-            return false;
+            return Ok(None);
         };
         let pointer = u64::from_le_bytes(bytes);
         if pointer == 0 {
-            return true;
+            return Ok(Some(pointers));
         }
-        if !is_text(memory, pointer) {
-            return false;
-        }
+        pointers.push(pointer)?;
         at = at.wrapping_add(8);
     }
-    false
+    Ok(None)
+}
+
+/// The pointers from an address on, of which there are fewer than `limit` before a null pointer, and the texts at them
+/// can be read. The texts are looked at in the order of their addresses, so that many pointers to one text cost no more
+/// than the text.
+fn is_list(alloc: Global, memory: &mut Space, address: u64, limit: u64) -> Result<bool, AllocError>
+    ensures list { IfOk result (λ r. r ≡ is_some (texts_in memory.old limit address)) }
+    ensures kept { memory.new ≡ memory.old }
+{
+    match pointers_at(alloc, memory, address, limit)? {
+        None => Ok(false),
+        Some(mut pointers) => {
+            pointers.sort_unstable();
+            Ok(are_texts(memory, pointers.as_slice()))
+        }
+    }
 }
 
 /// What a list is that has at least one text too many from here on, if all of them can be read.
-fn too_large(memory: &mut Space, address: u64, limit: u64) -> Words
-    ensures words { result ≡ too_large_if (is_some (texts_in memory.old limit address)) }
+fn too_large(
+    alloc: Global,
+    memory: &mut Space,
+    address: u64,
+    limit: u64,
+) -> Result<Words, AllocError>
+    ensures words { IfOk result (λ w. w ≡ too_large_if (is_some (texts_in memory.old limit address))) }
     ensures kept { memory.new ≡ memory.old }
 {
-    if are_texts(memory, address, limit) {
-        Words::TooLarge
+    if is_list(alloc, memory, address, limit)? {
+        Ok(Words::TooLarge)
     } else {
-        Words::Unreadable
+        Ok(Words::Unreadable)
     }
 }
 
@@ -158,10 +226,12 @@ fn texts_at(alloc: Global, memory: &mut Space, address: u64) -> Result<Words, Al
             return Ok(Words::Whole(texts));
         }
         let Some(text) = text_within(alloc, memory, pointer, room)? else {
-            return Ok(too_large(memory, at, ANY_LENGTH - i));
+            let words = too_large(alloc, memory, at, ANY_LENGTH - i)?;
+            return Ok(words);
         };
         let Some(less) = room.checked_sub((text.len() + WORD_COST) as u64) else {
-            return Ok(too_large(memory, at, ANY_LENGTH - i));
+            let others = too_large(alloc, memory, at, ANY_LENGTH - i)?;
+            return Ok(others);
         };
         room = less;
         texts.push(text)?;

@@ -7,8 +7,8 @@ use Rattle.lx_kernel.specs.Signals.{signals_of, with_pending}
 use Rattle.lx_kernel.proofs.Tables.{changed_by}
 use Rattle.lx_kernel.proofs.signals.join.Goals as goal
 
-pub returns-in_ok-make_pending-in-Some : goal.returns-in_ok-make_pending-in-Some
-returns-in_ok-make_pending-in-Some c =
+pub returns-in_ok-make_pending-in-Some-clause-joined : goal.returns-in_ok-make_pending-in-Some-clause-joined
+returns-in_ok-make_pending-in-Some-clause-joined c =
     let s = c.args.shared.now in
     let e = c.in-Some.entry.now in
     let w : Entry = signals_of e c.make_pending.new.signals in

@@ -1,9 +1,11 @@
-use Rattle.std.proofs.Common.{◌≡◌, ◌-◌, is_some}
-use Rattle.lx_kernel.specs.Texts.{texts_at}
+use Rattle.std.proofs.Common.{◌≡◌, false, take}
+use Rattle.std.specs.List.{list_any}
+use Rattle.lx_kernel.specs.Read.{is_no_text, AreTexts}
 use Rattle.lx_kernel.proofs.texts.are_texts.Given as goal
 
-abbrev pub invariant-loop : goal.invariant-loop
-invariant-loop l = record {
+abbrev pub invariant-loop-address : goal.invariant-loop-address
+invariant-loop-address l = record {
   kept : l.memory ≡ l.fn.memory;
-  so_far : is_some (texts_at l.fn.memory (l.limit - l.counter) l.at) ≡ is_some (texts_at l.fn.memory l.limit l.address);
+  seen : AreTexts l.fn.memory l.seen.from l.seen.to;
+  so_far : list_any (is_no_text l.fn.memory) (take l.address-index l.addresses) ≡ false;
 }

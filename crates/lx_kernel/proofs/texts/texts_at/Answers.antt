@@ -23,7 +23,7 @@ returns-in_default-2-clause-words c =
     let m = c.args.memory.now in
     let at_pointer : c.from_le_bytes-pointer.result ≡ pointer_at m c.loop-i.at = rw (c.from_le_bytes-pointer.ensures, c.in-Ok.ensures.value, c.loop-i.invariant.kept) in
     let text : ReadsWithin c.in_ok-text.field-0 c.loop-i.room (whole (text_at m any_length (pointer_at m c.loop-i.at))) = rw (c.in-Ok.ensures.unchanged, c.loop-i.invariant.kept, at_pointer) at c.in_ok-text.ensures.text in
-    let judged : c.too_large.result ≡ too_large_if (is_some (texts_at m (any_length - c.loop-i.i) c.loop-i.at)) = cc (c.too_large.ensures.words, c.in_ok-text.ensures.kept, c.in-Ok.ensures.unchanged, c.loop-i.invariant.kept) in
+    let judged : c.in_ok-words.words ≡ too_large_if (is_some (texts_at m (any_length - c.loop-i.i) c.loop-i.at)) = cc (c.in_ok-words.ensures.words, c.in_ok-text.ensures.kept, c.in-Ok.ensures.unchanged, c.loop-i.invariant.kept) in
     let P : Words → Type 0 = λ w. Reads w (texts_at m any_length c.args.address) in
     subst P (sym judged)
     (too_large_from m any_length c.loop-i.i c.loop-i.at c.loop-i.texts.items _ c.loop-i.room (omega arith) (rw c.loop-i.invariant.kept at c.in-Ok.ensures.ok)
@@ -34,7 +34,7 @@ returns-in_default-checked_sub-clause-words c =
     let m = c.args.memory.now in
     let at_pointer : c.from_le_bytes-pointer.result ≡ pointer_at m c.loop-i.at = rw (c.from_le_bytes-pointer.ensures, c.in-Ok.ensures.value, c.loop-i.invariant.kept) in
     let text : ReadsWithin c.in_ok-text.field-0 c.loop-i.room (whole (text_at m any_length (pointer_at m c.loop-i.at))) = rw (c.in-Ok.ensures.unchanged, c.loop-i.invariant.kept, at_pointer) at c.in_ok-text.ensures.text in
-    let judged : c.too_large-in_default-checked_sub.result ≡ too_large_if (is_some (texts_at m (any_length - c.loop-i.i) c.loop-i.at)) = cc (c.too_large-in_default-checked_sub.ensures.words, c.in_ok-text.ensures.kept, c.in-Ok.ensures.unchanged, c.loop-i.invariant.kept) in
+    let judged : c.in_ok-others.others ≡ too_large_if (is_some (texts_at m (any_length - c.loop-i.i) c.loop-i.at)) = cc (c.in_ok-others.ensures.words, c.in_ok-text.ensures.kept, c.in-Ok.ensures.unchanged, c.loop-i.invariant.kept) in
     let size = c.len.ensures in
     let over = c.in_default-checked_sub.ensures in
     let much : c.loop-i.room < length c.in-Some.text + 9 = omega (arith, size, over) in

@@ -1,0 +1,27 @@
+-- The kernel of a boot runs as the definitions' does.
+use Rattle.std.proofs.Common.{◌≡◌, ℕ, List, [], ◌∷◌, refl, ap, sym, subst, ◌∙◌}
+use Rattle.lx_abi.specs.declared.boot.Boot.{Boot}
+use Rattle.lx_abi.specs.declared.script.Rule.{Rule}
+use Rattle.lx_abi.specs.Scripts.{choice_of}
+use Rattle.lx_model.specs.Kernel.{first_kernel, kernel_run}
+use Rattle.lx_model.specs.Finite.{Is, running, running_turn, first_running}
+use Rattle.lx_model.specs.Laws.{KernelsBeginAlike, KernelsRunAlike}
+use Rattle.lx_kernel.specs.State.{Shared, Body}
+use Rattle.lx_kernel.specs.First.{first_shared, first_run}
+use Rattle.lx_kernel.specs.Linux.{linux}
+use Rattle.lx_kernel.specs.Programs.{booted}
+use Rattle.lx_kernel.specs.Runs.{Run, after_turn}
+use Rattle.lx_kernel.specs.Laws.{after_all, BootsRunAlike}
+
+-- turns keep the script
+after_all_is : (k : Run) (pids : List ℕ) → (after_all k pids).running ≡ running linux (choice_of k.script) k.follow k.running pids
+after_all_is k [] = refl
+after_all_is k (p ∷ pids) = after_all_is (after_turn k p) pids
+
+pub boots_run_alike : KernelsBeginAlike Shared Body → KernelsRunAlike Shared Body → BootsRunAlike
+boots_run_alike begin run boot script pids =
+    let k : Run = first_run boot script in
+    let s : Shared = first_shared boot.files boot.input in
+    let b : Body = booted boot.argv boot.env in
+    let whole = kernel_run linux (choice_of script) boot.follow (first_kernel s b) pids in
+    subst (λ v. Is v whole) (sym (after_all_is k pids)) (run linux (choice_of script) boot.follow (first_running s b) (first_kernel s b) (begin s b) pids)

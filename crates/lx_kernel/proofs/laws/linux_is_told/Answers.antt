@@ -1,5 +1,0 @@
-use Rattle.lx_kernel.proofs.LinuxTold.{linux_told}
-use Rattle.lx_kernel.proofs.laws.linux_is_told.Goals as goal
-
-pub returns : goal.returns
-returns c = linux_told

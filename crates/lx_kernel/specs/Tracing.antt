@@ -1,0 +1,110 @@
+-- What a tracer reads and changes of one process (ptrace(2): PTRACE_GETREGSET, PTRACE_SETREGSET, PTRACE_PEEKDATA,
+-- PTRACE_GETSIGINFO, PTRACE_SYSCALL).
+use Rattle.std.specs.Prelude.{◌≡◌, ℕ, Bool, true, false, List, Option, Some, None}
+use Rattle.std.specs.Option.{option_map}
+use Rattle.std.specs.Ordering.{nat_cmp}
+use Rattle.std.specs.FinMap.{FinMap}
+use Rattle.lx_abi.specs.declared.log.Cause.{Cause}
+use Rattle.lx_abi.specs.declared.signal.Signal.{Signal}
+use Rattle.lx_model.specs.Machine.{Regs}
+use Rattle.lx_model.specs.Finite.{at, placed, with_own}
+use Rattle.lx_model.specs.declared.stage.Stage.{Stage}
+use Rattle.lx_model.specs.declared.stage.Stage.TheVariants.{Born, Run, Faulting, Entered, Doing, Replaced, Acted, Finished, Taken, Dropped}
+use Rattle.lx_model.specs.declared.stage.Own.{Own}
+use Rattle.lx_model.specs.declared.stage.Own.TheVariants.{Alive, Dying, Gone}
+use Rattle.lx_kernel.specs.State.{Body}
+use Rattle.lx_kernel.specs.Linux.{linux}
+use Rattle.lx_kernel.specs.Runs.{Run as KernelRun}
+
+-- a process's own part
+abbrev pub own_in : KernelRun → ℕ → Own Body
+own_in k pid = at Gone k.running.owns pid
+
+-- What is read
+
+abbrev pub body_of : Own Body → Option Body
+body_of (Alive b stage) = Some b
+body_of (Dying w) = None
+body_of Gone = None
+
+abbrev pub regs_of : Own Body → Option Regs
+regs_of own = option_map (λ b. linux.regs b) (body_of own)
+
+abbrev pub peek_of : Own Body → ℕ → ℕ → Option (List ℕ)
+peek_of own address length = option_map (λ b. linux.peek b address length) (body_of own)
+
+abbrev pub signal_at : Stage → Option (Signal × Cause)
+signal_at Born = None
+signal_at Run = None
+signal_at (Faulting signal cause) = None
+signal_at (Entered joined) = None
+signal_at (Doing call) = None
+signal_at (Replaced call x) = None
+signal_at (Acted call x replaced) = None
+signal_at Finished = None
+signal_at (Taken signal cause) = Some (signal, cause)
+signal_at Dropped = None
+
+-- the signal at a signal stop, and why it came
+abbrev pub signal_of : Own Body → Option (Signal × Cause)
+signal_of (Alive b stage) = signal_at stage
+signal_of (Dying w) = None
+signal_of Gone = None
+
+-- What is changed: none where there is nothing to change
+
+-- at a call, with another signal to be joined to it
+abbrev pub joining : Option Signal → Stage → Option Stage
+joining signal Born = None
+joining signal Run = None
+joining signal (Faulting taken cause) = None
+joining signal (Entered joined) = Some (Entered signal)
+joining signal (Doing call) = None
+joining signal (Replaced call x) = None
+joining signal (Acted call x replaced) = None
+joining signal Finished = None
+joining signal (Taken taken cause) = None
+joining signal Dropped = None
+
+-- at a signal stop, without the signal
+abbrev pub dropping : Stage → Option Stage
+dropping Born = None
+dropping Run = None
+dropping (Faulting signal cause) = None
+dropping (Entered joined) = None
+dropping (Doing call) = None
+dropping (Replaced call x) = None
+dropping (Acted call x replaced) = None
+dropping Finished = None
+dropping (Taken signal cause) = Some Dropped
+dropping Dropped = None
+
+abbrev pub with_regs : Regs → Own Body → Option (Own Body)
+with_regs r (Alive b stage) = Some (Alive (linux.with_regs b r) stage)
+with_regs r (Dying w) = None
+with_regs r Gone = None
+
+abbrev pub with_joined : Option Signal → Own Body → Option (Own Body)
+with_joined signal (Alive b stage) = option_map (λ s. Alive b s) (joining signal stage)
+with_joined signal (Dying w) = None
+with_joined signal Gone = None
+
+abbrev pub with_dropped : Own Body → Option (Own Body)
+with_dropped (Alive b stage) = option_map (λ s. Alive b s) (dropping stage)
+with_dropped (Dying w) = None
+with_dropped Gone = None
+
+-- the kernel with the process's own part changed so
+abbrev pub with_part : KernelRun → ℕ → Option (Own Body) → KernelRun
+with_part k pid None = k
+with_part k pid (Some own) = record k { running = with_own k.running pid own }
+
+-- Of one part, and of the table of parts: what is left, and whether it was changed.
+
+abbrev pub IsPart : Option (Own Body) → Own Body → Own Body → Bool → Type 0
+IsPart None own own' changed = (own' ≡ own) × (changed ≡ false)
+IsPart (Some other) own own' changed = (own' ≡ other) × (changed ≡ true)
+
+abbrev pub with_part_at : FinMap nat_cmp (Own Body) → ℕ → Option (Own Body) → FinMap nat_cmp (Own Body)
+with_part_at owns pid None = owns
+with_part_at owns pid (Some own) = placed owns pid own
