@@ -9,8 +9,6 @@ mod encoding;
 mod inst;
 mod operations;
 mod register;
-#[cfg(test)]
-mod tests;
 
 pub use decoding::{decode, instruction_is_spelled, one_instruction};
 pub use encoding::{Unencodable, encode};

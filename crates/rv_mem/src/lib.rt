@@ -5,6 +5,7 @@ mod access;
 pub mod fault;
 mod mapping;
 mod page;
+mod places;
 pub mod rights;
 mod space;
 mod table;
@@ -12,6 +13,3 @@ mod table;
 pub use fault::MemFault;
 pub use rights::{Access, Rights};
 pub use space::Space;
-
-#[cfg(test)]
-mod tests;
