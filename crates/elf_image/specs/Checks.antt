@@ -1,5 +1,5 @@
 -- What makes a file an ELF64 program for RISC-V: checks in their order, the first that fails deciding.
-use Rattle.std.specs.Prelude.{ℕ, ◌+◌, ◌*◌, Bool, ◌&&◌, ◌||◌, not, List, [], ◌∷◌, length, nat_lt, ◌==◌, if◌then◌else◌, Option, Some, None}
+use Rattle.std.specs.Prelude.{ℕ, ◌+◌, ◌*◌, Bool, ◌&&◌, ◌||◌, not, List, [], ◌∷◌, ◌++◌, length, nat_lt, ◌==◌, if◌then◌else◌, Option, Some, None}
 use Rattle.std.specs.List.{list_any}
 use Rattle.elf_image.specs.declared.fault.ElfFault.{ElfFault}
 use Rattle.elf_image.specs.declared.fault.ElfFault.TheVariants.{NotElf, NotRiscv, NotExec, Truncated, Overlap, TooLarge, Memory}
@@ -44,15 +44,21 @@ pub record Check : Type 0 where
 abbrev pub check : ElfFault → Bool → Check
 check f b = record { fault = f; fails = b }
 
-abbrev pub checks : List ℕ → List Check
-checks bytes =
+-- the checks of the ELF header, and of the room that the program headers have in the file
+abbrev pub header_checks : List ℕ → List Check
+header_checks bytes =
     check NotElf (has_no_magic bytes)
     ∷ check Truncated (nat_lt (length bytes) 64)
     ∷ check NotRiscv (is_of_another_machine bytes)
     ∷ check NotExec (is_no_program bytes)
     ∷ check TooLarge (nat_lt 64 (header_count bytes))
     ∷ check Truncated (nat_lt (length bytes) (table_offset bytes + 56 * header_count bytes))
-    ∷ check NotExec (length (program_headers bytes) == 0)
+    ∷ []
+
+abbrev pub checks : List ℕ → List Check
+checks bytes =
+    header_checks bytes
+    ++ check NotExec (length (program_headers bytes) == 0)
     ∷ check Truncated (list_any (passes_end bytes) (program_headers bytes))
     ∷ check Overlap (list_any exceeds (program_headers bytes) || any_share (extents (program_headers bytes)))
     ∷ check TooLarge (are_too_large (extents (program_headers bytes)))
@@ -65,3 +71,7 @@ first_fault (c ∷ cs) = if c.fails then Some c.fault else first_fault cs
 -- the fault of a file, if it has one
 abbrev pub fault_of : List ℕ → Option ElfFault
 fault_of bytes = first_fault (checks bytes)
+
+-- the fault of a file's header, if it has one: it is found without memory
+abbrev pub header_fault_of : List ℕ → Option ElfFault
+header_fault_of bytes = first_fault (header_checks bytes)

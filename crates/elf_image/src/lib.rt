@@ -10,8 +10,6 @@ mod headers;
 pub mod image;
 mod layout;
 mod reading;
-#[cfg(test)]
-mod tests;
 mod writing;
 
 pub use bytes::Bytes;

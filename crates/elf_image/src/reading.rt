@@ -1,9 +1,10 @@
 //! The image of a file, or the first check that it fails.
 
-ghost use Rattle.std.specs.Prelude.{◌≡◌, ◌+◌, ◌*◌, ◌≤◌, ◌/◌, ◌%◌, ◌==◌, map, false, length, IfOk, IfErr};
+ghost use Rattle.std.specs.Prelude.{◌≡◌, ◌+◌, ◌*◌, ◌≤◌, ◌/◌, ◌%◌, ◌==◌, map, false, length, Some, Err, IfOk, IfErr};
 ghost use Rattle.std.specs.List.{list_any};
 ghost use Rattle.elf_image.specs.Headers.{extents};
-ghost use Rattle.elf_image.specs.Checks.{has_no_magic, is_of_another_machine, is_no_program, passes_end, exceeds};
+ghost use Rattle.elf_image.specs.Checks.{has_no_magic, is_of_another_machine, is_no_program, passes_end, exceeds, header_fault_of};
+ghost use Rattle.elf_image.specs.declared.fault.ElfFault.{ElfFault};
 ghost use Rattle.elf_image.specs.Images.{rights_of, segment_of, IsElf, Refuses, IsLaidOut};
 
 use crate::bytes::Bytes;
@@ -102,11 +103,13 @@ fn segments_of(
 
 /// The image of an ELF64 executable for RISC-V, or the first check that the file fails.
 ///
-/// Segments may share a page and its rights, but no byte.
+/// Segments may share a page and its rights, but no byte. A file whose header is at fault is refused for that, however
+/// little memory there is.
 pub fn read(alloc: Global, bytes: &[u8]) -> Result<Image, ElfFault>
     ensures image { IfOk result (λ image. IsElf bytes.now image) }
     ensures laid_out { IfOk result (λ image. IsLaidOut image) }
     ensures fault { IfErr result (λ fault. Refuses bytes.now fault) }
+    ensures header { (fault : ElfFault) → header_fault_of bytes.now ≡ Some fault → result ≡ Err fault }
 {
     if lacks_magic(bytes) {
         return Err(ElfFault::NotElf);

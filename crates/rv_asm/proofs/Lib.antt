@@ -1,7 +1,9 @@
+pub mod LabelIndex
 pub mod LabelSteps
 pub mod LaidOut
 pub mod LineSteps
 pub mod NumberSteps
 pub mod Registers
+pub mod Repeats
 pub mod Sizes
 pub mod StringSteps

@@ -12,7 +12,7 @@ use Rattle.rv_isa.specs.Spelling.{word, Spells}
 use Rattle.rv_asm.specs.declared.code.Expansion.{Expansion}
 use Rattle.rv_asm.specs.declared.code.Expansion.TheVariants.{Nothing, One, Two}
 use Rattle.rv_asm.specs.declared.fault.AsmKind.{AsmKind}
-use Rattle.rv_asm.specs.declared.fault.AsmKind.TheVariants.{Range, Label}
+use Rattle.rv_asm.specs.declared.fault.AsmKind.TheVariants.{Mnemonic, Operand, Range, Label, Duplicate, TooLarge, Memory}
 use Rattle.rv_asm.specs.declared.forms.Width.{Width}
 use Rattle.rv_asm.specs.declared.forms.Width.TheVariants as width
 use Rattle.rv_asm.specs.declared.numbers.Number.{Number}
@@ -155,6 +155,29 @@ abbrev pub words_of : Expansion Inst → Result (Expansion ℕ) AsmKind
 words_of Nothing = Ok Nothing
 words_of (One i) = encoded i >>= λ a. Ok (One a)
 words_of (Two i j) = encoded i >>= λ a. encoded j >>= λ b. Ok (Two a b)
+
+-- ---- where labels are placed
+
+abbrev pub is_range_kind : AsmKind → Bool
+is_range_kind Range = true
+is_range_kind Mnemonic = false
+is_range_kind Operand = false
+is_range_kind Label = false
+is_range_kind Duplicate = false
+is_range_kind TooLarge = false
+is_range_kind Memory = false
+
+abbrev pub is_range : {A : Type 0} → Result A AsmKind → Bool
+is_range (Ok x) = false
+is_range (Err k) = is_range_kind k
+
+-- the numbers of a statement do not fit, wherever labels stand
+unfoldable pub is_out_of_range : ℕ → Said → Bool
+is_out_of_range at s = is_range (instructions_of [] at s >>= words_of)
+
+-- a statement that does not fit has no bytes; whether a label is in reach is not known yet
+unfoldable pub placed_size : ℕ → Said → ℕ
+placed_size at s = if is_out_of_range at s || nat_lt 0x20000 (at + size_of at s) then 0 else size_of at s
 
 -- each word spells its instruction
 abbrev pub AllSpelled : Expansion Inst → Expansion ℕ → Type 0

@@ -1,5 +1,6 @@
 pub mod Codes
 pub mod Forms
+pub mod Labels
 pub mod Lines
 pub mod Listing
 pub mod Names

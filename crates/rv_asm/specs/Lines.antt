@@ -1,5 +1,5 @@
 -- Lines: the labels that a line begins with, and the statement behind them.
-use Rattle.std.specs.Prelude.{ℕ, zero, suc, ◌+◌, ◌^◌, List, [], ◌∷◌, length, min, Option, Some, None, Result, Ok, Err, if◌then◌else◌}
+use Rattle.std.specs.Prelude.{ℕ, zero, suc, ◌+◌, List, [], ◌∷◌, length, Option, Some, None, Result, Ok, Err, if◌then◌else◌}
 use Rattle.rv_asm.specs.declared.fault.AsmKind.{AsmKind}
 use Rattle.rv_asm.specs.declared.fault.AsmKind.TheVariants.{Mnemonic, Operand}
 use Rattle.rv_asm.specs.declared.forms.Meaning.{Meaning}
@@ -8,7 +8,7 @@ use Rattle.rv_asm.specs.Text.{word_at, after_mark, is_done}
 use Rattle.rv_asm.specs.Forms.{meaning_of}
 use Rattle.rv_asm.specs.Operands.{◌>>=◌, name_at}
 use Rattle.rv_asm.specs.Statements.{Said, instruction_of, directive_of}
-use Rattle.rv_asm.specs.Codes.{size_of}
+use Rattle.rv_asm.specs.Codes.{placed_size}
 
 -- a name and a colon, and what follows them
 unfoldable pub label_at : List ℕ → Option (List ℕ × List ℕ)
@@ -54,10 +54,10 @@ statement_of t = if is_done t then Ok None else by_mnemonic (meaning_of (word_at
 
 -- a faulty statement has no bytes
 abbrev pub said_size : ℕ → Result (Option Said) AsmKind → ℕ
-said_size at (Ok (Some s)) = size_of at s
+said_size at (Ok (Some s)) = placed_size at s
 said_size at (Ok None) = 0
 said_size at (Err e) = 0
 
--- where the line behind a body begins; 2 ^ 32 is far past the end of any image
+-- where the line behind a body begins
 unfoldable pub next_at : ℕ → List ℕ → ℕ
-next_at at t = min (at + said_size at (statement_of t)) (2 ^ 32)
+next_at at t = at + said_size at (statement_of t)

@@ -48,14 +48,13 @@ fn from_lines(alloc: Global, lines: &[&[u8]]) -> Result<Image, AsmFault>
 {
     let labels = match place(alloc, lines) {
         Ok(labels) => labels,
-        Err(_) => return Err(OUT_OF_MEMORY),
+        Err(fault) => return Err(fault),
     };
-    let symbols = labels.as_slice();
-    let bytes = match emit(alloc, lines, symbols) {
+    let bytes = match emit(alloc, lines, &labels) {
         Ok(bytes) => bytes,
         Err(fault) => return Err(fault),
     };
-    let entry = find_address(symbols, b"_start").unwrap_or(START);
+    let entry = find_address(&labels, b"_start").unwrap_or(START);
     match image_with(alloc, entry, bytes) {
         Ok(image) => Ok(image),
         Err(_) => Err(OUT_OF_MEMORY),

@@ -2,19 +2,22 @@
 
 ghost use Rattle.std.specs.Prelude.{◌≡◌, ◌≤◌, ◌<◌, ◌+◌, ◌*◌, ◌++◌, ◌^◌, map, option_map, IfSome, IfOk, OnOk, Ok, ℕ, List, replicate, length};
 ghost use Rattle.std.specs.List.{list_all};
-ghost use Rattle.rv_asm.specs.Codes.{Place, bytes_in, size_of, padding, place_of, place_named, address_of, distance, upper_part, lower_part, add, setting, pointing, fits, if_so, instructions_of, encoded, words_of, AllSpelled, number_bytes, numbers_bytes, words_bytes, bytes_of};
+ghost use Rattle.rv_asm.specs.Codes.{Place, bytes_in, size_of, padding, place_of, place_named, address_of, distance, upper_part, lower_part, add, setting, pointing, fits, if_so, instructions_of, encoded, words_of, is_range_kind, is_out_of_range, placed_size, AllSpelled, number_bytes, numbers_bytes, words_bytes, bytes_of};
 ghost use Rattle.rv_asm.specs.Statements.{Said, said};
 ghost use Rattle.rv_asm.specs.declared.code.Expansion.{Expansion};
 ghost use Rattle.rv_isa.specs.declared.inst.Inst.{Inst};
 
 use crate::fault::AsmKind;
 use crate::forms::Width;
+use crate::labels::Labels;
 use crate::names::numbered;
 use crate::numbers::Number;
 use crate::statement::Statement;
-use crate::symbol::Symbol;
 use rv_isa::{ImmediateOperation, Inst, Register, encode};
-use std::alloc::AllocError;
+use std::alloc::{AllocError, Global};
+
+/// Where the image ends at the latest.
+pub const END: u128 = 0x20000;
 
 /// What a statement becomes: no instruction, or one, or two.
 #[derive(Clone, Copy, Debug)]
@@ -66,24 +69,12 @@ pub fn size(statement: &Statement, at: u64) -> u128
     }
 }
 
-/// The first label of a name.
-pub fn find_symbol<'a>(symbols: &[Symbol<'a>], name: &[u8]) -> Option<Symbol<'a>>
-    ensures { option_map place_of result ≡ place_named (map place_of symbols.now) name.now }
-{
-    for symbol in symbols {
-        if symbol.name == name {
-            return Some(*symbol);
-        }
-    }
-    None
-}
-
 /// The address of a label.
-pub fn find_address(symbols: &[Symbol], name: &[u8]) -> Option<u64>
-    ensures value { result ≡ address_of (map place_of symbols.now) name.now }
-    ensures small { IfSome result (λ a. a ≤ 2 ^ 32) }
+pub fn find_address(labels: &Labels, name: &[u8]) -> Option<u64>
+    ensures value { result ≡ address_of labels.now name.now }
+    ensures small { IfSome result (λ a. a ≤ 0x20000) }
 {
-    match find_symbol(symbols, name) {
+    match labels.find(name) {
         Some(symbol) => Some(symbol.address),
         None => None,
     }
@@ -191,9 +182,9 @@ fn if_so(holds: bool) -> Result<Expansion<Inst>, AsmKind>
 pub fn instructions(
     statement: &Statement,
     at: u64,
-    symbols: &[Symbol],
+    labels: &Labels,
 ) -> Result<Expansion<Inst>, AsmKind>
-    ensures { result ≡ instructions_of (map place_of symbols.now) at (said statement.now) }
+    ensures { result ≡ instructions_of labels.now at (said statement.now) }
 {
     match statement {
         Statement::Does(inst) => Ok(Expansion::One(*inst)),
@@ -203,7 +194,7 @@ pub fn instructions(
             rs1,
             rs2,
             label,
-        } => match find_address(symbols, label) {
+        } => match find_address(labels, label) {
             None => Err(AsmKind::Label),
             Some(target) => Ok(Expansion::One(Inst::Branch {
                 condition: *condition,
@@ -212,14 +203,14 @@ pub fn instructions(
                 offset: distance(at, target),
             })),
         },
-        Statement::Jumps { rd, label } => match find_address(symbols, label) {
+        Statement::Jumps { rd, label } => match find_address(labels, label) {
             None => Err(AsmKind::Label),
             Some(target) => Ok(Expansion::One(Inst::Jal {
                 rd: *rd,
                 offset: distance(at, target),
             })),
         },
-        Statement::Points { rd, label } => match find_address(symbols, label) {
+        Statement::Points { rd, label } => match find_address(labels, label) {
             None => Err(AsmKind::Label),
             Some(target) => pointing(*rd, target),
         },
@@ -252,6 +243,43 @@ pub fn words(instructions: Expansion<Inst>) -> Result<Expansion<u32>, AsmKind>
             Ok(Expansion::Two(first, second))
         }
     }
+}
+
+/// Whether the numbers of a statement don't fit, wherever labels stand.
+#[tactic(auto, unfolding(crate::specs::Codes::is_out_of_range))]
+fn is_out_of_range(alloc: Global, statement: &Statement, at: u64) -> bool
+    ensures { result ≡ is_out_of_range at (said statement.now) }
+{
+    match instructions(statement, at, &Labels::new(alloc)) {
+        Err(kind) => is_range(kind),
+        Ok(found) => match words(found) {
+            Err(kind) => is_range(kind),
+            Ok(_) => false,
+        },
+    }
+}
+
+fn is_range(kind: AsmKind) -> bool
+    ensures { result ≡ is_range_kind kind }
+{
+    match kind {
+        AsmKind::Range => true,
+        _ => false,
+    }
+}
+
+/// The bytes that a statement fills where labels are placed.
+#[tactic(auto, unfolding(crate::specs::Codes::placed_size))]
+pub fn placed_size(alloc: Global, statement: &Statement, at: u64) -> u64
+    requires { at ≤ 0x20000 }
+    ensures value { result ≡ placed_size at (said statement.now) }
+    ensures within { at + result ≤ 0x20000 }
+{
+    let size = size(statement, at);
+    if is_out_of_range(alloc, statement, at) || u128::from(at).saturating_add(size) > END {
+        return 0;
+    }
+    size as u64
 }
 
 /// The words of a statement spell its instructions: what decoding a word gives is the statement's

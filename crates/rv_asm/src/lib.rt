@@ -5,6 +5,7 @@ mod assembling;
 mod code;
 pub mod fault;
 mod forms;
+mod labels;
 mod line;
 mod listing;
 mod names;
@@ -18,6 +19,3 @@ mod text;
 pub use assembling::{assemble, listings_are_laid_out};
 pub use code::{sizes_agree, words_spell_instructions};
 pub use fault::{AsmFault, AsmKind};
-
-#[cfg(test)]
-mod tests;

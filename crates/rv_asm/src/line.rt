@@ -1,12 +1,12 @@
 //! Lines: the labels that a line begins with, and the statement behind them.
 
-ghost use Rattle.std.specs.Prelude.{◌≡◌, ◌≢◌, ◌≤◌, ◌^◌, option_map, IfOk, IfErr, Ok, Err};
+ghost use Rattle.std.specs.Prelude.{◌≡◌, ◌≢◌, ◌≤◌, option_map, IfOk, IfErr, Ok, Err};
 ghost use Rattle.rv_asm.specs.Lines.{label_at, line_of, said_of, statement_of, next_at};
 ghost use Rattle.rv_asm.specs.Statements.{said};
 ghost use Rattle.rv_asm.specs.Text.{texts};
 ghost use Rattle.rv_asm.specs.declared.fault.AsmKind.TheVariants.{Memory};
 
-use crate::code::size;
+use crate::code::placed_size;
 use crate::fault::AsmKind;
 use crate::forms::{Meaning, find_meaning};
 use crate::operands::take_name;
@@ -79,16 +79,13 @@ pub fn statement(alloc: Global, body: &[u8]) -> Result<Option<Statement<'_>>, As
 /// Where the line behind a body begins.
 #[tactic(auto, unfolding(crate::specs::Lines::next_at))]
 pub fn next_address(alloc: Global, body: &[u8], at: u64) -> Result<u64, AsmKind>
-    requires { at ≤ 2 ^ 32 }
+    requires { at ≤ 0x20000 }
     ensures ok { IfOk result (λ a. a ≡ next_at at body.now) }
-    ensures small { IfOk result (λ a. a ≤ 2 ^ 32) }
+    ensures small { IfOk result (λ a. a ≤ 0x20000) }
     ensures err { IfErr result (λ kind. kind ≡ Memory) }
 {
     match statement(alloc, body) {
-        Ok(Some(statement)) => {
-            let end = u128::from(at).saturating_add(size(&statement, at));
-            Ok(end.min(1 << 32) as u64)
-        }
+        Ok(Some(statement)) => Ok(at + placed_size(alloc, &statement, at)),
         Err(AsmKind::Memory) => Err(AsmKind::Memory),
         Ok(None) | Err(_) => Ok(at),
     }
