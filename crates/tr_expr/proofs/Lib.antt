@@ -1,3 +1,4 @@
+pub mod Joins
 pub mod Lowest
 pub mod Marks
 pub mod Numerals

@@ -23,8 +23,6 @@ mod part;
 pub mod rule;
 mod said;
 pub mod set;
-#[cfg(test)]
-mod tests;
 mod text;
 
 pub use expr::{Expr, parse_expr};

@@ -8,6 +8,8 @@ use Rattle.tr_expr.specs.Parts.{part_causes, error_in, last_said}
 use Rattle.tr_expr.specs.Whens.{every}
 use Rattle.tr_expr.proofs.Lowest.{found_first, found_none}
 use Rattle.tr_expr.proofs.Refusals.{found_in_all}
+use Rattle.tr_expr.proofs.Joins.{parts_join}
+use Rattle.lx_abi.specs.Signals.{is_joinable}
 use Rattle.tr_expr.proofs.rule.parse_rule.Goals as goal
 
 pub returns-in-Some-clause-refusal : goal.returns-in-Some-clause-refusal
@@ -34,3 +36,8 @@ returns-in-None-clause-meaning c =
       signal = said.signal;
       when = c.occurrences_of.ensures ∙ ap (λ o. unwrap_or o every) said.when;
     }
+
+pub invariant_of-result : goal.invariant_of-result
+invariant_of-result c = record {
+  joins = ap is_joinable c.cut.ensures.said.signal ∙ parts_join (spec.parts c.args.form c.args.text.now);
+}
