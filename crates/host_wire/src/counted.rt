@@ -1,0 +1,122 @@
+//! Readers and writers of std as ends of a stream.
+
+ghost use Rattle.std.specs.Prelude.{◌≡◌, OnOk, OnErr};
+ghost use Rattle.std.specs.Io.KnownBytes.{Appends};
+ghost use Rattle.host_wire.specs.Ends.{AppendsPart};
+
+use crate::ends::{Broken, Sink, Source};
+use std::io::{ErrorKind, Read, Write};
+
+/// A reader or writer of std that counts its failure, and fails for good once it has.
+#[derive(Drop)]
+pub struct Counted<T> {
+    inner: T,
+    broken: bool,
+}
+
+impl<T> Counted<T> {
+    ghost use Rattle.host_wire.specs.Counting.{faults_of, inner_of};
+
+    pub fn new(inner: T) -> Self
+        ensures inner { inner_of result ≡ inner }
+        ensures whole { faults_of result ≡ 0 }
+    {
+        Counted {
+            inner,
+            broken: false,
+        }
+    }
+
+    pub fn into_inner(self) -> T
+        ensures { result ≡ inner_of self }
+    {
+        self.inner
+    }
+}
+
+impl<R: Read> Source for Counted<R> {
+    ghost use Rattle.host_wire.specs.Counting.{faults_of, inner_of};
+
+    ghost remaining = { λ c. R.remaining (inner_of c) };
+
+    ghost broken = { λ c. faults_of c };
+
+    fn read(&mut self, into: &mut [u8]) -> Result<usize, Broken> {
+        if self.broken {
+            return Err(Broken);
+        }
+        match self.inner.read(into) {
+            Ok(count) => Ok(count),
+            Err(_) => {
+                self.broken = true;
+                Err(Broken)
+            }
+        }
+    }
+
+    fn faults(&self) -> u64 {
+        if self.broken { 1 } else { 0 }
+    }
+}
+
+/// Writes all of the bytes.
+fn write_whole<W: Write>(writer: &mut W, bytes: &[u8]) -> Result<(), Broken>
+    ensures whole { OnOk result (Appends (W.contents writer.old) (W.contents writer.new) bytes.now) }
+    ensures part { OnErr result (AppendsPart (W.contents writer.old) (W.contents writer.new) bytes.now) }
+{
+    let mut rest = bytes;
+    for _ in 0..u64::MAX {
+        if rest.is_empty() {
+            return Ok(());
+        }
+        match writer.write(rest) {
+            Ok(0) => return Err(Broken),
+            Ok(count) => rest = &rest[count..],
+            Err(fault) => {
+                if fault.kind() != ErrorKind::Interrupted {
+                    return Err(Broken);
+                }
+            }
+        }
+    }
+    Err(Broken)
+}
+
+/// Writes all of the bytes, and hands on what was kept back.
+fn write_out<W: Write>(writer: &mut W, bytes: &[u8]) -> Result<(), Broken>
+    ensures whole { OnOk result (Appends (W.contents writer.old) (W.contents writer.new) bytes.now) }
+    ensures part { OnErr result (AppendsPart (W.contents writer.old) (W.contents writer.new) bytes.now) }
+{
+    match write_whole(writer, bytes) {
+        Ok(()) => match writer.flush() {
+            Ok(()) => Ok(()),
+            Err(_) => Err(Broken),
+        },
+        Err(Broken) => Err(Broken),
+    }
+}
+
+impl<W: Write> Sink for Counted<W> {
+    ghost use Rattle.host_wire.specs.Counting.{faults_of, inner_of};
+
+    ghost contents = { λ c. W.contents (inner_of c) };
+
+    ghost broken = { λ c. faults_of c };
+
+    fn put(&mut self, bytes: &[u8]) -> Result<(), Broken> {
+        if self.broken {
+            return Err(Broken);
+        }
+        match write_out(&mut self.inner, bytes) {
+            Ok(()) => Ok(()),
+            Err(Broken) => {
+                self.broken = true;
+                Err(Broken)
+            }
+        }
+    }
+
+    fn faults(&self) -> u64 {
+        if self.broken { 1 } else { 0 }
+    }
+}

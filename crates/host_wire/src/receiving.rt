@@ -1,0 +1,69 @@
+//! Frames from a reader, one by one.
+
+ghost use Rattle.std.specs.Prelude.{◌≡◌, ◌<◌, [], length, IfOk, IsSome};
+ghost use Rattle.host_wire.specs.Receiving.{Received, ReadOnce};
+ghost use Rattle.host_wire.specs.Streams.{nothing_fed};
+
+use crate::ends::{Broken, Source};
+use crate::fault::WireFault;
+use crate::feed::Feed;
+use crate::frame::Frame;
+
+/// Why no frame was received.
+#[derive(Clone, Copy, Debug, PartialEq, Eq)]
+pub enum ReceiveFault {
+    /// The reader failed, or has given 2^32 times without a whole frame.
+    Read,
+    Wire(WireFault),
+}
+
+/// How often a reader may give without a whole frame.
+const MOST_READS: u64 = 1 << 32;
+
+/// Reads until a frame is whole, no byte past it; none at the end of input.
+pub fn receive<R: Source>(
+    source: &mut R,
+    feed: &mut Feed,
+    room: &mut [u8],
+) -> Result<Option<Frame>, ReceiveFault>
+    requires { 0 < length room.old }
+    ensures received { Received (R.remaining source.old) feed.old result (R.remaining source.new) feed.new (R.broken source.new) }
+    ensures no_further { feed.old.ready ≡ [] → IfOk result (λ frame. IsSome frame → feed.new ≡ nothing_fed) }
+{
+    if let Some(frame) = feed.take() {
+        return Ok(Some(frame));
+    }
+    for _ in 0..MOST_READS {
+        if !read_some(source, feed, room)? {
+            return Ok(None);
+        }
+        if let Some(frame) = feed.take() {
+            return Ok(Some(frame));
+        }
+    }
+    Err(ReceiveFault::Read)
+}
+
+/// Reads once, no byte past the frame under way; false at the end of input.
+fn read_some<R: Source>(
+    source: &mut R,
+    feed: &mut Feed,
+    room: &mut [u8],
+) -> Result<bool, ReceiveFault>
+    requires { 0 < length room.old }
+    ensures { ReadOnce (R.remaining source.old) feed.old result (R.remaining source.new) feed.new (R.broken source.new) }
+{
+    let end = feed.missing().min(room.len());
+    let into = &mut room[..end];
+    let count = match source.read(into) {
+        Ok(count) => count,
+        Err(Broken) => return Err(ReceiveFault::Read),
+    };
+    if count == 0 {
+        return Ok(false);
+    }
+    match feed.feed(&into[..count]) {
+        Ok(()) => Ok(true),
+        Err(fault) => Err(ReceiveFault::Wire(fault)),
+    }
+}
