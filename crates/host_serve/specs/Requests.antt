@@ -1,0 +1,60 @@
+-- The frame that is due next: a request of the next number.
+use Rattle.std.specs.Prelude.{◌≡◌, ◌⊎◌, ◌≤◌, ◌^◌, ℕ, ◌==◌, if◌then◌else◌, Bool, true, false, List, [], ◌∷◌, length, Option, Some, None, Result, Ok, Err}
+use Rattle.std.specs.Io.KnownBytes.{Consumes, IsAtEnd}
+use Rattle.lx_abi.specs.declared.ptrace.Request.{Request}
+use Rattle.lx_abi.specs.declared.ptrace.Request.TheVariants.{Boot as Boot_with, Wait, To, Outcome as Ask_outcome}
+use Rattle.host_wire.specs.declared.frame.Body.{Body as Message}
+use Rattle.host_wire.specs.declared.frame.Body.TheVariants.{Request as Of_request, Reply as Of_reply}
+use Rattle.host_wire.specs.declared.frame.Frame.{Frame}
+use Rattle.host_wire.specs.declared.fault.WireFault.TheVariants.{Length, Kind, Body, Memory}
+use Rattle.host_wire.specs.declared.receiving.ReceiveFault.{ReceiveFault}
+use Rattle.host_wire.specs.declared.receiving.ReceiveFault.TheVariants as receiving
+use Rattle.host_wire.specs.Streams.{Stream, Going, Failed as Failed_by, stream_of}
+use Rattle.host_serve.specs.declared.fault.ServeFault.{ServeFault}
+use Rattle.host_serve.specs.declared.fault.ServeFault.TheVariants.{Read, Write, Wire, Order, Failed}
+
+abbrev pub is_boot : Request → Bool
+is_boot (Boot_with boot limit words) = true
+is_boot Wait = false
+is_boot (To pid ask) = false
+is_boot Ask_outcome = false
+
+abbrev pub request_frame : ℕ → Request → Frame
+request_frame number request = record { number = number; body = Of_request request }
+
+-- no request of this number
+abbrev pub IsOther : Frame → ℕ → Type 0
+IsOther f number = (q : Request) → f ≡ request_frame number q → ⊥
+
+abbrev pub IsFaulty : Stream → Type 0
+IsFaulty stream = (stream ≡ Failed_by Length) ⊎ ((stream ≡ Failed_by Kind) ⊎ (stream ≡ Failed_by Body))
+
+-- what came is the next request, the end of input within a frame or before it, or the cause of a fault
+abbrev pub NextAs : Result (Option Request) ServeFault → ℕ → List ℕ → Stream → Option (List ℕ) → ℕ → Type 0
+NextAs (Ok (Some q)) number came stream left broken = stream ≡ Going (request_frame number q ∷ []) []
+NextAs (Ok None) number came stream left broken = (tail : List ℕ) × ((stream ≡ Going [] tail) × IsAtEnd left)
+NextAs (Err Read) number came stream left broken = (broken ≡ 1) ⊎ (2 ^ 32 ≤ length came)
+NextAs (Err Wire) number came stream left broken = IsFaulty stream
+NextAs (Err Order) number came stream left broken = (f : Frame) × ((stream ≡ Going (f ∷ []) []) × IsOther f number)
+NextAs (Err Write) number came stream left broken = ⊥
+NextAs (Err Failed) number came stream left broken = Unit {0}
+
+pub record Next (left : Option (List ℕ)) (result : Result (Option Request) ServeFault) (number : ℕ) (left' : Option (List ℕ)) (broken : ℕ) : Type 0 where
+  pub came : List ℕ
+  pub consumed : Consumes left left' came
+  pub so : NextAs result number came (stream_of came) left' broken
+
+-- the cause of a fault, as serving tells it
+abbrev pub fault_of : ReceiveFault → ServeFault
+fault_of receiving.Read = Read
+fault_of (receiving.Wire Memory) = Failed
+fault_of (receiving.Wire Length) = Wire
+fault_of (receiving.Wire Kind) = Wire
+fault_of (receiving.Wire Body) = Wire
+
+abbrev pub request_of : Message → Option Request
+request_of (Of_request q) = Some q
+request_of (Of_reply r) = None
+
+abbrev pub request_in : ℕ → Frame → Option Request
+request_in number f = if f.number == number then request_of f.body else None

@@ -1,0 +1,148 @@
+-- A conversation: a boot, and requests that a session answers one by one.
+use Rattle.std.specs.Prelude.{◌≡◌, ◌⊎◌, ℕ, ◌+◌, ◌<◌, ◌≤◌, ◌^◌, List, [], ◌∷◌, ◌++◌, length, Option, true, false, Result, Ok, Err, ⊤}
+use Rattle.std.specs.Io.KnownBytes.{Appends, Consumes, IsAtEnd}
+use Rattle.lx_abi.specs.declared.boot.Boot.{Boot}
+use Rattle.lx_abi.specs.declared.schedule.Word.{Word}
+use Rattle.lx_abi.specs.declared.outcome.Outcome.{Outcome}
+use Rattle.lx_abi.specs.declared.ptrace.Reply.{Reply}
+use Rattle.lx_abi.specs.declared.ptrace.Reply.TheVariants.{Done, Refused}
+use Rattle.lx_abi.specs.declared.ptrace.Request.{Request}
+use Rattle.lx_abi.specs.declared.ptrace.Request.TheVariants.{Boot as Boot_with}
+use Rattle.host_wire.specs.declared.frame.Frame.{Frame}
+use Rattle.host_wire.specs.Ends.{AppendsPart}
+use Rattle.host_wire.specs.Spelling.{content, spelled, reply_frame}
+use Rattle.host_wire.specs.Streams.{Going, stream_of}
+use Rattle.host_serve.specs.declared.fault.ServeFault.{ServeFault}
+use Rattle.host_serve.specs.declared.fault.ServeFault.TheVariants.{Read, Write, Wire, Order, Failed}
+use Rattle.host_serve.specs.declared.session.Phase.{Phase}
+use Rattle.host_serve.specs.declared.session.Phase.TheVariants.{Waiting, Refused as Refusing, Serving}
+use Rattle.host_serve.specs.Requests.{IsFaulty, IsOther, is_boot, request_frame}
+
+abbrev pub Boots : Type 0 → Type 1
+Boots S = Boot → ℕ → List Word → Result S ℕ → Type 0
+
+abbrev pub Answers : Type 0 → Type 1
+Answers S = S → Request → Reply → S → Type 0
+
+-- ---- one reply
+
+-- too long for a frame
+abbrev pub IsTooLong : ℕ → Reply → Type 0
+IsTooLong number r = 134217728 < length (content (reply_frame number r))
+
+-- the reply's frame is written; or its first part, or nothing, at a fault
+abbrev pub SentAs : Result ⊤ ServeFault → ℕ → Reply → Option (List ℕ) → Option (List ℕ) → ℕ → Type 0
+SentAs (Ok u) number r old new broken = Appends old new (spelled (reply_frame number r))
+SentAs (Err Write) number r old new broken = AppendsPart old new (spelled (reply_frame number r)) × (broken ≡ 1)
+SentAs (Err Wire) number r old new broken = (new ≡ old) × IsTooLong number r
+SentAs (Err Failed) number r old new broken = new ≡ old
+SentAs (Err Read) number r old new broken = ⊥
+SentAs (Err Order) number r old new broken = ⊥
+
+-- ---- a conversation
+
+-- what a request is answered, and where the conversation then stands
+abbrev pub BootAnswered : {S : Type 0} → Boots S → Boot → ℕ → List Word → Reply → Phase S → Type 0
+BootAnswered boots boot limit words r Waiting = ⊥
+BootAnswered boots boot limit words r Refusing = (n : ℕ) × ((r ≡ Refused n) × boots boot limit words (Err n))
+BootAnswered boots boot limit words r (Serving s) = (r ≡ Done) × boots boot limit words (Ok s)
+
+abbrev pub SessionAnswered : {S : Type 0} → Answers S → S → Request → Reply → Phase S → Type 0
+SessionAnswered answers s q r Waiting = ⊥
+SessionAnswered answers s q r Refusing = ⊥
+SessionAnswered answers s q r (Serving t) = (is_boot q ≡ false) × answers s q r t
+
+abbrev pub Answered : {S : Type 0} → Boots S → Answers S → Phase S → Request → Reply → Phase S → Type 0
+Answered boots answers Waiting q r next = (boot : Boot) × ((limit : ℕ) × ((words : List Word) × ((q ≡ Boot_with boot limit words) × BootAnswered boots boot limit words r next)))
+Answered boots answers Refusing q r next = ⊥
+Answered boots answers (Serving s) q r next = SessionAnswered answers s q r next
+
+-- a request that isn't due: the first is Boot, no later one is, and none comes after a refusal
+abbrev pub IsUndue : {S : Type 0} → Phase S → Request → Type 0
+IsUndue Waiting q = is_boot q ≡ false
+IsUndue Refusing q = Unit {0}
+IsUndue (Serving s) q = is_boot q ≡ true
+
+-- what a function returned for a request
+abbrev pub Responds : {S : Type 0} → Boots S → Answers S → Phase S → Request → Result (Phase S × Reply) ServeFault → Type 0
+Responds boots answers phase q (Ok x) = Answered boots answers phase q x.1 x.0
+Responds boots answers phase q (Err Order) = IsUndue phase q
+Responds boots answers phase q (Err Failed) = Unit {0}
+Responds boots answers phase q (Err Read) = ⊥
+Responds boots answers phase q (Err Write) = ⊥
+Responds boots answers phase q (Err Wire) = ⊥
+
+abbrev pub Exchanges : Type 0
+Exchanges = List (Request × Reply)
+
+-- the exchanges lead from one phase to another, the last first
+abbrev pub Leads : {S : Type 0} → Boots S → Answers S → Exchanges → Phase S → Type 0
+Leads boots answers [] phase = phase ≡ Waiting
+Leads {S} boots answers (x ∷ xs) phase = (before : Phase S) × (Leads boots answers xs before × Answered boots answers before x.0 x.1 phase)
+
+-- the frames of requests and the bytes of replies, numbered from 1 in the order in which they came
+abbrev pub requests_of : Exchanges → List Frame
+requests_of [] = []
+requests_of (x ∷ xs) = requests_of xs ++ request_frame (length xs + 1) x.0 ∷ []
+
+abbrev pub replies_of : Exchanges → List ℕ
+replies_of [] = []
+replies_of (x ∷ xs) = replies_of xs ++ spelled (reply_frame (length xs + 1) x.1)
+
+-- ---- a whole run of a host
+
+-- the empty outcome before a boot was accepted
+abbrev pub outcome_at : {S : Type 0} → (S → Outcome) → Phase S → Outcome
+outcome_at left Waiting = record { console = []; files = []; ended = [] }
+outcome_at left Refusing = record { console = []; files = []; ended = [] }
+outcome_at left (Serving s) = left s
+
+abbrev pub Finishes : Result Outcome ServeFault → Outcome → Type 0
+Finishes (Ok outcome) wanted = outcome ≡ wanted
+Finishes (Err Failed) wanted = Unit {0}
+Finishes (Err Read) wanted = ⊥
+Finishes (Err Write) wanted = ⊥
+Finishes (Err Wire) wanted = ⊥
+Finishes (Err Order) wanted = ⊥
+
+-- what ended it: `rest` is what was read behind the requests that were answered
+abbrev pub EndsBy : {S : Type 0} → Boots S → Answers S → (S → Outcome) → Phase S → ℕ → Result Outcome ServeFault → List ℕ → Option (List ℕ) → ℕ → ℕ → Type 0
+EndsBy boots answers left phase number (Ok outcome) rest after broken broken_writer = (tail : List ℕ) × ((stream_of rest ≡ Going [] tail) × IsAtEnd after × (outcome ≡ outcome_at left phase))
+EndsBy boots answers left phase number (Err Read) rest after broken broken_writer = (broken ≡ 1) ⊎ ((2 ^ 32 ≤ length rest) ⊎ (number ≡ 2 ^ 40 + 1))
+EndsBy {S} boots answers left phase number (Err Wire) rest after broken broken_writer =
+    IsFaulty (stream_of rest) ⊎ ((q : Request) × ((r : Reply) × ((next : Phase S) × (Answered boots answers phase q r next × IsTooLong number r))))
+EndsBy boots answers left phase number (Err Order) rest after broken broken_writer =
+    (f : Frame) × ((stream_of rest ≡ Going (f ∷ []) []) × (IsOther f number ⊎ ((q : Request) × ((f ≡ request_frame number q) × IsUndue phase q))))
+EndsBy boots answers left phase number (Err Write) rest after broken broken_writer = broken_writer ≡ 1
+EndsBy boots answers left phase number (Err Failed) rest after broken broken_writer = Unit {0}
+
+-- the replies are written whole; a write that failed wrote a first part of the next
+abbrev pub WritesAs : {S : Type 0} → Boots S → Answers S → Phase S → Exchanges → Result Outcome ServeFault → Option (List ℕ) → Option (List ℕ) → Type 0
+WritesAs boots answers phase xs (Ok outcome) old new = Appends old new (replies_of xs)
+WritesAs boots answers phase xs (Err Read) old new = Appends old new (replies_of xs)
+WritesAs boots answers phase xs (Err Wire) old new = Appends old new (replies_of xs)
+WritesAs boots answers phase xs (Err Order) old new = Appends old new (replies_of xs)
+WritesAs boots answers phase xs (Err Failed) old new = Appends old new (replies_of xs)
+WritesAs {S} boots answers phase xs (Err Write) old new =
+    (q : Request) × ((r : Reply) × ((next : Phase S) × (Answered boots answers phase q r next × AppendsPart old new (replies_of ((q, r) ∷ xs)))))
+
+pub record Served {S : Type 0} (boots : Boots S) (answers : Answers S) (left : S → Outcome) (bytes bytes' old new : Option (List ℕ)) (result : Result Outcome ServeFault) (broken broken_writer : ℕ) : Type 0 where
+  pub exchanges : Exchanges
+  pub phase : Phase S
+  pub came : List ℕ
+  pub rest : List ℕ
+  pub consumed : Consumes bytes bytes' (came ++ rest)
+  pub led : Leads boots answers exchanges phase
+  pub asked : stream_of came ≡ Going (requests_of exchanges) []
+  pub ended : EndsBy boots answers left phase (length exchanges + 1) result rest bytes' broken broken_writer
+  pub written : WritesAs boots answers phase exchanges result old new
+
+-- so far, with this many exchanges
+pub record Serves {S : Type 0} (boots : Boots S) (answers : Answers S) (bytes bytes' old new : Option (List ℕ)) (phase : Phase S) (number : ℕ) : Type 0 where
+  pub exchanges : Exchanges
+  pub came : List ℕ
+  pub consumed : Consumes bytes bytes' came
+  pub led : Leads boots answers exchanges phase
+  pub asked : stream_of came ≡ Going (requests_of exchanges) []
+  pub written : Appends old new (replies_of exchanges)
+  pub counted : number ≡ length exchanges + 1

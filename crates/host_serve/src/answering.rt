@@ -1,0 +1,33 @@
+//! Replies to a writer, each in one write.
+
+ghost use Rattle.std.specs.Prelude.{◌≡◌};
+ghost use Rattle.host_serve.specs.Serving.{SentAs};
+
+use crate::fault::ServeFault;
+use host_wire::{Body, Broken, Frame, Sink, WireFault, encode};
+use lx_abi::Reply;
+use std::alloc::Global;
+
+/// Sends the reply to the request of this number.
+pub(crate) fn send<W: Sink>(
+    alloc: Global,
+    writer: &mut W,
+    number: u64,
+    reply: Reply,
+) -> Result<(), ServeFault>
+    ensures { SentAs result number reply (W.contents writer.old) (W.contents writer.new) (W.broken writer.new) }
+{
+    let frame = Frame {
+        number,
+        body: Body::Reply(reply),
+    };
+    let bytes = match encode(alloc, &frame) {
+        Ok(bytes) => bytes,
+        Err(WireFault::Memory) => return Err(ServeFault::Failed),
+        Err(WireFault::Length | WireFault::Kind | WireFault::Body) => return Err(ServeFault::Wire),
+    };
+    match writer.put(bytes.as_slice()) {
+        Ok(()) => Ok(()),
+        Err(Broken) => Err(ServeFault::Write),
+    }
+}

@@ -1,0 +1,66 @@
+//! Requests from a reader, one by one.
+
+ghost use Rattle.std.specs.Prelude.{◌≡◌, ◌<◌, length, IfOk, IsSome, OnOk, OnErr, IfErr};
+ghost use Rattle.host_wire.specs.Streams.{nothing_fed};
+ghost use Rattle.host_serve.specs.Requests as spec;
+ghost use Rattle.host_serve.specs.Requests.{Next};
+
+use crate::fault::ServeFault;
+use host_wire::{Body, Feed, Frame, ReceiveFault, Source, WireFault, receive};
+use lx_abi::Request;
+
+pub(crate) fn is_boot(request: &Request) -> bool
+    ensures { result ≡ spec.is_boot request.now }
+{
+    match request {
+        Request::Boot { .. } => true,
+        Request::Wait | Request::To { .. } | Request::Outcome => false,
+    }
+}
+
+fn fault_of(fault: ReceiveFault) -> ServeFault
+    ensures { result ≡ spec.fault_of fault }
+{
+    match fault {
+        ReceiveFault::Read => ServeFault::Read,
+        ReceiveFault::Wire(WireFault::Memory) => ServeFault::Failed,
+        ReceiveFault::Wire(WireFault::Length | WireFault::Kind | WireFault::Body) =>
+            ServeFault::Wire,
+    }
+}
+
+/// The frame's request, if it is one of this number.
+fn request_in(frame: Frame, number: u64) -> Option<Request>
+    ensures { result ≡ spec.request_in number frame }
+{
+    if frame.number != number {
+        return None;
+    }
+    match frame.body {
+        Body::Request(request) => Some(request),
+        Body::Reply(_) => None,
+    }
+}
+
+/// The next request, which has this number; none at the end of input. No byte behind it is read.
+pub(crate) fn next_request<R: Source>(
+    reader: &mut R,
+    feed: &mut Feed,
+    room: &mut [u8],
+    number: u64,
+) -> Result<Option<Request>, ServeFault>
+    requires room { 0 < length room.old }
+    requires fresh { feed.old ≡ nothing_fed }
+    ensures next { Next (R.remaining reader.old) result number (R.remaining reader.new) (R.broken reader.new) }
+    ensures no_further { IfOk result (λ request. IsSome request → feed.new ≡ nothing_fed) }
+{
+    let frame = match receive(reader, feed, room) {
+        Ok(Some(frame)) => frame,
+        Ok(None) => return Ok(None),
+        Err(fault) => return Err(fault_of(fault)),
+    };
+    match request_in(frame, number) {
+        Some(request) => Ok(Some(request)),
+        None => Err(ServeFault::Order),
+    }
+}

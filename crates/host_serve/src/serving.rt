@@ -1,0 +1,103 @@
+//! The conversation of a host with its tracer.
+
+ghost use Rattle.std.specs.Prelude.{◌≡◌};
+ghost use Rattle.host_serve.specs.Serving.{Finishes, Responds, Served, outcome_at};
+
+use crate::answering::send;
+use crate::fault::ServeFault;
+use crate::requests::{is_boot, next_request};
+use crate::session::{Phase, Session};
+use host_wire::{Feed, Sink, Source};
+use lx_abi::{Bytes, Outcome, Reply, Request, Seq};
+use std::alloc::Global;
+
+/// The most frames that a host serves.
+const MOST_FRAMES: u64 = 1 << 40;
+
+/// How many bytes are read at a time, at most.
+const ROOM: usize = 65_536;
+
+/// The reply to the first request, which is to be Boot.
+fn boot<S: Session + Drop>(alloc: Global, request: Request) -> Result<(Phase<S>, Reply), ServeFault>
+    ensures { Responds S.boots S.answers Phase.Waiting request result }
+{
+    match request {
+        Request::Boot { boot, limit, words } => match S::boot(alloc, boot, limit, words) {
+            Ok(session) => Ok((Phase::Serving(session), Reply::Done)),
+            Err(fault) => Ok((Phase::Refused, Reply::Refused { fault })),
+        },
+        Request::Wait => Err(ServeFault::Order),
+        Request::To { .. } => Err(ServeFault::Order),
+        Request::Outcome => Err(ServeFault::Order),
+    }
+}
+
+fn respond<S: Session + Drop>(
+    alloc: Global,
+    phase: Phase<S>,
+    request: Request,
+) -> Result<(Phase<S>, Reply), ServeFault>
+    ensures { Responds S.boots S.answers phase request result }
+{
+    match phase {
+        Phase::Waiting => boot(alloc, request),
+        Phase::Refused => Err(ServeFault::Order),
+        Phase::Serving(mut session) => {
+            if is_boot(&request) {
+                return Err(ServeFault::Order);
+            }
+            match session.answer(request) {
+                Some(reply) => Ok((Phase::Serving(session), reply)),
+                None => Err(ServeFault::Failed),
+            }
+        }
+    }
+}
+
+/// What is left of the run, and nothing before a boot was accepted.
+fn outcome_of<S: Session + Drop>(alloc: Global, phase: &Phase<S>) -> Result<Outcome, ServeFault>
+    ensures { Finishes result (outcome_at S.left phase.now) }
+{
+    match phase {
+        Phase::Waiting | Phase::Refused => Ok(Outcome {
+            console: Bytes::new(alloc),
+            files: Seq::new(alloc),
+            ended: Seq::new(alloc),
+        }),
+        Phase::Serving(session) => match session.outcome() {
+            Some(outcome) => Ok(outcome),
+            None => Err(ServeFault::Failed),
+        },
+    }
+}
+
+/// Serves until the end of input, within a frame too, and gives what is left of the run then.
+pub fn serve<S: Session + Drop, R: Source, W: Sink>(
+    alloc: Global,
+    reader: &mut R,
+    writer: &mut W,
+) -> Result<Outcome, ServeFault>
+    ensures { Served S.boots S.answers S.left (R.remaining reader.old) (R.remaining reader.new) (W.contents writer.old) (W.contents writer.new) result (R.broken reader.new) (W.broken writer.new) }
+{
+    let Ok(mut room) = Vec::from_elem(alloc, 0u8, ROOM) else {
+        return Err(ServeFault::Failed);
+    };
+    let mut feed = Feed::new(alloc);
+    let mut phase: Phase<S> = Phase::Waiting;
+    for number in 1..MOST_FRAMES + 1 {
+        let request = match next_request(reader, &mut feed, room.as_mut_slice(), number) {
+            Ok(Some(request)) => request,
+            Ok(None) => return outcome_of(alloc, &phase),
+            Err(fault) => return Err(fault),
+        };
+        let (next, reply) = match respond(alloc, phase, request) {
+            Ok(response) => response,
+            Err(fault) => return Err(fault),
+        };
+        match send(alloc, writer, number, reply) {
+            Ok(()) => phase = next,
+            Err(fault) => return Err(fault),
+        }
+    }
+    Err(ServeFault::Read)
+}
