@@ -1,0 +1,9 @@
+mod LinuxTold
+pub mod Cycling
+pub mod Rows
+pub mod Telling
+pub mod Turning
+pub mod Answering
+pub mod Sweeping
+pub mod Keeping
+pub mod Feeding

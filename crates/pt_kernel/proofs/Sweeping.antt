@@ -1,0 +1,171 @@
+-- What a host keeps from event to event.
+use Rattle.std.proofs.Common.{◌≡◌, ◌⊎◌, ◌≢◌, ℕ, Bool, true, false, cond, not, List, [], ◌∷◌, Option, Some, None, refl, sym, ap, subst, ◌∙◌, inl, inr, arith}
+use Rattle.std.specs.Prelude.{◌==◌, ◌||◌}
+use Rattle.std.specs.Ordering.{nat_cmp, eq_by_cmp}
+use Rattle.std.proofs.lemmas.Bool.Decides.{nat_tests}
+use Rattle.std.proofs.lemmas.Cmp.{nat_cmp_total}
+use Rattle.std.specs.FinMap as maps
+use Rattle.lx_abi.specs.declared.log.Mode.{Mode}
+use Rattle.lx_abi.specs.declared.log.Mode.TheVariants as mode
+use Rattle.lx_abi.specs.declared.outcome.Outcome.{Outcome}
+use Rattle.lx_abi.specs.declared.ptrace.Ask.{Ask}
+use Rattle.lx_abi.specs.declared.ptrace.Request.{Request}
+use Rattle.lx_abi.specs.declared.ptrace.Request.TheVariants.{Boot as Boot_with, Wait, To, Outcome as Ask_outcome}
+use Rattle.lx_abi.specs.declared.schedule.Event.{Event}
+use Rattle.lx_abi.specs.declared.schedule.Event.TheVariants.{Turn, Serve}
+use Rattle.lx_abi.specs.declared.status.Stop.{Stop}
+use Rattle.lx_abi.specs.declared.status.Stop.TheVariants.{Syscall as Syscall_stop, Signal as Signal_stop, Event as Event_stop, Ended}
+use Rattle.lx_model.specs.declared.stage.Own.{Own}
+use Rattle.lx_model.specs.declared.stage.Own.TheVariants.{Alive, Dying, Gone}
+use Rattle.lx_model.specs.declared.stage.Stage.TheVariants.{Born}
+use Rattle.lx_model.specs.Turn.{Event as Effect, Plain, Execed, Forked}
+use Rattle.lx_model.specs.Finite.{at, placed, Running, ran, bore, turn_out, running_turn, own_mode, first_running}
+use Rattle.lx_kernel.specs.declared.state.Shared.{Shared}
+use Rattle.lx_kernel.specs.declared.state.Body.{Body}
+use Rattle.lx_kernel.specs.declared.state.Entry.{Entry}
+use Rattle.lx_kernel.specs.declared.state.Life.{Life}
+use Rattle.lx_kernel.specs.declared.state.Life.TheVariants as life
+use Rattle.lx_kernel.specs.Linux.{linux}
+use Rattle.lx_kernel.specs.Runs.{life_mode, own_mode as kernel_mode}
+use Rattle.pt_model.specs.declared.ptrace.Report.{Report}
+use Rattle.pt_model.specs.declared.ptrace.Watch.{Watch}
+use Rattle.pt_model.specs.Ptrace.{Proc, is_effective}
+use Rattle.pt_model.specs.Requests.{stopped, unseized}
+use Rattle.pt_model.specs.Hosting.{proc_in, traced_at, no_script, hosting_to, took_report, hosting_wait, hosting_serve, hosting_pending, hosting_event}
+use Rattle.pt_model.proofs.Hosts.{hosts_run_the_kernel}
+use Rattle.pt_kernel.specs.Stops.{is_finished, mode_number, is_run, same_mode}
+use Rattle.pt_kernel.specs.Hosts.{Linux_host, IsSwept, moves}
+
+abbrev Owns : Type 0
+Owns = maps.FinMap nat_cmp (Own Body)
+
+abbrev Swept : Owns → Type 0
+Swept owns = (p : ℕ) → maps.get owns p ≡ Some Gone → ⊥
+
+inserted : (owns : Owns) (p q : ℕ) (own : Own Body) → (Some own ≡ Some Gone → ⊥) → Swept owns → maps.get (maps.insert owns p own) q ≡ Some Gone → ⊥
+inserted owns p q own there h e = go (eq_by_cmp nat_cmp q p) (sym (maps.get-insert nat_cmp_total owns p own q) ∙ e)
+  where
+    go : (b : Bool) → cond b (Some own) (maps.get owns q) ≡ Some Gone → ⊥
+    go true = there
+    go false = h q
+
+removed : (owns : Owns) (p q : ℕ) → Swept owns → maps.get (maps.remove owns p) q ≡ Some Gone → ⊥
+removed owns p q h e = go (eq_by_cmp nat_cmp q p) (sym (maps.get-remove nat_cmp_total owns p q) ∙ e)
+  where
+    go : (b : Bool) → cond b None (maps.get owns q) ≡ Some Gone → ⊥
+    go true = λ f. cc f
+    go false = h q
+
+swept_placed : (owns : Owns) (p : ℕ) (own : Own Body) → Swept owns → Swept (placed owns p own)
+swept_placed owns p (Alive b stage) h q e = inserted owns p q (Alive b stage) (λ f. cc f) h e
+swept_placed owns p (Dying w) h q e = inserted owns p q (Dying w) (λ f. cc f) h e
+swept_placed owns p Gone h q e = removed owns p q h e
+
+swept_bore : (r : Running Shared Body) (e : Effect Body) → IsSwept r → IsSwept (bore r e)
+swept_bore r Plain h = h
+swept_bore r Execed h = h
+swept_bore r (Forked b) h = λ q e. inserted r.owns r.child q (Alive b Born) (λ f. cc f) h e
+
+swept_turn : (follow : Bool) (r : Running Shared Body) (p : ℕ) → IsSwept r → IsSwept (running_turn linux no_script follow r p)
+swept_turn follow r p h = swept_bore (ran r p (turn_out linux no_script follow r p)) (turn_out linux no_script follow r p).event (swept_placed r.owns p (turn_out linux no_script follow r p).own h)
+
+swept_either : (b : Bool) (r s : Running Shared Body) → IsSwept r → IsSwept s → IsSwept (cond b r s)
+swept_either true r s h g = h
+swept_either false r s h g = g
+
+swept_to : (v : Linux_host) (p message : ℕ) (t : Proc Body) (held : Bool) (w : Option Watch) (own : Own Body) (q : Ask) → IsSwept v.running → IsSwept (hosting_to linux v p message t held w own q).hosting.running
+swept_to v p message t true (Some w) (Alive b stage) q h = swept_placed v.running.owns p (stopped linux t b stage message q).proc.own h
+swept_to v p message t true (Some w) (Dying word) q h = h
+swept_to v p message t true (Some w) Gone q h = h
+swept_to v p message t true None own q h = swept_placed v.running.owns p (unseized t q).proc.own h
+swept_to v p message t false w own q h = h
+
+swept_took : (v : Linux_host) (rest : List Report) (p : ℕ) (s : Stop) → IsSwept v.running → IsSwept (took_report v rest p s).running
+swept_took v rest p (Syscall_stop good) h = h
+swept_took v rest p (Signal_stop signal) h = h
+swept_took v rest p (Event_stop event) h = h
+swept_took v rest p (Ended word) h = h
+
+swept_wait : (v : Linux_host) (queue : List Report) (pids : List ℕ) → IsSwept v.running → IsSwept (hosting_wait v queue pids).hosting.running
+swept_wait v [] [] h = h
+swept_wait v [] (q ∷ qs) h = h
+swept_wait v (r ∷ rest) qs h = swept_took v rest r.pid r.stop h
+
+swept_serve : (outcome : Shared → Outcome) (v : Linux_host) (q : Request) → IsSwept v.running → IsSwept (hosting_serve linux outcome v q).hosting.running
+swept_serve outcome v (Boot_with boot limit words) h = h
+swept_serve outcome v Wait h = swept_wait v v.queue v.tracees h
+swept_serve outcome v (To p q) h = swept_to v p (traced_at v p).message (proc_in v p) (traced_at v p).held (traced_at v p).watch (at Gone v.running.owns p) q h
+swept_serve outcome v Ask_outcome h = h
+
+swept_pending : (outcome : Shared → Outcome) (v : Linux_host) (x : Option Request) → IsSwept v.running → IsSwept (hosting_pending linux outcome v x).hosting.running
+swept_pending outcome v None h = h
+swept_pending outcome v (Some q) h = swept_serve outcome v q h
+
+pub swept_event : (outcome : Shared → Outcome) (follow : Bool) (v : Linux_host) (e : Event) → IsSwept v.running → IsSwept (hosting_event linux outcome follow v e).hosting.running
+swept_event outcome follow v (Turn p) h = subst IsSwept (sym (hosts_run_the_kernel linux follow v p)) (swept_either (is_effective linux v.running.shared p (proc_in v p)) (running_turn linux no_script follow v.running p) v.running (swept_turn follow v.running p h) h)
+swept_event outcome follow v Serve h = swept_pending outcome v v.pending h
+
+pub swept_first : (s : Shared) (b : Body) → IsSwept (first_running s b)
+swept_first s b q e = inserted maps.empty 1 q (Alive b Born) (λ f. cc f) (λ p f. cc (sym (maps.get-empty nat_cmp p) ∙ f)) e
+
+-- Modes
+
+mode_of : ℕ → Option Mode
+mode_of n = cond (n == 1) (Some mode.Born) (cond (n == 2) (Some mode.Run) (cond (n == 3) (Some mode.Faulting) (cond (n == 4) (Some mode.Entered) (cond (n == 5) (Some mode.Doing) (cond (n == 6) (Some mode.Acted) (cond (n == 7) (Some mode.Finished) (cond (n == 8) (Some mode.Taken) (cond (n == 9) (Some mode.Dying) (cond (n == 10) (Some mode.Zombie) None)))))))))
+
+back : (x : Option Mode) → mode_of (mode_number x) ≡ x
+unfolding mode_of
+back None = refl
+back (Some mode.Born) = refl
+back (Some mode.Run) = refl
+back (Some mode.Faulting) = refl
+back (Some mode.Entered) = refl
+back (Some mode.Doing) = refl
+back (Some mode.Acted) = refl
+back (Some mode.Finished) = refl
+back (Some mode.Taken) = refl
+back (Some mode.Dying) = refl
+back (Some mode.Zombie) = refl
+
+equal_numbers : (m n : ℕ) → (m == n) ≡ true → m ≡ n
+equal_numbers m n h = grind (arith, nat_tests)
+
+same_number : (m n : ℕ) → m ≡ n → (m == n) ≡ true
+same_number m n h = grind (arith, nat_tests)
+
+same_is : (x y : Option Mode) → same_mode x y ≡ true → x ≡ y
+same_is x y h = sym (back x) ∙ ap mode_of (equal_numbers (mode_number x) (mode_number y) h) ∙ back y
+
+abbrev Moves : Option Mode → Option Mode → Type 0
+Moves x y = (x ≡ Some mode.Run) ⊎ (y ≢ x)
+
+to_moves : (x y : Option Mode) (r s : Bool) → is_run x ≡ r → same_mode x y ≡ s → (r || not s) ≡ true → Moves x y
+to_moves x y true s e f h = inl (same_is x (Some mode.Run) e)
+to_moves x y false true e f h = absurd (cc h)
+to_moves x y false false e f h = inr (λ g. cc (sym f ∙ same_number (mode_number x) (mode_number y) (ap mode_number (sym g))))
+
+from_moves : (x y : Option Mode) (r s : Bool) → is_run x ≡ r → same_mode x y ≡ s → Moves x y → (r || not s) ≡ true
+from_moves x y true s e f h = refl
+from_moves x y false false e f h = refl
+from_moves x y false true e f h = elim h [ inl g ↦ absurd (cc (sym e ∙ ap is_run g)) | inr g ↦ absurd (g (sym (same_is x y f))) ]
+
+by_both : (r s : Bool) → (r ≡ true → s ≡ true) → (s ≡ true → r ≡ true) → r ≡ s
+by_both true s f g = sym (f refl)
+by_both false true f g = g refl
+by_both false false f g = refl
+
+-- whether a process is able, as a test
+pub able_by_modes : (r : Bool) (x y : Option Mode) → (r ≡ true → Moves x y) → (Moves x y → r ≡ true) → r ≡ moves x y
+able_by_modes r x y f g = by_both r (moves x y) (λ e. from_moves x y (is_run x) (same_mode x y) refl refl (f e)) (λ e. g (to_moves x y (is_run x) (same_mode x y) refl refl e))
+
+buried_finished : (e : Entry) (l : Life) → is_finished (life_mode (Some (record e { life = l }))) ≡ false
+buried_finished e life.Alive = refl
+buried_finished e (life.Dying x) = refl
+buried_finished e (life.Zombie x) = refl
+
+-- no zombie is at the end of a call
+pub finished_by_mode : (x : Option Entry) (own : Own Body) → is_finished (kernel_mode x own) ≡ is_finished (own_mode own)
+finished_by_mode x (Alive b stage) = refl
+finished_by_mode x (Dying w) = refl
+finished_by_mode None Gone = refl
+finished_by_mode (Some e) Gone = buried_finished e e.life

@@ -1,0 +1,171 @@
+-- What a turn of the kernel tells is where its process stands.
+use Rattle.std.proofs.Common.{◌≡◌, ℕ, Bool, true, false, Option, Some, None, refl, sym, ap, ◌∙◌}
+use Rattle.std.specs.FinMap as maps
+use Rattle.lx_abi.specs.declared.log.Call.{Call}
+use Rattle.lx_abi.specs.declared.log.Cause.{Cause}
+use Rattle.lx_abi.specs.declared.log.Item.{Item}
+use Rattle.lx_abi.specs.declared.log.Mode.{Mode}
+use Rattle.lx_abi.specs.declared.log.Mode.TheVariants as mode
+use Rattle.lx_abi.specs.declared.script.Choice.{Choice}
+use Rattle.lx_abi.specs.declared.signal.Signal.{Signal}
+use Rattle.lx_model.specs.declared.stage.Deed.{Deed}
+use Rattle.lx_model.specs.declared.stage.Deed.TheVariants as deed
+use Rattle.lx_model.specs.declared.stage.Stage.{Stage}
+use Rattle.lx_model.specs.declared.stage.Stage.TheVariants.{Born, Run, Faulting, Entered, Doing, Replaced, Acted, Finished, Taken, Dropped}
+use Rattle.lx_model.specs.declared.stage.Own.{Own}
+use Rattle.lx_model.specs.declared.stage.Own.TheVariants.{Alive, Dying, Gone}
+use Rattle.lx_model.specs.Machine.{Machine, Ran, Goes, Calls, Faults, Takes, Answer, Refused, Returns, Jumps, Execs, Bears, Blocks, Ends, Took, Passes, Kills}
+use Rattle.lx_model.specs.Turn.{Event, Plain, Execed, Forked, Out, stepped, answered, took, lives, killed_or, turn}
+use Rattle.lx_model.specs.Deeds.{deed_of}
+use Rattle.lx_model.specs.Kernel.{choice_at, traces}
+use Rattle.lx_model.specs.Finite.{at, item_of, Running, ran, bore, own_mode}
+use Rattle.lx_model.proofs.Bridge.{at-placed}
+use Rattle.lx_abi.specs.Log.{entries}
+use Rattle.lx_abi.specs.Scripts.{choice_of}
+use Rattle.lx_kernel.specs.declared.state.Shared.{Shared}
+use Rattle.lx_kernel.specs.declared.state.Body.{Body}
+use Rattle.lx_kernel.specs.declared.state.Entry.{Entry}
+use Rattle.lx_kernel.specs.declared.state.Life.{Life}
+use Rattle.lx_kernel.specs.declared.state.Life.TheVariants as life
+use Rattle.lx_kernel.specs.Linux.{linux}
+use Rattle.lx_kernel.specs.Runs.{Run as KernelRun, turn_in, after_turn, mode_in, life_mode, own_mode as kernel_mode}
+use Rattle.lx_kernel.specs.Tracing.{own_in}
+use Rattle.pt_model.specs.declared.ptrace.Watch.{Watch}
+use Rattle.pt_model.specs.Ptrace.{tracee_stop, stop_at, is_dying}
+use Rattle.pt_model.specs.Hosting.{told_stop, ends_dying}
+use Rattle.pt_model.proofs.Hosts.{turns_tell}
+use Rattle.pt_model.proofs.Maps.{put_here}
+use Rattle.pt_kernel.specs.Stops.{turn_stop, stop_after, dies_after, is_alive, lives_in}
+
+-- who bears a child stands at its call
+
+module _ {S B : Type 0} (m : Machine S B) where
+  abbrev AtItsCall : Out S B → Type 0
+  AtItsCall o = deed_of o.event ≡ deed.Bore → own_mode o.own ≡ Some mode.Acted
+
+  stepped_at : (s : S) (p : ℕ) (b : B) (r : Ran S B) → AtItsCall (stepped m s p b r)
+  stepped_at s p b (Goes c) e = absurd (cc e)
+  stepped_at s p b Calls e = absurd (cc e)
+  stepped_at s p b (Faults signal cause) e = absurd (cc e)
+  stepped_at s p b (Takes t signal cause) e = absurd (cc e)
+
+  answered_at : (s : S) (child p : ℕ) (b : B) (call : Call) (a : Answer S B) → AtItsCall (answered m s child p b call a)
+  answered_at s child p b call (Refused n) e = absurd (cc e)
+  answered_at s child p b call (Returns t c x) e = absurd (cc e)
+  answered_at s child p b call (Jumps t c) e = absurd (cc e)
+  answered_at s child p b call (Execs t c) e = absurd (cc e)
+  answered_at s child p b call (Bears t c born) e = refl
+  answered_at s child p b call Blocks e = absurd (cc e)
+  answered_at s child p b call (Ends w) e = absurd (cc e)
+
+  took_at : (s : S) (p : ℕ) (signal : Signal) (cause : Cause) (t : Took S B) → AtItsCall (took m s p signal cause t)
+  took_at s p signal cause (Passes t c) e = absurd (cc e)
+  took_at s p signal cause (Kills w) e = absurd (cc e)
+
+  lives_at : (c : Choice) (s : S) (child p : ℕ) (b : B) (stage : Stage) → AtItsCall (lives m c s child p b stage)
+  lives_at c s child p b Born e = absurd (cc e)
+  lives_at c s child p b Run e = stepped_at s p b (m.step s p b) e
+  lives_at c s child p b (Faulting signal cause) e = absurd (cc e)
+  lives_at c s child p b (Entered joined) e = absurd (cc e)
+  lives_at c s child p b (Doing call) e = answered_at s child p b call (m.call s child p call b) e
+  lives_at c s child p b (Replaced call x) e = absurd (cc e)
+  lives_at c s child p b (Acted call x replaced) e = absurd (cc e)
+  lives_at c s child p b Finished e = absurd (cc e)
+  lives_at c s child p b (Taken signal cause) e = took_at s p signal cause (m.take s p signal cause b) e
+  lives_at c s child p b Dropped e = absurd (cc e)
+
+  killed_at : (killed : Bool) (c : Choice) (s : S) (child p : ℕ) (b : B) (stage : Stage) → AtItsCall (killed_or killed m c s child p b stage)
+  killed_at true c s child p b stage e = absurd (cc e)
+  killed_at false c s child p b stage e = lives_at c s child p b stage e
+
+  at_its_call : (c : Choice) (s : S) (child p : ℕ) (own : Own B) → AtItsCall (turn m c s child p own)
+  at_its_call c s child p (Alive b stage) e = killed_at (m.killed s p) c s child p b stage e
+  at_its_call c s child p (Dying w) e = absurd (cc e)
+  at_its_call c s child p Gone e = absurd (cc e)
+
+-- a zombie and who is gone have no stop
+
+buried_stop : (w : Watch) (e : Entry) (l : Life) (i : Option Item) (d : Deed) → told_stop w (life_mode (Some (record e { life = l }))) i d ≡ None
+buried_stop w e life.Alive i d = refl
+buried_stop w e (life.Dying x) i d = refl
+buried_stop w e (life.Zombie x) i d = refl
+
+gone_stop : (w : Watch) (x : Option Entry) (i : Option Item) (d : Deed) → told_stop w (life_mode x) i d ≡ None
+gone_stop w None i d = refl
+gone_stop w (Some e) i d = buried_stop w e e.life i d
+
+same_stop : (w : Watch) (x : Option Entry) (own : Own Body) (i : Option Item) (d : Deed) → told_stop w (kernel_mode x own) i d ≡ told_stop w (own_mode own) i d
+same_stop w x (Alive b stage) i d = refl
+same_stop w x (Dying v) i d = refl
+same_stop w x Gone i d = gone_stop w x i d
+
+buried_end : (e : Entry) (l : Life) → ends_dying (life_mode (Some (record e { life = l }))) ≡ false
+buried_end e life.Alive = refl
+buried_end e (life.Dying x) = refl
+buried_end e (life.Zombie x) = refl
+
+same_end : (x : Option Entry) (own : Own Body) → ends_dying (kernel_mode x own) ≡ ends_dying (own_mode own)
+same_end x (Alive b stage) = refl
+same_end x (Dying v) = refl
+same_end None Gone = refl
+same_end (Some e) Gone = buried_end e e.life
+
+-- The mode that a turn leaves
+
+abbrev stands : Running Shared Body → ℕ → Option Mode
+stands r p = kernel_mode (maps.get r.shared.entries p) (at Gone r.owns p)
+
+here : (v : Running Shared Body) (p : ℕ) (o : Out Shared Body) → at Gone (ran v p o).owns p ≡ o.own
+here v p o = ap (λ (f : ℕ → Own Body). f p) (at-placed v.owns p o.own) ∙ put_here (at Gone v.owns) p o.own
+
+module _ (v : Running Shared Body) (p : ℕ) (o : Out Shared Body) where
+  stop_of : (w : Watch) (e : Event Body) → told_stop w (own_mode o.own) (item_of o) (deed_of e) ≡ tracee_stop w o.own e → (deed_of e ≡ deed.Bore → own_mode o.own ≡ Some mode.Acted) →
+      turn_stop w (stands (bore (ran v p o) e) p) (item_of o) (deed_of e) ≡ tracee_stop w o.own e
+  stop_of w Plain told bears = ap (λ own. told_stop w (kernel_mode (maps.get o.shared.entries p) own) (item_of o) deed.Plain) (here v p o) ∙ same_stop w (maps.get o.shared.entries p) o.own (item_of o) deed.Plain ∙ told
+  stop_of w Execed told bears = ap (λ own. told_stop w (kernel_mode (maps.get o.shared.entries p) own) (item_of o) deed.Execed) (here v p o) ∙ same_stop w (maps.get o.shared.entries p) o.own (item_of o) deed.Execed ∙ told
+  stop_of w (Forked b) told bears = sym (ap (λ x. told_stop w x (item_of o) deed.Bore) (bears refl)) ∙ told
+
+  end_of : (e : Event Body) → ends_dying (own_mode o.own) ≡ is_dying o.own → (deed_of e ≡ deed.Bore → own_mode o.own ≡ Some mode.Acted) → dies_after (stands (bore (ran v p o) e) p) (deed_of e) ≡ is_dying o.own
+  end_of Plain told bears = ap (λ own. ends_dying (kernel_mode (maps.get o.shared.entries p) own)) (here v p o) ∙ same_end (maps.get o.shared.entries p) o.own ∙ told
+  end_of Execed told bears = ap (λ own. ends_dying (kernel_mode (maps.get o.shared.entries p) own)) (here v p o) ∙ same_end (maps.get o.shared.entries p) o.own ∙ told
+  end_of (Forked b) told bears = sym (ap ends_dying (bears refl)) ∙ told
+
+module _ (k : KernelRun) (p : ℕ) where
+  abbrev chosen_in : Choice
+  chosen_in = choice_at linux (choice_of k.script) (traces k.follow p) (λ n. entries p n k.running.log) (own_in k p)
+
+  pub stop_after_turn : (w : Option Watch) → stop_after w (mode_in (after_turn k p) p) (item_of (turn_in k p)) (deed_of (turn_in k p).event) ≡ stop_at w (turn_in k p).own (turn_in k p).event
+  stop_after_turn None = refl
+  stop_after_turn (Some w) = stop_of k.running p (turn_in k p) w (turn_in k p).event
+      (turns_tell linux chosen_in k.running.shared k.running.child p (own_in k p) w).0
+      (at_its_call linux chosen_in k.running.shared k.running.child p (own_in k p))
+
+  pub dies_after_turn : dies_after (mode_in (after_turn k p) p) (deed_of (turn_in k p).event) ≡ is_dying (turn_in k p).own
+  dies_after_turn = end_of k.running p (turn_in k p) (turn_in k p).event
+      (turns_tell linux chosen_in k.running.shared k.running.child p (own_in k p) (record { good = false; forks = false; execs = false })).1
+      (at_its_call linux chosen_in k.running.shared k.running.child p (own_in k p))
+
+-- Who lives, by its mode
+
+lives_at_stage : (stage : Stage) (b : Body) (x : Option Entry) → lives_in (kernel_mode x (Alive b stage)) ≡ true
+lives_at_stage Born b x = refl
+lives_at_stage Run b x = refl
+lives_at_stage (Faulting signal cause) b x = refl
+lives_at_stage (Entered joined) b x = refl
+lives_at_stage (Doing call) b x = refl
+lives_at_stage (Replaced call r) b x = refl
+lives_at_stage (Acted call r replaced) b x = refl
+lives_at_stage Finished b x = refl
+lives_at_stage (Taken signal cause) b x = refl
+lives_at_stage Dropped b x = refl
+
+buried_lives : (e : Entry) (l : Life) → lives_in (life_mode (Some (record e { life = l }))) ≡ false
+buried_lives e life.Alive = refl
+buried_lives e (life.Dying x) = refl
+buried_lives e (life.Zombie x) = refl
+
+pub lives_by_mode : (x : Option Entry) (own : Own Body) → lives_in (kernel_mode x own) ≡ is_alive own
+lives_by_mode x (Alive b stage) = lives_at_stage stage b x
+lives_by_mode x (Dying w) = refl
+lives_by_mode None Gone = refl
+lives_by_mode (Some e) Gone = buried_lives e e.life

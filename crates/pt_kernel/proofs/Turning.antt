@@ -1,0 +1,93 @@
+-- What a host keeps after a turn is what the ptrace machine does.
+use Rattle.std.proofs.Common.{◌≡◌, ℕ, Bool, true, false, cond, List, [], ◌∷◌, ◌++◌, Option, Some, None, refl, sym, ap, ap₂, ◌∙◌}
+use Rattle.lx_abi.specs.declared.log.Item.{Item}
+use Rattle.lx_abi.specs.declared.log.Mode.{Mode}
+use Rattle.lx_abi.specs.declared.ptrace.Request.{Request}
+use Rattle.lx_abi.specs.declared.status.Stop.{Stop}
+use Rattle.lx_abi.specs.Scripts.{choice_of}
+use Rattle.lx_model.specs.declared.stage.Deed.{Deed}
+use Rattle.lx_model.specs.Turn.{Event, Plain, Execed, Forked, Out}
+use Rattle.lx_model.specs.Deeds.{deed_of}
+use Rattle.lx_model.specs.Finite.{at, item_of, Running, ran, bore, turn_out}
+use Rattle.lx_kernel.specs.declared.state.Shared.{Shared}
+use Rattle.lx_kernel.specs.declared.state.Body.{Body}
+use Rattle.lx_kernel.specs.Linux.{linux}
+use Rattle.lx_kernel.specs.Runs.{Run as KernelRun, turn_in, after_turn, mode_in}
+use Rattle.lx_kernel.specs.Tracing.{own_in}
+use Rattle.pt_model.specs.declared.ptrace.Watch.{Watch}
+use Rattle.pt_model.specs.declared.ptrace.Traced.{Traced}
+use Rattle.pt_model.specs.Ptrace.{stop_at, is_dying, is_effective, reports_of, without, inherits}
+use Rattle.pt_model.specs.Hosting.{as_proc, untraced, no_script, hosted, hosting_turn, with_newborn}
+use Rattle.pt_model.proofs.Hosts.{empty_script_is_none}
+use Rattle.pt_kernel.specs.declared.tracees.Tracees.{Tracees}
+use Rattle.pt_kernel.specs.declared.tracees.Turned.{Turned}
+use Rattle.pt_kernel.specs.Stops.{stop_after, dies_after}
+use Rattle.pt_kernel.specs.Tracees.{stopped_at, with_child, after_turn as tracees_after}
+use Rattle.pt_kernel.specs.Hosts.{Linux_host, hosting_by}
+use Rattle.pt_kernel.proofs.Telling.{stop_after_turn, dies_after_turn}
+
+abbrev turned_by : Option Watch → Out Shared Body → Event Body → ℕ → Turned
+turned_by w o e child = record { stop = stop_at w o.own e; dying = is_dying o.own; deed = deed_of e; child = child }
+
+module _ (r : Running Shared Body) (x : Tracees) (turns : List ℕ) (pending : Option Request) where
+  child_is : (s : Running Shared Body) (y : Tracees) (ts : List ℕ) (child : ℕ) (w : Option Watch) → with_newborn (hosting_by s y ts pending) child w ≡ hosting_by s (with_child y child w) ts pending
+  child_is s y ts child None = refl
+  child_is s y ts child (Some w) = refl
+
+  hosted_at : (p : ℕ) (t : Traced) (o : Out Shared Body) (w : Option Watch) (e : Event Body) →
+      hosted (hosting_by r x turns pending) p (record t { watch = w }) (record o { event = e })
+      ≡ hosting_by (bore (ran r p (record o { event = e })) e) (tracees_after x p (record t { watch = w }) (turned_by w o e r.child)) (turns ++ p ∷ []) pending
+  hosted_at p t o None Plain = refl
+  hosted_at p t o None Execed = refl
+  hosted_at p t o None (Forked b) = refl
+  hosted_at p t o (Some w) Plain = refl
+  hosted_at p t o (Some w) Execed = refl
+  hosted_at p t o (Some w) (Forked b) = child_is (bore (ran r p (record o { event = Forked b })) (Forked b))
+      (record { traced = stopped_at x.traced p t.message (Some w) (turned_by (Some w) o (Forked b) r.child); queue = cond (is_dying o.own) (without p x.queue) x.queue ++ reports_of p (stop_at (Some w) o.own (Forked b)); pids = x.pids })
+      (turns ++ p ∷ []) r.child (inherits (Some w))
+
+  -- a turn that is effective
+  turn_is : (k : KernelRun) (p : ℕ) → r ≡ k.running → k.script ≡ [] → turn_in k p ≡ turn_out linux no_script k.follow r p
+  turn_is k p e s = ap₂ (λ script v. turn_out linux script k.follow v p) (ap choice_of s ∙ empty_script_is_none) (sym e)
+
+module _ (k : KernelRun) (x : Tracees) (turns : List ℕ) (pending : Option Request) (p : ℕ) (t : Traced) (known : t ≡ at untraced x.traced p) where
+  abbrev v : Linux_host
+  v = hosting_by k.running x turns pending
+
+  abbrev turned : Option Stop → Bool → Deed → ℕ → Turned
+  turned stop dying d child = record { stop = stop; dying = dying; deed = d; child = child }
+
+  abbrev told : Option Stop → Bool → Deed → Turned
+  told stop dying d = record { stop = stop; dying = dying; deed = d; child = k.running.child }
+
+  pub turn_done : k.script ≡ [] → is_effective linux k.running.shared p (as_proc (own_in k p) t) ≡ true →
+      hosting_by (after_turn k p).running (tracees_after x p t (told (stop_after t.watch (mode_in (after_turn k p) p) (item_of (turn_in k p)) (deed_of (turn_in k p).event)) (dies_after (mode_in (after_turn k p) p) (deed_of (turn_in k p).event)) (deed_of (turn_in k p).event))) (turns ++ p ∷ []) pending
+      ≡ hosting_turn linux k.follow v p
+  turn_done empty effective =
+      ap₂ (λ stop dying. hosting_by (after_turn k p).running (tracees_after x p t (told stop dying (deed_of (turn_in k p).event))) (turns ++ p ∷ []) pending) (stop_after_turn k p t.watch) (dies_after_turn k p)
+      ∙ sym (hosted_at k.running x turns pending p t (turn_in k p) t.watch (turn_in k p).event)
+      ∙ ap (λ o. hosted v p t o) (turn_is k.running x turns pending k p refl empty)
+      ∙ ap (λ u. hosted v p u (turn_out linux no_script k.follow k.running p)) known
+      ∙ ap (λ b. cond b (hosted v p (at untraced x.traced p) (turn_out linux no_script k.follow k.running p)) v) (sym (ap (λ u. is_effective linux k.running.shared p (as_proc (own_in k p) u)) (sym known) ∙ effective))
+
+  pub no_turn : is_effective linux k.running.shared p (as_proc (own_in k p) t) ≡ false → v ≡ hosting_turn linux k.follow v p
+  no_turn held = ap (λ b. cond b (hosted v p (at untraced x.traced p) (turn_out linux no_script k.follow k.running p)) v) (sym (ap (λ u. is_effective linux k.running.shared p (as_proc (own_in k p) u)) (sym known) ∙ held))
+
+  -- by the parts of the host that the turn left
+  module _ (k' : KernelRun) (x' : Tracees) (turns' : List ℕ) (stop : Option Stop) (dying : Bool) (d : Deed) (after : Option Mode) (item : Option Item) (child : ℕ) where
+    pub turn_made : k.script ≡ [] → is_effective linux k.running.shared p (as_proc (own_in k p) t) ≡ true → k' ≡ after_turn k p →
+        after ≡ mode_in k' p → item ≡ item_of (turn_in k p) → d ≡ deed_of (turn_in k p).event →
+        stop ≡ stop_after t.watch after item d → dying ≡ dies_after after d → child ≡ k.running.child →
+        x' ≡ tracees_after x p t (record { stop = stop; dying = dying; deed = d; child = child }) → turns' ≡ turns ++ p ∷ [] →
+        hosting_by k'.running x' turns' pending ≡ hosting_turn linux k.follow v p
+    turn_made empty effective e_k e_after e_item e_d e_stop e_dying e_child e_x e_turns =
+        let a : after ≡ mode_in (after_turn k p) p = e_after ∙ ap (λ l. mode_in l p) e_k in
+        let s : stop ≡ stop_after t.watch (mode_in (after_turn k p) p) (item_of (turn_in k p)) (deed_of (turn_in k p).event) =
+        e_stop ∙ ap (λ y. stop_after t.watch y item d) a ∙ ap (λ i. stop_after t.watch (mode_in (after_turn k p) p) i d) e_item ∙ ap (λ y. stop_after t.watch (mode_in (after_turn k p) p) (item_of (turn_in k p)) y) e_d in
+        let g : dying ≡ dies_after (mode_in (after_turn k p) p) (deed_of (turn_in k p).event) =
+        e_dying ∙ ap (λ y. dies_after y d) a ∙ ap (dies_after (mode_in (after_turn k p) p)) e_d in
+        let b : turned stop dying d child ≡ told (stop_after t.watch (mode_in (after_turn k p) p) (item_of (turn_in k p)) (deed_of (turn_in k p).event)) (dies_after (mode_in (after_turn k p) p) (deed_of (turn_in k p).event)) (deed_of (turn_in k p).event) =
+        ap (λ c. turned stop dying d c) e_child ∙ ap₂ (λ y z. told y z d) s g ∙ ap (λ y. told (stop_after t.watch (mode_in (after_turn k p) p) (item_of (turn_in k p)) (deed_of (turn_in k p).event)) (dies_after (mode_in (after_turn k p) p) (deed_of (turn_in k p).event)) y) e_d in
+        ap (λ (l : KernelRun). hosting_by l.running x' turns' pending) e_k
+        ∙ ap₂ (λ y ts. hosting_by (after_turn k p).running y ts pending) (e_x ∙ ap (tracees_after x p t) b) e_turns
+        ∙ turn_done empty effective

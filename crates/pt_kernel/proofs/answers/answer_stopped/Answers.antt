@@ -1,0 +1,47 @@
+use Rattle.std.proofs.Common.{sym, ap, ◌∙◌}
+use Rattle.lx_abi.specs.declared.ptrace.Reply.TheVariants.{Done as Agreed, Message as Message_is}
+use Rattle.lx_model.specs.declared.stage.Own.TheVariants.{Alive}
+use Rattle.lx_kernel.specs.declared.state.Body.{Body}
+use Rattle.lx_kernel.specs.Linux.{linux}
+use Rattle.lx_kernel.specs.Tracing.{with_part, with_regs}
+use Rattle.pt_model.specs.Requests.{says, stopped}
+use Rattle.pt_model.specs.Hosting.{as_proc}
+use Rattle.pt_kernel.proofs.Answering.{answer_reads, answer_writes}
+use Rattle.pt_kernel.proofs.answers.answer_stopped.Goals as goal
+
+pub returns-in-Seize : goal.returns-in-Seize
+returns-in-Seize c = λ b stage e.
+    let t = as_proc {B = Body} (Alive b stage) c.args.traced in
+    answer_reads c.args.kernel.now c.args.tracees.now c.args.pid c.args.traced c.requires b stage e _ c.refusal.result
+    (ap (stopped linux t b stage c.args.traced.message) c.in-Seize.is ∙ ap (says t) (sym c.refusal.ensures))
+
+pub returns-in-GetRegs : goal.returns-in-GetRegs
+returns-in-GetRegs c = λ b stage e.
+    let t = as_proc {B = Body} (Alive b stage) c.args.traced in
+    answer_reads c.args.kernel.now c.args.tracees.now c.args.pid c.args.traced c.requires b stage e _ c.get_regs.result
+    (ap (stopped linux t b stage c.args.traced.message) c.in-GetRegs.is ∙ ap (says t) (sym (c.get_regs.ensures b stage e)))
+
+pub returns-in-SetRegs : goal.returns-in-SetRegs
+returns-in-SetRegs c = λ b stage e.
+    let t = as_proc {B = Body} (Alive b stage) c.args.traced in
+    answer_writes c.args.kernel.now c.args.tracees.now c.args.pid c.args.traced c.requires _ Agreed (Alive (linux.with_regs b c.in-SetRegs.registers) stage) c.set_regs.new.self
+    (ap (stopped linux t b stage c.args.traced.message) c.in-SetRegs.is)
+    (c.set_regs.ensures.part ∙ ap (λ own. with_part c.args.kernel.now c.args.pid (with_regs c.in-SetRegs.registers own)) e)
+
+pub returns-in_ok-reply-in-Peek : goal.returns-in_ok-reply-in-Peek
+returns-in_ok-reply-in-Peek c = λ b stage e.
+    let t = as_proc {B = Body} (Alive b stage) c.args.traced in
+    answer_reads c.args.kernel.now c.args.tracees.now c.args.pid c.args.traced c.requires b stage e _ c.in_ok-reply-in-Peek.reply
+    (ap (stopped linux t b stage c.args.traced.message) c.in-Peek.is ∙ ap (says t) (sym (c.in_ok-reply-in-Peek.ensures b stage e)))
+
+pub returns-in-EventMsg : goal.returns-in-EventMsg
+returns-in-EventMsg c = λ b stage e.
+    let t = as_proc {B = Body} (Alive b stage) c.args.traced in
+    answer_reads c.args.kernel.now c.args.tracees.now c.args.pid c.args.traced c.requires b stage e _ (Message_is c.from.result)
+    (ap (stopped linux t b stage c.args.traced.message) c.in-EventMsg.is ∙ ap (λ m. says t (Message_is m)) (sym c.from.ensures))
+
+pub returns-in-SigInfo : goal.returns-in-SigInfo
+returns-in-SigInfo c = λ b stage e.
+    let t = as_proc {B = Body} (Alive b stage) c.args.traced in
+    answer_reads c.args.kernel.now c.args.tracees.now c.args.pid c.args.traced c.requires b stage e _ c.sig_info.result
+    (ap (stopped linux t b stage c.args.traced.message) c.in-SigInfo.is ∙ ap (says t) (sym (c.sig_info.ensures b stage e)))

@@ -1,0 +1,5 @@
+use Rattle.pt_kernel.proofs.LinuxTold.{linux_told}
+use Rattle.pt_kernel.proofs.laws.linux_is_told.Goals as goal
+
+pub returns : goal.returns
+returns c = linux_told

@@ -1,0 +1,42 @@
+-- A host that attends to its pending request: events of a schedule until it is answered.
+use Rattle.std.specs.Prelude.{◌≡◌, ℕ, List, [], ◌∷◌, Option, Some, None, false}
+use Rattle.lx_abi.specs.declared.ptrace.Reply.{Reply}
+use Rattle.lx_abi.specs.declared.schedule.Event.{Event}
+use Rattle.pt_kernel.specs.declared.schedule.Order.{Order}
+use Rattle.pt_kernel.specs.declared.schedule.Order.TheVariants as order
+use Rattle.pt_kernel.specs.declared.schedule.Schedule.{Schedule}
+use Rattle.pt_kernel.specs.Schedules.{Given, next_of}
+use Rattle.pt_kernel.specs.Hosts.{HostState, sight_of, event_of}
+
+-- the host after an event
+abbrev pub after : HostState → Event → HostState
+after h e = record { hosting = (event_of h e).hosting; follow = h.follow; failed = false }
+
+-- where host and schedule stand in the end, and what was answered: none where the schedule ended before
+pub record Attended : Type 0 where
+  pub host : HostState
+  pub schedule : Schedule
+  pub reply : Option Reply
+
+-- an event that answers is the last one
+abbrev pub GoesOn : HostState → Schedule → List Event → Attended → Option Reply → Type 0 → Type 0
+GoesOn h s es z (Some r) again = (es ≡ []) × (z ≡ record { host = h; schedule = s; reply = Some r })
+GoesOn h s es z None again = again
+
+-- each event is the schedule's next as the host stands, and the schedule has ended after the last one that answers nothing
+abbrev pub IsFed : HostState → Schedule → List Event → Attended → Type 0
+IsFed h s [] z = ((next_of s (sight_of h)).event ≡ None) × (z ≡ record { host = h; schedule = (next_of s (sight_of h)).schedule; reply = None })
+IsFed h s (e ∷ es) z = ((next_of s (sight_of h)).event ≡ Some e) × GoesOn (after h e) (next_of s (sight_of h)).schedule es z (event_of h e).reply (IsFed (after h e) (next_of s (sight_of h)).schedule es z)
+
+pub record Attends (h : HostState) (s : Schedule) (z : Attended) : Type 0 where
+  -- the events that the schedule gave
+  pub fed : List Event
+  pub is_fed : IsFed h s fed z
+
+-- how many events a schedule may still give
+abbrev pub left_in : Order → ℕ
+left_in (order.Listed l) = l.left
+left_in (order.Worded w) = w.left
+
+abbrev pub events_left : Schedule → ℕ
+events_left s = left_in s.order

@@ -1,0 +1,113 @@
+-- The host: the ptrace machine at Linux.
+use Rattle.std.specs.Prelude.{◌≡◌, ℕ, Bool, true, false, cond, not, ◌&&◌, ◌||◌, List, [], ◌∷◌, ◌++◌, Option, Some, None}
+use Rattle.std.specs.FinMap as maps
+use Rattle.lx_abi.specs.declared.log.Mode.{Mode}
+use Rattle.lx_abi.specs.declared.outcome.Outcome.{Outcome}
+use Rattle.lx_abi.specs.declared.ptrace.Ask.{Ask}
+use Rattle.lx_abi.specs.declared.ptrace.Reply.{Reply}
+use Rattle.lx_abi.specs.declared.ptrace.Request.{Request}
+use Rattle.lx_abi.specs.declared.schedule.Event.{Event}
+use Rattle.lx_abi.specs.declared.status.EventStop.TheVariants.{Stop as At_start}
+use Rattle.lx_abi.specs.declared.status.Stop.TheVariants.{Event as Event_stop}
+use Rattle.lx_model.specs.declared.stage.Stage.{Stage}
+use Rattle.lx_model.specs.declared.stage.Own.{Own}
+use Rattle.lx_model.specs.declared.stage.Own.TheVariants.{Alive, Gone}
+use Rattle.lx_model.specs.Finite.{at, Running, with_own, own_mode, turn_out}
+use Rattle.lx_kernel.specs.declared.state.Shared.{Shared}
+use Rattle.lx_kernel.specs.declared.state.Body.{Body}
+use Rattle.lx_kernel.specs.Linux.{linux}
+use Rattle.lx_kernel.specs.Outcomes.{files_of, ends_of}
+use Rattle.lx_kernel.specs.Runs.{Run as KernelRun}
+use Rattle.lx_kernel.specs.Tracing.{own_in}
+use Rattle.pt_model.specs.declared.ptrace.Traced.{Traced}
+use Rattle.pt_model.specs.Ptrace.{is_effective}
+use Rattle.pt_model.specs.Requests.{Answered, stopped}
+use Rattle.pt_model.specs.Hosting.{Hosting, Hosted, as_proc, proc_in, no_script, ready_in, hosting_event, IsFresh}
+use Rattle.pt_kernel.specs.Stops.{is_finished, is_run, same_mode}
+use Rattle.pt_kernel.specs.Schedules.{Sight}
+use Rattle.pt_kernel.specs.declared.tracees.Tracees.{Tracees}
+use Rattle.pt_kernel.specs.declared.traced_kernel.TracedKernel.{TracedKernel}
+
+abbrev pub Linux_host : Type 0
+Linux_host = Hosting Shared Body
+
+abbrev pub hosting_by : Running Shared Body → Tracees → List ℕ → Option Request → Linux_host
+hosting_by running x turns pending = record { running = running; traced = x.traced; queue = x.queue; tracees = x.pids; turns = turns; pending = pending }
+
+abbrev pub hosting_of : TracedKernel → Linux_host
+hosting_of c = hosting_by c.kernel.running c.tracees c.turns c.pending
+
+-- the outcome has the words of the ends that were logged
+abbrev pub outcome_at : Running Shared Body → Shared → Outcome
+outcome_at k s = record { console = s.console; files = files_of s.files; ended = ends_of k.log }
+
+-- no process that is gone keeps a place in the table
+abbrev pub IsSwept : Running Shared Body → Type 0
+IsSwept k = (p : ℕ) → maps.get k.owns p ≡ Some Gone → ⊥
+
+-- What an answer leaves
+
+abbrev pub with_body : KernelRun → ℕ → Own Body → KernelRun
+with_body k p own = record k { running = with_own k.running p own }
+
+abbrev pub with_tracee : Tracees → ℕ → ℕ → Answered Body → Tracees
+with_tracee x p message a = record {
+  traced = maps.insert x.traced p (record { held = a.proc.held; watch = a.proc.watch; message = message });
+  queue = cond a.seized (x.queue ++ record { pid = p; stop = Event_stop At_start } ∷ []) x.queue;
+  pids = cond a.seized (x.pids ++ p ∷ []) x.pids;
+}
+
+pub record IsAnswer (k : KernelRun) (x : Tracees) (p message : ℕ) (a : Answered Body) (r : Reply) (k' : KernelRun) (x' : Tracees) : Type 0 where
+  pub kernel : k' ≡ with_body k p a.proc.own
+  pub tracees : x' ≡ with_tracee x p message a
+  pub reply : r ≡ a.reply
+
+-- a held tracee that lives is answered so
+abbrev pub Answers : KernelRun → Tracees → ℕ → Traced → Ask → Reply → KernelRun → Tracees → Type 0
+Answers k x p t q r k' x' = (b : Body) (stage : Stage) → own_in k p ≡ Alive b stage → IsAnswer k x p t.message (stopped linux (as_proc (Alive b stage) t) b stage t.message q) r k' x'
+
+-- it goes on from a stage, or the kernel is unchanged
+abbrev pub GoesOn : KernelRun → ℕ → Body → Option Stage → Bool → KernelRun → Type 0
+GoesOn k p b None goes k' = (goes ≡ false) × (k' ≡ k)
+GoesOn k p b (Some stage) goes k' = (goes ≡ true) × (k' ≡ with_body k p (Alive b stage))
+
+-- what an event leaves, and its reply
+abbrev pub made : Linux_host → Option Reply → Hosted Shared Body
+made v r = record { hosting = v; reply = r }
+
+-- The host's value
+
+pub record HostState : Type 0 where
+  pub hosting : Linux_host
+  -- every process is a tracee of the script; the ptrace machine's turns are under the empty one
+  pub follow : Bool
+  -- memory was refused, and the host does nothing any more
+  pub failed : Bool
+
+-- what a host that hasn't failed keeps
+pub record IsSound (k : TracedKernel) : Type 0 where
+  pub empty : k.kernel.script ≡ []
+  pub swept : IsSwept k.kernel.running
+  pub fresh : IsFresh (hosting_of k)
+
+abbrev pub state_of : TracedKernel → Bool → HostState
+state_of k failed = record { hosting = hosting_of k; follow = k.kernel.follow; failed = failed }
+
+-- What a schedule sees of it
+
+-- a turn from one mode to another runs an instruction or changes the mode
+abbrev pub moves : Option Mode → Option Mode → Bool
+moves before after = is_run before || not (same_mode before after)
+
+abbrev pub able_in : Linux_host → Bool → ℕ → Bool
+able_in v follow p = is_effective linux v.running.shared p (proc_in v p) && moves (own_mode (at Gone v.running.owns p)) (own_mode (turn_out linux no_script follow v.running p).own)
+
+abbrev pub sight_of : HostState → Sight
+sight_of h = record {
+  ready = ready_in h.hosting.pending h.hosting.queue h.hosting.tracees;
+  able = λ p. not h.failed && able_in h.hosting h.follow p;
+  finished = λ p. is_finished (own_mode (at Gone h.hosting.running.owns p));
+}
+
+abbrev pub event_of : HostState → Event → Hosted Shared Body
+event_of h e = hosting_event linux (outcome_at h.hosting.running) h.follow h.hosting e

@@ -1,0 +1,7 @@
+pub mod Lists
+pub mod Turns
+pub mod Tracees
+pub mod Schedules
+pub mod Stops
+pub mod Hosts
+pub mod Attends

@@ -1,0 +1,6 @@
+-- Lists.
+use Rattle.std.specs.Prelude.{Bool, true, false, List, [], ◌∷◌}
+
+abbrev pub is_nil : {X : Type 0} → List X → Bool
+is_nil [] = true
+is_nil (x ∷ xs) = false

@@ -1,0 +1,91 @@
+-- What a host keeps of the processes that a tracer has to do with (ptrace(2), wait(2)).
+use Rattle.std.specs.Prelude.{ℕ, ◌==◌, true, cond, not, List, [], ◌∷◌, ◌++◌, Option, Some, None, filter}
+use Rattle.std.specs.Ordering.{nat_cmp}
+use Rattle.std.specs.FinMap as maps
+use Rattle.lx_abi.specs.declared.ptrace.Reply.{Reply}
+use Rattle.lx_abi.specs.declared.status.EventStop.TheVariants.{Stop as At_start}
+use Rattle.lx_abi.specs.declared.status.Stop.{Stop}
+use Rattle.lx_abi.specs.declared.status.Stop.TheVariants.{Syscall as Syscall_stop, Signal as Signal_stop, Event as Event_stop, Ended}
+use Rattle.pt_model.specs.declared.ptrace.Watch.{Watch}
+use Rattle.pt_model.specs.declared.ptrace.Report.{Report}
+use Rattle.pt_model.specs.declared.ptrace.Traced.{Traced}
+use Rattle.lx_model.specs.declared.stage.Deed.{Deed}
+use Rattle.pt_model.specs.Ptrace.{is_there, reports_of, without}
+use Rattle.pt_model.specs.Requests.{echild, told}
+use Rattle.pt_model.specs.Hosting.{released}
+use Rattle.lx_model.specs.declared.stage.Deed.TheVariants as deed
+use Rattle.pt_kernel.specs.declared.tracees.Tracees.{Tracees}
+use Rattle.pt_kernel.specs.declared.tracees.Turned.{Turned}
+
+-- A turn
+
+-- the options of a child that was born, where it is a tracee
+abbrev pub heir : Option Watch → Deed → Option Watch
+heir None d = None
+heir (Some w) deed.Plain = None
+heir (Some w) deed.Execed = None
+heir (Some w) deed.Bore = cond w.forks (Some w) None
+
+-- what EventMsg answers from then on
+abbrev pub message_after : ℕ → ℕ → ℕ → Watch → Deed → ℕ
+message_after message p child w deed.Plain = message
+message_after message p child w deed.Execed = cond w.execs p message
+message_after message p child w deed.Bore = cond w.forks child message
+
+abbrev pub Traceds : Type 0
+Traceds = maps.FinMap nat_cmp Traced
+
+-- a tracee that has come to a stop is held; of who is none nothing is kept
+abbrev pub stopped_at : Traceds → ℕ → ℕ → Option Watch → Turned → Traceds
+stopped_at traced p message None t = traced
+stopped_at traced p message (Some w) t = maps.insert traced p (record { held = is_there t.stop; watch = Some w; message = message_after message p t.child w t.deed })
+
+-- a process becomes a tracee, and its EVENT_STOP is reported
+abbrev pub attached : Tracees → ℕ → Traced → Tracees
+attached x p traced = record {
+  traced = maps.insert x.traced p traced;
+  queue = x.queue ++ record { pid = p; stop = Event_stop At_start } ∷ [];
+  pids = x.pids ++ p ∷ [];
+}
+
+-- a child that is a tracee is held
+abbrev pub with_child : Tracees → ℕ → Option Watch → Tracees
+with_child x child None = x
+with_child x child (Some w) = attached x child (record { held = true; watch = Some w; message = 0 })
+
+-- the stop is reported last; a process that is dying has no earlier report
+abbrev pub after_turn : Tracees → ℕ → Traced → Turned → Tracees
+after_turn x p traced t = with_child (record {
+  traced = stopped_at x.traced p traced.message traced.watch t;
+  queue = cond t.dying (without p x.queue) x.queue ++ reports_of p t.stop;
+  pids = x.pids;
+}) t.child (heir traced.watch t.deed)
+
+-- Wait
+
+pub record Waited : Type 0 where
+  pub tracees : Tracees
+  pub reply : Option Reply
+
+abbrev pub took : Tracees → List Report → ℕ → Stop → Tracees
+took x rest p (Syscall_stop good) = record x { queue = rest }
+took x rest p (Signal_stop signal) = record x { queue = rest }
+took x rest p (Event_stop event) = record x { queue = rest }
+took x rest p (Ended word) = record {
+  traced = released x.traced p (maps.get x.traced p);
+  queue = rest;
+  pids = filter (λ q. not (p == q)) x.pids;
+}
+
+abbrev pub tells : Tracees → Option Reply → Waited
+tells x r = record { tracees = x; reply = r }
+
+abbrev pub waited : Tracees → List Report → List ℕ → Waited
+waited x [] [] = record { tracees = x; reply = Some echild }
+waited x [] (q ∷ qs) = record { tracees = x; reply = None }
+waited x (r ∷ rest) qs = record { tracees = took x rest r.pid r.stop; reply = Some (told r.pid r.stop) }
+
+-- Seize of process 1
+
+abbrev pub seized : Tracees → ℕ → Traced → Watch → Tracees
+seized x p traced w = attached x p (record { held = traced.held; watch = Some w; message = traced.message })

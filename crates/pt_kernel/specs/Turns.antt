@@ -1,0 +1,8 @@
+-- Turns in the order in which they were made.
+use Rattle.std.specs.Prelude.{ℕ, List, [], ◌∷◌, ◌++◌, replicate}
+use Rattle.pt_kernel.specs.declared.turns.TurnRun.{TurnRun}
+
+-- the pids of turns that are told as rows
+abbrev pub pids_of : List TurnRun → List ℕ
+pids_of [] = []
+pids_of (r ∷ rs) = replicate r.turns r.pid ++ pids_of rs

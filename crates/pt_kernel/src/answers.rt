@@ -1,0 +1,320 @@
+//! How a request to one process is answered (ptrace(2)).
+
+ghost use Rattle.std.specs.Prelude.{◌≡◌, ◌&&◌, ◌||◌, ◌==◌, true, false, cond, Some, None, IfOk, OnOk, ℕ, List, Option, is_some};
+ghost use Rattle.std.specs.FinMap as maps;
+ghost use Rattle.lx_abi.specs.declared.ptrace.Ask.TheVariants as Asks;
+ghost use Rattle.lx_model.specs.Finite.{at};
+ghost use Rattle.lx_model.specs.declared.stage.Stage.{Stage};
+ghost use Rattle.lx_model.specs.declared.stage.Own.TheVariants as Owns;
+ghost use Rattle.lx_model.specs.declared.stage.Stage.TheVariants as Stages;
+ghost use Rattle.lx_abi.specs.declared.signal.Signal.{Signal};
+ghost use Rattle.lx_abi.specs.Signals.{may_join};
+ghost use Rattle.lx_abi.specs.declared.log.Cause.{Cause};
+ghost use Rattle.lx_abi.specs.declared.ptrace.Request.{Request};
+ghost use Rattle.lx_kernel.specs.Runs.{Run as KernelRun};
+ghost use Rattle.lx_kernel.specs.Linux.{linux};
+ghost use Rattle.lx_kernel.specs.declared.state.Body.{Body};
+ghost use Rattle.lx_kernel.specs.Tracing.{own_in};
+ghost use Rattle.pt_model.specs.Ptrace.{watch_of};
+ghost use Rattle.pt_model.specs.Requests.{seize as seize_by, info_of, info_at, code_of, sender_of, status_of, address_of, may_peek, peeked, unseized};
+ghost use Rattle.pt_model.specs.Hosting.{as_proc, untraced, hosting_to};
+ghost use Rattle.pt_kernel.specs.Stops.{resumption, seize_options};
+ghost use Rattle.pt_kernel.specs.Hosts.{hosting_by, made, IsSwept, IsAnswer, Answers, GoesOn};
+
+use crate::stops::{is_alive, is_entered};
+use crate::tracees::Tracees;
+use lx_abi::{Ask, Bytes, Cause, Info, Reply, Signal};
+use lx_kernel::Kernel;
+use pt_model::{Traced, Watch};
+use std::alloc::AllocError;
+
+/// No such process (errno(3)); it comes before any other refusal.
+const ESRCH: u32 = 3;
+
+const EIO: u32 = 5;
+
+const EINVAL: u32 = 22;
+
+/// si_code of a signal that the kernel sends (sigaction(2)).
+const SI_KERNEL: u32 = 0x80;
+
+fn refusal(number: u32) -> Reply
+    ensures { result ≡ Reply.Errno number }
+{
+    Reply::Errno { number }
+}
+
+/// The options of these bits; none where there are other bits.
+fn watch_of(options: u32) -> Option<Watch>
+    ensures { result ≡ watch_of options }
+{
+    if options & 0x13 == options {
+        Some(Watch {
+            good: options & 1 == 1,
+            forks: options & 2 == 2,
+            execs: options & 0x10 == 0x10,
+        })
+    } else {
+        None
+    }
+}
+
+/// The siginfo_t of a signal.
+fn info_of(signal: Signal, cause: Cause) -> Info
+    ensures { result ≡ info_of signal cause }
+{
+    let (code, pid, status, address) = match cause {
+        Cause::Sent { pid } => (0, pid, 0, 0),
+        Cause::Kernel => (SI_KERNEL, 0, 0, 0),
+        Cause::Exited { pid, code } => (1, pid, u32::from(code), 0),
+        Cause::Killed { pid, signal } => (2, pid, u32::from(signal), 0),
+        Cause::Fault { code, address } => (u32::from(code), 0, 0, address),
+    };
+    Info {
+        signal: u32::from(signal.number),
+        code,
+        pid,
+        status,
+        address,
+    }
+}
+
+/// A signal that kill(2) takes.
+fn may_join(number: u32) -> bool
+    ensures { result ≡ may_join number }
+{
+    0 < number && number < 32 && !(18 <= number && number <= 22)
+}
+
+fn get_regs(kernel: &Kernel, pid: u32) -> Reply
+    ensures { (b : Body) (stage : Stage) → own_in kernel.now pid ≡ Owns.Alive b stage → result ≡ Reply.Registers (linux.regs b) }
+{
+    match kernel.regs(pid) {
+        Some(registers) => Reply::Registers { registers },
+        None => refusal(ESRCH),
+    }
+}
+
+fn peeked(bytes: Bytes) -> Reply
+    ensures { result ≡ peeked bytes }
+{
+    if bytes.is_empty() {
+        refusal(EIO)
+    } else {
+        Reply::Bytes { bytes }
+    }
+}
+
+fn peek(kernel: &Kernel, pid: u32, address: u64, length: u32) -> Result<Reply, AllocError>
+    ensures { IfOk result (λ r. (b : Body) (stage : Stage) → own_in kernel.now pid ≡ Owns.Alive b stage → r ≡ cond (may_peek length) (peeked (linux.peek b address length)) (Reply.Errno 22)) }
+{
+    if length < 1 || length > 4096 {
+        return Ok(refusal(EINVAL));
+    }
+    match kernel.peek(pid, address, length as usize)? {
+        Some(bytes) => Ok(peeked(bytes)),
+        None => Ok(refusal(ESRCH)),
+    }
+}
+
+fn sig_info(kernel: &Kernel, pid: u32) -> Reply
+    ensures { (b : Body) (stage : Stage) → own_in kernel.now pid ≡ Owns.Alive b stage → result ≡ info_at stage }
+{
+    match kernel.siginfo(pid) {
+        Some((signal, cause)) => Reply::Info {
+            info: info_of(signal, cause),
+        },
+        None => refusal(EINVAL),
+    }
+}
+
+/// A tracee at the entry of a call goes on, with a signal joined to it.
+fn resume_call(kernel: &mut Kernel, pid: u32, number: u32) -> bool
+    ensures { (b : Body) (joined : Option Signal) → own_in kernel.old pid ≡ Owns.Alive b (Stages.Entered joined) → GoesOn kernel.old pid b (resumption (Stages.Entered joined) number) result kernel.new }
+{
+    if number != 0 && !may_join(number) {
+        return false;
+    }
+    kernel.join(pid, Signal::from_number(u64::from(number)))
+}
+
+/// A tracee at a signal that it has taken goes on, with the signal or without it.
+fn resume_signal(kernel: &mut Kernel, pid: u32, taken: Signal, number: u32) -> bool
+    ensures { (b : Body) (cause : Cause) → own_in kernel.old pid ≡ Owns.Alive b (Stages.Taken taken cause) → GoesOn kernel.old pid b (resumption (Stages.Taken taken cause) number) result kernel.new }
+{
+    if u32::from(taken.number) == number {
+        return true;
+    }
+    if number != 0 {
+        return false;
+    }
+    kernel.skip(pid)
+}
+
+/// A tracee goes on; false, and nothing is changed, where the signal's number is refused.
+fn resume(kernel: &mut Kernel, pid: u32, number: u32) -> bool
+    ensures { (b : Body) (stage : Stage) → own_in kernel.old pid ≡ Owns.Alive b stage → GoesOn kernel.old pid b (resumption stage number) result kernel.new }
+{
+    if is_entered(kernel.mode(pid)) {
+        return resume_call(kernel, pid, number);
+    }
+    match kernel.siginfo(pid) {
+        Some((taken, _)) => resume_signal(kernel, pid, taken, number),
+        None => number == 0,
+    }
+}
+
+fn syscall(
+    kernel: &mut Kernel,
+    tracees: &mut Tracees,
+    pid: u32,
+    traced: Traced,
+    signal: u32,
+) -> Result<Reply, AllocError>
+    requires { maps.get tracees.old.traced pid ≡ Some traced }
+    ensures { IfOk result (λ r. Answers kernel.old tracees.old pid traced (Asks.Syscall signal) r kernel.new tracees.new) }
+{
+    if !resume(kernel, pid, signal) {
+        return Ok(refusal(EIO));
+    }
+    let released = Traced {
+        held: false,
+        watch: traced.watch,
+        message: traced.message,
+    };
+    tracees.set(pid, released)?;
+    Ok(Reply::Done)
+}
+
+fn set_options(
+    kernel: &Kernel,
+    tracees: &mut Tracees,
+    pid: u32,
+    traced: Traced,
+    options: u32,
+) -> Result<Reply, AllocError>
+    requires { maps.get tracees.old.traced pid ≡ Some traced }
+    ensures { IfOk result (λ r. Answers kernel.now tracees.old pid traced (Asks.SetOptions options) r kernel.now tracees.new) }
+{
+    match watch_of(options) {
+        None => Ok(refusal(EINVAL)),
+        Some(watch) => {
+            let watched = Traced {
+                held: traced.held,
+                watch: Some(watch),
+                message: traced.message,
+            };
+            tracees.set(pid, watched)?;
+            Ok(Reply::Done)
+        }
+    }
+}
+
+/// A held tracee that lives is answered.
+fn answer_stopped(
+    kernel: &mut Kernel,
+    tracees: &mut Tracees,
+    pid: u32,
+    traced: Traced,
+    ask: Ask,
+) -> Result<Reply, AllocError>
+    requires { maps.get tracees.old.traced pid ≡ Some traced }
+    ensures { IfOk result (λ r. Answers kernel.old tracees.old pid traced ask r kernel.new tracees.new) }
+{
+    match ask {
+        Ask::Seize { .. } => Ok(refusal(ESRCH)),
+        Ask::SetOptions { options } => {
+            let reply = set_options(kernel, tracees, pid, traced, options)?;
+            Ok(reply)
+        }
+        Ask::GetRegs => Ok(get_regs(kernel, pid)),
+        Ask::SetRegs { registers } => {
+            kernel.set_regs(pid, &registers);
+            Ok(Reply::Done)
+        }
+        Ask::Peek { address, length } => {
+            let reply = peek(kernel, pid, address, length)?;
+            Ok(reply)
+        }
+        Ask::Syscall { signal } => {
+            let reply = syscall(kernel, tracees, pid, traced, signal)?;
+            Ok(reply)
+        }
+        Ask::EventMsg => Ok(Reply::Message {
+            pid: u64::from(traced.message),
+        }),
+        Ask::SigInfo => Ok(sig_info(kernel, pid)),
+    }
+}
+
+fn seize_options(ask: Ask) -> Option<u32>
+    ensures { result ≡ seize_options ask }
+{
+    match ask {
+        Ask::Seize { options } => Some(options),
+        _ => None,
+    }
+}
+
+/// Process 1 becomes a tracee.
+fn seize(tracees: &mut Tracees, pid: u32, traced: Traced, options: u32) -> Result<Reply, AllocError>
+    requires { maps.get tracees.old.traced pid ≡ Some traced }
+    ensures { IfOk result (λ r. (k : KernelRun) → IsSwept k.running → IsAnswer k tracees.old pid traced.message (seize_by (as_proc (own_in k pid) traced) (watch_of options)) r k tracees.new) }
+{
+    match watch_of(options) {
+        None => Ok(refusal(EINVAL)),
+        Some(watch) => {
+            tracees.seize(pid, traced, watch)?;
+            Ok(Reply::Done)
+        }
+    }
+}
+
+/// Process 1 before Seize is answered: it can be seized, and nothing else.
+fn answer_unseized(
+    tracees: &mut Tracees,
+    pid: u32,
+    traced: Traced,
+    ask: Ask,
+) -> Result<Reply, AllocError>
+    requires { maps.get tracees.old.traced pid ≡ Some traced }
+    ensures { IfOk result (λ r. (k : KernelRun) → IsSwept k.running → IsAnswer k tracees.old pid traced.message (unseized (as_proc (own_in k pid) traced) ask) r k tracees.new) }
+{
+    match seize_options(ask) {
+        None => Ok(refusal(ESRCH)),
+        Some(options) => {
+            let reply = seize(tracees, pid, traced, options)?;
+            Ok(reply)
+        }
+    }
+}
+
+/// A request to a process is answered.
+pub fn answer(
+    kernel: &mut Kernel,
+    tracees: &mut Tracees,
+    pid: u32,
+    ask: Ask,
+) -> Result<Reply, AllocError>
+    requires { IsSwept kernel.old.running }
+    ensures answer { IfOk result (λ r. (turns : List ℕ) (pending : Option Request) → made (hosting_by kernel.new.running tracees.new turns pending) (Some r) ≡ hosting_to linux (hosting_by kernel.old.running tracees.old turns pending) pid (at untraced tracees.old.traced pid).message (as_proc (own_in kernel.old pid) (at untraced tracees.old.traced pid)) (at untraced tracees.old.traced pid).held (at untraced tracees.old.traced pid).watch (own_in kernel.old pid) ask) }
+    ensures script { OnOk result ((kernel.new.script ≡ kernel.old.script) × (kernel.new.follow ≡ kernel.old.follow)) }
+{
+    let traced = tracees.traced(pid);
+    if !traced.held {
+        return Ok(refusal(ESRCH));
+    }
+    match traced.watch {
+        None => {
+            let reply = answer_unseized(tracees, pid, traced, ask)?;
+            Ok(reply)
+        }
+        Some(_) => {
+            if !is_alive(kernel, pid) {
+                return Ok(refusal(ESRCH));
+            }
+            let reply = answer_stopped(kernel, tracees, pid, traced, ask)?;
+            Ok(reply)
+        }
+    }
+}

@@ -1,0 +1,146 @@
+//! The host: the ptrace machine around Linux.
+
+ghost use Rattle.std.specs.Prelude.{◌≡◌, ◌↔◌, [], Some, None, true, false, Err, IfOk, IfErr, OnOk, OnErr, IsErr, IsTrue, IsSome};
+ghost use Rattle.lx_kernel.specs.Boots.{fault_of, Refuses};
+ghost use Rattle.lx_kernel.specs.declared.boots.BootFault.{BootFault};
+ghost use Rattle.lx_kernel.specs.First.{first_shared};
+ghost use Rattle.lx_kernel.specs.Programs.{booted};
+ghost use Rattle.pt_model.specs.Hosting.{first_hosting, hosting_asked};
+ghost use Rattle.pt_kernel.specs.Hosts.{sight_of, event_of, outcome_at};
+
+use crate::system::System;
+use crate::traced_kernel::TracedKernel;
+use crate::tracees::Tracees;
+use crate::turns::Turns;
+use lx_abi::{Boot, Event, Outcome, Reply, Request, Script};
+use lx_kernel::{BootFault, Failed, Kernel};
+use std::alloc::{AllocError, Global};
+use std::marker::Model;
+
+/// A request is pending already.
+#[derive(Clone, Copy, Debug, PartialEq, Eq)]
+pub struct Busy;
+
+/// The kernel under the empty script, with a tracer's stops and at most one pending request.
+#[derive(Drop)]
+pub struct Host {
+    kernel: TracedKernel,
+    failed: bool,
+}
+
+impl Model for Host {
+    ghost use Rattle.std.specs.Prelude.{◌≡◌, false};
+    ghost use Rattle.std.specs.Coded.{codes};
+    ghost use Rattle.std.specs.FinMap as maps;
+    ghost use Rattle.pt_kernel.specs.Hosts.{HostState, state_of, IsSound};
+
+    ghost Value = { HostState };
+
+    ghost coded = { Prim.hlevel (codes, maps.code) };
+
+    ghost view = { λ h. state_of h.kernel h.failed };
+
+    ghost invariant = { λ h. h.failed ≡ false → IsSound h.kernel };
+}
+
+impl Host {
+    /// Process 1 is held until it is seized and resumed.
+    pub fn boot(alloc: Global, boot: Boot) -> Result<Self, BootFault>
+        ensures first { IfOk result (λ h. h ≡ record { hosting = first_hosting (first_shared boot.files boot.input) (booted boot.argv boot.env); follow = boot.follow; failed = false }) }
+        ensures accepted { OnOk result (fault_of boot ≡ None) }
+        ensures fault { IfErr result (Refuses boot) }
+
+        // A boot with a fault is refused with it, whatever the memory.
+        ensures refused { (e : BootFault) → fault_of boot ≡ Some e → result ≡ Err e }
+    {
+        let kernel = Kernel::boot(alloc, boot, Script::empty(alloc))?;
+        let tracees = Tracees::new(alloc)?;
+        Ok(Host {
+            kernel: TracedKernel {
+                kernel,
+                tracees,
+                turns: Turns::new(alloc),
+                pending: None,
+            },
+            failed: false,
+        })
+    }
+
+    /// Puts a request, which a Serve will answer. Where one is pending nothing changes.
+    pub fn ask(&mut self, request: Request) -> Result<(), Busy>
+        ensures put { OnOk result (hosting_asked self.old.hosting request self.old.hosting.pending ≡ Some self.new.hosting) }
+        ensures rest { OnOk result (self.new ≡ record self.old { hosting = self.new.hosting }) }
+        ensures busy { OnErr result (IsSome self.old.hosting.pending) }
+        ensures unchanged { OnErr result (self.new ≡ self.old) }
+    {
+        if self.kernel.pending.is_some() {
+            return Err(Busy);
+        }
+        self.kernel.pending = Some(request);
+        Ok(())
+    }
+
+    /// One event: a turn of a process, or the pending request served whole.
+    pub fn event(&mut self, event: Event) -> Result<Option<Reply>, Failed>
+        ensures after { OnOk result (self.new ≡ record { hosting = (event_of self.old event).hosting; follow = self.old.follow; failed = false }) }
+        ensures reply { IfOk result (λ r. r ≡ (event_of self.old event).reply) }
+
+        // Once memory was refused, every event answers so.
+        ensures failed { OnErr result (IsTrue self.new.failed) }
+        ensures failed_before { IsTrue self.old.failed → IsErr result }
+    {
+        if self.failed {
+            return Err(Failed);
+        }
+        self.failed = true;
+        let reply = self.kernel.event(event)?;
+        self.failed = false;
+        Ok(reply)
+    }
+
+    /// A request is pending, and would be answered.
+    pub fn ready(&self) -> bool
+        ensures { result ≡ (sight_of self.now).ready }
+    {
+        self.kernel.ready()
+    }
+
+    /// A turn of the process would run an instruction or change its mode; none would in a host that failed.
+    pub fn able(&self, pid: u32) -> bool
+        ensures { result ≡ (sight_of self.now).able pid }
+    {
+        !self.failed && self.kernel.able(pid)
+    }
+
+    /// The effective turns so far.
+    pub fn turns(&self) -> &Turns
+        ensures { result.now ≡ self.now.hosting.turns }
+    {
+        &self.kernel.turns
+    }
+
+    /// What is left of the run so far.
+    pub fn outcome(&self) -> Result<Outcome, AllocError>
+        ensures { IfOk result (λ o. o ≡ outcome_at self.now.hosting.running self.now.hosting.running.shared) }
+    {
+        self.kernel.kernel.outcome()
+    }
+}
+
+impl System for Host {
+    ghost use Rattle.pt_kernel.specs.Hosts.{sight_of};
+
+    ghost sight = { sight_of };
+
+    fn is_ready(&self) -> bool {
+        self.ready()
+    }
+
+    fn is_able(&self, pid: u32) -> bool {
+        self.able(pid)
+    }
+
+    fn has_finished(&self, pid: u32) -> bool {
+        self.kernel.has_finished(pid)
+    }
+}

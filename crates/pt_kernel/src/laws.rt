@@ -1,0 +1,23 @@
+//! Laws of the definitions.
+
+ghost use Rattle.pt_model.specs.Headline.{IsTold, HeadlineAt};
+ghost use Rattle.lx_kernel.specs.Linux.{linux};
+
+use lx_kernel::laws::linux_is_a_machine;
+use lx_kernel::state::{Body, Shared};
+use pt_model::laws::tracing_is_transparent;
+
+/// What wait(2) tells of Linux's calls fits their numbers, and no read of a memory gives more bytes than were asked for.
+pub fn linux_is_told()
+    ensures { IsTold linux }
+{}
+
+/// A traced run at Linux has the outcome of the untraced kernel under the script, turn by turn, and its trace is that
+/// kernel's.
+pub fn linux_is_transparent()
+    ensures { HeadlineAt linux }
+{
+    linux_is_a_machine();
+    linux_is_told();
+    tracing_is_transparent::<Shared, Body>();
+}

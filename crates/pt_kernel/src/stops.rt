@@ -1,0 +1,125 @@
+//! Where a process stands to its tracer.
+
+ghost use Rattle.std.specs.Prelude.{◌≡◌};
+ghost use Rattle.lx_kernel.specs.Linux.{linux};
+ghost use Rattle.lx_kernel.specs.Tracing.{own_in};
+ghost use Rattle.pt_model.specs.Ptrace.{is_effective};
+ghost use Rattle.pt_model.specs.Hosting.{as_proc, deed_stop, item_stop, mode_stop};
+ghost use Rattle.pt_kernel.specs.Stops.{stop_after, turn_stop, dies_after, is_alive, lives_in, is_entered, is_finished};
+
+use lx_abi::{EventStop, Item, Mode, Stop};
+use lx_kernel::Kernel;
+use lx_model::Deed;
+use pt_model::{Traced, Watch};
+
+fn deed_stop(watch: Watch, deed: Deed) -> Option<Stop>
+    ensures { result ≡ deed_stop watch deed }
+{
+    match deed {
+        Deed::Execed if watch.execs => Some(Stop::Event {
+            event: EventStop::Exec,
+        }),
+        Deed::Bore if watch.forks => Some(Stop::Event {
+            event: EventStop::Fork,
+        }),
+        Deed::Plain | Deed::Execed | Deed::Bore => None,
+    }
+}
+
+/// A signal that was taken, or an end, is that of the item.
+fn item_stop(item: Option<Item>) -> Option<Stop>
+    ensures { result ≡ item_stop item }
+{
+    match item? {
+        Item::Taken { signal, .. } => Some(Stop::Signal { signal }),
+        Item::Exit { word, .. } => Some(Stop::Ended { word }),
+        Item::Enter { .. } | Item::Done { .. } => None,
+    }
+}
+
+/// The stop of a tracee that has come to a mode.
+fn mode_stop(watch: Watch, mode: Mode, item: Option<Item>, deed: Deed) -> Option<Stop>
+    ensures { result ≡ mode_stop watch mode item deed }
+{
+    match mode {
+        Mode::Entered | Mode::Finished => Some(Stop::Syscall { good: watch.good }),
+        Mode::Acted => deed_stop(watch, deed),
+        Mode::Taken | Mode::Dying => item_stop(item),
+        Mode::Born | Mode::Run | Mode::Faulting | Mode::Doing | Mode::Zombie => None,
+    }
+}
+
+/// The stop of a tracee whose turn told this: one that bore a child stands at its call.
+fn turn_stop(watch: Watch, after: Option<Mode>, item: Option<Item>, deed: Deed) -> Option<Stop>
+    ensures { result ≡ turn_stop watch after item deed }
+{
+    match deed {
+        Deed::Bore => deed_stop(watch, deed),
+        Deed::Plain | Deed::Execed => mode_stop(watch, after?, item, deed),
+    }
+}
+
+/// The stop that a turn has come to; a process that is no tracee has none.
+pub fn stop_after(
+    watch: Option<Watch>,
+    after: Option<Mode>,
+    item: Option<Item>,
+    deed: Deed,
+) -> Option<Stop>
+    ensures { result ≡ stop_after watch after item deed }
+{
+    turn_stop(watch?, after, item, deed)
+}
+
+/// The turn has come to the process's end.
+pub fn dies_after(after: Option<Mode>, deed: Deed) -> bool
+    ensures { result ≡ dies_after after deed }
+{
+    match deed {
+        Deed::Bore => false,
+        Deed::Plain | Deed::Execed => matches!(after, Some(Mode::Dying)),
+    }
+}
+
+fn lives_in(mode: Option<Mode>) -> bool
+    ensures { result ≡ lives_in mode }
+{
+    match mode {
+        None | Some(Mode::Dying | Mode::Zombie) => false,
+        Some(_) => true,
+    }
+}
+
+/// At the entry of a call.
+pub fn is_entered(mode: Option<Mode>) -> bool
+    ensures { result ≡ is_entered mode }
+{
+    matches!(mode, Some(Mode::Entered))
+}
+
+/// At the end of a call.
+pub fn is_finished(mode: Option<Mode>) -> bool
+    ensures { result ≡ is_finished mode }
+{
+    matches!(mode, Some(Mode::Finished))
+}
+
+/// The process has not ended.
+pub fn is_alive(kernel: &Kernel, pid: u32) -> bool
+    ensures { result ≡ is_alive (own_in kernel.now pid) }
+{
+    lives_in(kernel.mode(pid))
+}
+
+/// A turn of a process reaches the kernel: its tracer doesn't hold it, or SIGKILL is pending for it.
+pub fn is_effective(kernel: &Kernel, pid: u32, traced: Traced) -> bool
+    ensures { result ≡ is_effective linux kernel.now.running.shared pid (as_proc (own_in kernel.now pid) traced) }
+{
+    if !traced.held {
+        return true;
+    }
+    match traced.watch {
+        None => false,
+        Some(_) => is_alive(kernel, pid) && kernel.is_killed(pid),
+    }
+}

@@ -1,0 +1,143 @@
+//! The kernel, and what a tracer has to do with its processes.
+
+ghost use Rattle.std.specs.Prelude.{◌≡◌, ◌∷◌, ◌++◌, [], Some, None, OnOk, IfOk, ℕ, List, Option};
+ghost use Rattle.std.specs.FinMap as maps;
+ghost use Rattle.lx_abi.specs.declared.ptrace.Request.{Request};
+ghost use Rattle.lx_model.specs.Finite.{at, own_mode};
+ghost use Rattle.lx_model.specs.declared.stage.Own.TheVariants.{Gone};
+ghost use Rattle.lx_kernel.specs.Linux.{linux};
+ghost use Rattle.lx_kernel.specs.Tracing.{own_in};
+ghost use Rattle.pt_model.specs.Ptrace.{is_effective};
+ghost use Rattle.pt_model.specs.Hosting.{as_proc, untraced, hosting_turn, hosting_serve, hosting_pending, hosting_event, ready_in};
+ghost use Rattle.pt_kernel.specs.Stops.{stop_after, dies_after, is_finished};
+ghost use Rattle.pt_kernel.specs.Hosts.{hosting_of, hosting_by, outcome_at, IsSwept, made, able_in};
+
+use crate::answers::answer;
+use crate::stops::{dies_after, is_effective, is_finished, stop_after};
+use crate::tracees::{Tracees, Turned};
+use crate::turns::Turns;
+use lx_abi::{Event, Reply, Request};
+use lx_kernel::{Failed, Kernel};
+
+/// The kernel under the empty script, its tracees, the effective turns so far, and the request that is pending.
+#[derive(Drop)]
+pub struct TracedKernel {
+    pub kernel: Kernel,
+    pub tracees: Tracees,
+    pub turns: Turns,
+    pub pending: Option<Request>,
+}
+
+impl TracedKernel {
+    /// One turn of a process, if its tracer doesn't hold it.
+    pub fn turn(&mut self, pid: u32) -> Result<(), Failed>
+        requires { self.old.kernel.script ≡ [] }
+        ensures turned { OnOk result (hosting_of self.new ≡ hosting_turn linux self.old.kernel.follow (hosting_of self.old) pid) }
+        ensures script { OnOk result (self.new.kernel.script ≡ self.old.kernel.script) }
+        ensures follow { OnOk result (self.new.kernel.follow ≡ self.old.kernel.follow) }
+    {
+        let traced = self.tracees.traced(pid);
+        if !is_effective(&self.kernel, pid, traced) {
+            return Ok(());
+        }
+        let child = self.kernel.next_pid();
+        let moved = self.kernel.turn(pid)?;
+        let turned = Turned {
+            stop: stop_after(traced.watch, moved.after, moved.item, moved.deed),
+            dying: dies_after(moved.after, moved.deed),
+            deed: moved.deed,
+            child,
+        };
+        self.tracees.turn(pid, traced, turned)?;
+        self.turns.push(pid)?;
+        Ok(())
+    }
+
+    /// A request is answered; none where Wait stays pending.
+    fn answer(&mut self, request: &Request) -> Result<Option<Reply>, Failed>
+        requires { IsSwept self.old.kernel.running }
+        ensures answer { IfOk result (λ r. (pending : Option Request) → made (hosting_by self.new.kernel.running self.new.tracees self.new.turns pending) r ≡ hosting_serve linux (outcome_at self.old.kernel.running) (hosting_by self.old.kernel.running self.old.tracees self.old.turns pending) request.now) }
+        ensures script { OnOk result ((self.new.kernel.script ≡ self.old.kernel.script) × (self.new.kernel.follow ≡ self.old.kernel.follow)) }
+        ensures pending { OnOk result (self.new.pending ≡ self.old.pending) }
+    {
+        match request {
+            Request::Boot { .. } => Ok(None),
+            Request::Wait => {
+                let reply = self.tracees.wait()?;
+                Ok(reply)
+            }
+            Request::To { pid, ask } => {
+                let reply = answer(&mut self.kernel, &mut self.tracees, *pid, *ask)?;
+                Ok(Some(reply))
+            }
+            Request::Outcome => {
+                let outcome = self.kernel.outcome()?;
+                Ok(Some(Reply::Outcome { outcome }))
+            }
+        }
+    }
+
+    /// The pending request is served whole.
+    fn serve(&mut self) -> Result<Option<Reply>, Failed>
+        requires { IsSwept self.old.kernel.running }
+        ensures served { IfOk result (λ r. made (hosting_of self.new) r ≡ hosting_pending linux (outcome_at self.old.kernel.running) (hosting_of self.old) self.old.pending) }
+        ensures script { OnOk result ((self.new.kernel.script ≡ self.old.kernel.script) × (self.new.kernel.follow ≡ self.old.kernel.follow)) }
+    {
+        match self.pending.take() {
+            None => Ok(None),
+            Some(request) => {
+                let reply = self.answer(&request)?;
+                if reply.is_none() {
+                    self.pending = Some(request);
+                }
+                Ok(reply)
+            }
+        }
+    }
+
+    /// One event.
+    pub fn event(&mut self, event: Event) -> Result<Option<Reply>, Failed>
+        requires empty { self.old.kernel.script ≡ [] }
+        requires swept { IsSwept self.old.kernel.running }
+        ensures made { IfOk result (λ r. made (hosting_of self.new) r ≡ hosting_event linux (outcome_at self.old.kernel.running) self.old.kernel.follow (hosting_of self.old) event) }
+        ensures script { OnOk result (self.new.kernel.script ≡ self.old.kernel.script) }
+        ensures follow { OnOk result (self.new.kernel.follow ≡ self.old.kernel.follow) }
+    {
+        match event {
+            Event::Turn { pid } => {
+                self.turn(pid)?;
+                Ok(None)
+            }
+            Event::Serve => {
+                let reply = self.serve()?;
+                Ok(reply)
+            }
+        }
+    }
+
+    /// A turn of the process would run an instruction or change its mode.
+    pub fn able(&self, pid: u32) -> bool
+        requires { self.now.kernel.script ≡ [] }
+        ensures { result ≡ able_in (hosting_of self.now) self.now.kernel.follow pid }
+    {
+        is_effective(&self.kernel, pid, self.tracees.traced(pid)) && self.kernel.able(pid)
+    }
+
+    /// A request is pending, and would be answered.
+    pub fn ready(&self) -> bool
+        ensures { result ≡ ready_in self.now.pending self.now.tracees.queue self.now.tracees.pids }
+    {
+        match &self.pending {
+            None | Some(Request::Boot { .. }) => false,
+            Some(Request::Wait) => self.tracees.can_wait(),
+            Some(Request::To { .. } | Request::Outcome) => true,
+        }
+    }
+
+    /// The process stands where its call is finished.
+    pub fn has_finished(&self, pid: u32) -> bool
+        ensures { result ≡ is_finished (own_mode (at Gone self.now.kernel.running.owns pid)) }
+    {
+        is_finished(self.kernel.mode(pid))
+    }
+}

@@ -1,0 +1,246 @@
+//! What a host keeps of the processes that a tracer has to do with.
+
+ghost use Rattle.std.specs.Prelude.{◌≡◌, ◌++◌, ◌==◌, [], true, not, cond, Some, None, IfOk, OnOk, filter};
+ghost use Rattle.std.specs.FinMap as maps;
+ghost use Rattle.lx_model.specs.Finite.{at};
+ghost use Rattle.pt_model.specs.Ptrace.{is_there, reports_of, without};
+ghost use Rattle.pt_model.specs.Hosting.{untraced, released, wait_ready};
+ghost use Rattle.pt_model.specs.Requests.{told};
+ghost use Rattle.pt_kernel.specs.Tracees.{heir, message_after, stopped_at, with_child, attached, after_turn, waited, tells, took, seized};
+
+use crate::queue::Queue;
+use lx_abi::{EventStop, Map, Reply, Stop};
+use lx_model::Deed;
+use pt_model::{Report, Traced, Watch};
+use std::alloc::{AllocError, Global};
+
+/// No child (errno(3), ECHILD).
+const ECHILD: u32 = 10;
+
+/// Process 1 and the tracees, and what Wait has to tell of them.
+#[derive(Drop)]
+pub struct Tracees {
+    /// Process 1, and the tracees; those that have ended stay.
+    pub traced: Map<Traced>,
+    /// The stops that Wait hasn't told of, in the order in which they arose.
+    pub queue: Queue<Report>,
+    /// The tracees whose end wasn't waited for, in the order in which they came.
+    pub pids: Queue<u32>,
+}
+
+/// What a turn came to, as a tracer is told of it.
+#[derive(Clone, Copy, Debug, PartialEq, Eq)]
+pub struct Turned {
+    pub stop: Option<Stop>,
+    pub dying: bool,
+    pub deed: Deed,
+    /// The pid that a child got, if one was born.
+    pub child: u32,
+}
+
+/// The options of a child that was born, where it is a tracee.
+fn heir(watch: Option<Watch>, deed: Deed) -> Option<Watch>
+    ensures { result ≡ heir watch deed }
+{
+    let watch = watch?;
+    match deed {
+        Deed::Bore if watch.forks => Some(watch),
+        Deed::Plain | Deed::Execed | Deed::Bore => None,
+    }
+}
+
+fn message_after(message: u32, pid: u32, child: u32, watch: Watch, deed: Deed) -> u32
+    ensures { result ≡ message_after message pid child watch deed }
+{
+    match deed {
+        Deed::Plain => message,
+        Deed::Execed => { if watch.execs { pid } else { message } }
+        Deed::Bore => { if watch.forks { child } else { message } }
+    }
+}
+
+impl Tracees {
+    /// Process 1 is held from the boot, and no tracee yet.
+    pub fn new(alloc: Global) -> Result<Self, AllocError>
+        ensures { IfOk result (λ x. x ≡ record { traced = maps.insert maps.empty 1 (record { held = true; watch = None; message = 0 }); queue = []; pids = [] }) }
+    {
+        let mut traced = Map::new(alloc);
+        traced.insert(
+            1,
+            Traced {
+                held: true,
+                watch: None,
+                message: 0,
+            },
+        )?;
+        Ok(Tracees {
+            traced,
+            queue: Queue::new(alloc),
+            pids: Queue::new(alloc),
+        })
+    }
+
+    /// What is kept of a process.
+    pub fn traced(&self, pid: u32) -> Traced
+        ensures { result ≡ at untraced self.now.traced pid }
+    {
+        match self.traced.get(pid) {
+            Some(traced) => *traced,
+            None => Traced {
+                held: false,
+                watch: None,
+                message: 0,
+            },
+        }
+    }
+
+    pub fn set(&mut self, pid: u32, traced: Traced) -> Result<(), AllocError>
+        ensures { OnOk result (self.new ≡ record self.old { traced = maps.insert self.old.traced pid traced }) }
+    {
+        self.traced.insert(pid, traced)?;
+        Ok(())
+    }
+
+    /// A tracee that has come to a stop is held.
+    fn stop(&mut self, pid: u32, traced: Traced, turned: Turned) -> Result<(), AllocError>
+        ensures { OnOk result (self.new ≡ record self.old { traced = stopped_at self.old.traced pid traced.message traced.watch turned }) }
+    {
+        match traced.watch {
+            None => Ok(()),
+            Some(watch) => {
+                let stopped = Traced {
+                    held: turned.stop.is_some(),
+                    watch: Some(watch),
+                    message: message_after(traced.message, pid, turned.child, watch, turned.deed),
+                };
+                self.traced.insert(pid, stopped)?;
+                Ok(())
+            }
+        }
+    }
+
+    /// The stop is reported; a process that is dying has no earlier report.
+    fn report(&mut self, pid: u32, stop: Option<Stop>, dying: bool) -> Result<(), AllocError>
+        ensures { OnOk result (self.new ≡ record self.old { queue = cond dying (without pid self.old.queue) self.old.queue ++ reports_of pid stop }) }
+    {
+        if dying {
+            self.queue.withdraw(pid);
+        }
+        match stop {
+            None => Ok(()),
+            Some(stop) => {
+                self.queue.push(Report { pid, stop })?;
+                Ok(())
+            }
+        }
+    }
+
+    /// A process that is held becomes a tracee.
+    fn attach(&mut self, pid: u32, traced: Traced) -> Result<(), AllocError>
+        ensures { OnOk result (self.new ≡ attached self.old pid traced) }
+    {
+        self.traced.insert(pid, traced)?;
+        let stop = Stop::Event {
+            event: EventStop::Stop,
+        };
+        self.queue.push(Report { pid, stop })?;
+        self.pids.push(pid)?;
+        Ok(())
+    }
+
+    fn bear(&mut self, child: u32, watch: Option<Watch>) -> Result<(), AllocError>
+        ensures { OnOk result (self.new ≡ with_child self.old child watch) }
+    {
+        match watch {
+            None => Ok(()),
+            Some(watch) => {
+                let traced = Traced {
+                    held: true,
+                    watch: Some(watch),
+                    message: 0,
+                };
+                self.attach(child, traced)?;
+                Ok(())
+            }
+        }
+    }
+
+    /// What a turn of a process leaves.
+    pub fn turn(&mut self, pid: u32, traced: Traced, turned: Turned) -> Result<(), AllocError>
+        ensures { OnOk result (self.new ≡ after_turn self.old pid traced turned) }
+    {
+        self.stop(pid, traced, turned)?;
+        self.report(pid, turned.stop, turned.dying)?;
+        self.bear(turned.child, heir(traced.watch, turned.deed))?;
+        Ok(())
+    }
+
+    pub fn seize(&mut self, pid: u32, traced: Traced, watch: Watch) -> Result<(), AllocError>
+        ensures { OnOk result (self.new ≡ seized self.old pid traced watch) }
+    {
+        let traced = Traced {
+            held: traced.held,
+            watch: Some(watch),
+            message: traced.message,
+        };
+        self.attach(pid, traced)?;
+        Ok(())
+    }
+
+    /// Who was waited for is held no more, and no tracee.
+    fn release(&mut self, pid: u32) -> Result<(), AllocError>
+        ensures { OnOk result (self.new ≡ record self.old { traced = released self.old.traced pid (maps.get self.old.traced pid); pids = filter (λ q. not (pid == q)) self.old.pids }) }
+    {
+        self.pids.leave(pid);
+        match self.traced.get(pid).copied() {
+            None => Ok(()),
+            Some(traced) => {
+                let released = Traced {
+                    held: false,
+                    watch: traced.watch,
+                    message: traced.message,
+                };
+                self.traced.insert(pid, released)?;
+                Ok(())
+            }
+        }
+    }
+
+    fn tell(&mut self, report: Report) -> Result<Reply, AllocError>
+        ensures { IfOk result (λ r. tells self.new (Some r) ≡ tells (took self.old self.old.queue report.pid report.stop) (Some (told report.pid report.stop))) }
+    {
+        if let Stop::Ended { .. } = report.stop {
+            self.release(report.pid)?;
+        }
+        Ok(Reply::Status {
+            pid: report.pid,
+            status: report.stop.status(),
+        })
+    }
+
+    /// Wait is answered with the first report, or ECHILD where no tracee is left; else it stays pending.
+    pub fn wait(&mut self) -> Result<Option<Reply>, AllocError>
+        ensures { IfOk result (λ r. tells self.new r ≡ waited self.old self.old.queue self.old.pids) }
+    {
+        match self.queue.pop() {
+            None => {
+                if self.pids.is_empty() {
+                    Ok(Some(Reply::Errno { number: ECHILD }))
+                } else {
+                    Ok(None)
+                }
+            }
+            Some(report) => {
+                let reply = self.tell(report)?;
+                Ok(Some(reply))
+            }
+        }
+    }
+
+    /// Wait would be answered.
+    pub fn can_wait(&self) -> bool
+        ensures { result ≡ wait_ready self.now.queue self.now.pids }
+    {
+        !self.queue.is_empty() || self.pids.is_empty()
+    }
+}
