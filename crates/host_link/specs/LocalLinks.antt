@@ -1,0 +1,37 @@
+-- What a call of a link to a host in the tracer's own process may do.
+use Rattle.std.specs.Prelude.{◌≡◌, ◌⊎◌, ℕ, ◌^◌, Bool, true, false, cond, is_none, Option, Result, Ok, Err}
+use Rattle.lx_abi.specs.declared.ptrace.Reply.{Reply}
+use Rattle.lx_abi.specs.declared.ptrace.Reply.TheVariants.{OutOfTurns as Out_of_turns}
+use Rattle.lx_abi.specs.declared.ptrace.Request.{Request}
+use Rattle.pt_kernel.specs.Hosts.{HostState}
+use Rattle.pt_kernel.specs.declared.schedule.Schedule.{Schedule}
+use Rattle.pt_model.specs.Ptrace.{is_there}
+use Rattle.host_link.specs.declared.fault.LinkFault.{LinkFault}
+use Rattle.host_link.specs.declared.fault.LinkFault.TheVariants.{Ended, TooMany, Memory, Sequence}
+use Rattle.host_link.specs.declared.local.LocalLink.{LocalLink}
+use Rattle.host_link.specs.Locals.{is_boot, Serves, reply_or_over}
+
+abbrev pub host_of : LocalLink → HostState
+host_of l = l.host
+
+abbrev pub schedule_of : LocalLink → Schedule
+schedule_of l = l.schedule
+
+abbrev pub given_of : LocalLink → ℕ
+given_of l = l.given
+
+abbrev pub faults_of : LocalLink → ℕ
+faults_of l = cond l.is_broken 1 0
+
+abbrev pub is_over : LocalLink → Bool
+is_over l = l.over
+
+unfoldable pub Calls : LocalLink → Request → Result Reply LinkFault → LocalLink → Type 0
+Calls a q (Ok r) b =
+    ((a.over ≡ true) × ((r ≡ Out_of_turns) × ((b.host ≡ a.host) × ((b.schedule ≡ a.schedule) × (b.over ≡ true)))))
+    ⊎ ((a.over ≡ false) × ((is_boot q ≡ false) × ((x : Option Reply) × (Serves a.host a.schedule q (record { host = b.host; schedule = b.schedule; reply = x }) × ((r ≡ reply_or_over x) × (b.over ≡ is_none x))))))
+Calls a q (Err Ended) b = (a.is_broken ≡ true) ⊎ (is_boot q ≡ true)
+Calls a q (Err TooMany) b = a.given ≡ 2 ^ 40
+Calls a q (Err Memory) b = b.host.failed ≡ true
+Calls a q (Err Sequence) b = is_there a.host.hosting.pending ≡ true
+Calls a q (Err f) b = ⊥

@@ -1,0 +1,89 @@
+-- A link over a reader and a writer: a request is a frame that is written, its reply the next frame that is read.
+use Rattle.std.specs.Prelude.{◌≡◌, ◌⊎◌, ℕ, ◌+◌, ◌<◌, ◌≤◌, ◌^◌, ◌==◌, if◌then◌else◌, Bool, true, false, List, [], ◌∷◌, length, Option, Result, Ok, Err, ⊤}
+use Rattle.std.specs.Io.KnownBytes.{Appends, Consumes, IsAtEnd}
+use Rattle.lx_abi.specs.declared.ptrace.Reply.{Reply}
+use Rattle.lx_abi.specs.declared.ptrace.Request.{Request}
+use Rattle.pt_model.specs.Admissible.{answers}
+use Rattle.host_wire.specs.declared.frame.Body.{Body}
+use Rattle.host_wire.specs.declared.frame.Body.TheVariants.{Request as Of_request, Reply as Of_reply}
+use Rattle.host_wire.specs.declared.frame.Frame.{Frame}
+use Rattle.host_wire.specs.declared.fault.WireFault.TheVariants.{Length, Kind, Body as Body_fault, Memory as No_memory}
+use Rattle.host_wire.specs.declared.receiving.ReceiveFault.{ReceiveFault}
+use Rattle.host_wire.specs.declared.receiving.ReceiveFault.TheVariants as receiving
+use Rattle.host_wire.specs.Ends.{AppendsPart}
+use Rattle.host_wire.specs.Spelling.{content, spelled}
+use Rattle.host_wire.specs.Streams.{Stream, Going, Failed, stream_of}
+use Rattle.host_link.specs.declared.fault.LinkFault.{LinkFault}
+use Rattle.host_link.specs.declared.fault.LinkFault.TheVariants.{Ended, Read, Write, Malformed, Sequence, Inadmissible, Memory, TooMany}
+
+abbrev pub request_frame : ℕ → Request → Frame
+request_frame number request = record { number = number; body = Of_request request }
+
+-- ---- a frame that is sent
+
+abbrev pub SentAs : Result ⊤ LinkFault → Frame → Option (List ℕ) → Option (List ℕ) → ℕ → Type 0
+SentAs (Ok u) f old new broken = Appends old new (spelled f)
+SentAs (Err Write) f old new broken = AppendsPart old new (spelled f) × (broken ≡ 1)
+SentAs (Err Malformed) f old new broken = (new ≡ old) × (134217728 < length (content f))
+SentAs (Err Memory) f old new broken = new ≡ old
+SentAs (Err Ended) f old new broken = ⊥
+SentAs (Err Read) f old new broken = ⊥
+SentAs (Err Sequence) f old new broken = ⊥
+SentAs (Err Inadmissible) f old new broken = ⊥
+SentAs (Err TooMany) f old new broken = ⊥
+
+-- ---- the next frame
+
+-- a reply of a kind that answers the request
+abbrev pub is_answer : Body → Body → Bool
+is_answer (Of_request q) (Of_reply r) = answers q r
+is_answer (Of_request q) (Of_request p) = false
+is_answer (Of_reply s) b = false
+
+-- the reply in a frame, to the request in another: of its number, and of a kind that answers it
+abbrev pub reply_of : Body → Body → Result Reply LinkFault
+reply_of (Of_request q) (Of_reply r) = if answers q r then Ok r else Err Inadmissible
+reply_of (Of_request q) (Of_request p) = Err Inadmissible
+reply_of (Of_reply s) b = Err Inadmissible
+
+abbrev pub reply_in : Frame → Frame → Result Reply LinkFault
+reply_in sent f = if f.number == sent.number then reply_of sent.body f.body else Err Sequence
+
+abbrev pub IsFaulty : Stream → Type 0
+IsFaulty stream = (stream ≡ Failed Length) ⊎ ((stream ≡ Failed Kind) ⊎ (stream ≡ Failed Body_fault))
+
+-- one whole frame came, which the reply is in, or which is none
+abbrev pub CameWhole : Frame → Stream → Result Reply LinkFault → Type 0
+CameWhole sent stream result = (f : Frame) × ((stream ≡ Going (f ∷ []) []) × (reply_in sent f ≡ result))
+
+abbrev pub CameAs : Result Reply LinkFault → Frame → List ℕ → Stream → Option (List ℕ) → ℕ → Type 0
+CameAs (Ok r) sent came stream left broken = CameWhole sent stream (Ok r)
+CameAs (Err Ended) sent came stream left broken = (tail : List ℕ) × ((stream ≡ Going [] tail) × IsAtEnd left)
+CameAs (Err Read) sent came stream left broken = (broken ≡ 1) ⊎ (2 ^ 32 ≤ length came)
+CameAs (Err Malformed) sent came stream left broken = IsFaulty stream
+CameAs (Err Sequence) sent came stream left broken = CameWhole sent stream (Err Sequence)
+CameAs (Err Inadmissible) sent came stream left broken = CameWhole sent stream (Err Inadmissible)
+CameAs (Err Memory) sent came stream left broken = Unit {0}
+CameAs (Err Write) sent came stream left broken = ⊥
+CameAs (Err TooMany) sent came stream left broken = ⊥
+
+pub record Came (left : Option (List ℕ)) (result : Result Reply LinkFault) (sent : Frame) (left' : Option (List ℕ)) (broken : ℕ) : Type 0 where
+  pub came : List ℕ
+  pub consumed : Consumes left left' came
+  pub so : CameAs result sent came (stream_of came) left' broken
+
+-- the cause of a fault, as a link tells it
+abbrev pub fault_of : ReceiveFault → LinkFault
+fault_of receiving.Read = Read
+fault_of (receiving.Wire No_memory) = Memory
+fault_of (receiving.Wire Length) = Malformed
+fault_of (receiving.Wire Kind) = Malformed
+fault_of (receiving.Wire Body_fault) = Malformed
+
+-- ---- a request and its reply
+
+-- nothing came, as the request was not sent; or all of it was, and this came
+abbrev pub Exchanged : Frame → Option (List ℕ) → Option (List ℕ) → Option (List ℕ) → Option (List ℕ) → Result Reply LinkFault → ℕ → ℕ → Type 0
+Exchanged sent left left' old new result broken broken_writer =
+    (Appends old new (spelled sent) × Came left result sent left' broken)
+    ⊎ ((fault : LinkFault) × ((result ≡ Err fault) × (SentAs (Err fault) sent old new broken_writer × (left' ≡ left))))

@@ -1,0 +1,15 @@
+//! Links between a tracer and a host.
+#![tactic(auto)]
+
+pub mod fault;
+mod fits;
+pub mod link;
+pub mod local;
+pub mod pipe;
+pub mod recorded;
+
+pub use fault::LinkFault;
+pub use link::Link;
+pub use local::LocalLink;
+pub use pipe::PipeLink;
+pub use recorded::Recorded;

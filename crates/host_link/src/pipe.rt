@@ -1,0 +1,191 @@
+//! A link over a reader and a writer.
+
+ghost use Rattle.std.specs.Prelude.{◌≡◌, ◌<◌, ◌≤◌, ◌^◌, false, length, vec_len, IfOk};
+ghost use Rattle.host_link.specs.Pipes as spec;
+ghost use Rattle.host_link.specs.Pipes.{Came, Exchanged, SentAs};
+
+use crate::fault::LinkFault;
+use crate::fits::answers;
+use crate::link::{Link, MOST_REPLIES};
+use host_wire::{
+    Body, Broken, Feed, Frame, ReceiveFault, Sink, Source, WireFault, encode, receive,
+};
+use lx_abi::{Reply, Request};
+use std::alloc::{AllocError, Global};
+
+fn fault_of(fault: ReceiveFault) -> LinkFault
+    ensures { result ≡ spec.fault_of fault }
+{
+    match fault {
+        ReceiveFault::Read => LinkFault::Read,
+        ReceiveFault::Wire(WireFault::Memory) => LinkFault::Memory,
+        ReceiveFault::Wire(WireFault::Length | WireFault::Kind | WireFault::Body) =>
+            LinkFault::Malformed,
+    }
+}
+
+fn send<W: Sink>(alloc: Global, writer: &mut W, frame: &Frame) -> Result<(), LinkFault>
+    ensures { SentAs result frame.now (W.contents writer.old) (W.contents writer.new) (W.broken writer.new) }
+{
+    let bytes = match encode(alloc, frame) {
+        Ok(bytes) => bytes,
+        Err(WireFault::Memory) => return Err(LinkFault::Memory),
+        Err(WireFault::Length | WireFault::Kind | WireFault::Body) => return Err(
+            LinkFault::Malformed,
+        ),
+    };
+    match writer.put(bytes.as_slice()) {
+        Ok(()) => Ok(()),
+        Err(Broken) => Err(LinkFault::Write),
+    }
+}
+
+/// The reply in the body of a frame, if it answers the body that was sent.
+fn reply_of(sent: &Body, body: Body) -> Result<Reply, LinkFault>
+    ensures { result ≡ spec.reply_of sent.now body }
+{
+    match (sent, body) {
+        (Body::Request(request), Body::Reply(reply)) => {
+            if answers(request, &reply) {
+                Ok(reply)
+            } else {
+                Err(LinkFault::Inadmissible)
+            }
+        }
+        (Body::Request(_), Body::Request(_)) => Err(LinkFault::Inadmissible),
+        (Body::Reply(_), _) => Err(LinkFault::Inadmissible),
+    }
+}
+
+fn reply_in(sent: &Frame, frame: Frame) -> Result<Reply, LinkFault>
+    ensures { result ≡ spec.reply_in sent.now frame }
+{
+    if frame.number != sent.number {
+        return Err(LinkFault::Sequence);
+    }
+    reply_of(&sent.body, frame.body)
+}
+
+/// Reads the next frame, no byte behind it, for the reply to what was sent.
+fn receive_reply<R: Source>(
+    alloc: Global,
+    reader: &mut R,
+    room: &mut [u8],
+    sent: &Frame,
+) -> Result<Reply, LinkFault>
+    requires { 0 < length room.old }
+    ensures { Came (R.remaining reader.old) result sent.now (R.remaining reader.new) (R.broken reader.new) }
+{
+    let mut feed = Feed::new(alloc);
+    let frame = match receive(reader, &mut feed, room) {
+        Ok(Some(frame)) => frame,
+        Ok(None) => return Err(LinkFault::Ended),
+        Err(fault) => return Err(fault_of(fault)),
+    };
+    reply_in(sent, frame)
+}
+
+/// Sends a request's frame, and reads its reply.
+pub(crate) fn exchange<R: Source, W: Sink>(
+    alloc: Global,
+    reader: &mut R,
+    writer: &mut W,
+    room: &mut [u8],
+    sent: &Frame,
+) -> Result<Reply, LinkFault>
+    requires { 0 < length room.old }
+    ensures { Exchanged sent.now (R.remaining reader.old) (R.remaining reader.new) (W.contents writer.old) (W.contents writer.new) result (R.broken reader.new) (W.broken writer.new) }
+{
+    match send(alloc, writer, sent) {
+        Ok(()) => receive_reply(alloc, reader, room, sent),
+        Err(fault) => Err(fault),
+    }
+}
+
+/// How many bytes are read at a time, at most.
+const ROOM: usize = 65_536;
+
+/// A link over a reader and a writer, whose other ends a host has.
+#[derive(Drop)]
+pub struct PipeLink<R, W> {
+    alloc: Global,
+    reader: R,
+    writer: W,
+    room: Vec<u8>,
+    given: u64,
+    is_broken: bool,
+    ghost roomy: { 0 < vec_len room },
+    ghost few: { given ≤ 2 ^ 40 },
+}
+
+impl<R: Source, W: Sink> PipeLink<R, W> {
+    ghost use Rattle.host_link.specs.PipeLinks.{reader_of, writer_of, given_of, is_broken_of};
+
+    pub fn new(alloc: Global, reader: R, writer: W) -> Result<Self, AllocError>
+    where
+        R: Drop,
+        W: Drop,
+        ensures reader { IfOk result (λ link. reader_of link ≡ reader) }
+        ensures writer { IfOk result (λ link. writer_of link ≡ writer) }
+        ensures given { IfOk result (λ link. given_of link ≡ 0) }
+        ensures whole { IfOk result (λ link. is_broken_of link ≡ false) }
+    {
+        let room = Vec::from_elem(alloc, 0u8, ROOM)?;
+        Ok(PipeLink {
+            alloc,
+            reader,
+            writer,
+            room,
+            given: 0,
+            is_broken: false,
+        })
+    }
+}
+
+impl<R: Source, W: Sink> Link for PipeLink<R, W> {
+    ghost use Rattle.host_link.specs.PipeLinks.{Asks, given_of, faults_of};
+
+    ghost answers = { λ a q r b. Asks R.remaining R.broken W.contents W.broken a q r b };
+
+    ghost given = { λ l. given_of l };
+
+    ghost broken = { λ l. faults_of l };
+
+    fn call(&mut self, request: Request) -> Result<Reply, LinkFault> {
+        if self.is_broken {
+            return Err(LinkFault::Ended);
+        }
+        if self.given >= MOST_REPLIES {
+            self.is_broken = true;
+            return Err(LinkFault::TooMany);
+        }
+        let sent = Frame {
+            number: self.given + 1,
+            body: Body::Request(request),
+        };
+        match exchange(
+            self.alloc,
+            &mut self.reader,
+            &mut self.writer,
+            self.room.as_mut_slice(),
+            &sent,
+        ) {
+            Ok(reply) => {
+                self.given += 1;
+                Ok(reply)
+            }
+            Err(fault) => {
+                self.is_broken = true;
+                Err(fault)
+            }
+        }
+    }
+
+    fn asked(&self) -> u64 {
+        self.given
+    }
+
+    fn faults(&self) -> u64 {
+        if self.is_broken { 1 } else { 0 }
+    }
+}
