@@ -1,0 +1,30 @@
+//! What the text of a call is made from.
+
+/// What the text of one half of a call is made from, beside the memory.
+#[derive(Clone, Copy, Debug)]
+pub struct Context {
+    pub number: u64,
+    pub arguments: [u64; 6],
+    /// The stack pointer at the entry.
+    pub sp: u64,
+    /// None at the entry.
+    pub result: Option<u64>,
+    /// At most so many bytes of a string are shown.
+    pub most: u32,
+}
+
+/// An argument of a call, and what its text may depend on besides.
+#[derive(Clone, Copy, Debug)]
+pub(crate) struct Place {
+    /// The argument before it.
+    pub(crate) before: u64,
+    pub(crate) value: u64,
+    /// The argument after it.
+    pub(crate) next: u64,
+    /// At most so many bytes of a string are shown.
+    pub(crate) most: u32,
+    /// The stack pointer at the entry.
+    pub(crate) sp: u64,
+    /// The call's result, once it has one.
+    pub(crate) result: Option<u64>,
+}

@@ -1,0 +1,147 @@
+//! Texts of calls, from registers and from what is read of a memory.
+
+ghost use Rattle.std.specs.Prelude.{◌≡◌, ◌≤◌, ◌++◌, ◌∷◌, [], IfOk, OnOk, OnErr, string_bytes, Some, None};
+ghost use Rattle.tr_args.specs.Arguments.{half as half_of, wish_of, text_of};
+ghost use Rattle.tr_args.specs.Decoders as spec;
+
+use crate::arguments::half;
+use crate::context::Context;
+use crate::sheet::{Sheet, Stop};
+use lx_abi::Bytes;
+use std::alloc::{AllocError, Global};
+use std::marker::Model;
+
+/// The text of one half of a call, as far as it can be made from what was read.
+#[derive(Drop)]
+pub struct Decoder {
+    alloc: Global,
+    context: Context,
+    read: Vec<Bytes>,
+    /// What is read next.
+    wish: Option<(u64, u32)>,
+    text: String,
+}
+
+impl Model for Decoder {
+    ghost use Rattle.std.specs.Prelude.{◌≡◌, ◌≤◌, string_bytes};
+    ghost use Rattle.tr_args.specs.Arguments.{half, wish_of, text_of};
+    ghost use Rattle.tr_args.specs.Decoders.{Decoding};
+
+    ghost Value = { Decoding };
+
+    ghost view = { λ d. record { context = d.context; got = d.read.items } };
+
+    ghost invariant = { λ d. (d.wish ≡ wish_of (half d.context d.read.items))
+        × (string_bytes d.text ≡ text_of (half d.context d.read.items)) × (d.context.most ≤ 4096) };
+}
+
+/// What is read next, or the text.
+#[tactic(auto, unfolding(crate::specs::Arguments::half))]
+pub fn made(
+    alloc: Global,
+    context: &Context,
+    read: &[Bytes],
+) -> Result<(Option<(u64, u32)>, String), AllocError>
+    requires { context.now.most ≤ 4096 }
+    ensures wish { IfOk result (λ r. r.0 ≡ wish_of (half_of context.now read.now)) }
+    ensures text { IfOk result (λ r. string_bytes r.1 ≡ text_of (half_of context.now read.now)) }
+{
+    let mut sheet = Sheet::new(alloc, read);
+    match half(&mut sheet, context) {
+        Ok(()) => Ok((None, sheet.into_text())),
+        Err(Stop::Wants { address, length }) => Ok((Some((address, length)), String::new(alloc))),
+        Err(Stop::Memory) => Err(AllocError),
+    }
+}
+
+impl Decoder {
+    fn begin(alloc: Global, context: Context) -> Result<Decoder, AllocError>
+        requires { context.most ≤ 4096 }
+        ensures { IfOk result (λ d. d ≡ spec.started context) }
+    {
+        let read = Vec::new(alloc);
+        let (wish, text) = made(alloc, &context, read.as_slice())?;
+        Ok(Decoder {
+            alloc,
+            context,
+            read,
+            wish,
+            text,
+        })
+    }
+
+    /// Begins the text of a call's entry, of which at most so many bytes of a string are shown.
+    pub fn start(
+        alloc: Global,
+        number: u64,
+        arguments: [u64; 6],
+        sp: u64,
+        most: u32,
+    ) -> Result<Decoder, AllocError>
+        requires { most ≤ 4096 }
+        ensures { IfOk result (λ d. d ≡ spec.started (spec.entering number arguments sp most)) }
+    {
+        let context = Context {
+            number,
+            arguments,
+            sp,
+            result: None,
+            most,
+        };
+        Decoder::begin(alloc, context)
+    }
+
+    /// Begins the text of what follows once a call has returned.
+    pub fn leave(
+        alloc: Global,
+        number: u64,
+        arguments: [u64; 6],
+        value: u64,
+        most: u32,
+    ) -> Result<Decoder, AllocError>
+        requires { most ≤ 4096 }
+        ensures { IfOk result (λ d. d ≡ spec.started (spec.leaving number arguments value most)) }
+    {
+        let context = Context {
+            number,
+            arguments,
+            sp: 0,
+            result: Some(value),
+            most,
+        };
+        Decoder::begin(alloc, context)
+    }
+
+    /// The address and the length that are read next; none once the text is whole.
+    pub fn wants(&self) -> Option<(u64, u32)>
+        ensures { result ≡ spec.wants self.now }
+    {
+        self.wish
+    }
+
+    /// Takes what was read.
+    pub fn give(&mut self, bytes: Bytes) -> Result<(), AllocError>
+        ensures ok { OnOk result (self.new ≡ spec.given self.old bytes) }
+        ensures err { OnErr result (self.new ≡ self.old) }
+    {
+        self.read.push(bytes)?;
+        match made(self.alloc, &self.context, self.read.as_slice()) {
+            Ok((wish, text)) => {
+                self.wish = wish;
+                self.text = text;
+                Ok(())
+            }
+            Err(error) => {
+                self.read.pop();
+                Err(error)
+            }
+        }
+    }
+
+    /// The text, empty until all was read.
+    pub fn text(&self) -> &str
+        ensures { result.now ≡ spec.text self.now }
+    {
+        self.text.as_str()
+    }
+}
