@@ -1,0 +1,5 @@
+pub mod Ends
+pub mod Lines
+pub mod Printing
+pub mod Results
+pub mod Signals
