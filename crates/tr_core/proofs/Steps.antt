@@ -1,0 +1,189 @@
+-- A whole step, from what its parts did.
+use Rattle.std.proofs.Common.{◌≡◌, ℕ, suc, ◌+◌, Bool, true, false, cond, List, Option, Some, None, Result, Ok, Err, refl, sym, ap, subst, ◌∙◌, add-one, unwrap_or}
+use Rattle.std.specs.Ordering.{nat_cmp}
+use Rattle.std.specs.FinMap as maps
+use Rattle.std.specs.Prelude.{OnErr}
+use mathlib.Core.Path.{fun_ext}
+use Rattle.lx_abi.specs.declared.ptrace.Reply.{Reply}
+use Rattle.lx_abi.specs.declared.status.Stop.{Stop}
+use Rattle.lx_abi.specs.declared.status.Stop.TheVariants.{Syscall as Syscall_stop, Signal as Signal_stop, Event as Event_stop, Ended}
+use Rattle.lx_model.specs.Kernel.{Script}
+use Rattle.pt_model.specs.Parts.{Options}
+use Rattle.lx_model.specs.Finite.{at}
+use Rattle.pt_model.specs.Tracer.{Known, Next, Place, Moved, Tracer, focus_on, next_at, tracees_after, admits_at, takes, faults, new_known, stays, took_status, took_stop}
+use Rattle.pt_model.specs.Tracer as tracer
+use Rattle.tr_core.specs.Hearings.{counts_at}
+use Rattle.tr_core.specs.Settings.{options_of, script_of}
+use Rattle.tr_core.specs.Known.{known_of, new_tracee, place_of}
+use Rattle.tr_core.specs.Occurrences.{count_of}
+use Rattle.tr_core.specs.Pens.{wrote, pen_after}
+use Rattle.tr_core.specs.States.{moved, said, heard, is_faulted, is_faulted_at, admitted, act_of, request_of, Hears}
+use Rattle.tr_core.specs.Admitted.{told_status, says_childless, says_out, told_outcome, waits_by, serves_by, ends_by, next_by, tracees_by}
+use Rattle.tr_core.specs.Tracers.{Goes, Steps, focus_of, known_in, tracer_in, admits_in, state_in}
+use Rattle.tr_core.specs.declared.occurrences.Occurrences.{Occurrences}
+use Rattle.tr_core.specs.declared.place.Focus.{Focus}
+use Rattle.tr_core.specs.declared.place.Focus.TheVariants as focus
+use Rattle.tr_core.specs.declared.place.Tracee.{Tracee}
+use Rattle.tr_core.specs.declared.tracer.Core.{Core}
+use Rattle.tr_core.specs.declared.tracing.Act.{Act}
+use Rattle.tr_core.specs.declared.tracing.TraceFault.TheVariants.{Inadmissible, Memory}
+use Rattle.tr_core.proofs.Admitting.{next-is, tracees-is}
+
+-- an admitted reply is no fault
+
+on_fine : (p : ℕ) (o : Option Place) → is_faulted_at (focus_on p o) ≡ false
+on_fine p None = refl
+on_fine p (Some place) = refl
+
+stop_fine : (o : Options) (known : ℕ → Known) (p : ℕ) (s : Option Stop) → is_faulted_at (took_status o known p s).focus ≡ false
+stop_fine o known p None = refl
+stop_fine o known p (Some (Syscall_stop good)) = refl
+stop_fine o known p (Some (Signal_stop signal)) = refl
+stop_fine o known p (Some (Event_stop event)) = refl
+stop_fine o known p (Some (Ended word)) = refl
+
+wait_fine : (o : Options) (known : ℕ → Known) (t : Option (ℕ × Option Stop)) (c u : Bool) → is_faulted_at (waits_by o known t c u).focus ≡ false
+wait_fine o known None true u = refl
+wait_fine o known None false true = refl
+wait_fine o known None false false = refl
+wait_fine o known (Some t) c u = stop_fine o known t.0 t.1
+
+serve_fine : (o : Options) (script : Script) (known : ℕ → Known) (p : ℕ) (place : Place) (r : Reply) (u : Bool) → is_faulted_at (serves_by o script known p place r u).focus ≡ false
+serve_fine o script known p place r true = refl
+serve_fine o script known p place r false = on_fine p _
+
+end_fine : (known : ℕ → Known) (t : Option _) (u : Bool) → is_faulted_at (ends_by known t u).focus ≡ false
+end_fine known None true = refl
+end_fine known None false = refl
+end_fine known (Some x) u = refl
+
+fine : (o : Options) (script : Script) (known : ℕ → Known) (tracees : List ℕ) (f : Focus) (r : Reply) → admits_at o known tracees (focus_of f) r ≡ true → is_faulted_at (next_by o script known f r).focus ≡ false
+fine o script known tracees focus.Booting r e = refl
+fine o script known tracees focus.Waiting r e = wait_fine o known (told_status r) (says_childless r) (says_out r)
+fine o script known tracees (focus.Serving p place) r e = serve_fine o script known p (place_of place) r (says_out r)
+fine o script known tracees focus.AskingOutcome r e = end_fine known (told_outcome r) (says_out r)
+fine o script known tracees (focus.Over x) r e = absurd (cc e)
+fine o script known tracees focus.TurnsOver r e = absurd (cc e)
+fine o script known tracees focus.Faulted r e = absurd (cc e)
+
+-- what a step of the definition is, once the reply is known to be admitted
+took : Core → Reply → Moved
+took c r = record {
+  tracer = record {
+    known = (next_by (options_of c.settings) (script_of c.settings) (known_in c) c.focus r).known;
+    tracees = tracees_by c.living c.focus r;
+    focus = (next_by (options_of c.settings) (script_of c.settings) (known_in c) c.focus r).focus;
+    taken = suc c.taken;
+  };
+  printed = (next_by (options_of c.settings) (script_of c.settings) (known_in c) c.focus r).printed;
+}
+
+took-is : (c : Core) (r : Reply) → admits_in c r ≡ true → tracer.next (options_of c.settings) (script_of c.settings) (tracer_in c) r ≡ took c r
+unfolding took
+took-is c r e =
+    let o = options_of c.settings in
+    let script = script_of c.settings in
+    let t = tracer_in c in
+    ap (λ x. cond x (takes t t.focus r (next_at o script t.known t.focus r)) (faults t)) e
+    ∙ (λ i. record {
+      tracer = record {
+        known = (next-is o script (known_in c) c.living c.focus r e i).known;
+        tracees = tracees-is o (known_in c) c.living c.focus r e i;
+        focus = (next-is o script (known_in c) c.living c.focus r e i).focus;
+        taken = suc c.taken;
+      };
+      printed = (next-is o script (known_in c) c.living c.focus r e i).printed;
+    })
+
+pub stepped : (old new : Core) (r : Reply) (bytes : List ℕ) → admits_in old r ≡ true
+    → Goes (next_by (options_of old.settings) (script_of old.settings) (known_in old) old.focus r) (tracees_by old.living old.focus r) bytes (record old { focus = focus.Faulted }) new
+    → Steps old r (Some bytes) (record new { taken = new.taken + 1 })
+unfolding heard said moved admitted is_faulted took
+stepped old new r bytes e g =
+    let m = took-is old r e in
+    let now : tracer_in (record new { taken = new.taken + 1 }) ≡ (took old r).tracer =
+    λ i. record { known = g.known i; tracees = g.living i; focus = g.focus i; taken = (ap (λ n. n + 1) g.taken ∙ add-one old.taken) i } in (
+      (λ i. record {
+        options = options_of (g.settings i);
+        script = script_of (g.settings i);
+        tracer = (now ∙ ap (λ (x : Moved). x.tracer) (sym m)) i;
+        pen = (g.pen ∙ ap (λ (x : Moved). pen_after old.printer x.printed) (sym m)) i;
+        failed = false;
+      }),
+      e,
+      ap (λ (t : Tracer). is_faulted_at t.focus) now ∙ fine (options_of old.settings) (script_of old.settings) (known_in old) old.living old.focus r e,
+      g.text ∙ ap (λ (x : Moved). wrote old.printer x.printed) (sym m),
+    )
+
+pub refused_step : (old : Core) (r : Reply) → admits_in old r ≡ false → Steps old r None (record old { focus = focus.Faulted })
+unfolding heard said moved admitted pen_after
+refused_step old r e =
+    let o = options_of old.settings in
+    let script = script_of old.settings in
+    let t = tracer_in old in
+    let m : tracer.next o script t r ≡ faults t =
+    ap (λ x. cond x (takes t t.focus r (next_at o script t.known t.focus r)) (faults t)) e in (
+      (λ i. record {
+        options = o;
+        script = script;
+        tracer = ap (λ (x : Moved). x.tracer) (sym m) i;
+        pen = ap (λ (x : Moved). pen_after old.printer x.printed) (sym m) i;
+        failed = false;
+      }),
+      e,
+    )
+
+abbrev all_known : maps.FinMap nat_cmp Tracee → Occurrences → ℕ → Known
+all_known known counts p = known_of (at new_tracee known p) (counts_at counts p)
+
+pub fresh : (known : maps.FinMap nat_cmp Tracee) (counts : Occurrences) → known ≡ maps.empty → ((p n : ℕ) → count_of counts p n ≡ 0) → all_known known counts ≡ (λ p. new_known)
+fresh known counts e h = fun_ext (λ p. ap (λ m. known_of (at new_tracee m p) (counts_at counts p)) e ∙ ap (λ o. known_of (unwrap_or o new_tracee) (counts_at counts p)) (maps.get-empty nat_cmp p) ∙ ap (λ f. known_of new_tracee f) (fun_ext (λ n. h p n)))
+
+-- with the focus taken out
+pub stepped_by : (old new : Core) (r : Reply) (bytes : List ℕ) (f here : Focus) → f ≡ old.focus → here ≡ focus.Faulted → admits_in old r ≡ true
+    → Goes (next_by (options_of old.settings) (script_of old.settings) (known_in old) f r) (tracees_by old.living f r) bytes (record old { focus = here }) new
+    → Steps old r (Some bytes) (record new { taken = new.taken + 1 })
+stepped_by old new r bytes f here is none e g =
+    stepped old new r bytes e
+    (subst (λ x. Goes (next_by (options_of old.settings) (script_of old.settings) (known_in old) old.focus r) (tracees_by old.living old.focus r) bytes (record old { focus = x }) new) none
+    (subst (λ x. Goes (next_by (options_of old.settings) (script_of old.settings) (known_in old) x r) (tracees_by old.living x r) bytes (record old { focus = here }) new) is g))
+
+-- what an admitted reply says of the tracer
+
+unfaulted_at : (o : Options) (known : ℕ → Known) (tracees : List ℕ) (f : Focus) (r : Reply) → admits_at o known tracees (focus_of f) r ≡ true → is_faulted_at (focus_of f) ≡ false
+unfaulted_at o known tracees focus.Booting r e = refl
+unfaulted_at o known tracees focus.Waiting r e = refl
+unfaulted_at o known tracees (focus.Serving p place) r e = refl
+unfaulted_at o known tracees focus.AskingOutcome r e = refl
+unfaulted_at o known tracees (focus.Over x) r e = refl
+unfaulted_at o known tracees focus.TurnsOver r e = refl
+unfaulted_at o known tracees focus.Faulted r e = absurd (cc e)
+
+pub unfaulted : (c : Core) (r : Reply) → admits_in c r ≡ true → is_faulted (state_in c false) ≡ false
+unfolding is_faulted
+unfaulted c r e = unfaulted_at (options_of c.settings) (known_in c) c.living c.focus r e
+
+-- what a call of next answers
+
+pub hears_ok : (old new : Core) (failed : Bool) (r : Reply) (bytes : List ℕ) (act : Act) → failed ≡ false → Steps old r (Some bytes) new → act ≡ act_of (tracer.request (options_of new.settings) (focus_of new.focus)) bytes
+    → Hears (state_in old failed) r (Ok act) (state_in new failed)
+unfolding Hears request_of
+hears_ok old new failed r bytes act e h is =
+    subst (λ b. Hears (state_in old b) r (Ok act) (state_in new b)) (sym e)
+    (refl, h.0, h.1, h.2, is ∙ ap (act_of (tracer.request (options_of new.settings) (focus_of new.focus))) h.3)
+
+pub hears_refusal : (old new : Core) (failed : Bool) (r : Reply) → failed ≡ false → Steps old r None new → Hears (state_in old failed) r (Err Inadmissible) (state_in new failed)
+unfolding Hears
+hears_refusal old new failed r e h = subst (λ b. Hears (state_in old b) r (Err Inadmissible) (state_in new b)) (sym e) (refl, h.0, h.1)
+
+pub hears_want : (old new : Core) (failed : Bool) (r : Reply) → is_faulted (state_in old false) ≡ false → Hears (state_in old failed) r (Err Memory) (state_in new true)
+unfolding Hears is_faulted
+hears_want old new failed r h = ((λ e. h), refl)
+
+pub hears_again : (old : Core) (failed : Bool) (r : Reply) → failed ≡ true → Hears (state_in old failed) r (Err Memory) (state_in old failed)
+unfolding Hears
+hears_again old failed r e = ((λ k. absurd (cc (e, k))), e)
+
+pub on_err : {A E : Type 0} (r : Result A E) (X : Type 0) → X → OnErr r X
+on_err (Ok a) X x = tt
+on_err (Err e) X x = x

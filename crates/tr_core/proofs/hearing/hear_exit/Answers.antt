@@ -1,0 +1,10 @@
+use Rattle.std.proofs.Common.{ap, ◌∙◌}
+use Rattle.lx_model.specs.Machine.{with_a7}
+use Rattle.tr_core.specs.Known.{known_of}
+use Rattle.tr_core.proofs.hearing.hear_exit.Goals as goal
+
+pub returns-in-Some : goal.returns-in-Some
+returns-in-Some c = λ counts.
+    let t = c.args.tracee.now in
+    let registers = c.with_number-registers.ensures ∙ ap (λ r. with_a7 r t.called.number) c.with_result.ensures in
+    rw (c.in-Some.is, ← registers) (rw c.in-Some.is at (c.asks.ensures (known_of t counts) c.args.printer.now))

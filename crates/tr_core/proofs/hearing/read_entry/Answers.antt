@@ -1,0 +1,15 @@
+use Rattle.std.proofs.Common.{◌≡◌, Some, ap, sym, ◌∙◌}
+use Rattle.lx_model.specs.Machine.{call_of, sp_of}
+use Rattle.pt_model.specs.Parts.{At_entry}
+use Rattle.tr_core.specs.Reads.{wants_of}
+use Rattle.tr_core.specs.declared.place.Place.TheVariants.{EntryPeek}
+use Rattle.tr_core.proofs.Entries.{more}
+use Rattle.tr_core.proofs.hearing.read_entry.Goals as goal
+
+pub returns-in-Some-clause-heard : goal.returns-in-Some-clause-heard
+returns-in-Some-clause-heard c =
+    let limit = c.args.settings.now.options.string_limit in
+    let sp = sp_of c.args.registers in
+    let w : wants_of limit (At_entry (call_of c.args.registers) sp) c.args.got ≡ Some c.in-Some.want =
+    ap (λ g. wants_of limit (At_entry (call_of c.args.registers) sp) g) (sym c.as_slice.ensures) ∙ ap (λ x. wants_of limit (At_entry x sp) c.as_slice.result.now) (sym c.call.ensures) ∙ sym c.in_ok-wish.ensures ∙ c.in-Some.is in
+    rw w (more _ (EntryPeek c.args.registers c.args.got c.in-Some.want) c.new.result c.args.printer.now c.new.ensures)

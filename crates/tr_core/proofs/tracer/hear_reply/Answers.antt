@@ -1,0 +1,8 @@
+use Rattle.tr_core.specs.Settings.{options_of, script_of}
+use Rattle.tr_core.proofs.Kept.{reply_kept}
+use Rattle.tr_core.proofs.tracer.hear_reply.Goals as goal
+
+pub returns : goal.returns
+returns c = reply_kept (options_of c.args.core.now.settings) (script_of c.args.core.now.settings) c.args.pid c.args.place c.args.reply c.tracee_at-tracee.result c.hear.new.tracee c.in_ok-heard.heard.next c.in_ok-heard.heard.bytes c.hear.new.counts c.hear.new.printer c.args.core.now c.keep.new.core
+    c.tracee_at-tracee.ensures c.in_ok-heard.ensures.heard c.in_ok-heard.ensures.others
+    (record { known = c.in_ok-keep.ensures.known; focus = c.in_ok-keep.ensures.focus; rest = c.in_ok-keep.ensures.rest })

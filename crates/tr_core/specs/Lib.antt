@@ -1,0 +1,12 @@
+pub mod Occurrences
+pub mod Reads
+pub mod Known
+pub mod Faults
+pub mod Settings
+pub mod Hearings
+pub mod Pens
+pub mod States
+pub mod Outcomes
+pub mod Admitted
+pub mod Laws
+pub mod Tracers

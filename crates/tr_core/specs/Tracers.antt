@@ -1,0 +1,71 @@
+-- The tracer that the code keeps, as the definitions have it.
+use Rattle.std.specs.Prelude.{◌≡◌, ℕ, Bool, true, false, List, Option, Some, None}
+use Rattle.lx_abi.specs.declared.ptrace.Reply.{Reply}
+use Rattle.lx_model.specs.Finite.{at}
+use Rattle.pt_model.specs.Tracer as tracer
+use Rattle.pt_model.specs.Replies.{admits}
+use Rattle.pt_model.specs.Tracer.{Tracer, Known, Next}
+use Rattle.tr_core.specs.Pens.{wrote, pen_after}
+use Rattle.tr_core.specs.Known.{known_of, new_tracee, place_of}
+use Rattle.tr_core.specs.Settings.{options_of, script_of}
+use Rattle.tr_core.specs.Hearings.{counts_at}
+use Rattle.tr_core.specs.States.{State, admitted, heard, said, is_faulted}
+use Rattle.tr_core.specs.declared.tracer.Core.{Core}
+use Rattle.tr_core.specs.declared.tracer.Tracer.{Tracer as CodeTracer}
+use Rattle.tr_core.specs.declared.place.Focus.{Focus}
+use Rattle.tr_core.specs.declared.place.Focus.TheVariants.{Booting, Waiting, Serving, AskingOutcome, Over}
+use Rattle.tr_core.specs.declared.place.Focus.TheVariants.{TurnsOver, Faulted}
+
+-- what is known of each process
+abbrev pub known_in : Core → ℕ → Known
+known_in c q = known_of (at new_tracee c.known q) (counts_at c.counts q)
+
+abbrev pub tracer_at : Core → tracer.Focus → Tracer
+tracer_at c focus = record { known = known_in c; tracees = c.living; focus = focus; taken = c.taken }
+
+abbrev pub focus_of : Focus → tracer.Focus
+focus_of Booting = tracer.Booting
+focus_of Waiting = tracer.Waiting
+focus_of (Serving pid place) = tracer.Serving pid (place_of place)
+focus_of AskingOutcome = tracer.Asking_outcome
+focus_of (Over x) = tracer.Over x
+focus_of TurnsOver = tracer.Turns_over
+focus_of Faulted = tracer.Faulted
+
+abbrev pub tracer_in : Core → Tracer
+tracer_in c = tracer_at c (focus_of c.focus)
+
+-- its state, with the flag for want of memory
+abbrev pub state_in : Core → Bool → State
+state_in c failed =
+    record {
+      options = options_of c.settings;
+      script = script_of c.settings;
+      tracer = tracer_in c;
+      pen = c.printer;
+      failed = failed;
+    }
+
+-- what a tracer is to its callers
+unfoldable pub state_of : CodeTracer → State
+state_of t = state_in t.core t.failed
+
+abbrev pub admits_in : Core → Reply → Bool
+admits_in c r = admits (options_of c.settings) (tracer_in c) r
+
+-- A step of the code is the definition's. All but what is counted of replies.
+pub record Goes (n : Next) (tracees : List ℕ) (bytes : List ℕ) (old new : Core) : Type 0 where
+  pub known : known_in new ≡ n.known
+  pub focus : focus_of new.focus ≡ n.focus
+  pub living : new.living ≡ tracees
+  pub text : bytes ≡ wrote old.printer n.printed
+  pub pen : new.printer ≡ pen_after old.printer n.printed
+  pub settings : new.settings ≡ old.settings
+  pub taken : new.taken ≡ old.taken
+
+-- a whole step: of a reply that is admitted the bytes, of any other none
+abbrev pub Steps : Core → Reply → Option (List ℕ) → Core → Type 0
+Steps old r (Some bytes) new = (state_in new false ≡ heard (state_in old false) r)
+    × (admitted (state_in old false) r ≡ true) × (is_faulted (state_in new false) ≡ false)
+    × (bytes ≡ said (state_in old false) r)
+Steps old r None new = (state_in new false ≡ heard (state_in old false) r) × (admitted (state_in old false) r ≡ false)

@@ -1,0 +1,89 @@
+//! Which replies are admitted.
+
+ghost use Rattle.std.specs.Prelude.{◌≡◌};
+ghost use Rattle.pt_model.specs.Admissible.{admits_answer as admits_answer_of, event_fits as fits_event};
+ghost use Rattle.pt_model.specs.Admissible.{end_fits as fits_end, stop_fits as fits_stop};
+ghost use Rattle.pt_model.specs.Admissible.{is_exit_number as exit_number, is_exit_word as exit_word};
+ghost use Rattle.pt_model.specs.Parts.{Options};
+ghost use Rattle.pt_model.specs.Tracer.{asks};
+ghost use Rattle.tr_core.specs.Known.{place_of};
+
+use crate::place::Place;
+use lx_abi::{EventStop, Reply, Stop};
+use pt_model::Standing;
+
+const CLONE: u64 = 220;
+
+const EXECVE: u64 = 221;
+
+/// A reply to what is asked of the tracee in hand.
+pub fn admits_answer(place: &Place, reply: &Reply) -> bool
+    ensures { (o : Options) → result ≡ admits_answer_of (asks o (place_of place.now)) reply.now }
+{
+    match (place, reply) {
+        (_, Reply::OutOfTurns)
+        | (
+            Place::Seizing
+            | Place::EntrySet { .. }
+            | Place::ExitSet { .. }
+            | Place::Resuming { .. },
+            Reply::Done,
+        )
+        | (Place::EntryRegs | Place::ExitRegs, Reply::Registers { .. })
+        | (Place::SignalInfo { .. }, Reply::Info { .. }) => true,
+        (Place::EntryPeek { want, .. } | Place::ExitPeek { want, .. }, Reply::Bytes { bytes }) => 1
+            <= bytes.len()
+            && bytes.len() as u64 <= u64::from(want.1),
+        (Place::Seizing, Reply::Errno { .. }) => false,
+        (Place::EntryPeek { .. } | Place::ExitPeek { .. }, Reply::Errno { number }) => {
+            *number == 3 || *number == 5
+        }
+        (_, Reply::Errno { number }) => *number == 3,
+        _ => false,
+    }
+}
+
+fn event_fits(follow: bool, number: u64, event: EventStop) -> bool
+    ensures { result ≡ fits_event follow number event }
+{
+    match event {
+        EventStop::Fork => follow && number == CLONE,
+        EventStop::Exec => number == EXECVE,
+        EventStop::Stop => false,
+    }
+}
+
+fn is_exit_number(number: u64) -> bool
+    ensures { result ≡ exit_number number }
+{
+    number == 93 || number == 94
+}
+
+fn end_fits(number: u64, replaced: bool, standing: Standing, word: u32) -> bool
+    ensures { result ≡ fits_end number replaced standing word }
+{
+    match standing {
+        Standing::Unmet | Standing::Between | Standing::Unread | Standing::AfterEvent => word == 9,
+        Standing::AfterSignal => 0 < word && word < 32,
+        Standing::Read => {
+            word == 9 || (!replaced && is_exit_number(number) && word % 256 == 0 && word < 65536)
+        }
+        Standing::AtEnd => false,
+    }
+}
+
+/// The stop may be told of a tracee that stands there.
+pub fn stop_fits(follow: bool, number: u64, replaced: bool, standing: Standing, stop: Stop) -> bool
+    ensures { result ≡ fits_stop follow number replaced standing stop }
+{
+    match stop {
+        Stop::Syscall { .. } => !matches!(standing, Standing::Unmet | Standing::AtEnd),
+        Stop::Signal { .. } => matches!(standing, Standing::Between | Standing::AfterSignal),
+        Stop::Event { event } => match standing {
+            Standing::Unmet => matches!(event, EventStop::Stop),
+            Standing::Read => event_fits(follow, number, event),
+            _ => false,
+        },
+        Stop::Ended { word } => end_fits(number, replaced, standing, word),
+    }
+}

@@ -1,0 +1,18 @@
+//! The tracer: from each reply, what is printed and what is asked next.
+#![tactic(auto)]
+
+mod admission;
+mod hearing;
+pub mod laws;
+mod living;
+mod occurrences;
+mod place;
+mod printer;
+pub mod settings;
+mod texts;
+pub mod tracer;
+pub mod tracing;
+
+pub use settings::Options;
+pub use tracer::Tracer;
+pub use tracing::{Act, TraceFault, Tracing};

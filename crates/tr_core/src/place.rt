@@ -1,0 +1,59 @@
+//! What a tracer knows of a tracee, and what it is asking.
+
+use lx_abi::{Bytes, Call, Outcome, Registers, Seq};
+use pt_model::Standing;
+
+/// What is known of one tracee, beside how often it entered each call.
+#[derive(Clone, Copy, Debug, PartialEq, Eq)]
+pub struct Tracee {
+    pub inside: bool,
+    pub called: Call,
+    pub saved: Option<u64>,
+    pub standing: Standing,
+}
+
+/// What is being asked of the tracee in hand.
+#[derive(Drop)]
+pub enum Place {
+    Seizing,
+    EntryRegs,
+    EntryPeek {
+        registers: Registers,
+        got: Seq<Bytes>,
+        want: (u64, u32),
+    },
+    EntrySet {
+        registers: Registers,
+        signal: u32,
+    },
+    ExitRegs,
+    ExitSet {
+        registers: Registers,
+        result: u64,
+    },
+    ExitPeek {
+        result: u64,
+        replaced: bool,
+        got: Seq<Bytes>,
+        want: (u64, u32),
+    },
+    SignalInfo {
+        signal: u32,
+    },
+    Resuming {
+        signal: u32,
+    },
+}
+
+/// What is asked now.
+#[derive(Drop)]
+pub enum Focus {
+    /// The reply to Boot comes first.
+    Booting,
+    Waiting,
+    Serving { pid: u32, place: Place },
+    AskingOutcome,
+    Over(Outcome),
+    TurnsOver,
+    Faulted,
+}

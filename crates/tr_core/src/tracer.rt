@@ -1,0 +1,464 @@
+//! The tracer.
+
+ghost use Rattle.std.specs.Prelude.{◌≡◌, ◌≤◌, ◌^◌, ◌&&◌, not, true, false, IfOk, OnOk, OnErr, Some};
+ghost use Rattle.lx_model.specs.Finite.{at};
+ghost use Rattle.tr_core.specs.Known.{new_tracee};
+ghost use Rattle.std.specs.FinMap as maps;
+ghost use Rattle.std.specs.Option.{option_map};
+ghost use Rattle.pt_model.specs.Tracer.{asks, request, focus_on, told_tracees, took_stop, heard, stays};
+ghost use Rattle.tr_core.specs.Hearings.{heard_by, says_done};
+ghost use Rattle.tr_core.specs.Settings.{first_pen, options_by, options_of, script_of};
+ghost use Rattle.tr_core.specs.Known.{place_of};
+ghost use Rattle.tr_core.specs.Tracers.{admits_in, focus_of, known_in, state_in, state_of, Goes, Steps};
+ghost use Rattle.tr_core.specs.States.{new_state, act_of, is_faulted, taken_of};
+ghost use Rattle.tr_core.specs.Outcomes.{outcome_in, outcome_of};
+ghost use Rattle.lx_abi.specs.Scripts.{choice_of};
+ghost use Rattle.tr_core.specs.Admitted.{told_status, says_childless, says_out, told_outcome, waits_by, serves_by};
+ghost use Rattle.tr_core.specs.Admitted.{ends_by, tracees_by_status, tracees_by_reply, is_seizing as seizes};
+ghost use Rattle.tr_core.specs.Admitted.{next_by, tracees_by};
+
+use crate::admission::{admits_answer, stop_fits};
+use crate::hearing::{hear, is_done, take_stop};
+use crate::living::Living;
+use crate::occurrences::Occurrences;
+use crate::place::{Focus, Place, Tracee};
+use crate::settings::{Options, Settings};
+use crate::tracing::{Act, TraceFault, Tracing};
+use lx_abi::{Ask, Bytes, Call, Map, Outcome, Reply, Request, Script, Stop};
+use pt_model::Standing;
+use std::alloc::{AllocError, Global};
+use std::mem;
+use tr_line::{Layout, Printer};
+
+/// What a tracer keeps beside the flag for want of memory.
+#[derive(Drop)]
+struct Core {
+    settings: Settings,
+    known: Map<Tracee>,
+    counts: Occurrences,
+    living: Living,
+    focus: Focus,
+    printer: Printer,
+    taken: u64,
+}
+
+/// What is known of a process, at first nothing.
+fn tracee_at(known: &Map<Tracee>, pid: u32) -> Tracee
+    ensures { result ≡ at new_tracee known.now pid }
+{
+    match known.get(pid) {
+        Some(tracee) => *tracee,
+        None => Tracee {
+            inside: false,
+            called: Call {
+                number: u64::MAX,
+                arguments: [0; 6],
+            },
+            saved: None,
+            standing: Standing::Unmet,
+        },
+    }
+}
+
+/// The reply is one that a host may give.
+fn admits(core: &Core, reply: &Reply) -> bool
+    ensures { result ≡ admits_in core.now reply.now }
+{
+    match (&core.focus, reply) {
+        (Focus::Booting, reply) => is_done(reply),
+        (Focus::Waiting, Reply::Status { pid, status }) => match status.stop() {
+            None => false,
+            Some(stop) => {
+                let tracee = tracee_at(&core.known, *pid);
+                (core.settings.options.follow || *pid == 1)
+                    && stop_fits(
+                        core.settings.options.follow,
+                        tracee.called.number,
+                        tracee.saved.is_some(),
+                        tracee.standing,
+                        stop,
+                    )
+            }
+        },
+        (Focus::Waiting, Reply::Errno { number }) => *number == 10 && core.living.is_empty(),
+        (Focus::Serving { place, .. }, reply) => admits_answer(place, reply),
+        (Focus::Waiting | Focus::AskingOutcome, Reply::OutOfTurns)
+        | (Focus::AskingOutcome, Reply::Outcome { .. }) => true,
+        _ => false,
+    }
+}
+
+/// What was heard of a tracee is kept, and asked next.
+fn keep(core: &mut Core, pid: u32, tracee: Tracee, next: Option<Place>) -> Result<(), AllocError>
+    ensures known { OnOk result (core.new.known ≡ maps.insert core.old.known pid tracee) }
+    ensures focus { OnOk result (focus_of core.new.focus ≡ focus_on pid (option_map place_of next)) }
+    ensures rest { OnOk result ((core.new.settings ≡ core.old.settings) × (core.new.counts ≡ core.old.counts)
+        × (core.new.living ≡ core.old.living) × (core.new.printer ≡ core.old.printer)
+        × (core.new.taken ≡ core.old.taken)) }
+{
+    core.known.insert(pid, tracee)?;
+    core.focus = match next {
+        Some(place) => Focus::Serving { pid, place },
+        None => Focus::Waiting,
+    };
+    Ok(())
+}
+
+/// The list of tracees after a status.
+fn attend(living: &mut Living, pid: u32, stop: Stop) -> Result<(), AllocError>
+    ensures { OnOk result (living.new ≡ told_tracees living.old pid (Some stop)) }
+{
+    match stop {
+        Stop::Ended { .. } => living.remove(pid),
+        _ => living.add(pid)?,
+    }
+    Ok(())
+}
+
+/// A status that is admitted.
+fn hear_status(core: &mut Core, pid: u32, stop: Stop) -> Result<Bytes, AllocError>
+    ensures { IfOk result
+        (λ b. Goes (took_stop (options_of core.old.settings) (known_in core.old) pid stop)
+        (told_tracees core.old.living pid (Some stop)) b core.old core.new) }
+{
+    let mut tracee = tracee_at(&core.known, pid);
+    let heard = take_stop(&core.settings, &mut core.printer, pid, &mut tracee, stop)?;
+    attend(&mut core.living, pid, stop)?;
+    keep(core, pid, tracee, heard.next)?;
+    Ok(heard.bytes)
+}
+
+/// A reply, which is admitted, to what was asked of the tracee in hand.
+fn hear_reply(core: &mut Core, pid: u32, place: Place, reply: Reply) -> Result<Bytes, AllocError>
+    ensures { IfOk result
+        (λ b. Goes
+        (heard (known_in core.old) pid
+        (heard_by (options_of core.old.settings) (script_of core.old.settings) pid (known_in core.old pid)
+        (place_of place) reply)) core.old.living b core.old core.new) }
+{
+    let mut tracee = tracee_at(&core.known, pid);
+    let heard = hear(
+        &core.settings,
+        &mut core.counts,
+        &mut core.printer,
+        pid,
+        &mut tracee,
+        place,
+        reply,
+    )?;
+    keep(core, pid, tracee, heard.next)?;
+    Ok(heard.bytes)
+}
+
+/// Nothing is printed, and this asked.
+#[tactic(auto, unfolding(crate::specs::Pens::wrote, crate::specs::Pens::pen_after))]
+fn stay(core: &mut Core, focus: Focus) -> Bytes
+    ensures { Goes (stays (known_in core.old) (focus_of focus)) core.old.living result core.old core.new }
+{
+    core.focus = focus;
+    Bytes::new(core.settings.alloc)
+}
+
+fn status_in(reply: &Reply) -> Option<(u32, Option<Stop>)>
+    ensures { result ≡ told_status reply.now }
+{
+    match reply {
+        Reply::Status { pid, status } => Some((*pid, status.stop())),
+        _ => None,
+    }
+}
+
+fn is_childless(reply: &Reply) -> bool
+    ensures { result ≡ says_childless reply.now }
+{
+    match reply {
+        Reply::Errno { number } => *number == 10,
+        _ => false,
+    }
+}
+
+fn is_out(reply: &Reply) -> bool
+    ensures { result ≡ says_out reply.now }
+{
+    matches!(reply, Reply::OutOfTurns)
+}
+
+fn outcome_in(reply: Reply) -> Option<Outcome>
+    ensures { result ≡ told_outcome reply }
+{
+    match reply {
+        Reply::Outcome { outcome } => Some(outcome),
+        _ => None,
+    }
+}
+
+/// A reply to Wait.
+fn hear_wait(
+    core: &mut Core,
+    told: Option<(u32, Option<Stop>)>,
+    childless: bool,
+    out: bool,
+) -> Result<Bytes, AllocError>
+    ensures { IfOk result
+        (λ b. Goes (waits_by (options_of core.old.settings) (known_in core.old) told childless out)
+        (tracees_by_status core.old.living told) b core.old core.new) }
+{
+    match told {
+        Some((pid, Some(stop))) => hear_status(core, pid, stop),
+        Some((_, None)) => Ok(stay(core, Focus::Waiting)),
+        None => {
+            if childless {
+                Ok(stay(core, Focus::AskingOutcome))
+            } else if out {
+                Ok(stay(core, Focus::TurnsOver))
+            } else {
+                Ok(stay(core, Focus::Waiting))
+            }
+        }
+    }
+}
+
+/// A reply to what was asked of the tracee in hand, or OutOfTurns.
+fn hear_served(
+    core: &mut Core,
+    pid: u32,
+    place: Place,
+    reply: Reply,
+    out: bool,
+) -> Result<Bytes, AllocError>
+    ensures { IfOk result
+        (λ b. Goes
+        (serves_by (options_of core.old.settings) (script_of core.old.settings) (known_in core.old) pid
+        (place_of place) reply out) core.old.living b core.old core.new) }
+{
+    if out {
+        Ok(stay(core, Focus::TurnsOver))
+    } else {
+        hear_reply(core, pid, place, reply)
+    }
+}
+
+/// A reply to Outcome.
+fn hear_outcome(core: &mut Core, told: Option<Outcome>, out: bool) -> Bytes
+    ensures { Goes (ends_by (known_in core.old) told out) core.old.living result core.old core.new }
+{
+    match told {
+        Some(outcome) => stay(core, Focus::Over(outcome)),
+        None => {
+            if out {
+                stay(core, Focus::TurnsOver)
+            } else {
+                stay(core, Focus::AskingOutcome)
+            }
+        }
+    }
+}
+
+/// Process 1 is known from its Seize on.
+fn attend_seized(living: &mut Living, pid: u32, seized: bool) -> Result<(), AllocError>
+    ensures { OnOk result (living.new ≡ tracees_by_reply living.old pid seized) }
+{
+    if seized {
+        living.add(pid)?;
+    }
+    Ok(())
+}
+
+fn is_seizing(place: &Place) -> bool
+    ensures { result ≡ seizes (place_of place.now) }
+{
+    matches!(place, Place::Seizing)
+}
+
+/// A reply to the tracee in hand, and the list of tracees after it.
+fn hear_serving(core: &mut Core, pid: u32, place: Place, reply: Reply) -> Result<Bytes, AllocError>
+    ensures { IfOk result
+        (λ b. Goes
+        (serves_by (options_of core.old.settings) (script_of core.old.settings) (known_in core.old) pid
+        (place_of place) reply (says_out reply))
+        (tracees_by_reply core.old.living pid (seizes (place_of place) && says_done reply)) b core.old core.new) }
+{
+    let seized = is_seizing(&place) && is_done(&reply);
+    let out = is_out(&reply);
+    let bytes = hear_served(core, pid, place, reply, out)?;
+    attend_seized(&mut core.living, pid, seized)?;
+    Ok(bytes)
+}
+
+/// A reply that is admitted.
+fn go(core: &mut Core, focus: Focus, reply: Reply) -> Result<Bytes, AllocError>
+    ensures { IfOk result
+        (λ b. Goes
+        (next_by (options_of core.old.settings) (script_of core.old.settings) (known_in core.old) focus reply)
+        (tracees_by core.old.living focus reply) b core.old core.new) }
+{
+    match focus {
+        Focus::Waiting => {
+            let told = status_in(&reply);
+            let childless = is_childless(&reply);
+            let out = is_out(&reply);
+            hear_wait(core, told, childless, out)
+        }
+        Focus::Serving { pid, place } => hear_serving(core, pid, place, reply),
+        Focus::AskingOutcome => {
+            let out = is_out(&reply);
+            let told = outcome_in(reply);
+            Ok(hear_outcome(core, told, out))
+        }
+        Focus::Booting => Ok(stay(
+            core,
+            Focus::Serving {
+                pid: 1,
+                place: Place::Seizing,
+            },
+        )),
+        Focus::Over(_) => Ok(stay(core, Focus::Faulted)),
+        Focus::TurnsOver => Ok(stay(core, Focus::Faulted)),
+        Focus::Faulted => Ok(stay(core, Focus::Faulted)),
+    }
+}
+
+/// A reply: its bytes, or none where it isn't admitted.
+fn step(core: &mut Core, reply: Reply) -> Result<Option<Bytes>, AllocError>
+    requires { core.old.taken ≤ 2 ^ 40 }
+    ensures step { IfOk result (λ b. Steps core.old reply b core.new) }
+    ensures want { OnErr result (is_faulted (state_in core.old false) ≡ false) }
+{
+    if !admits(core, &reply) {
+        core.focus = Focus::Faulted;
+        return Ok(None);
+    }
+    let focus = mem::replace(&mut core.focus, Focus::Faulted);
+    let bytes = go(core, focus, reply)?;
+    core.taken += 1;
+    Ok(Some(bytes))
+}
+
+fn ask_of(settings: &Settings, place: &Place) -> Ask
+    ensures { result ≡ asks (options_of settings.now) (place_of place.now) }
+{
+    match place {
+        Place::Seizing => Ask::Seize {
+            options: if settings.options.follow { 0x13 } else { 0x11 },
+        },
+        Place::EntryRegs | Place::ExitRegs => Ask::GetRegs,
+        Place::EntryPeek { want, .. } | Place::ExitPeek { want, .. } => Ask::Peek {
+            address: want.0,
+            length: want.1,
+        },
+        Place::EntrySet { registers, .. } | Place::ExitSet { registers, .. } => Ask::SetRegs {
+            registers: *registers,
+        },
+        Place::SignalInfo { .. } => Ask::SigInfo,
+        Place::Resuming { signal } => Ask::Syscall { signal: *signal },
+    }
+}
+
+/// What is asked next, none at the end.
+fn request_in(core: &Core) -> Option<Request>
+    ensures { result ≡ request (options_of core.now.settings) (focus_of core.now.focus) }
+{
+    match &core.focus {
+        Focus::Waiting => Some(Request::Wait),
+        Focus::Serving { pid, place } => Some(Request::To {
+            pid: *pid,
+            ask: ask_of(&core.settings, place),
+        }),
+        Focus::AskingOutcome => Some(Request::Outcome),
+        Focus::Booting | Focus::Over(_) | Focus::TurnsOver | Focus::Faulted => None,
+    }
+}
+
+/// The tracer: it takes replies one by one, Boot's Done first.
+#[derive(Drop)]
+pub struct Tracer {
+    core: Core,
+    /// Met want of memory.
+    failed: bool,
+}
+
+impl Tracer {
+    /// A tracer that has heard nothing.
+    #[tactic(auto, unfolding(crate::specs::Tracers::state_of))]
+    pub fn new(alloc: Global, script: Script, options: Options) -> Self
+        ensures { state_of result ≡ new_state (options_by options) (choice_of script) (first_pen options) }
+    {
+        let layout = Layout {
+            follow: options.follow,
+            width: options.width,
+        };
+        let printer = Printer::new(alloc, layout);
+        Tracer {
+            core: Core {
+                settings: Settings {
+                    alloc,
+                    options,
+                    script,
+                },
+                known: Map::new(alloc),
+                counts: Occurrences::new(alloc),
+                living: Living::new(alloc),
+                focus: Focus::Booting,
+                printer,
+                taken: 0,
+            },
+            failed: false,
+        }
+    }
+}
+
+fn outcome(focus: Focus) -> Option<Outcome>
+    ensures { result ≡ outcome_in focus }
+{
+    match focus {
+        Focus::Over(outcome) => Some(outcome),
+        _ => None,
+    }
+}
+
+impl Tracer {
+    /// The outcome of a whole run.
+    #[tactic(auto, unfolding(crate::specs::Tracers::state_of))]
+    pub fn into_outcome(self) -> Option<Outcome>
+        ensures { result ≡ outcome_of (state_of self) }
+    {
+        let Tracer { core, .. } = self;
+        let Core { focus, .. } = core;
+        outcome(focus)
+    }
+}
+
+fn act(core: &Core, bytes: Bytes) -> Act
+    ensures { result ≡ act_of (request (options_of core.now.settings) (focus_of core.now.focus)) bytes }
+{
+    match request_in(core) {
+        Some(request) => Act::Ask { bytes, request },
+        None => Act::Finished { bytes },
+    }
+}
+
+impl Tracing for Tracer {
+    ghost use Rattle.tr_core.specs.Tracers.{state_of};
+
+    ghost state = { state_of };
+
+    #[tactic(auto, unfolding(crate::specs::States::taken_of, crate::specs::Tracers::state_of))]
+    fn next(&mut self, reply: Reply) -> Result<Act, TraceFault> {
+        if self.failed {
+            return Err(TraceFault::Memory);
+        }
+        match step(&mut self.core, reply) {
+            Ok(Some(bytes)) => Ok(act(&self.core, bytes)),
+            Ok(None) => Err(TraceFault::Inadmissible),
+            Err(_) => {
+                self.failed = true;
+                Err(TraceFault::Memory)
+            }
+        }
+    }
+
+    #[tactic(auto, unfolding(crate::specs::States::taken_of, crate::specs::Tracers::state_of))]
+    fn taken(&self) -> u64 {
+        self.core.taken
+    }
+}
