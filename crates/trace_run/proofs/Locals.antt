@@ -1,0 +1,98 @@
+-- A run over a host in memory, from the events that its schedule gave.
+use Rattle.std.proofs.Common.{◌≡◌, ℕ, ◌≤◌, ◌<◌, Bool, true, List, [], ◌∷◌, ◌++◌, Option, Some, None, Ok, refl, sym, ap, subst, ◌∙◌}
+use Rattle.std.proofs.lemmas.List.{append-nil}
+use Rattle.lx_abi.specs.declared.outcome.Outcome.{Outcome}
+use Rattle.lx_abi.specs.declared.ptrace.Reply.{Reply}
+use Rattle.lx_abi.specs.declared.ptrace.Reply.TheVariants.{Done as Agreed}
+use Rattle.lx_abi.specs.declared.ptrace.Request.{Request}
+use Rattle.lx_abi.specs.declared.schedule.Event.{Event}
+use Rattle.lx_model.specs.Kernel.{Script, traces, Kernel}
+use Rattle.lx_model.specs.Machine.{Machine}
+use Rattle.pt_model.specs.Calls.{Talks, WorldsCall, RunsAppend, OutOfTurnsShowsNothing, SchedulesAreLists, TalksAreOwn}
+use Rattle.pt_model.specs.Headline.{traced_run, plain_run, IsTransparent}
+use Rattle.pt_model.specs.Parts as parts_of
+use Rattle.pt_model.specs.Ptrace.{Host, is_there}
+use Rattle.pt_model.specs.Tracer.{first_tracer, request}
+use Rattle.pt_model.specs.View.{has_exit}
+use Rattle.pt_model.specs.World.{World, world_run, effective, first_world}
+use Rattle.tr_core.specs.Settings.{options_by, first_pen}
+use Rattle.tr_core.specs.Laws.{TextsAreWhole}
+use Rattle.tr_core.specs.States.{State, new_state, heard, moved as moved_by, told, request_of}
+use Rattle.tr_core.specs.declared.settings.Options.{Options}
+use Rattle.trace_run.specs.declared.running.Ended.{Ended}
+use Rattle.trace_run.specs.declared.running.Ended.TheVariants.{Whole, OutOfTurns}
+use Rattle.trace_run.specs.Runs.{Answers, Ends, Last, replies_of}
+use Rattle.trace_run.specs.Tells.{view_text, Tells, RunsTell}
+use Rattle.trace_run.specs.Local.{Feeds, LocalRunsTell}
+use Rattle.trace_run.proofs.Fed.{IsFed, is_fed}
+
+-- it asks nothing more, and its link stays
+record IsLast {L : Type 0} (s : State) (rs : List Reply) (a : L) (b : Ends L) : Type 0 where
+  pub asks_none : request_of (told s rs) ≡ None
+  pub link : b.link ≡ a
+
+last_link : {L : Type 0} (answers : Answers L) (s : State) (rs : List Reply) (written : Option (List ℕ)) (a : L) (b : Ends L) → Last answers s rs written a (Ok tt) b → IsLast s rs a b
+unfolding Last
+last_link answers s rs written a b h = record { asks_none = h.3; link = h.4 }
+
+module _ {S B : Type 0} (m : Machine S B) (outcome : S → Outcome) (o : Options) (script : Script) (s : S) (b : B) (events : List Event) where
+  abbrev plain : Kernel S B
+  plain = plain_run m outcome (options_by o) script s b events
+
+  -- what was shown, by how the run ended
+  record Shown (ended : Ended) (trace : List ℕ) (left : Outcome) : Type 0 where
+    pub lost : ℕ → Bool
+    pub later : List ℕ
+    pub begins : trace ++ later ≡ view_text m outcome o script s b events lost
+    pub whole : (y : Outcome) → ended ≡ Whole y → (y ≡ left) × (later ≡ []) × ((q : ℕ) → 1 ≤ q → q < plain.child → traces o.follow q ≡ true → has_exit q plain.log ≡ true)
+    pub out_of_turns : ended ≡ OutOfTurns → is_there (request (options_by o) (traced_run m outcome (options_by o) script s b events).tracer.focus) ≡ true
+
+  shown : (ended : Ended) (trace : List ℕ) (left : Outcome) → left ≡ outcome plain.shared → Tells m outcome o script s b events (Ok ended) (Some []) (Some trace) → Shown ended trace left
+  shown (Whole x) trace left same t =
+      let k = t.whole x refl in
+      record {
+        lost = k.lost;
+        later = [];
+        begins = append-nil trace ∙ k.all;
+        whole = λ y e. (cc e ∙ k.same_outcome ∙ sym same, refl, k.all_ended);
+        out_of_turns = λ e. absurd (cc e);
+      }
+  shown OutOfTurns trace left same t = record {
+    lost = t.lost;
+    later = t.begins.1.0;
+    begins = ap (λ l. l ++ t.begins.1.0) t.begins.1.1.1 ∙ t.begins.1.1.0;
+    whole = λ y e. absurd (cc e);
+    out_of_turns = λ e. t.out_of_turns refl;
+  }
+
+pub local_runs_tell : {L X S B : Type 0} (answers : Answers L) → RunsTell S B answers → TalksAreOwn S B → SchedulesAreLists X S B → WorldsCall S B → RunsAppend S B → OutOfTurnsShowsNothing → IsTransparent S B → TextsAreWhole → LocalRunsTell X S B answers
+unfolding heard moved_by
+local_runs_tell {L} {X} {S} {B} answers tells own lists calls appends nothing transparent texts o script is_script link link' trace broken broken' ended w i choose m is_m is_told outcome s b serves first no_turns =
+    let po : parts_of.Options = options_by o in
+    let xs : List (Request × Reply) = w.runs.exchanges in
+    let begun : State = heard (new_state po script (first_pen o)) Agreed in
+    let last : IsLast (new_state po script (first_pen o)) (Agreed ∷ replies_of xs) w.runs.link (record { link = link'; written = Some trace; broken = broken'; state = w.state }) =
+    last_link answers (new_state po script (first_pen o)) (Agreed ∷ replies_of xs) (Some []) w.runs.link (record { link = link'; written = Some trace; broken = broken'; state = w.state }) w.runs.last in
+    let fed : IsFed answers i choose m outcome serves calls appends nothing begun link w.runs.link [] xs =
+    is_fed answers i choose m outcome serves calls appends nothing xs begun link w.runs.link [] w.runs.led w.runs.asked last.asks_none in
+    let world : record { host = i.host link; tracer = first_tracer; printed = [] } ≡ first_world s b = ap (λ (h : Host S B). record { host = h; tracer = first_tracer; printed = [] }) first in
+    let host : (traced_run m outcome po script s b fed.events).host ≡ i.host link' =
+    ap (λ (v : World S B). (world_run m outcome po script v fed.events).host) (sym world) ∙ fed.host ∙ ap i.host (sym last.link) in
+    let same : outcome (i.host link').shared ≡ outcome (plain_run m outcome po script s b fed.events).shared =
+    ap (λ (h : Host S B). outcome h.shared) (sym host) ∙ (transparent m is_m is_told outcome po (texts o.string_limit o.limit_in_range) script is_script s b fed.events).same_outcome in
+    let talks : Talks m outcome po script first_tracer (first_world s b).host fed.events xs =
+    subst (λ (h : Host S B). Talks m outcome po script first_tracer h fed.events xs) first (lists choose m outcome po script first_tracer (i.schedule link) (i.host link) fed.events xs fed.over) in
+    let t : Tells m outcome o script s b fed.events (Ok ended) (Some []) (Some trace) =
+    tells o script is_script link link' (Some []) (Some trace) broken broken' (Ok ended) w m is_m is_told outcome s b fed.events (own m outcome po script s b fed.events xs talks) in
+    let x = shown m outcome o script s b fed.events ended trace (outcome (i.host link').shared) same t in
+    record {
+      events = fed.events;
+      given = subst (λ (v : World S B). Feeds choose m outcome po script (i.schedule link) v fed.events) world fed.given;
+      turned = ap i.turns last.link ∙ fed.turned ∙ ap (λ l. l ++ effective m outcome po script (record { host = i.host link; tracer = first_tracer; printed = [] }) fed.events) no_turns ∙ ap (λ (v : World S B). effective m outcome po script v fed.events) world;
+      same_outcome = same;
+      lost = x.lost;
+      later = x.later;
+      begins = x.begins;
+      whole = x.whole;
+      out_of_turns = x.out_of_turns;
+    }

@@ -1,0 +1,190 @@
+-- What a run writes, by the untraced kernel.
+use Rattle.std.proofs.Common.{◌≡◌, ℕ, ◌≤◌, ◌<◌, true, List, [], ◌∷◌, ◌++◌, Option, Some, None, Result, Ok, Err, refl, sym, ap, subst, ◌∙◌, append_assoc}
+use Rattle.std.specs.Prelude.{⊤}
+use Rattle.std.proofs.lemmas.List.{append-nil}
+use Rattle.std.specs.Io.KnownBytes.{Appends}
+use Rattle.lx_abi.specs.declared.outcome.Outcome.{Outcome}
+use Rattle.lx_abi.specs.declared.ptrace.Reply.{Reply}
+use Rattle.lx_abi.specs.declared.ptrace.Reply.TheVariants.{Done as Agreed}
+use Rattle.lx_abi.specs.declared.schedule.Event.{Event}
+use Rattle.lx_abi.specs.declared.ptrace.Request.{Request}
+use Rattle.pt_model.specs.Ptrace.{Host, is_there}
+use Rattle.pt_model.specs.World.{World, first_world}
+use Rattle.pt_model.specs.Attending.{called}
+use Rattle.pt_model.specs.Calls.{IsOwn, Talks, TalksAreOwn, OwnRun, FailuresLeaveAPrefix, OwnRepliesTell}
+use Rattle.pt_model.specs.Headline.{IsTexts, IsPast, plain_run}
+use Rattle.lx_model.specs.Kernel.{Script, traces, Kernel, kernel_run, first_kernel}
+use Rattle.lx_model.specs.Machine.{Machine}
+use Rattle.pt_model.specs.Parts as parts_of
+use Rattle.pt_model.specs.Parts.{Part}
+use Rattle.pt_model.specs.Replies.{told_by}
+use Rattle.pt_model.specs.Tracer.{Focus, Booting, Waiting, Serving, Asking_outcome, Over, Turns_over, Faulted, Tracer, Moved, request, new_tracer}
+use Rattle.pt_model.specs.View.{view, has_exit, traced, parts}
+use Rattle.host_wire.specs.Ends.{AppendsPart}
+use Rattle.tr_core.specs.Settings.{options_by, layout_by, first_pen}
+use Rattle.tr_core.specs.Laws.{StatesAreTracers, TextsAreWhole, TracersWriteRenderings}
+use Rattle.tr_core.specs.Outcomes.{outcome_at, outcome_of}
+use Rattle.tr_core.specs.States.{State, new_state, told, text, heard, moved as moved_by, request_of, is_faulted, is_faulted_at}
+use Rattle.tr_core.specs.declared.settings.Options.{Options}
+use Rattle.tr_core.specs.declared.tracing.TraceFault.TheVariants.{Inadmissible, Memory}
+use Rattle.tr_line.specs.Lines.{rendering}
+use Rattle.tr_line.specs.Printing.{RenderingGrows}
+use Rattle.trace_run.specs.declared.running.Ended.{Ended}
+use Rattle.trace_run.specs.declared.running.Ended.TheVariants.{Whole, OutOfTurns}
+use Rattle.trace_run.specs.declared.running.RunFault.{RunFault}
+use Rattle.trace_run.specs.declared.running.RunFault.TheVariants.{Link, Trace, Output}
+use Rattle.trace_run.proofs.Begun.{begun}
+use Rattle.trace_run.specs.Runs.{Answers, Asked, Ends, EndsAs, Last, replies_of, forgets}
+use Rattle.trace_run.specs.Tells.{view_text, RunsTell, Served, ServedRunsTell}
+
+part_more : (a b : Option (List ℕ)) (xs ys zs : List ℕ) → xs ++ ys ≡ zs → AppendsPart a b xs → AppendsPart a b zs
+part_more a b xs ys zs e k = (k.0, (k.1.0 ++ ys, (sym (append_assoc k.0 k.1.0 ys) ∙ ap (λ l. l ++ ys) k.1.1.0 ∙ e, k.1.1.1)))
+
+all_part : (a b : Option (List ℕ)) (xs : List ℕ) → Appends a b xs → AppendsPart a b xs
+all_part a b xs h = (xs, ([], (append-nil xs, h)))
+
+last_part : {L : Type 0} (answers : Answers L) (s : State) (rs : List Reply) (written : Option (List ℕ)) (a : L) (r : Result ⊤ RunFault) (b : Ends L) → Last answers s rs written a r b → AppendsPart written b.written (text s rs)
+unfolding Last
+last_part answers s rs written a (Ok u) b h = all_part written b.written (text s rs) h.1
+last_part answers s rs written a (Err (Link f)) b h = all_part written b.written (text s rs) h.1
+last_part answers s rs written a (Err (Trace Inadmissible)) b h = all_part written b.written (text s rs) h.1
+last_part answers s rs written a (Err (Trace Memory)) b h = h.0
+last_part answers s rs written a (Err Output) b h = h.0
+
+-- a whole run heard all replies, and wrote all of their text
+record IsWhole {L : Type 0} (s : State) (rs : List Reply) (written : Option (List ℕ)) (b : Ends L) : Type 0 where
+  pub state : b.state ≡ told s rs
+  pub written_all : Appends written b.written (text s rs)
+
+last_whole : {L : Type 0} (answers : Answers L) (s : State) (rs : List Reply) (written : Option (List ℕ)) (a : L) (r : Result Ended RunFault) (x : Outcome) (b : Ends L) → r ≡ Ok (Whole x) → Last answers s rs written a (forgets r) b → IsWhole s rs written b
+unfolding Last
+last_whole answers s rs written a (Ok y) x b e h = record { state = h.0; written_all = h.1 }
+last_whole answers s rs written a (Err f) x b e h = absurd (cc e)
+
+same_options : (s : State) (rs : List Reply) → (told s rs).options ≡ s.options
+unfolding heard
+same_options s [] = refl
+same_options s (r ∷ rs) = same_options (heard s r) rs
+
+-- a run that is out of turns heard all replies, and asks nothing more
+record IsOut (s : State) (rs : List Reply) (end : State) : Type 0 where
+  pub state : end ≡ told s rs
+  pub asks_none : request_of (told s rs) ≡ None
+
+last_out : {L : Type 0} (answers : Answers L) (s : State) (rs : List Reply) (written : Option (List ℕ)) (a : L) (r : Result Ended RunFault) (b : Ends L) → r ≡ Ok OutOfTurns → Last answers s rs written a (forgets r) b → IsOut s rs b.state
+unfolding Last
+last_out answers s rs written a (Ok y) b e h = record { state = h.0; asks_none = h.3 }
+last_out answers s rs written a (Err f) b e h = absurd (cc e)
+
+out_at : (o : parts_of.Options) (f : Focus) → request o f ≡ None → outcome_at f ≡ None → (f ≡ Booting → ⊥) → (f ≡ Faulted → ⊥) → f ≡ Turns_over
+out_at o Booting q x b k = absurd (b refl)
+out_at o Waiting q x b k = absurd (cc q)
+out_at o (Serving p place) q x b k = absurd (cc q)
+out_at o Asking_outcome q x b k = absurd (cc q)
+out_at o (Over y) q x b k = absurd (cc x)
+out_at o Turns_over q x b k = refl
+out_at o Faulted q x b k = absurd (k refl)
+
+none_in : (s : State) (rs : List Reply) → request_of (told s (Agreed ∷ rs)) ≡ None → request s.options (told s (Agreed ∷ rs)).tracer.focus ≡ None
+unfolding request_of
+none_in s rs e = ap (λ o. request o (told s (Agreed ∷ rs)).tracer.focus) (sym (same_options s (Agreed ∷ rs))) ∙ e
+
+none_told : (s : State) → outcome_of s ≡ None → outcome_at s.tracer.focus ≡ None
+unfolding outcome_of
+none_told s e = e
+
+last_fault : {L : Type 0} (answers : Answers L) (s : State) (rs : List Reply) (written : Option (List ℕ)) (a : L) (r : Result Ended RunFault) (b : Ends L) → r ≡ Err (Trace Inadmissible) → Last answers s rs written a (forgets r) b → is_faulted (told s rs) ≡ true
+unfolding Last
+last_fault answers s rs written a r b e h = go (subst (λ q. Last answers s rs written a (forgets q) b) e h)
+  where
+    go : Last answers s rs written a (Err (Trace Inadmissible)) b → is_faulted (told s rs) ≡ true
+    go k = k.2
+
+over_at : (f : Focus) (x : Outcome) → outcome_at f ≡ Some x → f ≡ Over x
+over_at Booting x e = absurd (cc e)
+over_at Waiting x e = absurd (cc e)
+over_at (Serving p place) x e = absurd (cc e)
+over_at Asking_outcome x e = absurd (cc e)
+over_at (Over y) x e = ap (λ z. Over z) (cc e)
+over_at Turns_over x e = absurd (cc e)
+over_at Faulted x e = absurd (cc e)
+
+fault_at : (f : Focus) → is_faulted_at f ≡ true → f ≡ Faulted
+fault_at Booting e = absurd (cc e)
+fault_at Waiting e = absurd (cc e)
+fault_at (Serving p place) e = absurd (cc e)
+fault_at Asking_outcome e = absurd (cc e)
+fault_at (Over y) e = absurd (cc e)
+fault_at Turns_over e = absurd (cc e)
+fault_at Faulted e = refl
+
+over_in : (s : State) (x : Outcome) → outcome_of s ≡ Some x → s.tracer.focus ≡ Over x
+unfolding outcome_of
+over_in s x e = over_at s.tracer.focus x e
+
+fault_in : (s : State) → is_faulted s ≡ true → s.tracer.focus ≡ Faulted
+unfolding is_faulted
+fault_in s e = fault_at s.tracer.focus e
+
+pub runs_tell : {L S B : Type 0} (answers : Answers L) → FailuresLeaveAPrefix S B → OwnRepliesTell S B → StatesAreTracers → TextsAreWhole → TracersWriteRenderings → RenderingGrows → RunsTell S B answers
+runs_tell {L} {S} {B} answers fails own states whole writes grows o script is_script link link' old new broken broken' result w m is_m is_told outcome s b events is_own =
+    let po : parts_of.Options = options_by o in
+    let rs : List Reply = replies_of w.runs.exchanges in
+    let first : State = new_state po script (first_pen o) in
+    let moved : Moved = told_by po script (Agreed ∷ rs) in
+    let texts : IsTexts po.texts = whole o.string_limit o.limit_in_range in
+    let tracer : (told first (Agreed ∷ rs)).tracer ≡ moved.tracer = (states po script (first_pen o) (Agreed ∷ rs)).0 in
+    let bytes : text first (Agreed ∷ rs) ≡ rendering (layout_by o) moved.printed = writes po script (layout_by o) (Agreed ∷ rs) in
+    let end : Ends L = record { link = link'; written = new; broken = broken'; state = w.state } in
+    let prefix = fails m is_m is_told outcome po texts script is_script s b events rs is_own in
+    let run : OwnRun m outcome po script s b events rs = own m is_m is_told outcome po texts script is_script s b events rs is_own in
+    let grown = grows (layout_by o) moved.printed prefix.1.0 in
+    record {
+      lost = prefix.0;
+      begins =
+          part_more old new (text first (Agreed ∷ rs)) grown.later (view_text m outcome o script s b events prefix.0)
+          (ap (λ l. l ++ grown.later) bytes ∙ grown.whole ∙ ap (rendering (layout_by o)) prefix.1.1)
+          (last_part answers first (Agreed ∷ rs) old w.runs.link (forgets result) end w.runs.last);
+      whole = λ x e.
+          let ended : IsWhole first (Agreed ∷ rs) old end = last_whole answers first (Agreed ∷ rs) old w.runs.link result x end e w.runs.last in
+          let over : moved.tracer.focus ≡ Over x =
+          ap (λ (t : Tracer). t.focus) (sym tracer) ∙ over_in (told first (Agreed ∷ rs)) x (ap outcome_of (sym ended.state) ∙ subst (λ r. EndsAs r w.state) e w.ends) in
+          let over_there = run.whole x over in
+          let done = run.done (ap (λ f. request po f) over) in
+          let plain : plain_run m outcome po script s b run.used ≡ plain_run m outcome po script s b events = ap (λ es. kernel_run m script o.follow (first_kernel s b) es) done.1 in
+          let all = run.shown ∙ run.headline.tells.whole (subst IsPast (sym over_there) tt) in
+          record {
+            same_outcome = run.headline.replied x over_there ∙ ap (λ (k : Kernel S B). outcome k.shared) plain;
+            lost = run.headline.lost;
+            all = subst (Appends old new) (bytes ∙ ap (rendering (layout_by o)) (all ∙ ap (λ (k : Kernel S B). parts po (view run.headline.lost (traced o.follow k.log))) plain)) ended.written_all;
+            all_ended = subst (λ (k : Kernel S B). (q : ℕ) → 1 ≤ q → q < k.child → traces o.follow q ≡ true → has_exit q k.log ≡ true) plain (run.headline.all_ended (subst IsPast (sym over_there) tt));
+          };
+      out_of_turns = λ e.
+          let out : IsOut first (Agreed ∷ rs) w.state = last_out answers first (Agreed ∷ rs) old w.runs.link result end e w.runs.last in
+          let focus : moved.tracer.focus ≡ Turns_over =
+          out_at po moved.tracer.focus
+          (ap (λ (t : Tracer). request po t.focus) (sym tracer) ∙ none_in first rs out.asks_none)
+          (ap outcome_at (ap (λ (t : Tracer). t.focus) (sym tracer)) ∙ none_told (told first (Agreed ∷ rs)) (ap outcome_of (sym out.state) ∙ subst (λ r. EndsAs r w.state) e w.ends))
+          (λ f. begun po script (record { tracer = new_tracer; printed = [] }) Agreed rs f)
+          (λ f. run.admitted f) in
+          let used = run.used_up focus in
+          let done = run.done (ap (λ f. request po f) focus) in
+          ap (λ (v : World S B). is_there (request po v.tracer.focus)) (sym done.0) ∙ used.1;
+      admitted = λ e.
+          run.admitted (ap (λ (t : Tracer). t.focus) (sym tracer) ∙ fault_in (told first (Agreed ∷ rs)) (last_fault answers first (Agreed ∷ rs) old w.runs.link result end e w.runs.last));
+    }
+
+-- the tracer's requests and the host's answers are a talk
+talks : {S B : Type 0} (m : Machine S B) (outcome : S → Outcome) (t : State) (h : Host S B) (events : List Event) (xs : List (Request × Reply)) → Asked t xs → Served m outcome h events xs → Talks m outcome t.options t.script t.tracer h events xs
+unfolding heard moved_by request_of
+talks m outcome t h events [] a v = tt
+talks m outcome t h events (x ∷ xs) a v = (a.0, v.0, talks m outcome (heard t x.1) (called m outcome h x.0 events).host (called m outcome h x.0 events).left xs a.1 v.1)
+
+own_talks : {S B : Type 0} → TalksAreOwn S B → (m : Machine S B) (outcome : S → Outcome) (o : Options) (script : Script) (s : S) (b : B) (events : List Event) (xs : List (Request × Reply))
+    → Asked (heard (new_state (options_by o) script (first_pen o)) Agreed) xs → Served m outcome (first_world s b).host events xs → IsOwn m outcome (options_by o) script s b events (replies_of xs)
+unfolding heard moved_by
+own_talks own m outcome o script s b events xs a v = own m outcome (options_by o) script s b events xs (talks m outcome (heard (new_state (options_by o) script (first_pen o)) Agreed) (first_world s b).host events xs a v)
+
+pub served_runs_tell : {L S B : Type 0} (answers : Answers L) → TalksAreOwn S B → RunsTell S B answers → ServedRunsTell S B answers
+served_runs_tell answers own tells o script is_script link link' old new broken broken' result w m is_m is_told outcome s b events v =
+    tells o script is_script link link' old new broken broken' result w m is_m is_told outcome s b events (own_talks own m outcome o script s b events w.runs.exchanges w.runs.asked v)

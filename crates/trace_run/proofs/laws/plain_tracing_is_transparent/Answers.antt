@@ -1,0 +1,5 @@
+use Rattle.trace_run.proofs.Claimed.{plain_tracing}
+use Rattle.trace_run.proofs.laws.plain_tracing_is_transparent.Goals as goal
+
+pub returns : goal.returns
+returns g c = plain_tracing g.L.Link.answers c.every_script_is_one.ensures c.joined_signals_are_transparent.ensures

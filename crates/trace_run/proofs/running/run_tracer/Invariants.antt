@@ -1,0 +1,13 @@
+use Rattle.std.proofs.Common.{◌^◌, ◌-◌}
+use Rattle.trace_run.proofs.Talks.{Going}
+use Rattle.trace_run.proofs.running.run_tracer.Given as goal
+
+abbrev pub invariant-loop-next : goal.invariant-loop-next
+invariant-loop-next g l =
+    Going g.L.Link.answers g.L.Link.given
+    (record { link = l.fn.link; written = g.W.Sink.contents l.fn.writer; broken = g.W.Sink.broken l.fn.writer; state = g.T.Tracing.state l.fn.tracer })
+    l.reply
+    (record { link = l.link; written = g.W.Sink.contents l.writer; broken = g.W.Sink.broken l.writer; state = g.T.Tracing.state l.tracer })
+
+abbrev pub decreases-loop-next : goal.decreases-loop-next
+decreases-loop-next g l = 2 ^ 40 - g.L.Link.given l.link

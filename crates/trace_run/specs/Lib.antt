@@ -1,0 +1,5 @@
+pub mod Claims
+pub mod Local
+pub mod Runs
+pub mod Tells
+pub mod Writings

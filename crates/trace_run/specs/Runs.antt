@@ -1,0 +1,98 @@
+-- A run: a tracer, a link and a writer, over any of each.
+use Rattle.std.specs.Prelude.{◌≡◌, ℕ, true, false, List, [], ◌∷◌, Option, Some, None, Result, Ok, Err, map, ⊤}
+use Rattle.std.specs.Io.KnownBytes.{Appends}
+use Rattle.lx_abi.specs.declared.ptrace.Reply.{Reply}
+use Rattle.lx_abi.specs.declared.ptrace.Reply.TheVariants.{Done as Agreed}
+use Rattle.lx_abi.specs.declared.ptrace.Request.{Request}
+use Rattle.host_link.specs.declared.fault.LinkFault.{LinkFault}
+use Rattle.host_wire.specs.Ends.{AppendsPart}
+use Rattle.tr_core.specs.declared.tracing.TraceFault.TheVariants.{Inadmissible, Memory}
+use Rattle.tr_core.specs.States.{State, heard, said, request_of, is_faulted, admitted, told, text}
+use Rattle.tr_core.specs.Outcomes.{outcome_of}
+use Rattle.trace_run.specs.declared.running.Ended.{Ended}
+use Rattle.trace_run.specs.declared.running.Ended.TheVariants.{Whole, OutOfTurns}
+use Rattle.trace_run.specs.declared.running.RunFault.{RunFault}
+use Rattle.trace_run.specs.declared.running.RunFault.TheVariants.{Link, Trace, Output}
+
+-- what a link may do: the link before, the request, the answer, the link after
+abbrev pub Answers : Type 0 → Type 1
+Answers L = L → Request → Result Reply LinkFault → L → Type 0
+
+-- the exchanges lead the link from a to b
+abbrev pub Leads : {L : Type 0} → Answers L → L → List (Request × Reply) → L → Type 0
+Leads answers a [] b = b ≡ a
+Leads {L} answers a (x ∷ xs) b = (mid : L) × (answers a x.0 (Ok x.1) mid × Leads answers mid xs b)
+
+-- each request is the one that the tracer asks after the replies before it
+abbrev pub Asked : State → List (Request × Reply) → Type 0
+Asked s [] = Unit {0}
+Asked s (x ∷ xs) = (request_of s ≡ Some x.0) × Asked (heard s x.1) xs
+
+abbrev pub replies_of : List (Request × Reply) → List Reply
+replies_of xs = map (λ x. x.1) xs
+
+-- the tracer asks this, and the link answers so
+abbrev pub Exchanged : {L : Type 0} → Answers L → L → State → Result Reply LinkFault → L → Type 0
+Exchanged answers a s answer b = (q : Request) × ((request_of s ≡ Some q) × answers a q answer b)
+
+-- One round: the tracer hears a reply, what it prints is written, and what it asks is asked. Everything that
+-- the round touched, before and after.
+pub record Ends (L : Type 0) : Type 0 where
+  pub link : L
+  pub written : Option (List ℕ)
+  pub broken : ℕ
+  pub state : State
+
+unfoldable pub Round : {L : Type 0} → Answers L → Ends L → Reply → Result (Option Reply) RunFault → Ends L → Type 0
+Round answers a r (Ok (Some next)) b = (b.state ≡ heard a.state r) × Appends a.written b.written (said a.state r)
+    × Exchanged answers a.link b.state (Ok next) b.link
+Round answers a r (Ok None) b = (b.state ≡ heard a.state r) × Appends a.written b.written (said a.state r)
+    × (is_faulted b.state ≡ false) × (request_of b.state ≡ None) × (b.link ≡ a.link)
+Round answers a r (Err (Link f)) b = (b.state ≡ heard a.state r) × Appends a.written b.written (said a.state r)
+    × Exchanged answers a.link b.state (Err f) b.link
+Round answers a r (Err (Trace Inadmissible)) b = (b.state ≡ heard a.state r) × (admitted a.state r ≡ false)
+    × (b.written ≡ a.written) × (b.link ≡ a.link)
+Round answers a r (Err (Trace Memory)) b = (b.written ≡ a.written) × (b.link ≡ a.link)
+Round answers a r (Err Output) b = (b.state ≡ heard a.state r) × AppendsPart a.written b.written (said a.state r)
+    × (b.broken ≡ 1) × (b.link ≡ a.link)
+
+-- The end of a run, after these replies (Boot's among them) and with the link at a.
+unfoldable pub Last : {L : Type 0} → Answers L → State → List Reply → Option (List ℕ) → L → Result ⊤ RunFault
+    → Ends L → Type 0
+Last answers s rs written a (Ok u) b = (b.state ≡ told s rs) × Appends written b.written (text s rs)
+    × (is_faulted (told s rs) ≡ false) × (request_of (told s rs) ≡ None) × (b.link ≡ a)
+Last answers s rs written a (Err (Link f)) b = (b.state ≡ told s rs) × Appends written b.written (text s rs)
+    × Exchanged answers a (told s rs) (Err f) b.link
+Last answers s rs written a (Err (Trace Inadmissible)) b = (b.state ≡ told s rs)
+    × Appends written b.written (text s rs) × (is_faulted (told s rs) ≡ true) × (b.link ≡ a)
+Last answers s rs written a (Err (Trace Memory)) b = AppendsPart written b.written (text s rs) × (b.link ≡ a)
+Last answers s rs written a (Err Output) b = AppendsPart written b.written (text s rs) × (b.broken ≡ 1) × (b.link ≡ a)
+
+-- A whole run: one list of requests and answers leads the link from its beginning to where it ends.
+pub record Runs {L : Type 0} (answers : Answers L) (a : Ends L) (result : Result ⊤ RunFault) (b : Ends L) :
+    Type 0 where
+  pub exchanges : List (Request × Reply)
+  pub link : L
+  pub led : Leads answers a.link exchanges link
+  pub asked : Asked (heard a.state Agreed) exchanges
+  pub last : Last answers a.state (Agreed ∷ replies_of exchanges) a.written link result b
+
+-- with no word of how it ended
+abbrev pub forgets : Result Ended RunFault → Result ⊤ RunFault
+forgets (Ok x) = Ok tt
+forgets (Err f) = Err f
+
+-- whole with the outcome that the host told, or out of turns
+abbrev pub EndsAs : Result Ended RunFault → State → Type 0
+EndsAs (Ok (Whole x)) s = outcome_of s ≡ Some x
+EndsAs (Ok OutOfTurns) s = outcome_of s ≡ None
+EndsAs (Err f) s = Unit {0}
+
+-- a run of a tracer that begins
+pub record RunsWhole {L : Type 0} (answers : Answers L) (first : State) (link : L) (written : Option (List ℕ))
+    (broken : ℕ) (result : Result Ended RunFault) (link' : L) (written' : Option (List ℕ)) (broken' : ℕ) : Type 0 where
+  -- the tracer in the end
+  pub state : State
+  pub runs : Runs answers (record { link = link; written = written; broken = broken; state = first })
+      (forgets result) (record { link = link'; written = written'; broken = broken'; state = state })
+  pub ends : EndsAs result state

@@ -1,0 +1,72 @@
+//! What a run writes, as the contract of a function with an empty body: call it to cite it.
+
+ghost use Rattle.trace_run.specs.Claims.{PlainTracing, ReplacedCalls, JoinedSignals, UnderKills};
+ghost use Rattle.trace_run.specs.Local.{LocalRunsTell};
+ghost use Rattle.trace_run.specs.Tells.{RunsTell, ServedRunsTell};
+
+use host_link::Link;
+use pt_model::laws::{
+    every_script_is_one, failures_leave_a_prefix, no_kill_no_loss, own_replies_tell,
+    schedules_are_lists, tracing_is_transparent, worlds_attend,
+};
+use tr_core::laws::{states_are_tracers, texts_are_whole, tracers_write_renderings};
+use tr_line::renderings_grow;
+
+/// Where the replies are a host's own, what was written begins the rendering of a view of the untraced kernel's log,
+/// however the run ended; where it is whole it is all of it, with that kernel's outcome.
+pub fn runs_tell<S, B, L: Link>()
+    ensures own { RunsTell S B L.answers }
+    ensures served { ServedRunsTell S B L.answers }
+{
+    failures_leave_a_prefix::<S, B>();
+    own_replies_tell::<S, B>();
+    states_are_tracers();
+    texts_are_whole();
+    tracers_write_renderings();
+    renderings_grow();
+}
+
+/// A run that ends without a fault over a host in memory, which a schedule feeds, has the outcome of the untraced
+/// kernel by the effective turns; its trace begins the rendering of a view of that kernel's log, and is all of it
+/// where the run is whole.
+pub fn local_runs_tell<X, S, B, L: Link>()
+    ensures { LocalRunsTell X S B L.answers }
+{
+    runs_tell::<S, B, L>();
+    schedules_are_lists::<X, S, B>();
+    own_replies_tell::<S, B>();
+    worlds_attend::<S, B>();
+    tracing_is_transparent::<S, B>();
+    texts_are_whole();
+}
+
+/// Under the empty script a run tells the untraced kernel's log and outcome, where nobody is killed.
+pub fn plain_tracing_is_transparent<S, B, L: Link>()
+    ensures { PlainTracing S B L.answers }
+{
+    joined_signals_are_transparent::<S, B, L>();
+    every_script_is_one();
+}
+
+/// So it does with results replaced: exactly the scripted occurrences, counted per tracee and call.
+pub fn replaced_calls_are_transparent<S, B, L: Link>()
+    ensures { ReplacedCalls S B L.answers }
+{
+    joined_signals_are_transparent::<S, B, L>();
+}
+
+/// So it does with signals joined to calls.
+pub fn joined_signals_are_transparent<S, B, L: Link>()
+    ensures { JoinedSignals S B L.answers }
+{
+    runs_tell::<S, B, L>();
+    no_kill_no_loss();
+}
+
+/// Whoever is killed, and whenever, a run tells a view of that log: the last item before an end by SIGKILL may be
+/// left out.
+pub fn tracing_is_transparent_under_kills<S, B, L: Link>()
+    ensures { UnderKills S B L.answers }
+{
+    runs_tell::<S, B, L>();
+}

@@ -1,0 +1,9 @@
+//! A whole run of the tracer over a link.
+#![tactic(auto)]
+
+pub mod laws;
+pub mod running;
+mod written;
+
+pub use running::{Ended, RunFault, run, run_tracer};
+pub use written::Written;

@@ -1,0 +1,155 @@
+//! The loop between a tracer and a link.
+
+ghost use Rattle.std.specs.Prelude.{◌≡◌, ◌+◌, ◌≤◌, ◌^◌, Ok, IfOk, IfErr, IfSome, OnOk, OnErr};
+ghost use Rattle.std.specs.Io.KnownBytes.{Appends};
+ghost use Rattle.host_wire.specs.Ends.{AppendsPart};
+ghost use Rattle.tr_core.specs.States.{State, new_state, taken_of};
+ghost use Rattle.trace_run.specs.Runs.{Ends, EndsAs, Round, Runs, RunsWhole};
+ghost use Rattle.tr_core.specs.Settings.{first_pen, options_by};
+ghost use Rattle.tr_core.specs.Outcomes.{outcome_of};
+ghost use Rattle.lx_abi.specs.Scripts.{choice_of};
+
+use host_link::{Link, LinkFault};
+use host_wire::{Broken, Sink};
+use lx_abi::{Bytes, Outcome, Reply, Script};
+use std::alloc::Global;
+use thiserror::Error;
+use tr_core::{Act, Options, TraceFault, Tracer, Tracing};
+
+/// Why a run ended before its end.
+#[derive(Clone, Copy, Debug, PartialEq, Eq, Error)]
+pub enum RunFault {
+    #[error("{0}")]
+    Link(LinkFault),
+    #[error("{0}")]
+    Trace(TraceFault),
+    #[error("the trace could not be written")]
+    Output,
+}
+
+/// Writes what a round prints.
+fn write<W: Sink>(writer: &mut W, bytes: &Bytes) -> Result<(), RunFault>
+    ensures whole { OnOk result (Appends (W.contents writer.old) (W.contents writer.new) bytes.now) }
+    ensures fault { IfErr result (λ fault. fault ≡ RunFault.Output) }
+    ensures part { OnErr result (AppendsPart (W.contents writer.old) (W.contents writer.new) bytes.now) }
+    ensures broken { OnErr result (W.broken writer.new ≡ 1) }
+{
+    match writer.put(bytes.as_slice()) {
+        Ok(()) => Ok(()),
+        Err(Broken) => Err(RunFault::Output),
+    }
+}
+
+/// The tracer hears a reply; what it prints is written, and what it asks is asked. None at the end.
+fn round<L: Link, W: Sink, T: Tracing>(
+    link: &mut L,
+    writer: &mut W,
+    tracer: &mut T,
+    reply: Reply,
+) -> Result<Option<Reply>, RunFault>
+    requires { taken_of (T.state tracer.old) ≤ 2 ^ 40 }
+    ensures round { Round L.answers
+        (record {
+          link = link.old;
+          written = W.contents writer.old;
+          broken = W.broken writer.old;
+          state =
+              T.state tracer.old;
+        }) reply result
+        (record {
+          link = link.new;
+          written = W.contents writer.new;
+          broken = W.broken writer.new;
+          state =
+              T.state tracer.new;
+        }) }
+    ensures counted { IfOk result
+        (λ next. IfSome next (λ _. (L.given link.new ≡ L.given link.old + 1) × (L.given link.new ≤ 2 ^ 40))) }
+{
+    let act = match tracer.next(reply) {
+        Ok(act) => act,
+        Err(fault) => return Err(RunFault::Trace(fault)),
+    };
+    match act {
+        Act::Finished { bytes } => match write(writer, &bytes) {
+            Ok(()) => Ok(None),
+            Err(fault) => Err(fault),
+        },
+        Act::Ask { bytes, request } => {
+            if let Err(fault) = write(writer, &bytes) {
+                return Err(fault);
+            }
+            match link.call(request) {
+                Ok(next) => Ok(Some(next)),
+                Err(fault) => Err(RunFault::Link(fault)),
+            }
+        }
+    }
+}
+
+/// Runs a tracer over a link whose Boot was answered Done.
+pub fn run_tracer<L: Link, W: Sink, T: Tracing>(
+    link: &mut L,
+    writer: &mut W,
+    tracer: &mut T,
+) -> Result<(), RunFault>
+    requires { taken_of (T.state tracer.old) ≡ 0 }
+    ensures { Runs L.answers
+        (record {
+          link = link.old;
+          written = W.contents writer.old;
+          broken = W.broken writer.old;
+          state =
+              T.state tracer.old;
+        }) result
+        (record {
+          link = link.new;
+          written = W.contents writer.new;
+          broken = W.broken writer.new;
+          state =
+              T.state tracer.new;
+        }) }
+{
+    let mut reply = Reply::Done;
+    loop {
+        match round(link, writer, tracer, reply) {
+            Ok(Some(next)) => reply = next,
+            Ok(None) => return Ok(()),
+            Err(fault) => return Err(fault),
+        }
+    }
+}
+
+/// How a run came to its end.
+#[derive(Drop)]
+pub enum Ended {
+    Whole(Outcome),
+    OutOfTurns,
+}
+
+fn end_by(outcome: Option<Outcome>) -> Ended
+    ensures { (s : State) → outcome_of s ≡ outcome → EndsAs (Ok result) s }
+{
+    match outcome {
+        Some(outcome) => Ended::Whole(outcome),
+        None => Ended::OutOfTurns,
+    }
+}
+
+/// Runs the tracer over a link whose Boot was answered Done.
+pub fn run<L: Link, W: Sink>(
+    alloc: Global,
+    link: &mut L,
+    writer: &mut W,
+    script: Script,
+    options: Options,
+) -> Result<Ended, RunFault>
+    ensures { RunsWhole L.answers (new_state (options_by options) (choice_of script) (first_pen options)) link.old
+        (W.contents writer.old) (W.broken writer.old) result link.new (W.contents writer.new) (W.broken writer.new) }
+{
+    let mut tracer = Tracer::new(alloc, script, options);
+    match run_tracer(link, writer, &mut tracer) {
+        Ok(()) => Ok(end_by(tracer.into_outcome())),
+        Err(fault) => Err(fault),
+    }
+}
