@@ -3,7 +3,7 @@
 use crate::fault::{Fault, HOST};
 use crate::{asm, plain, words};
 use clap::{ArgMatches, Error};
-use std::alloc::{AllocError, Global};
+use std::alloc::Global;
 use std::io::{Read, Write};
 use std::rt::Files;
 
@@ -16,25 +16,21 @@ pub fn command<R: Files + AllocGlobal, I: Read, O: Write, E: Write>(
     out: &mut O,
     err: &mut E,
 ) -> u8 {
-    match done(rt, words, input, out, err) {
+    match obey(rt, words, input, out, err) {
         Ok(status) => status,
-        Err(
-            Fault {
-                status,
-                text: Some(text),
-            },
-        ) => match writeln!(err, "{text}") {
-            Ok(()) => status,
-            Err(_) => HOST,
-        },
-        Err(Fault { status, text: None }) => match writeln!(err, "guest_host: out of memory") {
-            Ok(()) => status,
-            Err(_) => HOST,
-        },
+        Err(fault) => tell(fault, err),
     }
 }
 
-fn done<R: Files + AllocGlobal, I: Read, O: Write, E: Write>(
+/// Tells of a fault in one line, and gives its status.
+pub fn tell<E: Write>(fault: Fault, err: &mut E) -> u8 {
+    match writeln!(err, "{fault}") {
+        Ok(()) => fault.status(),
+        Err(_) => HOST,
+    }
+}
+
+fn obey<R: Files + AllocGlobal, I: Read, O: Write, E: Write>(
     rt: &R,
     words: &[String],
     input: &mut I,
@@ -42,13 +38,14 @@ fn done<R: Files + AllocGlobal, I: Read, O: Write, E: Write>(
     err: &mut E,
 ) -> Result<u8, Fault> {
     match words::parse(rt.alloc(), words) {
-        Ok(matches) => obeyed(rt, &matches, input, out, err),
-        Err(error) => told(rt.alloc(), error, out),
+        Ok(matches) => choose(rt, &matches, input, out, err),
+        Err(error) if error.use_stderr() => Err(words::refusal(rt.alloc(), words)),
+        Err(help) => print_help(rt.alloc(), help, out),
     }
 }
 
-/// Does what the words ask for.
-fn obeyed<R: Files + AllocGlobal, I: Read, O: Write, E: Write>(
+/// Runs the subcommand.
+fn choose<R: Files + AllocGlobal, I: Read, O: Write, E: Write>(
     rt: &R,
     matches: &ArgMatches,
     input: &mut I,
@@ -58,33 +55,15 @@ fn obeyed<R: Files + AllocGlobal, I: Read, O: Write, E: Write>(
     match matches.subcommand() {
         Some(("plain", matches)) => plain::run(rt, matches, input, out, err),
         Some(("asm", matches)) => asm::run(rt, matches),
-        _ => Err(Fault::usage(format!(in rt.alloc(); "guest_host: no such command"))),
+        _ => Err(Fault::usage(format!(in rt.alloc(); "no such command"))),
     }
 }
 
-/// Help on `out`, or what is wrong with the words.
-fn told<O: Write>(alloc: Global, error: Error, out: &mut O) -> Result<u8, Fault> {
-    let text = format!(in alloc; "{error}")?;
-    if error.use_stderr() {
-        return Err(Fault::usage(usage_line(alloc, text.as_str())));
-    }
+/// Writes the help, or the version.
+fn print_help<O: Write>(alloc: Global, help: Error, out: &mut O) -> Result<u8, Fault> {
+    let text = format!(in alloc; "{help}")?;
     match out.write_all(text.as_bytes()) {
         Ok(()) => Ok(0),
-        Err(_) => Err(Fault {
-            status: HOST,
-            text: None,
-        }),
+        Err(_) => Err(Fault::Output),
     }
-}
-
-/// What clap says of the words, without its hints, as one line.
-fn usage_line(alloc: Global, text: &str) -> Result<String, AllocError> {
-    let text = text.strip_prefix("error: ").unwrap_or(text);
-    let said = text.split_once("\n\n").map_or(text, |parts| parts.0);
-    let mut line = format!(in alloc; "guest_host:")?;
-    for part in said.lines() {
-        line.push(' ')?;
-        line.push_str(part.trim())?;
-    }
-    Ok(line)
 }

@@ -1,47 +1,76 @@
-//! Why a run can't be made, as one line and an exit status.
+//! Why a command isn't carried out, or not wholly.
 
-use std::alloc::{AllocError, AllocFailed};
+use std::alloc::{AllocError, AllocFailed, Global};
+use std::fmt::{Display, Formatter};
+use std::{fmt, io};
 
-/// A usage, expression or file fault, or a boot that is refused.
-pub const USAGE: u8 = 2;
+/// The status of a command whose words, files or boot are at fault.
+const USAGE: u8 = 2;
 
-/// Memory was refused, or output.
+/// The status where memory, or an output, is refused.
 pub const HOST: u8 = 3;
 
-/// A fault; without a text memory was refused.
+/// A fault; its text is one line.
 #[derive(Debug, Drop)]
-pub struct Fault {
-    pub status: u8,
-    pub text: Option<String>,
+pub enum Fault {
+    /// The words, an expression, a file, the input or the boot is at fault, in this way.
+    Usage(String),
+    /// The listing's first faulty line, and the number of the kind of fault.
+    Listing { line: usize, kind: u8 },
+    /// An output can't be written.
+    Output,
+    /// Memory was refused.
+    Memory,
 }
 
 impl Fault {
-    /// A usage, expression or file fault.
+    /// A fault with this text, if there is memory for it.
     pub fn usage(text: Result<String, AllocError>) -> Self {
-        match text {
-            Ok(text) => Fault {
-                status: USAGE,
-                text: Some(text),
-            },
-            Err(error) => Fault::from(error),
+        Fault::from(front_end::Fault::usage(text))
+    }
+
+    /// What can't be read or written, named by `what`.
+    pub fn file<D: Display + Drop>(alloc: Global, what: D, error: io::Error) -> Self {
+        Fault::from(front_end::Fault::file(alloc, what, error))
+    }
+
+    /// The exit status.
+    pub fn status(&self) -> u8 {
+        match self {
+            Fault::Usage(_) | Fault::Listing { .. } => USAGE,
+            Fault::Output | Fault::Memory => HOST,
+        }
+    }
+}
+
+impl Display for Fault {
+    fn fmt<W: fmt::Write>(&self, f: &mut Formatter<W>) -> fmt::Result {
+        match self {
+            Fault::Usage(text) => write!(f, "guest_host: {text}"),
+            Fault::Listing { line, kind } => write!(f, "asm: line {line} kind {kind}"),
+            Fault::Output => f.write_str("guest_host: output fault"),
+            Fault::Memory => f.write_str("guest_host: out of memory"),
+        }
+    }
+}
+
+impl From<front_end::Fault> for Fault {
+    fn from(fault: front_end::Fault) -> Self {
+        match fault {
+            front_end::Fault::Usage(text) => Fault::Usage(text),
+            front_end::Fault::Memory => Fault::Memory,
         }
     }
 }
 
 impl From<AllocError> for Fault {
     fn from(_error: AllocError) -> Self {
-        Fault {
-            status: HOST,
-            text: None,
-        }
+        Fault::Memory
     }
 }
 
 impl<T: Drop> From<AllocFailed<T>> for Fault {
     fn from(_error: AllocFailed<T>) -> Self {
-        Fault {
-            status: HOST,
-            text: None,
-        }
+        Fault::Memory
     }
 }

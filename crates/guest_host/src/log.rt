@@ -1,18 +1,71 @@
 //! The log of calls as it is printed: a line an item.
 
+use crate::fault::Fault;
 use lx_abi::Item;
-use std::io;
-use std::io::Write;
+use std::alloc::{AllocError, Global};
+use std::io::{self, Write};
 
-/// Prints an item: `E pid number a0 .. a5`, `D pid result`, `S pid signal` or `X pid word`.
-pub fn print<W: Write>(err: &mut W, item: &Item) -> io::Result<()> {
+/// Bytes of lines that are held back at most.
+const ROOM: usize = 65_536;
+
+/// The most bytes of a line.
+const LONGEST_LINE: usize = 256;
+
+/// Lines on their way to a writer. They are held back until there are many, or [`Log::flush`] is called, and are
+/// written whole.
+#[derive(Drop)]
+pub struct Log<'w, W> {
+    lines: Vec<u8>,
+    out: &'w mut W,
+}
+
+impl<'w, W: Write> Log<'w, W> {
+    pub fn new(alloc: Global, out: &'w mut W) -> Result<Self, AllocError> {
+        Ok(Log {
+            lines: Vec::with_capacity(alloc, ROOM)?,
+            out,
+        })
+    }
+
+    /// Lines are held back.
+    pub fn is_behind(&self) -> bool {
+        !self.lines.is_empty()
+    }
+
+    /// Adds an item's line.
+    pub fn print(&mut self, item: &Item) -> Result<(), Fault> {
+        if self.lines.len() > ROOM - LONGEST_LINE {
+            self.flush()?;
+        }
+        match push_line(&mut self.lines, item) {
+            Ok(()) => Ok(()),
+            Err(_) => Err(Fault::Memory),
+        }
+    }
+
+    /// Writes the lines that are held back; where the writer refuses them they are lost.
+    pub fn flush(&mut self) -> Result<(), Fault> {
+        if self.lines.is_empty() {
+            return Ok(());
+        }
+        let written = self.out.write_all(self.lines.as_slice());
+        self.lines.clear();
+        match written {
+            Ok(()) => Ok(()),
+            Err(_) => Err(Fault::Output),
+        }
+    }
+}
+
+/// Adds an item's line: `E pid number a0 .. a5`, `D pid result`, `S pid signal` or `X pid word`.
+fn push_line(lines: &mut Vec<u8>, item: &Item) -> io::Result<()> {
     match item {
         Item::Enter { pid, call } => {
-            write!(err, "E {pid} {}", call.number)?;
+            write!(lines, "E {pid} {}", call.number)?;
             for argument in &call.arguments {
-                write!(err, " {argument:#x}")?;
+                write!(lines, " {argument:#x}")?;
             }
-            writeln!(err)
+            writeln!(lines)
         }
         Item::Done {
             pid,
@@ -21,9 +74,9 @@ pub fn print<W: Write>(err: &mut W, item: &Item) -> io::Result<()> {
             ..
         } => {
             let mark = if *replaced { " r" } else { "" };
-            writeln!(err, "D {pid} {}{mark}", result.cast_signed())
+            writeln!(lines, "D {pid} {}{mark}", result.cast_signed())
         }
-        Item::Taken { pid, signal, .. } => writeln!(err, "S {pid} {}", signal.number),
-        Item::Exit { pid, word, .. } => writeln!(err, "X {pid} {word}"),
+        Item::Taken { pid, signal, .. } => writeln!(lines, "S {pid} {}", signal.number),
+        Item::Exit { pid, word, .. } => writeln!(lines, "X {pid} {word}"),
     }
 }

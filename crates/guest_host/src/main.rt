@@ -2,7 +2,9 @@
 #![tactic(auto)]
 
 mod asm;
+mod boot;
 mod command;
+mod expressions;
 mod fault;
 mod log;
 mod plain;
@@ -11,14 +13,16 @@ mod schedule;
 mod tests;
 mod words;
 
+use fault::Fault;
 use std::process::ExitCode;
-use std::{env, io};
 
-fn main(rt: HostRuntime) -> io::Result<ExitCode> {
-    let words: Vec<String> = env::args(&rt)?.collect(rt.alloc())?;
+fn main(rt: HostRuntime) -> ExitCode {
     let mut input = rt.stdin();
     let mut out = rt.stdout();
     let mut err = rt.stderr();
-    let status = command::command(&rt, words.as_slice(), &mut input, &mut out, &mut err);
-    Ok(ExitCode::from(status))
+    let status = match front_end::arguments(&rt) {
+        Ok(words) => command::command(&rt, words.as_slice(), &mut input, &mut out, &mut err),
+        Err(fault) => command::tell(Fault::from(fault), &mut err),
+    };
+    ExitCode::from(status)
 }

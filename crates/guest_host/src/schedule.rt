@@ -5,11 +5,27 @@ use lx_kernel::Kernel;
 /// The most turns in a row that one process has while another is able.
 const MOST_IN_A_ROW: u64 = 1000;
 
-/// Pids are 1 to this one.
-const LAST_PID: u32 = 255;
+/// Who may have a turn.
+pub trait Processes {
+    /// A turn of the process would run an instruction or change its mode.
+    fn is_able(&self, pid: u32) -> bool;
+
+    /// The next able pid after this one, in cyclic order; itself where it alone is able.
+    fn next_able(&self, after: u32) -> Option<u32>;
+}
+
+impl Processes for Kernel {
+    fn is_able(&self, pid: u32) -> bool {
+        self.able(pid)
+    }
+
+    fn next_able(&self, after: u32) -> Option<u32> {
+        Kernel::next_able(self, after)
+    }
+}
 
 /// Whose turn is next, and the most turns that it may have before another is asked for.
-#[derive(Clone, Copy)]
+#[derive(Clone, Copy, Debug, PartialEq, Eq)]
 pub struct Slice {
     pub pid: u32,
     pub turns: u64,
@@ -32,14 +48,14 @@ impl Schedule {
     ///
     /// A process that alone is able has row after row: where all its turns are instructions, none of
     /// them makes another able.
-    pub fn next(&mut self, kernel: &Kernel) -> Option<Slice> {
-        if self.left > 0 && kernel.able(self.last) {
+    pub fn next<P: Processes>(&mut self, processes: &P) -> Option<Slice> {
+        if self.left > 0 && processes.is_able(self.last) {
             return Some(Slice {
                 pid: self.last,
                 turns: self.left,
             });
         }
-        let pid = next_able(kernel, self.last)?;
+        let pid = processes.next_able(self.last)?;
         let alone = pid == self.last;
         self.last = pid;
         self.left = MOST_IN_A_ROW;
@@ -58,11 +74,4 @@ impl Schedule {
             self.left = (MOST_IN_A_ROW - begun) % MOST_IN_A_ROW;
         }
     }
-}
-
-/// The next able pid after this one, in cyclic order.
-fn next_able(kernel: &Kernel, last: u32) -> Option<u32> {
-    (1..LAST_PID + 1)
-        .find(|pid| *pid > last && kernel.able(*pid))
-        .or_else(|| (1..LAST_PID + 1).find(|pid| *pid <= last && kernel.able(*pid)))
 }

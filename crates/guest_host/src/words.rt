@@ -1,14 +1,23 @@
 //! What the command line asks for.
 
-use clap::{Arg, ArgAction, ArgMatches, Command, Error, value_parser};
-use std::alloc::Global;
+use crate::fault::Fault;
+use clap::{Arg, ArgAction, ArgMatches, Command, Error};
+use front_end::shown_words;
+use std::alloc::{AllocError, Global};
 
-/// Turns that a run has at most, where no limit is given.
-const LIMIT: u64 = 10_000_000;
+/// What is written of faulty listings, kind by kind.
+const KINDS: &str =
+    "A listing that can't be assembled is told by its first faulty line, as 'asm: line L kind K':
+  1  no mnemonic or directive has this name
+  2  the operands aren't those of the mnemonic
+  3  a number, or the distance to a label, doesn't fit
+  4  no line has this label
+  5  the label stands on an earlier line, or twice on this one
+  6  the program would fill more than 65536 bytes
+  7  memory ran out";
 
-/// Parses the words, the program's name first.
-pub fn parse<'a>(alloc: Global, words: &'a [String]) -> Result<ArgMatches<'a>, Error> {
-    let plain = Command::new(alloc, "plain")
+fn plain_command<'a>(alloc: Global) -> Result<Command<'a>, AllocError> {
+    Command::new(alloc, "plain")
         .about("Runs a program on the untraced kernel, and prints its calls on standard error")
         .arg(
             Arg::new(alloc, "expression")
@@ -22,7 +31,6 @@ pub fn parse<'a>(alloc: Global, words: &'a [String]) -> Result<ArgMatches<'a>, E
             Arg::new(alloc, "limit")
                 .long("limit")
                 .value_name("N")
-                .value_parser(value_parser!(u64))
                 .help("The most turns that there are (10000000)"),
         )?
         .arg(
@@ -40,20 +48,54 @@ pub fn parse<'a>(alloc: Global, words: &'a [String]) -> Result<ArgMatches<'a>, E
                 .num_args(1..)
                 .action(ArgAction::Append)
                 .help("The program and its arguments"),
-        )?;
-    let asm = Command::new(alloc, "asm")
+        )
+}
+
+fn asm_command<'a>(alloc: Global) -> Result<Command<'a>, AllocError> {
+    Command::new(alloc, "asm")
         .about("Assembles a listing into an ELF file")
-        .arg(Arg::new(alloc, "in").value_name("IN").required(true))?
-        .arg(Arg::new(alloc, "out").value_name("OUT").required(true))?;
+        .after_help(KINDS)
+        .arg(
+            Arg::new(alloc, "in")
+                .value_name("IN")
+                .required(true)
+                .help("The listing"),
+        )?
+        .arg(
+            Arg::new(alloc, "out")
+                .value_name("OUT")
+                .required(true)
+                .help("The file that the program is written to"),
+        )
+}
+
+/// Parses the words, the program's name first.
+pub fn parse<'a>(alloc: Global, words: &'a [String]) -> Result<ArgMatches<'a>, Error> {
     Command::new(alloc, "guest_host")
         .about("The host of modelled RV64I guests")
+        .version("0.1.0")
         .subcommand_required(true)
-        .subcommand(plain)?
-        .subcommand(asm)?
+        .subcommand(plain_command(alloc)?)?
+        .subcommand(asm_command(alloc)?)?
         .try_get_matches_from(words)
 }
 
-/// The limit on turns.
-pub fn limit(matches: &ArgMatches) -> u64 {
-    matches.get_one::<u64>("limit").unwrap_or(LIMIT)
+/// The words of a command that takes a program.
+fn words_of_plain(words: &[String]) -> Option<&[String]> {
+    match words {
+        [_, command, rest @ ..] if command.as_str() == "plain" => Some(rest),
+        _ => None,
+    }
+}
+
+/// What is wrong with words that can't be parsed.
+pub fn refusal(alloc: Global, words: &[String]) -> Fault {
+    let shown = match shown_words(alloc, words) {
+        Ok(shown) => shown,
+        Err(error) => return Fault::from(error),
+    };
+    match parse(alloc, shown.as_slice()) {
+        Ok(_) => Fault::usage(format!(in alloc; "a word is malformed")),
+        Err(error) => Fault::from(front_end::refusal(alloc, error, words_of_plain(words))),
+    }
 }

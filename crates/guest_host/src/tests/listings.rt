@@ -34,8 +34,8 @@ fn file_of_a_listing(rt: HostRuntime) -> Result<(), Fail> {
     fs::write(&rt, "exit.s", EXIT)?;
     let run = run_of(&rt, &["asm", "exit.s", "exit.elf"])?;
     assert_eq!(rt; run.status, 0);
-    assert_eq!(rt; run.out.len(), 0);
-    assert_eq!(rt; run.err.len(), 0);
+    assert_eq!(rt; run.out.text(), "");
+    assert_eq!(rt; run.err.text(), "");
     assert_eq!(rt; fs::read(&rt, "exit.elf")?.len(), 132);
     fs::remove_file(&rt, "exit.s")?;
     fs::remove_file(&rt, "exit.elf")?;
@@ -81,29 +81,29 @@ fn guests_that_end(rt: HostRuntime) -> Result<(), Fail> {
         let log = format!(in rt.alloc(); "{EXECVE}{logged}")?;
         let run = run_of_listing(&rt, listing)?;
         assert_eq!(rt; run.status, status, "{listing}");
-        assert_eq!(rt; run.out.len(), 0, "{listing}");
-        assert_eq!(rt; run.err.as_slice(), log.as_bytes(), "{listing}");
+        assert_eq!(rt; run.out.text(), "", "{listing}");
+        assert_eq!(rt; run.err.text(), log.as_str(), "{listing}");
     }
     Ok(())
 }
 
-/// Each faulty listing is told in one line, with its number and the kind of fault, and no file is written.
+/// Each faulty listing is told by its line and the number of the kind of fault alone, and no file is written.
 #[test]
 fn faulty_listings(rt: HostRuntime) -> Result<(), Fail> {
     let rows = [
-        ("mul a0, a0, a0\n", "asm: line 1 kind 1"),
-        ("addi x1,x2\n", "asm: line 1 kind 2"),
-        ("li a0, 4294967296\n", "asm: line 1 kind 3"),
-        ("j nowhere\n", "asm: line 1 kind 4"),
-        ("here: nop\nhere: nop\n", "asm: line 2 kind 5"),
-        ("nop\n\n.space 65536\n", "asm: line 3 kind 6"),
+        ("mul a0, a0, a0\n", "asm: line 1 kind 1\n"),
+        ("addi x1,x2\n", "asm: line 1 kind 2\n"),
+        ("li a0, 4294967296\n", "asm: line 1 kind 3\n"),
+        ("j nowhere\n", "asm: line 1 kind 4\n"),
+        ("here: nop\nhere: nop\n", "asm: line 2 kind 5\n"),
+        ("nop\n\n.space 65536\n", "asm: line 3 kind 6\n"),
     ];
     for (listing, told) in rows {
         fs::write(&rt, "faulty.s", listing)?;
         let run = run_of(&rt, &["asm", "faulty.s", "faulty.elf"])?;
         assert_eq!(rt; run.status, 2, "{listing}");
-        assert_eq!(rt; run.out.len(), 0, "{listing}");
-        assert!(rt; is_line_of(&run, told), "{listing}");
+        assert_eq!(rt; run.out.text(), "", "{listing}");
+        assert_eq!(rt; run.err.text(), told, "{listing}");
         assert!(rt; fs::read(&rt, "faulty.elf").is_err(), "{listing}");
     }
     fs::remove_file(&rt, "faulty.s")?;
@@ -125,7 +125,7 @@ fn files_out_of_reach(rt: HostRuntime) -> Result<(), Fail> {
     for (from, to, told) in rows {
         let run = run_of(&rt, &["asm", from, to])?;
         assert_eq!(rt; run.status, 2, "{from}");
-        assert_eq!(rt; run.out.len(), 0, "{from}");
+        assert_eq!(rt; run.out.text(), "", "{from}");
         assert!(rt; is_line_of(&run, told), "{from}");
     }
     fs::remove_file(&rt, "reachable.s")?;

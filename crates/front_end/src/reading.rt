@@ -1,0 +1,63 @@
+//! Files and input, of which no more is read than is of use.
+
+use crate::fault::Fault;
+use crate::shown::Shown;
+use std::alloc::Global;
+use std::fmt::Display;
+use std::fs;
+use std::io::{self, Read};
+use std::rt::Files;
+
+/// The most bytes of input, and of a listing.
+pub const MOST_INPUT: u64 = 134_217_728;
+
+/// Reads to the end, but at most one byte more than the limit.
+fn read_past<R: Read>(alloc: Global, reader: &mut R, limit: u64) -> io::Result<Vec<u8>> {
+    let mut bytes = Vec::new(alloc);
+    let _ = reader
+        .take(limit.saturating_add(1))
+        .read_to_end(&mut bytes)?;
+    Ok(bytes)
+}
+
+/// What a file holds, but at most one byte more than the limit.
+pub fn read_file<R: Files + AllocGlobal>(rt: &R, path: &str, limit: u64) -> io::Result<Vec<u8>> {
+    let mut file = fs::open(rt, path)?;
+    read_past(rt.alloc(), &mut file, limit)
+}
+
+/// The bytes, if there are no more than the limit.
+fn within<D: Display + Drop>(
+    alloc: Global,
+    what: D,
+    bytes: io::Result<Vec<u8>>,
+    limit: u64,
+) -> Result<Vec<u8>, Fault> {
+    match bytes {
+        Ok(bytes) if bytes.len() as u64 > limit => Err(Fault::usage(format!(in alloc;
+            "{what}: more than {limit} bytes"
+        ))),
+        Ok(bytes) => Ok(bytes),
+        Err(error) => Err(Fault::file(alloc, what, error)),
+    }
+}
+
+/// Input to its end, if it has no more bytes than the limit.
+pub fn read_input<I: Read>(alloc: Global, input: &mut I, limit: u64) -> Result<Vec<u8>, Fault> {
+    within(
+        alloc,
+        "standard input",
+        read_past(alloc, input, limit),
+        limit,
+    )
+}
+
+/// The text of a file.
+pub fn read_text<R: Files + AllocGlobal>(rt: &R, path: &str) -> Result<String, Fault> {
+    let bytes = read_file(rt, path, MOST_INPUT);
+    let bytes = within(rt.alloc(), Shown(path), bytes, MOST_INPUT)?;
+    match String::from_utf8(bytes) {
+        Ok(text) => Ok(text),
+        Err(_) => Err(Fault::usage(format!(in rt.alloc(); "{}: not UTF-8", Shown(path)))),
+    }
+}
