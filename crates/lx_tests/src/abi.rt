@@ -1,0 +1,149 @@
+//! Outside examples: the tables of errno(3), strerror(3), signal(7) and Linux, and scripts worked by hand.
+
+use lx_abi::calls::{call_classes, call_format, call_name, call_number};
+use lx_abi::{
+    Argument, Bytes, Choice, Class, Errno, Format, Map, Rule, Script, Seq, Set, Signal, When,
+};
+use std::alloc::{AllocError, Global};
+use std::test::Fail;
+
+#[test]
+fn errors(rt: HostRuntime) {
+    for (number, name, text) in [
+        (1, "EPERM", "Operation not permitted"),
+        (5, "EIO", "Input/output error"),
+        (28, "ENOSPC", "No space left on device"),
+        (38, "ENOSYS", "Function not implemented"),
+        (40, "ELOOP", "Too many levels of symbolic links"),
+    ] {
+        let errno = Errno::from_name(name);
+        assert_eq!(rt; errno, Errno::from_number(number));
+        assert_eq!(rt; errno.and_then(Errno::name), Some(name));
+        assert_eq!(rt; errno.and_then(Errno::text), Some(text));
+    }
+    assert_eq!(rt; Errno::from_name("EWHAT"), None);
+    assert_eq!(rt; Errno::from_number(0), None);
+    assert_eq!(rt; Errno::from_number(4096), None);
+    let unnamed = Errno::from_number(200);
+    assert_eq!(rt; unnamed.and_then(Errno::name), None);
+    assert_eq!(rt; unnamed.map(Errno::word), Some(0xffff_ffff_ffff_ff38));
+}
+
+#[test]
+fn signals(rt: HostRuntime) {
+    for (number, name, bare) in [
+        (1, "SIGHUP", "HUP"),
+        (10, "USR1", "USR1"),
+        (17, "SIGCHLD", "CHLD"),
+        (31, "SIGSYS", "SYS"),
+    ] {
+        let signal = Signal::from_name(name);
+        assert_eq!(rt; signal, Signal::from_number(number));
+        assert_eq!(rt; signal.map(Signal::name), Some(bare));
+    }
+    assert_eq!(rt; Signal::from_name("SIGSIGHUP"), None);
+    assert_eq!(rt; Signal::from_name(""), None);
+    assert_eq!(rt; Signal::from_number(32), None);
+}
+
+#[test]
+fn calls(rt: HostRuntime) {
+    for (number, name, classes) in [
+        (17, "getcwd", [Class::File].as_slice()),
+        (56, "openat", [Class::File, Class::Descriptor].as_slice()),
+        (172, "getpid", [].as_slice()),
+        (222, "mmap", [Class::Descriptor, Class::Memory].as_slice()),
+        (260, "wait4", [Class::Process].as_slice()),
+    ] {
+        assert_eq!(rt; call_number(name), Some(number));
+        assert_eq!(rt; call_name(number), Some(name));
+        assert_eq!(rt; call_classes(number), Some(classes));
+    }
+    assert_eq!(rt; call_number("wrote"), None);
+    assert_eq!(rt; call_name(65), None);
+    let read = Format {
+        entry: &[Argument::Int],
+        rest: &[Argument::Bytes, Argument::Unsigned],
+    };
+    assert_eq!(rt; call_format(63), Some(read));
+}
+
+const EVERY: When = When {
+    first: 1,
+    last: None,
+    step: 1,
+};
+
+fn rule(calls: Set, value: i64, when: When) -> Rule {
+    Rule {
+        calls,
+        choice: Choice {
+            result: Some(value),
+            signal: None,
+        },
+        when,
+    }
+}
+
+/// Every call but 63 gives 1; 64 gives 2 at its occurrences 2, 5, 8 and on.
+fn two_rules(alloc: Global) -> Result<Vec<Rule>, AllocError> {
+    let mut rules = Vec::new(alloc);
+    let mut read = Seq::new(alloc);
+    read.push(63)?;
+    rules.push(rule(Set::AllBut(read), 1, EVERY))?;
+    let mut write = Seq::new(alloc);
+    write.push(64)?;
+    let when = When {
+        first: 2,
+        last: Some(8),
+        step: 3,
+    };
+    rules.push(rule(Set::Only(write), 2, when))?;
+    Ok(rules)
+}
+
+#[test]
+fn scripts(rt: HostRuntime) -> Result<(), Fail> {
+    let script = Script::new(two_rules(rt.alloc())?);
+    for (call, n, result) in [
+        (63, 1, None),
+        (64, 1, None),
+        (64, 2, Some(2)),
+        (64, 3, None),
+        (64, 5, Some(2)),
+        (64, 8, Some(2)),
+        (64, 11, None),
+        (9999, 7, Some(1)),
+    ] {
+        assert_eq!(rt; script.choose(call, n).result, result, "{call} {n}");
+    }
+    assert_eq!(rt; Script::empty(rt.alloc()).choose(64, 1), Choice::NOTHING);
+    Ok(())
+}
+
+#[test]
+fn bytes(rt: HostRuntime) -> Result<(), Fail> {
+    let mut bytes = Bytes::from_slice(rt.alloc(), b"ab")?;
+    bytes.extend(b"c")?;
+    assert_eq!(rt; bytes.as_slice(), b"abc".as_slice());
+    assert_eq!(rt; bytes.len(), 3);
+    assert!(rt; Bytes::new(rt.alloc()).is_empty());
+    Ok(())
+}
+
+#[test]
+fn maps(rt: HostRuntime) -> Result<(), Fail> {
+    let mut map = Map::new(rt.alloc());
+    for key in 1..5 {
+        map.insert(key, u64::from(key) * 10)?;
+    }
+    if let Some(value) = map.get_mut(2) {
+        *value = 21;
+    }
+    map.keep(&[2, 3]);
+    for (key, value) in [(1, None), (2, Some(21)), (3, Some(30))] {
+        assert_eq!(rt; map.get(key).copied(), value);
+    }
+    assert_eq!(rt; map.remove(3), Some(30));
+    Ok(())
+}

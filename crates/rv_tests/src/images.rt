@@ -1,0 +1,136 @@
+use elf_image::{Image, Rights, read, write};
+use std::test::Fail;
+
+/// A program of one segment, the whole file at 0x10000, which writes `hi` and ends.
+static FILE: [u8; 159] = [
+    // The ELF header: class 64, little endian; executable, RISC-V; entry 0x10078; table at 64; one
+    // header of 56 bytes.
+    0x7f, 0x45, 0x4c, 0x46, 2, 1, 1, 0, 0, 0, 0, 0, 0, 0, 0, 0, //
+    2, 0, 243, 0, 1, 0, 0, 0, 0x78, 0, 1, 0, 0, 0, 0, 0, //
+    64, 0, 0, 0, 0, 0, 0, 0, 0, 0, 0, 0, 0, 0, 0, 0, //
+    0, 0, 0, 0, 0, 0, 56, 0, 1, 0, 0, 0, 0, 0, 0, 0, //
+    // The program header: to be loaded; read and execute; offset 0; address 0x10000; 159 bytes.
+    1, 0, 0, 0, 5, 0, 0, 0, 0, 0, 0, 0, 0, 0, 0, 0, //
+    0, 0, 1, 0, 0, 0, 0, 0, 0, 0, 0, 0, 0, 0, 0, 0, //
+    159, 0, 0, 0, 0, 0, 0, 0, 159, 0, 0, 0, 0, 0, 0, 0, //
+    0, 0, 0, 0, 0, 0, 0, 0, //
+    // Nine instructions, then the text.
+    0x13, 0x05, 0x10, 0x00, 0xb7, 0x05, 0x01, 0x00, 0x93, 0x85, 0xc5, 0x09, //
+    0x13, 0x06, 0x30, 0x00, 0x93, 0x08, 0x00, 0x04, 0x73, 0x00, 0x00, 0x00, //
+    0x13, 0x05, 0x00, 0x00, 0x93, 0x08, 0xe0, 0x05, 0x73, 0x00, 0x00, 0x00, //
+    b'h', b'i', b'\n',
+];
+
+/// The number of the fault, or 0.
+fn fault_in(rt: &HostRuntime, file: &[u8]) -> u8 {
+    match read(rt.alloc(), file) {
+        Ok(_) => 0,
+        Err(fault) => fault.number(),
+    }
+}
+
+/// What an image says, but for its contents: the entry, and address, size and length of the
+/// content for each segment.
+fn outline(rt: &HostRuntime, image: &Image) -> Result<Vec<u64>, Fail> {
+    let mut numbers = vec![in rt.alloc(); image.entry]?;
+    for segment in image.segments.as_slice() {
+        numbers.push(segment.address)?;
+        numbers.push(segment.size)?;
+        numbers.push(segment.bytes.len() as u64)?;
+    }
+    Ok(numbers)
+}
+
+#[test]
+fn cut_files_are_refused(rt: HostRuntime) {
+    let cuts = [
+        (0, 1),
+        (3, 1),
+        (4, 4),
+        (63, 4),
+        (64, 4),
+        (119, 4),
+        (120, 4),
+        (158, 4),
+        (159, 0),
+    ];
+    for (length, wanted) in cuts {
+        assert_eq!(rt; fault_in(&rt, &FILE[..length]), wanted, "at {length}");
+    }
+}
+
+#[test]
+fn changed_bytes_are_refused(rt: HostRuntime) -> Result<(), Fail> {
+    let changes = [
+        (0, 0x7e, 1),
+        (4, 1, 2),
+        (5, 2, 2),
+        (18, 62, 2),
+        (16, 3, 3),
+        (54, 32, 3),
+        (56, 0, 3),
+        (64, 2, 3),
+        (104, 0, 3),
+        (56, 2, 4),
+        (96, 160, 4),
+        (104, 158, 5),
+        (56, 65, 6),
+        (82, 0, 6),
+        (84, 0x20, 6),
+        (107, 2, 6),
+        (9, 1, 0),
+    ];
+    for (place, value, wanted) in changes {
+        let mut file = FILE.to_vec(rt.alloc())?;
+        assert!(rt; place < file.len());
+        file[place] = value;
+        assert_eq!(rt; fault_in(&rt, &file), wanted, "{value} at {place}");
+    }
+    Ok(())
+}
+
+#[test]
+fn too_many_headers_come_before_a_cut_table(rt: HostRuntime) -> Result<(), Fail> {
+    let mut file = FILE[..64].to_vec(rt.alloc())?;
+    assert_eq!(rt; file.len(), 64);
+    file[56] = 65;
+    assert_eq!(rt; fault_in(&rt, &file), 6);
+    Ok(())
+}
+
+#[test]
+fn segments_share_pages_but_no_byte(rt: HostRuntime) -> Result<(), Fail> {
+    let mut file = FILE[..120].to_vec(rt.alloc())?;
+    file.extend_from_slice(&FILE[64..120])?;
+    assert_eq!(rt; file.len(), 176);
+    file[56] = 2;
+    file[152] = 8;
+    file[160] = 8;
+    for (low_byte, wanted) in [(0x9e, 5), (0x9f, 0)] {
+        assert_eq!(rt; file.len(), 176);
+        file[136] = low_byte;
+        assert_eq!(rt; fault_in(&rt, &file), wanted, "at {low_byte}");
+    }
+    Ok(())
+}
+
+#[test]
+fn a_file_is_read_and_written(rt: HostRuntime) -> Result<(), Fail> {
+    let image = read(rt.alloc(), &FILE)?;
+    let wanted = [0x10078, 0x10000, 159, 159];
+    assert_eq!(rt; outline(&rt, &image)?.as_slice(), wanted.as_slice());
+    let written = write(rt.alloc(), &image)?;
+    assert_eq!(rt; written.len(), 64 + 56 + 159);
+    let again = read(rt.alloc(), &written)?;
+    assert_eq!(rt; outline(&rt, &again)?.as_slice(), wanted.as_slice());
+    for segment in again.segments.as_slice() {
+        assert_eq!(rt; segment.bytes.as_slice(), FILE.as_slice());
+        let rights = Rights {
+            read: true,
+            write: false,
+            execute: true,
+        };
+        assert_eq!(rt; segment.rights, rights);
+    }
+    Ok(())
+}

@@ -1,0 +1,19 @@
+//! Tests of the tracer's public calls. A crate with tests of its own is proved twice, so they stand here alone.
+#![tactic(auto)]
+
+#[cfg(test)]
+mod arguments;
+#[cfg(test)]
+mod expressions;
+#[cfg(test)]
+mod lines;
+#[cfg(test)]
+mod reading;
+#[cfg(test)]
+mod runs;
+#[cfg(test)]
+mod steps;
+#[cfg(test)]
+mod structures;
+#[cfg(test)]
+mod tracer;
