@@ -1,0 +1,10 @@
+# Completion of strace_cli for fish: put this file into ~/.config/fish/completions.
+complete -c strace_cli -s f -d 'Trace children too'
+complete -c strace_cli -s o -r -F -d 'Write the trace to a file'
+complete -c strace_cli -s s -x -d 'The most bytes of a string that are shown'
+complete -c strace_cli -s a -x -d 'The column of results'
+complete -c strace_cli -s e -x -a 'trace= inject= fault=' -d 'Which calls are shown or tampered with'
+complete -c strace_cli -l limit -x -d 'The most events that there are'
+complete -c strace_cli -l file -x -d 'A file of the guest, GUEST=PATH'
+complete -c strace_cli -l help -d 'Print help'
+complete -c strace_cli -l version -d 'Print the version'
