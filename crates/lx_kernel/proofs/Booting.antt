@@ -1,10 +1,8 @@
 -- The kernel of a boot runs as the definitions' does.
-use Rattle.std.proofs.Common.{◌≡◌, ℕ, List, [], ◌∷◌, refl, ap, sym, subst, ◌∙◌}
-use Rattle.lx_abi.specs.declared.boot.Boot.{Boot}
-use Rattle.lx_abi.specs.declared.script.Rule.{Rule}
+use Rattle.std.proofs.Common.{◌≡◌, ℕ, List, [], ◌∷◌, refl, sym, subst}
 use Rattle.lx_abi.specs.Scripts.{choice_of}
 use Rattle.lx_model.specs.Kernel.{first_kernel, kernel_run}
-use Rattle.lx_model.specs.Finite.{Is, running, running_turn, first_running}
+use Rattle.lx_model.specs.Finite.{Is, running, first_running}
 use Rattle.lx_model.specs.Laws.{KernelsBeginAlike, KernelsRunAlike}
 use Rattle.lx_kernel.specs.State.{Shared, Body}
 use Rattle.lx_kernel.specs.First.{first_shared, first_run}

@@ -1,5 +1,5 @@
 -- A turn that logs leaves the console.
-use Rattle.std.proofs.Common.{◌≡◌, ℕ, Bool, true, false, Option, Some, None, refl}
+use Rattle.std.proofs.Common.{◌≡◌, ℕ, Bool, true, false, Option, Some, None, refl, ap, sym, ◌∙◌}
 use Rattle.std.specs.FinMap as maps
 use Rattle.rv_hart.specs.declared.outcome.Step.{Step}
 use Rattle.rv_hart.specs.declared.outcome.Step.TheVariants as step
@@ -7,10 +7,11 @@ use Rattle.rv_hart.specs.Steps.{Outcome, stepped as instruction}
 use Rattle.lx_abi.specs.declared.log.Call.{Call}
 use Rattle.lx_abi.specs.declared.log.Cause.{Cause}
 use Rattle.lx_abi.specs.declared.log.Item.{Item}
+use Rattle.lx_abi.specs.declared.log.Item.TheVariants as item
 use Rattle.lx_abi.specs.declared.signal.Signal.{Signal}
 use Rattle.lx_abi.specs.declared.script.Choice.{Choice}
 use Rattle.lx_model.specs.Machine.{Answer, Refused, Returns, Jumps, Execs, Bears, Blocks, Ends}
-use Rattle.lx_model.specs.Turn.{Out, turn, killed_or, lives, stepped, answered, took}
+use Rattle.lx_model.specs.Turn.{Out, turn, killed_or, lives, stepped, answered, took, stage_mode}
 use Rattle.lx_model.specs.Finite.{item_of}
 use Rattle.lx_model.specs.declared.stage.Stage.{Stage}
 use Rattle.lx_model.specs.declared.stage.Stage.TheVariants.{Born, Run, Faulting, Entered, Doing, Replaced, Acted, Finished, Taken, Dropped}
@@ -18,6 +19,8 @@ use Rattle.lx_model.specs.declared.stage.Own.{Own}
 use Rattle.lx_model.specs.declared.stage.Own.TheVariants.{Alive, Dying, Gone}
 use Rattle.lx_kernel.specs.State.{Shared, Body, Interrupted}
 use Rattle.lx_kernel.specs.Calls.{does}
+use Rattle.lx_kernel.specs.Turned.{Turned, turned, turned_by}
+use Rattle.lx_kernel.specs.declared.stages.Went.TheVariants.{Ended}
 use Rattle.lx_kernel.specs.Linux.{linux, next_of, runs, resumed, ran_by, reacted, ends_at, is_killed}
 
 -- an out that logs has the console of what was shared
@@ -70,3 +73,9 @@ pub turn_keeps : (c : Choice) (s : Shared) (child p : ℕ) (own : Own Body) (i :
 turn_keeps c s child p (Alive b stage) = killed_keeps (is_killed (maps.get s.entries p)) c s child p b stage
 turn_keeps c s child p (Dying w) = λ i e. absurd (cc e)
 turn_keeps c s child p Gone = λ i e. absurd (cc e)
+
+-- and one in which a process ends has left it before
+pub end_keeps : (c : Choice) (s t : Shared) (child p w : ℕ) (own : Own Body) (b : Body) (stage : Stage) → turned (turn linux c s child p own) ≡ turned_by (Ended w) t b p stage → t.console ≡ s.console
+end_keeps c s t child p w own b stage e =
+    ap (λ (x : Turned). x.shared.console) (sym e)
+    ∙ turn_keeps c s child p own (item.Exit p w (stage_mode stage)) (ap (λ (x : Turned). x.item) e)

@@ -1,18 +1,17 @@
 -- Turns of one process in a row that stay in Run: of a body alone.
-use Rattle.std.proofs.Common.{◌≡◌, ◌≢◌, ℕ, zero, suc, ◌+◌, ◌<◌, ◌≤◌, Option, Some, None, refl, ap, sym, subst, arith, ◌∙◌}
+use Rattle.std.proofs.Common.{◌≡◌, ◌≢◌, ℕ, zero, suc, ◌+◌, ◌<◌, ◌≤◌, Some, None, refl, ap, sym, subst, arith, ◌∙◌}
 use Rattle.rv_mem.specs.Memory.{Memory}
 use Rattle.rv_hart.specs.declared.hart.Hart.{Hart}
-use Rattle.rv_hart.specs.declared.outcome.FaultKind.{FaultKind}
 use Rattle.rv_hart.specs.declared.outcome.Step.{Step}
 use Rattle.rv_hart.specs.declared.outcome.Step.TheVariants as step
 use Rattle.rv_hart.specs.Faults.{signal_code}
 use Rattle.rv_hart.specs.Steps.{Outcome, outcome}
 use Rattle.rv_hart.specs.Steps as hart
-use Rattle.rv_hart.specs.Runs.{Course, course, after, goes_on, run_of}
+use Rattle.rv_hart.specs.Runs.{Course, course, goes_on, run_of}
 use Rattle.lx_abi.specs.declared.log.Cause.{Cause}
 use Rattle.lx_abi.specs.declared.log.Cause.TheVariants.{Fault}
 use Rattle.lx_abi.specs.declared.signal.Signal.{Signal}
-use Rattle.lx_model.specs.Machine.{Ran, Goes, Calls, Faults, Takes}
+use Rattle.lx_model.specs.Machine.{Ran, Goes, Calls, Faults}
 use Rattle.lx_kernel.specs.State.{Shared, Body, Interrupted}
 use Rattle.lx_kernel.specs.Linux.{resumed, ran_by, made_again, fault_signal}
 use Rattle.lx_kernel.specs.Bursts.{Follows, Halts, Continues}

@@ -25,4 +25,5 @@ pub mod Running
 pub mod Reaching
 pub mod Booting
 pub mod Consoles
+pub mod Recording
 pub mod NextAble

@@ -10,7 +10,8 @@ use Rattle.std.specs.Cmp.{nat_cmp_total}
 use Rattle.std.proofs.lemmas.Cmp.{nat_list_cmp_total}
 use Rattle.lx_abi.specs.declared.outcome.Ended.{Ended}
 use Rattle.lx_kernel.proofs.Trees.{path_cmp-IsAntisymmetric}
-use Rattle.lx_kernel.specs.Outcomes.{file_of, files_of, ended_of, words_in}
+use Rattle.lx_kernel.specs.Outcomes.{file_of, files_of}
+use Rattle.lx_kernel.specs.Words.{ended_of, ends_of}
 use Rattle.lx_kernel.proofs.Listed.{entries-keyed}
 
 abbrev pub Held : Type 0
@@ -40,8 +41,8 @@ pairs : (es : List (ℕ × ℕ)) → map (λ e. (e.0, e.1)) es ≡ es
 pairs [] = refl
 pairs (e ∷ es) = ap (λ t. e ∷ t) (pairs es)
 
-pub listed_words : (l : List Ended) (s es : List (ℕ × ℕ)) → s ≡ [] → l ++ map ended_of s ≡ map ended_of es → IsStrictlySortedBy nat_cmp (map (λ e. e.0) es) → l ≡ map ended_of (maps.entries (words_in es))
+pub listed_words : (l : List Ended) (s es : List (ℕ × ℕ)) → s ≡ [] → l ++ map ended_of s ≡ map ended_of es → IsStrictlySortedBy nat_cmp (map (λ e. e.0) es) → l ≡ ends_of (maps.from_entries es)
 listed_words l s es p h sorted =
-    let entries : maps.entries (words_in (map (λ e. (e.0, e.1)) es)) ≡ map (λ e. (e.0, e.1)) es = entries-keyed nat_cmp_total maps.nat_cmp-IsAntisymmetric (λ k. k) es sorted in
-    let same : maps.entries (words_in es) ≡ es = ap (λ t. maps.entries (words_in t)) (sym (pairs es)) ∙ entries ∙ pairs es in
+    let entries : maps.entries (maps.from_entries {R = nat_cmp} (map (λ e. (e.0, e.1)) es)) ≡ map (λ e. (e.0, e.1)) es = entries-keyed nat_cmp_total maps.nat_cmp-IsAntisymmetric (λ k. k) es sorted in
+    let same : maps.entries (maps.from_entries {R = nat_cmp} es) ≡ es = ap (λ t. maps.entries (maps.from_entries {R = nat_cmp} t)) (sym (pairs es)) ∙ entries ∙ pairs es in
     list_end ended_of l s es p h ∙ ap (map ended_of) (sym same)

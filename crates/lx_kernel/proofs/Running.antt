@@ -1,5 +1,5 @@
 -- Turns of one process in a row that stay in Run: of the kernel.
-use Rattle.std.proofs.Common.{◌≡◌, ◌≢◌, ◌⊎◌, ℕ, zero, suc, ◌+◌, ◌<◌, ◌≤◌, Bool, true, false, not, ◌&&◌, List, ◌++◌, Option, Some, None, refl, ap, sym, subst, inl, inr, arith, ◌∙◌, unwrap_or}
+use Rattle.std.proofs.Common.{◌≡◌, ◌≢◌, ℕ, zero, suc, ◌<◌, Bool, true, false, not, ◌&&◌, List, Option, Some, None, refl, ap, sym, subst, inl, inr, arith, ◌∙◌, unwrap_or}
 use Rattle.std.specs.Prelude.{is_some}
 use Rattle.std.specs.Ordering.{nat_cmp}
 use Rattle.std.proofs.lemmas.List.{append-nil}
@@ -8,7 +8,6 @@ use Rattle.std.specs.FinMap.{FinMap}
 use Rattle.lx_abi.specs.declared.log.Item.{Item}
 use Rattle.lx_abi.specs.declared.log.Mode.TheVariants as mode
 use Rattle.lx_abi.specs.declared.log.Mode.{Mode}
-use Rattle.lx_abi.specs.declared.log.Cause.{Cause}
 use Rattle.lx_abi.specs.declared.signal.Signal.{Signal}
 use Rattle.lx_abi.specs.declared.script.Choice.{Choice}
 use Rattle.lx_abi.specs.Scripts.{choice_of}
@@ -20,7 +19,7 @@ use Rattle.lx_model.specs.declared.stage.Stage.{Stage}
 use Rattle.lx_model.specs.declared.stage.Stage.TheVariants as stages
 use Rattle.lx_model.specs.declared.stage.Own.{Own}
 use Rattle.lx_model.specs.declared.stage.Own.TheVariants.{Alive, Dying, Gone}
-use Rattle.lx_model.specs.Finite.{at, Running, ran, bore}
+use Rattle.lx_model.specs.Finite.{at, ran, bore}
 use Rattle.lx_kernel.specs.State.{Shared, Body, Entry, Life}
 use Rattle.lx_kernel.specs.State as state
 use Rattle.lx_kernel.specs.Linux.{linux, resumed, runs, next_of, is_killed}

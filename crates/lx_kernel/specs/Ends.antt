@@ -15,9 +15,9 @@ is_zombie Alive = false
 is_zombie (Dying w) = false
 is_zombie (Zombie w) = true
 
--- the process enters Dying with a wait word
+-- the process enters Dying with a wait word, which stays when it leaves the table
 abbrev pub dies : Shared → ℕ → ℕ → Shared
-dies s p w = with_entries s (changed s.entries p (λ e. record e { life = Dying w }))
+dies s p w = record s { entries = changed s.entries p (λ e. record e { life = Dying w }); ended = maps.insert s.ended p w }
 
 -- Leaving Dying.
 

@@ -19,7 +19,7 @@ abbrev pub first_entry : Entry
 first_entry = record { life = Alive; parent = 0; signals = record { pending = maps.empty; mask = 0; actions = maps.empty } }
 
 abbrev pub first_shared : List GuestFile → List ℕ → Shared
-first_shared files input = record { files = tree_of files; input = input; console = []; entries = maps.insert maps.empty 1 first_entry }
+first_shared files input = record { files = tree_of files; input = input; console = []; entries = maps.insert maps.empty 1 first_entry; ended = maps.empty }
 
 abbrev pub first_owns : List (List ℕ) → List (List ℕ) → FinMap nat_cmp (Own Body)
 first_owns argv env = maps.insert maps.empty 1 (own.Alive (booted argv env) Born)

@@ -17,6 +17,7 @@ pub mod Tampering
 pub mod Texts
 pub mod Turned
 pub mod Turns
+pub mod Words
 pub mod Tracing
 pub mod Laws
 pub mod Scheduling

@@ -3,7 +3,7 @@
 ghost use Rattle.std.specs.Prelude.{◌≡◌, ◌+◌, OnOk, OnErr};
 ghost use Rattle.std.specs.FinMap as maps;
 ghost use Rattle.lx_kernel.specs.State.{changed};
-ghost use Rattle.lx_kernel.specs.declared.state.Life.TheVariants.{Zombie};
+ghost use Rattle.lx_kernel.specs.declared.state.Life.TheVariants.{Dying, Zombie};
 ghost use Rattle.lx_kernel.specs.Ends.{dies, released as released_entries, released_up_to, orphaned, cause_of_end, wants_no_news as wants_no_news_of, told as told_entry, laid_out, buried};
 
 use crate::signals::make_pending;
@@ -14,14 +14,23 @@ use std::alloc::AllocError;
 /// Pids are 1 to this one.
 pub const LAST_PID: u32 = 255;
 
-/// A process enters Dying.
-pub fn die(shared: &mut Shared, pid: u32, word: u32)
-    ensures { shared.new ≡ dies shared.old pid word }
+fn begin_dying(entries: &mut Map<Entry>, pid: u32, word: u32)
+    ensures { entries.new ≡ changed entries.old pid (λ e. record e { life = Dying word }) }
 {
-    match shared.entries.get_mut(pid) {
+    match entries.get_mut(pid) {
         None => {}
         Some(entry) => entry.life = Life::Dying { word },
     }
+}
+
+/// A process enters Dying, and its wait word is kept.
+pub fn die(shared: &mut Shared, pid: u32, word: u32) -> Result<(), AllocError>
+    ensures died { OnOk result (shared.new ≡ dies shared.old pid word) }
+    ensures kept { OnErr result (shared.new ≡ shared.old) }
+{
+    shared.ended.insert(pid, word)?;
+    begin_dying(&mut shared.entries, pid, word);
+    Ok(())
 }
 
 /// A child gets parent 0, and leaves the table where it is a zombie.

@@ -12,6 +12,7 @@ use crate::files::Files;
 use crate::kernel::Kernel;
 use crate::programs::begin_stub;
 use crate::state::{Body, Entry, Life, Shared, Signals};
+use crate::wait_words::WaitWords;
 use lx_abi::{Boot, Bytes, GuestFile, Map, Script};
 use lx_model::{Own, Stage};
 use rv_hart::Decoder;
@@ -44,6 +45,7 @@ fn first_shared(alloc: Global, files: &[GuestFile], input: Bytes) -> Result<Shar
         input,
         console: Bytes::new(alloc),
         entries,
+        ended: WaitWords::new(alloc),
     })
 }
 

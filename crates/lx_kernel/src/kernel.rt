@@ -9,7 +9,7 @@ ghost use Rattle.lx_model.specs.declared.stage.Own.TheVariants.{Alive, Gone};
 ghost use Rattle.lx_kernel.specs.Linux.{linux};
 ghost use Rattle.lx_kernel.specs.Turned.{turned, turned_by, event_of, is_gone};
 ghost use Rattle.lx_kernel.specs.Turns.{Turns};
-ghost use Rattle.lx_kernel.specs.Outcomes.{outcome_of};
+ghost use Rattle.lx_kernel.specs.Outcomes.{outcome_in};
 ghost use Rattle.lx_kernel.specs.Tampering.{choice_of_call, choice_of_own};
 ghost use Rattle.lx_kernel.specs.Bursts.{Burst};
 ghost use Rattle.lx_kernel.specs.Tracing.{own_in, regs_of, peek_of, signal_of, with_regs, with_joined, with_dropped, with_part};
@@ -141,7 +141,7 @@ fn turn_own(
                     })
                 }
                 Went::Ended { word } => {
-                    die(shared, pid, word);
+                    die(shared, pid, word)?;
                     *own = Own::Dying { word };
                     let item = Some(Item::Exit {
                         pid,
@@ -449,14 +449,9 @@ impl Kernel {
 
     /// What is left of the run so far.
     pub fn outcome(&self) -> Result<Outcome, AllocError>
-        ensures { IfOk result (λ o. o ≡ outcome_of self.now) }
+        ensures { IfOk result (λ o. o ≡ outcome_in self.now.running.shared) }
     {
-        let outcome = outcome(
-            self.alloc,
-            &self.shared.console,
-            &self.shared.files,
-            self.log.as_slice(),
-        )?;
+        let outcome = outcome(self.alloc, &self.shared)?;
         Ok(outcome)
     }
 

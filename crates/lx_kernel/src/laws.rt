@@ -2,7 +2,7 @@
 
 ghost use Rattle.lx_model.specs.Machine.{IsMachine};
 ghost use Rattle.lx_kernel.specs.Linux.{linux};
-ghost use Rattle.lx_kernel.specs.Laws.{BootsAreFirst, TurnsAreSteps, BootsRunAlike};
+ghost use Rattle.lx_kernel.specs.Laws.{BootsAreFirst, TurnsAreSteps, BootsRunAlike, WordsAreLogged, TurnsKeepWords};
 
 use crate::state::{Body, Shared};
 use lx_model::laws::kernels_run_alike;
@@ -20,3 +20,9 @@ pub fn boots_are_first_runs()
 {
     kernels_run_alike::<Shared, Body>();
 }
+
+/// The wait words that an outcome shows are those of the ends in the log, in every run of a boot.
+pub fn words_are_logged()
+    ensures turn { TurnsKeepWords }
+    ensures runs { WordsAreLogged }
+{}

@@ -21,9 +21,11 @@ pub mod state;
 pub mod tampering;
 pub mod texts;
 pub mod tracing;
+pub mod wait_words;
 
 pub use boots::BootFault;
 pub use files::Files;
 pub use kernel::{Failed, Kernel, Moved};
 pub use lx_abi::Boot;
 pub use state::{Action, Body, Entry, Interrupted, Life, Shared, Signals};
+pub use wait_words::WaitWords;

@@ -1,11 +1,11 @@
 //! What is left of a run.
 
-ghost use Rattle.std.specs.Prelude.{◌≡◌, IfOk, OnOk, map, fold};
+ghost use Rattle.std.specs.Prelude.{◌≡◌, IfOk, map};
 ghost use Rattle.std.specs.FinMap as maps;
-ghost use Rattle.lx_kernel.specs.Outcomes.{files_of, with_end, ended_of, ends_of, words_in};
+ghost use Rattle.lx_kernel.specs.Outcomes.{files_of, outcome_in};
 
-use crate::files::Files;
-use lx_abi::{Bytes, Ended, Item, Node, Outcome, OutcomeFile, Seq};
+use crate::state::Shared;
+use lx_abi::{Bytes, Node, Outcome, OutcomeFile, Seq};
 use std::alloc::{AllocError, Global};
 use std::collections::BTreeMap;
 
@@ -42,62 +42,13 @@ pub(crate) fn list_files(
     Ok(list)
 }
 
-/// The word of a process that ended takes the place of its former one.
-fn note_end(words: &mut BTreeMap<u32, u32>, item: &Item) -> Result<(), AllocError>
-    ensures { OnOk result (words_in words.new.entries ≡ with_end (words_in words.old.entries) item.now) }
-{
-    match item {
-        Item::Exit { pid, word, .. } => {
-            words.insert(*pid, *word)?;
-            Ok(())
-        }
-        Item::Enter { .. } | Item::Done { .. } | Item::Taken { .. } => Ok(()),
-    }
-}
-
-fn collect_words(alloc: Global, log: &[Item]) -> Result<BTreeMap<u32, u32>, AllocError>
-    ensures { IfOk result (λ w. words_in w.entries ≡ fold with_end maps.empty log.now) }
-{
-    let mut words = BTreeMap::new(alloc);
-    for item in log {
-        note_end(&mut words, item)?;
-    }
-    Ok(words)
-}
-
-fn list_words(alloc: Global, words: &BTreeMap<u32, u32>) -> Result<Seq<Ended>, AllocError>
-    ensures { IfOk result (λ l. l ≡ map ended_of (maps.entries (words_in words.now.entries))) }
-{
-    let mut list = Seq::new(alloc);
-    for (pid, word) in words.iter() {
-        list.push(Ended {
-            pid: *pid,
-            word: *word,
-        })?;
-    }
-    Ok(list)
-}
-
-fn list_ends(alloc: Global, log: &[Item]) -> Result<Seq<Ended>, AllocError>
-    ensures { IfOk result (λ l. l ≡ ends_of log.now) }
-{
-    let words = collect_words(alloc, log)?;
-    let list = list_words(alloc, &words)?;
-    Ok(list)
-}
-
 /// The console, what stands at each path, and the processes that have ended.
-pub fn outcome(
-    alloc: Global,
-    console: &Bytes,
-    files: &Files,
-    log: &[Item],
-) -> Result<Outcome, AllocError>
-    ensures { IfOk result (λ o. o ≡ record { console = console.now; files = files_of files.now; ended = ends_of log.now }) }
+pub fn outcome(alloc: Global, shared: &Shared) -> Result<Outcome, AllocError>
+    ensures { IfOk result (λ o. o ≡ outcome_in shared.now) }
 {
     Ok(Outcome {
-        console: Bytes::from_slice(alloc, console.as_slice())?,
-        files: files.list(alloc)?,
-        ended: list_ends(alloc, log)?,
+        console: Bytes::from_slice(alloc, shared.console.as_slice())?,
+        files: shared.files.list(alloc)?,
+        ended: shared.ended.list(alloc)?,
     })
 }

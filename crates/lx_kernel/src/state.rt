@@ -1,6 +1,7 @@
 //! What processes share, and what each has to itself.
 
 use crate::files::Files;
+use crate::wait_words::WaitWords;
 use lx_abi::{Bytes, Cause, Map, Signal};
 use rv_hart::Hart;
 use rv_mem::Space;
@@ -44,6 +45,8 @@ pub struct Shared {
     pub input: Bytes,
     pub console: Bytes,
     pub entries: Map<Entry>,
+    /// Of each process that has ended, also once it has left the table.
+    pub ended: WaitWords,
 }
 
 /// pc and a0 at the ecall of an interrupted call.

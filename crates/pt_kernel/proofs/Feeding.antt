@@ -1,5 +1,5 @@
 -- A schedule gives fewer events than it has left, and a host is fed one event after the other.
-use Rattle.std.proofs.Common.{◌≡◌, ℕ, zero, ◌-◌, ◌<◌, Bool, true, false, cond, List, [], ◌∷◌, Option, Some, None, refl, sym, ap, subst, ◌∙◌, arith}
+use Rattle.std.proofs.Common.{◌≡◌, ℕ, ◌-◌, ◌<◌, Bool, true, false, cond, List, [], ◌∷◌, Option, Some, None, refl, sym, ap, subst, ◌∙◌, arith}
 use Rattle.std.specs.Prelude.{◌==◌, ◌&&◌, nat_lt}
 use Rattle.std.proofs.lemmas.Bool.Decides.{nat_tests}
 use Rattle.lx_abi.specs.declared.ptrace.Reply.{Reply}
@@ -13,7 +13,7 @@ use Rattle.pt_kernel.specs.declared.schedule.Worded.{Worded}
 use Rattle.pt_kernel.specs.declared.schedule.Order.{Order}
 use Rattle.pt_kernel.specs.declared.schedule.Order.TheVariants as order
 use Rattle.pt_kernel.specs.declared.schedule.Schedule.{Schedule}
-use Rattle.pt_kernel.specs.Schedules.{Sight, Given, next_able, turn_with, turn_of, serve_of, end_of, next_row, go_on, by_default, by_word, goes_on, after_serves, next_worded, next_listed, first_of, next_by, next_of}
+use Rattle.pt_kernel.specs.Schedules.{Sight, Given, next_able, turn_with, turn_of, serve_of, end_of, next_row, go_on, by_default, by_word, goes_on, after_serves, first_of, next_by, next_of}
 use Rattle.pt_kernel.specs.Hosts.{HostState, sight_of, event_of}
 use Rattle.pt_kernel.specs.Attends.{after, Attended, GoesOn, IsFed, Attends, events_left, left_in}
 

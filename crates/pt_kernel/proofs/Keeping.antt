@@ -5,15 +5,16 @@ use Rattle.lx_abi.specs.declared.schedule.Event.{Event}
 use Rattle.lx_kernel.specs.declared.state.Shared.{Shared}
 use Rattle.lx_kernel.specs.declared.state.Body.{Body}
 use Rattle.lx_kernel.specs.Linux.{linux}
+use Rattle.lx_kernel.specs.Outcomes.{outcome_in}
 use Rattle.pt_model.specs.Hosting.{Hosted, IsFresh, hosting_event}
 use Rattle.pt_model.proofs.Hosts.{hosts_attend_alike}
 use Rattle.pt_kernel.specs.declared.traced_kernel.TracedKernel.{TracedKernel}
-use Rattle.pt_kernel.specs.Hosts.{hosting_of, outcome_at, made, IsSwept, IsSound}
+use Rattle.pt_kernel.specs.Hosts.{hosting_of, made, IsSwept, IsSound}
 use Rattle.pt_kernel.proofs.Sweeping.{swept_event}
 
-pub sound_event : (k k' : TracedKernel) (e : Event) (r : Option Reply) → IsSound k → made (hosting_of k') r ≡ hosting_event linux (outcome_at k.kernel.running) k.kernel.follow (hosting_of k) e → k'.kernel.script ≡ k.kernel.script → IsSound k'
+pub sound_event : (k k' : TracedKernel) (e : Event) (r : Option Reply) → IsSound k → made (hosting_of k') r ≡ hosting_event linux outcome_in k.kernel.follow (hosting_of k) e → k'.kernel.script ≡ k.kernel.script → IsSound k'
 sound_event k k' e r h m s = record {
   empty = s ∙ h.empty;
-  swept = subst (λ (x : Hosted Shared Body). IsSwept x.hosting.running) (sym m) (swept_event (outcome_at k.kernel.running) k.kernel.follow (hosting_of k) e h.swept);
-  fresh = subst (λ (x : Hosted Shared Body). IsFresh x.hosting) (sym m) (hosts_attend_alike linux (outcome_at k.kernel.running) k.kernel.follow (hosting_of k) e h.fresh).3;
+  swept = subst (λ (x : Hosted Shared Body). IsSwept x.hosting.running) (sym m) (swept_event outcome_in k.kernel.follow (hosting_of k) e h.swept);
+  fresh = subst (λ (x : Hosted Shared Body). IsFresh x.hosting) (sym m) (hosts_attend_alike linux outcome_in k.kernel.follow (hosting_of k) e h.fresh).3;
 }

@@ -5,7 +5,7 @@ use Rattle.lx_abi.specs.declared.schedule.Event.{Event}
 use Rattle.pt_kernel.specs.declared.schedule.Order.{Order}
 use Rattle.pt_kernel.specs.declared.schedule.Order.TheVariants as order
 use Rattle.pt_kernel.specs.declared.schedule.Schedule.{Schedule}
-use Rattle.pt_kernel.specs.Schedules.{Given, next_of}
+use Rattle.pt_kernel.specs.Schedules.{next_of}
 use Rattle.pt_kernel.specs.Hosts.{HostState, sight_of, event_of}
 
 -- the host after an event

@@ -2,7 +2,6 @@
 use Rattle.std.specs.Prelude.{◌≡◌, ℕ, Bool, true, false, cond, not, ◌&&◌, ◌||◌, List, [], ◌∷◌, ◌++◌, Option, Some, None}
 use Rattle.std.specs.FinMap as maps
 use Rattle.lx_abi.specs.declared.log.Mode.{Mode}
-use Rattle.lx_abi.specs.declared.outcome.Outcome.{Outcome}
 use Rattle.lx_abi.specs.declared.ptrace.Ask.{Ask}
 use Rattle.lx_abi.specs.declared.ptrace.Reply.{Reply}
 use Rattle.lx_abi.specs.declared.ptrace.Request.{Request}
@@ -16,7 +15,7 @@ use Rattle.lx_model.specs.Finite.{at, Running, with_own, own_mode, turn_out}
 use Rattle.lx_kernel.specs.declared.state.Shared.{Shared}
 use Rattle.lx_kernel.specs.declared.state.Body.{Body}
 use Rattle.lx_kernel.specs.Linux.{linux}
-use Rattle.lx_kernel.specs.Outcomes.{files_of, ends_of}
+use Rattle.lx_kernel.specs.Outcomes.{outcome_in}
 use Rattle.lx_kernel.specs.Runs.{Run as KernelRun}
 use Rattle.lx_kernel.specs.Tracing.{own_in}
 use Rattle.pt_model.specs.declared.ptrace.Traced.{Traced}
@@ -36,10 +35,6 @@ hosting_by running x turns pending = record { running = running; traced = x.trac
 
 abbrev pub hosting_of : TracedKernel → Linux_host
 hosting_of c = hosting_by c.kernel.running c.tracees c.turns c.pending
-
--- the outcome has the words of the ends that were logged
-abbrev pub outcome_at : Running Shared Body → Shared → Outcome
-outcome_at k s = record { console = s.console; files = files_of s.files; ended = ends_of k.log }
 
 -- no process that is gone keeps a place in the table
 abbrev pub IsSwept : Running Shared Body → Type 0
@@ -110,4 +105,4 @@ sight_of h = record {
 }
 
 abbrev pub event_of : HostState → Event → Hosted Shared Body
-event_of h e = hosting_event linux (outcome_at h.hosting.running) h.follow h.hosting e
+event_of h e = hosting_event linux outcome_in h.follow h.hosting e

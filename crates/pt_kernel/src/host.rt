@@ -4,9 +4,10 @@ ghost use Rattle.std.specs.Prelude.{◌≡◌, ◌↔◌, [], Some, None, true, 
 ghost use Rattle.lx_kernel.specs.Boots.{fault_of, Refuses};
 ghost use Rattle.lx_kernel.specs.declared.boots.BootFault.{BootFault};
 ghost use Rattle.lx_kernel.specs.First.{first_shared};
+ghost use Rattle.lx_kernel.specs.Outcomes.{outcome_in};
 ghost use Rattle.lx_kernel.specs.Programs.{booted};
 ghost use Rattle.pt_model.specs.Hosting.{first_hosting, hosting_asked};
-ghost use Rattle.pt_kernel.specs.Hosts.{sight_of, event_of, outcome_at};
+ghost use Rattle.pt_kernel.specs.Hosts.{sight_of, event_of};
 
 use crate::system::System;
 use crate::traced_kernel::TracedKernel;
@@ -121,7 +122,7 @@ impl Host {
 
     /// What is left of the run so far.
     pub fn outcome(&self) -> Result<Outcome, AllocError>
-        ensures { IfOk result (λ o. o ≡ outcome_at self.now.hosting.running self.now.hosting.running.shared) }
+        ensures { IfOk result (λ o. o ≡ outcome_in self.now.hosting.running.shared) }
     {
         self.kernel.kernel.outcome()
     }

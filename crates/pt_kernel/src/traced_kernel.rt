@@ -6,11 +6,12 @@ ghost use Rattle.lx_abi.specs.declared.ptrace.Request.{Request};
 ghost use Rattle.lx_model.specs.Finite.{at, own_mode};
 ghost use Rattle.lx_model.specs.declared.stage.Own.TheVariants.{Gone};
 ghost use Rattle.lx_kernel.specs.Linux.{linux};
+ghost use Rattle.lx_kernel.specs.Outcomes.{outcome_in};
 ghost use Rattle.lx_kernel.specs.Tracing.{own_in};
 ghost use Rattle.pt_model.specs.Ptrace.{is_effective};
 ghost use Rattle.pt_model.specs.Hosting.{as_proc, untraced, hosting_turn, hosting_serve, hosting_pending, hosting_event, ready_in};
 ghost use Rattle.pt_kernel.specs.Stops.{stop_after, dies_after, is_finished};
-ghost use Rattle.pt_kernel.specs.Hosts.{hosting_of, hosting_by, outcome_at, IsSwept, made, able_in};
+ghost use Rattle.pt_kernel.specs.Hosts.{hosting_of, hosting_by, IsSwept, made, able_in};
 
 use crate::answers::answer;
 use crate::stops::{dies_after, is_effective, is_finished, stop_after};
@@ -56,7 +57,7 @@ impl TracedKernel {
     /// A request is answered; none where Wait stays pending.
     fn answer(&mut self, request: &Request) -> Result<Option<Reply>, Failed>
         requires { IsSwept self.old.kernel.running }
-        ensures answer { IfOk result (λ r. (pending : Option Request) → made (hosting_by self.new.kernel.running self.new.tracees self.new.turns pending) r ≡ hosting_serve linux (outcome_at self.old.kernel.running) (hosting_by self.old.kernel.running self.old.tracees self.old.turns pending) request.now) }
+        ensures answer { IfOk result (λ r. (pending : Option Request) → made (hosting_by self.new.kernel.running self.new.tracees self.new.turns pending) r ≡ hosting_serve linux outcome_in (hosting_by self.old.kernel.running self.old.tracees self.old.turns pending) request.now) }
         ensures script { OnOk result ((self.new.kernel.script ≡ self.old.kernel.script) × (self.new.kernel.follow ≡ self.old.kernel.follow)) }
         ensures pending { OnOk result (self.new.pending ≡ self.old.pending) }
     {
@@ -80,7 +81,7 @@ impl TracedKernel {
     /// The pending request is served whole.
     fn serve(&mut self) -> Result<Option<Reply>, Failed>
         requires { IsSwept self.old.kernel.running }
-        ensures served { IfOk result (λ r. made (hosting_of self.new) r ≡ hosting_pending linux (outcome_at self.old.kernel.running) (hosting_of self.old) self.old.pending) }
+        ensures served { IfOk result (λ r. made (hosting_of self.new) r ≡ hosting_pending linux outcome_in (hosting_of self.old) self.old.pending) }
         ensures script { OnOk result ((self.new.kernel.script ≡ self.old.kernel.script) × (self.new.kernel.follow ≡ self.old.kernel.follow)) }
     {
         match self.pending.take() {
@@ -99,7 +100,7 @@ impl TracedKernel {
     pub fn event(&mut self, event: Event) -> Result<Option<Reply>, Failed>
         requires empty { self.old.kernel.script ≡ [] }
         requires swept { IsSwept self.old.kernel.running }
-        ensures made { IfOk result (λ r. made (hosting_of self.new) r ≡ hosting_event linux (outcome_at self.old.kernel.running) self.old.kernel.follow (hosting_of self.old) event) }
+        ensures made { IfOk result (λ r. made (hosting_of self.new) r ≡ hosting_event linux outcome_in self.old.kernel.follow (hosting_of self.old) event) }
         ensures script { OnOk result (self.new.kernel.script ≡ self.old.kernel.script) }
         ensures follow { OnOk result (self.new.kernel.follow ≡ self.old.kernel.follow) }
     {

@@ -1,4 +1,4 @@
-use Rattle.std.proofs.Common.{◌≡◌, ap, sym, subst, ◌∙◌}
+use Rattle.std.proofs.Common.{◌≡◌, sym, subst, ◌∙◌}
 use Rattle.std.specs.Prelude.{OnSome}
 use Rattle.std.specs.FinMap as maps
 use Rattle.lx_kernel.specs.Bursts.{Burst, with_owns}

@@ -1,4 +1,4 @@
-use Rattle.std.proofs.Common.{◌≡◌, inl, sym, subst, refl}
+use Rattle.std.proofs.Common.{inl, sym, subst, refl}
 use Rattle.lx_model.specs.declared.stage.Own.TheVariants as Own
 use Rattle.lx_kernel.specs.Bursts.{OwnContinues}
 use Rattle.lx_kernel.proofs.bursts.run_alive.Goals as goal

@@ -1,6 +1,6 @@
 use Rattle.std.proofs.Common.{◌≡◌, ◌≢◌, ℕ, suc, ◌+◌, ◌-◌, subst, arith}
 use Rattle.lx_kernel.specs.Bursts.{Continues}
-use Rattle.lx_kernel.proofs.Continuing.{again_continues, no_turns}
+use Rattle.lx_kernel.proofs.Continuing.{again_continues}
 use Rattle.lx_kernel.proofs.bursts.run_body.Goals as goal
 
 pub returns-in_ok-ran-in-Some-2 : goal.returns-in_ok-ran-in-Some-2

@@ -1,4 +1,4 @@
-use Rattle.std.proofs.Common.{◌≡◌, sym, subst}
+use Rattle.std.proofs.Common.{sym, subst}
 use Rattle.lx_model.specs.declared.stage.Own.TheVariants as Own
 use Rattle.lx_kernel.specs.Bursts.{OwnContinues}
 use Rattle.lx_kernel.proofs.bursts.run_own.Goals as goal

@@ -1,4 +1,4 @@
-use Rattle.std.proofs.Common.{◌≡◌, ap, sym, subst, ◌∙◌}
+use Rattle.std.proofs.Common.{◌≡◌, ap, subst, ◌∙◌}
 use Rattle.std.specs.Prelude.{OnSome, is_some}
 use Rattle.std.specs.FinMap as maps
 use Rattle.lx_kernel.specs.Tracing.{with_joined, with_part_at}

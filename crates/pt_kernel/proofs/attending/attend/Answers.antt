@@ -1,4 +1,3 @@
-use Rattle.std.proofs.Common.{Some, None}
 use Rattle.pt_kernel.specs.Hosts.{sight_of}
 use Rattle.pt_kernel.proofs.Feeding.{next_less, answered_is, fed_is}
 use Rattle.pt_kernel.proofs.attending.attend.Goals as goal

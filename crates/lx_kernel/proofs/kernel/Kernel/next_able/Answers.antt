@@ -1,6 +1,4 @@
 use Rattle.std.proofs.Common.{Some, subst}
-use Rattle.lx_model.specs.Finite.{Running}
-use Rattle.lx_kernel.specs.State.{Shared, Body}
 use Rattle.lx_kernel.specs.Runs.{Run}
 use Rattle.lx_kernel.specs.Scheduling.{IsNextOf}
 use Rattle.lx_kernel.proofs.NextAble.{next_above, next_first}

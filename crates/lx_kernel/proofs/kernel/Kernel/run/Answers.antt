@@ -1,4 +1,4 @@
-use Rattle.std.proofs.Common.{◌≡◌, Bool, false, refl, sym, subst, ◌∙◌}
+use Rattle.std.proofs.Common.{Bool, false, refl, sym, subst, ◌∙◌}
 use Rattle.lx_kernel.specs.Runs.{Run}
 use Rattle.lx_kernel.specs.Bursts.{Burst, with_owns}
 use Rattle.lx_kernel.proofs.kernel.Kernel.run.Goals as goal

@@ -1,4 +1,4 @@
-use Rattle.std.proofs.Common.{ap, sym, ◌∙◌}
+use Rattle.std.proofs.Common.{ap, ◌∙◌}
 use Rattle.lx_model.specs.Finite.{Running}
 use Rattle.lx_kernel.specs.State.{Shared, Body}
 use Rattle.lx_kernel.specs.Runs.{Run}

@@ -1,7 +1,7 @@
 use Rattle.std.proofs.Common.{◌++◌, ap, ◌∙◌, map}
-use Rattle.lx_kernel.specs.Outcomes.{ended_of}
+use Rattle.lx_kernel.specs.Words.{ended_of}
 use Rattle.lx_kernel.proofs.Outcomes.{list_start, list_step, listed_words}
-use Rattle.lx_kernel.proofs.outcome.list_words.Goals as goal
+use Rattle.lx_kernel.proofs.wait_words.list_words.Goals as goal
 
 pub loop-pid-init : goal.loop-pid-init
 loop-pid-init c = list_start ended_of c.new-list.result _ _ c.new-list.ensures (c.into_iter-pid-iterator.ensures.into_iter_gives ∙ c.iter-pid-items.ensures.rest)
