@@ -22,8 +22,9 @@ use Rattle.lx_abi.specs.declared.script.Choice.{Choice}
 use Rattle.lx_abi.specs.declared.signal.Signal.{Signal}
 use Rattle.lx_model.specs.Machine.{Answer, Refused, Returns, Jumps, Execs, Bears, Blocks, Ends}
 use Rattle.lx_model.specs.Turn.{Out, Event, Plain, Execed, Forked, turn, killed_or, lives, joins, stepped, answered, took}
-use Rattle.lx_model.specs.Kernel.{traces, choice_at}
-use Rattle.lx_model.specs.Finite.{at, item_of, Running, ran, bore}
+use Rattle.lx_model.specs.Kernel.{Script, traces, choice_at, first_kernel, kernel_run}
+use Rattle.lx_model.specs.Finite.{Is, at, item_of, Running, ran, bore, turn_out, running_turn, running, first_running}
+use Rattle.lx_model.specs.Laws.{KernelsBeginAlike, KernelsRunAlike}
 use Rattle.lx_model.specs.declared.stage.Stage.{Stage}
 use Rattle.lx_model.specs.declared.stage.Stage.TheVariants.{Born, Run, Faulting, Entered, Doing, Replaced, Acted, Finished, Taken, Dropped}
 use Rattle.lx_model.specs.declared.stage.Own.{Own}
@@ -31,11 +32,11 @@ use Rattle.lx_model.specs.declared.stage.Own.TheVariants.{Alive, Dying, Gone}
 use Rattle.lx_kernel.specs.State.{Shared, Body, Interrupted}
 use Rattle.lx_kernel.specs.Calls.{does, write, execve, with_path, runs_at, runs, given, argument, low_argument, most_moved, path_limit, exit_group}
 use Rattle.lx_kernel.specs.Ends.{buried}
-use Rattle.lx_kernel.specs.First.{first_run}
-use Rattle.lx_kernel.specs.Laws.{after_all, with_end, HasLoggedWords, WordsAreLogged, TurnsKeepWords}
+use Rattle.lx_kernel.specs.First.{first_shared, first_run}
+use Rattle.lx_kernel.specs.Laws.{after_all, with_end, logged_words, HasLoggedWords, TurnsLogWords, BootsLogWords, KernelsLogWords}
 use Rattle.lx_kernel.specs.Linux.{linux, next_of, runs as runs_in, resumed, ran_by, reacted, ends_at, is_killed}
-use Rattle.lx_kernel.specs.Programs.{start_size, start_limit, started}
-use Rattle.lx_kernel.specs.Runs.{Run as KernelRun, after_turn, turn_in}
+use Rattle.lx_kernel.specs.Programs.{start_size, start_limit, started, booted}
+use Rattle.lx_kernel.specs.Runs.{Run as KernelRun, after_turn}
 use Rattle.lx_kernel.specs.Texts.{Text, Whole, TooLong, Unreadable, text_at, list_at}
 
 -- No call changes the words.
@@ -168,21 +169,33 @@ bore_log v Plain = refl
 bore_log v Execed = refl
 bore_log v (Forked b) = refl
 
-pub turns_keep_words : TurnsKeepWords
-turns_keep_words k p h =
-    let v = k.running in
-    let o : Out Shared Body = turn_in k p in
+pub turns_log_words : TurnsLogWords
+turns_log_words script follow v p h =
+    let o : Out Shared Body = turn_out linux script follow v p in
     let own : Own Body = at Gone v.owns p in
     let items = option_to_list (item_of o) in
     bore_words (ran v p o) o.event
-    ∙ turn_records (choice_at linux (choice_of k.script) (traces k.follow p) (λ n. entries p n v.log) own) v.shared v.child p own
+    ∙ turn_records (choice_at linux script (traces follow p) (λ n. entries p n v.log) own) v.shared v.child p own
     ∙ ap (λ words. fold with_end words items) h
     ∙ sym (fold-append with_end maps.empty v.log items)
     ∙ ap (fold with_end maps.empty) (sym (bore_log (ran v p o) o.event))
 
-all_keep_words : (k : KernelRun) (pids : List ℕ) → HasLoggedWords k → HasLoggedWords (after_all k pids)
-all_keep_words k [] h = h
-all_keep_words k (p ∷ pids) h = all_keep_words (after_turn k p) pids (turns_keep_words k p h)
+all_log_words : (k : KernelRun) (pids : List ℕ) → HasLoggedWords k.running → HasLoggedWords (after_all k pids).running
+all_log_words k [] h = h
+all_log_words k (p ∷ pids) h = all_log_words (after_turn k p) pids (turns_log_words (choice_of k.script) k.follow k.running p h)
 
-pub words_are_logged : WordsAreLogged
-words_are_logged boot script pids = all_keep_words (first_run boot script) pids refl
+pub boots_log_words : BootsLogWords
+boots_log_words boot script pids = all_log_words (first_run boot script) pids refl
+
+running_log_words : (script : Script) (follow : Bool) (v : Running Shared Body) (pids : List ℕ) → HasLoggedWords v → HasLoggedWords (running linux script follow v pids)
+running_log_words script follow v [] h = h
+running_log_words script follow v (p ∷ pids) h = running_log_words script follow (running_turn linux script follow v p) pids (turns_log_words script follow v p h)
+
+pub kernels_log_words : KernelsBeginAlike Shared Body → KernelsRunAlike Shared Body → KernelsLogWords
+kernels_log_words begin run script follow boot pids =
+    let s : Shared = first_shared boot.files boot.input in
+    let b : Body = booted boot.argv boot.env in
+    let is : Is (running linux script follow (first_running s b) pids) (kernel_run linux script follow (first_kernel s b) pids) = run linux script follow (first_running s b) (first_kernel s b) (begin s b) pids in
+    ap (λ (s : Shared). s.ended) (sym is.shared)
+    ∙ running_log_words script follow (first_running s b) pids refl
+    ∙ ap logged_words is.log

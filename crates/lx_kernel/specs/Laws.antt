@@ -1,17 +1,19 @@
 -- The kernel of a boot is the kernel of the definitions, turn by turn.
-use Rattle.std.specs.Prelude.{◌≡◌, ℕ, List, [], ◌∷◌, fold}
+use Rattle.std.specs.Prelude.{◌≡◌, ℕ, Bool, List, [], ◌∷◌, fold}
 use Rattle.std.specs.FinMap as maps
 use Rattle.lx_abi.specs.declared.boot.Boot.{Boot}
 use Rattle.lx_abi.specs.declared.log.Item.{Item}
 use Rattle.lx_abi.specs.declared.log.Item.TheVariants.{Exit}
 use Rattle.lx_abi.specs.declared.script.Rule.{Rule}
+use Rattle.lx_abi.specs.Log.{items_of}
 use Rattle.lx_abi.specs.Scripts.{choice_of}
-use Rattle.lx_model.specs.Kernel.{first_kernel, kernel_run}
-use Rattle.lx_model.specs.Finite.{Is, first_running, running_turn}
+use Rattle.lx_model.specs.Kernel.{Script, Kernel, first_kernel, kernel_run}
+use Rattle.lx_model.specs.Finite.{Is, Running, first_running, running_turn}
 use Rattle.lx_kernel.specs.First.{first_shared, first_run}
 use Rattle.lx_kernel.specs.Linux.{linux}
 use Rattle.lx_kernel.specs.Programs.{booted}
 use Rattle.lx_kernel.specs.Runs.{Run, after_turn}
+use Rattle.lx_kernel.specs.State.{Shared, Body}
 use Rattle.lx_kernel.specs.Words.{Words}
 
 -- process 1 begins in its first program, and is alone
@@ -43,12 +45,19 @@ abbrev pub logged_words : List Item → Words
 logged_words log = fold with_end maps.empty log
 
 -- what is shared has the words of the log's ends
-abbrev pub HasLoggedWords : Run → Type 0
-HasLoggedWords k = k.running.shared.ended ≡ logged_words k.running.log
+abbrev pub HasLoggedWords : Running Shared Body → Type 0
+HasLoggedWords v = v.shared.ended ≡ logged_words v.log
 
--- any turns of a boot leave a kernel with the words of its log, and each turn keeps this
-abbrev pub WordsAreLogged : Type 0
-WordsAreLogged = (boot : Boot) (script : List Rule) (pids : List ℕ) → HasLoggedWords (after_all (first_run boot script) pids)
+-- a turn keeps this, under every script
+abbrev pub TurnsLogWords : Type 0
+TurnsLogWords = (script : Script) (follow : Bool) (v : Running Shared Body) (pid : ℕ) → HasLoggedWords v → HasLoggedWords (running_turn linux script follow v pid)
 
-abbrev pub TurnsKeepWords : Type 0
-TurnsKeepWords = (k : Run) (pid : ℕ) → HasLoggedWords k → HasLoggedWords (after_turn k pid)
+-- so it holds after any turns of a boot
+abbrev pub BootsLogWords : Type 0
+BootsLogWords = (boot : Boot) (script : List Rule) (pids : List ℕ) → HasLoggedWords (after_all (first_run boot script) pids).running
+
+-- and of the untraced kernel of the definitions
+abbrev pub KernelsLogWords : Type 0
+KernelsLogWords = (script : Script) (follow : Bool) (boot : Boot) (pids : List ℕ) →
+    let k : Kernel Shared Body = kernel_run linux script follow (first_kernel (first_shared boot.files boot.input) (booted boot.argv boot.env)) pids in
+    k.shared.ended ≡ logged_words (items_of k.log)

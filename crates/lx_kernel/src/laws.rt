@@ -2,7 +2,7 @@
 
 ghost use Rattle.lx_model.specs.Machine.{IsMachine};
 ghost use Rattle.lx_kernel.specs.Linux.{linux};
-ghost use Rattle.lx_kernel.specs.Laws.{BootsAreFirst, TurnsAreSteps, BootsRunAlike, WordsAreLogged, TurnsKeepWords};
+ghost use Rattle.lx_kernel.specs.Laws.{BootsAreFirst, TurnsAreSteps, BootsRunAlike, TurnsLogWords, BootsLogWords, KernelsLogWords};
 
 use crate::state::{Body, Shared};
 use lx_model::laws::kernels_run_alike;
@@ -21,8 +21,11 @@ pub fn boots_are_first_runs()
     kernels_run_alike::<Shared, Body>();
 }
 
-/// The wait words that an outcome shows are those of the ends in the log, in every run of a boot.
+/// The wait words that an outcome shows are those of the ends in the log: a turn keeps this, and a boot begins with it.
 pub fn words_are_logged()
-    ensures turn { TurnsKeepWords }
-    ensures runs { WordsAreLogged }
-{}
+    ensures turn { TurnsLogWords }
+    ensures boots { BootsLogWords }
+    ensures kernels { KernelsLogWords }
+{
+    kernels_run_alike::<Shared, Body>();
+}
