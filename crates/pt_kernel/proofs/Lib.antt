@@ -2,6 +2,7 @@ mod LinuxTold
 pub mod Cycling
 pub mod Rows
 pub mod Telling
+pub mod Leaving
 pub mod Turning
 pub mod Answering
 pub mod Sweeping

@@ -1,16 +1,27 @@
 //! Laws of the definitions.
 
+ghost use Rattle.pt_kernel.specs.Left.{BootsLeaveAsPlain};
 ghost use Rattle.pt_model.specs.Headline.{IsTold, HeadlineAt};
 ghost use Rattle.lx_kernel.specs.Linux.{linux};
 
-use lx_kernel::laws::linux_is_a_machine;
+use lx_kernel::laws::{linux_is_a_machine, words_are_logged};
 use lx_kernel::state::{Body, Shared};
-use pt_model::laws::tracing_is_transparent;
+use pt_model::laws::{every_script_is_one, tracing_is_transparent};
 
 /// What wait(2) tells of Linux's calls fits their numbers, and no read of a memory gives more bytes than were asked for.
 pub fn linux_is_told()
     ensures { IsTold linux }
 {}
+
+/// What a traced boot leaves at any moment is what the untraced kernel leaves by the effective turns: its console, its
+/// files, and the statuses (wait(2)) of the ends in its log.
+pub fn boots_leave_as_plain()
+    ensures { BootsLeaveAsPlain }
+{
+    linux_is_transparent();
+    every_script_is_one();
+    words_are_logged();
+}
 
 /// A traced run at Linux has the outcome of the untraced kernel under the script, turn by turn, and its trace is that
 /// kernel's.
