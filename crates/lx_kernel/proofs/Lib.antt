@@ -14,6 +14,7 @@ pub mod LinuxLaws
 pub mod Starting
 pub mod Directories
 pub mod Nodes
+pub mod Ordered
 pub mod Listed
 pub mod Lists
 pub mod Looking

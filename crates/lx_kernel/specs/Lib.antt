@@ -6,6 +6,7 @@ pub mod Files
 pub mod First
 pub mod Limits
 pub mod Linux
+pub mod Neighbours
 pub mod Occurrences
 pub mod Outcomes
 pub mod Programs

@@ -1,15 +1,17 @@
 //! What a boot is refused for.
 
-ghost use Rattle.std.specs.Prelude.{◌≡◌, ◌-◌, ◌≤◌, ◌==◌, nat_le, SomeIff};
+ghost use Rattle.std.specs.Prelude.{◌≡◌, ◌-◌, ◌≤◌, ◌==◌, nat_le, IfSome, SomeIff};
 ghost use Rattle.std.specs.List.{list_any, slice_split, sum_by};
 ghost use Rattle.lx_kernel.specs.Programs.{start_size, start_limit};
-ghost use Rattle.lx_kernel.specs.Boots.{fault_number, fault_of, is_bad_part as is_bad_part_of, is_bad_path as is_bad_path_of, is_misplaced as is_misplaced_among, has_bad_path as has_bad_path_of, has_duplicate as has_duplicate_of, has_nul as has_nul_of, has_no_program as has_no_program_of, cost_of, fits as fits_of};
+ghost use Rattle.lx_kernel.specs.Boots.{fault_number, fault_of, is_bad_part as is_bad_part_of, is_bad_path as is_bad_path_of, has_bad_path as has_bad_path_of, has_duplicate as has_duplicate_of, has_nul as has_nul_of, has_no_program as has_no_program_of, cost_of, fits as fits_of};
 ghost use Rattle.lx_kernel.specs.Files.{is_under as is_under_path};
+ghost use Rattle.lx_kernel.specs.Neighbours.{has_under as has_under_of, IsTold};
 ghost use Rattle.std.specs.Str.{bytes_eq};
 
 use crate::limits::files_fit;
+use crate::neighbours::{Told, is_under, tell};
 use lx_abi::{Boot, Bytes, GuestFile};
-use std::alloc::AllocError;
+use std::alloc::{AllocError, Global};
 use thiserror::Error;
 
 /// The most bytes that the words, the environment and the vector of a program's start may take.
@@ -80,10 +82,11 @@ fn is_bad_path(path: &[u8]) -> bool
     }
 }
 
-fn is_under(path: &[u8], above: &[u8]) -> bool
-    ensures { result ≡ is_under_path path.now above.now }
+/// One of the paths is not absolute, is the root, or has a bad part.
+fn has_plain_fault(files: &[GuestFile]) -> bool
+    ensures { result ≡ list_any (λ f. is_bad_path_of f.path) files.now }
 {
-    path.starts_with(above) && path.get(above.len()) == Some(&b'/')
+    files.iter().any(|file| is_bad_path(file.path.as_slice()))
 }
 
 fn is_under_any(path: &[u8], files: &[GuestFile]) -> bool
@@ -94,19 +97,24 @@ fn is_under_any(path: &[u8], files: &[GuestFile]) -> bool
         .any(|other| is_under(path, other.path.as_slice()))
 }
 
-#[tactic(auto, unfolding(crate::specs::Boots::is_misplaced))]
-fn is_misplaced(path: &[u8], files: &[GuestFile]) -> bool
-    ensures { result ≡ is_misplaced_among files.now path.now }
+/// A file lies under another. Where nothing is told, each is compared with each.
+fn has_under(files: &[GuestFile], told: Option<bool>) -> bool
+    requires { IfSome told (λ b. b ≡ has_under_of files.now) }
+    ensures { result ≡ has_under_of files.now }
 {
-    is_bad_path(path) || is_under_any(path, files)
+    match told {
+        Some(answer) => answer,
+        None => files
+            .iter()
+            .any(|file| is_under_any(file.path.as_slice(), files)),
+    }
 }
 
-fn has_bad_path(files: &[GuestFile]) -> bool
+fn has_bad_path(files: &[GuestFile], told: &Told) -> bool
+    requires { IsTold files.now told.now }
     ensures { result ≡ has_bad_path_of files.now }
 {
-    files
-        .iter()
-        .any(|file| is_misplaced(file.path.as_slice(), files))
+    has_plain_fault(files) || has_under(files, told.under)
 }
 
 fn is_among(path: &[u8], files: &[GuestFile]) -> bool
@@ -115,7 +123,8 @@ fn is_among(path: &[u8], files: &[GuestFile]) -> bool
     files.iter().any(|other| path == other.path.as_slice())
 }
 
-fn has_duplicate(files: &[GuestFile]) -> bool
+/// Two files have one path, by comparing each with each behind it.
+fn repeats(files: &[GuestFile]) -> bool
     ensures { result ≡ has_duplicate_of files.now }
 {
     let mut left = files;
@@ -126,6 +135,16 @@ fn has_duplicate(files: &[GuestFile]) -> bool
         left = rest;
     }
     false
+}
+
+fn has_duplicate(files: &[GuestFile], told: &Told) -> bool
+    requires { IsTold files.now told.now }
+    ensures { result ≡ has_duplicate_of files.now }
+{
+    match told.twice {
+        Some(answer) => answer,
+        None => repeats(files),
+    }
 }
 
 fn has_nul(words: &[Bytes]) -> bool
@@ -169,13 +188,16 @@ fn fits(boot: &Boot) -> bool
     files_fit(boot.files.as_slice()) && start_fits(boot.argv.as_slice(), boot.env.as_slice())
 }
 
-/// Why a boot is refused, if it is.
-pub fn boot_fault(boot: &Boot) -> Option<BootFault>
+/// Why a boot is refused, if it is. The answer is the same whatever the memory; the time goes with the square of the
+/// number of files only where there is no memory for their order.
+pub fn boot_fault(alloc: Global, boot: &Boot) -> Option<BootFault>
     ensures { result ≡ fault_of boot.now }
 {
-    if has_bad_path(boot.files.as_slice()) {
+    let files = boot.files.as_slice();
+    let told = tell(alloc, files);
+    if has_bad_path(files, &told) {
         Some(BootFault::BadPath)
-    } else if has_duplicate(boot.files.as_slice()) {
+    } else if has_duplicate(files, &told) {
         Some(BootFault::Duplicate)
     } else if has_no_program(boot.argv.as_slice(), boot.env.as_slice()) {
         Some(BootFault::NoProgram)

@@ -94,7 +94,7 @@ impl Kernel {
         // A boot with a fault is refused with it, whatever the memory.
         ensures refused { (e : BootFault) → fault_in boot ≡ Some e → result ≡ Err e }
     {
-        if let Some(fault) = boot_fault(&boot) {
+        if let Some(fault) = boot_fault(alloc, &boot) {
             return Err(fault);
         }
         let kernel = first(alloc, boot, script)?;

@@ -10,6 +10,7 @@ pub mod first;
 pub mod kernel;
 pub mod laws;
 pub mod limits;
+pub mod neighbours;
 pub mod occurrences;
 pub mod outcome;
 pub mod programs;

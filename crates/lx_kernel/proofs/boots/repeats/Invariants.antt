@@ -1,6 +1,6 @@
 use Rattle.std.proofs.Common.{◌≡◌, length}
 use Rattle.lx_kernel.specs.Boots.{has_duplicate}
-use Rattle.lx_kernel.proofs.boots.has_duplicate.Given as goal
+use Rattle.lx_kernel.proofs.boots.repeats.Given as goal
 
 abbrev pub invariant-loop-file : goal.invariant-loop-file
 invariant-loop-file l = has_duplicate l.files ≡ has_duplicate l.left
