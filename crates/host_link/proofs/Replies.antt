@@ -8,7 +8,7 @@ use Rattle.host_wire.specs.declared.frame.Body.{Body}
 use Rattle.host_wire.specs.declared.frame.Body.TheVariants.{Request as Of_request, Reply as Of_reply}
 use Rattle.host_wire.specs.declared.frame.Frame.{Frame}
 use Rattle.host_wire.specs.Receiving.{Received}
-use Rattle.host_wire.specs.Streams.{Stream, Going, Feeding, nothing_fed, stream_of}
+use Rattle.host_wire.specs.Streams.{Going, Feeding, nothing_fed, stream_of}
 use Rattle.host_link.specs.declared.fault.LinkFault.{LinkFault}
 use Rattle.host_link.specs.declared.fault.LinkFault.TheVariants.{Sequence, Inadmissible}
 use Rattle.host_link.specs.Pipes.{Came, CameAs, reply_in, reply_of}

@@ -1,3 +1,4 @@
+pub mod Children
 pub mod Faults
 pub mod Kinds
 pub mod LocalLinks

@@ -1,6 +1,7 @@
 //! Links between a tracer and a host.
 #![tactic(auto)]
 
+pub mod child;
 pub mod fault;
 mod fits;
 pub mod link;
@@ -8,6 +9,7 @@ pub mod local;
 pub mod pipe;
 pub mod recorded;
 
+pub use child::ChildLink;
 pub use fault::LinkFault;
 pub use link::Link;
 pub use local::LocalLink;

@@ -1,0 +1,7 @@
+-- A link to a host that runs as a process of its own: a link over its pipes.
+use Rattle.host_wire.specs.declared.counted.Counted.{Counted}
+use Rattle.host_link.specs.declared.child.ChildLink.{ChildLink}
+use Rattle.host_link.specs.declared.pipe.PipeLink.{PipeLink}
+
+abbrev pub pipe_of : {P I O E : Type 0} → ChildLink P I O E → PipeLink (Counted O) (Counted I)
+pipe_of l = l.pipe
