@@ -1,3 +1,4 @@
+pub mod Hosted
 pub mod Numbers
 pub mod Requests
 pub mod Serving

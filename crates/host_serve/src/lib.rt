@@ -3,10 +3,12 @@
 
 mod answering;
 pub mod fault;
+pub mod hosted;
 mod requests;
 pub mod serving;
 pub mod session;
 
 pub use fault::ServeFault;
-pub use serving::serve;
+pub use hosted::serve;
+pub use serving::serve_session;
 pub use session::{Phase, Session};

@@ -72,7 +72,7 @@ fn outcome_of<S: Session + Drop>(alloc: Global, phase: &Phase<S>) -> Result<Outc
 }
 
 /// Serves until the end of input, within a frame too, and gives what is left of the run then.
-pub fn serve<S: Session + Drop, R: Source, W: Sink>(
+pub fn serve_session<S: Session + Drop, R: Source, W: Sink>(
     alloc: Global,
     reader: &mut R,
     writer: &mut W,

@@ -2,7 +2,7 @@ use Rattle.std.proofs.Common.{◌≡◌, ◌<◌}
 use Rattle.std.specs.Prelude.{vec_len}
 use Rattle.host_wire.specs.Streams.{nothing_fed}
 use Rattle.host_serve.specs.Serving.{Serves}
-use Rattle.host_serve.proofs.serving.serve.Given as goal
+use Rattle.host_serve.proofs.serving.serve_session.Given as goal
 
 abbrev pub invariant-loop-number : goal.invariant-loop-number
 invariant-loop-number g l = record {

@@ -1,6 +1,6 @@
 use Rattle.std.proofs.Common.{arith, refl}
 use Rattle.host_serve.proofs.Conversing.{fails_first, starts, goes_further, ends_finished, ends_reading, ends_asked, ends_sending, ends_late, next_is}
-use Rattle.host_serve.proofs.serving.serve.Goals as goal
+use Rattle.host_serve.proofs.serving.serve_session.Goals as goal
 
 pub returns-in_default : goal.returns-in_default
 returns-in_default g c = fails_first _ _ _ _

@@ -1,0 +1,83 @@
+//! The traced kernel, served.
+
+ghost use Rattle.std.specs.Prelude.{◌≡◌, IfOk};
+ghost use Rattle.host_serve.specs.Hosted.{BootsAs, Served_host};
+
+use crate::fault::ServeFault;
+use crate::serving::serve_session;
+use crate::session::Session;
+use host_link::{Link, LocalLink};
+use host_wire::{Sink, Source};
+use lx_abi::{Boot, Outcome, Reply, Request, Seq, Word};
+use lx_kernel::BootFault;
+use pt_kernel::{Host, Schedule};
+use std::alloc::{AllocError, Global};
+
+fn copied(alloc: Global, words: &Seq<Word>) -> Result<Vec<Word>, AllocError>
+    ensures { IfOk result (λ copy. copy.items ≡ words.now) }
+{
+    let mut copy = Vec::new(alloc);
+    copy.extend_from_slice(words.as_slice())?;
+    Ok(copy)
+}
+
+/// The host of a boot, as a link that nothing was asked yet.
+fn booted(alloc: Global, boot: Boot, limit: u64, words: Seq<Word>) -> Result<LocalLink, BootFault>
+    ensures { BootsAs boot limit words result }
+{
+    let host = match Host::boot(alloc, boot) {
+        Ok(host) => host,
+        Err(fault) => return Err(fault),
+    };
+    match copied(alloc, &words) {
+        Ok(words) => Ok(LocalLink::new(host, Schedule::words(words, limit))),
+        Err(_) => Err(BootFault::Memory),
+    }
+}
+
+impl Session for LocalLink {
+    ghost use Rattle.host_serve.specs.Hosted.{Answers_by, Boots_by, left_by};
+
+    ghost boots = { λ boot limit words result. Boots_by boot limit words result };
+
+    ghost answers = { λ a q r b. Answers_by a q r b };
+
+    ghost left = { left_by };
+
+    fn boot(alloc: Global, boot: Boot, limit: u64, words: Seq<Word>) -> Result<Self, u8> {
+        match booted(alloc, boot, limit, words) {
+            Ok(link) => Ok(link),
+            Err(fault) => Err(fault.number()),
+        }
+    }
+
+    fn answer(&mut self, request: Request) -> Option<Reply> {
+        match self.call(request) {
+            Ok(reply) => Some(reply),
+            Err(_) => None,
+        }
+    }
+
+    fn outcome(&self) -> Option<Outcome> {
+        match self.host().outcome() {
+            Ok(outcome) => Some(outcome),
+            Err(_) => None,
+        }
+    }
+}
+
+/// Serves the traced kernel until the end of input, within a frame too, and gives the outcome of the run so far, the
+/// empty one before a boot was accepted.
+///
+/// However the input is cut, what is written is the frames of the replies that a [`LocalLink`] of that boot gives to the
+/// requests after it.
+#[tactic(auto, unfolding(crate::specs::Hosted::Served_host))]
+pub fn serve<R: Source, W: Sink>(
+    alloc: Global,
+    reader: &mut R,
+    writer: &mut W,
+) -> Result<Outcome, ServeFault>
+    ensures { Served_host (R.remaining reader.old) (R.remaining reader.new) (W.contents writer.old) (W.contents writer.new) result (R.broken reader.new) (W.broken writer.new) }
+{
+    serve_session::<LocalLink, R, W>(alloc, reader, writer)
+}
