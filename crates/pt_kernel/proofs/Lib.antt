@@ -8,3 +8,4 @@ pub mod Answering
 pub mod Sweeping
 pub mod Keeping
 pub mod Feeding
+pub mod Called

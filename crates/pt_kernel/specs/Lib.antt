@@ -6,3 +6,4 @@ pub mod Stops
 pub mod Left
 pub mod Hosts
 pub mod Attends
+pub mod Seen

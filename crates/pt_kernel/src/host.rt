@@ -120,6 +120,13 @@ impl Host {
         &self.kernel.turns
     }
 
+    /// The same, where the host is used no more.
+    pub fn into_turns(self) -> Turns
+        ensures { result ≡ self.hosting.turns }
+    {
+        self.kernel.turns
+    }
+
     /// What is left of the run so far.
     pub fn outcome(&self) -> Result<Outcome, AllocError>
         ensures { IfOk result (λ o. o ≡ outcome_in self.now.hosting.running.shared) }

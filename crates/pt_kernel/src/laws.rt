@@ -1,12 +1,13 @@
 //! Laws of the definitions.
 
 ghost use Rattle.pt_kernel.specs.Left.{BootsLeaveAsPlain};
+ghost use Rattle.pt_kernel.specs.Seen.{HostsAreCalled};
 ghost use Rattle.pt_model.specs.Headline.{IsTold, HeadlineAt};
 ghost use Rattle.lx_kernel.specs.Linux.{linux};
 
 use lx_kernel::laws::{linux_is_a_machine, words_are_logged};
 use lx_kernel::state::{Body, Shared};
-use pt_model::laws::{every_script_is_one, tracing_is_transparent};
+use pt_model::laws::{every_script_is_one, hosts_run_alike, tracing_is_transparent, turns_tell};
 
 /// What wait(2) tells of Linux's calls fits their numbers, and no read of a memory gives more bytes than were asked for.
 pub fn linux_is_told()
@@ -31,4 +32,13 @@ pub fn linux_is_transparent()
     linux_is_a_machine();
     linux_is_told();
     tracing_is_transparent::<Shared, Body>();
+}
+
+/// A request that a host attends to is a call of the ptrace machine over functions, by the events that the schedule
+/// gives as it sees that machine.
+pub fn hosts_are_called()
+    ensures { HostsAreCalled }
+{
+    hosts_run_alike::<Shared, Body>();
+    turns_tell::<Shared, Body>();
 }
