@@ -1,6 +1,6 @@
 -- The calls of the profile: numbers (the generic table of Linux), names, classes (strace(1), Filtering)
 -- and how their arguments are shown.
-use Rattle.std.specs.Prelude.{ℕ, ◌==◌, List, [], ◌∷◌, Option, option_map, find, codes}
+use Rattle.std.specs.Prelude.{ℕ, ◌==◌, List, [], ◌∷◌, Option, Some, None, option_map, find, codes, if◌then◌else◌}
 use Rattle.std.specs.Str.{bytes_eq}
 use Rattle.lx_abi.specs.declared.calls.Class.{Class}
 use Rattle.lx_abi.specs.declared.calls.Class.TheVariants.{File, Descriptor, Process, Signal, Memory}
@@ -58,3 +58,12 @@ call_classes number = option_map (λ row. row.2) (find (λ row. row.0 == number)
 -- the arguments of the entry text, and those shown after the call, of the call with this number
 unfoldable pub call_format : ℕ → Option (List Argument × List Argument)
 call_format number = option_map (λ row. (row.3, row.4)) (find (λ row. row.0 == number) calls)
+
+-- the class of this name, which stands behind the % (strace(1), Filtering)
+abbrev pub class_named : List ℕ → Option Class
+class_named name =
+    if bytes_eq name (codes "file") then Some File
+    else (if bytes_eq name (codes "desc") then Some Descriptor
+    else (if bytes_eq name (codes "process") then Some Process
+    else (if bytes_eq name (codes "signal") then Some Signal
+    else (if bytes_eq name (codes "memory") then Some Memory else None))))

@@ -69,8 +69,24 @@ pub enum Argument {
     CloneFlags,
 }
 
+impl Class {
+    /// The class of this name, which stands behind the `%` (strace(1), Filtering).
+    pub fn from_name(name: &str) -> Option<Class>
+        ensures { result ≡ spec.class_named name.now }
+    {
+        match name {
+            "file" => Some(Class::File),
+            "desc" => Some(Class::Descriptor),
+            "process" => Some(Class::Process),
+            "signal" => Some(Class::Signal),
+            "memory" => Some(Class::Memory),
+            _ => None,
+        }
+    }
+}
+
 /// Number, name, classes, the arguments of the entry text, and those shown once the call has returned.
-type Row = (
+pub type Row = (
     u64,
     &'static str,
     &'static [Class],
@@ -124,6 +140,14 @@ static CALLS: [Row; 31] = calls! {
     222 "mmap" [Descriptor, Memory] [Pointer, Unsigned, Protection, MapFlags, Int, Hex] [];
     260 "wait4" [Process] [Int] [WaitStatus, WaitOptions, Pointer];
 };
+
+/// Every call, by rising numbers.
+#[tactic(auto, unfolding(crate::specs::Calls::calls))]
+pub fn rows() -> &'static [Row]
+    ensures { map call_row result.now ≡ spec.calls }
+{
+    &CALLS
+}
 
 /// How a call's arguments are shown: those of the text of its entry, and those that wait for its result.
 #[derive(Clone, Copy, Debug, PartialEq, Eq)]

@@ -2,5 +2,7 @@ pub mod Joins
 pub mod Lowest
 pub mod Marks
 pub mod Numerals
+pub mod Readings
 pub mod Refusals
+pub mod Rows
 pub mod Runs

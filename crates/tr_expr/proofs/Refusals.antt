@@ -1,7 +1,8 @@
 -- The refusal of a set and parts together.
-use Rattle.std.proofs.Common.{ℕ, ◌≡◌, ◌∙◌, ◌++◌, List, Option, None, ap}
+use Rattle.std.proofs.Common.{◌≡◌, ◌∙◌, ◌++◌, List, Option, None, ap}
 use Rattle.std.specs.List.{flat_map}
 use Rattle.tr_expr.specs.Faults.{found}
+use Rattle.tr_expr.specs.Items.{Reading}
 use Rattle.tr_expr.specs.Sets as sets
 use Rattle.tr_expr.specs.Parts.{Part, part_causes, error_in, retval_in, last_said}
 use Rattle.tr_expr.specs.Rules.{all_causes, whole_causes}
@@ -11,7 +12,7 @@ use Rattle.tr_expr.specs.declared.rule.Tampering.{Tampering}
 use Rattle.tr_expr.specs.declared.said.Said.{Said}
 
 -- what is found in the set, the parts, and what was said of them is what is found in all
-pub found_in_all : (form : Tampering) (set : List ℕ) (parts : List Part) (said : Said) (r : Option ExprFault) → IsSaidBy parts said → r ≡ found None (sets.causes set ++ (flat_map part_causes parts ++ whole_causes form said.error said.retval said.signal)) → r ≡ found None (all_causes form set parts)
+pub found_in_all : (form : Tampering) (set : List Reading) (parts : List Part) (said : Said) (r : Option ExprFault) → IsSaidBy parts said → r ≡ found None (sets.causes set ++ (flat_map part_causes parts ++ whole_causes form said.error said.retval said.signal)) → r ≡ found None (all_causes form set parts)
 found_in_all form set parts said r by e =
     e
     ∙ (ap (λ o. found None (sets.causes set ++ (flat_map part_causes parts ++ whole_causes form o said.retval said.signal))) by.error

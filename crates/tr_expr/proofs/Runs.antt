@@ -37,7 +37,7 @@ last_push : {X : Type 0} (says : Part → Option X) (ps : List Part) (p : Part) 
 last_push says [] p = or_none (says p)
 last_push says (q ∷ qs) p = ap (λ o. option_or o (says q)) (last_push says qs p) ∙ or_again (says p) (last_said says qs) (says q)
 
-or_false : (q : Bool) → (q || false) ≡ q
+pub or_false : (q : Bool) → (q || false) ≡ q
 or_false true = refl
 or_false false = refl
 

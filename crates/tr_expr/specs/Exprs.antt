@@ -1,10 +1,8 @@
 -- The word of -e (strace(1)): trace=SET or a bare SET, inject=SET:PARTS, fault=SET[:PARTS].
 use Rattle.std.specs.Prelude.{ℕ, List, nat_eq, if◌then◌else◌, drop, codes}
 use Rattle.std.specs.List.{starts_with}
-use Rattle.tr_expr.specs.Sets as sets
-use Rattle.tr_expr.specs.Sets.{SaysSet}
-use Rattle.tr_expr.specs.Rules as rules
-use Rattle.tr_expr.specs.Rules.{SaysRule}
+use Rattle.tr_expr.specs.Sets.{SaysSet, RefusesSet}
+use Rattle.tr_expr.specs.Rules.{SaysRule, RefusesRule}
 use Rattle.tr_expr.specs.declared.expr.Expr.{Expr}
 use Rattle.tr_expr.specs.declared.expr.Expr.TheVariants.{Trace, Inject as Tamper}
 use Rattle.tr_expr.specs.declared.rule.Tampering.{Tampering}
@@ -23,10 +21,10 @@ word_of text =
     else (if starts_with nat_eq text (codes "fault=") then Tampered Fault (drop 6 text)
     else Traced text))
 
--- the kinds of refusal that the word is a cause of
-abbrev pub causes : Word → List ExprFault
-causes (Traced text) = sets.causes text
-causes (Tampered form text) = rules.causes form text
+-- what the word is refused with
+abbrev pub Refuses : Word → ExprFault → Type 0
+Refuses (Traced text) e = RefusesSet text e
+Refuses (Tampered form text) e = RefusesRule form text e
 
 -- the expression is what the word says
 abbrev pub Says : Word → Expr → Type 0

@@ -41,10 +41,6 @@ IsAmong (cause ∷ causes) e = (cause ≡ e) ⊎ IsAmong causes e
 abbrev pub IsFirst : List ExprFault → ExprFault → Type 0
 IsFirst causes e = IsAmong causes e × AllByRecursion (λ cause. rank e ≤ rank cause) causes
 
--- the refusal of a text with these causes: want of memory, or the cause that is found first
-abbrev pub IsRefusal : List ExprFault → ExprFault → Type 0
-IsRefusal causes e = (e ≡ Memory) ⊎ IsFirst causes e
-
 -- a kind where a test holds
 abbrev pub where_true : Bool → ExprFault → List ExprFault
 where_true b kind = if b then kind ∷ [] else []

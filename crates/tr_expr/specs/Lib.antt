@@ -1,5 +1,6 @@
 pub mod Exprs
 pub mod Faults
+pub mod Items
 pub mod Numbers
 pub mod Parts
 pub mod Picks

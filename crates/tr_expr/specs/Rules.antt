@@ -1,5 +1,5 @@
 -- Tampering expressions (strace(1), Tampering): a set and parts, joined by colons.
-use Rattle.std.specs.Prelude.{◌≡◌, ℕ, ℤ, pos, neg_ℤ, List, [], ◌++◌, Option, Some, None, ◌&&◌, if◌then◌else◌, map, is_some, is_none, unwrap_or}
+use Rattle.std.specs.Prelude.{◌≡◌, ◌⊎◌, ℕ, ℤ, pos, neg_ℤ, List, [], ◌++◌, Option, Some, None, ◌&&◌, if◌then◌else◌, map, is_some, is_none, unwrap_or}
 use Rattle.std.specs.Option.{option_or}
 use Rattle.std.specs.List.{flat_map}
 use Rattle.lx_abi.specs.Scripts.{includes}
@@ -7,14 +7,15 @@ use Rattle.lx_abi.specs.declared.script.Rule.{Rule}
 use Rattle.lx_abi.specs.declared.signal.Signal.{Signal}
 use Rattle.tr_expr.specs.Texts.{has_mark, before_mark, after_mark}
 use Rattle.tr_expr.specs.Sets as sets
-use Rattle.tr_expr.specs.Sets.{names, pieces}
+use Rattle.tr_expr.specs.Sets.{AreRead, items, names, pieces}
+use Rattle.tr_expr.specs.Items.{Reading}
 use Rattle.tr_expr.specs.Parts.{Part, part_of, part_causes, error_in, retval_in, signal_in, when_in, last_said}
 use Rattle.tr_expr.specs.Whens.{Occurrences, every, view}
-use Rattle.tr_expr.specs.Faults.{where_true}
+use Rattle.tr_expr.specs.Faults.{where_true, IsFirst}
 use Rattle.tr_expr.specs.declared.rule.Tampering.{Tampering}
 use Rattle.tr_expr.specs.declared.rule.Tampering.TheVariants.{Inject, Fault}
 use Rattle.tr_expr.specs.declared.fault.ExprFault.{ExprFault}
-use Rattle.tr_expr.specs.declared.fault.ExprFault.TheVariants.{BothResults, NothingToDo}
+use Rattle.tr_expr.specs.declared.fault.ExprFault.TheVariants.{BothResults, NothingToDo, Memory}
 
 -- what stands before the first colon, and the parts after it
 abbrev pub set_text : List ℕ → List ℕ
@@ -38,15 +39,15 @@ whole_causes form error retval signal =
     where_true (is_some error && is_some retval) BothResults
     ++ where_true (is_none (result_by form error retval) && is_none signal) NothingToDo
 
-abbrev pub all_causes : Tampering → List ℕ → List Part → List ExprFault
-all_causes form set ps =
-    sets.causes set
+abbrev pub all_causes : Tampering → List Reading → List Part → List ExprFault
+all_causes form rs ps =
+    sets.causes rs
     ++ (flat_map part_causes ps
     ++ whole_causes form (last_said error_in ps) (last_said retval_in ps) (last_said signal_in ps))
 
--- the kinds of refusal that the expression is a cause of
-unfoldable pub causes : Tampering → List ℕ → List ExprFault
-causes form text = all_causes form (set_text text) (parts form text)
+-- the kinds of refusal that the expression is a cause of, where the items of its set are read so
+unfoldable pub causes : Tampering → List ℕ → List Reading → List ExprFault
+causes form text rs = all_causes form rs (parts form text)
 
 -- what replaces the call's result
 abbrev pub result_of : Tampering → List ℕ → Option ℤ
@@ -62,8 +63,16 @@ occurrences form text = unwrap_or (last_said when_in (parts form text)) every
 
 -- the text has no cause of refusal, and the rule is what it says
 pub record SaysRule (form : Tampering) (text : List ℕ) (rule : Rule) : Type 0 where
-  pub sound : causes form text ≡ []
-  pub calls : (n : ℕ) → includes rule.calls n ≡ names (set_text text) n
+  pub readings : List Reading
+  pub are_read : AreRead (items (set_text text)) readings
+  pub sound : causes form text readings ≡ []
+  pub calls : (n : ℕ) → includes rule.calls n ≡ names (set_text text) readings n
   pub result : rule.choice.result ≡ result_of form text
   pub signal : rule.choice.signal ≡ signal_of form text
   pub when : view rule.when ≡ occurrences form text
+
+-- want of memory, or the cause in the text that is found first
+unfoldable pub RefusesRule : Tampering → List ℕ → ExprFault → Type 0
+RefusesRule form text e =
+    (e ≡ Memory)
+    ⊎ ((rs : List Reading) × (AreRead (items (set_text text)) rs × IsFirst (causes form text rs) e))

@@ -1,8 +1,7 @@
 //! The word after `-e`.
 
 ghost use Rattle.std.specs.Prelude.{◌≡◌, IfOk, IfErr};
-ghost use Rattle.tr_expr.specs.Exprs.{Says, word_of, causes};
-ghost use Rattle.tr_expr.specs.Faults.{IsRefusal};
+ghost use Rattle.tr_expr.specs.Exprs.{Says, Refuses, word_of};
 
 use crate::fault::ExprFault;
 use crate::rule::{parse_fault, parse_inject};
@@ -20,7 +19,7 @@ pub enum Expr {
 /// Reads `trace=SET` or a bare `SET`, `inject=SET:PARTS`, or `fault=SET[:PARTS]`.
 pub fn parse_expr(alloc: Global, text: &str) -> Result<Expr, ExprFault>
     ensures meaning { IfOk result (Says (word_of text.now)) }
-    ensures refusal { IfErr result (IsRefusal (causes (word_of text.now))) }
+    ensures refusal { IfErr result (Refuses (word_of text.now)) }
 {
     if let Some(set) = text.strip_prefix("trace=") {
         return parse_trace(alloc, set).map(Expr::Trace);

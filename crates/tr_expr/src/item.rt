@@ -1,26 +1,120 @@
 //! One item of a set.
 
-ghost use Rattle.std.specs.Prelude.{◌≡◌, ℕ, MatchResult, [], ◌∷◌, false};
-ghost use Rattle.tr_expr.specs.Picks.{has};
-ghost use Rattle.tr_expr.specs.Sets.{text_picks, text_causes};
+ghost use Rattle.std.specs.Prelude.{◌≡◌, ◌==◌, ◌||◌, ◌&&◌, ℕ, IfOk, OnOk};
+ghost use Rattle.lx_abi.specs.Calls.{calls, call_number, class_named};
+ghost use Rattle.lx_abi.specs.Scripts.{among};
+ghost use Rattle.regex.specs.Strings.{regex_pattern};
+ghost use Rattle.tr_expr.specs.Items as spec;
+ghost use Rattle.tr_expr.specs.Items.{classed, is_found, named, perhaps_named, some_row};
+ghost use Rattle.tr_expr.specs.Picks.{IsItem, IsSearched, Shows};
 
 use crate::fault::ExprFault;
 use crate::text;
 use lx_abi::calls;
+use lx_abi::calls::Class;
+use regex::Regex;
+use std::alloc::{AllocError, Global};
 
-/// What an item picks.
-#[derive(Clone, Copy, Debug)]
+/// What an item picks, or why it is refused.
+#[derive(Drop)]
 pub(crate) enum Picks {
     Every,
     Nothing,
     Call(u64),
+    Calls(Vec<u64>),
+    Refused(ExprFault),
 }
 
-/// Reads an item. No class is known and no pattern is read yet.
-pub(crate) fn read_item(item: &str) -> Result<Picks, ExprFault>
-    ensures cause { MatchResult result (λ p. text_causes item.now ≡ []) (λ e. text_causes item.now ≡ e ∷ []) }
-    ensures picks { MatchResult result
-        (λ p. (n : ℕ) → text_picks item.now n ≡ has p n) (λ e. (n : ℕ) → text_picks item.now n ≡ false) }
+/// The call of this name.
+fn call_named(name: &str) -> Picks
+    ensures { Shows result (named (call_number name.now)) }
+{
+    match calls::call_number(name) {
+        Some(number) => Picks::Call(number),
+        None => Picks::Refused(ExprFault::UnknownCall),
+    }
+}
+
+/// The call of this name, if there is one.
+fn call_perhaps_named(name: &str) -> Picks
+    ensures { Shows result (perhaps_named (call_number name.now)) }
+{
+    match calls::call_number(name) {
+        Some(number) => Picks::Call(number),
+        None => Picks::Nothing,
+    }
+}
+
+fn is_among(class: Class, classes: &[Class]) -> bool
+    ensures { result ≡ spec.is_among class classes.now }
+{
+    classes.contains(&class)
+}
+
+/// Takes a number that is to be kept.
+fn keep(numbers: &mut Vec<u64>, number: u64, is_kept: bool) -> Result<(), AllocError>
+    ensures { OnOk result ((n : ℕ) → among numbers.new.items n
+        ≡ (among numbers.old.items n || ((number == n) && is_kept))) }
+{
+    if is_kept {
+        numbers.push(number)?;
+    }
+    Ok(())
+}
+
+fn calls_in(alloc: Global, class: Class) -> Result<Vec<u64>, AllocError>
+    ensures { IfOk result (λ numbers. (n : ℕ) → among numbers.items n
+        ≡ some_row (λ row. spec.is_among class row.2) calls n) }
+{
+    let mut numbers = Vec::new(alloc);
+    for row in calls::rows() {
+        keep(&mut numbers, row.0, is_among(class, row.2))?;
+    }
+    Ok(numbers)
+}
+
+fn read_class(alloc: Global, name: &str) -> Result<Picks, AllocError>
+    ensures { IfOk result (λ p. Shows p (classed (class_named name.now))) }
+{
+    match Class::from_name(name) {
+        Some(class) => Ok(Picks::Calls(calls_in(alloc, class)?)),
+        None => Ok(Picks::Refused(ExprFault::UnknownClass)),
+    }
+}
+
+/// The calls in whose names the pattern is found.
+fn calls_found(alloc: Global, pattern: &Regex) -> Result<Vec<u64>, AllocError>
+    ensures { IfOk result (λ numbers. (n : ℕ) → among numbers.items n
+        ≡ some_row (λ row. is_found (regex_pattern pattern.now) row.1) calls n) }
+{
+    let mut matcher = pattern.matcher(alloc)?;
+    let mut numbers = Vec::new(alloc);
+    for row in calls::rows() {
+        keep(&mut numbers, row.0, matcher.is_match(row.1))?;
+    }
+    Ok(numbers)
+}
+
+fn is_out_of_memory(error: &regex::Error) -> bool
+    ensures { result ≡ spec.is_out_of_memory error.now }
+{
+    matches!(error, regex::Error::OutOfMemory)
+}
+
+/// The pattern is compiled once, and searched for in each name.
+fn read_pattern(alloc: Global, text: &str) -> Result<Picks, AllocError>
+    ensures { IfOk result (IsSearched text.now) }
+{
+    match Regex::new(alloc, text) {
+        Ok(pattern) => Ok(Picks::Calls(calls_found(alloc, &pattern)?)),
+        Err(error) if is_out_of_memory(&error) => Err(AllocError),
+        Err(_) => Ok(Picks::Refused(ExprFault::BadPattern)),
+    }
+}
+
+/// Reads an item.
+pub(crate) fn read_item(alloc: Global, item: &str) -> Result<Picks, AllocError>
+    ensures { IfOk result (IsItem item.now) }
 {
     if item == "all" {
         return Ok(Picks::Every);
@@ -29,19 +123,13 @@ pub(crate) fn read_item(item: &str) -> Result<Picks, ExprFault>
         return Ok(Picks::Nothing);
     }
     if let Some(name) = text::after(item, '?') {
-        return Ok(match calls::call_number(name) {
-            Some(number) => Picks::Call(number),
-            None => Picks::Nothing,
-        });
+        return Ok(call_perhaps_named(name));
     }
-    if text::after(item, '%').is_some() {
-        return Err(ExprFault::UnknownClass);
+    if let Some(name) = text::after(item, '%') {
+        return read_class(alloc, name);
     }
-    if text::after(item, '/').is_some() {
-        return Err(ExprFault::BadPattern);
+    if let Some(pattern) = text::after(item, '/') {
+        return read_pattern(alloc, pattern);
     }
-    match calls::call_number(item) {
-        Some(number) => Ok(Picks::Call(number)),
-        None => Err(ExprFault::UnknownCall),
-    }
+    Ok(call_named(item))
 }

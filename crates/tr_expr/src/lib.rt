@@ -3,15 +3,16 @@
 //! ```text
 //! word   trace=SET, a bare SET, inject=SET:PARTS or fault=SET[:PARTS]
 //! SET    items joined by commas; a `!` in front negates the whole
-//! item   NAME, ?NAME (which may be unknown), all or none
+//! item   NAME, ?NAME (which may be unknown), %CLASS, /REGEX (searched for in the names), all or none
 //! PARTS  parts joined by colons; of a repeated part the last counts
 //! part   error=E (a name, or 1 to 4095), retval=V (decimal, or hexadecimal behind 0x)
 //!        or when=W; fault= takes error and when alone, and fails with ENOSYS by itself
 //! W      FIRST, FIRST+ or FIRST+STEP, each 1 to 65535
 //! ```
 //!
-//! Classes (`%file`), patterns (`/read`), `signal=` and ranges (`2..5`) are refused for now. A refusal is the first kind
-//! of [`ExprFault`] that has a cause anywhere in the text.
+//! The classes are file, desc, process, signal and memory; a regular expression is one of the crate `regex`, without
+//! commas or colons. `signal=` and ranges (`2..5`) are refused for now. A refusal is the first kind of [`ExprFault`] that
+//! has a cause anywhere in the text.
 #![tactic(auto)]
 
 pub mod expr;

@@ -2,10 +2,10 @@
 
 ghost use Rattle.std.specs.Prelude.{◌≡◌, ℕ, IfOk, IfErr, None, option_map, unwrap_or, ◌++◌};
 ghost use Rattle.tr_expr.specs.Rules as spec;
-ghost use Rattle.tr_expr.specs.Rules.{SaysRule, whole_causes};
+ghost use Rattle.tr_expr.specs.Rules.{SaysRule, RefusesRule, whole_causes};
 ghost use Rattle.tr_expr.specs.Saids.{IsSaidBy};
 ghost use Rattle.tr_expr.specs.Whens.{view, every};
-ghost use Rattle.tr_expr.specs.Faults.{IsRefusal, found};
+ghost use Rattle.tr_expr.specs.Faults.{found};
 ghost use Rattle.tr_expr.specs.declared.rule.Tampering.TheVariants.{Inject, Fault};
 
 use crate::fault::ExprFault;
@@ -67,7 +67,7 @@ fn refusal(form: Tampering, set: Option<ExprFault>, said: &Said) -> Option<ExprF
 
 fn parse_rule(alloc: Global, form: Tampering, text: &str) -> Result<Rule, ExprFault>
     ensures meaning { IfOk result (SaysRule form text.now) }
-    ensures refusal { IfErr result (IsRefusal (spec.causes form text.now)) }
+    ensures refusal { IfErr result (RefusesRule form text.now) }
 {
     let (set, said) = cut(form, text);
     let (negated, picked) = read_set(alloc, set)?;
@@ -87,7 +87,7 @@ fn parse_rule(alloc: Global, form: Tampering, text: &str) -> Result<Rule, ExprFa
 /// The rule that a text says, as after `inject=`.
 pub fn parse_inject(alloc: Global, text: &str) -> Result<Rule, ExprFault>
     ensures meaning { IfOk result (SaysRule Inject text.now) }
-    ensures refusal { IfErr result (IsRefusal (spec.causes Inject text.now)) }
+    ensures refusal { IfErr result (RefusesRule Inject text.now) }
 {
     parse_rule(alloc, Tampering::Inject, text)
 }
@@ -95,7 +95,7 @@ pub fn parse_inject(alloc: Global, text: &str) -> Result<Rule, ExprFault>
 /// The rule that a text says, as after `fault=`. The calls fail with `ENOSYS` where it names no other error.
 pub fn parse_fault(alloc: Global, text: &str) -> Result<Rule, ExprFault>
     ensures meaning { IfOk result (SaysRule Fault text.now) }
-    ensures refusal { IfErr result (IsRefusal (spec.causes Fault text.now)) }
+    ensures refusal { IfErr result (RefusesRule Fault text.now) }
 {
     parse_rule(alloc, Tampering::Fault, text)
 }

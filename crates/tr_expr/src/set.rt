@@ -1,20 +1,18 @@
 //! Sets of calls.
 
-ghost use Rattle.std.specs.Prelude.{◌≡◌, ℕ, OnOk, IfOk, IfErr, ◌||◌, None, is_some};
-ghost use Rattle.std.specs.List.{flat_map, list_any};
+ghost use Rattle.std.specs.Prelude.{◌≡◌, ℕ, OnOk, IfOk, IfErr, ◌||◌, is_some};
 ghost use Rattle.lx_abi.specs.Scripts.{includes};
 ghost use Rattle.tr_expr.specs.Sets as spec;
-ghost use Rattle.tr_expr.specs.Sets.{SaysSet, pieces, text_causes, text_picks};
-ghost use Rattle.tr_expr.specs.Picks.{picked};
+ghost use Rattle.tr_expr.specs.Sets.{SaysSet, RefusesSet, pieces};
+ghost use Rattle.tr_expr.specs.Picks.{IsPicked, causes_of, has, picked};
 ghost use Rattle.tr_expr.specs.Texts.{after};
-ghost use Rattle.tr_expr.specs.Faults.{IsRefusal, found};
-ghost use Rattle.tr_expr.specs.declared.fault.ExprFault.TheVariants.{Memory};
+ghost use Rattle.tr_expr.specs.Faults.{found};
 
 use crate::fault::ExprFault;
 use crate::item::{Picks, read_item};
 use crate::text;
 use lx_abi::{Seq, Set};
-use std::alloc::Global;
+use std::alloc::{AllocError, Global};
 
 /// What the items so far pick, and the fault that is found first.
 #[derive(Drop)]
@@ -25,17 +23,17 @@ pub(crate) struct Picked {
 }
 
 impl Picked {
-    fn take(&mut self, item: &str) -> Result<(), ExprFault>
-        ensures found { OnOk result (self.new.fault ≡ found self.old.fault (text_causes item.now)) }
+    fn take(&mut self, picks: Picks) -> Result<(), AllocError>
+        ensures found { OnOk result (self.new.fault ≡ found self.old.fault (causes_of picks)) }
         ensures picks { OnOk result ((n : ℕ) → picked self.new.every self.new.numbers.items n
-            ≡ (picked self.old.every self.old.numbers.items n || text_picks item.now n)) }
-        ensures err { IfErr result (λ e. e ≡ Memory) }
+            ≡ (picked self.old.every self.old.numbers.items n || has picks n)) }
     {
-        match read_item(item) {
-            Ok(Picks::Every) => self.every = true,
-            Ok(Picks::Nothing) => {}
-            Ok(Picks::Call(number)) => self.numbers.push(number)?,
-            Err(fault) => self.fault = Some(fault.after(self.fault)),
+        match picks {
+            Picks::Every => self.every = true,
+            Picks::Nothing => {}
+            Picks::Call(number) => self.numbers.push(number)?,
+            Picks::Calls(mut numbers) => self.numbers.append(&mut numbers)?,
+            Picks::Refused(fault) => self.fault = Some(fault.after(self.fault)),
         }
         Ok(())
     }
@@ -55,11 +53,8 @@ pub(crate) fn set_of(negated: bool, every: bool, mut numbers: Vec<u64>) -> Set
     }
 }
 
-fn picked_of(alloc: Global, list: &str) -> Result<Picked, ExprFault>
-    ensures found { IfOk result (λ p. p.fault ≡ found None (flat_map text_causes (pieces 44 list.now))) }
-    ensures picks { IfOk result (λ p. (n : ℕ) → picked p.every p.numbers.items n
-        ≡ list_any (λ item. text_picks item n) (pieces 44 list.now)) }
-    ensures err { IfErr result (λ e. e ≡ Memory) }
+fn picked_of(alloc: Global, list: &str) -> Result<Picked, AllocError>
+    ensures { IfOk result (λ p. IsPicked (pieces 44 list.now) p.fault p.every p.numbers.items) }
 {
     let mut picked = Picked {
         fault: None,
@@ -67,7 +62,8 @@ fn picked_of(alloc: Global, list: &str) -> Result<Picked, ExprFault>
         numbers: Vec::new(alloc),
     };
     for item in list.split(',') {
-        picked.take(item)?;
+        let picks = read_item(alloc, item)?;
+        picked.take(picks)?;
     }
     Ok(picked)
 }
@@ -84,10 +80,9 @@ fn negation(text: &str) -> (bool, &str)
 }
 
 /// Whether the text is negated, and what its items pick.
-pub(crate) fn read_set(alloc: Global, text: &str) -> Result<(bool, Picked), ExprFault>
-    ensures found { IfOk result (λ p. p.1.fault ≡ found None (spec.causes text.now)) }
-    ensures names { IfOk result (λ p. (n : ℕ) → spec.turned p.0 (picked p.1.every p.1.numbers.items n) ≡ spec.names text.now n) }
-    ensures err { IfErr result (λ e. e ≡ Memory) }
+pub(crate) fn read_set(alloc: Global, text: &str) -> Result<(bool, Picked), AllocError>
+    ensures negated { IfOk result (λ p. p.0 ≡ is_some (after 33 text.now)) }
+    ensures items { IfOk result (λ p. IsPicked (spec.items text.now) p.1.fault p.1.every p.1.numbers.items) }
 {
     let (negated, list) = negation(text);
     let picked = picked_of(alloc, list)?;
@@ -97,7 +92,7 @@ pub(crate) fn read_set(alloc: Global, text: &str) -> Result<(bool, Picked), Expr
 /// The set of calls that a text names, as after `trace=`.
 pub fn parse_trace(alloc: Global, text: &str) -> Result<Set, ExprFault>
     ensures meaning { IfOk result (SaysSet text.now) }
-    ensures refusal { IfErr result (IsRefusal (spec.causes text.now)) }
+    ensures refusal { IfErr result (RefusesSet text.now) }
 {
     let (negated, picked) = read_set(alloc, text)?;
     match picked.fault {

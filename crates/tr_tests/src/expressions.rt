@@ -1,6 +1,6 @@
 //! Outside examples: expressions of strace(1), and their meaning worked by hand.
 
-use std::alloc::Global;
+use std::alloc::{AllocError, Global};
 use std::test::Fail;
 use tr_expr::{Expr, ExprFault, Rule, Script, parse_expr, parse_fault, parse_inject, parse_trace};
 
@@ -58,11 +58,15 @@ fn set_fault_of(alloc: Global, text: &str) -> Option<ExprFault> {
 fn refuses_sets(rt: HostRuntime) {
     for (text, fault) in [
         ("%net", ExprFault::UnknownClass),
-        ("%file", ExprFault::UnknownClass),
+        ("%", ExprFault::UnknownClass),
+        ("%FILE", ExprFault::UnknownClass),
         ("/(", ExprFault::BadPattern),
+        ("/(,%net", ExprFault::UnknownClass),
+        ("/[", ExprFault::BadPattern),
         ("", ExprFault::UnknownCall),
         ("write,", ExprFault::UnknownCall),
-        ("/read,%file,wrote", ExprFault::UnknownCall),
+        ("/(,%net,wrote", ExprFault::UnknownCall),
+        ("?write,/a{2,1}", ExprFault::UnknownCall),
     ] {
         assert_eq!(rt; set_fault_of(rt.alloc(), text), Some(fault), "{text}");
     }
@@ -92,11 +96,73 @@ fn names_calls(rt: HostRuntime) {
         ("?wrote", WRITE, false),
         ("?wrote,?write", WRITE, true),
         ("?%file,?all,?/x,?", WRITE, false),
+        ("!%desc", WRITE, false),
+        ("!%desc", GETPID, true),
+        ("!/write", UNNAMED, true),
+        ("/.", UNNAMED, false),
     ] {
         assert_eq!(rt;
             set_has(rt.alloc(), text, call),
             Some(named),
             "{text} {call}"
+        );
+    }
+}
+
+#[test]
+fn refuses_patterns_that_nest_deep(rt: HostRuntime) -> Result<(), AllocError> {
+    let mut text = String::new(rt.alloc());
+    text.push('/')?;
+    for _ in 0..5000 {
+        text.push('(')?;
+    }
+    let fault = set_fault_of(rt.alloc(), text.as_str());
+    assert_eq!(rt; fault, Some(ExprFault::BadPattern));
+    Ok(())
+}
+
+/// The calls below 1000 that a set names.
+fn calls_of(alloc: Global, text: &str) -> Option<Vec<u64>> {
+    let set = parse_trace(alloc, text).ok()?;
+    let mut calls = Vec::new(alloc);
+    for call in 0..1000 {
+        if set.contains(call) {
+            calls.push(call).ok()?;
+        }
+    }
+    Some(calls)
+}
+
+#[test]
+fn names_classes_and_patterns(rt: HostRuntime) {
+    let every: &[u64] = &[
+        17, 23, 24, 34, 35, 46, 49, 56, 57, 59, 62, 63, 64, 79, 80, 93, 94, 124, 129, 134, 135,
+        139, 172, 173, 178, 214, 215, 220, 221, 222, 260,
+    ];
+    let cases: [(&str, &[u64]); 14] = [
+        ("%file", &[17, 34, 35, 49, 56, 79, 221]),
+        (
+            "%desc",
+            &[23, 24, 34, 35, 46, 56, 57, 59, 62, 63, 64, 79, 80, 222],
+        ),
+        ("%process", &[93, 94, 220, 221, 260]),
+        ("%signal", &[129, 134, 135, 139]),
+        ("%memory", &[214, 215, 222]),
+        ("%memory,%signal,kill", &[129, 134, 135, 139, 214, 215, 222]),
+        ("/^read$", &[63]),
+        ("/dup", &[23, 24]),
+        ("/^get", &[17, 172, 173, 178]),
+        ("/t$,write", &[34, 35, 56, 64, 79, 80, 93]),
+        ("/[0-9]$", &[24, 59, 260]),
+        ("/READ", &[]),
+        ("/", every),
+        ("/.", every),
+    ];
+    for (text, wanted) in cases {
+        assert_eq!(rt;
+            calls_of(rt.alloc(), text).as_deref(),
+            Some(wanted),
+            "{text}"
         );
     }
 }
