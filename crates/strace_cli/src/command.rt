@@ -6,11 +6,12 @@ use clap::Error;
 use front_end::{refusal, shown_words};
 use std::alloc::Global;
 use std::io::{Read, Write};
+use std::process::Processes;
 use std::rt::Files;
 
 /// Traces the run that the words ask for, the program's name first, and gives the exit status. A fault is one line on
 /// `err`.
-pub fn command<R: Files + AllocGlobal, I: Read, O: Write, E: Write>(
+pub fn command<R: Files + Processes + AllocGlobal, I: Read, O: Write, E: Write>(
     rt: &R,
     words: &[String],
     input: &mut I,
@@ -31,7 +32,7 @@ pub fn tell<E: Write>(fault: Fault, err: &mut E) -> u8 {
     }
 }
 
-fn obey<R: Files + AllocGlobal, I: Read, O: Write, E: Write>(
+fn obey<R: Files + Processes + AllocGlobal, I: Read, O: Write, E: Write>(
     rt: &R,
     words: &[String],
     input: &mut I,

@@ -6,16 +6,26 @@ use crate::plan::{Plan, read_plan};
 use crate::words::TraceOptions;
 use clap::ArgMatches;
 use front_end::{Shown, refuse_boot};
-use host_link::{Link, LinkFault, LocalLink};
+use host_link::{ChildLink, Link, LinkFault, LocalLink};
 use host_wire::{Counted, Sink};
-use lx_abi::{Outcome, Script};
+use lx_abi::{Boot, Outcome, Reply, Request, Script, Seq};
+use lx_kernel::BootFault;
 use pt_kernel::{Host, Schedule};
 use std::alloc::Global;
 use std::fs;
 use std::io::{Read, Write};
+use std::process::Processes;
 use std::rt::Files;
 use tr_core::Options;
 use trace_run::{Ended, run};
+
+/// Where the kernel runs, and for how many events.
+#[derive(Clone, Copy)]
+struct Kernel<'a> {
+    /// The path of the program that serves it; this process where there is none.
+    host: Option<&'a str>,
+    limit: u64,
+}
 
 /// The name of standard output as a file, which this program writes without opening it again.
 const STANDARD_OUTPUT: &str = "/dev/stdout";
@@ -50,25 +60,78 @@ fn run_here<W: Sink>(
     }
 }
 
-/// Runs the tracer, with its trace to a writer.
-fn trace_to<W: Write>(
-    alloc: Global,
+/// The fault of a boot that a host refuses with this number.
+fn refused_boot(alloc: Global, number: u8) -> Fault {
+    let fault = match number {
+        1 => BootFault::BadPath,
+        2 => BootFault::Duplicate,
+        3 => BootFault::NoProgram,
+        4 => BootFault::TooLarge,
+        5 => BootFault::Memory,
+        _ => return Fault::Host(LinkFault::Inadmissible),
+    };
+    Fault::from(refuse_boot(alloc, fault))
+}
+
+/// Boots the host behind a link, which is to follow the default schedule.
+fn boot_over<L: Link>(alloc: Global, link: &mut L, boot: Boot, limit: u64) -> Result<(), Fault> {
+    let request = Request::Boot {
+        boot,
+        limit,
+        words: Seq::new(alloc),
+    };
+    match link.call(request)? {
+        Reply::Done => Ok(()),
+        Reply::Refused { fault } => Err(refused_boot(alloc, fault)),
+        _ => Err(Fault::Host(LinkFault::Inadmissible)),
+    }
+}
+
+/// Runs the tracer with the kernel in a process that the program at this path serves.
+fn run_there<R: Processes + AllocGlobal, W: Sink>(
+    rt: &R,
+    path: &str,
     plan: Plan,
     limit: u64,
+    lines: &mut Lines<W>,
+) -> Result<Outcome, Fault> {
+    let alloc = rt.alloc();
+    let mut link = ChildLink::start(rt, path, &[])?;
+    boot_over(alloc, &mut link, plan.boot, limit)?;
+    run_over(alloc, &mut link, lines, plan.script, plan.options)
+}
+
+fn run_kernel<R: Processes + AllocGlobal, W: Sink>(
+    rt: &R,
+    kernel: Kernel<'_>,
+    plan: Plan,
+    lines: &mut Lines<W>,
+) -> Result<Outcome, Fault> {
+    match kernel.host {
+        None => run_here(rt.alloc(), plan, kernel.limit, lines),
+        Some(path) => run_there(rt, path, plan, kernel.limit, lines),
+    }
+}
+
+/// Runs the tracer, with its trace to a writer.
+fn trace_to<R: Processes + AllocGlobal, W: Write>(
+    rt: &R,
+    kernel: Kernel<'_>,
+    plan: Plan,
     writer: &mut W,
 ) -> Result<Outcome, Fault> {
-    run_here(alloc, plan, limit, &mut Lines::new(Counted::new(writer)))
+    run_kernel(rt, kernel, plan, &mut Lines::new(Counted::new(writer)))
 }
 
 /// Writes the trace to `err`. Where the run ends in a fault, a line that stands open is ended.
-fn trace_to_error<E: Write>(
-    alloc: Global,
+fn trace_to_error<R: Processes + AllocGlobal, E: Write>(
+    rt: &R,
+    kernel: Kernel<'_>,
     plan: Plan,
-    limit: u64,
     err: &mut E,
 ) -> Result<Outcome, Fault> {
     let mut lines = Lines::new(Counted::new(&mut *err));
-    let ended = run_here(alloc, plan, limit, &mut lines);
+    let ended = run_kernel(rt, kernel, plan, &mut lines);
     let cut = ended.is_err() && lines.is_open();
     if cut && writeln!(err).is_err() {
         return Err(Fault::Output);
@@ -77,14 +140,14 @@ fn trace_to_error<E: Write>(
 }
 
 /// Makes a file for the trace.
-fn trace_to_file<R: Files + AllocGlobal>(
+fn trace_to_file<R: Files + Processes + AllocGlobal>(
     rt: &R,
+    kernel: Kernel<'_>,
     plan: Plan,
-    limit: u64,
     path: &str,
 ) -> Result<Outcome, Fault> {
     match fs::create(rt, path) {
-        Ok(mut file) => trace_to(rt.alloc(), plan, limit, &mut file),
+        Ok(mut file) => trace_to(rt, kernel, plan, &mut file),
         Err(error) => Err(Fault::file(rt.alloc(), Shown(path), error)),
     }
 }
@@ -116,7 +179,7 @@ fn finish<O: Write>(outcome: &Outcome, out: &mut O) -> Result<u8, Fault> {
 }
 
 /// Makes the run, and gives the exit status. The console goes to `out` once the run is whole.
-pub fn trace<R: Files + AllocGlobal, I: Read, O: Write, E: Write>(
+pub fn trace<R: Files + Processes + AllocGlobal, I: Read, O: Write, E: Write>(
     rt: &R,
     matches: &ArgMatches,
     options: TraceOptions,
@@ -124,12 +187,15 @@ pub fn trace<R: Files + AllocGlobal, I: Read, O: Write, E: Write>(
     out: &mut O,
     err: &mut E,
 ) -> Result<u8, Fault> {
-    let alloc = rt.alloc();
     let plan = read_plan(rt, matches, options, input)?;
+    let kernel = Kernel {
+        host: matches.get_str("host"),
+        limit: options.limit,
+    };
     let outcome = match matches.get_str("output") {
-        None => trace_to_error(alloc, plan, options.limit, err)?,
-        Some(STANDARD_OUTPUT) => trace_to(alloc, plan, options.limit, out)?,
-        Some(path) => trace_to_file(rt, plan, options.limit, path)?,
+        None => trace_to_error(rt, kernel, plan, err)?,
+        Some(STANDARD_OUTPUT) => trace_to(rt, kernel, plan, out)?,
+        Some(path) => trace_to_file(rt, kernel, plan, path)?,
     };
     finish(&outcome, out)
 }

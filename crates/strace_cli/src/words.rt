@@ -72,6 +72,11 @@ fn with_calls<'a>(alloc: Global, command: Command<'a>) -> Result<Command<'a>, Al
 fn with_kernel<'a>(alloc: Global, command: Command<'a>) -> Result<Command<'a>, AllocError> {
     command
         .arg(
+            Arg::new(alloc, "host").long("host").value_name("PATH").help(
+                "Starts this program, as guest_host, with the word serve to run the kernel (this process runs it)",
+            ),
+        )?
+        .arg(
             Arg::new(alloc, "limit")
                 .long("limit")
                 .value_name("N")
