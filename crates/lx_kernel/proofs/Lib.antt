@@ -15,6 +15,7 @@ pub mod Starting
 pub mod Directories
 pub mod Nodes
 pub mod Ordered
+pub mod Roomy
 pub mod Listed
 pub mod Lists
 pub mod Looking

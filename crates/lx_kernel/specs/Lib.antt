@@ -11,6 +11,7 @@ pub mod Occurrences
 pub mod Outcomes
 pub mod Programs
 pub mod Read
+pub mod Rooms
 pub mod Runs
 pub mod Signals
 pub mod State

@@ -1,9 +1,8 @@
 //! What each call does.
 
 ghost use Rattle.std.specs.Prelude.{◌≡◌, ℕ, List, IfOk, OnErr, ◌<◌, not, nat_lt};
-ghost use Rattle.std.specs.List.{All};
 ghost use Rattle.std.specs.FinMap as maps;
-ghost use Rattle.elf_image.specs.Images.{IsInRange};
+ghost use Rattle.elf_image.specs.Images.{IsLaidOut};
 ghost use Rattle.lx_kernel.specs.Programs.{start_size, start_limit};
 ghost use Rattle.lx_kernel.specs.declared.state.Shared.{Shared};
 ghost use Rattle.lx_kernel.specs.Calls.{does as meaning, write as meaning_of_write, execve as meaning_of_execve, begins, runs as meaning_of_run, runs_at as meaning_of_run_at, low_argument};
@@ -74,7 +73,7 @@ fn begin(
     env: &Words,
     body: &mut Body,
 ) -> Result<Reply, AllocError>
-    requires { All IsInRange image.now.segments }
+    requires { IsLaidOut image.now }
     ensures answer { IfOk result (λ r. (s : Shared) (a e : List (List ℕ)) → Reads argv.now (Some a) → Reads env.now (Some e) → answer_of r s body.new ≡ begins s image.now a e) }
     ensures kept { IfOk result (λ r. (s : Shared) → Kept r s body.old s body.new) }
 {

@@ -1,9 +1,12 @@
 //! The start of a program: its memory and registers.
 
-ghost use Rattle.std.specs.Prelude.{◌≡◌, ◌++◌, ◌≤◌, ◌<◌, ◌+◌, ◌*◌, ◌^◌, OnOk, IfOk, All, length, fold};
+ghost use Rattle.std.specs.Prelude.{◌≡◌, ◌++◌, ◌≤◌, ◌<◌, ◌+◌, ◌*◌, ◌^◌, OnOk, IfOk, All, length, fold, map};
 ghost use Rattle.rv_mem.specs.Memory.{written};
 ghost use Rattle.rv_mem.specs.Mapping.{mapped as with_pages};
-ghost use Rattle.elf_image.specs.Images.{IsInRange};
+ghost use Rattle.rv_mem.specs.Mapping.{page_count};
+ghost use Rattle.elf_image.specs.Images.{IsInRange, IsLaidOut, extent_of};
+ghost use Rattle.elf_image.specs.Layout.{page_count as extents_count};
+ghost use Rattle.lx_kernel.specs.Rooms.{IsOn, IsMapped, IsOnStack, program_pages, segment_mapped};
 ghost use Rattle.lx_kernel.specs.Programs.{strings as strings_of, addresses, vector_from, start_size, start_limit, doublewords as bytes_of, with_segment, with_image, bare_memory, start_memory as memory_of, begun, started, stub_image, booted, IsStart};
 
 use crate::state::Body;
@@ -23,7 +26,17 @@ const PAGE: u64 = 4096;
 /// rt_sigreturn: `li a7, 139`, `ecall`.
 const RETURN_CODE: [u8; 8] = [0x93, 0x08, 0xB0, 0x08, 0x73, 0x00, 0x00, 0x00];
 
-/// Pages are mapped, and bytes loaded into them.
+/// What a program's start may be refused, of which there is only memory.
+fn short(fault: MemFault) -> AllocError
+    requires { fault ≡ MemFault.Memory }
+{
+    match fault {
+        MemFault::Memory => AllocError,
+        MemFault::Unmapped(_) | MemFault::Forbidden(_) | MemFault::TooLarge => unreachable!(),
+    }
+}
+
+/// Pages are mapped, and bytes loaded into them. There are few enough pages, and they have room for the bytes.
 fn map_and_load(
     space: &mut Space,
     page: u64,
@@ -32,24 +45,27 @@ fn map_and_load(
     address: u64,
     bytes: &[u8],
 ) -> Result<(), AllocError>
-    requires { 4096 * page + 4096 * pages ≤ 2 ^ 38 }
+    requires below { 4096 * page + 4096 * pages ≤ 2 ^ 38 }
+    requires few { page_count (with_pages space.old (4096 * page) (4096 * pages) rights) ≤ 16384 }
+    requires start { 4096 * page ≤ address }
+    requires end { address + length bytes.now ≤ 4096 * page + 4096 * pages }
     ensures { OnOk result (space.new ≡ written (with_pages space.old (4096 * page) (4096 * pages) rights) address bytes.now) }
 {
-    // Only memory can be refused: the pages are few, and what is loaded is mapped.
-    let Ok(()) = space.map(PAGE * page, pages, rights) else {
-        return Err(AllocError);
-    };
-    load(space, address, bytes)
+    match space.map(PAGE * page, pages, rights) {
+        Err(fault) => Err(short(fault)),
+        Ok(()) => load(space, address, bytes),
+    }
 }
 
 /// Bytes are loaded where pages were mapped.
 fn load(space: &mut Space, address: u64, bytes: &[u8]) -> Result<(), AllocError>
+    requires { IsMapped space.old address (address + length bytes.now) }
     ensures { OnOk result (space.new ≡ written space.old address bytes.now) }
 {
-    let Ok(()) = space.load(address, bytes) else {
-        return Err(AllocError);
-    };
-    Ok(())
+    match space.load(address, bytes) {
+        Err(fault) => Err(short(fault)),
+        Ok(()) => Ok(()),
+    }
 }
 
 /// The stack and the return page.
@@ -89,7 +105,8 @@ fn bare(alloc: Global) -> Result<Space, AllocError>
 /// The pages that a segment touches, and its bytes.
 #[tactic(auto, unfolding(crate::specs::Programs::with_segment))]
 fn load_segment(space: &mut Space, segment: &Segment) -> Result<(), AllocError>
-    requires { IsInRange segment.now }
+    requires in_range { IsInRange segment.now }
+    requires few { page_count (segment_mapped space.old segment.now) ≤ 16384 }
     ensures { OnOk result (space.new ≡ with_segment space.old segment.now) }
 {
     let rights = Rights {
@@ -112,7 +129,9 @@ fn load_segment(space: &mut Space, segment: &Segment) -> Result<(), AllocError>
 
 /// The segments of an image.
 fn load_segments(space: &mut Space, segments: &[Segment]) -> Result<(), AllocError>
-    requires { All IsInRange segments.now }
+    requires in_range { All IsInRange segments.now }
+    requires few { extents_count (map extent_of segments.now) ≤ 8192 }
+    requires room { IsOn (program_pages segments.now) space.old }
     ensures { OnOk result (space.new ≡ fold with_segment space.old segments.now) }
 {
     for segment in segments {
@@ -228,7 +247,8 @@ fn lay_out(alloc: Global, argv: &[Bytes], env: &[Bytes]) -> Result<Start, AllocE
 
 /// The body of a process that begins with an image, over what is laid out for its stack.
 fn begin(alloc: Global, image: &Image, start: &Start) -> Result<Body, AllocError>
-    requires { All IsInRange image.now.segments }
+    requires laid_out { IsLaidOut image.now }
+    requires on_stack { IsOnStack start.now }
     ensures { IfOk result (λ b. b ≡ begun image.now start.now) }
 {
     let mut memory = bare(alloc)?;
@@ -254,7 +274,7 @@ pub fn begin_program(
     env: &[Bytes],
 ) -> Result<Body, AllocError>
     requires fits { start_size argv.now env.now ≤ start_limit }
-    requires in_range { All IsInRange image.now.segments }
+    requires laid_out { IsLaidOut image.now }
     ensures { IfOk result (λ b. b ≡ started image.now argv.now env.now) }
 {
     let start = lay_out(alloc, argv, env)?;
@@ -270,7 +290,8 @@ const EXECVE: u64 = 221;
 
 /// The image of the first program.
 fn stub(alloc: Global) -> Result<Image, AllocError>
-    ensures { IfOk result (λ i. i ≡ stub_image) }
+    ensures image { IfOk result (λ i. i ≡ stub_image) }
+    ensures laid_out { IfOk result IsLaidOut }
 {
     let rights = SegmentRights {
         read: true,
