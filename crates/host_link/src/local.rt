@@ -82,6 +82,13 @@ impl LocalLink {
     {
         &self.host
     }
+
+    /// The same, where the link is used no more.
+    pub fn into_host(self) -> Host
+        ensures { result ≡ host_of self }
+    {
+        self.host
+    }
 }
 
 impl Link for LocalLink {
