@@ -1,5 +1,5 @@
 -- The events that a schedule gives to a host in memory, call by call, are those that it gives to the world.
-use Rattle.std.proofs.Common.{◌≡◌, true, List, [], ◌∷◌, ◌++◌, Option, Some, None, refl, sym, ap, ap₂, subst, ◌∙◌, inl, inr, append_assoc}
+use Rattle.std.proofs.Common.{◌≡◌, true, List, [], ◌∷◌, ◌++◌, Option, Some, None, Ok, refl, sym, ap, ap₂, subst, ◌∙◌, inl, inr, append_assoc}
 use Rattle.std.proofs.lemmas.List.{append-nil}
 use Rattle.lx_abi.specs.declared.outcome.Outcome.{Outcome}
 use Rattle.lx_abi.specs.declared.ptrace.Reply.{Reply}
@@ -19,7 +19,7 @@ use Rattle.pt_model.specs.Tracer.{Turns_over, request, next}
 use Rattle.pt_model.specs.World.{World, met, happens, happens_asked, world_run, effective}
 use Rattle.tr_core.specs.States.{State, heard, moved as moved_by, request_of, told}
 use Rattle.trace_run.specs.Runs.{Answers, Asked, Leads, replies_of}
-use Rattle.trace_run.specs.Local.{InMemory, CallServed, ServesCalls, Feeds}
+use Rattle.trace_run.specs.Local.{InMemory, CallServed, SoundCall, Feeds}
 
 module _ {X S B : Type 0} (choose : Schedules X S B) (m : Machine S B) (outcome : S → Outcome) (o : parts.Options) (script : Script) where
   abbrev at_host : World S B → Host S B → World S B
@@ -57,7 +57,8 @@ module _ {X S B : Type 0} (choose : Schedules X S B) (m : Machine S B) (outcome 
       let went : happens m outcome o script w Serve ≡ met o script w w.tracer.focus h r = ap (λ z. happens_asked m outcome o script w w.tracer.focus z Serve) f in
       (g.0, (asks_on w q f, ap (λ z. choose x (record { host = w.host; pending = z })) f ∙ g.1.0, subst (λ z. Feeds choose m outcome o script g.0 z (es ++ more)) (sym went) again))
 
-module _ {L X S B : Type 0} (answers : Answers L) (i : InMemory L X S B) (choose : Schedules X S B) (m : Machine S B) (outcome : S → Outcome) (serves : ServesCalls i choose m outcome answers)
+module _ {L X S B : Type 0} (answers : Answers L) (i : InMemory L X S B) (choose : Schedules X S B) (m : Machine S B) (outcome : S → Outcome)
+    (sound : L → Type 0) (serves : (a : L) (q : Request) (r : Reply) (b : L) → sound a → answers a q (Ok r) b → SoundCall sound i choose m outcome a q r b)
     (calls : WorldsCall S B) (appends : RunsAppend S B) (shows_nothing : OutOfTurnsShowsNothing) where
   -- the world with this tracer, over the link's host
   abbrev at_link : State → L → List Part → World S B
@@ -119,15 +120,19 @@ module _ {L X S B : Type 0} (answers : Answers L) (i : InMemory L X S B) (choose
       let on_to = replied t a mid printed q r c reply e h in
       let app = appends m outcome t.options t.script w c.fed ih.events in
       let there : world_run m outcome t.options t.script w c.fed ≡ w2 = ran.ran ∙ on_to in
+      let on_from : i.schedule mid ≡ c.left = c.goes_on (ap is_there e ∙ h) in
       record {
         events = c.fed ++ ih.events;
-        given = feeds_on choose m outcome t.options t.script w q f c.fed ih.events (i.schedule a) (i.schedule mid) c.call.gives c.call.left (subst (λ z. Feeds choose m outcome t.options t.script (i.schedule mid) z ih.events) (sym on_to) ih.given);
+        given =
+            feeds_on choose m outcome t.options t.script w q f c.fed ih.events (i.schedule a) c.left c.call.gives c.call.left
+            (subst (λ x. Feeds choose m outcome t.options t.script x (met t.options t.script w t.tracer.focus (called m outcome (i.host a) q c.fed).host (called m outcome (i.host a) q c.fed).reply) ih.events) on_from
+            (subst (λ z. Feeds choose m outcome t.options t.script (i.schedule mid) z ih.events) (sym on_to) ih.given));
         host = ap (λ (z : World S B). z.host) (app.0 ∙ ap (λ z. world_run m outcome t.options t.script z ih.events) there) ∙ ih.host;
         turned =
             ih.turned ∙ ap (λ l. l ++ effective m outcome t.options t.script w2 ih.events) ran.gave
             ∙ append_assoc (i.turns a) (effective m outcome t.options t.script w c.fed) (effective m outcome t.options t.script w2 ih.events)
             ∙ ap (λ l. i.turns a ++ l) (sym (app.2 ∙ ap (λ z. effective m outcome t.options t.script w c.fed ++ effective m outcome t.options t.script z ih.events) there));
-        over = (c.fed, (ih.events, (i.schedule mid, (i.host mid, (refl, f, c.call, ih.over)))));
+        over = (c.fed, (ih.events, (c.left, (i.host mid, (refl, f, c.call, subst (λ x. TalksOver choose m outcome t.options t.script (heard t r).tracer x (i.host mid) ih.events xs) on_from ih.over)))));
       }
 
   last : (t : State) (a mid b : L) (printed : List Part) (q : Request) (r : Reply) (c : CallServed i choose m outcome a q r mid) → request t.options t.tracer.focus ≡ Some q
@@ -138,37 +143,37 @@ module _ {L X S B : Type 0} (answers : Answers L) (i : InMemory L X S B) (choose
       let v : World S B = record { host = (called m outcome (i.host a) q c.fed).host; tracer = t.tracer; printed = printed } in
       let stays : met t.options t.script w t.tracer.focus (called m outcome (i.host a) q c.fed).host (called m outcome (i.host a) q c.fed).reply ≡ at_link t mid printed =
       ap₂ (λ g z. met t.options t.script w t.tracer.focus g z) c.call.host e in
-      let over : choose (i.schedule mid) (attends t.options (at_link t mid printed)) ≡ None = ap (λ z. choose (i.schedule mid) (record { host = i.host mid; pending = z })) f ∙ c.ended e in
+      let over : choose c.left (attends t.options (at_link t mid printed)) ≡ None = ap (λ z. choose c.left (record { host = i.host mid; pending = z })) f ∙ c.ended e in
       let app = append-nil c.fed in
       record {
         events = c.fed ++ [];
-        given = feeds_on choose m outcome t.options t.script w q f c.fed [] (i.schedule a) (i.schedule mid) c.call.gives c.call.left (subst (λ z. Feeds choose m outcome t.options t.script (i.schedule mid) z []) (sym stays) (inr over));
+        given = feeds_on choose m outcome t.options t.script w q f c.fed [] (i.schedule a) c.left c.call.gives c.call.left (subst (λ z. Feeds choose m outcome t.options t.script c.left z []) (sym stays) (inr over));
         host = ap (λ (z : World S B). z.host) (ap (world_run m outcome t.options t.script w) app ∙ ran.ran ∙ stays) ∙ ap i.host (sym here);
         turned = ap i.turns here ∙ ran.gave ∙ ap (λ l. i.turns a ++ effective m outcome t.options t.script w l) (sym app);
-        over = (c.fed, ([], (i.schedule mid, (i.host mid, (refl, f, c.call, refl)))));
+        over = (c.fed, ([], (c.left, (i.host mid, (refl, f, c.call, refl)))));
       }
 
   by_reply : (xs : List (Request × Reply)) (t : State) (a mid b : L) (printed : List Part) (q : Request) (r : Reply) (c : CallServed i choose m outcome a q r mid) → request t.options t.tracer.focus ≡ Some q
       → (reply : Option Reply) → (called m outcome (i.host a) q c.fed).reply ≡ reply
       → Leads answers mid xs b → Asked (heard t r) xs
-      → IsFed (heard t r) mid b (printed ++ (next t.options t.script t.tracer r).printed) xs
+      → (is_there reply ≡ true → IsFed (heard t r) mid b (printed ++ (next t.options t.script t.tracer r).printed) xs)
       → IsFed t a b printed ((q, r) ∷ xs)
-  by_reply xs t a mid b printed q r c f (Some s) e led asked ih = more xs t a mid b printed q r c f (Some s) e led asked ih refl
+  by_reply xs t a mid b printed q r c f (Some s) e led asked ih = more xs t a mid b printed q r c f (Some s) e led asked (ih refl) refl
   by_reply xs t a mid b printed q r c f None e led asked ih =
       let none : xs ≡ [] = none_after t q r xs f (c.call.reply ∙ ap reply_or e) asked in
       subst (λ l. Leads answers mid l b → IsFed t a b printed ((q, r) ∷ l)) (sym none) (λ here. last t a mid b printed q r c f e here) led
 
-  pub is_fed : (xs : List (Request × Reply)) (t : State) (a b : L) (printed : List Part) → Leads answers a xs b → Asked t xs → request_of (told t (replies_of xs)) ≡ None → IsFed t a b printed xs
+  pub is_fed : (xs : List (Request × Reply)) (t : State) (a b : L) (printed : List Part) → sound a → Leads answers a xs b → Asked t xs → request_of (told t (replies_of xs)) ≡ None → IsFed t a b printed xs
   unfolding request_of
-  is_fed [] t a b printed led asked over = record {
+  is_fed [] t a b printed is_sound led asked over = record {
     events = [];
     given = inl over;
     host = ap i.host (sym led);
     turned = ap i.turns led ∙ sym (append-nil (i.turns a));
     over = refl;
   }
-  is_fed (x ∷ xs) t a b printed led asked over =
+  is_fed (x ∷ xs) t a b printed is_sound led asked over =
       let mid : L = led.0 in
-      let c : CallServed i choose m outcome a x.0 x.1 mid = serves a x.0 x.1 mid led.1.0 in
-      by_reply xs t a mid b printed x.0 x.1 c asked.0 (called m outcome (i.host a) x.0 c.fed).reply refl led.1.1 asked.1
-      (is_fed xs (heard t x.1) mid b (printed ++ (next t.options t.script t.tracer x.1).printed) led.1.1 asked.1 over)
+      let c : SoundCall sound i choose m outcome a x.0 x.1 mid = serves a x.0 x.1 mid is_sound led.1.0 in
+      by_reply xs t a mid b printed x.0 x.1 c.served asked.0 (called m outcome (i.host a) x.0 c.served.fed).reply refl led.1.1 asked.1
+      (λ answered. is_fed xs (heard t x.1) mid b (printed ++ (next t.options t.script t.tracer x.1).printed) (c.stays answered) led.1.1 asked.1 over)

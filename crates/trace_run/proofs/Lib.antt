@@ -1,6 +1,8 @@
 pub mod Begun
+pub mod Booted
 pub mod Claimed
 pub mod Fed
+pub mod InProcess
 pub mod Locals
 pub mod Rounds
 pub mod Talks

@@ -7,9 +7,10 @@ use Rattle.lx_abi.specs.declared.ptrace.Reply.TheVariants.{Done as Agreed}
 use Rattle.lx_abi.specs.declared.ptrace.Request.{Request}
 use Rattle.lx_abi.specs.declared.schedule.Event.{Event}
 use Rattle.lx_model.specs.Kernel.{Script, traces, Kernel}
-use Rattle.lx_model.specs.Machine.{Machine}
+use Rattle.lx_model.specs.Machine.{Machine, IsMachine}
 use Rattle.pt_model.specs.Calls.{Talks, WorldsCall, RunsAppend, OutOfTurnsShowsNothing, SchedulesAreLists, TalksAreOwn}
-use Rattle.pt_model.specs.Headline.{traced_run, plain_run, IsTransparent}
+use Rattle.pt_model.specs.Attending.{Schedules}
+use Rattle.pt_model.specs.Headline.{IsTold, IsScript, traced_run, plain_run, IsTransparent}
 use Rattle.pt_model.specs.Parts as parts_of
 use Rattle.pt_model.specs.Ptrace.{Host, is_there}
 use Rattle.pt_model.specs.Tracer.{first_tracer, request}
@@ -21,9 +22,9 @@ use Rattle.tr_core.specs.States.{State, new_state, heard, moved as moved_by, tol
 use Rattle.tr_core.specs.declared.settings.Options.{Options}
 use Rattle.trace_run.specs.declared.running.Ended.{Ended}
 use Rattle.trace_run.specs.declared.running.Ended.TheVariants.{Whole, OutOfTurns}
-use Rattle.trace_run.specs.Runs.{Answers, Ends, Last, replies_of}
+use Rattle.trace_run.specs.Runs.{Answers, Ends, Last, RunsWhole, replies_of}
 use Rattle.trace_run.specs.Tells.{view_text, Tells, RunsTell}
-use Rattle.trace_run.specs.Local.{Feeds, LocalRunsTell}
+use Rattle.trace_run.specs.Local.{InMemory, SoundCall, Feeds, LocalRun, LocalRunsTell}
 use Rattle.trace_run.proofs.Fed.{IsFed, is_fed}
 
 -- it asks nothing more, and its link stays
@@ -65,25 +66,43 @@ module _ {S B : Type 0} (m : Machine S B) (outcome : S → Outcome) (o : Options
     out_of_turns = λ e. t.out_of_turns refl;
   }
 
-pub local_runs_tell : {L X S B : Type 0} (answers : Answers L) → RunsTell S B answers → TalksAreOwn S B → SchedulesAreLists X S B → WorldsCall S B → RunsAppend S B → OutOfTurnsShowsNothing → IsTransparent S B → TextsAreWhole → LocalRunsTell X S B answers
+-- what is cited of the world, of tracers and of runs
+pub record Cited {L : Type 0} (X S B : Type 0) (answers : Answers L) : Type 0 where
+  pub tells : RunsTell S B answers
+  pub own : TalksAreOwn S B
+  pub lists : SchedulesAreLists X S B
+  pub calls : WorldsCall S B
+  pub appends : RunsAppend S B
+  pub nothing : OutOfTurnsShowsNothing
+  pub transparent : IsTransparent S B
+  pub texts : TextsAreWhole
+
+-- a run over a link that is sound, at its beginning
+pub sound_runs_tell : {L X S B : Type 0} (answers : Answers L) → Cited X S B answers → (sound : L → Type 0)
+    (o : Options) (script : Script) → IsScript script → (link link' : L) (trace : List ℕ) (broken broken' : ℕ) (ended : Ended)
+    (w : RunsWhole answers (new_state (options_by o) script (first_pen o)) link (Some []) broken (Ok ended) link' (Some trace) broken')
+    (i : InMemory L X S B) (choose : Schedules X S B) (m : Machine S B) → IsMachine m → IsTold m → (outcome : S → Outcome) (s : S) (b : B)
+    → ((a : L) (q : Request) (r : Reply) (b : L) → sound a → answers a q (Ok r) b → SoundCall sound i choose m outcome a q r b)
+    → sound link → i.host link ≡ (first_world s b).host → i.turns link ≡ []
+    → LocalRun choose m outcome o script (i.schedule link) s b ended trace (outcome (i.host link').shared) (i.turns link')
 unfolding heard moved_by
-local_runs_tell {L} {X} {S} {B} answers tells own lists calls appends nothing transparent texts o script is_script link link' trace broken broken' ended w i choose m is_m is_told outcome s b serves first no_turns =
+sound_runs_tell {L} {X} {S} {B} answers cited sound o script is_script link link' trace broken broken' ended w i choose m is_m is_told outcome s b serves is_sound first no_turns =
     let po : parts_of.Options = options_by o in
     let xs : List (Request × Reply) = w.runs.exchanges in
     let begun : State = heard (new_state po script (first_pen o)) Agreed in
     let last : IsLast (new_state po script (first_pen o)) (Agreed ∷ replies_of xs) w.runs.link (record { link = link'; written = Some trace; broken = broken'; state = w.state }) =
     last_link answers (new_state po script (first_pen o)) (Agreed ∷ replies_of xs) (Some []) w.runs.link (record { link = link'; written = Some trace; broken = broken'; state = w.state }) w.runs.last in
-    let fed : IsFed answers i choose m outcome serves calls appends nothing begun link w.runs.link [] xs =
-    is_fed answers i choose m outcome serves calls appends nothing xs begun link w.runs.link [] w.runs.led w.runs.asked last.asks_none in
+    let fed : IsFed answers i choose m outcome sound serves cited.calls cited.appends cited.nothing begun link w.runs.link [] xs =
+    is_fed answers i choose m outcome sound serves cited.calls cited.appends cited.nothing xs begun link w.runs.link [] is_sound w.runs.led w.runs.asked last.asks_none in
     let world : record { host = i.host link; tracer = first_tracer; printed = [] } ≡ first_world s b = ap (λ (h : Host S B). record { host = h; tracer = first_tracer; printed = [] }) first in
     let host : (traced_run m outcome po script s b fed.events).host ≡ i.host link' =
     ap (λ (v : World S B). (world_run m outcome po script v fed.events).host) (sym world) ∙ fed.host ∙ ap i.host (sym last.link) in
     let same : outcome (i.host link').shared ≡ outcome (plain_run m outcome po script s b fed.events).shared =
-    ap (λ (h : Host S B). outcome h.shared) (sym host) ∙ (transparent m is_m is_told outcome po (texts o.string_limit o.limit_in_range) script is_script s b fed.events).same_outcome in
+    ap (λ (h : Host S B). outcome h.shared) (sym host) ∙ (cited.transparent m is_m is_told outcome po (cited.texts o.string_limit o.limit_in_range) script is_script s b fed.events).same_outcome in
     let talks : Talks m outcome po script first_tracer (first_world s b).host fed.events xs =
-    subst (λ (h : Host S B). Talks m outcome po script first_tracer h fed.events xs) first (lists choose m outcome po script first_tracer (i.schedule link) (i.host link) fed.events xs fed.over) in
+    subst (λ (h : Host S B). Talks m outcome po script first_tracer h fed.events xs) first (cited.lists choose m outcome po script first_tracer (i.schedule link) (i.host link) fed.events xs fed.over) in
     let t : Tells m outcome o script s b fed.events (Ok ended) (Some []) (Some trace) =
-    tells o script is_script link link' (Some []) (Some trace) broken broken' (Ok ended) w m is_m is_told outcome s b fed.events (own m outcome po script s b fed.events xs talks) in
+    cited.tells o script is_script link link' (Some []) (Some trace) broken broken' (Ok ended) w m is_m is_told outcome s b fed.events (cited.own m outcome po script s b fed.events xs talks) in
     let x = shown m outcome o script s b fed.events ended trace (outcome (i.host link').shared) same t in
     record {
       events = fed.events;
@@ -96,3 +115,8 @@ local_runs_tell {L} {X} {S} {B} answers tells own lists calls appends nothing tr
       whole = x.whole;
       out_of_turns = x.out_of_turns;
     }
+
+pub local_runs_tell : {L X S B : Type 0} (answers : Answers L) → Cited X S B answers → LocalRunsTell X S B answers
+local_runs_tell {L} answers cited o script is_script link link' trace broken broken' ended w i choose m is_m is_told outcome s b serves first no_turns =
+    sound_runs_tell answers cited (λ (a : L). Unit {0}) o script is_script link link' trace broken broken' ended w i choose m is_m is_told outcome s b
+    (λ a q r b _ h. record { served = serves a q r b h; stays = λ _. tt }) tt first no_turns

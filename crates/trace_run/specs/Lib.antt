@@ -1,5 +1,7 @@
+pub mod BootedRuns
 pub mod Claims
 pub mod Local
+pub mod LocalRuns
 pub mod Runs
 pub mod Tells
 pub mod Writings

@@ -32,15 +32,24 @@ pub record InMemory (L X S B : Type 0) : Type 0 where
 pub record CallServed {L X S B : Type 0} (i : InMemory L X S B) (choose : Schedules X S B) (m : Machine S B)
     (outcome : S → Outcome) (a : L) (q : Request) (r : Reply) (b : L) : Type 0 where
   pub fed : List Event
-  pub call : CallsOver choose m outcome (i.schedule a) (i.host a) q fed r (i.schedule b) (i.host b)
+  -- the schedule after them
+  pub left : X
+  pub call : CallsOver choose m outcome (i.schedule a) (i.host a) q fed r left (i.host b)
   pub turned : i.turns b ≡ i.turns a ++ (called m outcome (i.host a) q fed).turns
+  pub goes_on : is_there (called m outcome (i.host a) q fed).reply ≡ true → i.schedule b ≡ left
   pub ended : (called m outcome (i.host a) q fed).reply ≡ None
-      → choose (i.schedule b) (record { host = i.host b; pending = Some q }) ≡ None
+      → choose left (record { host = i.host b; pending = Some q }) ≡ None
 
 abbrev pub ServesCalls : {L X S B : Type 0} → InMemory L X S B → Schedules X S B → Machine S B → (S → Outcome)
     → Answers L → Type 0
 ServesCalls {L} i choose m outcome answers = (a : L) (q : Request) (r : Reply) (b : L) → answers a q (Ok r) b
     → CallServed i choose m outcome a q r b
+
+-- a call of a link that is sound is served so, and the link that answered is sound
+pub record SoundCall {L X S B : Type 0} (sound : L → Type 0) (i : InMemory L X S B) (choose : Schedules X S B)
+    (m : Machine S B) (outcome : S → Outcome) (a : L) (q : Request) (r : Reply) (b : L) : Type 0 where
+  pub served : CallServed i choose m outcome a q r b
+  pub stays : is_there (called m outcome (i.host a) q served.fed).reply ≡ true → sound b
 
 -- these events are all that the schedule gives to a world, until nothing is asked or it has ended
 abbrev pub Feeds : {X S B : Type 0} → Schedules X S B → Machine S B → (S → Outcome) → parts.Options → Script → X

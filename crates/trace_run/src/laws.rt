@@ -2,12 +2,17 @@
 
 ghost use Rattle.trace_run.specs.Claims.{PlainTracing, ReplacedCalls, JoinedSignals, UnderKills};
 ghost use Rattle.trace_run.specs.Local.{LocalRunsTell};
+ghost use Rattle.trace_run.specs.LocalRuns.{LocalLinksServe, LocalLinksTell};
 ghost use Rattle.trace_run.specs.Tells.{RunsTell, ServedRunsTell};
 
-use host_link::Link;
+use host_link::{Link, LocalLink};
+use lx_kernel::laws::linux_is_a_machine;
+use lx_kernel::state::{Body, Shared};
+use pt_kernel::Schedule;
+use pt_kernel::laws::{hosts_are_called, linux_is_told};
 use pt_model::laws::{
-    every_script_is_one, failures_leave_a_prefix, no_kill_no_loss, own_replies_tell,
-    schedules_are_lists, tracing_is_transparent, worlds_attend,
+    every_script_is_one, failures_leave_a_prefix, hosts_run_alike, no_kill_no_loss,
+    own_replies_tell, schedules_are_lists, tracing_is_transparent, worlds_attend,
 };
 use tr_core::laws::{states_are_tracers, texts_are_whole, tracers_write_renderings};
 use tr_line::renderings_grow;
@@ -38,6 +43,30 @@ pub fn local_runs_tell<X, S, B, L: Link>()
     worlds_attend::<S, B>();
     tracing_is_transparent::<S, B>();
     texts_are_whole();
+}
+
+/// A link to a host in this process serves each request by the ptrace machine at Linux, which its schedule feeds.
+pub fn local_links_serve()
+    ensures { LocalLinksServe }
+{
+    hosts_are_called();
+}
+
+/// A run over such a link, from its boot on, has the outcome of the untraced kernel by the effective turns; its trace
+/// begins the rendering of a view of that kernel's log, and is all of it where the run is whole.
+pub fn local_links_tell()
+    ensures { LocalLinksTell }
+{
+    local_links_serve();
+    runs_tell::<Shared, Body, LocalLink>();
+    schedules_are_lists::<Schedule, Shared, Body>();
+    own_replies_tell::<Shared, Body>();
+    worlds_attend::<Shared, Body>();
+    tracing_is_transparent::<Shared, Body>();
+    hosts_run_alike::<Shared, Body>();
+    texts_are_whole();
+    linux_is_a_machine();
+    linux_is_told();
 }
 
 /// Under the empty script a run tells the untraced kernel's log and outcome, where nobody is killed.

@@ -2,8 +2,10 @@
 #![tactic(auto)]
 
 pub mod laws;
+pub mod local;
 pub mod running;
 mod written;
 
+pub use local::run_local;
 pub use running::{Ended, RunFault, run, run_tracer};
 pub use written::Written;

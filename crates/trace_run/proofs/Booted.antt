@@ -1,0 +1,61 @@
+-- A run from its boot on.
+use Rattle.std.proofs.Common.{◌≡◌, ℕ, false, List, [], Some, Ok, sym, subst}
+use Rattle.lx_abi.specs.declared.outcome.Outcome.{Outcome}
+use Rattle.lx_kernel.specs.declared.state.Shared.{Shared}
+use Rattle.lx_kernel.specs.declared.state.Body.{Body}
+use Rattle.lx_kernel.specs.Linux.{linux}
+use Rattle.lx_kernel.specs.Outcomes.{outcome_in}
+use Rattle.lx_model.specs.Kernel.{Script}
+use Rattle.pt_model.specs.Headline.{IsScript}
+use Rattle.pt_model.specs.HostLaws.{HostsBeginAlike}
+use Rattle.pt_model.specs.Hosting.{IsFresh, first_hosting}
+use Rattle.pt_kernel.specs.Hosts.{Linux_host}
+use Rattle.pt_kernel.specs.Seen.{next_of_host}
+use Rattle.pt_kernel.specs.declared.schedule.Schedule.{Schedule}
+use Rattle.host_link.specs.LocalLinks.{host_of, schedule_of, is_over}
+use Rattle.host_link.specs.declared.local.LocalLink.{LocalLink}
+use Rattle.tr_core.specs.Settings.{options_by, first_pen}
+use Rattle.tr_core.specs.States.{new_state}
+use Rattle.tr_core.specs.declared.settings.Options.{Options}
+use Rattle.trace_run.specs.Local.{LocalRun}
+use Rattle.trace_run.specs.LocalRuns.{IsGoing, local_answers, LocalLinksTell}
+use Rattle.trace_run.specs.Runs.{RunsWhole}
+use Rattle.trace_run.specs.Writings.{Writing, writing}
+use Rattle.trace_run.specs.declared.running.Ended.{Ended}
+
+-- what run_local did, one call after the other
+pub record IsBooted (o : Options) (script : Script) (schedule : Schedule) (s : Shared) (b : Body) (ended : Ended) (trace : List ℕ) (left : Outcome) (turns : List ℕ) : Type 0 where
+  pub link : LocalLink
+  pub link' : LocalLink
+  pub first : Writing
+  pub last : Writing
+  pub broken : ℕ
+  pub broken' : ℕ
+  pub ran : RunsWhole local_answers (new_state (options_by o) script (first_pen o)) link (Some first.bytes) broken (Ok ended) link' (Some last.bytes) broken'
+  pub nothing : first ≡ writing []
+  pub hosting : (host_of link).hosting ≡ first_hosting s b
+  pub whole : (host_of link).failed ≡ false
+  pub going : is_over link ≡ false
+  pub by : schedule_of link ≡ schedule
+  pub written : trace ≡ last.bytes
+  pub outcome : left ≡ outcome_in (host_of link').hosting.running.shared
+  pub turned : turns ≡ (host_of link').hosting.turns
+
+pub booted_runs : LocalLinksTell → HostsBeginAlike Shared Body → (o : Options) (script : Script) → IsScript script → (schedule : Schedule) (s : Shared) (b : Body) (ended : Ended) (trace : List ℕ) (left : Outcome) (turns : List ℕ)
+    → IsBooted o script schedule s b ended trace left turns → LocalRun next_of_host linux outcome_in o script schedule s b ended trace left turns
+booted_runs tell begin o script is_script schedule s b ended trace left turns x =
+    let ran : RunsWhole local_answers (new_state (options_by o) script (first_pen o)) x.link (Some []) x.broken (Ok ended) x.link' (Some x.last.bytes) x.broken' =
+    subst (λ (w : Writing). RunsWhole local_answers (new_state (options_by o) script (first_pen o)) x.link (Some w.bytes) x.broken (Ok ended) x.link' (Some x.last.bytes) x.broken') x.nothing x.ran in
+    let is_going : IsGoing x.link = record {
+      fresh = subst (λ (v : Linux_host). IsFresh v) (sym x.hosting) (begin s b).1;
+      whole = x.whole;
+      going = x.going;
+    } in
+    let by_schedule : LocalRun next_of_host linux outcome_in o script schedule s b ended x.last.bytes (outcome_in (host_of x.link').hosting.running.shared) (host_of x.link').hosting.turns =
+    subst (λ (y : Schedule). LocalRun next_of_host linux outcome_in o script y s b ended x.last.bytes (outcome_in (host_of x.link').hosting.running.shared) (host_of x.link').hosting.turns) x.by
+    (tell o script is_script x.link x.link' x.last.bytes x.broken x.broken' ended ran s b is_going x.hosting) in
+    let by_trace : LocalRun next_of_host linux outcome_in o script schedule s b ended trace (outcome_in (host_of x.link').hosting.running.shared) (host_of x.link').hosting.turns =
+    subst (λ (y : List ℕ). LocalRun next_of_host linux outcome_in o script schedule s b ended y (outcome_in (host_of x.link').hosting.running.shared) (host_of x.link').hosting.turns) (sym x.written) by_schedule in
+    let by_outcome : LocalRun next_of_host linux outcome_in o script schedule s b ended trace left (host_of x.link').hosting.turns =
+    subst (λ (y : Outcome). LocalRun next_of_host linux outcome_in o script schedule s b ended trace y (host_of x.link').hosting.turns) (sym x.outcome) by_trace in
+    subst (λ (y : List ℕ). LocalRun next_of_host linux outcome_in o script schedule s b ended trace left y) (sym x.turned) by_outcome

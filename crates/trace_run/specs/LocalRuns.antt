@@ -1,0 +1,53 @@
+-- A run over a host in the tracer's own process, by the untraced kernel.
+use Rattle.std.specs.Prelude.{◌≡◌, ℕ, false, List, [], Some, Ok}
+use Rattle.lx_abi.specs.declared.ptrace.Reply.{Reply}
+use Rattle.lx_abi.specs.declared.ptrace.Request.{Request}
+use Rattle.lx_kernel.specs.Linux.{linux}
+use Rattle.lx_kernel.specs.Outcomes.{outcome_in}
+use Rattle.lx_kernel.specs.declared.state.Shared.{Shared}
+use Rattle.lx_kernel.specs.declared.state.Body.{Body}
+use Rattle.lx_model.specs.Kernel.{Script}
+use Rattle.pt_model.specs.Headline.{IsScript}
+use Rattle.pt_model.specs.Hosting.{host_in, IsFresh, first_hosting}
+use Rattle.pt_kernel.specs.Seen.{next_of_host}
+use Rattle.pt_kernel.specs.declared.schedule.Schedule.{Schedule}
+use Rattle.host_link.specs.LocalLinks.{Calls, host_of, schedule_of, is_over}
+use Rattle.host_link.specs.declared.local.LocalLink.{LocalLink}
+use Rattle.tr_core.specs.Settings.{options_by, first_pen}
+use Rattle.tr_core.specs.States.{new_state}
+use Rattle.tr_core.specs.declared.settings.Options.{Options}
+use Rattle.trace_run.specs.Local.{InMemory, SoundCall, LocalRun}
+use Rattle.trace_run.specs.Runs.{Answers, RunsWhole}
+use Rattle.trace_run.specs.declared.running.Ended.{Ended}
+
+-- its host, as a function of pids, its schedule, and the turns that it gave to the kernel
+abbrev pub in_process : InMemory LocalLink Schedule Shared Body
+in_process = record {
+  host = λ l. host_in (host_of l).hosting;
+  schedule = λ l. schedule_of l;
+  turns = λ l. (host_of l).hosting.turns;
+}
+
+-- no memory was refused, and the schedule has not ended
+pub record IsGoing (l : LocalLink) : Type 0 where
+  pub fresh : IsFresh (host_of l).hosting
+  pub whole : (host_of l).failed ≡ false
+  pub going : is_over l ≡ false
+
+abbrev pub local_answers : Answers LocalLink
+local_answers a q r b = Calls a q r b
+
+-- such a link serves each request by the ptrace machine, which its schedule feeds
+abbrev pub LocalLinksServe : Type 0
+LocalLinksServe = (a : LocalLink) (q : Request) (r : Reply) (b : LocalLink) → IsGoing a → local_answers a q (Ok r) b
+    → SoundCall IsGoing in_process next_of_host linux outcome_in a q r b
+
+-- and a run over it, from its boot on, is the untraced kernel's
+abbrev pub LocalLinksTell : Type 0
+LocalLinksTell = (o : Options) (script : Script) → IsScript script
+    → (link link' : LocalLink) (trace : List ℕ) (broken broken' : ℕ) (ended : Ended)
+    (w : RunsWhole local_answers (new_state (options_by o) script (first_pen o)) link (Some []) broken (Ok ended) link'
+    (Some trace) broken')
+    (s : Shared) (b : Body) → IsGoing link → (host_of link).hosting ≡ first_hosting s b
+    → LocalRun next_of_host linux outcome_in o script (schedule_of link) s b ended trace
+    (outcome_in (host_of link').hosting.running.shared) (host_of link').hosting.turns

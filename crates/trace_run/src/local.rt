@@ -1,0 +1,69 @@
+//! A whole run in one process.
+
+ghost use Rattle.std.specs.Prelude.{◌≡◌, None, Some, Err, IfErr, IfOk, OnOk};
+ghost use Rattle.lx_kernel.specs.Boots.{Refuses, fault_of};
+ghost use Rattle.lx_kernel.specs.declared.boots.BootFault.{BootFault};
+ghost use Rattle.trace_run.specs.BootedRuns.{RunOf};
+
+use crate::laws::local_links_tell;
+use crate::running::{Ended, run};
+use crate::written::Written;
+use host_link::LocalLink;
+use lx_abi::{Boot, Bytes, Outcome, Script};
+use lx_kernel::BootFault;
+use lx_kernel::state::{Body, Shared};
+use pt_kernel::{Host, Schedule, Turns};
+use pt_model::laws::{every_script_is_one, hosts_run_alike};
+use std::alloc::Global;
+use tr_core::Options;
+
+/// What a run in one process leaves.
+#[derive(Drop)]
+pub struct Run {
+    pub trace: Bytes,
+    pub ended: Ended,
+    /// Files, console and statuses, also where the run is out of turns.
+    pub outcome: Outcome,
+    /// The effective turns: those that reached the kernel.
+    pub turns: Turns,
+}
+
+/// Boots a guest, and traces it by the events of the schedule, in this process. The boot's follow counts, not that of
+/// the options. The fault is the boot's, or Memory where memory runs out, in the run too.
+pub fn run_local(
+    alloc: Global,
+    boot: Boot,
+    schedule: Schedule,
+    script: Script,
+    options: Options,
+) -> Result<Run, BootFault>
+    ensures run { IfOk result (λ run. RunOf boot schedule script options run) }
+    ensures accepted { OnOk result (fault_of boot ≡ None) }
+    ensures fault { IfErr result (Refuses boot) }
+
+    // A boot with a fault is refused with it, whatever the memory.
+    ensures refused { (e : BootFault) → fault_of boot ≡ Some e → result ≡ Err e }
+{
+    local_links_tell();
+    every_script_is_one();
+    hosts_run_alike::<Shared, Body>();
+    let mut options = options;
+    options.follow = boot.follow;
+    let host = Host::boot(alloc, boot)?;
+    let mut link = LocalLink::new(host, schedule);
+    let mut trace = Written::new(alloc);
+    let ended = match run(alloc, &mut link, &mut trace, script, options) {
+        Ok(ended) => ended,
+        Err(_) => return Err(BootFault::Memory),
+    };
+    let outcome = match link.host().outcome() {
+        Ok(outcome) => outcome,
+        Err(_) => return Err(BootFault::Memory),
+    };
+    Ok(Run {
+        trace: trace.into_bytes(),
+        ended,
+        outcome,
+        turns: link.into_host().into_turns(),
+    })
+}
