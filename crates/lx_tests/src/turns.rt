@@ -62,11 +62,13 @@ fn left(alloc: Global) -> Result<(Option<Item>, usize), AllocError> {
     Ok((kernel.log().last().copied(), kernel.console().len()))
 }
 
-/// How many files the outcome has, and the first process that ended with its word.
-fn ended(alloc: Global) -> Result<(usize, Option<(u32, u32)>), AllocError> {
-    let outcome = after(alloc, 12)?.outcome()?;
-    let first = outcome.ended.as_slice().first().map(|e| (e.pid, e.word));
-    Ok((outcome.files.as_slice().len(), first))
+/// How many files the outcome has after so many turns, how many processes have ended, and the first of them with its
+/// word.
+fn ended(alloc: Global, turns: u32) -> Result<(usize, usize, Option<(u32, u32)>), AllocError> {
+    let outcome = after(alloc, turns)?.outcome()?;
+    let ended = outcome.ended.as_slice();
+    let first = ended.first().map(|e| (e.pid, e.word));
+    Ok((outcome.files.as_slice().len(), ended.len(), first))
 }
 
 #[test]
@@ -77,7 +79,26 @@ fn what_is_left_of_a_run(rt: HostRuntime) -> Result<(), Fail> {
         left: Mode::Doing,
     };
     assert_eq!(rt; left(rt.alloc())?, (Some(last), 0));
-    assert_eq!(rt; ended(rt.alloc())?, (0, Some((1, 127 * 256))));
+    Ok(())
+}
+
+/// The word is there with the Exit in the log, and stays once process 1, who has no parent, has left the table.
+#[test]
+fn words_of_the_ended_stay(rt: HostRuntime) -> Result<(), Fail> {
+    let rows = [
+        (0, 0, None),
+        (10, 0, None),
+        (11, 1, Some((1, 127 * 256))),
+        (12, 1, Some((1, 127 * 256))),
+        (13, 1, Some((1, 127 * 256))),
+    ];
+    for (turns, number, first) in rows {
+        assert_eq!(rt;
+            ended(rt.alloc(), turns)?,
+            (0, number, first),
+            "after {turns} turns"
+        );
+    }
     Ok(())
 }
 
