@@ -1,7 +1,7 @@
 //! The program as a function of its words, its input and its outputs.
 
 use crate::fault::{Fault, HOST};
-use crate::{asm, plain, words};
+use crate::{asm, plain, serving, words};
 use clap::{ArgMatches, Error};
 use std::alloc::Global;
 use std::io::{Read, Write};
@@ -55,6 +55,7 @@ fn choose<R: Files + AllocGlobal, I: Read, O: Write, E: Write>(
     match matches.subcommand() {
         Some(("plain", matches)) => plain::run(rt, matches, input, out, err),
         Some(("asm", matches)) => asm::run(rt, matches),
+        Some(("serve", _)) => serving::run(rt.alloc(), input, out),
         _ => Err(Fault::usage(format!(in rt.alloc(); "no such command"))),
     }
 }

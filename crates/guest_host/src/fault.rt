@@ -1,8 +1,12 @@
 //! Why a command isn't carried out, or not wholly.
 
+use host_serve::ServeFault;
 use std::alloc::{AllocError, AllocFailed, Global};
 use std::fmt::{Display, Formatter};
 use std::{fmt, io};
+
+/// The status where a tracer is served no longer.
+const SERVING: u8 = 1;
 
 /// The status of a command whose words, files or boot are at fault.
 const USAGE: u8 = 2;
@@ -17,6 +21,8 @@ pub enum Fault {
     Usage(String),
     /// The listing's first faulty line, and the number of the kind of fault.
     Listing { line: usize, kind: u8 },
+    /// A tracer is served no longer.
+    Serving(ServeFault),
     /// An output can't be written.
     Output,
     /// Memory was refused.
@@ -38,6 +44,7 @@ impl Fault {
     pub fn status(&self) -> u8 {
         match self {
             Fault::Usage(_) | Fault::Listing { .. } => USAGE,
+            Fault::Serving(_) => SERVING,
             Fault::Output | Fault::Memory => HOST,
         }
     }
@@ -48,6 +55,9 @@ impl Display for Fault {
         match self {
             Fault::Usage(text) => write!(f, "guest_host: {text}"),
             Fault::Listing { line, kind } => write!(f, "asm: line {line} kind {kind}"),
+            Fault::Serving(fault) => {
+                write!(f, "guest_host: serve fault {}: {fault}", fault.number())
+            }
             Fault::Output => f.write_str("guest_host: output fault"),
             Fault::Memory => f.write_str("guest_host: out of memory"),
         }

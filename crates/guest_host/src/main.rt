@@ -1,4 +1,4 @@
-//! The host of guests: runs a program on the plain kernel, or assembles one.
+//! The host of guests: runs a program on the plain kernel, serves a tracer, or assembles a program.
 #![tactic(auto)]
 
 mod asm;
@@ -9,6 +9,7 @@ mod fault;
 mod log;
 mod plain;
 mod schedule;
+mod serving;
 #[cfg(test)]
 mod tests;
 mod words;

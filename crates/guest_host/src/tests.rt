@@ -7,6 +7,7 @@ mod logs;
 mod readings;
 mod runs;
 mod schedules;
+mod serving;
 mod streams;
 mod words;
 

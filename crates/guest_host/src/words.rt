@@ -16,6 +16,16 @@ const KINDS: &str =
   6  the program would fill more than 65536 bytes
   7  memory ran out";
 
+/// What is written of conversations that can't go on, kind by kind.
+const SERVE_FAULTS: &str =
+    "The status is 0 at the end of input. A conversation that can't go on is told in one line, as
+'guest_host: serve fault N: TEXT', with the status 1:
+  1  the requests could not be read
+  2  a reply could not be written
+  3  a frame is malformed, or a reply too long for one
+  4  a frame came out of order
+  5  memory ran out";
+
 fn plain_command<'a>(alloc: Global) -> Result<Command<'a>, AllocError> {
     Command::new(alloc, "plain")
         .about("Runs a program on the untraced kernel, and prints its calls on standard error")
@@ -69,6 +79,14 @@ fn asm_command<'a>(alloc: Global) -> Result<Command<'a>, AllocError> {
         )
 }
 
+fn serve_command<'a>(alloc: Global) -> Command<'a> {
+    Command::new(alloc, "serve")
+        .about(
+            "Answers a tracer's requests, which are frames on standard input, by frames on standard output",
+        )
+        .after_help(SERVE_FAULTS)
+}
+
 /// Parses the words, the program's name first.
 pub fn parse<'a>(alloc: Global, words: &'a [String]) -> Result<ArgMatches<'a>, Error> {
     Command::new(alloc, "guest_host")
@@ -76,6 +94,7 @@ pub fn parse<'a>(alloc: Global, words: &'a [String]) -> Result<ArgMatches<'a>, E
         .version("0.1.0")
         .subcommand_required(true)
         .subcommand(plain_command(alloc)?)?
+        .subcommand(serve_command(alloc))?
         .subcommand(asm_command(alloc)?)?
         .try_get_matches_from(words)
 }

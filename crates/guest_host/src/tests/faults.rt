@@ -5,6 +5,7 @@ use crate::fault::Fault;
 use crate::tests::streams::{Recorder, Source};
 use crate::tests::{HELLO, HELLO_LOG, is_line_of, run_of, run_with};
 use front_end::arguments;
+use host_serve::ServeFault;
 use std::alloc::Global;
 use std::env::{Env, FillError};
 use std::io::ErrorKind;
@@ -25,6 +26,11 @@ fn statuses_and_texts(rt: HostRuntime) -> Result<(), Fail> {
             Fault::Listing { line: 3, kind: 7 },
             2,
             "asm: line 3 kind 7\n",
+        ),
+        (
+            Fault::Serving(ServeFault::Failed),
+            1,
+            "guest_host: serve fault 5: memory ran out\n",
         ),
         (Fault::Output, 3, "guest_host: output fault\n"),
         (Fault::Memory, 3, "guest_host: out of memory\n"),

@@ -8,7 +8,7 @@ use std::test::Fail;
 /// Each is refused with status 2, by one line that begins so, and with nothing on standard output.
 #[test]
 fn refused_words(rt: HostRuntime) -> Result<(), Fail> {
-    let rows: [(&[&str], &str); 18] = [
+    let rows: [(&[&str], &str); 19] = [
         (
             &[],
             "'guest_host' requires a subcommand but one was not provided",
@@ -63,6 +63,7 @@ fn refused_words(rt: HostRuntime) -> Result<(), Fail> {
             &["plain", "--file", "a\tb", "--", "/p"],
             "--file a\\tb: no =",
         ),
+        (&["serve", "cut:5:3"], "unexpected argument 'cut:5:3' found"),
         (
             &["asm", "nowhere.s"],
             "the following required arguments were not provided: <OUT>",
@@ -129,12 +130,16 @@ fn shown_words(rt: HostRuntime) -> Result<(), Fail> {
 /// Each help names what the command takes.
 #[test]
 fn helps(rt: HostRuntime) -> Result<(), Fail> {
-    let rows: [(&[&str], &[&str]); 4] = [
-        (&["--help"], &["plain", "asm", "--version"]),
+    let rows: [(&[&str], &[&str]); 5] = [
+        (&["--help"], &["plain", "serve", "asm", "--version"]),
         (&["--version"], &["guest_host 0.1.0\n"]),
         (
             &["plain", "--help"],
             &["-e <EXPR>", "--limit <N>", "--file <GUEST=PATH>", "<PROG>"],
+        ),
+        (
+            &["serve", "--help"],
+            &["serve fault N: TEXT", "5  memory ran out"],
         ),
         (
             &["asm", "--help"],
