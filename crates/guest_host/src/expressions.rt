@@ -17,8 +17,6 @@ pub fn script(alloc: Global, words: &[&str]) -> Result<Script, Fault> {
 /// What expressions can have in strace(1), and not here so far.
 fn absent(fault: ExprFault, text: &str) -> Option<&'static str> {
     match fault {
-        ExprFault::UnknownClass => Some("classes of calls (%NAME)"),
-        ExprFault::BadPattern => Some("patterns of calls (/REGEX)"),
         ExprFault::UnknownSignal => Some("joined signals (signal=)"),
         ExprFault::BadWhen if text.contains("..") => Some("ranges of occurrences (FIRST..LAST)"),
         _ => None,

@@ -12,12 +12,12 @@ fn refused_expressions(rt: HostRuntime) -> Result<(), Fail> {
             "fault=wrote: no system call has this name (expression fault 1)",
         ),
         (
-            "trace=%file",
-            "trace=%file: classes of calls (%NAME) are not supported yet (expression fault 2)",
+            "trace=%net",
+            "trace=%net: no class of system calls has this name (expression fault 2)",
         ),
         (
-            "/^open/",
-            "/^open/: patterns of calls (/REGEX) are not supported yet (expression fault 9)",
+            "/^open(",
+            "/^open(: the regular expression is malformed (expression fault 9)",
         ),
         (
             "inject=write:signal=USR1",
