@@ -12,6 +12,7 @@ pub mod Kinds
 pub mod Lists
 pub mod Numbers
 pub mod Paths
+pub mod Progress
 pub mod Sheets
 pub mod Signals
 pub mod Structs

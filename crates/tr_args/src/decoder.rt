@@ -1,15 +1,15 @@
 //! Texts of calls, from registers and from what is read of a memory.
 
-ghost use Rattle.std.specs.Prelude.{◌≡◌, ◌≤◌, ◌++◌, ◌∷◌, [], IfOk, OnOk, OnErr, string_bytes, Some, None};
-ghost use Rattle.tr_args.specs.Arguments.{half as half_of, wish_of, text_of};
+ghost use Rattle.std.specs.Prelude.{◌≡◌, ◌≤◌, IfOk, OnOk, OnErr, string_bytes};
+ghost use Rattle.tr_args.specs.Arguments.{half, wish_of, text_of};
 ghost use Rattle.tr_args.specs.Decoders as spec;
 
-use crate::arguments::half;
 use crate::context::Context;
-use crate::sheet::{Sheet, Stop};
+use crate::progress::{Made, go_on};
 use lx_abi::Bytes;
 use std::alloc::{AllocError, Global};
 use std::marker::Model;
+use std::mem;
 
 /// The text of one half of a call, as far as it can be made from what was read.
 #[derive(Drop)]
@@ -19,38 +19,40 @@ pub struct Decoder {
     read: Vec<Bytes>,
     /// What is read next.
     wish: Option<(u64, u32)>,
-    text: String,
+    made: Made,
 }
 
 impl Model for Decoder {
-    ghost use Rattle.std.specs.Prelude.{◌≡◌, ◌≤◌, string_bytes};
-    ghost use Rattle.tr_args.specs.Arguments.{half, wish_of, text_of};
+    ghost use Rattle.std.specs.Prelude.{◌≡◌, ◌≤◌, ◌<◌, ◌^◌, ◌++◌, ℕ, List, length, take, string_bytes};
+    ghost use Rattle.tr_args.specs.Arguments.{half, wish_of};
+    ghost use Rattle.tr_args.specs.Progress.{is_left, is_wanted, numbered, sheet, stage_left};
     ghost use Rattle.tr_args.specs.Decoders.{Decoding};
 
     ghost Value = { Decoding };
 
     ghost view = { λ d. record { context = d.context; got = d.read.items } };
 
-    ghost invariant = { λ d. (d.wish ≡ wish_of (half d.context d.read.items))
-        × (string_bytes d.text ≡ text_of (half d.context d.read.items)) × (d.context.most ≤ 4096) };
+    ghost invariant = { λ d. (d.context.most ≤ 4096) × (d.wish ≡ wish_of (half d.context d.read.items))
+        × (is_wanted d.wish ≡ is_left d.made.stage)
+        × (d.made.used ≤ length d.read.items) × (numbered d.made.stage < 2 ^ 32)
+        × ((more : List (List ℕ)) → half d.context (take d.made.used d.read.items ++ more)
+        ≡ stage_left d.context d.made.stage (sheet (string_bytes d.made.text) more)) };
 }
 
 /// What is read next, or the text.
-#[tactic(auto, unfolding(crate::specs::Arguments::half))]
 pub fn made(
     alloc: Global,
     context: &Context,
     read: &[Bytes],
 ) -> Result<(Option<(u64, u32)>, String), AllocError>
     requires { context.now.most ≤ 4096 }
-    ensures wish { IfOk result (λ r. r.0 ≡ wish_of (half_of context.now read.now)) }
-    ensures text { IfOk result (λ r. string_bytes r.1 ≡ text_of (half_of context.now read.now)) }
+    ensures wish { IfOk result (λ r. r.0 ≡ wish_of (half context.now read.now)) }
+    ensures text { IfOk result (λ r. string_bytes r.1 ≡ text_of (half context.now read.now)) }
 {
-    let mut sheet = Sheet::new(alloc, read);
-    match half(&mut sheet, context) {
-        Ok(()) => Ok((None, sheet.into_text())),
-        Err(Stop::Wants { address, length }) => Ok((Some((address, length)), String::new(alloc))),
-        Err(Stop::Memory) => Err(AllocError),
+    let (made, wish) = go_on(alloc, context, read, Made::new(alloc))?;
+    match wish {
+        None => Ok((None, made.text)),
+        Some(wish) => Ok((Some(wish), String::new(alloc))),
     }
 }
 
@@ -60,13 +62,13 @@ impl Decoder {
         ensures { IfOk result (λ d. d ≡ spec.started context) }
     {
         let read = Vec::new(alloc);
-        let (wish, text) = made(alloc, &context, read.as_slice())?;
+        let (made, wish) = go_on(alloc, &context, read.as_slice(), Made::new(alloc))?;
         Ok(Decoder {
             alloc,
             context,
             read,
             wish,
-            text,
+            made,
         })
     }
 
@@ -125,15 +127,21 @@ impl Decoder {
         ensures err { OnErr result (self.new ≡ self.old) }
     {
         self.read.push(bytes)?;
-        match made(self.alloc, &self.context, self.read.as_slice()) {
-            Ok((wish, text)) => {
-                self.wish = wish;
-                self.text = text;
-                Ok(())
-            }
-            Err(error) => {
-                self.read.pop();
-                Err(error)
+        match self.wish {
+            None => Ok(()),
+            Some(_) => {
+                let made = mem::replace(&mut self.made, Made::new(self.alloc));
+                match go_on(self.alloc, &self.context, self.read.as_slice(), made) {
+                    Ok((made, wish)) => {
+                        self.wish = wish;
+                        self.made = made;
+                        Ok(())
+                    }
+                    Err(error) => {
+                        self.read.pop();
+                        Err(error)
+                    }
+                }
             }
         }
     }
@@ -142,6 +150,9 @@ impl Decoder {
     pub fn text(&self) -> &str
         ensures { result.now ≡ spec.text self.now }
     {
-        self.text.as_str()
+        match self.wish {
+            None => self.made.text.as_str(),
+            Some(_) => "",
+        }
     }
 }

@@ -1,15 +1,16 @@
 //! An argument of a call, by its kind.
 
-ghost use Rattle.std.specs.Prelude.{◌≡◌, ◌≤◌};
+ghost use Rattle.std.specs.Prelude.{◌≡◌, ◌≤◌, false};
 ghost use Rattle.tr_args.specs.Kinds as spec;
 ghost use Rattle.tr_args.specs.Sheets.{Leaves};
+ghost use Rattle.tr_args.specs.Progress.{Takes, Begins, is_list};
 
 use crate::actions::action;
 use crate::buffers::buffer;
 use crate::context::Place;
 use crate::environments::environment;
 use crate::files::stat;
-use crate::lists::list;
+use crate::lists::{Listing, comma, open};
 use crate::paths::path;
 use crate::sheet::{Sheet, Stop};
 use crate::wait_words::wait_status;
@@ -46,7 +47,8 @@ fn is_result(argument: Argument) -> bool
 /// An argument whose call didn't fail.
 #[tactic(auto, unfolding(crate::specs::Kinds::shown))]
 fn shown(sheet: &mut Sheet<'_>, argument: Argument, place: Place) -> Result<(), Stop>
-    requires { place.most ≤ 4096 }
+    requires most { place.most ≤ 4096 }
+    requires kind { is_list argument ≡ false }
     ensures { Leaves result sheet.new (spec.shown argument place sheet.old) }
 {
     match argument {
@@ -72,7 +74,7 @@ fn shown(sheet: &mut Sheet<'_>, argument: Argument, place: Place) -> Result<(), 
         Argument::UnlinkFlags => flags::unlink_flags(sheet, place.value),
         Argument::Whence => flags::whence(sheet, place.value),
         Argument::MaskChange => flags::mask_change(sheet, place.value),
-        Argument::Strings => list(sheet, place.most, place.value),
+        Argument::Strings => unreachable!(),
         Argument::Environment => environment(sheet, place.value),
         Argument::Action => action(sheet, place.value),
         Argument::SignalSet => signals::signal_set(sheet, place.value),
@@ -87,7 +89,8 @@ fn shown(sheet: &mut Sheet<'_>, argument: Argument, place: Place) -> Result<(), 
 
 #[tactic(auto, unfolding(crate::specs::Kinds::argument))]
 fn argument(sheet: &mut Sheet<'_>, argument: Argument, place: Place) -> Result<(), Stop>
-    requires { place.most ≤ 4096 }
+    requires most { place.most ≤ 4096 }
+    requires kind { is_list argument ≡ false }
     ensures { Leaves result sheet.new (spec.argument argument place sheet.old) }
 {
     if is_result(argument) && has_failed(place.result) {
@@ -107,18 +110,62 @@ fn is_left_out(argument: Argument, place: Place) -> bool
 }
 
 /// An argument, behind a comma where one stands before it.
-pub(crate) fn next_argument(
+fn comma_argument(
     sheet: &mut Sheet<'_>,
     some: bool,
     kind: Argument,
     place: Place,
 ) -> Result<(), Stop>
-    requires { place.most ≤ 4096 }
+    requires most { place.most ≤ 4096 }
+    requires kind { is_list kind ≡ false }
     ensures { Leaves result sheet.new (spec.next_argument some kind place sheet.old) }
 {
     if is_left_out(kind, place) {
         return Ok(());
     }
-    sheet.put(if some { ", " } else { "" })?;
+    comma(sheet, some)?;
     argument(sheet, kind, place)
+}
+
+/// The same, or nothing of it.
+fn next_argument(
+    sheet: &mut Sheet<'_>,
+    some: bool,
+    kind: Argument,
+    place: Place,
+) -> Result<(), Stop>
+    requires most { place.most ≤ 4096 }
+    requires kind { is_list kind ≡ false }
+    ensures { Takes result (spec.next_argument some kind place) sheet.old sheet.new }
+{
+    let mut part = sheet.part();
+    match comma_argument(&mut part, some, kind, place) {
+        Ok(()) => sheet.take(part),
+        Err(stop) => Err(stop),
+    }
+}
+
+fn list_is(kind: Argument) -> bool
+    ensures { result ≡ is_list kind }
+{
+    matches!(kind, Argument::Strings)
+}
+
+/// An argument, behind a comma where one stands before it, or the list that it is.
+pub(crate) fn begin(
+    sheet: &mut Sheet<'_>,
+    some: bool,
+    kind: Argument,
+    place: Place,
+) -> Result<Option<Listing>, Stop>
+    requires { place.most ≤ 4096 }
+    ensures { Begins result place.most (spec.next_argument some kind place) sheet.old sheet.new }
+{
+    if list_is(kind) {
+        return open(sheet, some, place.most, place.value);
+    }
+    match next_argument(sheet, some, kind, place) {
+        Ok(()) => Ok(None),
+        Err(stop) => Err(stop),
+    }
 }

@@ -17,6 +17,7 @@ mod laws;
 mod lists;
 mod numbers;
 mod paths;
+mod progress;
 mod sheet;
 mod signals;
 mod structs;

@@ -1,13 +1,16 @@
 //! Lists of strings.
 
-ghost use Rattle.std.specs.Prelude.{◌≡◌, ◌≤◌, length};
+ghost use Rattle.std.specs.Prelude.{◌≡◌, ◌≤◌, length, map, IfOk, OnOk, None, Some, slice_get};
 ghost use Rattle.tr_args.specs.Lists as spec;
-ghost use Rattle.tr_args.specs.Sheets.{Leaves};
+ghost use Rattle.tr_args.specs.Numbers.{pointer_text};
+ghost use Rattle.tr_args.specs.Sheets.{Leaves, put};
+ghost use Rattle.tr_args.specs.Progress.{Takes, Goes, Begins, Finds, item_shown, items_left, end_text, list_shown, list_left, opened};
 
 use crate::escapes::{cut, first, nul_at, quoted};
 use crate::numbers;
 use crate::sheet::{Sheet, Stop};
 use lx_abi::Bytes;
+use std::alloc::{AllocError, Global};
 
 /// At most so many items of a list are shown.
 const MOST_ITEMS: usize = 32;
@@ -78,45 +81,172 @@ fn item(sheet: &mut Sheet<'_>, most: u32, address: u64) -> Result<(), Stop>
     item_more(sheet, most, address, bytes)
 }
 
-#[tactic(auto, unfolding(crate::specs::Lists::items))]
-fn items(sheet: &mut Sheet<'_>, most: u32, some: bool, words: &[[u8; 8]]) -> Result<(), Stop>
-    requires { most ≤ 4096 }
-    ensures { Leaves result sheet.new (spec.items most some words.now sheet.old) }
+/// Behind what is shown.
+pub(crate) fn comma(sheet: &mut Sheet<'_>, some: bool) -> Result<(), Stop>
+    ensures { Leaves result sheet.new (put (spec.comma some) sheet.old) }
 {
-    match words {
-        [] => sheet.put(""),
-        [pointer, more @ ..] => {
-            sheet.put(if some { ", " } else { "" })?;
-            item(sheet, most, word(pointer))?;
-            items(sheet, most, true, more)
-        }
+    sheet.put(if some { ", " } else { "" })
+}
+
+/// An item, behind a comma where one stands before it.
+fn comma_item(sheet: &mut Sheet<'_>, most: u32, some: bool, address: u64) -> Result<(), Stop>
+    requires { most ≤ 4096 }
+    ensures { Leaves result sheet.new (item_shown most some address sheet.old) }
+{
+    comma(sheet, some)?;
+    item(sheet, most, address)
+}
+
+/// The same, or nothing of it.
+fn next_item(sheet: &mut Sheet<'_>, most: u32, some: bool, address: u64) -> Result<(), Stop>
+    requires { most ≤ 4096 }
+    ensures { Takes result (item_shown most some address) sheet.old sheet.new }
+{
+    let mut part = sheet.part();
+    match comma_item(&mut part, most, some, address) {
+        Ok(()) => sheet.take(part),
+        Err(stop) => Err(stop),
     }
 }
 
-/// The items of a list that ends, or of which more can be read than are shown.
-#[tactic(auto, unfolding(crate::specs::Lists::list_read))]
-fn list_read(sheet: &mut Sheet<'_>, most: u32, address: u64, bytes: &[u8]) -> Result<(), Stop>
+/// What is left of a list whose end was found.
+#[derive(Drop)]
+pub(crate) struct Listing {
+    addresses: Vec<u64>,
+    /// So many items are shown.
+    next: usize,
+    /// An item is shown.
+    some: bool,
+    /// There are more items than are shown.
+    cut: bool,
+}
+
+impl Listing {
+    /// The address of the next item.
+    fn address(&self) -> Option<u64>
+        ensures { result ≡ slice_get self.now.addresses.items self.now.next }
+    {
+        self.addresses.get(self.next).copied()
+    }
+}
+
+/// The items that were read.
+#[tactic(auto, unfolding(crate::specs::Progress::items_at))]
+fn items_on(sheet: &mut Sheet<'_>, most: u32, list: &mut Listing) -> Result<(), Stop>
     requires { most ≤ 4096 }
-    ensures { Leaves result sheet.new (spec.list_read most address bytes.now sheet.old) }
+    ensures goes { Goes result (items_left most list.old) sheet.old (items_left most list.new) sheet.new }
+    ensures cut { list.new.cut ≡ list.old.cut }
+{
+    match list.address() {
+        None => Ok(()),
+        Some(address) => match next_item(sheet, most, list.some, address) {
+            Ok(()) => {
+                list.next += 1;
+                list.some = true;
+                items_on(sheet, most, list)
+            }
+            Err(stop) => Err(stop),
+        },
+    }
+}
+
+/// Behind the last item.
+fn list_end(sheet: &mut Sheet<'_>, cut: bool) -> Result<(), Stop>
+    ensures { Leaves result sheet.new (put (end_text cut) sheet.old) }
+{
+    sheet.put(if cut { ", ...]" } else { "]" })
+}
+
+/// The items that were read, and the end behind the last.
+fn listing_on(sheet: &mut Sheet<'_>, most: u32, list: &mut Listing) -> Result<(), Stop>
+    requires { most ≤ 4096 }
+    ensures { Goes result (list_left most (Some list.old)) sheet.old (list_left most (Some list.new)) sheet.new }
+{
+    match items_on(sheet, most, list) {
+        Ok(()) => list_end(sheet, list.cut),
+        Err(stop) => Err(stop),
+    }
+}
+
+/// What was read of a list under way.
+pub(crate) fn list_on(
+    sheet: &mut Sheet<'_>,
+    most: u32,
+    list: &mut Option<Listing>,
+) -> Result<(), Stop>
+    requires { most ≤ 4096 }
+    ensures goes { Goes result (list_left most list.old) sheet.old (list_left most list.new) sheet.new }
+    ensures whole { OnOk result (list.new ≡ None) }
+{
+    match list {
+        None => Ok(()),
+        Some(listing) => match listing_on(sheet, most, listing) {
+            Ok(()) => {
+                *list = None;
+                Ok(())
+            }
+            Err(stop) => Err(stop),
+        },
+    }
+}
+
+/// The addresses of items.
+fn addresses(alloc: Global, words: &[[u8; 8]]) -> Result<Vec<u64>, AllocError>
+    ensures { IfOk result (λ v. v.items ≡ map spec.word words.now) }
+{
+    words.iter().map(word).collect(alloc)
+}
+
+/// The address of a list that can't be read to its end.
+#[tactic(auto, unfolding(crate::specs::Numbers::pointer))]
+fn lost(sheet: &mut Sheet<'_>, address: u64) -> Result<Option<Listing>, Stop>
+    ensures { Finds result (pointer_text address, None) sheet.old sheet.new }
+{
+    match numbers::pointer(sheet, address) {
+        Ok(()) => Ok(None),
+        Err(stop) => Err(stop),
+    }
+}
+
+/// A list that ends, or of which more can be read than are shown; else its address.
+fn found(sheet: &mut Sheet<'_>, address: u64, bytes: &[u8]) -> Result<Option<Listing>, Stop>
+    ensures { Finds result (opened address bytes.now) sheet.old sheet.new }
 {
     let words = words(bytes);
     let count = null_at(words);
     if count >= words.len() && bytes.len() < 264 {
-        return numbers::pointer(sheet, address);
+        return lost(sheet, address);
     }
+    let addresses = addresses(sheet.alloc(), &words[..count.min(MOST_ITEMS)])?;
     sheet.put("[")?;
-    items(sheet, most, false, &words[..count.min(MOST_ITEMS)])?;
-    sheet.put(if MOST_ITEMS < count { ", ...]" } else { "]" })
+    Ok(Some(Listing {
+        addresses,
+        next: 0,
+        some: false,
+        cut: MOST_ITEMS < count,
+    }))
 }
 
-#[tactic(auto, unfolding(crate::specs::Lists::list))]
-pub(crate) fn list(sheet: &mut Sheet<'_>, most: u32, address: u64) -> Result<(), Stop>
+/// Begins a list, behind a comma where an argument stands before it.
+pub(crate) fn open(
+    sheet: &mut Sheet<'_>,
+    some: bool,
+    most: u32,
+    address: u64,
+) -> Result<Option<Listing>, Stop>
     requires { most ≤ 4096 }
-    ensures { Leaves result sheet.new (spec.list most address sheet.old) }
+    ensures { Begins result most (list_shown most some address) sheet.old sheet.new }
 {
     if address == 0 {
-        return sheet.put("NULL");
+        comma(sheet, some)?;
+        sheet.put("NULL")?;
+        return Ok(None);
     }
-    let bytes = sheet.read(address, 264)?;
-    list_read(sheet, most, address, bytes)
+    match sheet.read(address, 264) {
+        Ok(bytes) => {
+            comma(sheet, some)?;
+            found(sheet, address, bytes)
+        }
+        Err(stop) => Err(stop),
+    }
 }

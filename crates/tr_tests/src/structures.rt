@@ -121,6 +121,49 @@ fn long_lists(rt: HostRuntime) -> Result<(), Fail> {
     Ok(())
 }
 
+/// The bytes before the NUL of each string, how many strings there are, `-s`, the bytes shown of each, the strings
+/// shown, what stands behind each and behind the last.
+const MANY_STRINGS: &[(usize, usize, u32, usize, usize, &str, &str)] = &[
+    (100, 32, 100, 100, 32, "\"", "], NULL"),
+    (100, 32, 32, 32, 32, "\"...", "], NULL"),
+    (100, 64, 100, 100, 32, "\"", ", ...], NULL"),
+    (1, 64, 4096, 1, 32, "\"", ", ...], NULL"),
+];
+
+/// So many items of so many letters each, and what stands behind each, and behind the last.
+fn many_strings(
+    alloc: Global,
+    count: usize,
+    item: &str,
+    behind: &str,
+) -> Result<String, AllocError> {
+    let mut text = String::from_str(alloc, "execve(NULL, [")?;
+    for i in 0..count {
+        if i > 0 {
+            text.push_str(", ")?;
+        }
+        text.push_str(item)?;
+    }
+    text.push_str(behind)?;
+    Ok(text)
+}
+
+#[test]
+fn many_long_strings(rt: HostRuntime) -> Result<(), Fail> {
+    for &(length, count, limit, bytes, shown, close, behind) in MANY_STRINGS {
+        let string = letters(rt.alloc(), "", length, "\0")?;
+        let list = pointers(rt.alloc(), count, true)?;
+        let item = letters(rt.alloc(), "\"", bytes, close)?;
+        let text = many_strings(rt.alloc(), shown, item.as_str(), behind)?;
+        let memory: Memory<'_> = &[(0x1000, string.as_bytes()), (0x2000, list.as_slice())];
+        assert_eq!(rt;
+            entry(rt.alloc(), memory, 221, [0, 0x2000, 0, 0, 0, 0], 0, limit)?.as_str(),
+            text.as_str()
+        );
+    }
+    Ok(())
+}
+
 const LONG_ITEMS: &[(usize, u32, usize, &str)] = &[
     (4095, 4096, 4095, "\"], NULL"),
     (4096, 4096, 4096, "\"], NULL"),
