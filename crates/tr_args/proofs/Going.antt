@@ -88,10 +88,10 @@ row_more r c some number a more l k g s t u v m n h = on_goes r _ (arguments c s
 
 -- Halves
 
-pub rest_stopped : (e : Stop) (c : Context) (p q : Row) (s t : Sheet) → Goes (Err e) (row_left c p) s (row_left c q) t → Goes (Err e) (stage_left c (Under p)) s (stage_left c (Under q)) t
+pub rest_stopped : (e : Stop) (c : Context) (p q : Row) (s t : Sheet) → q.comma ≡ p.comma → Goes (Err e) (row_left c p) s (row_left c q) t → Goes (Err e) (stage_left c (Under p)) s (stage_left c (Under q)) t
 unfolding stage_left
-rest_stopped e c p q s t h = stopped_before e (row_left c p) (row_left c q) (put (behind c.result c.number)) s t h
+rest_stopped e c p q s t k h = subst (λ b. Goes (Err e) (stage_left c (Under p)) s (λ x. row_left c q x >>= put (behind b)) t) (sym k) (stopped_before e (row_left c p) (row_left c q) (put (behind p.comma)) s t h)
 
-pub rest_ended : (r : Result (Unit {0}) Stop) (c : Context) (p : Row) (g : Sheet → Shown) (s t u : Sheet) → Moves (row_left c p) s (λ x. Has x) t → Leaves r u (put (behind c.result c.number) t) → Goes r (stage_left c (Under p)) s g u
+pub rest_ended : (r : Result (Unit {0}) Stop) (c : Context) (p : Row) (b : Bool) (g : Sheet → Shown) (s t u : Sheet) → b ≡ p.comma → Moves (row_left c p) s (λ x. Has x) t → Leaves r u (put (behind b) t) → Goes r (stage_left c (Under p)) s g u
 unfolding stage_left
-rest_ended r c p g s t u m h = on_goes r _ (put (behind c.result c.number)) g s t u (behind_it (row_left c p) (put (behind c.result c.number)) s t m) (put_goes r (behind c.result c.number) g t u h)
+rest_ended r c p b g s t u k m h = on_goes r _ (put (behind p.comma)) g s t u (behind_it (row_left c p) (put (behind p.comma)) s t m) (put_goes r (behind p.comma) g t u (subst (λ b. Leaves r u (put (behind b) t)) k h))

@@ -16,7 +16,7 @@ use Rattle.tr_args.specs.declared.sheet.Stop.TheVariants.{Wants as Stops, Memory
 use Rattle.tr_args.specs.Sheets.{Sheet, Shown, Has, Wants, put, ◌>>=◌}
 use Rattle.tr_args.specs.Lists.{comma, item, list, word, words, null_at, most_items}
 use Rattle.tr_args.specs.Numbers.{pointer_text}
-use Rattle.tr_args.specs.Arguments.{arguments, format_of, joint, half, half_by, wish_of}
+use Rattle.tr_args.specs.Arguments.{arguments, half, half_by, wish_of}
 
 abbrev pub sheet : List ℕ → List (List ℕ) → Sheet
 sheet out left = record { out = out; left = left }
@@ -49,13 +49,12 @@ unfoldable pub row_left : Context → Row → Sheet → Shown
 row_left c r s = list_left c.most r.list s >>= arguments c r.some r.number r.kinds.now
 
 -- behind the arguments of a half
-abbrev pub behind : Option ℕ → ℕ → List ℕ
-behind None number = joint (format_of number)
-behind (Some result) number = []
+abbrev pub behind : Bool → List ℕ
+behind comma = if comma then codes ", " else []
 
 unfoldable pub stage_left : Context → Stage → Sheet → Shown
 stage_left c Unbegun s = half_by c.result c s
-stage_left c (Under r) s = row_left c r s >>= put (behind c.result c.number)
+stage_left c (Under r) s = row_left c r s >>= put (behind r.comma)
 stage_left c Whole s = Has s
 
 -- some of the reads were taken, and what was one function is another, whatever is read later

@@ -1,6 +1,6 @@
 //! The arguments of one half of a call: of its entry, and of what follows once it has a result.
 
-ghost use Rattle.std.specs.Prelude.{◌≡◌, ◌≤◌, ◌<◌, ◌+◌, ◌^◌, get_or, IfOk, length, string_bytes, option_map};
+ghost use Rattle.std.specs.Prelude.{◌≡◌, ◌≤◌, ◌<◌, ◌+◌, ◌&&◌, ◌^◌, get_or, IfOk, length, string_bytes, option_map};
 ghost use Rattle.tr_args.specs.Arguments as spec;
 ghost use Rattle.tr_args.specs.Sheets.{Leaves, put};
 ghost use Rattle.lx_abi.specs.Calls.{call_format, call_name};
@@ -57,16 +57,9 @@ pub(crate) fn name(sheet: &mut Sheet<'_>, number: u64) -> Result<(), Stop>
     }
 }
 
-/// A comma behind the entry's arguments, where more follow.
-pub(crate) fn joint(
-    sheet: &mut Sheet<'_>,
-    entry: &[Argument],
-    rest: &[Argument],
-) -> Result<(), Stop>
-    ensures { Leaves result sheet.new (put (spec.joint (entry.now, rest.now)) sheet.old) }
+/// The entry has arguments, and more follow.
+pub(crate) fn are_both(entry: &[Argument], rest: &[Argument]) -> bool
+    ensures { result ≡ (spec.is_some_list entry.now && spec.is_some_list rest.now) }
 {
-    match (entry, rest) {
-        ([_, ..], [_, ..]) => sheet.put(", "),
-        _ => sheet.put(""),
-    }
+    matches!((entry, rest), ([_, ..], [_, ..]))
 }

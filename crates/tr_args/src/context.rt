@@ -1,7 +1,7 @@
 //! What the text of a call is made from.
 
 /// What the text of one half of a call is made from, beside the memory.
-#[derive(Clone, Copy, Debug)]
+#[derive(Clone, Copy, Debug, PartialEq, Eq)]
 pub struct Context {
     pub number: u64,
     pub arguments: [u64; 6],

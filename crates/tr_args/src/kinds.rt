@@ -138,7 +138,7 @@ fn next_argument(
     requires kind { is_list kind ≡ false }
     ensures { Takes result (spec.next_argument some kind place) sheet.old sheet.new }
 {
-    let mut part = sheet.part();
+    let mut part = sheet.part()?;
     match comma_argument(&mut part, some, kind, place) {
         Ok(()) => sheet.take(part),
         Err(stop) => Err(stop),

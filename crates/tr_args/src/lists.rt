@@ -102,7 +102,7 @@ fn next_item(sheet: &mut Sheet<'_>, most: u32, some: bool, address: u64) -> Resu
     requires { most ≤ 4096 }
     ensures { Takes result (item_shown most some address) sheet.old sheet.new }
 {
-    let mut part = sheet.part();
+    let mut part = sheet.part()?;
     match comma_item(&mut part, most, some, address) {
         Ok(()) => sheet.take(part),
         Err(stop) => Err(stop),

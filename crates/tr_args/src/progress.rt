@@ -6,7 +6,7 @@ ghost use Rattle.tr_args.specs.Arguments.{half, wish_of};
 ghost use Rattle.tr_args.specs.Sheets.{Leaves, put};
 ghost use Rattle.tr_args.specs.Progress.{Goes, Starts, Makes, IsMade, behind, is_left, is_wanted, kinds_of, row_left, stage_left};
 
-use crate::arguments::{format_of, joint, name, place};
+use crate::arguments::{are_both, format_of, name, place};
 use crate::context::Context;
 use crate::kinds::begin;
 use crate::lists::{Listing, list_on};
@@ -24,6 +24,8 @@ pub(crate) struct Row {
     pub(crate) kinds: &'static [Argument],
     /// A list under way, before the next.
     pub(crate) list: Option<Listing>,
+    /// A comma follows the last.
+    pub(crate) comma: bool,
 }
 
 /// What is left of a half.
@@ -74,6 +76,7 @@ fn row_on(sheet: &mut Sheet<'_>, context: &Context, row: &mut Row) -> Result<(),
     requires few { row.old.number + length row.old.kinds.now < 2 ^ 32 }
     ensures goes { Goes result (row_left context.now row.old) sheet.old (row_left context.now row.new) sheet.new }
     ensures few { row.new.number + length row.new.kinds.now ≡ row.old.number + length row.old.kinds.now }
+    ensures comma { row.new.comma ≡ row.old.comma }
 {
     if let Err(stop) = list_on(sheet, context.most, &mut row.list) {
         return Err(stop);
@@ -96,16 +99,10 @@ fn row_on(sheet: &mut Sheet<'_>, context: &Context, row: &mut Row) -> Result<(),
 }
 
 /// What stands behind the arguments of a half.
-fn end(sheet: &mut Sheet<'_>, context: &Context) -> Result<(), Stop>
-    ensures { Leaves result sheet.new (put (behind context.now.result context.now.number) sheet.old) }
+fn end(sheet: &mut Sheet<'_>, comma: bool) -> Result<(), Stop>
+    ensures { Leaves result sheet.new (put (behind comma) sheet.old) }
 {
-    match context.result {
-        None => {
-            let format = format_of(context.number);
-            joint(sheet, format.0, format.1)
-        }
-        Some(_) => sheet.put(""),
-    }
+    sheet.put(if comma { ", " } else { "" })
 }
 
 /// The rest of a half, as far as it can be made of what was read.
@@ -118,7 +115,7 @@ fn rest_on(sheet: &mut Sheet<'_>, context: &Context, row: &mut Row) -> Result<()
     ensures few { row.new.number + length row.new.kinds.now ≡ row.old.number + length row.old.kinds.now }
 {
     match row_on(sheet, context, row) {
-        Ok(()) => end(sheet, context),
+        Ok(()) => end(sheet, row.comma),
         Err(stop) => Err(stop),
     }
 }
@@ -138,6 +135,7 @@ fn begun(sheet: &mut Sheet<'_>, context: &Context) -> Result<Row, Stop>
                 number: 0,
                 kinds: format.0,
                 list: None,
+                comma: are_both(format.0, format.1),
             })
         }
         Some(_) => Ok(Row {
@@ -145,6 +143,7 @@ fn begun(sheet: &mut Sheet<'_>, context: &Context) -> Result<Row, Stop>
             number: format.0.len(),
             kinds: format.1,
             list: None,
+            comma: false,
         }),
     }
 }
