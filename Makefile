@@ -22,6 +22,7 @@ test:
 	rt ci
 	tests/guests
 	tests/traces
+	tests/faults
 	tests/served
 
 # Proves what an edit changed.
