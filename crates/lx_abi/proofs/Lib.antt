@@ -3,3 +3,4 @@ pub mod Maps
 pub mod NextKeys
 pub mod Finds
 pub mod SignalNumbers
+pub mod Reading

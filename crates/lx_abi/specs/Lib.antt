@@ -9,3 +9,4 @@ pub mod Scripts
 pub mod Signals
 pub mod Status
 pub mod Tables
+pub mod Words

@@ -16,6 +16,7 @@ pub mod seq;
 pub mod signal;
 pub mod status;
 pub mod when;
+pub mod words;
 
 pub use boot::{Boot, GuestFile};
 pub use bytes::Bytes;
@@ -31,3 +32,4 @@ pub use seq::Seq;
 pub use signal::Signal;
 pub use status::{EventStop, Status, Stop};
 pub use when::When;
+pub use words::{ScheduleFault, parse_words};

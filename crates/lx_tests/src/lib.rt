@@ -13,3 +13,5 @@ mod long_lists;
 mod tracing;
 #[cfg(test)]
 mod turns;
+#[cfg(test)]
+mod words;
