@@ -177,3 +177,29 @@ module _ {L X S B : Type 0} (answers : Answers L) (i : InMemory L X S B) (choose
       let c : SoundCall sound i choose m outcome a x.0 x.1 mid = serves a x.0 x.1 mid is_sound led.1.0 in
       by_reply xs t a mid b printed x.0 x.1 c.served asked.0 (called m outcome (i.host a) x.0 c.served.fed).reply refl led.1.1 asked.1
       (λ answered. is_fed xs (heard t x.1) mid b (printed ++ (next t.options t.script t.tracer x.1).printed) (c.stays answered) led.1.1 asked.1 over)
+
+  -- the exchanges of any run are a talk over the schedule
+  abbrev pub Talk : State → L → List (Request × Reply) → Type 0
+  Talk t a xs = (events : List Event) × TalksOver choose m outcome t.options t.script t.tracer (i.schedule a) (i.host a) events xs
+
+  talk_on : (xs : List (Request × Reply)) (t : State) (a mid : L) (q : Request) (r : Reply) (c : CallServed i choose m outcome a q r mid) → request t.options t.tracer.focus ≡ Some q
+      → (reply : Option Reply) → (called m outcome (i.host a) q c.fed).reply ≡ reply
+      → Asked (heard t r) xs → (is_there reply ≡ true → Talk (heard t r) mid xs)
+      → Talk t a ((q, r) ∷ xs)
+  unfolding heard moved_by
+  talk_on xs t a mid q r c f (Some s) e asked again =
+      let rest : Talk (heard t r) mid xs = again refl in
+      let on_from : i.schedule mid ≡ c.left = c.goes_on (ap is_there e) in
+      (c.fed ++ rest.0, (c.fed, (rest.0, (c.left, (i.host mid, (refl, f, c.call, subst (λ x. TalksOver choose m outcome t.options t.script (heard t r).tracer x (i.host mid) rest.0 xs) on_from rest.1))))))
+  talk_on xs t a mid q r c f None e asked again =
+      let none : xs ≡ [] = none_after t q r xs f (c.call.reply ∙ ap reply_or e) asked in
+      subst (λ l. Talk t a ((q, r) ∷ l)) (sym none) (c.fed ++ [], (c.fed, ([], (c.left, (i.host mid, (refl, f, c.call, refl))))))
+
+  pub talk : (xs : List (Request × Reply)) (t : State) (a b : L) → sound a → Leads answers a xs b → Asked t xs → Talk t a xs
+  unfolding request_of
+  talk [] t a b is_sound led asked = ([], refl)
+  talk (x ∷ xs) t a b is_sound led asked =
+      let mid : L = led.0 in
+      let c : SoundCall sound i choose m outcome a x.0 x.1 mid = serves a x.0 x.1 mid is_sound led.1.0 in
+      talk_on xs t a mid x.0 x.1 c.served asked.0 (called m outcome (i.host a) x.0 c.served.fed).reply refl asked.1
+      (λ answered. talk xs (heard t x.1) mid b (c.stays answered) led.1.1 asked.1)

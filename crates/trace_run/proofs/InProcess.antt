@@ -21,8 +21,8 @@ use Rattle.host_link.specs.LocalLinks.{Calls, host_of, schedule_of, is_over}
 use Rattle.host_link.specs.Locals.{Serves, reply_or_over}
 use Rattle.host_link.specs.declared.local.LocalLink.{LocalLink}
 use Rattle.trace_run.specs.Local.{SoundCall}
-use Rattle.trace_run.specs.LocalRuns.{in_process, IsGoing, local_answers, LocalLinksServe, LocalLinksTell}
-use Rattle.trace_run.proofs.Locals.{Cited, sound_runs_tell}
+use Rattle.trace_run.specs.LocalRuns.{in_process, IsGoing, local_answers, LocalLinksServe, LocalLinksTell, LocalLinksTellParts}
+use Rattle.trace_run.proofs.Locals.{Cited, sound_runs_tell, sound_runs_tell_parts}
 
 put_is : (v w : Linux_host) (q : Request) (x : Option Request) → hosting_asked v q x ≡ Some w → w ≡ with_pending v (Some q)
 put_is v w q None e = sym (cc e)
@@ -92,3 +92,8 @@ local_links_tell cited serves begin machine told o script is_script link link' t
     serves going
     (ap host_in first ∙ (begin s b).0)
     (ap (λ (v : Linux_host). v.turns) first)
+
+pub local_links_tell_parts : Cited Schedule Shared Body local_answers → LocalLinksServe → HostsBeginAlike Shared Body → IsMachine linux → IsTold linux → LocalLinksTellParts
+local_links_tell_parts cited serves begin machine told o script is_script link link' old new broken broken' result w s b going first =
+    let x = sound_runs_tell_parts local_answers cited IsGoing o script is_script link link' old new broken broken' result w in_process next_of_host linux machine told outcome_in s b serves going (ap host_in first ∙ (begin s b).0) in
+    record { events = x.0; given = x.1.0; tells = x.1.1 }

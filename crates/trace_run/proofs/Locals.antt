@@ -1,5 +1,5 @@
 -- A run over a host in memory, from the events that its schedule gave.
-use Rattle.std.proofs.Common.{◌≡◌, ℕ, ◌≤◌, ◌<◌, Bool, true, List, [], ◌∷◌, ◌++◌, Option, Some, None, Ok, refl, sym, ap, subst, ◌∙◌}
+use Rattle.std.proofs.Common.{◌≡◌, ℕ, ◌≤◌, ◌<◌, Bool, true, List, [], ◌∷◌, ◌++◌, Option, Some, None, Result, Ok, refl, sym, ap, subst, ◌∙◌}
 use Rattle.std.proofs.lemmas.List.{append-nil}
 use Rattle.lx_abi.specs.declared.outcome.Outcome.{Outcome}
 use Rattle.lx_abi.specs.declared.ptrace.Reply.{Reply}
@@ -8,7 +8,7 @@ use Rattle.lx_abi.specs.declared.ptrace.Request.{Request}
 use Rattle.lx_abi.specs.declared.schedule.Event.{Event}
 use Rattle.lx_model.specs.Kernel.{Script, traces, Kernel}
 use Rattle.lx_model.specs.Machine.{Machine, IsMachine}
-use Rattle.pt_model.specs.Calls.{Talks, WorldsCall, RunsAppend, OutOfTurnsShowsNothing, SchedulesAreLists, TalksAreOwn}
+use Rattle.pt_model.specs.Calls.{Talks, TalksOver, WorldsCall, RunsAppend, OutOfTurnsShowsNothing, SchedulesAreLists, TalksAreOwn}
 use Rattle.pt_model.specs.Attending.{Schedules}
 use Rattle.pt_model.specs.Headline.{IsTold, IsScript, traced_run, plain_run, IsTransparent}
 use Rattle.pt_model.specs.Parts as parts_of
@@ -22,10 +22,11 @@ use Rattle.tr_core.specs.States.{State, new_state, heard, moved as moved_by, tol
 use Rattle.tr_core.specs.declared.settings.Options.{Options}
 use Rattle.trace_run.specs.declared.running.Ended.{Ended}
 use Rattle.trace_run.specs.declared.running.Ended.TheVariants.{Whole, OutOfTurns}
+use Rattle.trace_run.specs.declared.running.RunFault.{RunFault}
 use Rattle.trace_run.specs.Runs.{Answers, Ends, Last, RunsWhole, replies_of}
 use Rattle.trace_run.specs.Tells.{view_text, Tells, RunsTell}
 use Rattle.trace_run.specs.Local.{InMemory, SoundCall, Feeds, LocalRun, LocalRunsTell}
-use Rattle.trace_run.proofs.Fed.{IsFed, is_fed}
+use Rattle.trace_run.proofs.Fed.{IsFed, is_fed, Talk, talk}
 
 -- it asks nothing more, and its link stays
 record IsLast {L : Type 0} (s : State) (rs : List Reply) (a : L) (b : Ends L) : Type 0 where
@@ -115,6 +116,27 @@ sound_runs_tell {L} {X} {S} {B} answers cited sound o script is_script link link
       whole = x.whole;
       out_of_turns = x.out_of_turns;
     }
+
+-- however a run ends, and whatever it writes to
+pub sound_runs_tell_parts : {L X S B : Type 0} (answers : Answers L) → Cited X S B answers → (sound : L → Type 0)
+    (o : Options) (script : Script) → IsScript script → (link link' : L) (old new : Option (List ℕ)) (broken broken' : ℕ) (result : Result Ended RunFault)
+    (w : RunsWhole answers (new_state (options_by o) script (first_pen o)) link old broken result link' new broken')
+    (i : InMemory L X S B) (choose : Schedules X S B) (m : Machine S B) → IsMachine m → IsTold m → (outcome : S → Outcome) (s : S) (b : B)
+    → ((a : L) (q : Request) (r : Reply) (b : L) → sound a → answers a q (Ok r) b → SoundCall sound i choose m outcome a q r b)
+    → sound link → i.host link ≡ (first_world s b).host
+    → (events : List Event) × (TalksOver choose m outcome (options_by o) script first_tracer (i.schedule link) (first_world s b).host events w.runs.exchanges × Tells m outcome o script s b events result old new)
+unfolding heard moved_by
+sound_runs_tell_parts {L} {X} {S} {B} answers cited sound o script is_script link link' old new broken broken' result w i choose m is_m is_told outcome s b serves is_sound first =
+    let po : parts_of.Options = options_by o in
+    let xs : List (Request × Reply) = w.runs.exchanges in
+    let begun : State = heard (new_state po script (first_pen o)) Agreed in
+    let said : Talk answers i choose m outcome sound serves cited.calls cited.appends cited.nothing begun link xs =
+    talk answers i choose m outcome sound serves cited.calls cited.appends cited.nothing xs begun link w.runs.link is_sound w.runs.led w.runs.asked in
+    let over : TalksOver choose m outcome po script first_tracer (i.schedule link) (first_world s b).host said.0 xs =
+    subst (λ (h : Host S B). TalksOver choose m outcome po script first_tracer (i.schedule link) h said.0 xs) first said.1 in
+    let talks : Talks m outcome po script first_tracer (first_world s b).host said.0 xs =
+    cited.lists choose m outcome po script first_tracer (i.schedule link) (first_world s b).host said.0 xs over in
+    (said.0, (over, cited.tells o script is_script link link' old new broken broken' result w m is_m is_told outcome s b said.0 (cited.own m outcome po script s b said.0 xs talks)))
 
 pub local_runs_tell : {L X S B : Type 0} (answers : Answers L) → Cited X S B answers → LocalRunsTell X S B answers
 local_runs_tell {L} answers cited o script is_script link link' trace broken broken' ended w i choose m is_m is_told outcome s b serves first no_turns =

@@ -1,14 +1,18 @@
 -- A run over a host in the tracer's own process, by the untraced kernel.
-use Rattle.std.specs.Prelude.{◌≡◌, ℕ, false, List, [], Some, Ok}
+use Rattle.std.specs.Prelude.{◌≡◌, ℕ, false, List, [], Option, Some, Result, Ok}
 use Rattle.lx_abi.specs.declared.ptrace.Reply.{Reply}
 use Rattle.lx_abi.specs.declared.ptrace.Request.{Request}
+use Rattle.lx_abi.specs.declared.schedule.Event.{Event}
 use Rattle.lx_kernel.specs.Linux.{linux}
 use Rattle.lx_kernel.specs.Outcomes.{outcome_in}
 use Rattle.lx_kernel.specs.declared.state.Shared.{Shared}
 use Rattle.lx_kernel.specs.declared.state.Body.{Body}
 use Rattle.lx_model.specs.Kernel.{Script}
+use Rattle.pt_model.specs.Calls.{TalksOver}
 use Rattle.pt_model.specs.Headline.{IsScript}
 use Rattle.pt_model.specs.Hosting.{host_in, IsFresh, first_hosting}
+use Rattle.pt_model.specs.Tracer.{first_tracer}
+use Rattle.pt_model.specs.World.{first_world}
 use Rattle.pt_kernel.specs.Seen.{next_of_host}
 use Rattle.pt_kernel.specs.declared.schedule.Schedule.{Schedule}
 use Rattle.host_link.specs.LocalLinks.{Calls, host_of, schedule_of, is_over}
@@ -18,7 +22,9 @@ use Rattle.tr_core.specs.States.{new_state}
 use Rattle.tr_core.specs.declared.settings.Options.{Options}
 use Rattle.trace_run.specs.Local.{InMemory, SoundCall, LocalRun}
 use Rattle.trace_run.specs.Runs.{Answers, RunsWhole}
+use Rattle.trace_run.specs.Tells.{Tells}
 use Rattle.trace_run.specs.declared.running.Ended.{Ended}
+use Rattle.trace_run.specs.declared.running.RunFault.{RunFault}
 
 -- its host, as a function of pids, its schedule, and the turns that it gave to the kernel
 abbrev pub in_process : InMemory LocalLink Schedule Shared Body
@@ -51,3 +57,20 @@ LocalLinksTell = (o : Options) (script : Script) → IsScript script
     (s : Shared) (b : Body) → IsGoing link → (host_of link).hosting ≡ first_hosting s b
     → LocalRun next_of_host linux outcome_in o script (schedule_of link) s b ended trace
     (outcome_in (host_of link').hosting.running.shared) (host_of link').hosting.turns
+
+-- what a run over it writes, to any writer and however it ends: the events are those that the schedule gave, call by
+-- call, and what was written begins the rendering of a view of the untraced kernel's log by then
+pub record LinkTells (o : Options) (script : Script) (s : Shared) (b : Body) (link : LocalLink)
+    (exchanges : List (Request × Reply)) (result : Result Ended RunFault) (old new : Option (List ℕ)) : Type 0 where
+  pub events : List Event
+  pub given : TalksOver next_of_host linux outcome_in (options_by o) script first_tracer (schedule_of link)
+      (first_world s b).host events exchanges
+  pub tells : Tells linux outcome_in o script s b events result old new
+
+abbrev pub LocalLinksTellParts : Type 0
+LocalLinksTellParts = (o : Options) (script : Script) → IsScript script
+    → (link link' : LocalLink) (old new : Option (List ℕ)) (broken broken' : ℕ) (result : Result Ended RunFault)
+    (w : RunsWhole local_answers (new_state (options_by o) script (first_pen o)) link old broken result link' new
+    broken')
+    (s : Shared) (b : Body) → IsGoing link → (host_of link).hosting ≡ first_hosting s b
+    → LinkTells o script s b link w.runs.exchanges result old new

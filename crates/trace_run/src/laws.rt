@@ -2,7 +2,7 @@
 
 ghost use Rattle.trace_run.specs.Claims.{PlainTracing, ReplacedCalls, JoinedSignals, UnderKills};
 ghost use Rattle.trace_run.specs.Local.{LocalRunsTell};
-ghost use Rattle.trace_run.specs.LocalRuns.{LocalLinksServe, LocalLinksTell};
+ghost use Rattle.trace_run.specs.LocalRuns.{LocalLinksServe, LocalLinksTell, LocalLinksTellParts};
 ghost use Rattle.trace_run.specs.Tells.{RunsTell, ServedRunsTell};
 
 use host_link::{Link, LocalLink};
@@ -56,6 +56,23 @@ pub fn local_links_serve()
 /// begins the rendering of a view of that kernel's log, and is all of it where the run is whole.
 pub fn local_links_tell()
     ensures { LocalLinksTell }
+{
+    local_links_serve();
+    runs_tell::<Shared, Body, LocalLink>();
+    schedules_are_lists::<Schedule, Shared, Body>();
+    own_replies_tell::<Shared, Body>();
+    worlds_attend::<Shared, Body>();
+    tracing_is_transparent::<Shared, Body>();
+    hosts_run_alike::<Shared, Body>();
+    texts_are_whole();
+    linux_is_a_machine();
+    linux_is_told();
+}
+
+/// However a run over such a link ends, in a fault too, and whatever it writes to: what was written begins the
+/// rendering of a view of the untraced kernel's log, by the events that the schedule had given.
+pub fn local_links_tell_parts()
+    ensures { LocalLinksTellParts }
 {
     local_links_serve();
     runs_tell::<Shared, Body, LocalLink>();
