@@ -56,6 +56,10 @@ fn faults_are_found_in_order(rt: HostRuntime) {
         (".space 65532\nnop", (0, 0)),
         ("beq a0, a1, end\n.space 4092\nend:", (1, 3)),
         ("beq a0, a1, end\n.space 4090\nend:", (0, 0)),
+        // a faulty statement has no bytes, so the branch over it reaches its label
+        ("_start: beqz a0, far\n.space -5000\nfar: nop", (2, 3)),
+        ("_start: beqz a0, far\n.space 100000\nfar: nop", (2, 6)),
+        ("_start: beqz a0, far\n.space 5000\nfar: nop", (1, 3)),
     ];
     for (text, wanted) in rows {
         assert_eq!(rt; fault_in(&rt, text), wanted, "in {text}");
