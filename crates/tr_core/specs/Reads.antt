@@ -1,7 +1,8 @@
 -- What is read for the texts of a call's arguments, and the texts: tr_args', by halves of this crate's code.
-use Rattle.std.specs.Prelude.{ℕ, List, Option}
+use Rattle.std.specs.Prelude.{ℕ, List, [], Option, Some, None}
 use Rattle.pt_model.specs.Parts.{Half, At_entry, At_exit, Texts}
 use Rattle.tr_args.specs.Arguments.{wish_of, text_of as shown_text, half as shown_half}
+use Rattle.tr_args.specs.Decoders.{Decoding}
 use Rattle.tr_args.specs.Texts.{context_of}
 use Rattle.tr_core.specs.declared.texts.Half.{Half as CodeHalf}
 use Rattle.tr_core.specs.declared.texts.Half.TheVariants.{Entry, Exit}
@@ -18,3 +19,8 @@ text_of limit half got = shown_text (shown_half (context_of limit half) got)
 
 abbrev pub texts_of : ℕ → Texts
 texts_of limit = record { wants = wants_of limit; text = text_of limit }
+
+-- what a decoder was given, if there is one
+abbrev pub got_of : Option Decoding → List (List ℕ)
+got_of None = []
+got_of (Some d) = d.got

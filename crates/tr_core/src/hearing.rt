@@ -20,8 +20,8 @@ use crate::occurrences::Occurrences;
 use crate::place::{Place, Tracee};
 use crate::printer;
 use crate::settings::Settings;
-use crate::texts::{self, Half};
-use lx_abi::{Bytes, Call, Choice, EventStop, Info, Registers, Reply, Seq, Stop};
+use crate::texts::{self, Half, Reading};
+use lx_abi::{Bytes, Call, Choice, EventStop, Info, Registers, Reply, Stop};
 use pt_model::Standing;
 use std::alloc::AllocError;
 use tr_line::Printer;
@@ -70,7 +70,7 @@ fn print_entry(
     pid: u32,
     call: Call,
     stack: u64,
-    got: &[Bytes],
+    got: &Reading,
 ) -> Result<Bytes, AllocError>
     ensures bytes { IfOk result
         (λ b. b ≡ wrote printer.old (enter_part (options_of settings.now) pid call stack got.now)) }
@@ -95,7 +95,7 @@ fn print_exit(
     call: Call,
     value: u64,
     replaced: bool,
-    got: &[Bytes],
+    got: &Reading,
 ) -> Result<Bytes, AllocError>
     ensures bytes { IfOk result
         (λ b. b ≡ wrote printer.old (done_part (options_of settings.now) pid call value replaced got.now)) }
@@ -155,7 +155,7 @@ fn enter(
     pid: u32,
     tracee: &mut Tracee,
     registers: Registers,
-    got: &[Bytes],
+    got: &Reading,
 ) -> Result<Heard, AllocError>
     ensures heard { IfOk result
         (λ h. Comes
@@ -189,7 +189,7 @@ fn read_entry(
     pid: u32,
     tracee: &mut Tracee,
     registers: Registers,
-    got: Seq<Bytes>,
+    got: Reading,
 ) -> Result<Heard, AllocError>
     ensures heard { IfOk result
         (λ h. Comes
@@ -202,22 +202,11 @@ fn read_entry(
         call: call(&registers),
         stack: registers[2],
     };
-    let wish = texts::wants(
-        settings.alloc,
-        settings.options.string_limit,
-        half,
-        got.as_slice(),
-    )?;
+    let limit = settings.options.string_limit;
+    let got = got.begun(settings.alloc, limit, half)?;
+    let wish = texts::wants(settings.alloc, limit, half, &got)?;
     match wish {
-        None => enter(
-            settings,
-            counts,
-            printer,
-            pid,
-            tracee,
-            registers,
-            got.as_slice(),
-        ),
+        None => enter(settings, counts, printer, pid, tracee, registers, &got),
         Some(want) => Ok(Heard {
             next: Some(Place::EntryPeek {
                 registers,
@@ -237,7 +226,7 @@ fn leave(
     tracee: &mut Tracee,
     value: u64,
     replaced: bool,
-    got: &[Bytes],
+    got: &Reading,
 ) -> Result<Heard, AllocError>
     ensures { IfOk result
         (λ h. (counts : ℕ → ℕ)
@@ -260,7 +249,7 @@ fn read_exit(
     tracee: &mut Tracee,
     value: u64,
     replaced: bool,
-    got: Seq<Bytes>,
+    got: Reading,
 ) -> Result<Heard, AllocError>
     ensures { IfOk result
         (λ h. (counts : ℕ → ℕ)
@@ -272,22 +261,11 @@ fn read_exit(
         call: tracee.called,
         result: value,
     };
-    let wish = texts::wants(
-        settings.alloc,
-        settings.options.string_limit,
-        half,
-        got.as_slice(),
-    )?;
+    let limit = settings.options.string_limit;
+    let got = got.begun(settings.alloc, limit, half)?;
+    let wish = texts::wants(settings.alloc, limit, half, &got)?;
     match wish {
-        None => leave(
-            settings,
-            printer,
-            pid,
-            tracee,
-            value,
-            replaced,
-            got.as_slice(),
-        ),
+        None => leave(settings, printer, pid, tracee, value, replaced, &got),
         Some(want) => Ok(Heard {
             next: Some(Place::ExitPeek {
                 result: value,
@@ -347,10 +325,18 @@ fn hear_call(
             pid,
             tracee,
             registers,
-            Seq::new(settings.alloc),
+            Reading::new(),
         )
     } else {
-        enter(settings, counts, printer, pid, tracee, registers, &[])
+        enter(
+            settings,
+            counts,
+            printer,
+            pid,
+            tracee,
+            registers,
+            &Reading::new(),
+        )
     }
 }
 
@@ -403,10 +389,11 @@ fn hear_result(
             tracee,
             value,
             replaced,
-            Seq::new(settings.alloc),
+            Reading::new(),
         )
     } else {
-        leave(settings, printer, pid, tracee, value, replaced, &[])
+        let nothing = Reading::new();
+        leave(settings, printer, pid, tracee, value, replaced, &nothing)
     }
 }
 
@@ -461,7 +448,7 @@ fn hear_entry_bytes(
     pid: u32,
     tracee: &mut Tracee,
     registers: Registers,
-    got: Seq<Bytes>,
+    got: Reading,
     came: Option<Bytes>,
 ) -> Result<Heard, AllocError>
     ensures heard { IfOk result
@@ -471,11 +458,14 @@ fn hear_entry_bytes(
         h.next h.bytes printer.old printer.new) }
     ensures others { OnOk result (LeavesOthers pid counts.old counts.new) }
 {
-    let mut got = got;
     match came {
         None => Ok(nothing(settings)),
         Some(bytes) => {
-            got.push(bytes)?;
+            let half = Half::Entry {
+                call: call(&registers),
+                stack: registers[2],
+            };
+            let got = got.with(settings.alloc, settings.options.string_limit, half, bytes)?;
             read_entry(settings, counts, printer, pid, tracee, registers, got)
         }
     }
@@ -489,7 +479,7 @@ fn hear_exit_bytes(
     tracee: &mut Tracee,
     value: u64,
     replaced: bool,
-    got: Seq<Bytes>,
+    got: Reading,
     came: Option<Bytes>,
 ) -> Result<Heard, AllocError>
     ensures { IfOk result
@@ -498,11 +488,14 @@ fn hear_exit_bytes(
         (tracer.peeked_exit (options_of settings.now) pid value replaced got (known_of tracee.old counts) came)
         (known_of tracee.new counts) h.next h.bytes printer.old printer.new) }
 {
-    let mut got = got;
     match came {
         None => Ok(nothing(settings)),
         Some(bytes) => {
-            got.push(bytes)?;
+            let half = Half::Exit {
+                call: tracee.called,
+                result: value,
+            };
+            let got = got.with(settings.alloc, settings.options.string_limit, half, bytes)?;
             read_exit(settings, printer, pid, tracee, value, replaced, got)
         }
     }

@@ -1,6 +1,7 @@
 //! What a tracer knows of a tracee, and what it is asking.
 
-use lx_abi::{Bytes, Call, Outcome, Registers, Seq};
+use crate::texts::Reading;
+use lx_abi::{Call, Outcome, Registers};
 use pt_model::Standing;
 
 /// What is known of one tracee, beside how often it entered each call.
@@ -19,7 +20,7 @@ pub enum Place {
     EntryRegs,
     EntryPeek {
         registers: Registers,
-        got: Seq<Bytes>,
+        got: Reading,
         want: (u64, u32),
     },
     EntrySet {
@@ -34,7 +35,7 @@ pub enum Place {
     ExitPeek {
         result: u64,
         replaced: bool,
-        got: Seq<Bytes>,
+        got: Reading,
         want: (u64, u32),
     },
     SignalInfo {

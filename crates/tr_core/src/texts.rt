@@ -1,12 +1,14 @@
 //! Texts of arguments, as functions of what was read for them.
 
-ghost use Rattle.std.specs.Prelude.{◌≡◌, ◌≤◌, IfOk, string_bytes};
+ghost use Rattle.std.specs.Prelude.{◌≡◌, ◌≤◌, ◌++◌, ◌∷◌, [], IfOk, string_bytes};
+ghost use Rattle.tr_args.specs.Arguments.{wish_of, text_of as shown_text, half as shown_half};
 ghost use Rattle.tr_args.specs.Texts.{context_of};
 ghost use Rattle.tr_core.specs.Reads.{half_of, wants_of, text_of};
 
 use lx_abi::{Bytes, Call};
 use std::alloc::{AllocError, Global};
-use tr_args::{Context, made};
+use std::marker::Model;
+use tr_args::{Context, Decoder, made};
 
 /// One half of a call's text: the entry, with the stack pointer, and the rest, with the result.
 #[derive(Clone, Copy, Debug, PartialEq, Eq)]
@@ -45,29 +47,131 @@ fn context(limit: u32, half: Half) -> Context
     }
 }
 
+/// What is read next for this half: the decoder knows it, if it is of it.
+fn wants_by(
+    alloc: Global,
+    context: &Context,
+    decoder: &Decoder,
+) -> Result<Option<(u64, u32)>, AllocError>
+    requires { context.now.most ≤ 4096 }
+    ensures { IfOk result (λ w. w ≡ wish_of (shown_half context.now decoder.now.got)) }
+{
+    if decoder.is_of(context) {
+        return Ok(decoder.wants());
+    }
+    let (wish, _) = made(alloc, context, decoder.read())?;
+    Ok(wish)
+}
+
+/// The text of this half: the decoder has it, if it is of it.
+fn text_by(alloc: Global, context: &Context, decoder: &Decoder) -> Result<String, AllocError>
+    requires { context.now.most ≤ 4096 }
+    ensures { IfOk result (λ t. string_bytes t ≡ shown_text (shown_half context.now decoder.now.got)) }
+{
+    if decoder.is_of(context) {
+        return String::from_str(alloc, decoder.text());
+    }
+    let (_, text) = made(alloc, context, decoder.read())?;
+    Ok(text)
+}
+
+/// What was read for a half, with what is made of it.
+#[derive(Drop)]
+pub struct Reading {
+    /// None before the first read.
+    decoder: Option<Decoder>,
+}
+
+impl Model for Reading {
+    ghost use Rattle.std.specs.Prelude.{ℕ, List};
+    ghost use Rattle.tr_core.specs.Reads.{got_of};
+
+    ghost Value = { List (List ℕ) };
+
+    ghost view = { λ r. got_of r.decoder };
+}
+
+impl Reading {
+    /// Nothing was read.
+    pub fn new() -> Self
+        ensures { result ≡ [] }
+    {
+        Reading { decoder: None }
+    }
+
+    /// The same, begun for this half.
+    pub fn begun(self, alloc: Global, limit: u32, half: Half) -> Result<Reading, AllocError>
+        requires { limit ≤ 4096 }
+        ensures { IfOk result (λ r. r ≡ self) }
+    {
+        match self.decoder {
+            Some(decoder) => Ok(Reading {
+                decoder: Some(decoder),
+            }),
+            None => {
+                let decoder = Decoder::begin(alloc, context(limit, half))?;
+                Ok(Reading {
+                    decoder: Some(decoder),
+                })
+            }
+        }
+    }
+
+    /// With what was read for this half.
+    pub fn with(
+        self,
+        alloc: Global,
+        limit: u32,
+        half: Half,
+        bytes: Bytes,
+    ) -> Result<Reading, AllocError>
+        requires { limit ≤ 4096 }
+        ensures { IfOk result (λ r. r ≡ self ++ bytes ∷ []) }
+    {
+        let mut decoder = match self.decoder {
+            Some(decoder) => decoder,
+            None => Decoder::begin(alloc, context(limit, half))?,
+        };
+        decoder.give(bytes)?;
+        Ok(Reading {
+            decoder: Some(decoder),
+        })
+    }
+}
+
 /// What is read next, after these.
 #[tactic(auto, unfolding(crate::specs::Reads::wants_of))]
 pub fn wants(
     alloc: Global,
     limit: u32,
     half: Half,
-    got: &[Bytes],
+    got: &Reading,
 ) -> Result<Option<(u64, u32)>, AllocError>
     requires { limit ≤ 4096 }
     ensures { IfOk result (λ w. w ≡ wants_of limit (half_of half) got.now) }
 {
     let context = context(limit, half);
-    let (wish, _) = made(alloc, &context, got)?;
-    Ok(wish)
+    match &got.decoder {
+        Some(decoder) => wants_by(alloc, &context, decoder),
+        None => {
+            let (wish, _) = made(alloc, &context, &[])?;
+            Ok(wish)
+        }
+    }
 }
 
 /// The text, of what was read.
 #[tactic(auto, unfolding(crate::specs::Reads::text_of))]
-pub fn text(alloc: Global, limit: u32, half: Half, got: &[Bytes]) -> Result<String, AllocError>
+pub fn text(alloc: Global, limit: u32, half: Half, got: &Reading) -> Result<String, AllocError>
     requires { limit ≤ 4096 }
     ensures { IfOk result (λ t. string_bytes t ≡ text_of limit (half_of half) got.now) }
 {
     let context = context(limit, half);
-    let (_, text) = made(alloc, &context, got)?;
-    Ok(text)
+    match &got.decoder {
+        Some(decoder) => text_by(alloc, &context, decoder),
+        None => {
+            let (_, text) = made(alloc, &context, &[])?;
+            Ok(text)
+        }
+    }
 }

@@ -11,5 +11,5 @@ returns-in-Some-clause-heard c =
     let limit = c.args.settings.now.options.string_limit in
     let sp = sp_of c.args.registers in
     let w : wants_of limit (At_entry (call_of c.args.registers) sp) c.args.got ≡ Some c.in-Some.want =
-    ap (λ g. wants_of limit (At_entry (call_of c.args.registers) sp) g) (sym c.as_slice.ensures) ∙ ap (λ x. wants_of limit (At_entry x sp) c.as_slice.result.now) (sym c.call.ensures) ∙ sym c.in_ok-wish.ensures ∙ c.in-Some.is in
-    rw w (more _ (EntryPeek c.args.registers c.args.got c.in-Some.want) c.new.result c.args.printer.now c.new.ensures)
+    ap (λ g. wants_of limit (At_entry (call_of c.args.registers) sp) g) (sym c.in_ok-got.ensures) ∙ ap (λ x. wants_of limit (At_entry x sp) c.in_ok-got.got) (sym c.call.ensures) ∙ sym c.in_ok-wish.ensures ∙ c.in-Some.is in
+    rw (w, ← c.in_ok-got.ensures) (more _ (EntryPeek c.args.registers c.in_ok-got.got c.in-Some.want) c.new.result c.args.printer.now c.new.ensures)
