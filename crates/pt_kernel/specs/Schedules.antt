@@ -1,5 +1,6 @@
 -- Schedules: which event of a host comes next, as the host stands.
-use Rattle.std.specs.Prelude.{ℕ, zero, suc, ◌+◌, ◌-◌, ◌==◌, nat_lt, min, Bool, true, false, cond, not, ◌&&◌, List, [], ◌∷◌, Option, Some, None}
+use Rattle.std.specs.Prelude.{ℕ, zero, suc, ◌+◌, ◌-◌, ◌==◌, nat_lt, min, Bool, true, false, cond, not, ◌&&◌, List, [], ◌∷◌, Option, Some, None, option_map}
+use Rattle.lx_abi.specs.Words.{words_of}
 use Rattle.lx_abi.specs.declared.schedule.Event.{Event}
 use Rattle.lx_abi.specs.declared.schedule.Event.TheVariants.{Turn, Serve}
 use Rattle.lx_abi.specs.declared.schedule.Word.{Word}
@@ -41,6 +42,10 @@ listed events = record { order = order.Listed (record { events = events; left = 
 
 abbrev pub worded : List Word → ℕ → Schedule
 worded words limit = record { order = order.Worded (record { words = words; serving = true; returning = None; row = None; left = min limit most_events }) }
+
+-- by the words of a text
+abbrev pub scheduled : List ℕ → ℕ → Option Schedule
+scheduled text limit = option_map (λ words. worded words limit) (words_of text)
 
 -- The next able pid in cyclic order
 

@@ -1,11 +1,13 @@
 //! The order of a host's events.
 
-ghost use Rattle.std.specs.Prelude.{◌≡◌, ◌-◌, ◌+◌, ◌≤◌, ◌<◌, ◌^◌, min, None, false, true};
-ghost use Rattle.pt_kernel.specs.Schedules.{most_events, first_able, next_able, turn_with, turn_of, serve_of, end_of, next_row, go_on, by_default, by_word, goes_on, after_serves, next_worded, next_listed, next_of, left_in_row, listed, worded};
+ghost use Rattle.std.specs.Prelude.{◌≡◌, ◌-◌, ◌+◌, ◌≤◌, ◌<◌, ◌^◌, min, Some, None, false, true, MatchResult};
+ghost use Rattle.lx_abi.specs.Words.{words_of, IsRefusal};
+ghost use Rattle.pt_kernel.specs.Schedules.{most_events, first_able, next_able, turn_with, turn_of, serve_of, end_of, next_row, go_on, by_default, by_word, goes_on, after_serves, next_worded, next_listed, next_of, left_in_row, listed, worded, scheduled};
 
 use crate::queue::Queue;
 use crate::system::System;
-use lx_abi::{Event, Word};
+use lx_abi::{Event, ScheduleFault, Word, parse_words};
+use std::alloc::Global;
 
 /// No schedule gives more events.
 const MOST_EVENTS: u64 = 1 << 39;
@@ -282,6 +284,16 @@ impl Schedule {
                 row: None,
                 left: limit.min(MOST_EVENTS),
             }),
+        }
+    }
+
+    /// As `words` by those of a text; a text is refused as `parse_words` refuses it.
+    pub fn parse(alloc: Global, text: &str, limit: u64) -> Result<Self, ScheduleFault>
+        ensures { MatchResult result (λ schedule. Some schedule ≡ scheduled text.now limit) (λ fault. IsRefusal fault (words_of text.now)) }
+    {
+        match parse_words(alloc, text) {
+            Ok(words) => Ok(Schedule::words(words, limit)),
+            Err(fault) => Err(fault),
         }
     }
 
