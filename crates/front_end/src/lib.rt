@@ -10,6 +10,7 @@ mod parser;
 mod reading;
 mod shown;
 mod start;
+mod turns;
 
 pub use boot::{BootWords, boot_of, read_files, refuse_boot};
 pub use expressions::{Expressions, RefusedExpression, parse_expressions};
@@ -19,3 +20,4 @@ pub use parser::{refusal, shown_words};
 pub use reading::{MOST_INPUT, read_input, read_text};
 pub use shown::{Escaped, Shown};
 pub use start::arguments;
+pub use turns::read_turns;

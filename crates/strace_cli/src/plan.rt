@@ -3,8 +3,8 @@
 use crate::fault::Fault;
 use crate::words::TraceOptions;
 use clap::ArgMatches;
-use front_end::{BootWords, boot_of, parse_expressions};
-use lx_abi::{Boot, Script};
+use front_end::{BootWords, boot_of, parse_expressions, read_turns};
+use lx_abi::{Boot, Script, Word};
 use std::io::Read;
 use std::rt::Files;
 use tr_core::Options;
@@ -14,9 +14,12 @@ pub struct Plan {
     pub boot: Boot,
     pub script: Script,
     pub options: Options,
+    /// The words of the schedule.
+    pub turns: Vec<Word>,
 }
 
-/// Reads what the words ask for. Faults are looked for in the expressions, the files and the input.
+/// Reads what the words ask for. Faults are looked for in the expressions, the schedule, the files and the
+/// input.
 pub fn read_plan<R: Files + AllocGlobal, I: Read>(
     rt: &R,
     matches: &ArgMatches,
@@ -31,6 +34,7 @@ pub fn read_plan<R: Files + AllocGlobal, I: Read>(
         Ok(expressions) => expressions,
         Err(refused) => return Err(Fault::from(refused.fault)),
     };
+    let turns = read_turns(rt, matches.get_str("turns"))?;
     let words = BootWords {
         files: matches.get_strs("file").unwrap_or(&[]),
         program: matches.get_strs("program").unwrap_or(&[]),
@@ -46,5 +50,6 @@ pub fn read_plan<R: Files + AllocGlobal, I: Read>(
             string_limit: options.string_limit,
             width: options.column,
         },
+        turns,
     })
 }

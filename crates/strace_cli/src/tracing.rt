@@ -8,7 +8,7 @@ use clap::ArgMatches;
 use front_end::{Shown, refuse_boot};
 use host_link::{ChildLink, Link, LinkFault, LocalLink};
 use host_wire::{Counted, Sink};
-use lx_abi::{Boot, Outcome, Reply, Request, Script, Seq};
+use lx_abi::{Boot, Outcome, Reply, Request, Script, Seq, Word};
 use lx_kernel::BootFault;
 use pt_kernel::{Host, Schedule};
 use std::alloc::Global;
@@ -53,7 +53,7 @@ fn run_here<W: Sink>(
 ) -> Result<Outcome, Fault> {
     match Host::boot(alloc, plan.boot) {
         Ok(host) => {
-            let mut link = LocalLink::new(host, Schedule::words(Vec::new(alloc), limit));
+            let mut link = LocalLink::new(host, Schedule::words(plan.turns, limit));
             run_over(alloc, &mut link, lines, plan.script, plan.options)
         }
         Err(fault) => Err(Fault::from(refuse_boot(alloc, fault))),
@@ -73,12 +73,18 @@ fn refused_boot(alloc: Global, number: u8) -> Fault {
     Fault::from(refuse_boot(alloc, fault))
 }
 
-/// Boots the host behind a link, which is to follow the default schedule.
-fn boot_over<L: Link>(alloc: Global, link: &mut L, boot: Boot, limit: u64) -> Result<(), Fault> {
+/// Boots the host behind a link, which is to follow a schedule by these words.
+fn boot_over<L: Link>(
+    alloc: Global,
+    link: &mut L,
+    boot: Boot,
+    limit: u64,
+    turns: Vec<Word>,
+) -> Result<(), Fault> {
     let request = Request::Boot {
         boot,
         limit,
-        words: Seq::new(alloc),
+        words: Seq::from_vec(turns),
     };
     match link.call(request)? {
         Reply::Done => Ok(()),
@@ -97,7 +103,7 @@ fn run_there<R: Processes + AllocGlobal, W: Sink>(
 ) -> Result<Outcome, Fault> {
     let alloc = rt.alloc();
     let mut link = ChildLink::start(rt, path, &[])?;
-    boot_over(alloc, &mut link, plan.boot, limit)?;
+    boot_over(alloc, &mut link, plan.boot, limit, plan.turns)?;
     run_over(alloc, &mut link, lines, plan.script, plan.options)
 }
 

@@ -77,6 +77,12 @@ fn with_kernel<'a>(alloc: Global, command: Command<'a>) -> Result<Command<'a>, A
             ),
         )?
         .arg(
+            Arg::new(alloc, "turns")
+                .long("turns")
+                .value_name("FILE")
+                .help("A schedule by words, as 1 -2 s 1. (the default schedule)"),
+        )?
+        .arg(
             Arg::new(alloc, "limit")
                 .long("limit")
                 .value_name("N")

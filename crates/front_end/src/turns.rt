@@ -1,0 +1,21 @@
+//! Schedules by words.
+
+use crate::fault::Fault;
+use crate::reading::read_text;
+use crate::shown::Shown;
+use lx_abi::{ScheduleFault, Word, parse_words};
+use std::rt::Files;
+
+/// The words in the file after `--turns`; none where no file is named.
+pub fn read_turns<R: Files + AllocGlobal>(rt: &R, path: Option<&str>) -> Result<Vec<Word>, Fault> {
+    let alloc = rt.alloc();
+    let Some(path) = path else {
+        return Ok(Vec::new(alloc));
+    };
+    let text = read_text(rt, path)?;
+    match parse_words(alloc, text.as_str()) {
+        Ok(words) => Ok(words),
+        Err(ScheduleFault::Memory) => Err(Fault::Memory),
+        Err(fault) => Err(Fault::usage(format!(in alloc; "--turns {}: {fault}", Shown(path)))),
+    }
+}
