@@ -1,0 +1,119 @@
+//! A boot and sixteen requests, with their replies worked out by hand.
+
+use crate::ends::Pieces;
+use crate::frames::stream;
+use host_serve::serve;
+use host_wire::Counted;
+use std::alloc::Global;
+use std::test::Fail;
+
+/// A boot of `/p`, a program that writes `hi` and a line feed and exits with 0, by at most 10,000,000 events.
+pub const BOOT: &str = "\
+    010100000000000098968000000000\
+    00000001000000022f70\
+    00000000\
+    00000001000000022f700000009f\
+    7f454c460201010000000000000000000200f300010000007800010000000000\
+    4000000000000000000000000000000000000000000038000100000000000000\
+    0100000005000000000000000000000000000100000000000000000000000000\
+    9f000000000000009f00000000000000000000000000000013051000b7050100\
+    9385c509130630009308000473000000130500009308e0057300000068690a\
+    00000000";
+
+/// The registers of the first call, execve: pc 0x10000, sp, a0 the path, a1 and a2 the vectors, a7 221.
+pub const AT_EXECVE: &str = "83\
+    00000100000000000000000000000000b0efffff3f0000000000000000000000\
+    0000000000000000000000000000000000000000000000000000000000000000\
+    00000000000000000000000000000000fdefffff3f000000b8efffff3f000000\
+    c8efffff3f000000000000000000000000000000000000000000000000000000\
+    0000000000000000dd0000000000000000000000000000000000000000000000\
+    0000000000000000000000000000000000000000000000000000000000000000\
+    0000000000000000000000000000000000000000000000000000000000000000\
+    0000000000000000000000000000000000000000000000000000000000000000";
+
+/// The registers of the program at its beginning: pc 0x10078, and sp alone of the others.
+const AT_START: &str = "83\
+    78000100000000000000000000000000b0efffff3f0000000000000000000000\
+    0000000000000000000000000000000000000000000000000000000000000000\
+    0000000000000000000000000000000000000000000000000000000000000000\
+    0000000000000000000000000000000000000000000000000000000000000000\
+    0000000000000000000000000000000000000000000000000000000000000000\
+    0000000000000000000000000000000000000000000000000000000000000000\
+    0000000000000000000000000000000000000000000000000000000000000000\
+    0000000000000000000000000000000000000000000000000000000000000000";
+
+/// Requests with their replies.
+pub static ROWS: [(&str, &str); 17] = [
+    (BOOT, "81"),
+    // Seize 1 with TRACESYSGOOD and TRACEEXEC.
+    ("020000000100000011", "81"),
+    // Wait: EVENT_STOP.
+    ("04", "82000000010080057f"),
+    // Syscall, and Wait: a syscall stop.
+    ("080000000100000000", "81"),
+    ("04", "82000000010000857f"),
+    ("0500000001", AT_EXECVE),
+    // Peek of 3 bytes of the path.
+    ("07000000010000003fffffeffd00000003", "84000000032f7000"),
+    // SigInfo at another stop than a signal's: EINVAL.
+    ("0a00000001", "8800000016"),
+    // SetOptions with a bit that is none: EINVAL.
+    ("030000000100000008", "8800000016"),
+    // GetRegs of a process that isn't there: ESRCH.
+    ("0500000002", "8800000003"),
+    // Syscall, and Wait: EVENT_EXEC, whose message is the process itself.
+    ("080000000100000000", "81"),
+    ("04", "82000000010004057f"),
+    ("0900000001", "850000000000000001"),
+    // Syscall with a signal at an event stop: EIO.
+    ("080000000100000009", "8800000005"),
+    // Syscall, and Wait: the exit stop of execve.
+    ("080000000100000000", "81"),
+    ("04", "82000000010000857f"),
+    ("0500000001", AT_START),
+];
+
+/// The frames of the requests.
+pub fn requests(alloc: Global) -> Result<Vec<u8>, Fail> {
+    let mut messages = Vec::new(alloc);
+    for (request, _) in ROWS.iter().copied() {
+        messages.push(request)?;
+    }
+    stream(alloc, messages.as_slice())
+}
+
+/// The frames of the replies.
+pub fn replies(alloc: Global) -> Result<Vec<u8>, Fail> {
+    let mut messages = Vec::new(alloc);
+    for (_, reply) in ROWS.iter().copied() {
+        messages.push(reply)?;
+    }
+    stream(alloc, messages.as_slice())
+}
+
+/// What the host writes that reads these bytes, so many at a time at most.
+fn served(alloc: Global, bytes: &[u8], most: usize) -> Result<Vec<u8>, Fail> {
+    let mut reader = Counted::new(Pieces::new(bytes, most, false));
+    let mut writer = Counted::new(Vec::new(alloc));
+    let outcome = serve(alloc, &mut reader, &mut writer)?;
+    if !outcome.console.is_empty() || !outcome.ended.as_slice().is_empty() {
+        return Err(Fail::from("nothing is written, and nobody has ended"));
+    }
+    Ok(writer.into_inner())
+}
+
+/// In one piece, byte by byte, and cut where no frame ends.
+#[test]
+fn served_however_cut(rt: HostRuntime) -> Result<(), Fail> {
+    let requests = requests(rt.alloc())?;
+    let wanted = replies(rt.alloc())?;
+    for most in [usize::MAX, 1, 7] {
+        let written = served(rt.alloc(), requests.as_slice(), most)?;
+        assert_eq!(rt;
+            written.as_slice(),
+            wanted.as_slice(),
+            "{most} bytes at a time"
+        );
+    }
+    Ok(())
+}

@@ -1,0 +1,38 @@
+//! Readers that cut what they give, and fail.
+
+use std::io::{self, ErrorKind, Read};
+
+/// Gives some bytes, so many at a time at most, and then the end or an error.
+#[derive(Drop)]
+pub struct Pieces<'a> {
+    left: &'a [u8],
+    most: usize,
+    fails: bool,
+    /// How many bytes were given.
+    pub given: usize,
+}
+
+impl<'a> Pieces<'a> {
+    pub fn new(bytes: &'a [u8], most: usize, fails: bool) -> Self {
+        Pieces {
+            left: bytes,
+            most,
+            fails,
+            given: 0,
+        }
+    }
+}
+
+impl<'a> Read for Pieces<'a> {
+    fn read(&mut self, buf: &mut [u8]) -> io::Result<usize> {
+        if self.left.is_empty() && self.fails {
+            return Err(io::Error::new(ErrorKind::Other, "no more"));
+        }
+        let count = self.left.len().min(buf.len()).min(self.most);
+        let (now, left) = self.left.split_at(count);
+        buf[..count].copy_from_slice(now);
+        self.left = left;
+        self.given = self.given.saturating_add(count);
+        Ok(count)
+    }
+}

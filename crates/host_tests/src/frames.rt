@@ -1,0 +1,30 @@
+//! Frames written out by hand: a length of 4 bytes, a number of 8, a kind and a body.
+
+use std::alloc::Global;
+use std::test::Fail;
+
+/// The frame of this number whose kind and body are told by hexadecimal digits.
+pub fn frame(alloc: Global, number: u64, message: &str) -> Result<Vec<u8>, Fail> {
+    let message = hex::decode(alloc, message)?;
+    let length = u32::try_from(message.len())?.wrapping_add(8);
+    let mut bytes = length.to_be_bytes().to_vec(alloc)?;
+    bytes.extend_from_slice(number.to_be_bytes().as_slice())?;
+    bytes.extend_from_slice(message.as_slice())?;
+    Ok(bytes)
+}
+
+/// The frames of these messages, numbered from 1.
+pub fn stream(alloc: Global, messages: &[&str]) -> Result<Vec<u8>, Fail> {
+    let mut bytes = Vec::new(alloc);
+    let mut number = 0u64;
+    for message in messages {
+        number = number.wrapping_add(1);
+        bytes.extend_from_slice(frame(alloc, number, message)?.as_slice())?;
+    }
+    Ok(bytes)
+}
+
+/// Some of the bytes; none where they don't reach so far.
+pub fn part(bytes: &[u8], from: usize, to: usize) -> &[u8] {
+    bytes.get(from..to).unwrap_or(&[])
+}
