@@ -8,6 +8,8 @@ mod expressions;
 #[cfg(test)]
 mod lines;
 #[cfg(test)]
+mod local_runs;
+#[cfg(test)]
 mod reading;
 #[cfg(test)]
 mod runs;
