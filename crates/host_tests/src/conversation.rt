@@ -1,9 +1,12 @@
 //! A boot and sixteen requests, with their replies worked out by hand.
 
 use crate::ends::Pieces;
-use crate::frames::stream;
+use crate::frames::{part, stream};
+use host_link::{Link, LocalLink, PipeLink};
 use host_serve::serve;
-use host_wire::Counted;
+use host_wire::{Body, Counted, Feed, Frame, encode};
+use lx_abi::{Boot, Request};
+use pt_kernel::{Host, Schedule};
 use std::alloc::Global;
 use std::test::Fail;
 
@@ -114,6 +117,105 @@ fn served_however_cut(rt: HostRuntime) -> Result<(), Fail> {
             wanted.as_slice(),
             "{most} bytes at a time"
         );
+    }
+    Ok(())
+}
+
+/// What is known of a request to a host in this process: its own boot.
+fn boot_of(frame: Frame) -> Result<(Boot, u64), Fail> {
+    match frame.body {
+        Body::Request(Request::Boot { boot, limit, .. }) => Ok((boot, limit)),
+        _ => Err(Fail::from("the first frame is a boot")),
+    }
+}
+
+/// A link to the host of the boot that the feed begins with.
+fn link_of(alloc: Global, feed: &mut Feed) -> Result<LocalLink, Fail> {
+    let frame = feed.take().ok_or("a boot")?;
+    let (boot, limit) = boot_of(frame)?;
+    match Host::boot(alloc, boot) {
+        Ok(host) => Ok(LocalLink::new(host, Schedule::words(Vec::new(alloc), limit))),
+        Err(_) => Err(Fail::from("the boot is accepted")),
+    }
+}
+
+/// The reply of a link, as a frame.
+fn reply_frame<L: Link>(
+    alloc: Global,
+    link: &mut L,
+    number: u64,
+    body: Body,
+) -> Result<Vec<u8>, Fail> {
+    let Body::Request(request) = body else {
+        return Err(Fail::from("a request"));
+    };
+    match link.call(request) {
+        Ok(reply) => {
+            let body = Body::Reply(reply);
+            Ok(
+                encode(alloc, &Frame { number, body })
+                    .ok()
+                    .ok_or("a frame")?,
+            )
+        }
+        Err(_) => Err(Fail::from("a reply")),
+    }
+}
+
+/// The frames of the replies of a link to the requests that the feed has left.
+fn answered<L: Link>(alloc: Global, link: &mut L, feed: &mut Feed) -> Result<Vec<u8>, Fail> {
+    let mut written = Vec::new(alloc);
+    for _ in 0..ROWS.len() {
+        let Some(frame) = feed.take() else {
+            break;
+        };
+        let bytes = reply_frame(alloc, link, frame.number, frame.body)?;
+        written.extend_from_slice(bytes.as_slice())?;
+    }
+    Ok(written)
+}
+
+/// A feed of all the requests.
+fn fed(alloc: Global) -> Result<Feed, Fail> {
+    let mut feed = Feed::new(alloc);
+    match feed.feed(requests(alloc)?.as_slice()) {
+        Ok(()) => Ok(feed),
+        Err(_) => Err(Fail::from("frames")),
+    }
+}
+
+#[test]
+fn answered_in_this_process(rt: HostRuntime) -> Result<(), Fail> {
+    let alloc = rt.alloc();
+    let mut feed = fed(alloc)?;
+    let mut link = link_of(alloc, &mut feed)?;
+    let written = answered(alloc, &mut link, &mut feed)?;
+    assert_eq!(rt; link.asked(), 16);
+    assert_eq!(rt; link.faults(), 0);
+    // The first reply is that to the boot.
+    let wanted = replies(alloc)?;
+    assert_eq!(rt;
+        written.as_slice(),
+        part(wanted.as_slice(), 13, wanted.len())
+    );
+    Ok(())
+}
+
+/// Over pipes the requests are the frames that a host reads, and the replies those that it writes.
+#[test]
+fn answered_over_pipes(rt: HostRuntime) -> Result<(), Fail> {
+    let alloc = rt.alloc();
+    let replies = replies(alloc)?;
+    for most in [usize::MAX, 1] {
+        let mut feed = fed(alloc)?;
+        let mut sent = Vec::new(alloc);
+        let reader = Counted::new(Pieces::new(replies.as_slice(), most, false));
+        let mut link = PipeLink::new(alloc, reader, Counted::new(&mut sent))?;
+        let written = answered(alloc, &mut link, &mut feed)?;
+        assert_eq!(rt; link.asked(), 17);
+        assert_eq!(rt; link.faults(), 0);
+        assert_eq!(rt; written.as_slice(), replies.as_slice());
+        assert_eq!(rt; sent.as_slice(), requests(alloc)?.as_slice());
     }
     Ok(())
 }

@@ -11,4 +11,8 @@ mod ends;
 #[cfg(test)]
 mod frames;
 #[cfg(test)]
+mod requests;
+#[cfg(test)]
 mod serving;
+#[cfg(test)]
+mod wire;

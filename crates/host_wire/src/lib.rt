@@ -23,6 +23,3 @@ pub use feed::Feed;
 pub use frame::{Body, Frame};
 pub use receiving::{ReceiveFault, receive};
 pub use writing::encode;
-
-#[cfg(test)]
-mod tests;

@@ -1,0 +1,314 @@
+//! Frames: each kind as its bytes, faults at their bytes, and streams cut anywhere.
+
+use crate::conversation::BOOT;
+use crate::frames::{frame, part, stream};
+use host_wire::{Body, Feed, Frame, WireFault, encode};
+use lx_abi::{Ask, Reply, Request, Status};
+use std::alloc::Global;
+use std::test::Fail;
+
+/// The registers 1 to 32, the lowest byte of each first.
+const REGISTERS: &str = "\
+    0100000000000000020000000000000003000000000000000400000000000000\
+    0500000000000000060000000000000007000000000000000800000000000000\
+    09000000000000000a000000000000000b000000000000000c00000000000000\
+    0d000000000000000e000000000000000f000000000000001000000000000000\
+    1100000000000000120000000000000013000000000000001400000000000000\
+    1500000000000000160000000000000017000000000000001800000000000000\
+    19000000000000001a000000000000001b000000000000001c00000000000000\
+    1d000000000000001e000000000000001f000000000000002000000000000000";
+
+/// These digits, and then the registers.
+fn with_registers(alloc: Global, prefix: &str) -> Result<String, Fail> {
+    Ok(format!(in alloc; "{prefix}{REGISTERS}")?)
+}
+
+/// What is read of a frame with this message, and is written again.
+fn again(alloc: Global, message: &str) -> Result<Vec<u8>, Fail> {
+    let mut feed = Feed::new(alloc);
+    if feed.feed(frame(alloc, 5, message)?.as_slice()).is_err() {
+        return Err(Fail::from("a frame"));
+    }
+    let frame = feed.take().ok_or("a frame")?;
+    if feed.missing() != 4 || frame.number != 5 {
+        return Err(Fail::from("the frame of that number alone"));
+    }
+    Ok(encode(alloc, &frame).ok().ok_or("a frame")?)
+}
+
+/// Each kind of request, and of reply, has one spelling.
+#[test]
+fn each_kind(rt: HostRuntime) -> Result<(), Fail> {
+    let alloc = rt.alloc();
+    let set_registers = with_registers(alloc, "0600000001")?;
+    let registers = with_registers(alloc, "83")?;
+    let rows = [
+        BOOT,
+        // follow, a limit, input, two words, an environment, a file, and each word of a schedule
+        "0101010123456789abcdef000000017800000002000000022f7000000000\
+         00000001000000034b3d7600000001000000022f660000000163000000040100000001\
+         02000000020300000000040000000f",
+        "020000000100000013",
+        "03ffffffff00000000",
+        "04",
+        "0500000001",
+        set_registers.as_str(),
+        "07000000010000003fffffeffd00001000",
+        "08000000010000000b",
+        "0900000001",
+        "0a00000001",
+        "0b",
+        "81",
+        "820000000100000b7f",
+        registers.as_str(),
+        "84000000032f7000",
+        "850000000000000002",
+        "860000000b0000000100000000000000000000000000000010",
+        // a console, a file with a content and a directory in the order of their paths, and two that ended
+        "870000000368690a00000002000000022f61010000000163000000022f62\
+         02000000000000000200000001000000000000000200000009",
+        "8800000016",
+        "89",
+        "8a05",
+    ];
+    for message in rows {
+        let wanted = frame(alloc, 5, message)?;
+        assert_eq!(rt;
+            again(alloc, message)?.as_slice(),
+            wanted.as_slice(),
+            "{message}"
+        );
+    }
+    Ok(())
+}
+
+/// Two frames, byte for byte: Wait 3, and its reply, EVENT_STOP of process 1.
+#[test]
+fn two_frames(rt: HostRuntime) -> Result<(), Fail> {
+    let alloc = rt.alloc();
+    let status = Reply::Status {
+        pid: 1,
+        status: Status { word: 0x80057f },
+    };
+    let rows = [
+        (Body::Request(Request::Wait), "00000009000000000000000304"),
+        (
+            Body::Reply(status),
+            "00000011000000000000000382000000010080057f",
+        ),
+    ];
+    for (body, wanted) in rows {
+        let bytes = encode(alloc, &Frame { number: 3, body })
+            .ok()
+            .ok_or("a frame")?;
+        assert_eq!(rt; hex::encode(alloc, bytes.as_slice())?.as_str(), wanted);
+    }
+    Ok(())
+}
+
+/// What a stream of these bytes is refused for, and how many frames it gave.
+fn fault_of(alloc: Global, bytes: &[u8]) -> (Option<WireFault>, bool) {
+    let mut feed = Feed::new(alloc);
+    let fault = feed.feed(bytes).err();
+    (fault, feed.take().is_some())
+}
+
+#[test]
+fn faults(rt: HostRuntime) -> Result<(), Fail> {
+    let alloc = rt.alloc();
+    let (length, kind, body) = (
+        Some(WireFault::Length),
+        Some(WireFault::Kind),
+        Some(WireFault::Body),
+    );
+    let rows = [
+        // the length is told by four bytes, and is 9 to 134,217,728
+        ("000000", None),
+        ("00000000", length),
+        ("00000008", length),
+        ("00000009", None),
+        ("08000000", None),
+        ("08000001", length),
+        ("ffffffff", length),
+        // the kind is the thirteenth
+        ("00000009000000000000000100", kind),
+        ("0000000900000000000000010c", kind),
+        ("0000000900000000000000017f", kind),
+        ("00000009000000000000000180", kind),
+        ("0000000900000000000000018b", kind),
+        ("000000ff00000000000000017f", kind),
+        ("000000ff0000000000000001", None),
+        // the body is read once its last byte is there
+        ("0000000a0000000000000001", None),
+        ("0000000a000000000000000104", None),
+        ("0000000a00000000000000010400", body),
+        ("0000000b00000000000000018a0505", body),
+        ("0000000c000000000000000105000000", body),
+        ("0000000900000000000000018a", body),
+        // a list of 2^31 items in a frame of 30 bytes takes no memory for them
+        (
+            "0000001a0000000000000001870000000080000000000000000000000000",
+            body,
+        ),
+    ];
+    for (digits, fault) in rows {
+        let bytes = hex::decode(alloc, digits)?;
+        assert_eq!(rt;
+            fault_of(alloc, bytes.as_slice()),
+            (fault, false),
+            "{digits}"
+        );
+    }
+    Ok(())
+}
+
+/// Bodies that are none, each one change away from one that is read.
+#[test]
+fn bodies(rt: HostRuntime) -> Result<(), Fail> {
+    let alloc = rt.alloc();
+    let rows = [
+        (
+            "01010000000000000000640000000000000000000000000000000000000000",
+            true,
+        ),
+        (
+            "01020000000000000000640000000000000000000000000000000000000000",
+            false,
+        ),
+        (
+            "01010200000000000000640000000000000000000000000000000000000000",
+            false,
+        ),
+        (
+            "010101000000000000006400000000000000000000000000000000000000010300000000",
+            true,
+        ),
+        (
+            "010101000000000000006400000000000000000000000000000000000000010300000001",
+            false,
+        ),
+        (
+            "010101000000000000006400000000000000000000000000000000000000010400000001",
+            true,
+        ),
+        (
+            "010101000000000000006400000000000000000000000000000000000000010500000001",
+            false,
+        ),
+        // a directory has no content, paths and pids rise, and the root is no path
+        ("870000000000000001000000022f61020000000000000000", true),
+        ("870000000000000001000000022f6102000000017800000000", false),
+        ("870000000000000001000000022f61030000000000000000", false),
+        ("870000000000000001000000012f020000000000000000", false),
+        (
+            "870000000000000002000000022f610200000000000000022f62020000000000000000",
+            true,
+        ),
+        (
+            "870000000000000002000000022f620200000000000000022f61020000000000000000",
+            false,
+        ),
+        (
+            "870000000000000002000000022f610200000000000000022f61020000000000000000",
+            false,
+        ),
+        (
+            "8700000000000000000000000200000001000000000000000200000000",
+            true,
+        ),
+        (
+            "8700000000000000000000000200000002000000000000000100000000",
+            false,
+        ),
+        (
+            "8700000000000000000000000200000001000000000000000100000000",
+            false,
+        ),
+    ];
+    for (message, is_read) in rows {
+        let (fault, given) = fault_of(alloc, frame(alloc, 1, message)?.as_slice());
+        assert_eq!(rt; given, is_read, "{message}");
+        assert_eq!(rt; fault, (!is_read).then_some(WireFault::Body), "{message}");
+    }
+    Ok(())
+}
+
+/// Half a frame gives nothing, and its other half the frame.
+#[test]
+fn half_a_frame(rt: HostRuntime) -> Result<(), Fail> {
+    let alloc = rt.alloc();
+    let bytes = frame(alloc, 2, "07000000010000003fffffeffd00000003")?;
+    let mut feed = Feed::new(alloc);
+    let rows = [(0, 0, 4), (0, 2, 2), (2, 15, 14), (15, 28, 1)];
+    for (from, to, missing) in rows {
+        assert!(rt; feed.feed(part(bytes.as_slice(), from, to)).is_ok());
+        assert!(rt; feed.take().is_none(), "{to}");
+        assert_eq!(rt; feed.missing(), missing, "{to}");
+    }
+    assert!(rt; feed.feed(part(bytes.as_slice(), 28, 29)).is_ok());
+    let frame = feed.take().ok_or("a frame")?;
+    assert_eq!(rt; frame.number, 2);
+    assert!(rt;
+        matches!(
+            frame.body,
+            Body::Request(Request::To {
+                pid: 1,
+                ask: Ask::Peek {
+                    address: 0x3f_ffff_effd,
+                    length: 3
+                }
+            })
+        )
+    );
+    assert_eq!(rt; feed.missing(), 4);
+    Ok(())
+}
+
+/// A fault leaves all as if its piece had not come.
+#[test]
+fn after_a_fault(rt: HostRuntime) -> Result<(), Fail> {
+    let alloc = rt.alloc();
+    let bytes = stream(alloc, &["04", "04"])?;
+    let mut feed = Feed::new(alloc);
+    assert!(rt; feed.feed(part(bytes.as_slice(), 0, 16)).is_ok());
+    let rows: [(&[u8], WireFault); 3] = [
+        (&[9, 0, 0, 0, 0, 0, 0, 0, 2, 0x7f], WireFault::Kind),
+        (&[8], WireFault::Length),
+        (&[10, 0, 0, 0, 0, 0, 0, 0, 2, 4, 0], WireFault::Body),
+    ];
+    for (piece, fault) in rows {
+        assert_eq!(rt; feed.feed(piece).err(), Some(fault));
+        assert_eq!(rt; feed.missing(), 1);
+    }
+    assert!(rt; feed.feed(part(bytes.as_slice(), 16, 26)).is_ok());
+    let mut count = 0u8;
+    for _ in 0..3 {
+        if feed.take().is_some() {
+            count = count.saturating_add(1);
+        }
+    }
+    assert_eq!(rt; count, 2);
+    Ok(())
+}
+
+/// 64 KiB byte by byte: no more is done for a byte late in a frame than for an early one.
+#[test]
+fn byte_by_byte(rt: HostRuntime) -> Result<(), Fail> {
+    let alloc = rt.alloc();
+    let bytes = Vec::from_elem(alloc, 7u8, 65_536)?;
+    let body = Body::Reply(Reply::Bytes {
+        bytes: lx_abi::Bytes::from_vec(bytes),
+    });
+    let spelled = encode(alloc, &Frame { number: 1, body })
+        .ok()
+        .ok_or("a frame")?;
+    let mut feed = Feed::new(alloc);
+    for byte in spelled.as_slice() {
+        assert!(rt; feed.feed(&[*byte]).is_ok());
+    }
+    assert!(rt; feed.take().is_some());
+    assert!(rt; feed.feed(spelled.as_slice()).is_ok());
+    assert!(rt; feed.take().is_some());
+    assert!(rt; feed.take().is_none());
+    Ok(())
+}
