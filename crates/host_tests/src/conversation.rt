@@ -4,7 +4,7 @@ use crate::ends::Pieces;
 use crate::frames::{part, stream};
 use host_link::{Link, LocalLink, PipeLink};
 use host_serve::serve;
-use host_wire::{Body, Counted, Feed, Frame, encode};
+use host_wire::{Body, Counted, Feed, Frame, Sink, Source, encode};
 use lx_abi::{Boot, Request};
 use pt_kernel::{Host, Schedule};
 use std::alloc::Global;
@@ -201,6 +201,18 @@ fn answered_in_this_process(rt: HostRuntime) -> Result<(), Fail> {
     Ok(())
 }
 
+/// What a link over these pipes answers, and how many replies and faults it counts.
+fn over_pipes<R: Source + Drop, W: Sink + Drop>(
+    alloc: Global,
+    reader: R,
+    writer: W,
+    feed: &mut Feed,
+) -> Result<(Vec<u8>, u64, u64), Fail> {
+    let mut link = PipeLink::new(alloc, reader, writer)?;
+    let written = answered(alloc, &mut link, feed)?;
+    Ok((written, link.asked(), link.faults()))
+}
+
 /// Over pipes the requests are the frames that a host reads, and the replies those that it writes.
 #[test]
 fn answered_over_pipes(rt: HostRuntime) -> Result<(), Fail> {
@@ -210,10 +222,14 @@ fn answered_over_pipes(rt: HostRuntime) -> Result<(), Fail> {
         let mut feed = fed(alloc)?;
         let mut sent = Vec::new(alloc);
         let reader = Counted::new(Pieces::new(replies.as_slice(), most, false));
-        let mut link = PipeLink::new(alloc, reader, Counted::new(&mut sent))?;
-        let written = answered(alloc, &mut link, &mut feed)?;
-        assert_eq!(rt; link.asked(), 17);
-        assert_eq!(rt; link.faults(), 0);
+        let (written, asked, faults) = over_pipes(
+            alloc,
+            reader,
+            Counted::new(&mut sent),
+            &mut feed,
+        )?;
+        assert_eq!(rt; asked, 17);
+        assert_eq!(rt; faults, 0);
         assert_eq!(rt; written.as_slice(), replies.as_slice());
         assert_eq!(rt; sent.as_slice(), requests(alloc)?.as_slice());
     }

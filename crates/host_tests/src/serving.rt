@@ -49,30 +49,51 @@ const NO_FILES: &str = "00000000";
 
 const P: &str = "00000001000000022f70";
 
+/// The message that a letter stands for: boots and requests in capitals, replies in small letters.
+fn message(letter: char) -> &'static str {
+    match letter {
+        'B' => BOOT,
+        'R' => REFUSED,
+        'W' => WAIT,
+        'L' => "0400",
+        'r' => "8a03",
+        'e' => "880000000a",
+        _ => DONE,
+    }
+}
+
+fn messages(alloc: Global, letters: &str) -> Result<Vec<u8>, Fail> {
+    let mut messages = Vec::new(alloc);
+    for letter in letters.chars() {
+        messages.push(message(letter))?;
+    }
+    stream(alloc, messages.as_slice())
+}
+
 #[test]
 fn order_of_requests(rt: HostRuntime) -> Result<(), Fail> {
     let alloc = rt.alloc();
     let order = Some(ServeFault::Order);
-    let rows: [(&[&str], Option<ServeFault>, &[&str]); 11] = [
-        (&[], None, &[]),
-        (&[BOOT], None, &[DONE]),
-        (&[WAIT], order, &[]),
-        (&[DONE], order, &[]),
-        (&[BOOT, BOOT], order, &[DONE]),
-        (&[BOOT, DONE], order, &[DONE]),
-        (&[BOOT, WAIT], None, &[DONE, "880000000a"]),
-        (&[REFUSED], None, &["8a03"]),
-        (&[REFUSED, BOOT], order, &["8a03"]),
-        (&[REFUSED, WAIT], order, &["8a03"]),
-        (&[BOOT, "0400"], Some(ServeFault::Wire), &[DONE]),
+    let rows = [
+        ("", None, ""),
+        ("B", None, "d"),
+        ("W", order, ""),
+        ("d", order, ""),
+        ("BB", order, "d"),
+        ("Bd", order, "d"),
+        ("BW", None, "de"),
+        ("R", None, "r"),
+        ("RB", order, "r"),
+        ("RW", order, "r"),
+        ("BL", Some(ServeFault::Wire), "d"),
     ];
     for (requests, fault, replies) in rows {
-        let (ended, written) = end_of(alloc, stream(alloc, requests)?.as_slice(), false);
-        assert_eq!(rt; ended, fault, "{requests:?}");
+        let (ended, written) = end_of(alloc, messages(alloc, requests)?.as_slice(), false);
+        assert_eq!(rt; ended, fault, "{requests}");
         assert_eq!(rt;
             written.as_slice(),
-            stream(alloc, replies)?.as_slice(),
-            "{requests:?}"
+            messages(alloc, replies)?.as_slice(),
+            "{requests}"
         );
     }
     Ok(())
