@@ -21,6 +21,7 @@ build-%:
 test:
 	rt ci
 	tests/guests
+	tests/calls
 	tests/traces
 	tests/faults
 	tests/served

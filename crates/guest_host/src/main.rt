@@ -1,20 +1,7 @@
 //! The host of guests: runs a program on the plain kernel, serves a tracer, or assembles a program.
 #![tactic(auto)]
 
-mod asm;
-mod boot;
-mod command;
-mod expressions;
-mod fault;
-mod log;
-mod plain;
-mod schedule;
-mod serving;
-#[cfg(test)]
-mod tests;
-mod words;
-
-use fault::Fault;
+use guest_commands::{Fault, command, tell};
 use std::process::ExitCode;
 
 fn main(rt: HostRuntime) -> ExitCode {
@@ -22,8 +9,8 @@ fn main(rt: HostRuntime) -> ExitCode {
     let mut out = rt.stdout();
     let mut err = rt.stderr();
     let status = match front_end::arguments(&rt) {
-        Ok(words) => command::command(&rt, words.as_slice(), &mut input, &mut out, &mut err),
-        Err(fault) => command::tell(Fault::from(fault), &mut err),
+        Ok(words) => command(&rt, words.as_slice(), &mut input, &mut out, &mut err),
+        Err(fault) => tell(Fault::from(fault), &mut err),
     };
     ExitCode::from(status)
 }

@@ -4,9 +4,9 @@ use Rattle.std.specs.Prelude.{IsSome}
 use Rattle.std.specs.Io.KnownBytes.{Consumes}
 use Rattle.lx_abi.specs.declared.ptrace.Reply.{Reply}
 use Rattle.pt_model.specs.Admissible.{answers}
-use Rattle.host_wire.specs.declared.frame.Body.{Body}
-use Rattle.host_wire.specs.declared.frame.Body.TheVariants.{Request as Of_request, Reply as Of_reply}
-use Rattle.host_wire.specs.declared.frame.Frame.{Frame}
+use Rattle.host_frame.specs.declared.frame.Body.{Body}
+use Rattle.host_frame.specs.declared.frame.Body.TheVariants.{Request as Of_request, Reply as Of_reply}
+use Rattle.host_frame.specs.declared.frame.Frame.{Frame}
 use Rattle.host_wire.specs.Receiving.{Received}
 use Rattle.host_wire.specs.Streams.{Going, Feeding, nothing_fed, stream_of}
 use Rattle.host_link.specs.declared.fault.LinkFault.{LinkFault}

@@ -3,13 +3,13 @@ use Rattle.std.specs.Prelude.{◌≡◌, ◌⊎◌, ℕ, ◌^◌, Bool, true, fa
 use Rattle.lx_abi.specs.declared.ptrace.Reply.{Reply}
 use Rattle.lx_abi.specs.declared.ptrace.Reply.TheVariants.{OutOfTurns as Out_of_turns}
 use Rattle.lx_abi.specs.declared.ptrace.Request.{Request}
-use Rattle.pt_kernel.specs.Hosts.{HostState}
-use Rattle.pt_kernel.specs.declared.schedule.Schedule.{Schedule}
+use Rattle.pt_kernel.specs.Hosts.{HostState, is_boot}
+use Rattle.pt_schedule.specs.declared.schedule.Schedule.{Schedule}
 use Rattle.pt_model.specs.Ptrace.{is_there}
 use Rattle.host_link.specs.declared.fault.LinkFault.{LinkFault}
 use Rattle.host_link.specs.declared.fault.LinkFault.TheVariants.{Ended, TooMany, Memory, Sequence}
 use Rattle.host_link.specs.declared.local.LocalLink.{LocalLink}
-use Rattle.host_link.specs.Locals.{is_boot, Serves, reply_or_over}
+use Rattle.host_link.specs.Locals.{Serves, reply_or_over}
 
 abbrev pub host_of : LocalLink → HostState
 host_of l = l.host
@@ -33,5 +33,5 @@ Calls a q (Ok r) b =
 Calls a q (Err Ended) b = (a.is_broken ≡ true) ⊎ (is_boot q ≡ true)
 Calls a q (Err TooMany) b = a.given ≡ 2 ^ 40
 Calls a q (Err Memory) b = b.host.failed ≡ true
-Calls a q (Err Sequence) b = is_there a.host.hosting.pending ≡ true
+Calls a q (Err Sequence) b = (a.over ≡ false) × (is_there a.host.hosting.pending ≡ true)
 Calls a q (Err f) b = ⊥

@@ -1,20 +1,12 @@
 -- A host in the tracer's own process: how a request is served.
-use Rattle.std.specs.Prelude.{◌≡◌, Bool, true, false, unwrap_or, Option, Some}
+use Rattle.std.specs.Prelude.{◌≡◌, unwrap_or, Option, Some}
 use Rattle.lx_abi.specs.declared.ptrace.Reply.{Reply}
 use Rattle.lx_abi.specs.declared.ptrace.Reply.TheVariants.{OutOfTurns as Out_of_turns}
 use Rattle.lx_abi.specs.declared.ptrace.Request.{Request}
-use Rattle.lx_abi.specs.declared.ptrace.Request.TheVariants.{Boot as Boot_with, Wait, To, Outcome as Ask_outcome}
 use Rattle.pt_kernel.specs.Attends.{Attended, Attends}
 use Rattle.pt_kernel.specs.Hosts.{HostState}
-use Rattle.pt_kernel.specs.declared.schedule.Schedule.{Schedule}
+use Rattle.pt_schedule.specs.declared.schedule.Schedule.{Schedule}
 use Rattle.pt_model.specs.Hosting.{hosting_asked}
-
--- a host is booted before it has a link
-abbrev pub is_boot : Request → Bool
-is_boot (Boot_with boot limit words) = true
-is_boot Wait = false
-is_boot (To p q) = false
-is_boot Ask_outcome = false
 
 -- the request is put to the host, and the schedule's events follow until it is answered, or the schedule has ended
 pub record Serves (a : HostState) (s : Schedule) (q : Request) (z : Attended) : Type 0 where

@@ -4,14 +4,14 @@ use Rattle.std.specs.Io.KnownBytes.{Appends, Consumes, IsAtEnd}
 use Rattle.lx_abi.specs.declared.ptrace.Reply.{Reply}
 use Rattle.lx_abi.specs.declared.ptrace.Request.{Request}
 use Rattle.pt_model.specs.Admissible.{answers}
-use Rattle.host_wire.specs.declared.frame.Body.{Body}
-use Rattle.host_wire.specs.declared.frame.Body.TheVariants.{Request as Of_request, Reply as Of_reply}
-use Rattle.host_wire.specs.declared.frame.Frame.{Frame}
-use Rattle.host_wire.specs.declared.fault.WireFault.TheVariants.{Length, Kind, Body as Body_fault, Memory as No_memory}
+use Rattle.host_frame.specs.declared.frame.Body.{Body}
+use Rattle.host_frame.specs.declared.frame.Body.TheVariants.{Request as Of_request, Reply as Of_reply}
+use Rattle.host_frame.specs.declared.frame.Frame.{Frame}
+use Rattle.host_frame.specs.declared.fault.WireFault.TheVariants.{Length, Kind, Body as Body_fault, Memory as No_memory}
 use Rattle.host_wire.specs.declared.receiving.ReceiveFault.{ReceiveFault}
 use Rattle.host_wire.specs.declared.receiving.ReceiveFault.TheVariants as receiving
 use Rattle.host_wire.specs.Ends.{AppendsPart}
-use Rattle.host_wire.specs.Spelling.{content, spelled}
+use Rattle.host_frame.specs.Spelling.{content, spelled}
 use Rattle.host_wire.specs.Streams.{Stream, Going, Failed, stream_of}
 use Rattle.host_link.specs.declared.fault.LinkFault.{LinkFault}
 use Rattle.host_link.specs.declared.fault.LinkFault.TheVariants.{Ended, Read, Write, Malformed, Sequence, Inadmissible, Memory, TooMany}

@@ -1,14 +1,16 @@
 //! A link to a host that runs as a process of its own.
 
 ghost use Rattle.std.specs.Prelude.{◌≡◌, ◌⊎◌, Err, IfOk, IfErr};
+ghost use Rattle.host_link.specs.PipeLinks.{faults_of, given_of};
 
 use crate::fault::LinkFault;
 use crate::link::Link;
 use crate::pipe::PipeLink;
 use host_wire::Counted;
 use lx_abi::{Reply, Request};
+use std::alloc::Global;
 use std::io;
-use std::io::ErrorKind;
+use std::io::{BufReader, ErrorKind, Read, Write};
 use std::process::{Child, Command, OpenProcess, Processes, Stdio};
 
 /// The word by which a host is told to serve.
@@ -39,18 +41,36 @@ fn fault_of(error: io::Error) -> LinkFault
     }
 }
 
+/// A link over the pipes of a host. One read of the pipe takes what is there, so that a short reply needs no second.
+fn link_over<O: Read + Drop, I: Write + Drop>(
+    alloc: Global,
+    replies: O,
+    requests: I,
+) -> Result<PipeLink<Counted<BufReader<O>>, Counted<I>>, LinkFault>
+    ensures given { IfOk result (λ link. given_of link ≡ 0) }
+    ensures whole { IfOk result (λ link. faults_of link ≡ 0) }
+    ensures fault { IfErr result (λ fault. fault ≡ LinkFault.Memory) }
+{
+    let Ok(replies) = BufReader::new(alloc, replies) else {
+        return Err(LinkFault::Memory);
+    };
+    match PipeLink::new(alloc, Counted::new(replies), Counted::new(requests)) {
+        Ok(pipe) => Ok(pipe),
+        Err(_) => Err(LinkFault::Memory),
+    }
+}
+
 /// A link to a host that runs as a process of its own.
 ///
 /// Where it is dropped the pipes are closed and the process's end is waited for. A process that gave cause for a fault is
 /// killed before.
 pub struct ChildLink<P: OpenProcess + Drop> {
-    pipe: PipeLink<Counted<P::Stdout>, Counted<P::Stdin>>,
+    pipe: PipeLink<Counted<BufReader<P::Stdout>>, Counted<P::Stdin>>,
     child: Child<P>,
 }
 
 impl<P: OpenProcess + Drop> ChildLink<P> {
     ghost use Rattle.host_link.specs.Children.{pipe_of};
-    ghost use Rattle.host_link.specs.PipeLinks.{faults_of, given_of};
     ghost use Rattle.host_link.specs.declared.fault.LinkFault.TheVariants.{Ended, Memory};
 
     /// Starts a host: the program at this path, with the word `serve` and then these. Ended where it can't be started.
@@ -71,11 +91,11 @@ impl<P: OpenProcess + Drop> ChildLink<P> {
             end(child, true);
             return Err(LinkFault::Ended);
         };
-        match PipeLink::new(rt.alloc(), Counted::new(replies), Counted::new(requests)) {
+        match link_over(rt.alloc(), replies, requests) {
             Ok(pipe) => Ok(ChildLink { pipe, child }),
-            Err(_) => {
+            Err(fault) => {
                 end(child, true);
-                Err(LinkFault::Memory)
+                Err(fault)
             }
         }
     }
@@ -99,11 +119,12 @@ impl<P: OpenProcess + Drop> Drop for ChildLink<P> {
 }
 
 impl<P: OpenProcess + Drop> Link for ChildLink<P> {
+    ghost use Rattle.std.specs.Io.Buffered.{reader_remaining};
     ghost use Rattle.host_wire.specs.Counting.{faults_of as faults_of_end, inner_of};
     ghost use Rattle.host_link.specs.Children.{pipe_of};
-    ghost use Rattle.host_link.specs.PipeLinks.{Asks, faults_of, given_of};
+    ghost use Rattle.host_link.specs.PipeLinks.{Asks};
 
-    ghost answers = { λ a q r b. Asks (λ e. P.Stdout.remaining (inner_of e)) (λ e. faults_of_end e) (λ e. P.Stdin.contents (inner_of e)) (λ e. faults_of_end e) (pipe_of a) q r (pipe_of b) };
+    ghost answers = { λ a q r b. Asks (λ e. reader_remaining P.Stdout.remaining (inner_of e)) (λ e. faults_of_end e) (λ e. P.Stdin.contents (inner_of e)) (λ e. faults_of_end e) (pipe_of a) q r (pipe_of b) };
 
     ghost given = { λ l. given_of (pipe_of l) };
 

@@ -1,7 +1,8 @@
 //! A link to a host in the tracer's own process.
 
 ghost use Rattle.std.specs.Prelude.{◌≡◌, ◌≤◌, ◌^◌, true, false, is_none, Option, IfOk, IfErr, OnOk};
-ghost use Rattle.host_link.specs.Locals.{Serves, reply_or_over, is_boot};
+ghost use Rattle.host_link.specs.Locals.{Serves, reply_or_over};
+ghost use Rattle.pt_kernel.specs.Hosts.{is_boot};
 ghost use Rattle.lx_abi.specs.declared.ptrace.Reply.{Reply};
 ghost use Rattle.pt_model.specs.Ptrace.{is_there};
 
@@ -32,6 +33,7 @@ fn serve(
     schedule: &mut Schedule,
     request: Request,
 ) -> Result<Option<Reply>, Unserved>
+    requires { is_boot request ≡ false }
     ensures served { IfOk result (λ x. Serves host.old schedule.old request (record { host = host.new; schedule = schedule.new; reply = x })) }
     ensures busy { result ≡ Err Unserved.Busy → is_there host.old.hosting.pending ≡ true }
     ensures failed { result ≡ Err Unserved.Failed → host.new.failed ≡ true }

@@ -6,7 +6,7 @@ use Rattle.lx_abi.specs.declared.outcome.Outcome.{Outcome}
 use Rattle.lx_abi.specs.declared.ptrace.Reply.{Reply}
 use Rattle.lx_abi.specs.declared.ptrace.Request.{Request}
 use Rattle.host_wire.specs.Ends.{AppendsPart}
-use Rattle.host_wire.specs.Spelling.{spelled, reply_frame}
+use Rattle.host_frame.specs.Spelling.{spelled, reply_frame}
 use Rattle.host_wire.specs.Streams.{Going, goes_on}
 use Rattle.host_wire.proofs.Streams.{frames_join}
 use Rattle.host_serve.specs.declared.fault.ServeFault.{ServeFault}

@@ -8,11 +8,11 @@ use Rattle.lx_abi.specs.declared.ptrace.Request.{Request}
 use Rattle.lx_kernel.specs.Boots.{Refuses, fault_number, fault_of}
 use Rattle.lx_kernel.specs.First.{first_shared}
 use Rattle.lx_kernel.specs.Outcomes.{outcome_in}
-use Rattle.lx_kernel.specs.Programs.{booted}
+use Rattle.lx_pcalls.specs.Programs.{booted}
 use Rattle.lx_kernel.specs.declared.boots.BootFault.{BootFault}
 use Rattle.pt_model.specs.Hosting.{first_hosting}
 use Rattle.pt_kernel.specs.Hosts.{HostState}
-use Rattle.pt_kernel.specs.Schedules.{worded}
+use Rattle.pt_schedule.specs.Schedules.{worded}
 use Rattle.host_link.specs.LocalLinks.{Calls, faults_of, given_of, host_of, is_over, schedule_of}
 use Rattle.host_link.specs.declared.local.LocalLink.{LocalLink}
 use Rattle.host_serve.specs.Serving.{Served}

@@ -8,9 +8,9 @@ use Rattle.lx_abi.specs.declared.ptrace.Reply.{Reply}
 use Rattle.lx_abi.specs.declared.ptrace.Reply.TheVariants.{Done, Refused}
 use Rattle.lx_abi.specs.declared.ptrace.Request.{Request}
 use Rattle.lx_abi.specs.declared.ptrace.Request.TheVariants.{Boot as Boot_with}
-use Rattle.host_wire.specs.declared.frame.Frame.{Frame}
+use Rattle.host_frame.specs.declared.frame.Frame.{Frame}
 use Rattle.host_wire.specs.Ends.{AppendsPart}
-use Rattle.host_wire.specs.Spelling.{content, spelled, reply_frame}
+use Rattle.host_frame.specs.Spelling.{content, spelled, reply_frame}
 use Rattle.host_wire.specs.Streams.{Going, stream_of}
 use Rattle.host_serve.specs.declared.fault.ServeFault.{ServeFault}
 use Rattle.host_serve.specs.declared.fault.ServeFault.TheVariants.{Read, Write, Wire, Order, Failed}

@@ -4,8 +4,8 @@ use Rattle.std.specs.Option.{option_to_list}
 use Rattle.std.specs.Io.KnownBytes.{Consumes, Keeps, IsAtEnd}
 use Rattle.std.proofs.KnownBytes.{Consumes-nil, Consumes-trans, Consumes-kept}
 use Rattle.std.proofs.lemmas.List.{length-append, length-take-le}
-use Rattle.host_wire.specs.declared.frame.Frame.{Frame}
-use Rattle.host_wire.specs.declared.fault.WireFault.{WireFault}
+use Rattle.host_frame.specs.declared.frame.Frame.{Frame}
+use Rattle.host_frame.specs.declared.fault.WireFault.{WireFault}
 use Rattle.host_wire.specs.declared.receiving.ReceiveFault.{ReceiveFault}
 use Rattle.host_wire.specs.declared.receiving.ReceiveFault.TheVariants.{Read, Wire}
 use Rattle.host_wire.specs.Receiving.{ReadOnce, Received}

@@ -1,9 +1,3 @@
-pub mod Forms
 pub mod Gathered
-pub mod Inverse
-pub mod Lists
-pub mod Messages
-pub mod Registers
 pub mod Streams
-pub mod Whole
 pub mod Written

@@ -5,11 +5,11 @@ use Rattle.std.proofs.Math.Seq.{take-length, drop-length}
 use Rattle.std.proofs.lemmas.Bool.{cases_lt, cases_Bool, lt-ltb, le-ltb, ltb-false, ne_eqb, eq-eqb, and_parts, and_right, leb-true}
 use Rattle.std.proofs.lemmas.List.{drop_more, take_more, get_or-take, length-take-le, length-append, take_at, drop_all, take_rest, append-nil}
 use Rattle.byteorder.specs.Numbers.{big_from-take}
-use Rattle.host_wire.specs.declared.frame.Frame.{Frame}
-use Rattle.host_wire.specs.declared.fault.WireFault.{WireFault}
-use Rattle.host_wire.specs.declared.fault.WireFault.TheVariants.{Length, Kind, Body, Memory}
-use Rattle.host_wire.specs.Reading.{frame_at}
-use Rattle.host_wire.specs.Streams.{told_length, is_length, is_kind, Stream, Going, Failed, closed, settled, goes_on, Front, More, Bad, Whole, whole, front_of, IsUnfinished, stream_of, missing_of, FailsAs, GivesFront, Feeding, fed, as_stream, HasOne}
+use Rattle.host_frame.specs.declared.frame.Frame.{Frame}
+use Rattle.host_frame.specs.declared.fault.WireFault.{WireFault}
+use Rattle.host_frame.specs.declared.fault.WireFault.TheVariants.{Length, Kind, Body, Memory}
+use Rattle.host_frame.specs.Reading.{frame_at, told_length}
+use Rattle.host_wire.specs.Streams.{is_length, is_kind, Stream, Going, Failed, closed, settled, goes_on, Front, More, Bad, Whole, whole, front_of, IsUnfinished, stream_of, missing_of, FailsAs, GivesFront, Feeding, fed, as_stream, HasOne}
 
 pub failed_stays : (fault : WireFault) (bs : List ℕ) → goes_on (Failed fault) bs ≡ Failed fault
 unfolding goes_on

@@ -1,7 +1,7 @@
 -- Frames that are read, one by one.
 use Rattle.std.specs.Prelude.{◌≡◌, ◌⊎◌, ◌≤◌, ◌^◌, List, [], ◌∷◌, ℕ, length, OnOk, Option, Some, None, Result, Ok, Err, Bool, true, false}
 use Rattle.std.specs.Io.KnownBytes.{Consumes, IsAtEnd}
-use Rattle.host_wire.specs.declared.frame.Frame.{Frame}
+use Rattle.host_frame.specs.declared.frame.Frame.{Frame}
 use Rattle.host_wire.specs.declared.receiving.ReceiveFault.{ReceiveFault}
 use Rattle.host_wire.specs.declared.receiving.ReceiveFault.TheVariants.{Read, Wire}
 use Rattle.host_wire.specs.Streams.{Stream, Feeding, Going, Failed, FailsAs, fed, as_stream, HasOne}

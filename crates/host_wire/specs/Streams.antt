@@ -1,14 +1,9 @@
 -- A stream is whole frames, followed by an unfinished one, or it has a fault at one of its bytes.
 use Rattle.std.specs.Prelude.{◌≡◌, ◌⊎◌, ℕ, ◌+◌, ◌-◌, List, [], ◌∷◌, ◌++◌, length, take, slice_index, Option, Some, None, Result, Ok, Err, Bool, ◌&&◌, ◌||◌, not, nat_lt, nat_le, ◌==◌, if◌then◌else◌}
-use Rattle.byteorder.specs.Endian.{big_number}
-use Rattle.host_wire.specs.declared.frame.Frame.{Frame}
-use Rattle.host_wire.specs.declared.fault.WireFault.{WireFault}
-use Rattle.host_wire.specs.declared.fault.WireFault.TheVariants.{Length, Kind, Body, Memory}
-use Rattle.host_wire.specs.Reading.{frame_at}
-
--- the length that a frame tells, of what stands behind it
-abbrev pub told_length : List ℕ → ℕ
-told_length bytes = big_number 4 bytes
+use Rattle.host_frame.specs.declared.frame.Frame.{Frame}
+use Rattle.host_frame.specs.declared.fault.WireFault.{WireFault}
+use Rattle.host_frame.specs.declared.fault.WireFault.TheVariants.{Length, Kind, Body, Memory}
+use Rattle.host_frame.specs.Reading.{frame_at, told_length}
 
 abbrev pub is_length : ℕ → Bool
 is_length n = nat_le 9 n && nat_le n 134217728

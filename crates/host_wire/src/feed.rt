@@ -5,10 +5,9 @@ ghost use Rattle.std.specs.Option.{option_to_list};
 ghost use Rattle.host_wire.specs.Streams as spec;
 ghost use Rattle.host_wire.specs.Streams.{Feeding, Going, Failed, FailsAs, HasOne};
 
-use crate::fault::WireFault;
-use crate::frame::Frame;
 use crate::front;
 use byteorder::{BigEndian, ByteOrder};
+use host_frame::{Frame, WireFault};
 use std::alloc::Global;
 use std::collections::VecDeque;
 use std::marker::Model;

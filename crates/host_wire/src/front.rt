@@ -2,13 +2,11 @@
 
 ghost use Rattle.std.specs.Prelude.{◌≡◌, ◌≤◌, ◌+◌, [], length, drop, IfOk, IfErr, IfSome};
 ghost use Rattle.host_wire.specs.Streams as spec;
-ghost use Rattle.host_wire.specs.Reading.{frame_at};
+ghost use Rattle.host_frame.specs.Reading.{frame_at};
 ghost use Rattle.host_wire.specs.Streams.{IsUnfinished, GivesFront, FailsAs, Going, Failed};
 
-use crate::fault::{Bad, WireFault};
-use crate::frame::{Frame, LONGEST, SHORTEST};
-use crate::reading;
 use byteorder::{BigEndian, ByteOrder};
+use host_frame::{Frame, LONGEST, SHORTEST, WireFault, decode};
 use std::alloc::Global;
 use std::collections::VecDeque;
 
@@ -26,10 +24,10 @@ fn whole(alloc: Global, bytes: &[u8]) -> Result<Option<(Frame, usize)>, WireFaul
     ensures gives { GivesFront result (spec.whole (frame_at bytes.now) (length bytes.now)) }
     ensures within { IfOk result (λ o. IfSome o (λ x. x.1 ≡ length bytes.now)) }
 {
-    match reading::frame(alloc, bytes) {
+    match decode(alloc, bytes) {
         Ok(frame) => Ok(Some((frame, bytes.len()))),
-        Err(Bad::Body) => Err(WireFault::Body),
-        Err(Bad::Memory) => Err(WireFault::Memory),
+        Err(WireFault::Memory) => Err(WireFault::Memory),
+        Err(WireFault::Length | WireFault::Kind | WireFault::Body) => Err(WireFault::Body),
     }
 }
 

@@ -1,25 +1,15 @@
-//! Message frames between a tracer and its host.
+//! Message frames between a tracer and its host, over readers and writers.
 #![tactic(auto)]
 
 pub mod counted;
-mod cursor;
 pub mod ends;
-pub mod fault;
 pub mod feed;
-mod fields;
-pub mod frame;
 mod front;
-mod item;
 pub mod laws;
-mod order;
-mod reading;
 pub mod receiving;
-mod writing;
 
 pub use counted::Counted;
 pub use ends::{Broken, Sink, Source};
-pub use fault::WireFault;
 pub use feed::Feed;
-pub use frame::{Body, Frame};
+pub use host_frame::{Body, Frame, WireFault, encode};
 pub use receiving::{ReceiveFault, receive};
-pub use writing::encode;

@@ -5,15 +5,17 @@ ghost use Rattle.host_wire.specs.Receiving.{Received, ReadOnce};
 ghost use Rattle.host_wire.specs.Streams.{nothing_fed};
 
 use crate::ends::{Broken, Source};
-use crate::fault::WireFault;
 use crate::feed::Feed;
-use crate::frame::Frame;
+use host_frame::{Frame, WireFault};
+use thiserror::Error;
 
 /// Why no frame was received.
-#[derive(Clone, Copy, Debug, PartialEq, Eq)]
+#[derive(Clone, Copy, Debug, PartialEq, Eq, Error)]
 pub enum ReceiveFault {
     /// The reader failed, or has given 2^32 times without a whole frame.
+    #[error("a frame could not be read")]
     Read,
+    #[error("{0}")]
     Wire(WireFault),
 }
 

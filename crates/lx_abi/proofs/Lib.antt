@@ -3,4 +3,6 @@ pub mod Maps
 pub mod NextKeys
 pub mod Finds
 pub mod SignalNumbers
+pub mod Listed
 pub mod Reading
+pub mod Vacant

@@ -9,4 +9,5 @@ pub mod Scripts
 pub mod Signals
 pub mod Status
 pub mod Tables
+pub mod Vacant
 pub mod Words

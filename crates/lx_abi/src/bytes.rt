@@ -1,6 +1,6 @@
 //! Bytes, as clauses see them.
 
-ghost use Rattle.std.specs.Prelude.{◌≡◌, ◌++◌, [], length, ◌↔◌, IsTrue, OnOk, OnErr, IfOk};
+ghost use Rattle.std.specs.Prelude.{◌≡◌, ◌++◌, [], length, ◌↔◌, IsTrue, OnOk, OnErr, IfOk, ◌+◌, ◌-◌, ◌≤◌, take, drop, replicate};
 
 use std::alloc::{AllocError, Global};
 use std::marker::Model;
@@ -34,6 +34,12 @@ impl Bytes {
         Bytes { items }
     }
 
+    pub fn into_vec(self) -> Vec<u8>
+        ensures { result.items ≡ self }
+    {
+        self.items
+    }
+
     /// Copies the bytes of a slice.
     pub fn from_slice(alloc: Global, bytes: &[u8]) -> Result<Self, AllocError>
         ensures { IfOk result (λ b. b ≡ bytes.now) }
@@ -59,6 +65,30 @@ impl Bytes {
         ensures { IsTrue result ↔ (self.now ≡ []) }
     {
         self.items.is_empty()
+    }
+
+    /// Gives all bytes up.
+    pub fn clear(&mut self)
+        ensures { self.new ≡ [] }
+    {
+        self.items.clear();
+    }
+
+    /// Cuts bytes off the end, or adds zeros.
+    pub fn resize(&mut self, len: usize) -> Result<(), AllocError>
+        ensures ok { OnOk result (self.new ≡ take len self.old ++ replicate (len - length self.old) 0) }
+        ensures err { OnErr result (self.new ≡ self.old) }
+    {
+        self.items.resize(len, 0)?;
+        Ok(())
+    }
+
+    /// Puts bytes over those that stand at an offset.
+    pub fn put(&mut self, at: usize, bytes: &[u8])
+        requires { at + length bytes.now ≤ length self.old }
+        ensures { self.new ≡ take at self.old ++ bytes.now ++ drop (at + length bytes.now) self.old }
+    {
+        self.items[at..at + bytes.len()].copy_from_slice(bytes);
     }
 
     /// Appends the bytes, all of them or none.

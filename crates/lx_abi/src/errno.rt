@@ -63,19 +63,53 @@ impl Errno {
 
     pub const ENOENT: Errno = Errno { number: 2 };
 
+    pub const ESRCH: Errno = Errno { number: 3 };
+
+    pub const EINTR: Errno = Errno { number: 4 };
+
     pub const E2BIG: Errno = Errno { number: 7 };
 
     pub const ENOEXEC: Errno = Errno { number: 8 };
 
     pub const EBADF: Errno = Errno { number: 9 };
 
+    pub const ECHILD: Errno = Errno { number: 10 };
+
+    pub const EAGAIN: Errno = Errno { number: 11 };
+
+    pub const ENOMEM: Errno = Errno { number: 12 };
+
     pub const EACCES: Errno = Errno { number: 13 };
 
     pub const EFAULT: Errno = Errno { number: 14 };
 
+    pub const EBUSY: Errno = Errno { number: 16 };
+
+    pub const EEXIST: Errno = Errno { number: 17 };
+
+    pub const ENOTDIR: Errno = Errno { number: 20 };
+
+    pub const EISDIR: Errno = Errno { number: 21 };
+
+    pub const EINVAL: Errno = Errno { number: 22 };
+
+    pub const EMFILE: Errno = Errno { number: 24 };
+
+    pub const EFBIG: Errno = Errno { number: 27 };
+
+    pub const ENOSPC: Errno = Errno { number: 28 };
+
+    pub const ESPIPE: Errno = Errno { number: 29 };
+
+    pub const EPIPE: Errno = Errno { number: 32 };
+
+    pub const ERANGE: Errno = Errno { number: 34 };
+
     pub const ENAMETOOLONG: Errno = Errno { number: 36 };
 
     pub const ENOSYS: Errno = Errno { number: 38 };
+
+    pub const ENOTEMPTY: Errno = Errno { number: 39 };
 
     /// What a call that fails leaves in a0.
     pub fn word(self) -> u64
@@ -83,6 +117,7 @@ impl Errno {
     {
         0u64.wrapping_sub(u64::from(self.number))
     }
+
     /// The error with this number, 1 to 4095.
     pub fn from_number(number: u64) -> Option<Errno>
         ensures { result ≡ errno_numbered number }

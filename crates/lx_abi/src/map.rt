@@ -5,7 +5,9 @@ ghost use Rattle.std.specs.Ordering.{nat_cmp};
 ghost use Rattle.std.specs.Option.{option_copied};
 ghost use Rattle.std.specs.FinMap as maps;
 ghost use Rattle.std.specs.Coded.{coded_ℕ};
+ghost use Rattle.std.specs.Prelude.{IfOk, map};
 ghost use Rattle.lx_abi.specs.Keys.{IsNextKey};
+ghost use Rattle.lx_abi.specs.Vacant.{vacant, IsFullBelow};
 
 use std::alloc::{AllocError, Global};
 use std::collections::BTreeMap;
@@ -49,6 +51,35 @@ impl<V> Map<V> {
             None => None,
             Some((key, _value)) => Some(*key),
         }
+    }
+
+    /// How many keys there are.
+    pub fn len(&self) -> usize
+        ensures { result ≡ maps.len self.now }
+    {
+        self.tree.len()
+    }
+
+    /// The values, that of the least key first.
+    pub fn values(&self, alloc: Global) -> Result<Vec<&V>, AllocError>
+        ensures { IfOk result (λ v. map (λ r. r.now) v.items ≡ maps.values self.now) }
+    {
+        // The keys rise.
+        self.tree.len();
+        values_in(alloc, &self.tree)
+    }
+
+    /// The least number that is no key, where each number below `from` is one. Err where no number of 32 bits is left.
+    pub fn vacant(&self, from: u32) -> Result<u32, AllocError>
+        requires { IsFullBelow self.now from }
+        ensures { IfOk result (λ n. n ≡ vacant self.now) }
+    {
+        for number in from..u32::MAX {
+            if self.get(number).is_none() {
+                return Ok(number);
+            }
+        }
+        Err(AllocError)
     }
 }
 
@@ -94,4 +125,15 @@ fn is_among(numbers: &[u32], number: u32) -> bool
     ensures { result ≡ list_any (λ n. n == number) numbers.now }
 {
     numbers.iter().any(|n| *n == number)
+}
+
+/// The values of a tree, in the order of its keys.
+fn values_in<V>(alloc: Global, tree: &BTreeMap<u32, V>) -> Result<Vec<&V>, AllocError>
+    ensures { IfOk result (λ v. map (λ r. r.now) v.items ≡ map (λ e. e.1) tree.now.entries) }
+{
+    let mut list = Vec::new(alloc);
+    for (_key, value) in tree.iter() {
+        list.push(value)?;
+    }
+    Ok(list)
 }

@@ -4,10 +4,11 @@ use Rattle.lx_abi.specs.Scripts.{choice_of}
 use Rattle.lx_model.specs.Kernel.{first_kernel, kernel_run}
 use Rattle.lx_model.specs.Finite.{Is, running, first_running}
 use Rattle.lx_model.specs.Laws.{KernelsBeginAlike, KernelsRunAlike}
-use Rattle.lx_kernel.specs.State.{Shared, Body}
+use Rattle.lx_proc.specs.declared.state.Shared.{Shared}
+use Rattle.lx_proc.specs.declared.state.Body.{Body}
 use Rattle.lx_kernel.specs.First.{first_shared, first_run}
 use Rattle.lx_kernel.specs.Linux.{linux}
-use Rattle.lx_kernel.specs.Programs.{booted}
+use Rattle.lx_pcalls.specs.Programs.{booted}
 use Rattle.lx_kernel.specs.Runs.{Run, after_turn}
 use Rattle.lx_kernel.specs.Laws.{after_all, BootsRunAlike}
 

@@ -10,18 +10,22 @@ use Rattle.lx_abi.specs.declared.log.Item.{Item}
 use Rattle.lx_abi.specs.declared.log.Item.TheVariants as item
 use Rattle.lx_abi.specs.declared.signal.Signal.{Signal}
 use Rattle.lx_abi.specs.declared.script.Choice.{Choice}
-use Rattle.lx_model.specs.Machine.{Answer, Refused, Returns, Jumps, Execs, Bears, Blocks, Ends}
+use Rattle.lx_model.specs.Machine.{Answer, Refused, Returns, Jumps, Execs, Bears, Blocks, Ends, Took, Passes, Kills}
 use Rattle.lx_model.specs.Turn.{Out, turn, killed_or, lives, stepped, answered, took, stage_mode}
 use Rattle.lx_model.specs.Finite.{item_of}
 use Rattle.lx_model.specs.declared.stage.Stage.{Stage}
 use Rattle.lx_model.specs.declared.stage.Stage.TheVariants.{Born, Run, Faulting, Entered, Doing, Replaced, Acted, Finished, Taken, Dropped}
 use Rattle.lx_model.specs.declared.stage.Own.{Own}
 use Rattle.lx_model.specs.declared.stage.Own.TheVariants.{Alive, Dying, Gone}
-use Rattle.lx_kernel.specs.State.{Shared, Body, Interrupted}
+use Rattle.lx_proc.specs.declared.state.Shared.{Shared}
+use Rattle.lx_proc.specs.declared.state.Body.{Body}
+use Rattle.lx_sig.specs.declared.state.Interrupted.{Interrupted}
 use Rattle.lx_kernel.specs.Calls.{does}
 use Rattle.lx_kernel.specs.Turned.{Turned, turned, turned_by}
 use Rattle.lx_kernel.specs.declared.stages.Went.TheVariants.{Ended}
-use Rattle.lx_kernel.specs.Linux.{linux, next_of, runs, resumed, ran_by, reacted, ends_at, is_killed}
+use Rattle.lx_pcalls.specs.Taking.{takes}
+use Rattle.lx_kernel.specs.Linux.{linux}
+use Rattle.lx_kernel.specs.Reactions.{next_of, runs, resumed, ran_by, is_killed}
 
 -- an out that logs has the console of what was shared
 abbrev Keeps : Shared → Out Shared Body → Type 0
@@ -49,20 +53,20 @@ answered_keeps s child p b call (Bears t c born) = λ i e. absurd (cc e)
 answered_keeps s child p b call Blocks = λ i e. absurd (cc e)
 answered_keeps s child p b call (Ends w) = λ i e. refl
 
-took_keeps : (s : Shared) (p : ℕ) (b : Body) (signal : Signal) (cause : Cause) (ends : Bool) → Keeps s (took linux s p signal cause (reacted s b signal ends))
-took_keeps s p b signal cause true = λ i e. refl
-took_keeps s p b signal cause false = λ i e. absurd (cc e)
+took_keeps : (s : Shared) (p : ℕ) (signal : Signal) (cause : Cause) (t : Took Shared Body) → Keeps s (took linux s p signal cause t)
+took_keeps s p signal cause (Passes t c) = λ i e. absurd (cc e)
+took_keeps s p signal cause (Kills w) = λ i e. refl
 
 lives_keeps : (c : Choice) (s : Shared) (child p : ℕ) (b : Body) (stage : Stage) → Keeps s (lives linux c s child p b stage)
 lives_keeps c s child p b Born = λ i e. absurd (cc e)
 lives_keeps c s child p b Run = runs_keep s p b (next_of (maps.get s.entries p))
 lives_keeps c s child p b (Faulting signal cause) = λ i e. refl
 lives_keeps c s child p b (Entered joined) = λ i e. absurd (cc e)
-lives_keeps c s child p b (Doing call) = answered_keeps s child p b call (does s call b)
+lives_keeps c s child p b (Doing call) = answered_keeps s child p b call (does s child p call b)
 lives_keeps c s child p b (Replaced call x) = λ i e. absurd (cc e)
 lives_keeps c s child p b (Acted call x replaced) = λ i e. refl
 lives_keeps c s child p b Finished = λ i e. absurd (cc e)
-lives_keeps c s child p b (Taken signal cause) = took_keeps s p b signal cause (ends_at (maps.get s.entries p) signal cause)
+lives_keeps c s child p b (Taken signal cause) = took_keeps s p signal cause (takes s p b signal cause)
 lives_keeps c s child p b Dropped = λ i e. absurd (cc e)
 
 killed_keeps : (killed : Bool) (c : Choice) (s : Shared) (child p : ℕ) (b : Body) (stage : Stage) → Keeps s (killed_or killed linux c s child p b stage)

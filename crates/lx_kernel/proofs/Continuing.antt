@@ -12,8 +12,11 @@ use Rattle.lx_abi.specs.declared.log.Cause.{Cause}
 use Rattle.lx_abi.specs.declared.log.Cause.TheVariants.{Fault}
 use Rattle.lx_abi.specs.declared.signal.Signal.{Signal}
 use Rattle.lx_model.specs.Machine.{Ran, Goes, Calls, Faults}
-use Rattle.lx_kernel.specs.State.{Shared, Body, Interrupted}
-use Rattle.lx_kernel.specs.Linux.{resumed, ran_by, made_again, fault_signal}
+use Rattle.lx_proc.specs.declared.state.Shared.{Shared}
+use Rattle.lx_proc.specs.declared.state.Body.{Body}
+use Rattle.lx_sig.specs.declared.state.Interrupted.{Interrupted}
+use Rattle.lx_proc.specs.Registers.{made_again}
+use Rattle.lx_kernel.specs.Reactions.{resumed, ran_by, fault_signal}
 use Rattle.lx_kernel.specs.Bursts.{Follows, Halts, Continues}
 use Rattle.lx_kernel.proofs.Steps.{kept_by}
 

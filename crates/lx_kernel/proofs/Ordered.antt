@@ -11,7 +11,7 @@ use Rattle.std.proofs.lemmas.Map.Keys.{IsDistinct-IsPermutation}
 use Rattle.lx_abi.specs.declared.boot.GuestFile.{GuestFile}
 use Rattle.lx_kernel.specs.declared.neighbours.Told.{Told}
 use Rattle.lx_kernel.specs.Boots.{is_bad_path, is_misplaced, has_bad_path, has_duplicate}
-use Rattle.lx_kernel.specs.Files.{is_under}
+use Rattle.lx_kernel.specs.Paths.{is_under}
 use Rattle.lx_kernel.specs.Neighbours.{rank, precedes, under_next, twice_next, has_under, IsTold}
 
 -- paths in order

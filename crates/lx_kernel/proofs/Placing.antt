@@ -9,9 +9,11 @@ use Rattle.std.specs.FinMap.{FinMap}
 use Rattle.lx_model.specs.declared.stage.Own.{Own}
 use Rattle.lx_model.specs.declared.stage.Own.TheVariants.{Alive, Dying, Gone}
 use Rattle.lx_model.specs.Finite.{at, placed}
-use Rattle.lx_kernel.specs.State.{Shared, Body}
-use Rattle.lx_kernel.specs.Turned.{Turned, is_gone, event_of}
+use Rattle.lx_proc.specs.declared.state.Shared.{Shared}
+use Rattle.lx_proc.specs.declared.state.Body.{Body}
+use Rattle.lx_kernel.specs.Turned.{Turned, is_gone, without_gone, event_of}
 use Rattle.lx_kernel.specs.Turns.{Turns}
+use Rattle.lx_kernel.specs.declared.effects.Effect.TheVariants as effect
 use Rattle.lx_kernel.specs.declared.kernel.Logged.{Logged}
 
 equal_is : (o : Ordering) → is_eq o ≡ true → o ≡ Equal
@@ -44,7 +46,7 @@ module _ {X : Type 0} (m : FinMap nat_cmp X) (p : ℕ) where
 abbrev Owns : Type 0
 Owns = FinMap nat_cmp (Own Body)
 
-pub placed_gone : (m : Owns) (p : ℕ) (own : Own Body) → is_gone own ≡ true → placed m p own ≡ maps.remove (maps.insert m p own) p
+placed_gone : (m : Owns) (p : ℕ) (own : Own Body) → is_gone own ≡ true → placed m p own ≡ maps.remove (maps.insert m p own) p
 placed_gone m p (Alive b stage) e = absurd (cc e)
 placed_gone m p (Dying w) e = absurd (cc e)
 placed_gone m p Gone e = sym (remove-insert m p Gone)
@@ -54,16 +56,21 @@ placed_there m p (Alive b stage) e = refl
 placed_there m p (Dying w) e = refl
 placed_there m p Gone e = absurd (cc e)
 
+-- a part that was changed in its place
+pub placed_by : (m : Owns) (p : ℕ) (own : Own Body) (gone : Bool) → is_gone own ≡ gone → placed m p own ≡ without_gone (maps.insert m p own) p gone
+placed_by m p own true e = placed_gone m p own e
+placed_by m p own false e = placed_there m p own e
+
 -- the turn of a process with a part of its own
 pub somebody : (g : Own Body → Turned) (owns owns' : Owns) (p : ℕ) (own own' : Own Body) (l : Logged) (s : Shared)
-    → Some own ≡ maps.get owns p → g own ≡ record { shared = s; own = own'; item = l.item; event = event_of l.execed } → placed owns p own' ≡ owns' → Turns (g (at Gone owns p)) owns p l s owns'
+    → Some own ≡ maps.get owns p → g own ≡ record { shared = s; own = own'; item = l.item; event = event_of l.done } → placed owns p own' ≡ owns' → Turns (g (at Gone owns p)) owns p l s owns'
 somebody g owns owns' p own own' l s there is placed_is =
     let at_is : at Gone owns p ≡ own = ap (λ o. unwrap_or o Gone) (sym there) in
     subst (λ t. Turns t owns p l s owns') (sym (ap g at_is ∙ is)) (record { shared_is = refl; owns_is = placed_is; item_is = refl; event_is = refl })
 
 -- and of one without
 pub nobody : (g : Own Body → Turned) (owns owns' : Owns) (p : ℕ) (l : Logged) (s : Shared)
-    → None ≡ maps.get owns p → g Gone ≡ record { shared = s; own = Gone; item = None; event = event_of false } → owns' ≡ owns → l ≡ record { item = None; execed = false; gone = true } → Turns (g (at Gone owns p)) owns p l s owns'
+    → None ≡ maps.get owns p → g Gone ≡ record { shared = s; own = Gone; item = None; event = event_of effect.Plain } → owns' ≡ owns → l ≡ record { item = None; done = effect.Plain; gone = true } → Turns (g (at Gone owns p)) owns p l s owns'
 nobody g owns owns' p l s none is same nothing =
     let at_is : at Gone owns p ≡ Gone = ap (λ o. unwrap_or o Gone) (sym none) in
-    subst (λ t. Turns t owns p l s owns') (sym (ap g at_is ∙ is)) (record { shared_is = refl; owns_is = remove_absent owns p (sym none) ∙ sym same; item_is = ap (λ l. l.item) (sym nothing); event_is = ap (λ l. event_of l.execed) (sym nothing) })
+    subst (λ t. Turns t owns p l s owns') (sym (ap g at_is ∙ is)) (record { shared_is = refl; owns_is = remove_absent owns p (sym none) ∙ sym same; item_is = ap (λ l. l.item) (sym nothing); event_is = ap (λ l. event_of l.done) (sym nothing) })

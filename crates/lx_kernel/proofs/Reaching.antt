@@ -11,7 +11,7 @@ use Rattle.lx_model.specs.Finite.{at}
 use Rattle.lx_model.specs.declared.stage.Stage.{Stage}
 use Rattle.lx_model.specs.declared.stage.Own.{Own}
 use Rattle.lx_model.specs.declared.stage.Own.TheVariants.{Alive, Dying, Gone}
-use Rattle.lx_kernel.specs.State.{Body}
+use Rattle.lx_proc.specs.declared.state.Body.{Body}
 use Rattle.lx_kernel.specs.Turned.{is_gone}
 use Rattle.lx_kernel.specs.Runs.{Run}
 use Rattle.lx_kernel.specs.Tracing.{joining, dropping, with_regs, with_joined, with_dropped, with_part, with_part_at, IsPart}

@@ -1,26 +1,19 @@
 -- Each turn that logs an end puts its wait word into what is shared, and no other turn changes the words.
 use Rattle.std.proofs.Common.{◌≡◌, ℕ, Bool, true, false, cond, List, [], ◌∷◌, ◌++◌, Option, Some, None, refl, ap, sym, ◌∙◌}
-use Rattle.std.specs.Prelude.{◌==◌, ◌||◌, min, nat_lt, is_some, fold}
+use Rattle.std.specs.Prelude.{fold}
 use Rattle.std.specs.Option.{option_to_list}
 use Rattle.std.specs.FinMap as maps
 use Rattle.std.proofs.lemmas.Grind.{fold-append}
-use Rattle.elf_image.specs.Checks.{fault_of}
-use Rattle.elf_image.specs.Images.{image_of}
-use Rattle.rv_mem.specs.Memory.{first_fault, bytes_at}
-use Rattle.rv_mem.specs.declared.rights.Access.TheVariants as access
 use Rattle.rv_hart.specs.declared.outcome.Step.{Step}
 use Rattle.rv_hart.specs.declared.outcome.Step.TheVariants as step
 use Rattle.rv_hart.specs.Steps.{Outcome, stepped as instruction}
-use Rattle.lx_abi.specs.Errnos.{efault, ebadf, enoexec, e2big, enosys}
 use Rattle.lx_abi.specs.Log.{entries}
 use Rattle.lx_abi.specs.Scripts.{choice_of}
 use Rattle.lx_abi.specs.declared.log.Call.{Call}
 use Rattle.lx_abi.specs.declared.log.Cause.{Cause}
-use Rattle.lx_abi.specs.declared.outcome.Node.{Node}
-use Rattle.lx_abi.specs.declared.outcome.Node.TheVariants as node
 use Rattle.lx_abi.specs.declared.script.Choice.{Choice}
 use Rattle.lx_abi.specs.declared.signal.Signal.{Signal}
-use Rattle.lx_model.specs.Machine.{Answer, Refused, Returns, Jumps, Execs, Bears, Blocks, Ends}
+use Rattle.lx_model.specs.Machine.{Answer, Refused, Returns, Jumps, Execs, Bears, Blocks, Ends, Took, Passes, Kills}
 use Rattle.lx_model.specs.Turn.{Out, Event, Plain, Execed, Forked, turn, killed_or, lives, joins, stepped, answered, took}
 use Rattle.lx_model.specs.Kernel.{Script, traces, choice_at, first_kernel, kernel_run}
 use Rattle.lx_model.specs.Finite.{Is, at, item_of, Running, ran, bore, turn_out, running_turn, running, first_running}
@@ -29,70 +22,20 @@ use Rattle.lx_model.specs.declared.stage.Stage.{Stage}
 use Rattle.lx_model.specs.declared.stage.Stage.TheVariants.{Born, Run, Faulting, Entered, Doing, Replaced, Acted, Finished, Taken, Dropped}
 use Rattle.lx_model.specs.declared.stage.Own.{Own}
 use Rattle.lx_model.specs.declared.stage.Own.TheVariants.{Alive, Dying, Gone}
-use Rattle.lx_kernel.specs.State.{Shared, Body, Interrupted}
-use Rattle.lx_kernel.specs.Calls.{does, write, execve, with_path, runs_at, runs, given, argument, low_argument, most_moved, path_limit, exit_group}
-use Rattle.lx_kernel.specs.Ends.{buried}
+use Rattle.lx_proc.specs.declared.state.Shared.{Shared}
+use Rattle.lx_proc.specs.declared.state.Body.{Body}
+use Rattle.lx_sig.specs.declared.state.Interrupted.{Interrupted}
+use Rattle.lx_kernel.specs.Calls.{does}
+use Rattle.lx_pcalls.specs.Ends.{buried}
+use Rattle.lx_kernel.specs.Fitting.{Fits, TookFits}
 use Rattle.lx_kernel.specs.First.{first_shared, first_run}
 use Rattle.lx_kernel.specs.Laws.{after_all, with_end, logged_words, HasLoggedWords, TurnsLogWords, BootsLogWords, KernelsLogWords}
-use Rattle.lx_kernel.specs.Linux.{linux, next_of, runs as runs_in, resumed, ran_by, reacted, ends_at, is_killed}
-use Rattle.lx_kernel.specs.Programs.{start_size, start_limit, started, booted}
+use Rattle.lx_pcalls.specs.Taking.{takes}
+use Rattle.lx_kernel.specs.Linux.{linux}
+use Rattle.lx_kernel.specs.Reactions.{next_of, runs as runs_in, resumed, ran_by, is_killed}
+use Rattle.lx_pcalls.specs.Programs.{booted}
 use Rattle.lx_kernel.specs.Runs.{Run as KernelRun, after_turn}
-use Rattle.lx_kernel.specs.Texts.{Text, Whole, TooLong, Unreadable, text_at, list_at}
-
--- No call changes the words.
-
-abbrev Keeps : Shared → Answer Shared Body → Type 0
-Keeps s (Refused e) = Unit {0}
-Keeps s (Returns t b x) = t.ended ≡ s.ended
-Keeps s (Jumps t b) = t.ended ≡ s.ended
-Keeps s (Execs t b) = t.ended ≡ s.ended
-Keeps s (Bears t b c) = t.ended ≡ s.ended
-Keeps s Blocks = Unit {0}
-Keeps s (Ends w) = Unit {0}
-
-either : (s : Shared) (b : Bool) (x y : Answer Shared Body) → Keeps s x → Keeps s y → Keeps s (cond b x y)
-either s true x y p q = p
-either s false x y p q = q
-
-given_keeps : {A : Type 0} (s : Shared) (o : Option A) (e : ℕ) (f : A → Answer Shared Body) → ((x : A) → Keeps s (f x)) → Keeps s (given o e f)
-given_keeps s None e f h = tt
-given_keeps s (Some x) e f h = h x
-
-write_keeps : (s : Shared) (call : Call) (b : Body) → Keeps s (write s call b)
-write_keeps s call b =
-    let n = min (argument call 2) most_moved in
-    let unread = is_some (first_fault access.Read b.memory (argument call 1) n) in
-    let wrote : Answer Shared Body = Returns (record s { console = s.console ++ bytes_at b.memory (argument call 1) n }) b n in
-    either s ((low_argument call 0 == 1) || (low_argument call 0 == 2)) (cond unread (Refused efault) wrote) (Refused ebadf) (either s unread (Refused efault) wrote tt refl) tt
-
-runs_keep : (s : Shared) (content : List ℕ) (argv env : List (List ℕ)) → Keeps s (runs s content argv env)
-runs_keep s content argv env =
-    let begun : Answer Shared Body = Execs s (started (image_of content) argv env) in
-    let large = nat_lt start_limit (start_size argv env) in
-    either s (is_some (fault_of content)) (Refused enoexec) (cond large (Refused e2big) begun) tt (either s large (Refused e2big) begun tt refl)
-
-runs_at_keeps : (s : Shared) (o : Option Node) (argv env : List (List ℕ)) → Keeps s (runs_at s o argv env)
-runs_at_keeps s None argv env = tt
-runs_at_keeps s (Some node.Directory) argv env = tt
-runs_at_keeps s (Some (node.File content)) argv env = runs_keep s content argv env
-
-with_path_keeps : (s : Shared) (call : Call) (b : Body) (t : Text) → Keeps s (with_path s call b t)
-with_path_keeps s call b Unreadable = tt
-with_path_keeps s call b TooLong = tt
-with_path_keeps s call b (Whole path) =
-    let run : List (List ℕ) → List (List ℕ) → Answer Shared Body = λ argv env. runs_at s (maps.get s.files path) argv env in
-    let rest : List (List ℕ) → Answer Shared Body = λ argv. given (list_at b.memory (argument call 2)) efault (run argv) in
-    given_keeps s (list_at b.memory (argument call 1)) efault rest (λ argv.
-    given_keeps s (list_at b.memory (argument call 2)) efault (run argv) (λ env.
-    runs_at_keeps s (maps.get s.files path) argv env))
-
-does_keeps : (s : Shared) (call : Call) (b : Body) → Keeps s (does s call b)
-unfolding does
-does_keeps s call b =
-    let others : Answer Shared Body = cond (call.number == 221) (execve s call b) (Refused enosys) in
-    either s (call.number == 64) (write s call b) (cond (call.number == 94) (exit_group call) others) (write_keeps s call b)
-    (either s (call.number == 94) (exit_group call) others tt
-    (either s (call.number == 221) (execve s call b) (Refused enosys) (with_path_keeps s call b (text_at b.memory path_limit (argument call 0))) tt))
+use Rattle.lx_kernel.proofs.CallsFit.{calls_fit, takes_fit}
 
 -- A turn.
 
@@ -113,18 +56,18 @@ runs_record : (s : Shared) (p : ℕ) (b : Body) (signal : Option Signal) → Rec
 runs_record s p b (Some signal) = refl
 runs_record s p b None = resumed_records s p b b.interrupted
 
-answered_records : (s : Shared) (child p : ℕ) (b : Body) (call : Call) (a : Answer Shared Body) → Keeps s a → Records s (answered linux s child p b call a)
+answered_records : (s : Shared) (child p : ℕ) (b : Body) (call : Call) (a : Answer Shared Body) → Fits child s call a → Records s (answered linux s child p b call a)
 answered_records s child p b call (Refused x) h = refl
 answered_records s child p b call (Returns t c x) h = h
 answered_records s child p b call (Jumps t c) h = h
-answered_records s child p b call (Execs t c) h = h
-answered_records s child p b call (Bears t c born) h = h
+answered_records s child p b call (Execs t c) h = h.0
+answered_records s child p b call (Bears t c born) h = h.words
 answered_records s child p b call Blocks h = refl
 answered_records s child p b call (Ends w) h = refl
 
-took_records : (s : Shared) (p : ℕ) (b : Body) (signal : Signal) (cause : Cause) (ends : Bool) → Records s (took linux s p signal cause (reacted s b signal ends))
-took_records s p b signal cause true = refl
-took_records s p b signal cause false = refl
+took_records : (s : Shared) (p : ℕ) (signal : Signal) (cause : Cause) (t : Took Shared Body) → TookFits s t → Records s (took linux s p signal cause t)
+took_records s p signal cause (Passes t c) h = h
+took_records s p signal cause (Kills w) h = refl
 
 joins_record : (s : Shared) (p : ℕ) (x y : Option Signal) → (joins linux (joins linux s p x) p y).ended ≡ s.ended
 joins_record s p None None = refl
@@ -137,11 +80,11 @@ lives_records c s child p b Born = refl
 lives_records c s child p b Run = runs_record s p b (next_of (maps.get s.entries p))
 lives_records c s child p b (Faulting signal cause) = refl
 lives_records c s child p b (Entered joined) = joins_record s p joined c.signal
-lives_records c s child p b (Doing call) = answered_records s child p b call (does s call b) (does_keeps s call b)
+lives_records c s child p b (Doing call) = answered_records s child p b call (does s child p call b) (calls_fit s child p call b)
 lives_records c s child p b (Replaced call x) = refl
 lives_records c s child p b (Acted call x replaced) = refl
 lives_records c s child p b Finished = refl
-lives_records c s child p b (Taken signal cause) = took_records s p b signal cause (ends_at (maps.get s.entries p) signal cause)
+lives_records c s child p b (Taken signal cause) = took_records s p signal cause (takes s p b signal cause) (takes_fit s p b signal cause)
 lives_records c s child p b Dropped = refl
 
 killed_records : (killed : Bool) (c : Choice) (s : Shared) (child p : ℕ) (b : Body) (stage : Stage) → Records s (killed_or killed linux c s child p b stage)

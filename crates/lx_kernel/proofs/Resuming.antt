@@ -1,5 +1,5 @@
 -- What one instruction of a process comes to.
-use Rattle.std.proofs.Common.{◌≡◌, ℕ, true, false, Some, None, refl}
+use Rattle.std.proofs.Common.{◌≡◌, ℕ, true, Some, None, refl}
 use mathlib.Core.HLevel.{Σ_prop_path}
 use Rattle.std.proofs.Math.Bool.{Bool-set}
 use Rattle.rv_mem.specs.Memory.{Memory}
@@ -17,9 +17,13 @@ use Rattle.lx_abi.specs.Signals.{is_signal}
 use Rattle.lx_model.specs.Machine.{call_of}
 use Rattle.lx_model.specs.Turn.{stepped}
 use Rattle.lx_model.specs.declared.stage.Stage.TheVariants.{Run, Entered, Faulting}
-use Rattle.lx_kernel.specs.State.{Shared, Body}
-use Rattle.lx_kernel.specs.Linux.{linux, regs, stepped_by, fault_signal}
+use Rattle.lx_proc.specs.declared.state.Shared.{Shared}
+use Rattle.lx_proc.specs.declared.state.Body.{Body}
+use Rattle.lx_proc.specs.Registers.{regs}
+use Rattle.lx_kernel.specs.Linux.{linux}
+use Rattle.lx_kernel.specs.Reactions.{stepped_by, fault_signal}
 use Rattle.lx_kernel.specs.Turned.{turned, turned_by}
+use Rattle.lx_kernel.specs.declared.effects.Effect.TheVariants as effect
 use Rattle.lx_kernel.specs.declared.stages.Went.TheVariants.{On}
 use Rattle.lx_kernel.proofs.Steps.{kept_by}
 
@@ -33,13 +37,13 @@ module _ (s : Shared) (p : ℕ) (b : Body) (h : Hart) (m : Memory) where
   after = record b { hart = h; memory = m }
 
   pub stepped_call : (call : Call) → hart.stepped b.hart b.memory ≡ outcome step.Call h m → call ≡ call_of (regs after)
-      → turned (stepped linux s p b (stepped_by b)) ≡ turned_by (On (Entered None) (Some (item.Enter p call)) false) s after p Run
+      → turned (stepped linux s p b (stepped_by b)) ≡ turned_by (On (Entered None) (Some (item.Enter p call)) effect.Plain) s after p Run
   stepped_call call is called =
       let k : (h ≡ b.hart) × (m ≡ b.memory) = kept_by b.hart b.memory step.Call h m is in
       rw (called, k.0, k.1) (rw is refl)
 
   pub stepped_fault : (kind : FaultKind) (address code : ℕ) (signal : Signal) → hart.stepped b.hart b.memory ≡ outcome (step.Fault kind address) h m → signal.number ≡ signal_number kind → code ≡ signal_code kind
-      → turned (stepped linux s p b (stepped_by b)) ≡ turned_by (On (Faulting signal (Fault code address)) None false) s after p Run
+      → turned (stepped linux s p b (stepped_by b)) ≡ turned_by (On (Faulting signal (Fault code address)) None effect.Plain) s after p Run
   stepped_fault kind address code signal is same coded =
       let k : (h ≡ b.hart) × (m ≡ b.memory) = kept_by b.hart b.memory (step.Fault kind address) h m is in
       rw (coded, same_signal signal (fault_signal kind) same, k.0, k.1) (rw is refl)

@@ -20,9 +20,13 @@ use Rattle.lx_model.specs.declared.stage.Stage.TheVariants as stages
 use Rattle.lx_model.specs.declared.stage.Own.{Own}
 use Rattle.lx_model.specs.declared.stage.Own.TheVariants.{Alive, Dying, Gone}
 use Rattle.lx_model.specs.Finite.{at, ran, bore}
-use Rattle.lx_kernel.specs.State.{Shared, Body, Entry, Life}
-use Rattle.lx_kernel.specs.State as state
-use Rattle.lx_kernel.specs.Linux.{linux, resumed, runs, next_of, is_killed}
+use Rattle.lx_proc.specs.declared.state.Shared.{Shared}
+use Rattle.lx_proc.specs.declared.state.Body.{Body}
+use Rattle.lx_proc.specs.declared.state.Entry.{Entry}
+use Rattle.lx_proc.specs.declared.state.Life.{Life}
+use Rattle.lx_proc.specs.declared.state.Life.TheVariants as state
+use Rattle.lx_kernel.specs.Linux.{linux}
+use Rattle.lx_kernel.specs.Reactions.{resumed, runs, next_of, is_killed}
 use Rattle.lx_kernel.specs.Runs.{Run, turn_in, after_turn, mode_in, own_mode, life_mode}
 use Rattle.lx_kernel.specs.Bursts.{after_turns, StaysInRun, Burst, Follows, Halts, Continues, OwnContinues, with_owns}
 use Rattle.lx_kernel.proofs.Placed.{get_put, put_same, put_twice}

@@ -1,5 +1,5 @@
 -- A turn of the kernel, from what the turn of one process leaves.
-use Rattle.std.proofs.Common.{◌≡◌, ℕ, Bool, true, false, List, ◌++◌, Option, Some, None, Result, Ok, Err, OnErr, refl, ap, sym, subst, ◌∙◌}
+use Rattle.std.proofs.Common.{◌≡◌, ℕ, Bool, List, ◌++◌, Option, Some, None, Result, Ok, Err, OnErr, refl, ap, sym, subst, ◌∙◌}
 use Rattle.std.specs.Ordering.{nat_cmp}
 use Rattle.std.specs.Option.{option_to_list}
 use Rattle.std.specs.FinMap.{FinMap}
@@ -10,39 +10,57 @@ use Rattle.lx_abi.specs.declared.script.Rule.{Rule}
 use Rattle.lx_abi.specs.Scripts.{choice_of}
 use Rattle.lx_abi.specs.Log.{entries}
 use Rattle.lx_model.specs.Deeds.{deed_of}
-use Rattle.lx_model.specs.Turn.{turn, Out}
+use Rattle.lx_model.specs.Turn.{turn, Out, Event, Plain, Execed, Forked}
 use Rattle.lx_model.specs.declared.stage.Own.{Own}
 use Rattle.lx_model.specs.declared.stage.Own.TheVariants.{Gone}
 use Rattle.lx_model.specs.Kernel.{traces, choice_at}
 use Rattle.lx_model.specs.Finite.{at, item_of, Running, ran, bore, turn_out, running_turn}
-use Rattle.lx_kernel.specs.State.{Shared, Body}
+use Rattle.lx_proc.specs.declared.state.Shared.{Shared}
+use Rattle.lx_proc.specs.declared.state.Body.{Body}
 use Rattle.lx_kernel.specs.Linux.{linux}
-use Rattle.lx_kernel.specs.Turned.{turned, event_of}
+use Rattle.lx_kernel.specs.Turned.{turned, event_of, owns_with, next_child, IsLeft, IsBirth}
 use Rattle.lx_kernel.specs.Turns.{Turns}
 use Rattle.lx_kernel.specs.declared.kernel.Logged.{Logged}
+use Rattle.lx_kernel.proofs.Births.{Births, turn_fine, left_by, console_by}
 use Rattle.lx_kernel.proofs.Consoles.{turn_keeps}
 
 pub on_err : {T E : Type 0} (P : Type 0) (r : Result T E) → P → OnErr r P
 on_err P (Ok x) h = tt
 on_err P (Err e) h = h
 
-no_child : (v : Running Shared Body) (b : Bool) → bore v (event_of b) ≡ v
-no_child v true = refl
-no_child v false = refl
+-- a kernel after an effect
+with_effect : (s : Shared) (owns : FinMap nat_cmp (Own Body)) (child : ℕ) (log : List Item) (e : Event Body)
+    → bore (record { shared = s; owns = owns; child = child; log = log }) e ≡ record { shared = s; owns = owns_with owns child e; child = next_child child e; log = log }
+with_effect s owns child log Plain = refl
+with_effect s owns child log Execed = refl
+with_effect s owns child log (Forked newborn) = refl
 
 module _ (v : Running Shared Body) (rules : List Rule) (follow : Bool) (p : ℕ) (count : ℕ → ℕ) (agrees : (n : ℕ) → count n ≡ entries p n v.log) (l : Logged) (s : Shared) (owns : FinMap nat_cmp (Own Body))
-    (turns : (child : ℕ) → Turns (turned (turn linux (choice_at linux (choice_of rules) (traces follow p) count (at Gone v.owns p)) v.shared child p (at Gone v.owns p))) v.owns p l s owns) where
+    (turns : Turns (turned (turn linux (choice_at linux (choice_of rules) (traces follow p) count (at Gone v.owns p)) v.shared v.child p (at Gone v.owns p))) v.owns p l s owns) where
   abbrev out : Out Shared Body
   out = turn_out linux (choice_of rules) follow v p
 
   turned_out : Turns (turned out) v.owns p l s owns
-  turned_out = subst (λ (f : ℕ → ℕ). Turns (turned (turn linux (choice_at linux (choice_of rules) (traces follow p) f (at Gone v.owns p)) v.shared v.child p (at Gone v.owns p))) v.owns p l s owns) (fun_ext agrees) (turns v.child)
+  turned_out = subst (λ (f : ℕ → ℕ). Turns (turned (turn linux (choice_at linux (choice_of rules) (traces follow p) f (at Gone v.owns p)) v.shared v.child p (at Gone v.owns p))) v.owns p l s owns) (fun_ext agrees) turns
 
   pub kernel_item : l.item ≡ item_of out
   kernel_item = sym turned_out.item_is
 
-  pub kernel_deed : deed_of (event_of l.execed) ≡ deed_of out.event
+  pub kernel_deed : deed_of (event_of l.done) ≡ deed_of out.event
   kernel_deed = ap deed_of (sym turned_out.event_is)
+
+  -- a child is born as it may be
+  born : Births v.shared v.child s (event_of l.done)
+  born =
+      subst (λ t. Births v.shared v.child t (event_of l.done)) turned_out.shared_is
+      (subst (Births v.shared v.child out.shared) turned_out.event_is
+      (turn_fine (choice_at linux (choice_of rules) (traces follow p) (λ n. entries p n v.log) (at Gone v.owns p)) v.shared v.child p (at Gone v.owns p)))
+
+  pub kernel_left : IsLeft l.done v.child
+  kernel_left = left_by v.shared v.child s l.done born
+
+  pub kernel_born : IsBirth (event_of l.done) → s.console ≡ v.shared.console
+  kernel_born = console_by v.shared v.child s (event_of l.done) born
 
   logged_keeps : (o : Option Item) → IsSome o → o ≡ item_of out → out.shared.console ≡ v.shared.console
   logged_keeps None some e = absurd (cc some)
@@ -52,8 +70,7 @@ module _ (v : Running Shared Body) (rules : List Rule) (follow : Bool) (p : ℕ)
   pub kernel_console : IsSome l.item → s.console ≡ v.shared.console
   kernel_console some = ap (λ (x : Shared). x.console) (sym turned_out.shared_is) ∙ logged_keeps l.item some kernel_item
 
-  pub kernel_turned : record { shared = s; owns = owns; child = v.child; log = v.log ++ option_to_list l.item } ≡ running_turn linux (choice_of rules) follow v p
+  pub kernel_turned : record { shared = s; owns = owns_with owns v.child (event_of l.done); child = next_child v.child (event_of l.done); log = v.log ++ option_to_list l.item } ≡ running_turn linux (choice_of rules) follow v p
   kernel_turned =
-      (λ i. record { shared = sym turned_out.shared_is i; owns = sym turned_out.owns_is i; child = v.child; log = v.log ++ option_to_list (kernel_item i) })
-      ∙ sym (no_child (ran v p out) l.execed)
-      ∙ ap (bore (ran v p out)) (sym turned_out.event_is)
+      sym (with_effect s owns v.child (v.log ++ option_to_list l.item) (event_of l.done))
+      ∙ λ i. bore (record { shared = sym turned_out.shared_is i; owns = sym turned_out.owns_is i; child = v.child; log = v.log ++ option_to_list (kernel_item i) }) (sym turned_out.event_is i)

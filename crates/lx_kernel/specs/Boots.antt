@@ -1,14 +1,15 @@
 -- What a boot is refused for.
-use Rattle.std.specs.Prelude.{◌≡◌, ◌≢◌, ℕ, ◌+◌, Bool, true, false, not, ◌==◌, ◌&&◌, ◌||◌, nat_le, if◌then◌else◌, List, [], ◌∷◌, length, Option, Some, None}
+use Rattle.std.specs.Prelude.{◌≡◌, ◌≢◌, ℕ, Bool, true, false, not, ◌==◌, ◌&&◌, ◌||◌, nat_le, if◌then◌else◌, List, [], ◌∷◌, Option, Some, None}
 use Rattle.std.specs.List.{list_any, slice_split}
 use Rattle.std.specs.Str.{bytes_eq}
 use Rattle.lx_abi.specs.declared.boot.Boot.{Boot}
 use Rattle.lx_abi.specs.declared.boot.GuestFile.{GuestFile}
 use Rattle.lx_kernel.specs.declared.boots.BootFault.{BootFault}
 use Rattle.lx_kernel.specs.declared.boots.BootFault.TheVariants.{BadPath, Duplicate, NoProgram, TooLarge, Memory}
-use Rattle.lx_kernel.specs.Files.{is_under}
+use Rattle.lx_kernel.specs.Paths.{is_under}
 use Rattle.lx_kernel.specs.Limits.{files_fit}
-use Rattle.lx_kernel.specs.Programs.{start_size, start_limit}
+use Rattle.lx_proc.specs.Starts.{start_limit}
+use Rattle.lx_pcalls.specs.Programs.{start_size}
 
 -- the number of a fault, as programs show it
 abbrev pub fault_number : BootFault → ℕ
@@ -47,10 +48,6 @@ has_nul words = list_any (list_any (λ b. b == 0)) words
 abbrev pub has_no_program : List (List ℕ) → List (List ℕ) → Bool
 has_no_program [] env = true
 has_no_program (word ∷ words) env = has_nul (word ∷ words) || has_nul env
-
--- what a word takes of a program's start: its bytes, its NUL and its pointer
-abbrev pub cost_of : List ℕ → ℕ
-cost_of word = length word + 9
 
 -- within the limits of files, and of a program's start
 abbrev pub fits : Boot → Bool

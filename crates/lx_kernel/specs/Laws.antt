@@ -11,10 +11,11 @@ use Rattle.lx_model.specs.Kernel.{Script, Kernel, first_kernel, kernel_run}
 use Rattle.lx_model.specs.Finite.{Is, Running, first_running, running_turn}
 use Rattle.lx_kernel.specs.First.{first_shared, first_run}
 use Rattle.lx_kernel.specs.Linux.{linux}
-use Rattle.lx_kernel.specs.Programs.{booted}
+use Rattle.lx_pcalls.specs.Programs.{booted}
 use Rattle.lx_kernel.specs.Runs.{Run, after_turn}
-use Rattle.lx_kernel.specs.State.{Shared, Body}
-use Rattle.lx_kernel.specs.Words.{Words}
+use Rattle.lx_proc.specs.declared.state.Shared.{Shared}
+use Rattle.lx_proc.specs.declared.state.Body.{Body}
+use Rattle.lx_proc.specs.WaitWords.{Words}
 
 -- process 1 begins in its first program, and is alone
 abbrev pub BootsAreFirst : Type 0

@@ -2,7 +2,8 @@
 use Rattle.std.specs.Prelude.{ℕ, zero, suc, ◌+◌, ◌==◌, ◌&&◌, not, nat_le, Bool, List, [], ◌∷◌, take, length, if◌then◌else◌}
 use Rattle.std.specs.List.{list_any, list_all, slice_split, sum_by}
 use Rattle.lx_abi.specs.declared.boot.GuestFile.{GuestFile}
-use Rattle.lx_kernel.specs.Files.{is_under, ends_directory}
+use Rattle.lx_files.specs.Boots.{ends_directory}
+use Rattle.lx_kernel.specs.Paths.{is_under}
 
 -- the most bytes of a path (limits.h, PATH_MAX, which counts its NUL too)
 abbrev pub longest_path : ℕ

@@ -4,7 +4,7 @@ use Rattle.std.specs.List.{list_any}
 use Rattle.std.specs.Str.{bytes_eq}
 use Rattle.lx_abi.specs.declared.boot.GuestFile.{GuestFile}
 use Rattle.lx_kernel.specs.Boots.{has_duplicate}
-use Rattle.lx_kernel.specs.Files.{is_under}
+use Rattle.lx_kernel.specs.Paths.{is_under}
 use Rattle.lx_kernel.specs.declared.neighbours.Told.{Told}
 
 -- a slash comes before every other byte

@@ -9,7 +9,11 @@ use Rattle.lx_model.specs.Turn.{stage_mode, Out}
 use Rattle.lx_model.specs.declared.stage.Own.{Own}
 use Rattle.lx_model.specs.declared.stage.Own.TheVariants as own
 use Rattle.lx_model.specs.Finite.{at, Running, turn_out, running_turn, IsAble}
-use Rattle.lx_kernel.specs.State.{Life, Alive, Dying, Zombie, Entry, Shared, Body}
+use Rattle.lx_proc.specs.declared.state.Life.{Life}
+use Rattle.lx_proc.specs.declared.state.Entry.{Entry}
+use Rattle.lx_proc.specs.declared.state.Shared.{Shared}
+use Rattle.lx_proc.specs.declared.state.Body.{Body}
+use Rattle.lx_proc.specs.declared.state.Life.TheVariants.{Alive, Dying, Zombie}
 use Rattle.lx_kernel.specs.Linux.{linux}
 
 pub record Run : Type 0 where

@@ -2,12 +2,11 @@
 use Rattle.std.specs.Prelude.{◌≡◌, ℕ, ◌<◌, ◌≤◌, true, false, Option, Some, None}
 use Rattle.std.specs.Ordering.{nat_cmp}
 use Rattle.std.specs.FinMap.{FinMap}
-use Rattle.lx_model.specs.Finite.{at}
 use Rattle.lx_model.specs.declared.stage.Own.{Own}
-use Rattle.lx_model.specs.declared.stage.Own.TheVariants.{Gone}
-use Rattle.lx_kernel.specs.State.{Body}
+use Rattle.lx_proc.specs.declared.state.Shared.{Shared}
+use Rattle.lx_proc.specs.declared.state.Body.{Body}
 use Rattle.lx_kernel.specs.Runs.{Run, is_able_in}
-use Rattle.lx_kernel.specs.Turned.{is_gone}
+use Rattle.lx_kernel.specs.Blocking.{can_turn_in}
 
 -- an able process: the first above a pid, or the first of all where none is above
 pub record IsNextAble (k : Run) (after pid : ℕ) : Type 0 where
@@ -20,16 +19,16 @@ abbrev pub IsNextOf : Run → ℕ → Option ℕ → Type 0
 IsNextOf k after None = (q : ℕ) → is_able_in k q → ⊥
 IsNextOf k after (Some pid) = IsNextAble k after pid
 
--- Of the table of own parts.
+-- Of what is shared and the table of own parts.
 
 abbrev pub Owns : Type 0
 Owns = FinMap nat_cmp (Own Body)
 
--- no process from one pid up to before another has a part of its own
-abbrev pub AreGone : Owns → ℕ → ℕ → Type 0
-AreGone owns from to = (q : ℕ) → from ≤ q → q < to → is_gone (at Gone owns q) ≡ true
+-- no process from one pid up to before another can take a turn
+abbrev pub AreUnable : Shared → Owns → ℕ → ℕ → Type 0
+AreUnable s owns from to = (q : ℕ) → from ≤ q → q < to → can_turn_in s owns q ≡ false
 
--- the first with a part of its own from a pid on
-abbrev pub IsFirstFrom : Owns → ℕ → Option ℕ → Type 0
-IsFirstFrom owns from None = (q : ℕ) → from ≤ q → is_gone (at Gone owns q) ≡ true
-IsFirstFrom owns from (Some pid) = (from ≤ pid) × (is_gone (at Gone owns pid) ≡ false) × AreGone owns from pid
+-- the first that can, from a pid on
+abbrev pub IsFirstFrom : Shared → Owns → ℕ → Option ℕ → Type 0
+IsFirstFrom s owns from None = (q : ℕ) → from ≤ q → can_turn_in s owns q ≡ false
+IsFirstFrom s owns from (Some pid) = (from ≤ pid) × (can_turn_in s owns pid ≡ true) × AreUnable s owns from pid

@@ -5,8 +5,9 @@ use Rattle.lx_abi.specs.Scripts.{choice_of, no_choice}
 use Rattle.lx_model.specs.Machine.{a7_of}
 use Rattle.lx_model.specs.Kernel.{traces, choice_at}
 use Rattle.lx_model.specs.declared.stage.Own.{Own}
-use Rattle.lx_kernel.specs.State.{Body}
-use Rattle.lx_kernel.specs.Linux.{linux, regs}
+use Rattle.lx_proc.specs.declared.state.Body.{Body}
+use Rattle.lx_proc.specs.Registers.{regs}
+use Rattle.lx_kernel.specs.Linux.{linux}
 use Rattle.lx_kernel.specs.Occurrences.{count_of}
 use Rattle.lx_kernel.specs.declared.tampering.Tampering.{Tampering}
 

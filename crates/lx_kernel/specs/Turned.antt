@@ -1,34 +1,24 @@
 -- What the parts of a turn answer, beside what they leave in the parts that they are lent.
-use Rattle.std.specs.Prelude.{◌≡◌, ℕ, Bool, true, false, Option, Some}
+use Rattle.std.specs.Prelude.{◌≡◌, ℕ, suc, ◌≤◌, Bool, true, false, cond, Option, Some}
+use Rattle.std.specs.Ordering.{nat_cmp}
+use Rattle.std.specs.FinMap as maps
+use Rattle.std.specs.FinMap.{FinMap}
 use Rattle.lx_abi.specs.declared.log.Item.{Item}
 use Rattle.lx_abi.specs.declared.log.Item.TheVariants as item
-use Rattle.lx_model.specs.Machine.{Answer, Refused, Returns, Execs, Ends}
-use Rattle.lx_model.specs.Turn.{stage_mode, Out, Event, Plain, Execed}
+use Rattle.lx_model.specs.Turn.{stage_mode, Out, Event, Plain, Execed, Forked}
 use Rattle.lx_model.specs.declared.stage.Stage.{Stage}
+use Rattle.lx_model.specs.declared.stage.Stage.TheVariants.{Born}
 use Rattle.lx_model.specs.declared.stage.Own.{Own}
 use Rattle.lx_model.specs.declared.stage.Own.TheVariants.{Alive, Dying, Gone}
 use Rattle.lx_model.specs.Finite.{item_of}
-use Rattle.lx_kernel.specs.State.{Shared, Body}
-use Rattle.lx_kernel.specs.Ends as end
-use Rattle.lx_kernel.specs.declared.calls.Reply.{Reply}
-use Rattle.lx_kernel.specs.declared.calls.Reply.TheVariants as reply
+use Rattle.lx_proc.specs.declared.state.Shared.{Shared}
+use Rattle.lx_proc.specs.declared.state.Body.{Body}
+use Rattle.lx_proc.specs.State.{last_pid}
+use Rattle.lx_pcalls.specs.Ends as end
+use Rattle.lx_kernel.specs.declared.effects.Effect.{Effect}
+use Rattle.lx_kernel.specs.declared.effects.Effect.TheVariants as effect
 use Rattle.lx_kernel.specs.declared.stages.Went.{Went}
 use Rattle.lx_kernel.specs.declared.stages.Went.TheVariants.{On, Ended}
-
--- A call's reply.
-
-abbrev pub answer_of : Reply → Shared → Body → Answer Shared Body
-answer_of (reply.Refused e) s b = Refused e.number
-answer_of (reply.Returned x) s b = Returns s b x
-answer_of reply.Execed s b = Execs s b
-answer_of (reply.Ended w) s b = Ends w
-
--- a refusal and an end leave both parts
-abbrev pub Kept : Reply → Shared → Body → Shared → Body → Type 0
-Kept (reply.Refused e) s b s' b' = (s' ≡ s) × (b' ≡ b)
-Kept (reply.Returned x) s b s' b' = Unit {0}
-Kept reply.Execed s b s' b' = Unit {0}
-Kept (reply.Ended w) s b s' b' = (s' ≡ s) × (b' ≡ b)
 
 -- A turn's out, without what its process could read.
 
@@ -41,9 +31,10 @@ pub record Turned : Type 0 where
 abbrev pub turned : Out Shared Body → Turned
 turned o = record { shared = o.shared; own = o.own; item = item_of o; event = o.event }
 
-abbrev pub event_of : Bool → Event Body
-event_of true = Execed
-event_of false = Plain
+abbrev pub event_of : Effect → Event Body
+event_of effect.Plain = Plain
+event_of effect.Execed = Execed
+event_of (effect.Bore newborn) = Forked newborn
 
 -- the end of a process that leaves a stage
 abbrev pub ended : Shared → ℕ → ℕ → Stage → Turned
@@ -51,10 +42,39 @@ ended s p w stage = record { shared = end.dies s p w; own = Dying w; item = Some
 
 -- what a stage's turn comes to
 abbrev pub turned_by : Went → Shared → Body → ℕ → Stage → Turned
-turned_by (On next item execed) s b p stage = record { shared = s; own = Alive b next; item = item; event = event_of execed }
+turned_by (On next item done) s b p stage = record { shared = s; own = Alive b next; item = item; event = event_of done }
 turned_by (Ended w) s b p stage = ended s p w stage
 
 abbrev pub is_gone : Own Body → Bool
 is_gone (Alive b stage) = false
 is_gone (Dying w) = false
 is_gone Gone = true
+
+-- The table of own parts, without the process where it is gone.
+
+abbrev pub without_gone : FinMap nat_cmp (Own Body) → ℕ → Bool → FinMap nat_cmp (Own Body)
+without_gone owns p gone = cond gone (maps.remove owns p) owns
+
+-- The table after an effect, and the next pid.
+
+abbrev pub owns_with : FinMap nat_cmp (Own Body) → ℕ → Event Body → FinMap nat_cmp (Own Body)
+owns_with owns child Plain = owns
+owns_with owns child Execed = owns
+owns_with owns child (Forked newborn) = maps.insert owns child (Alive newborn Born)
+
+abbrev pub next_child : ℕ → Event Body → ℕ
+next_child child Plain = child
+next_child child Execed = child
+next_child child (Forked newborn) = suc child
+
+-- a child is born under a pid that is left
+abbrev pub IsLeft : Effect → ℕ → Type 0
+IsLeft effect.Plain child = Unit {0}
+IsLeft effect.Execed child = Unit {0}
+IsLeft (effect.Bore newborn) child = child ≤ last_pid
+
+-- a child was born
+abbrev pub IsBirth : Event Body → Type 0
+IsBirth Plain = ⊥
+IsBirth Execed = ⊥
+IsBirth (Forked newborn) = Unit {0}

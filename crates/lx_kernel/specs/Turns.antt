@@ -4,7 +4,8 @@ use Rattle.std.specs.Ordering.{nat_cmp}
 use Rattle.std.specs.FinMap.{FinMap}
 use Rattle.lx_model.specs.declared.stage.Own.{Own}
 use Rattle.lx_model.specs.Finite.{placed}
-use Rattle.lx_kernel.specs.State.{Shared, Body}
+use Rattle.lx_proc.specs.declared.state.Shared.{Shared}
+use Rattle.lx_proc.specs.declared.state.Body.{Body}
 use Rattle.lx_kernel.specs.Turned.{Turned, event_of}
 use Rattle.lx_kernel.specs.declared.kernel.Logged.{Logged}
 
@@ -13,4 +14,4 @@ pub record Turns (t : Turned) (owns : FinMap nat_cmp (Own Body)) (pid : ℕ) (lo
   pub shared_is : t.shared ≡ shared'
   pub owns_is : placed owns pid t.own ≡ owns'
   pub item_is : t.item ≡ logged.item
-  pub event_is : t.event ≡ event_of logged.execed
+  pub event_is : t.event ≡ event_of logged.done

@@ -1,24 +1,18 @@
 //! What a boot is refused for.
 
-ghost use Rattle.std.specs.Prelude.{◌≡◌, ◌-◌, ◌≤◌, ◌==◌, nat_le, IfSome, SomeIff};
-ghost use Rattle.std.specs.List.{list_any, slice_split, sum_by};
-ghost use Rattle.lx_kernel.specs.Programs.{start_size, start_limit};
-ghost use Rattle.lx_kernel.specs.Boots.{fault_number, fault_of, is_bad_part as is_bad_part_of, is_bad_path as is_bad_path_of, has_bad_path as has_bad_path_of, has_duplicate as has_duplicate_of, has_nul as has_nul_of, has_no_program as has_no_program_of, cost_of, fits as fits_of};
-ghost use Rattle.lx_kernel.specs.Files.{is_under as is_under_path};
+ghost use Rattle.std.specs.Prelude.{◌≡◌, ◌==◌, IfSome};
+ghost use Rattle.std.specs.List.{list_any, slice_split};
+ghost use Rattle.lx_kernel.specs.Boots.{fault_number, fault_of, is_bad_part as is_bad_part_of, is_bad_path as is_bad_path_of, has_bad_path as has_bad_path_of, has_duplicate as has_duplicate_of, has_nul as has_nul_of, has_no_program as has_no_program_of, fits as fits_of};
+ghost use Rattle.lx_kernel.specs.Paths.{is_under as is_under_path};
 ghost use Rattle.lx_kernel.specs.Neighbours.{has_under as has_under_of, IsTold};
 ghost use Rattle.std.specs.Str.{bytes_eq};
 
 use crate::limits::files_fit;
 use crate::neighbours::{Told, is_under, tell};
 use lx_abi::{Boot, Bytes, GuestFile};
+use lx_pcalls::start_fits;
 use std::alloc::{AllocError, Global};
 use thiserror::Error;
-
-/// The most bytes that the words, the environment and the vector of a program's start may take.
-pub const START_LIMIT: usize = 65_536;
-
-/// What a word takes of a program's start beside its bytes: its NUL and its pointer.
-pub const WORD_COST: usize = 9;
 
 /// Why a boot is refused. The checks have an order, and the first that fails names the fault.
 #[derive(Clone, Copy, Debug, PartialEq, Eq, Error)]
@@ -157,28 +151,6 @@ fn has_no_program(argv: &[Bytes], env: &[Bytes]) -> bool
     ensures { result ≡ has_no_program_of argv.now env.now }
 {
     argv.is_empty() || has_nul(argv) || has_nul(env)
-}
-
-/// What is left of a budget of bytes after these words, each with its NUL and its pointer.
-fn spend(budget: usize, words: &[Bytes]) -> Option<usize>
-    ensures { SomeIff result (sum_by cost_of words.now ≤ budget) (budget - sum_by cost_of words.now) }
-{
-    let mut left = budget;
-    for word in words {
-        left = left.checked_sub(word.len())?.checked_sub(WORD_COST)?;
-    }
-    Some(left)
-}
-
-/// The words and the environment fit the start of a program.
-pub fn start_fits(argv: &[Bytes], env: &[Bytes]) -> bool
-    ensures { result ≡ nat_le (start_size argv.now env.now) start_limit }
-{
-    // argc, two null pointers and the auxiliary vector take seven doublewords
-    match spend(START_LIMIT - 7 * 8, argv) {
-        None => false,
-        Some(left) => spend(left, env).is_some(),
-    }
 }
 
 /// The files are within their limits, and the words and the environment within those of a program's start.

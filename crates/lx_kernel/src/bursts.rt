@@ -2,16 +2,15 @@
 
 ghost use Rattle.std.specs.Prelude.{◌≡◌, None, IfOk, not, ◌&&◌, is_some};
 ghost use Rattle.std.specs.FinMap as maps;
-ghost use Rattle.lx_kernel.specs.Linux.{next_of, is_killed as is_killed_at};
+ghost use Rattle.lx_kernel.specs.Reactions.{next_of, is_killed as is_killed_at};
 ghost use Rattle.lx_kernel.specs.Bursts.{Burst, Continues, OwnContinues, with_owns};
 ghost use Rattle.lx_kernel.specs.Runs.{Run as KernelRun};
 ghost use Rattle.lx_model.specs.declared.stage.Own.TheVariants as Own;
 
-use crate::registers;
 use crate::signals::{is_killed, next};
-use crate::state::{Body, Shared};
 use lx_abi::Map;
 use lx_model::{Own, Stage};
+use lx_proc::{Body, Shared, make_again};
 use rv_hart::Decoder;
 use std::alloc::AllocError;
 
@@ -32,7 +31,7 @@ fn run_body(body: &mut Body, decoder: &mut Decoder, limit: u64) -> Result<u64, A
         None => run_instructions(body, decoder, limit),
         Some(_) if limit == 0 => Ok(0),
         Some(at) => {
-            registers::make_again(body, at);
+            make_again(body, at);
             let ran = run_instructions(body, decoder, limit - 1)?;
             Ok(ran + 1)
         }

@@ -4,33 +4,36 @@ ghost use Rattle.std.specs.Prelude.{◌≡◌, ◌↔◌, ◌++◌, ◌+◌, [],
 ghost use Rattle.std.specs.FinMap as maps;
 ghost use Rattle.lx_model.specs.Finite.{at, item_of};
 ghost use Rattle.lx_model.specs.Deeds.{deed_of};
+ghost use Rattle.lx_model.specs.Turn.{Plain};
 ghost use Rattle.lx_model.specs.Turn.{turn};
 ghost use Rattle.lx_model.specs.declared.stage.Own.TheVariants.{Alive, Gone};
 ghost use Rattle.lx_kernel.specs.Linux.{linux};
-ghost use Rattle.lx_kernel.specs.Turned.{turned, turned_by, event_of, is_gone};
+ghost use Rattle.lx_kernel.specs.Turned.{turned, turned_by, event_of, is_gone, owns_with, without_gone, next_child, IsLeft, IsBirth};
 ghost use Rattle.lx_kernel.specs.Turns.{Turns};
 ghost use Rattle.lx_kernel.specs.Outcomes.{outcome_in};
 ghost use Rattle.lx_kernel.specs.Tampering.{choice_of_call, choice_of_own};
 ghost use Rattle.lx_kernel.specs.Bursts.{Burst};
 ghost use Rattle.lx_kernel.specs.Tracing.{own_in, regs_of, peek_of, signal_of, with_regs, with_joined, with_dropped, with_part};
-ghost use Rattle.lx_kernel.specs.State.{Body};
+ghost use Rattle.lx_proc.specs.declared.state.Body.{Body};
 ghost use Rattle.lx_kernel.specs.Scheduling.{IsNextOf};
 ghost use Rattle.lx_kernel.specs.Runs.{turn_in, after_turn, is_able_in, mode_in, own_mode as own_mode_of, life_mode};
 ghost use Rattle.lx_kernel.specs.Occurrences.{count_of, Agree};
 ghost use Rattle.lx_abi.specs.Log.{is_entry};
 ghost use Rattle.std.specs.Option.{option_to_list};
 
-use crate::ending::{bury, die};
+use crate::blocking::can_turn;
+use crate::effects::Effect;
 use crate::occurrences::Occurrences;
 use crate::outcome::outcome;
-use crate::scheduling::{first_there, is_there, next_there};
+use crate::scheduling::{first_able, next_able};
 use crate::signals::is_killed;
 use crate::stages::{Went, go, mode};
-use crate::state::{Body, Life, Shared};
 use crate::tampering::Tampering;
 use crate::{bursts, tracing};
 use lx_abi::{Bytes, Cause, Item, Map, Mode, Outcome, Registers, Script, Signal};
 use lx_model::{Deed, Own, Stage};
+use lx_pcalls::{bury, die};
+use lx_proc::{Body, Life, Shared};
 use rv_hart::Decoder;
 use std::alloc::{AllocError, Global};
 use std::marker::Model;
@@ -59,33 +62,22 @@ pub struct Moved {
 }
 
 /// What one turn logged, and whether its process is gone, beside what it left in the parts that it was lent.
-#[derive(Clone, Copy, Debug, PartialEq, Eq)]
+#[derive(Drop)]
 struct Logged {
     item: Option<Item>,
-    execed: bool,
+    done: Effect,
     gone: bool,
 }
 
 impl Logged {
     /// Nothing is logged.
     fn nothing(gone: bool) -> Logged
-        ensures { result ≡ record { item = None; execed = false; gone = gone } }
+        ensures { result ≡ record { item = None; done = Effect.Plain; gone = gone } }
     {
         Logged {
             item: None,
-            execed: false,
+            done: Effect::Plain,
             gone,
-        }
-    }
-
-    /// What the turn did beside.
-    fn deed(&self) -> Deed
-        ensures { result ≡ deed_of {B = Body} (event_of self.now.execed) }
-    {
-        if self.execed {
-            Deed::Execed
-        } else {
-            Deed::Plain
         }
     }
 }
@@ -95,17 +87,18 @@ fn turn_alive(
     alloc: Global,
     shared: &mut Shared,
     tampering: &Tampering,
+    child: u32,
     pid: u32,
     body: &mut Body,
     stage: Stage,
 ) -> Result<Went, AllocError>
-    ensures turned { IfOk result (λ w. (child : ℕ) → turned (turn linux (choice_of_call tampering.now pid body.old) shared.old child pid (Alive body.old stage)) ≡ turned_by w shared.new body.new pid stage) }
+    ensures turned { IfOk result (λ w. turned (turn linux (choice_of_call tampering.now pid body.old) shared.old child pid (Alive body.old stage)) ≡ turned_by w shared.new body.new pid stage) }
     ensures console { OnErr result (shared.new.console ≡ shared.old.console) }
 {
     if is_killed(shared, pid) {
         return Ok(Went::Ended { word: KILL_WORD });
     }
-    let went = go(alloc, shared, tampering, pid, body, stage)?;
+    let went = go(alloc, shared, tampering, child, pid, body, stage)?;
     Ok(went)
 }
 
@@ -114,29 +107,30 @@ fn turn_own(
     alloc: Global,
     shared: &mut Shared,
     tampering: &Tampering,
+    child: u32,
     pid: u32,
     own: &mut Own<Body>,
 ) -> Result<Logged, AllocError>
-    ensures turned { IfOk result (λ l. (child : ℕ) → turned (turn linux (choice_of_own tampering.now pid own.old) shared.old child pid own.old) ≡ record { shared = shared.new; own = own.new; item = l.item; event = event_of l.execed }) }
+    ensures turned { IfOk result (λ l. turned (turn linux (choice_of_own tampering.now pid own.old) shared.old child pid own.old) ≡ record { shared = shared.new; own = own.new; item = l.item; event = event_of l.done }) }
     ensures gone { IfOk result (λ l. l.gone ≡ is_gone own.new) }
-    ensures absent { own.old ≡ Gone → IsOkAnd result (λ l. l.item ≡ None) }
+    ensures absent { own.old ≡ Gone → IsOkAnd result (λ l. (l.item ≡ None) × (event_of l.done ≡ Plain)) }
     ensures console { OnErr result (shared.new.console ≡ shared.old.console) }
 {
     match own {
         Own::Gone => Ok(Logged::nothing(true)),
         Own::Dying { word } => {
-            bury(shared, pid, *word)?;
+            bury(shared, pid, *word);
             *own = Own::Gone;
             Ok(Logged::nothing(true))
         }
         Own::Alive { body, stage } => {
             let left = *stage;
-            match turn_alive(alloc, shared, tampering, pid, body, left)? {
-                Went::On { next, item, execed } => {
+            match turn_alive(alloc, shared, tampering, child, pid, body, left)? {
+                Went::On { next, item, done } => {
                     *stage = next;
                     Ok(Logged {
                         item,
-                        execed,
+                        done,
                         gone: false,
                     })
                 }
@@ -150,12 +144,21 @@ fn turn_own(
                     });
                     Ok(Logged {
                         item,
-                        execed: false,
+                        done: Effect::Plain,
                         gone: false,
                     })
                 }
             }
         }
+    }
+}
+
+/// Who is gone leaves the table.
+fn remove_gone(owns: &mut Map<Own<Body>>, pid: u32, gone: bool)
+    ensures { owns.new ≡ without_gone owns.old pid gone }
+{
+    if gone {
+        owns.remove(pid);
     }
 }
 
@@ -165,20 +168,38 @@ fn turn_at(
     shared: &mut Shared,
     owns: &mut Map<Own<Body>>,
     tampering: &Tampering,
+    child: u32,
     pid: u32,
 ) -> Result<Logged, AllocError>
-    ensures turns { IfOk result (λ l. (child : ℕ) → Turns (turned (turn linux (choice_of_own tampering.now pid (at Gone owns.old pid)) shared.old child pid (at Gone owns.old pid))) owns.old pid l shared.new owns.new) }
-    ensures absent { at Gone owns.old pid ≡ Gone → IsOkAnd result (λ l. l.item ≡ None) }
+    ensures turns { IfOk result (λ l. Turns (turned (turn linux (choice_of_own tampering.now pid (at Gone owns.old pid)) shared.old child pid (at Gone owns.old pid))) owns.old pid l shared.new owns.new) }
+    ensures absent { at Gone owns.old pid ≡ Gone → IsOkAnd result (λ l. (l.item ≡ None) × (event_of l.done ≡ Plain)) }
     ensures console { OnErr result (shared.new.console ≡ shared.old.console) }
 {
     let logged = match owns.get_mut(pid) {
         None => return Ok(Logged::nothing(true)),
-        Some(own) => turn_own(alloc, shared, tampering, pid, own)?,
+        Some(own) => turn_own(alloc, shared, tampering, child, pid, own)?,
     };
-    if logged.gone {
-        owns.remove(pid);
-    }
+    remove_gone(owns, pid, logged.gone);
     Ok(logged)
+}
+
+/// A child that is born has a part of its own, under the next pid.
+fn place_child(owns: &mut Map<Own<Body>>, child: &mut u32, done: Effect) -> Result<(), AllocError>
+    requires { IsLeft done child.old }
+    ensures owns { OnOk result (owns.new ≡ owns_with owns.old child.old (event_of done)) }
+    ensures child { OnOk result (child.new ≡ next_child child.old (event_of done)) }
+    ensures plain { event_of done ≡ Plain → IsOk result }
+    ensures born { OnErr result (IsBirth (event_of done)) }
+{
+    match done {
+        Effect::Plain | Effect::Execed => Ok(()),
+        Effect::Bore(body) => {
+            let stage = Stage::Born;
+            owns.insert(*child, Own::Alive { body, stage })?;
+            *child += 1;
+            Ok(())
+        }
+    }
 }
 
 /// The untraced kernel under a script.
@@ -323,16 +344,20 @@ impl Kernel {
             &mut self.shared,
             &mut self.owns,
             &tampering,
+            self.child,
             pid,
         )?;
-        log_item(&mut self.log, &mut self.occurrences, logged.item)?;
+        let Logged { item, done, .. } = logged;
+        let deed = done.deed();
+        place_child(&mut self.owns, &mut self.child, done)?;
+        log_item(&mut self.log, &mut self.occurrences, item)?;
         let after = mode_of(&self.shared, &self.owns, pid);
         self.failed = false;
         Ok(Moved {
             before,
             after,
-            item: logged.item,
-            deed: logged.deed(),
+            item,
+            deed,
         })
     }
 
@@ -356,20 +381,20 @@ impl Kernel {
         Ok(ran)
     }
 
-    /// A turn of the process would run an instruction or change its mode.
+    /// A turn of the process would run an instruction or change its mode: it is in the table, and doesn't wait.
     pub fn able(&self, pid: u32) -> bool
         ensures { IsTrue result ↔ is_able_in self.now pid }
     {
-        is_there(&self.owns, pid)
+        can_turn(&self.shared, &self.owns, pid)
     }
 
     /// The next process that can take a turn, in the cycle of pids: the first above this pid, or else the first.
     pub fn next_able(&self, after: u32) -> Option<u32>
         ensures { IsNextOf self.now after result }
     {
-        match next_there(&self.owns, after) {
+        match next_able(&self.shared, &self.owns, after) {
             Some(pid) => Some(pid),
-            None => first_there(&self.owns),
+            None => first_able(&self.shared, &self.owns),
         }
     }
 

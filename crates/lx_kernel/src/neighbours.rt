@@ -4,7 +4,7 @@ ghost use Rattle.std.specs.Prelude.{◌≡◌, map, Some, IfOk, IfSome};
 ghost use Rattle.std.specs.List.{list_any};
 ghost use Rattle.std.specs.List.Sorted.{IsPermutation};
 ghost use Rattle.lx_kernel.specs.Boots.{has_duplicate};
-ghost use Rattle.lx_kernel.specs.Files.{is_under as is_under_path};
+ghost use Rattle.lx_kernel.specs.Paths.{is_under as is_under_path};
 ghost use Rattle.lx_kernel.specs.Neighbours.{rank as rank_of, precedes as precedes_path, under_next as under_next_of, twice_next as twice_next_of, has_under, IsTold};
 
 use lx_abi::GuestFile;

@@ -4,31 +4,36 @@ ghost use Rattle.std.specs.Prelude.{◌≡◌, IfOk, OnOk, OnErr, Some, None, fa
 ghost use Rattle.rv_hart.specs.Faults.{signal_number};
 ghost use Rattle.std.specs.FinMap as maps;
 ghost use Rattle.lx_model.specs.Turn.{stage_mode, joins, chosen, stepped, answered, took, lives, result_word};
-ghost use Rattle.lx_model.specs.Machine.{call_of};
-ghost use Rattle.lx_kernel.specs.Linux.{linux, regs, next_of, runs, stepped_by, resumed, reacted, ends_at};
+ghost use Rattle.lx_model.specs.Machine.{call_of, with_result};
+ghost use Rattle.lx_pcalls.specs.Taking.{takes};
+ghost use Rattle.lx_kernel.specs.Linux.{linux};
+ghost use Rattle.lx_proc.specs.Registers.{regs};
+ghost use Rattle.lx_kernel.specs.Reactions.{next_of, runs, stepped_by, resumed};
 ghost use Rattle.lx_kernel.specs.Calls.{does as meaning};
 ghost use Rattle.lx_kernel.specs.Tampering.{choice_of_call};
 ghost use Rattle.lx_kernel.specs.Turned.{turned, turned_by};
 ghost use Rattle.lx_model.specs.declared.stage.Stage.TheVariants as stages;
-ghost use Rattle.lx_kernel.specs.declared.state.Shared.{Shared};
+ghost use Rattle.lx_proc.specs.declared.state.Shared.{Shared};
 
-use crate::calls::{Reply, does};
-use crate::state::{Body, Shared};
+use crate::calls::does;
+use crate::effects::Effect;
 use crate::tampering::Tampering;
-use crate::{registers, signals};
+use crate::signals;
 use lx_abi::{Call, Cause, Choice, Item, Mode, Signal};
 use lx_model::Stage;
+use lx_pcalls::{Reacted, take};
+use lx_proc::{Body, Reply, Shared, a0, call, make_again, return_from_call};
 use rv_hart::{FaultKind, Step, step};
 use std::alloc::{AllocError, Global};
 
 /// What a turn of a living process came to, beside what it left in the parts that it was lent.
-#[derive(Clone, Copy, Debug, PartialEq, Eq)]
+#[derive(Drop)]
 pub enum Went {
-    /// It goes on; a new program may stand.
+    /// It goes on.
     On {
         next: Stage,
         item: Option<Item>,
-        execed: bool,
+        done: Effect,
     },
     /// It ends with this wait word; what is shared is unchanged.
     Ended {
@@ -39,23 +44,38 @@ pub enum Went {
 impl Went {
     /// It goes on, and nothing is logged.
     fn on(next: Stage) -> Went
-        ensures { result ≡ Went.On next None false }
+        ensures { result ≡ Went.On next None Effect.Plain }
     {
         Went::On {
             next,
             item: None,
-            execed: false,
+            done: Effect::Plain,
+        }
+    }
+
+    /// A call was done, and this beside it.
+    fn acted(call: Call, value: u64, done: Effect) -> Went
+        ensures { result ≡ Went.On (stages.Acted call value false) None done }
+    {
+        Went::On {
+            next: Stage::Acted {
+                call,
+                result: value,
+                replaced: false,
+            },
+            item: None,
+            done,
         }
     }
 
     /// It goes on, and this is logged.
     fn logged(next: Stage, item: Item) -> Went
-        ensures { result ≡ Went.On next (Some item) false }
+        ensures { result ≡ Went.On next (Some item) Effect.Plain }
     {
         Went::On {
             next,
             item: Some(item),
-            execed: false,
+            done: Effect::Plain,
         }
     }
 }
@@ -95,7 +115,7 @@ fn step_on(pid: u32, body: &mut Body) -> Result<Went, AllocError>
     match step(&mut body.hart, &mut body.memory)? {
         Step::Ran => Ok(Went::on(Stage::Run)),
         Step::Call => {
-            let call = registers::call(body);
+            let call = call(body);
             Ok(Went::logged(Stage::Entered { joined: None }, Item::Enter { pid, call }))
         }
         Step::Fault { kind, address } => {
@@ -117,7 +137,7 @@ fn resume(pid: u32, body: &mut Body) -> Result<Went, AllocError>
 {
     match body.interrupted {
         Some(at) => {
-            registers::make_again(body, at);
+            make_again(body, at);
             Ok(Went::on(Stage::Run))
         }
         None => step_on(pid, body),
@@ -142,12 +162,11 @@ fn run(shared: &mut Shared, pid: u32, body: &mut Body) -> Result<Went, AllocErro
 }
 
 /// The signals that are joined to a call are made pending.
-fn join(shared: &mut Shared, pid: u32, signal: Option<Signal>) -> Result<(), AllocError>
-    ensures joined { OnOk result (shared.new ≡ joins linux shared.old pid signal) }
-    ensures console { OnErr result (shared.new.console ≡ shared.old.console) }
+fn join(shared: &mut Shared, pid: u32, signal: Option<Signal>)
+    ensures { shared.new ≡ joins linux shared.old pid signal }
 {
     match signal {
-        None => Ok(()),
+        None => {}
         Some(signal) => signals::join(shared, pid, signal),
     }
 }
@@ -165,61 +184,54 @@ fn chosen_stage(call: Call, choice: Choice) -> Stage
     }
 }
 
+/// The result stands in its place, and the call was done.
+fn return_with(body: &mut Body, call: Call, value: u64, done: Effect) -> Went
+    ensures body { body.new ≡ with_result linux body.old value }
+    ensures went { result ≡ Went.On (stages.Acted call value false) None done }
+{
+    return_from_call(body, value);
+    Went::acted(call, value, done)
+}
+
 /// A call is done, if it can be.
 fn do_call(
     alloc: Global,
     shared: &mut Shared,
+    child: u32,
     pid: u32,
     body: &mut Body,
     call: Call,
 ) -> Result<Went, AllocError>
-    ensures turned { IfOk result (λ w. (child : ℕ) → turned (answered linux shared.old child pid body.old call (meaning shared.old call body.old)) ≡ turned_by w shared.new body.new pid (stages.Doing call)) }
+    ensures turned { IfOk result (λ w. turned (answered linux shared.old child pid body.old call (meaning shared.old child pid call body.old)) ≡ turned_by w shared.new body.new pid (stages.Doing call)) }
     ensures console { OnErr result (shared.new.console ≡ shared.old.console) }
 {
-    match does(alloc, shared, &call, body)? {
-        Reply::Refused(error) => {
-            let result = error.word();
-            registers::return_from_call(body, result);
-            Ok(Went::on(Stage::Acted {
-                call,
-                result,
-                replaced: false,
-            }))
+    match does(alloc, shared, child, pid, &call, body)? {
+        Reply::Refused(error) => Ok(return_with(body, call, error.word(), Effect::Plain)),
+        Reply::Returned(result) => Ok(return_with(body, call, result, Effect::Plain)),
+        Reply::Jumped => Ok(Went::acted(call, a0(body), Effect::Plain)),
+        Reply::Execed => Ok(Went::acted(call, a0(body), Effect::Execed)),
+        Reply::Bore(newborn) => {
+            Ok(return_with(body, call, u64::from(child), Effect::Bore(newborn)))
         }
-        Reply::Returned(result) => {
-            registers::return_from_call(body, result);
-            Ok(Went::on(Stage::Acted {
-                call,
-                result,
-                replaced: false,
-            }))
-        }
-        Reply::Execed => {
-            let result = registers::a0(body);
-            Ok(Went::On {
-                next: Stage::Acted {
-                    call,
-                    result,
-                    replaced: false,
-                },
-                item: None,
-                execed: true,
-            })
-        }
+        Reply::Blocked => Ok(Went::on(Stage::Doing { call })),
         Reply::Ended(word) => Ok(Went::Ended { word }),
     }
 }
 
-/// A taken signal is ignored, or ends its process.
-fn react(shared: &Shared, pid: u32, body: &Body, signal: Signal, cause: Cause) -> Went
-    ensures { turned (took linux shared.now pid signal cause (reacted shared.now body.now signal (ends_at (maps.get shared.now.entries pid) signal cause))) ≡ turned_by result shared.now body.now pid (stages.Taken signal cause) }
+/// A taken signal does what its action says: its process goes on, or ends.
+fn react(
+    shared: &mut Shared,
+    pid: u32,
+    body: &mut Body,
+    signal: Signal,
+    cause: Cause,
+) -> Result<Went, AllocError>
+    ensures turned { IfOk result (λ w. turned (took linux shared.old pid signal cause (takes shared.old pid body.old signal cause)) ≡ turned_by w shared.new body.new pid (stages.Taken signal cause)) }
+    ensures console { OnErr result (shared.new.console ≡ shared.old.console) }
 {
-    if signals::ends(shared, pid, signal, cause) {
-        Went::Ended {
-            word: u32::from(signal.number),
-        }
-    } else {
-        Went::on(Stage::Run)
+    match take(shared, pid, body, signal, cause)? {
+        Reacted::Passed => Ok(Went::on(Stage::Run)),
+        Reacted::Killed(word) => Ok(Went::Ended { word }),
     }
 }
 
@@ -228,11 +240,12 @@ pub fn go(
     alloc: Global,
     shared: &mut Shared,
     tampering: &Tampering,
+    child: u32,
     pid: u32,
     body: &mut Body,
     stage: Stage,
 ) -> Result<Went, AllocError>
-    ensures turned { IfOk result (λ w. (child : ℕ) → turned (lives linux (choice_of_call tampering.now pid body.old) shared.old child pid body.old stage) ≡ turned_by w shared.new body.new pid stage) }
+    ensures turned { IfOk result (λ w. turned (lives linux (choice_of_call tampering.now pid body.old) shared.old child pid body.old stage) ≡ turned_by w shared.new body.new pid stage) }
     ensures console { OnErr result (shared.new.console ≡ shared.old.console) }
 {
     match stage {
@@ -245,15 +258,15 @@ pub fn go(
             ))
         }
         Stage::Entered { joined } => {
-            let call = registers::call(body);
+            let call = call(body);
             let choice = tampering.choice(pid, call.number);
-            join(shared, pid, joined)?;
-            join(shared, pid, choice.signal)?;
+            join(shared, pid, joined);
+            join(shared, pid, choice.signal);
             Ok(Went::on(chosen_stage(call, choice)))
         }
-        Stage::Doing { call } => do_call(alloc, shared, pid, body, call),
+        Stage::Doing { call } => do_call(alloc, shared, child, pid, body, call),
         Stage::Replaced { call, result } => {
-            registers::return_from_call(body, result);
+            return_from_call(body, result);
             Ok(Went::on(Stage::Acted {
                 call,
                 result,
@@ -275,6 +288,6 @@ pub fn go(
                 },
             ))
         }
-        Stage::Taken { signal, cause } => Ok(react(shared, pid, body, signal, cause)),
+        Stage::Taken { signal, cause } => react(shared, pid, body, signal, cause),
     }
 }

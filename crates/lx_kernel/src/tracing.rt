@@ -5,10 +5,9 @@ ghost use Rattle.lx_model.specs.Finite.{at};
 ghost use Rattle.lx_model.specs.declared.stage.Own.TheVariants.{Gone};
 ghost use Rattle.lx_kernel.specs.Tracing.{regs_of, peek_of, signal_of, with_regs, with_joined, with_dropped, with_part_at, IsPart, joining, dropping};
 
-use crate::registers;
-use crate::state::Body;
 use lx_abi::{Bytes, Cause, Map, Registers, Signal};
 use lx_model::{Own, Stage};
+use lx_proc::{Body, registers_of, set_registers};
 use std::alloc::AllocError;
 
 /// pc and x1 to x31 of a process that lives.
@@ -16,7 +15,7 @@ pub fn regs(owns: &Map<Own<Body>>, pid: u32) -> Option<Registers>
     ensures { result ≡ regs_of (at Gone owns.now pid) }
 {
     match owns.get(pid) {
-        Some(Own::Alive { body, .. }) => Some(registers::all(body)),
+        Some(Own::Alive { body, .. }) => Some(registers_of(body)),
         Some(Own::Dying { .. } | Own::Gone) | None => None,
     }
 }
@@ -59,7 +58,7 @@ fn set_own_regs(own: &mut Own<Body>, registers: &Registers) -> bool
 {
     match own {
         Own::Alive { body, .. } => {
-            registers::set_all(body, registers);
+            set_registers(body, registers);
             true
         }
         Own::Dying { .. } | Own::Gone => false,

@@ -17,8 +17,8 @@ use Rattle.lx_model.specs.declared.stage.Own.{Own}
 use Rattle.lx_model.specs.declared.stage.Own.TheVariants.{Alive, Dying, Gone}
 use Rattle.lx_model.specs.Turn.{stage_mode}
 use Rattle.lx_model.specs.Finite.{at, placed, with_own}
-use Rattle.lx_kernel.specs.declared.state.Shared.{Shared}
-use Rattle.lx_kernel.specs.declared.state.Body.{Body}
+use Rattle.lx_proc.specs.declared.state.Shared.{Shared}
+use Rattle.lx_proc.specs.declared.state.Body.{Body}
 use Rattle.lx_kernel.specs.Linux.{linux}
 use Rattle.lx_kernel.specs.Runs.{Run as KernelRun}
 use Rattle.lx_kernel.specs.Tracing.{own_in, signal_at}

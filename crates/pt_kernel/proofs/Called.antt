@@ -15,8 +15,8 @@ use Rattle.lx_model.specs.Machine.{Machine}
 use Rattle.lx_model.specs.Turn.{Out, turn}
 use Rattle.lx_model.specs.declared.stage.Own.{Own}
 use Rattle.lx_model.specs.declared.stage.Own.TheVariants.{Alive, Dying, Gone}
-use Rattle.lx_kernel.specs.declared.state.Shared.{Shared}
-use Rattle.lx_kernel.specs.declared.state.Body.{Body}
+use Rattle.lx_proc.specs.declared.state.Shared.{Shared}
+use Rattle.lx_proc.specs.declared.state.Body.{Body}
 use Rattle.lx_kernel.specs.Linux.{linux}
 use Rattle.lx_kernel.specs.Outcomes.{outcome_in}
 use Rattle.pt_model.specs.Attending.{Attending, Called, event, turned, answered_by, called, left_pending}
@@ -24,12 +24,13 @@ use Rattle.pt_model.specs.Attending.{Gives}
 use Rattle.pt_model.specs.Hosting.{Hosting, Hosted, proc_in, host_in, attending_in, IsFresh, no_script, hosting_event}
 use Rattle.pt_model.specs.HostLaws.{HostsAttendAlike, HostsAreReady}
 use Rattle.pt_model.specs.Ptrace.{Host, is_effective, host_turn_of}
-use Rattle.pt_kernel.specs.Attends.{after, Attended, GoesOn, IsFed}
-use Rattle.pt_kernel.specs.Hosts.{HostState, moves, able_in, sight_of, event_of}
-use Rattle.pt_kernel.specs.Schedules.{Sight, next_of}
+use Rattle.pt_schedule.specs.Modes.{is_finished, moves}
+use Rattle.pt_schedule.specs.Schedules.{Sight, next_of}
+use Rattle.pt_schedule.specs.declared.schedule.Schedule.{Schedule}
+use Rattle.pt_kernel.specs.Attends.{Attended, GoesOn, IsFed}
+use Rattle.pt_kernel.specs.Bursts.{after}
+use Rattle.pt_kernel.specs.Hosts.{HostState, able_in, sight_of, event_of}
 use Rattle.pt_kernel.specs.Seen.{is_able, sees, given, next_of_host, IsCalled, HostsAreCalled}
-use Rattle.pt_kernel.specs.Stops.{is_finished}
-use Rattle.pt_kernel.specs.declared.schedule.Schedule.{Schedule}
 
 -- What a schedule sees
 

@@ -1,76 +1,26 @@
--- A schedule gives fewer events than it has left, and a host is fed one event after the other.
-use Rattle.std.proofs.Common.{◌≡◌, ℕ, ◌-◌, ◌<◌, Bool, true, false, cond, List, [], ◌∷◌, Option, Some, None, refl, sym, ap, subst, ◌∙◌, arith}
-use Rattle.std.specs.Prelude.{◌==◌, ◌&&◌, nat_lt}
-use Rattle.std.proofs.lemmas.Bool.Decides.{nat_tests}
+-- A host is fed one event after the other.
+use Rattle.std.proofs.Common.{◌≡◌, ℕ, zero, suc, ◌-◌, ◌+◌, ◌<◌, ◌≤◌, Bool, true, false, cond, not, [], ◌∷◌, Option, Some, None, refl, sym, ap, subst, ◌∙◌, arith}
+use Rattle.std.specs.Prelude.{◌&&◌}
 use Rattle.lx_abi.specs.declared.ptrace.Reply.{Reply}
 use Rattle.lx_abi.specs.declared.schedule.Event.{Event}
-use Rattle.lx_abi.specs.declared.schedule.Word.{Word}
-use Rattle.lx_abi.specs.declared.schedule.Word.TheVariants as word
-use Rattle.pt_kernel.specs.declared.schedule.Row.{Row}
-use Rattle.pt_kernel.specs.declared.schedule.Returning.{Returning}
-use Rattle.pt_kernel.specs.declared.schedule.Listed.{Listed}
-use Rattle.pt_kernel.specs.declared.schedule.Worded.{Worded}
-use Rattle.pt_kernel.specs.declared.schedule.Order.{Order}
-use Rattle.pt_kernel.specs.declared.schedule.Order.TheVariants as order
-use Rattle.pt_kernel.specs.declared.schedule.Schedule.{Schedule}
-use Rattle.pt_kernel.specs.Schedules.{Sight, Given, next_able, turn_with, turn_of, serve_of, end_of, next_row, go_on, by_default, by_word, goes_on, after_serves, first_of, next_by, next_of}
+use Rattle.lx_abi.specs.declared.schedule.Event.TheVariants.{Turn}
+use Rattle.lx_model.specs.Finite.{at, own_mode, turn_out}
+use Rattle.lx_model.specs.declared.stage.Own.{Own}
+use Rattle.lx_model.specs.declared.stage.Own.TheVariants.{Alive, Gone}
+use Rattle.lx_model.specs.declared.stage.Stage.TheVariants.{Run as In_run}
+use Rattle.lx_proc.specs.declared.state.Body.{Body}
+use Rattle.lx_kernel.specs.Linux.{linux}
+use Rattle.pt_model.specs.Hosting.{no_script, traced_at}
+use Rattle.pt_schedule.specs.declared.schedule.Schedule.{Schedule}
+use Rattle.pt_schedule.specs.declared.schedule.TurnRun.{TurnRun}
+use Rattle.pt_schedule.specs.Modes.{is_finished, moves}
+use Rattle.pt_schedule.specs.Rows.{run_of, after_turns as left_after_turns, Continues}
+use Rattle.pt_schedule.specs.Schedules.{Given, next_of}
+use Rattle.pt_schedule.proofs.Rowing.{runs_are_turns, none_after, more_after}
 use Rattle.pt_kernel.specs.Hosts.{HostState, sight_of, event_of}
-use Rattle.pt_kernel.specs.Attends.{after, Attended, GoesOn, IsFed, Attends, events_left, left_in}
-
-abbrev Spends : ℕ → Given Worded → Type 0
-Spends n g = (e : Event) → g.event ≡ Some e → g.schedule.left ≡ n - 1
-
-row_spends : (w : Worded) (p : Option ℕ) → Spends w.left (next_row w p)
-row_spends w None e h = absurd (cc h)
-row_spends w (Some p) e h = refl
-
-either : (n : ℕ) (b : Bool) (f g : Given Worded) → Spends n f → Spends n g → Spends n (cond b f g)
-either n true f g h k = h
-either n false f g h k = k
-
-go_spends : (w : Worded) (seen : Sight) (r : Option Row) → Spends w.left (go_on w seen r)
-go_spends w seen None = row_spends w (next_able seen.able 0)
-go_spends w seen (Some r) = either w.left (seen.able r.pid && nat_lt 0 r.left) (turn_with w r.pid (r.left - 1)) (next_row w (next_able seen.able r.pid)) (λ e h. refl) (row_spends w (next_able seen.able r.pid))
-
-default_spends : (w : Worded) (seen : Sight) → Spends w.left (by_default w seen)
-default_spends w seen = either w.left seen.ready (serve_of w) (go_on w seen w.row) (λ e h. refl) (go_spends w seen w.row)
-
-word_spends : (w : Worded) (seen : Sight) (ws : List Word) → Spends w.left (by_word w seen ws)
-word_spends w seen [] = default_spends (record w { serving = true; returning = None }) seen
-word_spends w seen (word.Turn p ∷ ws) = λ e h. refl
-word_spends w seen (word.TurnAlone p ∷ ws) = λ e h. refl
-word_spends w seen (word.Serve ∷ ws) = λ e h. refl
-word_spends w seen (word.UntilReturn p ∷ ws) = λ e h. refl
-
-after_spends : (w : Worded) (seen : Sight) (r : Option Returning) → Spends w.left (after_serves w seen r)
-after_spends w seen None = word_spends w seen w.words
-after_spends w seen (Some r) = either w.left (goes_on seen r) (turn_of (record w { returning = Some (record r { finished = seen.finished r.pid }) }) r.pid) (by_word w seen w.words) (λ e h. refl) (word_spends w seen w.words)
-
-less : (n m : ℕ) → (n == 0) ≡ false → m ≡ n - 1 → m < n
-less n m h e = grind (arith, nat_tests)
-
-worded_less : (w : Worded) (seen : Sight) (e : Event) (b : Bool) → (w.left == 0) ≡ b → (cond b (end_of w) (cond (w.serving && seen.ready) (serve_of w) (after_serves w seen w.returning))).event ≡ Some e →
-    (cond b (end_of w) (cond (w.serving && seen.ready) (serve_of w) (after_serves w seen w.returning))).schedule.left < w.left
-worded_less w seen e true z h = absurd (cc h)
-worded_less w seen e false z h = less w.left _ z (either w.left (w.serving && seen.ready) (serve_of w) (after_serves w seen w.returning) (λ _ _. refl) (after_spends w seen w.returning) e h)
-
-first_less : (es : List Event) (n : ℕ) (e : Event) → (n == 0) ≡ false → (first_of es n).event ≡ Some e → (first_of es n).schedule.left < n
-first_less [] n e z h = absurd (cc h)
-first_less (x ∷ es) n e z h = less n (n - 1) z refl
-
-listed_less : (l : Listed) (e : Event) (b : Bool) → (l.left == 0) ≡ b → (cond b (record { event = None; schedule = l }) (first_of l.events l.left)).event ≡ Some e → (cond b (record { event = None; schedule = l }) (first_of l.events l.left)).schedule.left < l.left
-listed_less l e true z h = absurd (cc h)
-listed_less l e false z h = first_less l.events l.left e z h
-
-by_less : (o : Order) (seen : Sight) (e : Event) → (next_by o seen).event ≡ Some e → left_in (next_by o seen).schedule.order < left_in o
-unfolding next_by
-by_less (order.Listed l) seen e h = listed_less l e (l.left == 0) refl h
-by_less (order.Worded w) seen e h = worded_less w seen e (w.left == 0) refl h
-
--- an event is one fewer
-pub next_less : (s : Schedule) (seen : Sight) (e : Event) (s' : Schedule) → record { event = Some e; schedule = s' } ≡ next_of s seen → events_left s' < events_left s
-next_less s seen e s' h =
-    subst (λ (g : Given Schedule). events_left g.schedule < events_left s) (sym h) (by_less s.order seen e (sym (ap (λ (g : Given Schedule). g.event) h)))
+use Rattle.pt_kernel.specs.Bursts.{after, after_turns, RunsOn}
+use Rattle.pt_kernel.specs.Attends.{Attended, GoesOn, IsFed, Attends}
+use Rattle.pt_kernel.proofs.Bursting.{in_run}
 
 -- One event more
 
@@ -106,3 +56,37 @@ module _ (h : HostState) (s : Schedule) where
           (subst (λ x. IsFed x (next_of s (sight_of h)).schedule rest.fed z) a (subst (λ (x : Given Schedule). IsFed h' x.schedule rest.fed z) g rest.is_fed)),
     );
   }
+
+pub fewer_still : (a b c : ℕ) → a ≤ b → b < c → a < c
+fewer_still a b c h g = omega (arith, h, g)
+
+-- Turns in a row
+
+-- a process that runs on can have another turn
+module _ (h : HostState) (p : ℕ) (whole : h.failed ≡ false) where
+  abbrev out : Own Body
+  out = (turn_out linux no_script h.follow h.hosting.running p).own
+
+  free_moves : (held : Bool) (own : Own Body) (b : Body) (killed : Bool) → held ≡ false → own ≡ Alive b In_run → (cond held killed true && moves (own_mode own) (own_mode out)) ≡ true
+  free_moves held own b killed e f = ap (λ x. cond x killed true && moves (own_mode own) (own_mode out)) e ∙ ap (λ x. moves (own_mode x) (own_mode out)) f
+
+  continues : RunsOn h p → Continues (sight_of h) p
+  continues on =
+      let here = in_run h p on in
+      record {
+        waits = on.waits;
+        able = ap (λ b. not b && (sight_of (record h { failed = false })).able p) whole ∙ free_moves (traced_at h.hosting p).held (at Gone h.hosting.running.owns p) here.0 _ on.free here.1;
+        within = ap (λ own. is_finished (own_mode own)) here.1;
+      }
+
+pub run_fed : (n : ℕ) (h : HostState) (s : Schedule) (r : TurnRun) (z : Attended) → h.failed ≡ false → run_of s ≡ Some r → n ≤ r.turns → ((i : ℕ) → i < n → RunsOn (after_turns h r.pid i) r.pid) →
+    Attends (after_turns h r.pid n) (left_after_turns s n) z → Attends h s z
+unfolding after_turns
+run_fed zero h s r z whole told l on rest = subst (λ t. Attends h t z) (none_after s) rest
+run_fed (suc n) h s r z whole told l on rest =
+    let it = runs_are_turns s r told (omega (arith, l)) in
+    let more : 1 + n ≡ suc n = omega arith in
+    fed_is h s (Turn r.pid) (left_after_turns s 1) (after h (Turn r.pid)) z
+    (sym (it.next (sight_of h) (continues h r.pid whole (on 0 (omega arith))))) refl refl
+    (run_fed n (after h (Turn r.pid)) (left_after_turns s 1) (record { pid = r.pid; turns = r.turns - 1 }) z refl it.rest (omega (arith, l)) (λ i m. on (suc i) (omega (arith, m)))
+    (subst (λ t. Attends (after_turns (after h (Turn r.pid)) r.pid n) t z) (sym (more_after s 1 n ∙ ap (left_after_turns s) more)) rest))

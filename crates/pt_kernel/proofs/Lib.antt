@@ -1,5 +1,4 @@
 mod LinuxTold
-pub mod Cycling
 pub mod Rows
 pub mod Telling
 pub mod Leaving
@@ -7,5 +6,6 @@ pub mod Turning
 pub mod Answering
 pub mod Sweeping
 pub mod Keeping
+pub mod Bursting
 pub mod Feeding
 pub mod Called

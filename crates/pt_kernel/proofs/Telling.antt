@@ -22,11 +22,11 @@ use Rattle.lx_model.specs.Finite.{at, item_of, Running, ran, bore, own_mode}
 use Rattle.lx_model.proofs.Bridge.{at-placed}
 use Rattle.lx_abi.specs.Log.{entries}
 use Rattle.lx_abi.specs.Scripts.{choice_of}
-use Rattle.lx_kernel.specs.declared.state.Shared.{Shared}
-use Rattle.lx_kernel.specs.declared.state.Body.{Body}
-use Rattle.lx_kernel.specs.declared.state.Entry.{Entry}
-use Rattle.lx_kernel.specs.declared.state.Life.{Life}
-use Rattle.lx_kernel.specs.declared.state.Life.TheVariants as life
+use Rattle.lx_proc.specs.declared.state.Shared.{Shared}
+use Rattle.lx_proc.specs.declared.state.Body.{Body}
+use Rattle.lx_proc.specs.declared.state.Entry.{Entry}
+use Rattle.lx_proc.specs.declared.state.Life.{Life}
+use Rattle.lx_proc.specs.declared.state.Life.TheVariants as life
 use Rattle.lx_kernel.specs.Linux.{linux}
 use Rattle.lx_kernel.specs.Runs.{Run as KernelRun, turn_in, after_turn, mode_in, life_mode, own_mode as kernel_mode}
 use Rattle.lx_kernel.specs.Tracing.{own_in}
@@ -115,19 +115,19 @@ same_end (Some e) Gone = buried_end e e.life
 abbrev stands : Running Shared Body → ℕ → Option Mode
 stands r p = kernel_mode (maps.get r.shared.entries p) (at Gone r.owns p)
 
-here : (v : Running Shared Body) (p : ℕ) (o : Out Shared Body) → at Gone (ran v p o).owns p ≡ o.own
-here v p o = ap (λ (f : ℕ → Own Body). f p) (at-placed v.owns p o.own) ∙ put_here (at Gone v.owns) p o.own
+pub left_at : (v : Running Shared Body) (p : ℕ) (o : Out Shared Body) → at Gone (ran v p o).owns p ≡ o.own
+left_at v p o = ap (λ (f : ℕ → Own Body). f p) (at-placed v.owns p o.own) ∙ put_here (at Gone v.owns) p o.own
 
 module _ (v : Running Shared Body) (p : ℕ) (o : Out Shared Body) where
   stop_of : (w : Watch) (e : Event Body) → told_stop w (own_mode o.own) (item_of o) (deed_of e) ≡ tracee_stop w o.own e → (deed_of e ≡ deed.Bore → own_mode o.own ≡ Some mode.Acted) →
       turn_stop w (stands (bore (ran v p o) e) p) (item_of o) (deed_of e) ≡ tracee_stop w o.own e
-  stop_of w Plain told bears = ap (λ own. told_stop w (kernel_mode (maps.get o.shared.entries p) own) (item_of o) deed.Plain) (here v p o) ∙ same_stop w (maps.get o.shared.entries p) o.own (item_of o) deed.Plain ∙ told
-  stop_of w Execed told bears = ap (λ own. told_stop w (kernel_mode (maps.get o.shared.entries p) own) (item_of o) deed.Execed) (here v p o) ∙ same_stop w (maps.get o.shared.entries p) o.own (item_of o) deed.Execed ∙ told
+  stop_of w Plain told bears = ap (λ own. told_stop w (kernel_mode (maps.get o.shared.entries p) own) (item_of o) deed.Plain) (left_at v p o) ∙ same_stop w (maps.get o.shared.entries p) o.own (item_of o) deed.Plain ∙ told
+  stop_of w Execed told bears = ap (λ own. told_stop w (kernel_mode (maps.get o.shared.entries p) own) (item_of o) deed.Execed) (left_at v p o) ∙ same_stop w (maps.get o.shared.entries p) o.own (item_of o) deed.Execed ∙ told
   stop_of w (Forked b) told bears = sym (ap (λ x. told_stop w x (item_of o) deed.Bore) (bears refl)) ∙ told
 
   end_of : (e : Event Body) → ends_dying (own_mode o.own) ≡ is_dying o.own → (deed_of e ≡ deed.Bore → own_mode o.own ≡ Some mode.Acted) → dies_after (stands (bore (ran v p o) e) p) (deed_of e) ≡ is_dying o.own
-  end_of Plain told bears = ap (λ own. ends_dying (kernel_mode (maps.get o.shared.entries p) own)) (here v p o) ∙ same_end (maps.get o.shared.entries p) o.own ∙ told
-  end_of Execed told bears = ap (λ own. ends_dying (kernel_mode (maps.get o.shared.entries p) own)) (here v p o) ∙ same_end (maps.get o.shared.entries p) o.own ∙ told
+  end_of Plain told bears = ap (λ own. ends_dying (kernel_mode (maps.get o.shared.entries p) own)) (left_at v p o) ∙ same_end (maps.get o.shared.entries p) o.own ∙ told
+  end_of Execed told bears = ap (λ own. ends_dying (kernel_mode (maps.get o.shared.entries p) own)) (left_at v p o) ∙ same_end (maps.get o.shared.entries p) o.own ∙ told
   end_of (Forked b) told bears = sym (ap ends_dying (bears refl)) ∙ told
 
 module _ (k : KernelRun) (p : ℕ) where

@@ -9,8 +9,8 @@ use Rattle.lx_model.specs.declared.stage.Deed.{Deed}
 use Rattle.lx_model.specs.Turn.{Event, Plain, Execed, Forked, Out}
 use Rattle.lx_model.specs.Deeds.{deed_of}
 use Rattle.lx_model.specs.Finite.{at, item_of, Running, ran, bore, turn_out}
-use Rattle.lx_kernel.specs.declared.state.Shared.{Shared}
-use Rattle.lx_kernel.specs.declared.state.Body.{Body}
+use Rattle.lx_proc.specs.declared.state.Shared.{Shared}
+use Rattle.lx_proc.specs.declared.state.Body.{Body}
 use Rattle.lx_kernel.specs.Linux.{linux}
 use Rattle.lx_kernel.specs.Runs.{Run as KernelRun, turn_in, after_turn, mode_in}
 use Rattle.lx_kernel.specs.Tracing.{own_in}

@@ -1,16 +1,11 @@
 -- A host that attends to its pending request: events of a schedule until it is answered.
-use Rattle.std.specs.Prelude.{◌≡◌, ℕ, List, [], ◌∷◌, Option, Some, None, false}
+use Rattle.std.specs.Prelude.{◌≡◌, List, [], ◌∷◌, Option, Some, None}
 use Rattle.lx_abi.specs.declared.ptrace.Reply.{Reply}
 use Rattle.lx_abi.specs.declared.schedule.Event.{Event}
-use Rattle.pt_kernel.specs.declared.schedule.Order.{Order}
-use Rattle.pt_kernel.specs.declared.schedule.Order.TheVariants as order
-use Rattle.pt_kernel.specs.declared.schedule.Schedule.{Schedule}
-use Rattle.pt_kernel.specs.Schedules.{next_of}
+use Rattle.pt_schedule.specs.declared.schedule.Schedule.{Schedule}
+use Rattle.pt_schedule.specs.Schedules.{next_of}
 use Rattle.pt_kernel.specs.Hosts.{HostState, sight_of, event_of}
-
--- the host after an event
-abbrev pub after : HostState → Event → HostState
-after h e = record { hosting = (event_of h e).hosting; follow = h.follow; failed = false }
+use Rattle.pt_kernel.specs.Bursts.{after}
 
 -- where host and schedule stand in the end, and what was answered: none where the schedule ended before
 pub record Attended : Type 0 where
@@ -32,11 +27,3 @@ pub record Attends (h : HostState) (s : Schedule) (z : Attended) : Type 0 where
   -- the events that the schedule gave
   pub fed : List Event
   pub is_fed : IsFed h s fed z
-
--- how many events a schedule may still give
-abbrev pub left_in : Order → ℕ
-left_in (order.Listed l) = l.left
-left_in (order.Worded w) = w.left
-
-abbrev pub events_left : Schedule → ℕ
-events_left s = left_in s.order

@@ -1,10 +1,10 @@
 -- The host: the ptrace machine at Linux.
-use Rattle.std.specs.Prelude.{◌≡◌, ℕ, Bool, true, false, cond, not, ◌&&◌, ◌||◌, List, [], ◌∷◌, ◌++◌, Option, Some, None}
+use Rattle.std.specs.Prelude.{◌≡◌, ℕ, Bool, true, false, cond, not, ◌&&◌, List, [], ◌∷◌, ◌++◌, Option, Some, None}
 use Rattle.std.specs.FinMap as maps
-use Rattle.lx_abi.specs.declared.log.Mode.{Mode}
 use Rattle.lx_abi.specs.declared.ptrace.Ask.{Ask}
 use Rattle.lx_abi.specs.declared.ptrace.Reply.{Reply}
 use Rattle.lx_abi.specs.declared.ptrace.Request.{Request}
+use Rattle.lx_abi.specs.declared.ptrace.Request.TheVariants.{Boot as Boot_with, Wait, To, Outcome as Ask_outcome}
 use Rattle.lx_abi.specs.declared.schedule.Event.{Event}
 use Rattle.lx_abi.specs.declared.status.EventStop.TheVariants.{Stop as At_start}
 use Rattle.lx_abi.specs.declared.status.Stop.TheVariants.{Event as Event_stop}
@@ -12,8 +12,8 @@ use Rattle.lx_model.specs.declared.stage.Stage.{Stage}
 use Rattle.lx_model.specs.declared.stage.Own.{Own}
 use Rattle.lx_model.specs.declared.stage.Own.TheVariants.{Alive, Gone}
 use Rattle.lx_model.specs.Finite.{at, Running, with_own, own_mode, turn_out}
-use Rattle.lx_kernel.specs.declared.state.Shared.{Shared}
-use Rattle.lx_kernel.specs.declared.state.Body.{Body}
+use Rattle.lx_proc.specs.declared.state.Shared.{Shared}
+use Rattle.lx_proc.specs.declared.state.Body.{Body}
 use Rattle.lx_kernel.specs.Linux.{linux}
 use Rattle.lx_kernel.specs.Outcomes.{outcome_in}
 use Rattle.lx_kernel.specs.Runs.{Run as KernelRun}
@@ -22,8 +22,8 @@ use Rattle.pt_model.specs.declared.ptrace.Traced.{Traced}
 use Rattle.pt_model.specs.Ptrace.{is_effective}
 use Rattle.pt_model.specs.Requests.{Answered, stopped}
 use Rattle.pt_model.specs.Hosting.{Hosting, Hosted, as_proc, proc_in, no_script, ready_in, hosting_event, IsFresh}
-use Rattle.pt_kernel.specs.Stops.{is_finished, is_run, same_mode}
-use Rattle.pt_kernel.specs.Schedules.{Sight}
+use Rattle.pt_schedule.specs.Modes.{is_finished, moves}
+use Rattle.pt_schedule.specs.Schedules.{Sight}
 use Rattle.pt_kernel.specs.declared.tracees.Tracees.{Tracees}
 use Rattle.pt_kernel.specs.declared.traced_kernel.TracedKernel.{TracedKernel}
 
@@ -88,11 +88,14 @@ pub record IsSound (k : TracedKernel) : Type 0 where
 abbrev pub state_of : TracedKernel → Bool → HostState
 state_of k failed = record { hosting = hosting_of k; follow = k.kernel.follow; failed = failed }
 
--- What a schedule sees of it
+-- a host is booted before it is asked anything
+abbrev pub is_boot : Request → Bool
+is_boot (Boot_with boot limit words) = true
+is_boot Wait = false
+is_boot (To p q) = false
+is_boot Ask_outcome = false
 
--- a turn from one mode to another runs an instruction or changes the mode
-abbrev pub moves : Option Mode → Option Mode → Bool
-moves before after = is_run before || not (same_mode before after)
+-- What a schedule sees of it
 
 abbrev pub able_in : Linux_host → Bool → ℕ → Bool
 able_in v follow p = is_effective linux v.running.shared p (proc_in v p) && moves (own_mode (at Gone v.running.owns p)) (own_mode (turn_out linux no_script follow v.running p).own)

@@ -7,14 +7,15 @@ use Rattle.lx_abi.specs.declared.outcome.Outcome.{Outcome}
 use Rattle.lx_abi.specs.declared.schedule.Event.{Event}
 use Rattle.lx_abi.specs.declared.script.Rule.{Rule}
 use Rattle.lx_model.specs.Kernel.{Script, Kernel}
-use Rattle.lx_kernel.specs.declared.state.Shared.{Shared}
-use Rattle.lx_kernel.specs.declared.state.Body.{Body}
+use Rattle.lx_proc.specs.declared.state.Shared.{Shared}
+use Rattle.lx_proc.specs.declared.state.Body.{Body}
 use Rattle.lx_kernel.specs.First.{first_shared}
 use Rattle.lx_kernel.specs.Laws.{logged_words}
 use Rattle.lx_kernel.specs.Linux.{linux}
-use Rattle.lx_kernel.specs.Outcomes.{files_of, outcome_in}
-use Rattle.lx_kernel.specs.Programs.{booted}
-use Rattle.lx_kernel.specs.Words.{ends_of}
+use Rattle.lx_files.specs.Listing.{files_of}
+use Rattle.lx_kernel.specs.Outcomes.{outcome_in}
+use Rattle.lx_pcalls.specs.Programs.{booted}
+use Rattle.lx_proc.specs.WaitWords.{ends_of}
 use Rattle.pt_model.specs.Headline.{IsTexts, traced_run, plain_run}
 use Rattle.pt_model.specs.Parts.{Options}
 use Rattle.pt_model.specs.Tracer.{Over}
@@ -30,7 +31,7 @@ plain_boot boot o script events = plain_run linux outcome_in o script (first_sha
 
 -- the console, the files, and the wait words of the ends in the log
 abbrev pub left_by : Kernel Shared Body → Outcome
-left_by k = record { console = k.shared.console; files = files_of k.shared.files; ended = ends_of (logged_words (items_of k.log)) }
+left_by k = record { console = k.shared.console; files = files_of k.shared.tree; ended = ends_of (logged_words (items_of k.log)) }
 
 -- at every moment these are left, and the reply to Outcome says so
 pub record Leaves (w : World Shared Body) (x : Outcome) : Type 0 where

@@ -1,9 +1,9 @@
 pub mod Lists
 pub mod Turns
 pub mod Tracees
-pub mod Schedules
 pub mod Stops
 pub mod Left
 pub mod Hosts
+pub mod Bursts
 pub mod Attends
 pub mod Seen

@@ -5,18 +5,18 @@ use Rattle.lx_abi.specs.declared.ptrace.Request.{Request}
 use Rattle.lx_abi.specs.declared.schedule.Event.{Event}
 use Rattle.lx_model.specs.Finite.{own_mode}
 use Rattle.lx_model.specs.Machine.{Machine}
-use Rattle.lx_kernel.specs.declared.state.Shared.{Shared}
-use Rattle.lx_kernel.specs.declared.state.Body.{Body}
+use Rattle.lx_proc.specs.declared.state.Shared.{Shared}
+use Rattle.lx_proc.specs.declared.state.Body.{Body}
 use Rattle.lx_kernel.specs.Linux.{linux}
 use Rattle.lx_kernel.specs.Outcomes.{outcome_in}
 use Rattle.pt_model.specs.Attending.{Attending, is_ready, called, left_pending, Schedules, Gives}
 use Rattle.pt_model.specs.Hosting.{host_in, IsFresh}
 use Rattle.pt_model.specs.Ptrace.{Host, is_effective, is_there, host_turn_of}
 use Rattle.pt_kernel.specs.Attends.{Attended, Attends}
-use Rattle.pt_kernel.specs.Hosts.{Linux_host, HostState, moves}
-use Rattle.pt_kernel.specs.Schedules.{Sight, Given, next_of}
-use Rattle.pt_kernel.specs.Stops.{is_finished}
-use Rattle.pt_kernel.specs.declared.schedule.Schedule.{Schedule}
+use Rattle.pt_kernel.specs.Hosts.{Linux_host, HostState}
+use Rattle.pt_schedule.specs.Modes.{is_finished, moves}
+use Rattle.pt_schedule.specs.Schedules.{Sight, Given, next_of}
+use Rattle.pt_schedule.specs.declared.schedule.Schedule.{Schedule}
 
 -- a turn of the process is effective, and runs an instruction or changes its mode
 abbrev pub is_able : {S B : Type 0} → Machine S B → Host S B → ℕ → Bool

@@ -13,7 +13,7 @@ ghost use Rattle.lx_abi.specs.declared.log.Cause.{Cause};
 ghost use Rattle.lx_abi.specs.declared.ptrace.Request.{Request};
 ghost use Rattle.lx_kernel.specs.Runs.{Run as KernelRun};
 ghost use Rattle.lx_kernel.specs.Linux.{linux};
-ghost use Rattle.lx_kernel.specs.declared.state.Body.{Body};
+ghost use Rattle.lx_proc.specs.declared.state.Body.{Body};
 ghost use Rattle.lx_kernel.specs.Tracing.{own_in};
 ghost use Rattle.pt_model.specs.Ptrace.{watch_of};
 ghost use Rattle.pt_model.specs.Requests.{seize as seize_by, info_of, info_at, code_of, sender_of, status_of, address_of, may_peek, peeked, unseized};

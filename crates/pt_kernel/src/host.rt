@@ -5,16 +5,18 @@ ghost use Rattle.lx_kernel.specs.Boots.{fault_of, Refuses};
 ghost use Rattle.lx_kernel.specs.declared.boots.BootFault.{BootFault};
 ghost use Rattle.lx_kernel.specs.First.{first_shared};
 ghost use Rattle.lx_kernel.specs.Outcomes.{outcome_in};
-ghost use Rattle.lx_kernel.specs.Programs.{booted};
+ghost use Rattle.lx_pcalls.specs.Programs.{booted};
 ghost use Rattle.pt_model.specs.Hosting.{first_hosting, hosting_asked};
-ghost use Rattle.pt_kernel.specs.Hosts.{sight_of, event_of};
+ghost use Rattle.pt_schedule.specs.Cycle.{IsNextPlace};
+ghost use Rattle.pt_kernel.specs.Hosts.{sight_of, event_of, is_boot};
+ghost use Rattle.pt_kernel.specs.Bursts.{Burst};
 
-use crate::system::System;
 use crate::traced_kernel::TracedKernel;
 use crate::tracees::Tracees;
 use crate::turns::Turns;
 use lx_abi::{Boot, Event, Outcome, Reply, Request, Script};
 use lx_kernel::{BootFault, Failed, Kernel};
+use pt_schedule::System;
 use std::alloc::{AllocError, Global};
 use std::marker::Model;
 
@@ -67,8 +69,10 @@ impl Host {
         })
     }
 
-    /// Puts a request, which a Serve will answer. Where one is pending nothing changes.
+    /// Puts a request, which a Serve will answer. Where one is pending nothing changes. A host is booted before it is
+    /// asked anything, and not again.
     pub fn ask(&mut self, request: Request) -> Result<(), Busy>
+        requires { is_boot request ≡ false }
         ensures put { OnOk result (hosting_asked self.old.hosting request self.old.hosting.pending ≡ Some self.new.hosting) }
         ensures rest { OnOk result (self.new ≡ record self.old { hosting = self.new.hosting }) }
         ensures busy { OnErr result (IsSome self.old.hosting.pending) }
@@ -97,6 +101,23 @@ impl Host {
         let reply = self.kernel.event(event)?;
         self.failed = false;
         Ok(reply)
+    }
+
+    /// Turns of a process while each runs an instruction and no request is ready, at most so many: how many there were.
+    ///
+    /// They are the events of so many turns, for one look at the tables.
+    pub fn run(&mut self, pid: u32, limit: u64) -> Result<u64, Failed>
+        ensures burst { IfOk result (λ n. Burst self.old pid limit n self.new) }
+        ensures failed { OnErr result (IsTrue self.new.failed) }
+        ensures failed_before { IsTrue self.old.failed → IsErr result }
+    {
+        if self.failed {
+            return Err(Failed);
+        }
+        self.failed = true;
+        let ran = self.kernel.run(pid, limit)?;
+        self.failed = false;
+        Ok(ran)
     }
 
     /// A request is pending, and would be answered.
@@ -146,6 +167,13 @@ impl System for Host {
 
     fn is_able(&self, pid: u32) -> bool {
         self.able(pid)
+    }
+
+    fn next_after(&self, pid: u32) -> Option<u32> {
+        if self.failed {
+            return None;
+        }
+        self.kernel.next_after(pid)
     }
 
     fn has_finished(&self, pid: u32) -> bool {

@@ -5,14 +5,16 @@ ghost use Rattle.pt_kernel.specs.Seen.{HostsAreCalled};
 ghost use Rattle.pt_model.specs.Headline.{IsTold, HeadlineAt};
 ghost use Rattle.lx_kernel.specs.Linux.{linux};
 
-use lx_kernel::laws::{linux_is_a_machine, words_are_logged};
-use lx_kernel::state::{Body, Shared};
+use lx_kernel::laws::{calls_fit, linux_is_a_machine, words_are_logged};
+use lx_proc::{Body, Shared};
 use pt_model::laws::{every_script_is_one, hosts_run_alike, tracing_is_transparent, turns_tell};
 
 /// What wait(2) tells of Linux's calls fits their numbers, and no read of a memory gives more bytes than were asked for.
 pub fn linux_is_told()
     ensures { IsTold linux }
-{}
+{
+    calls_fit();
+}
 
 /// What a traced boot leaves at any moment is what the untraced kernel leaves by the effective turns: its console, its
 /// files, and the statuses (wait(2)) of the ends in its log.

@@ -1,4 +1,4 @@
-//! The traced kernel: the ptrace machine around Linux, and the order of its events.
+//! The traced kernel: the ptrace machine around Linux, by the events of a schedule.
 #![tactic(auto)]
 
 pub mod answers;
@@ -6,15 +6,12 @@ pub mod attending;
 pub mod host;
 pub mod laws;
 pub mod queue;
-pub mod schedule;
 pub mod stops;
-pub mod system;
 pub mod traced_kernel;
 pub mod tracees;
 pub mod turns;
 
 pub use attending::attend;
 pub use host::{Busy, Host};
-pub use schedule::Schedule;
-pub use system::System;
-pub use turns::{TurnRun, Turns};
+pub use pt_schedule::{Schedule, TurnRun};
+pub use turns::Turns;

@@ -3,8 +3,6 @@
 ghost use Rattle.std.specs.Prelude.{◌≡◌, ◌++◌, [], ◌∷◌, ◌==◌, not, filter, OnOk, OnErr, MatchOption};
 ghost use Rattle.pt_model.specs.Ptrace.{without};
 ghost use Rattle.pt_kernel.specs.Lists.{is_nil};
-ghost use Rattle.std.specs.List.{slice_get};
-ghost use Rattle.std.specs.Option.{option_copied};
 
 use pt_model::Report;
 use std::alloc::{AllocError, Global};
@@ -34,14 +32,6 @@ impl<V> Queue<V> {
         }
     }
 
-    pub fn from_vec(items: Vec<V>) -> Self
-        ensures { result ≡ items.items }
-    {
-        Queue {
-            items: VecDeque::from_vec(items),
-        }
-    }
-
     pub fn is_empty(&self) -> bool
         ensures { result ≡ is_nil self.now }
     {
@@ -63,15 +53,6 @@ impl<V: Drop> Queue<V> {
     {
         self.items.push_back(value)?;
         Ok(())
-    }
-}
-
-impl<V: Copy> Queue<V> {
-    /// The first value.
-    pub fn first(&self) -> Option<V>
-        ensures { result ≡ slice_get self.now 0 }
-    {
-        self.items.front().copied()
     }
 }
 

@@ -5,7 +5,7 @@ ghost use Rattle.lx_kernel.specs.Linux.{linux};
 ghost use Rattle.lx_kernel.specs.Tracing.{own_in};
 ghost use Rattle.pt_model.specs.Ptrace.{is_effective};
 ghost use Rattle.pt_model.specs.Hosting.{as_proc, deed_stop, item_stop, mode_stop};
-ghost use Rattle.pt_kernel.specs.Stops.{stop_after, turn_stop, dies_after, is_alive, lives_in, is_entered, is_finished};
+ghost use Rattle.pt_kernel.specs.Stops.{stop_after, turn_stop, dies_after, is_alive, lives_in, is_entered};
 
 use lx_abi::{EventStop, Item, Mode, Stop};
 use lx_kernel::Kernel;
@@ -95,13 +95,6 @@ pub fn is_entered(mode: Option<Mode>) -> bool
     ensures { result ≡ is_entered mode }
 {
     matches!(mode, Some(Mode::Entered))
-}
-
-/// At the end of a call.
-pub fn is_finished(mode: Option<Mode>) -> bool
-    ensures { result ≡ is_finished mode }
-{
-    matches!(mode, Some(Mode::Finished))
 }
 
 /// The process has not ended.

@@ -1,6 +1,6 @@
 //! The kernel, and what a tracer has to do with its processes.
 
-ghost use Rattle.std.specs.Prelude.{◌≡◌, ◌∷◌, ◌++◌, [], Some, None, OnOk, IfOk, ℕ, List, Option};
+ghost use Rattle.std.specs.Prelude.{◌≡◌, ◌∷◌, ◌++◌, [], Some, None, OnOk, IfOk, ℕ, List, Option, false};
 ghost use Rattle.std.specs.FinMap as maps;
 ghost use Rattle.lx_abi.specs.declared.ptrace.Request.{Request};
 ghost use Rattle.lx_model.specs.Finite.{at, own_mode};
@@ -10,15 +10,19 @@ ghost use Rattle.lx_kernel.specs.Outcomes.{outcome_in};
 ghost use Rattle.lx_kernel.specs.Tracing.{own_in};
 ghost use Rattle.pt_model.specs.Ptrace.{is_effective};
 ghost use Rattle.pt_model.specs.Hosting.{as_proc, untraced, hosting_turn, hosting_serve, hosting_pending, hosting_event, ready_in};
-ghost use Rattle.pt_kernel.specs.Stops.{stop_after, dies_after, is_finished};
-ghost use Rattle.pt_kernel.specs.Hosts.{hosting_of, hosting_by, IsSwept, made, able_in};
+ghost use Rattle.pt_schedule.specs.Cycle.{IsNextPlace};
+ghost use Rattle.pt_schedule.specs.Modes.{is_finished};
+ghost use Rattle.pt_kernel.specs.Stops.{stop_after, dies_after};
+ghost use Rattle.pt_kernel.specs.Hosts.{hosting_of, hosting_by, state_of, IsSwept, made, able_in};
+ghost use Rattle.pt_kernel.specs.Bursts.{Burst};
 
 use crate::answers::answer;
-use crate::stops::{dies_after, is_effective, is_finished, stop_after};
+use crate::stops::{dies_after, is_effective, stop_after};
 use crate::tracees::{Tracees, Turned};
 use crate::turns::Turns;
 use lx_abi::{Event, Reply, Request};
 use lx_kernel::{Failed, Kernel};
+use pt_schedule::{System, TurnRun};
 
 /// The kernel under the empty script, its tracees, the effective turns so far, and the request that is pending.
 #[derive(Drop)]
@@ -52,6 +56,25 @@ impl TracedKernel {
         self.tracees.turn(pid, traced, turned)?;
         self.turns.push(pid)?;
         Ok(())
+    }
+
+    /// Turns of a process while each runs an instruction, at most so many: how many there were. None where a request is
+    /// ready, or the tracer holds the process.
+    pub fn run(&mut self, pid: u32, limit: u64) -> Result<u64, Failed>
+        requires { self.old.kernel.script ≡ [] }
+        ensures burst { IfOk result (λ n. Burst (state_of self.old false) pid limit n (state_of self.new false)) }
+        ensures script { OnOk result (self.new.kernel.script ≡ self.old.kernel.script) }
+        ensures follow { OnOk result (self.new.kernel.follow ≡ self.old.kernel.follow) }
+    {
+        if self.ready() {
+            return Ok(0);
+        }
+        if self.tracees.traced(pid).held {
+            return Ok(0);
+        }
+        let ran = self.kernel.run(pid, limit)?;
+        self.turns.extend(TurnRun { pid, turns: ran })?;
+        Ok(ran)
     }
 
     /// A request is answered; none where Wait stays pending.
@@ -124,6 +147,14 @@ impl TracedKernel {
         is_effective(&self.kernel, pid, self.tracees.traced(pid)) && self.kernel.able(pid)
     }
 
+    /// A later process that may be able: none before it is.
+    pub fn next_after(&self, pid: u32) -> Option<u32>
+        requires { self.now.kernel.script ≡ [] }
+        ensures { IsNextPlace (able_in (hosting_of self.now) self.now.kernel.follow) pid result }
+    {
+        self.kernel.next_after(pid)
+    }
+
     /// A request is pending, and would be answered.
     pub fn ready(&self) -> bool
         ensures { result ≡ ready_in self.now.pending self.now.tracees.queue self.now.tracees.pids }
@@ -139,6 +170,6 @@ impl TracedKernel {
     pub fn has_finished(&self, pid: u32) -> bool
         ensures { result ≡ is_finished (own_mode (at Gone self.now.kernel.running.owns pid)) }
     {
-        is_finished(self.kernel.mode(pid))
+        self.kernel.has_finished(pid)
     }
 }

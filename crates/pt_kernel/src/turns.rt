@@ -1,17 +1,11 @@
 //! Turns in the order in which they were made.
 
-ghost use Rattle.std.specs.Prelude.{◌≡◌, ◌++◌, [], ◌∷◌, OnOk, OnErr, if◌then◌else◌};
+ghost use Rattle.std.specs.Prelude.{◌≡◌, ◌++◌, [], ◌∷◌, OnOk, OnErr, if◌then◌else◌, replicate};
 ghost use Rattle.pt_kernel.specs.Turns.{pids_of};
 
+use pt_schedule::TurnRun;
 use std::alloc::{AllocError, Global};
 use std::marker::Model;
-
-/// So many turns of a process in a row.
-#[derive(Clone, Copy, Debug, PartialEq, Eq)]
-pub struct TurnRun {
-    pub pid: u32,
-    pub turns: u64,
-}
 
 /// Turns, which contracts see as the list of their pids; many in a row of one process take no room.
 #[derive(Drop)]
@@ -48,27 +42,36 @@ impl Turns {
         ensures ok { OnOk result (self.new ≡ self.old ++ pid ∷ []) }
         ensures err { OnErr result (self.new ≡ self.old) }
     {
-        if lengthen(&mut self.runs, pid) {
+        self.extend(TurnRun { pid, turns: 1 })?;
+        Ok(())
+    }
+
+    /// So many turns of a process.
+    pub fn extend(&mut self, run: TurnRun) -> Result<(), AllocError>
+        ensures ok { OnOk result (self.new ≡ self.old ++ replicate run.turns run.pid) }
+        ensures err { OnErr result (self.new ≡ self.old) }
+    {
+        if lengthen(&mut self.runs, run) {
             return Ok(());
         }
-        self.runs.push(TurnRun { pid, turns: 1 })?;
+        self.runs.push(run)?;
         Ok(())
     }
 }
 
-/// One more turn in the last row, where it is the process's.
-fn lengthen(runs: &mut Vec<TurnRun>, pid: u32) -> bool
-    ensures { pids_of runs.new.items ≡ (if result then pids_of runs.old.items ++ pid ∷ [] else pids_of runs.old.items) }
+/// More turns in the last row, where it is the process's.
+fn lengthen(runs: &mut Vec<TurnRun>, more: TurnRun) -> bool
+    ensures { pids_of runs.new.items ≡ (if result then pids_of runs.old.items ++ replicate more.turns more.pid else pids_of runs.old.items) }
 {
     if runs.is_empty() {
         return false;
     }
     let at = runs.len() - 1;
     let last = runs[at];
-    if last.pid == pid && last.turns < u64::MAX {
+    if last.pid == more.pid && last.turns <= u64::MAX - more.turns {
         runs[at] = TurnRun {
-            pid,
-            turns: last.turns + 1,
+            pid: more.pid,
+            turns: last.turns + more.turns,
         };
         return true;
     }

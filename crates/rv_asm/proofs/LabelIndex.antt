@@ -16,7 +16,7 @@ use Rattle.std.proofs.lemmas.List.{get_or_append_left, length-map}
 use Rattle.std.proofs.Math.Seq.{get_or-append_seam}
 use Rattle.rv_asm.specs.Codes.{Place, place_named}
 use Rattle.rv_asm.specs.Labels.{number_of, IsIndex}
-use Rattle.rv_asm.specs.Text.{is_text}
+use Rattle.rv_syntax.specs.Text.{is_text}
 
 -- ---- names
 

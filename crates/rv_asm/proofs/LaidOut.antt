@@ -13,7 +13,7 @@ use Rattle.rv_asm.specs.declared.code.Expansion.{Expansion}
 use Rattle.rv_asm.specs.declared.fault.AsmKind.{AsmKind}
 use Rattle.rv_asm.specs.declared.fault.AsmKind.TheVariants as kinds
 use Rattle.rv_asm.specs.Codes.{◌>>=◌, Place, instructions_of, words_of, size_of, bytes_of}
-use Rattle.rv_asm.specs.Statements.{Said}
+use Rattle.rv_syntax.specs.Statements.{Said}
 use Rattle.rv_asm.specs.Lines.{labels_of, body_of, statement_of}
 use Rattle.rv_asm.specs.Listing.{checked, said_bytes, is_duplicate, line_bytes, located, bytes_from, places_of, entry_of, image_at, image_of, listing_of}
 use Rattle.rv_asm.proofs.Sizes.{sizes_agree}

@@ -2,8 +2,5 @@ pub mod LabelIndex
 pub mod LabelSteps
 pub mod LaidOut
 pub mod LineSteps
-pub mod NumberSteps
-pub mod Registers
 pub mod Repeats
 pub mod Sizes
-pub mod StringSteps

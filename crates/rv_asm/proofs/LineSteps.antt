@@ -6,7 +6,7 @@ use Rattle.rv_asm.specs.declared.fault.AsmFault.{AsmFault}
 use Rattle.rv_asm.specs.Codes.{◌>>=◌, Place}
 use Rattle.rv_asm.specs.Lines.{line_of, next_at}
 use Rattle.rv_asm.specs.Listing.{places, places_at, line_bytes, bytes_from, with_front}
-use Rattle.rv_asm.specs.Text.{texts}
+use Rattle.rv_syntax.specs.Text.{texts}
 
 -- ---- labels
 

@@ -7,7 +7,7 @@ use Rattle.std.specs.Cmp.Lexicographic.{bytes_decides}
 use Rattle.std.proofs.lemmas.List.{at_drop_more}
 use Rattle.rv_asm.specs.Codes.{Place, place_named}
 use Rattle.rv_asm.specs.Listing.{repeats}
-use Rattle.rv_asm.specs.Text.{is_text, texts}
+use Rattle.rv_syntax.specs.Text.{is_text, texts}
 use Rattle.rv_asm.proofs.LabelIndex.{text_tells, place_named-append}
 
 not_text : (a b : List ℕ) → a ≢ b → is_text a b ≡ false

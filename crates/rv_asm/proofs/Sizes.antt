@@ -11,11 +11,11 @@ use Rattle.rv_asm.specs.declared.code.Expansion.{Expansion}
 use Rattle.rv_asm.specs.declared.code.Expansion.TheVariants.{Nothing, One, Two}
 use Rattle.rv_asm.specs.declared.fault.AsmKind.{AsmKind}
 use Rattle.rv_asm.specs.declared.fault.AsmKind.TheVariants.{Range, Label}
-use Rattle.rv_asm.specs.declared.forms.Width.{Width}
-use Rattle.rv_asm.specs.declared.forms.Width.TheVariants as width
-use Rattle.rv_asm.specs.declared.numbers.Number.{Number}
+use Rattle.rv_syntax.specs.declared.forms.Width.{Width}
+use Rattle.rv_syntax.specs.declared.forms.Width.TheVariants as width
+use Rattle.rv_syntax.specs.declared.numbers.Number.{Number}
 use Rattle.std.specs.Option.{option_map_or}
-use Rattle.rv_asm.specs.Statements.{Said, Does, Sets, Branches, Jumps, Points, Numbers, Text, Space, Align}
+use Rattle.rv_syntax.specs.Statements.{Said, Does, Sets, Branches, Jumps, Points, Numbers, Text, Space, Align}
 use Rattle.rv_asm.specs.Codes.{◌>>=◌, Place, address_of, is_signed, has_word, encoded, words_of, AllSpelled, bytes_in, padding, size_of, instructions_of, bytes_of, number_bytes, numbers_bytes, words_bytes}
 
 both_of : (x y : Bool) → (x && y) ≡ true → (x ≡ true) × (y ≡ true)

@@ -13,14 +13,14 @@ use Rattle.rv_asm.specs.declared.code.Expansion.{Expansion}
 use Rattle.rv_asm.specs.declared.code.Expansion.TheVariants.{Nothing, One, Two}
 use Rattle.rv_asm.specs.declared.fault.AsmKind.{AsmKind}
 use Rattle.rv_asm.specs.declared.fault.AsmKind.TheVariants.{Mnemonic, Operand, Range, Label, Duplicate, TooLarge, Memory}
-use Rattle.rv_asm.specs.declared.forms.Width.{Width}
-use Rattle.rv_asm.specs.declared.forms.Width.TheVariants as width
-use Rattle.rv_asm.specs.declared.numbers.Number.{Number}
+use Rattle.rv_syntax.specs.declared.forms.Width.{Width}
+use Rattle.rv_syntax.specs.declared.forms.Width.TheVariants as width
+use Rattle.rv_syntax.specs.declared.numbers.Number.{Number}
 use Rattle.rv_asm.specs.declared.symbol.Symbol.{Symbol}
-use Rattle.rv_asm.specs.Numbers.{is_within, low_bits, narrow}
-use Rattle.rv_asm.specs.Numbered.{numbered}
-use Rattle.rv_asm.specs.Statements.{Said, Does, Sets, Branches, Jumps, Points, Numbers, Text, Space, Align}
-use Rattle.rv_asm.specs.Text.{is_text}
+use Rattle.rv_syntax.specs.Numbers.{is_within, low_bits, narrow}
+use Rattle.rv_syntax.specs.Numbered.{numbered}
+use Rattle.rv_syntax.specs.Statements.{Said, Does, Sets, Branches, Jumps, Points, Numbers, Text, Space, Align}
+use Rattle.rv_syntax.specs.Text.{is_text}
 
 infixl 10 ◌>>=◌
 abbrev pub ◌>>=◌ : {A B E : Type 0} → Result A E → (A → Result B E) → Result B E

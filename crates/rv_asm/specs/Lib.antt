@@ -1,12 +1,4 @@
 pub mod Codes
-pub mod Forms
 pub mod Labels
 pub mod Lines
 pub mod Listing
-pub mod Names
-pub mod Numbered
-pub mod Numbers
-pub mod Operands
-pub mod Statements
-pub mod Strings
-pub mod Text

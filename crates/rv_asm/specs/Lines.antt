@@ -2,12 +2,12 @@
 use Rattle.std.specs.Prelude.{ℕ, zero, suc, ◌+◌, List, [], ◌∷◌, length, Option, Some, None, Result, Ok, Err, if◌then◌else◌}
 use Rattle.rv_asm.specs.declared.fault.AsmKind.{AsmKind}
 use Rattle.rv_asm.specs.declared.fault.AsmKind.TheVariants.{Mnemonic, Operand}
-use Rattle.rv_asm.specs.declared.forms.Meaning.{Meaning}
-use Rattle.rv_asm.specs.declared.forms.Meaning.TheVariants.{Instruction, Directive}
-use Rattle.rv_asm.specs.Text.{word_at, after_mark, is_done}
-use Rattle.rv_asm.specs.Forms.{meaning_of}
-use Rattle.rv_asm.specs.Operands.{◌>>=◌, name_at}
-use Rattle.rv_asm.specs.Statements.{Said, instruction_of, directive_of}
+use Rattle.rv_syntax.specs.declared.forms.Meaning.{Meaning}
+use Rattle.rv_syntax.specs.declared.forms.Meaning.TheVariants.{Instruction, Directive}
+use Rattle.rv_syntax.specs.Text.{word_at, after_mark, is_done}
+use Rattle.rv_syntax.specs.Forms.{meaning_of}
+use Rattle.rv_syntax.specs.Operands.{◌>>=◌, name_at}
+use Rattle.rv_syntax.specs.Statements.{Said, instruction_of, directive_of}
 use Rattle.rv_asm.specs.Codes.{placed_size}
 
 -- a name and a colon, and what follows them

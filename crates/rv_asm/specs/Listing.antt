@@ -6,8 +6,8 @@ use Rattle.rv_asm.specs.declared.fault.AsmKind.{AsmKind}
 use Rattle.rv_asm.specs.declared.fault.AsmKind.TheVariants as kinds
 use Rattle.rv_asm.specs.declared.fault.AsmFault.{AsmFault}
 use Rattle.rv_asm.specs.declared.code.Expansion.{Expansion}
-use Rattle.rv_asm.specs.Text.{is_text}
-use Rattle.rv_asm.specs.Statements.{Said}
+use Rattle.rv_syntax.specs.Text.{is_text}
+use Rattle.rv_syntax.specs.Statements.{Said}
 use Rattle.rv_asm.specs.Lines.{labels_of, body_of, statement_of, next_at}
 use Rattle.rv_asm.specs.Codes.{◌>>=◌, Place, place_named, address_of, size_of, instructions_of, words_of, bytes_of}
 

@@ -2,7 +2,7 @@
 
 ghost use Rattle.std.specs.Prelude.{◌≡◌, ◌≢◌, ◌==◌, ◌<◌, ℕ, List, All, map, IfOk, IfErr, Ok, Err};
 ghost use Rattle.rv_asm.specs.Listing.{image_at, image_of, listing_of};
-ghost use Rattle.rv_asm.specs.Text.{texts};
+ghost use Rattle.rv_syntax.specs.Text.{texts};
 ghost use Rattle.elf_image.specs.Images.{IsLaidOut};
 ghost use Rattle.elf_image.specs.declared.image.Image.{Image};
 ghost use Rattle.rv_asm.specs.declared.fault.AsmKind.TheVariants.{Memory};
@@ -10,8 +10,8 @@ ghost use Rattle.rv_asm.specs.declared.fault.AsmKind.TheVariants.{Memory};
 use crate::code::find_address;
 use crate::fault::{AsmFault, AsmKind};
 use crate::listing::{START, emit, place};
-use crate::text::pieces;
 use elf_image::{Bytes, Image, Rights, Segment, Segments};
+use rv_syntax::pieces;
 use std::alloc::{AllocError, Global};
 
 /// Want of memory outside of all lines.

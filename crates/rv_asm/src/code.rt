@@ -3,17 +3,14 @@
 ghost use Rattle.std.specs.Prelude.{◌≡◌, ◌≤◌, ◌<◌, ◌+◌, ◌*◌, ◌++◌, ◌^◌, map, option_map, IfSome, IfOk, OnOk, Ok, ℕ, List, replicate, length};
 ghost use Rattle.std.specs.List.{list_all};
 ghost use Rattle.rv_asm.specs.Codes.{Place, bytes_in, size_of, padding, place_of, place_named, address_of, distance, upper_part, lower_part, add, setting, pointing, fits, if_so, instructions_of, encoded, words_of, is_range_kind, is_out_of_range, placed_size, AllSpelled, number_bytes, numbers_bytes, words_bytes, bytes_of};
-ghost use Rattle.rv_asm.specs.Statements.{Said, said};
+ghost use Rattle.rv_syntax.specs.Statements.{Said, said};
 ghost use Rattle.rv_asm.specs.declared.code.Expansion.{Expansion};
 ghost use Rattle.rv_isa.specs.declared.inst.Inst.{Inst};
 
 use crate::fault::AsmKind;
-use crate::forms::Width;
 use crate::labels::Labels;
-use crate::names::numbered;
-use crate::numbers::Number;
-use crate::statement::Statement;
 use rv_isa::{ImmediateOperation, Inst, Register, encode};
+use rv_syntax::{Number, Statement, Width, numbered};
 use std::alloc::{AllocError, Global};
 
 /// Where the image ends at the latest.
@@ -27,17 +24,15 @@ pub enum Expansion<T> {
     Two(T, T),
 }
 
-impl Width {
-    /// The bytes of a number.
-    fn bytes(self) -> u64
-        ensures value { result ≡ bytes_in self }
-        ensures small { result ≤ 8 }
-    {
-        match self {
-            Width::Byte => 1,
-            Width::Word => 4,
-            Width::Double => 8,
-        }
+/// The bytes of a number.
+fn bytes_in(width: Width) -> u64
+    ensures value { result ≡ bytes_in width }
+    ensures small { result ≤ 8 }
+{
+    match width {
+        Width::Byte => 1,
+        Width::Word => 4,
+        Width::Double => 8,
     }
 }
 
@@ -60,7 +55,7 @@ pub fn size(statement: &Statement, at: u64) -> u128
         Statement::Sets { number, .. } if number.is_within(2048) => 4,
         Statement::Sets { .. } => 8,
         Statement::Numbers { width, numbers } => {
-            u128::from(width.bytes()) * numbers.len() as u128
+            u128::from(bytes_in(*width)) * numbers.len() as u128
         }
         Statement::Text(bytes) => bytes.len() as u128,
         Statement::Space(number) => number.magnitude,
@@ -157,7 +152,7 @@ fn pointing(rd: Register, target: u64) -> Result<Expansion<Inst>, AsmKind>
 fn fits(width: Width, number: &Number) -> bool
     ensures { result ≡ fits width number.now }
 {
-    let bits = 8 * width.bytes();
+    let bits = 8 * bytes_in(width);
     number.is_within(1 << (bits - 1)) || (!number.negative && number.magnitude < 1 << bits)
 }
 

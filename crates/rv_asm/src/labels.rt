@@ -4,7 +4,7 @@ ghost use Rattle.std.specs.Prelude.{◌≡◌, ◌∷◌, ◌++◌, [], ℕ, Lis
 ghost use Rattle.std.specs.Option.{option_or};
 ghost use Rattle.rv_asm.specs.Codes.{place_of, place_named};
 ghost use Rattle.rv_asm.specs.Labels.{number_of};
-ghost use Rattle.rv_asm.specs.Text.{is_text};
+ghost use Rattle.rv_syntax.specs.Text.{is_text};
 
 use crate::symbol::Symbol;
 use std::alloc::{AllocError, Global};

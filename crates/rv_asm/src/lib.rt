@@ -4,17 +4,10 @@
 mod assembling;
 mod code;
 pub mod fault;
-mod forms;
 mod labels;
 mod line;
 mod listing;
-mod names;
-mod numbers;
-mod operands;
-mod statement;
-mod strings;
 mod symbol;
-mod text;
 
 pub use assembling::{assemble, listings_are_laid_out};
 pub use code::{sizes_agree, words_spell_instructions};

@@ -2,16 +2,15 @@
 
 ghost use Rattle.std.specs.Prelude.{◌≡◌, ◌≢◌, ◌≤◌, option_map, IfOk, IfErr, Ok, Err};
 ghost use Rattle.rv_asm.specs.Lines.{label_at, line_of, said_of, statement_of, next_at};
-ghost use Rattle.rv_asm.specs.Statements.{said};
-ghost use Rattle.rv_asm.specs.Text.{texts};
+ghost use Rattle.rv_syntax.specs.Statements.{said};
+ghost use Rattle.rv_syntax.specs.Text.{texts};
 ghost use Rattle.rv_asm.specs.declared.fault.AsmKind.TheVariants.{Memory};
 
 use crate::code::placed_size;
 use crate::fault::AsmKind;
-use crate::forms::{Meaning, find_meaning};
-use crate::operands::take_name;
-use crate::statement::{Statement, directive, instruction};
-use crate::text::{done, mark, word};
+use rv_syntax::{
+    Meaning, Statement, directive, done, find_meaning, instruction, mark, take_name, word,
+};
 use std::alloc::{AllocError, Global};
 
 #[tactic(auto, unfolding(crate::specs::Lines::label_at))]

@@ -5,16 +5,16 @@ ghost use Rattle.std.specs.List.{list_any};
 ghost use Rattle.rv_asm.specs.Codes.{place_named, size_of};
 ghost use Rattle.rv_asm.specs.Lines.{labels_of, body_of, next_at};
 ghost use Rattle.rv_asm.specs.Listing.{places, places_at, is_earlier, repeats, is_duplicate, checked, said_bytes, line_bytes, bytes_from, with_front};
-ghost use Rattle.rv_asm.specs.Statements.{said};
-ghost use Rattle.rv_asm.specs.Text.{is_text, texts};
+ghost use Rattle.rv_syntax.specs.Statements.{said};
+ghost use Rattle.rv_syntax.specs.Text.{is_text, texts};
 ghost use Rattle.rv_asm.specs.declared.fault.AsmKind.TheVariants.{Memory};
 
 use crate::code::{END, Expansion, instructions, put, size, words};
 use crate::fault::{AsmFault, AsmKind};
 use crate::labels::Labels;
 use crate::line::{next_address, split_labels, statement};
-use crate::statement::Statement;
 use crate::symbol::Symbol;
+use rv_syntax::Statement;
 use std::alloc::{AllocError, Global};
 
 /// Where the image begins.

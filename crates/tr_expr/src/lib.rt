@@ -5,13 +5,14 @@
 //! SET    items joined by commas; a `!` in front negates the whole
 //! item   NAME, ?NAME (which may be unknown), %CLASS, /REGEX (searched for in the names), all or none
 //! PARTS  parts joined by colons; of a repeated part the last counts
-//! part   error=E (a name, or 1 to 4095), retval=V (decimal, or hexadecimal behind 0x)
+//! part   error=E (a name, or 1 to 4095), retval=V (decimal, or hexadecimal behind 0x), signal=S
 //!        or when=W; fault= takes error and when alone, and fails with ENOSYS by itself
+//! S      a name, with or without SIG, or 1 to 31, of a signal that isn't job control's (CONT, STOP, TSTP, TTIN, TTOU)
 //! W      FIRST, FIRST+ or FIRST+STEP, each 1 to 65535
 //! ```
 //!
 //! The classes are file, desc, process, signal and memory; a regular expression is one of the crate `regex`, without
-//! commas or colons. `signal=` and ranges (`2..5`) are refused for now. A refusal is the first kind of [`ExprFault`] that
+//! commas or colons. Ranges (`2..5`) are refused for now. A refusal is the first kind of [`ExprFault`] that
 //! has a cause anywhere in the text.
 #![tactic(auto)]
 

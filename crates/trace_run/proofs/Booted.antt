@@ -1,27 +1,32 @@
 -- A run from its boot on.
-use Rattle.std.proofs.Common.{◌≡◌, ℕ, false, List, [], Some, Ok, sym, subst}
+use Rattle.std.proofs.Common.{◌≡◌, ℕ, false, List, [], Option, Some, Result, Ok, sym, subst}
 use Rattle.lx_abi.specs.declared.outcome.Outcome.{Outcome}
-use Rattle.lx_kernel.specs.declared.state.Shared.{Shared}
-use Rattle.lx_kernel.specs.declared.state.Body.{Body}
+use Rattle.lx_proc.specs.declared.state.Shared.{Shared}
+use Rattle.lx_proc.specs.declared.state.Body.{Body}
 use Rattle.lx_kernel.specs.Linux.{linux}
 use Rattle.lx_kernel.specs.Outcomes.{outcome_in}
 use Rattle.lx_model.specs.Kernel.{Script}
+use Rattle.pt_model.specs.Calls.{TalksOver}
+use Rattle.pt_model.specs.Tracer.{first_tracer}
+use Rattle.pt_model.specs.World.{first_world}
 use Rattle.pt_model.specs.Headline.{IsScript}
 use Rattle.pt_model.specs.HostLaws.{HostsBeginAlike}
 use Rattle.pt_model.specs.Hosting.{IsFresh, first_hosting}
 use Rattle.pt_kernel.specs.Hosts.{Linux_host}
 use Rattle.pt_kernel.specs.Seen.{next_of_host}
-use Rattle.pt_kernel.specs.declared.schedule.Schedule.{Schedule}
+use Rattle.pt_schedule.specs.declared.schedule.Schedule.{Schedule}
 use Rattle.host_link.specs.LocalLinks.{host_of, schedule_of, is_over}
 use Rattle.host_link.specs.declared.local.LocalLink.{LocalLink}
 use Rattle.tr_core.specs.Settings.{options_by, first_pen}
 use Rattle.tr_core.specs.States.{new_state}
 use Rattle.tr_core.specs.declared.settings.Options.{Options}
 use Rattle.trace_run.specs.Local.{LocalRun}
-use Rattle.trace_run.specs.LocalRuns.{IsGoing, local_answers, LocalLinksTell}
+use Rattle.trace_run.specs.BootedRuns.{TracesTo}
+use Rattle.trace_run.specs.LocalRuns.{IsGoing, local_answers, LocalLinksTell, LocalLinksTellParts}
 use Rattle.trace_run.specs.Runs.{RunsWhole}
 use Rattle.trace_run.specs.Writings.{Writing, writing}
 use Rattle.trace_run.specs.declared.running.Ended.{Ended}
+use Rattle.trace_run.specs.declared.running.RunFault.{RunFault}
 
 -- what run_local did, one call after the other
 pub record IsBooted (o : Options) (script : Script) (schedule : Schedule) (s : Shared) (b : Body) (ended : Ended) (trace : List ℕ) (left : Outcome) (turns : List ℕ) : Type 0 where
@@ -59,3 +64,31 @@ booted_runs tell begin o script is_script schedule s b ended trace left turns x 
     let by_outcome : LocalRun next_of_host linux outcome_in o script schedule s b ended trace left (host_of x.link').hosting.turns =
     subst (λ (y : Outcome). LocalRun next_of_host linux outcome_in o script schedule s b ended trace y (host_of x.link').hosting.turns) (sym x.outcome) by_trace in
     subst (λ (y : List ℕ). LocalRun next_of_host linux outcome_in o script schedule s b ended trace left y) (sym x.turned) by_outcome
+
+-- what trace_local did
+pub record IsTraced (o : Options) (script : Script) (schedule : Schedule) (s : Shared) (b : Body) (result : Result Ended RunFault) (old new : Option (List ℕ)) : Type 0 where
+  pub link : LocalLink
+  pub link' : LocalLink
+  pub broken : ℕ
+  pub broken' : ℕ
+  pub ran : RunsWhole local_answers (new_state (options_by o) script (first_pen o)) link old broken result link' new broken'
+  pub hosting : (host_of link).hosting ≡ first_hosting s b
+  pub whole : (host_of link).failed ≡ false
+  pub going : is_over link ≡ false
+  pub by : schedule_of link ≡ schedule
+
+pub booted_traces : LocalLinksTellParts → HostsBeginAlike Shared Body → (o : Options) (script : Script) → IsScript script → (schedule : Schedule) (s : Shared) (b : Body) (result : Result Ended RunFault) (old new : Option (List ℕ))
+    → IsTraced o script schedule s b result old new → TracesTo o script schedule s b result old new
+booted_traces tell begin o script is_script schedule s b result old new x =
+    let is_going : IsGoing x.link = record {
+      fresh = subst (λ (v : Linux_host). IsFresh v) (sym x.hosting) (begin s b).1;
+      whole = x.whole;
+      going = x.going;
+    } in
+    let told = tell o script is_script x.link x.link' old new x.broken x.broken' result x.ran s b is_going x.hosting in
+    record {
+      events = told.events;
+      exchanges = x.ran.runs.exchanges;
+      given = subst (λ (y : Schedule). TalksOver next_of_host linux outcome_in (options_by o) script first_tracer y (first_world s b).host told.events x.ran.runs.exchanges) x.by told.given;
+      tells = told.tells;
+    }

@@ -3,8 +3,8 @@ use Rattle.std.proofs.Common.{◌≡◌, true, false, Option, Some, None, Ok, re
 use Rattle.std.specs.Prelude.{is_none}
 use Rattle.lx_abi.specs.declared.ptrace.Reply.{Reply}
 use Rattle.lx_abi.specs.declared.ptrace.Request.{Request}
-use Rattle.lx_kernel.specs.declared.state.Shared.{Shared}
-use Rattle.lx_kernel.specs.declared.state.Body.{Body}
+use Rattle.lx_proc.specs.declared.state.Shared.{Shared}
+use Rattle.lx_proc.specs.declared.state.Body.{Body}
 use Rattle.lx_kernel.specs.Linux.{linux}
 use Rattle.lx_kernel.specs.Outcomes.{outcome_in}
 use Rattle.lx_model.specs.Machine.{IsMachine}
@@ -16,7 +16,7 @@ use Rattle.pt_model.specs.Ptrace.{is_there}
 use Rattle.pt_kernel.specs.Attends.{Attended}
 use Rattle.pt_kernel.specs.Hosts.{HostState, Linux_host}
 use Rattle.pt_kernel.specs.Seen.{next_of_host, IsCalled, HostsAreCalled}
-use Rattle.pt_kernel.specs.declared.schedule.Schedule.{Schedule}
+use Rattle.pt_schedule.specs.declared.schedule.Schedule.{Schedule}
 use Rattle.host_link.specs.LocalLinks.{Calls, host_of, schedule_of, is_over}
 use Rattle.host_link.specs.Locals.{Serves, reply_or_over}
 use Rattle.host_link.specs.declared.local.LocalLink.{LocalLink}

@@ -5,8 +5,8 @@ use Rattle.lx_abi.specs.declared.ptrace.Request.{Request}
 use Rattle.lx_abi.specs.declared.schedule.Event.{Event}
 use Rattle.lx_kernel.specs.Linux.{linux}
 use Rattle.lx_kernel.specs.Outcomes.{outcome_in}
-use Rattle.lx_kernel.specs.declared.state.Shared.{Shared}
-use Rattle.lx_kernel.specs.declared.state.Body.{Body}
+use Rattle.lx_proc.specs.declared.state.Shared.{Shared}
+use Rattle.lx_proc.specs.declared.state.Body.{Body}
 use Rattle.lx_model.specs.Kernel.{Script}
 use Rattle.pt_model.specs.Calls.{TalksOver}
 use Rattle.pt_model.specs.Headline.{IsScript}
@@ -14,7 +14,7 @@ use Rattle.pt_model.specs.Hosting.{host_in, IsFresh, first_hosting}
 use Rattle.pt_model.specs.Tracer.{first_tracer}
 use Rattle.pt_model.specs.World.{first_world}
 use Rattle.pt_kernel.specs.Seen.{next_of_host}
-use Rattle.pt_kernel.specs.declared.schedule.Schedule.{Schedule}
+use Rattle.pt_schedule.specs.declared.schedule.Schedule.{Schedule}
 use Rattle.host_link.specs.LocalLinks.{Calls, host_of, schedule_of, is_over}
 use Rattle.host_link.specs.declared.local.LocalLink.{LocalLink}
 use Rattle.tr_core.specs.Settings.{options_by, first_pen}

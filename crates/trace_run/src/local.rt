@@ -3,15 +3,16 @@
 ghost use Rattle.std.specs.Prelude.{◌≡◌, None, Some, Err, IfErr, IfOk, OnOk};
 ghost use Rattle.lx_kernel.specs.Boots.{Refuses, fault_of};
 ghost use Rattle.lx_kernel.specs.declared.boots.BootFault.{BootFault};
-ghost use Rattle.trace_run.specs.BootedRuns.{RunOf};
+ghost use Rattle.trace_run.specs.BootedRuns.{RunOf, TraceOf};
 
-use crate::laws::local_links_tell;
-use crate::running::{Ended, run};
+use crate::laws::{local_links_tell, local_links_tell_parts};
+use crate::running::{Ended, RunFault, run};
 use crate::written::Written;
 use host_link::LocalLink;
+use host_wire::Sink;
 use lx_abi::{Boot, Bytes, Outcome, Script};
 use lx_kernel::BootFault;
-use lx_kernel::state::{Body, Shared};
+use lx_proc::{Body, Shared};
 use pt_kernel::{Host, Schedule, Turns};
 use pt_model::laws::{every_script_is_one, hosts_run_alike};
 use std::alloc::Global;
@@ -66,4 +67,32 @@ pub fn run_local(
         outcome,
         turns: link.into_host().into_turns(),
     })
+}
+
+/// Boots a guest, and traces it in this process to any writer, as the trace comes. The boot's follow counts, not that of
+/// the options. The outer fault is the boot's, or Memory where memory runs out in booting.
+pub fn trace_local<W: Sink>(
+    alloc: Global,
+    boot: Boot,
+    schedule: Schedule,
+    script: Script,
+    options: Options,
+    writer: &mut W,
+) -> Result<Result<Ended, RunFault>, BootFault>
+    ensures trace { IfOk result
+        (λ ended. TraceOf boot schedule script options ended (W.contents writer.old) (W.contents writer.new)) }
+    ensures accepted { OnOk result (fault_of boot ≡ None) }
+    ensures fault { IfErr result (Refuses boot) }
+
+    // A boot with a fault is refused with it, whatever the memory.
+    ensures refused { (e : BootFault) → fault_of boot ≡ Some e → result ≡ Err e }
+{
+    local_links_tell_parts();
+    every_script_is_one();
+    hosts_run_alike::<Shared, Body>();
+    let mut options = options;
+    options.follow = boot.follow;
+    let host = Host::boot(alloc, boot)?;
+    let mut local = LocalLink::new(host, schedule);
+    Ok(run(alloc, &mut local, writer, script, options))
 }

@@ -2,7 +2,7 @@ use Rattle.std.proofs.Common.{sym, ap, subst, ◌∙◌}
 use Rattle.lx_kernel.specs.Tracing.{own_in}
 use Rattle.pt_model.specs.Requests.{Answered, says}
 use Rattle.pt_model.specs.Hosting.{as_proc}
-use Rattle.lx_kernel.specs.declared.state.Body.{Body}
+use Rattle.lx_proc.specs.declared.state.Body.{Body}
 use Rattle.pt_kernel.specs.Hosts.{IsAnswer}
 use Rattle.pt_kernel.proofs.Answering.{unseized_reads, not_seized, is_seized}
 use Rattle.pt_kernel.proofs.answers.answer_unseized.Goals as goal

@@ -1,6 +1,6 @@
 use Rattle.std.proofs.Common.{sym, ap, ◌∙◌, Some}
 use Rattle.lx_model.specs.declared.stage.Own.TheVariants.{Alive}
-use Rattle.lx_kernel.specs.declared.state.Body.{Body}
+use Rattle.lx_proc.specs.declared.state.Body.{Body}
 use Rattle.pt_model.specs.Requests.{says, set_options}
 use Rattle.pt_model.specs.Hosting.{as_proc}
 use Rattle.lx_abi.specs.declared.ptrace.Reply.TheVariants.{Done as Agreed}

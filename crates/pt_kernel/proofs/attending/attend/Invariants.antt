@@ -1,4 +1,5 @@
-use Rattle.pt_kernel.specs.Attends.{Attended, Attends, events_left}
+use Rattle.pt_schedule.specs.Schedules.{events_left}
+use Rattle.pt_kernel.specs.Attends.{Attended, Attends}
 use Rattle.pt_kernel.proofs.attending.attend.Given as goal
 
 -- what is attended to from here on is attended to from the beginning

@@ -1,7 +1,7 @@
 use Rattle.std.proofs.Common.{◌≡◌, ◌≢◌, ℕ, List, ◌==◌, Err, IfErr, ap, ◌∙◌, subst}
 use Rattle.std.specs.List.{slice_split}
 use Rattle.rv_asm.specs.Listing.{image_of, listing_of}
-use Rattle.rv_asm.specs.Text.{texts}
+use Rattle.rv_syntax.specs.Text.{texts}
 use Rattle.rv_asm.specs.declared.fault.AsmKind.TheVariants.{Memory}
 use Rattle.rv_asm.proofs.assembling.assemble.Goals as goal
 

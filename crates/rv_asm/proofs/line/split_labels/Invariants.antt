@@ -1,6 +1,6 @@
 use Rattle.std.proofs.Common.{◌≡◌, ◌-◌, length}
 use Rattle.rv_asm.specs.Lines.{peeled}
-use Rattle.rv_asm.specs.Text.{texts}
+use Rattle.rv_syntax.specs.Text.{texts}
 use Rattle.rv_asm.proofs.LabelSteps.{behind}
 use Rattle.rv_asm.proofs.line.split_labels.Given as goal
 

@@ -1,6 +1,6 @@
 use Rattle.std.proofs.Common.{◌≡◌, ◌++◌, drop}
 use Rattle.rv_asm.specs.Listing.{places_at}
-use Rattle.rv_asm.specs.Text.{texts}
+use Rattle.rv_syntax.specs.Text.{texts}
 use Rattle.rv_asm.proofs.listing.add_labels.Given as goal
 
 abbrev pub invariant-loop-name : goal.invariant-loop-name

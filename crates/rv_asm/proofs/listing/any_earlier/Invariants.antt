@@ -2,7 +2,7 @@ use Rattle.std.proofs.Common.{◌≡◌, drop}
 use Rattle.std.specs.List.{list_any}
 use Rattle.rv_asm.specs.Codes.{place_named}
 use Rattle.rv_asm.specs.Listing.{is_earlier}
-use Rattle.rv_asm.specs.Text.{texts}
+use Rattle.rv_syntax.specs.Text.{texts}
 use Rattle.rv_asm.proofs.listing.any_earlier.Given as goal
 
 abbrev pub invariant-loop-name : goal.invariant-loop-name

@@ -1,6 +1,6 @@
 use Rattle.std.proofs.Common.{◌≡◌, ◌+◌, drop, length}
 use Rattle.rv_asm.specs.Listing.{bytes_from, with_front}
-use Rattle.rv_asm.specs.Text.{texts}
+use Rattle.rv_syntax.specs.Text.{texts}
 use Rattle.rv_asm.proofs.listing.emit.Given as goal
 
 abbrev pub invariant-loop-i : goal.invariant-loop-i

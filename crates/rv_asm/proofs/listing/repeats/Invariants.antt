@@ -3,7 +3,7 @@ use Rattle.std.specs.Prelude.{is_some}
 use Rattle.std.specs.List.{list_any}
 use Rattle.rv_asm.specs.Codes.{place_named}
 use Rattle.rv_asm.specs.Listing.{repeats}
-use Rattle.rv_asm.specs.Text.{is_text, texts}
+use Rattle.rv_syntax.specs.Text.{is_text, texts}
 use Rattle.rv_asm.proofs.listing.repeats.Given as goal
 
 abbrev pub invariant-loop-at : goal.invariant-loop-at

@@ -1,6 +1,6 @@
-use Rattle.lx_kernel.specs.declared.state.Shared.{Shared}
-use Rattle.lx_kernel.specs.declared.state.Body.{Body}
-use Rattle.pt_kernel.specs.declared.schedule.Schedule.{Schedule}
+use Rattle.lx_proc.specs.declared.state.Shared.{Shared}
+use Rattle.lx_proc.specs.declared.state.Body.{Body}
+use Rattle.pt_schedule.specs.declared.schedule.Schedule.{Schedule}
 use Rattle.trace_run.specs.LocalRuns.{local_answers}
 use Rattle.trace_run.proofs.InProcess.{local_links_tell}
 use Rattle.trace_run.proofs.Locals.{Cited}

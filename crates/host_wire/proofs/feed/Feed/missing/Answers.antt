@@ -1,5 +1,6 @@
 use Rattle.std.proofs.Common.{◌+◌, ◌<◌, length, sym, subst, arith}
-use Rattle.host_wire.specs.Streams.{IsUnfinished, told_length}
+use Rattle.host_frame.specs.Reading.{told_length}
+use Rattle.host_wire.specs.Streams.{IsUnfinished}
 use Rattle.host_wire.proofs.Streams.{lacks}
 use Rattle.host_wire.proofs.feed.Feed.missing.Goals as goal
 

@@ -1,15 +1,13 @@
 use Rattle.std.proofs.Common.{sym, subst}
-use Rattle.std.specs.Prelude.{IsTrue, ◌↔◌, not}
-use Rattle.lx_model.specs.Finite.{at}
-use Rattle.lx_model.specs.declared.stage.Own.TheVariants.{Gone}
+use Rattle.std.specs.Prelude.{IsTrue, ◌↔◌}
+use Rattle.lx_kernel.specs.Blocking.{can_turn_in}
 use Rattle.lx_kernel.specs.Runs.{Run, is_able_in}
-use Rattle.lx_kernel.specs.Turned.{is_gone}
-use Rattle.lx_kernel.proofs.Moving.{able_where_there}
+use Rattle.lx_kernel.proofs.Moving.{able_where_turns}
 use Rattle.lx_kernel.proofs.kernel.Kernel.able.Goals as goal
 
 pub returns : goal.returns
 returns c =
     let k = c.self.inside in
     let run : Run = record { running = record { shared = k.shared; owns = k.owns; child = k.child; log = k.log.items }; script = k.script; follow = k.follow; failed = k.failed } in
-    subst (λ b. IsTrue b ↔ is_able_in c.args.self.now c.args.pid) (sym c.is_there.ensures)
-    (subst (λ r. IsTrue (not (is_gone (at Gone k.owns c.args.pid))) ↔ is_able_in r c.args.pid) c.self.view_is (able_where_there run c.args.pid))
+    subst (λ b. IsTrue b ↔ is_able_in c.args.self.now c.args.pid) (sym c.can_turn.ensures)
+    (subst (λ r. IsTrue (can_turn_in k.shared k.owns c.args.pid) ↔ is_able_in r c.args.pid) c.self.view_is (able_where_turns run c.args.pid))

@@ -1,6 +1,7 @@
 use Rattle.std.proofs.Common.{ap, ◌∙◌}
 use Rattle.lx_model.specs.Finite.{Running}
-use Rattle.lx_kernel.specs.State.{Shared, Body}
+use Rattle.lx_proc.specs.declared.state.Shared.{Shared}
+use Rattle.lx_proc.specs.declared.state.Body.{Body}
 use Rattle.lx_kernel.specs.Runs.{Run}
 use Rattle.lx_kernel.specs.Tracing.{own_in, with_joined, with_part}
 use Rattle.lx_kernel.proofs.Reaching.{whole}

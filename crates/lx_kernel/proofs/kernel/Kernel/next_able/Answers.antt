@@ -14,4 +14,4 @@ pub returns-in-None : goal.returns-in-None
 returns-in-None c =
     let k = c.self.inside in
     let run : Run = record { running = record { shared = k.shared; owns = k.owns; child = k.child; log = k.log.items }; script = k.script; follow = k.follow; failed = k.failed } in
-    subst (λ r. IsNextOf r c.args.after c.first_there.result) c.self.view_is (next_first run c.args.after c.first_there.result c.in-None.ensures c.first_there.ensures)
+    subst (λ r. IsNextOf r c.args.after c.first_able.result) c.self.view_is (next_first run c.args.after c.first_able.result c.in-None.ensures c.first_able.ensures)

@@ -4,7 +4,7 @@ use Rattle.std.specs.Option.{option_or}
 use Rattle.std.proofs.lemmas.List.{map-append, length-map}
 use Rattle.rv_asm.specs.Codes.{Place, place_of}
 use Rattle.rv_asm.specs.Labels.{number_of, IsIndex}
-use Rattle.rv_asm.specs.Text.{is_text}
+use Rattle.rv_syntax.specs.Text.{is_text}
 use Rattle.rv_asm.proofs.LabelIndex.{IsIndex-push}
 use Rattle.rv_asm.proofs.labels.Labels.push.Goals as goal
 

@@ -1,0 +1,62 @@
+//! Options that both programs have, each added to a command. The help is the program's own.
+
+use clap::{Arg, ArgAction, Command};
+use std::alloc::{AllocError, Global};
+
+/// Adds `-e EXPR`, any number of times.
+pub fn with_expressions<'a>(
+    alloc: Global,
+    command: Command<'a>,
+    help: &'a str,
+) -> Result<Command<'a>, AllocError> {
+    command.arg(
+        Arg::new(alloc, "expression")
+            .short('e')
+            .value_name("EXPR")
+            .allow_hyphen_values(true)
+            .action(ArgAction::Append)
+            .help(help),
+    )
+}
+
+/// Adds `--limit N`.
+pub fn with_limit<'a>(
+    alloc: Global,
+    command: Command<'a>,
+    help: &'a str,
+) -> Result<Command<'a>, AllocError> {
+    command.arg(
+        Arg::new(alloc, "limit")
+            .long("limit")
+            .value_name("N")
+            .help(help),
+    )
+}
+
+/// Adds `--file GUEST=PATH`, any number of times.
+pub fn with_files<'a>(
+    alloc: Global,
+    command: Command<'a>,
+    help: &'a str,
+) -> Result<Command<'a>, AllocError> {
+    command.arg(
+        Arg::new(alloc, "file")
+            .long("file")
+            .value_name("GUEST=PATH")
+            .action(ArgAction::Append)
+            .help(help),
+    )
+}
+
+/// Adds the words behind `--`.
+pub fn with_program<'a>(alloc: Global, command: Command<'a>) -> Result<Command<'a>, AllocError> {
+    command.arg(
+        Arg::new(alloc, "program")
+            .value_name("PROG")
+            .last(true)
+            .required(true)
+            .num_args(1..)
+            .action(ArgAction::Append)
+            .help("The program and its arguments"),
+    )
+}

@@ -1,0 +1,94 @@
+//! The log of calls as it is printed: a line an item.
+
+use crate::fault::Fault;
+use lx_abi::{Call, Item};
+use std::alloc::{AllocError, Global};
+use std::io::{self, Write};
+
+/// Bytes of lines that are held back at most.
+const ROOM: usize = 65_536;
+
+/// The most bytes of a line.
+const LONGEST_LINE: usize = 256;
+
+/// Lines on their way to a writer. They are held back until there are many, or [`Log::flush`] is called, and are
+/// written whole.
+#[derive(Drop)]
+pub struct Log<'w, W> {
+    lines: Vec<u8>,
+    out: &'w mut W,
+}
+
+impl<'w, W: Write> Log<'w, W> {
+    pub fn new(alloc: Global, out: &'w mut W) -> Result<Self, AllocError> {
+        Ok(Log {
+            lines: Vec::with_capacity(alloc, ROOM)?,
+            out,
+        })
+    }
+
+    /// Lines are held back.
+    pub fn is_behind(&self) -> bool {
+        !self.lines.is_empty()
+    }
+
+    /// Adds an item's line.
+    pub fn print(&mut self, item: &Item) -> Result<(), Fault> {
+        if self.lines.len() > ROOM - LONGEST_LINE {
+            self.flush()?;
+        }
+        match push_line(&mut self.lines, item) {
+            Ok(()) => Ok(()),
+            Err(_) => Err(Fault::Memory),
+        }
+    }
+
+    /// Writes the lines that are held back; where the writer refuses them they are lost.
+    pub fn flush(&mut self) -> Result<(), Fault> {
+        if self.lines.is_empty() {
+            return Ok(());
+        }
+        let written = self.out.write_all(self.lines.as_slice());
+        self.lines.clear();
+        match written {
+            Ok(()) => Ok(()),
+            Err(_) => Err(Fault::Output),
+        }
+    }
+}
+
+fn push_entry(lines: &mut Vec<u8>, pid: u32, call: &Call) -> io::Result<()> {
+    write!(lines, "E {pid} {}", call.number)?;
+    for argument in &call.arguments {
+        write!(lines, " {argument:#x}")?;
+    }
+    writeln!(lines)
+}
+
+fn push_result(lines: &mut Vec<u8>, pid: u32, value: i64, replaced: bool) -> io::Result<()> {
+    let mark = if replaced { " r" } else { "" };
+    writeln!(lines, "D {pid} {value}{mark}")
+}
+
+fn push_signal(lines: &mut Vec<u8>, pid: u32, number: u8) -> io::Result<()> {
+    writeln!(lines, "S {pid} {number}")
+}
+
+fn push_exit(lines: &mut Vec<u8>, pid: u32, word: u32) -> io::Result<()> {
+    writeln!(lines, "X {pid} {word}")
+}
+
+/// Adds an item's line: `E pid number a0 .. a5`, `D pid result`, `S pid signal` or `X pid word`.
+fn push_line(lines: &mut Vec<u8>, item: &Item) -> io::Result<()> {
+    match item {
+        Item::Enter { pid, call } => push_entry(lines, *pid, call),
+        Item::Done {
+            pid,
+            result,
+            replaced,
+            ..
+        } => push_result(lines, *pid, result.cast_signed(), *replaced),
+        Item::Taken { pid, signal, .. } => push_signal(lines, *pid, signal.number),
+        Item::Exit { pid, word, .. } => push_exit(lines, *pid, *word),
+    }
+}

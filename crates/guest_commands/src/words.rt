@@ -1,0 +1,126 @@
+//! What the command line asks for.
+
+use crate::fault::Fault;
+use clap::{Arg, ArgMatches, Command, Error};
+use front_end::{shown_words, with_expressions, with_files, with_limit, with_program};
+use std::alloc::{AllocError, Global};
+
+/// What is written of faulty listings, kind by kind.
+const KINDS: &str =
+    "A listing that can't be assembled is told by its first faulty line, as 'asm: line L kind K':
+  1  no mnemonic or directive has this name
+  2  the operands aren't those of the mnemonic
+  3  a number, or the distance to a label, doesn't fit
+  4  no line has this label
+  5  the label stands on an earlier line, or twice on this one
+  6  the program would fill more than 65536 bytes
+  7  memory ran out";
+
+/// What is written of conversations that can't go on, kind by kind.
+const SERVE_FAULTS: &str =
+    "The status is 0 at the end of input. A conversation that can't go on is told in one line, as
+'guest_host: serve fault N: TEXT', with the status 1:
+  1  the requests could not be read
+  2  a reply could not be written
+  3  a frame is malformed, or a reply too long for one
+  4  a frame came out of order
+  5  memory ran out";
+
+fn plain_command<'a>(alloc: Global) -> Result<Command<'a>, AllocError> {
+    let command = Command::new(alloc, "plain").about(
+        "Runs a program on the untraced kernel, and prints its calls on standard error",
+    );
+    let command = with_expressions(
+        alloc,
+        command,
+        "A tampering expression, as fault=write:error=EIO",
+    )?;
+    let command = with_limit(alloc, command, "The most turns that there are (10000000)")?;
+    let command = with_files(
+        alloc,
+        command,
+        "A file of the guest's, and the file that holds its content",
+    )?;
+    with_program(alloc, command)
+}
+
+/// Adds a word that must be there.
+fn with_word<'a>(
+    alloc: Global,
+    command: Command<'a>,
+    id: &'a str,
+    name: &'a str,
+    help: &'a str,
+) -> Result<Command<'a>, AllocError> {
+    command.arg(
+        Arg::new(alloc, id)
+            .value_name(name)
+            .required(true)
+            .help(help),
+    )
+}
+
+fn asm_command<'a>(alloc: Global) -> Result<Command<'a>, AllocError> {
+    let command = Command::new(alloc, "asm")
+        .about("Assembles a listing into an ELF file")
+        .after_help(KINDS);
+    let command = with_word(alloc, command, "in", "IN", "The listing")?;
+    with_word(
+        alloc,
+        command,
+        "out",
+        "OUT",
+        "The file that the program is written to",
+    )
+}
+
+fn serve_command<'a>(alloc: Global) -> Command<'a> {
+    Command::new(alloc, "serve")
+        .about(
+            "Answers a tracer's requests, which are frames on standard input, by frames on standard output",
+        )
+        .after_help(SERVE_FAULTS)
+}
+
+/// Adds a subcommand.
+fn with_subcommand<'a>(
+    command: Command<'a>,
+    subcommand: Command<'a>,
+) -> Result<Command<'a>, AllocError> {
+    command.subcommand(subcommand)
+}
+
+fn host_command<'a>(alloc: Global) -> Result<Command<'a>, AllocError> {
+    let command = Command::new(alloc, "guest_host")
+        .about("The host of modelled RV64I guests")
+        .version("0.1.0")
+        .subcommand_required(true);
+    let command = with_subcommand(command, plain_command(alloc)?)?;
+    let command = with_subcommand(command, serve_command(alloc))?;
+    with_subcommand(command, asm_command(alloc)?)
+}
+
+/// Parses the words, the program's name first.
+pub fn parse<'a>(alloc: Global, words: &'a [String]) -> Result<ArgMatches<'a>, Error> {
+    host_command(alloc)?.try_get_matches_from(words)
+}
+
+/// The words of a command that takes a program.
+fn words_of_plain(words: &[String]) -> Option<&[String]> {
+    match words {
+        [_, command, rest @ ..] if command.as_str() == "plain" => Some(rest),
+        _ => None,
+    }
+}
+
+/// What is wrong with words that can't be parsed.
+pub fn refusal(alloc: Global, words: &[String]) -> Fault {
+    let shown = match shown_words(alloc, words) {
+        Ok(shown) => shown,
+        Err(error) => return Fault::from(error),
+    };
+    match parse(alloc, shown.as_slice()) {
+        Ok(_) => Fault::usage(format!(in alloc; "a word is malformed")),
+        Err(error) => Fault::from(front_end::refusal(alloc, error, words_of_plain(words))),
+    }
+}

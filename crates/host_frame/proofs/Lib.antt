@@ -1,0 +1,6 @@
+pub mod Forms
+pub mod Inverse
+pub mod Lists
+pub mod Messages
+pub mod Registers
+pub mod Whole

@@ -1,0 +1,86 @@
+-- What is read is spelled so, and what is spelled so is read: frames.
+use Rattle.std.proofs.Common.{◌≡◌, ℕ, ◌+◌, ◌*◌, ◌%◌, ◌^◌, ◌<◌, ◌≤◌, List, [], ◌∷◌, ◌++◌, length, get_or, take, drop, Option, Some, None, refl, sym, ap, subst, ◌∙◌, append_assoc, arith}
+use Rattle.std.proofs.lemmas.List.{drop_at, drop-drop, drop_more, get_or-drop, length-append, length-drop, take-append-drop}
+use Rattle.byteorder.specs.Endian.{big_number, big_bytes}
+use Rattle.byteorder.specs.Numbers.{big_from-lt, big_number-reads_back, length-bytes_high_first}
+use Rattle.lx_abi.specs.declared.ptrace.Ask.TheVariants.{Seize, SetOptions, GetRegs, SetRegs, Peek, Syscall, EventMsg, SigInfo}
+use Rattle.lx_abi.specs.declared.ptrace.Request.TheVariants.{Boot as Boot_with, Wait, To, Outcome as Ask_outcome}
+use Rattle.lx_abi.specs.declared.ptrace.Reply.TheVariants.{Done, Status as Status_is, Registers as Registers_are, Bytes as Bytes_are, Message as Message_is, Info as Info_is, Outcome as Outcome_is, Errno as Errno_is, OutOfTurns, Refused}
+use Rattle.host_frame.specs.declared.frame.Body.{Body}
+use Rattle.host_frame.specs.declared.frame.Body.TheVariants.{Request as Of_request, Reply as Of_reply}
+use Rattle.host_frame.specs.declared.frame.Frame.{Frame}
+use Rattle.host_frame.specs.Reading.{◌>>=◌, body_at, frame_at, told_length}
+use Rattle.host_frame.specs.Spelling.{byte, word, double, message, content, spelled, FitsFrame}
+use Rattle.host_frame.proofs.Forms.{IsBytes, IsBytes-drop, back4, back8, bind_some, some_is}
+use Rattle.host_frame.proofs.Messages.{body_takes, body_again}
+
+abbrev frame_is : ℕ → Body → Frame
+frame_is number body = record { number = number; body = body }
+
+-- a kind is one byte
+kind_byte : (b : Body) → byte (message b).0 ≡ (message b).0 ∷ []
+kind_byte (Of_request (Boot_with b limit words)) = refl
+kind_byte (Of_request Wait) = refl
+kind_byte (Of_request Ask_outcome) = refl
+kind_byte (Of_request (To pid (Seize options))) = refl
+kind_byte (Of_request (To pid (SetOptions options))) = refl
+kind_byte (Of_request (To pid GetRegs)) = refl
+kind_byte (Of_request (To pid (SetRegs rs))) = refl
+kind_byte (Of_request (To pid (Peek address count))) = refl
+kind_byte (Of_request (To pid (Syscall signal))) = refl
+kind_byte (Of_request (To pid EventMsg)) = refl
+kind_byte (Of_request (To pid SigInfo)) = refl
+kind_byte (Of_reply Done) = refl
+kind_byte (Of_reply (Status_is pid status)) = refl
+kind_byte (Of_reply (Registers_are rs)) = refl
+kind_byte (Of_reply (Bytes_are bytes)) = refl
+kind_byte (Of_reply (Message_is pid)) = refl
+kind_byte (Of_reply (Info_is i)) = refl
+kind_byte (Of_reply (Outcome_is o)) = refl
+kind_byte (Of_reply (Errno_is number)) = refl
+kind_byte (Of_reply OutOfTurns) = refl
+kind_byte (Of_reply (Refused fault)) = refl
+
+pub frame_again : (f : Frame) → FitsFrame f → frame_at (spelled f) ≡ Some f
+unfolding frame_at spelled
+frame_again f fits =
+    let w : List ℕ = word (length (content f)) in
+    let d : List ℕ = double f.number in
+    let k : ℕ = (message f.body).0 in
+    let b : List ℕ = byte k in
+    let m : List ℕ = (message f.body).1 in
+    let all : List ℕ = w ++ ((d ++ b) ++ m) in
+    let w-long : length w ≡ 4 = length-bytes_high_first 4 (length (content f)) in
+    let d-long : length d ≡ 8 = length-bytes_high_first 8 f.number in
+    let b-long : length b ≡ 1 = length-bytes_high_first 1 k in
+    let behind_length : drop 4 all ≡ (d ++ b) ++ m = drop_at w ((d ++ b) ++ m) 4 w-long in
+    let number : big_number 8 (drop 4 all) ≡ f.number = ap (big_number 8) (behind_length ∙ append_assoc d b m) ∙ big_number-reads_back 8 f.number (b ++ m) fits.0 in
+    let at_kind : all ≡ (w ++ d) ++ (b ++ m) = ap (λ (x : List ℕ). w ++ x) (append_assoc d b m) ∙ sym (append_assoc w d (b ++ m)) in
+    let from_kind : drop 12 all ≡ b ++ m = ap (drop 12) at_kind ∙ drop_at (w ++ d) (b ++ m) 12 (omega (arith, length-append w d, w-long, d-long)) in
+    let kind : get_or all 12 0 ≡ k = sym (get_or-drop 12 all 0 0) ∙ ap (λ (x : List ℕ). get_or x 0 0) (from_kind ∙ ap (λ (x : List ℕ). x ++ m) (kind_byte f.body)) in
+    let rest : drop 13 all ≡ m = ap (drop 13) (sym (append_assoc w (d ++ b) m)) ∙ drop_at (w ++ (d ++ b)) m 13 (omega (arith, length-append w (d ++ b), length-append d b, w-long, d-long, b-long)) in
+    let body : body_at (get_or all 12 0) (drop 13 all) ≡ Some f.body = ap (λ (x : ℕ). body_at x (drop 13 all)) kind ∙ ap (body_at k) rest ∙ body_again f.body fits.1 in
+    ap (λ (o : Option Body). o >>= λ y. Some (frame_is (big_number 8 (drop 4 all)) y)) body ∙ ap (λ (n : ℕ). Some (frame_is n f.body)) number
+
+byte_is : (n : ℕ) → n < 256 → byte n ≡ n ∷ []
+byte_is n lt = let e : n % 256 ≡ n = omega (arith, lt) in ap (λ (x : ℕ). x ∷ []) e
+
+pub frame_takes : (bytes : List ℕ) (f : Frame) → IsBytes bytes → 13 ≤ length bytes → length bytes ≡ 4 + told_length bytes → frame_at bytes ≡ Some f → (bytes ≡ spelled f) × FitsFrame f
+unfolding frame_at spelled
+frame_takes bytes f all long size e =
+    let n : ℕ = big_number 8 (drop 4 bytes) in
+    let k : ℕ = get_or bytes 12 0 in
+    let s = bind_some (body_at k (drop 13 bytes)) (λ y. Some (frame_is n y)) f e in
+    let y : Body = s.0 in
+    let t = body_takes k (drop 13 bytes) y (IsBytes-drop 13 bytes all) s.1 in
+    let front : double n ≡ take 8 (drop 4 bytes) = back8 (drop 4 bytes) (omega (arith, length-drop 4 bytes, long)) (IsBytes-drop 4 bytes all) in
+    let kind : byte (message y).0 ≡ k ∷ [] = ap byte t.0 ∙ byte_is k (all 12) in
+    let behind : drop 8 (drop 4 bytes) ≡ k ∷ drop 13 bytes = drop-drop 8 4 bytes ∙ drop_more bytes 12 0 (omega (arith, long)) in
+    let inside : content (frame_is n y) ≡ drop 4 bytes =
+    ap (λ (x : List ℕ). (x ++ byte (message y).0) ++ (message y).1) front ∙ ap (λ (x : List ℕ). (take 8 (drop 4 bytes) ++ x) ++ (message y).1) kind ∙ ap (λ (x : List ℕ). (take 8 (drop 4 bytes) ++ k ∷ []) ++ x) (sym t.1.0)
+    ∙ append_assoc (take 8 (drop 4 bytes)) (k ∷ []) (drop 13 bytes) ∙ ap (λ (x : List ℕ). take 8 (drop 4 bytes) ++ x) (sym behind) ∙ take-append-drop 8 (drop 4 bytes) in
+    let told : length (content (frame_is n y)) ≡ told_length bytes = omega (arith, ap length inside, length-drop 4 bytes, size) in
+    let head : word (length (content (frame_is n y))) ≡ take 4 bytes = ap word told ∙ back4 bytes (omega (arith, long)) all in
+    let whole : spelled (frame_is n y) ≡ bytes = ap (λ (x : List ℕ). x ++ content (frame_is n y)) head ∙ ap (λ (x : List ℕ). take 4 bytes ++ x) inside ∙ take-append-drop 4 bytes in
+    let is : frame_is n y ≡ f = some_is (frame_is n y) f s.2 in
+    subst (λ (g : Frame). (bytes ≡ spelled g) × FitsFrame g) is (sym whole, (big_from-lt 0 8 (drop 4 bytes) (IsBytes-drop 4 bytes all), t.1.1))

@@ -1,0 +1,218 @@
+-- The one spelling of each frame: a length, a number, a kind, a body.
+use Rattle.std.specs.Prelude.{◌≡◌, ℕ, ◌^◌, ◌<◌, ◌≤◌, Bool, List, [], ◌++◌, length, cond, None, true, ◌&&◌}
+use Rattle.std.specs.List.{flat_map, AllByRecursion}
+use Rattle.byteorder.specs.Endian.{big_bytes, little_bytes}
+use Rattle.lx_abi.specs.declared.boot.Boot.{Boot}
+use Rattle.lx_abi.specs.declared.boot.GuestFile.{GuestFile}
+use Rattle.lx_abi.specs.declared.outcome.Node.{Node}
+use Rattle.lx_abi.specs.declared.outcome.Node.TheVariants.{File, Directory}
+use Rattle.lx_abi.specs.declared.outcome.OutcomeFile.{OutcomeFile}
+use Rattle.lx_abi.specs.declared.outcome.Ended.{Ended}
+use Rattle.lx_abi.specs.declared.outcome.Outcome.{Outcome}
+use Rattle.lx_abi.specs.declared.ptrace.Info.{Info}
+use Rattle.host_frame.specs.Reading.{paths_rise, pids_rise}
+use Rattle.lx_abi.specs.declared.schedule.Word.{Word}
+use Rattle.lx_abi.specs.declared.schedule.Word.TheVariants.{Turn, TurnAlone, Serve, UntilReturn}
+use Rattle.lx_abi.specs.declared.ptrace.Ask.{Ask}
+use Rattle.lx_abi.specs.declared.ptrace.Ask.TheVariants.{Seize, SetOptions, GetRegs, SetRegs, Peek, Syscall, EventMsg, SigInfo}
+use Rattle.lx_abi.specs.declared.ptrace.Request.{Request}
+use Rattle.lx_abi.specs.declared.ptrace.Request.TheVariants.{Boot as Boot_with, Wait, To, Outcome as Ask_outcome}
+use Rattle.lx_abi.specs.declared.ptrace.Reply.{Reply}
+use Rattle.lx_abi.specs.declared.ptrace.Reply.TheVariants.{Done, Status as Status_is, Registers as Registers_are, Bytes as Bytes_are, Message as Message_is, Info as Info_is, Outcome as Outcome_is, Errno as Errno_is, OutOfTurns, Refused}
+use Rattle.host_frame.specs.declared.fault.WireFault.{WireFault}
+use Rattle.host_frame.specs.declared.fault.WireFault.TheVariants.{Length, Kind, Body as Body_fault, Memory}
+use Rattle.host_frame.specs.declared.frame.Body.{Body}
+use Rattle.host_frame.specs.declared.frame.Body.TheVariants.{Request as Of_request, Reply as Of_reply}
+use Rattle.host_frame.specs.declared.frame.Frame.{Frame}
+
+-- ---- fields
+
+abbrev pub byte : ℕ → List ℕ
+byte n = big_bytes 1 n
+
+abbrev pub word : ℕ → List ℕ
+word n = big_bytes 4 n
+
+abbrev pub double : ℕ → List ℕ
+double n = big_bytes 8 n
+
+-- pc and x1 to x31, the lowest byte first
+abbrev pub registers : List ℕ → List ℕ
+registers rs = flat_map (little_bytes 8) rs
+
+-- a length of 4 bytes, and that many bytes
+unfoldable pub text : List ℕ → List ℕ
+text bytes = word (length bytes) ++ bytes
+
+-- a count of 4 bytes, and that many items
+unfoldable pub items : {X : Type 0} → (X → List ℕ) → List X → List ℕ
+items spell xs = word (length xs) ++ flat_map spell xs
+
+-- ---- parts of a boot and of an outcome
+
+abbrev pub flag : Bool → ℕ
+flag b = cond b 1 0
+
+abbrev pub guest_file : GuestFile → List ℕ
+guest_file f = text f.path ++ text f.content
+
+abbrev pub schedule_word : Word → List ℕ
+schedule_word (Turn p) = byte 1 ++ word p
+schedule_word (TurnAlone p) = byte 2 ++ word p
+schedule_word Serve = byte 3 ++ word 0
+schedule_word (UntilReturn p) = byte 4 ++ word p
+
+abbrev pub node : Node → List ℕ
+node (File content) = byte 1 ++ text content
+node Directory = byte 2 ++ text []
+
+abbrev pub outcome_file : OutcomeFile → List ℕ
+outcome_file f = text f.path ++ node f.node
+
+abbrev pub ended : Ended → List ℕ
+ended e = word e.pid ++ word e.word
+
+-- a version, follow, a limit
+unfoldable pub head : Bool → ℕ → List ℕ
+head follow limit = byte 1 ++ byte (flag follow) ++ double limit
+
+unfoldable pub parts : Boot → List ℕ
+parts b = text b.input ++ items text b.argv ++ items text b.env ++ items guest_file b.files
+
+abbrev pub boot : Boot → ℕ → List Word → List ℕ
+boot b limit words = head b.follow limit ++ parts b ++ items schedule_word words
+
+-- ---- a line a kind: the kind and the body
+
+abbrev pub ask_message : Ask → ℕ × List ℕ
+ask_message (Seize options) = (0x02, word options)
+ask_message (SetOptions options) = (0x03, word options)
+ask_message GetRegs = (0x05, [])
+ask_message (SetRegs rs) = (0x06, registers rs)
+ask_message (Peek address count) = (0x07, double address ++ word count)
+ask_message (Syscall signal) = (0x08, word signal)
+ask_message EventMsg = (0x09, [])
+ask_message SigInfo = (0x0a, [])
+
+abbrev pub request_message : Request → ℕ × List ℕ
+request_message (Boot_with b limit words) =
+    (0x01, boot b limit words)
+request_message (To pid ask) = ((ask_message ask).0, word pid ++ (ask_message ask).1)
+request_message Wait = (0x04, [])
+request_message Ask_outcome = (0x0b, [])
+
+abbrev pub reply_message : Reply → ℕ × List ℕ
+reply_message Done = (0x81, [])
+reply_message (Status_is pid status) = (0x82, word pid ++ word status.word)
+reply_message (Registers_are rs) = (0x83, registers rs)
+reply_message (Bytes_are bytes) = (0x84, text bytes)
+reply_message (Message_is pid) = (0x85, double pid)
+reply_message (Info_is i) = (0x86, word i.signal ++ word i.code ++ word i.pid ++ word i.status ++ double i.address)
+reply_message (Outcome_is o) = (0x87, text o.console ++ items outcome_file o.files ++ items ended o.ended)
+reply_message (Errno_is number) = (0x88, word number)
+reply_message OutOfTurns = (0x89, [])
+reply_message (Refused fault) = (0x8a, byte fault)
+
+abbrev pub message : Body → ℕ × List ℕ
+message (Of_request r) = request_message r
+message (Of_reply r) = reply_message r
+
+-- ---- what has a spelling: numbers of their widths, 32 registers
+
+abbrev pub AreRegisters : List ℕ → Type 0
+AreRegisters rs = (length rs ≡ 32) × AllByRecursion (λ r. r < 256 ^ 8) rs
+
+abbrev pub FitsAsk : Ask → Type 0
+FitsAsk (Seize options) = options < 256 ^ 4
+FitsAsk (SetOptions options) = options < 256 ^ 4
+FitsAsk GetRegs = Unit {0}
+FitsAsk (SetRegs rs) = AreRegisters rs
+FitsAsk (Peek address count) = (address < 256 ^ 8) × (count < 256 ^ 4)
+FitsAsk (Syscall signal) = signal < 256 ^ 4
+FitsAsk EventMsg = Unit {0}
+FitsAsk SigInfo = Unit {0}
+
+abbrev pub FitsText : List ℕ → Type 0
+FitsText t = length t < 256 ^ 4
+
+abbrev pub FitItems : {X : Type 0} → (X → Type 0) → List X → Type 0
+FitItems Fits xs = (length xs < 256 ^ 4) × AllByRecursion Fits xs
+
+abbrev pub FitsGuestFile : GuestFile → Type 0
+FitsGuestFile f = FitsText f.path × FitsText f.content
+
+abbrev pub FitsWord : Word → Type 0
+FitsWord (Turn p) = p < 256 ^ 4
+FitsWord (TurnAlone p) = p < 256 ^ 4
+FitsWord Serve = Unit {0}
+FitsWord (UntilReturn p) = p < 256 ^ 4
+
+abbrev pub FitsBoot : Boot → Type 0
+FitsBoot b = FitsText b.input × (FitItems FitsText b.argv × (FitItems FitsText b.env × FitItems FitsGuestFile b.files))
+
+abbrev pub FitsRequest : Request → Type 0
+FitsRequest (Boot_with b limit words) = (limit < 256 ^ 8) × (FitsBoot b × FitItems FitsWord words)
+FitsRequest (To pid ask) = (pid < 256 ^ 4) × FitsAsk ask
+FitsRequest Wait = Unit {0}
+FitsRequest Ask_outcome = Unit {0}
+
+abbrev pub FitsNode : Node → Type 0
+FitsNode (File content) = FitsText content
+FitsNode Directory = Unit {0}
+
+abbrev pub FitsOutcomeFile : OutcomeFile → Type 0
+FitsOutcomeFile f = FitsText f.path × FitsNode f.node
+
+abbrev pub FitsEnded : Ended → Type 0
+FitsEnded e = (e.pid < 256 ^ 4) × (e.word < 256 ^ 4)
+
+-- its paths rise, and its pids
+abbrev pub IsInOrder : Outcome → Type 0
+IsInOrder o = (paths_rise None o.files && pids_rise None o.ended) ≡ true
+
+abbrev pub FitsOutcome : Outcome → Type 0
+FitsOutcome o = FitsText o.console × (FitItems FitsOutcomeFile o.files × (FitItems FitsEnded o.ended × IsInOrder o))
+
+abbrev pub FitsInfo : Info → Type 0
+FitsInfo i = (i.signal < 256 ^ 4) × ((i.code < 256 ^ 4) × ((i.pid < 256 ^ 4) × ((i.status < 256 ^ 4) × (i.address < 256 ^ 8))))
+
+abbrev pub FitsReply : Reply → Type 0
+FitsReply Done = Unit {0}
+FitsReply (Status_is pid status) = (pid < 256 ^ 4) × (status.word < 256 ^ 4)
+FitsReply (Registers_are rs) = AreRegisters rs
+FitsReply (Bytes_are bytes) = FitsText bytes
+FitsReply (Message_is pid) = pid < 256 ^ 8
+FitsReply (Info_is i) = FitsInfo i
+FitsReply (Outcome_is o) = FitsOutcome o
+FitsReply (Errno_is number) = number < 256 ^ 4
+FitsReply OutOfTurns = Unit {0}
+FitsReply (Refused fault) = fault < 256 ^ 1
+
+abbrev pub FitsMessage : Body → Type 0
+FitsMessage (Of_request q) = FitsRequest q
+FitsMessage (Of_reply r) = FitsReply r
+
+abbrev pub FitsFrame : Frame → Type 0
+FitsFrame f = (f.number < 256 ^ 8) × FitsMessage f.body
+
+-- ---- frames
+
+-- what stands behind the length
+abbrev pub content : Frame → List ℕ
+content f = double f.number ++ byte (message f.body).0 ++ (message f.body).1
+
+unfoldable pub spelled : Frame → List ℕ
+spelled f = word (length (content f)) ++ content f
+
+-- the length is in range
+abbrev pub IsShort : Frame → Type 0
+IsShort f = length (content f) ≤ 134217728
+
+abbrev pub CannotBeSpelled : Frame → WireFault → Type 0
+CannotBeSpelled f Length = 134217728 < length (content f)
+CannotBeSpelled f Memory = Unit {0}
+CannotBeSpelled f Kind = ⊥
+CannotBeSpelled f Body_fault = ⊥
+
+abbrev pub reply_frame : ℕ → Reply → Frame
+reply_frame number reply = record { number = number; body = Of_reply reply }

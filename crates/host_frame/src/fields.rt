@@ -1,0 +1,49 @@
+//! Values at the end of bytes.
+
+ghost use Rattle.std.specs.Prelude.{◌≡◌, ◌++◌, OnOk};
+ghost use Rattle.host_frame.specs.Spelling as spec;
+
+use byteorder::{BigEndian, ByteOrder, LittleEndian};
+use lx_abi::Registers;
+use std::alloc::AllocError;
+
+pub(crate) fn put_byte(out: &mut Vec<u8>, value: u8) -> Result<(), AllocError>
+    ensures { OnOk result (out.new.items ≡ out.old.items ++ spec.byte value) }
+{
+    out.extend_from_slice(&[value])
+}
+
+pub(crate) fn put_word(out: &mut Vec<u8>, value: u32) -> Result<(), AllocError>
+    ensures { OnOk result (out.new.items ≡ out.old.items ++ spec.word value) }
+{
+    out.extend_from_slice(&value.to_be_bytes())
+}
+
+pub(crate) fn put_double(out: &mut Vec<u8>, value: u64) -> Result<(), AllocError>
+    ensures { OnOk result (out.new.items ≡ out.old.items ++ spec.double value) }
+{
+    out.extend_from_slice(&value.to_be_bytes())
+}
+
+/// Puts the low 32 bits of a length.
+pub(crate) fn put_length(out: &mut Vec<u8>, length: usize) -> Result<(), AllocError>
+    ensures { OnOk result (out.new.items ≡ out.old.items ++ spec.word length) }
+{
+    put_word(out, (length % 0x1_0000_0000) as u32)
+}
+
+#[tactic(auto, unfolding(crate::specs::Spelling::text))]
+pub(crate) fn put_text(out: &mut Vec<u8>, bytes: &[u8]) -> Result<(), AllocError>
+    ensures { OnOk result (out.new.items ≡ out.old.items ++ spec.text bytes.now) }
+{
+    put_length(out, bytes.len())?;
+    out.extend_from_slice(bytes)
+}
+
+pub(crate) fn put_registers(out: &mut Vec<u8>, registers: &Registers) -> Result<(), AllocError>
+    ensures { OnOk result (out.new.items ≡ out.old.items ++ spec.registers registers.now) }
+{
+    let mut bytes = [0; 256];
+    LittleEndian::write_u64_into(registers, &mut bytes);
+    out.extend_from_slice(&bytes)
+}

@@ -1,0 +1,213 @@
+//! The bytes of a frame.
+
+ghost use Rattle.std.specs.Prelude.{◌≡◌, ◌≤◌, ◌<◌, ◌++◌, OnOk, IfOk, IfErr, length};
+ghost use Rattle.host_frame.specs.Spelling as spec;
+
+use crate::fault::WireFault;
+use crate::fields::{put_byte, put_double, put_registers, put_text, put_word};
+use crate::frame::{Body, Frame, LONGEST};
+use crate::item::put_list;
+use byteorder::{BigEndian, ByteOrder};
+use lx_abi::{Ask, Boot, Info, Outcome, Reply, Request, Word};
+use std::alloc::{AllocError, Global};
+
+fn ask_kind(ask: &Ask) -> u8
+    ensures { result ≡ (spec.ask_message ask.now).0 }
+{
+    match ask {
+        Ask::Seize { .. } => 0x02,
+        Ask::SetOptions { .. } => 0x03,
+        Ask::GetRegs => 0x05,
+        Ask::SetRegs { .. } => 0x06,
+        Ask::Peek { .. } => 0x07,
+        Ask::Syscall { .. } => 0x08,
+        Ask::EventMsg => 0x09,
+        Ask::SigInfo => 0x0a,
+    }
+}
+
+fn put_peek(out: &mut Vec<u8>, address: u64, length: u32) -> Result<(), AllocError>
+    ensures { OnOk result (out.new.items ≡ out.old.items ++ spec.double address ++ spec.word length) }
+{
+    put_double(out, address)?;
+    put_word(out, length)
+}
+
+fn put_ask(out: &mut Vec<u8>, ask: &Ask) -> Result<(), AllocError>
+    ensures { OnOk result (out.new.items ≡ out.old.items ++ (spec.ask_message ask.now).1) }
+{
+    match ask {
+        Ask::Seize { options } => put_word(out, *options),
+        Ask::SetOptions { options } => put_word(out, *options),
+        Ask::SetRegs { registers } => put_registers(out, registers),
+        Ask::Peek { address, length } => put_peek(out, *address, *length),
+        Ask::Syscall { signal } => put_word(out, *signal),
+        Ask::GetRegs => Ok(()),
+        Ask::EventMsg => Ok(()),
+        Ask::SigInfo => Ok(()),
+    }
+}
+
+fn put_to(out: &mut Vec<u8>, pid: u32, ask: &Ask) -> Result<(), AllocError>
+    ensures { OnOk result (out.new.items ≡ out.old.items ++ spec.word pid ++ (spec.ask_message ask.now).1) }
+{
+    put_word(out, pid)?;
+    put_ask(out, ask)
+}
+
+fn put_status(out: &mut Vec<u8>, pid: u32, word: u32) -> Result<(), AllocError>
+    ensures { OnOk result (out.new.items ≡ out.old.items ++ spec.word pid ++ spec.word word) }
+{
+    put_word(out, pid)?;
+    put_word(out, word)
+}
+
+fn put_info(out: &mut Vec<u8>, info: &Info) -> Result<(), AllocError>
+    ensures { OnOk result (out.new.items ≡ out.old.items ++ spec.word info.now.signal ++ spec.word info.now.code
+        ++ spec.word info.now.pid ++ spec.word info.now.status ++ spec.double info.now.address) }
+{
+    put_word(out, info.signal)?;
+    put_word(out, info.code)?;
+    put_word(out, info.pid)?;
+    put_word(out, info.status)?;
+    put_double(out, info.address)
+}
+
+fn put_outcome(out: &mut Vec<u8>, outcome: &Outcome) -> Result<(), AllocError>
+    ensures { OnOk result (out.new.items ≡ out.old.items ++ spec.text outcome.now.console
+        ++ spec.items spec.outcome_file outcome.now.files ++ spec.items spec.ended outcome.now.ended) }
+{
+    put_text(out, outcome.console.as_slice())?;
+    put_list(out, outcome.files.as_slice())?;
+    put_list(out, outcome.ended.as_slice())
+}
+
+#[tactic(auto, unfolding(crate::specs::Spelling::parts))]
+fn put_parts(out: &mut Vec<u8>, boot: &Boot) -> Result<(), AllocError>
+    ensures { OnOk result (out.new.items ≡ out.old.items ++ spec.parts boot.now) }
+{
+    put_text(out, boot.input.as_slice())?;
+    put_list(out, boot.argv.as_slice())?;
+    put_list(out, boot.env.as_slice())?;
+    put_list(out, boot.files.as_slice())
+}
+
+#[tactic(auto, unfolding(crate::specs::Spelling::head))]
+fn put_head(out: &mut Vec<u8>, follow: bool, limit: u64) -> Result<(), AllocError>
+    ensures { OnOk result (out.new.items ≡ out.old.items ++ spec.head follow limit) }
+{
+    put_byte(out, 1)?;
+    put_byte(out, if follow { 1 } else { 0 })?;
+    put_double(out, limit)
+}
+
+fn put_boot(out: &mut Vec<u8>, boot: &Boot, limit: u64, words: &[Word]) -> Result<(), AllocError>
+    ensures { OnOk result (out.new.items ≡ out.old.items ++ spec.boot boot.now limit words.now) }
+{
+    put_head(out, boot.follow, limit)?;
+    put_parts(out, boot)?;
+    put_list(out, words)
+}
+
+fn put_request(out: &mut Vec<u8>, request: &Request) -> Result<(), AllocError>
+    ensures { OnOk result (out.new.items ≡ out.old.items ++ (spec.request_message request.now).1) }
+{
+    match request {
+        Request::Boot { boot, limit, words } => put_boot(out, boot, *limit, words.as_slice()),
+        Request::To { pid, ask } => put_to(out, *pid, ask),
+        Request::Wait => Ok(()),
+        Request::Outcome => Ok(()),
+    }
+}
+
+fn request_kind(request: &Request) -> u8
+    ensures { result ≡ (spec.request_message request.now).0 }
+{
+    match request {
+        Request::Boot { .. } => 0x01,
+        Request::To { ask, .. } => ask_kind(ask),
+        Request::Wait => 0x04,
+        Request::Outcome => 0x0b,
+    }
+}
+
+fn put_reply(out: &mut Vec<u8>, reply: &Reply) -> Result<(), AllocError>
+    ensures { OnOk result (out.new.items ≡ out.old.items ++ (spec.reply_message reply.now).1) }
+{
+    match reply {
+        Reply::Done => Ok(()),
+        Reply::Status { pid, status } => put_status(out, *pid, status.word),
+        Reply::Registers { registers } => put_registers(out, registers),
+        Reply::Bytes { bytes } => put_text(out, bytes.as_slice()),
+        Reply::Message { pid } => put_double(out, *pid),
+        Reply::Info { info } => put_info(out, info),
+        Reply::Outcome { outcome } => put_outcome(out, outcome),
+        Reply::Errno { number } => put_word(out, *number),
+        Reply::OutOfTurns => Ok(()),
+        Reply::Refused { fault } => put_byte(out, *fault),
+    }
+}
+
+fn reply_kind(reply: &Reply) -> u8
+    ensures { result ≡ (spec.reply_message reply.now).0 }
+{
+    match reply {
+        Reply::Done => 0x81,
+        Reply::Status { .. } => 0x82,
+        Reply::Registers { .. } => 0x83,
+        Reply::Bytes { .. } => 0x84,
+        Reply::Message { .. } => 0x85,
+        Reply::Info { .. } => 0x86,
+        Reply::Outcome { .. } => 0x87,
+        Reply::Errno { .. } => 0x88,
+        Reply::OutOfTurns => 0x89,
+        Reply::Refused { .. } => 0x8a,
+    }
+}
+
+fn kind(body: &Body) -> u8
+    ensures { result ≡ (spec.message body.now).0 }
+{
+    match body {
+        Body::Request(request) => request_kind(request),
+        Body::Reply(reply) => reply_kind(reply),
+    }
+}
+
+fn put_body(out: &mut Vec<u8>, body: &Body) -> Result<(), AllocError>
+    ensures { OnOk result (out.new.items ≡ out.old.items ++ (spec.message body.now).1) }
+{
+    match body {
+        Body::Request(request) => put_request(out, request),
+        Body::Reply(reply) => put_reply(out, reply),
+    }
+}
+
+fn put_content(out: &mut Vec<u8>, frame: &Frame) -> Result<(), AllocError>
+    ensures { OnOk result (out.new.items ≡ out.old.items ++ spec.content frame.now) }
+{
+    put_double(out, frame.number)?;
+    put_byte(out, kind(&frame.body))?;
+    put_body(out, &frame.body)
+}
+
+/// Room for most frames, so that their bytes are written without a growth.
+const ROOM: usize = 64;
+
+/// The bytes of a frame; Length where what stands behind its length would pass the limit.
+#[tactic(auto, unfolding(crate::specs::Spelling::spelled))]
+pub fn encode(alloc: Global, frame: &Frame) -> Result<Vec<u8>, WireFault>
+    ensures bytes { IfOk result (λ v. v.items ≡ spec.spelled frame.now) }
+    ensures short { IfOk result (λ v. spec.IsShort frame.now) }
+    ensures fault { IfErr result (λ fault. spec.CannotBeSpelled frame.now fault) }
+{
+    let mut bytes = Vec::with_capacity(alloc, ROOM)?;
+    bytes.extend_from_slice(&[0; 4])?;
+    put_content(&mut bytes, frame)?;
+    let length = bytes.len() - 4;
+    if length > LONGEST {
+        return Err(WireFault::Length);
+    }
+    BigEndian::write_u32(bytes.as_mut_slice(), length as u32);
+    Ok(bytes)
+}

@@ -1,5 +1,0 @@
-use Rattle.host_wire.proofs.Whole.{frame_again}
-use Rattle.host_wire.proofs.laws.what_is_spelled_is_read.Goals as goal
-
-pub returns : goal.returns
-returns c = frame_again

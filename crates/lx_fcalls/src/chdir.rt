@@ -1,0 +1,65 @@
+//! chdir(path)
+
+ghost use Rattle.std.specs.Prelude.{◌≡◌, IfOk, OnErr};
+ghost use Rattle.lx_proc.specs.State.{changed};
+ghost use Rattle.lx_proc.specs.Answers.{answer_of, Kept};
+ghost use Rattle.lx_fcalls.specs.Chdir.{chdir as meaning, goes_at};
+
+use crate::arguments::place_at;
+use crate::flags::AT_FDCWD;
+use lx_abi::{Bytes, Call, Errno, Map};
+use lx_files::Place;
+use lx_files::places::{Sight, look, path};
+use lx_proc::{Body, Entry, Reply, Shared};
+use std::alloc::{AllocError, Global};
+
+/// A process is in another directory.
+fn enter(entries: &mut Map<Entry>, pid: u32, path: Vec<u8>)
+    ensures { entries.new ≡ changed entries.old pid (λ e. record e { directory = path.items }) }
+{
+    match entries.get_mut(pid) {
+        None => {}
+        Some(entry) => entry.directory = Bytes::from_vec(path),
+    }
+}
+
+fn go_at(
+    alloc: Global,
+    shared: &mut Shared,
+    pid: u32,
+    body: &mut Body,
+    place: &Place,
+) -> Result<Reply, AllocError>
+    ensures answer { IfOk result (λ r. answer_of r shared.new body.new ≡ goes_at shared.old pid body.old place.now) }
+    ensures kept { IfOk result (λ r. Kept r shared.old body.old shared.new body.new) }
+    ensures console { OnErr result (shared.new.console ≡ shared.old.console) }
+{
+    let path = path(alloc, place)?;
+    match look(&shared.tree, place.slashed, path.as_slice()) {
+        Sight::Absent => Ok(Reply::Refused(Errno::ENOENT)),
+        Sight::IsFile | Sight::NotDirectory => Ok(Reply::Refused(Errno::ENOTDIR)),
+        Sight::IsDirectory => {
+            enter(&mut shared.entries, pid, path);
+            Ok(Reply::Returned(0))
+        }
+    }
+}
+
+/// chdir(2). Refused as the path is, or with ENOENT or ENOTDIR.
+#[tactic(auto, unfolding(crate::specs::Chdir::chdir))]
+pub fn chdir(
+    alloc: Global,
+    shared: &mut Shared,
+    pid: u32,
+    call: &Call,
+    body: &mut Body,
+) -> Result<Reply, AllocError>
+    ensures answer { IfOk result (λ r. answer_of r shared.new body.new ≡ meaning shared.old pid call.now body.old) }
+    ensures kept { IfOk result (λ r. Kept r shared.old body.old shared.new body.new) }
+    ensures console { OnErr result (shared.new.console ≡ shared.old.console) }
+{
+    match place_at(alloc, shared, pid, body, AT_FDCWD, call.arguments[0])? {
+        Ok(place) => go_at(alloc, shared, pid, body, &place),
+        Err(error) => Ok(Reply::Refused(error)),
+    }
+}

@@ -1,0 +1,49 @@
+//! dup3(old, new, flags)
+
+ghost use Rattle.std.specs.Prelude.{◌≡◌, IfOk, OnErr};
+ghost use Rattle.lx_proc.specs.Answers.{answer_of, Kept};
+ghost use Rattle.lx_fcalls.specs.Dup3.{dup3 as meaning};
+
+use crate::flags::{O_CLOEXEC, has};
+use lx_abi::{Call, Errno};
+use lx_open::Slot;
+use lx_open::fd_table::{MOST_FDS, pair};
+use lx_proc::{Body, Reply, Shared};
+use lx_sig::low_argument;
+use std::alloc::AllocError;
+
+/// dup3(2). Refused with EINVAL for other flags, EBADF, or EINVAL for equal descriptors.
+#[tactic(auto, unfolding(crate::specs::Dup3::dup3))]
+pub fn dup3(
+    shared: &mut Shared,
+    pid: u32,
+    call: &Call,
+    body: &mut Body,
+) -> Result<Reply, AllocError>
+    ensures answer { IfOk result (λ r. answer_of r shared.new body.new ≡ meaning shared.old pid call.now body.old) }
+    ensures kept { IfOk result (λ r. Kept r shared.old body.old shared.new body.new) }
+    ensures console { OnErr result (shared.new.console ≡ shared.old.console) }
+{
+    let flags = call.arguments[2];
+    if flags & O_CLOEXEC != flags {
+        return Ok(Reply::Refused(Errno::EINVAL));
+    }
+    let old = low_argument(call, 0);
+    let Some(slot) = shared.fds.slot(pid, old) else {
+        return Ok(Reply::Refused(Errno::EBADF));
+    };
+    let new = low_argument(call, 1);
+    if new >= MOST_FDS {
+        return Ok(Reply::Refused(Errno::EBADF));
+    }
+    if old == new {
+        return Ok(Reply::Refused(Errno::EINVAL));
+    }
+    lx_open::release::close(&mut shared.tree, &mut shared.fds, pid, new);
+    let copy = Slot {
+        description: slot.description,
+        closes_on_exec: has(flags, O_CLOEXEC),
+    };
+    shared.fds.slots.insert(pair(pid, new), copy)?;
+    Ok(Reply::Returned(u64::from(new)))
+}

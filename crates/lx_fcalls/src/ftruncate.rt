@@ -1,0 +1,80 @@
+//! ftruncate(fd, length)
+
+ghost use Rattle.std.specs.Prelude.{◌≡◌, IfOk, OnErr};
+ghost use Rattle.lx_proc.specs.Answers.{answer_of, Kept};
+ghost use Rattle.lx_fcalls.specs.Ftruncate.{ftruncate as meaning, truncates, truncates_node};
+
+use crate::contents::{LARGEST_FILE, content, has_space};
+use lx_abi::{Call, Errno};
+use lx_open::Object;
+use lx_proc::{Body, Reply, Shared};
+use lx_sig::low_argument;
+use std::alloc::AllocError;
+
+fn truncate_node(
+    shared: &mut Shared,
+    body: &mut Body,
+    len: u64,
+    node: u32,
+) -> Result<Reply, AllocError>
+    ensures answer { IfOk result (λ r. answer_of r shared.new body.new ≡ truncates_node shared.old body.old len node) }
+    ensures kept { IfOk result (λ r. Kept r shared.old body.old shared.new body.new) }
+    ensures console { OnErr result (shared.new.console ≡ shared.old.console) }
+{
+    if len > LARGEST_FILE {
+        return Ok(Reply::Refused(Errno::EFBIG));
+    }
+    let old = content(&shared.tree, node).len() as u64;
+    if !has_space(shared, old, len) {
+        return Ok(Reply::Refused(Errno::ENOSPC));
+    }
+    shared.tree.nodes.resize(node, len as usize)?;
+    Ok(Reply::Returned(0))
+}
+
+fn truncate_object(
+    shared: &mut Shared,
+    body: &mut Body,
+    len: u64,
+    object: Object,
+) -> Result<Reply, AllocError>
+    ensures answer { IfOk result (λ r. answer_of r shared.new body.new ≡ truncates shared.old body.old len object) }
+    ensures kept { IfOk result (λ r. Kept r shared.old body.old shared.new body.new) }
+    ensures console { OnErr result (shared.new.console ≡ shared.old.console) }
+{
+    match object {
+        Object::Input | Object::Console | Object::ReadEnd(_) | Object::WriteEnd(_) => {
+            Ok(Reply::Refused(Errno::EINVAL))
+        }
+        Object::Opened(node) => truncate_node(shared, body, len, node),
+    }
+}
+
+/// ftruncate(2). Refused with EINVAL for a length below 0, with EBADF, with EINVAL for what is no writable file, or
+/// with EFBIG or ENOSPC.
+#[tactic(auto, unfolding(crate::specs::Ftruncate::ftruncate))]
+pub fn ftruncate(
+    shared: &mut Shared,
+    pid: u32,
+    call: &Call,
+    body: &mut Body,
+) -> Result<Reply, AllocError>
+    ensures answer { IfOk result (λ r. answer_of r shared.new body.new ≡ meaning shared.old pid call.now body.old) }
+    ensures kept { IfOk result (λ r. Kept r shared.old body.old shared.new body.new) }
+    ensures console { OnErr result (shared.new.console ≡ shared.old.console) }
+{
+    let len = call.arguments[1];
+    if len >= 0x8000_0000_0000_0000 {
+        return Ok(Reply::Refused(Errno::EINVAL));
+    }
+    let Some(slot) = shared.fds.slot(pid, low_argument(call, 0)) else {
+        return Ok(Reply::Refused(Errno::EBADF));
+    };
+    let Some(description) = shared.fds.descriptions.get(slot.description) else {
+        return Ok(Reply::Refused(Errno::EBADF));
+    };
+    if !description.may_write {
+        return Ok(Reply::Refused(Errno::EINVAL));
+    }
+    truncate_object(shared, body, len, description.object)
+}

@@ -1,0 +1,45 @@
+//! getcwd(buf, size)
+
+ghost use Rattle.std.specs.Prelude.{◌≡◌, IfOk, OnErr};
+ghost use Rattle.lx_proc.specs.Answers.{answer_of, Kept};
+ghost use Rattle.lx_fcalls.specs.Getcwd.{getcwd as meaning, shown as shown_of};
+
+use crate::giving::give;
+use lx_abi::{Bytes, Call, Errno};
+use lx_proc::{Body, Reply, Shared, directory};
+use std::alloc::{AllocError, Global};
+
+/// A path as a text, with its NUL.
+fn shown(alloc: Global, path: &[u8]) -> Result<Bytes, AllocError>
+    ensures { IfOk result (λ b. b ≡ shown_of path.now) }
+{
+    if path.len() == 0 {
+        return Bytes::from_slice(alloc, b"/\0".as_slice());
+    }
+    let mut text = Bytes::from_slice(alloc, path)?;
+    text.extend(b"\0".as_slice())?;
+    Ok(text)
+}
+
+/// getcwd(2): the length with the NUL. Refused with ERANGE or EFAULT.
+#[tactic(auto, unfolding(crate::specs::Getcwd::getcwd))]
+pub fn getcwd(
+    alloc: Global,
+    shared: &mut Shared,
+    pid: u32,
+    call: &Call,
+    body: &mut Body,
+) -> Result<Reply, AllocError>
+    ensures answer { IfOk result (λ r. answer_of r shared.new body.new ≡ meaning shared.old pid call.now body.old) }
+    ensures kept { IfOk result (λ r. Kept r shared.old body.old shared.new body.new) }
+    ensures console { OnErr result (shared.new.console ≡ shared.old.console) }
+{
+    let text = shown(alloc, directory(shared, pid))?;
+    if text.len() as u64 > call.arguments[1] {
+        return Ok(Reply::Refused(Errno::ERANGE));
+    }
+    if !give(&mut body.memory, call.arguments[0], text.as_slice())? {
+        return Ok(Reply::Refused(Errno::EFAULT));
+    }
+    Ok(Reply::Returned(text.len() as u64))
+}

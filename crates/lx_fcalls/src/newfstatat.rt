@@ -1,0 +1,94 @@
+//! newfstatat(dirfd, path, buf, flags)
+
+ghost use Rattle.std.specs.Prelude.{◌≡◌, IfOk, OnErr};
+ghost use Rattle.lx_proc.specs.Answers.{answer_of, Kept};
+ghost use Rattle.lx_fcalls.specs.Newfstatat.{newfstatat as meaning, size_at as size_at_of, tells, tells_at};
+
+use crate::arguments::place_at;
+use crate::flags::AT_SYMLINK_NOFOLLOW;
+use crate::stat::{DIRECTORY, FILE, give_stat};
+use lx_abi::{Call, Errno, Node};
+use lx_files::places::{Sight, look, path};
+use lx_files::{Place, Tree};
+use lx_proc::{Body, Reply, Shared};
+use lx_sig::low_argument;
+use std::alloc::{AllocError, Global};
+
+/// How many bytes stand at a path.
+fn size_at(tree: &Tree, path: &[u8]) -> u64
+    ensures { result ≡ size_at_of tree.now path.now }
+{
+    match tree.find(path) {
+        Some(Node::File(bytes)) => bytes.len() as u64,
+        Some(Node::Directory) | None => 0,
+    }
+}
+
+fn tell(
+    alloc: Global,
+    shared: &mut Shared,
+    body: &mut Body,
+    at: u64,
+    path: &[u8],
+    sight: Sight,
+) -> Result<Reply, AllocError>
+    ensures answer { IfOk result (λ r. answer_of r shared.new body.new ≡ tells shared.old body.old at path.now sight) }
+    ensures kept { IfOk result (λ r. Kept r shared.old body.old shared.new body.new) }
+    ensures console { OnErr result (shared.new.console ≡ shared.old.console) }
+{
+    match sight {
+        Sight::Absent => Ok(Reply::Refused(Errno::ENOENT)),
+        Sight::NotDirectory => Ok(Reply::Refused(Errno::ENOTDIR)),
+        Sight::IsDirectory => give_stat(alloc, shared, body, at, DIRECTORY, 0),
+        Sight::IsFile => {
+            let size = size_at(&shared.tree, path);
+            give_stat(alloc, shared, body, at, FILE, size)
+        }
+    }
+}
+
+fn tell_at(
+    alloc: Global,
+    shared: &mut Shared,
+    body: &mut Body,
+    at: u64,
+    place: &Place,
+) -> Result<Reply, AllocError>
+    ensures answer { IfOk result (λ r. answer_of r shared.new body.new ≡ tells_at shared.old body.old at place.now) }
+    ensures kept { IfOk result (λ r. Kept r shared.old body.old shared.new body.new) }
+    ensures console { OnErr result (shared.new.console ≡ shared.old.console) }
+{
+    let path = path(alloc, place)?;
+    let sight = look(&shared.tree, place.slashed, path.as_slice());
+    tell(alloc, shared, body, at, path.as_slice(), sight)
+}
+
+/// newfstatat(2). Refused with EINVAL for other flags, as the path is, or with ENOENT, ENOTDIR or EFAULT.
+#[tactic(auto, unfolding(crate::specs::Newfstatat::newfstatat))]
+pub fn newfstatat(
+    alloc: Global,
+    shared: &mut Shared,
+    pid: u32,
+    call: &Call,
+    body: &mut Body,
+) -> Result<Reply, AllocError>
+    ensures answer { IfOk result (λ r. answer_of r shared.new body.new ≡ meaning shared.old pid call.now body.old) }
+    ensures kept { IfOk result (λ r. Kept r shared.old body.old shared.new body.new) }
+    ensures console { OnErr result (shared.new.console ≡ shared.old.console) }
+{
+    let flags = call.arguments[3];
+    if flags & AT_SYMLINK_NOFOLLOW != flags {
+        return Ok(Reply::Refused(Errno::EINVAL));
+    }
+    match place_at(
+        alloc,
+        shared,
+        pid,
+        body,
+        low_argument(call, 0),
+        call.arguments[1],
+    )? {
+        Ok(place) => tell_at(alloc, shared, body, call.arguments[2], &place),
+        Err(error) => Ok(Reply::Refused(error)),
+    }
+}

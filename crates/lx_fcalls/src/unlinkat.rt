@@ -1,0 +1,211 @@
+//! unlinkat(dirfd, path, flags)
+
+ghost use Rattle.std.specs.Prelude.{◌≡◌, IfOk, map, OnErr};
+ghost use Rattle.std.specs.Option.{option_map};
+ghost use Rattle.std.specs.List.{list_any};
+ghost use Rattle.std.specs.Str.{bytes_eq};
+ghost use Rattle.lx_files.specs.Trees.{is_empty as is_empty_of};
+ghost use Rattle.lx_proc.specs.Answers.{answer_of, Kept};
+ghost use Rattle.lx_fcalls.specs.Unlinkat.{unlinkat as meaning, removes_file, removes_directory};
+ghost use Rattle.lx_fcalls.specs.Unlinkat.{is_used as is_used_of};
+ghost use Rattle.lx_fcalls.specs.Unlinkat.{unlinks, unlinks_file, unlinks_directory, nameless as nameless_of};
+
+use crate::arguments::place_at;
+use crate::flags::{AT_REMOVEDIR, has};
+use lx_abi::{Call, Errno};
+use lx_files::places::{Sight, look, path};
+use lx_files::{Place, Tree};
+use lx_open::release::unlink;
+use lx_proc::{Body, Entry, Reply, Shared};
+use lx_sig::low_argument;
+use std::alloc::{AllocError, Global};
+
+/// A path to what is no directory is taken away.
+fn remove_file(shared: &mut Shared, body: &mut Body, path: &[u8], sight: Sight) -> Reply
+    ensures answer { answer_of result shared.new body.new ≡ removes_file shared.old body.old path.now sight }
+    ensures kept { Kept result shared.old body.old shared.new body.new }
+{
+    match sight {
+        Sight::Absent => Reply::Refused(Errno::ENOENT),
+        Sight::IsDirectory => Reply::Refused(Errno::EISDIR),
+        Sight::NotDirectory => Reply::Refused(Errno::ENOTDIR),
+        Sight::IsFile => {
+            unlink(&mut shared.tree, &shared.fds, path);
+            Reply::Returned(0)
+        }
+    }
+}
+
+/// Nothing lies in a directory.
+fn is_empty(alloc: Global, tree: &Tree, path: &[u8]) -> Result<bool, AllocError>
+    ensures { IfOk result (λ e. e ≡ is_empty_of tree.now path.now) }
+{
+    let mut start = path.to_vec(alloc)?;
+    start.push(b'/')?;
+    Ok(!tree.names.any_starts(start))
+}
+
+/// One of these processes is in a directory.
+fn any_in(entries: &[&Entry], path: &[u8]) -> bool
+    ensures { result ≡ list_any (λ e. bytes_eq e.directory path.now) (map (λ r. r.now) entries.now) }
+{
+    for entry in entries {
+        if entry.directory.as_slice() == path {
+            return true;
+        }
+    }
+    false
+}
+
+/// Some process is in a directory.
+fn is_used(alloc: Global, shared: &Shared, path: &[u8]) -> Result<bool, AllocError>
+    ensures { IfOk result (λ u. u ≡ is_used_of shared.now path.now) }
+{
+    let entries = shared.entries.values(alloc)?;
+    Ok(any_in(entries.as_slice(), path))
+}
+
+/// A path to a directory is taken away.
+fn remove_directory(
+    alloc: Global,
+    shared: &mut Shared,
+    body: &mut Body,
+    path: &[u8],
+    sight: Sight,
+) -> Result<Reply, AllocError>
+    ensures answer { IfOk result (λ r. answer_of r shared.new body.new
+        ≡ removes_directory shared.old body.old path.now sight) }
+    ensures kept { IfOk result (λ r. Kept r shared.old body.old shared.new body.new) }
+    ensures console { OnErr result (shared.new.console ≡ shared.old.console) }
+{
+    match sight {
+        Sight::Absent => Ok(Reply::Refused(Errno::ENOENT)),
+        Sight::IsFile | Sight::NotDirectory => Ok(Reply::Refused(Errno::ENOTDIR)),
+        Sight::IsDirectory => {
+            if !is_empty(alloc, &shared.tree, path)? {
+                return Ok(Reply::Refused(Errno::ENOTEMPTY));
+            }
+            if is_used(alloc, shared, path)? {
+                return Ok(Reply::Refused(Errno::EBUSY));
+            }
+            unlink(&mut shared.tree, &shared.fds, path);
+            Ok(Reply::Returned(0))
+        }
+    }
+}
+
+/// What a last part that is no name is refused with.
+fn nameless(last: &[u8], none: Errno, dot: Errno, dots: Errno) -> Option<Errno>
+    ensures { option_map (λ e. e.number) result ≡ nameless_of last.now none.number dot.number dots.number }
+{
+    if last.len() == 0 {
+        return Some(none);
+    }
+    if last == b".".as_slice() {
+        return Some(dot);
+    }
+    if last == b"..".as_slice() {
+        return Some(dots);
+    }
+    None
+}
+
+fn unlink_directory(
+    alloc: Global,
+    shared: &mut Shared,
+    body: &mut Body,
+    place: &Place,
+) -> Result<Reply, AllocError>
+    ensures answer { IfOk result (λ r. answer_of r shared.new body.new
+        ≡ unlinks_directory shared.old body.old place.now) }
+    ensures kept { IfOk result (λ r. Kept r shared.old body.old shared.new body.new) }
+    ensures console { OnErr result (shared.new.console ≡ shared.old.console) }
+{
+    match nameless(
+        place.last.as_slice(),
+        Errno::EBUSY,
+        Errno::EINVAL,
+        Errno::ENOTEMPTY,
+    ) {
+        Some(error) => Ok(Reply::Refused(error)),
+        None => {
+            let path = path(alloc, place)?;
+            let sight = look(&shared.tree, place.slashed, path.as_slice());
+            remove_directory(alloc, shared, body, path.as_slice(), sight)
+        }
+    }
+}
+
+fn unlink_file(
+    alloc: Global,
+    shared: &mut Shared,
+    body: &mut Body,
+    place: &Place,
+) -> Result<Reply, AllocError>
+    ensures answer { IfOk result (λ r. answer_of r shared.new body.new ≡ unlinks_file shared.old body.old place.now) }
+    ensures kept { IfOk result (λ r. Kept r shared.old body.old shared.new body.new) }
+    ensures console { OnErr result (shared.new.console ≡ shared.old.console) }
+{
+    match nameless(
+        place.last.as_slice(),
+        Errno::EISDIR,
+        Errno::EISDIR,
+        Errno::EISDIR,
+    ) {
+        Some(error) => Ok(Reply::Refused(error)),
+        None => {
+            let path = path(alloc, place)?;
+            let sight = look(&shared.tree, place.slashed, path.as_slice());
+            Ok(remove_file(shared, body, path.as_slice(), sight))
+        }
+    }
+}
+
+fn unlink_at(
+    alloc: Global,
+    shared: &mut Shared,
+    body: &mut Body,
+    directories: bool,
+    place: &Place,
+) -> Result<Reply, AllocError>
+    ensures answer { IfOk result (λ r. answer_of r shared.new body.new
+        ≡ unlinks shared.old body.old directories place.now) }
+    ensures kept { IfOk result (λ r. Kept r shared.old body.old shared.new body.new) }
+    ensures console { OnErr result (shared.new.console ≡ shared.old.console) }
+{
+    if directories {
+        return unlink_directory(alloc, shared, body, place);
+    }
+    unlink_file(alloc, shared, body, place)
+}
+
+/// unlinkat(2): a directory with AT_REMOVEDIR, else another file. Refused with EINVAL for other flags, as the path is,
+/// or with ENOENT, ENOTDIR, EISDIR, EBUSY, EINVAL or ENOTEMPTY.
+#[tactic(auto, unfolding(crate::specs::Unlinkat::unlinkat))]
+pub fn unlinkat(
+    alloc: Global,
+    shared: &mut Shared,
+    pid: u32,
+    call: &Call,
+    body: &mut Body,
+) -> Result<Reply, AllocError>
+    ensures answer { IfOk result (λ r. answer_of r shared.new body.new ≡ meaning shared.old pid call.now body.old) }
+    ensures kept { IfOk result (λ r. Kept r shared.old body.old shared.new body.new) }
+    ensures console { OnErr result (shared.new.console ≡ shared.old.console) }
+{
+    let flags = call.arguments[2];
+    if flags & AT_REMOVEDIR != flags {
+        return Ok(Reply::Refused(Errno::EINVAL));
+    }
+    match place_at(
+        alloc,
+        shared,
+        pid,
+        body,
+        low_argument(call, 0),
+        call.arguments[1],
+    )? {
+        Ok(place) => unlink_at(alloc, shared, body, has(flags, AT_REMOVEDIR), &place),
+        Err(error) => Ok(Reply::Refused(error)),
+    }
+}

@@ -1,0 +1,10 @@
+pub mod Totals
+pub mod Texts
+pub mod Counting
+pub mod Paths
+pub mod Walks
+pub mod Sizes
+pub mod Full
+pub mod Planting
+pub mod Listed
+pub mod Starting

@@ -1,0 +1,19 @@
+//! The file tree: what stands at each path, and what a text of a path names.
+#![tactic(auto)]
+
+pub mod boots;
+pub mod counts;
+mod listing;
+pub mod names;
+pub mod nodes;
+pub mod path_map;
+pub mod places;
+pub mod tree;
+
+pub use boots::plant;
+pub use counts::Counts;
+pub use names::Names;
+pub use nodes::Nodes;
+pub use path_map::PathMap;
+pub use places::Place;
+pub use tree::Tree;

@@ -1,0 +1,66 @@
+//! What is left of a tree.
+
+ghost use Rattle.std.specs.Prelude.{◌≡◌, IfOk, map};
+ghost use Rattle.std.specs.List.{filter};
+ghost use Rattle.std.specs.Option.{unwrap_or};
+ghost use Rattle.std.specs.FinMap as maps;
+ghost use Rattle.lx_abi.specs.declared.outcome.Node.TheVariants as node_is;
+ghost use Rattle.lx_files.specs.Listing.{is_named, file_of};
+
+use crate::nodes::Nodes;
+use lx_abi::{Bytes, Node, OutcomeFile, Seq};
+use std::alloc::{AllocError, Global};
+use std::collections::BTreeMap;
+
+fn copy_node(alloc: Global, node: &Node) -> Result<Node, AllocError>
+    ensures { IfOk result (λ n. n ≡ node.now) }
+{
+    match node {
+        Node::File(content) => Ok(Node::File(Bytes::from_slice(alloc, content.as_slice())?)),
+        Node::Directory => Ok(Node::Directory),
+    }
+}
+
+/// A copy of the node with this number; a directory where there is none.
+fn copy_numbered(alloc: Global, nodes: &Nodes, number: u32) -> Result<Node, AllocError>
+    ensures { IfOk result (λ n. n ≡ unwrap_or (maps.get nodes.now number) node_is.Directory) }
+{
+    match nodes.get(number) {
+        Some(node) => copy_node(alloc, node),
+        None => Ok(Node::Directory),
+    }
+}
+
+fn outcome_file(
+    alloc: Global,
+    path: &[u8],
+    number: u32,
+    nodes: &Nodes,
+) -> Result<OutcomeFile, AllocError>
+    ensures { IfOk result (λ f. f ≡ file_of nodes.now (path.now, number)) }
+{
+    Ok(OutcomeFile {
+        path: Bytes::from_slice(alloc, path)?,
+        node: copy_numbered(alloc, nodes, number)?,
+    })
+}
+
+/// What stands at each path but the root, in byte order.
+pub(crate) fn list_files(
+    alloc: Global,
+    names: &BTreeMap<Vec<u8>, u32>,
+    nodes: &Nodes,
+) -> Result<Seq<OutcomeFile>, AllocError>
+    ensures { IfOk result (λ l. l
+        ≡ map (file_of nodes.now) (filter is_named (map (λ e. (e.0.items, e.1)) names.now.entries))) }
+{
+    let mut list = Seq::new(alloc);
+    for (path, number) in names.iter() {
+        if path.len() == 0 {
+            continue;
+        }
+        let file = outcome_file(alloc, path.as_slice(), *number, nodes)?;
+        list.push(file)?;
+    }
+    Ok(list)
+}

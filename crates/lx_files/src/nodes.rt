@@ -1,0 +1,252 @@
+//! What each node is.
+
+ghost use Rattle.std.specs.Prelude.{◌≡◌, OnOk, IfOk, length};
+ghost use Rattle.std.specs.Option.{option_copied};
+ghost use Rattle.std.specs.FinMap as maps;
+ghost use Rattle.lx_abi.specs.Vacant.{vacant};
+ghost use Rattle.lx_files.specs.Tallies.{total};
+ghost use Rattle.lx_files.specs.Kinds.{size_of, changed_file, changed_node};
+ghost use Rattle.lx_files.specs.Contents.{padded_to, overwritten as overwritten_of, reaching};
+ghost use Rattle.lx_files.specs.Contents.{length_after as length_after_of};
+ghost use Rattle.std.specs.Prelude.{◌≤◌, ◌+◌, OnErr, [], ◌++◌, replicate, ◌-◌};
+
+use lx_abi::{Bytes, Map, Node};
+use std::alloc::{AllocError, Global};
+use std::marker::Model;
+
+/// Files and directories by number, with how many bytes all files have and a number below which none is vacant.
+#[derive(Drop)]
+pub struct Nodes {
+    map: Map<Node>,
+    contents: u64,
+    full_below: u32,
+}
+
+impl Model for Nodes {
+    ghost use Rattle.std.specs.Coded.{codes};
+    ghost use Rattle.std.specs.FinMap as maps;
+    ghost use Rattle.lx_files.specs.Kinds.{NodeMap, AreKept};
+
+    ghost Value = { NodeMap };
+
+    ghost coded = { Prim.hlevel (codes, maps.code) };
+
+    ghost view = { λ n. n.map };
+
+    ghost invariant = { λ n. AreKept n.map n.contents n.full_below };
+}
+
+fn size(node: &Node) -> u64
+    ensures { result ≡ size_of node.now }
+{
+    match node {
+        Node::File(bytes) => bytes.len() as u64,
+        Node::Directory => 0,
+    }
+}
+
+impl Nodes {
+    pub fn new(alloc: Global) -> Self
+        ensures { result ≡ maps.empty }
+    {
+        Nodes {
+            map: Map::new(alloc),
+            contents: 0,
+            full_below: 0,
+        }
+    }
+
+    pub fn get(&self, node: u32) -> Option<&Node>
+        ensures { option_copied result ≡ maps.get self.now node }
+    {
+        self.map.get(node)
+    }
+
+    pub fn len(&self) -> usize
+        ensures { result ≡ maps.len self.now }
+    {
+        self.map.len()
+    }
+
+    /// The least number at which there is no node.
+    pub fn vacant(&self) -> Result<u32, AllocError>
+        ensures { IfOk result (λ n. n ≡ vacant self.now) }
+    {
+        self.map.vacant(self.full_below)
+    }
+
+    /// How many bytes all files have.
+    pub fn contents(&self) -> u64
+        ensures { result ≡ total size_of self.now }
+    {
+        self.contents
+    }
+
+    pub fn remove(&mut self, node: u32)
+        ensures { self.new ≡ maps.remove self.old node }
+    {
+        match self.map.remove(node) {
+            None => {}
+            Some(old) => {
+                self.contents = self.contents.saturating_sub(size(&old));
+                self.full_below = self.full_below.min(node);
+            }
+        }
+    }
+
+    pub fn insert(&mut self, node: u32, value: Node) -> Result<(), AllocError>
+        ensures { OnOk result (self.new ≡ maps.insert self.old node value) }
+    {
+        self.remove(node);
+        // More than 64 bits count are more than any memory holds.
+        let Some(contents) = self.contents.checked_add(size(&value)) else {
+            return Err(AllocError);
+        };
+        self.map.insert(node, value)?;
+        self.contents = contents;
+        if self.full_below == node {
+            self.full_below = node.saturating_add(1);
+        }
+        Ok(())
+    }
+
+    /// A file has no bytes from now on. A node that is no file is left.
+    pub fn clear(&mut self, node: u32)
+        ensures { self.new ≡ changed_file self.old node (λ old. []) (maps.get self.old node) }
+    {
+        let Some(value) = self.map.get_mut(node) else {
+            return;
+        };
+        let before = size(value);
+        clear_node(value);
+        self.contents = self.contents.saturating_sub(before);
+    }
+
+    /// Writes bytes to a file from an offset on. A node that is no file is left.
+    pub fn overwrite(&mut self, node: u32, at: usize, bytes: &[u8]) -> Result<(), AllocError>
+        requires { at + length bytes.now ≤ 16777216 }
+        ensures { OnOk result (self.new
+            ≡ changed_file self.old node (λ old. overwritten_of old at bytes.now) (maps.get self.old node)) }
+    {
+        let Some(value) = self.map.get_mut(node) else {
+            return Ok(());
+        };
+        let before = size(value);
+        let after = size_after(value, at, bytes);
+        // More than 64 bits count are more than any memory holds.
+        let Some(contents) = self.contents.saturating_sub(before).checked_add(after) else {
+            return Err(AllocError);
+        };
+        overwrite_node(value, at, bytes)?;
+        self.contents = contents;
+        Ok(())
+    }
+
+    /// A file has so many bytes from now on, zeros among them where some were missing. A node that is no file is left.
+    pub fn resize(&mut self, node: u32, len: usize) -> Result<(), AllocError>
+        ensures { OnOk result (self.new ≡ changed_file self.old node (padded_to len) (maps.get self.old node)) }
+    {
+        let Some(value) = self.map.get_mut(node) else {
+            return Ok(());
+        };
+        let before = size(value);
+        let after = size_resized(value, len);
+        // More than 64 bits count are more than any memory holds.
+        let Some(contents) = self.contents.saturating_sub(before).checked_add(after) else {
+            return Err(AllocError);
+        };
+        resize_node(value, len)?;
+        self.contents = contents;
+        Ok(())
+    }
+}
+
+fn resize_node(node: &mut Node, len: usize) -> Result<(), AllocError>
+    ensures ok { OnOk result (node.new ≡ changed_node (padded_to len) node.old) }
+    ensures err { OnErr result (node.new ≡ node.old) }
+{
+    match node {
+        Node::File(content) => content.resize(len),
+        Node::Directory => Ok(()),
+    }
+}
+
+/// How many bytes a node has once it has so many.
+fn size_resized(node: &Node, len: usize) -> u64
+    ensures { result ≡ size_of (changed_node (padded_to len) node.now) }
+{
+    match node {
+        Node::File(_) => len as u64,
+        Node::Directory => 0,
+    }
+}
+
+/// The bytes reach to an end at least, with zeros.
+fn reach(content: &mut Bytes, end: usize) -> Result<(), AllocError>
+    ensures ok { OnOk result (content.new ≡ reaching end content.old) }
+    ensures err { OnErr result (content.new ≡ content.old) }
+{
+    if content.len() < end {
+        content.resize(end)?;
+        return Ok(());
+    }
+    Ok(())
+}
+
+/// Writes bytes from an offset on, all of them or none.
+#[tactic(auto, unfolding(crate::specs::Contents::overwritten))]
+fn overwrite_bytes(content: &mut Bytes, at: usize, bytes: &[u8]) -> Result<(), AllocError>
+    requires { at + length bytes.now ≤ 16777216 }
+    ensures ok { OnOk result (content.new ≡ overwritten_of content.old at bytes.now) }
+    ensures err { OnErr result (content.new ≡ content.old) }
+{
+    if bytes.len() == 0 {
+        return Ok(());
+    }
+    reach(content, at + bytes.len())?;
+    content.put(at, bytes);
+    Ok(())
+}
+
+fn overwrite_node(node: &mut Node, at: usize, bytes: &[u8]) -> Result<(), AllocError>
+    requires { at + length bytes.now ≤ 16777216 }
+    ensures ok { OnOk result (node.new ≡ changed_node (λ old. overwritten_of old at bytes.now) node.old) }
+    ensures err { OnErr result (node.new ≡ node.old) }
+{
+    match node {
+        Node::File(content) => overwrite_bytes(content, at, bytes),
+        Node::Directory => Ok(()),
+    }
+}
+
+/// How many bytes a node has once these are written.
+fn size_after(node: &Node, at: usize, bytes: &[u8]) -> u64
+    requires { at + length bytes.now ≤ 16777216 }
+    ensures { result ≡ size_of (changed_node (λ old. overwritten_of old at bytes.now) node.now) }
+{
+    match node {
+        Node::File(content) => length_after(content.len(), at, bytes.len()) as u64,
+        Node::Directory => 0,
+    }
+}
+
+/// How many bytes a file has after a write.
+pub fn length_after(len: usize, at: usize, written: usize) -> usize
+    requires { at + written ≤ 16777216 }
+    ensures { result ≡ length_after_of len at written }
+{
+    if written == 0 || len > at + written {
+        len
+    } else {
+        at + written
+    }
+}
+
+fn clear_node(node: &mut Node)
+    ensures { node.new ≡ changed_node (λ old. []) node.old }
+{
+    match node {
+        Node::File(content) => content.clear(),
+        Node::Directory => {}
+    }
+}

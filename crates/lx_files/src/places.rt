@@ -1,0 +1,187 @@
+//! What a text of a path names.
+
+ghost use Rattle.std.specs.Prelude.{◌≡◌, OnOk, IfOk, IfSome, map};
+ghost use Rattle.lx_files.specs.Paths.{parent as parent_of};
+ghost use Rattle.std.specs.Prelude.{[], nat_eq, ◌∷◌};
+ghost use Rattle.std.specs.List.{list_any, ends_with};
+ghost use Rattle.std.specs.Option.{option_map};
+ghost use Rattle.lx_files.specs.Trees.{node_at};
+ghost use Rattle.lx_files.specs.Places.{beyond as beyond_of, bar as bar_of, numbered, pieces as pieces_of};
+ghost use Rattle.lx_files.specs.Places.{parts as parts_of, reached, is_long, is_slashed, start_of};
+ghost use Rattle.lx_files.specs.Places.{place as place_of, path_of, sight as sight_of};
+
+use crate::tree::Tree;
+use lx_abi::{Bytes, Errno, Node};
+use std::alloc::{AllocError, Global};
+
+/// The directory in which a path's last part stands, that part, and whether a slash follows it.
+#[derive(Drop)]
+pub struct Place {
+    pub under: Bytes,
+    pub last: Bytes,
+    pub slashed: bool,
+}
+
+/// The most bytes of a name.
+const LONGEST_NAME: usize = 255;
+
+/// What stands at a place.
+#[derive(Clone, Copy, Debug, PartialEq, Eq)]
+pub enum Sight {
+    Absent,
+    IsFile,
+    IsDirectory,
+    /// A file where a directory is wanted.
+    NotDirectory,
+}
+
+/// Takes the last name of a path away.
+#[tactic(auto, unfolding(crate::specs::Paths::parent))]
+fn ascend(path: &mut Vec<u8>)
+    ensures { path.new.items ≡ parent_of path.old.items }
+{
+    while let Some(byte) = path.pop() {
+        if byte == b'/' {
+            return;
+        }
+    }
+}
+
+/// Goes on from a directory to where a part leads.
+#[tactic(auto, unfolding(crate::specs::Places::beyond))]
+pub fn go_beyond(path: &mut Vec<u8>, part: &[u8]) -> Result<(), AllocError>
+    ensures { OnOk result (path.new.items ≡ beyond_of path.old.items part.now) }
+{
+    if part.is_empty() || part == b".".as_slice() {
+        return Ok(());
+    }
+    if part == b"..".as_slice() {
+        ascend(path);
+        return Ok(());
+    }
+    path.push(b'/')?;
+    path.extend_from_slice(part)?;
+    Ok(())
+}
+
+/// Why what stands at a path can't be entered.
+fn bar(tree: &Tree, path: &[u8]) -> Option<Errno>
+    ensures { option_map (λ e. e.number) result ≡ bar_of (node_at tree.now path.now) }
+{
+    match tree.find(path) {
+        None => Some(Errno::ENOENT),
+        Some(Node::File(_)) => Some(Errno::ENOTDIR),
+        Some(Node::Directory) => None,
+    }
+}
+
+/// What stands between slashes.
+fn pieces(alloc: Global, text: &[u8]) -> Result<Vec<&[u8]>, AllocError>
+    ensures { IfOk result (λ v. map (λ p. p.now) v.items ≡ pieces_of text.now) }
+{
+    text.split(|byte| *byte == b'/').collect(alloc)
+}
+
+/// The place of the last part, once the parts before it are entered.
+fn reach(
+    alloc: Global,
+    tree: &Tree,
+    slashed: bool,
+    start: Vec<u8>,
+    pieces: &[&[u8]],
+) -> Result<Result<Place, Errno>, AllocError>
+    ensures { IfOk result (λ r. numbered r
+        ≡ reached tree.now slashed start.items [] (parts_of (map (λ p. p.now) pieces.now))) }
+{
+    let mut at = start;
+    let mut last: &[u8] = b"".as_slice();
+    for part in pieces {
+        if part.len() == 0 {
+            continue;
+        }
+        go_beyond(&mut at, last)?;
+        match bar(tree, at.as_slice()) {
+            Some(error) => return Ok(Err(error)),
+            None => last = part,
+        }
+    }
+    Ok(Ok(Place {
+        under: Bytes::from_vec(at),
+        last: Bytes::from_slice(alloc, last)?,
+        slashed,
+    }))
+}
+
+fn any_long(pieces: &[&[u8]]) -> bool
+    ensures { result ≡ list_any is_long (map (λ p. p.now) pieces.now) }
+{
+    for piece in pieces {
+        if piece.len() > LONGEST_NAME {
+            return true;
+        }
+    }
+    false
+}
+
+/// Where the path of a text begins.
+fn start(alloc: Global, directory: &[u8], text: &[u8]) -> Result<Vec<u8>, AllocError>
+    ensures { IfOk result (λ v. v.items ≡ start_of directory.now text.now) }
+{
+    if text.starts_with(b"/".as_slice()) {
+        return Ok(Vec::new(alloc));
+    }
+    directory.to_vec(alloc)
+}
+
+/// The place that a text names, from a working directory.
+#[tactic(auto, unfolding(crate::specs::Places::place))]
+pub fn locate(
+    alloc: Global,
+    tree: &Tree,
+    directory: &[u8],
+    text: &[u8],
+) -> Result<Result<Place, Errno>, AllocError>
+    ensures { IfOk result (λ r. numbered r ≡ place_of tree.now directory.now text.now) }
+{
+    if text.len() == 0 {
+        return Ok(Err(Errno::ENOENT));
+    }
+    let pieces = pieces(alloc, text)?;
+    if any_long(pieces.as_slice()) {
+        return Ok(Err(Errno::ENAMETOOLONG));
+    }
+    let start = start(alloc, directory, text)?;
+    reach(
+        alloc,
+        tree,
+        text.ends_with(b"/".as_slice()),
+        start,
+        pieces.as_slice(),
+    )
+}
+
+/// The path of a place.
+pub fn path(alloc: Global, place: &Place) -> Result<Vec<u8>, AllocError>
+    ensures { IfOk result (λ v. v.items ≡ path_of place.now) }
+{
+    let mut path = place.under.as_slice().to_vec(alloc)?;
+    go_beyond(&mut path, place.last.as_slice())?;
+    Ok(path)
+}
+
+/// What stands at a path.
+pub fn look(tree: &Tree, slashed: bool, path: &[u8]) -> Sight
+    ensures { result ≡ sight_of slashed (node_at tree.now path.now) }
+{
+    match tree.find(path) {
+        None => Sight::Absent,
+        Some(Node::Directory) => Sight::IsDirectory,
+        Some(Node::File(_)) => {
+            if slashed {
+                Sight::NotDirectory
+            } else {
+                Sight::IsFile
+            }
+        }
+    }
+}

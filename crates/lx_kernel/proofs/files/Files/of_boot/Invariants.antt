@@ -1,6 +1,0 @@
-use Rattle.std.proofs.Common.{◌≡◌, take}
-use Rattle.lx_kernel.specs.Files.{tree_of}
-use Rattle.lx_kernel.proofs.files.Files.of_boot.Given as goal
-
-abbrev pub invariant-loop-file : goal.invariant-loop-file
-invariant-loop-file l = l.tree ≡ tree_of (take l.file-index l.files)

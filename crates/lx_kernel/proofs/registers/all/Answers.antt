@@ -1,6 +1,0 @@
-use Rattle.std.proofs.Common.{◌∙◌}
-use Rattle.lx_kernel.proofs.Padding.{first_set}
-use Rattle.lx_kernel.proofs.registers.all.Goals as goal
-
-pub returns : goal.returns
-returns c = c.set_first.ensures.first ∙ first_set 31 c.args.body.now.hart.registers c.args.body.now.hart.pc c.set_first.ensures.length

@@ -1,0 +1,3 @@
+pub mod Freeing
+pub mod Rows
+pub mod FirstFrom

@@ -1,0 +1,5 @@
+pub mod Kinds
+pub mod Ends
+pub mod Opens
+pub mod Releases
+pub mod Nexts

@@ -1,0 +1,126 @@
+//! What goes once nothing names it.
+
+ghost use Rattle.std.specs.Prelude.{◌≡◌};
+ghost use Rattle.lx_open.specs.Releases.{node_released, pipe_released, object_released, description_released};
+ghost use Rattle.lx_open.specs.Releases.{closed, unlinked};
+ghost use Rattle.lx_open.specs.Releases.{is_meant as is_meant_of, closed_if_meant, closed_each, all_closed};
+ghost use Rattle.lx_open.specs.Releases.{closed_on_exec};
+ghost use Rattle.std.specs.Prelude.{true, false};
+ghost use Rattle.std.specs.List.{range_with_len};
+
+use crate::description::{Object, Slot};
+use crate::fd_table::{FdTable, pair};
+use lx_files::Tree;
+
+/// A node goes that neither a path nor a description names.
+pub fn release_node(tree: &mut Tree, fds: &FdTable, node: u32)
+    ensures { tree.new ≡ node_released tree.old fds.now node }
+{
+    if tree.has_path(node) || fds.descriptions.has_node(node) {
+        return;
+    }
+    tree.drop_node(node);
+}
+
+fn release_pipe(fds: &mut FdTable, pipe: u32)
+    ensures { fds.new ≡ pipe_released fds.old pipe }
+{
+    if fds.descriptions.has_readers(pipe) || fds.descriptions.has_writers(pipe) {
+        return;
+    }
+    fds.pipes.remove(pipe);
+}
+
+fn release_object(tree: &mut Tree, fds: &mut FdTable, object: Object)
+    ensures { record { tree = tree.new; fds = fds.new } ≡ object_released tree.old fds.old object }
+{
+    match object {
+        Object::Input | Object::Console => {}
+        Object::ReadEnd(pipe) | Object::WriteEnd(pipe) => release_pipe(fds, pipe),
+        Object::Opened(node) => release_node(tree, fds, node),
+    }
+}
+
+#[tactic(auto, unfolding(crate::specs::Releases::description_released))]
+fn release_description(tree: &mut Tree, fds: &mut FdTable, number: u32)
+    ensures { record { tree = tree.new; fds = fds.new } ≡ description_released tree.old fds.old number }
+{
+    if fds.slots.has(number) {
+        return;
+    }
+    let Some(description) = fds.descriptions.get(number) else {
+        return;
+    };
+    fds.descriptions.remove(number);
+    release_object(tree, fds, description.object);
+}
+
+/// A descriptor names nothing from now on.
+#[tactic(auto, unfolding(crate::specs::Releases::closed))]
+pub fn close(tree: &mut Tree, fds: &mut FdTable, pid: u32, fd: u32)
+    ensures { record { tree = tree.new; fds = fds.new } ≡ closed tree.old fds.old pid fd }
+{
+    let Some(slot) = fds.slot(pid, fd) else {
+        return;
+    };
+    if fd < 256 {
+        fds.slots.remove(pair(pid, fd));
+        release_description(tree, fds, slot.description);
+    }
+}
+
+/// A path names nothing from now on.
+#[tactic(auto, unfolding(crate::specs::Releases::unlinked))]
+pub fn unlink(tree: &mut Tree, fds: &FdTable, path: &[u8])
+    ensures { tree.new ≡ unlinked tree.old fds.now path.now }
+{
+    match tree.unlink(path) {
+        None => {}
+        Some(node) => release_node(tree, fds, node),
+    }
+}
+
+fn is_meant(on_exec: bool, slot: Option<Slot>) -> bool
+    ensures { result ≡ is_meant_of on_exec slot }
+{
+    match slot {
+        None => false,
+        Some(slot) => !on_exec || slot.closes_on_exec,
+    }
+}
+
+fn close_if_meant(tree: &mut Tree, fds: &mut FdTable, on_exec: bool, pid: u32, fd: u32)
+    ensures { record { tree = tree.new; fds = fds.new }
+        ≡ closed_if_meant on_exec (record { tree = tree.old; fds = fds.old }) pid fd }
+{
+    if is_meant(on_exec, fds.slot(pid, fd)) {
+        close(tree, fds, pid, fd);
+    }
+}
+
+fn close_each(tree: &mut Tree, fds: &mut FdTable, on_exec: bool, pid: u32)
+    ensures { record { tree = tree.new; fds = fds.new }
+        ≡ closed_each on_exec (record { tree = tree.old; fds = fds.old }) pid (range_with_len 0 256) }
+{
+    let mut at = 0u32;
+    while let Some(fd) = fds.next_open(pid, at) {
+        close_if_meant(tree, fds, on_exec, pid, fd);
+        at = fd + 1;
+    }
+}
+
+/// All descriptors of a process name nothing from now on, as at its end (POSIX _Exit).
+#[tactic(auto, unfolding(crate::specs::Releases::all_closed))]
+pub fn close_all(tree: &mut Tree, fds: &mut FdTable, pid: u32)
+    ensures { record { tree = tree.new; fds = fds.new } ≡ all_closed tree.old fds.old pid }
+{
+    close_each(tree, fds, false, pid);
+}
+
+/// A process's descriptors with FD_CLOEXEC name nothing from now on (POSIX exec).
+#[tactic(auto, unfolding(crate::specs::Releases::closed_on_exec))]
+pub fn close_on_exec(tree: &mut Tree, fds: &mut FdTable, pid: u32)
+    ensures { record { tree = tree.new; fds = fds.new } ≡ closed_on_exec tree.old fds.old pid }
+{
+    close_each(tree, fds, true, pid);
+}

@@ -1,0 +1,9 @@
+pub mod Starts
+pub mod Starting
+pub mod Roomy
+pub mod Lists
+pub mod Finding
+pub mod Children
+pub mod Releasing
+pub mod Free
+pub mod Blocking

@@ -1,0 +1,73 @@
+//! The calls on processes, memory and signals by number.
+
+ghost use Rattle.std.specs.Prelude.{◌≡◌, IfOk, OnErr};
+ghost use Rattle.lx_proc.specs.Answers.{answered, KeptIf};
+ghost use Rattle.lx_pcalls.specs.Calls.{process_call as meaning, would_block as would_block_of, is_blocked_if};
+
+use crate::brk::brk;
+use crate::clone::clone;
+use crate::execve::execve;
+use crate::exit::exit;
+use crate::getpid::getpid;
+use crate::getppid::getppid;
+use crate::kill::kill;
+use crate::mmap::mmap;
+use crate::munmap::munmap;
+use crate::rt_sigaction::rt_sigaction;
+use crate::rt_sigprocmask::rt_sigprocmask;
+use crate::rt_sigreturn::rt_sigreturn;
+use crate::sched_yield::sched_yield;
+use crate::wait4::{wait4, wait4_would_block};
+use lx_abi::Call;
+use lx_proc::{Body, Reply, Shared};
+use std::alloc::{AllocError, Global};
+
+/// A call on processes, memory or signals; none where it is another's. A child that it makes has the pid `child`.
+#[tactic(auto, unfolding(crate::specs::Calls::process_call))]
+pub fn process_call(
+    alloc: Global,
+    shared: &mut Shared,
+    child: u32,
+    pid: u32,
+    call: &Call,
+    body: &mut Body,
+) -> Result<Option<Reply>, AllocError>
+    ensures answer { IfOk result
+        (λ r. answered r shared.new body.new ≡ meaning shared.old child pid call.now body.old) }
+    ensures kept { IfOk result (λ r. KeptIf r shared.old body.old shared.new body.new) }
+    ensures console { OnErr result (shared.new.console ≡ shared.old.console) }
+{
+    match call.number {
+        93 => Ok(Some(exit(shared, call, body))),
+        94 => Ok(Some(exit(shared, call, body))),
+        124 => Ok(Some(sched_yield(shared, body))),
+        129 => Ok(Some(kill(shared, pid, call, body))),
+        134 => Ok(Some(rt_sigaction(shared, pid, call, body)?)),
+        135 => Ok(Some(rt_sigprocmask(shared, pid, call, body)?)),
+        139 => Ok(Some(rt_sigreturn(shared, pid, body))),
+        172 => Ok(Some(getpid(shared, pid, body))),
+        173 => Ok(Some(getppid(shared, pid, body))),
+        178 => Ok(Some(getpid(shared, pid, body))),
+        214 => Ok(Some(brk(shared, call, body)?)),
+        215 => Ok(Some(munmap(shared, call, body))),
+        220 => Ok(Some(clone(alloc, shared, child, pid, call, body)?)),
+        221 => Ok(Some(execve(alloc, shared, pid, call, body)?)),
+        222 => Ok(Some(mmap(shared, call, body)?)),
+        260 => Ok(Some(wait4(shared, pid, call, body)?)),
+        _ => Ok(None),
+    }
+}
+
+/// The call would block. Takes no memory.
+#[tactic(auto, unfolding(crate::specs::Calls::would_block))]
+pub fn would_block(shared: &Shared, pid: u32, call: &Call) -> bool
+    ensures { result ≡ would_block_of shared.now pid call.now }
+{
+    call.number == 260 && wait4_would_block(shared, pid, call)
+}
+
+/// Of these calls one blocks where it would, and nowhere else.
+pub fn process_blocks(_shared: &Shared, _child: u32, _pid: u32, _call: &Call, _body: &Body)
+    ensures { is_blocked_if (meaning _shared.now _child _pid _call.now _body.now)
+        ≡ would_block_of _shared.now _pid _call.now }
+{}

@@ -1,0 +1,103 @@
+//! clone of a whole process (clone(2), fork(2)).
+
+ghost use Rattle.std.specs.Prelude.{◌≡◌, IfOk, OnErr};
+ghost use Rattle.lx_model.specs.Machine.{Bears};
+ghost use Rattle.lx_proc.specs.Answers.{answer_of, Kept};
+ghost use Rattle.lx_pcalls.specs.Clone.{clone as meaning, with_child, child_entry, child_body};
+ghost use Rattle.lx_pcalls.specs.Clone.{child_hart as hart_of_child};
+ghost use Rattle.lx_pcalls.specs.Clone.{has_room as has_room_for};
+
+use lx_abi::{Bytes, Call, Errno};
+use lx_proc::{Body, Entry, LAST_PID, Life, MOST_PROCESSES, Reply, Shared};
+use lx_sig::for_child;
+use rv_hart::Hart;
+use std::alloc::{AllocError, Global};
+
+/// SIGCHLD.
+const FORK_FLAGS: u64 = 17;
+
+/// One process more is within the limits.
+fn has_room(shared: &Shared, child: u32) -> bool
+    ensures { result ≡ has_room_for shared.now child }
+{
+    shared.entries.len() < MOST_PROCESSES && child <= LAST_PID
+}
+
+fn entry_for_child(alloc: Global, entry: &Entry, parent: u32) -> Result<Entry, AllocError>
+    ensures { IfOk result (λ e. e ≡ child_entry entry.now parent) }
+{
+    Ok(Entry {
+        life: Life::Alive,
+        parent,
+        directory: Bytes::from_slice(alloc, entry.directory.as_slice())?,
+        signals: for_child(&entry.signals),
+    })
+}
+
+fn child_hart(hart: &Hart, stack: u64) -> Hart
+    ensures { result ≡ hart_of_child hart.now stack }
+{
+    let mut registers = hart.registers;
+    registers[10] = 0;
+    if stack != 0 {
+        registers[2] = stack;
+    }
+    Hart {
+        pc: hart.pc.wrapping_add(4),
+        registers,
+    }
+}
+
+/// A child's entry and descriptors stand in the table, and its body is handed out.
+fn bear(
+    shared: &mut Shared,
+    child: u32,
+    pid: u32,
+    stack: u64,
+    body: &Body,
+    entry: Entry,
+) -> Result<Reply, AllocError>
+    ensures answer { IfOk result (λ r. answer_of r shared.new body.now
+        ≡ Bears (with_child shared.old child pid entry) body.now (child_body body.now stack)) }
+    ensures kept { IfOk result (λ r. Kept r shared.old body.now shared.new body.now) }
+    ensures console { OnErr result (shared.new.console ≡ shared.old.console) }
+{
+    let memory = body.memory.fork()?;
+    shared.fds.inherit(pid, child)?;
+    shared.entries.insert(child, entry)?;
+    Ok(Reply::Bore(Body {
+        hart: child_hart(&body.hart, stack),
+        memory,
+        heap: body.heap,
+        interrupted: body.interrupted,
+    }))
+}
+
+/// clone(flags, stack), of a child with this pid. EINVAL for other flags than SIGCHLD; EAGAIN where the table is full,
+/// or there is no such pid.
+#[tactic(auto, unfolding(crate::specs::Clone::clone))]
+pub fn clone(
+    alloc: Global,
+    shared: &mut Shared,
+    child: u32,
+    pid: u32,
+    call: &Call,
+    body: &Body,
+) -> Result<Reply, AllocError>
+    ensures answer { IfOk result
+        (λ r. answer_of r shared.new body.now ≡ meaning shared.old child pid call.now body.now) }
+    ensures kept { IfOk result (λ r. Kept r shared.old body.now shared.new body.now) }
+    ensures console { OnErr result (shared.new.console ≡ shared.old.console) }
+{
+    if call.arguments[0] != FORK_FLAGS {
+        return Ok(Reply::Refused(Errno::EINVAL));
+    }
+    let Some(parent) = shared.entries.get(pid) else {
+        return Ok(Reply::Refused(Errno::ESRCH));
+    };
+    if !has_room(shared, child) {
+        return Ok(Reply::Refused(Errno::EAGAIN));
+    }
+    let entry = entry_for_child(alloc, parent, pid)?;
+    bear(shared, child, pid, call.arguments[1], body, entry)
+}

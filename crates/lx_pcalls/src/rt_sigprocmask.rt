@@ -1,0 +1,34 @@
+//! rt_sigprocmask (sigprocmask(2)).
+
+ghost use Rattle.std.specs.Prelude.{◌≡◌, IfOk, OnErr};
+ghost use Rattle.lx_proc.specs.Answers.{answer_of, Kept};
+ghost use Rattle.lx_pcalls.specs.RtSigprocmask.{rt_sigprocmask as meaning};
+
+use lx_abi::{Call, Errno};
+use lx_proc::{Body, Reply, Shared, set_signals, signals};
+use lx_sig::sigprocmask::sigprocmask;
+use std::alloc::AllocError;
+
+/// rt_sigprocmask(how, set, oldset, sigsetsize), with lx_sig's refusals.
+pub fn rt_sigprocmask(
+    shared: &mut Shared,
+    pid: u32,
+    call: &Call,
+    body: &mut Body,
+) -> Result<Reply, AllocError>
+    ensures answer { IfOk result
+        (λ r. answer_of r shared.new body.new ≡ meaning shared.old pid call.now body.old) }
+    ensures kept { IfOk result (λ r. Kept r shared.old body.old shared.new body.new) }
+    ensures same { OnErr result (shared.new ≡ shared.old) }
+{
+    let Some(mut signals) = signals(shared, pid) else {
+        return Ok(Reply::Refused(Errno::ESRCH));
+    };
+    match sigprocmask(&mut signals, &mut body.memory, call)? {
+        Err(error) => Ok(Reply::Refused(error)),
+        Ok(()) => {
+            set_signals(shared, pid, signals);
+            Ok(Reply::Returned(0))
+        }
+    }
+}

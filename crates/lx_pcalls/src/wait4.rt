@@ -1,0 +1,185 @@
+//! wait4 (wait4(2)).
+
+ghost use Rattle.std.specs.Prelude.{◌≡◌, ℕ, IfOk, OnErr, Option, is_some};
+ghost use Rattle.std.specs.FinMap as maps;
+ghost use Rattle.lx_proc.specs.Answers.{answer_of, Kept};
+ghost use Rattle.lx_pcalls.specs.Wait4.{wait4 as meaning, wait4_would_block as would_block_of, may_wait as may_wait_of};
+ghost use Rattle.lx_pcalls.specs.Wait4.{is_child as is_child_of, is_meant as is_meant_of};
+ghost use Rattle.lx_pcalls.specs.Wait4.{first_child as first_child_of};
+ghost use Rattle.lx_pcalls.specs.Wait4.{zombie_word as zombie_word_of, word_in, reaps, waits, IsNextThat};
+
+use lx_abi::{Call, Errno, Map};
+use lx_proc::{Body, Entry, Life, Reply, Shared};
+use lx_sig::low_argument;
+use rv_mem::MemFault;
+use std::alloc::AllocError;
+
+/// -1: any child.
+const ANY: u32 = 0xffff_ffff;
+
+const WNOHANG: u64 = 1;
+
+fn may_wait(call: &Call) -> bool
+    ensures { result ≡ may_wait_of call.now }
+{
+    let pid = low_argument(call, 0);
+    (pid == ANY || (0 < pid && pid < 1 << 31))
+        && call.arguments[2] <= WNOHANG
+        && call.arguments[3] == 0
+}
+
+/// How a zombie ended.
+fn zombie_word(life: Life) -> Option<u32>
+    ensures { result ≡ zombie_word_of life }
+{
+    match life {
+        Life::Alive | Life::Dying { .. } => None,
+        Life::Zombie { word } => Some(word),
+    }
+}
+
+fn is_meant(entry: &Entry, parent: u32, wanted: u32, zombies: bool, pid: u32) -> bool
+    ensures { result ≡ is_meant_of entry.now parent wanted zombies pid }
+{
+    entry.parent == parent
+        && (wanted == ANY || wanted == pid)
+        && (!zombies || zombie_word(entry.life).is_some())
+}
+
+/// A child that a call waits for, and a zombie where only those are meant.
+#[tactic(auto, unfolding(crate::specs::Wait4::is_child))]
+fn is_child(entries: &Map<Entry>, parent: u32, wanted: u32, zombies: bool, pid: u32) -> bool
+    ensures { result ≡ is_child_of entries.now parent wanted zombies pid }
+{
+    match entries.get(pid) {
+        None => false,
+        Some(entry) => is_meant(entry, parent, wanted, zombies, pid),
+    }
+}
+
+/// The lowest of them above a pid.
+fn next_child(
+    entries: &Map<Entry>,
+    parent: u32,
+    wanted: u32,
+    zombies: bool,
+    after: u32,
+) -> Option<u32>
+    ensures { IsNextThat (is_child_of entries.now parent wanted zombies) after result }
+{
+    let mut passed = after;
+    while let Some(pid) = entries.next_key(passed) {
+        if is_child(entries, parent, wanted, zombies, pid) {
+            return Some(pid);
+        }
+        passed = pid;
+    }
+    None
+}
+
+/// The lowest of them.
+#[tactic(auto, unfolding(crate::specs::Wait4::first_child))]
+fn first_child(entries: &Map<Entry>, parent: u32, wanted: u32, zombies: bool) -> Option<u32>
+    ensures { result ≡ first_child_of entries.now parent wanted zombies }
+{
+    // no process has pid 0, but a table may have a key 0
+    if is_child(entries, parent, wanted, zombies, 0) {
+        return Some(0);
+    }
+    next_child(entries, parent, wanted, zombies, 0)
+}
+
+/// The zombie's word is written, and then it leaves the table.
+fn reap(
+    shared: &mut Shared,
+    call: &Call,
+    body: &mut Body,
+    pid: u32,
+    word: u32,
+) -> Result<Reply, AllocError>
+    ensures answer { IfOk result (λ r. answer_of r shared.new body.new ≡ reaps shared.old body.old call.now pid word) }
+    ensures kept { IfOk result (λ r. Kept r shared.old body.old shared.new body.new) }
+    ensures same { OnErr result (shared.new ≡ shared.old) }
+{
+    let at = call.arguments[1];
+    if at == 0 {
+        shared.entries.remove(pid);
+        return Ok(Reply::Returned(u64::from(pid)));
+    }
+    match body.memory.write(at, &word.to_le_bytes()) {
+        Ok(()) => {
+            shared.entries.remove(pid);
+            Ok(Reply::Returned(u64::from(pid)))
+        }
+        Err(MemFault::Memory) => Err(AllocError),
+        Err(_) => Ok(Reply::Refused(Errno::EFAULT)),
+    }
+}
+
+/// How the process with this pid ended, if it is a zombie.
+fn word_of(entries: &Map<Entry>, pid: u32) -> Option<u32>
+    ensures { result ≡ word_in (maps.get entries.now pid) }
+{
+    match entries.get(pid) {
+        None => None,
+        Some(entry) => zombie_word(entry.life),
+    }
+}
+
+fn wait(
+    shared: &mut Shared,
+    call: &Call,
+    body: &mut Body,
+    zombie: Option<u32>,
+) -> Result<Reply, AllocError>
+    ensures answer { IfOk result (λ r. answer_of r shared.new body.new ≡ waits shared.old body.old call.now zombie) }
+    ensures kept { IfOk result (λ r. Kept r shared.old body.old shared.new body.new) }
+    ensures same { OnErr result (shared.new ≡ shared.old) }
+{
+    let Some(pid) = zombie else {
+        if call.arguments[2] == WNOHANG {
+            return Ok(Reply::Returned(0));
+        }
+        return Ok(Reply::Blocked);
+    };
+    let Some(word) = word_of(&shared.entries, pid) else {
+        return Ok(Reply::Refused(Errno::ECHILD));
+    };
+    reap(shared, call, body, pid, word)
+}
+
+/// wait4(pid, wstatus, options, rusage). EINVAL for a pid that is neither -1 nor above 0, other options than WNOHANG, or
+/// a rusage; ECHILD without such a child; EFAULT where the word can't be written, and then the child isn't lost.
+#[tactic(auto, unfolding(crate::specs::Wait4::wait4))]
+pub fn wait4(
+    shared: &mut Shared,
+    pid: u32,
+    call: &Call,
+    body: &mut Body,
+) -> Result<Reply, AllocError>
+    ensures answer { IfOk result (λ r. answer_of r shared.new body.new ≡ meaning shared.old pid call.now body.old) }
+    ensures kept { IfOk result (λ r. Kept r shared.old body.old shared.new body.new) }
+    ensures same { OnErr result (shared.new ≡ shared.old) }
+{
+    if !may_wait(call) {
+        return Ok(Reply::Refused(Errno::EINVAL));
+    }
+    let wanted = low_argument(call, 0);
+    if first_child(&shared.entries, pid, wanted, false).is_none() {
+        return Ok(Reply::Refused(Errno::ECHILD));
+    }
+    let zombie = first_child(&shared.entries, pid, wanted, true);
+    wait(shared, call, body, zombie)
+}
+
+/// The call would block. Takes no memory.
+#[tactic(auto, unfolding(crate::specs::Wait4::wait4_would_block))]
+pub fn wait4_would_block(shared: &Shared, pid: u32, call: &Call) -> bool
+    ensures { result ≡ would_block_of shared.now pid call.now }
+{
+    let wanted = low_argument(call, 0);
+    may_wait(call)
+        && call.arguments[2] != WNOHANG
+        && first_child(&shared.entries, pid, wanted, false).is_some()
+        && first_child(&shared.entries, pid, wanted, true).is_none()
+}

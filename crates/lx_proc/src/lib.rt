@@ -1,0 +1,16 @@
+//! Processes: what they share, what each has to itself, and what a call replies.
+#![tactic(auto)]
+
+mod entries;
+mod registers;
+pub mod reply;
+pub mod state;
+pub mod texts;
+pub mod wait_words;
+
+pub use entries::{directory, set_signals, signals};
+pub use registers::{a0, call, make_again, registers_of, return_from_call, set_registers};
+pub use reply::Reply;
+pub use state::{Body, Entry, Heap, LAST_PID, Life, MOST_PROCESSES, Shared};
+pub use texts::{START_LIMIT, Text, WORD_COST, Words, list_at, text_at};
+pub use wait_words::WaitWords;

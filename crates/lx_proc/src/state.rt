@@ -1,0 +1,63 @@
+//! What processes share, and what each has to itself.
+
+use crate::wait_words::WaitWords;
+use lx_abi::{Bytes, Map};
+use lx_files::Tree;
+use lx_open::{FdTable, Queue};
+use lx_sig::{Interrupted, Signals};
+use rv_hart::Hart;
+use rv_mem::Space;
+
+/// At most so many processes are in the table, zombies among them.
+pub const MOST_PROCESSES: usize = 64;
+
+/// Pids are 1 to this one, and none is used again.
+pub const LAST_PID: u32 = 255;
+
+/// Whether a process lives; a wait word of wait(2) says how it ended.
+#[derive(Clone, Copy, Debug, PartialEq, Eq)]
+pub enum Life {
+    Alive,
+    Dying { word: u32 },
+    Zombie { word: u32 },
+}
+
+/// What other processes can see or change of a process. An orphan's parent is 0.
+#[derive(Drop)]
+pub struct Entry {
+    pub life: Life,
+    pub parent: u32,
+    /// The path of the working directory.
+    pub directory: Bytes,
+    pub signals: Signals,
+}
+
+/// What all processes share.
+#[derive(Drop)]
+pub struct Shared {
+    pub tree: Tree,
+    pub fds: FdTable,
+    /// What is left of the input.
+    pub input: Queue,
+    pub console: Bytes,
+    pub entries: Map<Entry>,
+    /// Of each process that has ended, also once it has left the table.
+    pub ended: WaitWords,
+}
+
+/// Where the heap of brk(2) begins and ends, in bytes.
+#[derive(Clone, Copy, Debug, PartialEq, Eq)]
+pub struct Heap {
+    pub start: u64,
+    pub end: u64,
+}
+
+/// What a living process has to itself, beside its stage.
+#[derive(Drop)]
+pub struct Body {
+    pub hart: Hart,
+    pub memory: Space,
+    pub heap: Heap,
+    /// The call that is made again once no signal is taken.
+    pub interrupted: Option<Interrupted>,
+}

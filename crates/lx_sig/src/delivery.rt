@@ -1,0 +1,107 @@
+//! Which signals are pending, and which is delivered next (signal(7)).
+
+ghost use Rattle.std.specs.Prelude.{◌≡◌, ◌<◌, ◌&&◌, not, is_some, find};
+ghost use Rattle.std.specs.List.{range_with_len};
+ghost use Rattle.lx_sig.specs.Pending.{cause_of, may_come, next as next_of, may_interrupt as may_interrupt_now};
+ghost use Rattle.lx_sig.specs.Pending.{action_of, is_ignored as is_ignored_by, is_ignored_by_default as is_mild};
+ghost use Rattle.lx_sig.specs.Pending.{with_pending, without_pending};
+
+use crate::sets::has;
+use crate::state::{Action, Signals};
+use lx_abi::{Cause, Signal};
+
+/// Why the signal with this number came first, where it is pending.
+fn cause(signals: &Signals, number: u8) -> Option<Cause>
+    requires { number < 32 }
+    ensures { result ≡ cause_of signals.now number }
+{
+    signals.pending[usize::from(number)]
+}
+
+/// The action of the signal with this number.
+pub fn action(signals: &Signals, number: u8) -> Action
+    requires { number < 32 }
+    ensures { result ≡ action_of signals.now number }
+{
+    signals.actions[usize::from(number)]
+}
+
+/// The signal with this number is pending and not blocked.
+fn comes(signals: &Signals, number: u8) -> bool
+    requires positive { 0 < number }
+    requires within { number < 32 }
+    ensures { result ≡ may_come signals.now number }
+{
+    cause(signals, number).is_some() && !has(signals.mask, number)
+}
+
+/// The number of the lowest pending signal that is not blocked.
+fn lowest(signals: &Signals) -> Option<u8>
+    ensures { result ≡ find (may_come signals.now) (range_with_len 1 31) }
+{
+    (1..32u8).find(|n| comes(signals, *n))
+}
+
+/// The lowest pending signal that is not blocked.
+#[tactic(auto, unfolding(crate::specs::Pending::next))]
+pub fn next(signals: &Signals) -> Option<Signal>
+    ensures { result ≡ next_of signals.now }
+{
+    match lowest(signals) {
+        None => None,
+        Some(number) => Signal::from_number(u64::from(number)),
+    }
+}
+
+/// SIGCHLD, SIGURG and SIGWINCH are ignored by default.
+pub fn is_ignored_by_default(number: u8) -> bool
+    ensures { result ≡ is_mild number }
+{
+    number == 17 || number == 23 || number == 28
+}
+
+/// The action of the signal with this number ignores it.
+pub fn is_ignored(signals: &Signals, number: u8) -> bool
+    requires { number < 32 }
+    ensures { result ≡ is_ignored_by signals.now number }
+{
+    match action(signals, number).handler {
+        0 => is_ignored_by_default(number),
+        handler => handler == 1,
+    }
+}
+
+fn interrupts(signals: &Signals, number: u8) -> bool
+    requires positive { 0 < number }
+    requires within { number < 32 }
+    ensures { result ≡ (may_come signals.now number && not (is_ignored_by signals.now number)) }
+{
+    comes(signals, number) && !is_ignored(signals, number)
+}
+
+/// Some signal is pending that is neither blocked nor ignored: a call that blocks is interrupted.
+#[tactic(auto, unfolding(crate::specs::Pending::may_interrupt))]
+pub fn may_interrupt(signals: &Signals) -> bool
+    ensures { result ≡ may_interrupt_now signals.now }
+{
+    (1..32u8).any(|n| interrupts(signals, n))
+}
+
+/// Makes a signal pending, unless it is: it keeps its first sender.
+pub fn make_pending(signals: &mut Signals, signal: Signal, cause_now: Cause)
+    ensures { signals.new ≡ with_pending signals.old signal cause_now }
+{
+    if cause(signals, signal.number).is_none() {
+        signals.pending[usize::from(signal.number)] = Some(cause_now);
+    }
+}
+
+/// Takes a signal, which is no longer pending, and tells why it came first.
+pub fn take(signals: &mut Signals, signal: Signal) -> Option<Cause>
+    ensures cause { result ≡ cause_of signals.old signal.number }
+    ensures taken { signals.new ≡ without_pending signals.old signal }
+{
+    let first = cause(signals, signal.number);
+    signals.pending[usize::from(signal.number)] = None;
+    first
+}

@@ -1,0 +1,23 @@
+//! Signals of one process: which come, what they do, the frames of their handlers, and their calls.
+#![tactic(auto)]
+
+mod arguments;
+mod delivery;
+mod doublewords;
+mod frames;
+mod giving;
+pub mod kill;
+mod laws;
+pub mod reactions;
+mod sets;
+pub mod sigaction;
+pub mod sigprocmask;
+pub mod state;
+
+pub use arguments::low_argument;
+pub use delivery::{action, is_ignored, make_pending, may_interrupt, next, take};
+pub use frames::{pop_frame, push_frame};
+pub use kill::{Aim, aim_of_kill};
+pub use laws::frames_are_read_back;
+pub use reactions::{Reaction, for_child, reaction_to, reset_for_exec};
+pub use state::{Action, Actions, Interrupted, Mask, Pending, Signals};

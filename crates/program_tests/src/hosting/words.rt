@@ -1,0 +1,189 @@
+//! Which words are taken, and what is told of others.
+
+use crate::guest::HELLO;
+use crate::hosting::{is_line_of, run_of};
+use front_end::{Escaped, Shown};
+use std::fs;
+use std::test::Fail;
+
+/// Each is refused with status 2, by one line that begins so, and with nothing on standard output.
+#[test]
+fn refused_words(rt: HostRuntime) -> Result<(), Fail> {
+    let rows: [(&[&str], &str); 19] = [
+        (
+            &[],
+            "'guest_host' requires a subcommand but one was not provided",
+        ),
+        (&["trace"], "unrecognized subcommand 'trace'"),
+        (
+            &["plain"],
+            "the following required arguments were not provided: <PROG>...; the program stands behind --",
+        ),
+        (
+            &["plain", "--loud", "--", "/p"],
+            "unexpected argument '--loud' found",
+        ),
+        (
+            &["plain", "/p"],
+            "unexpected argument '/p' found; the program stands behind --",
+        ),
+        (&["plain", "", "--", "/p"], "unexpected argument '' found"),
+        (
+            &["plain", "a\nb"],
+            "unexpected argument 'a\\nb' found; the program stands behind --",
+        ),
+        (
+            &["plain", "--file=/p=x", "--loud", "/p"],
+            "unexpected argument '--loud' found; tip: to pass '--loud' as a value, use '-- --loud'; the program",
+        ),
+        (
+            &["plain", "--limit", "+5", "--", "/p"],
+            "--limit +5: not a number from 0 to ",
+        ),
+        (
+            &["plain", "--limit", "0x5", "--", "/p"],
+            "--limit 0x5: not a number from 0 to ",
+        ),
+        (
+            &["plain", "--limit", "18446744073709551616", "--", "/p"],
+            "--limit 18446744073709551616: not a number from 0 to 18446744073709551615",
+        ),
+        (
+            &["plain", "--limit=", "--", "/p"],
+            "--limit '': not a number from 0 to ",
+        ),
+        (
+            &["plain", "--limit=1", "--limit=2", "--", "/p"],
+            "the argument '--limit <N>' cannot be used multiple times",
+        ),
+        (
+            &["plain", "--file", "", "--", "/p"],
+            "--file '': no = between the guest's path and the file's",
+        ),
+        (
+            &["plain", "--file", "a\tb", "--", "/p"],
+            "--file a\\tb: no =",
+        ),
+        (&["serve", "cut:5:3"], "unexpected argument 'cut:5:3' found"),
+        (
+            &["asm", "nowhere.s"],
+            "the following required arguments were not provided: <OUT>",
+        ),
+        (
+            &["asm", "nowhere.s", "unmade.elf"],
+            "nowhere.s: No such file or directory (os error 2)",
+        ),
+        (
+            &["asm", "", "unmade.elf"],
+            "'': No such file or directory (os error 2)",
+        ),
+    ];
+    for (words, told) in rows {
+        let line = format!(in rt.alloc(); "guest_host: {told}")?;
+        let run = run_of(&rt, words)?;
+        assert_eq!(rt; run.status, 2, "{told}");
+        assert_eq!(rt; run.out.text(), "", "{told}");
+        assert!(rt; is_line_of(&run, line.as_str()), "{told}");
+    }
+    Ok(())
+}
+
+/// Of a word of many bytes 200 are told.
+#[test]
+fn long_words(rt: HostRuntime) -> Result<(), Fail> {
+    let long = "long/".repeat(rt.alloc(), 1000)?;
+    let cut = "long/".repeat(rt.alloc(), 40)?;
+    let file = format!(in rt.alloc(); "guest_host: --file {cut}...: no = between ")?;
+    let option = format!(in rt.alloc(); "guest_host: unexpected argument '{cut}...' found")?;
+    let run = run_of(&rt, &["plain", "--file", long.as_str(), "--", "/p"])?;
+    assert!(rt; is_line_of(&run, file.as_str()));
+    let run = run_of(&rt, &["plain", long.as_str()])?;
+    assert!(rt; is_line_of(&run, option.as_str()));
+    Ok(())
+}
+
+#[test]
+fn shown_words(rt: HostRuntime) -> Result<(), Fail> {
+    let rows = [
+        ("", "''"),
+        ("/p=hello", "/p=hello"),
+        ("a\nb\r\tc", "a\\nb\\r\\tc"),
+        ("\u{1b}[31m\u{7f}", "\\u{1b}[31m\\u{7f}"),
+        ("größer", "größer"),
+        ("back\\slash 'quote'", "back\\slash 'quote'"),
+    ];
+    for (word, shown) in rows {
+        assert_eq!(rt; format!(in rt.alloc(); "{}", Shown(word))?.as_str(), shown);
+    }
+    let most = "x".repeat(rt.alloc(), 200)?;
+    let more = "x".repeat(rt.alloc(), 201)?;
+    let wide = "x".repeat(rt.alloc(), 199)?;
+    assert_eq!(rt; format!(in rt.alloc(); "{}", Escaped(most.as_str()))?, most);
+    let cut = format!(in rt.alloc(); "{most}...")?;
+    assert_eq!(rt; format!(in rt.alloc(); "{}", Escaped(more.as_str()))?, cut);
+    // A character that doesn't fit whole is left out.
+    let line = format!(in rt.alloc(); "{wide}\n")?;
+    let cut = format!(in rt.alloc(); "{wide}...")?;
+    assert_eq!(rt; format!(in rt.alloc(); "{}", Escaped(line.as_str()))?, cut);
+    Ok(())
+}
+
+/// Each help names what the command takes.
+#[test]
+fn helps(rt: HostRuntime) -> Result<(), Fail> {
+    let rows: [(&[&str], &[&str]); 5] = [
+        (&["--help"], &["plain", "serve", "asm", "--version"]),
+        (&["--version"], &["guest_host 0.1.0\n"]),
+        (
+            &["plain", "--help"],
+            &["-e <EXPR>", "--limit <N>", "--file <GUEST=PATH>", "<PROG>"],
+        ),
+        (
+            &["serve", "--help"],
+            &["serve fault N: TEXT", "5  memory ran out"],
+        ),
+        (
+            &["asm", "--help"],
+            &[
+                "<IN>",
+                "The listing",
+                "<OUT>",
+                "The file that the program is written to",
+                "asm: line L kind K",
+                "7  memory ran out",
+            ],
+        ),
+    ];
+    for (words, parts) in rows {
+        let run = run_of(&rt, words)?;
+        assert_eq!(rt; run.status, 0);
+        assert_eq!(rt; run.err.text(), "");
+        for part in parts.iter().copied() {
+            assert!(rt; run.out.text().contains(part), "{part}");
+        }
+    }
+    Ok(())
+}
+
+/// Words behind `--` are the program's, whatever they look like.
+#[test]
+fn words_of_the_program(rt: HostRuntime) -> Result<(), Fail> {
+    fs::write(&rt, "named.elf", HELLO.as_slice())?;
+    let run = run_of(
+        &rt,
+        &[
+            "plain",
+            "--file",
+            "/p=named.elf",
+            "--",
+            "/p",
+            "--limit",
+            "+5",
+            "--",
+        ],
+    )?;
+    assert_eq!(rt; run.status, 0);
+    assert_eq!(rt; run.out.text(), "hi\n");
+    fs::remove_file(&rt, "named.elf")?;
+    Ok(())
+}

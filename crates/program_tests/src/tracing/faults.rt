@@ -1,0 +1,89 @@
+//! What is refused, by which line and with which status.
+
+use crate::tracing::run_of;
+use std::test::Fail;
+
+/// Each ends with this status, one line on standard error that begins so, and nothing on standard output.
+#[test]
+fn refused_traces(rt: HostRuntime) -> Result<(), Fail> {
+    let rows: [(&[&str], u8, &str); 14] = [
+        (
+            &[],
+            2,
+            "strace: the following required arguments were not provided: <PROG>...",
+        ),
+        (
+            &["--loud", "--", "/p"],
+            2,
+            "strace: unexpected argument '--loud' found",
+        ),
+        (
+            &["/p"],
+            2,
+            "strace: unexpected argument '/p' found; the program stands behind --",
+        ),
+        (
+            &["-s", "4097", "--", "/p"],
+            2,
+            "strace: -s 4097: not a number from 0 to 4096",
+        ),
+        (
+            &["-a", "201", "--", "/p"],
+            2,
+            "strace: -a 201: not a number from 0 to 200",
+        ),
+        (
+            &["--limit", "+5", "--", "/p"],
+            2,
+            "strace: --limit +5: not a number from 0 to ",
+        ),
+        (
+            &["-e", "wrote", "--", "/p"],
+            2,
+            "strace: expression fault 1",
+        ),
+        (
+            &["-e", "fault=write:error=EWHAT", "--", "/p"],
+            2,
+            "strace: expression fault 3",
+        ),
+        (
+            &["-e", "inject=write:when=3", "--", "/p"],
+            2,
+            "strace: expression fault 8",
+        ),
+        (
+            &["-e", "wrote", "--file", "none", "--", "/p"],
+            2,
+            "strace: expression fault 1",
+        ),
+        (
+            &["--file", "/p=nowhere", "--", "/p"],
+            2,
+            "strace: --file /p=nowhere: No such file",
+        ),
+        (
+            &["--file", "none", "--", "/p"],
+            2,
+            "strace: --file none: no = between",
+        ),
+        (
+            &["--file", "p=hello", "--", "/p"],
+            2,
+            "strace: boot fault 1: ",
+        ),
+        (
+            &["-o", "nowhere/trace", "--", "/p"],
+            2,
+            "strace: nowhere/trace: No such file",
+        ),
+    ];
+    for (words, status, start) in rows {
+        let run = run_of(&rt, words)?;
+        assert_eq!(rt; run.status, status);
+        assert!(rt; run.err.text().starts_with(start));
+        assert_eq!(rt; run.err.text().lines().count(), 1usize);
+        assert!(rt; run.out.text().is_empty());
+    }
+    Ok(())
+}

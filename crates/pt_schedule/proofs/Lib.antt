@@ -1,0 +1,6 @@
+pub mod Cycling
+pub mod Heading
+pub mod Modes
+pub mod Places
+pub mod Rowing
+pub mod Spending

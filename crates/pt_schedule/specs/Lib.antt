@@ -1,0 +1,6 @@
+pub mod Modes
+pub mod Cycle
+pub mod Turns
+pub mod Schedules
+pub mod Rows
+pub mod Untraced

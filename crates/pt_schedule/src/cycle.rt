@@ -1,0 +1,39 @@
+//! The processes in the cycle of their pids.
+
+ghost use Rattle.std.specs.Prelude.{◌≡◌, ◌-◌, ◌+◌, ◌≤◌, ◌<◌};
+ghost use Rattle.pt_schedule.specs.Cycle.{first_able, next_able};
+
+use crate::system::System;
+
+const LAST_PID: u32 = 255;
+
+/// The first of the pids from one up to before another that is able.
+fn first_able<S: System>(system: &S, from: u32, end: u32) -> Option<u32>
+    requires above { 0 < from }
+    requires below { from ≤ end }
+    ensures { result ≡ first_able (S.sight system.now).able from (end - from) }
+{
+    let mut passed = from - 1;
+    while let Some(pid) = system.next_after(passed) {
+        if pid >= end {
+            return None;
+        }
+        if system.is_able(pid) {
+            return Some(pid);
+        }
+        passed = pid;
+    }
+    None
+}
+
+/// The next able pid after this one, in cyclic order.
+#[tactic(auto, unfolding(crate::specs::Cycle::next_able))]
+pub fn next_able<S: System>(system: &S, last: u32) -> Option<u32>
+    ensures { result ≡ next_able (S.sight system.now).able last }
+{
+    let below = last.min(LAST_PID);
+    match first_able(system, below + 1, LAST_PID + 1) {
+        Some(pid) => Some(pid),
+        None => first_able(system, 1, below + 1),
+    }
+}

@@ -1,0 +1,14 @@
+//! Schedules: which event of a traced host, or turn of an untraced kernel, comes next.
+#![tactic(auto)]
+
+mod cycle;
+pub mod laws;
+pub mod queue;
+pub mod schedule;
+pub mod system;
+mod untraced;
+mod worded;
+
+pub use queue::Queue;
+pub use schedule::{Schedule, TurnRun};
+pub use system::System;

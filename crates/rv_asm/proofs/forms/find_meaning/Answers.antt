@@ -1,6 +1,0 @@
-use Rattle.rv_asm.specs.Forms.{meaning_of, mnemonics}
-use Rattle.rv_asm.proofs.forms.find_meaning.Goals as goal
-
-pub returns : goal.returns
-unfolding meaning_of mnemonics
-returns c = c.meaning_in.ensures

@@ -1,6 +1,0 @@
-use Rattle.rv_asm.specs.Names.{number_of, register_names}
-use Rattle.rv_asm.proofs.names.find_number.Goals as goal
-
-pub returns : goal.returns
-unfolding number_of register_names
-returns c = c.number_in.ensures

@@ -1,7 +1,0 @@
-use Rattle.std.proofs.Common.{◌≡◌, drop}
-use Rattle.rv_asm.specs.Strings.{behind, string_from}
-use Rattle.rv_asm.specs.declared.strings.Reading.TheVariants.{Plain}
-use Rattle.rv_asm.proofs.strings.read_string.Given as goal
-
-abbrev pub invariant-loop-i : goal.invariant-loop-i
-invariant-loop-i l = behind l.bytes.items (string_from l.reading (drop l.i l.text)) ≡ string_from Plain l.text

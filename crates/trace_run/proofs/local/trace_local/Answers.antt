@@ -1,0 +1,24 @@
+use Rattle.std.proofs.Common.{ap, ◌∙◌}
+use Rattle.lx_abi.specs.Scripts.{choice_of}
+use Rattle.lx_kernel.specs.First.{first_shared}
+use Rattle.lx_pcalls.specs.Programs.{booted}
+use Rattle.pt_kernel.specs.Hosts.{HostState}
+use Rattle.trace_run.specs.BootedRuns.{following}
+use Rattle.trace_run.proofs.Booted.{booted_traces}
+use Rattle.trace_run.proofs.local.trace_local.Goals as goal
+
+pub returns-clause-trace : goal.returns-clause-trace
+returns-clause-trace g c =
+    booted_traces c.local_links_tell_parts.ensures c.hosts_run_alike.ensures.begin (following c.args.options c.args.boot.follow) (choice_of c.args.script) (c.every_script_is_one.ensures c.args.script) c.args.schedule
+    (first_shared c.args.boot.files c.args.boot.input) (booted c.args.boot.argv c.args.boot.env) c.run.result _ _
+    (record {
+      link = c.new-local.result;
+      link' = c.run.new.link;
+      broken = _;
+      broken' = _;
+      ran = c.run.ensures;
+      hosting = ap (λ (h : HostState). h.hosting) (c.new-local.ensures.host ∙ c.in_ok-host.ensures.first);
+      whole = ap (λ (h : HostState). h.failed) (c.new-local.ensures.host ∙ c.in_ok-host.ensures.first);
+      going = c.new-local.ensures.going;
+      by = c.new-local.ensures.schedule;
+    })
