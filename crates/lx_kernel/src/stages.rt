@@ -17,8 +17,8 @@ ghost use Rattle.lx_proc.specs.declared.state.Shared.{Shared};
 
 use crate::calls::does;
 use crate::effects::Effect;
-use crate::tampering::Tampering;
 use crate::signals;
+use crate::tampering::Tampering;
 use lx_abi::{Call, Cause, Choice, Item, Mode, Signal};
 use lx_model::Stage;
 use lx_pcalls::{Reacted, take};
