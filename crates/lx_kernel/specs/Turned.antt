@@ -34,7 +34,7 @@ turned o = record { shared = o.shared; own = o.own; item = item_of o; event = o.
 abbrev pub event_of : Effect → Event Body
 event_of effect.Plain = Plain
 event_of effect.Execed = Execed
-event_of (effect.Bore newborn) = Forked newborn
+event_of (effect.Bore newborn) = Forked newborn.value
 
 -- the end of a process that leaves a stage
 abbrev pub ended : Shared → ℕ → ℕ → Stage → Turned

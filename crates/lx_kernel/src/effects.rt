@@ -14,7 +14,7 @@ pub enum Effect {
     /// A new program stands.
     Execed,
     /// A child is born, with this body.
-    Bore(Body),
+    Bore(Box<Body>),
 }
 
 impl Effect {

@@ -194,6 +194,7 @@ fn place_child(owns: &mut Map<Own<Body>>, child: &mut u32, done: Effect) -> Resu
     match done {
         Effect::Plain | Effect::Execed => Ok(()),
         Effect::Bore(body) => {
+            let body = Box::into_inner(body);
             let stage = Stage::Born;
             owns.insert(*child, Own::Alive { body, stage })?;
             *child += 1;

@@ -50,6 +50,7 @@ fn child_hart(hart: &Hart, stack: u64) -> Hart
 
 /// A child's entry and descriptors stand in the table, and its body is handed out.
 fn bear(
+    alloc: Global,
     shared: &mut Shared,
     child: u32,
     pid: u32,
@@ -65,12 +66,13 @@ fn bear(
     let memory = body.memory.fork()?;
     shared.fds.inherit(pid, child)?;
     shared.entries.insert(child, entry)?;
-    Ok(Reply::Bore(Body {
+    let newborn = Body {
         hart: child_hart(&body.hart, stack),
         memory,
         heap: body.heap,
         interrupted: body.interrupted,
-    }))
+    };
+    Ok(Reply::Bore(Box::new(alloc, newborn)?))
 }
 
 /// clone(flags, stack), of a child with this pid. EINVAL for other flags than SIGCHLD; EAGAIN where the table is full,
@@ -99,5 +101,5 @@ pub fn clone(
         return Ok(Reply::Refused(Errno::EAGAIN));
     }
     let entry = entry_for_child(alloc, parent, pid)?;
-    bear(shared, child, pid, call.arguments[1], body, entry)
+    bear(alloc, shared, child, pid, call.arguments[1], body, entry)
 }

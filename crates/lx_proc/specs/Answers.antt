@@ -23,7 +23,7 @@ answer_of (reply.Refused e) s b = Refused e.number
 answer_of (reply.Returned x) s b = Returns s b x
 answer_of reply.Jumped s b = Jumps s b
 answer_of reply.Execed s b = Execs s b
-answer_of (reply.Bore child) s b = Bears s b child
+answer_of (reply.Bore child) s b = Bears s b child.value
 answer_of reply.Blocked s b = Blocks
 answer_of (reply.Ended w) s b = Ends w
 

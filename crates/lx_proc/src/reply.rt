@@ -15,7 +15,7 @@ pub enum Reply {
     /// A new program stands, with its registers.
     Execed,
     /// A child with this body; its pid is the result.
-    Bore(Body),
+    Bore(Box<Body>),
     /// The call can't be done yet, and nothing is changed.
     Blocked,
     /// The process ends with this wait word, and nothing is changed yet.
