@@ -34,7 +34,9 @@ is_ready m outcome a = would_answer m outcome a.host a.pending
 
 -- a turn of the process is effective, and runs an instruction or changes its mode
 abbrev pub IsHostAble : {S B : Type 0} → Machine S B → Host S B → ℕ → Type 0
-IsHostAble m h p = (is_effective m h.shared p (h.procs p) ≡ true) × ((own_mode (h.procs p).own ≡ Some mode.Run) ⊎ (own_mode (host_turn_of m h p).own ≢ own_mode (h.procs p).own))
+IsHostAble m h p =
+    (is_effective m h.shared p (h.procs p) ≡ true)
+    × ((own_mode (h.procs p).own ≡ Some mode.Run) ⊎ (own_mode (host_turn_of m h p).own ≢ own_mode (h.procs p).own))
 
 -- Events
 
@@ -48,10 +50,16 @@ left_pending q (Some r) = None
 
 abbrev pub serve_pending : {S B : Type 0} → Machine S B → (S → Outcome) → Host S B → Option Request → Happened S B
 serve_pending m outcome h None = record { attending = record { host = h; pending = None }; reply = None }
-serve_pending m outcome h (Some q) = record { attending = record { host = (serve m outcome h q).host; pending = left_pending q (serve m outcome h q).reply }; reply = (serve m outcome h q).reply }
+serve_pending m outcome h (Some q) = record {
+  attending = record { host = (serve m outcome h q).host; pending = left_pending q (serve m outcome h q).reply };
+  reply = (serve m outcome h q).reply;
+}
 
 abbrev pub event : {S B : Type 0} → Machine S B → (S → Outcome) → Attending S B → Event → Happened S B
-event m outcome a (Turn p) = record { attending = record { host = host_turn m a.host p; pending = a.pending }; reply = None }
+event m outcome a (Turn p) = record {
+  attending = record { host = host_turn m a.host p; pending = a.pending };
+  reply = None;
+}
 event m outcome a Serve = serve_pending m outcome a.host a.pending
 
 -- the turns that an event gives to the kernel
@@ -78,14 +86,17 @@ abbrev pub turns_before : {S B : Type 0} → List ℕ → Called S B → Called 
 turns_before turns c = record { host = c.host; reply = c.reply; left = c.left; turns = turns ++ c.turns }
 
 -- an event may answer the request; else the next is fed to what it leaves
-abbrev pub answered_by : {S B : Type 0} → Option Reply → Host S B → List ℕ → List Event → (Host S B → Called S B) → Called S B
+abbrev pub answered_by : {S B : Type 0}
+    → Option Reply → Host S B → List ℕ → List Event → (Host S B → Called S B) → Called S B
 answered_by (Some r) h turns es again = record { host = h; reply = Some r; left = es; turns = turns }
 answered_by None h turns es again = turns_before turns (again h)
 
 abbrev pub called : {S B : Type 0} → Machine S B → (S → Outcome) → Host S B → Request → List Event → Called S B
 called m outcome h q [] = record { host = h; reply = None; left = []; turns = [] }
 called m outcome h q (e ∷ es) =
-    answered_by (event m outcome (record { host = h; pending = Some q }) e).reply (event m outcome (record { host = h; pending = Some q }) e).attending.host (turned m h e) es (λ g. called m outcome g q es)
+    answered_by (event m outcome (record { host = h; pending = Some q }) e).reply
+    (event m outcome (record { host = h; pending = Some q }) e).attending.host
+    (turned m h e) es (λ g. called m outcome g q es)
 
 -- once the events are used up, every request is answered OutOfTurns
 abbrev pub reply_or : Option Reply → Reply
@@ -95,7 +106,9 @@ reply_or None = Out_of_turns
 -- what a list of requests is answered, each put when the one before it was answered
 abbrev pub answers_to : {S B : Type 0} → Machine S B → (S → Outcome) → Host S B → List Request → List Event → List Reply
 answers_to m outcome h [] es = []
-answers_to m outcome h (q ∷ qs) es = reply_or (called m outcome h q es).reply ∷ answers_to m outcome (called m outcome h q es).host qs (called m outcome h q es).left
+answers_to m outcome h (q ∷ qs) es =
+    reply_or (called m outcome h q es).reply
+    ∷ answers_to m outcome (called m outcome h q es).host qs (called m outcome h q es).left
 
 -- Schedules
 
@@ -104,9 +117,11 @@ abbrev pub Schedules : Type 0 → Type 0 → Type 0 → Type 0
 Schedules X S B = X → Attending S B → Option (Event × X)
 
 -- the schedule x, asked before each event, gives these events, and y is left of it
-abbrev pub Gives : {X S B : Type 0} → Schedules X S B → Machine S B → (S → Outcome) → X → Attending S B → List Event → X → Type 0
+abbrev pub Gives : {X S B : Type 0} → Schedules X S B → Machine S B → (S → Outcome)
+    → X → Attending S B → List Event → X → Type 0
 Gives next m outcome x a [] y = x ≡ y
-Gives {X} next m outcome x a (e ∷ es) y = (rest : X) × ((next x a ≡ Some (e, rest)) × Gives next m outcome rest (event m outcome a e).attending es y)
+Gives {X} next m outcome x a (e ∷ es) y =
+    (rest : X) × ((next x a ≡ Some (e, rest)) × Gives next m outcome rest (event m outcome a e).attending es y)
 
 -- a list of events gives itself
 abbrev pub listed : {S B : Type 0} → Schedules (List Event) S B

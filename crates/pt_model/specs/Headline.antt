@@ -21,10 +21,14 @@ use Rattle.pt_model.specs.View.{has_exit, view, traced, most_reads, parts, Due, 
 -- programs of execve, exit codes of exit and exit_group, and other ends of a signal; no read of a memory
 -- gives more bytes than were asked for
 pub record IsTold {S B : Type 0} (m : Machine S B) : Type 0 where
-  pub by_clone : (s t : S) (child p : ℕ) (c : Call) (b d born : B) → m.call s child p c b ≡ Bears t d born → c.number ≡ clone_number
-  pub by_execve : (s t : S) (child p : ℕ) (c : Call) (b d : B) → m.call s child p c b ≡ Execs t d → c.number ≡ execve_number
-  pub by_exit : (s : S) (child p : ℕ) (c : Call) (b : B) (word : ℕ) → m.call s child p c b ≡ Ends word → (is_exit_number c.number ≡ true) × (is_exit_word word ≡ true)
-  pub by_signal : (s : S) (p : ℕ) (signal : Signal) (cause : Cause) (b : B) (word : ℕ) → m.take s p signal cause b ≡ Kills word → is_signal word ≡ true
+  pub by_clone : (s t : S) (child p : ℕ) (c : Call) (b d born : B) →
+      m.call s child p c b ≡ Bears t d born → c.number ≡ clone_number
+  pub by_execve : (s t : S) (child p : ℕ) (c : Call) (b d : B) →
+      m.call s child p c b ≡ Execs t d → c.number ≡ execve_number
+  pub by_exit : (s : S) (child p : ℕ) (c : Call) (b : B) (word : ℕ) → m.call s child p c b ≡ Ends word →
+      (is_exit_number c.number ≡ true) × (is_exit_word word ≡ true)
+  pub by_signal : (s : S) (p : ℕ) (signal : Signal) (cause : Cause) (b : B) (word : ℕ) →
+      m.take s p signal cause b ≡ Kills word → is_signal word ≡ true
   pub peeks : (b : B) (address most : ℕ) → length (m.peek b address most) ≤ most
 
 -- each read is one that is answered, and a text is whole after so many, whatever was read
@@ -67,7 +71,8 @@ traced_run m outcome o script s b events = world_run m outcome o script (first_w
 
 -- the untraced kernel's, of the same effective turns
 abbrev pub plain_run : {S B : Type 0} → Machine S B → (S → Outcome) → Options → Script → S → B → List Event → Kernel S B
-plain_run m outcome o script s b events = kernel_run m script o.follow (first_kernel s b) (effective m outcome o script (first_world s b) events)
+plain_run m outcome o script s b events =
+    kernel_run m script o.follow (first_kernel s b) (effective m outcome o script (first_world s b) events)
 
 -- what is claimed of a world and the plain kernel of its effective turns, at every moment
 pub record Headline {S B : Type 0} (outcome : S → Outcome) (o : Options) (w : World S B) (k : Kernel S B) : Type 0 where
@@ -80,13 +85,17 @@ pub record Headline {S B : Type 0} (outcome : S → Outcome) (o : Options) (w : 
   -- the trace begins a view's parts; at each Wait it is all of them but for those reported, and at the end all
   pub lost : ℕ → Bool
   pub tells : TellsView w.printed (parts o (view lost (traced o.follow k.log))) (IsPast w.tracer.focus)
-  pub kept_back : w.tracer.focus ≡ Waiting → NothingKeptBack o w.host.queue w.printed (view lost (traced o.follow k.log))
+  pub kept_back : w.tracer.focus ≡ Waiting →
+      NothingKeptBack o w.host.queue w.printed (view lost (traced o.follow k.log))
   -- once no tracee is left, each that was born has logged its end
-  pub all_ended : IsPast w.tracer.focus → (q : ℕ) → 1 ≤ q → q < k.child → traces o.follow q ≡ true → has_exit q k.log ≡ true
+  pub all_ended : IsPast w.tracer.focus →
+      (q : ℕ) → 1 ≤ q → q < k.child → traces o.follow q ≡ true → has_exit q k.log ≡ true
 
 -- for every set of options, script, beginning and list of events
 abbrev pub HeadlineAt : {S B : Type 0} → Machine S B → Type 0
-HeadlineAt {S} {B} m = (outcome : S → Outcome) (o : Options) → IsTexts o.texts → (script : Script) → IsScript script → (s : S) (b : B) (events : List Event) →
+HeadlineAt {S} {B} m =
+    (outcome : S → Outcome) (o : Options) → IsTexts o.texts → (script : Script) → IsScript script →
+    (s : S) (b : B) (events : List Event) →
     Headline outcome o (traced_run m outcome o script s b events) (plain_run m outcome o script s b events)
 
 -- for every machine over these two types

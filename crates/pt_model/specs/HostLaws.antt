@@ -27,19 +27,22 @@ HostsServeAlike S B = (m : Machine S B) (outcome : S → Outcome) (v : Hosting S
 
 -- with the request that is pending, and the count of effective turns
 abbrev pub HostsAttendAlike : Type 0 → Type 0 → Type 0
-HostsAttendAlike S B = (m : Machine S B) (outcome : S → Outcome) (follow : Bool) (v : Hosting S B) (e : Event) → IsFresh v →
+HostsAttendAlike S B =
+    (m : Machine S B) (outcome : S → Outcome) (follow : Bool) (v : Hosting S B) (e : Event) → IsFresh v →
     (attending_in (hosting_event m outcome follow v e).hosting ≡ (event m outcome (attending_in v) e).attending)
     × ((hosting_event m outcome follow v e).reply ≡ (event m outcome (attending_in v) e).reply)
     × ((hosting_event m outcome follow v e).hosting.turns ≡ v.turns ++ turned m (host_in v) e)
     × IsFresh (hosting_event m outcome follow v e).hosting
 
 abbrev pub HostsBeginAlike : Type 0 → Type 0 → Type 0
-HostsBeginAlike S B = (s : S) (b : B) → (host_in (first_hosting s b) ≡ (first_world s b).host) × IsFresh (first_hosting s b)
+HostsBeginAlike S B = (s : S) (b : B) →
+    (host_in (first_hosting s b) ≡ (first_world s b).host) × IsFresh (first_hosting s b)
 
 -- a turn is the kernel's own, under the empty script, or none
 abbrev pub HostsRunTheKernel : Type 0 → Type 0 → Type 0
 HostsRunTheKernel S B = (m : Machine S B) (follow : Bool) (v : Hosting S B) (p : ℕ) →
-    (hosting_turn m follow v p).running ≡ cond (is_effective m v.running.shared p (proc_in v p)) (running_turn m no_script follow v.running p) v.running
+    (hosting_turn m follow v p).running
+    ≡ cond (is_effective m v.running.shared p (proc_in v p)) (running_turn m no_script follow v.running p) v.running
 
 -- a script without rules
 abbrev pub EmptyScriptIsNone : Type 0
@@ -49,14 +52,19 @@ EmptyScriptIsNone = choice_of [] ≡ no_script
 abbrev pub TurnsTell : Type 0 → Type 0 → Type 0
 TurnsTell S B = (m : Machine S B) (c : Choice) (s : S) (child p : ℕ) (own : Own B) (w : Watch) →
     let o : Out S B = turn m c s child p own in
-    (told_stop w (own_mode o.own) (item_of o) (deed_of o.event) ≡ tracee_stop w o.own o.event) × (ends_dying (own_mode o.own) ≡ is_dying o.own)
+    (told_stop w (own_mode o.own) (item_of o) (deed_of o.event) ≡ tracee_stop w o.own o.event)
+    × (ends_dying (own_mode o.own) ≡ is_dying o.own)
 
 -- whether a host is ready, its queue and its tracees tell
 abbrev pub HostsAreReady : Type 0 → Type 0 → Type 0
-HostsAreReady S B = (m : Machine S B) (outcome : S → Outcome) (v : Hosting S B) → ready_in v.pending v.queue v.tracees ≡ is_ready m outcome (attending_in v)
+HostsAreReady S B = (m : Machine S B) (outcome : S → Outcome) (v : Hosting S B) →
+    ready_in v.pending v.queue v.tracees ≡ is_ready m outcome (attending_in v)
 
 -- whether it is able, the kernel tells of an effective turn
+abbrev pub IsTurnAble : {S B : Type 0} → Machine S B → Bool → Hosting S B → ℕ → Type 0
+IsTurnAble m follow v p =
+    (is_effective m v.running.shared p (proc_in v p) ≡ true) × IsAble m no_script follow v.running p
+
 abbrev pub HostsAreAble : Type 0 → Type 0 → Type 0
 HostsAreAble S B = (m : Machine S B) (follow : Bool) (v : Hosting S B) (p : ℕ) →
-    ((is_effective m v.running.shared p (proc_in v p) ≡ true) × IsAble m no_script follow v.running p → IsHostAble m (host_in v) p)
-    × (IsHostAble m (host_in v) p → (is_effective m v.running.shared p (proc_in v p) ≡ true) × IsAble m no_script follow v.running p)
+    (IsTurnAble m follow v p → IsHostAble m (host_in v) p) × (IsHostAble m (host_in v) p → IsTurnAble m follow v p)

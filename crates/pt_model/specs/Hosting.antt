@@ -59,7 +59,14 @@ abbrev pub proc_in : {S B : Type 0} → Hosting S B → ℕ → Proc B
 proc_in v p = as_proc (at Gone v.running.owns p) (traced_at v p)
 
 abbrev pub host_in : {S B : Type 0} → Hosting S B → Host S B
-host_in v = record { shared = v.running.shared; procs = proc_in v; queue = v.queue; tracees = v.tracees; messages = λ p. (traced_at v p).message; child = v.running.child }
+host_in v = record {
+  shared = v.running.shared;
+  procs = proc_in v;
+  queue = v.queue;
+  tracees = v.tracees;
+  messages = λ p. (traced_at v p).message;
+  child = v.running.child;
+}
 
 abbrev pub attending_in : {S B : Type 0} → Hosting S B → Attending S B
 attending_in v = record { host = host_in v; pending = v.pending }
@@ -79,9 +86,14 @@ message_after message p child w Execed = cond w.execs p message
 message_after message p child w (Forked b) = cond w.forks child message
 
 -- what is kept of a tracee after its turn; of who is none nothing is
-abbrev pub traced_after : {B : Type 0} → maps.FinMap nat_cmp Traced → ℕ → ℕ → ℕ → Option Watch → Own B → Event B → maps.FinMap nat_cmp Traced
+abbrev pub traced_after : {B : Type 0} → maps.FinMap nat_cmp Traced → ℕ → ℕ → ℕ
+    → Option Watch → Own B → Event B → maps.FinMap nat_cmp Traced
 traced_after traced p child message None own e = traced
-traced_after traced p child message (Some w) own e = maps.insert traced p (record { held = is_there (tracee_stop w own e); watch = Some w; message = message_after message p child w e })
+traced_after traced p child message (Some w) own e = maps.insert traced p (record {
+  held = is_there (tracee_stop w own e);
+  watch = Some w;
+  message = message_after message p child w e;
+})
 
 -- a child that is a tracee is held, and its EVENT_STOP reported
 abbrev pub with_newborn : {S B : Type 0} → Hosting S B → ℕ → Option Watch → Hosting S B
@@ -113,7 +125,9 @@ hosted v p t o = with_birth (record {
 
 -- a turn that is effective is the kernel's own, under the empty script
 abbrev pub hosting_turn : {S B : Type 0} → Machine S B → Bool → Hosting S B → ℕ → Hosting S B
-hosting_turn m follow v p = cond (is_effective m v.running.shared p (proc_in v p)) (hosted v p (traced_at v p) (turn_out m no_script follow v.running p)) v
+hosting_turn m follow v p =
+    cond (is_effective m v.running.shared p (proc_in v p))
+    (hosted v p (traced_at v p) (turn_out m no_script follow v.running p)) v
 
 -- What a turn tells: its mode and item, and what it did beside
 
@@ -187,7 +201,8 @@ with_answer v p message a = record {
 }
 
 -- a request to a process that is not held, or is ending, changes nothing
-abbrev pub hosting_to : {S B : Type 0} → Machine S B → Hosting S B → ℕ → ℕ → Proc B → Bool → Option Watch → Own B → Ask → Hosted S B
+abbrev pub hosting_to : {S B : Type 0} → Machine S B → Hosting S B
+    → ℕ → ℕ → Proc B → Bool → Option Watch → Own B → Ask → Hosted S B
 hosting_to m v p message t true (Some w) (Alive b stage) q = with_answer v p message (stopped m t b stage message q)
 hosting_to m v p message t true (Some w) (Dying word) q = refuses v
 hosting_to m v p message t true (Some w) Gone q = refuses v
@@ -200,7 +215,14 @@ released traced p None = traced
 released traced p (Some t) = maps.insert traced p (record { held = false; watch = t.watch; message = t.message })
 
 abbrev pub with_queue : {S B : Type 0} → Hosting S B → List Report → Hosting S B
-with_queue v queue = record { running = v.running; traced = v.traced; queue = queue; tracees = v.tracees; turns = v.turns; pending = v.pending }
+with_queue v queue = record {
+  running = v.running;
+  traced = v.traced;
+  queue = queue;
+  tracees = v.tracees;
+  turns = v.turns;
+  pending = v.pending;
+}
 
 abbrev pub took_report : {S B : Type 0} → Hosting S B → List Report → ℕ → Stop → Hosting S B
 took_report v rest p (Syscall_stop good) = with_queue v rest
@@ -223,13 +245,22 @@ hosting_wait v (r ∷ rest) qs = record { hosting = took_report v rest r.pid r.s
 abbrev pub hosting_serve : {S B : Type 0} → Machine S B → (S → Outcome) → Hosting S B → Request → Hosted S B
 hosting_serve m outcome v (Boot_with boot limit words) = record { hosting = v; reply = None }
 hosting_serve m outcome v Wait = hosting_wait v v.queue v.tracees
-hosting_serve m outcome v (To p q) = hosting_to m v p (traced_at v p).message (proc_in v p) (traced_at v p).held (traced_at v p).watch (at Gone v.running.owns p) q
+hosting_serve m outcome v (To p q) =
+    hosting_to m v p (traced_at v p).message (proc_in v p) (traced_at v p).held (traced_at v p).watch
+    (at Gone v.running.owns p) q
 hosting_serve m outcome v Ask_outcome = record { hosting = v; reply = Some (Outcome_is (outcome v.running.shared)) }
 
 -- Events, and the request that is pending
 
 abbrev pub with_pending : {S B : Type 0} → Hosting S B → Option Request → Hosting S B
-with_pending v pending = record { running = v.running; traced = v.traced; queue = v.queue; tracees = v.tracees; turns = v.turns; pending = pending }
+with_pending v pending = record {
+  running = v.running;
+  traced = v.traced;
+  queue = v.queue;
+  tracees = v.tracees;
+  turns = v.turns;
+  pending = pending;
+}
 
 -- a request is put; while another is pending the host is busy
 abbrev pub hosting_asked : {S B : Type 0} → Hosting S B → Request → Option Request → Option (Hosting S B)

@@ -20,10 +20,13 @@ use Rattle.pt_model.specs.View.{view, has_exit, has_kill}
 
 -- a turn of one process leaves what every other has to itself
 abbrev pub KernelTurnsApart : Type 0 → Type 0 → Type 0
-KernelTurnsApart S B = (m : Machine S B) (script : Script) (follow : Bool) (k : Kernel S B) (p q : ℕ) → p ≢ q → k.child ≢ q → (kernel_turn m script follow k p).owns q ≡ k.owns q
+KernelTurnsApart S B =
+    (m : Machine S B) (script : Script) (follow : Bool) (k : Kernel S B) (p q : ℕ) → p ≢ q → k.child ≢ q →
+    (kernel_turn m script follow k p).owns q ≡ k.owns q
 
 abbrev pub HostTurnsApart : Type 0 → Type 0 → Type 0
-HostTurnsApart S B = (m : Machine S B) (h : Host S B) (p q : ℕ) → p ≢ q → h.child ≢ q → (host_turn m h p).procs q ≡ h.procs q
+HostTurnsApart S B = (m : Machine S B) (h : Host S B) (p q : ℕ) → p ≢ q → h.child ≢ q →
+    (host_turn m h p).procs q ≡ h.procs q
 
 abbrev pub is_alive : {B : Type 0} → Own B → Bool
 is_alive (Alive b stage) = true
@@ -38,22 +41,32 @@ TheDeadHaveEnded S B = (m : Machine S B) (script : Script) (follow : Bool) (s : 
 
 -- a turn of a held process changes nothing
 abbrev pub TheHeldAreStill : Type 0 → Type 0 → Type 0
-TheHeldAreStill S B = (m : Machine S B) (h : Host S B) (p : ℕ) → (h.procs p).held ≡ true → m.killed h.shared p ≡ false → host_turn m h p ≡ h
+TheHeldAreStill S B = (m : Machine S B) (h : Host S B) (p : ℕ) →
+    (h.procs p).held ≡ true → m.killed h.shared p ≡ false → host_turn m h p ≡ h
 
 -- but for SIGKILL, by which a held tracee that lives is dying
 abbrev pub TheHeldCanBeKilled : Type 0 → Type 0 → Type 0
-TheHeldCanBeKilled S B = (m : Machine S B) (h : Host S B) (p : ℕ) (b : B) (stage : Stage) (w : Watch) → h.procs p ≡ record { own = Alive b stage; held = true; watch = Some w } → m.killed h.shared p ≡ true →
+TheHeldCanBeKilled S B =
+    (m : Machine S B) (h : Host S B) (p : ℕ) (b : B) (stage : Stage) (w : Watch) →
+    h.procs p ≡ record { own = Alive b stage; held = true; watch = Some w } → m.killed h.shared p ≡ true →
     (host_turn m h p).procs p ≡ record { own = Dying kill_word; held = true; watch = Some w }
 
 -- Wait tells the first report, and takes it
 abbrev pub FirstReportIsTold : Type 0 → Type 0 → Type 0
-FirstReportIsTold S B = (m : Machine S B) (outcome : S → Outcome) (h : Host S B) (r : Report) (rest : List Report) → h.queue ≡ r ∷ rest →
+FirstReportIsTold S B =
+    (m : Machine S B) (outcome : S → Outcome) (h : Host S B) (r : Report) (rest : List Report) →
+    h.queue ≡ r ∷ rest →
     ((serve m outcome h Wait).reply ≡ Some (told r.pid r.stop)) × ((serve m outcome h Wait).host.queue ≡ rest)
 
 -- under TRACEFORK the parent's EVENT_FORK comes before the child's EVENT_STOP, and both come last
 abbrev pub ForkIsToldFirst : Type 0 → Type 0 → Type 0
-ForkIsToldFirst S B = (m : Machine S B) (h : Host S B) (p : ℕ) (w : Watch) (born : B) → (h.procs p).watch ≡ Some w → w.forks ≡ true → is_effective m h.shared p (h.procs p) ≡ true → (host_turn_of m h p).event ≡ Forked born →
-    (host_turn m h p).queue ≡ h.queue ++ record { pid = p; stop = Event_stop At_fork } ∷ record { pid = h.child; stop = Event_stop At_start } ∷ []
+ForkIsToldFirst S B =
+    (m : Machine S B) (h : Host S B) (p : ℕ) (w : Watch) (born : B) →
+    (h.procs p).watch ≡ Some w → w.forks ≡ true →
+    is_effective m h.shared p (h.procs p) ≡ true → (host_turn_of m h p).event ≡ Forked born →
+    (host_turn m h p).queue
+    ≡ h.queue ++ record { pid = p; stop = Event_stop At_fork }
+    ∷ record { pid = h.child; stop = Event_stop At_start } ∷ []
 
 -- how many reports of a process stand in the queue
 abbrev pub reports_for : ℕ → List Report → ℕ
@@ -65,12 +78,15 @@ one_if b = cond b 1 0
 -- a turn that reaches the kernel reports its process once where it leaves it held, and else not at all;
 -- a dying process has no other report
 abbrev pub OneReportAStop : Type 0 → Type 0 → Type 0
-OneReportAStop S B = (m : Machine S B) (h : Host S B) (p : ℕ) → p ≢ h.child → is_effective m h.shared p (h.procs p) ≡ true →
-    reports_for p (host_turn m h p).queue ≡ cond (is_dying (host_turn_of m h p).own) 0 (reports_for p h.queue) + one_if ((host_turn m h p).procs p).held
+OneReportAStop S B =
+    (m : Machine S B) (h : Host S B) (p : ℕ) → p ≢ h.child → is_effective m h.shared p (h.procs p) ≡ true →
+    reports_for p (host_turn m h p).queue
+    ≡ cond (is_dying (host_turn_of m h p).own) 0 (reports_for p h.queue) + one_if ((host_turn m h p).procs p).held
 
 -- and it reports nobody else, but for a child
 abbrev pub NoOtherReport : Type 0 → Type 0 → Type 0
-NoOtherReport S B = (m : Machine S B) (h : Host S B) (p q : ℕ) → p ≢ q → h.child ≢ q → reports_for q (host_turn m h p).queue ≡ reports_for q h.queue
+NoOtherReport S B = (m : Machine S B) (h : Host S B) (p q : ℕ) → p ≢ q → h.child ≢ q →
+    reports_for q (host_turn m h p).queue ≡ reports_for q h.queue
 
 -- every script that is written as rules is one
 abbrev pub EveryScriptIsOne : Type 0

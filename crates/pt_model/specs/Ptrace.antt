@@ -16,7 +16,9 @@ pub use Rattle.pt_model.specs.declared.ptrace.Watch.{Watch}
 
 -- other bits are refused
 abbrev pub watch_of : ℕ → Option Watch
-watch_of o = cond (bit_and o 0x13 == o) (Some (record { good = bit_and o 1 == 1; forks = bit_and o 2 == 2; execs = bit_and o 0x10 == 0x10 })) None
+watch_of o =
+    cond (bit_and o 0x13 == o)
+    (Some (record { good = bit_and o 1 == 1; forks = bit_and o 2 == 2; execs = bit_and o 0x10 == 0x10 })) None
 
 -- a process as a tracer meets it
 pub record Proc (B : Type 0) : Type 0 where
@@ -155,8 +157,17 @@ abbrev pub host_turn_of : {S B : Type 0} → Machine S B → Host S B → ℕ �
 host_turn_of m h p = turn m no_choice h.shared h.child p (h.procs p).own
 
 abbrev pub host_turn : {S B : Type 0} → Machine S B → Host S B → ℕ → Host S B
-host_turn m h p = cond (is_effective m h.shared p (h.procs p)) (bears (moved h p (h.procs p).watch (host_turn_of m h p)) (h.procs p).watch (host_turn_of m h p).event) h
+host_turn m h p =
+    cond (is_effective m h.shared p (h.procs p))
+    (bears (moved h p (h.procs p).watch (host_turn_of m h p)) (h.procs p).watch (host_turn_of m h p).event) h
 
 -- process 1 is held from the boot, and no tracee yet
 abbrev pub first_host : {S B : Type 0} → S → (ℕ → Own B) → Host S B
-first_host s owns = record { shared = s; procs = λ p. record { own = owns p; held = p == 1; watch = None }; queue = []; tracees = []; messages = λ p. 0; child = 2 }
+first_host s owns = record {
+  shared = s;
+  procs = λ p. record { own = owns p; held = p == 1; watch = None };
+  queue = [];
+  tracees = [];
+  messages = λ p. 0;
+  child = 2;
+}

@@ -23,7 +23,10 @@ use Rattle.pt_model.specs.Headline.{IsTexts}
 
 -- one more reply, to what was shown so far
 abbrev pub after : Options → Script → Moved → Reply → Moved
-after o script x r = record { tracer = (next o script x.tracer r).tracer; printed = x.printed ++ (next o script x.tracer r).printed }
+after o script x r = record {
+  tracer = (next o script x.tracer r).tracer;
+  printed = x.printed ++ (next o script x.tracer r).printed;
+}
 
 abbrev pub after_all : Options → Script → Moved → List Reply → Moved
 after_all o script x [] = x
@@ -40,39 +43,51 @@ reply_to m outcome w None e = None
 reply_to m outcome w (Some q) (Turn p) = None
 reply_to m outcome w (Some q) Serve = (serve m outcome w.host q).reply
 
-abbrev pub replies : {S B : Type 0} → Machine S B → (S → Outcome) → Options → Script → World S B → List Event → List Reply
+abbrev pub replies : {S B : Type 0} → Machine S B → (S → Outcome) → Options → Script
+    → World S B → List Event → List Reply
 replies m outcome o script w [] = []
-replies m outcome o script w (e ∷ es) = option_to_list (reply_to m outcome w (request o w.tracer.focus) e) ++ replies m outcome o script (happens m outcome o script w e) es
+replies m outcome o script w (e ∷ es) =
+    option_to_list (reply_to m outcome w (request o w.tracer.focus) e)
+    ++ replies m outcome o script (happens m outcome o script w e) es
 
 -- What a tracer asks and shows is a function of options, script and replies: no world shows it more.
 abbrev pub RepliesTellAll : Type 0 → Type 0 → Type 0
-RepliesTellAll S B = (m : Machine S B) (outcome : S → Outcome) (o : Options) (script : Script) (s : S) (b : B) (events : List Event) →
+RepliesTellAll S B =
+    (m : Machine S B) (outcome : S → Outcome) (o : Options) (script : Script) (s : S) (b : B) (events : List Event) →
     let w : World S B = world_run m outcome o script (first_world s b) events in
-    told_by o script (Agreed ∷ replies m outcome o script (first_world s b) events) ≡ record { tracer = w.tracer; printed = w.printed }
+    told_by o script (Agreed ∷ replies m outcome o script (first_world s b) events)
+    ≡ record { tracer = w.tracer; printed = w.printed }
 
 abbrev pub admits : Options → Tracer → Reply → Bool
 admits o t r = admits_at o t.known t.tracees t.focus r
 
 -- a reply that is admitted is of a kind that answers what was asked
 abbrev pub AdmittedRepliesAnswer : Type 0
-AdmittedRepliesAnswer = (o : Options) (t : Tracer) (q : Request) (r : Reply) → request o t.focus ≡ Some q → admits o t r ≡ true → answers q r ≡ true
+AdmittedRepliesAnswer = (o : Options) (t : Tracer) (q : Request) (r : Reply) →
+    request o t.focus ≡ Some q → admits o t r ≡ true → answers q r ≡ true
 
 -- Boot's Done comes first, and then process 1 is seized
 abbrev pub BootComesFirst : Type 0
-BootComesFirst = (o : Options) (script : Script) → told_by o script (Agreed ∷ []) ≡ record { tracer = first_tracer; printed = [] }
+BootComesFirst = (o : Options) (script : Script) →
+    told_by o script (Agreed ∷ []) ≡ record { tracer = first_tracer; printed = [] }
 
 -- what is shown stays shown
 abbrev pub TracesGrow : Type 0
-TracesGrow = (o : Options) (script : Script) (rs more : List Reply) → (later : List Part) × (told_by o script (rs ++ more)).printed ≡ (told_by o script rs).printed ++ later
+TracesGrow = (o : Options) (script : Script) (rs more : List Reply) →
+    (later : List Part) × (told_by o script (rs ++ more)).printed ≡ (told_by o script rs).printed ++ later
 
 -- after a reply that isn't admitted nothing more is shown, asked or taken
 abbrev pub FaultsAreForGood : Type 0
-FaultsAreForGood = (o : Options) (script : Script) (rs more : List Reply) (bad : Reply) → admits o (told_by o script rs).tracer bad ≡ false →
-    ((told_by o script (rs ++ bad ∷ more)).printed ≡ (told_by o script rs).printed) × ((told_by o script (rs ++ bad ∷ more)).tracer.focus ≡ Faulted) × ((told_by o script (rs ++ bad ∷ more)).tracer.taken ≡ (told_by o script rs).tracer.taken)
+FaultsAreForGood = (o : Options) (script : Script) (rs more : List Reply) (bad : Reply) →
+    admits o (told_by o script rs).tracer bad ≡ false →
+    ((told_by o script (rs ++ bad ∷ more)).printed ≡ (told_by o script rs).printed)
+    × ((told_by o script (rs ++ bad ∷ more)).tracer.focus ≡ Faulted)
+    × ((told_by o script (rs ++ bad ∷ more)).tracer.taken ≡ (told_by o script rs).tracer.taken)
 
 -- the count of replies counts them, until a fault
 abbrev pub TakenIsCounted : Type 0
-TakenIsCounted = (o : Options) (script : Script) (rs : List Reply) → ((told_by o script rs).tracer.focus ≡ Faulted → ⊥) → (told_by o script rs).tracer.taken ≡ length rs
+TakenIsCounted = (o : Options) (script : Script) (rs : List Reply) →
+    ((told_by o script rs).tracer.focus ≡ Faulted → ⊥) → (told_by o script rs).tracer.taken ≡ length rs
 
 -- How many requests are made
 
@@ -85,15 +100,19 @@ one_if_asked o t = cond (is_there (request o t.focus)) 1 0
 
 -- requests since the last status or the beginning, after one more reply: the pending one is counted
 abbrev pub asked_after : Options → Script → Tracer → ℕ → Reply → ℕ
-asked_after o script t asked r = cond (admits o t r && is_status t.focus r) (one_if_asked o (next o script t r).tracer) (asked + one_if_asked o (next o script t r).tracer)
+asked_after o script t asked r =
+    cond (admits o t r && is_status t.focus r)
+    (one_if_asked o (next o script t r).tracer) (asked + one_if_asked o (next o script t r).tracer)
 
 abbrev pub asked_since : Options → Script → Tracer → ℕ → List Reply → ℕ
 asked_since o script t asked [] = asked
-asked_since o script t asked (r ∷ rs) = asked_since o script (next o script t r).tracer (asked_after o script t asked r) rs
+asked_since o script t asked (r ∷ rs) =
+    asked_since o script (next o script t r).tracer (asked_after o script t asked r) rs
 
 -- before the first status, between two, and after the last there are at most 100 requests, whatever the replies are
 abbrev pub FewRequests : Type 0
-FewRequests = (o : Options) → IsTexts o.texts → (script : Script) (rs : List Reply) → asked_since o script new_tracer 0 rs ≤ 100
+FewRequests = (o : Options) → IsTexts o.texts → (script : Script) (rs : List Reply) →
+    asked_since o script new_tracer 0 rs ≤ 100
 
 -- The hand
 
@@ -116,17 +135,22 @@ comes_to_hand p (Some (Event_stop event)) = Some p
 comes_to_hand p (Some (Ended word)) = None
 
 abbrev pub StatusesComeToHand : Type 0
-StatusesComeToHand = (o : Options) (script : Script) (t : Tracer) (p : ℕ) (status : Status) → t.focus ≡ Waiting → admits o t (Status_is p status) ≡ true →
+StatusesComeToHand = (o : Options) (script : Script) (t : Tracer) (p : ℕ) (status : Status) →
+    t.focus ≡ Waiting → admits o t (Status_is p status) ≡ true →
     in_hand (next o script t (Status_is p status)).tracer.focus ≡ comes_to_hand p (stop_of status.word)
 
 -- no other process comes to hand by a reply that concerns it
 abbrev pub TheHandStays : Type 0
-TheHandStays = (o : Options) (script : Script) (t : Tracer) (p q : ℕ) (place : Place) (r : Reply) → t.focus ≡ Serving p place → in_hand (next o script t r).tracer.focus ≡ Some q → q ≡ p
+TheHandStays = (o : Options) (script : Script) (t : Tracer) (p q : ℕ) (place : Place) (r : Reply) →
+    t.focus ≡ Serving p place → in_hand (next o script t r).tracer.focus ≡ Some q → q ≡ p
 
 -- an exit whose entry was never read is neither read nor shown
 abbrev pub UnreadCallsHaveNoExit : Type 0
-UnreadCallsHaveNoExit = (o : Options) (script : Script) (t : Tracer) (p : ℕ) (status : Status) (good : Bool) → t.focus ≡ Waiting → stop_of status.word ≡ Some (Syscall_stop good) → (t.known p).inside ≡ true → was_read (t.known p).standing ≡ false → admits o t (Status_is p status) ≡ true →
-    ((next o script t (Status_is p status)).tracer.focus ≡ Serving p (Resuming 0)) × ((next o script t (Status_is p status)).printed ≡ [])
+UnreadCallsHaveNoExit = (o : Options) (script : Script) (t : Tracer) (p : ℕ) (status : Status) (good : Bool) →
+    t.focus ≡ Waiting → stop_of status.word ≡ Some (Syscall_stop good) →
+    (t.known p).inside ≡ true → was_read (t.known p).standing ≡ false → admits o t (Status_is p status) ≡ true →
+    ((next o script t (Status_is p status)).tracer.focus ≡ Serving p (Resuming 0))
+    × ((next o script t (Status_is p status)).printed ≡ [])
 
 -- Seize, and the last request to a tracee in a stop
 abbrev pub LetsGo : Place → Type 0
@@ -142,7 +166,8 @@ LetsGo (Resuming n) = Unit {0}
 
 -- A tracee in hand is let go, or met ESRCH, before Wait is asked again: nothing that was learnt is dropped.
 abbrev pub NobodyIsLeftHeld : Type 0
-NobodyIsLeftHeld = (o : Options) (script : Script) (t : Tracer) (p : ℕ) (place : Place) (r : Reply) → t.focus ≡ Serving p place → admits o t r ≡ true → (next o script t r).tracer.focus ≡ Waiting →
+NobodyIsLeftHeld = (o : Options) (script : Script) (t : Tracer) (p : ℕ) (place : Place) (r : Reply) →
+    t.focus ≡ Serving p place → admits o t r ≡ true → (next o script t r).tracer.focus ≡ Waiting →
     (LetsGo place × (r ≡ Agreed)) ⊎ (r ≡ esrch)
 
 -- these replies let the tracee in hand go: with the reply to its last request, or with ESRCH
@@ -157,4 +182,5 @@ pub record LetGo (o : Options) (script : Script) (x : Moved) (p : ℕ) (rs : Lis
 
 -- so whoever came to hand was let go before the next Wait, whatever the replies were
 abbrev pub EachIsLetGo : Type 0
-EachIsLetGo = (o : Options) (script : Script) (x : Moved) (p : ℕ) (place : Place) (rs : List Reply) → x.tracer.focus ≡ Serving p place → (after_all o script x rs).tracer.focus ≡ Waiting → LetGo o script x p rs
+EachIsLetGo = (o : Options) (script : Script) (x : Moved) (p : ℕ) (place : Place) (rs : List Reply) →
+    x.tracer.focus ≡ Serving p place → (after_all o script x rs).tracer.focus ≡ Waiting → LetGo o script x p rs

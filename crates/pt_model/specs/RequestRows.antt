@@ -113,7 +113,8 @@ pub record OptionRows : Type 0 where
   pub high : says (seized 0x13 writing) (To 1 (SetOptions 0x20)) ≡ Some einval
   pub with_sysgood : says (at_entry 1 writing) Wait ≡ status 1 0x857f
   pub without_sysgood : says (at_entry 0 writing) Wait ≡ status 1 0x57f
-  pub set_before_the_stop : says (turns 1 3 (resumed 1 (after (waited (seized 1 writing)) (To 1 (SetOptions 0))))) Wait ≡ status 1 0x57f
+  pub set_before_the_stop : says (turns 1 3 (resumed 1 (after (waited (seized 1 writing)) (To 1 (SetOptions 0))))) Wait
+      ≡ status 1 0x57f
 
 -- the length is looked at first
 pub record PeekRows : Type 0 where
@@ -140,7 +141,8 @@ pub record ResumeRows : Type 0 where
   pub fork_stop_signal : says (at_fork 0x13) (To 1 (Syscall 10)) ≡ Some eio
 
 pub record SigInfoRows : Type 0 where
-  pub of_fault : says at_signal (To 1 SigInfo) ≡ Some (Info_is (record { signal = 11; code = 1; pid = 0; status = 0; address = 16 }))
+  pub of_fault : says at_signal (To 1 SigInfo)
+      ≡ Some (Info_is (record { signal = 11; code = 1; pid = 0; status = 0; address = 16 }))
   pub at_start : says (seized 0x13 writing) (To 1 SigInfo) ≡ Some einval
   pub at_entry_stop : says (at_entry 0x13 writing) (To 1 SigInfo) ≡ Some einval
   pub at_exit_stop : says (at_exit 0x13 writing) (To 1 SigInfo) ≡ Some einval

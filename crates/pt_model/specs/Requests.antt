@@ -70,7 +70,13 @@ address_of (Killed p v) = 0
 address_of (Fault code a) = a
 
 abbrev pub info_of : Signal → Cause → Info
-info_of signal cause = record { signal = signal.number; code = code_of cause; pid = sender_of cause; status = status_of cause; address = address_of cause }
+info_of signal cause = record {
+  signal = signal.number;
+  code = code_of cause;
+  pid = sender_of cause;
+  status = status_of cause;
+  address = address_of cause;
+}
 
 -- at another stop than a signal's the answer is EINVAL
 abbrev pub info_at : Stage → Reply
@@ -134,15 +140,21 @@ abbrev pub stopped : {S B : Type 0} → Machine S B → Proc B → B → Stage �
 stopped m t b stage message (Seize options) = says t esrch
 stopped m t b stage message (SetOptions options) = set_options t (watch_of options)
 stopped m t b stage message GetRegs = says t (Registers_are (m.regs b))
-stopped m t b stage message (SetRegs r) = says (record { own = Alive (m.with_regs b r) stage; held = t.held; watch = t.watch }) Agreed
-stopped m t b stage message (Peek address length) = says t (cond (may_peek length) (peeked (m.peek b address length)) einval)
+stopped m t b stage message (SetRegs r) =
+    says (record { own = Alive (m.with_regs b r) stage; held = t.held; watch = t.watch }) Agreed
+stopped m t b stage message (Peek address length) =
+    says t (cond (may_peek length) (peeked (m.peek b address length)) einval)
 stopped m t b stage message (Syscall n) = resumed t b stage n
 stopped m t b stage message EventMsg = says t (Message_is message)
 stopped m t b stage message SigInfo = says t (info_at stage)
 
 abbrev pub seize : {B : Type 0} → Proc B → Option Watch → Answered B
 seize t None = says t einval
-seize t (Some w) = record { proc = record { own = t.own; held = t.held; watch = Some w }; reply = Agreed; seized = true }
+seize t (Some w) = record {
+  proc = record { own = t.own; held = t.held; watch = Some w };
+  reply = Agreed;
+  seized = true;
+}
 
 -- held, and no tracee: process 1 before Seize, the one process that can be seized
 abbrev pub unseized : {B : Type 0} → Proc B → Ask → Answered B
@@ -179,7 +191,14 @@ answered h p a = record {
 -- Wait
 
 abbrev pub with_queue : {S B : Type 0} → Host S B → List Report → Host S B
-with_queue h queue = record { shared = h.shared; procs = h.procs; queue = queue; tracees = h.tracees; messages = h.messages; child = h.child }
+with_queue h queue = record {
+  shared = h.shared;
+  procs = h.procs;
+  queue = queue;
+  tracees = h.tracees;
+  messages = h.messages;
+  child = h.child;
+}
 
 -- the first report is taken; a process whose end was told is no tracee any more, and goes on to its zombie
 abbrev pub take_report : {S B : Type 0} → Host S B → List Report → ℕ → Stop → Host S B
@@ -214,5 +233,8 @@ serve_wait h (r ∷ rest) qs = record { host = take_report h rest r.pid r.stop; 
 abbrev pub serve : {S B : Type 0} → Machine S B → (S → Outcome) → Host S B → Request → Served S B
 serve m outcome h (Boot_with boot limit words) = record { host = h; reply = None }
 serve m outcome h Wait = serve_wait h h.queue h.tracees
-serve m outcome h (To p q) = record { host = answered h p (answer m (h.messages p) (h.procs p) q); reply = Some (answer m (h.messages p) (h.procs p) q).reply }
+serve m outcome h (To p q) = record {
+  host = answered h p (answer m (h.messages p) (h.procs p) q);
+  reply = Some (answer m (h.messages p) (h.procs p) q).reply;
+}
 serve m outcome h Ask_outcome = record { host = h; reply = Some (Outcome_is (outcome h.shared)) }

@@ -21,11 +21,17 @@ first_read half (x ∷ xs) = x
 
 -- all calls but getpid are shown
 abbrev pub options : Bool → Options
-options follow = record { follow = follow; shows = λ n. not (n == 172); texts = record { wants = reads_once; text = first_read } }
+options follow = record {
+  follow = follow;
+  shows = λ n. not (n == 172);
+  texts = record { wants = reads_once; text = first_read };
+}
 
 -- the second write fails with 5, and a getpid is replaced by 9 and joined by SIGUSR1
 abbrev pub script : Script
-script call n = cond ((call == 64) && (n == 2)) (record { result = Some (pos 5); signal = None }) (cond (call == 172) (record { result = Some (pos 9); signal = Some usr1 }) no_choice)
+script call n =
+    cond ((call == 64) && (n == 2)) (record { result = Some (pos 5); signal = None })
+    (cond (call == 172) (record { result = Some (pos 9); signal = Some usr1 }) no_choice)
 
 -- what is asked of machines, texts and scripts can be met
 pub record PremisesOfTiny : Type 0 where
@@ -73,21 +79,38 @@ kills_child = 220 ∷ 17 ∷ 129 ∷ 209 ∷ 94 ∷ 3 ∷ []
 
 pub record RunsOfTiny : Type 0 where
   -- the second write is replaced, and not done
-  pub replaced_write : told (traced false writes 40) ≡ (0, 1, 64, 0) ∷ (1, 1, 1, 0) ∷ (0, 1, 64, 0) ∷ (1, 1, 5, 1) ∷ (0, 1, 94, 0) ∷ (3, 1, 768, 0) ∷ []
-  pub replaced_outcome : ends (traced false writes 40) ≡ Whole (record { console = 7 ∷ []; files = []; ended = record { pid = 1; word = 768 } ∷ [] })
-  pub plain_outcome : tiny_outcome (plain_run tiny tiny_outcome (options false) script nothing_yet (body writes) (rounds 40)).shared ≡ record { console = 7 ∷ []; files = []; ended = record { pid = 1; word = 768 } ∷ [] }
+  pub replaced_write : told (traced false writes 40)
+      ≡ (0, 1, 64, 0) ∷ (1, 1, 1, 0) ∷ (0, 1, 64, 0) ∷ (1, 1, 5, 1) ∷ (0, 1, 94, 0) ∷ (3, 1, 768, 0) ∷ []
+  pub replaced_outcome : ends (traced false writes 40)
+      ≡ Whole (record { console = 7 ∷ []; files = []; ended = record { pid = 1; word = 768 } ∷ [] })
+  pub plain_outcome :
+      tiny_outcome (plain_run tiny tiny_outcome (options false) script nothing_yet (body writes) (rounds 40)).shared
+      ≡ record { console = 7 ∷ []; files = []; ended = record { pid = 1; word = 768 } ∷ [] }
   -- the events are used up before the end
   pub used_up : ends (traced false writes 7) ≡ Events_used_up
   -- a call that is not shown is replaced too, and its joined signal ends the process
   pub joined_signal : told (traced false (172 ∷ 0 ∷ 94 ∷ 3 ∷ []) 40) ≡ (2, 1, 10, 0) ∷ (3, 1, 10, 0) ∷ []
-  pub fault : told (traced false (64 ∷ 7 ∷ 999 ∷ 16 ∷ []) 40) ≡ (0, 1, 64, 0) ∷ (1, 1, 1, 0) ∷ (2, 1, 11, 16) ∷ (3, 1, 11, 0) ∷ []
+  pub fault : told (traced false (64 ∷ 7 ∷ 999 ∷ 16 ∷ []) 40)
+      ≡ (0, 1, 64, 0) ∷ (1, 1, 1, 0) ∷ (2, 1, 11, 16) ∷ (3, 1, 11, 0) ∷ []
   -- an ignored signal, sent to itself
-  pub ignored : told (traced false (129 ∷ 117 ∷ 94 ∷ 3 ∷ []) 40) ≡ (0, 1, 129, 0) ∷ (1, 1, 0, 0) ∷ (2, 1, 17, 0) ∷ (0, 1, 94, 0) ∷ (3, 1, 768, 0) ∷ []
-  pub new_program : told (traced false (221 ∷ 0 ∷ 94 ∷ 3 ∷ []) 40) ≡ (0, 1, 221, 0) ∷ (1, 1, 0, 0) ∷ (0, 1, 94, 0) ∷ (3, 1, 768, 0) ∷ []
+  pub ignored : told (traced false (129 ∷ 117 ∷ 94 ∷ 3 ∷ []) 40)
+      ≡ (0, 1, 129, 0) ∷ (1, 1, 0, 0) ∷ (2, 1, 17, 0) ∷ (0, 1, 94, 0) ∷ (3, 1, 768, 0) ∷ []
+  pub new_program : told (traced false (221 ∷ 0 ∷ 94 ∷ 3 ∷ []) 40)
+      ≡ (0, 1, 221, 0) ∷ (1, 1, 0, 0) ∷ (0, 1, 94, 0) ∷ (3, 1, 768, 0) ∷ []
   -- without follow the child writes unseen, and may live on
   pub unseen_child : told (traced false clones 40) ≡ (0, 1, 220, 0) ∷ (1, 1, 2, 0) ∷ (0, 1, 94, 0) ∷ (3, 1, 768, 0) ∷ []
-  pub unseen_write : ends (traced false clones 40) ≡ Whole (record { console = 5 ∷ []; files = []; ended = record { pid = 1; word = 768 } ∷ [] })
+  pub unseen_write : ends (traced false clones 40)
+      ≡ Whole (record { console = 5 ∷ []; files = []; ended = record { pid = 1; word = 768 } ∷ [] })
   -- with follow it is seen
-  pub seen_child : told (traced true clones 60) ≡ (0, 1, 220, 0) ∷ (1, 1, 2, 0) ∷ (0, 2, 64, 0) ∷ (0, 1, 94, 0) ∷ (1, 2, 1, 0) ∷ (3, 1, 768, 0) ∷ (0, 2, 94, 0) ∷ (3, 2, 0, 0) ∷ []
-  pub seen_outcome : ends (traced true clones 60) ≡ Whole (record { console = 5 ∷ []; files = []; ended = record { pid = 1; word = 768 } ∷ record { pid = 2; word = 0 } ∷ [] })
-  pub killed_child : told (traced true kills_child 60) ≡ (0, 1, 220, 0) ∷ (1, 1, 2, 0) ∷ (0, 2, 64, 0) ∷ (0, 1, 129, 0) ∷ (1, 2, 1, 0) ∷ (3, 2, 9, 0) ∷ (1, 1, 0, 0) ∷ (0, 1, 94, 0) ∷ (3, 1, 768, 0) ∷ []
+  pub seen_child : told (traced true clones 60)
+      ≡ (0, 1, 220, 0) ∷ (1, 1, 2, 0) ∷ (0, 2, 64, 0) ∷ (0, 1, 94, 0) ∷ (1, 2, 1, 0)
+      ∷ (3, 1, 768, 0) ∷ (0, 2, 94, 0) ∷ (3, 2, 0, 0) ∷ []
+  pub seen_outcome : ends (traced true clones 60)
+      ≡ Whole (record {
+        console = 5 ∷ [];
+        files = [];
+        ended = record { pid = 1; word = 768 } ∷ record { pid = 2; word = 0 } ∷ [];
+      })
+  pub killed_child : told (traced true kills_child 60)
+      ≡ (0, 1, 220, 0) ∷ (1, 1, 2, 0) ∷ (0, 2, 64, 0) ∷ (0, 1, 129, 0) ∷ (1, 2, 1, 0)
+      ∷ (3, 2, 9, 0) ∷ (1, 1, 0, 0) ∷ (0, 1, 94, 0) ∷ (3, 1, 768, 0) ∷ []

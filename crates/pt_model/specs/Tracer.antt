@@ -86,11 +86,25 @@ signal_word (Some signal) = signal.number
 
 -- a call is counted, and becomes the open one
 abbrev pub opened : Known → Regs → Option ℕ → Known
-opened k r saved = record { inside = k.inside; called = call_of r; saved = saved; counts = put k.counts (a7_of r) (k.counts (a7_of r) + 1); standing = Read }
+opened k r saved = record {
+  inside = k.inside;
+  called = call_of r;
+  saved = saved;
+  counts = put k.counts (a7_of r) (k.counts (a7_of r) + 1);
+  standing = Read;
+}
 
 abbrev pub entry_with : Options → ℕ → Regs → List (List ℕ) → Known → ℕ → Option ℕ → Heard
-entry_with o p r got k signal None = record { known = opened k r None; next = Some (Resuming signal); printed = enter_part o p (call_of r) (sp_of r) got }
-entry_with o p r got k signal (Some x) = record { known = opened k r (Some x); next = Some (Entry_set (with_a7 r no_call) signal); printed = enter_part o p (call_of r) (sp_of r) got }
+entry_with o p r got k signal None = record {
+  known = opened k r None;
+  next = Some (Resuming signal);
+  printed = enter_part o p (call_of r) (sp_of r) got;
+}
+entry_with o p r got k signal (Some x) = record {
+  known = opened k r (Some x);
+  next = Some (Entry_set (with_a7 r no_call) signal);
+  printed = enter_part o p (call_of r) (sp_of r) got;
+}
 
 abbrev pub entry_by : Options → ℕ → Regs → List (List ℕ) → Known → Choice → Heard
 entry_by o p r got k c = entry_with o p r got k (signal_word c.signal) (result_word c)
@@ -114,7 +128,11 @@ abbrev pub closed : Known → Known
 closed k = record { inside = k.inside; called = k.called; saved = None; counts = k.counts; standing = k.standing }
 
 abbrev pub exit : Options → ℕ → ℕ → Bool → List (List ℕ) → Known → Heard
-exit o p x replaced got k = record { known = closed k; next = Some (Resuming 0); printed = done_part o p k.called x replaced got }
+exit o p x replaced got k = record {
+  known = closed k;
+  next = Some (Resuming 0);
+  printed = done_part o p k.called x replaced got;
+}
 
 abbrev pub look_exit : Options → ℕ → ℕ → Bool → List (List ℕ) → Known → Option (ℕ × ℕ) → Heard
 look_exit o p x replaced got k None = exit o p x replaced got k
@@ -159,7 +177,11 @@ hears o script p k (Entry_set r n) Agreed = moves k (Resuming n)
 hears o script p k Exit_regs (Registers_are r) = exit_with o p r k k.saved
 hears o script p k (Exit_set r x) Agreed = read_exit o p x true [] k (o.shows k.called.number)
 hears o script p k (Exit_peek x replaced got w) reply = peeked_exit o p x replaced got k (bytes_of reply)
-hears o script p k (Signal_info n) (Info_is i) = record { known = k; next = Some (Resuming n); printed = Part_signal p i ∷ [] }
+hears o script p k (Signal_info n) (Info_is i) = record {
+  known = k;
+  next = Some (Resuming n);
+  printed = Part_signal p i ∷ [];
+}
 hears o script p k _ _ = nothing k
 
 -- what is asked now
@@ -219,11 +241,23 @@ first_place o k true = exit_place (was_read k.standing && (o.shows k.called.numb
 first_place o k false = Entry_regs
 
 abbrev pub stands_at : Known → Standing → Known
-stands_at k standing = record { inside = k.inside; called = k.called; saved = k.saved; counts = k.counts; standing = standing }
+stands_at k standing = record {
+  inside = k.inside;
+  called = k.called;
+  saved = k.saved;
+  counts = k.counts;
+  standing = standing;
+}
 
 -- at a syscall stop a call begins, or ends
 abbrev pub turned_over : Known → Known
-turned_over k = record { inside = not k.inside; called = k.called; saved = k.saved; counts = k.counts; standing = cond k.inside Between Unread }
+turned_over k = record {
+  inside = not k.inside;
+  called = k.called;
+  saved = k.saved;
+  counts = k.counts;
+  standing = cond k.inside Between Unread;
+}
 
 abbrev pub event_standing : EventStop → Standing
 event_standing At_fork = After_event
@@ -232,10 +266,17 @@ event_standing At_start = Between
 
 -- a status was taken: entry and exit stops alternate (ptrace(2), "Syscall-stops")
 abbrev pub took_stop : Options → (ℕ → Known) → ℕ → Stop → Next
-took_stop o known p (Syscall_stop good) = stays (put known p (turned_over (known p))) (Serving p (first_place o (known p) (known p).inside))
-took_stop o known p (Signal_stop signal) = stays (put known p (stands_at (known p) After_signal)) (Serving p (Signal_info signal.number))
-took_stop o known p (Event_stop event) = stays (put known p (stands_at (known p) (event_standing event))) (Serving p (Resuming 0))
-took_stop o known p (Ended word) = record { known = put known p (stands_at (known p) At_end); focus = Waiting; printed = Part_exit p word ∷ [] }
+took_stop o known p (Syscall_stop good) =
+    stays (put known p (turned_over (known p))) (Serving p (first_place o (known p) (known p).inside))
+took_stop o known p (Signal_stop signal) =
+    stays (put known p (stands_at (known p) After_signal)) (Serving p (Signal_info signal.number))
+took_stop o known p (Event_stop event) =
+    stays (put known p (stands_at (known p) (event_standing event))) (Serving p (Resuming 0))
+took_stop o known p (Ended word) = record {
+  known = put known p (stands_at (known p) At_end);
+  focus = Waiting;
+  printed = Part_exit p word ∷ [];
+}
 
 abbrev pub took_status : Options → (ℕ → Known) → ℕ → Option Stop → Next
 took_status o known p None = stays known Waiting
@@ -257,7 +298,8 @@ next_at o script known focus _ = stays known focus
 -- only tracees are told of, and each as it stands
 abbrev pub admits_stop : Options → ℕ → Known → Option Stop → Bool
 admits_stop o p k None = false
-admits_stop o p k (Some stop) = traces o.follow p && stop_fits o.follow k.called.number (is_there k.saved) k.standing stop
+admits_stop o p k (Some stop) =
+    traces o.follow p && stop_fits o.follow k.called.number (is_there k.saved) k.standing stop
 
 abbrev pub is_empty : List ℕ → Bool
 is_empty [] = true
@@ -305,20 +347,39 @@ pub record Moved : Type 0 where
   pub printed : List Part
 
 abbrev pub takes : Tracer → Focus → Reply → Next → Moved
-takes t focus reply n = record { tracer = record { known = n.known; tracees = tracees_after t.tracees focus reply; focus = n.focus; taken = suc t.taken }; printed = n.printed }
+takes t focus reply n = record {
+  tracer = record {
+    known = n.known;
+    tracees = tracees_after t.tracees focus reply;
+    focus = n.focus;
+    taken = suc t.taken;
+  };
+  printed = n.printed;
+}
 
 abbrev pub faults : Tracer → Moved
-faults t = record { tracer = record { known = t.known; tracees = t.tracees; focus = Faulted; taken = t.taken }; printed = [] }
+faults t = record {
+  tracer = record { known = t.known; tracees = t.tracees; focus = Faulted; taken = t.taken };
+  printed = [];
+}
 
 -- with this request pending; after a fault every reply is a fault, and shows nothing
 abbrev pub next_from : Options → Script → Tracer → Focus → Reply → Moved
-next_from o script t focus reply = cond (admits_at o t.known t.tracees focus reply) (takes t focus reply (next_at o script t.known focus reply)) (faults t)
+next_from o script t focus reply =
+    cond (admits_at o t.known t.tracees focus reply)
+    (takes t focus reply (next_at o script t.known focus reply)) (faults t)
 
 abbrev pub next : Options → Script → Tracer → Reply → Moved
 next o script t reply = next_from o script t t.focus reply
 
 abbrev pub new_known : Known
-new_known = record { inside = false; called = record { number = no_call; arguments = 0 ∷ 0 ∷ 0 ∷ 0 ∷ 0 ∷ 0 ∷ [] }; saved = None; counts = λ n. 0; standing = Unmet }
+new_known = record {
+  inside = false;
+  called = record { number = no_call; arguments = 0 ∷ 0 ∷ 0 ∷ 0 ∷ 0 ∷ 0 ∷ [] };
+  saved = None;
+  counts = λ n. 0;
+  standing = Unmet;
+}
 
 abbrev pub new_tracer : Tracer
 new_tracer = record { known = λ p. new_known; tracees = []; focus = Booting; taken = 0 }

@@ -46,7 +46,8 @@ kills (Some n) = is_kill n.item
 -- the log, where the processes in lost lose their last item before such an end
 abbrev pub view : (ℕ → Bool) → List Noted → List Noted
 view lost [] = []
-view lost (n ∷ log) = cond (lost (pid_of n.item) && kills (first_of (pid_of n.item) log)) (view lost log) (n ∷ view lost log)
+view lost (n ∷ log) =
+    cond (lost (pid_of n.item) && kills (first_of (pid_of n.item) log)) (view lost log) (n ∷ view lost log)
 
 -- an end by SIGKILL stands in the log
 abbrev pub is_killed : Item → Bool
@@ -92,7 +93,8 @@ most_reads = 96
 -- what an item shows, from what its process could read when it was logged
 abbrev pub item_parts : Options → Note → Item → List Part
 item_parts o note (Enter p c) = enter_part o p c note.sp (reads o.texts note.peek (At_entry c note.sp) most_reads [])
-item_parts o note (Done p c x replaced) = done_part o p c x replaced (reads o.texts note.peek (At_exit c x) most_reads [])
+item_parts o note (Done p c x replaced) =
+    done_part o p c x replaced (reads o.texts note.peek (At_exit c x) most_reads [])
 item_parts o note (Signalled p signal cause) = Part_signal p (info_of signal cause) ∷ []
 item_parts o note (Exit p word left) = Part_exit p word ∷ []
 

@@ -20,18 +20,29 @@ pub record World (S B : Type 0) : Type 0 where
 -- a request was served: its reply, if there is one, comes to the tracer, which asks the next
 abbrev pub met : {S B : Type 0} → Options → Script → World S B → Focus → Host S B → Option Reply → World S B
 met o script w focus h None = record { host = h; tracer = w.tracer; printed = w.printed }
-met o script w focus h (Some r) = record { host = h; tracer = (next_from o script w.tracer focus r).tracer; printed = w.printed ++ (next_from o script w.tracer focus r).printed }
+met o script w focus h (Some r) = record {
+  host = h;
+  tracer = (next_from o script w.tracer focus r).tracer;
+  printed = w.printed ++ (next_from o script w.tracer focus r).printed;
+}
 
 -- an event, while this request is pending; after the last request nothing happens
-abbrev pub happens_asked : {S B : Type 0} → Machine S B → (S → Outcome) → Options → Script → World S B → Focus → Option Request → Event → World S B
+abbrev pub happens_asked : {S B : Type 0} → Machine S B → (S → Outcome) → Options → Script
+    → World S B → Focus → Option Request → Event → World S B
 happens_asked m outcome o script w focus None e = w
-happens_asked m outcome o script w focus (Some q) (Turn p) = record { host = host_turn m w.host p; tracer = w.tracer; printed = w.printed }
-happens_asked m outcome o script w focus (Some q) Serve = met o script w focus (serve m outcome w.host q).host (serve m outcome w.host q).reply
+happens_asked m outcome o script w focus (Some q) (Turn p) = record {
+  host = host_turn m w.host p;
+  tracer = w.tracer;
+  printed = w.printed;
+}
+happens_asked m outcome o script w focus (Some q) Serve =
+    met o script w focus (serve m outcome w.host q).host (serve m outcome w.host q).reply
 
 abbrev pub happens : {S B : Type 0} → Machine S B → (S → Outcome) → Options → Script → World S B → Event → World S B
 happens m outcome o script w e = happens_asked m outcome o script w w.tracer.focus (request o w.tracer.focus) e
 
-abbrev pub world_run : {S B : Type 0} → Machine S B → (S → Outcome) → Options → Script → World S B → List Event → World S B
+abbrev pub world_run : {S B : Type 0} → Machine S B → (S → Outcome) → Options → Script
+    → World S B → List Event → World S B
 world_run m outcome o script w [] = w
 world_run m outcome o script w (e ∷ es) = world_run m outcome o script (happens m outcome o script w e) es
 
@@ -44,7 +55,8 @@ turns_of m w (Some q) Serve = []
 -- the effective turns of a list of events
 abbrev pub effective : {S B : Type 0} → Machine S B → (S → Outcome) → Options → Script → World S B → List Event → List ℕ
 effective m outcome o script w [] = []
-effective m outcome o script w (e ∷ es) = turns_of m w (request o w.tracer.focus) e ++ effective m outcome o script (happens m outcome o script w e) es
+effective m outcome o script w (e ∷ es) =
+    turns_of m w (request o w.tracer.focus) e ++ effective m outcome o script (happens m outcome o script w e) es
 
 -- Once the events are used up, the pending request and each later one is answered OutOfTurns.
 pub data End : Type 0 where
