@@ -22,7 +22,12 @@ is_end word = ((word % 256 == 0) && nat_lt word 65536) || is_signal word
 
 -- what a stopped tracee's word has above 0x7f, where TRACESYSGOOD is set
 abbrev pub stop_by : ℕ → Option Stop
-stop_by n = cond (n == 0x85) (Some (Syscall true)) (cond (n == 0x105) (Some (Event Fork)) (cond (n == 0x405) (Some (Event Exec)) (cond (n == 0x8005) (Some (Event Started)) (option_map (λ signal. By_signal signal) (signal_numbered n)))))
+stop_by n =
+    cond (n == 0x85) (Some (Syscall true))
+    (cond (n == 0x105) (Some (Event Fork))
+    (cond (n == 0x405) (Some (Event Exec))
+    (cond (n == 0x8005) (Some (Event Started))
+    (option_map (λ signal. By_signal signal) (signal_numbered n)))))
 
 abbrev pub end_by : ℕ → Option Stop
 end_by word = cond (is_end word) (Some (Ended word)) None

@@ -10,7 +10,8 @@ error_row row = (row.0, row.1.now, row.2.now)
 abbrev pub signal_row : ℕ × Bor (List ℕ) → ℕ × List ℕ
 signal_row row = (row.0, row.1.now)
 
-abbrev pub call_row : ℕ × Bor (List ℕ) × Bor (List Class) × Bor (List Argument) × Bor (List Argument) → ℕ × List ℕ × List Class × List Argument × List Argument
+abbrev pub call_row : ℕ × Bor (List ℕ) × Bor (List Class) × Bor (List Argument) × Bor (List Argument)
+    → ℕ × List ℕ × List Class × List Argument × List Argument
 call_row row = (row.0, row.1.now, row.2.now, row.3.now, row.4.now)
 
 -- the numbers count up by one

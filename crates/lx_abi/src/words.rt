@@ -108,7 +108,8 @@ fn read_char(
 /// The words of a schedule, split at white space (Unicode's `White_Space`): `p`, `-p`, `s` and `p.`, where p is
 /// 1 to 10 digits, 4294967295 at most. `BadWord` where one is none of these; `Memory` only where memory was refused.
 pub fn parse_words(alloc: Global, text: &str) -> Result<Vec<Word>, ScheduleFault>
-    ensures { MatchResult result (λ words. spec.words_of text.now ≡ Some words.items) (λ e. spec.IsRefusal e (spec.words_of text.now)) }
+    ensures { MatchResult result
+        (λ words. spec.words_of text.now ≡ Some words.items) (λ e. spec.IsRefusal e (spec.words_of text.now)) }
 {
     let mut words = Vec::new(alloc);
     let mut piece = Vec::new(alloc);
