@@ -10,7 +10,8 @@ KernelsBeginAlike S B = (s : S) (b : B) → Is (first_running s b) (first_kernel
 
 -- the values that code has run as the kernel does, under every script
 abbrev pub RunsAlike : {S B : Type 0} → Machine S B → Type 0
-RunsAlike {S} {B} m = (script : Script) (follow : Bool) (v : Running S B) (k : Kernel S B) → Is v k → (pids : List ℕ) → Is (running m script follow v pids) (kernel_run m script follow k pids)
+RunsAlike {S} {B} m = (script : Script) (follow : Bool) (v : Running S B) (k : Kernel S B) → Is v k →
+    (pids : List ℕ) → Is (running m script follow v pids) (kernel_run m script follow k pids)
 
 -- on every machine over these two types
 abbrev pub KernelsRunAlike : Type 0 → Type 0 → Type 0
