@@ -43,5 +43,6 @@ contents_offset ss = (64 + 56 * length ss) % 2 ^ 64
 -- the file; a count over 65,535 keeps its low 16 bits
 unfoldable pub file_of : Image → List ℕ
 file_of i =
-    (fields_bytes (header_fields i.entry (length i.segments % 2 ^ 16)) ++ table_of (contents_offset i.segments) i.segments)
+    (fields_bytes (header_fields i.entry (length i.segments % 2 ^ 16))
+    ++ table_of (contents_offset i.segments) i.segments)
     ++ contents_of i.segments

@@ -51,7 +51,9 @@ program_header_at bytes at = record {
 unfoldable pub headers_from : List ℕ → ℕ → ℕ → List ProgramHeader
 headers_from bytes at zero = []
 headers_from bytes at (suc n) =
-    if is_counted bytes at then program_header_at bytes at ∷ headers_from bytes (at + 56) n else headers_from bytes (at + 56) n
+    if is_counted bytes at
+    then program_header_at bytes at ∷ headers_from bytes (at + 56) n
+    else headers_from bytes (at + 56) n
 
 -- the program headers of a file that count
 abbrev pub program_headers : List ℕ → List ProgramHeader
