@@ -78,7 +78,8 @@ to_label ps label make = option_map_or make (address_of ps label) (Err Label)
 
 -- from one address to another; no instruction reaches as far as the ends
 abbrev pub distance : ℕ → ℕ → ℤ
-distance at target = if nat_le at target then pos (min (target - at) 0x7fffffff) else neg_ℤ (pos (min (at - target) 0x7fffffff))
+distance at target =
+    if nat_le at target then pos (min (target - at) 0x7fffffff) else neg_ℤ (pos (min (at - target) 0x7fffffff))
 
 -- ---- instructions
 
@@ -92,15 +93,21 @@ lower_part n = pos ((n + 2048) % 4096) -ℤ pos 2048
 abbrev pub add : Register → Register → ℤ → Inst
 add rd rs1 n = inst.Immediate immediate.Add rd rs1 n
 
+-- a number of 32 bits with its sign, in two instructions
+abbrev pub in_two : Register → ℕ → Expansion Inst
+in_two rd n = Two (inst.Lui rd (upper_part n)) (inst.AddImmediateWord rd rd (lower_part n))
+
 abbrev pub setting : Register → Number → Result (Expansion Inst) AsmKind
 setting rd n =
     if is_small n then Ok (One (add rd (numbered 0) (narrow n))) else
-    (if is_within (2 ^ 31) n then Ok (Two (inst.Lui rd (upper_part (low_bits n % 2 ^ 32))) (inst.AddImmediateWord rd rd (lower_part (low_bits n % 2 ^ 32)))) else Err Range)
+    (if is_within (2 ^ 31) n then Ok (in_two rd (low_bits n % 2 ^ 32)) else Err Range)
 
 -- an address is below 2 ^ 31 - 2 ^ 11, so that LUI's part keeps its sign
 abbrev pub pointing : Register → ℕ → Result (Expansion Inst) AsmKind
 pointing rd target =
-    if nat_lt target 0x7ffff800 then Ok (Two (inst.Lui rd (upper_part target)) (add rd rd (lower_part target))) else Err Range
+    if nat_lt target 0x7ffff800
+    then Ok (Two (inst.Lui rd (upper_part target)) (add rd rd (lower_part target)))
+    else Err Range
 
 -- a number of a width is from half its negative range to the end of its positive one
 abbrev pub fits : Width → Number → Bool

@@ -51,7 +51,8 @@ abbrev pub checked : List Place → ℕ → Bool → Said → Result (Expansion 
 checked ps at duplicate s = do
   insts ← instructions_of ps at s
   words ← words_of insts
-  if duplicate then Err kinds.Duplicate else (if nat_lt 0x20000 (at + size_of at s) then Err kinds.TooLarge else Ok words)
+  if duplicate then Err kinds.Duplicate
+      else (if nat_lt 0x20000 (at + size_of at s) then Err kinds.TooLarge else Ok words)
 
 -- the bytes of what a line says
 abbrev pub said_bytes : List Place → ℕ → Bool → Option Said → Result (List ℕ) AsmKind
@@ -97,7 +98,12 @@ entry_of ps = unwrap_or (address_of ps (codes "_start")) start
 abbrev pub image_at : ℕ → List ℕ → Image
 image_at entry bytes = record {
   entry = entry;
-  segments = record { address = start; size = length bytes; rights = record { read = true; write = true; execute = true }; bytes = bytes } ∷ [];
+  segments = record {
+    address = start;
+    size = length bytes;
+    rights = record { read = true; write = true; execute = true };
+    bytes = bytes;
+  } ∷ [];
 }
 
 -- the image of lines, or the first faulty line and its first fault

@@ -76,5 +76,6 @@ pub fn assemble(alloc: Global, text: &str) -> Result<Image, AsmFault>
 /// An image that has bytes is laid out, so that the file which `elf_image::write` makes of it is read
 /// as that image.
 pub fn listings_are_laid_out()
-    ensures { (text : List ℕ) (image : Image) → listing_of text ≡ Ok image → All (λ s. 0 < s.size) image.segments → IsLaidOut image }
+    ensures { (text : List ℕ) (image : Image) → listing_of text ≡ Ok image → All (λ s. 0 < s.size) image.segments
+        → IsLaidOut image }
 {}

@@ -286,7 +286,8 @@ pub fn words_spell_instructions()
 /// The bytes of a statement are as many as its size says, so that a label stands where the sizes
 /// before it say.
 pub fn sizes_agree()
-    ensures { (ps : List Place) (at : ℕ) (s : Said) (is : Expansion Inst) (ws : Expansion ℕ) → instructions_of ps at s ≡ Ok is → words_of is ≡ Ok ws → length (bytes_of at s ws) ≡ size_of at s }
+    ensures { (ps : List Place) (at : ℕ) (s : Said) (is : Expansion Inst) (ws : Expansion ℕ)
+        → instructions_of ps at s ≡ Ok is → words_of is ≡ Ok ws → length (bytes_of at s ws) ≡ size_of at s }
 {}
 
 fn put_number(out: &mut Vec<u8>, width: Width, number: &Number) -> Result<(), AllocError>

@@ -40,7 +40,9 @@ fn number(
     name: &[u8],
     number: usize,
 ) -> Result<(), AllocError>
-    ensures ok { OnOk result ((w : List ℕ) → number_of (λ k. k.items) first.new w ≡ option_or (number_of (λ k. k.items) first.old w) (if is_text name.now w then Some number else None)) }
+    ensures ok { OnOk result
+        ((w : List ℕ) → number_of (λ k. k.items) first.new w
+        ≡ option_or (number_of (λ k. k.items) first.old w) (if is_text name.now w then Some number else None)) }
     ensures err { OnErr result (first.new.entries ≡ first.old.entries) }
 {
     if first.contains_key(name) {

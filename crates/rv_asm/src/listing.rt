@@ -159,8 +159,11 @@ fn put_statement(
     duplicate: bool,
     labels: &Labels,
 ) -> Result<(), AsmKind>
-    ensures ok { OnOk result (with_front out.old.items (said_bytes labels.now at duplicate (Some (said statement.now))) ≡ Ok out.new.items) }
-    ensures err { IfErr result (λ kind. kind ≢ Memory → said_bytes labels.now at duplicate (Some (said statement.now)) ≡ Err kind) }
+    ensures ok { OnOk result
+        (with_front out.old.items (said_bytes labels.now at duplicate (Some (said statement.now)))
+        ≡ Ok out.new.items) }
+    ensures err { IfErr result
+        (λ kind. kind ≢ Memory → said_bytes labels.now at duplicate (Some (said statement.now)) ≡ Err kind) }
 {
     match checked(statement, at, duplicate, labels) {
         Err(kind) => Err(kind),
@@ -179,8 +182,11 @@ fn put_said(
     duplicate: bool,
     labels: &Labels,
 ) -> Result<(), AsmKind>
-    ensures ok { OnOk result (with_front out.old.items (said_bytes labels.now at duplicate (option_map said found.now)) ≡ Ok out.new.items) }
-    ensures err { IfErr result (λ kind. kind ≢ Memory → said_bytes labels.now at duplicate (option_map said found.now) ≡ Err kind) }
+    ensures ok { OnOk result
+        (with_front out.old.items (said_bytes labels.now at duplicate (option_map said found.now))
+        ≡ Ok out.new.items) }
+    ensures err { IfErr result
+        (λ kind. kind ≢ Memory → said_bytes labels.now at duplicate (option_map said found.now) ≡ Err kind) }
 {
     match found {
         None if duplicate => Err(AsmKind::Duplicate),
@@ -198,8 +204,12 @@ fn put_line(
     number: usize,
     labels: &Labels,
 ) -> Result<(), AsmKind>
-    ensures ok { OnOk result (with_front out.old.items (line_bytes labels.now (0x10000 + length out.old.items) number line.now) ≡ Ok out.new.items) }
-    ensures err { IfErr result (λ kind. kind ≢ Memory → line_bytes labels.now (0x10000 + length out.old.items) number line.now ≡ Err kind) }
+    ensures ok { OnOk result
+        (with_front out.old.items (line_bytes labels.now (0x10000 + length out.old.items) number line.now)
+        ≡ Ok out.new.items) }
+    ensures err { IfErr result
+        (λ kind. kind ≢ Memory
+        → line_bytes labels.now (0x10000 + length out.old.items) number line.now ≡ Err kind) }
 {
     let at = START + out.len() as u64;
     match split_labels(alloc, line) {
@@ -219,7 +229,8 @@ fn put_line(
 /// The bytes of the lines.
 pub fn emit(alloc: Global, lines: &[&[u8]], labels: &Labels) -> Result<Vec<u8>, AsmFault>
     ensures ok { IfOk result (λ v. bytes_from labels.now 0x10000 1 (texts lines.now) ≡ Ok v.items) }
-    ensures err { IfErr result (λ fault. fault.kind ≢ Memory → bytes_from labels.now 0x10000 1 (texts lines.now) ≡ Err fault) }
+    ensures err { IfErr result
+        (λ fault. fault.kind ≢ Memory → bytes_from labels.now 0x10000 1 (texts lines.now) ≡ Err fault) }
 {
     let mut out = Vec::new(alloc);
     for (i, line) in lines.iter().enumerate() {
