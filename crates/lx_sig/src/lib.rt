@@ -18,6 +18,6 @@ pub use arguments::low_argument;
 pub use delivery::{action, is_ignored, make_pending, may_interrupt, next, take};
 pub use frames::{pop_frame, push_frame};
 pub use kill::{Aim, aim_of_kill};
-pub use laws::frames_are_read_back;
+pub use laws::{frames_are_read_back, handlers_come_back};
 pub use reactions::{Reaction, for_child, reaction_to, reset_for_exec};
 pub use state::{Action, Actions, Interrupted, Mask, Pending, Signals};
