@@ -36,15 +36,15 @@ use Rattle.lx_proc.specs.Answers.{Answers, argument, low_argument, unless, given
 use Rattle.lx_pcalls.specs.Brk.{brk}
 use Rattle.lx_pcalls.specs.Calls.{process_call, would_block, is_blocked_if}
 use Rattle.lx_pcalls.specs.Clone.{clone, bears, fork_flags, has_room, with_child}
-use Rattle.lx_pcalls.specs.Execve.{execve, program, with_path, runs_path, runs_at, runs_node, runs_file, runs, begins, renews, renewed}
+use Rattle.lx_exec.specs.Execve.{execve, program, with_path, runs_path, runs_at, runs_node, runs_file, runs, begins, renews, renewed}
 use Rattle.lx_pcalls.specs.Exit.{exit}
 use Rattle.lx_pcalls.specs.Getpid.{getpid}
 use Rattle.lx_pcalls.specs.Getppid.{getppid}
 use Rattle.lx_pcalls.specs.Kill.{kill, kills, sends}
 use Rattle.lx_pcalls.specs.Mmap.{mmap, may_map, maps_at, map_low, map_high}
 use Rattle.lx_pcalls.specs.Munmap.{munmap, may_unmap}
-use Rattle.lx_pcalls.specs.Pages.{pages_for, rights_for}
-use Rattle.lx_pcalls.specs.Programs.{start_size, started}
+use Rattle.lx_exec.specs.Pages.{pages_for, rights_for}
+use Rattle.lx_exec.specs.Programs.{start_size, started}
 use Rattle.lx_pcalls.specs.RtSigaction.{rt_sigaction}
 use Rattle.lx_pcalls.specs.RtSigprocmask.{rt_sigprocmask}
 use Rattle.lx_pcalls.specs.RtSigreturn.{rt_sigreturn}

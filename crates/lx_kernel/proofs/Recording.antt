@@ -33,7 +33,7 @@ use Rattle.lx_kernel.specs.Laws.{after_all, with_end, logged_words, HasLoggedWor
 use Rattle.lx_pcalls.specs.Taking.{takes}
 use Rattle.lx_kernel.specs.Linux.{linux}
 use Rattle.lx_kernel.specs.Reactions.{next_of, runs as runs_in, resumed, ran_by, is_killed}
-use Rattle.lx_pcalls.specs.Programs.{booted}
+use Rattle.lx_exec.specs.Programs.{booted}
 use Rattle.lx_kernel.specs.Runs.{Run as KernelRun, after_turn}
 use Rattle.lx_kernel.proofs.CallsFit.{calls_fit, takes_fit}
 

@@ -9,7 +9,7 @@ use Rattle.lx_kernel.specs.declared.boots.BootFault.TheVariants.{BadPath, Duplic
 use Rattle.lx_kernel.specs.Paths.{is_under}
 use Rattle.lx_kernel.specs.Limits.{files_fit}
 use Rattle.lx_proc.specs.Starts.{start_limit}
-use Rattle.lx_pcalls.specs.Programs.{start_size}
+use Rattle.lx_exec.specs.Programs.{start_size}
 
 -- the number of a fault, as programs show it
 abbrev pub fault_number : BootFault → ℕ

@@ -19,7 +19,7 @@ use Rattle.lx_proc.specs.declared.state.Entry.{Entry}
 use Rattle.lx_proc.specs.declared.state.Shared.{Shared}
 use Rattle.lx_proc.specs.declared.state.Body.{Body}
 use Rattle.lx_proc.specs.declared.state.Life.TheVariants.{Alive}
-use Rattle.lx_pcalls.specs.Programs.{booted}
+use Rattle.lx_exec.specs.Programs.{booted}
 use Rattle.lx_files.specs.Boots.{tree_of}
 use Rattle.lx_kernel.specs.Runs.{Run}
 

@@ -10,7 +10,7 @@ ghost use Rattle.std.specs.Str.{bytes_eq};
 use crate::limits::files_fit;
 use crate::neighbours::{Told, is_under, tell};
 use lx_abi::{Boot, Bytes, GuestFile};
-use lx_pcalls::start_fits;
+use lx_exec::start_fits;
 use std::alloc::{AllocError, Global};
 use thiserror::Error;
 

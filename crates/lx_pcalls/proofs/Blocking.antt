@@ -30,8 +30,8 @@ use Rattle.lx_proc.specs.State.{with_memory, with_entries, directory}
 use Rattle.lx_proc.specs.Answers.{Answers, is_blocked, argument, low_argument, unless, given, granted, gives}
 use Rattle.lx_proc.specs.Starts.{start_limit}
 use Rattle.lx_proc.specs.Texts.{Text, Whole, TooLong, Unreadable, text_at, list_at}
-use Rattle.lx_pcalls.specs.Pages.{pages_for, rights_for}
-use Rattle.lx_pcalls.specs.Programs.{start_size, started}
+use Rattle.lx_exec.specs.Pages.{pages_for, rights_for}
+use Rattle.lx_exec.specs.Programs.{start_size, started}
 use Rattle.lx_pcalls.specs.Exit.{exit}
 use Rattle.lx_pcalls.specs.SchedYield.{sched_yield}
 use Rattle.lx_pcalls.specs.Kill.{kill}
@@ -44,7 +44,7 @@ use Rattle.lx_pcalls.specs.Getppid.{getppid}
 use Rattle.lx_pcalls.specs.Brk.{brk}
 use Rattle.lx_pcalls.specs.Munmap.{munmap, may_unmap}
 use Rattle.lx_pcalls.specs.Clone.{clone, fork_flags, has_room}
-use Rattle.lx_pcalls.specs.Execve.{execve, program, begins, runs, runs_file, runs_node, with_path, renews}
+use Rattle.lx_exec.specs.Execve.{execve, program, begins, runs, runs_file, runs_node, with_path, renews}
 use Rattle.lx_pcalls.specs.Mmap.{mmap, may_map, map_low, map_high}
 use Rattle.lx_pcalls.specs.Wait4.{wait4, wait4_would_block, may_wait, first_child, waits, reaps, word_in}
 use Rattle.lx_pcalls.specs.Calls.{process_call, would_block, is_blocked_if}

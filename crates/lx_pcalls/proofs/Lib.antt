@@ -1,7 +1,3 @@
-pub mod Starts
-pub mod Starting
-pub mod Roomy
-pub mod Lists
 pub mod Finding
 pub mod Children
 pub mod Releasing

@@ -8,7 +8,7 @@ use Rattle.lx_proc.specs.declared.state.Shared.{Shared}
 use Rattle.lx_proc.specs.declared.state.Heap.{Heap}
 use Rattle.lx_proc.specs.declared.state.Body.{Body}
 use Rattle.lx_proc.specs.Answers.{Answers, argument}
-use Rattle.lx_pcalls.specs.Pages.{address_end, pages_for, rights_for}
+use Rattle.lx_exec.specs.Pages.{address_end, pages_for, rights_for}
 
 -- the most bytes of a heap
 abbrev pub heap_limit : ℕ

@@ -15,7 +15,7 @@ use Rattle.lx_pcalls.specs.Getppid.{getppid}
 use Rattle.lx_pcalls.specs.Brk.{brk}
 use Rattle.lx_pcalls.specs.Munmap.{munmap}
 use Rattle.lx_pcalls.specs.Clone.{clone}
-use Rattle.lx_pcalls.specs.Execve.{execve}
+use Rattle.lx_exec.specs.Execve.{execve}
 use Rattle.lx_pcalls.specs.Mmap.{mmap}
 use Rattle.lx_pcalls.specs.Wait4.{wait4, wait4_would_block}
 

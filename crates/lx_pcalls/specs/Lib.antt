@@ -1,4 +1,3 @@
-pub mod Pages
 pub mod Exit
 pub mod SchedYield
 pub mod Kill
@@ -11,9 +10,6 @@ pub mod Getppid
 pub mod Brk
 pub mod Munmap
 pub mod Clone
-pub mod Programs
-pub mod Rooms
-pub mod Execve
 pub mod Mmap
 pub mod Wait4
 pub mod Calls

@@ -10,7 +10,7 @@ use Rattle.lx_proc.specs.declared.state.Shared.{Shared}
 use Rattle.lx_proc.specs.declared.state.Body.{Body}
 use Rattle.lx_proc.specs.State.{with_memory}
 use Rattle.lx_proc.specs.Answers.{Answers, argument, unless, given}
-use Rattle.lx_pcalls.specs.Pages.{pages_for, rights_for}
+use Rattle.lx_exec.specs.Pages.{pages_for, rights_for}
 
 -- flags MAP_PRIVATE 2 and MAP_ANONYMOUS 0x20, no others
 abbrev pub may_map : Call → Bool

@@ -8,7 +8,7 @@ use Rattle.lx_proc.specs.declared.state.Shared.{Shared}
 use Rattle.lx_proc.specs.declared.state.Body.{Body}
 use Rattle.lx_proc.specs.State.{with_memory}
 use Rattle.lx_proc.specs.Answers.{Answers, argument, unless}
-use Rattle.lx_pcalls.specs.Pages.{address_end, pages_for}
+use Rattle.lx_exec.specs.Pages.{address_end, pages_for}
 
 abbrev pub may_unmap : ℕ → ℕ → Bool
 may_unmap address length = (address % 4096 == 0) && (nat_lt 0 length && nat_le (address + length) address_end)

@@ -2,12 +2,12 @@
 
 ghost use Rattle.std.specs.Prelude.{◌≡◌, ◌≤◌, IfOk};
 ghost use Rattle.lx_proc.specs.Answers.{answer_of, Kept};
-ghost use Rattle.lx_pcalls.specs.Pages.{address_end};
+ghost use Rattle.lx_exec.specs.Pages.{address_end};
 ghost use Rattle.lx_pcalls.specs.Brk.{brk as meaning, may_end as may_end_of, grows, resizes};
 ghost use Rattle.lx_pcalls.specs.Brk.{with_end, with_heap, shrunk};
 
-use crate::pages::{ADDRESS_END, PAGE, pages_for, rights_for};
 use lx_abi::Call;
+use lx_exec::pages::{ADDRESS_END, PAGE, pages_for, rights_for};
 use lx_proc::{Body, Heap, Reply, Shared};
 use rv_mem::MemFault;
 use std::alloc::AllocError;

@@ -6,7 +6,6 @@ ghost use Rattle.lx_pcalls.specs.Calls.{process_call as meaning, would_block as 
 
 use crate::brk::brk;
 use crate::clone::clone;
-use crate::execve::execve;
 use crate::exit::exit;
 use crate::getpid::getpid;
 use crate::getppid::getppid;
@@ -19,6 +18,7 @@ use crate::rt_sigreturn::rt_sigreturn;
 use crate::sched_yield::sched_yield;
 use crate::wait4::{wait4, wait4_would_block};
 use lx_abi::Call;
+use lx_exec::execve::execve;
 use lx_proc::{Body, Reply, Shared};
 use std::alloc::{AllocError, Global};
 

@@ -4,8 +4,8 @@ ghost use Rattle.std.specs.Prelude.{◌≡◌, IfOk};
 ghost use Rattle.lx_proc.specs.Answers.{answer_of, Kept};
 ghost use Rattle.lx_pcalls.specs.Mmap.{mmap as meaning, may_map as may_map_of, maps};
 
-use crate::pages::{pages_for, rights_for};
 use lx_abi::{Call, Errno};
+use lx_exec::pages::{pages_for, rights_for};
 use lx_proc::{Body, Reply, Shared};
 use rv_mem::{MemFault, Rights};
 use std::alloc::AllocError;

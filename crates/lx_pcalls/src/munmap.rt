@@ -4,8 +4,8 @@ ghost use Rattle.std.specs.Prelude.{◌≡◌};
 ghost use Rattle.lx_proc.specs.Answers.{answer_of, Kept};
 ghost use Rattle.lx_pcalls.specs.Munmap.{munmap as meaning, may_unmap as may_unmap_of};
 
-use crate::pages::{ADDRESS_END, PAGE, pages_for};
 use lx_abi::{Call, Errno};
+use lx_exec::pages::{ADDRESS_END, PAGE, pages_for};
 use lx_proc::{Body, Reply, Shared};
 
 fn may_unmap(address: u64, length: u64) -> bool

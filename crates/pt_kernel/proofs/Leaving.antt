@@ -12,7 +12,7 @@ use Rattle.lx_kernel.specs.Laws.{logged_words, KernelsLogWords}
 use Rattle.lx_kernel.specs.Linux.{linux}
 use Rattle.lx_files.specs.Listing.{files_of}
 use Rattle.lx_kernel.specs.Outcomes.{outcome_in}
-use Rattle.lx_pcalls.specs.Programs.{booted}
+use Rattle.lx_exec.specs.Programs.{booted}
 use Rattle.lx_proc.specs.WaitWords.{Words, ends_of}
 use Rattle.pt_model.specs.Headline.{IsScript, HeadlineAt, Headline}
 use Rattle.pt_model.specs.World.{effective, first_world}

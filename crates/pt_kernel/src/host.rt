@@ -5,7 +5,7 @@ ghost use Rattle.lx_kernel.specs.Boots.{fault_of, Refuses};
 ghost use Rattle.lx_kernel.specs.declared.boots.BootFault.{BootFault};
 ghost use Rattle.lx_kernel.specs.First.{first_shared};
 ghost use Rattle.lx_kernel.specs.Outcomes.{outcome_in};
-ghost use Rattle.lx_pcalls.specs.Programs.{booted};
+ghost use Rattle.lx_exec.specs.Programs.{booted};
 ghost use Rattle.pt_model.specs.Hosting.{first_hosting, hosting_asked};
 ghost use Rattle.pt_schedule.specs.Cycle.{IsNextPlace};
 ghost use Rattle.pt_kernel.specs.Hosts.{sight_of, event_of, is_boot};

@@ -9,7 +9,7 @@ use Rattle.lx_abi.specs.Scripts.{choice_of}
 use Rattle.lx_kernel.specs.First.{first_shared}
 use Rattle.lx_kernel.specs.Linux.{linux}
 use Rattle.lx_kernel.specs.Outcomes.{outcome_in}
-use Rattle.lx_pcalls.specs.Programs.{booted}
+use Rattle.lx_exec.specs.Programs.{booted}
 use Rattle.lx_proc.specs.declared.state.Shared.{Shared}
 use Rattle.lx_proc.specs.declared.state.Body.{Body}
 use Rattle.lx_model.specs.Kernel.{Script}

@@ -1,7 +1,7 @@
 use Rattle.std.proofs.Common.{ap, ◌∙◌}
 use Rattle.lx_abi.specs.Scripts.{choice_of}
 use Rattle.lx_kernel.specs.First.{first_shared}
-use Rattle.lx_pcalls.specs.Programs.{booted}
+use Rattle.lx_exec.specs.Programs.{booted}
 use Rattle.pt_kernel.specs.Hosts.{HostState}
 use Rattle.trace_run.specs.BootedRuns.{following}
 use Rattle.trace_run.proofs.Booted.{booted_traces}

@@ -1,7 +1,7 @@
 use Rattle.std.proofs.Common.{◌≤◌, sym, ap, subst, ◌∙◌}
 use Rattle.std.specs.FinMap as maps
 use Rattle.lx_kernel.specs.First.{first_shared}
-use Rattle.lx_pcalls.specs.Programs.{booted}
+use Rattle.lx_exec.specs.Programs.{booted}
 use Rattle.lx_kernel.specs.Runs.{Run as KernelRun}
 use Rattle.pt_model.proofs.Hosts.{hosts_begin_alike}
 use Rattle.pt_kernel.specs.declared.tracees.Tracees.{Tracees}

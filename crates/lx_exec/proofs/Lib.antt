@@ -1,0 +1,4 @@
+pub mod Starts
+pub mod Starting
+pub mod Roomy
+pub mod Lists

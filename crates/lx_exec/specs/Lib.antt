@@ -1,0 +1,4 @@
+pub mod Pages
+pub mod Programs
+pub mod Rooms
+pub mod Execve

@@ -1,0 +1,239 @@
+//! execve (execve(2)).
+
+ghost use Rattle.std.specs.Prelude.{◌≡◌, ℕ, List, IfOk, OnErr};
+ghost use Rattle.elf_image.specs.Images.{IsLaidOut};
+ghost use Rattle.lx_files.specs.Trees.{node_at};
+ghost use Rattle.lx_proc.specs.declared.state.Shared.{Shared};
+ghost use Rattle.lx_proc.specs.declared.state.Body.{Body};
+ghost use Rattle.lx_proc.specs.State.{Entries, changed, with_signals, with_held};
+ghost use Rattle.lx_proc.specs.Answers.{answer_of, Kept};
+ghost use Rattle.lx_proc.specs.Read.{Reads};
+ghost use Rattle.lx_sig.specs.Reactions.{after_exec};
+ghost use Rattle.lx_open.specs.Releases.{closed_on_exec};
+ghost use Rattle.lx_exec.specs.Execve.{execve as meaning, program as program_of, begins, runs, runs_file, runs_node};
+ghost use Rattle.lx_exec.specs.Execve.{runs_at as place_run, runs_path as path_run, renewed, renews};
+
+use crate::programs::{begin_program, start_fits};
+use elf_image::{ElfFault, Image};
+use lx_abi::{Call, Errno, Map, Node};
+use lx_files::Place;
+use lx_files::places::{locate, path};
+use lx_open::release::close_on_exec;
+use lx_proc::{Body, Entry, Reply, Shared, Text, Words, directory, list_at, text_at};
+use lx_sig::reset_for_exec;
+use std::alloc::{AllocError, Global};
+
+/// A path has at most so many bytes, with its NUL.
+const PATH_LIMIT: u64 = 4096;
+
+/// A program takes the place of the caller's, if its words are not too large for its start.
+fn begin(
+    alloc: Global,
+    image: &Image,
+    argv: &Words,
+    env: &Words,
+    body: &mut Body,
+) -> Result<Reply, AllocError>
+    requires { IsLaidOut image.now }
+    ensures answer { IfOk result (λ r. (s : Shared) (a e : List (List ℕ)) → Reads argv.now (Some a)
+        → Reads env.now (Some e) → answer_of r s body.new ≡ begins s image.now a e) }
+    ensures kept { IfOk result (λ r. (s : Shared) → Kept r s body.old s body.new) }
+{
+    let Words::Whole(argv) = argv else {
+        return Ok(Reply::Refused(Errno::E2BIG));
+    };
+    let Words::Whole(env) = env else {
+        return Ok(Reply::Refused(Errno::E2BIG));
+    };
+    if !start_fits(argv, env) {
+        return Ok(Reply::Refused(Errno::E2BIG));
+    }
+    *body = begin_program(alloc, image, argv, env)?;
+    Ok(Reply::Execed)
+}
+
+/// A file's program takes the place of the caller's.
+fn run(
+    alloc: Global,
+    content: &[u8],
+    argv: &Words,
+    env: &Words,
+    body: &mut Body,
+) -> Result<Reply, AllocError>
+    ensures answer { IfOk result (λ r. (s : Shared) (a e : List (List ℕ)) → Reads argv.now (Some a)
+        → Reads env.now (Some e) → answer_of r s body.new ≡ runs s content.now a e) }
+    ensures kept { IfOk result (λ r. (s : Shared) → Kept r s body.old s body.new) }
+{
+    match elf_image::read(alloc, content) {
+        Err(ElfFault::Memory) => Err(AllocError),
+        Err(_) => Ok(Reply::Refused(Errno::ENOEXEC)),
+        Ok(image) => begin(alloc, &image, argv, env, body),
+    }
+}
+
+fn run_file(
+    alloc: Global,
+    slashed: bool,
+    content: &[u8],
+    argv: &Words,
+    env: &Words,
+    body: &mut Body,
+) -> Result<Reply, AllocError>
+    ensures answer { IfOk result (λ r. (s : Shared) (a e : List (List ℕ)) → Reads argv.now (Some a)
+        → Reads env.now (Some e) → answer_of r s body.new ≡ runs_file s slashed content.now a e) }
+    ensures kept { IfOk result (λ r. (s : Shared) → Kept r s body.old s body.new) }
+{
+    if slashed {
+        return Ok(Reply::Refused(Errno::ENOTDIR));
+    }
+    run(alloc, content, argv, env, body)
+}
+
+/// What stands at a path is run.
+fn run_node(
+    alloc: Global,
+    shared: &Shared,
+    slashed: bool,
+    path: &[u8],
+    argv: &Words,
+    env: &Words,
+    body: &mut Body,
+) -> Result<Reply, AllocError>
+    ensures answer { IfOk result (λ r. (a e : List (List ℕ)) → Reads argv.now (Some a) → Reads env.now (Some e)
+        → answer_of r shared.now body.new ≡ runs_node shared.now slashed (node_at shared.now.tree path.now) a e) }
+    ensures kept { IfOk result (λ r. Kept r shared.now body.old shared.now body.new) }
+{
+    match shared.tree.find(path) {
+        None => Ok(Reply::Refused(Errno::ENOENT)),
+        Some(Node::Directory) => Ok(Reply::Refused(Errno::EACCES)),
+        Some(Node::File(content)) => run_file(alloc, slashed, content.as_slice(), argv, env, body),
+    }
+}
+
+fn run_at(
+    alloc: Global,
+    shared: &Shared,
+    place: &Place,
+    argv: &Words,
+    env: &Words,
+    body: &mut Body,
+) -> Result<Reply, AllocError>
+    ensures answer { IfOk result (λ r. (a e : List (List ℕ)) → Reads argv.now (Some a) → Reads env.now (Some e)
+        → answer_of r shared.now body.new ≡ place_run shared.now a e place.now) }
+    ensures kept { IfOk result (λ r. Kept r shared.now body.old shared.now body.new) }
+{
+    let path = path(alloc, place)?;
+    run_node(
+        alloc,
+        shared,
+        place.slashed,
+        path.as_slice(),
+        argv,
+        env,
+        body,
+    )
+}
+
+/// What a path leads to is run.
+fn run_path(
+    alloc: Global,
+    shared: &Shared,
+    pid: u32,
+    path: &[u8],
+    argv: &Words,
+    env: &Words,
+    body: &mut Body,
+) -> Result<Reply, AllocError>
+    ensures answer { IfOk result (λ r. (a e : List (List ℕ)) → Reads argv.now (Some a) → Reads env.now (Some e)
+        → answer_of r shared.now body.new ≡ path_run shared.now pid path.now a e) }
+    ensures kept { IfOk result (λ r. Kept r shared.now body.old shared.now body.new) }
+{
+    match locate(alloc, &shared.tree, directory(shared, pid), path)? {
+        Err(error) => Ok(Reply::Refused(error)),
+        Ok(place) => run_at(alloc, shared, &place, argv, env, body),
+    }
+}
+
+/// The program that takes the place of the caller's, with its registers.
+#[tactic(auto, unfolding(crate::specs::Execve::program))]
+fn run_program(
+    alloc: Global,
+    shared: &Shared,
+    pid: u32,
+    call: &Call,
+    body: &mut Body,
+) -> Result<Reply, AllocError>
+    ensures answer { IfOk result
+        (λ r. answer_of r shared.now body.new ≡ program_of shared.now pid call.now body.old) }
+    ensures kept { IfOk result (λ r. Kept r shared.now body.old shared.now body.new) }
+{
+    let path = match text_at(alloc, &mut body.memory, call.arguments[0], PATH_LIMIT)? {
+        Text::Whole(path) => path,
+        Text::TooLong => return Ok(Reply::Refused(Errno::ENAMETOOLONG)),
+        Text::Unreadable => return Ok(Reply::Refused(Errno::EFAULT)),
+    };
+    let argv = list_at(alloc, &mut body.memory, call.arguments[1])?;
+    if argv.is_unreadable() {
+        return Ok(Reply::Refused(Errno::EFAULT));
+    }
+    let env = list_at(alloc, &mut body.memory, call.arguments[2])?;
+    if env.is_unreadable() {
+        return Ok(Reply::Refused(Errno::EFAULT));
+    }
+    run_path(alloc, shared, pid, path.as_slice(), &argv, &env, body)
+}
+
+/// Handlers don't outlive execve.
+fn reset_handlers(entries: &mut Map<Entry>, pid: u32)
+    ensures { entries.new ≡ changed entries.old pid (λ e. with_signals e (after_exec e.signals)) }
+{
+    match entries.get_mut(pid) {
+        None => {}
+        Some(entry) => reset_for_exec(&mut entry.signals),
+    }
+}
+
+fn close_descriptors(shared: &mut Shared, pid: u32)
+    ensures { shared.new ≡ with_held shared.old (closed_on_exec shared.old.tree shared.old.fds pid) }
+{
+    close_on_exec(&mut shared.tree, &mut shared.fds, pid);
+}
+
+fn renew(shared: &mut Shared, pid: u32)
+    ensures { shared.new ≡ renewed shared.old pid }
+{
+    close_descriptors(shared, pid);
+    reset_handlers(&mut shared.entries, pid);
+}
+
+/// Where a new program stands, its process's descriptors and signals are as it wants them.
+fn renew_after(shared: &mut Shared, pid: u32, reply: Reply) -> Reply
+    ensures answer { (b : Body) → answer_of result shared.new b ≡ renews pid (answer_of reply shared.old b) }
+    ensures kept { (b b' : Body) → Kept reply shared.old b shared.old b' → Kept result shared.old b shared.new b' }
+{
+    match reply {
+        Reply::Execed => {
+            renew(shared, pid);
+            Reply::Execed
+        }
+        other => other,
+    }
+}
+
+/// execve(path, argv, envp). EFAULT, ENAMETOOLONG in reading the words; ENOENT, ENOTDIR and ENAMETOOLONG in resolving
+/// the path; EACCES for a directory, ENOEXEC for no program, E2BIG for too many words.
+#[tactic(auto, unfolding(crate::specs::Execve::execve))]
+pub fn execve(
+    alloc: Global,
+    shared: &mut Shared,
+    pid: u32,
+    call: &Call,
+    body: &mut Body,
+) -> Result<Reply, AllocError>
+    ensures answer { IfOk result (λ r. answer_of r shared.new body.new ≡ meaning shared.old pid call.now body.old) }
+    ensures kept { IfOk result (λ r. Kept r shared.old body.old shared.new body.new) }
+    ensures same { OnErr result (shared.new ≡ shared.old) }
+{
+    let reply = run_program(alloc, shared, pid, call, body)?;
+    Ok(renew_after(shared, pid, reply))
+}

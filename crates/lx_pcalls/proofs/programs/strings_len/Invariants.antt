@@ -1,6 +1,0 @@
-use Rattle.std.proofs.Common.{◌≡◌, ◌+◌, drop, length}
-use Rattle.lx_pcalls.specs.Programs.{strings}
-use Rattle.lx_pcalls.proofs.programs.strings_len.Given as goal
-
-abbrev pub invariant-loop-word : goal.invariant-loop-word
-invariant-loop-word l = l.len + length (strings (drop l.word-index l.words)) ≡ length (strings l.words)
