@@ -4,7 +4,7 @@ use crate::fault::Fault;
 use crate::reading::{MOST_INPUT, read_file, read_input};
 use crate::shown::Shown;
 use lx_abi::{Boot, Bytes, GuestFile, Seq};
-use lx_kernel::BootFault;
+use lx_boot::BootFault;
 use std::alloc::Global;
 use std::io::Read;
 use std::rt::Files;

@@ -5,11 +5,11 @@ use Rattle.lx_abi.specs.declared.schedule.Word.{Word}
 use Rattle.lx_abi.specs.declared.outcome.Outcome.{Outcome}
 use Rattle.lx_abi.specs.declared.ptrace.Reply.{Reply}
 use Rattle.lx_abi.specs.declared.ptrace.Request.{Request}
-use Rattle.lx_kernel.specs.Boots.{Refuses, fault_number, fault_of}
-use Rattle.lx_kernel.specs.First.{first_shared}
+use Rattle.lx_boot.specs.Boots.{Refuses, fault_number, fault_of}
+use Rattle.lx_boot.specs.First.{first_shared}
 use Rattle.lx_kernel.specs.Outcomes.{outcome_in}
 use Rattle.lx_exec.specs.Programs.{booted}
-use Rattle.lx_kernel.specs.declared.boots.BootFault.{BootFault}
+use Rattle.lx_boot.specs.declared.boots.BootFault.{BootFault}
 use Rattle.pt_model.specs.Hosting.{first_hosting}
 use Rattle.pt_kernel.specs.Hosts.{HostState}
 use Rattle.pt_schedule.specs.Schedules.{worded}

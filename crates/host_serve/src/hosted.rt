@@ -9,7 +9,7 @@ use crate::session::Session;
 use host_link::{Link, LocalLink};
 use host_wire::{Sink, Source};
 use lx_abi::{Boot, Outcome, Reply, Request, Seq, Word};
-use lx_kernel::BootFault;
+use lx_boot::BootFault;
 use pt_kernel::{Host, Schedule};
 use std::alloc::{AllocError, Global};
 

@@ -6,7 +6,8 @@ use Rattle.lx_model.specs.Finite.{Is, running, first_running}
 use Rattle.lx_model.specs.Laws.{KernelsBeginAlike, KernelsRunAlike}
 use Rattle.lx_proc.specs.declared.state.Shared.{Shared}
 use Rattle.lx_proc.specs.declared.state.Body.{Body}
-use Rattle.lx_kernel.specs.First.{first_shared, first_run}
+use Rattle.lx_boot.specs.First.{first_shared}
+use Rattle.lx_kernel.specs.First.{first_run}
 use Rattle.lx_kernel.specs.Linux.{linux}
 use Rattle.lx_exec.specs.Programs.{booted}
 use Rattle.lx_kernel.specs.Runs.{Run, after_turn}

@@ -8,8 +8,6 @@ pub mod FilesFit
 pub mod LinuxLaws
 pub mod Moving
 pub mod NextAble
-pub mod Nodes
-pub mod Ordered
 pub mod Placed
 pub mod Placing
 pub mod Plainness

@@ -28,7 +28,8 @@ use Rattle.lx_sig.specs.declared.state.Interrupted.{Interrupted}
 use Rattle.lx_kernel.specs.Calls.{does}
 use Rattle.lx_pcalls.specs.Ends.{buried}
 use Rattle.lx_kernel.specs.Fitting.{Fits, TookFits}
-use Rattle.lx_kernel.specs.First.{first_shared, first_run}
+use Rattle.lx_boot.specs.First.{first_shared}
+use Rattle.lx_kernel.specs.First.{first_run}
 use Rattle.lx_kernel.specs.Laws.{after_all, with_end, logged_words, HasLoggedWords, TurnsLogWords, BootsLogWords, KernelsLogWords}
 use Rattle.lx_pcalls.specs.Taking.{takes}
 use Rattle.lx_kernel.specs.Linux.{linux}

@@ -9,7 +9,8 @@ use Rattle.lx_abi.specs.Log.{items_of}
 use Rattle.lx_abi.specs.Scripts.{choice_of}
 use Rattle.lx_model.specs.Kernel.{Script, Kernel, first_kernel, kernel_run}
 use Rattle.lx_model.specs.Finite.{Is, Running, first_running, running_turn}
-use Rattle.lx_kernel.specs.First.{first_shared, first_run}
+use Rattle.lx_boot.specs.First.{first_shared}
+use Rattle.lx_kernel.specs.First.{first_run}
 use Rattle.lx_kernel.specs.Linux.{linux}
 use Rattle.lx_exec.specs.Programs.{booted}
 use Rattle.lx_kernel.specs.Runs.{Run, after_turn}

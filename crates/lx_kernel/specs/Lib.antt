@@ -3,12 +3,8 @@ pub mod Reactions
 pub mod Linux
 pub mod Fitting
 pub mod Blocking
-pub mod Boots
-pub mod Paths
 pub mod Bursts
 pub mod First
-pub mod Limits
-pub mod Neighbours
 pub mod Occurrences
 pub mod Outcomes
 pub mod Runs

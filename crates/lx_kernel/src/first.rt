@@ -1,109 +1,18 @@
 //! The first state of a kernel.
 
 ghost use Rattle.std.specs.Prelude.{◌≡◌, ◌≤◌, IfOk, OnOk, IfErr, None, Some};
-ghost use Rattle.lx_kernel.specs.Boots.{fault_of as fault_in, Refuses};
-ghost use Rattle.lx_kernel.specs.First.{first_entry as entry_of_first, first_fds as fds_at_first, reads, writes, first_shared as shared_at_first, first_owns as owns_at_first, first_run};
+ghost use Rattle.lx_boot.specs.Boots.{fault_of as fault_in, Refuses};
+ghost use Rattle.lx_kernel.specs.First.{first_run};
 ghost use Rattle.lx_exec.specs.Programs.{start_size};
 ghost use Rattle.lx_proc.specs.Starts.{start_limit};
-ghost use Rattle.lx_kernel.specs.declared.boots.BootFault.{BootFault};
+ghost use Rattle.lx_boot.specs.declared.boots.BootFault.{BootFault};
 ghost use Rattle.std.specs.declared.result.Result.TheVariants.{Err};
 
-use crate::boots::{BootFault, boot_fault};
 use crate::kernel::Kernel;
-use lx_abi::{Boot, Bytes, GuestFile, Map, Script};
-use lx_exec::begin_stub;
-use lx_files::plant;
-use lx_model::{Own, Stage};
-use lx_open::{Description, FdTable, Object, Queue};
-use lx_proc::{Body, Entry, Life, Shared, WaitWords};
-use lx_sig::Signals;
+use lx_abi::{Boot, Script};
+use lx_boot::{BootFault, boot_fault, first_owns, first_shared};
 use rv_hart::Decoder;
 use std::alloc::{AllocError, Global};
-
-/// Process 1 has no parent, is in the root, and nothing is pending.
-fn first_entry(alloc: Global) -> Entry
-    ensures { result ≡ entry_of_first }
-{
-    Entry {
-        life: Life::Alive,
-        parent: 0,
-        directory: Bytes::new(alloc),
-        signals: Signals::new(),
-    }
-}
-
-/// What is read.
-fn reading(object: Object) -> Description
-    ensures { result ≡ reads object }
-{
-    Description {
-        object,
-        offset: 0,
-        may_read: true,
-        may_write: false,
-        appends: false,
-    }
-}
-
-/// What is written, at its end.
-fn writing(object: Object) -> Description
-    ensures { result ≡ writes object }
-{
-    Description {
-        object,
-        offset: 0,
-        may_read: false,
-        may_write: true,
-        appends: true,
-    }
-}
-
-/// Descriptor 0 is the input, 1 and 2 are the console.
-#[tactic(auto, unfolding(crate::specs::First::first_fds))]
-fn first_fds(alloc: Global) -> Result<FdTable, AllocError>
-    ensures { IfOk result (λ f. f ≡ fds_at_first) }
-{
-    let mut fds = FdTable::new(alloc);
-    fds.open(1, 0, reading(Object::Input), false)?;
-    fds.open(1, 1, writing(Object::Console), false)?;
-    fds.open(1, 2, writing(Object::Console), false)?;
-    Ok(fds)
-}
-
-/// What processes share at first.
-fn first_shared(alloc: Global, files: &[GuestFile], input: Bytes) -> Result<Shared, AllocError>
-    ensures { IfOk result (λ s. s ≡ shared_at_first files.now input) }
-{
-    let tree = plant(alloc, files)?;
-    let fds = first_fds(alloc)?;
-    let mut entries = Map::new(alloc);
-    entries.insert(1, first_entry(alloc))?;
-    Ok(Shared {
-        tree,
-        fds,
-        input: Queue::from_vec(input.into_vec()),
-        console: Bytes::new(alloc),
-        entries,
-        ended: WaitWords::new(alloc),
-    })
-}
-
-/// The own part of process 1, alone.
-fn first_owns(alloc: Global, argv: &[Bytes], env: &[Bytes]) -> Result<Map<Own<Body>>, AllocError>
-    requires { start_size argv.now env.now ≤ start_limit }
-    ensures { IfOk result (λ o. o ≡ owns_at_first argv.now env.now) }
-{
-    let body = begin_stub(alloc, argv, env)?;
-    let mut owns = Map::new(alloc);
-    owns.insert(
-        1,
-        Own::Alive {
-            body,
-            stage: Stage::Born,
-        },
-    )?;
-    Ok(owns)
-}
 
 /// The kernel of an accepted boot.
 fn first(alloc: Global, boot: Boot, script: Script) -> Result<Kernel, AllocError>

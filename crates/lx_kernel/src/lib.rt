@@ -2,15 +2,12 @@
 #![tactic(auto)]
 
 mod blocking;
-pub mod boots;
 mod bursts;
 mod calls;
 pub mod effects;
 mod first;
 pub mod kernel;
 pub mod laws;
-mod limits;
-pub mod neighbours;
 pub mod occurrences;
 mod outcome;
 mod scheduling;
@@ -19,6 +16,5 @@ pub mod stages;
 pub mod tampering;
 mod tracing;
 
-pub use boots::BootFault;
 pub use kernel::{Failed, Kernel, Moved};
 pub use lx_abi::Boot;

@@ -1,7 +1,8 @@
 //! Boots of files by their paths, and what they are refused for.
 
 use lx_abi::{Boot, Bytes, GuestFile, Script, Seq};
-use lx_kernel::{BootFault, Kernel};
+use lx_boot::BootFault;
+use lx_kernel::Kernel;
 use std::alloc::{AllocError, Global};
 use std::test::Fail;
 

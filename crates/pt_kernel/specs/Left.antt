@@ -9,7 +9,7 @@ use Rattle.lx_abi.specs.declared.script.Rule.{Rule}
 use Rattle.lx_model.specs.Kernel.{Script, Kernel}
 use Rattle.lx_proc.specs.declared.state.Shared.{Shared}
 use Rattle.lx_proc.specs.declared.state.Body.{Body}
-use Rattle.lx_kernel.specs.First.{first_shared}
+use Rattle.lx_boot.specs.First.{first_shared}
 use Rattle.lx_kernel.specs.Laws.{logged_words}
 use Rattle.lx_kernel.specs.Linux.{linux}
 use Rattle.lx_files.specs.Listing.{files_of}

@@ -1,9 +1,9 @@
 //! The host: the ptrace machine around Linux.
 
 ghost use Rattle.std.specs.Prelude.{◌≡◌, ◌↔◌, [], Some, None, true, false, Err, IfOk, IfErr, OnOk, OnErr, IsErr, IsTrue, IsSome};
-ghost use Rattle.lx_kernel.specs.Boots.{fault_of, Refuses};
-ghost use Rattle.lx_kernel.specs.declared.boots.BootFault.{BootFault};
-ghost use Rattle.lx_kernel.specs.First.{first_shared};
+ghost use Rattle.lx_boot.specs.Boots.{fault_of, Refuses};
+ghost use Rattle.lx_boot.specs.declared.boots.BootFault.{BootFault};
+ghost use Rattle.lx_boot.specs.First.{first_shared};
 ghost use Rattle.lx_kernel.specs.Outcomes.{outcome_in};
 ghost use Rattle.lx_exec.specs.Programs.{booted};
 ghost use Rattle.pt_model.specs.Hosting.{first_hosting, hosting_asked};
@@ -15,7 +15,8 @@ use crate::traced_kernel::TracedKernel;
 use crate::tracees::Tracees;
 use crate::turns::Turns;
 use lx_abi::{Boot, Event, Outcome, Reply, Request, Script};
-use lx_kernel::{BootFault, Failed, Kernel};
+use lx_boot::BootFault;
+use lx_kernel::{Failed, Kernel};
 use pt_schedule::System;
 use std::alloc::{AllocError, Global};
 use std::marker::Model;

@@ -1,7 +1,7 @@
 //! Whole runs in one process: listings that are assembled, booted and traced.
 
 use lx_abi::{Boot, Bytes, Event, GuestFile, Outcome, Script, Seq};
-use lx_kernel::BootFault;
+use lx_boot::BootFault;
 use pt_kernel::Schedule;
 use rv_asm::assemble;
 use std::alloc::Global;

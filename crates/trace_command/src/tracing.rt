@@ -9,7 +9,7 @@ use front_end::{Shown, refuse_boot};
 use host_link::{ChildLink, Link, LinkFault};
 use host_wire::{Counted, Sink};
 use lx_abi::{Boot, Outcome, Reply, Request, Script, Seq, Word};
-use lx_kernel::BootFault;
+use lx_boot::BootFault;
 use pt_kernel::Schedule;
 use std::alloc::Global;
 use std::fs;

@@ -1,8 +1,8 @@
 //! A whole run in one process.
 
 ghost use Rattle.std.specs.Prelude.{◌≡◌, None, Some, Err, IfErr, IfOk, OnOk};
-ghost use Rattle.lx_kernel.specs.Boots.{Refuses, fault_of};
-ghost use Rattle.lx_kernel.specs.declared.boots.BootFault.{BootFault};
+ghost use Rattle.lx_boot.specs.Boots.{Refuses, fault_of};
+ghost use Rattle.lx_boot.specs.declared.boots.BootFault.{BootFault};
 ghost use Rattle.trace_run.specs.BootedRuns.{RunOf, TraceOf};
 
 use crate::laws::{local_links_tell, local_links_tell_parts};
@@ -11,7 +11,7 @@ use crate::written::Written;
 use host_link::LocalLink;
 use host_wire::Sink;
 use lx_abi::{Boot, Bytes, Outcome, Script};
-use lx_kernel::BootFault;
+use lx_boot::BootFault;
 use lx_proc::{Body, Shared};
 use pt_kernel::{Host, Schedule, Turns};
 use pt_model::laws::{every_script_is_one, hosts_run_alike};

@@ -1,6 +1,6 @@
 use Rattle.std.proofs.Common.{ap, ◌∙◌}
 use Rattle.lx_abi.specs.Scripts.{choice_of}
-use Rattle.lx_kernel.specs.First.{first_shared}
+use Rattle.lx_boot.specs.First.{first_shared}
 use Rattle.lx_exec.specs.Programs.{booted}
 use Rattle.pt_kernel.specs.Hosts.{HostState}
 use Rattle.trace_run.specs.BootedRuns.{following}

@@ -1,6 +1,6 @@
 use Rattle.std.proofs.Common.{◌≤◌, sym, ap, subst, ◌∙◌}
 use Rattle.std.specs.FinMap as maps
-use Rattle.lx_kernel.specs.First.{first_shared}
+use Rattle.lx_boot.specs.First.{first_shared}
 use Rattle.lx_exec.specs.Programs.{booted}
 use Rattle.lx_kernel.specs.Runs.{Run as KernelRun}
 use Rattle.pt_model.proofs.Hosts.{hosts_begin_alike}

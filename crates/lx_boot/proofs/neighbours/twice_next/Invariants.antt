@@ -1,0 +1,6 @@
+use Rattle.std.proofs.Common.{◌≡◌, map, drop}
+use Rattle.lx_boot.specs.Neighbours.{twice_next}
+use Rattle.lx_boot.proofs.neighbours.twice_next.Given as goal
+
+abbrev pub invariant-loop-file : goal.invariant-loop-file
+invariant-loop-file l = twice_next l.first (map (λ f. f.now) l.files) ≡ twice_next l.last (map (λ f. f.now) (drop l.file-index l.files))

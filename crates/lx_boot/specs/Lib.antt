@@ -1,0 +1,5 @@
+pub mod Boots
+pub mod Paths
+pub mod First
+pub mod Limits
+pub mod Neighbours

@@ -1,0 +1,38 @@
+-- What neighbours tell of files, in an order of their paths in which a path stands before those under it.
+use Rattle.std.specs.Prelude.{◌≡◌, ℕ, ◌+◌, Bool, true, false, not, ◌==◌, nat_lt, if◌then◌else◌, List, [], ◌∷◌, Option, Some, None, IfSome}
+use Rattle.std.specs.List.{list_any}
+use Rattle.std.specs.Str.{bytes_eq}
+use Rattle.lx_abi.specs.declared.boot.GuestFile.{GuestFile}
+use Rattle.lx_boot.specs.Boots.{has_duplicate}
+use Rattle.lx_boot.specs.Paths.{is_under}
+use Rattle.lx_boot.specs.declared.neighbours.Told.{Told}
+
+-- a slash comes before every other byte
+abbrev pub rank : ℕ → ℕ
+rank b = if b == 47 then 0 else b + 1
+
+-- the path comes before the other by its bytes' ranks, and the other isn't under it; one path twice is in order where `twice`
+unfoldable pub precedes : Bool → List ℕ → List ℕ → Bool
+precedes twice [] [] = twice
+precedes twice [] (b ∷ other) = not (b == 47)
+precedes twice (a ∷ path) [] = false
+precedes twice (a ∷ path) (b ∷ other) = if a == b then precedes twice path other else nat_lt (rank a) (rank b)
+
+-- a file lies under the one before it, unless two neighbours are out of order: then nothing is told
+unfoldable pub under_next : GuestFile → List GuestFile → Option Bool
+under_next f [] = Some false
+under_next f (g ∷ files) = if is_under g.path f.path then Some true else if precedes true f.path g.path then under_next g files else None
+
+-- a file has the path of the one before it, unless two neighbours are out of order
+unfoldable pub twice_next : GuestFile → List GuestFile → Option Bool
+twice_next f [] = Some false
+twice_next f (g ∷ files) = if bytes_eq f.path g.path then Some true else if precedes false f.path g.path then twice_next g files else None
+
+-- one of the files lies under another
+abbrev pub has_under : List GuestFile → Bool
+has_under files = list_any (λ f. list_any (λ g. is_under f.path g.path) files) files
+
+-- what is told of files is so
+pub record IsTold (files : List GuestFile) (told : Told) : Type 0 where
+  pub under : IfSome told.under (λ b. b ≡ has_under files)
+  pub twice : IfSome told.twice (λ b. b ≡ has_duplicate files)

@@ -1,9 +1,0 @@
-use Rattle.std.proofs.Common.{◌≡◌, length}
-use Rattle.lx_kernel.specs.Boots.{has_duplicate}
-use Rattle.lx_kernel.proofs.boots.repeats.Given as goal
-
-abbrev pub invariant-loop-file : goal.invariant-loop-file
-invariant-loop-file l = has_duplicate l.files ≡ has_duplicate l.left
-
-abbrev pub decreases-loop-file : goal.decreases-loop-file
-decreases-loop-file l = length l.left

@@ -1,7 +1,0 @@
-use Rattle.std.proofs.Common.{◌≡◌, ◌+◌, take}
-use Rattle.std.specs.List.{sum_by}
-use Rattle.lx_kernel.specs.Limits.{content_size, most_contents}
-use Rattle.lx_kernel.proofs.limits.contents_fit.Given as goal
-
-abbrev pub invariant-loop-file : goal.invariant-loop-file
-invariant-loop-file l = l.left + sum_by content_size (take l.file-index l.files) ≡ most_contents

@@ -1,9 +1,0 @@
-use Rattle.std.proofs.Common.{◌≡◌, ◌+◌, length}
-use Rattle.lx_kernel.specs.Limits.{nodes}
-use Rattle.lx_kernel.proofs.limits.nodes_fit.Given as goal
-
-abbrev pub invariant-loop-file : goal.invariant-loop-file
-invariant-loop-file l = nodes l.files + l.left ≡ nodes l.uncounted + 4095
-
-abbrev pub decreases-loop-file : goal.decreases-loop-file
-decreases-loop-file l = length l.uncounted
