@@ -18,10 +18,16 @@ abbrev pub GoesOn : HostState → Schedule → List Event → Attended → Optio
 GoesOn h s es z (Some r) again = (es ≡ []) × (z ≡ record { host = h; schedule = s; reply = Some r })
 GoesOn h s es z None again = again
 
--- each event is the schedule's next as the host stands, and the schedule has ended after the last one that answers nothing
+-- each event is the schedule's next as the host stands, and the schedule has ended after the last one that
+-- answers nothing
 abbrev pub IsFed : HostState → Schedule → List Event → Attended → Type 0
-IsFed h s [] z = ((next_of s (sight_of h)).event ≡ None) × (z ≡ record { host = h; schedule = (next_of s (sight_of h)).schedule; reply = None })
-IsFed h s (e ∷ es) z = ((next_of s (sight_of h)).event ≡ Some e) × GoesOn (after h e) (next_of s (sight_of h)).schedule es z (event_of h e).reply (IsFed (after h e) (next_of s (sight_of h)).schedule es z)
+IsFed h s [] z =
+    ((next_of s (sight_of h)).event ≡ None)
+    × (z ≡ record { host = h; schedule = (next_of s (sight_of h)).schedule; reply = None })
+IsFed h s (e ∷ es) z =
+    ((next_of s (sight_of h)).event ≡ Some e)
+    × GoesOn (after h e) (next_of s (sight_of h)).schedule es z (event_of h e).reply
+    (IsFed (after h e) (next_of s (sight_of h)).schedule es z)
 
 pub record Attends (h : HostState) (s : Schedule) (z : Attended) : Type 0 where
   -- the events that the schedule gave

@@ -31,7 +31,14 @@ abbrev pub Linux_host : Type 0
 Linux_host = Hosting Shared Body
 
 abbrev pub hosting_by : Running Shared Body → Tracees → List ℕ → Option Request → Linux_host
-hosting_by running x turns pending = record { running = running; traced = x.traced; queue = x.queue; tracees = x.pids; turns = turns; pending = pending }
+hosting_by running x turns pending = record {
+  running = running;
+  traced = x.traced;
+  queue = x.queue;
+  tracees = x.pids;
+  turns = turns;
+  pending = pending;
+}
 
 abbrev pub hosting_of : TracedKernel → Linux_host
 hosting_of c = hosting_by c.kernel.running c.tracees c.turns c.pending
@@ -52,14 +59,16 @@ with_tracee x p message a = record {
   pids = cond a.seized (x.pids ++ p ∷ []) x.pids;
 }
 
-pub record IsAnswer (k : KernelRun) (x : Tracees) (p message : ℕ) (a : Answered Body) (r : Reply) (k' : KernelRun) (x' : Tracees) : Type 0 where
+pub record IsAnswer (k : KernelRun) (x : Tracees) (p message : ℕ) (a : Answered Body)
+    (r : Reply) (k' : KernelRun) (x' : Tracees) : Type 0 where
   pub kernel : k' ≡ with_body k p a.proc.own
   pub tracees : x' ≡ with_tracee x p message a
   pub reply : r ≡ a.reply
 
 -- a held tracee that lives is answered so
 abbrev pub Answers : KernelRun → Tracees → ℕ → Traced → Ask → Reply → KernelRun → Tracees → Type 0
-Answers k x p t q r k' x' = (b : Body) (stage : Stage) → own_in k p ≡ Alive b stage → IsAnswer k x p t.message (stopped linux (as_proc (Alive b stage) t) b stage t.message q) r k' x'
+Answers k x p t q r k' x' = (b : Body) (stage : Stage) → own_in k p ≡ Alive b stage →
+    IsAnswer k x p t.message (stopped linux (as_proc (Alive b stage) t) b stage t.message q) r k' x'
 
 -- it goes on from a stage, or the kernel is unchanged
 abbrev pub GoesOn : KernelRun → ℕ → Body → Option Stage → Bool → KernelRun → Type 0
@@ -98,7 +107,9 @@ is_boot Ask_outcome = false
 -- What a schedule sees of it
 
 abbrev pub able_in : Linux_host → Bool → ℕ → Bool
-able_in v follow p = is_effective linux v.running.shared p (proc_in v p) && moves (own_mode (at Gone v.running.owns p)) (own_mode (turn_out linux no_script follow v.running p).own)
+able_in v follow p =
+    is_effective linux v.running.shared p (proc_in v p)
+    && moves (own_mode (at Gone v.running.owns p)) (own_mode (turn_out linux no_script follow v.running p).own)
 
 abbrev pub sight_of : HostState → Sight
 sight_of h = record {

@@ -23,15 +23,21 @@ use Rattle.pt_model.specs.World.{World}
 
 -- a boot, traced by these events
 abbrev pub traced_boot : Boot → Options → Script → List Event → World Shared Body
-traced_boot boot o script events = traced_run linux outcome_in o script (first_shared boot.files boot.input) (booted boot.argv boot.env) events
+traced_boot boot o script events =
+    traced_run linux outcome_in o script (first_shared boot.files boot.input) (booted boot.argv boot.env) events
 
 -- and the untraced kernel under the script, by their effective turns
 abbrev pub plain_boot : Boot → Options → Script → List Event → Kernel Shared Body
-plain_boot boot o script events = plain_run linux outcome_in o script (first_shared boot.files boot.input) (booted boot.argv boot.env) events
+plain_boot boot o script events =
+    plain_run linux outcome_in o script (first_shared boot.files boot.input) (booted boot.argv boot.env) events
 
 -- the console, the files, and the wait words of the ends in the log
 abbrev pub left_by : Kernel Shared Body → Outcome
-left_by k = record { console = k.shared.console; files = files_of k.shared.tree; ended = ends_of (logged_words (items_of k.log)) }
+left_by k = record {
+  console = k.shared.console;
+  files = files_of k.shared.tree;
+  ended = ends_of (logged_words (items_of k.log));
+}
 
 -- at every moment these are left, and the reply to Outcome says so
 pub record Leaves (w : World Shared Body) (x : Outcome) : Type 0 where

@@ -20,7 +20,8 @@ use Rattle.pt_schedule.specs.declared.schedule.Schedule.{Schedule}
 
 -- a turn of the process is effective, and runs an instruction or changes its mode
 abbrev pub is_able : {S B : Type 0} → Machine S B → Host S B → ℕ → Bool
-is_able m h p = is_effective m h.shared p (h.procs p) && moves (own_mode (h.procs p).own) (own_mode (host_turn_of m h p).own)
+is_able m h p =
+    is_effective m h.shared p (h.procs p) && moves (own_mode (h.procs p).own) (own_mode (host_turn_of m h p).own)
 
 abbrev pub sees : Attending Shared Body → Sight
 sees a = record {
@@ -55,4 +56,5 @@ pub record IsCalled (v : Linux_host) (s : Schedule) (q : Request) (z : Attended)
 -- for every host that hasn't failed
 abbrev pub HostsAreCalled : Type 0
 HostsAreCalled = (h : HostState) (s : Schedule) (q : Request) (z : Attended) →
-    IsFresh h.hosting → h.failed ≡ false → h.hosting.pending ≡ Some q → (a : Attends h s z) → IsCalled h.hosting s q z a.fed
+    IsFresh h.hosting → h.failed ≡ false → h.hosting.pending ≡ Some q →
+    (a : Attends h s z) → IsCalled h.hosting s q z a.fed

@@ -38,7 +38,11 @@ Traceds = maps.FinMap nat_cmp Traced
 -- a tracee that has come to a stop is held; of who is none nothing is kept
 abbrev pub stopped_at : Traceds → ℕ → ℕ → Option Watch → Turned → Traceds
 stopped_at traced p message None t = traced
-stopped_at traced p message (Some w) t = maps.insert traced p (record { held = is_there t.stop; watch = Some w; message = message_after message p t.child w t.deed })
+stopped_at traced p message (Some w) t = maps.insert traced p (record {
+  held = is_there t.stop;
+  watch = Some w;
+  message = message_after message p t.child w t.deed;
+})
 
 -- a process becomes a tracee, and its EVENT_STOP is reported
 abbrev pub attached : Tracees → ℕ → Traced → Tracees

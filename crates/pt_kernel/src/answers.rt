@@ -87,7 +87,8 @@ fn may_join(number: u32) -> bool
 }
 
 fn get_regs(kernel: &Kernel, pid: u32) -> Reply
-    ensures { (b : Body) (stage : Stage) → own_in kernel.now pid ≡ Owns.Alive b stage → result ≡ Reply.Registers (linux.regs b) }
+    ensures { (b : Body) (stage : Stage) → own_in kernel.now pid ≡ Owns.Alive b stage
+        → result ≡ Reply.Registers (linux.regs b) }
 {
     match kernel.regs(pid) {
         Some(registers) => Reply::Registers { registers },
@@ -106,7 +107,9 @@ fn peeked(bytes: Bytes) -> Reply
 }
 
 fn peek(kernel: &Kernel, pid: u32, address: u64, length: u32) -> Result<Reply, AllocError>
-    ensures { IfOk result (λ r. (b : Body) (stage : Stage) → own_in kernel.now pid ≡ Owns.Alive b stage → r ≡ cond (may_peek length) (peeked (linux.peek b address length)) (Reply.Errno 22)) }
+    ensures { IfOk result
+        (λ r. (b : Body) (stage : Stage) → own_in kernel.now pid ≡ Owns.Alive b stage
+        → r ≡ cond (may_peek length) (peeked (linux.peek b address length)) (Reply.Errno 22)) }
 {
     if length < 1 || length > 4096 {
         return Ok(refusal(EINVAL));
@@ -130,7 +133,8 @@ fn sig_info(kernel: &Kernel, pid: u32) -> Reply
 
 /// A tracee at the entry of a call goes on, with a signal joined to it.
 fn resume_call(kernel: &mut Kernel, pid: u32, number: u32) -> bool
-    ensures { (b : Body) (joined : Option Signal) → own_in kernel.old pid ≡ Owns.Alive b (Stages.Entered joined) → GoesOn kernel.old pid b (resumption (Stages.Entered joined) number) result kernel.new }
+    ensures { (b : Body) (joined : Option Signal) → own_in kernel.old pid ≡ Owns.Alive b (Stages.Entered joined)
+        → GoesOn kernel.old pid b (resumption (Stages.Entered joined) number) result kernel.new }
 {
     if number != 0 && !may_join(number) {
         return false;
@@ -140,7 +144,8 @@ fn resume_call(kernel: &mut Kernel, pid: u32, number: u32) -> bool
 
 /// A tracee at a signal that it has taken goes on, with the signal or without it.
 fn resume_signal(kernel: &mut Kernel, pid: u32, taken: Signal, number: u32) -> bool
-    ensures { (b : Body) (cause : Cause) → own_in kernel.old pid ≡ Owns.Alive b (Stages.Taken taken cause) → GoesOn kernel.old pid b (resumption (Stages.Taken taken cause) number) result kernel.new }
+    ensures { (b : Body) (cause : Cause) → own_in kernel.old pid ≡ Owns.Alive b (Stages.Taken taken cause)
+        → GoesOn kernel.old pid b (resumption (Stages.Taken taken cause) number) result kernel.new }
 {
     if u32::from(taken.number) == number {
         return true;
@@ -153,7 +158,8 @@ fn resume_signal(kernel: &mut Kernel, pid: u32, taken: Signal, number: u32) -> b
 
 /// A tracee goes on; false, and nothing is changed, where the signal's number is refused.
 fn resume(kernel: &mut Kernel, pid: u32, number: u32) -> bool
-    ensures { (b : Body) (stage : Stage) → own_in kernel.old pid ≡ Owns.Alive b stage → GoesOn kernel.old pid b (resumption stage number) result kernel.new }
+    ensures { (b : Body) (stage : Stage) → own_in kernel.old pid ≡ Owns.Alive b stage
+        → GoesOn kernel.old pid b (resumption stage number) result kernel.new }
 {
     if is_entered(kernel.mode(pid)) {
         return resume_call(kernel, pid, number);
@@ -172,7 +178,8 @@ fn syscall(
     signal: u32,
 ) -> Result<Reply, AllocError>
     requires { maps.get tracees.old.traced pid ≡ Some traced }
-    ensures { IfOk result (λ r. Answers kernel.old tracees.old pid traced (Asks.Syscall signal) r kernel.new tracees.new) }
+    ensures { IfOk result
+        (λ r. Answers kernel.old tracees.old pid traced (Asks.Syscall signal) r kernel.new tracees.new) }
 {
     if !resume(kernel, pid, signal) {
         return Ok(refusal(EIO));
@@ -194,7 +201,8 @@ fn set_options(
     options: u32,
 ) -> Result<Reply, AllocError>
     requires { maps.get tracees.old.traced pid ≡ Some traced }
-    ensures { IfOk result (λ r. Answers kernel.now tracees.old pid traced (Asks.SetOptions options) r kernel.now tracees.new) }
+    ensures { IfOk result
+        (λ r. Answers kernel.now tracees.old pid traced (Asks.SetOptions options) r kernel.now tracees.new) }
 {
     match watch_of(options) {
         None => Ok(refusal(EINVAL)),
@@ -259,7 +267,10 @@ fn seize_options(ask: Ask) -> Option<u32>
 /// Process 1 becomes a tracee.
 fn seize(tracees: &mut Tracees, pid: u32, traced: Traced, options: u32) -> Result<Reply, AllocError>
     requires { maps.get tracees.old.traced pid ≡ Some traced }
-    ensures { IfOk result (λ r. (k : KernelRun) → IsSwept k.running → IsAnswer k tracees.old pid traced.message (seize_by (as_proc (own_in k pid) traced) (watch_of options)) r k tracees.new) }
+    ensures { IfOk result
+        (λ r. (k : KernelRun) → IsSwept k.running
+        → IsAnswer k tracees.old pid traced.message
+        (seize_by (as_proc (own_in k pid) traced) (watch_of options)) r k tracees.new) }
 {
     match watch_of(options) {
         None => Ok(refusal(EINVAL)),
@@ -278,7 +289,10 @@ fn answer_unseized(
     ask: Ask,
 ) -> Result<Reply, AllocError>
     requires { maps.get tracees.old.traced pid ≡ Some traced }
-    ensures { IfOk result (λ r. (k : KernelRun) → IsSwept k.running → IsAnswer k tracees.old pid traced.message (unseized (as_proc (own_in k pid) traced) ask) r k tracees.new) }
+    ensures { IfOk result
+        (λ r. (k : KernelRun) → IsSwept k.running
+        → IsAnswer k tracees.old pid traced.message
+        (unseized (as_proc (own_in k pid) traced) ask) r k tracees.new) }
 {
     match seize_options(ask) {
         None => Ok(refusal(ESRCH)),
@@ -297,7 +311,14 @@ pub fn answer(
     ask: Ask,
 ) -> Result<Reply, AllocError>
     requires { IsSwept kernel.old.running }
-    ensures answer { IfOk result (λ r. (turns : List ℕ) (pending : Option Request) → made (hosting_by kernel.new.running tracees.new turns pending) (Some r) ≡ hosting_to linux (hosting_by kernel.old.running tracees.old turns pending) pid (at untraced tracees.old.traced pid).message (as_proc (own_in kernel.old pid) (at untraced tracees.old.traced pid)) (at untraced tracees.old.traced pid).held (at untraced tracees.old.traced pid).watch (own_in kernel.old pid) ask) }
+    ensures answer { IfOk result
+        (λ r. (turns : List ℕ) (pending : Option Request)
+        → made (hosting_by kernel.new.running tracees.new turns pending) (Some r)
+        ≡ hosting_to linux (hosting_by kernel.old.running tracees.old turns pending) pid
+        (at untraced tracees.old.traced pid).message
+        (as_proc (own_in kernel.old pid) (at untraced tracees.old.traced pid))
+        (at untraced tracees.old.traced pid).held (at untraced tracees.old.traced pid).watch
+        (own_in kernel.old pid) ask) }
     ensures script { OnOk result ((kernel.new.script ≡ kernel.old.script) × (kernel.new.follow ≡ kernel.old.follow)) }
 {
     let traced = tracees.traced(pid);

@@ -27,7 +27,8 @@ fn run_row(host: &mut Host, schedule: &mut Schedule) -> Result<(), Failed>
 
 /// Makes the events of a schedule until the pending request is answered; none where the schedule has ended before.
 pub fn attend(host: &mut Host, schedule: &mut Schedule) -> Result<Option<Reply>, Failed>
-    ensures attends { IfOk result (λ r. Attends host.old schedule.old (record { host = host.new; schedule = schedule.new; reply = r })) }
+    ensures attends { IfOk result
+        (λ r. Attends host.old schedule.old (record { host = host.new; schedule = schedule.new; reply = r })) }
     ensures failed { OnErr result (IsTrue host.new.failed) }
 {
     'events: loop {

@@ -50,7 +50,12 @@ impl Model for Host {
 impl Host {
     /// Process 1 is held until it is seized and resumed.
     pub fn boot(alloc: Global, boot: Boot) -> Result<Self, BootFault>
-        ensures first { IfOk result (λ h. h ≡ record { hosting = first_hosting (first_shared boot.files boot.input) (booted boot.argv boot.env); follow = boot.follow; failed = false }) }
+        ensures first { IfOk result
+            (λ h. h ≡ record {
+              hosting = first_hosting (first_shared boot.files boot.input) (booted boot.argv boot.env);
+              follow = boot.follow;
+              failed = false;
+            }) }
         ensures accepted { OnOk result (fault_of boot ≡ None) }
         ensures fault { IfErr result (Refuses boot) }
 
@@ -74,7 +79,8 @@ impl Host {
     /// asked anything, and not again.
     pub fn ask(&mut self, request: Request) -> Result<(), Busy>
         requires { is_boot request ≡ false }
-        ensures put { OnOk result (hosting_asked self.old.hosting request self.old.hosting.pending ≡ Some self.new.hosting) }
+        ensures put { OnOk result
+            (hosting_asked self.old.hosting request self.old.hosting.pending ≡ Some self.new.hosting) }
         ensures rest { OnOk result (self.new ≡ record self.old { hosting = self.new.hosting }) }
         ensures busy { OnErr result (IsSome self.old.hosting.pending) }
         ensures unchanged { OnErr result (self.new ≡ self.old) }
@@ -88,7 +94,12 @@ impl Host {
 
     /// One event: a turn of a process, or the pending request served whole.
     pub fn event(&mut self, event: Event) -> Result<Option<Reply>, Failed>
-        ensures after { OnOk result (self.new ≡ record { hosting = (event_of self.old event).hosting; follow = self.old.follow; failed = false }) }
+        ensures after { OnOk result
+            (self.new ≡ record {
+              hosting = (event_of self.old event).hosting;
+              follow = self.old.follow;
+              failed = false;
+            }) }
         ensures reply { IfOk result (λ r. r ≡ (event_of self.old event).reply) }
 
         // Once memory was refused, every event answers so.

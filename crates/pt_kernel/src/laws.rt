@@ -9,7 +9,8 @@ use lx_kernel::laws::{calls_fit, linux_is_a_machine, words_are_logged};
 use lx_proc::{Body, Shared};
 use pt_model::laws::{every_script_is_one, hosts_run_alike, tracing_is_transparent, turns_tell};
 
-/// What wait(2) tells of Linux's calls fits their numbers, and no read of a memory gives more bytes than were asked for.
+/// What wait(2) tells of Linux's calls fits their numbers, and no read of a memory gives more bytes than were asked
+/// for.
 pub fn linux_is_told()
     ensures { IsTold linux }
 {

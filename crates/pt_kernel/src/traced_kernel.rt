@@ -37,7 +37,8 @@ impl TracedKernel {
     /// One turn of a process, if its tracer doesn't hold it.
     pub fn turn(&mut self, pid: u32) -> Result<(), Failed>
         requires { self.old.kernel.script ≡ [] }
-        ensures turned { OnOk result (hosting_of self.new ≡ hosting_turn linux self.old.kernel.follow (hosting_of self.old) pid) }
+        ensures turned { OnOk result
+            (hosting_of self.new ≡ hosting_turn linux self.old.kernel.follow (hosting_of self.old) pid) }
         ensures script { OnOk result (self.new.kernel.script ≡ self.old.kernel.script) }
         ensures follow { OnOk result (self.new.kernel.follow ≡ self.old.kernel.follow) }
     {
@@ -80,8 +81,13 @@ impl TracedKernel {
     /// A request is answered; none where Wait stays pending.
     fn answer(&mut self, request: &Request) -> Result<Option<Reply>, Failed>
         requires { IsSwept self.old.kernel.running }
-        ensures answer { IfOk result (λ r. (pending : Option Request) → made (hosting_by self.new.kernel.running self.new.tracees self.new.turns pending) r ≡ hosting_serve linux outcome_in (hosting_by self.old.kernel.running self.old.tracees self.old.turns pending) request.now) }
-        ensures script { OnOk result ((self.new.kernel.script ≡ self.old.kernel.script) × (self.new.kernel.follow ≡ self.old.kernel.follow)) }
+        ensures answer { IfOk result
+            (λ r. (pending : Option Request)
+            → made (hosting_by self.new.kernel.running self.new.tracees self.new.turns pending) r
+            ≡ hosting_serve linux outcome_in
+            (hosting_by self.old.kernel.running self.old.tracees self.old.turns pending) request.now) }
+        ensures script { OnOk result
+            ((self.new.kernel.script ≡ self.old.kernel.script) × (self.new.kernel.follow ≡ self.old.kernel.follow)) }
         ensures pending { OnOk result (self.new.pending ≡ self.old.pending) }
     {
         match request {
@@ -104,8 +110,11 @@ impl TracedKernel {
     /// The pending request is served whole.
     fn serve(&mut self) -> Result<Option<Reply>, Failed>
         requires { IsSwept self.old.kernel.running }
-        ensures served { IfOk result (λ r. made (hosting_of self.new) r ≡ hosting_pending linux outcome_in (hosting_of self.old) self.old.pending) }
-        ensures script { OnOk result ((self.new.kernel.script ≡ self.old.kernel.script) × (self.new.kernel.follow ≡ self.old.kernel.follow)) }
+        ensures served { IfOk result
+            (λ r. made (hosting_of self.new) r
+            ≡ hosting_pending linux outcome_in (hosting_of self.old) self.old.pending) }
+        ensures script { OnOk result
+            ((self.new.kernel.script ≡ self.old.kernel.script) × (self.new.kernel.follow ≡ self.old.kernel.follow)) }
     {
         match self.pending.take() {
             None => Ok(None),
@@ -123,7 +132,9 @@ impl TracedKernel {
     pub fn event(&mut self, event: Event) -> Result<Option<Reply>, Failed>
         requires empty { self.old.kernel.script ≡ [] }
         requires swept { IsSwept self.old.kernel.running }
-        ensures made { IfOk result (λ r. made (hosting_of self.new) r ≡ hosting_event linux outcome_in self.old.kernel.follow (hosting_of self.old) event) }
+        ensures made { IfOk result
+            (λ r. made (hosting_of self.new) r
+            ≡ hosting_event linux outcome_in self.old.kernel.follow (hosting_of self.old) event) }
         ensures script { OnOk result (self.new.kernel.script ≡ self.old.kernel.script) }
         ensures follow { OnOk result (self.new.kernel.follow ≡ self.old.kernel.follow) }
     {

@@ -62,7 +62,12 @@ fn message_after(message: u32, pid: u32, child: u32, watch: Watch, deed: Deed) -
 impl Tracees {
     /// Process 1 is held from the boot, and no tracee yet.
     pub fn new(alloc: Global) -> Result<Self, AllocError>
-        ensures { IfOk result (λ x. x ≡ record { traced = maps.insert maps.empty 1 (record { held = true; watch = None; message = 0 }); queue = []; pids = [] }) }
+        ensures { IfOk result
+            (λ x. x ≡ record {
+              traced = maps.insert maps.empty 1 (record { held = true; watch = None; message = 0 });
+              queue = [];
+              pids = [];
+            }) }
     {
         let mut traced = Map::new(alloc);
         traced.insert(
@@ -103,7 +108,10 @@ impl Tracees {
 
     /// A tracee that has come to a stop is held.
     fn stop(&mut self, pid: u32, traced: Traced, turned: Turned) -> Result<(), AllocError>
-        ensures { OnOk result (self.new ≡ record self.old { traced = stopped_at self.old.traced pid traced.message traced.watch turned }) }
+        ensures { OnOk result
+            (self.new ≡ record self.old {
+              traced = stopped_at self.old.traced pid traced.message traced.watch turned;
+            }) }
     {
         match traced.watch {
             None => Ok(()),
@@ -121,7 +129,10 @@ impl Tracees {
 
     /// The stop is reported; a process that is dying has no earlier report.
     fn report(&mut self, pid: u32, stop: Option<Stop>, dying: bool) -> Result<(), AllocError>
-        ensures { OnOk result (self.new ≡ record self.old { queue = cond dying (without pid self.old.queue) self.old.queue ++ reports_of pid stop }) }
+        ensures { OnOk result
+            (self.new ≡ record self.old {
+              queue = cond dying (without pid self.old.queue) self.old.queue ++ reports_of pid stop;
+            }) }
     {
         if dying {
             self.queue.withdraw(pid);
@@ -189,7 +200,11 @@ impl Tracees {
 
     /// Who was waited for is held no more, and no tracee.
     fn release(&mut self, pid: u32) -> Result<(), AllocError>
-        ensures { OnOk result (self.new ≡ record self.old { traced = released self.old.traced pid (maps.get self.old.traced pid); pids = filter (λ q. not (pid == q)) self.old.pids }) }
+        ensures { OnOk result
+            (self.new ≡ record self.old {
+              traced = released self.old.traced pid (maps.get self.old.traced pid);
+              pids = filter (λ q. not (pid == q)) self.old.pids;
+            }) }
     {
         self.pids.leave(pid);
         match self.traced.get(pid).copied() {
@@ -207,7 +222,9 @@ impl Tracees {
     }
 
     fn tell(&mut self, report: Report) -> Result<Reply, AllocError>
-        ensures { IfOk result (λ r. tells self.new (Some r) ≡ tells (took self.old self.old.queue report.pid report.stop) (Some (told report.pid report.stop))) }
+        ensures { IfOk result
+            (λ r. tells self.new (Some r)
+            ≡ tells (took self.old self.old.queue report.pid report.stop) (Some (told report.pid report.stop))) }
     {
         if let Stop::Ended { .. } = report.stop {
             self.release(report.pid)?;

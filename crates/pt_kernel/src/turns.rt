@@ -61,7 +61,8 @@ impl Turns {
 
 /// More turns in the last row, where it is the process's.
 fn lengthen(runs: &mut Vec<TurnRun>, more: TurnRun) -> bool
-    ensures { pids_of runs.new.items ≡ (if result then pids_of runs.old.items ++ replicate more.turns more.pid else pids_of runs.old.items) }
+    ensures { pids_of runs.new.items
+        ≡ (if result then pids_of runs.old.items ++ replicate more.turns more.pid else pids_of runs.old.items) }
 {
     if runs.is_empty() {
         return false;
