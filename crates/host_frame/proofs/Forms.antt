@@ -17,6 +17,7 @@ use Rattle.lx_abi.specs.declared.ptrace.Reply.TheVariants.{Info as Info_is}
 use Rattle.lx_abi.specs.declared.ptrace.Request.{Request}
 use Rattle.lx_abi.specs.declared.ptrace.Request.TheVariants.{To}
 use Rattle.host_frame.specs.Reading.{◌>>=◌, number_at, registers_at, doubles, text_at, each_at, items_at, guest_file_at, info_at, ask_at, to_at, seize_at, set_options_at, set_regs_at, peek_at, syscall_at}
+use Rattle.host_frame.proofs.Sizes.{registers_size}
 use Rattle.host_frame.specs.Spelling.{word, double, registers, text, items, ask_message, AreRegisters, FitsAsk}
 
 abbrev pub IsBytes : List ℕ → Type 0
@@ -163,10 +164,6 @@ doubles_again (r ∷ rs) rest fits =
     ap (doubles (suc (length rs))) regroup ∙ ap (λ (x : ℕ). x ∷ doubles (length rs) (drop 8 (little_bytes 8 r ++ (registers rs ++ rest)))) first
     ∙ ap (λ (xs : List ℕ). r ∷ xs) (ap (doubles (length rs)) behind ∙ doubles_again rs rest fits.1)
 
-length-registers : (rs : List ℕ) → length (registers rs) ≡ 8 * length rs
-length-registers [] = refl
-length-registers (r ∷ rs) = omega (arith, length-append (little_bytes 8 r) (registers rs), length-bytes_low_first 0 8 r, length-registers rs)
-
 pub registers_form : IsForm (same {A = List ℕ}) AreRegisters registers registers_at
 unfolding registers_at
 registers_form = record {
@@ -178,7 +175,7 @@ registers_form = record {
       let parts : registers x ++ rest ≡ bytes = ap (λ (y : List ℕ). registers y ++ rest) (sym x-is) ∙ ap (λ (t : List ℕ). t ++ rest) (doubles_back 32 bytes le fits) ∙ ap (λ (t : List ℕ). take 256 bytes ++ t) (sym rest-is) ∙ take-append-drop 256 bytes in
       (x, refl, subst AreRegisters x-is (doubles_fit 32 bytes fits), record { parts = sym parts; rest_fits = subst IsBytes rest-is (IsBytes-drop 256 bytes fits) });
   again = λ x rest fits.
-      let len : length (registers x) ≡ 256 = omega (arith, length-registers x, fits.0) in
+      let len : length (registers x) ≡ 256 = omega (arith, registers_size x, fits.0) in
       let long : ltb (length (registers x ++ rest)) 256 ≡ false = le-ltb _ _ (omega (arith, length-append (registers x) rest, len)) in
       let all : doubles 32 (registers x ++ rest) ≡ x = subst (λ (n : ℕ). doubles n (registers x ++ rest) ≡ x) fits.0 (doubles_again x rest fits.1) in
       rw (long, all, drop_at (registers x) rest 256 len) refl;

@@ -3,4 +3,5 @@ pub mod Inverse
 pub mod Lists
 pub mod Messages
 pub mod Registers
+pub mod Sizes
 pub mod Whole

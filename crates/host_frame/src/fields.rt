@@ -1,6 +1,7 @@
 //! Values at the end of bytes.
 
-ghost use Rattle.std.specs.Prelude.{◌≡◌, ◌++◌, OnOk};
+ghost use Rattle.std.specs.Prelude.{◌≡◌, ◌++◌, OnOk, length};
+ghost use Rattle.host_frame.specs.Sizes.{Spends};
 ghost use Rattle.host_frame.specs.Spelling as spec;
 
 use byteorder::{BigEndian, ByteOrder, LittleEndian};
@@ -40,10 +41,25 @@ pub(crate) fn put_text(out: &mut Vec<u8>, bytes: &[u8]) -> Result<(), AllocError
     out.extend_from_slice(bytes)
 }
 
+/// What is left of a budget of bytes behind a text.
+#[tactic(auto, using(crate::proofs::Sizes::text_size))]
+pub(crate) fn spend_text(budget: usize, bytes: &[u8]) -> Option<usize>
+    ensures { Spends result budget (length (spec.text bytes.now)) }
+{
+    budget.checked_sub(4)?.checked_sub(bytes.len())
+}
+
 pub(crate) fn put_registers(out: &mut Vec<u8>, registers: &Registers) -> Result<(), AllocError>
     ensures { OnOk result (out.new.items ≡ out.old.items ++ spec.registers registers.now) }
 {
     let mut bytes = [0; 256];
     LittleEndian::write_u64_into(registers, &mut bytes);
     out.extend_from_slice(&bytes)
+}
+
+#[tactic(auto, using(crate::proofs::Sizes::sizes))]
+pub(crate) fn registers_size(registers: &Registers) -> usize
+    ensures { result ≡ length (spec.registers registers.now) }
+{
+    8 * registers.len()
 }

@@ -1,6 +1,7 @@
 //! Lists of values.
 
-ghost use Rattle.std.specs.Prelude.{◌≡◌, ◌++◌, List, ℕ, Option, OnOk};
+ghost use Rattle.std.specs.Prelude.{◌≡◌, ◌++◌, List, ℕ, Option, OnOk, length};
+ghost use Rattle.host_frame.specs.Sizes.{Spends};
 ghost use Rattle.host_frame.specs.Reading as spec;
 ghost use Rattle.host_frame.specs.Reading.{Gives, items_at, each_at};
 ghost use Rattle.host_frame.specs.Spelling.{text, items, guest_file, schedule_word};
@@ -9,7 +10,7 @@ ghost use Rattle.host_frame.specs.Spelling as spell;
 
 use crate::cursor::{byte_at, text_of, word_at};
 use crate::fault::Bad;
-use crate::fields::{put_byte, put_length, put_text, put_word};
+use crate::fields::{put_byte, put_length, put_text, put_word, spend_text};
 use lx_abi::{Bytes, Ended, GuestFile, Node, OutcomeFile, Seq, Word};
 use std::alloc::{AllocError, Global};
 
@@ -25,6 +26,10 @@ pub(crate) trait Item: Sized {
 
     fn put(&self, out: &mut Vec<u8>) -> Result<(), AllocError>
         ensures { OnOk result (out.new.items ≡ out.old.items ++ spelled self.now) };
+
+    /// What is left of a budget of bytes behind it.
+    fn spend(&self, budget: usize) -> Option<usize>
+        ensures { Spends result budget (length (spelled self.now)) };
 
     fn take(alloc: Global, bytes: &[u8]) -> Result<(Self, &[u8]), Bad>
         ensures { Gives (λ x. (x.0, x.1.now)) result (reads bytes.now) };
@@ -63,6 +68,18 @@ pub(crate) fn put_list<T: Item>(out: &mut Vec<u8>, list: &[T]) -> Result<(), All
     Ok(())
 }
 
+/// What is left of a budget of bytes behind a list.
+#[tactic(auto, using(crate::proofs::Sizes::items_size))]
+pub(crate) fn spend_list<T: Item>(budget: usize, list: &[T]) -> Option<usize>
+    ensures { Spends result budget (length (items T.spelled list.now)) }
+{
+    let mut left = budget.checked_sub(4)?;
+    for item in list {
+        left = item.spend(left)?;
+    }
+    Some(left)
+}
+
 impl Item for Bytes {
     ghost spelled = { λ b. text b };
 
@@ -70,6 +87,11 @@ impl Item for Bytes {
 
     fn put(&self, out: &mut Vec<u8>) -> Result<(), AllocError> {
         put_text(out, self.as_slice())
+    }
+
+    #[tactic(auto, using(crate::proofs::Sizes::sizes))]
+    fn spend(&self, budget: usize) -> Option<usize> {
+        spend_text(budget, self.as_slice())
     }
 
     fn take(alloc: Global, bytes: &[u8]) -> Result<(Bytes, &[u8]), Bad> {
@@ -85,6 +107,12 @@ impl Item for GuestFile {
     fn put(&self, out: &mut Vec<u8>) -> Result<(), AllocError> {
         put_text(out, self.path.as_slice())?;
         put_text(out, self.content.as_slice())
+    }
+
+    #[tactic(auto, using(crate::proofs::Sizes::sizes))]
+    fn spend(&self, budget: usize) -> Option<usize> {
+        let budget = spend_text(budget, self.path.as_slice())?;
+        spend_text(budget, self.content.as_slice())
     }
 
     #[tactic(auto, unfolding(crate::specs::Reading::guest_file_at))]
@@ -123,6 +151,11 @@ impl Item for Word {
         put_word(out, pid)
     }
 
+    #[tactic(auto, using(crate::proofs::Sizes::sizes))]
+    fn spend(&self, budget: usize) -> Option<usize> {
+        budget.checked_sub(5)
+    }
+
     #[tactic(auto, unfolding(crate::specs::Reading::schedule_word_at))]
     fn take(_alloc: Global, bytes: &[u8]) -> Result<(Word, &[u8]), Bad> {
         let (kind, rest) = byte_at(bytes)?;
@@ -159,6 +192,17 @@ fn put_node(out: &mut Vec<u8>, node: &Node) -> Result<(), AllocError>
     }
 }
 
+#[tactic(auto, using(crate::proofs::Sizes::sizes))]
+fn spend_node(budget: usize, node: &Node) -> Option<usize>
+    ensures { Spends result budget (length (spell.node node.now)) }
+{
+    let budget = budget.checked_sub(1)?;
+    match node {
+        Node::File(content) => spend_text(budget, content.as_slice()),
+        Node::Directory => spend_text(budget, &[]),
+    }
+}
+
 impl Item for OutcomeFile {
     ghost spelled = { λ f. spell.outcome_file f };
 
@@ -167,6 +211,12 @@ impl Item for OutcomeFile {
     fn put(&self, out: &mut Vec<u8>) -> Result<(), AllocError> {
         put_text(out, self.path.as_slice())?;
         put_node(out, &self.node)
+    }
+
+    #[tactic(auto, using(crate::proofs::Sizes::sizes))]
+    fn spend(&self, budget: usize) -> Option<usize> {
+        let budget = spend_text(budget, self.path.as_slice())?;
+        spend_node(budget, &self.node)
     }
 
     #[tactic(auto, unfolding(crate::specs::Reading::outcome_file_at))]
@@ -189,6 +239,11 @@ impl Item for Ended {
     fn put(&self, out: &mut Vec<u8>) -> Result<(), AllocError> {
         put_word(out, self.pid)?;
         put_word(out, self.word)
+    }
+
+    #[tactic(auto, using(crate::proofs::Sizes::sizes))]
+    fn spend(&self, budget: usize) -> Option<usize> {
+        budget.checked_sub(8)
     }
 
     #[tactic(auto, unfolding(crate::specs::Reading::ended_at))]

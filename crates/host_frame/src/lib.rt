@@ -9,6 +9,7 @@ mod item;
 pub mod laws;
 mod order;
 mod reading;
+mod sizing;
 mod writing;
 
 pub use fault::WireFault;

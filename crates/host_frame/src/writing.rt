@@ -4,10 +4,10 @@ ghost use Rattle.std.specs.Prelude.{◌≡◌, ◌≤◌, ◌<◌, ◌++◌, OnO
 ghost use Rattle.host_frame.specs.Spelling as spec;
 
 use crate::fault::WireFault;
-use crate::fields::{put_byte, put_double, put_registers, put_text, put_word};
-use crate::frame::{Body, Frame, LONGEST};
+use crate::fields::{put_byte, put_double, put_length, put_registers, put_text, put_word};
+use crate::frame::{Body, Frame};
 use crate::item::put_list;
-use byteorder::{BigEndian, ByteOrder};
+use crate::sizing::content_size;
 use lx_abi::{Ask, Boot, Info, Outcome, Reply, Request, Word};
 use std::alloc::{AllocError, Global};
 
@@ -191,9 +191,6 @@ fn put_content(out: &mut Vec<u8>, frame: &Frame) -> Result<(), AllocError>
     put_body(out, &frame.body)
 }
 
-/// Room for most frames, so that their bytes are written without a growth.
-const ROOM: usize = 64;
-
 /// The bytes of a frame; Length where what stands behind its length would pass the limit.
 #[tactic(auto, unfolding(crate::specs::Spelling::spelled))]
 pub fn encode(alloc: Global, frame: &Frame) -> Result<Vec<u8>, WireFault>
@@ -201,13 +198,11 @@ pub fn encode(alloc: Global, frame: &Frame) -> Result<Vec<u8>, WireFault>
     ensures short { IfOk result (λ v. spec.IsShort frame.now) }
     ensures fault { IfErr result (λ fault. spec.CannotBeSpelled frame.now fault) }
 {
-    let mut bytes = Vec::with_capacity(alloc, ROOM)?;
-    bytes.extend_from_slice(&[0; 4])?;
-    put_content(&mut bytes, frame)?;
-    let length = bytes.len() - 4;
-    if length > LONGEST {
+    let Some(size) = content_size(frame) else {
         return Err(WireFault::Length);
-    }
-    BigEndian::write_u32(bytes.as_mut_slice(), length as u32);
+    };
+    let mut bytes = Vec::with_capacity(alloc, 4 + size)?;
+    put_length(&mut bytes, size)?;
+    put_content(&mut bytes, frame)?;
     Ok(bytes)
 }

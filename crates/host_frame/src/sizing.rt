@@ -1,0 +1,96 @@
+//! How many bytes a message takes.
+
+ghost use Rattle.std.specs.Prelude.{◌≡◌, ◌≤◌, ◌++◌, length, SomeIff};
+ghost use Rattle.host_frame.specs.Spelling as spec;
+ghost use Rattle.host_frame.specs.Sizes.{Spends};
+
+use crate::fields::{registers_size, spend_text};
+use crate::frame::{Body, Frame, LONGEST, SHORTEST};
+use crate::item::spend_list;
+use lx_abi::{Ask, Boot, Outcome, Reply, Request, Word};
+
+#[tactic(auto, using(crate::proofs::Sizes::sizes))]
+fn ask_size(ask: &Ask) -> usize
+    ensures { result ≡ length (spec.ask_message ask.now).1 }
+{
+    match ask {
+        Ask::Seize { .. } => 4,
+        Ask::SetOptions { .. } => 4,
+        Ask::SetRegs { registers } => registers_size(registers),
+        Ask::Peek { .. } => 12,
+        Ask::Syscall { .. } => 4,
+        Ask::GetRegs => 0,
+        Ask::EventMsg => 0,
+        Ask::SigInfo => 0,
+    }
+}
+
+#[tactic(auto, using(crate::proofs::Sizes::sizes), unfolding(crate::specs::Spelling::head, crate::specs::Spelling::parts))]
+fn spend_boot(budget: usize, boot: &Boot, limit: u64, words: &[Word]) -> Option<usize>
+    ensures { Spends result budget (length (spec.boot boot.now limit words.now)) }
+{
+    let budget = budget.checked_sub(10)?;
+    let budget = spend_text(budget, boot.input.as_slice())?;
+    let budget = spend_list(budget, boot.argv.as_slice())?;
+    let budget = spend_list(budget, boot.env.as_slice())?;
+    let budget = spend_list(budget, boot.files.as_slice())?;
+    spend_list(budget, words)
+}
+
+#[tactic(auto, using(crate::proofs::Sizes::sizes))]
+fn spend_request(budget: usize, request: &Request) -> Option<usize>
+    ensures { Spends result budget (length (spec.request_message request.now).1) }
+{
+    match request {
+        Request::Boot { boot, limit, words } => spend_boot(budget, boot, *limit, words.as_slice()),
+        Request::To { ask, .. } => budget.checked_sub(4)?.checked_sub(ask_size(ask)),
+        Request::Wait => Some(budget),
+        Request::Outcome => Some(budget),
+    }
+}
+
+#[tactic(auto, using(crate::proofs::Sizes::sizes))]
+fn spend_outcome(budget: usize, outcome: &Outcome) -> Option<usize>
+    ensures { Spends result budget (length (spec.text outcome.now.console
+        ++ spec.items spec.outcome_file outcome.now.files ++ spec.items spec.ended outcome.now.ended)) }
+{
+    let budget = spend_text(budget, outcome.console.as_slice())?;
+    let budget = spend_list(budget, outcome.files.as_slice())?;
+    spend_list(budget, outcome.ended.as_slice())
+}
+
+#[tactic(auto, using(crate::proofs::Sizes::sizes))]
+fn spend_reply(budget: usize, reply: &Reply) -> Option<usize>
+    ensures { Spends result budget (length (spec.reply_message reply.now).1) }
+{
+    match reply {
+        Reply::Done => Some(budget),
+        Reply::Status { .. } => budget.checked_sub(8),
+        Reply::Registers { registers } => budget.checked_sub(registers_size(registers)),
+        Reply::Bytes { bytes } => spend_text(budget, bytes.as_slice()),
+        Reply::Message { .. } => budget.checked_sub(8),
+        Reply::Info { .. } => budget.checked_sub(24),
+        Reply::Outcome { outcome } => spend_outcome(budget, outcome),
+        Reply::Errno { .. } => budget.checked_sub(4),
+        Reply::OutOfTurns => Some(budget),
+        Reply::Refused { .. } => budget.checked_sub(1),
+    }
+}
+
+fn spend_body(budget: usize, body: &Body) -> Option<usize>
+    ensures { Spends result budget (length (spec.message body.now).1) }
+{
+    match body {
+        Body::Request(request) => spend_request(budget, request),
+        Body::Reply(reply) => spend_reply(budget, reply),
+    }
+}
+
+/// How many bytes stand behind a frame's length; none where they pass the limit.
+#[tactic(auto, using(crate::proofs::Sizes::sizes))]
+pub(crate) fn content_size(frame: &Frame) -> Option<usize>
+    ensures { SomeIff result (length (spec.content frame.now) ≤ 134217728) (length (spec.content frame.now)) }
+{
+    let left = spend_body(LONGEST - SHORTEST, &frame.body)?;
+    Some(LONGEST - left)
+}
