@@ -4,9 +4,9 @@ use Rattle.lx_abi.specs.declared.calls.Argument.{Argument}
 use Rattle.lx_abi.specs.declared.calls.Argument.TheVariants as kind
 use Rattle.tr_args.specs.declared.context.Place.{Place}
 use Rattle.tr_args.specs.declared.lists.Listing.{Listing}
-use Rattle.tr_args.specs.declared.sheet.Stop.{Stop}
-use Rattle.tr_args.specs.declared.sheet.Stop.TheVariants.{Wants as Stops, Memory}
-use Rattle.tr_args.specs.Sheets.{Sheet, Shown, Has}
+use Rattle.tr_values.specs.declared.sheet.Stop.{Stop}
+use Rattle.tr_values.specs.declared.sheet.Stop.TheVariants.{Wants as Stops, Memory}
+use Rattle.tr_values.specs.Sheets.{Sheet, Shown, Has}
 use Rattle.tr_args.specs.Kinds.{shown, argument, next_argument}
 use Rattle.tr_args.specs.Progress.{is_list, list_shown, list_left, Moves, Takes, Begins}
 

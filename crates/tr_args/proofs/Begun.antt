@@ -3,8 +3,9 @@ use Rattle.std.proofs.Common.{Bool, ℕ, ◌≡◌, ◌∙◌, false, List, [], 
 use Rattle.lx_abi.specs.declared.calls.Argument.{Argument}
 use Rattle.tr_args.specs.declared.context.Context.{Context}
 use Rattle.tr_args.specs.declared.progress.Stage.TheVariants.{Under}
-use Rattle.tr_args.specs.Sheets.{Sheet, Shown, Has, Wants, put, ◌>>=◌}
-use Rattle.tr_args.specs.Arguments.{arguments, format_of, name_text, joint, entry, rest, half_by}
+use Rattle.tr_values.specs.Sheets.{Sheet, Shown, Has, Wants, put, ◌>>=◌}
+use Rattle.tr_args.specs.Arguments.{arguments, format_of, joint, entry, rest, half_by}
+use Rattle.tr_values.specs.Calls.{name_text}
 use Rattle.tr_args.specs.Progress.{sheet, list_left, row_left, behind, stage_left, Moves}
 
 pub begun_entry : (c : Context) (k : Bor (List Argument)) (b : Bool) (s t : Sheet) → c.result ≡ None → k.now ≡ (format_of c.number).0 → behind b ≡ joint (format_of c.number) → t ≡ sheet ((s.out ++ name_text c.number) ++ codes "(") s.left → Moves (half_by c.result c) s (stage_left c (Under (record { some = false; number = 0; kinds = k; list = None; comma = b }))) t

@@ -1,7 +1,7 @@
 -- How much a text reads: each read has 1 to 4,096 bytes, and there are no more than the cost of its arguments.
 use Rattle.std.proofs.Common.{ℕ, ◌≡◌, ◌≤◌, ◌<◌, ◌+◌, Bool, true, false, if◌then◌else◌, List, [], ◌∷◌, length, refl, arith}
 use Rattle.pt_model.specs.Requests.{may_peek}
-use Rattle.tr_args.specs.Sheets.{Sheet, Shown, Has, Wants, put, reads, reads_from, ◌>>=◌}
+use Rattle.tr_values.specs.Sheets.{Sheet, Shown, Has, Wants, put, reads, reads_from, ◌>>=◌}
 
 abbrev pub Bounded : ℕ → Sheet → Shown → Type 0
 Bounded k s (Has t) = length s.left ≤ length t.left + k

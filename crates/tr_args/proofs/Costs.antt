@@ -4,10 +4,10 @@ use Rattle.std.proofs.lemmas.Bool.Decides.{nat_tests}
 use Rattle.std.proofs.lemmas.List.{length-take}
 use Rattle.std.proofs.Math.Nat.{min-le_left, min-le_right}
 use Rattle.pt_model.specs.Requests.{may_peek}
-use Rattle.tr_args.specs.Sheets.{Sheet, Shown, put, reads, ◌>>=◌}
-use Rattle.tr_args.specs.Numbers.{pointer}
-use Rattle.tr_args.specs.Escapes.{nul_at, quoted, cut}
-use Rattle.tr_args.specs.Structs.{unless_null}
+use Rattle.tr_values.specs.Sheets.{Sheet, Shown, put, reads, ◌>>=◌}
+use Rattle.tr_values.specs.Numbers.{pointer}
+use Rattle.tr_values.specs.Escapes.{nul_at, quoted, cut}
+use Rattle.tr_values.specs.Structs.{unless_null}
 use Rattle.tr_args.specs.Paths.{path_read, path}
 use Rattle.tr_args.specs.Buffers.{buffer_read, buffer}
 use Rattle.tr_args.specs.Lists.{comma, word, item_read, item_more, item, items, most_items, null_at, words, list_read, list}

@@ -1,6 +1,6 @@
 -- A text under way is what stands before it and what is made of the next reads, whatever is read later.
 use Rattle.std.proofs.Common.{ℕ, ◌≡◌, ◌∙◌, Bool, true, false, if◌then◌else◌, List, [], ◌∷◌, ◌++◌, refl, sym, ap, append_assoc, append-nil}
-use Rattle.tr_args.specs.Sheets.{Sheet, Shown, Has, Wants, put, reads, reads_from, ◌>>=◌}
+use Rattle.tr_values.specs.Sheets.{Sheet, Shown, Has, Wants, put, reads, reads_from, ◌>>=◌}
 use Rattle.tr_args.specs.Progress.{sheet}
 
 -- a text and the reads that it was made of

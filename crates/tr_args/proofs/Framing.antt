@@ -4,21 +4,21 @@ use Rattle.lx_abi.specs.Flags as tables
 use Rattle.lx_abi.specs.declared.calls.Argument.{Argument}
 use Rattle.lx_abi.specs.declared.calls.Argument.TheVariants as kind
 use Rattle.tr_args.specs.declared.context.Place.{Place}
-use Rattle.tr_args.specs.Sheets.{Sheet, Shown, Has, put, reads, ◌>>=◌}
-use Rattle.tr_args.specs.Numbers.{int, long, unsigned, pointer, pointer_text, hex, hex_text, mode, mode_text}
-use Rattle.tr_args.specs.Escapes.{nul_at, quoted, cut}
-use Rattle.tr_args.specs.Flags.{open_flags, access_mode, flags_text, descriptor_flags, stat_flags, unlink_flags, protection, map_flags, wait_options, action_flags, whence, mask_change}
-use Rattle.tr_args.specs.Structs.{half_at, word_at, unless_null, struct, struct_read}
+use Rattle.tr_values.specs.Sheets.{Sheet, Shown, Has, put, reads, ◌>>=◌}
+use Rattle.tr_values.specs.Numbers.{int, long, unsigned, pointer, pointer_text, hex, hex_text, mode, mode_text}
+use Rattle.tr_values.specs.Escapes.{nul_at, quoted, cut}
+use Rattle.tr_values.specs.Flags.{open_flags, access_mode, flags_text, descriptor_flags, stat_flags, unlink_flags, protection, map_flags, wait_options, action_flags, whence, mask_change}
+use Rattle.tr_values.specs.Structs.{half_at, word_at, unless_null, struct, struct_read}
 use Rattle.tr_args.specs.Paths.{path_read, path}
 use Rattle.tr_args.specs.Buffers.{buffer_read, buffer}
 use Rattle.tr_args.specs.Lists.{comma, words, null_at, item_read, item_more, item}
 use Rattle.tr_args.specs.Environments.{variables, environment_read, environment}
-use Rattle.tr_args.specs.Descriptors.{directory, pair_read, pair}
-use Rattle.tr_args.specs.Signals.{name_of_signal, signal_or, signal_number, bare_signal, set_shown, set_read, signal_set, frame_mask}
-use Rattle.tr_args.specs.Actions.{handler, action_read, action}
-use Rattle.tr_args.specs.Files.{file_type, file_mode, stat_read, stat}
-use Rattle.tr_args.specs.WaitWords.{wait_word, word_read, wait_word_at, wait_status}
-use Rattle.tr_args.specs.Children.{child_stack, clone_flags}
+use Rattle.tr_values.specs.Descriptors.{directory, pair_read, pair}
+use Rattle.tr_values.specs.Signals.{name_of_signal, signal_or, signal_number, bare_signal, set_shown, set_read, signal_set, frame_mask}
+use Rattle.tr_values.specs.Actions.{handler, action_read, action}
+use Rattle.tr_values.specs.Files.{file_type, file_mode, stat_read, stat}
+use Rattle.tr_values.specs.WaitWords.{wait_word, word_read, wait_word_at, wait_status}
+use Rattle.tr_values.specs.Children.{child_stack, clone_flags}
 use Rattle.tr_args.specs.Kinds.{has_failed, count_of, shown, is_result, argument, is_left_out, next_argument}
 use Rattle.tr_args.specs.Progress.{is_list}
 use Rattle.tr_args.proofs.Fragments.{Framed, put_f, has_f, after_f, either_f, reads_f}

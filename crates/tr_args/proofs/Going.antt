@@ -7,10 +7,10 @@ use Rattle.lx_abi.specs.declared.calls.Argument.{Argument}
 use Rattle.tr_args.specs.declared.context.Context.{Context}
 use Rattle.tr_args.specs.declared.lists.Listing.{Listing}
 use Rattle.tr_args.specs.declared.progress.Row.{Row}
-use Rattle.tr_args.specs.declared.sheet.Stop.{Stop}
-use Rattle.tr_args.specs.declared.sheet.Stop.TheVariants.{Wants as Stops, Memory}
+use Rattle.tr_values.specs.declared.sheet.Stop.{Stop}
+use Rattle.tr_values.specs.declared.sheet.Stop.TheVariants.{Wants as Stops, Memory}
 use Rattle.tr_args.specs.declared.progress.Stage.TheVariants.{Under}
-use Rattle.tr_args.specs.Sheets.{Sheet, Shown, Has, put, Leaves, ◌>>=◌}
+use Rattle.tr_values.specs.Sheets.{Sheet, Shown, Has, put, Leaves, ◌>>=◌}
 use Rattle.tr_args.specs.Lists.{comma, item}
 use Rattle.tr_args.specs.Kinds.{next_argument}
 use Rattle.tr_args.specs.Arguments.{place, arguments}

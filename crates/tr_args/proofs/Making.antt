@@ -10,7 +10,7 @@ use Rattle.tr_args.specs.declared.progress.Row.{Row}
 use Rattle.tr_args.specs.declared.progress.Made.{Made}
 use Rattle.tr_args.specs.declared.progress.Stage.{Stage}
 use Rattle.tr_args.specs.declared.progress.Stage.TheVariants.{Unbegun, Under, Whole}
-use Rattle.tr_args.specs.Sheets.{Sheet, Shown, Has, Wants}
+use Rattle.tr_values.specs.Sheets.{Sheet, Shown, Has, Wants}
 use Rattle.tr_args.specs.Arguments.{half, half_by, wish_of, text_of}
 use Rattle.tr_args.specs.Progress.{sheet, stage_left, numbered, is_left, is_wanted, Moves, IsMade, Makes}
 use Rattle.tr_args.proofs.Moving.{on}

@@ -1,8 +1,8 @@
 -- Reads that are taken, one part of a text after another.
 use Rattle.std.proofs.Common.{ℕ, ◌≡◌, ◌∙◌, Bool, true, false, List, [], ◌++◌, Result, Ok, Err, refl, sym, ap, subst, append_assoc}
-use Rattle.tr_args.specs.declared.sheet.Stop.{Stop}
-use Rattle.tr_args.specs.declared.sheet.Stop.TheVariants.{Wants as Stops, Memory}
-use Rattle.tr_args.specs.Sheets.{Sheet, Shown, Has, Wants, put, Leaves, ◌>>=◌}
+use Rattle.tr_values.specs.declared.sheet.Stop.{Stop}
+use Rattle.tr_values.specs.declared.sheet.Stop.TheVariants.{Wants as Stops, Memory}
+use Rattle.tr_values.specs.Sheets.{Sheet, Shown, Has, Wants, put, Leaves, ◌>>=◌}
 use Rattle.tr_args.specs.Progress.{sheet, Moves, Takes, Goes}
 use Rattle.tr_args.proofs.Fragments.{Fragment, Frame, Framed}
 

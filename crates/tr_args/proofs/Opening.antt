@@ -1,11 +1,11 @@
 -- A list and its items: what is made at once is what is made item by item.
 use Rattle.std.proofs.Common.{ℕ, ◌≡◌, ◌∙◌, ◌==◌, ◌||◌, nat_lt, nat_le, min, Bool, true, false, if◌then◌else◌, List, [], ◌∷◌, ◌++◌, length, take, drop, map, Option, Some, None, Result, Ok, Err, codes, refl, sym, ap, subst, append-nil}
 use Rattle.tr_args.specs.declared.lists.Listing.{Listing}
-use Rattle.tr_args.specs.Sheets.{Sheet, Shown, Has, Wants, put, ◌>>=◌}
-use Rattle.tr_args.specs.Numbers.{pointer}
+use Rattle.tr_values.specs.Sheets.{Sheet, Shown, Has, Wants, put, ◌>>=◌}
+use Rattle.tr_values.specs.Numbers.{pointer}
 use Rattle.tr_args.specs.Lists.{comma, item, items, word, words, null_at, most_items, list_read, list}
-use Rattle.tr_args.specs.declared.sheet.Stop.{Stop}
-use Rattle.tr_args.specs.declared.sheet.Stop.TheVariants.{Wants as Stops, Memory}
+use Rattle.tr_values.specs.declared.sheet.Stop.{Stop}
+use Rattle.tr_values.specs.declared.sheet.Stop.TheVariants.{Wants as Stops, Memory}
 use Rattle.tr_args.specs.Progress.{sheet, Finds, Begins, items_at, items_left, end_text, list_shown, list_left, opened_by, opened, listing_of, none_shown, Moves}
 use Rattle.tr_args.proofs.Going.{ext}
 

@@ -11,19 +11,20 @@ use Rattle.pt_model.specs.Parts.{Half, At_entry, At_exit}
 use Rattle.pt_model.specs.Headline.{IsTexts}
 use Rattle.tr_args.specs.declared.context.Place.{Place}
 use Rattle.tr_args.specs.declared.context.Context.{Context}
-use Rattle.tr_args.specs.Sheets.{Sheet, Shown, Has, Wants, put, ◌>>=◌}
-use Rattle.tr_args.specs.Numbers.{int, long, unsigned, pointer, hex, mode}
-use Rattle.tr_args.specs.Flags.{open_flags, descriptor_flags, stat_flags, unlink_flags, protection, map_flags, wait_options, action_flags, whence, mask_change}
-use Rattle.tr_args.specs.Structs.{struct, struct_read}
+use Rattle.tr_values.specs.Sheets.{Sheet, Shown, Has, Wants, put, ◌>>=◌}
+use Rattle.tr_values.specs.Numbers.{int, long, unsigned, pointer, hex, mode}
+use Rattle.tr_values.specs.Flags.{open_flags, descriptor_flags, stat_flags, unlink_flags, protection, map_flags, wait_options, action_flags, whence, mask_change}
+use Rattle.tr_values.specs.Structs.{struct, struct_read}
 use Rattle.tr_args.specs.Lists.{comma}
-use Rattle.tr_args.specs.Descriptors.{directory, pair_read, pair}
-use Rattle.tr_args.specs.Signals.{name_of_signal, signal_or, signal_number, bare_signal, set_shown, set_read, signal_set, frame_mask}
-use Rattle.tr_args.specs.Actions.{handler, action_read, action}
-use Rattle.tr_args.specs.Files.{file_type, file_mode, stat_read, stat}
-use Rattle.tr_args.specs.WaitWords.{wait_word, word_read, wait_word_at, wait_status}
-use Rattle.tr_args.specs.Children.{child_stack, clone_flags}
+use Rattle.tr_values.specs.Descriptors.{directory, pair_read, pair}
+use Rattle.tr_values.specs.Signals.{name_of_signal, signal_or, signal_number, bare_signal, set_shown, set_read, signal_set, frame_mask}
+use Rattle.tr_values.specs.Actions.{handler, action_read, action}
+use Rattle.tr_values.specs.Files.{file_type, file_mode, stat_read, stat}
+use Rattle.tr_values.specs.WaitWords.{wait_word, word_read, wait_word_at, wait_status}
+use Rattle.tr_values.specs.Children.{child_stack, clone_flags}
 use Rattle.tr_args.specs.Kinds.{has_failed, count_of, shown, is_result, argument, is_left_out, next_argument}
-use Rattle.tr_args.specs.Arguments.{place, arguments, format_by, format_of, name_text, joint, entry, rest, half_by, half, wish_of}
+use Rattle.tr_args.specs.Arguments.{place, arguments, format_by, format_of, joint, entry, rest, half_by, half, wish_of}
+use Rattle.tr_values.specs.Calls.{name_text}
 use Rattle.tr_args.specs.Texts.{context_of, texts}
 use Rattle.tr_args.proofs.Formats.{find_keeps}
 use Rattle.tr_args.proofs.Bounds.{Bounded, Within, wider, after, either, reads_within, choose}

@@ -1,11 +1,11 @@
 -- The arguments of a half of a call as strace(1) shows them: of its entry, and of what follows once it has a result.
 use Rattle.std.specs.Prelude.{ℕ, ◌+◌, ◌-◌, ◌&&◌, Bool, true, false, Option, Some, None, List, [], ◌∷◌, ◌++◌}
 use Rattle.std.specs.Prelude.{length, get_or, codes, if◌then◌else◌}
-use Rattle.std.specs.Fmt.{digits}
 use Rattle.lx_abi.specs.declared.calls.Argument.{Argument}
 use Rattle.lx_abi.specs.declared.calls.Argument.TheVariants as kind
-use Rattle.lx_abi.specs.Calls.{call_name, call_format}
-use Rattle.tr_args.specs.Sheets.{Sheet, Shown, Has, Wants, put, ◌>>=◌}
+use Rattle.lx_abi.specs.Calls.{call_format}
+use Rattle.tr_values.specs.Sheets.{Sheet, Shown, Has, Wants, put, ◌>>=◌}
+use Rattle.tr_values.specs.Calls.{name_text}
 use Rattle.tr_args.specs.Kinds.{next_argument}
 use Rattle.tr_args.specs.declared.context.Place.{Place}
 use Rattle.tr_args.specs.declared.context.Context.{Context}
@@ -36,14 +36,6 @@ format_by (Some format) = format
 
 abbrev pub format_of : ℕ → List Argument × List Argument
 format_of number = format_by (call_format number)
-
-abbrev pub name_by : ℕ → Option (List ℕ) → List ℕ
-name_by number None = codes "syscall_" ++ (codes "0x" ++ digits 16 false number)
-name_by number (Some name) = name
-
--- the name of a call, or its number
-abbrev pub name_text : ℕ → List ℕ
-name_text number = name_by number (call_name number)
 
 abbrev pub is_some_list : List Argument → Bool
 is_some_list [] = false

@@ -1,9 +1,9 @@
 -- Buffers as strace(1) shows them (read(2), write(2)), of which -s says how many bytes are shown.
 use Rattle.std.specs.Prelude.{ℕ, ◌==◌, nat_lt, min, List, [], length, if◌then◌else◌}
-use Rattle.tr_args.specs.Sheets.{Sheet, Shown, reads}
-use Rattle.tr_args.specs.Numbers.{pointer}
-use Rattle.tr_args.specs.Escapes.{quoted, cut}
-use Rattle.tr_args.specs.Structs.{unless_null}
+use Rattle.tr_values.specs.Sheets.{Sheet, Shown, reads}
+use Rattle.tr_values.specs.Numbers.{pointer}
+use Rattle.tr_values.specs.Escapes.{quoted, cut}
+use Rattle.tr_values.specs.Structs.{unless_null}
 
 -- of so many bytes those to be shown were read, or less where they can't be read
 unfoldable pub buffer_read : ℕ → ℕ → ℕ → List ℕ → Sheet → Shown

@@ -1,9 +1,9 @@
 -- The environment of a program, as strace(1) shows it: its address, and how many variables it has (execve(2)).
 use Rattle.std.specs.Prelude.{ℕ, ◌==◌, nat_lt, List, [], ◌++◌, length, codes, decimal, if◌then◌else◌}
-use Rattle.tr_args.specs.Sheets.{Sheet, Shown, put, reads, ◌>>=◌}
-use Rattle.tr_args.specs.Numbers.{pointer}
+use Rattle.tr_values.specs.Sheets.{Sheet, Shown, put, reads, ◌>>=◌}
+use Rattle.tr_values.specs.Numbers.{pointer}
 use Rattle.tr_args.specs.Lists.{words, null_at}
-use Rattle.tr_args.specs.Structs.{unless_null}
+use Rattle.tr_values.specs.Structs.{unless_null}
 
 abbrev pub variables : ℕ → List ℕ
 variables n = codes " /* " ++ (decimal n ++ (if n == 1 then codes " var */" else codes " vars */"))

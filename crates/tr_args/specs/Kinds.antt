@@ -4,20 +4,20 @@ use Rattle.std.specs.Prelude.{if◌then◌else◌}
 use Rattle.lx_abi.specs.declared.calls.Argument.{Argument}
 use Rattle.lx_abi.specs.declared.calls.Argument.TheVariants as kind
 use Rattle.lx_abi.specs.Flags.{has, o_creat}
-use Rattle.tr_args.specs.Sheets.{Sheet, Shown, Has, put, ◌>>=◌}
-use Rattle.tr_args.specs.Numbers.{int, long, unsigned, pointer, hex, mode}
-use Rattle.tr_args.specs.Flags.{open_flags, descriptor_flags, stat_flags, unlink_flags, protection, map_flags}
-use Rattle.tr_args.specs.Flags.{wait_options, whence, mask_change}
+use Rattle.tr_values.specs.Sheets.{Sheet, Shown, Has, put, ◌>>=◌}
+use Rattle.tr_values.specs.Numbers.{int, long, unsigned, pointer, hex, mode}
+use Rattle.tr_values.specs.Flags.{open_flags, descriptor_flags, stat_flags, unlink_flags, protection, map_flags}
+use Rattle.tr_values.specs.Flags.{wait_options, whence, mask_change}
 use Rattle.tr_args.specs.Paths.{path}
 use Rattle.tr_args.specs.Buffers.{buffer}
 use Rattle.tr_args.specs.Lists.{comma, list}
 use Rattle.tr_args.specs.Environments.{environment}
-use Rattle.tr_args.specs.Descriptors.{directory, pair}
-use Rattle.tr_args.specs.Signals.{signal_number, signal_set, frame_mask}
-use Rattle.tr_args.specs.Actions.{action}
-use Rattle.tr_args.specs.Files.{stat}
-use Rattle.tr_args.specs.WaitWords.{wait_status}
-use Rattle.tr_args.specs.Children.{child_stack, clone_flags}
+use Rattle.tr_values.specs.Descriptors.{directory, pair}
+use Rattle.tr_values.specs.Signals.{signal_number, signal_set, frame_mask}
+use Rattle.tr_values.specs.Actions.{action}
+use Rattle.tr_values.specs.Files.{stat}
+use Rattle.tr_values.specs.WaitWords.{wait_status}
+use Rattle.tr_values.specs.Children.{child_stack, clone_flags}
 use Rattle.tr_args.specs.declared.context.Place.{Place}
 
 -- a word of -4095 to -1

@@ -4,10 +4,10 @@ use Rattle.std.specs.Prelude.{List, [], ◌∷◌, ◌++◌, length, take, codes
 use Rattle.std.specs.Int.{w64, from_le_bytes}
 use Rattle.std.specs.List.{position_or_len}
 use Rattle.std.specs.Simd.{first_chunks}
-use Rattle.tr_args.specs.Sheets.{Sheet, Shown, put, reads, ◌>>=◌}
-use Rattle.tr_args.specs.Numbers.{pointer}
-use Rattle.tr_args.specs.Escapes.{nul_at, quoted, cut}
-use Rattle.tr_args.specs.Structs.{unless_null}
+use Rattle.tr_values.specs.Sheets.{Sheet, Shown, put, reads, ◌>>=◌}
+use Rattle.tr_values.specs.Numbers.{pointer}
+use Rattle.tr_values.specs.Escapes.{nul_at, quoted, cut}
+use Rattle.tr_values.specs.Structs.{unless_null}
 
 -- the doublewords, each as its bytes
 abbrev pub words : List ℕ → List (List ℕ)

@@ -1,9 +1,9 @@
 -- Paths as strace(1) shows them, whatever its -s.
 use Rattle.std.specs.Prelude.{ℕ, nat_lt, List, length, take, if◌then◌else◌}
-use Rattle.tr_args.specs.Sheets.{Sheet, Shown, reads}
-use Rattle.tr_args.specs.Numbers.{pointer}
-use Rattle.tr_args.specs.Escapes.{nul_at, quoted, cut}
-use Rattle.tr_args.specs.Structs.{unless_null}
+use Rattle.tr_values.specs.Sheets.{Sheet, Shown, reads}
+use Rattle.tr_values.specs.Numbers.{pointer}
+use Rattle.tr_values.specs.Escapes.{nul_at, quoted, cut}
+use Rattle.tr_values.specs.Structs.{unless_null}
 
 -- all of it, the address where it can't be read to its NUL, and the first 4,095 where 4,096 bytes have none
 unfoldable pub path_read : ℕ → List ℕ → Sheet → Shown

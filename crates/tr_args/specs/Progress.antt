@@ -11,11 +11,11 @@ use Rattle.tr_args.specs.declared.progress.Row.{Row}
 use Rattle.tr_args.specs.declared.progress.Stage.{Stage}
 use Rattle.tr_args.specs.declared.progress.Stage.TheVariants.{Unbegun, Under, Whole}
 use Rattle.tr_args.specs.declared.progress.Made.{Made}
-use Rattle.tr_args.specs.declared.sheet.Stop.{Stop}
-use Rattle.tr_args.specs.declared.sheet.Stop.TheVariants.{Wants as Stops, Memory}
-use Rattle.tr_args.specs.Sheets.{Sheet, Shown, Has, Wants, put, ◌>>=◌}
+use Rattle.tr_values.specs.declared.sheet.Stop.{Stop}
+use Rattle.tr_values.specs.declared.sheet.Stop.TheVariants.{Wants as Stops, Memory}
+use Rattle.tr_values.specs.Sheets.{Sheet, Shown, Has, Wants, put, ◌>>=◌}
 use Rattle.tr_args.specs.Lists.{comma, item, list, word, words, null_at, most_items}
-use Rattle.tr_args.specs.Numbers.{pointer_text}
+use Rattle.tr_values.specs.Numbers.{pointer_text}
 use Rattle.tr_args.specs.Arguments.{arguments, half, half_by, wish_of}
 
 abbrev pub sheet : List ℕ → List (List ℕ) → Sheet

@@ -2,12 +2,10 @@
 
 ghost use Rattle.std.specs.Prelude.{◌≡◌, ◌≤◌, ◌<◌, ◌+◌, ◌&&◌, ◌^◌, get_or, IfOk, length, string_bytes, option_map};
 ghost use Rattle.tr_args.specs.Arguments as spec;
-ghost use Rattle.tr_args.specs.Sheets.{Leaves, put};
-ghost use Rattle.lx_abi.specs.Calls.{call_format, call_name};
+ghost use Rattle.lx_abi.specs.Calls.{call_format};
 
 use crate::context::{Context, Place};
-use crate::sheet::{Sheet, Stop};
-use lx_abi::calls::{call_format, call_name};
+use lx_abi::calls::call_format;
 use lx_abi::{Argument, Format};
 
 fn at(arguments: &[u64; 6], i: usize) -> u64
@@ -41,19 +39,6 @@ pub(crate) fn format_of(number: u64) -> (&'static [Argument], &'static [Argument
     match call_format(number) {
         Some(format) => (format.entry, format.rest),
         None => (SIX_WORDS, &[]),
-    }
-}
-
-/// The name of a call, or its number.
-pub(crate) fn name(sheet: &mut Sheet<'_>, number: u64) -> Result<(), Stop>
-    ensures { Leaves result sheet.new (put (spec.name_text number) sheet.old) }
-{
-    match call_name(number) {
-        Some(name) => sheet.put(name),
-        None => {
-            sheet.put("syscall_")?;
-            sheet.hex(number)
-        }
     }
 }
 

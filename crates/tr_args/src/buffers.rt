@@ -2,11 +2,10 @@
 
 ghost use Rattle.std.specs.Prelude.{◌≡◌, min};
 ghost use Rattle.tr_args.specs.Buffers as spec;
-ghost use Rattle.tr_args.specs.Sheets.{Leaves};
+ghost use Rattle.tr_values.specs.Sheets.{Leaves};
 
-use crate::escapes::{cut, quoted};
-use crate::numbers;
-use crate::sheet::{Sheet, Stop};
+use tr_values::escapes::{cut, quoted};
+use tr_values::{Sheet, Stop, numbers};
 
 #[tactic(auto, unfolding(crate::specs::Buffers::buffer_read))]
 fn buffer_read(

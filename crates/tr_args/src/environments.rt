@@ -1,11 +1,10 @@
 //! The environment of a program.
 
 ghost use Rattle.tr_args.specs.Environments as spec;
-ghost use Rattle.tr_args.specs.Sheets.{Leaves, put};
+ghost use Rattle.tr_values.specs.Sheets.{Leaves, put};
 
 use crate::lists::{null_at, words};
-use crate::numbers;
-use crate::sheet::{Sheet, Stop};
+use tr_values::{Sheet, Stop, numbers};
 
 fn variables(sheet: &mut Sheet<'_>, count: u64) -> Result<(), Stop>
     ensures { Leaves result sheet.new (put (spec.variables count) sheet.old) }

@@ -2,21 +2,20 @@
 
 ghost use Rattle.std.specs.Prelude.{◌≡◌, ◌≤◌, false};
 ghost use Rattle.tr_args.specs.Kinds as spec;
-ghost use Rattle.tr_args.specs.Sheets.{Leaves};
+ghost use Rattle.tr_values.specs.Sheets.{Leaves};
 ghost use Rattle.tr_args.specs.Progress.{Takes, Begins, is_list};
 
-use crate::actions::action;
 use crate::buffers::buffer;
 use crate::context::Place;
 use crate::environments::environment;
-use crate::files::stat;
 use crate::lists::{Listing, comma, open};
 use crate::paths::path;
-use crate::sheet::{Sheet, Stop};
-use crate::wait_words::wait_status;
-use crate::{children, descriptors, flags, numbers, signals};
 use lx_abi::Argument;
 use lx_abi::flags::{O_CREAT, has};
+use tr_values::actions::action;
+use tr_values::files::stat;
+use tr_values::wait_words::wait_status;
+use tr_values::{Sheet, Stop, children, descriptors, flags, numbers, signals};
 
 /// The result is an error: -4095 to -1.
 fn has_failed(outcome: Option<u64>) -> bool

@@ -2,15 +2,14 @@
 
 ghost use Rattle.std.specs.Prelude.{◌≡◌, ◌≤◌, length, map, IfOk, OnOk, None, Some, slice_get};
 ghost use Rattle.tr_args.specs.Lists as spec;
-ghost use Rattle.tr_args.specs.Numbers.{pointer_text};
-ghost use Rattle.tr_args.specs.Sheets.{Leaves, put};
+ghost use Rattle.tr_values.specs.Numbers.{pointer_text};
+ghost use Rattle.tr_values.specs.Sheets.{Leaves, put};
 ghost use Rattle.tr_args.specs.Progress.{Takes, Goes, Begins, Finds, item_shown, items_left, end_text, list_shown, list_left, opened};
 
-use crate::escapes::{cut, first, nul_at, quoted};
-use crate::numbers;
-use crate::sheet::{Sheet, Stop};
 use lx_abi::Bytes;
 use std::alloc::{AllocError, Global};
+use tr_values::escapes::{cut, first, nul_at, quoted};
+use tr_values::{Sheet, Stop, numbers};
 
 /// At most so many items of a list are shown.
 const MOST_ITEMS: usize = 32;
@@ -198,7 +197,7 @@ fn addresses(alloc: Global, words: &[[u8; 8]]) -> Result<Vec<u64>, AllocError>
 }
 
 /// The address of a list that can't be read to its end.
-#[tactic(auto, unfolding(crate::specs::Numbers::pointer))]
+#[tactic(auto, unfolding(tr_values::specs::Numbers::pointer))]
 fn lost(sheet: &mut Sheet<'_>, address: u64) -> Result<Option<Listing>, Stop>
     ensures { Finds result (pointer_text address, None) sheet.old sheet.new }
 {

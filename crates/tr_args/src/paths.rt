@@ -1,11 +1,10 @@
 //! Paths.
 
 ghost use Rattle.tr_args.specs.Paths as spec;
-ghost use Rattle.tr_args.specs.Sheets.{Leaves};
+ghost use Rattle.tr_values.specs.Sheets.{Leaves};
 
-use crate::escapes::{cut, first, nul_at, quoted};
-use crate::numbers;
-use crate::sheet::{Sheet, Stop};
+use tr_values::escapes::{cut, first, nul_at, quoted};
+use tr_values::{Sheet, Stop, numbers};
 
 #[tactic(auto, unfolding(crate::specs::Paths::path_read))]
 fn path_read(sheet: &mut Sheet<'_>, address: u64, bytes: &[u8]) -> Result<(), Stop>

@@ -3,16 +3,17 @@
 
 ghost use Rattle.std.specs.Prelude.{◌≡◌, ◌≤◌, ◌<◌, ◌+◌, ◌^◌, [], None, IfOk, length, string_bytes};
 ghost use Rattle.tr_args.specs.Arguments.{half, wish_of};
-ghost use Rattle.tr_args.specs.Sheets.{Leaves, put};
+ghost use Rattle.tr_values.specs.Sheets.{Leaves, put};
 ghost use Rattle.tr_args.specs.Progress.{Goes, Starts, Makes, IsMade, behind, is_left, is_wanted, kinds_of, row_left, stage_left};
 
-use crate::arguments::{are_both, format_of, name, place};
+use crate::arguments::{are_both, format_of, place};
 use crate::context::Context;
 use crate::kinds::begin;
 use crate::lists::{Listing, list_on};
-use crate::sheet::{Sheet, Stop};
 use lx_abi::{Argument, Bytes};
 use std::alloc::{AllocError, Global};
+use tr_values::calls::name;
+use tr_values::{Sheet, Stop};
 
 /// What is left of the arguments of a half.
 #[derive(Drop)]

@@ -2,7 +2,7 @@
 use Rattle.std.specs.Prelude.{ℕ, ◌+◌, ◌-◌, ◌==◌, max, Bool, false, cond, Option, Some, None}
 use Rattle.std.specs.Prelude.{List, [], ◌∷◌, ◌++◌, length, replicate, codes, decimal, if◌then◌else◌}
 use Rattle.pt_model.specs.Parts.{Part, Part_enter, Part_done, Part_signal, Part_exit}
-use Rattle.tr_args.specs.Arguments.{name_text}
+use Rattle.tr_values.specs.Calls.{name_text}
 use Rattle.tr_line.specs.declared.layout.Layout.{Layout}
 use Rattle.tr_line.specs.Results.{result_text}
 use Rattle.tr_line.specs.Signals.{signal_line}

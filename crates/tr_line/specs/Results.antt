@@ -3,7 +3,7 @@ use Rattle.std.specs.Prelude.{ℕ, ◌-◌, ◌%◌, ◌^◌, ◌==◌, ◌&&◌
 use Rattle.std.specs.Prelude.{List, [], ◌++◌, codes, decimal, if◌then◌else◌}
 use Rattle.lx_abi.specs.declared.errno.Errno.{Errno}
 use Rattle.lx_abi.specs.Errors.{errno_name, errno_text, errno_numbered}
-use Rattle.tr_args.specs.Numbers.{hex_text, signed_text}
+use Rattle.tr_values.specs.Numbers.{hex_text, signed_text}
 
 -- an error by name and text, or by number
 abbrev pub error_text : ℕ → Option (List ℕ) → Option (List ℕ) → List ℕ

@@ -2,8 +2,8 @@
 use Rattle.std.specs.Prelude.{ℕ, ◌==◌, ◌||◌, not, Bool, Option, Some, None, List, ◌++◌, codes, decimal}
 use Rattle.std.specs.Prelude.{if◌then◌else◌}
 use Rattle.lx_abi.specs.declared.ptrace.Info.{Info}
-use Rattle.tr_args.specs.Numbers.{pointer_text}
-use Rattle.tr_args.specs.Signals.{name_of_signal}
+use Rattle.tr_values.specs.Numbers.{pointer_text}
+use Rattle.tr_values.specs.Signals.{name_of_signal}
 
 -- SIGX, or the number where it is none
 abbrev pub named_signal : ℕ → Option (List ℕ) → List ℕ

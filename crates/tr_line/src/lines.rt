@@ -1,7 +1,7 @@
 //! The lines of a trace: what each part writes.
 
 ghost use Rattle.std.specs.Prelude.{◌≡◌, ◌+◌, ◌++◌, IfOk, OnOk, length, decimal};
-ghost use Rattle.tr_args.specs.Arguments.{name_text};
+ghost use Rattle.tr_values.specs.Calls.{name_text};
 ghost use Rattle.tr_line.specs.Lines as lines;
 ghost use Rattle.tr_line.specs.Printing as spec;
 

@@ -1,7 +1,7 @@
 //! The line of a signal.
 
 ghost use Rattle.std.specs.Prelude.{◌≡◌, ◌++◌, OnOk};
-ghost use Rattle.tr_args.specs.Numbers.{pointer_text};
+ghost use Rattle.tr_values.specs.Numbers.{pointer_text};
 ghost use Rattle.tr_line.specs.Signals as spec;
 
 use crate::text::Text;

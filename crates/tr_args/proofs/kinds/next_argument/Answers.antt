@@ -1,5 +1,5 @@
 use Rattle.std.proofs.Common.{◌∙◌, Err, sym, ap, subst}
-use Rattle.tr_args.specs.Sheets.{Leaves}
+use Rattle.tr_values.specs.Sheets.{Leaves}
 use Rattle.tr_args.specs.Kinds.{next_argument}
 use Rattle.tr_args.proofs.Framing.{next_f}
 use Rattle.tr_args.proofs.Moving.{part_stopped, part_taken}

@@ -1,5 +1,5 @@
 use Rattle.std.proofs.Common.{sym, subst}
-use Rattle.tr_args.specs.Sheets.{Has}
+use Rattle.tr_values.specs.Sheets.{Has}
 use Rattle.tr_args.specs.Progress.{list_left, Moves}
 use Rattle.tr_args.proofs.Going.{no_list}
 use Rattle.tr_args.proofs.lists.list_on.Goals as goal

@@ -1,5 +1,5 @@
 use Rattle.std.proofs.Common.{◌∙◌, Err, sym, ap, subst}
-use Rattle.tr_args.specs.Sheets.{Leaves}
+use Rattle.tr_values.specs.Sheets.{Leaves}
 use Rattle.tr_args.specs.Progress.{item_shown}
 use Rattle.tr_args.proofs.Framing.{comma_item_f}
 use Rattle.tr_args.proofs.Moving.{part_stopped, part_taken}

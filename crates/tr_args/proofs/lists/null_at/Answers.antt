@@ -2,7 +2,7 @@ use Rattle.std.proofs.Common.{rules, tests, ◌==◌, length, refl}
 use Rattle.std.proofs.lemmas.Iterator.{YieldsList-from_slice}
 use Rattle.std.proofs.lemmas.Iterator.Search.{position_from_yields_List}
 use Rattle.tr_args.specs.Lists.{word}
-use Rattle.tr_args.proofs.Places.{place_or_end}
+use Rattle.tr_values.proofs.Places.{place_or_end}
 use Rattle.tr_args.proofs.lists.null_at.Goals as goal
 
 pub returns-clause-place : goal.returns-clause-place

@@ -1,7 +1,7 @@
 use Rattle.std.proofs.Common.{◌≡◌, ◌∙◌, [], ◌∷◌, sym, ap, subst, None, Err}
 use Rattle.tr_args.specs.Kinds.{next_argument}
 use Rattle.tr_args.specs.Arguments.{arguments}
-use Rattle.tr_args.specs.Sheets.{◌>>=◌}
+use Rattle.tr_values.specs.Sheets.{◌>>=◌}
 use Rattle.tr_args.specs.Progress.{kinds_of, list_left, row_left, Goes, Begins, Moves}
 use Rattle.tr_args.proofs.Going.{row_ended, row_more, row_stopped_at}
 use Rattle.tr_args.proofs.progress.+row_on.Goals as goal

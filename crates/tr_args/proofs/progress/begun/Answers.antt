@@ -1,5 +1,6 @@
 use Rattle.std.proofs.Common.{length, codes, ap, ◌∙◌}
-use Rattle.tr_args.specs.Arguments.{joint, name_text}
+use Rattle.tr_values.specs.Calls.{name_text}
+use Rattle.tr_args.specs.Arguments.{joint}
 use Rattle.tr_args.specs.Progress.{behind}
 use Rattle.tr_args.proofs.Opening.{put_both}
 use Rattle.tr_args.proofs.Begun.{begun_entry, begun_rest}

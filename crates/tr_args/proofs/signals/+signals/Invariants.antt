@@ -1,4 +1,0 @@
-use Rattle.tr_args.proofs.signals.+signals.Given as goal
-
-abbrev pub decreases-signals : goal.decreases-signals
-decreases-signals l = l.count

@@ -1,0 +1,12 @@
+pub mod Actions
+pub mod Calls
+pub mod Children
+pub mod Descriptors
+pub mod Escapes
+pub mod Files
+pub mod Flags
+pub mod Numbers
+pub mod Sheets
+pub mod Signals
+pub mod Structs
+pub mod WaitWords
