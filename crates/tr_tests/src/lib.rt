@@ -4,15 +4,21 @@
 #[cfg(test)]
 mod arguments;
 #[cfg(test)]
+mod booting;
+#[cfg(test)]
 mod expressions;
 #[cfg(test)]
 mod lines;
 #[cfg(test)]
 mod local_runs;
 #[cfg(test)]
+mod random_runs;
+#[cfg(test)]
 mod reading;
 #[cfg(test)]
 mod runs;
+#[cfg(test)]
+mod several_processes;
 #[cfg(test)]
 mod steps;
 #[cfg(test)]

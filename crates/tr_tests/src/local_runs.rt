@@ -1,13 +1,13 @@
 //! Whole runs in one process: listings that are assembled, booted and traced.
 
-use lx_abi::{Boot, Bytes, Event, GuestFile, Outcome, Script, Seq};
+use crate::booting::{boot, script};
+use lx_abi::{Bytes, Event, Outcome, Script};
 use lx_boot::BootFault;
 use pt_kernel::Schedule;
-use rv_asm::assemble;
 use std::alloc::Global;
 use std::test::Fail;
 use tr_core::Options;
-use tr_expr::{parse_fault, parse_inject, parse_trace};
+use tr_expr::parse_trace;
 use trace_run::local::Run;
 use trace_run::{Ended, run_local};
 
@@ -150,35 +150,6 @@ const ROWS: [Row; 9] = [
     },
 ];
 
-/// A boot of a listing at `/p`.
-fn boot(alloc: Global, path: &str, listing: &str) -> Result<Boot, Fail> {
-    let image = assemble(alloc, listing)?;
-    let mut files = Seq::new(alloc);
-    files.push(GuestFile {
-        path: Bytes::from_slice(alloc, path.as_bytes())?,
-        content: Bytes::from_vec(elf_image::write(alloc, &image)?),
-    })?;
-    let mut argv = Seq::new(alloc);
-    argv.push(Bytes::from_slice(alloc, b"/p")?)?;
-    Ok(Boot {
-        files,
-        argv,
-        env: Seq::new(alloc),
-        input: Bytes::new(alloc),
-        follow: false,
-    })
-}
-
-fn script(alloc: Global, rule: &str) -> Result<Script, Fail> {
-    let mut rules = Vec::new(alloc);
-    match rule.strip_prefix("!") {
-        Some(rule) => rules.push(parse_fault(alloc, rule)?)?,
-        None if rule.is_empty() => {}
-        None => rules.push(parse_inject(alloc, rule)?)?,
-    }
-    Ok(Script::new(rules))
-}
-
 /// The run of a row by the default schedule. The options' own follow is not that of the boot.
 fn traced(alloc: Global, row: &Row, limit: u64) -> Result<Run, Fail> {
     let options = Options {
@@ -189,7 +160,7 @@ fn traced(alloc: Global, row: &Row, limit: u64) -> Result<Run, Fail> {
     };
     let run = run_local(
         alloc,
-        boot(alloc, "/p", row.listing)?,
+        boot(alloc, "/p", row.listing, false)?,
         Schedule::words(Vec::new(alloc), limit),
         script(alloc, row.rule)?,
         options,
@@ -268,7 +239,7 @@ fn fault(alloc: Global, path: &str, events: &[Event]) -> Result<Option<BootFault
         string_limit: 32,
         width: 40,
     };
-    let boot = boot(alloc, path, HELLO)?;
+    let boot = boot(alloc, path, HELLO, false)?;
     match run_local(
         alloc,
         boot,
