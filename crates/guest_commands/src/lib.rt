@@ -2,13 +2,12 @@
 #![tactic(auto)]
 
 mod asm;
-mod boot;
 mod entry;
 mod expressions;
 mod fault;
 mod log;
 mod plain;
-mod schedule;
+mod plan;
 mod serving;
 mod words;
 
@@ -16,4 +15,3 @@ pub use entry::{command, tell};
 pub use fault::Fault;
 pub use log::Log;
 pub use plain::status_of;
-pub use schedule::{Processes, Schedule, Slice};

@@ -11,11 +11,16 @@ const ROOM: usize = 65_536;
 /// The most bytes of a line.
 const LONGEST_LINE: usize = 256;
 
-/// Lines on their way to a writer. They are held back until there are many, or [`Log::flush`] is called, and are
-/// written whole.
+/// Turns that go by at most while lines are held back: some tens of microseconds.
+const MOST_WHILE_BEHIND: u64 = 10_000;
+
+/// Lines on their way to a writer. They are held back until there are many, many turns bring no other, or
+/// [`Log::flush`] is called, and are written whole.
 #[derive(Drop)]
 pub struct Log<'w, W> {
     lines: Vec<u8>,
+    /// Turns since the last line.
+    quiet: u64,
     out: &'w mut W,
 }
 
@@ -23,13 +28,27 @@ impl<'w, W: Write> Log<'w, W> {
     pub fn new(alloc: Global, out: &'w mut W) -> Result<Self, AllocError> {
         Ok(Log {
             lines: Vec::with_capacity(alloc, ROOM)?,
+            quiet: 0,
             out,
         })
     }
 
-    /// Lines are held back.
-    pub fn is_behind(&self) -> bool {
-        !self.lines.is_empty()
+    /// How many turns may go by before it is told of them.
+    pub fn patience(&self) -> u64 {
+        if self.lines.is_empty() {
+            u64::MAX
+        } else {
+            MOST_WHILE_BEHIND.saturating_sub(self.quiet)
+        }
+    }
+
+    /// So many turns have brought no line.
+    pub fn wait(&mut self, turns: u64) -> Result<(), Fault> {
+        self.quiet = self.quiet.saturating_add(turns);
+        if self.quiet < MOST_WHILE_BEHIND {
+            return Ok(());
+        }
+        self.flush()
     }
 
     /// Adds an item's line.
@@ -37,6 +56,7 @@ impl<'w, W: Write> Log<'w, W> {
         if self.lines.len() > ROOM - LONGEST_LINE {
             self.flush()?;
         }
+        self.quiet = 0;
         match push_line(&mut self.lines, item) {
             Ok(()) => Ok(()),
             Err(_) => Err(Fault::Memory),

@@ -1,12 +1,12 @@
 //! A run on the untraced kernel.
 
-use crate::boot;
 use crate::fault::Fault;
 use crate::log::Log;
-use crate::schedule::{Schedule, Slice};
+use crate::plan::{Plan, read_plan};
 use clap::ArgMatches;
 use lx_abi::{Item, Mode};
 use lx_kernel::Kernel;
+use pt_schedule::Schedule;
 use std::alloc::Global;
 use std::io::{self, Read, Write};
 use std::rt::Files;
@@ -14,15 +14,9 @@ use std::rt::Files;
 /// Turns ended with a process alive.
 const ALIVE: u8 = 4;
 
-/// Pids are 1 to this one.
-const LAST_PID: u32 = 255;
-
-/// Turns that a process runs at most while lines of the log are held back: some tens of microseconds.
-const MOST_WHILE_BEHIND: u64 = 10_000;
-
 /// Some process is before its end.
 fn is_alive(kernel: &Kernel) -> bool {
-    (1..LAST_PID + 1).any(|pid| {
+    (1..kernel.next_pid()).any(|pid| {
         !matches!(
             kernel.mode(pid),
             None | Some(Mode::Dying) | Some(Mode::Zombie)
@@ -59,67 +53,69 @@ fn turn<E: Write>(kernel: &mut Kernel, pid: u32, log: &mut Log<E>) -> Result<(),
         Err(_) => Err(Fault::Memory),
         Ok(moved) => match moved.item {
             Some(item) => log.print(&item),
-            None => Ok(()),
+            None => log.wait(1),
         },
     }
 }
 
-/// Turns of one process, at most so many: those that run instructions, and one more where they end
-/// sooner. How many there were.
-fn turns_of<E: Write>(kernel: &mut Kernel, slice: Slice, log: &mut Log<E>) -> Result<u64, Fault> {
-    let Ok(ran) = kernel.run(slice.pid, slice.turns) else {
-        return Err(Fault::Memory);
-    };
-    if ran >= slice.turns {
-        log.flush()?;
-        return Ok(ran);
+/// Turns of a process that run instructions, at most so many: how many there were.
+fn run_instructions(kernel: &mut Kernel, pid: u32, most: u64) -> Result<u64, Fault> {
+    match kernel.run(pid, most) {
+        Ok(ran) => Ok(ran),
+        Err(_) => Err(Fault::Memory),
     }
-    turn(kernel, slice.pid, log)?;
-    Ok(ran + 1)
 }
 
-/// Turns by the default schedule, at most so many, each item printed.
-///
-/// Lines of the log are written before a process runs for long.
-fn turns<E: Write>(kernel: &mut Kernel, limit: u64, log: &mut Log<E>) -> Result<(), Fault> {
-    let mut schedule = Schedule::new();
-    let mut left = limit;
-    // Each slice has a turn at least.
-    for _ in 0..limit {
-        if left == 0 {
-            break;
-        }
-        let Some(mut slice) = schedule.next(kernel) else {
+/// The turn that a process has next. If it runs an instruction, so do those of its row that come next: they are made at
+/// once.
+fn turns_of<E: Write>(
+    kernel: &mut Kernel,
+    schedule: &mut Schedule,
+    pid: u32,
+    log: &mut Log<E>,
+) -> Result<(), Fault> {
+    let following = schedule.row().map_or(0, |row| row.turns);
+    let most = following.saturating_add(1).min(log.patience());
+    let ran = run_instructions(kernel, pid, most)?;
+    if ran == 0 {
+        return turn(kernel, pid, log);
+    }
+    schedule.pass(ran - 1);
+    log.wait(ran)
+}
+
+/// Turns by a schedule until it has ended, each item printed.
+fn turns<E: Write>(
+    kernel: &mut Kernel,
+    schedule: &mut Schedule,
+    log: &mut Log<E>,
+) -> Result<(), Fault> {
+    // No schedule has so many turns.
+    for _ in 0..u64::MAX {
+        let Some(pid) = schedule.next_plain(kernel) else {
             break;
         };
-        slice.turns = slice.turns.min(left);
-        if log.is_behind() {
-            slice.turns = slice.turns.min(MOST_WHILE_BEHIND);
-        }
-        let taken = turns_of(kernel, slice, log)?;
-        schedule.took(taken);
-        left = left.saturating_sub(taken);
+        turns_of(kernel, schedule, pid, log)?;
     }
     Ok(())
 }
 
-/// Turns by the default schedule, at most so many. The log is written, also where they end in a fault.
-fn logged_turns<E: Write>(kernel: &mut Kernel, limit: u64, log: &mut Log<E>) -> Result<(), Fault> {
-    let ended = turns(kernel, limit, log);
+/// The same. The log is written, also where the turns end in a fault.
+fn logged_turns<E: Write>(
+    kernel: &mut Kernel,
+    schedule: &mut Schedule,
+    log: &mut Log<E>,
+) -> Result<(), Fault> {
+    let ended = turns(kernel, schedule, log);
     let logged = log.flush();
     ended?;
     logged
 }
 
 /// The same, with the log to a writer.
-fn log_turns<E: Write>(
-    alloc: Global,
-    kernel: &mut Kernel,
-    limit: u64,
-    err: &mut E,
-) -> Result<(), Fault> {
+fn log_turns<E: Write>(alloc: Global, plan: &mut Plan, err: &mut E) -> Result<(), Fault> {
     let mut log = Log::new(alloc, err)?;
-    logged_turns(kernel, limit, &mut log)
+    logged_turns(&mut plan.kernel, &mut plan.schedule, &mut log)
 }
 
 fn write_flushed<O: Write>(bytes: &[u8], out: &mut O) -> io::Result<()> {
@@ -135,19 +131,19 @@ fn write_console<O: Write>(kernel: &Kernel, out: &mut O) -> Result<(), Fault> {
     }
 }
 
-/// Runs the kernel. The log goes to `err`, and then the console to `out`, both also where the run ends in a fault.
-fn run_kernel<O: Write, E: Write>(
+/// Runs the kernel by its schedule. The log goes to `err`, and then the console to `out`, both also where the run ends in
+/// a fault.
+fn run_plan<O: Write, E: Write>(
     alloc: Global,
-    kernel: &mut Kernel,
-    limit: u64,
+    mut plan: Plan,
     out: &mut O,
     err: &mut E,
 ) -> Result<u8, Fault> {
-    let ended = log_turns(alloc, kernel, limit, err);
-    let shown = write_console(kernel, out);
+    let ended = log_turns(alloc, &mut plan, err);
+    let shown = write_console(&plan.kernel, out);
     ended?;
     shown?;
-    Ok(status(kernel))
+    Ok(status(&plan.kernel))
 }
 
 /// Runs the program that the words name.
@@ -158,7 +154,6 @@ pub fn run<R: Files + AllocGlobal, I: Read, O: Write, E: Write>(
     out: &mut O,
     err: &mut E,
 ) -> Result<u8, Fault> {
-    let limit = front_end::limit(rt.alloc(), matches)?;
-    let mut kernel = boot::kernel(rt, matches, input)?;
-    run_kernel(rt.alloc(), &mut kernel, limit, out, err)
+    let plan = read_plan(rt, matches, input)?;
+    run_plan(rt.alloc(), plan, out, err)
 }

@@ -26,6 +26,16 @@ const SERVE_FAULTS: &str =
   4  a frame came out of order
   5  memory ran out";
 
+/// Adds `--turns FILE`.
+fn with_turns<'a>(alloc: Global, command: Command<'a>) -> Result<Command<'a>, AllocError> {
+    command.arg(
+        Arg::new(alloc, "turns")
+            .long("turns")
+            .value_name("FILE")
+            .help("A schedule by words, as 1 2 1. (the default schedule)"),
+    )
+}
+
 fn plain_command<'a>(alloc: Global) -> Result<Command<'a>, AllocError> {
     let command = Command::new(alloc, "plain").about(
         "Runs a program on the untraced kernel, and prints its calls on standard error",
@@ -35,6 +45,7 @@ fn plain_command<'a>(alloc: Global) -> Result<Command<'a>, AllocError> {
         command,
         "A tampering expression, as fault=write:error=EIO",
     )?;
+    let command = with_turns(alloc, command)?;
     let command = with_limit(alloc, command, "The most turns that there are (10000000)")?;
     let command = with_files(
         alloc,

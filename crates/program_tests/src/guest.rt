@@ -1,4 +1,4 @@
-//! A guest.
+//! Guests.
 
 /// A program that writes `hi` and a line feed, and exits with 0.
 pub const HELLO: [u8; 159] = [
@@ -21,4 +21,25 @@ E 1 64 0x1 0x1009c 0x3 0x0 0x0 0x0
 D 1 3
 E 1 94 0x0 0x1009c 0x3 0x0 0x0 0x0
 X 1 0
+";
+
+/// Process 1 writes `a` twice, and its child `b` twice.
+pub const TWO_WRITERS: &str = "_start: li a0, 17
+        li a1, 0
+        li a7, 220
+        ecall
+        la a1, child
+        beqz a0, write
+        la a1, parent
+write:  li a0, 1
+        li a2, 1
+        li a7, 64
+        ecall
+        li a0, 1
+        ecall
+        li a0, 0
+        li a7, 94
+        ecall
+parent: .ascii \"a\"
+child:  .ascii \"b\"
 ";

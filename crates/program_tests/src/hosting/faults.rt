@@ -58,24 +58,31 @@ fn untold_faults(rt: HostRuntime) -> Result<(), Fail> {
     Ok(())
 }
 
-/// The first of several faults is told: of the words, the expressions, the files, the input, the boot.
+/// The first of several faults is told: of the words, the expressions, the schedule, the files, the input, the boot.
 #[test]
 fn order_of_faults(rt: HostRuntime) -> Result<(), Fail> {
     fs::write(&rt, "ordered.elf", HELLO.as_slice())?;
     let (limit, expression) = ("--limit=x", "-e=fault=wrote");
     let (absent, relative) = ("--file=/p=nowhere", "--file=p=ordered.elf");
-    let rows: [(&[&str], &str); 6] = [
+    let turns = "--turns=nowhere.turns";
+    let rows: [(&[&str], &str); 7] = [
         (
-            &["plain", relative, absent, expression, limit],
+            &["plain", relative, absent, turns, expression, limit],
             "guest_host: the following required arguments were not provided: ",
         ),
         (
-            &["plain", relative, absent, expression, limit, "--", "/p"],
+            &[
+                "plain", relative, absent, turns, expression, limit, "--", "/p",
+            ],
             "guest_host: --limit x: not a number from 0 to 18446744073709551615",
         ),
         (
-            &["plain", relative, absent, expression, "--", "/p"],
+            &["plain", relative, absent, turns, expression, "--", "/p"],
             "guest_host: -e fault=wrote: no system call",
+        ),
+        (
+            &["plain", relative, absent, turns, "--", "/p"],
+            "guest_host: nowhere.turns: No such file",
         ),
         (
             &["plain", relative, absent, "--file=/q", "--", "/p"],

@@ -1,6 +1,6 @@
 //! Runs of programs: their statuses, consoles and logs.
 
-use crate::guest::{HELLO, HELLO_LOG};
+use crate::guest::{HELLO, HELLO_LOG, TWO_WRITERS};
 use crate::hosting::run_of;
 use guest_commands::status_of;
 use lx_abi::{Item, Mode};
@@ -183,5 +183,23 @@ fn statuses_of_logs(rt: HostRuntime) -> Result<(), Fail> {
     for (log, status) in rows {
         assert_eq!(rt; status_of(log), status);
     }
+    Ok(())
+}
+
+/// What an expression names is tampered with in each process.
+#[test]
+fn children_are_tampered_with(rt: HostRuntime) -> Result<(), Fail> {
+    fs::write(&rt, "tampered.s", TWO_WRITERS)?;
+    let rows: [&[&str]; 2] = [
+        &["asm", "tampered.s", "tampered.elf"],
+        &["plain", "-e", FAULT, "--file=/p=tampered.elf", "--", "/p"],
+    ];
+    for words in rows {
+        let run = run_of(&rt, words)?;
+        assert_eq!(rt; run.status, 0);
+        assert_eq!(rt; run.out.text(), "");
+    }
+    fs::remove_file(&rt, "tampered.s")?;
+    fs::remove_file(&rt, "tampered.elf")?;
     Ok(())
 }

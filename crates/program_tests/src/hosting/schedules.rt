@@ -1,81 +1,181 @@
-//! The default order of turns, over tables of able processes.
+//! The order of turns, by words and without.
 
-use guest_commands::{Processes, Schedule, Slice};
+use crate::guest::{HELLO, TWO_WRITERS};
+use crate::hosting::{is_line_of, run_of};
+use std::alloc::Global;
+use std::fs;
 use std::test::Fail;
 
-/// The pids of able processes, in rising order.
-#[derive(Clone, Copy)]
-struct Able<'a>(&'a [u32]);
-
-impl Processes for Able<'_> {
-    fn is_able(&self, pid: u32) -> bool {
-        self.0.contains(&pid)
-    }
-
-    fn next_able(&self, after: u32) -> Option<u32> {
-        let later = self.0.iter().copied().find(|pid| *pid > after);
-        later.or_else(|| self.0.first().copied())
-    }
+/// The status of a run on these words.
+fn status_of(rt: &HostRuntime, words: &[&str]) -> Result<u8, Fail> {
+    Ok(run_of(rt, words)?.status)
 }
 
-/// Who is able, the slice that comes next, and how many of its turns are taken.
-type Row<'a> = (&'a [u32], Option<(u32, u64)>, u64);
-
-/// Each table is a run from its beginning.
+/// A call that doesn't wait has five turns: Run, Entered, Doing, Acted and Finished are left by one each. Before those of
+/// execve one leaves Born. The default schedule lets each process come to its end.
 #[test]
-fn slices(rt: HostRuntime) -> Result<(), Fail> {
-    let runs: [&[Row]; 7] = [
-        // None is able.
-        (&[(&[], None, 0)]),
-        // One alone begins anew after each row.
-        (&[
-            (&[1], Some((1, 1000)), 1000),
-            (&[1], Some((1, u64::MAX)), 5000),
-            (&[1], Some((1, u64::MAX)), 0),
-        ]),
-        // Several have a thousand each, in cyclic order.
-        (&[
-            (&[1, 2, 5], Some((1, 1000)), 1000),
-            (&[1, 2, 5], Some((2, 1000)), 1000),
-            (&[1, 2, 5], Some((5, 1000)), 1000),
-            (&[1, 2, 5], Some((1, 1000)), 1000),
-        ]),
-        // A row goes on where it was left.
-        (&[
-            (&[1, 2], Some((1, 1000)), 300),
-            (&[1, 2], Some((1, 700)), 699),
-            (&[1, 2], Some((1, 1)), 1),
-            (&[1, 2], Some((2, 1000)), 1000),
-        ]),
-        // Who isn't able any more is passed over, and begins a row of a thousand when it comes back.
-        (&[
-            (&[1, 2, 3], Some((1, 1000)), 300),
-            (&[2, 3], Some((2, 1000)), 200),
-            (&[1, 3], Some((3, 1000)), 1000),
-            (&[1, 2, 3], Some((1, 1000)), 1000),
-        ]),
-        // A row that began while no other was able counts its turns from its own beginning.
-        (&[
-            (&[1], Some((1, 1000)), 1000),
-            (&[1], Some((1, u64::MAX)), 2400),
-            (&[1, 2], Some((1, 600)), 600),
-            (&[1, 2], Some((2, 1000)), 1000),
-        ]),
-        // At the end of a row another comes at once.
-        (&[
-            (&[7], Some((7, 1000)), 1000),
-            (&[7], Some((7, u64::MAX)), 3000),
-            (&[7, 9], Some((9, 1000)), 1000),
-            (&[7, 9], Some((7, 1000)), 1000),
-        ]),
+fn orders_of_writes(rt: HostRuntime) -> Result<(), Fail> {
+    fs::write(&rt, "writers.s", TWO_WRITERS)?;
+    assert_eq!(rt;
+        run_of(&rt, &["asm", "writers.s", "writers.elf"])?.status,
+        0
+    );
+    let rows = [
+        ("", "aabb"),
+        ("1. 1. 1. 2. 1. 2.", "abab"),
+        ("1. 1. 2. 1. 2. 1.", "baba"),
+        ("1. 1. 2. 2. 1. 1.", "bbaa"),
+        ("1.\t1.\n2.\u{a0}1.", "baab"),
+        // s is passed over
+        ("s 1. s 1. 2. s s 1. 2. s", "baba"),
+        // Born, and the five turns of execve; then -p is p
+        ("1 1 1 1 1 1 1. 2. 1. 2.", "baba"),
+        ("-1 1 -1 1 -1 1 1. 2. 1. 2.", "baba"),
+        // Nobody has these turns
+        ("9 9. 0 -0 1. 1. 4294967295. 2. 2.", "bbaa"),
     ];
-    for run in runs {
-        let mut schedule = Schedule::new();
-        for (able, next, taken) in run.iter().copied() {
-            let slice = next.map(|(pid, turns)| Slice { pid, turns });
-            assert_eq!(rt; schedule.next(&Able(able)), slice);
-            schedule.took(taken);
-        }
+    for (text, console) in rows {
+        fs::write(&rt, "writers.turns", text)?;
+        let words = [
+            "plain",
+            "--turns",
+            "writers.turns",
+            "--file=/p=writers.elf",
+            "--",
+            "/p",
+        ];
+        let run = run_of(&rt, words.as_slice())?;
+        assert_eq!(rt; run.status, 0, "{text:?}");
+        assert_eq!(rt; run.out.text(), console, "{text:?}");
     }
+    for file in ["writers.s", "writers.elf", "writers.turns"] {
+        fs::remove_file(&rt, file)?;
+    }
+    Ok(())
+}
+
+/// Process 1 clones in its turns 10 to 14 and counts down from turn 17 on; with one nop its write is done in turn 2000, and
+/// with each further one a turn later. Its child's is done in turn 1512 of the child's own.
+fn counting(alloc: Global, nops: &str) -> Result<String, Fail> {
+    Ok(format!(in alloc;
+        "_start: li a0, 17
+        li a1, 0
+        li a7, 220
+        ecall
+        beqz a0, child
+        li t0, 987
+parent: addi t0, t0, -1
+        bnez t0, parent
+        {nops}
+        la a1, text
+        j write
+child:  li t0, 750
+again:  addi t0, t0, -1
+        bnez t0, again
+        la a1, text
+        addi a1, a1, 1
+write:  li a0, 1
+        li a2, 1
+        li a7, 64
+        ecall
+        li a0, 0
+        li a7, 94
+        ecall
+text:   .ascii \"ab\"
+"
+    )?)
+}
+
+/// A row has a thousand turns, those by words among them; a turn of another, if only by its number, ends it.
+#[test]
+fn rows_of_turns(rt: HostRuntime) -> Result<(), Fail> {
+    let rows = [
+        ("nop", "", "ab"),
+        ("nop\nnop", "", "ba"),
+        ("nop", "1. s", "ab"),
+        ("nop\nnop", "s 1.", "ba"),
+        ("nop\nnop", "1. 2", "ab"),
+    ];
+    for (nops, text, console) in rows {
+        fs::write(&rt, "counting.s", counting(rt.alloc(), nops)?.as_str())?;
+        fs::write(&rt, "counting.turns", text)?;
+        assert_eq!(rt; status_of(&rt, &["asm", "counting.s", "counting.elf"])?, 0);
+        let run = run_of(
+            &rt,
+            &[
+                "plain",
+                "--turns=counting.turns",
+                "--file=/p=counting.elf",
+                "--",
+                "/p",
+            ],
+        )?;
+        assert_eq!(rt; run.out.text(), console, "{nops:?} {text:?}");
+    }
+    for file in ["counting.s", "counting.elf", "counting.turns"] {
+        fs::remove_file(&rt, file)?;
+    }
+    Ok(())
+}
+
+/// The limit counts turns, also those that nobody has, and no word s. The first line of the log comes with turn 2 of
+/// process 1, the second with turn 5, the third with turn 12.
+#[test]
+fn limits_of_words(rt: HostRuntime) -> Result<(), Fail> {
+    fs::write(&rt, "counted.elf", HELLO.as_slice())?;
+    let rows = [
+        ("s s s s", "1", 0),
+        ("s s s s", "2", 1),
+        ("s 1 s 1 s", "2", 1),
+        ("9 1", "2", 0),
+        ("9 1", "3", 1),
+        ("1.", "4", 1),
+        ("1.", "5", 2),
+        ("1.", "11", 2),
+        ("1.", "12", 3),
+        ("1.", "0", 0),
+    ];
+    for (text, limit, lines) in rows {
+        fs::write(&rt, "counted.turns", text)?;
+        let words = [
+            "plain",
+            "--turns=counted.turns",
+            "--limit",
+            limit,
+            "--file=/p=counted.elf",
+            "--",
+            "/p",
+        ];
+        let run = run_of(&rt, words.as_slice())?;
+        assert_eq!(rt; run.status, 4, "{text:?} {limit}");
+        assert_eq!(rt; run.err.text().lines().count(), lines, "{text:?} {limit}");
+    }
+    fs::remove_file(&rt, "counted.elf")?;
+    fs::remove_file(&rt, "counted.turns")?;
+    Ok(())
+}
+
+/// A word that is none is told in one line, wherever it stands, and nothing is run.
+#[test]
+fn refused_schedules(rt: HostRuntime) -> Result<(), Fail> {
+    let malformed = "guest_host: --turns bad.turns: a word of the schedule is malformed";
+    let rows: [(&[u8], &str); 8] = [
+        (b"x", malformed),
+        (b"x 1 2", malformed),
+        (b"1 2 x", malformed),
+        (b"1 -2 s 1.. 3.", malformed),
+        (b"1\n2\n+3\n4\n", malformed),
+        (b"1 4294967296", malformed),
+        (b"12345678901 1", malformed),
+        (b"1 \xff", "guest_host: bad.turns: not UTF-8"),
+    ];
+    for (text, told) in rows {
+        fs::write(&rt, "bad.turns", text)?;
+        let run = run_of(&rt, &["plain", "--turns", "bad.turns", "--", "/p"])?;
+        assert_eq!(rt; run.status, 2, "{told}");
+        assert_eq!(rt; run.out.text(), "", "{told}");
+        assert!(rt; is_line_of(&run, told), "{told}");
+    }
+    fs::remove_file(&rt, "bad.turns")?;
     Ok(())
 }

@@ -136,7 +136,14 @@ fn helps(rt: HostRuntime) -> Result<(), Fail> {
         (&["--version"], &["guest_host 0.1.0\n"]),
         (
             &["plain", "--help"],
-            &["-e <EXPR>", "--limit <N>", "--file <GUEST=PATH>", "<PROG>"],
+            &[
+                "-e <EXPR>",
+                "--turns <FILE>",
+                "(the default schedule)",
+                "--limit <N>",
+                "--file <GUEST=PATH>",
+                "<PROG>",
+            ],
         ),
         (
             &["serve", "--help"],

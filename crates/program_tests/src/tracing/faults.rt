@@ -6,7 +6,7 @@ use std::test::Fail;
 /// Each ends with this status, one line on standard error that begins so, and nothing on standard output.
 #[test]
 fn refused_traces(rt: HostRuntime) -> Result<(), Fail> {
-    let rows: [(&[&str], u8, &str); 14] = [
+    let rows: [(&[&str], u8, &str); 16] = [
         (
             &[],
             2,
@@ -56,6 +56,16 @@ fn refused_traces(rt: HostRuntime) -> Result<(), Fail> {
             &["-e", "wrote", "--file", "none", "--", "/p"],
             2,
             "strace: expression fault 1",
+        ),
+        (
+            &["-e", "wrote", "--turns", "nowhere", "--", "/p"],
+            2,
+            "strace: expression fault 1",
+        ),
+        (
+            &["--file", "none", "--turns", "nowhere", "--", "/p"],
+            2,
+            "strace: nowhere: No such file",
         ),
         (
             &["--file", "/p=nowhere", "--", "/p"],

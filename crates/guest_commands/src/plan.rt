@@ -1,14 +1,32 @@
-//! The kernel that a run begins with.
+//! What a run is made of.
 
 use crate::expressions::script;
 use crate::fault::Fault;
 use clap::ArgMatches;
-use front_end::{BootWords, boot_of, refuse_boot};
+use front_end::{BootWords, boot_of, read_turns, refuse_boot};
 use lx_abi::{Boot, Script};
 use lx_kernel::Kernel;
+use pt_schedule::Schedule;
 use std::alloc::Global;
 use std::io::Read;
 use std::rt::Files;
+
+/// A kernel that has had no turn, and the order of its turns.
+#[derive(Drop)]
+pub struct Plan {
+    pub kernel: Kernel,
+    pub schedule: Schedule,
+}
+
+/// The order of turns that the words ask for, so many at most.
+fn schedule<R: Files + AllocGlobal>(
+    rt: &R,
+    matches: &ArgMatches,
+    limit: u64,
+) -> Result<Schedule, Fault> {
+    let words = read_turns(rt, matches.get_str("turns"))?;
+    Ok(Schedule::words(words, limit))
+}
 
 /// The boot that the words and the input ask for.
 fn boot<R: Files + AllocGlobal, I: Read>(
@@ -31,13 +49,17 @@ fn booted(alloc: Global, boot: Boot, script: Script) -> Result<Kernel, Fault> {
     }
 }
 
-/// The kernel that a run begins with. Faults are looked for in the expressions, the files, the input and then the boot.
-pub fn kernel<R: Files + AllocGlobal, I: Read>(
+/// Reads what the words ask for. Faults are looked for in the limit, the expressions, the schedule, the files, the input
+/// and then the boot.
+pub fn read_plan<R: Files + AllocGlobal, I: Read>(
     rt: &R,
     matches: &ArgMatches,
     input: &mut I,
-) -> Result<Kernel, Fault> {
+) -> Result<Plan, Fault> {
+    let limit = front_end::limit(rt.alloc(), matches)?;
     let script = script(rt.alloc(), matches.get_strs("expression").unwrap_or(&[]))?;
+    let schedule = schedule(rt, matches, limit)?;
     let boot = boot(rt, matches, input)?;
-    booted(rt.alloc(), boot, script)
+    let kernel = booted(rt.alloc(), boot, script)?;
+    Ok(Plan { kernel, schedule })
 }
