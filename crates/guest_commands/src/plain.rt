@@ -131,8 +131,8 @@ fn write_console<O: Write>(kernel: &Kernel, out: &mut O) -> Result<(), Fault> {
     }
 }
 
-/// Runs the kernel by its schedule. The log goes to `err`, and then the console to `out`, both also where the run ends in
-/// a fault.
+/// Runs the kernel by its schedule. The log goes to `err`, and then the console to `out`, both also where the run ends
+/// in a fault.
 fn run_plan<O: Write, E: Write>(
     alloc: Global,
     mut plan: Plan,

@@ -49,8 +49,8 @@ fn booted(alloc: Global, boot: Boot, script: Script) -> Result<Kernel, Fault> {
     }
 }
 
-/// Reads what the words ask for. Faults are looked for in the limit, the expressions, the schedule, the files, the input
-/// and then the boot.
+/// Reads what the words ask for. Faults are looked for in the limit, the expressions, the schedule, the files, the
+/// input and then the boot.
 pub fn read_plan<R: Files + AllocGlobal, I: Read>(
     rt: &R,
     matches: &ArgMatches,

@@ -119,8 +119,8 @@ fn runs_of_the_stored_guest(rt: HostRuntime) -> Result<(), Fail> {
 }
 
 /// The stub leaves Born in turn 1 and enters execve in turn 2, which is done in turn 4 and told of in turn 5. The
-/// program begins with turn 7: five instructions, the ecall of write in turn 12, which is done in turn 14 and told of in
-/// turn 15, two instructions from turn 17 on, and the last ecall in turn 19. It is in Dying after turn 21, and gone
+/// program begins with turn 7: five instructions, the ecall of write in turn 12, which is done in turn 14 and told of
+/// in turn 15, two instructions from turn 17 on, and the last ecall in turn 19. It is in Dying after turn 21, and gone
 /// after 22.
 #[test]
 fn limits(rt: HostRuntime) -> Result<(), Fail> {

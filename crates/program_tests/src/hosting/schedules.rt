@@ -11,8 +11,8 @@ fn status_of(rt: &HostRuntime, words: &[&str]) -> Result<u8, Fail> {
     Ok(run_of(rt, words)?.status)
 }
 
-/// A call that doesn't wait has five turns: Run, Entered, Doing, Acted and Finished are left by one each. Before those of
-/// execve one leaves Born. The default schedule lets each process come to its end.
+/// A call that doesn't wait has five turns: Run, Entered, Doing, Acted and Finished are left by one each. Before those
+/// of execve one leaves Born. The default schedule lets each process come to its end.
 #[test]
 fn orders_of_writes(rt: HostRuntime) -> Result<(), Fail> {
     fs::write(&rt, "writers.s", TWO_WRITERS)?;
@@ -54,8 +54,8 @@ fn orders_of_writes(rt: HostRuntime) -> Result<(), Fail> {
     Ok(())
 }
 
-/// Process 1 clones in its turns 10 to 14 and counts down from turn 17 on; with one nop its write is done in turn 2000, and
-/// with each further one a turn later. Its child's is done in turn 1512 of the child's own.
+/// Process 1 clones in its turns 10 to 14 and counts down from turn 17 on; with one nop its write is done in turn 2000,
+/// and with each further one a turn later. Its child's is done in turn 1512 of the child's own.
 fn counting(alloc: Global, nops: &str) -> Result<String, Fail> {
     Ok(format!(in alloc;
         "_start: li a0, 17
