@@ -6,7 +6,8 @@ ghost use Rattle.lx_model.specs.Finite.{at, item_of};
 ghost use Rattle.lx_model.specs.Deeds.{deed_of};
 ghost use Rattle.lx_model.specs.Turn.{Plain};
 ghost use Rattle.lx_model.specs.Turn.{turn};
-ghost use Rattle.lx_model.specs.declared.stage.Own.TheVariants.{Alive, Gone};
+ghost use Rattle.lx_model.specs.declared.stage.Own.TheVariants.{Alive, Dying, Gone};
+ghost use Rattle.lx_model.specs.declared.stage.Stage.TheVariants.{Born};
 ghost use Rattle.lx_kernel.specs.Linux.{linux};
 ghost use Rattle.lx_kernel.specs.Turned.{turned, turned_by, event_of, is_gone, owns_with, without_gone, next_child, IsLeft, IsBirth};
 ghost use Rattle.lx_kernel.specs.Turns.{Turns};
@@ -102,6 +103,22 @@ fn turn_alive(
     Ok(went)
 }
 
+/// The process is gone. Apart, since a function pays at its entry for the size of its locals.
+#[inline(never)]
+fn leave(own: &mut Own<Body>)
+    ensures { own.new ≡ Gone }
+{
+    *own = Own::Gone;
+}
+
+/// The process is dying.
+#[inline(never)]
+fn end(own: &mut Own<Body>, word: u32)
+    ensures { own.new ≡ Dying word }
+{
+    *own = Own::Dying { word };
+}
+
 /// One turn of a process with a part of its own.
 fn turn_own(
     alloc: Global,
@@ -120,7 +137,7 @@ fn turn_own(
         Own::Gone => Ok(Logged::nothing(true)),
         Own::Dying { word } => {
             bury(shared, pid, *word);
-            *own = Own::Gone;
+            leave(own);
             Ok(Logged::nothing(true))
         }
         Own::Alive { body, stage } => {
@@ -136,7 +153,7 @@ fn turn_own(
                 }
                 Went::Ended { word } => {
                     die(shared, pid, word)?;
-                    *own = Own::Dying { word };
+                    end(own, word);
                     let item = Some(Item::Exit {
                         pid,
                         word,
@@ -183,6 +200,17 @@ fn turn_at(
     Ok(logged)
 }
 
+/// A child's body stands under its pid.
+#[inline(never)]
+fn place_body(owns: &mut Map<Own<Body>>, child: u32, body: Box<Body>) -> Result<(), AllocError>
+    ensures { OnOk result (owns.new ≡ maps.insert owns.old child (Alive body.value Born)) }
+{
+    let body = Box::into_inner(body);
+    let stage = Stage::Born;
+    owns.insert(child, Own::Alive { body, stage })?;
+    Ok(())
+}
+
 /// A child that is born has a part of its own, under the next pid.
 fn place_child(owns: &mut Map<Own<Body>>, child: &mut u32, done: Effect) -> Result<(), AllocError>
     requires { IsLeft done child.old }
@@ -194,9 +222,7 @@ fn place_child(owns: &mut Map<Own<Body>>, child: &mut u32, done: Effect) -> Resu
     match done {
         Effect::Plain | Effect::Execed => Ok(()),
         Effect::Bore(body) => {
-            let body = Box::into_inner(body);
-            let stage = Stage::Born;
-            owns.insert(*child, Own::Alive { body, stage })?;
+            place_body(owns, *child, body)?;
             *child += 1;
             Ok(())
         }
