@@ -219,6 +219,7 @@ fn do_call(
 }
 
 /// A taken signal does what its action says: its process goes on, or ends.
+#[inline(never)]
 fn react(
     shared: &mut Shared,
     pid: u32,

@@ -1,7 +1,7 @@
 use Rattle.std.proofs.Common.{◌≡◌, Some, ap, sym, ◌∙◌}
 use Rattle.lx_abi.specs.declared.log.Item.TheVariants as item
 use Rattle.lx_model.specs.Turn.{turn, Plain}
-use Rattle.lx_model.specs.declared.stage.Own.TheVariants.{Alive, Dying}
+use Rattle.lx_model.specs.declared.stage.Own.TheVariants.{Alive}
 use Rattle.lx_proc.specs.declared.state.Shared.{Shared}
 use Rattle.lx_kernel.specs.Linux.{linux}
 use Rattle.lx_kernel.specs.Tampering.{choice_of_call, choice_of_own}
@@ -21,7 +21,7 @@ returns-in_ok-die-in-Ended-clause-turned c =
     ap (λ o. turned (turn linux (choice_of_own c.args.tampering.now c.args.pid o) c.args.shared.now c.args.child c.args.pid o)) c.in-Alive.is
     ∙ c.in_ok-next-in-Alive.ensures.turned
     ∙ ap (λ w. turned_by w c.turn_alive.new.shared c.turn_alive.new.body c.args.pid c.in-Alive.stage) c.in-Ended.is
-    ∙ λ i. record { shared = sym c.in_ok-die-in-Ended.ensures.died i; own = Dying c.in-Ended.word; item = Some (item.Exit c.args.pid c.in-Ended.word (sym c.mode.ensures i)); event = Plain }
+    ∙ λ i. record { shared = sym c.in_ok-die-in-Ended.ensures.died i; own = sym c.end.ensures i; item = Some (item.Exit c.args.pid c.in-Ended.word (sym c.mode.ensures i)); event = Plain }
 
 pub returns-in_err-die-in-Ended-clause-console : goal.returns-in_err-die-in-Ended-clause-console
 returns-in_err-die-in-Ended-clause-console c =
