@@ -74,6 +74,9 @@ fn turns_of<E: Write>(
     pid: u32,
     log: &mut Log<E>,
 ) -> Result<(), Fault> {
+    if kernel.mode(pid) != Some(Mode::Run) {
+        return turn(kernel, pid, log);
+    }
     let following = schedule.row().map_or(0, |row| row.turns);
     let most = following.saturating_add(1).min(log.patience());
     let ran = run_instructions(kernel, pid, most)?;
