@@ -1,2 +1,3 @@
 mod Agreement
+mod Idle
 mod Replies

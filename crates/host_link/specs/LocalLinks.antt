@@ -26,6 +26,10 @@ faults_of l = cond l.is_broken 1 0
 abbrev pub is_over : LocalLink → Bool
 is_over l = l.over
 
+-- no request waits for the host to serve it
+abbrev pub IsIdle : LocalLink → Type 0
+IsIdle l = is_over l ≡ false → is_there (host_of l).hosting.pending ≡ false
+
 unfoldable pub Calls : LocalLink → Request → Result Reply LinkFault → LocalLink → Type 0
 Calls a q (Ok r) b =
     ((a.over ≡ true) × ((r ≡ Out_of_turns) × ((b.host ≡ a.host) × ((b.schedule ≡ a.schedule) × (b.over ≡ true)))))

@@ -4,6 +4,7 @@
 pub mod child;
 pub mod fault;
 mod fits;
+pub mod laws;
 pub mod link;
 pub mod local;
 pub mod pipe;

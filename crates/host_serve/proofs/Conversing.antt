@@ -1,5 +1,5 @@
 -- A conversation goes on by a request and its reply, and ends.
-use Rattle.std.proofs.Common.{◌≡◌, ℕ, ◌+◌, ◌^◌, List, [], ◌∷◌, ◌++◌, Option, Some, None, Result, Ok, Err, refl, sym, ap, subst, ◌∙◌, inl, inr, append_assoc, append-nil, arith}
+use Rattle.std.proofs.Common.{◌≡◌, ℕ, ◌+◌, ◌≤◌, ◌^◌, List, [], ◌∷◌, ◌++◌, Option, Some, None, Result, Ok, Err, refl, sym, ap, subst, ◌∙◌, inl, inr, append_assoc, append-nil, arith}
 use Rattle.std.specs.Io.KnownBytes.{Appends, Consumes}
 use Rattle.std.proofs.KnownBytes.{Appends-nil, Appends-trans, Consumes-nil, Consumes-trans}
 use Rattle.lx_abi.specs.declared.outcome.Outcome.{Outcome}
@@ -12,9 +12,9 @@ use Rattle.host_wire.proofs.Streams.{frames_join}
 use Rattle.host_serve.specs.declared.fault.ServeFault.{ServeFault}
 use Rattle.host_serve.specs.declared.fault.ServeFault.TheVariants.{Read, Write, Wire, Order, Failed}
 use Rattle.host_serve.specs.declared.session.Phase.{Phase}
-use Rattle.host_serve.specs.declared.session.Phase.TheVariants.{Waiting}
+use Rattle.host_serve.specs.declared.session.Phase.TheVariants.{Waiting, Refused as Refusing, Serving}
 use Rattle.host_serve.specs.Requests.{IsOther, Next, request_frame}
-use Rattle.host_serve.specs.Serving.{Boots, Answers, IsTooLong, SentAs, Answered, Finishes, Responds, Served, Serves, outcome_at, replies_of}
+use Rattle.host_serve.specs.Serving.{Boots, Answers, IsTooLong, SentAs, Answered, CanAnswer, Fails, Finishes, IsDue, Responds, Served, Serves, outcome_at, replies_of}
 
 -- a first part of what comes behind known bytes
 part_behind : (a b c : Option (List ℕ)) (xs ys : List ℕ) → Appends a b xs → AppendsPart b c ys → AppendsPart a c (xs ++ ys)
@@ -23,6 +23,12 @@ part_behind a b c xs ys whole part =
 
 pub next_is : {b c : Option (List ℕ)} {number broken : ℕ} {o p : Option Request} → o ≡ p → Next b (Ok o) number c broken → Next b (Ok p) number c broken
 next_is {b} {c} {number} {broken} is n = subst (λ (x : Option Request). Next b (Ok x) number c broken) is n
+
+-- the request of a number up to 2^40 is one that a session can answer
+pub can_answer : {S : Type 0} {ready : S → Type 0} {given : S → ℕ} {number : ℕ} (phase : Phase S) → IsDue ready given phase number → number ≤ 2 ^ 40 → CanAnswer ready given phase
+can_answer Waiting due few = tt
+can_answer Refusing due few = tt
+can_answer (Serving s) due few = (due.0, omega (arith, due.1, few))
 
 module _ {S : Type 0} {boots : Boots S} {answers : Answers S} where
   pub starts : (bytes old : Option (List ℕ)) → Serves boots answers bytes bytes old old Waiting 1
@@ -122,8 +128,8 @@ module _ {S : Type 0} {boots : Boots S} {answers : Answers S} where
     written = s.written;
   }
 
-  pub ends_asked : {left : S → Outcome} {a b c d e : Option (List ℕ)} {phase : Phase S} {number broken broken_writer : ℕ} (q : Request) (fault : ServeFault)
-      → Serves boots answers a b d e phase number → Next b (Ok (Some q)) number c broken → Responds boots answers phase q (Err fault) → Served boots answers left a c d e (Err fault) broken broken_writer
+  pub ends_asked : {fails : Fails S} {left : S → Outcome} {a b c d e : Option (List ℕ)} {phase : Phase S} {number broken broken_writer : ℕ} (q : Request) (fault : ServeFault)
+      → Serves boots answers a b d e phase number → Next b (Ok (Some q)) number c broken → Responds boots answers fails phase q (Err fault) → Served boots answers left a c d e (Err fault) broken broken_writer
   ends_asked q Read s n h = absurd h
   ends_asked q Write s n h = absurd h
   ends_asked q Wire s n h = absurd h

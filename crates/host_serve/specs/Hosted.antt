@@ -13,7 +13,8 @@ use Rattle.lx_boot.specs.declared.boots.BootFault.{BootFault}
 use Rattle.pt_model.specs.Hosting.{first_hosting}
 use Rattle.pt_kernel.specs.Hosts.{HostState}
 use Rattle.pt_schedule.specs.Schedules.{worded}
-use Rattle.host_link.specs.LocalLinks.{Calls, faults_of, given_of, host_of, is_over, schedule_of}
+use Rattle.host_link.specs.LocalLinks.{Calls, IsIdle, faults_of, given_of, host_of, is_over, schedule_of}
+use Rattle.host_link.specs.declared.fault.LinkFault.TheVariants.{Memory}
 use Rattle.host_link.specs.declared.local.LocalLink.{LocalLink}
 use Rattle.host_serve.specs.Serving.{Served}
 use Rattle.host_serve.specs.declared.fault.ServeFault.{ServeFault}
@@ -48,6 +49,14 @@ Boots_by boot limit words (Err n) = (fault : BootFault) × ((n ≡ fault_number 
 -- what the link replies
 abbrev pub Answers_by : LocalLink → Request → Reply → LocalLink → Type 0
 Answers_by a q r b = Calls a q (Ok r) b
+
+-- the host had no memory for it
+abbrev pub Fails_by : LocalLink → Request → LocalLink → Type 0
+Fails_by a q b = Calls a q (Err Memory) b
+
+-- the link has met no fault, and its host has no request left to serve
+abbrev pub IsReady : LocalLink → Type 0
+IsReady l = (faults_of l ≡ 0) × IsIdle l
 
 abbrev pub left_by : LocalLink → Outcome
 left_by l = outcome_in (host_of l).hosting.running.shared

@@ -1,8 +1,7 @@
 -- The frame that is due next: a request of the next number.
-use Rattle.std.specs.Prelude.{◌≡◌, ◌⊎◌, ◌≤◌, ◌^◌, ℕ, ◌==◌, if◌then◌else◌, Bool, true, false, List, [], ◌∷◌, length, Option, Some, None, Result, Ok, Err}
+use Rattle.std.specs.Prelude.{◌≡◌, ◌⊎◌, ◌≤◌, ◌^◌, ℕ, ◌==◌, if◌then◌else◌, List, [], ◌∷◌, length, Option, Some, None, Result, Ok, Err}
 use Rattle.std.specs.Io.KnownBytes.{Consumes, IsAtEnd}
 use Rattle.lx_abi.specs.declared.ptrace.Request.{Request}
-use Rattle.lx_abi.specs.declared.ptrace.Request.TheVariants.{Boot as Boot_with, Wait, To, Outcome as Ask_outcome}
 use Rattle.host_frame.specs.declared.frame.Body.{Body as Message}
 use Rattle.host_frame.specs.declared.frame.Body.TheVariants.{Request as Of_request, Reply as Of_reply}
 use Rattle.host_frame.specs.declared.frame.Frame.{Frame}
@@ -12,12 +11,6 @@ use Rattle.host_wire.specs.declared.receiving.ReceiveFault.TheVariants as receiv
 use Rattle.host_wire.specs.Streams.{Stream, Going, Failed as Failed_by, stream_of}
 use Rattle.host_serve.specs.declared.fault.ServeFault.{ServeFault}
 use Rattle.host_serve.specs.declared.fault.ServeFault.TheVariants.{Read, Write, Wire, Order, Failed}
-
-abbrev pub is_boot : Request → Bool
-is_boot (Boot_with boot limit words) = true
-is_boot Wait = false
-is_boot (To pid ask) = false
-is_boot Ask_outcome = false
 
 abbrev pub request_frame : ℕ → Request → Frame
 request_frame number request = record { number = number; body = Of_request request }

@@ -16,13 +16,17 @@ use Rattle.host_serve.specs.declared.fault.ServeFault.{ServeFault}
 use Rattle.host_serve.specs.declared.fault.ServeFault.TheVariants.{Read, Write, Wire, Order, Failed}
 use Rattle.host_serve.specs.declared.session.Phase.{Phase}
 use Rattle.host_serve.specs.declared.session.Phase.TheVariants.{Waiting, Refused as Refusing, Serving}
-use Rattle.host_serve.specs.Requests.{IsFaulty, IsOther, is_boot, request_frame}
+use Rattle.pt_kernel.specs.Hosts.{is_boot}
+use Rattle.host_serve.specs.Requests.{IsFaulty, IsOther, request_frame}
 
 abbrev pub Boots : Type 0 → Type 1
 Boots S = Boot → ℕ → List Word → Result S ℕ → Type 0
 
 abbrev pub Answers : Type 0 → Type 1
 Answers S = S → Request → Reply → S → Type 0
+
+abbrev pub Fails : Type 0 → Type 1
+Fails S = S → Request → S → Type 0
 
 -- ---- one reply
 
@@ -63,14 +67,32 @@ IsUndue Waiting q = is_boot q ≡ false
 IsUndue Refusing q = Unit {0}
 IsUndue (Serving s) q = is_boot q ≡ true
 
+-- the session had no memory for the reply
+abbrev pub FailsAt : {S : Type 0} → Fails S → Phase S → Request → Type 0
+FailsAt fails Waiting q = ⊥
+FailsAt fails Refusing q = ⊥
+FailsAt {S} fails (Serving s) q = (t : S) × fails s q t
+
 -- what a function returned for a request
-abbrev pub Responds : {S : Type 0} → Boots S → Answers S → Phase S → Request → Result (Phase S × Reply) ServeFault → Type 0
-Responds boots answers phase q (Ok x) = Answered boots answers phase q x.1 x.0
-Responds boots answers phase q (Err Order) = IsUndue phase q
-Responds boots answers phase q (Err Failed) = Unit {0}
-Responds boots answers phase q (Err Read) = ⊥
-Responds boots answers phase q (Err Write) = ⊥
-Responds boots answers phase q (Err Wire) = ⊥
+abbrev pub Responds : {S : Type 0} → Boots S → Answers S → Fails S → Phase S → Request → Result (Phase S × Reply) ServeFault → Type 0
+Responds boots answers fails phase q (Ok x) = Answered boots answers phase q x.1 x.0
+Responds boots answers fails phase q (Err Order) = IsUndue phase q
+Responds boots answers fails phase q (Err Failed) = FailsAt fails phase q
+Responds boots answers fails phase q (Err Read) = ⊥
+Responds boots answers fails phase q (Err Write) = ⊥
+Responds boots answers fails phase q (Err Wire) = ⊥
+
+-- a session can answer one more request
+abbrev pub CanAnswer : {S : Type 0} → (S → Type 0) → (S → ℕ) → Phase S → Type 0
+CanAnswer ready given Waiting = Unit {0}
+CanAnswer ready given Refusing = Unit {0}
+CanAnswer ready given (Serving s) = ready s × (given s < 2 ^ 40)
+
+-- the request of this number is due
+abbrev pub IsDue : {S : Type 0} → (S → Type 0) → (S → ℕ) → Phase S → ℕ → Type 0
+IsDue ready given Waiting number = number ≡ 1
+IsDue ready given Refusing number = Unit {0}
+IsDue ready given (Serving s) number = ready s × (given s + 2 ≡ number)
 
 abbrev pub Exchanges : Type 0
 Exchanges = List (Request × Reply)

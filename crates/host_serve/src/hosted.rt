@@ -6,10 +6,12 @@ ghost use Rattle.host_serve.specs.Hosted.{BootsAs, Served_host};
 use crate::fault::ServeFault;
 use crate::serving::serve_session;
 use crate::session::Session;
+use host_link::laws::{idle_links_fail_for_memory, replies_leave_links_idle};
 use host_link::{Link, LocalLink};
 use host_wire::{Sink, Source};
 use lx_abi::{Boot, Outcome, Reply, Request, Seq, Word};
 use lx_boot::BootFault;
+use lx_kernel::Failed;
 use pt_kernel::{Host, Schedule};
 use std::alloc::{AllocError, Global};
 
@@ -36,13 +38,20 @@ fn booted(alloc: Global, boot: Boot, limit: u64, words: Seq<Word>) -> Result<Loc
 }
 
 impl Session for LocalLink {
-    ghost use Rattle.host_serve.specs.Hosted.{Answers_by, Boots_by, left_by};
+    ghost use Rattle.host_link.specs.LocalLinks.{given_of};
+    ghost use Rattle.host_serve.specs.Hosted.{Answers_by, Boots_by, Fails_by, IsReady, left_by};
 
     ghost boots = { λ boot limit words result. Boots_by boot limit words result };
 
     ghost answers = { λ a q r b. Answers_by a q r b };
 
+    ghost fails = { λ a q b. Fails_by a q b };
+
     ghost left = { left_by };
+
+    ghost ready = { λ l. IsReady l };
+
+    ghost given = { λ l. given_of l };
 
     fn boot(alloc: Global, boot: Boot, limit: u64, words: Seq<Word>) -> Result<Self, u8> {
         match booted(alloc, boot, limit, words) {
@@ -51,18 +60,17 @@ impl Session for LocalLink {
         }
     }
 
-    fn answer(&mut self, request: Request) -> Option<Reply> {
+    fn answer(&mut self, request: Request) -> Result<Reply, Failed> {
+        replies_leave_links_idle();
+        idle_links_fail_for_memory();
         match self.call(request) {
-            Ok(reply) => Some(reply),
-            Err(_) => None,
+            Ok(reply) => Ok(reply),
+            Err(_) => Err(Failed),
         }
     }
 
-    fn outcome(&self) -> Option<Outcome> {
-        match self.host().outcome() {
-            Ok(outcome) => Some(outcome),
-            Err(_) => None,
-        }
+    fn outcome(&self) -> Result<Outcome, AllocError> {
+        self.host().outcome()
     }
 }
 

@@ -3,6 +3,7 @@
 ghost use Rattle.std.specs.Prelude.{◌≡◌, ◌<◌, length, IfOk, IsSome, OnOk, OnErr, IfErr};
 ghost use Rattle.host_wire.specs.Streams.{nothing_fed};
 ghost use Rattle.host_serve.specs.Requests as spec;
+ghost use Rattle.pt_kernel.specs.Hosts.{is_boot as is_boot_model};
 ghost use Rattle.host_serve.specs.Requests.{Next};
 
 use crate::fault::ServeFault;
@@ -10,7 +11,7 @@ use host_wire::{Body, Feed, Frame, ReceiveFault, Source, WireFault, receive};
 use lx_abi::Request;
 
 pub(crate) fn is_boot(request: &Request) -> bool
-    ensures { result ≡ spec.is_boot request.now }
+    ensures { result ≡ is_boot_model request.now }
 {
     match request {
         Request::Boot { .. } => true,

@@ -1,7 +1,7 @@
 //! The conversation of a host with its tracer.
 
-ghost use Rattle.std.specs.Prelude.{◌≡◌};
-ghost use Rattle.host_serve.specs.Serving.{Finishes, Responds, Served, outcome_at};
+ghost use Rattle.std.specs.Prelude.{◌≡◌, ◌+◌, ℕ, IfOk};
+ghost use Rattle.host_serve.specs.Serving.{CanAnswer, Finishes, IsDue, Responds, Served, outcome_at};
 
 use crate::answering::send;
 use crate::fault::ServeFault;
@@ -9,6 +9,7 @@ use crate::requests::{is_boot, next_request};
 use crate::session::{Phase, Session};
 use host_wire::{Feed, Sink, Source};
 use lx_abi::{Bytes, Outcome, Reply, Request, Seq};
+use lx_kernel::Failed;
 use std::alloc::Global;
 
 /// The most frames that a host serves.
@@ -19,7 +20,8 @@ const ROOM: usize = 65_536;
 
 /// The reply to the first request, which is to be Boot.
 fn boot<S: Session + Drop>(alloc: Global, request: Request) -> Result<(Phase<S>, Reply), ServeFault>
-    ensures { Responds S.boots S.answers Phase.Waiting request result }
+    ensures responds { Responds S.boots S.answers S.fails Phase.Waiting request result }
+    ensures due { IfOk result (λ x. IsDue S.ready S.given x.0 2) }
 {
     match request {
         Request::Boot { boot, limit, words } => match S::boot(alloc, boot, limit, words) {
@@ -37,7 +39,9 @@ fn respond<S: Session + Drop>(
     phase: Phase<S>,
     request: Request,
 ) -> Result<(Phase<S>, Reply), ServeFault>
-    ensures { Responds S.boots S.answers phase request result }
+    requires { CanAnswer S.ready S.given phase }
+    ensures responds { Responds S.boots S.answers S.fails phase request result }
+    ensures due { IfOk result (λ x. (number : ℕ) → IsDue S.ready S.given phase number → IsDue S.ready S.given x.0 (number + 1)) }
 {
     match phase {
         Phase::Waiting => boot(alloc, request),
@@ -47,8 +51,8 @@ fn respond<S: Session + Drop>(
                 return Err(ServeFault::Order);
             }
             match session.answer(request) {
-                Some(reply) => Ok((Phase::Serving(session), reply)),
-                None => Err(ServeFault::Failed),
+                Ok(reply) => Ok((Phase::Serving(session), reply)),
+                Err(Failed) => Err(ServeFault::Failed),
             }
         }
     }
@@ -65,8 +69,8 @@ fn outcome_of<S: Session + Drop>(alloc: Global, phase: &Phase<S>) -> Result<Outc
             ended: Seq::new(alloc),
         }),
         Phase::Serving(session) => match session.outcome() {
-            Some(outcome) => Ok(outcome),
-            None => Err(ServeFault::Failed),
+            Ok(outcome) => Ok(outcome),
+            Err(_) => Err(ServeFault::Failed),
         },
     }
 }

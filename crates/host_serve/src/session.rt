@@ -1,10 +1,11 @@
 //! Who answers the requests.
 
-ghost use Rattle.std.specs.Prelude.{◌≡◌, false, IfSome};
-ghost use Rattle.host_serve.specs.Requests.{is_boot};
+ghost use Rattle.std.specs.Prelude.{◌≡◌, ◌+◌, ◌<◌, ◌^◌, false, IfOk, OnOk, OnErr};
+ghost use Rattle.pt_kernel.specs.Hosts.{is_boot};
 
 use lx_abi::{Boot, Outcome, Reply, Request, Seq, Word};
-use std::alloc::Global;
+use lx_kernel::Failed;
+use std::alloc::{AllocError, Global};
 
 /// A host that has booted, and the schedule that it follows between a request and its reply.
 pub trait Session: Sized {
@@ -22,20 +23,35 @@ pub trait Session: Sized {
     /// The session before, the request, the reply, and the session after.
     ghost answers: { Self → Request → Reply → Self → Type 0 };
 
+    /// The session before, the request that no memory was left for, and the session after.
+    ghost fails: { Self → Request → Self → Type 0 };
+
     /// What is left of the run.
     ghost left: { Self → Outcome };
 
+    /// It can answer a request.
+    ghost ready: { Self → Type 0 };
+
+    /// How many requests it has answered.
+    ghost given: { Self → ℕ };
+
     fn boot(alloc: Global, boot: Boot, limit: u64, words: Seq<Word>) -> Result<Self, u8>
-        ensures { boots boot limit words result };
+        ensures booted { boots boot limit words result }
+        ensures able { IfOk result ready }
+        ensures first { IfOk result (λ session. given session ≡ 0) };
 
-    /// None where memory ran out.
-    fn answer(&mut self, request: Request) -> Option<Reply>
-        requires { is_boot request ≡ false }
-        ensures { IfSome result (λ reply. answers self.old request reply self.new) };
+    /// Answers one of at most 2^40 requests; none after a failure.
+    fn answer(&mut self, request: Request) -> Result<Reply, Failed>
+        requires no_boot { is_boot request ≡ false }
+        requires able { ready self.old }
+        requires few { given self.old < 2 ^ 40 }
+        ensures answered { IfOk result (λ reply. answers self.old request reply self.new) }
+        ensures still_able { OnOk result (ready self.new) }
+        ensures counted { OnOk result (given self.new ≡ given self.old + 1) }
+        ensures failed { OnErr result (fails self.old request self.new) };
 
-    /// None where memory ran out.
-    fn outcome(&self) -> Option<Outcome>
-        ensures { IfSome result (λ outcome. outcome ≡ left self.now) };
+    fn outcome(&self) -> Result<Outcome, AllocError>
+        ensures { IfOk result (λ outcome. outcome ≡ left self.now) };
 }
 
 /// Where a conversation stands.

@@ -1,12 +1,13 @@
 use Rattle.std.proofs.Common.{◌≡◌, ◌<◌}
 use Rattle.std.specs.Prelude.{vec_len}
 use Rattle.host_wire.specs.Streams.{nothing_fed}
-use Rattle.host_serve.specs.Serving.{Serves}
+use Rattle.host_serve.specs.Serving.{IsDue, Serves}
 use Rattle.host_serve.proofs.serving.serve_session.Given as goal
 
 abbrev pub invariant-loop-number : goal.invariant-loop-number
 invariant-loop-number g l = record {
   serves : Serves g.S.Session.boots g.S.Session.answers (g.R.Source.remaining l.fn.reader) (g.R.Source.remaining l.reader) (g.W.Sink.contents l.fn.writer) (g.W.Sink.contents l.writer) l.phase l.number;
+  due : IsDue g.S.Session.ready g.S.Session.given l.phase l.number;
   fresh : l.feed ≡ nothing_fed;
   room : 0 < vec_len l.room;
 }
