@@ -41,7 +41,8 @@ fn respond<S: Session + Drop>(
 ) -> Result<(Phase<S>, Reply), ServeFault>
     requires { CanAnswer S.ready S.given phase }
     ensures responds { Responds S.boots S.answers S.fails phase request result }
-    ensures due { IfOk result (λ x. (number : ℕ) → IsDue S.ready S.given phase number → IsDue S.ready S.given x.0 (number + 1)) }
+    ensures due { IfOk result (λ x. (number : ℕ) → IsDue S.ready S.given phase number
+        → IsDue S.ready S.given x.0 (number + 1)) }
 {
     match phase {
         Phase::Waiting => boot(alloc, request),
