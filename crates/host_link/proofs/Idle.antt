@@ -1,14 +1,12 @@
 -- A link in memory has no request pending behind a reply, and then only memory can fail it.
-use Rattle.std.proofs.Common.{◌≡◌, ◌<◌, ◌^◌, Bool, true, false, cond, List, [], ◌∷◌, Option, Some, None, Ok, Err, refl, sym, ap, ◌∙◌, inl, inr, arith}
+use Rattle.std.proofs.Common.{◌≡◌, ℕ, ◌<◌, ◌^◌, Bool, false, cond, List, [], ◌∷◌, Option, Some, None, Ok, Err, refl, sym, ap, ◌∙◌, inl, inr, arith}
 use Rattle.std.specs.Prelude.{is_none}
-use Rattle.lx_abi.specs.declared.outcome.Outcome.{Outcome}
 use Rattle.lx_abi.specs.declared.ptrace.Reply.{Reply}
 use Rattle.lx_abi.specs.declared.ptrace.Request.{Request}
 use Rattle.lx_abi.specs.declared.schedule.Event.{Event}
 use Rattle.lx_abi.specs.declared.schedule.Event.TheVariants.{Turn, Serve}
-use Rattle.lx_model.specs.Machine.{Machine}
 use Rattle.pt_model.specs.Attending.{left_pending}
-use Rattle.pt_model.specs.Hosting.{Hosting, hosting_pending}
+use Rattle.pt_model.specs.Hosting.{with_pending}
 use Rattle.pt_model.specs.Ptrace.{is_there}
 use Rattle.pt_kernel.specs.Attends.{Attended, GoesOn, IsFed}
 use Rattle.pt_kernel.specs.Bursts.{after}
@@ -21,14 +19,14 @@ use Rattle.host_link.specs.declared.local.LocalLink.{LocalLink}
 use Rattle.host_link.specs.LocalLinks.{Calls, IsIdle, faults_of, given_of}
 
 -- a request that is answered is no longer pending
-served_leaves : {S B : Type 0} (m : Machine S B) (outcome : S → Outcome) (v : Hosting S B) (pending : Option Request) (r : Reply)
-    → (hosting_pending m outcome v pending).reply ≡ Some r → (hosting_pending m outcome v pending).hosting.pending ≡ None
-served_leaves m outcome v None r e = absurd (cc e)
-served_leaves m outcome v (Some q) r e = ap (left_pending q) e
+served_leaves : (h : HostState) (pending : Option Request) (r : Reply) → (event_of (record h { hosting = with_pending h.hosting pending }) Serve).reply ≡ Some r
+    → (event_of (record h { hosting = with_pending h.hosting pending }) Serve).hosting.pending ≡ None
+served_leaves h None r e = absurd (cc e)
+served_leaves h (Some q) r e = ap (left_pending q) e
 
 event_leaves : (h : HostState) (e : Event) (r : Reply) → (event_of h e).reply ≡ Some r → (event_of h e).hosting.pending ≡ None
 event_leaves h (Turn p) r e = absurd (cc e)
-event_leaves h Serve r e = served_leaves _ _ h.hosting h.hosting.pending r e
+event_leaves h Serve r e = served_leaves h h.hosting.pending r e
 
 -- the event that answers is the last one
 last_leaves : (h : HostState) (s : Schedule) (es : List Event) (z : Attended) (o : Option Reply) (again : Type 0) → ((r : Reply) → o ≡ Some r → h.hosting.pending ≡ None)
@@ -54,7 +52,7 @@ reply_leaves_idle a b q r (inr c) goes =
 
 pub idle_fails_for_memory : (a b : LocalLink) (q : Request) (f : LinkFault) → faults_of a ≡ 0 → given_of a < 2 ^ 40 → IsIdle a → is_boot q ≡ false → Calls a q (Err f) b → f ≡ Memory
 unfolding Calls
-idle_fails_for_memory a b q Ended whole few idle request (inl broken) = absurd (omega (arith, whole, ap (λ (x : Bool). cond x 1 0) broken))
+idle_fails_for_memory a b q Ended whole few idle request (inl broken) = absurd (omega (arith, whole, ap {B = ℕ} (λ (x : Bool). cond x 1 0) broken))
 idle_fails_for_memory a b q Ended whole few idle request (inr boot) = absurd (cc (sym request ∙ boot))
 idle_fails_for_memory a b q TooMany whole few idle request full = absurd (omega (arith, few, full))
 idle_fails_for_memory a b q Memory whole few idle request failed = refl
