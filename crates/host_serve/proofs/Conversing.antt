@@ -25,10 +25,10 @@ pub next_is : {b c : Option (List ℕ)} {number broken : ℕ} {o p : Option Requ
 next_is {b} {c} {number} {broken} is n = subst (λ (x : Option Request). Next b (Ok x) number c broken) is n
 
 -- the request of a number up to 2^40 is one that a session can answer
-pub can_answer : {S : Type 0} {ready : S → Type 0} {given : S → ℕ} {number : ℕ} (phase : Phase S) → IsDue ready given phase number → number ≤ 2 ^ 40 → CanAnswer ready given phase
-can_answer Waiting due few = tt
-can_answer Refusing due few = tt
-can_answer (Serving s) due few = (due.0, omega (arith, due.1, few))
+pub can_answer : {S : Type 0} {number : ℕ} (ready : S → Type 0) (given : S → ℕ) (phase : Phase S) → IsDue ready given phase number → number ≤ 2 ^ 40 → CanAnswer ready given phase
+can_answer ready given Waiting due few = tt
+can_answer ready given Refusing due few = tt
+can_answer ready given (Serving s) due few = (due.0, omega (arith, due.1, few))
 
 module _ {S : Type 0} {boots : Boots S} {answers : Answers S} where
   pub starts : (bytes old : Option (List ℕ)) → Serves boots answers bytes bytes old old Waiting 1
@@ -128,12 +128,12 @@ module _ {S : Type 0} {boots : Boots S} {answers : Answers S} where
     written = s.written;
   }
 
-  pub ends_asked : {fails : Fails S} {left : S → Outcome} {a b c d e : Option (List ℕ)} {phase : Phase S} {number broken broken_writer : ℕ} (q : Request) (fault : ServeFault)
+  pub ends_asked : {left : S → Outcome} {a b c d e : Option (List ℕ)} {phase : Phase S} {number broken broken_writer : ℕ} (fails : Fails S) (q : Request) (fault : ServeFault)
       → Serves boots answers a b d e phase number → Next b (Ok (Some q)) number c broken → Responds boots answers fails phase q (Err fault) → Served boots answers left a c d e (Err fault) broken broken_writer
-  ends_asked q Read s n h = absurd h
-  ends_asked q Write s n h = absurd h
-  ends_asked q Wire s n h = absurd h
-  ends_asked {a = a} {b = b} {c = c} {phase = phase} q Order s n h = record {
+  ends_asked fails q Read s n h = absurd h
+  ends_asked fails q Write s n h = absurd h
+  ends_asked fails q Wire s n h = absurd h
+  ends_asked {a = a} {b = b} {c = c} {phase = phase} fails q Order s n h = record {
     exchanges = s.exchanges;
     phase = phase;
     came = s.came;
@@ -144,7 +144,7 @@ module _ {S : Type 0} {boots : Boots S} {answers : Answers S} where
     ended = (request_frame _ q, (n.so, inr (q, (ap (λ (k : ℕ). request_frame k q) s.counted, h))));
     written = s.written;
   }
-  ends_asked q Failed s n h = ends_failed s n
+  ends_asked fails q Failed s n h = ends_failed s n
 
   pub ends_sending : {left : S → Outcome} {a b c d e f : Option (List ℕ)} {phase : Phase S} {number broken broken_writer : ℕ} (next : Phase S) (q : Request) (r : Reply) (fault : ServeFault)
       → Serves boots answers a b d e phase number → Next b (Ok (Some q)) number c broken → Answered boots answers phase q r next → SentAs (Err fault) number r e f broken_writer → Served boots answers left a c d f (Err fault) broken broken_writer

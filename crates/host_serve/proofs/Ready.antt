@@ -1,28 +1,21 @@
--- A link that was booted here can answer a request, and behind a reply the next one.
-use Rattle.std.proofs.Common.{◌≡◌, ◌+◌, ℕ, List, Result, Ok, Err, sym, ap, subst}
+-- What stands behind a boot, and behind a call that fails.
+use Rattle.std.proofs.Common.{◌≡◌, ◌+◌, ℕ, Result, Ok, Err, sym, subst}
 use Rattle.std.specs.Prelude.{IfOk}
-use Rattle.lx_abi.specs.declared.boot.Boot.{Boot}
-use Rattle.lx_abi.specs.declared.schedule.Word.{Word}
 use Rattle.lx_abi.specs.declared.ptrace.Reply.{Reply}
 use Rattle.lx_abi.specs.declared.ptrace.Request.{Request}
-use Rattle.pt_model.specs.Ptrace.{is_there}
-use Rattle.pt_kernel.specs.Hosts.{HostState}
 use Rattle.host_link.specs.LocalLinks.{Calls}
 use Rattle.host_link.specs.declared.fault.LinkFault.{LinkFault}
 use Rattle.host_link.specs.declared.fault.LinkFault.TheVariants.{Memory}
 use Rattle.host_link.specs.declared.local.LocalLink.{LocalLink}
 use Rattle.host_serve.specs.declared.fault.ServeFault.{ServeFault}
 use Rattle.host_serve.specs.declared.session.Phase.{Phase}
-use Rattle.host_serve.specs.Hosted.{Fails_by, IsFirst, IsReady}
+use Rattle.host_serve.specs.Hosted.{Fails_by}
 use Rattle.host_serve.specs.Serving.{IsDue}
-
-pub first_is_ready : {boot : Boot} {limit : ℕ} {words : List Word} (l : LocalLink) → IsFirst boot limit words l → IsReady l
-first_is_ready l first = (first.whole, λ goes. ap (λ (h : HostState). is_there h.hosting.pending) first.host)
 
 pub fails_for_memory : (a b : LocalLink) (q : Request) (f : LinkFault) → (f ≡ Memory) → Calls a q (Err f) b → Fails_by a q b
 fails_for_memory a b q f is called = subst (λ (x : LinkFault). Calls a q (Err x) b) is called
 
-pub behind_boot : {S : Type 0} {ready : S → Type 0} {given : S → ℕ} (result : Result (Phase S × Reply) ServeFault) → IfOk result (λ x. IsDue ready given x.0 2)
+pub behind_boot : {S : Type 0} (ready : S → Type 0) (given : S → ℕ) (result : Result (Phase S × Reply) ServeFault) → IfOk result (λ x. IsDue ready given x.0 2)
     → IfOk result (λ x. (number : ℕ) → number ≡ 1 → IsDue ready given x.0 (number + 1))
-behind_boot {ready = ready} {given = given} (Ok x) due = λ number first. subst (λ (n : ℕ). IsDue ready given x.0 (n + 1)) (sym first) due
-behind_boot (Err fault) due = tt
+behind_boot ready given (Ok x) due = λ number first. subst (λ (n : ℕ). IsDue ready given x.0 (n + 1)) (sym first) due
+behind_boot ready given (Err fault) due = tt

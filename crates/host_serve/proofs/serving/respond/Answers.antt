@@ -3,7 +3,7 @@ use Rattle.host_serve.proofs.Ready.{behind_boot}
 use Rattle.host_serve.proofs.serving.respond.Goals as goal
 
 pub returns-in-Waiting-clause-due : goal.returns-in-Waiting-clause-due
-returns-in-Waiting-clause-due g c = rw c.in-Waiting.is (behind_boot _ c.boot.ensures.due)
+returns-in-Waiting-clause-due g c = rw c.in-Waiting.is (behind_boot g.S.Session.ready g.S.Session.given _ c.boot.ensures.due)
 
 pub returns-then-is_boot-clause-responds : goal.returns-then-is_boot-clause-responds
 returns-then-is_boot-clause-responds g c = rw c.in-Serving.is (sym c.is_boot.ensures ∙ c.if-is_boot.true)

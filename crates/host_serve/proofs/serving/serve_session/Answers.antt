@@ -12,10 +12,10 @@ pub returns-in-Err : goal.returns-in-Err
 returns-in-Err g c = ends_reading c.in-Err.fault c.loop-number.invariant.serves c.in-Err.ensures.next
 
 pub respond-requires : goal.respond-requires
-respond-requires g c = can_answer _ c.loop-number.invariant.due (omega (arith, c.loop-number-test.true))
+respond-requires g c = can_answer g.S.Session.ready g.S.Session.given _ c.loop-number.invariant.due (omega (arith, c.loop-number-test.true))
 
 pub returns-in-Err-respond : goal.returns-in-Err-respond
-returns-in-Err-respond g c = ends_asked c.in-Ok-Some.request c.in-Err-respond.fault c.loop-number.invariant.serves (next_is c.in-Ok-Some.field-0-is c.in-Ok-Some.ensures.next) c.in-Err-respond.ensures.responds
+returns-in-Err-respond g c = ends_asked g.S.Session.fails c.in-Ok-Some.request c.in-Err-respond.fault c.loop-number.invariant.serves (next_is c.in-Ok-Some.field-0-is c.in-Ok-Some.ensures.next) c.in-Err-respond.ensures.responds
 
 pub returns-in-Err-send : goal.returns-in-Err-send
 returns-in-Err-send g c = ends_sending c.in-Ok-respond.response.0 c.in-Ok-Some.request c.in-Ok-respond.response.1 c.in-Err-send.fault c.loop-number.invariant.serves (next_is c.in-Ok-Some.field-0-is c.in-Ok-Some.ensures.next) c.in-Ok-respond.ensures.responds c.in-Err-send.ensures
