@@ -1,5 +1,5 @@
 -- A run from its boot on.
-use Rattle.std.proofs.Common.{◌≡◌, ℕ, false, List, [], Option, Some, Result, Ok, sym, subst}
+use Rattle.std.proofs.Common.{◌≡◌, ℕ, false, List, [], Option, Some, Result, Ok, Err, refl, sym, ap, subst}
 use Rattle.lx_abi.specs.declared.outcome.Outcome.{Outcome}
 use Rattle.lx_proc.specs.declared.state.Shared.{Shared}
 use Rattle.lx_proc.specs.declared.state.Body.{Body}
@@ -15,18 +15,22 @@ use Rattle.pt_model.specs.Hosting.{IsFresh, first_hosting}
 use Rattle.pt_kernel.specs.Hosts.{Linux_host}
 use Rattle.pt_kernel.specs.Seen.{next_of_host}
 use Rattle.pt_schedule.specs.declared.schedule.Schedule.{Schedule}
-use Rattle.host_link.specs.LocalLinks.{host_of, schedule_of, is_over}
+use Rattle.host_link.specs.LocalLinks.{host_of, schedule_of, faults_of, is_over}
+use Rattle.host_link.specs.declared.fault.LinkFault.{LinkFault}
+use Rattle.host_link.specs.declared.fault.LinkFault.TheVariants as cause
 use Rattle.host_link.specs.declared.local.LocalLink.{LocalLink}
+use Rattle.tr_core.specs.declared.tracing.TraceFault.TheVariants.{Inadmissible, Memory}
 use Rattle.tr_core.specs.Settings.{options_by, first_pen}
 use Rattle.tr_core.specs.States.{new_state}
 use Rattle.tr_core.specs.declared.settings.Options.{Options}
 use Rattle.trace_run.specs.Local.{LocalRun}
 use Rattle.trace_run.specs.BootedRuns.{TracesTo}
-use Rattle.trace_run.specs.LocalRuns.{IsGoing, local_answers, LocalLinksTell, LocalLinksTellParts}
+use Rattle.trace_run.specs.LocalRuns.{IsGoing, local_answers, FailsBy, LocalLinksFail, LocalLinksTell, LocalLinksTellParts}
 use Rattle.trace_run.specs.Runs.{RunsWhole}
 use Rattle.trace_run.specs.Writings.{Writing, writing}
 use Rattle.trace_run.specs.declared.running.Ended.{Ended}
 use Rattle.trace_run.specs.declared.running.RunFault.{RunFault}
+use Rattle.trace_run.specs.declared.running.RunFault.TheVariants.{Link, Trace, Output}
 
 -- what run_local did, one call after the other
 pub record IsBooted (o : Options) (script : Script) (schedule : Schedule) (s : Shared) (b : Body) (ended : Ended) (trace : List ℕ) (left : Outcome) (turns : List ℕ) : Type 0 where
@@ -41,6 +45,7 @@ pub record IsBooted (o : Options) (script : Script) (schedule : Schedule) (s : S
   pub hosting : (host_of link).hosting ≡ first_hosting s b
   pub whole : (host_of link).failed ≡ false
   pub going : is_over link ≡ false
+  pub unbroken : faults_of link ≡ 0
   pub by : schedule_of link ≡ schedule
   pub written : trace ≡ last.bytes
   pub outcome : left ≡ outcome_in (host_of link').hosting.running.shared
@@ -54,6 +59,8 @@ booted_runs tell begin o script is_script schedule s b ended trace left turns x 
     let is_going : IsGoing x.link = record {
       fresh = subst (λ (v : Linux_host). IsFresh v) (sym x.hosting) (begin s b).1;
       whole = x.whole;
+      idle = ap (λ (v : Linux_host). v.pending) x.hosting;
+      unbroken = x.unbroken;
       going = x.going;
     } in
     let by_schedule : LocalRun next_of_host linux outcome_in o script schedule s b ended x.last.bytes (outcome_in (host_of x.link').hosting.running.shared) (host_of x.link').hosting.turns =
@@ -75,6 +82,7 @@ pub record IsTraced (o : Options) (script : Script) (schedule : Schedule) (s : S
   pub hosting : (host_of link).hosting ≡ first_hosting s b
   pub whole : (host_of link).failed ≡ false
   pub going : is_over link ≡ false
+  pub unbroken : faults_of link ≡ 0
   pub by : schedule_of link ≡ schedule
 
 pub booted_traces : LocalLinksTellParts → HostsBeginAlike Shared Body → (o : Options) (script : Script) → IsScript script → (schedule : Schedule) (s : Shared) (b : Body) (result : Result Ended RunFault) (old new : Option (List ℕ))
@@ -83,6 +91,8 @@ booted_traces tell begin o script is_script schedule s b result old new x =
     let is_going : IsGoing x.link = record {
       fresh = subst (λ (v : Linux_host). IsFresh v) (sym x.hosting) (begin s b).1;
       whole = x.whole;
+      idle = ap (λ (v : Linux_host). v.pending) x.hosting;
+      unbroken = x.unbroken;
       going = x.going;
     } in
     let told = tell o script is_script x.link x.link' old new x.broken x.broken' result x.ran s b is_going x.hosting in
@@ -92,3 +102,42 @@ booted_traces tell begin o script is_script schedule s b result old new x =
       given = subst (λ (y : Schedule). TalksOver next_of_host linux outcome_in (options_by o) script first_tracer y (first_world s b).host told.events x.ran.runs.exchanges) x.by told.given;
       tells = told.tells;
     }
+
+-- a fault of what trace_local did
+pub booted_fails : LocalLinksFail → HostsBeginAlike Shared Body → (o : Options) (script : Script) → IsScript script → (schedule : Schedule) (s : Shared) (b : Body) (fault : RunFault) (old new : Option (List ℕ))
+    (x : IsTraced o script schedule s b (Err fault) old new) → FailsBy x.broken' fault
+booted_fails fails begin o script is_script schedule s b fault old new x =
+    let is_going : IsGoing x.link = record {
+      fresh = subst (λ (v : Linux_host). IsFresh v) (sym x.hosting) (begin s b).1;
+      whole = x.whole;
+      idle = ap (λ (v : Linux_host). v.pending) x.hosting;
+      unbroken = x.unbroken;
+      going = x.going;
+    } in
+    fails o script is_script x.link x.link' old new x.broken x.broken' fault x.ran s b is_going x.hosting
+
+-- the same of any answer
+abbrev pub FailsOnly : ℕ → Result Ended RunFault → Type 0
+FailsOnly broken (Ok ended) = Unit {0}
+FailsOnly broken (Err fault) = FailsBy broken fault
+
+pub booted_fails_only : LocalLinksFail → HostsBeginAlike Shared Body → (o : Options) (script : Script) → IsScript script → (schedule : Schedule) (s : Shared) (b : Body) (result : Result Ended RunFault) (old new : Option (List ℕ))
+    (x : IsTraced o script schedule s b result old new) → FailsOnly x.broken' result
+booted_fails_only fails begin o script is_script schedule s b (Ok ended) old new x = tt
+booted_fails_only fails begin o script is_script schedule s b (Err fault) old new x = booted_fails fails begin o script is_script schedule s b fault old new x
+
+-- a writer whose one fault is memory's
+pub by_memory : (broken : ℕ) (fault : RunFault) → FailsBy broken fault → FailsBy 1 fault
+by_memory broken (Link f) h = by_link f h where
+  by_link : (f : LinkFault) → FailsBy broken (Link f) → FailsBy 1 (Link f)
+  by_link cause.Memory h = tt
+  by_link cause.TooMany h = tt
+  by_link cause.Ended h = h
+  by_link cause.Sequence h = h
+  by_link cause.Read h = h
+  by_link cause.Write h = h
+  by_link cause.Malformed h = h
+  by_link cause.Inadmissible h = h
+by_memory broken (Trace Inadmissible) h = h
+by_memory broken (Trace Memory) h = tt
+by_memory broken Output h = refl

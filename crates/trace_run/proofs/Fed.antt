@@ -203,3 +203,26 @@ module _ {L X S B : Type 0} (answers : Answers L) (i : InMemory L X S B) (choose
       let c : SoundCall sound i choose m outcome a x.0 x.1 mid = serves a x.0 x.1 mid is_sound led.1.0 in
       talk_on xs t a mid x.0 x.1 c.served asked.0 (called m outcome (i.host a) x.0 c.served.fed).reply refl asked.1
       (λ answered. talk xs (heard t x.1) mid b (c.stays answered) led.1.1 asked.1)
+
+  -- a link that is asked once more after these exchanges is sound
+  stays_on : (xs : List (Request × Reply)) (t : State) (a mid b : L) (q : Request) (r : Reply) (c : CallServed i choose m outcome a q r mid) → request t.options t.tracer.focus ≡ Some q
+      → (reply : Option Reply) → (called m outcome (i.host a) q c.fed).reply ≡ reply
+      → Asked (heard t r) xs → (p : Request) → request_of (told (heard t r) (replies_of xs)) ≡ Some p
+      → (is_there reply ≡ true → sound b) → sound b
+  unfolding heard moved_by request_of
+  stays_on xs t a mid b q r c f (Some s) e asked p k ih = ih refl
+  stays_on xs t a mid b q r c f None e asked p k ih =
+      let over : r ≡ Out_of_turns = c.call.reply ∙ ap reply_or e in
+      let none : xs ≡ [] = none_after t q r xs f over asked in
+      let last : request_of (heard t r) ≡ Some p = subst (λ l. request_of (told (heard t r) (replies_of l)) ≡ Some p) none k in
+      let out : (next t.options t.script t.tracer r).tracer.focus ≡ Turns_over = ap (λ z. (next t.options t.script t.tracer z).tracer.focus) over ∙ (shows_nothing t.options t.script t.tracer (ap is_there f)).1 in
+      absurd (cc (sym last ∙ ap (request t.options) out))
+
+  pub stays : (xs : List (Request × Reply)) (t : State) (a b : L) (p : Request) → sound a → Leads answers a xs b → Asked t xs → request_of (told t (replies_of xs)) ≡ Some p → sound b
+  unfolding request_of
+  stays [] t a b p is_sound led asked k = subst sound (sym led) is_sound
+  stays (x ∷ xs) t a b p is_sound led asked k =
+      let mid : L = led.0 in
+      let c : SoundCall sound i choose m outcome a x.0 x.1 mid = serves a x.0 x.1 mid is_sound led.1.0 in
+      stays_on xs t a mid b x.0 x.1 c.served asked.0 (called m outcome (i.host a) x.0 c.served.fed).reply refl asked.1 p k
+      (λ answered. stays xs (heard t x.1) mid b p (c.stays answered) led.1.1 asked.1 k)

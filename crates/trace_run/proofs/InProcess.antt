@@ -8,7 +8,7 @@ use Rattle.lx_proc.specs.declared.state.Body.{Body}
 use Rattle.lx_kernel.specs.Linux.{linux}
 use Rattle.lx_kernel.specs.Outcomes.{outcome_in}
 use Rattle.lx_model.specs.Machine.{IsMachine}
-use Rattle.pt_model.specs.Attending.{reply_or}
+use Rattle.pt_model.specs.Attending.{reply_or, left_pending}
 use Rattle.pt_model.specs.Headline.{IsTold}
 use Rattle.pt_model.specs.Hosting.{host_in, IsFresh, with_pending, hosting_asked}
 use Rattle.pt_model.specs.HostLaws.{HostsBeginAlike}
@@ -17,7 +17,7 @@ use Rattle.pt_kernel.specs.Attends.{Attended}
 use Rattle.pt_kernel.specs.Hosts.{HostState, Linux_host}
 use Rattle.pt_kernel.specs.Seen.{next_of_host, IsCalled, HostsAreCalled}
 use Rattle.pt_schedule.specs.declared.schedule.Schedule.{Schedule}
-use Rattle.host_link.specs.LocalLinks.{Calls, host_of, schedule_of, is_over}
+use Rattle.host_link.specs.LocalLinks.{Calls, host_of, schedule_of, faults_of, is_over}
 use Rattle.host_link.specs.Locals.{Serves, reply_or_over}
 use Rattle.host_link.specs.declared.local.LocalLink.{LocalLink}
 use Rattle.trace_run.specs.Local.{SoundCall}
@@ -31,6 +31,10 @@ put_is v w q (Some other) e = absurd (cc e)
 same_reply : (x : Option Reply) → reply_or_over x ≡ reply_or x
 same_reply None = refl
 same_reply (Some r) = refl
+
+none_pending : (q : Request) (x : Option Reply) → is_there x ≡ true → left_pending q x ≡ None
+none_pending q None h = absurd (cc h)
+none_pending q (Some r) h = refl
 
 not_none : (x : Option Reply) → is_there x ≡ true → is_none x ≡ false
 not_none None h = absurd (cc h)
@@ -61,9 +65,9 @@ module _ (called_so : HostsAreCalled) where
   -- a request that was put to a host whose schedule goes on
   put_call : (a : LocalLink) (q : Request) (r : Reply) (b : LocalLink) (x : Option Reply) → IsGoing a
       → Serves (host_of a) (schedule_of a) q (record { host = host_of b; schedule = schedule_of b; reply = x })
-      → r ≡ reply_or_over x → is_over b ≡ is_none x
+      → r ≡ reply_or_over x → is_over b ≡ is_none x → faults_of b ≡ faults_of a
       → SoundCall IsGoing in_process next_of_host linux outcome_in a q r b
-  put_call a q r b x going sv said over =
+  put_call a q r b x going sv said over kept =
       let c : IsCalled (host_of a).hosting (schedule_of a) q (record { host = host_of b; schedule = schedule_of b; reply = x }) sv.attends.fed =
       serves_so (host_of a) (schedule_of a) q (record { host = host_of b; schedule = schedule_of b; reply = x }) going.fresh going.whole sv in
       record {
@@ -75,16 +79,22 @@ module _ (called_so : HostsAreCalled) where
           goes_on = λ h. c.goes_on (ap is_there (sym c.reply) ∙ h);
           ended = λ e. c.ended (sym c.reply ∙ e);
         };
-        stays = λ h. record { fresh = c.fresh; whole = c.whole; going = over ∙ not_none x (ap is_there (sym c.reply) ∙ h) };
+        stays = λ h. record {
+          fresh = c.fresh;
+          whole = c.whole;
+          idle = c.pending ∙ none_pending q x (ap is_there (sym c.reply) ∙ h);
+          unbroken = kept ∙ going.unbroken;
+          going = over ∙ not_none x (ap is_there (sym c.reply) ∙ h);
+        };
       }
 
-by_calls : HostsAreCalled → (a : LocalLink) (q : Request) (r : Reply) (b : LocalLink) → IsGoing a → Calls a q (Ok r) b → SoundCall IsGoing in_process next_of_host linux outcome_in a q r b
+by_calls : HostsAreCalled → (a : LocalLink) (q : Request) (r : Reply) (b : LocalLink) → IsGoing a → faults_of b ≡ faults_of a → Calls a q (Ok r) b → SoundCall IsGoing in_process next_of_host linux outcome_in a q r b
 unfolding Calls
-by_calls called_so a q r b going (inl ended) = absurd (cc (ended.0, going.going))
-by_calls called_so a q r b going (inr h) = put_call called_so a q r b h.1.1.0 going h.1.1.1.0 h.1.1.1.1.0 h.1.1.1.1.1
+by_calls called_so a q r b going kept (inl ended) = absurd (cc (ended.0, going.going))
+by_calls called_so a q r b going kept (inr h) = put_call called_so a q r b h.1.1.0 going h.1.1.1.0 h.1.1.1.1.0 h.1.1.1.1.1 kept
 
 pub local_links_serve : HostsAreCalled → LocalLinksServe
-local_links_serve called_so a q r b going h = by_calls called_so a q r b going h
+local_links_serve called_so a q r b going h = by_calls called_so a q r b going h.faults h.answered
 
 pub local_links_tell : Cited Schedule Shared Body local_answers → LocalLinksServe → HostsBeginAlike Shared Body → IsMachine linux → IsTold linux → LocalLinksTell
 local_links_tell cited serves begin machine told o script is_script link link' trace broken broken' ended w s b going first =

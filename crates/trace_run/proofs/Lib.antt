@@ -1,6 +1,7 @@
 pub mod Begun
 pub mod Booted
 pub mod Claimed
+pub mod Failing
 pub mod Fed
 pub mod InProcess
 pub mod Locals

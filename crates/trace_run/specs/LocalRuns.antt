@@ -1,5 +1,5 @@
 -- A run over a host in the tracer's own process, by the untraced kernel.
-use Rattle.std.specs.Prelude.{◌≡◌, ℕ, false, List, [], Option, Some, Result, Ok}
+use Rattle.std.specs.Prelude.{◌≡◌, ℕ, false, List, [], Option, Some, None, Result, Ok, Err, ⊤}
 use Rattle.lx_abi.specs.declared.ptrace.Reply.{Reply}
 use Rattle.lx_abi.specs.declared.ptrace.Request.{Request}
 use Rattle.lx_abi.specs.declared.schedule.Event.{Event}
@@ -15,16 +15,19 @@ use Rattle.pt_model.specs.Tracer.{first_tracer}
 use Rattle.pt_model.specs.World.{first_world}
 use Rattle.pt_kernel.specs.Seen.{next_of_host}
 use Rattle.pt_schedule.specs.declared.schedule.Schedule.{Schedule}
-use Rattle.host_link.specs.LocalLinks.{Calls, host_of, schedule_of, is_over}
+use Rattle.host_link.specs.LocalLinks.{Calls, host_of, schedule_of, given_of, faults_of, is_over}
 use Rattle.host_link.specs.declared.local.LocalLink.{LocalLink}
 use Rattle.tr_core.specs.Settings.{options_by, first_pen}
 use Rattle.tr_core.specs.States.{new_state}
 use Rattle.tr_core.specs.declared.settings.Options.{Options}
 use Rattle.trace_run.specs.Local.{InMemory, SoundCall, LocalRun}
-use Rattle.trace_run.specs.Runs.{Answers, RunsWhole}
+use Rattle.trace_run.specs.Runs.{Answers, Called, RunsWhole}
 use Rattle.trace_run.specs.Tells.{Tells}
 use Rattle.trace_run.specs.declared.running.Ended.{Ended}
 use Rattle.trace_run.specs.declared.running.RunFault.{RunFault}
+use Rattle.trace_run.specs.declared.running.RunFault.TheVariants.{Link, Trace, Output}
+use Rattle.host_link.specs.declared.fault.LinkFault.TheVariants.{Memory as NoMemory, TooMany}
+use Rattle.tr_core.specs.declared.tracing.TraceFault.TheVariants.{Memory as OutOfMemory}
 
 -- its host, as a function of pids, its schedule, and the turns that it gave to the kernel
 abbrev pub in_process : InMemory LocalLink Schedule Shared Body
@@ -34,14 +37,16 @@ in_process = record {
   turns = λ l. (host_of l).hosting.turns;
 }
 
--- no memory was refused, and the schedule has not ended
+-- no memory was refused, no request is pending, and the schedule has not ended
 pub record IsGoing (l : LocalLink) : Type 0 where
   pub fresh : IsFresh (host_of l).hosting
   pub whole : (host_of l).failed ≡ false
+  pub idle : (host_of l).hosting.pending ≡ None
+  pub unbroken : faults_of l ≡ 0
   pub going : is_over l ≡ false
 
 abbrev pub local_answers : Answers LocalLink
-local_answers a q r b = Calls a q r b
+local_answers a q r b = Called (λ a q r b. Calls a q r b) (λ l. given_of l) (λ l. faults_of l) a q r b
 
 -- such a link serves each request by the ptrace machine, which its schedule feeds
 abbrev pub LocalLinksServe : Type 0
@@ -74,3 +79,20 @@ LocalLinksTellParts = (o : Options) (script : Script) → IsScript script
     broken')
     (s : Shared) (b : Body) → IsGoing link → (host_of link).hosting ≡ first_hosting s b
     → LinkTells o script s b link w.runs.exchanges result old new
+
+-- The faults of such a run: memory was refused to the host or to the tracer, or the writer failed. The link refuses more
+-- than 2^40 replies too.
+abbrev pub FailsBy : ℕ → RunFault → Type 0
+FailsBy broken (Link NoMemory) = ⊤
+FailsBy broken (Link TooMany) = ⊤
+FailsBy broken (Link f) = ⊥
+FailsBy broken (Trace OutOfMemory) = ⊤
+FailsBy broken (Trace f) = ⊥
+FailsBy broken Output = broken ≡ 1
+
+abbrev pub LocalLinksFail : Type 0
+LocalLinksFail = (o : Options) (script : Script) → IsScript script
+    → (link link' : LocalLink) (old new : Option (List ℕ)) (broken broken' : ℕ) (fault : RunFault)
+    → RunsWhole local_answers (new_state (options_by o) script (first_pen o)) link old broken (Err fault) link' new
+    broken'
+    → (s : Shared) (b : Body) → IsGoing link → (host_of link).hosting ≡ first_hosting s b → FailsBy broken' fault

@@ -1,5 +1,6 @@
 -- A run: a tracer, a link and a writer, over any of each.
-use Rattle.std.specs.Prelude.{◌≡◌, ℕ, true, false, List, [], ◌∷◌, Option, Some, None, Result, Ok, Err, map, ⊤}
+use Rattle.std.specs.Prelude.{◌≡◌, ℕ, ◌+◌, true, false, List, [], ◌∷◌, Option, Some, None, Result, Ok, Err, is_ok, map, ⊤}
+use Rattle.std.specs.Prelude.{if◌then◌else◌}
 use Rattle.std.specs.Io.KnownBytes.{Appends}
 use Rattle.lx_abi.specs.declared.ptrace.Reply.{Reply}
 use Rattle.lx_abi.specs.declared.ptrace.Reply.TheVariants.{Done as Agreed}
@@ -17,6 +18,16 @@ use Rattle.trace_run.specs.declared.running.RunFault.TheVariants.{Link, Trace, O
 -- what a link may do: the link before, the request, the answer, the link after
 abbrev pub Answers : Type 0 → Type 1
 Answers L = L → Request → Result Reply LinkFault → L → Type 0
+
+-- a call of a link: what it may do, and its counts of replies and of faults
+pub record Called {L : Type 0} (answers : Answers L) (given broken : L → ℕ) (a : L) (q : Request)
+    (r : Result Reply LinkFault) (b : L) : Type 0 where
+  pub answered : answers a q r b
+  pub counted : given b ≡ given a + (if is_ok r then 1 else 0)
+  pub faults : broken b ≡ (if is_ok r then broken a else 1)
+
+abbrev pub calls_of : {L : Type 0} → Answers L → (L → ℕ) → (L → ℕ) → Answers L
+calls_of answers given broken a q r b = Called answers given broken a q r b
 
 -- the exchanges lead the link from a to b
 abbrev pub Leads : {L : Type 0} → Answers L → L → List (Request × Reply) → L → Type 0

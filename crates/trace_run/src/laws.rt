@@ -2,7 +2,8 @@
 
 ghost use Rattle.trace_run.specs.Claims.{PlainTracing, ReplacedCalls, JoinedSignals, UnderKills};
 ghost use Rattle.trace_run.specs.Local.{LocalRunsTell};
-ghost use Rattle.trace_run.specs.LocalRuns.{LocalLinksServe, LocalLinksTell, LocalLinksTellParts};
+ghost use Rattle.trace_run.specs.LocalRuns.{LocalLinksFail, LocalLinksServe, LocalLinksTell, LocalLinksTellParts};
+ghost use Rattle.trace_run.specs.Runs.{calls_of};
 ghost use Rattle.trace_run.specs.Tells.{RunsTell, ServedRunsTell};
 
 use host_link::{Link, LocalLink};
@@ -20,8 +21,8 @@ use tr_line::renderings_grow;
 /// Where the replies are a host's own, what was written begins the rendering of a view of the untraced kernel's log,
 /// however the run ended; where it is whole it is all of it, with that kernel's outcome.
 pub fn runs_tell<S, B, L: Link>()
-    ensures own { RunsTell S B L.answers }
-    ensures served { ServedRunsTell S B L.answers }
+    ensures own { RunsTell S B (calls_of L.answers L.given L.broken) }
+    ensures served { ServedRunsTell S B (calls_of L.answers L.given L.broken) }
 {
     failures_leave_a_prefix::<S, B>();
     own_replies_tell::<S, B>();
@@ -35,7 +36,7 @@ pub fn runs_tell<S, B, L: Link>()
 /// kernel by the effective turns; its trace begins the rendering of a view of that kernel's log, and is all of it
 /// where the run is whole.
 pub fn local_runs_tell<X, S, B, L: Link>()
-    ensures { LocalRunsTell X S B L.answers }
+    ensures { LocalRunsTell X S B (calls_of L.answers L.given L.broken) }
 {
     runs_tell::<S, B, L>();
     schedules_are_lists::<X, S, B>();
@@ -86,9 +87,20 @@ pub fn local_links_tell_parts()
     linux_is_told();
 }
 
+/// A run over such a link, from its boot on, fails only where memory was refused, where its writer failed, and where the
+/// link had given 2^40 replies.
+pub fn local_links_fail()
+    ensures { LocalLinksFail }
+{
+    local_links_tell_parts();
+    local_links_serve();
+    own_replies_tell::<Shared, Body>();
+    worlds_attend::<Shared, Body>();
+}
+
 /// Under the empty script a run tells the untraced kernel's log and outcome, where nobody is killed.
 pub fn plain_tracing_is_transparent<S, B, L: Link>()
-    ensures { PlainTracing S B L.answers }
+    ensures { PlainTracing S B (calls_of L.answers L.given L.broken) }
 {
     joined_signals_are_transparent::<S, B, L>();
     every_script_is_one();
@@ -96,14 +108,14 @@ pub fn plain_tracing_is_transparent<S, B, L: Link>()
 
 /// So it does with results replaced: exactly the scripted occurrences, counted per tracee and call.
 pub fn replaced_calls_are_transparent<S, B, L: Link>()
-    ensures { ReplacedCalls S B L.answers }
+    ensures { ReplacedCalls S B (calls_of L.answers L.given L.broken) }
 {
     joined_signals_are_transparent::<S, B, L>();
 }
 
 /// So it does with signals joined to calls.
 pub fn joined_signals_are_transparent<S, B, L: Link>()
-    ensures { JoinedSignals S B L.answers }
+    ensures { JoinedSignals S B (calls_of L.answers L.given L.broken) }
 {
     runs_tell::<S, B, L>();
     no_kill_no_loss();
@@ -112,7 +124,7 @@ pub fn joined_signals_are_transparent<S, B, L: Link>()
 /// Whoever is killed, and whenever, a run tells a view of that log: the last item before an end by SIGKILL may be
 /// left out.
 pub fn tracing_is_transparent_under_kills<S, B, L: Link>()
-    ensures { UnderKills S B L.answers }
+    ensures { UnderKills S B (calls_of L.answers L.given L.broken) }
 {
     runs_tell::<S, B, L>();
 }

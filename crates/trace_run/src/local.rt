@@ -4,11 +4,12 @@ ghost use Rattle.std.specs.Prelude.{◌≡◌, None, Some, Err, IfErr, IfOk, OnO
 ghost use Rattle.lx_boot.specs.Boots.{Refuses, fault_of};
 ghost use Rattle.lx_boot.specs.declared.boots.BootFault.{BootFault};
 ghost use Rattle.trace_run.specs.BootedRuns.{RunOf, TraceOf};
+ghost use Rattle.trace_run.specs.LocalRuns.{FailsBy};
 
-use crate::laws::{local_links_tell, local_links_tell_parts};
+use crate::laws::{local_links_fail, local_links_tell, local_links_tell_parts};
 use crate::running::{Ended, RunFault, run};
 use crate::written::Written;
-use host_link::LocalLink;
+use host_link::{LinkFault, LocalLink};
 use host_wire::Sink;
 use lx_abi::{Boot, Bytes, Outcome, Script};
 use lx_boot::BootFault;
@@ -16,7 +17,7 @@ use lx_proc::{Body, Shared};
 use pt_kernel::{Host, Schedule, Turns};
 use pt_model::laws::{every_script_is_one, hosts_run_alike};
 use std::alloc::Global;
-use tr_core::Options;
+use tr_core::{Options, TraceFault};
 
 /// What a run in one process leaves.
 #[derive(Drop)]
@@ -27,6 +28,19 @@ pub struct Run {
     pub outcome: Outcome,
     /// The effective turns: those that reached the kernel.
     pub turns: Turns,
+}
+
+/// What a boot answers for a run that failed, where the trace is kept in memory.
+fn refusal(fault: RunFault) -> BootFault
+    requires { FailsBy 1 fault }
+    ensures { result ≡ BootFault.Memory }
+{
+    match fault {
+        RunFault::Link(LinkFault::Memory | LinkFault::TooMany)
+        | RunFault::Trace(TraceFault::Memory)
+        | RunFault::Output => BootFault::Memory,
+        RunFault::Link(_) | RunFault::Trace(_) => unreachable!(),
+    }
 }
 
 /// Boots a guest, and traces it by the events of the schedule, in this process. The boot's follow counts, not that of
@@ -46,6 +60,7 @@ pub fn run_local(
     ensures refused { (e : BootFault) → fault_of boot ≡ Some e → result ≡ Err e }
 {
     local_links_tell();
+    local_links_fail();
     every_script_is_one();
     hosts_run_alike::<Shared, Body>();
     let mut options = options;
@@ -55,7 +70,7 @@ pub fn run_local(
     let mut trace = Written::new(alloc);
     let ended = match run(alloc, &mut link, &mut trace, script, options) {
         Ok(ended) => ended,
-        Err(_) => return Err(BootFault::Memory),
+        Err(fault) => return Err(refusal(fault)),
     };
     let outcome = match link.host().outcome() {
         Ok(outcome) => outcome,
@@ -81,6 +96,9 @@ pub fn trace_local<W: Sink>(
 ) -> Result<Result<Ended, RunFault>, BootFault>
     ensures trace { IfOk result
         (λ ended. TraceOf boot schedule script options ended (W.contents writer.old) (W.contents writer.new)) }
+
+    // Memory was refused or the writer failed; or the link had given 2^40 replies.
+    ensures fails { IfOk result (λ ended. IfErr ended (FailsBy (W.broken writer.new))) }
     ensures accepted { OnOk result (fault_of boot ≡ None) }
     ensures fault { IfErr result (Refuses boot) }
 
@@ -88,6 +106,7 @@ pub fn trace_local<W: Sink>(
     ensures refused { (e : BootFault) → fault_of boot ≡ Some e → result ≡ Err e }
 {
     local_links_tell_parts();
+    local_links_fail();
     every_script_is_one();
     hosts_run_alike::<Shared, Body>();
     let mut options = options;

@@ -4,7 +4,7 @@ ghost use Rattle.std.specs.Prelude.{◌≡◌, ◌+◌, ◌≤◌, ◌^◌, Ok, 
 ghost use Rattle.std.specs.Io.KnownBytes.{Appends};
 ghost use Rattle.host_wire.specs.Ends.{AppendsPart};
 ghost use Rattle.tr_core.specs.States.{State, new_state, taken_of};
-ghost use Rattle.trace_run.specs.Runs.{Ends, EndsAs, Round, Runs, RunsWhole};
+ghost use Rattle.trace_run.specs.Runs.{calls_of, Ends, EndsAs, Round, Runs, RunsWhole};
 ghost use Rattle.tr_core.specs.Settings.{first_pen, options_by};
 ghost use Rattle.tr_core.specs.Outcomes.{outcome_of};
 ghost use Rattle.lx_abi.specs.Scripts.{choice_of};
@@ -48,7 +48,7 @@ fn round<L: Link, W: Sink, T: Tracing>(
     reply: Reply,
 ) -> Result<Option<Reply>, RunFault>
     requires { taken_of (T.state tracer.old) ≤ 2 ^ 40 }
-    ensures round { Round L.answers
+    ensures round { Round (calls_of L.answers L.given L.broken)
         (record {
           link = link.old;
           written = W.contents writer.old;
@@ -94,7 +94,7 @@ pub fn run_tracer<L: Link, W: Sink, T: Tracing>(
     tracer: &mut T,
 ) -> Result<(), RunFault>
     requires { taken_of (T.state tracer.old) ≡ 0 }
-    ensures { Runs L.answers
+    ensures { Runs (calls_of L.answers L.given L.broken)
         (record {
           link = link.old;
           written = W.contents writer.old;
@@ -144,7 +144,7 @@ pub fn run<L: Link, W: Sink>(
     script: Script,
     options: Options,
 ) -> Result<Ended, RunFault>
-    ensures { RunsWhole L.answers (new_state (options_by options) (choice_of script) (first_pen options)) link.old
+    ensures { RunsWhole (calls_of L.answers L.given L.broken) (new_state (options_by options) (choice_of script) (first_pen options)) link.old
         (W.contents writer.old) (W.broken writer.old) result link.new (W.contents writer.new) (W.broken writer.new) }
 {
     let mut tracer = Tracer::new(alloc, script, options);

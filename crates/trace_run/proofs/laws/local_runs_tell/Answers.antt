@@ -1,8 +1,9 @@
+use Rattle.trace_run.specs.Runs.{calls_of}
 use Rattle.trace_run.proofs.Locals.{local_runs_tell}
 use Rattle.trace_run.proofs.laws.local_runs_tell.Goals as goal
 
 pub returns : goal.returns
-returns g c = local_runs_tell g.L.Link.answers (record {
+returns g c = local_runs_tell (calls_of g.L.Link.answers g.L.Link.given g.L.Link.broken) (record {
   tells = c.runs_tell.ensures.own;
   own = c.own_replies_tell.ensures.talks;
   lists = c.schedules_are_lists.ensures;

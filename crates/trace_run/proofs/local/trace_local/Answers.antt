@@ -4,7 +4,7 @@ use Rattle.lx_boot.specs.First.{first_shared}
 use Rattle.lx_exec.specs.Programs.{booted}
 use Rattle.pt_kernel.specs.Hosts.{HostState}
 use Rattle.trace_run.specs.BootedRuns.{following}
-use Rattle.trace_run.proofs.Booted.{booted_traces}
+use Rattle.trace_run.proofs.Booted.{booted_traces, booted_fails_only}
 use Rattle.trace_run.proofs.local.trace_local.Goals as goal
 
 pub returns-clause-trace : goal.returns-clause-trace
@@ -20,5 +20,23 @@ returns-clause-trace g c =
       hosting = ap (λ (h : HostState). h.hosting) (c.new-local.ensures.host ∙ c.in_ok-host.ensures.first);
       whole = ap (λ (h : HostState). h.failed) (c.new-local.ensures.host ∙ c.in_ok-host.ensures.first);
       going = c.new-local.ensures.going;
+      unbroken = c.new-local.ensures.whole;
+      by = c.new-local.ensures.schedule;
+    })
+
+pub returns-clause-fails : goal.returns-clause-fails
+returns-clause-fails g c =
+    booted_fails_only c.local_links_fail.ensures c.hosts_run_alike.ensures.begin (following c.args.options c.args.boot.follow) (choice_of c.args.script) (c.every_script_is_one.ensures c.args.script) c.args.schedule
+    (first_shared c.args.boot.files c.args.boot.input) (booted c.args.boot.argv c.args.boot.env) c.run.result _ _
+    (record {
+      link = c.new-local.result;
+      link' = c.run.new.link;
+      broken = _;
+      broken' = _;
+      ran = c.run.ensures;
+      hosting = ap (λ (h : HostState). h.hosting) (c.new-local.ensures.host ∙ c.in_ok-host.ensures.first);
+      whole = ap (λ (h : HostState). h.failed) (c.new-local.ensures.host ∙ c.in_ok-host.ensures.first);
+      going = c.new-local.ensures.going;
+      unbroken = c.new-local.ensures.whole;
       by = c.new-local.ensures.schedule;
     })

@@ -1,0 +1,82 @@
+-- How a run in the tracer's own process fails.
+use Rattle.std.proofs.Common.{◌≡◌, ℕ, true, false, cond, List, ◌∷◌, Option, Some, None, Err, refl, sym, ap, ◌∙◌, inl, inr}
+use Rattle.std.specs.Prelude.{⊤}
+use Rattle.lx_abi.specs.declared.ptrace.Reply.{Reply}
+use Rattle.lx_abi.specs.declared.ptrace.Reply.TheVariants.{Done as Agreed}
+use Rattle.lx_abi.specs.declared.ptrace.Request.{Request}
+use Rattle.lx_proc.specs.declared.state.Shared.{Shared}
+use Rattle.lx_proc.specs.declared.state.Body.{Body}
+use Rattle.lx_kernel.specs.Linux.{linux}
+use Rattle.lx_kernel.specs.Outcomes.{outcome_in}
+use Rattle.lx_model.specs.Kernel.{Script}
+use Rattle.pt_model.specs.Calls.{WorldsCall, RunsAppend, OutOfTurnsShowsNothing}
+use Rattle.pt_model.specs.Headline.{IsScript}
+use Rattle.pt_model.specs.Hosting.{first_hosting}
+use Rattle.pt_model.specs.Parts.{Options as Model_options}
+use Rattle.pt_model.specs.Ptrace.{is_there}
+use Rattle.pt_model.specs.Tracer.{Focus, Booting, Waiting, Serving, Asking_outcome, Over, Turns_over, Faulted, request}
+use Rattle.pt_kernel.specs.Hosts.{is_boot}
+use Rattle.pt_kernel.specs.Seen.{next_of_host}
+use Rattle.host_link.specs.LocalLinks.{Calls, host_of}
+use Rattle.host_link.specs.declared.fault.LinkFault.{LinkFault}
+use Rattle.host_link.specs.declared.fault.LinkFault.TheVariants as cause
+use Rattle.host_link.specs.declared.local.LocalLink.{LocalLink}
+use Rattle.tr_core.specs.Settings.{options_by, first_pen}
+use Rattle.tr_core.specs.States.{State, new_state, heard, told, request_of}
+use Rattle.tr_core.specs.declared.settings.Options.{Options}
+use Rattle.tr_core.specs.declared.tracing.TraceFault.TheVariants.{Inadmissible, Memory}
+use Rattle.trace_run.specs.LocalRuns.{in_process, IsGoing, local_answers, FailsBy, LocalLinksServe, LocalLinksTellParts, LocalLinksFail}
+use Rattle.trace_run.specs.Runs.{Answers, Ends, Exchanged, Last, RunsWhole, replies_of}
+use Rattle.trace_run.specs.declared.running.RunFault.{RunFault}
+use Rattle.trace_run.specs.declared.running.RunFault.TheVariants.{Link, Trace, Output}
+use Rattle.trace_run.proofs.Fed.{stays}
+
+-- a tracer asks for no boot
+no_boot_at : (o : Model_options) (focus : Focus) (q : Request) → request o focus ≡ Some q → is_boot q ≡ false
+no_boot_at o Booting q e = absurd (cc e)
+no_boot_at o Waiting q e = ap is_boot (sym (cc e))
+no_boot_at o (Serving p place) q e = ap is_boot (sym (cc e))
+no_boot_at o Asking_outcome q e = ap is_boot (sym (cc e))
+no_boot_at o (Over x) q e = absurd (cc e)
+no_boot_at o Turns_over q e = absurd (cc e)
+no_boot_at o Faulted q e = absurd (cc e)
+
+no_boot : (s : State) (q : Request) → request_of s ≡ Some q → is_boot q ≡ false
+unfolding request_of
+no_boot s q e = no_boot_at s.options s.tracer.focus q e
+
+-- a call of a link that goes on
+call_fails : (f : LinkFault) (broken : ℕ) (a : LocalLink) (q : Request) (b : LocalLink) → IsGoing a → is_boot q ≡ false → Calls a q (Err f) b → FailsBy broken (Link f)
+unfolding Calls
+call_fails cause.Memory broken a q b going no h = tt
+call_fails cause.TooMany broken a q b going no h = tt
+call_fails cause.Ended broken a q b going no (inl e) = absurd (cc (sym (ap (λ x. cond x 1 0) e) ∙ going.unbroken))
+call_fails cause.Ended broken a q b going no (inr e) = absurd (cc (sym no ∙ e))
+call_fails cause.Sequence broken a q b going no h = absurd (cc (sym (ap is_there going.idle) ∙ h.1))
+call_fails cause.Read broken a q b going no h = h
+call_fails cause.Write broken a q b going no h = h
+call_fails cause.Malformed broken a q b going no h = h
+call_fails cause.Inadmissible broken a q b going no h = h
+
+last_call : {L : Type 0} (answers : Answers L) (s : State) (rs : List Reply) (written : Option (List ℕ)) (a : L) (f : LinkFault) (b : Ends L) → Last answers s rs written a (Err (Link f)) b → Exchanged answers a (told s rs) (Err f) b.link
+unfolding Last
+last_call answers s rs written a f b h = h.2
+
+last_output : {L : Type 0} (answers : Answers L) (s : State) (rs : List Reply) (written : Option (List ℕ)) (a : L) (b : Ends L) → Last answers s rs written a (Err Output) b → b.broken ≡ 1
+unfolding Last
+last_output answers s rs written a b h = h.1
+
+module _ (serves : LocalLinksServe) (calls : WorldsCall Shared Body) (appends : RunsAppend Shared Body) (nothing : OutOfTurnsShowsNothing) (tells : LocalLinksTellParts) where
+  pub local_links_fail : LocalLinksFail
+  local_links_fail o script is_script link link' old new broken broken' (Trace Inadmissible) w s b going first =
+      absurd ((tells o script is_script link link' old new broken broken' (Err (Trace Inadmissible)) w s b going first).tells.admitted refl)
+  local_links_fail o script is_script link link' old new broken broken' (Trace Memory) w s b going first = tt
+  local_links_fail o script is_script link link' old new broken broken' Output w s b going first =
+      last_output local_answers (new_state (options_by o) script (first_pen o)) (Agreed ∷ replies_of w.runs.exchanges) old w.runs.link (record { link = link'; written = new; broken = broken'; state = w.state }) w.runs.last
+  local_links_fail o script is_script link link' old new broken broken' (Link f) w s b going first =
+      let begun : State = new_state (options_by o) script (first_pen o) in
+      let e : Exchanged local_answers w.runs.link (told begun (Agreed ∷ replies_of w.runs.exchanges)) (Err f) link' =
+      last_call local_answers begun (Agreed ∷ replies_of w.runs.exchanges) old w.runs.link f (record { link = link'; written = new; broken = broken'; state = w.state }) w.runs.last in
+      let still : IsGoing w.runs.link =
+      stays local_answers in_process next_of_host linux outcome_in IsGoing serves calls appends nothing w.runs.exchanges (heard begun Agreed) link w.runs.link e.0 going w.runs.led w.runs.asked e.1.0 in
+      call_fails f broken' w.runs.link e.0 link' still (no_boot (told begun (Agreed ∷ replies_of w.runs.exchanges)) e.0 e.1.0) e.1.1.answered
