@@ -80,8 +80,8 @@ LocalLinksTellParts = (o : Options) (script : Script) → IsScript script
     (s : Shared) (b : Body) → IsGoing link → (host_of link).hosting ≡ first_hosting s b
     → LinkTells o script s b link w.runs.exchanges result old new
 
--- The faults of such a run: memory was refused to the host or to the tracer, or the writer failed. The link refuses more
--- than 2^40 replies too.
+-- The faults of such a run: memory was refused to the host or to the tracer, or the writer failed. The link refuses
+-- more than 2^40 replies too.
 abbrev pub FailsBy : ℕ → RunFault → Type 0
 FailsBy broken (Link NoMemory) = ⊤
 FailsBy broken (Link TooMany) = ⊤

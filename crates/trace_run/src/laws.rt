@@ -87,8 +87,8 @@ pub fn local_links_tell_parts()
     linux_is_told();
 }
 
-/// A run over such a link, from its boot on, fails only where memory was refused, where its writer failed, and where the
-/// link had given 2^40 replies.
+/// A run over such a link, from its boot on, fails only where memory was refused, where its writer failed, and where
+/// the link had given 2^40 replies.
 pub fn local_links_fail()
     ensures { LocalLinksFail }
 {

@@ -144,7 +144,8 @@ pub fn run<L: Link, W: Sink>(
     script: Script,
     options: Options,
 ) -> Result<Ended, RunFault>
-    ensures { RunsWhole (calls_of L.answers L.given L.broken) (new_state (options_by options) (choice_of script) (first_pen options)) link.old
+    ensures { RunsWhole (calls_of L.answers L.given L.broken)
+        (new_state (options_by options) (choice_of script) (first_pen options)) link.old
         (W.contents writer.old) (W.broken writer.old) result link.new (W.contents writer.new) (W.broken writer.new) }
 {
     let mut tracer = Tracer::new(alloc, script, options);
