@@ -1,5 +1,5 @@
 -- How a run in the tracer's own process fails.
-use Rattle.std.proofs.Common.{◌≡◌, ℕ, true, false, cond, List, ◌∷◌, Option, Some, None, Err, refl, sym, ap, ◌∙◌, inl, inr}
+use Rattle.std.proofs.Common.{◌≡◌, ℕ, Bool, true, false, cond, List, ◌∷◌, Option, Some, None, Err, refl, sym, ap, ◌∙◌, inl, inr}
 use Rattle.std.specs.Prelude.{⊤}
 use Rattle.lx_abi.specs.declared.ptrace.Reply.{Reply}
 use Rattle.lx_abi.specs.declared.ptrace.Reply.TheVariants.{Done as Agreed}
@@ -32,31 +32,35 @@ use Rattle.trace_run.specs.declared.running.RunFault.TheVariants.{Link, Trace, O
 use Rattle.trace_run.proofs.Fed.{stays}
 
 -- a tracer asks for no boot
-no_boot_at : (o : Model_options) (focus : Focus) (q : Request) → request o focus ≡ Some q → is_boot q ≡ false
-no_boot_at o Booting q e = absurd (cc e)
-no_boot_at o Waiting q e = ap is_boot (sym (cc e))
-no_boot_at o (Serving p place) q e = ap is_boot (sym (cc e))
-no_boot_at o Asking_outcome q e = ap is_boot (sym (cc e))
-no_boot_at o (Over x) q e = absurd (cc e)
-no_boot_at o Turns_over q e = absurd (cc e)
-no_boot_at o Faulted q e = absurd (cc e)
+abbrev boots : Option Request → Bool
+boots None = false
+boots (Some q) = is_boot q
+
+no_boots : (o : Model_options) (focus : Focus) → boots (request o focus) ≡ false
+no_boots o Booting = refl
+no_boots o Waiting = refl
+no_boots o (Serving p place) = refl
+no_boots o Asking_outcome = refl
+no_boots o (Over x) = refl
+no_boots o Turns_over = refl
+no_boots o Faulted = refl
 
 no_boot : (s : State) (q : Request) → request_of s ≡ Some q → is_boot q ≡ false
 unfolding request_of
-no_boot s q e = no_boot_at s.options s.tracer.focus q e
+no_boot s q e = ap boots (sym e) ∙ no_boots s.options s.tracer.focus
 
 -- a call of a link that goes on
 call_fails : (f : LinkFault) (broken : ℕ) (a : LocalLink) (q : Request) (b : LocalLink) → IsGoing a → is_boot q ≡ false → Calls a q (Err f) b → FailsBy broken (Link f)
 unfolding Calls
-call_fails cause.Memory broken a q b going no h = tt
-call_fails cause.TooMany broken a q b going no h = tt
-call_fails cause.Ended broken a q b going no (inl e) = absurd (cc (sym (ap (λ x. cond x 1 0) e) ∙ going.unbroken))
-call_fails cause.Ended broken a q b going no (inr e) = absurd (cc (sym no ∙ e))
-call_fails cause.Sequence broken a q b going no h = absurd (cc (sym (ap is_there going.idle) ∙ h.1))
-call_fails cause.Read broken a q b going no h = h
-call_fails cause.Write broken a q b going no h = h
-call_fails cause.Malformed broken a q b going no h = h
-call_fails cause.Inadmissible broken a q b going no h = h
+call_fails cause.Memory broken a q b going not_boot h = tt
+call_fails cause.TooMany broken a q b going not_boot h = tt
+call_fails cause.Ended broken a q b going not_boot (inl e) = absurd (cc (sym (ap (λ x. cond x 1 0) e) ∙ going.unbroken))
+call_fails cause.Ended broken a q b going not_boot (inr e) = absurd (cc (sym not_boot ∙ e))
+call_fails cause.Sequence broken a q b going not_boot h = absurd (cc (sym (ap is_there going.idle) ∙ h.1))
+call_fails cause.Read broken a q b going not_boot h = h
+call_fails cause.Write broken a q b going not_boot h = h
+call_fails cause.Malformed broken a q b going not_boot h = h
+call_fails cause.Inadmissible broken a q b going not_boot h = h
 
 last_call : {L : Type 0} (answers : Answers L) (s : State) (rs : List Reply) (written : Option (List ℕ)) (a : L) (f : LinkFault) (b : Ends L) → Last answers s rs written a (Err (Link f)) b → Exchanged answers a (told s rs) (Err f) b.link
 unfolding Last
