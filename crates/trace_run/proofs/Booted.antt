@@ -1,5 +1,6 @@
 -- A run from its boot on.
 use Rattle.std.proofs.Common.{◌≡◌, ℕ, false, List, [], Option, Some, Result, Ok, Err, refl, sym, ap, subst}
+use Rattle.std.specs.Prelude.{IfErr}
 use Rattle.lx_abi.specs.declared.outcome.Outcome.{Outcome}
 use Rattle.lx_proc.specs.declared.state.Shared.{Shared}
 use Rattle.lx_proc.specs.declared.state.Body.{Body}
@@ -117,12 +118,8 @@ booted_fails fails begin o script is_script schedule s b fault old new x =
     fails o script is_script x.link x.link' old new x.broken x.broken' fault x.ran s b is_going x.hosting
 
 -- the same of any answer
-abbrev pub FailsOnly : ℕ → Result Ended RunFault → Type 0
-FailsOnly broken (Ok ended) = Unit {0}
-FailsOnly broken (Err fault) = FailsBy broken fault
-
 pub booted_fails_only : LocalLinksFail → HostsBeginAlike Shared Body → (o : Options) (script : Script) → IsScript script → (schedule : Schedule) (s : Shared) (b : Body) (result : Result Ended RunFault) (old new : Option (List ℕ))
-    (x : IsTraced o script schedule s b result old new) → FailsOnly x.broken' result
+    (x : IsTraced o script schedule s b result old new) → IfErr result (λ fault. FailsBy x.broken' fault)
 booted_fails_only fails begin o script is_script schedule s b (Ok ended) old new x = tt
 booted_fails_only fails begin o script is_script schedule s b (Err fault) old new x = booted_fails fails begin o script is_script schedule s b fault old new x
 
