@@ -1,6 +1,5 @@
 -- How a run in the tracer's own process fails.
-use Rattle.std.proofs.Common.{◌≡◌, ℕ, Bool, true, false, cond, List, ◌∷◌, Option, Some, None, Err, refl, sym, ap, ◌∙◌, inl, inr}
-use Rattle.std.specs.Prelude.{⊤}
+use Rattle.std.proofs.Common.{◌≡◌, ℕ, Bool, false, cond, List, ◌∷◌, Option, Some, None, Err, refl, sym, ap, ◌∙◌, inl, inr}
 use Rattle.lx_abi.specs.declared.ptrace.Reply.{Reply}
 use Rattle.lx_abi.specs.declared.ptrace.Reply.TheVariants.{Done as Agreed}
 use Rattle.lx_abi.specs.declared.ptrace.Request.{Request}
@@ -8,26 +7,21 @@ use Rattle.lx_proc.specs.declared.state.Shared.{Shared}
 use Rattle.lx_proc.specs.declared.state.Body.{Body}
 use Rattle.lx_kernel.specs.Linux.{linux}
 use Rattle.lx_kernel.specs.Outcomes.{outcome_in}
-use Rattle.lx_model.specs.Kernel.{Script}
 use Rattle.pt_model.specs.Calls.{WorldsCall, RunsAppend, OutOfTurnsShowsNothing}
-use Rattle.pt_model.specs.Headline.{IsScript}
-use Rattle.pt_model.specs.Hosting.{first_hosting}
 use Rattle.pt_model.specs.Parts.{Options as Model_options}
 use Rattle.pt_model.specs.Ptrace.{is_there}
 use Rattle.pt_model.specs.Tracer.{Focus, Booting, Waiting, Serving, Asking_outcome, Over, Turns_over, Faulted, request}
 use Rattle.pt_kernel.specs.Hosts.{is_boot}
 use Rattle.pt_kernel.specs.Seen.{next_of_host}
-use Rattle.host_link.specs.LocalLinks.{Calls, host_of}
+use Rattle.host_link.specs.LocalLinks.{Calls}
 use Rattle.host_link.specs.declared.fault.LinkFault.{LinkFault}
 use Rattle.host_link.specs.declared.fault.LinkFault.TheVariants as cause
 use Rattle.host_link.specs.declared.local.LocalLink.{LocalLink}
 use Rattle.tr_core.specs.Settings.{options_by, first_pen}
 use Rattle.tr_core.specs.States.{State, new_state, heard, told, request_of}
-use Rattle.tr_core.specs.declared.settings.Options.{Options}
 use Rattle.tr_core.specs.declared.tracing.TraceFault.TheVariants.{Inadmissible, Memory}
 use Rattle.trace_run.specs.LocalRuns.{in_process, IsGoing, local_answers, FailsBy, LocalLinksServe, LocalLinksTellParts, LocalLinksFail}
-use Rattle.trace_run.specs.Runs.{Answers, Ends, Exchanged, Last, RunsWhole, replies_of}
-use Rattle.trace_run.specs.declared.running.RunFault.{RunFault}
+use Rattle.trace_run.specs.Runs.{Answers, Ends, Exchanged, Last, replies_of}
 use Rattle.trace_run.specs.declared.running.RunFault.TheVariants.{Link, Trace, Output}
 use Rattle.trace_run.proofs.Fed.{stays}
 
