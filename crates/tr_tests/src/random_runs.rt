@@ -194,8 +194,17 @@ fn script(alloc: Global, chance: &mut Chance) -> Result<Script, Fail> {
     Ok(Script::new(rules))
 }
 
+fn pid(chance: &mut Chance) -> u32 {
+    match chance.below(4) {
+        0 => 1,
+        1 => 2,
+        2 => 3,
+        _ => 4,
+    }
+}
+
 fn word(chance: &mut Chance) -> Word {
-    let pid = 1 + chance.below(4) as u32;
+    let pid = pid(chance);
     match chance.below(8) {
         0 => Word::Serve,
         1 => Word::TurnAlone { pid },
