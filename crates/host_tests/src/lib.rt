@@ -13,8 +13,6 @@ mod frames;
 #[cfg(test)]
 mod requests;
 #[cfg(test)]
-mod schedules;
-#[cfg(test)]
 mod serving;
 #[cfg(test)]
 mod wire;
