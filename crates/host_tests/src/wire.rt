@@ -233,34 +233,47 @@ fn bodies(rt: HostRuntime) -> Result<(), Fail> {
     Ok(())
 }
 
+/// The frame is Peek of three bytes of process 1, with the number 2.
+fn is_peek(frame: &Frame) -> bool {
+    let peek = Ask::Peek {
+        address: 0x3f_ffff_effd,
+        length: 3,
+    };
+    frame.number == 2
+        && matches!(frame.body, Body::Request(Request::To { pid: 1, ask }) if ask == peek)
+}
+
+/// A letter for the frame that is given: none (-), Peek (p) or another (?).
+fn given(feed: &mut Feed) -> char {
+    match feed.take() {
+        None => '-',
+        Some(frame) => if is_peek(&frame) { 'p' } else { '?' },
+    }
+}
+
+/// Whether a piece is taken, what is given then, and how many bytes the frame under way lacks.
+fn after_piece(feed: &mut Feed, piece: &[u8]) -> (bool, char, usize) {
+    let fits = feed.feed(piece).is_ok();
+    let letter = given(feed);
+    (fits, letter, feed.missing())
+}
+
 /// Half a frame gives nothing, and its other half the frame.
 #[test]
 fn half_a_frame(rt: HostRuntime) -> Result<(), Fail> {
-    let alloc = rt.alloc();
-    let bytes = frame(alloc, 2, "07000000010000003fffffeffd00000003")?;
-    let mut feed = Feed::new(alloc);
-    let rows = [(0, 0, 4), (0, 2, 2), (2, 15, 14), (15, 28, 1)];
-    for (from, to, missing) in rows {
-        assert!(rt; feed.feed(part(bytes.as_slice(), from, to)).is_ok());
-        assert!(rt; feed.take().is_none(), "{to}");
-        assert_eq!(rt; feed.missing(), missing, "{to}");
+    let bytes = frame(rt.alloc(), 2, "07000000010000003fffffeffd00000003")?;
+    let mut feed = Feed::new(rt.alloc());
+    let rows = [
+        (0, 0, '-', 4),
+        (0, 2, '-', 2),
+        (2, 15, '-', 14),
+        (15, 28, '-', 1),
+        (28, 29, 'p', 4),
+    ];
+    for (from, to, letter, missing) in rows {
+        let seen = after_piece(&mut feed, part(bytes.as_slice(), from, to));
+        assert_eq!(rt; seen, (true, letter, missing), "{to}");
     }
-    assert!(rt; feed.feed(part(bytes.as_slice(), 28, 29)).is_ok());
-    let frame = feed.take().ok_or("a frame")?;
-    assert_eq!(rt; frame.number, 2);
-    assert!(rt;
-        matches!(
-            frame.body,
-            Body::Request(Request::To {
-                pid: 1,
-                ask: Ask::Peek {
-                    address: 0x3f_ffff_effd,
-                    length: 3
-                }
-            })
-        )
-    );
-    assert_eq!(rt; feed.missing(), 4);
     Ok(())
 }
 
