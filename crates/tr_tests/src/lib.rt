@@ -12,8 +12,6 @@ mod lines;
 #[cfg(test)]
 mod local_runs;
 #[cfg(test)]
-mod random_runs;
-#[cfg(test)]
 mod reading;
 #[cfg(test)]
 mod runs;
