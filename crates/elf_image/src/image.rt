@@ -2,7 +2,7 @@
 
 ghost use Rattle.std.specs.Prelude.{◌≡◌, length};
 
-use crate::bytes::Bytes;
+use containers::Bytes;
 use std::marker::Model;
 
 /// What a program may do with a run of its memory.

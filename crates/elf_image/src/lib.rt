@@ -3,7 +3,6 @@
 //! The sections of the standard are those of the System V gABI, chapter "Object Files".
 #![tactic(auto)]
 
-pub mod bytes;
 pub mod fault;
 mod fields;
 mod headers;
@@ -12,7 +11,6 @@ mod layout;
 mod reading;
 mod writing;
 
-pub use bytes::Bytes;
 pub use fault::ElfFault;
 pub use image::{Image, Rights, Segment, Segments};
 pub use reading::read;

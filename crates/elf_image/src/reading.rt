@@ -7,12 +7,12 @@ ghost use Rattle.elf_image.specs.Checks.{has_no_magic, is_of_another_machine, is
 ghost use Rattle.elf_image.specs.declared.fault.ElfFault.{ElfFault};
 ghost use Rattle.elf_image.specs.Images.{rights_of, segment_of, IsElf, Refuses, IsLaidOut};
 
-use crate::bytes::Bytes;
 use crate::fault::ElfFault;
 use crate::fields::{byte_at, double_at, half_at, word_at};
 use crate::headers::{self, ProgramHeader};
 use crate::image::{Image, Rights, Segment, Segments};
 use crate::layout::{self, Extent};
+use containers::Bytes;
 use std::alloc::{AllocError, Global};
 
 /// The size of the ELF header.

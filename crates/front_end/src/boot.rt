@@ -3,7 +3,8 @@
 use crate::fault::Fault;
 use crate::reading::{MOST_INPUT, read_file, read_input};
 use crate::shown::Shown;
-use lx_abi::{Boot, Bytes, GuestFile, Seq};
+use containers::{Bytes, Seq};
+use lx_abi::{Boot, GuestFile};
 use lx_boot::BootFault;
 use std::alloc::Global;
 use std::io::Read;

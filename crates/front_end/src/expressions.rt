@@ -1,6 +1,7 @@
 //! What the words after `-e` ask for.
 
-use lx_abi::{Rule, Script, Seq, Set};
+use containers::Seq;
+use lx_abi::{Rule, Script, Set};
 use std::alloc::Global;
 use tr_expr::{Expr, ExprFault, parse_expr};
 

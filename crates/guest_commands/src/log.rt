@@ -1,6 +1,7 @@
 //! The log of calls as it is printed: a line an item.
 
 use crate::fault::Fault;
+use itoa::{Buffer, Integer};
 use lx_abi::{Call, Item};
 use std::alloc::{AllocError, Global};
 use std::io::{self, Write};
@@ -10,6 +11,8 @@ const ROOM: usize = 65_536;
 
 /// The most bytes of a line.
 const LONGEST_LINE: usize = 256;
+
+const DIGITS: &[u8; 16] = b"0123456789abcdef";
 
 /// Turns that go by at most while lines are held back: some tens of microseconds.
 const MOST_WHILE_BEHIND: u64 = 10_000;
@@ -77,38 +80,66 @@ impl<'w, W: Write> Log<'w, W> {
     }
 }
 
-fn push_entry(lines: &mut Vec<u8>, pid: u32, call: &Call) -> io::Result<()> {
-    write!(lines, "E {pid} {}", call.number)?;
-    for argument in &call.arguments {
-        write!(lines, " {argument:#x}")?;
+/// Adds a number in decimal digits. By `write!` a line's numbers would take as long as the turns of its call.
+fn push_decimal<N: Integer>(lines: &mut Vec<u8>, number: N) -> Result<(), AllocError> {
+    let mut buffer = Buffer::new();
+    lines.extend_from_slice(buffer.format(number).as_bytes())?;
+    Ok(())
+}
+
+/// Adds a number in hexadecimal digits.
+fn push_hexadecimal(lines: &mut Vec<u8>, number: u64) -> Result<(), AllocError> {
+    let digits = (64 - (number | 1).leading_zeros()).div_ceil(4);
+    lines.extend_from_slice(b"0x")?;
+    for place in (0..digits).rev() {
+        let digit = (number >> (4 * place)) as usize % 16;
+        lines.push(DIGITS[digit])?;
     }
-    writeln!(lines)
+    Ok(())
 }
 
-fn push_result(lines: &mut Vec<u8>, pid: u32, value: i64, replaced: bool) -> io::Result<()> {
-    let mark = if replaced { " r" } else { "" };
-    writeln!(lines, "D {pid} {value}{mark}")
+fn push_entry(lines: &mut Vec<u8>, pid: u32, call: &Call) -> Result<(), AllocError> {
+    lines.extend_from_slice(b"E ")?;
+    push_decimal(lines, pid)?;
+    lines.push(b' ')?;
+    push_decimal(lines, call.number)?;
+    for argument in &call.arguments {
+        lines.push(b' ')?;
+        push_hexadecimal(lines, *argument)?;
+    }
+    lines.push(b'\n')?;
+    Ok(())
 }
 
-fn push_signal(lines: &mut Vec<u8>, pid: u32, number: u8) -> io::Result<()> {
-    writeln!(lines, "S {pid} {number}")
-}
-
-fn push_exit(lines: &mut Vec<u8>, pid: u32, word: u32) -> io::Result<()> {
-    writeln!(lines, "X {pid} {word}")
+fn push_result(
+    lines: &mut Vec<u8>,
+    pid: u32,
+    value: i64,
+    replaced: bool,
+) -> Result<(), AllocError> {
+    lines.extend_from_slice(b"D ")?;
+    push_decimal(lines, pid)?;
+    lines.push(b' ')?;
+    push_decimal(lines, value)?;
+    if replaced {
+        lines.extend_from_slice(b" r")?;
+    }
+    lines.push(b'\n')?;
+    Ok(())
 }
 
 /// Adds an item's line: `E pid number a0 .. a5`, `D pid result`, `S pid signal` or `X pid word`.
 fn push_line(lines: &mut Vec<u8>, item: &Item) -> io::Result<()> {
     match item {
-        Item::Enter { pid, call } => push_entry(lines, *pid, call),
+        Item::Enter { pid, call } => push_entry(lines, *pid, call)?,
         Item::Done {
             pid,
             result,
             replaced,
             ..
-        } => push_result(lines, *pid, result.cast_signed(), *replaced),
-        Item::Taken { pid, signal, .. } => push_signal(lines, *pid, signal.number),
-        Item::Exit { pid, word, .. } => push_exit(lines, *pid, *word),
+        } => push_result(lines, *pid, result.cast_signed(), *replaced)?,
+        Item::Taken { pid, signal, .. } => writeln!(lines, "S {pid} {}", signal.number)?,
+        Item::Exit { pid, word, .. } => writeln!(lines, "X {pid} {word}")?,
     }
+    Ok(())
 }

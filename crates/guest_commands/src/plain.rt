@@ -84,7 +84,15 @@ fn turns_of<E: Write>(
         return turn(kernel, pid, log);
     }
     schedule.pass(ran - 1);
-    log.wait(ran)
+    log.wait(ran)?;
+    if ran == most {
+        return Ok(());
+    }
+    // What ended the instructions is a turn that runs none.
+    match schedule.next_plain(kernel) {
+        Some(pid) => turn(kernel, pid, log),
+        None => Ok(()),
+    }
 }
 
 /// Turns by a schedule until it has ended, each item printed.

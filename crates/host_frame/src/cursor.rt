@@ -6,7 +6,8 @@ ghost use Rattle.host_frame.specs.Reading.{Gives, number_at, registers_at, text_
 
 use crate::fault::Bad;
 use byteorder::{BigEndian, ByteOrder, LittleEndian};
-use lx_abi::{Bytes, Registers};
+use containers::Bytes;
+use lx_abi::Registers;
 use std::alloc::Global;
 
 pub(crate) fn byte_at(bytes: &[u8]) -> Result<(u8, &[u8]), Bad>

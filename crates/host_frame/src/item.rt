@@ -11,7 +11,8 @@ ghost use Rattle.host_frame.specs.Spelling as spell;
 use crate::cursor::{byte_at, text_of, word_at};
 use crate::fault::Bad;
 use crate::fields::{put_byte, put_length, put_text, put_word, spend_text};
-use lx_abi::{Bytes, Ended, GuestFile, Node, OutcomeFile, Seq, Word};
+use containers::{Bytes, Seq};
+use lx_abi::{Ended, GuestFile, Node, OutcomeFile, Word};
 use std::alloc::{AllocError, Global};
 
 /// What lists on the wire hold.

@@ -7,8 +7,9 @@ use crate::answering::send;
 use crate::fault::ServeFault;
 use crate::requests::{is_boot, next_request};
 use crate::session::{Phase, Session};
+use containers::{Bytes, Seq};
 use host_wire::{Feed, Sink, Source};
-use lx_abi::{Bytes, Outcome, Reply, Request, Seq};
+use lx_abi::{Outcome, Reply, Request};
 use lx_kernel::Failed;
 use std::alloc::Global;
 

@@ -3,7 +3,8 @@
 ghost use Rattle.std.specs.Prelude.{◌≡◌, ◌+◌, ◌<◌, ◌^◌, false, IfOk, OnOk, OnErr};
 ghost use Rattle.pt_kernel.specs.Hosts.{is_boot};
 
-use lx_abi::{Boot, Outcome, Reply, Request, Seq, Word};
+use containers::Seq;
+use lx_abi::{Boot, Outcome, Reply, Request, Word};
 use lx_kernel::Failed;
 use std::alloc::{AllocError, Global};
 

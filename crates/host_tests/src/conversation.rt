@@ -130,7 +130,7 @@ fn boot_of(frame: Frame) -> Result<(Boot, u64), Fail> {
 }
 
 /// A link to the host of the boot that the feed begins with.
-fn link_of(alloc: Global, feed: &mut Feed) -> Result<LocalLink, Fail> {
+pub(crate) fn link_of(alloc: Global, feed: &mut Feed) -> Result<LocalLink, Fail> {
     let frame = feed.take().ok_or("a boot")?;
     let (boot, limit) = boot_of(frame)?;
     match Host::boot(alloc, boot) {
@@ -176,7 +176,7 @@ fn answered<L: Link>(alloc: Global, link: &mut L, feed: &mut Feed) -> Result<Vec
 }
 
 /// A feed of all the requests.
-fn fed(alloc: Global) -> Result<Feed, Fail> {
+pub(crate) fn fed(alloc: Global) -> Result<Feed, Fail> {
     let mut feed = Feed::new(alloc);
     match feed.feed(requests(alloc)?.as_slice()) {
         Ok(()) => Ok(feed),
@@ -184,16 +184,21 @@ fn fed(alloc: Global) -> Result<Feed, Fail> {
     }
 }
 
-#[test]
-fn answered_in_this_process(rt: HostRuntime) -> Result<(), Fail> {
-    let alloc = rt.alloc();
+/// What a link in this process answers, and how many replies and faults it counts.
+fn in_this_process(alloc: Global) -> Result<(Vec<u8>, u64, u64), Fail> {
     let mut feed = fed(alloc)?;
     let mut link = link_of(alloc, &mut feed)?;
     let written = answered(alloc, &mut link, &mut feed)?;
-    assert_eq!(rt; link.asked(), 16);
-    assert_eq!(rt; link.faults(), 0);
+    Ok((written, link.asked(), link.faults()))
+}
+
+#[test]
+fn answered_in_this_process(rt: HostRuntime) -> Result<(), Fail> {
+    let (written, asked, faults) = in_this_process(rt.alloc())?;
+    assert_eq!(rt; asked, 16);
+    assert_eq!(rt; faults, 0);
     // The first reply is that to the boot.
-    let wanted = replies(alloc)?;
+    let wanted = replies(rt.alloc())?;
     assert_eq!(rt;
         written.as_slice(),
         part(wanted.as_slice(), 13, wanted.len())

@@ -3,6 +3,8 @@
 #![tactic(auto)]
 
 #[cfg(test)]
+mod asking;
+#[cfg(test)]
 mod children;
 #[cfg(test)]
 mod conversation;
@@ -12,6 +14,8 @@ mod ends;
 mod frames;
 #[cfg(test)]
 mod requests;
+#[cfg(test)]
+mod schedules;
 #[cfg(test)]
 mod serving;
 #[cfg(test)]

@@ -304,24 +304,46 @@ fn after_a_fault(rt: HostRuntime) -> Result<(), Fail> {
     Ok(())
 }
 
+/// The frame of a reply of so many bytes.
+fn long_frame(alloc: Global, length: usize) -> Result<Vec<u8>, Fail> {
+    let body = Body::Reply(Reply::Bytes {
+        bytes: containers::Bytes::from_vec(Vec::from_elem(alloc, 7u8, length)?),
+    });
+    Ok(
+        encode(alloc, &Frame { number: 1, body })
+            .ok()
+            .ok_or("a frame")?,
+    )
+}
+
+/// The feed takes these bytes one by one.
+fn feed_by_bytes(feed: &mut Feed, bytes: &[u8]) -> bool {
+    for byte in bytes {
+        if feed.feed(&[*byte]).is_err() {
+            return false;
+        }
+    }
+    true
+}
+
+/// The feed takes these bytes at once.
+fn feed_at_once(feed: &mut Feed, bytes: &[u8]) -> bool {
+    feed.feed(bytes).is_ok()
+}
+
+fn gives(feed: &mut Feed) -> bool {
+    feed.take().is_some()
+}
+
 /// 64 KiB byte by byte: no more is done for a byte late in a frame than for an early one.
 #[test]
 fn byte_by_byte(rt: HostRuntime) -> Result<(), Fail> {
-    let alloc = rt.alloc();
-    let bytes = Vec::from_elem(alloc, 7u8, 65_536)?;
-    let body = Body::Reply(Reply::Bytes {
-        bytes: lx_abi::Bytes::from_vec(bytes),
-    });
-    let spelled = encode(alloc, &Frame { number: 1, body })
-        .ok()
-        .ok_or("a frame")?;
-    let mut feed = Feed::new(alloc);
-    for byte in spelled.as_slice() {
-        assert!(rt; feed.feed(&[*byte]).is_ok());
-    }
-    assert!(rt; feed.take().is_some());
-    assert!(rt; feed.feed(spelled.as_slice()).is_ok());
-    assert!(rt; feed.take().is_some());
-    assert!(rt; feed.take().is_none());
+    let frame = long_frame(rt.alloc(), 65_536)?;
+    let mut feed = Feed::new(rt.alloc());
+    assert!(rt; feed_by_bytes(&mut feed, frame.as_slice()));
+    assert!(rt; gives(&mut feed));
+    assert!(rt; feed_at_once(&mut feed, frame.as_slice()));
+    assert!(rt; gives(&mut feed));
+    assert!(rt; !gives(&mut feed));
     Ok(())
 }

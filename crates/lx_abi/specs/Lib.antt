@@ -2,12 +2,10 @@ pub mod Calls
 pub mod Errnos
 pub mod Errors
 pub mod Flags
-pub mod Keys
-pub mod Lending
 pub mod Log
+pub mod Occurrences
 pub mod Scripts
 pub mod Signals
 pub mod Status
 pub mod Tables
-pub mod Vacant
 pub mod Words

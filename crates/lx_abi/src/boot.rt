@@ -1,7 +1,6 @@
 //! What a run begins with.
 
-use crate::bytes::Bytes;
-use crate::seq::Seq;
+use containers::{Bytes, Seq};
 
 /// A file by its absolute path.
 #[derive(Drop)]

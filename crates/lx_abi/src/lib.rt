@@ -2,33 +2,29 @@
 #![tactic(auto)]
 
 pub mod boot;
-pub mod bytes;
 pub mod calls;
 pub mod errno;
 pub mod flags;
 pub mod log;
-pub mod map;
+pub mod occurrences;
 pub mod outcome;
 pub mod ptrace;
 pub mod schedule;
 pub mod script;
-pub mod seq;
 pub mod signal;
 pub mod status;
 pub mod when;
 pub mod words;
 
 pub use boot::{Boot, GuestFile};
-pub use bytes::Bytes;
 pub use calls::{Argument, Class, Format};
 pub use errno::Errno;
 pub use log::{Call, Cause, Item, Mode};
-pub use map::Map;
+pub use occurrences::Occurrences;
 pub use outcome::{Ended, Node, Outcome, OutcomeFile};
 pub use ptrace::{Ask, Info, Registers, Reply, Request, TraceOptions};
 pub use schedule::{Event, Word};
 pub use script::{Choice, Rule, Script, Set};
-pub use seq::Seq;
 pub use signal::Signal;
 pub use status::{EventStop, Status, Stop};
 pub use when::When;

@@ -1,7 +1,6 @@
 //! What is left of a run.
 
-use crate::bytes::Bytes;
-use crate::seq::Seq;
+use containers::{Bytes, Seq};
 
 /// What stands at a path.
 #[derive(Drop)]

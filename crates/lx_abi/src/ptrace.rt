@@ -1,12 +1,11 @@
 //! What a tracer asks of a host and what it is answered, by the names of ptrace(2) and wait(2).
 
 use crate::boot::Boot;
-use crate::bytes::Bytes;
 use crate::outcome::Outcome;
 use crate::schedule::Word;
-use crate::seq::Seq;
 use crate::status::Status;
 use bitflags::{Flag, Flags, bitflag_items};
+use containers::{Bytes, Seq};
 
 /// pc and x1 to x31 (RISC-V Unprivileged ISA, section 2.1), as PTRACE_GETREGSET has them.
 pub type Registers = [u64; 32];

@@ -3,9 +3,9 @@
 ghost use Rattle.std.specs.Prelude.{◌≡◌, [], IsTrue};
 ghost use Rattle.lx_abi.specs.Signals.{is_joinable};
 
-use crate::seq::Seq;
 use crate::signal::Signal;
 use crate::when::When;
+use containers::Seq;
 use std::alloc::Global;
 use std::marker::Model;
 

@@ -9,7 +9,8 @@ ghost use Rattle.std.specs.Str.{bytes_eq};
 
 use crate::limits::files_fit;
 use crate::neighbours::{Told, is_under, tell};
-use lx_abi::{Boot, Bytes, GuestFile};
+use containers::Bytes;
+use lx_abi::{Boot, GuestFile};
 use lx_exec::start_fits;
 use std::alloc::{AllocError, Global};
 use thiserror::Error;

@@ -5,7 +5,8 @@ ghost use Rattle.lx_boot.specs.First.{first_entry as entry_of_first, first_fds a
 ghost use Rattle.lx_exec.specs.Programs.{start_size};
 ghost use Rattle.lx_proc.specs.Starts.{start_limit};
 
-use lx_abi::{Bytes, GuestFile, Map};
+use containers::{Bytes, Map};
+use lx_abi::GuestFile;
 use lx_exec::begin_stub;
 use lx_files::plant;
 use lx_model::{Own, Stage};

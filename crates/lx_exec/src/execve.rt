@@ -14,8 +14,9 @@ ghost use Rattle.lx_exec.specs.Execve.{execve as meaning, program as program_of,
 ghost use Rattle.lx_exec.specs.Execve.{runs_at as place_run, runs_path as path_run, renewed, renews};
 
 use crate::programs::{begin_program, start_fits};
+use containers::Map;
 use elf_image::{ElfFault, Image};
-use lx_abi::{Call, Errno, Map, Node};
+use lx_abi::{Call, Errno, Node};
 use lx_files::Place;
 use lx_files::places::{locate, path};
 use lx_open::release::close_on_exec;

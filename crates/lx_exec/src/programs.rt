@@ -15,8 +15,8 @@ ghost use Rattle.lx_exec.specs.Programs.{doublewords as bytes_of, with_segment, 
 ghost use Rattle.lx_exec.specs.Programs.{highest_end as highest_end_of, first_heap, stub_image, booted, IsStart};
 
 use crate::pages::{PAGE, pages_for};
+use containers::Bytes;
 use elf_image::{Image, Rights as SegmentRights, Segment, Segments};
-use lx_abi::Bytes;
 use lx_proc::{Body, Heap, START_LIMIT, WORD_COST};
 use rv_hart::Hart;
 use rv_mem::{MemFault, Rights, Space};
@@ -348,7 +348,7 @@ fn stub(alloc: Global) -> Result<Image, AllocError>
         write: false,
         execute: true,
     };
-    let bytes = elf_image::Bytes::from_vec(STUB.to_vec(alloc)?);
+    let bytes = Bytes::from_vec(STUB.to_vec(alloc)?);
     let mut segments = Vec::new(alloc);
     segments.push(Segment {
         address: 0x10000,

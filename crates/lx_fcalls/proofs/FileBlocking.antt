@@ -6,7 +6,7 @@ use Rattle.std.specs.FinMap as maps
 use Rattle.std.specs.declared.result.Result.{Result}
 use Rattle.std.specs.declared.result.Result.TheVariants.{Ok, Err}
 use Rattle.lx_abi.specs.declared.log.Call.{Call}
-use Rattle.lx_abi.specs.Vacant.{vacant}
+use Rattle.containers.specs.Vacant.{vacant}
 use Rattle.lx_abi.specs.Errnos.{enoent, ebadf, ebusy, eexist, eisdir, einval, emfile, efbig, enospc, erange, enotempty}
 use Rattle.lx_files.specs.Limits.{largest_file}
 use Rattle.lx_files.specs.Trees.{content, has_room, is_empty}

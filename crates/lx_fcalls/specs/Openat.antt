@@ -2,7 +2,7 @@
 use Rattle.std.specs.Prelude.{ℕ, ◌==◌, ◌&&◌, not, Bool, List, [], if◌then◌else◌}
 use Rattle.std.specs.FinMap as maps
 use Rattle.lx_abi.specs.Errnos.{enoent, eexist, enotdir, eisdir, einval, emfile, enospc}
-use Rattle.lx_abi.specs.Vacant.{vacant}
+use Rattle.containers.specs.Vacant.{vacant}
 use Rattle.lx_abi.specs.declared.log.Call.{Call}
 use Rattle.lx_abi.specs.declared.outcome.Node.TheVariants.{File}
 use Rattle.lx_model.specs.Machine.{Refused, Returns}

@@ -2,7 +2,7 @@
 use Rattle.std.specs.Int.{w32, to_le_bytes}
 use Rattle.std.specs.Prelude.{ℕ, not, Bool, true, false, [], ◌++◌}
 use Rattle.lx_abi.specs.Errnos.{einval, emfile}
-use Rattle.lx_abi.specs.Vacant.{vacant}
+use Rattle.containers.specs.Vacant.{vacant}
 use Rattle.lx_abi.specs.declared.log.Call.{Call}
 use Rattle.lx_open.specs.Opens.{with_pipe}
 use Rattle.lx_open.specs.declared.description.Description.{Description}

@@ -8,7 +8,8 @@ ghost use Rattle.lx_fcalls.specs.Arguments.{read_text, may_begin as may_begin_of
 ghost use Rattle.lx_fcalls.specs.Arguments.{place_from as place_from_of, place_at as place_at_of};
 
 use crate::flags::AT_FDCWD;
-use lx_abi::{Bytes, Errno};
+use containers::Bytes;
+use lx_abi::Errno;
 use lx_files::Place;
 use lx_files::places::locate;
 use lx_proc::{Body, Shared, Text, directory, text_at};

@@ -7,7 +7,8 @@ ghost use Rattle.lx_fcalls.specs.Chdir.{chdir as meaning, goes_at};
 
 use crate::arguments::place_at;
 use crate::flags::AT_FDCWD;
-use lx_abi::{Bytes, Call, Errno, Map};
+use containers::{Bytes, Map};
+use lx_abi::{Call, Errno};
 use lx_files::Place;
 use lx_files::places::{Sight, look, path};
 use lx_proc::{Body, Entry, Reply, Shared};

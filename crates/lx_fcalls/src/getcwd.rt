@@ -5,7 +5,8 @@ ghost use Rattle.lx_proc.specs.Answers.{answer_of, Kept};
 ghost use Rattle.lx_fcalls.specs.Getcwd.{getcwd as meaning, shown as shown_of};
 
 use crate::giving::give;
-use lx_abi::{Bytes, Call, Errno};
+use containers::Bytes;
+use lx_abi::{Call, Errno};
 use lx_proc::{Body, Reply, Shared, directory};
 use std::alloc::{AllocError, Global};
 

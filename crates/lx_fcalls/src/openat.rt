@@ -6,7 +6,8 @@ ghost use Rattle.lx_fcalls.specs.Openat.{openat as meaning, opens_new, opens_fil
 
 use crate::arguments::place_at;
 use crate::flags::{O_APPEND, O_CLOEXEC, O_CREAT, O_EXCL, O_TRUNC, OPEN_FLAGS, has};
-use lx_abi::{Bytes, Call, Errno, Node};
+use containers::Bytes;
+use lx_abi::{Call, Errno, Node};
 use lx_files::Place;
 use lx_files::places::{Sight, look, path};
 use lx_open::{Description, Object};

@@ -9,7 +9,8 @@ ghost use Rattle.lx_fcalls.specs.Pipe2.{pipe2 as meaning, pipes, end_of, with_en
 
 use crate::flags::{O_CLOEXEC, has};
 use crate::giving::give;
-use lx_abi::{Bytes, Call, Errno};
+use containers::Bytes;
+use lx_abi::{Call, Errno};
 use lx_open::{Description, FdTable, Object, Queue};
 use lx_proc::{Body, Reply, Shared};
 use std::alloc::{AllocError, Global};

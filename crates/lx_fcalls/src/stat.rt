@@ -5,7 +5,8 @@ ghost use Rattle.lx_proc.specs.Answers.{answer_of, Kept, gives};
 ghost use Rattle.lx_fcalls.specs.Stat.{stat as stat_of};
 
 use crate::giving::give;
-use lx_abi::{Bytes, Errno};
+use containers::Bytes;
+use lx_abi::Errno;
 use lx_proc::{Body, Reply, Shared};
 use std::alloc::{AllocError, Global};
 

@@ -6,7 +6,8 @@ ghost use Rattle.lx_fcalls.specs.Write.{write as meaning, writes_object, writes_
 ghost use Rattle.lx_fcalls.specs.Write.{writes_console, raised_sigpipe, breaks_pipe as breaks_pipe_of, start_of};
 
 use crate::contents::{LARGEST_FILE, MOST_MOVED, PIPE_SIZE, content, has_space};
-use lx_abi::{Call, Cause, Errno, Map, Signal};
+use containers::Map;
+use lx_abi::{Call, Cause, Errno, Signal};
 use lx_files::nodes::length_after;
 use lx_open::{Description, Object, Slot};
 use lx_proc::{Body, Entry, Reply, Shared};

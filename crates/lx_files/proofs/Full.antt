@@ -6,7 +6,7 @@ use Rattle.std.specs.Ordering.{nat_cmp, eq_by_cmp}
 use Rattle.std.specs.Cmp.{nat_cmp_total}
 use Rattle.std.specs.FinMap as maps
 use Rattle.std.specs.FinMap.{FinMap}
-use Rattle.lx_abi.specs.Vacant.{IsFullBelow}
+use Rattle.containers.specs.Vacant.{IsFullBelow}
 use Rattle.lx_files.proofs.Totals.{remove-none}
 
 same : (q k : ℕ) → eq_by_cmp nat_cmp q k ≡ (k == q)

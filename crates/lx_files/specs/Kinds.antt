@@ -5,7 +5,7 @@ use Rattle.std.specs.FinMap as maps
 use Rattle.std.specs.FinMap.{FinMap}
 use Rattle.lx_abi.specs.declared.outcome.Node.{Node}
 use Rattle.lx_abi.specs.declared.outcome.Node.TheVariants.{File, Directory}
-use Rattle.lx_abi.specs.Vacant.{IsFullBelow}
+use Rattle.containers.specs.Vacant.{IsFullBelow}
 use Rattle.lx_files.specs.Tallies.{total}
 use Rattle.lx_files.specs.Paths.{path_cmp}
 

@@ -3,7 +3,7 @@ use Rattle.std.specs.Prelude.{ℕ, nat_lt, not, Bool, List, Option}
 use Rattle.std.specs.Option.{option_and_then}
 use Rattle.std.specs.List.{list_any}
 use Rattle.std.specs.FinMap as maps
-use Rattle.lx_abi.specs.Vacant.{vacant}
+use Rattle.containers.specs.Vacant.{vacant}
 use Rattle.lx_abi.specs.declared.outcome.Node.{Node}
 use Rattle.lx_files.specs.Tallies.{total, holds}
 use Rattle.lx_files.specs.Paths.{Path, is_under}

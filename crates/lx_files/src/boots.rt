@@ -5,7 +5,8 @@ ghost use Rattle.lx_files.specs.Boots.{rooted, with_directory, with_directory_at
 ghost use Rattle.lx_files.specs.Boots.{tree_of};
 
 use crate::tree::Tree;
-use lx_abi::{Bytes, GuestFile, Node};
+use containers::Bytes;
+use lx_abi::{GuestFile, Node};
 use std::alloc::{AllocError, Global};
 
 fn add_directory(alloc: Global, tree: &mut Tree, path: &[u8]) -> Result<(), AllocError>

@@ -8,7 +8,8 @@ ghost use Rattle.lx_abi.specs.declared.outcome.Node.TheVariants as node_is;
 ghost use Rattle.lx_files.specs.Listing.{is_named, file_of};
 
 use crate::nodes::Nodes;
-use lx_abi::{Bytes, Node, OutcomeFile, Seq};
+use containers::{Bytes, Seq};
+use lx_abi::{Node, OutcomeFile};
 use std::alloc::{AllocError, Global};
 use std::collections::BTreeMap;
 

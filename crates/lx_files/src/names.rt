@@ -11,7 +11,8 @@ ghost use Rattle.lx_files.specs.Kinds.{is_number};
 use crate::counts::Counts;
 use crate::nodes::Nodes;
 use crate::path_map::PathMap;
-use lx_abi::{OutcomeFile, Seq};
+use containers::Seq;
+use lx_abi::OutcomeFile;
 use std::alloc::{AllocError, Global};
 use std::marker::Model;
 

@@ -3,14 +3,15 @@
 ghost use Rattle.std.specs.Prelude.{◌≡◌, OnOk, IfOk, length};
 ghost use Rattle.std.specs.Option.{option_copied};
 ghost use Rattle.std.specs.FinMap as maps;
-ghost use Rattle.lx_abi.specs.Vacant.{vacant};
+ghost use Rattle.containers.specs.Vacant.{vacant};
 ghost use Rattle.lx_files.specs.Tallies.{total};
 ghost use Rattle.lx_files.specs.Kinds.{size_of, changed_file, changed_node};
 ghost use Rattle.lx_files.specs.Contents.{padded_to, overwritten as overwritten_of, reaching};
 ghost use Rattle.lx_files.specs.Contents.{length_after as length_after_of};
 ghost use Rattle.std.specs.Prelude.{◌≤◌, ◌+◌, OnErr, [], ◌++◌, replicate, ◌-◌};
 
-use lx_abi::{Bytes, Map, Node};
+use containers::{Bytes, Map};
+use lx_abi::Node;
 use std::alloc::{AllocError, Global};
 use std::marker::Model;
 

@@ -8,7 +8,8 @@ ghost use Rattle.lx_files.specs.Listing.{is_named, file_of};
 
 use crate::listing::list_files;
 use crate::nodes::Nodes;
-use lx_abi::{OutcomeFile, Seq};
+use containers::Seq;
+use lx_abi::OutcomeFile;
 use std::alloc::{AllocError, Global};
 use std::collections::BTreeMap;
 use std::marker::Model;

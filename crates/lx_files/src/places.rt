@@ -11,7 +11,8 @@ ghost use Rattle.lx_files.specs.Places.{parts as parts_of, reached, is_long, is_
 ghost use Rattle.lx_files.specs.Places.{place as place_of, path_of, sight as sight_of};
 
 use crate::tree::Tree;
-use lx_abi::{Bytes, Errno, Node};
+use containers::Bytes;
+use lx_abi::{Errno, Node};
 use std::alloc::{AllocError, Global};
 
 /// The directory in which a path's last part stands, that part, and whether a slash follows it.

@@ -3,14 +3,15 @@
 ghost use Rattle.std.specs.Prelude.{◌≡◌, OnOk, IfOk};
 ghost use Rattle.std.specs.Option.{option_copied};
 ghost use Rattle.std.specs.FinMap as maps;
-ghost use Rattle.lx_abi.specs.Vacant.{vacant};
+ghost use Rattle.containers.specs.Vacant.{vacant};
 ghost use Rattle.lx_files.specs.Trees.{node_at, created, without_path, without_node, contents as contents_of};
 ghost use Rattle.lx_files.specs.Trees.{has_room as has_room_of, has_path as has_path_of};
 ghost use Rattle.lx_files.specs.Listing.{files_of};
 
 use crate::names::Names;
 use crate::nodes::Nodes;
-use lx_abi::{Node, OutcomeFile, Seq};
+use containers::Seq;
+use lx_abi::{Node, OutcomeFile};
 use std::alloc::{AllocError, Global};
 
 /// Which node each path names, and what each node is.

@@ -3,7 +3,6 @@ pub mod Booting
 pub mod CallsFit
 pub mod Consoles
 pub mod Continuing
-pub mod Counting
 pub mod FilesFit
 pub mod LinuxLaws
 pub mod Moving

@@ -8,7 +8,7 @@ use Rattle.lx_model.specs.declared.stage.Own.{Own}
 use Rattle.lx_proc.specs.declared.state.Body.{Body}
 use Rattle.lx_proc.specs.Registers.{regs}
 use Rattle.lx_kernel.specs.Linux.{linux}
-use Rattle.lx_kernel.specs.Occurrences.{count_of}
+use Rattle.lx_abi.specs.Occurrences.{count_of}
 use Rattle.lx_kernel.specs.declared.tampering.Tampering.{Tampering}
 
 -- the latest occurrence of a call decides; only tracees have choices

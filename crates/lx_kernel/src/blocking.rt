@@ -7,7 +7,8 @@ ghost use Rattle.lx_model.specs.declared.stage.Own.TheVariants.{Alive};
 ghost use Rattle.lx_kernel.specs.Blocking.{would_block as would_block_in, can_turn as can_turn_of, can_turn_in};
 
 use crate::signals::is_killed;
-use lx_abi::{Call, Map};
+use containers::Map;
+use lx_abi::Call;
 use lx_model::{Own, Stage};
 use lx_pcalls::is_interrupted;
 use lx_proc::{Body, Shared};

@@ -8,7 +8,7 @@ ghost use Rattle.lx_kernel.specs.Runs.{Run as KernelRun};
 ghost use Rattle.lx_model.specs.declared.stage.Own.TheVariants as Own;
 
 use crate::signals::{is_killed, next};
-use lx_abi::Map;
+use containers::Map;
 use lx_model::{Own, Stage};
 use lx_proc::{Body, Shared, make_again};
 use rv_hart::Decoder;

@@ -18,20 +18,21 @@ ghost use Rattle.lx_kernel.specs.Tracing.{own_in, regs_of, peek_of, signal_of, w
 ghost use Rattle.lx_proc.specs.declared.state.Body.{Body};
 ghost use Rattle.lx_kernel.specs.Scheduling.{IsNextOf};
 ghost use Rattle.lx_kernel.specs.Runs.{turn_in, after_turn, is_able_in, mode_in, own_mode as own_mode_of, life_mode};
-ghost use Rattle.lx_kernel.specs.Occurrences.{count_of, Agree};
+ghost use Rattle.lx_kernel.specs.Occurrences.{Agree};
+ghost use Rattle.lx_abi.specs.Occurrences.{count_of};
 ghost use Rattle.lx_abi.specs.Log.{is_entry};
 ghost use Rattle.std.specs.Option.{option_to_list};
 
 use crate::blocking::can_turn;
 use crate::effects::Effect;
-use crate::occurrences::Occurrences;
 use crate::outcome::outcome;
 use crate::scheduling::{first_able, next_able};
 use crate::signals::is_killed;
 use crate::stages::{Went, go, mode};
 use crate::tampering::Tampering;
 use crate::{bursts, tracing};
-use lx_abi::{Bytes, Cause, Item, Map, Mode, Outcome, Registers, Script, Signal};
+use containers::{Bytes, Map};
+use lx_abi::{Cause, Item, Mode, Occurrences, Outcome, Registers, Script, Signal};
 use lx_model::{Deed, Own, Stage};
 use lx_pcalls::{bury, die};
 use lx_proc::{Body, Life, Shared};
@@ -170,12 +171,20 @@ fn turn_own(
     }
 }
 
+/// A process leaves the table.
+#[inline(never)]
+fn remove(owns: &mut Map<Own<Body>>, pid: u32)
+    ensures { owns.new ≡ maps.remove owns.old pid }
+{
+    owns.remove(pid);
+}
+
 /// Who is gone leaves the table.
 fn remove_gone(owns: &mut Map<Own<Body>>, pid: u32, gone: bool)
     ensures { owns.new ≡ without_gone owns.old pid gone }
 {
     if gone {
-        owns.remove(pid);
+        remove(owns, pid);
     }
 }
 

@@ -8,7 +8,6 @@ pub mod effects;
 mod first;
 pub mod kernel;
 pub mod laws;
-pub mod occurrences;
 mod outcome;
 mod scheduling;
 mod signals;

@@ -3,7 +3,8 @@
 ghost use Rattle.std.specs.Prelude.{◌≡◌, IfOk};
 ghost use Rattle.lx_kernel.specs.Outcomes.{outcome_in};
 
-use lx_abi::{Bytes, Outcome};
+use containers::Bytes;
+use lx_abi::Outcome;
 use lx_proc::Shared;
 use std::alloc::{AllocError, Global};
 

@@ -4,7 +4,7 @@ ghost use Rattle.std.specs.Prelude.{◌≡◌, ◌+◌};
 ghost use Rattle.lx_kernel.specs.Scheduling.{IsFirstFrom};
 
 use crate::blocking::can_turn;
-use lx_abi::Map;
+use containers::Map;
 use lx_model::Own;
 use lx_proc::{Body, Shared};
 

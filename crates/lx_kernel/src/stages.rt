@@ -193,7 +193,8 @@ fn return_with(body: &mut Body, call: Call, value: u64, done: Effect) -> Went
     Went::acted(call, value, done)
 }
 
-/// A call is done, if it can be.
+/// A call is done, if it can be. Apart, since a function pays at its entry for the size of its locals.
+#[inline(never)]
 fn do_call(
     alloc: Global,
     shared: &mut Shared,

@@ -3,8 +3,7 @@
 ghost use Rattle.std.specs.Prelude.{◌≡◌};
 ghost use Rattle.lx_kernel.specs.Tampering.{choice_in};
 
-use crate::occurrences::Occurrences;
-use lx_abi::{Choice, Script};
+use lx_abi::{Choice, Occurrences, Script};
 
 /// What a script does, and the entries that it counts.
 #[derive(Clone, Copy)]

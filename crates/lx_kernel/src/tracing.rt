@@ -5,7 +5,8 @@ ghost use Rattle.lx_model.specs.Finite.{at};
 ghost use Rattle.lx_model.specs.declared.stage.Own.TheVariants.{Gone};
 ghost use Rattle.lx_kernel.specs.Tracing.{regs_of, peek_of, signal_of, with_regs, with_joined, with_dropped, with_part_at, IsPart, joining, dropping};
 
-use lx_abi::{Bytes, Cause, Map, Registers, Signal};
+use containers::{Bytes, Map};
+use lx_abi::{Cause, Registers, Signal};
 use lx_model::{Own, Stage};
 use lx_proc::{Body, registers_of, set_registers};
 use std::alloc::AllocError;

@@ -10,7 +10,7 @@ use Rattle.std.specs.declared.ops.Bound.TheVariants.{Included, Unbounded}
 use Rattle.std.specs.BTreeMap.{BTreeMap, get}
 use Rattle.std.specs.BTreeMap.Range.{IsRangeOf, IsEntryInRange, IsLeBy}
 use Rattle.std.specs.FinMap as maps
-use Rattle.lx_abi.proofs.Maps.{get-entries}
+use Rattle.containers.proofs.Maps.{get-entries}
 use Rattle.lx_open.specs.Kinds.{Slot}
 use Rattle.lx_open.specs.Nexts.{IsFirstFrom}
 

@@ -5,7 +5,7 @@ use Rattle.std.specs.Prelude.{Some, None, is_none, find, if◌then◌else◌}
 use Rattle.std.specs.Option.{unwrap_or}
 use Rattle.std.specs.List.{range_with_len}
 use Rattle.std.specs.FinMap as maps
-use Rattle.lx_abi.specs.Vacant.{vacant}
+use Rattle.containers.specs.Vacant.{vacant}
 use Rattle.lx_files.specs.Tallies.{holds}
 use Rattle.lx_open.specs.Kinds.{Description, Slot, SlotMap, names_description, reads_pipe}
 use Rattle.lx_open.specs.Kinds.{writes_pipe, has_node, moved}

@@ -2,13 +2,13 @@
 
 ghost use Rattle.std.specs.Prelude.{◌≡◌, OnOk, IfOk};
 ghost use Rattle.std.specs.FinMap as maps;
-ghost use Rattle.lx_abi.specs.Vacant.{vacant};
+ghost use Rattle.containers.specs.Vacant.{vacant};
 ghost use Rattle.lx_files.specs.Tallies.{holds};
 ghost use Rattle.lx_open.specs.Kinds.{reads_pipe, writes_pipe, has_node, moved};
 
 use crate::description::Description;
 use crate::ends::Ends;
-use lx_abi::Map;
+use containers::Map;
 use std::alloc::{AllocError, Global};
 use std::marker::Model;
 

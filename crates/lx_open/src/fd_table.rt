@@ -12,7 +12,7 @@ use crate::description::{Description, Slot};
 use crate::descriptions::Descriptions;
 use crate::queue::Queue;
 use crate::slots::Slots;
-use lx_abi::Map;
+use containers::Map;
 use std::alloc::{AllocError, Global};
 
 /// A process has at most so many descriptors.

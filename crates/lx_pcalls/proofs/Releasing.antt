@@ -9,7 +9,7 @@ use Rattle.std.specs.Cmp.{nat_cmp_total}
 use Rattle.std.proofs.lemmas.Bool.Decides.{nat_tests}
 use Rattle.lx_proc.specs.declared.state.Entry.{Entry}
 use Rattle.lx_proc.specs.State.{Entries}
-use Rattle.lx_abi.specs.Keys.{IsNextKey}
+use Rattle.containers.specs.Keys.{IsNextKey}
 use Rattle.lx_pcalls.specs.Ends.{is_zombie, orphan, released_entry, released}
 use Rattle.lx_pcalls.proofs.Finding.{left, right, lower, differ, differ_above, same, skip, not_below, never}
 

@@ -7,7 +7,8 @@ ghost use Rattle.lx_pcalls.specs.Clone.{clone as meaning, with_child, child_entr
 ghost use Rattle.lx_pcalls.specs.Clone.{child_hart as hart_of_child};
 ghost use Rattle.lx_pcalls.specs.Clone.{has_room as has_room_for};
 
-use lx_abi::{Bytes, Call, Errno};
+use containers::Bytes;
+use lx_abi::{Call, Errno};
 use lx_proc::{Body, Entry, LAST_PID, Life, MOST_PROCESSES, Reply, Shared};
 use lx_sig::for_child;
 use rv_hart::Hart;
@@ -77,6 +78,7 @@ fn bear(
 
 /// clone(flags, stack), of a child with this pid. EINVAL for other flags than SIGCHLD; EAGAIN where the table is full,
 /// or there is no such pid.
+#[inline(never)]
 #[tactic(auto, unfolding(crate::specs::Clone::clone))]
 pub fn clone(
     alloc: Global,

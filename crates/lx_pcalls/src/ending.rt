@@ -8,7 +8,8 @@ ghost use Rattle.lx_pcalls.specs.Ends.{with_life, with_word, dies, orphaned, cau
 ghost use Rattle.lx_pcalls.specs.Ends.{released as released_entries};
 ghost use Rattle.lx_pcalls.specs.Ends.{wants_no_news as wants_no_news_of, told, retired, buried};
 
-use lx_abi::{Cause, Map, Signal};
+use containers::Map;
+use lx_abi::{Cause, Signal};
 use lx_open::release::close_all;
 use lx_proc::{Entry, Life, Shared};
 use lx_sig::{action, make_pending};
@@ -43,6 +44,7 @@ fn close_descriptors(shared: &mut Shared, pid: u32)
 }
 
 /// A process enters Dying: its descriptors are closed, and its wait word is kept.
+#[inline(never)]
 pub fn die(shared: &mut Shared, pid: u32, word: u32) -> Result<(), AllocError>
     ensures died { OnOk result (shared.new ≡ dies shared.old pid word) }
     ensures console { OnErr result (shared.new.console ≡ shared.old.console) }
@@ -139,6 +141,7 @@ fn retire(entries: &mut Map<Entry>, pid: u32, word: u32, parent: u32)
 
 /// A process leaves Dying: its parent gets SIGCHLD, unless it is set to be ignored, and its children are orphans. Takes
 /// no memory.
+#[inline(never)]
 #[tactic(auto, unfolding(crate::specs::Ends::buried))]
 pub fn bury(shared: &mut Shared, pid: u32, word: u32)
     ensures { shared.new ≡ buried shared.old pid word }

@@ -6,7 +6,8 @@ ghost use Rattle.lx_proc.specs.State.{changed};
 ghost use Rattle.lx_proc.specs.Answers.{answer_of, Kept};
 ghost use Rattle.lx_pcalls.specs.Kill.{kill as meaning, kills, sent_to};
 
-use lx_abi::{Call, Cause, Errno, Map, Signal};
+use containers::Map;
+use lx_abi::{Call, Cause, Errno, Signal};
 use lx_proc::{Body, Entry, Life, Reply, Shared};
 use lx_sig::{Aim, aim_of_kill, make_pending};
 

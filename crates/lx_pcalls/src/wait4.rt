@@ -8,7 +8,8 @@ ghost use Rattle.lx_pcalls.specs.Wait4.{is_child as is_child_of, is_meant as is_
 ghost use Rattle.lx_pcalls.specs.Wait4.{first_child as first_child_of};
 ghost use Rattle.lx_pcalls.specs.Wait4.{zombie_word as zombie_word_of, word_in, reaps, waits, IsNextThat};
 
-use lx_abi::{Call, Errno, Map};
+use containers::Map;
+use lx_abi::{Call, Errno};
 use lx_proc::{Body, Entry, Life, Reply, Shared};
 use lx_sig::low_argument;
 use rv_mem::MemFault;
@@ -126,6 +127,8 @@ fn word_of(entries: &Map<Entry>, pid: u32) -> Option<u32>
     }
 }
 
+/// Apart, since a function pays at its entry for the size of its locals.
+#[inline(never)]
 fn wait(
     shared: &mut Shared,
     call: &Call,

@@ -4,7 +4,7 @@ use Rattle.std.specs.FinMap as maps
 use Rattle.std.specs.List.Sorted.{IsStrictlySortedBy}
 use Rattle.std.specs.Ordering.{nat_cmp}
 use Rattle.lx_abi.specs.declared.outcome.Ended.{Ended}
-use Rattle.lx_abi.proofs.Listed.{entries-sorted}
+use Rattle.containers.proofs.Listed.{entries-sorted}
 use Rattle.lx_proc.specs.WaitWords.{ended_of, ends_of}
 
 module _ {A B : Type 0} (f : A → B) where

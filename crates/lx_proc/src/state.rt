@@ -1,7 +1,7 @@
 //! What processes share, and what each has to itself.
 
 use crate::wait_words::WaitWords;
-use lx_abi::{Bytes, Map};
+use containers::{Bytes, Map};
 use lx_files::Tree;
 use lx_open::{FdTable, Queue};
 use lx_sig::{Interrupted, Signals};

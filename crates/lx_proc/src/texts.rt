@@ -5,7 +5,7 @@ ghost use Rattle.std.specs.List.{list_any};
 ghost use Rattle.lx_proc.specs.Texts.{any_length, whole, text_at as text_in, texts_at as texts_in, list_at as list_in};
 ghost use Rattle.lx_proc.specs.Read.{text_of, ReadsWithin, Reads, is_unreadable, too_large_if, is_text as is_text_at, is_no_text, AreTexts};
 
-use lx_abi::Bytes;
+use containers::Bytes;
 use rv_mem::Space;
 use std::alloc::{AllocError, Global};
 

@@ -4,7 +4,8 @@ ghost use Rattle.std.specs.Prelude.{◌≡◌, OnOk, OnErr, IfOk, map};
 ghost use Rattle.std.specs.FinMap as maps;
 ghost use Rattle.lx_proc.specs.WaitWords.{ended_of, ends_of};
 
-use lx_abi::{Ended, Seq};
+use containers::Seq;
+use lx_abi::Ended;
 use std::alloc::{AllocError, Global};
 use std::collections::BTreeMap;
 use std::marker::Model;

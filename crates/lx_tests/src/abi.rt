@@ -1,9 +1,8 @@
 //! Outside examples: the tables of errno(3), strerror(3), signal(7) and Linux, and scripts worked by hand.
 
+use containers::{Bytes, Map, Seq};
 use lx_abi::calls::{call_classes, call_format, call_name, call_number};
-use lx_abi::{
-    Argument, Bytes, Choice, Class, Errno, Format, Map, Rule, Script, Seq, Set, Signal, When,
-};
+use lx_abi::{Argument, Choice, Class, Errno, Format, Rule, Script, Set, Signal, When};
 use std::alloc::{AllocError, Global};
 use std::test::Fail;
 

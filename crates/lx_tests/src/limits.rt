@@ -1,6 +1,7 @@
 //! Boots at their limits, and one past them.
 
-use lx_abi::{Boot, Bytes, GuestFile, Script, Seq};
+use containers::{Bytes, Seq};
+use lx_abi::{Boot, GuestFile, Script};
 use lx_boot::BootFault;
 use lx_kernel::Kernel;
 use std::alloc::{AllocError, Global};

@@ -1,7 +1,8 @@
 //! execve with long lists, by a guest that is laid out by hand.
 
+use containers::{Bytes, Seq};
 use elf_image::{Image, Rights, Segment, Segments};
-use lx_abi::{Boot, Bytes, GuestFile, Item, Script, Seq};
+use lx_abi::{Boot, GuestFile, Item, Script};
 use lx_kernel::Kernel;
 use std::alloc::{AllocError, Global};
 use std::test::Fail;
@@ -52,7 +53,7 @@ fn file(alloc: Global, count: usize, last: u64) -> Result<Bytes, AllocError> {
             write: false,
             execute: true,
         },
-        bytes: elf_image::Bytes::from_vec(bytes),
+        bytes: Bytes::from_vec(bytes),
     })?;
     let image = Image {
         entry: 0x1_0000,

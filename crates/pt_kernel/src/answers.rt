@@ -23,7 +23,8 @@ ghost use Rattle.pt_kernel.specs.Hosts.{hosting_by, made, IsSwept, IsAnswer, Ans
 
 use crate::stops::{is_alive, is_entered};
 use crate::tracees::Tracees;
-use lx_abi::{Ask, Bytes, Cause, Info, Reply, Signal};
+use containers::Bytes;
+use lx_abi::{Ask, Cause, Info, Reply, Signal};
 use lx_kernel::Kernel;
 use pt_model::{Traced, Watch};
 use std::alloc::AllocError;

@@ -107,7 +107,8 @@ impl TracedKernel {
         }
     }
 
-    /// The pending request is served whole.
+    /// The pending request is served whole. Apart, since a function pays at its entry for the size of its locals.
+    #[inline(never)]
     fn serve(&mut self) -> Result<Option<Reply>, Failed>
         requires { IsSwept self.old.kernel.running }
         ensures served { IfOk result

@@ -9,7 +9,8 @@ ghost use Rattle.pt_model.specs.Requests.{told};
 ghost use Rattle.pt_kernel.specs.Tracees.{heir, message_after, stopped_at, with_child, attached, after_turn, waited, tells, took, seized};
 
 use crate::queue::Queue;
-use lx_abi::{EventStop, Map, Reply, Stop};
+use containers::Map;
+use lx_abi::{EventStop, Reply, Stop};
 use lx_model::Deed;
 use pt_model::{Report, Traced, Watch};
 use std::alloc::{AllocError, Global};

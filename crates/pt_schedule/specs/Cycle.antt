@@ -1,9 +1,6 @@
 -- The next able process in the cycle of pids.
 use Rattle.std.specs.Prelude.{◌≡◌, ℕ, zero, suc, ◌+◌, ◌-◌, ◌<◌, min, Bool, false, cond, Option, Some, None}
-
--- the highest pid
-abbrev pub last_pid : ℕ
-last_pid = 255
+use Rattle.lx_proc.specs.State.{last_pid}
 
 -- the first of n pids from p on that is able
 abbrev pub first_able : (ℕ → Bool) → ℕ → ℕ → Option ℕ

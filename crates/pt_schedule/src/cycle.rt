@@ -4,8 +4,7 @@ ghost use Rattle.std.specs.Prelude.{◌≡◌, ◌-◌, ◌+◌, ◌≤◌, ◌<
 ghost use Rattle.pt_schedule.specs.Cycle.{first_able, next_able};
 
 use crate::system::System;
-
-const LAST_PID: u32 = 255;
+use lx_proc::LAST_PID;
 
 /// The first of the pids from one up to before another that is able.
 fn first_able<S: System>(system: &S, from: u32, end: u32) -> Option<u32>

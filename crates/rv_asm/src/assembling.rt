@@ -10,7 +10,8 @@ ghost use Rattle.rv_asm.specs.declared.fault.AsmKind.TheVariants.{Memory};
 use crate::code::find_address;
 use crate::fault::{AsmFault, AsmKind};
 use crate::listing::{START, emit, place};
-use elf_image::{Bytes, Image, Rights, Segment, Segments};
+use containers::Bytes;
+use elf_image::{Image, Rights, Segment, Segments};
 use rv_syntax::pieces;
 use std::alloc::{AllocError, Global};
 

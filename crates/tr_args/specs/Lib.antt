@@ -6,4 +6,5 @@ pub mod Kinds
 pub mod Lists
 pub mod Paths
 pub mod Progress
+pub mod Reads
 pub mod Texts

@@ -6,7 +6,7 @@ ghost use Rattle.tr_args.specs.Decoders as spec;
 
 use crate::context::Context;
 use crate::progress::{Made, go_on};
-use lx_abi::Bytes;
+use containers::Bytes;
 use std::alloc::{AllocError, Global};
 use std::marker::Model;
 use std::mem;

@@ -6,6 +6,7 @@ mod buffers;
 mod context;
 mod decoder;
 mod environments;
+pub mod halves;
 mod kinds;
 mod laws;
 mod lists;
@@ -14,4 +15,5 @@ mod progress;
 
 pub use context::Context;
 pub use decoder::{Decoder, made};
+pub use halves::{Half, Reading};
 pub use laws::texts_are_whole;

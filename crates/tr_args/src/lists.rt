@@ -6,7 +6,7 @@ ghost use Rattle.tr_values.specs.Numbers.{pointer_text};
 ghost use Rattle.tr_values.specs.Sheets.{Leaves, put};
 ghost use Rattle.tr_args.specs.Progress.{Takes, Goes, Begins, Finds, item_shown, items_left, end_text, list_shown, list_left, opened};
 
-use lx_abi::Bytes;
+use containers::Bytes;
 use std::alloc::{AllocError, Global};
 use tr_values::escapes::{cut, first, nul_at, quoted};
 use tr_values::{Sheet, Stop, numbers};

@@ -73,6 +73,12 @@ pub more : (k : Known) (place : Place) (bytes : List ℕ) (pen : Pen) → bytes 
 unfolding wrote_of pen_after
 more k place bytes pen e = record { known = refl; place = refl; text = e; pen = refl }
 
+-- the same where the place is known by what it stands for
+pub more_of : (k : Known) (place : Place) (asked : tracer.Place) (bytes : List ℕ) (pen : Pen) → place_of place ≡ asked → bytes ≡ []
+    → Comes (moves k asked) k (Some place) bytes pen pen
+unfolding wrote_of pen_after
+more_of k place asked bytes pen p e = record { known = refl; place = ap (λ l. Some l) (sym p); text = e; pen = refl }
+
 -- the same at what the code knows
 pub stops : (k m : Known) (pl ql : tracer.Place) (next : Option Place) (bytes : List ℕ) (pen : Pen) → m ≡ k → ql ≡ pl → Comes (moves m ql) m next bytes pen pen → Comes (moves k pl) m next bytes pen pen
 stops k m pl ql next bytes pen e f h = subst (λ p. Comes (moves k p) m next bytes pen pen) f (subst (λ l. Comes (moves l ql) m next bytes pen pen) e h)

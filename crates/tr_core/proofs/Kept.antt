@@ -18,7 +18,7 @@ use Rattle.tr_core.specs.Hearings.{Comes, LeavesOthers, counts_at, stop_heard, h
 use Rattle.tr_core.specs.Known.{known_of, new_tracee, place_of}
 use Rattle.tr_core.specs.Pens.{Pen}
 use Rattle.tr_core.specs.Tracers.{Goes, focus_of, known_in}
-use Rattle.tr_core.specs.declared.occurrences.Occurrences.{Occurrences}
+use Rattle.lx_abi.specs.declared.occurrences.Occurrences.{Occurrences}
 use Rattle.tr_core.specs.declared.place.Place.{Place}
 use Rattle.tr_core.specs.declared.place.Tracee.{Tracee}
 use Rattle.tr_core.specs.declared.tracer.Core.{Core}

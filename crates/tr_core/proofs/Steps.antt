@@ -15,12 +15,12 @@ use Rattle.pt_model.specs.Tracer as tracer
 use Rattle.tr_core.specs.Hearings.{counts_at}
 use Rattle.tr_core.specs.Settings.{options_of, script_of}
 use Rattle.tr_core.specs.Known.{known_of, new_tracee, place_of}
-use Rattle.tr_core.specs.Occurrences.{count_of}
+use Rattle.lx_abi.specs.Occurrences.{count_of}
 use Rattle.tr_core.specs.Pens.{wrote, pen_after}
 use Rattle.tr_core.specs.States.{moved, said, heard, is_faulted, is_faulted_at, admitted, act_of, request_of, Hears}
 use Rattle.tr_core.specs.Admitted.{told_status, says_childless, says_out, told_outcome, waits_by, serves_by, ends_by, next_by, tracees_by}
 use Rattle.tr_core.specs.Tracers.{Goes, Steps, focus_of, known_in, tracer_in, admits_in, state_in}
-use Rattle.tr_core.specs.declared.occurrences.Occurrences.{Occurrences}
+use Rattle.lx_abi.specs.declared.occurrences.Occurrences.{Occurrences}
 use Rattle.tr_core.specs.declared.place.Focus.{Focus}
 use Rattle.tr_core.specs.declared.place.Focus.TheVariants as focus
 use Rattle.tr_core.specs.declared.place.Tracee.{Tracee}

@@ -9,7 +9,7 @@ use Rattle.pt_model.specs.Replies.{after_all}
 use Rattle.tr_core.specs.Pens.{Pen, bytes_of_part, pen_after_part, wrote, pen_after}
 use Rattle.tr_core.specs.States.{State, moved, said, heard, told, text}
 use Rattle.tr_core.specs.Laws.{StatesAreTracers, TextsAreWhole, TracersWriteRenderings}
-use Rattle.tr_core.specs.Reads.{wants_of, text_of}
+use Rattle.tr_args.specs.Reads.{wants_of, text_of}
 use Rattle.tr_args.specs.Texts.{TextsAreTexts}
 use Rattle.tr_line.specs.Printing.{PrinterWritesTheRendering, written, new_printing}
 

@@ -22,8 +22,8 @@ use Rattle.pt_model.specs.declared.standing.Standing.TheVariants.{AfterSignal as
 use Rattle.pt_model.specs.Tracer as tracer
 use Rattle.tr_core.specs.declared.place.Place.{Place}
 use Rattle.tr_core.specs.Known.{place_of}
-use Rattle.tr_core.specs.Occurrences.{count_of}
-use Rattle.tr_core.specs.declared.occurrences.Occurrences.{Occurrences}
+use Rattle.lx_abi.specs.Occurrences.{count_of}
+use Rattle.lx_abi.specs.declared.occurrences.Occurrences.{Occurrences}
 use Rattle.tr_core.specs.Pens.{Pen, wrote, pen_after}
 
 -- how often a process has entered each call

@@ -5,7 +5,7 @@ use Rattle.lx_model.specs.Kernel.{Script}
 use Rattle.pt_model.specs.Parts.{Options}
 use Rattle.pt_model.specs.Headline.{IsTexts}
 use Rattle.pt_model.specs.Replies.{told_by}
-use Rattle.tr_core.specs.Reads.{texts_of}
+use Rattle.tr_args.specs.Reads.{texts_of}
 use Rattle.tr_line.specs.Lines.{rendering}
 use Rattle.tr_line.specs.Printing.{new_printing}
 use Rattle.tr_line.specs.declared.layout.Layout.{Layout}

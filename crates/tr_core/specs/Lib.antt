@@ -1,5 +1,3 @@
-pub mod Occurrences
-pub mod Reads
 pub mod Known
 pub mod Faults
 pub mod Settings

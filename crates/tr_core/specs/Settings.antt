@@ -4,7 +4,7 @@ use Rattle.lx_model.specs.Kernel.{Script}
 use Rattle.pt_model.specs.Parts as parts
 use Rattle.tr_core.specs.declared.settings.Settings.{Settings}
 use Rattle.tr_core.specs.declared.settings.Options.{Options}
-use Rattle.tr_core.specs.Reads.{texts_of}
+use Rattle.tr_args.specs.Reads.{texts_of}
 use Rattle.tr_core.specs.Pens.{Pen}
 use Rattle.tr_line.specs.Printing.{new_printing}
 use Rattle.tr_line.specs.declared.layout.Layout.{Layout}

@@ -10,20 +10,20 @@ ghost use Rattle.lx_model.specs.Turn.{result_word};
 ghost use Rattle.lx_abi.specs.Scripts.{includes};
 ghost use Rattle.tr_core.specs.Settings.{options_of, script_of};
 ghost use Rattle.tr_core.specs.Known.{known_of, place_of};
-ghost use Rattle.tr_core.specs.Occurrences.{count_of};
+ghost use Rattle.lx_abi.specs.Occurrences.{count_of};
 ghost use Rattle.tr_core.specs.Pens.{Pen, wrote, pen_after};
 ghost use Rattle.tr_core.specs.Hearings.{Comes, LeavesOthers, counts_at, going_on, regs_in, told_info, says_done};
 ghost use Rattle.tr_core.specs.Hearings.{at_entry_regs, at_exit_regs, at_exit_set, at_entry_set, at_info, heard_by};
 ghost use Rattle.tr_core.specs.Hearings.{stop_heard};
 
-use crate::occurrences::Occurrences;
 use crate::place::{Place, Tracee};
 use crate::printer;
 use crate::settings::Settings;
-use crate::texts::{self, Half, Reading};
-use lx_abi::{Bytes, Call, Choice, EventStop, Info, Registers, Reply, Stop};
+use containers::Bytes;
+use lx_abi::{Call, Choice, EventStop, Info, Occurrences, Registers, Reply, Stop};
 use pt_model::Standing;
-use std::alloc::AllocError;
+use std::alloc::{AllocError, Global};
+use tr_args::{Half, Reading};
 use tr_line::Printer;
 
 /// The number -1, which no call has.
@@ -81,7 +81,7 @@ fn print_entry(
         return Ok(Bytes::new(settings.alloc));
     }
     let half = Half::Entry { call, stack };
-    let text = texts::text(settings.alloc, settings.options.string_limit, half, got)?;
+    let text = got.text(settings.alloc, settings.options.string_limit, half)?;
     let bytes = printer::enter(printer, pid, call, text.as_str())?;
     Ok(bytes)
 }
@@ -109,21 +109,26 @@ fn print_exit(
         call,
         result: value,
     };
-    let text = texts::text(settings.alloc, settings.options.string_limit, half, got)?;
+    let text = got.text(settings.alloc, settings.options.string_limit, half)?;
     let bytes = printer::leave(printer, pid, call, value, replaced, text.as_str())?;
     Ok(bytes)
 }
 
 /// How a tracee goes on from its entry stop.
-fn go_on(registers: Registers, signal: u32, saved: Option<u64>) -> Place
-    ensures { place_of result ≡ going_on registers signal saved }
+fn go_on(
+    alloc: Global,
+    registers: Registers,
+    signal: u32,
+    saved: Option<u64>,
+) -> Result<Place, AllocError>
+    ensures { IfOk result (λ place. place_of place ≡ going_on registers signal saved) }
 {
     match saved {
-        None => Place::Resuming { signal },
-        Some(_) => Place::EntrySet {
-            registers: with_number(registers, NO_CALL),
+        None => Ok(Place::Resuming { signal }),
+        Some(_) => Ok(Place::EntrySet {
+            registers: Box::new(alloc, with_number(registers, NO_CALL))?,
             signal,
-        },
+        }),
     }
 }
 
@@ -170,13 +175,14 @@ fn enter(
     };
     let choice = settings.script.choose(entered.number, occurrence);
     let saved = given(choice);
+    let place = go_on(settings.alloc, registers, joined(choice), saved)?;
     let bytes = print_entry(settings, printer, pid, entered, registers[2], got)?;
     counts.count(pid, entered.number)?;
     tracee.called = entered;
     tracee.saved = saved;
     tracee.standing = Standing::Read;
     Ok(Heard {
-        next: Some(go_on(registers, joined(choice), saved)),
+        next: Some(place),
         bytes,
     })
 }
@@ -204,17 +210,21 @@ fn read_entry(
     };
     let limit = settings.options.string_limit;
     let got = got.begun(settings.alloc, limit, half)?;
-    let wish = texts::wants(settings.alloc, limit, half, &got)?;
+    let wish = got.wants(settings.alloc, limit, half)?;
     match wish {
         None => enter(settings, counts, printer, pid, tracee, registers, &got),
-        Some(want) => Ok(Heard {
-            next: Some(Place::EntryPeek {
-                registers,
-                got,
-                want,
-            }),
-            bytes: Bytes::new(settings.alloc),
-        }),
+        Some(want) => {
+            let boxed = Box::new(settings.alloc, registers)?;
+            let bytes = Bytes::new(settings.alloc);
+            Ok(Heard {
+                next: Some(Place::EntryPeek {
+                    registers: boxed,
+                    got,
+                    want,
+                }),
+                bytes,
+            })
+        }
     }
 }
 
@@ -263,7 +273,7 @@ fn read_exit(
     };
     let limit = settings.options.string_limit;
     let got = got.begun(settings.alloc, limit, half)?;
-    let wish = texts::wants(settings.alloc, limit, half, &got)?;
+    let wish = got.wants(settings.alloc, limit, half)?;
     match wish {
         None => leave(settings, printer, pid, tracee, value, replaced, &got),
         Some(want) => Ok(Heard {
@@ -418,10 +428,11 @@ fn hear_exit(
         }
         Some(value) => {
             let registers = with_number(with_result(registers, value), tracee.called.number);
+            let boxed = Box::new(settings.alloc, registers)?;
             Ok(asks(
                 settings,
                 Place::ExitSet {
-                    registers,
+                    registers: boxed,
                     result: value,
                 },
             ))
@@ -627,6 +638,7 @@ pub(crate) fn hear(
         }
         Place::EntryPeek { registers, got, .. } => {
             let came = read_by(settings, reply);
+            let registers = Box::into_inner(registers);
             hear_entry_bytes(settings, counts, printer, pid, tracee, registers, got, came)
         }
         Place::EntrySet { signal, .. } => Ok(hear_set(settings, signal, is_done(&reply))),

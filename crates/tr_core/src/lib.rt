@@ -5,11 +5,9 @@ mod admission;
 mod hearing;
 pub mod laws;
 mod living;
-mod occurrences;
 mod place;
 mod printer;
 pub mod settings;
-mod texts;
 pub mod tracer;
 pub mod tracing;
 

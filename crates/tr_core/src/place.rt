@@ -1,8 +1,8 @@
 //! What a tracer knows of a tracee, and what it is asking.
 
-use crate::texts::Reading;
 use lx_abi::{Call, Outcome, Registers};
 use pt_model::Standing;
+use tr_args::Reading;
 
 /// What is known of one tracee, beside how often it entered each call.
 #[derive(Clone, Copy, Debug, PartialEq, Eq)]
@@ -19,17 +19,17 @@ pub enum Place {
     Seizing,
     EntryRegs,
     EntryPeek {
-        registers: Registers,
+        registers: Box<Registers>,
         got: Reading,
         want: (u64, u32),
     },
     EntrySet {
-        registers: Registers,
+        registers: Box<Registers>,
         signal: u32,
     },
     ExitRegs,
     ExitSet {
-        registers: Registers,
+        registers: Box<Registers>,
         result: u64,
     },
     ExitPeek {

@@ -4,7 +4,8 @@ ghost use Rattle.std.specs.Prelude.{◌≡◌, IfOk, OnOk};
 ghost use Rattle.tr_core.specs.Pens.{bytes_of_part, pen_after_part};
 ghost use Rattle.pt_model.specs.Parts.{Part_enter, Part_done, Part_signal, Part_exit};
 
-use lx_abi::{Bytes, Call, Info};
+use containers::Bytes;
+use lx_abi::{Call, Info};
 use std::alloc::AllocError;
 use tr_line::Printer;
 

@@ -20,11 +20,11 @@ ghost use Rattle.tr_core.specs.Admitted.{next_by, tracees_by};
 use crate::admission::{admits_answer, stop_fits};
 use crate::hearing::{hear, is_done, take_stop};
 use crate::living::Living;
-use crate::occurrences::Occurrences;
 use crate::place::{Focus, Place, Tracee};
 use crate::settings::{Options, Settings};
 use crate::tracing::{Act, TraceFault, Tracing};
-use lx_abi::{Ask, Bytes, Call, Map, Outcome, Reply, Request, Script, Stop};
+use containers::{Bytes, Map};
+use lx_abi::{Ask, Call, Occurrences, Outcome, Reply, Request, Script, Stop};
 use pt_model::Standing;
 use std::alloc::{AllocError, Global};
 use std::mem;
@@ -347,7 +347,7 @@ fn ask_of(settings: &Settings, place: &Place) -> Ask
             length: want.1,
         },
         Place::EntrySet { registers, .. } | Place::ExitSet { registers, .. } => Ask::SetRegs {
-            registers: *registers,
+            registers: **registers,
         },
         Place::SignalInfo { .. } => Ask::SigInfo,
         Place::Resuming { signal } => Ask::Syscall { signal: *signal },

@@ -4,7 +4,8 @@ ghost use Rattle.std.specs.Prelude.{◌≡◌, ◌≤◌, ◌^◌, ℕ};
 ghost use Rattle.tr_core.specs.Faults.{fault_number};
 ghost use Rattle.tr_core.specs.States.{taken_of, Hears};
 
-use lx_abi::{Bytes, Reply, Request};
+use containers::Bytes;
+use lx_abi::{Reply, Request};
 use thiserror::Error;
 
 /// What to print, and what to ask then.

@@ -11,7 +11,8 @@ ghost use Rattle.tr_expr.specs.Faults.{found};
 use crate::fault::ExprFault;
 use crate::item::{Picks, read_item};
 use crate::text;
-use lx_abi::{Seq, Set};
+use containers::Seq;
+use lx_abi::Set;
 use std::alloc::{AllocError, Global};
 
 /// What the items so far pick, and the fault that is found first.

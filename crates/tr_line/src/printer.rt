@@ -7,7 +7,8 @@ ghost use Rattle.tr_line.specs.Printing as spec;
 use crate::layout::{Layout, Open};
 use crate::lines::{done_text, end_text, enter_text, signal_text};
 use crate::text::Text;
-use lx_abi::{Info, Map};
+use containers::Map;
+use lx_abi::Info;
 use std::alloc::{AllocError, Global};
 use std::marker::Model;
 

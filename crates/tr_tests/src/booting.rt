@@ -1,6 +1,7 @@
 //! What the tests of whole runs begin with.
 
-use lx_abi::{Boot, Bytes, GuestFile, Script, Seq};
+use containers::{Bytes, Seq};
+use lx_abi::{Boot, GuestFile, Script};
 use rv_asm::assemble;
 use std::alloc::Global;
 use std::test::Fail;

@@ -12,6 +12,8 @@ mod lines;
 #[cfg(test)]
 mod local_runs;
 #[cfg(test)]
+mod random_runs;
+#[cfg(test)]
 mod reading;
 #[cfg(test)]
 mod runs;

@@ -1,7 +1,8 @@
 //! Whole runs in one process: listings that are assembled, booted and traced.
 
 use crate::booting::{boot, script};
-use lx_abi::{Bytes, Event, Outcome, Script};
+use containers::Bytes;
+use lx_abi::{Event, Outcome, Script};
 use lx_boot::BootFault;
 use pt_kernel::Schedule;
 use std::alloc::Global;

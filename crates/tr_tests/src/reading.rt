@@ -1,6 +1,6 @@
 //! Texts read from a small memory.
 
-use lx_abi::Bytes;
+use containers::Bytes;
 use std::alloc::{AllocError, Global};
 use tr_args::Decoder;
 

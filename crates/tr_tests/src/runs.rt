@@ -1,8 +1,9 @@
 //! Whole runs over replies that were kept: the trace, and how the run ended.
 
 use crate::steps::{BEGUN, BY_USR1, EXECED, FORKED, SYSCALL, Step, options, reply};
+use containers::Bytes;
 use host_link::{LinkFault, Recorded};
-use lx_abi::{Bytes, Script};
+use lx_abi::Script;
 use std::alloc::Global;
 use std::test::Fail;
 use tr_core::TraceFault;

@@ -1,6 +1,7 @@
 //! Replies of a host, as rows of tables.
 
-use lx_abi::{Bytes, Info, Outcome, Reply, Seq, Set, Status};
+use containers::{Bytes, Seq};
+use lx_abi::{Info, Outcome, Reply, Set, Status};
 use std::alloc::{AllocError, Global};
 use tr_core::Options;
 

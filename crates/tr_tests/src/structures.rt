@@ -1,7 +1,7 @@
 //! Texts of lists and structures over a small memory: each format with each of its forms, worked out by hand.
 
 use crate::reading::{MINUS_1, MINUS_512, Memory, entry, letters, rest};
-use lx_abi::Bytes;
+use containers::Bytes;
 use std::alloc::{AllocError, Global};
 use std::test::Fail;
 use tr_args::{Context, Decoder, made};

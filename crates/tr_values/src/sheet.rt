@@ -5,7 +5,7 @@ ghost use Rattle.std.specs.Fmt.{digits};
 ghost use Rattle.tr_values.specs.Sheets as spec;
 ghost use Rattle.tr_values.specs.declared.sheet.Stop.TheVariants.{Memory};
 
-use lx_abi::Bytes;
+use containers::Bytes;
 use std::alloc::{AllocError, Global};
 use std::marker::Model;
 

@@ -9,9 +9,10 @@ ghost use Rattle.tr_core.specs.Settings.{first_pen, options_by};
 ghost use Rattle.tr_core.specs.Outcomes.{outcome_of};
 ghost use Rattle.lx_abi.specs.Scripts.{choice_of};
 
+use containers::Bytes;
 use host_link::{Link, LinkFault};
 use host_wire::{Broken, Sink};
-use lx_abi::{Bytes, Outcome, Reply, Script};
+use lx_abi::{Outcome, Reply, Script};
 use std::alloc::Global;
 use thiserror::Error;
 use tr_core::{Act, Options, TraceFault, Tracer, Tracing};

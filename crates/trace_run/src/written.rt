@@ -3,8 +3,8 @@
 ghost use Rattle.std.specs.Prelude.{◌≡◌, []};
 ghost use Rattle.trace_run.specs.Writings.{writing};
 
+use containers::Bytes;
 use host_wire::{Broken, Sink};
-use lx_abi::Bytes;
 use std::alloc::Global;
 use std::marker::Model;
 

@@ -3,7 +3,7 @@ use Rattle.std.specs.Prelude.{OnSome}
 use Rattle.std.specs.FinMap as maps
 use Rattle.lx_files.specs.Kinds.{changed_file}
 use Rattle.lx_files.proofs.Sizes.{kept_cleared}
-use Rattle.lx_abi.specs.Vacant.{IsFullBelow}
+use Rattle.containers.specs.Vacant.{IsFullBelow}
 use Rattle.lx_files.proofs.Full.{full_insert}
 use Rattle.lx_files.proofs.nodes.Nodes.clear.Goals as goal
 

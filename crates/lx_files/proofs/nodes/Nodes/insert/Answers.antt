@@ -1,7 +1,7 @@
 use Rattle.std.proofs.Common.{sym, subst, ◌∙◌, rules}
 use Rattle.std.specs.Cmp.{nat_cmp_total}
 use Rattle.std.specs.FinMap as maps
-use Rattle.lx_abi.specs.Vacant.{IsFullBelow}
+use Rattle.containers.specs.Vacant.{IsFullBelow}
 use Rattle.lx_files.specs.Kinds.{size_of}
 use Rattle.lx_files.proofs.Full.{full_insert, full_more}
 use Rattle.lx_files.proofs.Totals.{kept_more, put_back}

@@ -5,7 +5,7 @@ use Rattle.std.specs.FinMap as maps
 use Rattle.lx_files.specs.Kinds.{size_of, changed_file}
 use Rattle.lx_files.specs.Contents.{overwritten}
 use Rattle.lx_files.proofs.Totals.{kept_alike, kept_changed}
-use Rattle.lx_abi.specs.Vacant.{IsFullBelow}
+use Rattle.containers.specs.Vacant.{IsFullBelow}
 use Rattle.lx_files.proofs.Full.{full_insert}
 use Rattle.lx_files.proofs.nodes.Nodes.overwrite.Goals as goal
 

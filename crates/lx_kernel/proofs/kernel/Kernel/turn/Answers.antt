@@ -3,7 +3,7 @@ use Rattle.lx_model.specs.Deeds.{deed_of}
 use Rattle.lx_model.specs.Finite.{item_of, Running}
 use Rattle.lx_proc.specs.declared.state.Shared.{Shared}
 use Rattle.lx_proc.specs.declared.state.Body.{Body}
-use Rattle.lx_kernel.specs.Occurrences.{count_of}
+use Rattle.lx_abi.specs.Occurrences.{count_of}
 use Rattle.lx_kernel.specs.Runs.{Run, turn_in, after_turn, mode_in}
 use Rattle.lx_kernel.proofs.Turning.{on_err, kernel_item, kernel_deed, kernel_left, kernel_born, kernel_console, kernel_turned}
 use Rattle.lx_kernel.proofs.kernel.Kernel.turn.Goals as goal

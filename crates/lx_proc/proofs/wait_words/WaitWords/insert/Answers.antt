@@ -1,6 +1,6 @@
 use Rattle.std.proofs.Common.{ap, ◌∙◌}
 use Rattle.std.specs.FinMap as maps
-use Rattle.lx_abi.proofs.Maps.{made_by_insert}
+use Rattle.containers.proofs.Maps.{made_by_insert}
 use Rattle.lx_proc.proofs.wait_words.WaitWords.insert.Goals as goal
 
 pub returns-clause-ok : goal.returns-clause-ok

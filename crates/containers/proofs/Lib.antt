@@ -1,0 +1,4 @@
+pub mod Listed
+pub mod Maps
+pub mod NextKeys
+pub mod Vacant

@@ -1,5 +1,0 @@
-use Rattle.lx_abi.specs.Vacant.{IsFullBelow}
-use Rattle.lx_abi.proofs.map.Map.vacant.Given as goal
-
-abbrev pub invariant-loop-number : goal.invariant-loop-number
-invariant-loop-number g l = IsFullBelow l.self l.number

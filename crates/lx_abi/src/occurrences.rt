@@ -1,0 +1,42 @@
+//! How often each process has entered each call.
+
+ghost use Rattle.std.specs.Prelude.{◌≡◌, ◌==◌, ◌&&◌, ◌+◌, OnOk, if◌then◌else◌, ℕ};
+ghost use Rattle.lx_abi.specs.Occurrences.{count_of};
+
+use std::alloc::{AllocError, Global};
+use std::collections::BTreeMap;
+
+/// Entries of each process into each call, by pid and number.
+#[derive(Drop)]
+pub struct Occurrences {
+    counts: BTreeMap<(u32, u64), u64>,
+}
+
+impl Occurrences {
+    pub fn new(alloc: Global) -> Self
+        ensures { (pid number : ℕ) → count_of result pid number ≡ 0 }
+    {
+        Occurrences {
+            counts: BTreeMap::new(alloc),
+        }
+    }
+
+    /// The latest occurrence of a call.
+    pub fn latest(&self, pid: u32, number: u64) -> u64
+        ensures { result ≡ count_of self.now pid number }
+    {
+        self.counts.get(&(pid, number)).copied().unwrap_or(0)
+    }
+
+    /// Counts an entry.
+    pub fn count(&mut self, pid: u32, number: u64) -> Result<(), AllocError>
+        ensures { OnOk result ((p n : ℕ) → count_of self.new p n ≡ (if (p == pid) && (n == number) then 1 else 0) + count_of self.old p n) }
+    {
+        // More entries than 64 bits count are more than any memory holds in the log.
+        let Some(next) = self.latest(pid, number).checked_add(1) else {
+            return Err(AllocError);
+        };
+        self.counts.insert((pid, number), next)?;
+        Ok(())
+    }
+}
