@@ -63,8 +63,23 @@ fn step(host: &mut Host, letter: char) -> char {
     }
 }
 
+/// The steps give these letters.
+fn give(host: &mut Host, steps: &str, letters: &str) -> bool {
+    for (letter, gives) in steps.chars().zip(letters.chars()) {
+        if step(host, letter) != gives {
+            return false;
+        }
+    }
+    true
+}
+
+/// The effective turns are so many of process 1.
+fn has_turned(host: &Host, turns: u64) -> bool {
+    host.turns().runs() == [TurnRun { pid: 1, turns }].as_slice()
+}
+
 /// A second request is refused, and it is the first that a Serve answers. Turns come without a Wait too, up to the next
-/// stop.
+/// stop; a turn of a held process is none.
 #[test]
 fn one_request_at_a_time(rt: HostRuntime) -> Result<(), Fail> {
     let mut host = booted(rt.alloc())?;
@@ -82,13 +97,9 @@ fn one_request_at_a_time(rt: HostRuntime) -> Result<(), Fail> {
         // No status is left: Wait stays pending.
         ("wSzS", ".-b-"),
     ];
-    for (steps, wanted) in rows {
-        for (letter, gives) in steps.chars().zip(wanted.chars()) {
-            assert_eq!(rt; step(&mut host, letter), gives, "{letter} of {steps}");
-        }
+    for (steps, letters) in rows {
+        assert!(rt; give(&mut host, steps, letters), "{steps}");
     }
-    // A turn of a held process is none.
-    let turns = [TurnRun { pid: 1, turns: 2 }];
-    assert_eq!(rt; host.turns().runs(), turns.as_slice());
+    assert!(rt; has_turned(&host, 2));
     Ok(())
 }

@@ -184,19 +184,23 @@ pub(crate) fn fed(alloc: Global) -> Result<Feed, Fail> {
     }
 }
 
+/// How many replies and faults a link counts.
+fn counts<L: Link>(link: &L) -> (u64, u64) {
+    (link.asked(), link.faults())
+}
+
 /// What a link in this process answers, and how many replies and faults it counts.
-fn in_this_process(alloc: Global) -> Result<(Vec<u8>, u64, u64), Fail> {
+fn in_this_process(alloc: Global) -> Result<(Vec<u8>, (u64, u64)), Fail> {
     let mut feed = fed(alloc)?;
     let mut link = link_of(alloc, &mut feed)?;
     let written = answered(alloc, &mut link, &mut feed)?;
-    Ok((written, link.asked(), link.faults()))
+    Ok((written, counts(&link)))
 }
 
 #[test]
 fn answered_in_this_process(rt: HostRuntime) -> Result<(), Fail> {
-    let (written, asked, faults) = in_this_process(rt.alloc())?;
-    assert_eq!(rt; asked, 16);
-    assert_eq!(rt; faults, 0);
+    let (written, counts) = in_this_process(rt.alloc())?;
+    assert_eq!(rt; counts, (16, 0));
     // The first reply is that to the boot.
     let wanted = replies(rt.alloc())?;
     assert_eq!(rt;
@@ -212,10 +216,10 @@ fn over_pipes<R: Source + Drop, W: Sink + Drop>(
     reader: R,
     writer: W,
     feed: &mut Feed,
-) -> Result<(Vec<u8>, u64, u64), Fail> {
+) -> Result<(Vec<u8>, (u64, u64)), Fail> {
     let mut link = PipeLink::new(alloc, reader, writer)?;
     let written = answered(alloc, &mut link, feed)?;
-    Ok((written, link.asked(), link.faults()))
+    Ok((written, counts(&link)))
 }
 
 /// Over pipes the requests are the frames that a host reads, and the replies those that it writes.
@@ -227,14 +231,8 @@ fn answered_over_pipes(rt: HostRuntime) -> Result<(), Fail> {
         let mut feed = fed(alloc)?;
         let mut sent = Vec::new(alloc);
         let reader = Counted::new(Pieces::new(replies.as_slice(), most, false));
-        let (written, asked, faults) = over_pipes(
-            alloc,
-            reader,
-            Counted::new(&mut sent),
-            &mut feed,
-        )?;
-        assert_eq!(rt; asked, 17);
-        assert_eq!(rt; faults, 0);
+        let (written, counts) = over_pipes(alloc, reader, Counted::new(&mut sent), &mut feed)?;
+        assert_eq!(rt; counts, (17, 0));
         assert_eq!(rt; written.as_slice(), replies.as_slice());
         assert_eq!(rt; sent.as_slice(), requests(alloc)?.as_slice());
     }
