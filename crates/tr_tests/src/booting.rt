@@ -1,7 +1,7 @@
 //! What the tests of whole runs begin with.
 
 use containers::{Bytes, Seq};
-use lx_abi::{Boot, GuestFile, Script};
+use lx_abi::{Boot, GuestFile, Rule, Script};
 use rv_asm::assemble;
 use std::alloc::Global;
 use std::test::Fail;
@@ -26,13 +26,21 @@ pub(crate) fn boot(alloc: Global, path: &str, listing: &str, follow: bool) -> Re
     })
 }
 
+fn fault(alloc: Global, text: &str) -> Result<Rule, Fail> {
+    Ok(parse_fault(alloc, text)?)
+}
+
+fn inject(alloc: Global, text: &str) -> Result<Rule, Fail> {
+    Ok(parse_inject(alloc, text)?)
+}
+
 /// The script of an expression behind `inject=` or, with a first letter `!`, behind `fault=`; the empty one of none.
-pub(crate) fn script(alloc: Global, rule: &str) -> Result<Script, Fail> {
+pub(crate) fn script(alloc: Global, text: &str) -> Result<Script, Fail> {
     let mut rules = Vec::new(alloc);
-    match rule.strip_prefix("!") {
-        Some(rule) => rules.push(parse_fault(alloc, rule)?)?,
-        None if rule.is_empty() => {}
-        None => rules.push(parse_inject(alloc, rule)?)?,
+    match text.strip_prefix("!") {
+        Some(text) => rules.push(fault(alloc, text)?)?,
+        None if text.is_empty() => {}
+        None => rules.push(inject(alloc, text)?)?,
     }
     Ok(Script::new(rules))
 }

@@ -4,7 +4,7 @@
 use crate::booting::boot;
 use lx_abi::{Node, Outcome, Script, Word};
 use lx_kernel::Kernel;
-use pt_kernel::Schedule;
+use pt_kernel::{Schedule, TurnRun};
 use std::alloc::{AllocError, Global};
 use std::test::Fail;
 use tr_core::Options;
@@ -203,23 +203,33 @@ fn traced(alloc: Global, case: u64) -> Result<Run, Fail> {
 /// So many turns of a process.
 fn turn(kernel: &mut Kernel, pid: u32, turns: u64) -> Result<(), AllocError> {
     for _ in 0..turns {
-        let Ok(_) = kernel.turn(pid) else {
+        if kernel.turn(pid).is_err() {
             return Err(AllocError);
-        };
+        }
     }
     Ok(())
 }
 
-/// The untraced kernel of a case, by these turns.
-fn untraced(alloc: Global, case: u64, run: &Run) -> Result<Outcome, Fail> {
+fn turn_by(kernel: &mut Kernel, rows: &[TurnRun]) -> Result<(), AllocError> {
+    for row in rows {
+        turn(kernel, row.pid, row.turns)?;
+    }
+    Ok(())
+}
+
+/// The untraced kernel of a case.
+fn booted(alloc: Global, case: u64) -> Result<Kernel, Fail> {
     let mut chance = Chance::new(case);
     let follow = chance.below(4) > 0;
     let guest = listing(alloc, &mut chance)?;
     let script = script(alloc, &mut chance)?;
-    let mut kernel = Kernel::boot(alloc, boot(alloc, "/p", guest.as_str(), follow)?, script)?;
-    for row in run.turns.runs() {
-        turn(&mut kernel, row.pid, row.turns)?;
-    }
+    Ok(Kernel::boot(alloc, boot(alloc, "/p", guest.as_str(), follow)?, script)?)
+}
+
+/// What it leaves after these turns.
+fn untraced(alloc: Global, case: u64, rows: &[TurnRun]) -> Result<Outcome, Fail> {
+    let mut kernel = booted(alloc, case)?;
+    turn_by(&mut kernel, rows)?;
     Ok(kernel.outcome()?)
 }
 
@@ -248,14 +258,22 @@ fn is_same(one: &Outcome, other: &Outcome) -> bool {
         && have_same_files(one, other)
 }
 
+fn is_whole(run: &Run) -> bool {
+    matches!(run.ended, Ended::Whole(_))
+}
+
+fn has_several(outcome: &Outcome) -> bool {
+    outcome.ended.as_slice().len() > 1
+}
+
 /// What a case shows: the outcomes are one, the run is whole, several processes have ended.
 fn seen(alloc: Global, case: u64) -> Result<(bool, bool, bool), Fail> {
     let run = traced(alloc, case)?;
-    let outcome = untraced(alloc, case, &run)?;
+    let outcome = untraced(alloc, case, run.turns.runs())?;
     Ok((
         is_same(&run.outcome, &outcome),
-        matches!(run.ended, Ended::Whole(_)),
-        outcome.ended.as_slice().len() > 1,
+        is_whole(&run),
+        has_several(&outcome),
     ))
 }
 
@@ -267,8 +285,8 @@ fn outcomes_of_random_runs(rt: HostRuntime) -> Result<(), Fail> {
     for case in 0..CASES {
         let (same, is_whole, has_several) = seen(rt.alloc(), case)?;
         assert!(rt; same, "case {case}");
-        whole += u64::from(is_whole);
-        several += u64::from(has_several);
+        whole = whole.saturating_add(u64::from(is_whole));
+        several = several.saturating_add(u64::from(has_several));
     }
     assert!(rt; 0 < whole && whole < CASES && 0 < several);
     Ok(())
