@@ -1,7 +1,3 @@
-pub mod Forms
-pub mod Inverse
-pub mod Lists
+pub mod Asks
 pub mod Messages
-pub mod Registers
-pub mod Sizes
 pub mod Whole

@@ -1,11 +1,7 @@
--- What is read is spelled so, and what is spelled so is read: messages by kind, and frames.
-use Rattle.std.proofs.Common.{◌≡◌, ℕ, zero, suc, ◌+◌, ◌*◌, ◌%◌, ◌^◌, ◌<◌, ◌≤◌, Bool, true, false, cond, not, ◌&&◌, ltb, eqb, List, [], ◌∷◌, ◌++◌, length, get_or, take, drop, Option, Some, None, refl, sym, ap, subst, ◌∙◌, append_assoc, append-nil, arith, inl, inr, ◌⊎◌}
-use Rattle.std.specs.List.{AllByRecursion}
-use Rattle.std.proofs.lemmas.Bool.{cases_Bool, eqb-true}
-use Rattle.std.proofs.lemmas.List.{take_at, drop_at, drop-drop, drop_more, length-append, length-drop, take-append-drop}
+-- What is read is spelled so, and what is spelled so is read: messages by kind, and bodies.
+use Rattle.std.proofs.Common.{◌≡◌, ℕ, zero, suc, ◌^◌, ◌<◌, Bool, true, false, cond, ◌&&◌, ltb, eqb, List, [], ◌++◌, length, Option, Some, None, refl, sym, ap, subst, ◌∙◌, append_assoc, append-nil, arith, inl, inr}
+use Rattle.std.proofs.lemmas.Bool.{eqb-true, ltb-true, and_parts}
 use Rattle.std.proofs.lemmas.Option.{some_pair_parts}
-use Rattle.byteorder.specs.Endian.{big_number, big_bytes}
-use Rattle.byteorder.specs.Numbers.{big_number-reads_back, big_from-lt, length-bytes_high_first}
 use Rattle.lx_abi.specs.declared.boot.Boot.{Boot}
 use Rattle.lx_abi.specs.declared.boot.GuestFile.{GuestFile}
 use Rattle.lx_abi.specs.declared.outcome.OutcomeFile.{OutcomeFile}
@@ -17,16 +13,41 @@ use Rattle.lx_abi.specs.declared.ptrace.Request.{Request}
 use Rattle.lx_abi.specs.declared.ptrace.Request.TheVariants.{Boot as Boot_with, Wait, To, Outcome as Ask_outcome}
 use Rattle.lx_abi.specs.declared.ptrace.Reply.{Reply}
 use Rattle.lx_abi.specs.declared.ptrace.Reply.TheVariants.{Done, Status as Status_is, Registers as Registers_are, Bytes as Bytes_are, Message as Message_is, Info as Info_is, Outcome as Outcome_is, Errno as Errno_is, OutOfTurns, Refused}
+use Rattle.host_values.specs.Reading.{◌>>=◌, paths_rise, pids_rise}
+use Rattle.host_values.specs.Spelling.{byte, word, double, registers, text, items, guest_file, outcome_file, ended, schedule_word, AreRegisters, FitsText, FitItems, FitsWord, FitsOutcomeFile, FitsEnded}
+use Rattle.host_values.proofs.Forms.{IsBytes, IsForm, Takes, same, bind_some, some_is, byte_form, word_form, double_form, registers_form, text_form, items_form, of_one, of_two, and_then, pick}
+use Rattle.host_values.proofs.Inverse.{retyped, of_one_if, of_two_to, if_some, choose, no_items, guest_file_items, schedule_word_items, outcome_file_items, ended_items}
 use Rattle.host_frame.specs.declared.frame.Body.{Body}
 use Rattle.host_frame.specs.declared.frame.Body.TheVariants.{Request as Of_request, Reply as Of_reply}
-use Rattle.host_frame.specs.declared.frame.Frame.{Frame}
-use Rattle.host_frame.specs.Reading.{◌>>=◌, boot_at, parts_at, outcome_at, items_at, request_at, reply_at, body_at, frame_at, status_at, regs_at, bytes_at, message_at, info_at, errno_at, refused_at, to_at, paths_rise, pids_rise}
 use Rattle.host_frame.specs.Reading as reading
-use Rattle.host_frame.specs.Spelling.{byte, word, double, registers, text, items, flag, head, parts, boot, guest_file, outcome_file, ended, schedule_word, ask_message, request_message, reply_message, message, content, spelled, AreRegisters, FitsText, FitItems, FitsGuestFile, FitsWord, FitsBoot, FitsAsk, FitsRequest, FitsReply, FitsOutcome, FitsOutcomeFile, FitsEnded, FitsInfo, FitsMessage, FitsFrame}
-use Rattle.host_frame.proofs.Forms.{IsBytes, IsBytes-drop, IsForm, Takes, Takes-then, same, bind_some, some_is, byte_form, word_form, double_form, registers_form, text_form, items_form, info_form, info_is, of_one, of_two, and_then, pick, to_takes, to_again}
-use Rattle.host_frame.proofs.Inverse.{retyped, of_one_if, choose, no_items, follow_form, guest_file_items, schedule_word_items, outcome_file_items, ended_items}
+use Rattle.host_frame.specs.Reading.{flag_of, follow_at, boot_at, parts_at, outcome_at, request_at, reply_at, body_at, frame_at, status_at, regs_at, bytes_at, message_at, info_at, errno_at, refused_at, to_at}
+use Rattle.host_frame.specs.Spelling.{flag, head, parts, boot, ask_message, request_message, reply_message, message, FitsBoot, FitsRequest, FitsReply, FitsMessage}
+use Rattle.host_frame.proofs.Asks.{to_takes, to_again}
 
 -- ---- a boot
+
+flag_small : (b : Bool) → flag b < 256 ^ 1
+flag_small true = omega arith
+flag_small false = omega arith
+
+flag_spelled : (follow : ℕ) → follow < 2 → flag (eqb follow 1) ≡ follow
+flag_spelled zero lt = refl
+flag_spelled (suc zero) lt = refl
+flag_spelled (suc (suc n)) lt = absurd (omega (arith, lt))
+
+flag_down : (version follow : ℕ) (b : Bool) → version < 256 ^ 1 → follow < 256 ^ 1 → flag_of version follow ≡ Some b → (byte 1 ++ byte (flag b) ≡ byte version ++ byte follow) × Unit {0}
+flag_down version follow b small little e =
+    let h = if_some (eqb version 1 && ltb follow 2) (eqb follow 1) b e in
+    let both = and_parts (eqb version 1) (ltb follow 2) h.0 in
+    (ap (λ (v : ℕ). byte v ++ byte (flag b)) (sym (eqb-true version 1 both.0)) ∙ ap (λ (f : ℕ). byte version ++ byte f) (ap flag (sym h.1) ∙ flag_spelled follow (ltb-true follow 2 both.1)), tt)
+
+flag_again : (b : Bool) → flag_of 1 (flag b) ≡ Some b
+flag_again true = refl
+flag_again false = refl
+
+follow_form : IsForm (same {A = Bool}) (λ b. Unit {0}) (λ b. byte 1 ++ byte (flag b)) follow_at
+unfolding follow_at
+follow_form = of_two_to flag_of (same {A = Bool}) (λ b. byte 1 ++ byte (flag b)) (λ b. Unit {0}) byte_form byte_form flag_down (λ b fits. (1, (flag b, (omega arith, (flag_small b, (refl, flag_again b))))))
 
 abbrev boot_of : Bool → List ℕ → List (List ℕ) → List (List ℕ) → List GuestFile → Boot
 boot_of follow input argv env files = record { files = files; argv = argv; env = env; input = input; follow = follow }
@@ -73,6 +94,20 @@ outcome_form =
     and_then (λ c (v : List OutcomeFile × List Ended). outcome_is c v.0 v.1) text_form
     (λ c. and_then (λ fs (es : List Ended). outcome_is c fs es) (items_form outcome_file_items)
     (λ fs. of_one_if (λ es. paths_rise None fs && pids_rise None es) (λ es. outcome_is c fs es) (items_form ended_items)))
+
+abbrev info_is : ℕ → ℕ → ℕ → ℕ → ℕ → Reply
+info_is signal code pid status address = Info_is (record { signal = signal; code = code; pid = pid; status = status; address = address })
+
+info_form : IsForm {A = ℕ × (ℕ × (ℕ × (ℕ × ℕ)))} (λ v. info_is v.0 v.1.0 v.1.1.0 v.1.1.1.0 v.1.1.1.1)
+    (λ v. (v.0 < 256 ^ 4) × ((v.1.0 < 256 ^ 4) × ((v.1.1.0 < 256 ^ 4) × ((v.1.1.1.0 < 256 ^ 4) × (v.1.1.1.1 < 256 ^ 8)))))
+    (λ v. word v.0 ++ (word v.1.0 ++ (word v.1.1.0 ++ (word v.1.1.1.0 ++ double v.1.1.1.1)))) info_at
+unfolding info_at
+info_form =
+    and_then (λ s (v : ℕ × (ℕ × (ℕ × ℕ))). info_is s v.0 v.1.0 v.1.1.0 v.1.1.1) word_form
+    (λ s. and_then (λ c (v : ℕ × (ℕ × ℕ)). info_is s c v.0 v.1.0 v.1.1) word_form
+    (λ c. and_then (λ p (v : ℕ × ℕ). info_is s c p v.0 v.1) word_form
+    (λ p. and_then (λ t (a : ℕ). info_is s c p t a) word_form
+    (λ t. of_one (info_is s c p t) double_form))))
 
 status_form : IsForm {A = ℕ × ℕ} (λ v. Status_is v.0 (record { word = v.1 })) (λ v. (v.0 < 256 ^ 4) × (v.1 < 256 ^ 4)) (λ v. word v.0 ++ word v.1) status_at
 unfolding status_at

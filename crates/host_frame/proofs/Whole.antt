@@ -1,17 +1,19 @@
 -- What is read is spelled so, and what is spelled so is read: frames.
-use Rattle.std.proofs.Common.{◌≡◌, ℕ, ◌+◌, ◌*◌, ◌%◌, ◌^◌, ◌<◌, ◌≤◌, List, [], ◌∷◌, ◌++◌, length, get_or, take, drop, Option, Some, None, refl, sym, ap, subst, ◌∙◌, append_assoc, arith}
+use Rattle.std.proofs.Common.{◌≡◌, ℕ, ◌+◌, ◌%◌, ◌<◌, ◌≤◌, List, [], ◌∷◌, ◌++◌, length, get_or, take, drop, Option, Some, refl, sym, ap, subst, ◌∙◌, append_assoc, arith}
 use Rattle.std.proofs.lemmas.List.{drop_at, drop-drop, drop_more, get_or-drop, length-append, length-drop, take-append-drop}
-use Rattle.byteorder.specs.Endian.{big_number, big_bytes}
+use Rattle.byteorder.specs.Endian.{big_number}
 use Rattle.byteorder.specs.Numbers.{big_from-lt, big_number-reads_back, length-bytes_high_first}
 use Rattle.lx_abi.specs.declared.ptrace.Ask.TheVariants.{Seize, SetOptions, GetRegs, SetRegs, Peek, Syscall, EventMsg, SigInfo}
 use Rattle.lx_abi.specs.declared.ptrace.Request.TheVariants.{Boot as Boot_with, Wait, To, Outcome as Ask_outcome}
 use Rattle.lx_abi.specs.declared.ptrace.Reply.TheVariants.{Done, Status as Status_is, Registers as Registers_are, Bytes as Bytes_are, Message as Message_is, Info as Info_is, Outcome as Outcome_is, Errno as Errno_is, OutOfTurns, Refused}
+use Rattle.host_values.specs.Reading.{◌>>=◌}
+use Rattle.host_values.specs.Spelling.{byte, word, double}
+use Rattle.host_values.proofs.Forms.{IsBytes, IsBytes-drop, back4, back8, bind_some, some_is}
 use Rattle.host_frame.specs.declared.frame.Body.{Body}
 use Rattle.host_frame.specs.declared.frame.Body.TheVariants.{Request as Of_request, Reply as Of_reply}
 use Rattle.host_frame.specs.declared.frame.Frame.{Frame}
-use Rattle.host_frame.specs.Reading.{◌>>=◌, body_at, frame_at, told_length}
-use Rattle.host_frame.specs.Spelling.{byte, word, double, message, content, spelled, FitsFrame}
-use Rattle.host_frame.proofs.Forms.{IsBytes, IsBytes-drop, back4, back8, bind_some, some_is}
+use Rattle.host_frame.specs.Reading.{body_at, frame_at, told_length}
+use Rattle.host_frame.specs.Spelling.{message, content, spelled, FitsFrame}
 use Rattle.host_frame.proofs.Messages.{body_takes, body_again}
 
 abbrev frame_is : ℕ → Body → Frame

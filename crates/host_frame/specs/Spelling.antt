@@ -1,76 +1,27 @@
 -- The one spelling of each frame: a length, a number, a kind, a body.
 use Rattle.std.specs.Prelude.{◌≡◌, ℕ, ◌^◌, ◌<◌, ◌≤◌, Bool, List, [], ◌++◌, length, cond, None, true, ◌&&◌}
-use Rattle.std.specs.List.{flat_map, AllByRecursion}
-use Rattle.byteorder.specs.Endian.{big_bytes, little_bytes}
 use Rattle.lx_abi.specs.declared.boot.Boot.{Boot}
-use Rattle.lx_abi.specs.declared.boot.GuestFile.{GuestFile}
-use Rattle.lx_abi.specs.declared.outcome.Node.{Node}
-use Rattle.lx_abi.specs.declared.outcome.Node.TheVariants.{File, Directory}
-use Rattle.lx_abi.specs.declared.outcome.OutcomeFile.{OutcomeFile}
-use Rattle.lx_abi.specs.declared.outcome.Ended.{Ended}
 use Rattle.lx_abi.specs.declared.outcome.Outcome.{Outcome}
 use Rattle.lx_abi.specs.declared.ptrace.Info.{Info}
-use Rattle.host_frame.specs.Reading.{paths_rise, pids_rise}
 use Rattle.lx_abi.specs.declared.schedule.Word.{Word}
-use Rattle.lx_abi.specs.declared.schedule.Word.TheVariants.{Turn, TurnAlone, Serve, UntilReturn}
 use Rattle.lx_abi.specs.declared.ptrace.Ask.{Ask}
 use Rattle.lx_abi.specs.declared.ptrace.Ask.TheVariants.{Seize, SetOptions, GetRegs, SetRegs, Peek, Syscall, EventMsg, SigInfo}
 use Rattle.lx_abi.specs.declared.ptrace.Request.{Request}
 use Rattle.lx_abi.specs.declared.ptrace.Request.TheVariants.{Boot as Boot_with, Wait, To, Outcome as Ask_outcome}
 use Rattle.lx_abi.specs.declared.ptrace.Reply.{Reply}
 use Rattle.lx_abi.specs.declared.ptrace.Reply.TheVariants.{Done, Status as Status_is, Registers as Registers_are, Bytes as Bytes_are, Message as Message_is, Info as Info_is, Outcome as Outcome_is, Errno as Errno_is, OutOfTurns, Refused}
+use Rattle.host_values.specs.Reading.{paths_rise, pids_rise}
+use Rattle.host_values.specs.Spelling.{byte, word, double, registers, text, items, guest_file, schedule_word, outcome_file, ended, AreRegisters, FitsText, FitItems, FitsGuestFile, FitsWord, FitsOutcomeFile, FitsEnded}
 use Rattle.host_frame.specs.declared.fault.WireFault.{WireFault}
 use Rattle.host_frame.specs.declared.fault.WireFault.TheVariants.{Length, Kind, Body as Body_fault, Memory}
 use Rattle.host_frame.specs.declared.frame.Body.{Body}
 use Rattle.host_frame.specs.declared.frame.Body.TheVariants.{Request as Of_request, Reply as Of_reply}
 use Rattle.host_frame.specs.declared.frame.Frame.{Frame}
 
--- ---- fields
-
-abbrev pub byte : ℕ → List ℕ
-byte n = big_bytes 1 n
-
-abbrev pub word : ℕ → List ℕ
-word n = big_bytes 4 n
-
-abbrev pub double : ℕ → List ℕ
-double n = big_bytes 8 n
-
--- pc and x1 to x31, the lowest byte first
-abbrev pub registers : List ℕ → List ℕ
-registers rs = flat_map (little_bytes 8) rs
-
--- a length of 4 bytes, and that many bytes
-unfoldable pub text : List ℕ → List ℕ
-text bytes = word (length bytes) ++ bytes
-
--- a count of 4 bytes, and that many items
-unfoldable pub items : {X : Type 0} → (X → List ℕ) → List X → List ℕ
-items spell xs = word (length xs) ++ flat_map spell xs
-
--- ---- parts of a boot and of an outcome
+-- ---- parts of a boot
 
 abbrev pub flag : Bool → ℕ
 flag b = cond b 1 0
-
-abbrev pub guest_file : GuestFile → List ℕ
-guest_file f = text f.path ++ text f.content
-
-abbrev pub schedule_word : Word → List ℕ
-schedule_word (Turn p) = byte 1 ++ word p
-schedule_word (TurnAlone p) = byte 2 ++ word p
-schedule_word Serve = byte 3 ++ word 0
-schedule_word (UntilReturn p) = byte 4 ++ word p
-
-abbrev pub node : Node → List ℕ
-node (File content) = byte 1 ++ text content
-node Directory = byte 2 ++ text []
-
-abbrev pub outcome_file : OutcomeFile → List ℕ
-outcome_file f = text f.path ++ node f.node
-
-abbrev pub ended : Ended → List ℕ
-ended e = word e.pid ++ word e.word
 
 -- a version, follow, a limit
 unfoldable pub head : Bool → ℕ → List ℕ
@@ -117,10 +68,7 @@ abbrev pub message : Body → ℕ × List ℕ
 message (Of_request r) = request_message r
 message (Of_reply r) = reply_message r
 
--- ---- what has a spelling: numbers of their widths, 32 registers
-
-abbrev pub AreRegisters : List ℕ → Type 0
-AreRegisters rs = (length rs ≡ 32) × AllByRecursion (λ r. r < 256 ^ 8) rs
+-- ---- what has a spelling
 
 abbrev pub FitsAsk : Ask → Type 0
 FitsAsk (Seize options) = options < 256 ^ 4
@@ -132,21 +80,6 @@ FitsAsk (Syscall signal) = signal < 256 ^ 4
 FitsAsk EventMsg = Unit {0}
 FitsAsk SigInfo = Unit {0}
 
-abbrev pub FitsText : List ℕ → Type 0
-FitsText t = length t < 256 ^ 4
-
-abbrev pub FitItems : {X : Type 0} → (X → Type 0) → List X → Type 0
-FitItems Fits xs = (length xs < 256 ^ 4) × AllByRecursion Fits xs
-
-abbrev pub FitsGuestFile : GuestFile → Type 0
-FitsGuestFile f = FitsText f.path × FitsText f.content
-
-abbrev pub FitsWord : Word → Type 0
-FitsWord (Turn p) = p < 256 ^ 4
-FitsWord (TurnAlone p) = p < 256 ^ 4
-FitsWord Serve = Unit {0}
-FitsWord (UntilReturn p) = p < 256 ^ 4
-
 abbrev pub FitsBoot : Boot → Type 0
 FitsBoot b = FitsText b.input × (FitItems FitsText b.argv × (FitItems FitsText b.env × FitItems FitsGuestFile b.files))
 
@@ -155,16 +88,6 @@ FitsRequest (Boot_with b limit words) = (limit < 256 ^ 8) × (FitsBoot b × FitI
 FitsRequest (To pid ask) = (pid < 256 ^ 4) × FitsAsk ask
 FitsRequest Wait = Unit {0}
 FitsRequest Ask_outcome = Unit {0}
-
-abbrev pub FitsNode : Node → Type 0
-FitsNode (File content) = FitsText content
-FitsNode Directory = Unit {0}
-
-abbrev pub FitsOutcomeFile : OutcomeFile → Type 0
-FitsOutcomeFile f = FitsText f.path × FitsNode f.node
-
-abbrev pub FitsEnded : Ended → Type 0
-FitsEnded e = (e.pid < 256 ^ 4) × (e.word < 256 ^ 4)
 
 -- its paths rise, and its pids
 abbrev pub IsInOrder : Outcome → Type 0

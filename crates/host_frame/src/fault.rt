@@ -47,30 +47,3 @@ impl<T: Drop> From<AllocFailed<T>> for WireFault {
         WireFault::Memory
     }
 }
-
-/// Why a body isn't read.
-#[derive(Clone, Copy, Debug, PartialEq, Eq)]
-pub(crate) enum Bad {
-    Memory,
-    Body,
-}
-
-impl<T: Drop> From<AllocFailed<T>> for Bad {
-    ghost use Rattle.host_frame.specs.declared.fault.Bad.TheVariants.{Memory};
-
-    ghost from_gives = { λ _ e. e ≡ Memory };
-
-    fn from(_: AllocFailed<T>) -> Bad {
-        Bad::Memory
-    }
-}
-
-impl From<AllocError> for Bad {
-    ghost use Rattle.host_frame.specs.declared.fault.Bad.TheVariants.{Memory};
-
-    ghost from_gives = { λ _ e. e ≡ Memory };
-
-    fn from(_: AllocError) -> Bad {
-        Bad::Memory
-    }
-}

@@ -1,13 +1,9 @@
 //! A message frame between a tracer and its host, and its bytes.
 #![tactic(auto)]
 
-mod cursor;
 pub mod fault;
-mod fields;
 pub mod frame;
-mod item;
 pub mod laws;
-mod order;
 mod reading;
 mod sizing;
 mod writing;

@@ -1,15 +1,16 @@
 //! The message that a body spells.
 
 ghost use Rattle.std.specs.Prelude.{◌≡◌, ◌≤◌, length};
+ghost use Rattle.host_values.specs.Reading.{Gives};
 ghost use Rattle.host_frame.specs.Reading as spec;
-ghost use Rattle.host_frame.specs.Reading.{Decodes, Gives};
+ghost use Rattle.host_frame.specs.Reading.{Decodes};
 
-use crate::cursor::{byte_at, double_at, registers_of, text_of, word_at};
-use crate::fault::{Bad, WireFault};
+use crate::fault::WireFault;
 use crate::frame::{Body, Frame};
-use crate::item::list_of;
-use crate::order::{paths_rise, pids_rise};
 use byteorder::{BigEndian, ByteOrder};
+use host_values::{
+    Bad, byte_at, double_at, list_of, paths_rise, pids_rise, registers_of, text_of, word_at,
+};
 use lx_abi::{Ask, Boot, Info, Outcome, Reply, Request, Status};
 use std::alloc::Global;
 
@@ -30,10 +31,10 @@ fn set_options(bytes: &[u8]) -> Result<(Ask, &[u8]), Bad>
 }
 
 #[tactic(auto, unfolding(crate::specs::Reading::set_regs_at))]
-fn set_regs(bytes: &[u8]) -> Result<(Ask, &[u8]), Bad>
+fn set_regs(alloc: Global, bytes: &[u8]) -> Result<(Ask, &[u8]), Bad>
     ensures { Gives (λ x. (x.0, x.1.now)) result (spec.set_regs_at bytes.now) }
 {
-    let (registers, rest) = registers_of(bytes)?;
+    let (registers, rest) = registers_of(alloc, bytes)?;
     Ok((Ask::SetRegs { registers }, rest))
 }
 
@@ -55,14 +56,14 @@ fn syscall(bytes: &[u8]) -> Result<(Ask, &[u8]), Bad>
 }
 
 /// What is asked of one process, by the kind of its message.
-fn ask(kind: u8, bytes: &[u8]) -> Result<(Ask, &[u8]), Bad>
+fn ask(alloc: Global, kind: u8, bytes: &[u8]) -> Result<(Ask, &[u8]), Bad>
     ensures { Gives (λ x. (x.0, x.1.now)) result (spec.ask_at kind bytes.now) }
 {
     match kind {
         0x02 => seize(bytes),
         0x03 => set_options(bytes),
         0x05 => Ok((Ask::GetRegs, bytes)),
-        0x06 => set_regs(bytes),
+        0x06 => set_regs(alloc, bytes),
         0x07 => peek(bytes),
         0x08 => syscall(bytes),
         0x09 => Ok((Ask::EventMsg, bytes)),
@@ -72,11 +73,11 @@ fn ask(kind: u8, bytes: &[u8]) -> Result<(Ask, &[u8]), Bad>
 }
 
 #[tactic(auto, unfolding(crate::specs::Reading::to_at))]
-fn to(kind: u8, bytes: &[u8]) -> Result<(Request, &[u8]), Bad>
+fn to(alloc: Global, kind: u8, bytes: &[u8]) -> Result<(Request, &[u8]), Bad>
     ensures { Gives (λ x. (x.0, x.1.now)) result (spec.to_at kind bytes.now) }
 {
     let (pid, rest) = word_at(bytes)?;
-    let (ask, rest) = ask(kind, rest)?;
+    let (ask, rest) = ask(alloc, kind, rest)?;
     Ok((Request::To { pid, ask }, rest))
 }
 
@@ -96,10 +97,10 @@ fn status(bytes: &[u8]) -> Result<(Reply, &[u8]), Bad>
 }
 
 #[tactic(auto, unfolding(crate::specs::Reading::regs_at))]
-fn regs(bytes: &[u8]) -> Result<(Reply, &[u8]), Bad>
+fn regs(alloc: Global, bytes: &[u8]) -> Result<(Reply, &[u8]), Bad>
     ensures { Gives (λ x. (x.0, x.1.now)) result (spec.regs_at bytes.now) }
 {
-    let (registers, rest) = registers_of(bytes)?;
+    let (registers, rest) = registers_of(alloc, bytes)?;
     Ok((Reply::Registers { registers }, rest))
 }
 
@@ -220,7 +221,7 @@ fn request(alloc: Global, kind: u8, bytes: &[u8]) -> Result<(Request, &[u8]), Ba
         0x01 => boot(alloc, bytes),
         0x04 => Ok((Request::Wait, bytes)),
         0x0b => Ok((Request::Outcome, bytes)),
-        _ => to(kind, bytes),
+        _ => to(alloc, kind, bytes),
     }
 }
 
@@ -230,7 +231,7 @@ fn reply(alloc: Global, kind: u8, bytes: &[u8]) -> Result<(Reply, &[u8]), Bad>
     match kind {
         0x81 => Ok((Reply::Done, bytes)),
         0x82 => status(bytes),
-        0x83 => regs(bytes),
+        0x83 => regs(alloc, bytes),
         0x84 => bytes_of(alloc, bytes),
         0x85 => message(bytes),
         0x86 => info(bytes),

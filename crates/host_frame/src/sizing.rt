@@ -1,22 +1,22 @@
 //! How many bytes a message takes.
 
 ghost use Rattle.std.specs.Prelude.{◌≡◌, ◌≤◌, ◌++◌, length, SomeIff};
+ghost use Rattle.host_values.specs.Spelling as value;
+ghost use Rattle.host_values.specs.Sizes.{Spends};
 ghost use Rattle.host_frame.specs.Spelling as spec;
-ghost use Rattle.host_frame.specs.Sizes.{Spends};
 
-use crate::fields::{registers_size, spend_text};
 use crate::frame::{Body, Frame, LONGEST, SHORTEST};
-use crate::item::spend_list;
+use host_values::{registers_size, spend_list, spend_text};
 use lx_abi::{Ask, Boot, Outcome, Reply, Request, Word};
 
-#[tactic(auto, using(crate::proofs::Sizes::sizes))]
+#[tactic(auto, using(host_values::proofs::Sizes::sizes))]
 fn ask_size(ask: &Ask) -> usize
     ensures { result ≡ length (spec.ask_message ask.now).1 }
 {
     match ask {
         Ask::Seize { .. } => 4,
         Ask::SetOptions { .. } => 4,
-        Ask::SetRegs { registers } => registers_size(registers),
+        Ask::SetRegs { registers } => registers_size(registers.get()),
         Ask::Peek { .. } => 12,
         Ask::Syscall { .. } => 4,
         Ask::GetRegs => 0,
@@ -25,7 +25,7 @@ fn ask_size(ask: &Ask) -> usize
     }
 }
 
-#[tactic(auto, using(crate::proofs::Sizes::sizes), unfolding(crate::specs::Spelling::head, crate::specs::Spelling::parts))]
+#[tactic(auto, using(host_values::proofs::Sizes::sizes), unfolding(crate::specs::Spelling::head, crate::specs::Spelling::parts))]
 fn spend_boot(budget: usize, boot: &Boot, limit: u64, words: &[Word]) -> Option<usize>
     ensures { Spends result budget (length (spec.boot boot.now limit words.now)) }
 {
@@ -37,7 +37,7 @@ fn spend_boot(budget: usize, boot: &Boot, limit: u64, words: &[Word]) -> Option<
     spend_list(budget, words)
 }
 
-#[tactic(auto, using(crate::proofs::Sizes::sizes))]
+#[tactic(auto, using(host_values::proofs::Sizes::sizes))]
 fn spend_request(budget: usize, request: &Request) -> Option<usize>
     ensures { Spends result budget (length (spec.request_message request.now).1) }
 {
@@ -49,24 +49,24 @@ fn spend_request(budget: usize, request: &Request) -> Option<usize>
     }
 }
 
-#[tactic(auto, using(crate::proofs::Sizes::sizes))]
+#[tactic(auto, using(host_values::proofs::Sizes::sizes))]
 fn spend_outcome(budget: usize, outcome: &Outcome) -> Option<usize>
-    ensures { Spends result budget (length (spec.text outcome.now.console
-        ++ spec.items spec.outcome_file outcome.now.files ++ spec.items spec.ended outcome.now.ended)) }
+    ensures { Spends result budget (length (value.text outcome.now.console
+        ++ value.items value.outcome_file outcome.now.files ++ value.items value.ended outcome.now.ended)) }
 {
     let budget = spend_text(budget, outcome.console.as_slice())?;
     let budget = spend_list(budget, outcome.files.as_slice())?;
     spend_list(budget, outcome.ended.as_slice())
 }
 
-#[tactic(auto, using(crate::proofs::Sizes::sizes))]
+#[tactic(auto, using(host_values::proofs::Sizes::sizes))]
 fn spend_reply(budget: usize, reply: &Reply) -> Option<usize>
     ensures { Spends result budget (length (spec.reply_message reply.now).1) }
 {
     match reply {
         Reply::Done => Some(budget),
         Reply::Status { .. } => budget.checked_sub(8),
-        Reply::Registers { registers } => budget.checked_sub(registers_size(registers)),
+        Reply::Registers { registers } => budget.checked_sub(registers_size(registers.get())),
         Reply::Bytes { bytes } => spend_text(budget, bytes.as_slice()),
         Reply::Message { .. } => budget.checked_sub(8),
         Reply::Info { .. } => budget.checked_sub(24),
@@ -87,7 +87,7 @@ fn spend_body(budget: usize, body: &Body) -> Option<usize>
 }
 
 /// How many bytes stand behind a frame's length; none where they pass the limit.
-#[tactic(auto, using(crate::proofs::Sizes::sizes))]
+#[tactic(auto, using(host_values::proofs::Sizes::sizes))]
 pub(crate) fn content_size(frame: &Frame) -> Option<usize>
     ensures { SomeIff result (length (spec.content frame.now) ≤ 134217728) (length (spec.content frame.now)) }
 {

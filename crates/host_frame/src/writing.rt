@@ -1,13 +1,13 @@
 //! The bytes of a frame.
 
 ghost use Rattle.std.specs.Prelude.{◌≡◌, ◌≤◌, ◌<◌, ◌++◌, OnOk, IfOk, IfErr, length};
+ghost use Rattle.host_values.specs.Spelling as value;
 ghost use Rattle.host_frame.specs.Spelling as spec;
 
 use crate::fault::WireFault;
-use crate::fields::{put_byte, put_double, put_length, put_registers, put_text, put_word};
 use crate::frame::{Body, Frame};
-use crate::item::put_list;
 use crate::sizing::content_size;
+use host_values::{put_byte, put_double, put_length, put_list, put_registers, put_text, put_word};
 use lx_abi::{Ask, Boot, Info, Outcome, Reply, Request, Word};
 use std::alloc::{AllocError, Global};
 
@@ -27,7 +27,7 @@ fn ask_kind(ask: &Ask) -> u8
 }
 
 fn put_peek(out: &mut Vec<u8>, address: u64, length: u32) -> Result<(), AllocError>
-    ensures { OnOk result (out.new.items ≡ out.old.items ++ spec.double address ++ spec.word length) }
+    ensures { OnOk result (out.new.items ≡ out.old.items ++ value.double address ++ value.word length) }
 {
     put_double(out, address)?;
     put_word(out, length)
@@ -39,7 +39,7 @@ fn put_ask(out: &mut Vec<u8>, ask: &Ask) -> Result<(), AllocError>
     match ask {
         Ask::Seize { options } => put_word(out, *options),
         Ask::SetOptions { options } => put_word(out, *options),
-        Ask::SetRegs { registers } => put_registers(out, registers),
+        Ask::SetRegs { registers } => put_registers(out, registers.get()),
         Ask::Peek { address, length } => put_peek(out, *address, *length),
         Ask::Syscall { signal } => put_word(out, *signal),
         Ask::GetRegs => Ok(()),
@@ -49,22 +49,22 @@ fn put_ask(out: &mut Vec<u8>, ask: &Ask) -> Result<(), AllocError>
 }
 
 fn put_to(out: &mut Vec<u8>, pid: u32, ask: &Ask) -> Result<(), AllocError>
-    ensures { OnOk result (out.new.items ≡ out.old.items ++ spec.word pid ++ (spec.ask_message ask.now).1) }
+    ensures { OnOk result (out.new.items ≡ out.old.items ++ value.word pid ++ (spec.ask_message ask.now).1) }
 {
     put_word(out, pid)?;
     put_ask(out, ask)
 }
 
 fn put_status(out: &mut Vec<u8>, pid: u32, word: u32) -> Result<(), AllocError>
-    ensures { OnOk result (out.new.items ≡ out.old.items ++ spec.word pid ++ spec.word word) }
+    ensures { OnOk result (out.new.items ≡ out.old.items ++ value.word pid ++ value.word word) }
 {
     put_word(out, pid)?;
     put_word(out, word)
 }
 
 fn put_info(out: &mut Vec<u8>, info: &Info) -> Result<(), AllocError>
-    ensures { OnOk result (out.new.items ≡ out.old.items ++ spec.word info.now.signal ++ spec.word info.now.code
-        ++ spec.word info.now.pid ++ spec.word info.now.status ++ spec.double info.now.address) }
+    ensures { OnOk result (out.new.items ≡ out.old.items ++ value.word info.now.signal ++ value.word info.now.code
+        ++ value.word info.now.pid ++ value.word info.now.status ++ value.double info.now.address) }
 {
     put_word(out, info.signal)?;
     put_word(out, info.code)?;
@@ -74,8 +74,8 @@ fn put_info(out: &mut Vec<u8>, info: &Info) -> Result<(), AllocError>
 }
 
 fn put_outcome(out: &mut Vec<u8>, outcome: &Outcome) -> Result<(), AllocError>
-    ensures { OnOk result (out.new.items ≡ out.old.items ++ spec.text outcome.now.console
-        ++ spec.items spec.outcome_file outcome.now.files ++ spec.items spec.ended outcome.now.ended) }
+    ensures { OnOk result (out.new.items ≡ out.old.items ++ value.text outcome.now.console
+        ++ value.items value.outcome_file outcome.now.files ++ value.items value.ended outcome.now.ended) }
 {
     put_text(out, outcome.console.as_slice())?;
     put_list(out, outcome.files.as_slice())?;
@@ -137,7 +137,7 @@ fn put_reply(out: &mut Vec<u8>, reply: &Reply) -> Result<(), AllocError>
     match reply {
         Reply::Done => Ok(()),
         Reply::Status { pid, status } => put_status(out, *pid, status.word),
-        Reply::Registers { registers } => put_registers(out, registers),
+        Reply::Registers { registers } => put_registers(out, registers.get()),
         Reply::Bytes { bytes } => put_text(out, bytes.as_slice()),
         Reply::Message { pid } => put_double(out, *pid),
         Reply::Info { info } => put_info(out, info),

@@ -235,12 +235,17 @@ fn bodies(rt: HostRuntime) -> Result<(), Fail> {
 
 /// The frame is Peek of three bytes of process 1, with the number 2.
 fn is_peek(frame: &Frame) -> bool {
-    let peek = Ask::Peek {
-        address: 0x3f_ffff_effd,
-        length: 3,
-    };
     frame.number == 2
-        && matches!(frame.body, Body::Request(Request::To { pid: 1, ask }) if ask == peek)
+        && matches!(
+            &frame.body,
+            Body::Request(Request::To {
+                pid: 1,
+                ask: Ask::Peek {
+                    address: 0x3f_ffff_effd,
+                    length: 3,
+                },
+            },),
+        )
 }
 
 /// A letter for the frame that is given: none (-), Peek (p) or another (?).

@@ -2,6 +2,7 @@
 
 use crate::boot::Boot;
 use crate::outcome::Outcome;
+use crate::register_set::RegisterSet;
 use crate::schedule::Word;
 use crate::status::Status;
 use bitflags::{Flag, Flags, bitflag_items};
@@ -47,13 +48,13 @@ impl Flags for TraceOptions {
 }
 
 /// A ptrace(2) request to one process.
-#[derive(Clone, Copy, Debug, PartialEq, Eq)]
+#[derive(Drop)]
 pub enum Ask {
     /// Begins to trace, with the bits of [`TraceOptions`].
     Seize { options: u32 },
     SetOptions { options: u32 },
     GetRegs,
-    SetRegs { registers: Registers },
+    SetRegs { registers: RegisterSet },
     /// Reads memory, 1 to 4,096 bytes.
     Peek { address: u64, length: u32 },
     /// Resumes with a signal's number, 0 for none.
@@ -97,7 +98,7 @@ pub struct Info {
 pub enum Reply {
     Done,
     Status { pid: u32, status: Status },
-    Registers { registers: Registers },
+    Registers { registers: RegisterSet },
     /// The longest mapped run of what was asked for.
     Bytes { bytes: Bytes },
     /// The answer to [`Ask::EventMsg`].

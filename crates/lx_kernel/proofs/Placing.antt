@@ -4,8 +4,11 @@ use Rattle.std.specs.Ordering.{nat_cmp, eq_by_cmp, is_eq}
 use Rattle.std.specs.declared.cmp.Ordering.{Ordering}
 use Rattle.std.specs.declared.cmp.Ordering.TheVariants.{Less, Equal, Greater}
 use Rattle.std.proofs.lemmas.Cmp.{nat_cmp_total}
+use Rattle.std.specs.Cmp.{eq_by_cmp_equiv}
+use Rattle.lx_kernel.proofs.Placed.{get_put}
 use Rattle.std.specs.FinMap as maps
 use Rattle.std.specs.FinMap.{FinMap}
+use Rattle.lx_abi.specs.declared.log.Mode.{Mode}
 use Rattle.lx_model.specs.declared.stage.Own.{Own}
 use Rattle.lx_model.specs.declared.stage.Own.TheVariants.{Alive, Dying, Gone}
 use Rattle.lx_model.specs.Finite.{at, placed}
@@ -43,6 +46,10 @@ module _ {X : Type 0} (m : FinMap nat_cmp X) (p : ℕ) where
   remove_absent none = maps.same_map nat_cmp_total maps.nat_cmp-IsAntisymmetric _ _ (λ q.
       maps.get-remove nat_cmp_total m p q ∙ here q (eq_by_cmp nat_cmp q p) refl none)
 
+  -- nothing stands where something was taken out
+  pub get_left : maps.get (maps.remove m p) p ≡ None
+  get_left = maps.get-remove nat_cmp_total m p p ∙ ap (λ b. cond b None (maps.get m p)) ((eq_by_cmp_equiv nat_cmp_total).refl p)
+
 abbrev Owns : Type 0
 Owns = FinMap nat_cmp (Own Body)
 
@@ -69,8 +76,14 @@ somebody g owns owns' p own own' l s there is placed_is =
     subst (λ t. Turns t owns p l s owns') (sym (ap g at_is ∙ is)) (record { shared_is = refl; owns_is = placed_is; item_is = refl; event_is = refl })
 
 -- and of one without
-pub nobody : (g : Own Body → Turned) (owns owns' : Owns) (p : ℕ) (l : Logged) (s : Shared)
-    → None ≡ maps.get owns p → g Gone ≡ record { shared = s; own = Gone; item = None; event = event_of effect.Plain } → owns' ≡ owns → l ≡ record { item = None; done = effect.Plain; gone = true } → Turns (g (at Gone owns p)) owns p l s owns'
-nobody g owns owns' p l s none is same nothing =
+pub nobody : (g : Own Body → Turned) (owns owns' : Owns) (p : ℕ) (l : Logged) (mode : Option Mode) (s : Shared)
+    → None ≡ maps.get owns p → g Gone ≡ record { shared = s; own = Gone; item = None; event = event_of effect.Plain } → owns' ≡ owns → l ≡ record { before = mode; after = mode; item = None; done = effect.Plain; gone = true } → Turns (g (at Gone owns p)) owns p l s owns'
+nobody g owns owns' p l mode s none is same nothing =
     let at_is : at Gone owns p ≡ Gone = ap (λ o. unwrap_or o Gone) (sym none) in
     subst (λ t. Turns t owns p l s owns') (sym (ap g at_is ∙ is)) (record { shared_is = refl; owns_is = remove_absent owns p (sym none) ∙ sym same; item_is = ap (λ l. l.item) (sym nothing); event_is = ap (λ l. event_of l.done) (sym nothing) })
+
+-- what a table has at a part that was put in its place
+pub at_placed : (m : Owns) (p : ℕ) (own : Own Body) → at Gone (placed m p own) p ≡ own
+at_placed m p (Alive b stage) = ap (λ o. unwrap_or o Gone) (get_put m p (Alive b stage))
+at_placed m p (Dying w) = ap (λ o. unwrap_or o Gone) (get_put m p (Dying w))
+at_placed m p Gone = ap (λ o. unwrap_or o Gone) (get_left m p)

@@ -1,6 +1,6 @@
 //! The kernel: one turn of one process at a time.
 
-ghost use Rattle.std.specs.Prelude.{◌≡◌, ◌↔◌, ◌++◌, ◌+◌, [], None, false, not, is_some, if◌then◌else◌, IfOk, OnOk, OnErr, IsOk, IsErr, IsOkAnd, IsSome, IsTrue, ℕ};
+ghost use Rattle.std.specs.Prelude.{◌≡◌, ◌↔◌, ◌++◌, ◌+◌, [], None, true, false, not, is_some, if◌then◌else◌, IfOk, OnOk, OnErr, IsOk, IsErr, IsOkAnd, IsSome, IsTrue, ℕ};
 ghost use Rattle.std.specs.FinMap as maps;
 ghost use Rattle.lx_model.specs.Finite.{at, item_of};
 ghost use Rattle.lx_model.specs.Deeds.{deed_of};
@@ -32,7 +32,7 @@ use crate::stages::{Went, go, mode};
 use crate::tampering::Tampering;
 use crate::{bursts, tracing};
 use containers::{Bytes, Map};
-use lx_abi::{Cause, Item, Mode, Occurrences, Outcome, Registers, Script, Signal};
+use lx_abi::{Cause, Item, Mode, Occurrences, Outcome, RegisterSet, Registers, Script, Signal};
 use lx_model::{Deed, Own, Stage};
 use lx_pcalls::{bury, die};
 use lx_proc::{Body, Life, Shared};
@@ -63,23 +63,28 @@ pub struct Moved {
     pub deed: Deed,
 }
 
-/// What one turn logged, and whether its process is gone, beside what it left in the parts that it was lent.
+/// Where a process stood before a turn and stands after it, what the turn logged, and whether the process is gone, beside
+/// what it left in the parts that it was lent.
 #[derive(Drop)]
 struct Logged {
+    before: Option<Mode>,
+    after: Option<Mode>,
     item: Option<Item>,
     done: Effect,
     gone: bool,
 }
 
 impl Logged {
-    /// Nothing is logged.
-    fn nothing(gone: bool) -> Logged
-        ensures { result ≡ record { item = None; done = Effect.Plain; gone = gone } }
+    /// Nothing is logged, and the process is gone.
+    fn nothing(before: Option<Mode>, after: Option<Mode>) -> Logged
+        ensures { result ≡ record { before = before; after = after; item = None; done = Effect.Plain; gone = true } }
     {
         Logged {
+            before,
+            after,
             item: None,
             done: Effect::Plain,
-            gone,
+            gone: true,
         }
     }
 }
@@ -130,16 +135,21 @@ fn turn_own(
     own: &mut Own<Body>,
 ) -> Result<Logged, AllocError>
     ensures turned { IfOk result (λ l. turned (turn linux (choice_of_own tampering.now pid own.old) shared.old child pid own.old) ≡ record { shared = shared.new; own = own.new; item = l.item; event = event_of l.done }) }
+    ensures before { IfOk result (λ l. l.before ≡ own_mode_of (maps.get shared.old.entries pid) own.old) }
+    ensures after { IfOk result (λ l. l.after ≡ own_mode_of (maps.get shared.new.entries pid) own.new) }
     ensures gone { IfOk result (λ l. l.gone ≡ is_gone own.new) }
     ensures absent { own.old ≡ Gone → IsOkAnd result (λ l. (l.item ≡ None) × (event_of l.done ≡ Plain)) }
     ensures console { OnErr result (shared.new.console ≡ shared.old.console) }
 {
     match own {
-        Own::Gone => Ok(Logged::nothing(true)),
+        Own::Gone => {
+            let mode = mode_of_gone(shared, pid);
+            Ok(Logged::nothing(mode, mode))
+        }
         Own::Dying { word } => {
             bury(shared, pid, *word);
             leave(own);
-            Ok(Logged::nothing(true))
+            Ok(Logged::nothing(Some(Mode::Dying), mode_of_gone(shared, pid)))
         }
         Own::Alive { body, stage } => {
             let left = *stage;
@@ -147,6 +157,8 @@ fn turn_own(
                 Went::On { next, item, done } => {
                     *stage = next;
                     Ok(Logged {
+                        before: Some(mode(left)),
+                        after: Some(mode(next)),
                         item,
                         done,
                         gone: false,
@@ -161,6 +173,8 @@ fn turn_own(
                         left: mode(left),
                     });
                     Ok(Logged {
+                        before: Some(mode(left)),
+                        after: Some(Mode::Dying),
                         item,
                         done: Effect::Plain,
                         gone: false,
@@ -198,11 +212,16 @@ fn turn_at(
     pid: u32,
 ) -> Result<Logged, AllocError>
     ensures turns { IfOk result (λ l. Turns (turned (turn linux (choice_of_own tampering.now pid (at Gone owns.old pid)) shared.old child pid (at Gone owns.old pid))) owns.old pid l shared.new owns.new) }
+    ensures before { IfOk result (λ l. l.before ≡ own_mode_of (maps.get shared.old.entries pid) (at Gone owns.old pid)) }
+    ensures after { IfOk result (λ l. l.after ≡ own_mode_of (maps.get shared.new.entries pid) (at Gone owns.new pid)) }
     ensures absent { at Gone owns.old pid ≡ Gone → IsOkAnd result (λ l. (l.item ≡ None) × (event_of l.done ≡ Plain)) }
     ensures console { OnErr result (shared.new.console ≡ shared.old.console) }
 {
     let logged = match owns.get_mut(pid) {
-        None => return Ok(Logged::nothing(true)),
+        None => {
+            let mode = mode_of_gone(shared, pid);
+            return Ok(Logged::nothing(mode, mode));
+        }
         Some(own) => turn_own(alloc, shared, tampering, child, pid, own)?,
     };
     remove_gone(owns, pid, logged.gone);
@@ -292,6 +311,23 @@ fn mode_of_gone(shared: &Shared, pid: u32) -> Option<Mode>
     }
 }
 
+/// Where a process stands after a turn that did this, where it stood so before a child was placed.
+fn mode_after(
+    shared: &Shared,
+    owns: &Map<Own<Body>>,
+    pid: u32,
+    deed: Deed,
+    mode: Option<Mode>,
+) -> Option<Mode>
+    requires { (deed ≡ Deed.Bore → ⊥) → mode ≡ own_mode_of (maps.get shared.now.entries pid) (at Gone owns.now pid) }
+    ensures { result ≡ own_mode_of (maps.get shared.now.entries pid) (at Gone owns.now pid) }
+{
+    match deed {
+        Deed::Bore => mode_of(shared, owns, pid),
+        Deed::Plain | Deed::Execed => mode,
+    }
+}
+
 /// Counts an entry into a call.
 fn count_item(occurrences: &mut Occurrences, item: &Item) -> Result<(), AllocError>
     ensures { OnOk result ((p n : ℕ) → count_of occurrences.new p n ≡ (if is_entry p n item.now then 1 else 0) + count_of occurrences.old p n) }
@@ -369,7 +405,6 @@ impl Kernel {
             return Err(Failed);
         }
         self.failed = true;
-        let before = mode_of(&self.shared, &self.owns, pid);
         let tampering = Tampering {
             script: &self.script,
             occurrences: &self.occurrences,
@@ -383,11 +418,17 @@ impl Kernel {
             self.child,
             pid,
         )?;
-        let Logged { item, done, .. } = logged;
+        let Logged {
+            before,
+            after,
+            item,
+            done,
+            ..
+        } = logged;
         let deed = done.deed();
         place_child(&mut self.owns, &mut self.child, done)?;
         log_item(&mut self.log, &mut self.occurrences, item)?;
-        let after = mode_of(&self.shared, &self.owns, pid);
+        let after = mode_after(&self.shared, &self.owns, pid, deed, after);
         self.failed = false;
         Ok(Moved {
             before,
@@ -456,10 +497,10 @@ impl Kernel {
     }
 
     /// pc and x1 to x31 of the process, if it lives.
-    pub fn regs(&self, pid: u32) -> Option<Registers>
-        ensures { result ≡ regs_of (own_in self.now pid) }
+    pub fn regs(&self, pid: u32) -> Result<Option<RegisterSet>, AllocError>
+        ensures { IfOk result (λ registers. registers ≡ regs_of (own_in self.now pid)) }
     {
-        tracing::regs(&self.owns, pid)
+        tracing::regs(self.alloc, &self.owns, pid)
     }
 
     /// The bytes of the process's memory from an address on, up to the first that is not mapped, if it lives.

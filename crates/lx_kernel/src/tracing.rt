@@ -6,18 +6,25 @@ ghost use Rattle.lx_model.specs.declared.stage.Own.TheVariants.{Gone};
 ghost use Rattle.lx_kernel.specs.Tracing.{regs_of, peek_of, signal_of, with_regs, with_joined, with_dropped, with_part_at, IsPart, joining, dropping};
 
 use containers::{Bytes, Map};
-use lx_abi::{Cause, Registers, Signal};
+use lx_abi::{Cause, RegisterSet, Registers, Signal};
 use lx_model::{Own, Stage};
 use lx_proc::{Body, registers_of, set_registers};
-use std::alloc::AllocError;
+use std::alloc::{AllocError, Global};
 
 /// pc and x1 to x31 of a process that lives.
-pub fn regs(owns: &Map<Own<Body>>, pid: u32) -> Option<Registers>
-    ensures { result ≡ regs_of (at Gone owns.now pid) }
+pub fn regs(
+    alloc: Global,
+    owns: &Map<Own<Body>>,
+    pid: u32,
+) -> Result<Option<RegisterSet>, AllocError>
+    ensures { IfOk result (λ registers. registers ≡ regs_of (at Gone owns.now pid)) }
 {
     match owns.get(pid) {
-        Some(Own::Alive { body, .. }) => Some(registers_of(body)),
-        Some(Own::Dying { .. } | Own::Gone) | None => None,
+        Some(Own::Alive { body, .. }) => {
+            let registers = RegisterSet::new(alloc, &registers_of(body))?;
+            Ok(Some(registers))
+        }
+        Some(Own::Dying { .. } | Own::Gone) | None => Ok(None),
     }
 }
 

@@ -24,10 +24,21 @@ fn make_turns(kernel: &mut Kernel, turns: u32) -> Result<(), AllocError> {
     Ok(())
 }
 
-/// pc, sp, a0 and a7 of process 1.
-fn registers(alloc: Global, turns: u32) -> Result<Option<[u64; 4]>, AllocError> {
-    let registers = after(alloc, turns)?.regs(1);
-    Ok(registers.map(|r| [r[0], r[2], r[10], r[17]]))
+/// pc, sp, a0, a7 and x31 of process 1.
+fn registers_in(kernel: &Kernel) -> Result<Option<[u64; 5]>, AllocError> {
+    match kernel.regs(1)? {
+        None => Ok(None),
+        Some(set) => {
+            let x = set.get();
+            Ok(Some([x[0], x[2], x[10], x[17], x[31]]))
+        }
+    }
+}
+
+/// The same after so many turns.
+fn registers(alloc: Global, turns: u32) -> Result<Option<[u64; 5]>, AllocError> {
+    let kernel = after(alloc, turns)?;
+    registers_in(&kernel)
 }
 
 /// The words of the boot take 3 bytes below the stack's end, and its vector 64 below them, at a multiple of 16.
@@ -37,11 +48,11 @@ fn registers_of_the_first_program(rt: HostRuntime) -> Result<(), Fail> {
     let path = 0x3f_ffff_effd;
     let enoent = u64::MAX - 1;
     let rows = [
-        (0, Some([0x1_0000, sp, path, 221])),
-        (2, Some([0x1_0000, sp, path, 221])),
-        (4, Some([0x1_0004, sp, enoent, 221])),
-        (7, Some([0x1_0008, sp, 127, 221])),
-        (9, Some([0x1_000c, sp, 127, 94])),
+        (0, Some([0x1_0000, sp, path, 221, 0])),
+        (2, Some([0x1_0000, sp, path, 221, 0])),
+        (4, Some([0x1_0004, sp, enoent, 221, 0])),
+        (7, Some([0x1_0008, sp, 127, 221, 0])),
+        (9, Some([0x1_000c, sp, 127, 94, 0])),
         (11, None),
         (12, None),
     ];
@@ -55,19 +66,27 @@ fn registers_of_the_first_program(rt: HostRuntime) -> Result<(), Fail> {
     Ok(())
 }
 
-/// Whether registers were set, and pc and x31 of process 1 then.
-fn set(alloc: Global, turns: u32, pid: u32) -> Result<(bool, Option<[u64; 2]>), AllocError> {
+/// Whether all registers were set to 7, and some of process 1 then.
+fn set(alloc: Global, turns: u32, pid: u32) -> Result<(bool, Option<[u64; 5]>), AllocError> {
     let mut kernel = after(alloc, turns)?;
     let set = kernel.set_regs(pid, &[7; 32]);
-    Ok((set, kernel.regs(1).map(|r| [r[0], r[31]])))
+    let registers = registers_in(&kernel)?;
+    Ok((set, registers))
 }
 
 #[test]
 fn registers_are_set(rt: HostRuntime) -> Result<(), Fail> {
     let rows = [
-        (0, 1, (true, Some([7, 7]))),
-        (6, 1, (true, Some([7, 7]))),
-        (6, 2, (false, Some([0x1_0004, 0]))),
+        (0, 1, (true, Some([7; 5]))),
+        (6, 1, (true, Some([7; 5]))),
+        (
+            6,
+            2,
+            (
+                false,
+                Some([0x1_0004, 0x3f_ffff_efb0, u64::MAX - 1, 221, 0]),
+            ),
+        ),
         (11, 1, (false, None)),
         (12, 1, (false, None)),
     ];

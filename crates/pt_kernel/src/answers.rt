@@ -87,13 +87,14 @@ fn may_join(number: u32) -> bool
     0 < number && number < 32 && !(18 <= number && number <= 22)
 }
 
-fn get_regs(kernel: &Kernel, pid: u32) -> Reply
-    ensures { (b : Body) (stage : Stage) → own_in kernel.now pid ≡ Owns.Alive b stage
-        → result ≡ Reply.Registers (linux.regs b) }
+fn get_regs(kernel: &Kernel, pid: u32) -> Result<Reply, AllocError>
+    ensures { IfOk result
+        (λ r. (b : Body) (stage : Stage) → own_in kernel.now pid ≡ Owns.Alive b stage
+        → r ≡ Reply.Registers (linux.regs b)) }
 {
-    match kernel.regs(pid) {
-        Some(registers) => Reply::Registers { registers },
-        None => refusal(ESRCH),
+    match kernel.regs(pid)? {
+        Some(registers) => Ok(Reply::Registers { registers }),
+        None => Ok(refusal(ESRCH)),
     }
 }
 
@@ -225,28 +226,31 @@ fn answer_stopped(
     tracees: &mut Tracees,
     pid: u32,
     traced: Traced,
-    ask: Ask,
+    ask: &Ask,
 ) -> Result<Reply, AllocError>
     requires { maps.get tracees.old.traced pid ≡ Some traced }
-    ensures { IfOk result (λ r. Answers kernel.old tracees.old pid traced ask r kernel.new tracees.new) }
+    ensures { IfOk result (λ r. Answers kernel.old tracees.old pid traced ask.now r kernel.new tracees.new) }
 {
     match ask {
         Ask::Seize { .. } => Ok(refusal(ESRCH)),
         Ask::SetOptions { options } => {
-            let reply = set_options(kernel, tracees, pid, traced, options)?;
+            let reply = set_options(kernel, tracees, pid, traced, *options)?;
             Ok(reply)
         }
-        Ask::GetRegs => Ok(get_regs(kernel, pid)),
+        Ask::GetRegs => {
+            let reply = get_regs(kernel, pid)?;
+            Ok(reply)
+        }
         Ask::SetRegs { registers } => {
-            kernel.set_regs(pid, &registers);
+            kernel.set_regs(pid, registers.get());
             Ok(Reply::Done)
         }
         Ask::Peek { address, length } => {
-            let reply = peek(kernel, pid, address, length)?;
+            let reply = peek(kernel, pid, *address, *length)?;
             Ok(reply)
         }
         Ask::Syscall { signal } => {
-            let reply = syscall(kernel, tracees, pid, traced, signal)?;
+            let reply = syscall(kernel, tracees, pid, traced, *signal)?;
             Ok(reply)
         }
         Ask::EventMsg => Ok(Reply::Message {
@@ -256,11 +260,11 @@ fn answer_stopped(
     }
 }
 
-fn seize_options(ask: Ask) -> Option<u32>
-    ensures { result ≡ seize_options ask }
+fn seize_options(ask: &Ask) -> Option<u32>
+    ensures { result ≡ seize_options ask.now }
 {
     match ask {
-        Ask::Seize { options } => Some(options),
+        Ask::Seize { options } => Some(*options),
         _ => None,
     }
 }
@@ -287,13 +291,13 @@ fn answer_unseized(
     tracees: &mut Tracees,
     pid: u32,
     traced: Traced,
-    ask: Ask,
+    ask: &Ask,
 ) -> Result<Reply, AllocError>
     requires { maps.get tracees.old.traced pid ≡ Some traced }
     ensures { IfOk result
         (λ r. (k : KernelRun) → IsSwept k.running
         → IsAnswer k tracees.old pid traced.message
-        (unseized (as_proc (own_in k pid) traced) ask) r k tracees.new) }
+        (unseized (as_proc (own_in k pid) traced) ask.now) r k tracees.new) }
 {
     match seize_options(ask) {
         None => Ok(refusal(ESRCH)),
@@ -309,7 +313,7 @@ pub fn answer(
     kernel: &mut Kernel,
     tracees: &mut Tracees,
     pid: u32,
-    ask: Ask,
+    ask: &Ask,
 ) -> Result<Reply, AllocError>
     requires { IsSwept kernel.old.running }
     ensures answer { IfOk result
@@ -319,7 +323,7 @@ pub fn answer(
         (at untraced tracees.old.traced pid).message
         (as_proc (own_in kernel.old pid) (at untraced tracees.old.traced pid))
         (at untraced tracees.old.traced pid).held (at untraced tracees.old.traced pid).watch
-        (own_in kernel.old pid) ask) }
+        (own_in kernel.old pid) ask.now) }
     ensures script { OnOk result ((kernel.new.script ≡ kernel.old.script) × (kernel.new.follow ≡ kernel.old.follow)) }
 {
     let traced = tracees.traced(pid);

@@ -97,7 +97,7 @@ impl TracedKernel {
                 Ok(reply)
             }
             Request::To { pid, ask } => {
-                let reply = answer(&mut self.kernel, &mut self.tracees, *pid, *ask)?;
+                let reply = answer(&mut self.kernel, &mut self.tracees, *pid, ask)?;
                 Ok(Some(reply))
             }
             Request::Outcome => {

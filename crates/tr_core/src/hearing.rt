@@ -20,7 +20,7 @@ use crate::place::{Place, Tracee};
 use crate::printer;
 use crate::settings::Settings;
 use containers::Bytes;
-use lx_abi::{Call, Choice, EventStop, Info, Occurrences, Registers, Reply, Stop};
+use lx_abi::{Call, Choice, EventStop, Info, Occurrences, RegisterSet, Registers, Reply, Stop};
 use pt_model::Standing;
 use std::alloc::{AllocError, Global};
 use tr_args::{Half, Reading};
@@ -46,20 +46,16 @@ fn call(x: &Registers) -> Call
     }
 }
 
-fn with_number(x: Registers, number: u64) -> Registers
-    ensures { result ≡ with_a7 x number }
+fn set_number(x: &mut RegisterSet, number: u64)
+    ensures { x.new ≡ with_a7 x.old number }
 {
-    let mut x = x;
-    x[17] = number;
-    x
+    x.set(17, number);
 }
 
-fn with_result(x: Registers, value: u64) -> Registers
-    ensures { result ≡ with_a0 x value }
+fn set_result(x: &mut RegisterSet, value: u64)
+    ensures { x.new ≡ with_a0 x.old value }
 {
-    let mut x = x;
-    x[10] = value;
-    x
+    x.set(10, value);
 }
 
 /// The entry text, if the call is shown.
@@ -115,20 +111,16 @@ fn print_exit(
 }
 
 /// How a tracee goes on from its entry stop.
-fn go_on(
-    alloc: Global,
-    registers: Registers,
-    signal: u32,
-    saved: Option<u64>,
-) -> Result<Place, AllocError>
-    ensures { IfOk result (λ place. place_of place ≡ going_on registers signal saved) }
+fn go_on(registers: RegisterSet, signal: u32, saved: Option<u64>) -> Place
+    ensures { place_of result ≡ going_on registers signal saved }
 {
     match saved {
-        None => Ok(Place::Resuming { signal }),
-        Some(_) => Ok(Place::EntrySet {
-            registers: Box::new(alloc, with_number(registers, NO_CALL))?,
-            signal,
-        }),
+        None => Place::Resuming { signal },
+        Some(_) => {
+            let mut registers = registers;
+            set_number(&mut registers, NO_CALL);
+            Place::EntrySet { registers, signal }
+        }
     }
 }
 
@@ -159,7 +151,7 @@ fn enter(
     printer: &mut Printer,
     pid: u32,
     tracee: &mut Tracee,
-    registers: Registers,
+    registers: RegisterSet,
     got: &Reading,
 ) -> Result<Heard, AllocError>
     ensures heard { IfOk result
@@ -169,20 +161,20 @@ fn enter(
         h.bytes printer.old printer.new) }
     ensures others { OnOk result (LeavesOthers pid counts.old counts.new) }
 {
-    let entered = call(&registers);
+    let entered = call(registers.get());
+    let stack = registers.get()[2];
     let Some(occurrence) = counts.latest(pid, entered.number).checked_add(1) else {
         return Err(AllocError);
     };
     let choice = settings.script.choose(entered.number, occurrence);
     let saved = given(choice);
-    let place = go_on(settings.alloc, registers, joined(choice), saved)?;
-    let bytes = print_entry(settings, printer, pid, entered, registers[2], got)?;
+    let bytes = print_entry(settings, printer, pid, entered, stack, got)?;
     counts.count(pid, entered.number)?;
     tracee.called = entered;
     tracee.saved = saved;
     tracee.standing = Standing::Read;
     Ok(Heard {
-        next: Some(place),
+        next: Some(go_on(registers, joined(choice), saved)),
         bytes,
     })
 }
@@ -194,7 +186,7 @@ fn read_entry(
     printer: &mut Printer,
     pid: u32,
     tracee: &mut Tracee,
-    registers: Registers,
+    registers: RegisterSet,
     got: Reading,
 ) -> Result<Heard, AllocError>
     ensures heard { IfOk result
@@ -205,26 +197,22 @@ fn read_entry(
     ensures others { OnOk result (LeavesOthers pid counts.old counts.new) }
 {
     let half = Half::Entry {
-        call: call(&registers),
-        stack: registers[2],
+        call: call(registers.get()),
+        stack: registers.get()[2],
     };
     let limit = settings.options.string_limit;
     let got = got.begun(settings.alloc, limit, half)?;
     let wish = got.wants(settings.alloc, limit, half)?;
     match wish {
         None => enter(settings, counts, printer, pid, tracee, registers, &got),
-        Some(want) => {
-            let boxed = Box::new(settings.alloc, registers)?;
-            let bytes = Bytes::new(settings.alloc);
-            Ok(Heard {
-                next: Some(Place::EntryPeek {
-                    registers: boxed,
-                    got,
-                    want,
-                }),
-                bytes,
-            })
-        }
+        Some(want) => Ok(Heard {
+            next: Some(Place::EntryPeek {
+                registers,
+                got,
+                want,
+            }),
+            bytes: Bytes::new(settings.alloc),
+        }),
     }
 }
 
@@ -317,7 +305,7 @@ fn hear_call(
     printer: &mut Printer,
     pid: u32,
     tracee: &mut Tracee,
-    registers: Registers,
+    registers: RegisterSet,
     shown: bool,
 ) -> Result<Heard, AllocError>
     ensures heard { IfOk result
@@ -357,7 +345,7 @@ fn hear_entry(
     printer: &mut Printer,
     pid: u32,
     tracee: &mut Tracee,
-    came: Option<Registers>,
+    came: Option<RegisterSet>,
 ) -> Result<Heard, AllocError>
     ensures heard { IfOk result
         (λ h. Comes
@@ -369,7 +357,7 @@ fn hear_entry(
     match came {
         None => Ok(nothing(settings)),
         Some(registers) => {
-            let shown = settings.options.shown.contains(registers[17]);
+            let shown = settings.options.shown.contains(registers.get()[17]);
             hear_call(settings, counts, printer, pid, tracee, registers, shown)
         }
     }
@@ -413,7 +401,7 @@ fn hear_exit(
     printer: &mut Printer,
     pid: u32,
     tracee: &mut Tracee,
-    registers: Registers,
+    registers: RegisterSet,
 ) -> Result<Heard, AllocError>
     ensures { IfOk result
         (λ h. (counts : ℕ → ℕ)
@@ -424,15 +412,17 @@ fn hear_exit(
     match tracee.saved {
         None => {
             let shown = settings.options.shown.contains(tracee.called.number);
-            hear_result(settings, printer, pid, tracee, registers[10], false, shown)
+            let value = registers.get()[10];
+            hear_result(settings, printer, pid, tracee, value, false, shown)
         }
         Some(value) => {
-            let registers = with_number(with_result(registers, value), tracee.called.number);
-            let boxed = Box::new(settings.alloc, registers)?;
+            let mut registers = registers;
+            set_result(&mut registers, value);
+            set_number(&mut registers, tracee.called.number);
             Ok(asks(
                 settings,
                 Place::ExitSet {
-                    registers: boxed,
+                    registers,
                     result: value,
                 },
             ))
@@ -458,7 +448,7 @@ fn hear_entry_bytes(
     printer: &mut Printer,
     pid: u32,
     tracee: &mut Tracee,
-    registers: Registers,
+    registers: RegisterSet,
     got: Reading,
     came: Option<Bytes>,
 ) -> Result<Heard, AllocError>
@@ -473,8 +463,8 @@ fn hear_entry_bytes(
         None => Ok(nothing(settings)),
         Some(bytes) => {
             let half = Half::Entry {
-                call: call(&registers),
-                stack: registers[2],
+                call: call(registers.get()),
+                stack: registers.get()[2],
             };
             let got = got.with(settings.alloc, settings.options.string_limit, half, bytes)?;
             read_entry(settings, counts, printer, pid, tracee, registers, got)
@@ -518,7 +508,7 @@ fn hear_exit_regs(
     printer: &mut Printer,
     pid: u32,
     tracee: &mut Tracee,
-    came: Option<Registers>,
+    came: Option<RegisterSet>,
 ) -> Result<Heard, AllocError>
     ensures { IfOk result
         (λ h. (counts : ℕ → ℕ)
@@ -588,11 +578,11 @@ fn hear_info(
     }
 }
 
-fn registers_in(reply: &Reply) -> Option<Registers>
-    ensures { result ≡ regs_in reply.now }
+fn registers_in(reply: Reply) -> Option<RegisterSet>
+    ensures { result ≡ regs_in reply }
 {
     match reply {
-        Reply::Registers { registers } => Some(*registers),
+        Reply::Registers { registers } => Some(registers),
         _ => None,
     }
 }
@@ -633,17 +623,16 @@ pub(crate) fn hear(
         Place::Seizing => Ok(nothing(settings)),
         Place::Resuming { .. } => Ok(nothing(settings)),
         Place::EntryRegs => {
-            let came = registers_in(&reply);
+            let came = registers_in(reply);
             hear_entry(settings, counts, printer, pid, tracee, came)
         }
         Place::EntryPeek { registers, got, .. } => {
             let came = read_by(settings, reply);
-            let registers = Box::into_inner(registers);
             hear_entry_bytes(settings, counts, printer, pid, tracee, registers, got, came)
         }
         Place::EntrySet { signal, .. } => Ok(hear_set(settings, signal, is_done(&reply))),
         Place::ExitRegs => {
-            let came = registers_in(&reply);
+            let came = registers_in(reply);
             hear_exit_regs(settings, printer, pid, tracee, came)
         }
         Place::ExitSet { result: value, .. } => {

@@ -1,6 +1,6 @@
 //! What a tracer knows of a tracee, and what it is asking.
 
-use lx_abi::{Call, Outcome, Registers};
+use lx_abi::{Call, Outcome, RegisterSet};
 use pt_model::Standing;
 use tr_args::Reading;
 
@@ -19,17 +19,17 @@ pub enum Place {
     Seizing,
     EntryRegs,
     EntryPeek {
-        registers: Box<Registers>,
+        registers: RegisterSet,
         got: Reading,
         want: (u64, u32),
     },
     EntrySet {
-        registers: Box<Registers>,
+        registers: RegisterSet,
         signal: u32,
     },
     ExitRegs,
     ExitSet {
-        registers: Box<Registers>,
+        registers: RegisterSet,
         result: u64,
     },
     ExitPeek {

@@ -1,6 +1,6 @@
 //! The tracer.
 
-ghost use Rattle.std.specs.Prelude.{◌≡◌, ◌≤◌, ◌^◌, ◌&&◌, not, true, false, IfOk, OnOk, OnErr, Some};
+ghost use Rattle.std.specs.Prelude.{◌≡◌, ◌≤◌, ◌^◌, ◌&&◌, not, true, false, IfOk, OnOk, OnErr, IsSome, Some};
 ghost use Rattle.lx_model.specs.Finite.{at};
 ghost use Rattle.tr_core.specs.Known.{new_tracee};
 ghost use Rattle.std.specs.FinMap as maps;
@@ -24,7 +24,7 @@ use crate::place::{Focus, Place, Tracee};
 use crate::settings::{Options, Settings};
 use crate::tracing::{Act, TraceFault, Tracing};
 use containers::{Bytes, Map};
-use lx_abi::{Ask, Call, Occurrences, Outcome, Reply, Request, Script, Stop};
+use lx_abi::{Ask, Call, Occurrences, Outcome, RegisterSet, Reply, Request, Script, Stop};
 use pt_model::Standing;
 use std::alloc::{AllocError, Global};
 use std::mem;
@@ -323,6 +323,7 @@ fn step(core: &mut Core, reply: Reply) -> Result<Option<Bytes>, AllocError>
     requires { core.old.taken ≤ 2 ^ 40 }
     ensures step { IfOk result (λ b. Steps core.old reply b core.new) }
     ensures want { OnErr result (is_faulted (state_in core.old false) ≡ false) }
+    ensures admitted { IfOk result (λ b. IsSome b → is_faulted (state_in core.old false) ≡ false) }
 {
     if !admits(core, &reply) {
         core.focus = Focus::Faulted;
@@ -334,10 +335,10 @@ fn step(core: &mut Core, reply: Reply) -> Result<Option<Bytes>, AllocError>
     Ok(Some(bytes))
 }
 
-fn ask_of(settings: &Settings, place: &Place) -> Ask
-    ensures { result ≡ asks (options_of settings.now) (place_of place.now) }
+fn ask_of(settings: &Settings, place: &Place) -> Result<Ask, AllocError>
+    ensures { IfOk result (λ ask. ask ≡ asks (options_of settings.now) (place_of place.now)) }
 {
-    match place {
+    let ask = match place {
         Place::Seizing => Ask::Seize {
             options: if settings.options.follow { 0x13 } else { 0x11 },
         },
@@ -347,25 +348,26 @@ fn ask_of(settings: &Settings, place: &Place) -> Ask
             length: want.1,
         },
         Place::EntrySet { registers, .. } | Place::ExitSet { registers, .. } => Ask::SetRegs {
-            registers: **registers,
+            registers: RegisterSet::new(settings.alloc, registers.get())?,
         },
         Place::SignalInfo { .. } => Ask::SigInfo,
         Place::Resuming { signal } => Ask::Syscall { signal: *signal },
-    }
+    };
+    Ok(ask)
 }
 
 /// What is asked next, none at the end.
-fn request_in(core: &Core) -> Option<Request>
-    ensures { result ≡ request (options_of core.now.settings) (focus_of core.now.focus) }
+fn request_in(core: &Core) -> Result<Option<Request>, AllocError>
+    ensures { IfOk result (λ q. q ≡ request (options_of core.now.settings) (focus_of core.now.focus)) }
 {
     match &core.focus {
-        Focus::Waiting => Some(Request::Wait),
-        Focus::Serving { pid, place } => Some(Request::To {
-            pid: *pid,
-            ask: ask_of(&core.settings, place),
-        }),
-        Focus::AskingOutcome => Some(Request::Outcome),
-        Focus::Booting | Focus::Over(_) | Focus::TurnsOver | Focus::Faulted => None,
+        Focus::Waiting => Ok(Some(Request::Wait)),
+        Focus::Serving { pid, place } => {
+            let ask = ask_of(&core.settings, place)?;
+            Ok(Some(Request::To { pid: *pid, ask }))
+        }
+        Focus::AskingOutcome => Ok(Some(Request::Outcome)),
+        Focus::Booting | Focus::Over(_) | Focus::TurnsOver | Focus::Faulted => Ok(None),
     }
 }
 
@@ -428,12 +430,13 @@ impl Tracer {
     }
 }
 
-fn act(core: &Core, bytes: Bytes) -> Act
-    ensures { result ≡ act_of (request (options_of core.now.settings) (focus_of core.now.focus)) bytes }
+fn act(core: &Core, bytes: Bytes) -> Result<Act, AllocError>
+    ensures { IfOk result
+        (λ act. act ≡ act_of (request (options_of core.now.settings) (focus_of core.now.focus)) bytes) }
 {
-    match request_in(core) {
-        Some(request) => Act::Ask { bytes, request },
-        None => Act::Finished { bytes },
+    match request_in(core)? {
+        Some(request) => Ok(Act::Ask { bytes, request }),
+        None => Ok(Act::Finished { bytes }),
     }
 }
 
@@ -448,7 +451,13 @@ impl Tracing for Tracer {
             return Err(TraceFault::Memory);
         }
         match step(&mut self.core, reply) {
-            Ok(Some(bytes)) => Ok(act(&self.core, bytes)),
+            Ok(Some(bytes)) => match act(&self.core, bytes) {
+                Ok(act) => Ok(act),
+                Err(_) => {
+                    self.failed = true;
+                    Err(TraceFault::Memory)
+                }
+            },
             Ok(None) => Err(TraceFault::Inadmissible),
             Err(_) => {
                 self.failed = true;

@@ -1,7 +1,7 @@
 //! Replies of a host, as rows of tables.
 
 use containers::{Bytes, Seq};
-use lx_abi::{Info, Outcome, Reply, Set, Status};
+use lx_abi::{Info, Outcome, RegisterSet, Reply, Set, Status};
 use std::alloc::{AllocError, Global};
 use tr_core::Options;
 
@@ -61,7 +61,7 @@ pub fn reply(alloc: Global, step: Step) -> Result<Reply, AllocError> {
             status: Status { word },
         },
         Step::Call(number, a0, a1, a2) => Reply::Registers {
-            registers: registers(number, a0, a1, a2),
+            registers: RegisterSet::new(alloc, &registers(number, a0, a1, a2))?,
         },
         Step::Bytes(bytes) => Reply::Bytes {
             bytes: Bytes::from_slice(alloc, bytes)?,

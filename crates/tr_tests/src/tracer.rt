@@ -101,7 +101,10 @@ fn asked_of(pid: u32, ask: &Ask) -> Asked {
     match ask {
         Ask::Seize { options } => Asked::Seize(pid, *options),
         Ask::GetRegs => Asked::GetRegs(pid),
-        Ask::SetRegs { registers } => Asked::SetRegs(pid, registers[17], registers[10]),
+        Ask::SetRegs { registers } => {
+            let x = registers.get();
+            Asked::SetRegs(pid, x[17], x[10])
+        }
         Ask::Peek { address, length } => Asked::Peek(pid, *address, *length),
         Ask::SigInfo => Asked::SigInfo(pid),
         Ask::Syscall { signal } => Asked::Syscall(pid, *signal),

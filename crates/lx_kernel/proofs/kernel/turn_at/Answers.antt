@@ -5,12 +5,15 @@ use Rattle.lx_model.specs.Turn.{turn}
 use Rattle.lx_kernel.specs.Linux.{linux}
 use Rattle.lx_kernel.specs.Tampering.{choice_of_own}
 use Rattle.lx_kernel.specs.Turned.{turned, without_gone}
-use Rattle.lx_kernel.proofs.Placing.{somebody, nobody, placed_by}
+use Rattle.lx_model.specs.Finite.{at, placed}
+use Rattle.lx_model.specs.declared.stage.Own.TheVariants.{Gone}
+use Rattle.lx_kernel.specs.Runs.{own_mode}
+use Rattle.lx_kernel.proofs.Placing.{somebody, nobody, placed_by, at_placed}
 use Rattle.lx_kernel.proofs.kernel.turn_at.Goals as goal
 
 pub returns-in-None-clause-turns : goal.returns-in-None-clause-turns
 returns-in-None-clause-turns c =
-    nobody (λ own. turned (turn linux (choice_of_own c.args.tampering.now c.args.pid own) c.args.shared.now c.args.child c.args.pid own)) c.args.owns.now c.get_mut.follows.lender-at-none c.args.pid c.nothing.result c.args.shared.now
+    nobody (λ own. turned (turn linux (choice_of_own c.args.tampering.now c.args.pid own) c.args.shared.now c.args.child c.args.pid own)) c.args.owns.now c.get_mut.follows.lender-at-none c.args.pid c.nothing.result c.mode_of_gone-mode.result c.args.shared.now
     c.in-None.ensures.value refl c.get_mut.follows.holds-at-none c.nothing.ensures
 
 pub returns-clause-turns : goal.returns-clause-turns
@@ -20,3 +23,12 @@ returns-clause-turns c =
     somebody (λ own. turned (turn linux (choice_of_own c.args.tampering.now c.args.pid own) c.args.shared.now c.args.child c.args.pid own)) c.args.owns.now c.remove_gone.new.owns c.args.pid c.in-Some.own.now w c.in_ok-logged-in-Some.logged c.turn_own.new.shared
     c.in-Some.ensures.value c.in_ok-logged-in-Some.ensures.turned
     (placed_by c.args.owns.now c.args.pid w c.in_ok-logged-in-Some.logged.gone (sym c.in_ok-logged-in-Some.ensures.gone) ∙ ap (λ m. without_gone m c.args.pid c.in_ok-logged-in-Some.logged.gone) (sym h) ∙ sym c.remove_gone.ensures)
+
+pub returns-clause-after : goal.returns-clause-after
+returns-clause-after c =
+    let w = c.turn_own.new.own in
+    let h = subst (λ r. OnSome r (c.get_mut.follows.lender w ≡ maps.insert c.args.owns.now c.args.pid w)) c.in-Some.is (c.get_mut.follows.holds w) in
+    let there : placed c.args.owns.now c.args.pid w ≡ c.remove_gone.new.owns =
+    placed_by c.args.owns.now c.args.pid w c.in_ok-logged-in-Some.logged.gone (sym c.in_ok-logged-in-Some.ensures.gone) ∙ ap (λ m. without_gone m c.args.pid c.in_ok-logged-in-Some.logged.gone) (sym h) ∙ sym c.remove_gone.ensures in
+    c.in_ok-logged-in-Some.ensures.after
+    ∙ ap (own_mode (maps.get c.turn_own.new.shared.entries c.args.pid)) (sym (at_placed c.args.owns.now c.args.pid w) ∙ ap (λ m. at Gone m c.args.pid) there)

@@ -21,7 +21,7 @@ returns-in_ok-die-in-Ended-clause-turned c =
     ap (λ o. turned (turn linux (choice_of_own c.args.tampering.now c.args.pid o) c.args.shared.now c.args.child c.args.pid o)) c.in-Alive.is
     ∙ c.in_ok-next-in-Alive.ensures.turned
     ∙ ap (λ w. turned_by w c.turn_alive.new.shared c.turn_alive.new.body c.args.pid c.in-Alive.stage) c.in-Ended.is
-    ∙ λ i. record { shared = sym c.in_ok-die-in-Ended.ensures.died i; own = sym c.end.ensures i; item = Some (item.Exit c.args.pid c.in-Ended.word (sym c.mode.ensures i)); event = Plain }
+    ∙ λ i. record { shared = sym c.in_ok-die-in-Ended.ensures.died i; own = sym c.end.ensures i; item = Some (item.Exit c.args.pid c.in-Ended.word (sym c.mode-in-Ended.ensures i)); event = Plain }
 
 pub returns-in_err-die-in-Ended-clause-console : goal.returns-in_err-die-in-Ended-clause-console
 returns-in_err-die-in-Ended-clause-console c =

@@ -11,10 +11,10 @@ pub returns-in-None : goal.returns-in-None
 returns-in-None c = λ k swept.
     let t = as_proc (own_in k c.args.pid) c.args.traced in
     unseized_reads k c.args.tracees.now c.args.pid c.args.traced c.requires swept _ c.refusal.result
-    (not_seized t c.args.ask (sym c.seize_options.ensures ∙ c.in-None.is) ∙ ap (says t) (sym c.refusal.ensures))
+    (not_seized t c.args.ask.now (sym c.seize_options.ensures ∙ c.in-None.is) ∙ ap (says t) (sym c.refusal.ensures))
 
 pub returns-in_ok-reply-in-Some : goal.returns-in_ok-reply-in-Some
 returns-in_ok-reply-in-Some c = λ k swept.
     let t = as_proc (own_in k c.args.pid) c.args.traced in
     subst (λ (a : Answered Body). IsAnswer k c.args.tracees.now c.args.pid c.args.traced.message a c.in_ok-reply-in-Some.reply k c.seize.new.tracees)
-    (sym (is_seized t c.args.ask c.in-Some.options (sym c.seize_options.ensures ∙ c.in-Some.is))) (c.in_ok-reply-in-Some.ensures k swept)
+    (sym (is_seized t c.args.ask.now c.in-Some.options (sym c.seize_options.ensures ∙ c.in-Some.is))) (c.in_ok-reply-in-Some.ensures k swept)

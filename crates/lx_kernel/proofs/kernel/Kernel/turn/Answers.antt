@@ -15,7 +15,7 @@ place_child-requires c =
     kernel_left v k.script k.follow c.args.pid (λ n. count_of k.occurrences c.args.pid n) (λ n. c.self.invariant c.if-self.false c.args.pid n) c.in_ok-logged.logged c.turn_at.new.shared c.turn_at.new.owns c.in_ok-logged.ensures.turns
 
 pub returns-clause-before : goal.returns-clause-before
-returns-clause-before c = c.mode_of-before.ensures ∙ ap (λ k. mode_in k c.args.pid) c.self.view_is
+returns-clause-before c = c.in_ok-logged.ensures.before ∙ ap (λ k. mode_in k c.args.pid) c.self.view_is
 
 pub returns-clause-item : goal.returns-clause-item
 returns-clause-item c =

@@ -1,7 +1,0 @@
-use Rattle.std.proofs.Common.{◌≡◌, ◌++◌, length, drop}
-use Rattle.std.specs.List.{flat_map}
-use Rattle.host_frame.specs.Spelling.{word}
-use Rattle.host_frame.proofs.item.put_list.Given as goal
-
-abbrev pub invariant-loop-item : goal.invariant-loop-item
-invariant-loop-item g l = l.out.items ++ flat_map g.T.Item.spelled (drop l.item-index l.list) ≡ l.fn.out.items ++ (word (length l.list) ++ flat_map g.T.Item.spelled l.list)

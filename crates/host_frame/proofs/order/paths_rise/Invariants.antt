@@ -1,7 +1,0 @@
-use Rattle.std.proofs.Common.{◌≡◌, drop, None}
-use Rattle.std.specs.Option.{option_copied}
-use Rattle.host_frame.specs.Reading.{paths_rise}
-use Rattle.host_frame.proofs.order.paths_rise.Given as goal
-
-abbrev pub invariant-loop-file : goal.invariant-loop-file
-invariant-loop-file l = paths_rise (option_copied l.before) (drop l.file-index l.files) ≡ paths_rise None l.files

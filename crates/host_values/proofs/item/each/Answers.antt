@@ -1,0 +1,15 @@
+use Rattle.std.proofs.lemmas.Result.{err_from_is_err_and}
+use Rattle.host_values.proofs.Lists.{next_item, bad_item, last_item}
+use Rattle.host_values.proofs.item.each.Goals as goal
+
+pub returns-in_err-item : goal.returns-in_err-item
+returns-in_err-item g c =
+    let p = err_from_is_err_and c.from_residual.result c.from_residual.ensures.1 in
+    rw (p.1, p.2) (bad_item g.T.Item.reads c.in_err-item.field-0.0 c.loop.found c.args.count c.loop.counter c.loop.rest.now _ c.loop-test.true c.in_err-item.ensures c.loop.invariant)
+
+pub loop-preserved : goal.loop-preserved
+loop-preserved g c =
+    rw c.in_ok-push.ensures.ok (next_item g.T.Item.reads c.loop.found c.args.count c.loop.counter c.loop.rest.now c.in_ok-item.item c.in_ok-item.after.now _ c.loop-test.true c.in_ok-item.ensures c.loop.invariant)
+
+pub returns : goal.returns
+returns g c = last_item g.T.Item.reads c.loop.found c.args.count c.loop.counter c.loop.rest.now _ c.loop-test.false c.loop.invariant
