@@ -128,12 +128,12 @@ module _ {S : Type 0} {boots : Boots S} {answers : Answers S} where
     written = s.written;
   }
 
-  pub ends_asked : {left : S → Outcome} {a b c d e : Option (List ℕ)} {phase : Phase S} {number broken broken_writer : ℕ} (fails : Fails S) (q : Request) (fault : ServeFault)
-      → Serves boots answers a b d e phase number → Next b (Ok (Some q)) number c broken → Responds boots answers fails phase q (Err fault) → Served boots answers left a c d e (Err fault) broken broken_writer
-  ends_asked fails q Read s n h = absurd h
-  ends_asked fails q Write s n h = absurd h
-  ends_asked fails q Wire s n h = absurd h
-  ends_asked {a = a} {b = b} {c = c} {phase = phase} fails q Order s n h = record {
+  pub ends_asked : {left : S → Outcome} {a b c d e : Option (List ℕ)} {phase : Phase S} {number broken broken_writer : ℕ} (fails : Fails S) (q : Request) (fault : ServeFault) (next : Phase S)
+      → Serves boots answers a b d e phase number → Next b (Ok (Some q)) number c broken → Responds boots answers fails phase q (Err fault) next → Served boots answers left a c d e (Err fault) broken broken_writer
+  ends_asked fails q Read next s n h = absurd h
+  ends_asked fails q Write next s n h = absurd h
+  ends_asked fails q Wire next s n h = absurd h
+  ends_asked {a = a} {b = b} {c = c} {phase = phase} fails q Order next s n h = record {
     exchanges = s.exchanges;
     phase = phase;
     came = s.came;
@@ -144,7 +144,7 @@ module _ {S : Type 0} {boots : Boots S} {answers : Answers S} where
     ended = (request_frame _ q, (n.so, inr (q, (ap (λ (k : ℕ). request_frame k q) s.counted, h))));
     written = s.written;
   }
-  ends_asked fails q Failed s n h = ends_failed s n
+  ends_asked fails q Failed next s n h = ends_failed s n
 
   pub ends_sending : {left : S → Outcome} {a b c d e f : Option (List ℕ)} {phase : Phase S} {number broken broken_writer : ℕ} (next : Phase S) (q : Request) (r : Reply) (fault : ServeFault)
       → Serves boots answers a b d e phase number → Next b (Ok (Some q)) number c broken → Answered boots answers phase q r next → SentAs (Err fault) number r e f broken_writer → Served boots answers left a c d f (Err fault) broken broken_writer

@@ -73,14 +73,14 @@ FailsAt fails Waiting q = ⊥
 FailsAt fails Refusing q = ⊥
 FailsAt {S} fails (Serving s) q = (t : S) × fails s q t
 
--- what a function returned for a request
-abbrev pub Responds : {S : Type 0} → Boots S → Answers S → Fails S → Phase S → Request → Result (Phase S × Reply) ServeFault → Type 0
-Responds boots answers fails phase q (Ok x) = Answered boots answers phase q x.1 x.0
-Responds boots answers fails phase q (Err Order) = IsUndue phase q
-Responds boots answers fails phase q (Err Failed) = FailsAt fails phase q
-Responds boots answers fails phase q (Err Read) = ⊥
-Responds boots answers fails phase q (Err Write) = ⊥
-Responds boots answers fails phase q (Err Wire) = ⊥
+-- what a function returned for a request, and where the conversation then stands
+abbrev pub Responds : {S : Type 0} → Boots S → Answers S → Fails S → Phase S → Request → Result Reply ServeFault → Phase S → Type 0
+Responds boots answers fails phase q (Ok r) next = Answered boots answers phase q r next
+Responds boots answers fails phase q (Err Order) next = IsUndue phase q
+Responds boots answers fails phase q (Err Failed) next = FailsAt fails phase q
+Responds boots answers fails phase q (Err Read) next = ⊥
+Responds boots answers fails phase q (Err Write) next = ⊥
+Responds boots answers fails phase q (Err Wire) next = ⊥
 
 -- a session can answer one more request
 abbrev pub CanAnswer : {S : Type 0} → (S → Type 0) → (S → ℕ) → Phase S → Type 0

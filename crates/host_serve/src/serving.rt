@@ -1,6 +1,6 @@
 //! The conversation of a host with its tracer.
 
-ghost use Rattle.std.specs.Prelude.{◌≡◌, ◌+◌, ℕ, IfOk};
+ghost use Rattle.std.specs.Prelude.{◌≡◌, ◌+◌, ℕ, OnOk};
 ghost use Rattle.host_serve.specs.Serving.{CanAnswer, Finishes, IsDue, Responds, Served, outcome_at};
 
 use crate::answering::send;
@@ -20,14 +20,25 @@ const MOST_FRAMES: u64 = 1 << 40;
 const ROOM: usize = 65_536;
 
 /// The reply to the first request, which is to be Boot.
-fn boot<S: Session + Drop>(alloc: Global, request: Request) -> Result<(Phase<S>, Reply), ServeFault>
-    ensures responds { Responds S.boots S.answers S.fails Phase.Waiting request result }
-    ensures due { IfOk result (λ x. IsDue S.ready S.given x.0 2) }
+fn boot<S: Session + Drop>(
+    alloc: Global,
+    phase: &mut Phase<S>,
+    request: Request,
+) -> Result<Reply, ServeFault>
+    requires { phase.old ≡ Phase.Waiting }
+    ensures responds { Responds S.boots S.answers S.fails phase.old request result phase.new }
+    ensures due { OnOk result (IsDue S.ready S.given phase.new 2) }
 {
     match request {
         Request::Boot { boot, limit, words } => match S::boot(alloc, boot, limit, words) {
-            Ok(session) => Ok((Phase::Serving(session), Reply::Done)),
-            Err(fault) => Ok((Phase::Refused, Reply::Refused { fault })),
+            Ok(session) => {
+                *phase = Phase::Serving(session);
+                Ok(Reply::Done)
+            }
+            Err(fault) => {
+                *phase = Phase::Refused;
+                Ok(Reply::Refused { fault })
+            }
         },
         Request::Wait => Err(ServeFault::Order),
         Request::To { .. } => Err(ServeFault::Order),
@@ -35,28 +46,36 @@ fn boot<S: Session + Drop>(alloc: Global, request: Request) -> Result<(Phase<S>,
     }
 }
 
+/// What a session replies, which is where it stands.
+fn answer<S: Session>(session: &mut S, request: Request) -> Result<Reply, ServeFault>
+    requires { CanAnswer S.ready S.given (Phase.Serving session.old) }
+    ensures responds { Responds S.boots S.answers S.fails (Phase.Serving session.old) request result (Phase.Serving session.new) }
+    ensures due { (number : ℕ) → OnOk result (IsDue S.ready S.given (Phase.Serving session.old) number
+        → IsDue S.ready S.given (Phase.Serving session.new) (number + 1)) }
+{
+    if is_boot(&request) {
+        return Err(ServeFault::Order);
+    }
+    match session.answer(request) {
+        Ok(reply) => Ok(reply),
+        Err(Failed) => Err(ServeFault::Failed),
+    }
+}
+
 fn respond<S: Session + Drop>(
     alloc: Global,
-    phase: Phase<S>,
+    phase: &mut Phase<S>,
     request: Request,
-) -> Result<(Phase<S>, Reply), ServeFault>
-    requires { CanAnswer S.ready S.given phase }
-    ensures responds { Responds S.boots S.answers S.fails phase request result }
-    ensures due { IfOk result (λ x. (number : ℕ) → IsDue S.ready S.given phase number
-        → IsDue S.ready S.given x.0 (number + 1)) }
+) -> Result<Reply, ServeFault>
+    requires { CanAnswer S.ready S.given phase.old }
+    ensures responds { Responds S.boots S.answers S.fails phase.old request result phase.new }
+    ensures due { (number : ℕ) → OnOk result (IsDue S.ready S.given phase.old number
+        → IsDue S.ready S.given phase.new (number + 1)) }
 {
     match phase {
-        Phase::Waiting => boot(alloc, request),
+        Phase::Waiting => boot(alloc, phase, request),
         Phase::Refused => Err(ServeFault::Order),
-        Phase::Serving(mut session) => {
-            if is_boot(&request) {
-                return Err(ServeFault::Order);
-            }
-            match session.answer(request) {
-                Ok(reply) => Ok((Phase::Serving(session), reply)),
-                Err(Failed) => Err(ServeFault::Failed),
-            }
-        }
+        Phase::Serving(session) => answer(session, request),
     }
 }
 
@@ -96,12 +115,12 @@ pub fn serve_session<S: Session + Drop, R: Source, W: Sink>(
             Ok(None) => return outcome_of(alloc, &phase),
             Err(fault) => return Err(fault),
         };
-        let (next, reply) = match respond(alloc, phase, request) {
-            Ok(response) => response,
+        let reply = match respond(alloc, &mut phase, request) {
+            Ok(reply) => reply,
             Err(fault) => return Err(fault),
         };
         match send(alloc, writer, number, reply) {
-            Ok(()) => phase = next,
+            Ok(()) => {}
             Err(fault) => return Err(fault),
         }
     }

@@ -15,17 +15,17 @@ pub respond-requires : goal.respond-requires
 respond-requires g c = can_answer g.S.Session.ready g.S.Session.given _ c.loop-number.invariant.due (omega (arith, c.loop-number-test.true))
 
 pub returns-in-Err-respond : goal.returns-in-Err-respond
-returns-in-Err-respond g c = ends_asked g.S.Session.fails c.in-Ok-Some.request c.in-Err-respond.fault c.loop-number.invariant.serves (next_is c.in-Ok-Some.field-0-is c.in-Ok-Some.ensures.next) c.in-Err-respond.ensures.responds
+returns-in-Err-respond g c = ends_asked g.S.Session.fails c.in-Ok-Some.request c.in-Err-respond.fault _ c.loop-number.invariant.serves (next_is c.in-Ok-Some.field-0-is c.in-Ok-Some.ensures.next) c.in-Err-respond.ensures.responds
 
 pub returns-in-Err-send : goal.returns-in-Err-send
-returns-in-Err-send g c = ends_sending c.in-Ok-respond.response.0 c.in-Ok-Some.request c.in-Ok-respond.response.1 c.in-Err-send.fault c.loop-number.invariant.serves (next_is c.in-Ok-Some.field-0-is c.in-Ok-Some.ensures.next) c.in-Ok-respond.ensures.responds c.in-Err-send.ensures
+returns-in-Err-send g c = ends_sending c.respond.new.phase c.in-Ok-Some.request c.in-Ok-respond.reply c.in-Err-send.fault c.loop-number.invariant.serves (next_is c.in-Ok-Some.field-0-is c.in-Ok-Some.ensures.next) c.in-Ok-respond.ensures.responds c.in-Err-send.ensures
 
 pub returns-in-Ok-None : goal.returns-in-Ok-None
 returns-in-Ok-None g c = ends_finished c.outcome_of.result c.loop-number.invariant.serves (next_is c.in-Ok-None.field-0-is c.in-Ok-None.ensures.next) c.outcome_of.ensures
 
 pub loop-number-preserved : goal.loop-number-preserved
 loop-number-preserved g c = record {
-  serves = goes_further c.in-Ok-respond.response.0 c.in-Ok-Some.request c.in-Ok-respond.response.1 c.loop-number.invariant.serves (next_is c.in-Ok-Some.field-0-is c.in-Ok-Some.ensures.next) c.in-Ok-respond.ensures.responds c.in-Ok-send.ensures;
+  serves = goes_further c.respond.new.phase c.in-Ok-Some.request c.in-Ok-respond.reply c.loop-number.invariant.serves (next_is c.in-Ok-Some.field-0-is c.in-Ok-Some.ensures.next) c.in-Ok-respond.ensures.responds c.in-Ok-send.ensures;
   due = c.in-Ok-respond.ensures.due _ c.loop-number.invariant.due;
   fresh = c.in-Ok-Some.ensures.no_further (rw c.in-Ok-Some.field-0-is refl);
   room = c.loop-number.invariant.room;
