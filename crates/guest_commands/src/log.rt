@@ -87,14 +87,18 @@ fn push_decimal<N: Integer>(lines: &mut Vec<u8>, number: N) -> Result<(), AllocE
     Ok(())
 }
 
-/// Adds a number in hexadecimal digits.
+/// Adds a blank, and a number in hexadecimal digits.
 fn push_hexadecimal(lines: &mut Vec<u8>, number: u64) -> Result<(), AllocError> {
-    let digits = (64 - (number | 1).leading_zeros()).div_ceil(4);
-    lines.extend_from_slice(b"0x")?;
-    for place in (0..digits).rev() {
-        let digit = (number >> (4 * place)) as usize % 16;
-        lines.push(DIGITS[digit])?;
+    if number == 0 {
+        lines.extend_from_slice(b" 0x0")?;
+        return Ok(());
     }
+    let mut text = *b" 0x0000000000000000";
+    let digits = 16 - number.leading_zeros() as usize / 4;
+    for place in 0..digits {
+        text[2 + digits - place] = DIGITS[(number >> (4 * place)) as usize % 16];
+    }
+    lines.extend_from_slice(&text[..3 + digits])?;
     Ok(())
 }
 
@@ -104,7 +108,6 @@ fn push_entry(lines: &mut Vec<u8>, pid: u32, call: &Call) -> Result<(), AllocErr
     lines.push(b' ')?;
     push_decimal(lines, call.number)?;
     for argument in &call.arguments {
-        lines.push(b' ')?;
         push_hexadecimal(lines, *argument)?;
     }
     lines.push(b'\n')?;

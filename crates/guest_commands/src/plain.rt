@@ -47,52 +47,95 @@ fn status(kernel: &Kernel) -> u8 {
     }
 }
 
-/// One turn of a process, whose item is printed.
-fn turn<E: Write>(kernel: &mut Kernel, pid: u32, log: &mut Log<E>) -> Result<(), Fault> {
-    match kernel.turn(pid) {
-        Err(_) => Err(Fault::Memory),
-        Ok(moved) => match moved.item {
-            Some(item) => log.print(&item),
-            None => log.wait(1),
-        },
+/// How many turns a process had, and where it stands after them.
+#[derive(Clone, Copy, Debug, PartialEq, Eq)]
+struct Passed {
+    turns: u64,
+    after: Option<Mode>,
+}
+
+/// One turn of a process, whose item is printed: where it stands after it.
+fn turn<E: Write>(kernel: &mut Kernel, pid: u32, log: &mut Log<E>) -> Result<Option<Mode>, Fault> {
+    let Ok(moved) = kernel.turn(pid) else {
+        return Err(Fault::Memory);
+    };
+    match moved.item {
+        Some(item) => log.print(&item)?,
+        None => log.wait(1)?,
     }
+    Ok(moved.after)
 }
 
 /// Turns of a process that run instructions, at most so many: how many there were.
-fn run_instructions(kernel: &mut Kernel, pid: u32, most: u64) -> Result<u64, Fault> {
-    match kernel.run(pid, most) {
-        Ok(ran) => Ok(ran),
-        Err(_) => Err(Fault::Memory),
+fn run_instructions<E: Write>(
+    kernel: &mut Kernel,
+    pid: u32,
+    most: u64,
+    log: &mut Log<E>,
+) -> Result<u64, Fault> {
+    let Ok(ran) = kernel.run(pid, most.min(log.patience())) else {
+        return Err(Fault::Memory);
+    };
+    log.wait(ran)?;
+    Ok(ran)
+}
+
+/// The next turns of a process, at most so many: those that run instructions are made at once, with the one that ends
+/// them.
+fn turns_from<E: Write>(
+    kernel: &mut Kernel,
+    pid: u32,
+    mode: Option<Mode>,
+    most: u64,
+    log: &mut Log<E>,
+) -> Result<Passed, Fault> {
+    let mut ran = 0;
+    if mode == Some(Mode::Run) {
+        ran = run_instructions(kernel, pid, most, log)?;
+        if ran == most {
+            return Ok(Passed {
+                turns: ran,
+                after: mode,
+            });
+        }
+    }
+    let after = turn(kernel, pid, log)?;
+    Ok(Passed {
+        turns: ran.saturating_add(1),
+        after,
+    })
+}
+
+/// A process that stands so can have the next turn of its row: it is able, and no call of it is finished. Only a call can
+/// wait.
+fn goes_on(kernel: &Kernel, pid: u32, mode: Option<Mode>) -> bool {
+    match mode {
+        None | Some(Mode::Zombie) | Some(Mode::Finished) => false,
+        Some(Mode::Doing) => kernel.able(pid),
+        Some(_) => true,
     }
 }
 
-/// The turn that a process has next. If it runs an instruction, so do those of its row that come next: they are made at
-/// once.
+/// The turn that a process has next, and those of its row behind it as long as nothing comes between them.
 fn turns_of<E: Write>(
     kernel: &mut Kernel,
     schedule: &mut Schedule,
     pid: u32,
     log: &mut Log<E>,
 ) -> Result<(), Fault> {
-    if kernel.mode(pid) != Some(Mode::Run) {
-        return turn(kernel, pid, log);
+    let most = schedule.row().map_or(0, |row| row.turns).saturating_add(1);
+    let mut mode = kernel.mode(pid);
+    let mut made = 0u64;
+    for _ in 0..most {
+        let passed = turns_from(kernel, pid, mode, most.saturating_sub(made), log)?;
+        made = made.saturating_add(passed.turns);
+        mode = passed.after;
+        if made >= most || !goes_on(kernel, pid, mode) {
+            break;
+        }
     }
-    let following = schedule.row().map_or(0, |row| row.turns);
-    let most = following.saturating_add(1).min(log.patience());
-    let ran = run_instructions(kernel, pid, most)?;
-    if ran == 0 {
-        return turn(kernel, pid, log);
-    }
-    schedule.pass(ran - 1);
-    log.wait(ran)?;
-    if ran == most {
-        return Ok(());
-    }
-    // What ended the instructions is a turn that runs none.
-    match schedule.next_plain(kernel) {
-        Some(pid) => turn(kernel, pid, log),
-        None => Ok(()),
-    }
+    schedule.pass(made.saturating_sub(1));
+    Ok(())
 }
 
 /// Turns by a schedule until it has ended, each item printed.

@@ -118,6 +118,43 @@ fn rows_of_turns(rt: HostRuntime) -> Result<(), Fail> {
     Ok(())
 }
 
+/// Process 1 waits for its child, which ends at once: about fifty turns in all.
+const WAITING: &str = "_start: li a0, 17
+        li a1, 0
+        li a7, 220
+        ecall
+        beqz a0, end
+        li a2, 0
+        li a3, 0
+        li a7, 260
+        ecall
+end:    li a0, 0
+        li a7, 94
+        ecall
+";
+
+/// A process that waits has no more turns of its row: the run comes to its end in a tenth of one.
+#[test]
+fn waiting_ends_a_row(rt: HostRuntime) -> Result<(), Fail> {
+    fs::write(&rt, "waiting.s", WAITING)?;
+    assert_eq!(rt; status_of(&rt, &["asm", "waiting.s", "waiting.elf"])?, 0);
+    let rows = [("30", 4), ("100", 0)];
+    for (limit, status) in rows {
+        let words = [
+            "plain",
+            "--limit",
+            limit,
+            "--file=/p=waiting.elf",
+            "--",
+            "/p",
+        ];
+        assert_eq!(rt; status_of(&rt, words.as_slice())?, status, "{limit}");
+    }
+    fs::remove_file(&rt, "waiting.s")?;
+    fs::remove_file(&rt, "waiting.elf")?;
+    Ok(())
+}
+
 /// The limit counts turns, also those that nobody has, and no word s. The first line of the log comes with turn 2 of
 /// process 1, the second with turn 5, the third with turn 12.
 #[test]
