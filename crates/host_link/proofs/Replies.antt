@@ -1,6 +1,6 @@
 -- The reply in the one frame that came.
 use Rattle.std.proofs.Common.{◌≡◌, ℕ, Bool, true, false, cond, eqb, List, [], ◌∷◌, Option, Some, Result, Ok, Err, refl, sym, ap, subst, ◌∙◌}
-use Rattle.std.specs.Prelude.{IsSome}
+use Rattle.std.specs.Prelude.{IsSome, OnOk}
 use Rattle.std.specs.Io.KnownBytes.{Consumes}
 use Rattle.lx_abi.specs.declared.ptrace.Reply.{Reply}
 use Rattle.pt_model.specs.Admissible.{answers}
@@ -30,10 +30,18 @@ came_whole left left' came sent f broken consumed whole = record {
   so = at_number (λ result. reply_in sent f ≡ result → CameAs result sent came (stream_of came) left' broken) (λ r e. (f, (whole, e))) (λ e. (f, (whole, e))) (λ e. (f, (whole, e))) (eqb f.number sent.number) sent.body f.body refl;
 }
 
+-- nothing is left of what was fed behind the one frame
+pub nothing_left : {old new : Feeding} {o : Option Frame} {f : Frame} → old ≡ nothing_fed → o ≡ Some f → (old.ready ≡ [] → IsSome o → new ≡ nothing_fed) → new ≡ nothing_fed
+nothing_left fresh is alone = alone (ap (λ (x : Feeding). x.ready) fresh) (subst IsSome (sym is) refl)
+
+pub where_ok : {P : Type 0} (result : Result Reply LinkFault) → P → OnOk result P
+where_ok (Ok r) p = p
+where_ok (Err fault) p = search
+
 pub reply_received : {left left' : Option (List ℕ)} {old new : Feeding} {o : Option Frame} {broken : ℕ} (f sent : Frame) → old ≡ nothing_fed → o ≡ Some f → Received left old (Ok o) left' new broken → (old.ready ≡ [] → IsSome o → new ≡ nothing_fed)
     → Came left (reply_in sent f) sent left' broken
 reply_received {left} {left'} {old} {new} {o} {broken} f sent fresh is received alone =
     let some : Received left old (Ok (Some f)) left' new broken = subst (λ (x : Option Frame). Received left old (Ok x) left' new broken) is received in
     let first : Received left nothing_fed (Ok (Some f)) left' new broken = subst (λ (x : Feeding). Received left x (Ok (Some f)) left' new broken) fresh some in
-    let none : new ≡ nothing_fed = alone (ap (λ (x : Feeding). x.ready) fresh) (subst IsSome (sym is) refl) in
+    let none : new ≡ nothing_fed = nothing_left fresh is alone in
     came_whole left left' first.came sent f broken first.consumed (first.so ∙ ap (λ (n : Feeding). Going (f ∷ n.ready) n.under_way) none)

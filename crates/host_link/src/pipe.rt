@@ -1,6 +1,7 @@
 //! A link over a reader and a writer.
 
-ghost use Rattle.std.specs.Prelude.{◌≡◌, ◌<◌, ◌≤◌, ◌^◌, false, length, vec_len, IfOk};
+ghost use Rattle.std.specs.Prelude.{◌≡◌, ◌<◌, ◌≤◌, ◌^◌, false, length, vec_len, IfOk, OnOk};
+ghost use Rattle.host_wire.specs.Streams.{nothing_fed};
 ghost use Rattle.host_link.specs.Pipes as spec;
 ghost use Rattle.host_link.specs.Pipes.{Came, Exchanged, SentAs};
 
@@ -68,16 +69,17 @@ fn reply_in(sent: &Frame, frame: Frame) -> Result<Reply, LinkFault>
 
 /// Reads the next frame, no byte behind it, for the reply to what was sent.
 fn receive_reply<R: Source>(
-    alloc: Global,
     reader: &mut R,
+    feed: &mut Feed,
     room: &mut [u8],
     sent: &Frame,
 ) -> Result<Reply, LinkFault>
-    requires { 0 < length room.old }
-    ensures { Came (R.remaining reader.old) result sent.now (R.remaining reader.new) (R.broken reader.new) }
+    requires room { 0 < length room.old }
+    requires fresh { feed.old ≡ nothing_fed }
+    ensures came { Came (R.remaining reader.old) result sent.now (R.remaining reader.new) (R.broken reader.new) }
+    ensures no_further { OnOk result (feed.new ≡ nothing_fed) }
 {
-    let mut feed = Feed::new(alloc);
-    let frame = match receive(reader, &mut feed, room) {
+    let frame = match receive(reader, feed, room) {
         Ok(Some(frame)) => frame,
         Ok(None) => return Err(LinkFault::Ended),
         Err(fault) => return Err(fault_of(fault)),
@@ -90,14 +92,17 @@ pub(crate) fn exchange<R: Source, W: Sink>(
     alloc: Global,
     reader: &mut R,
     writer: &mut W,
+    feed: &mut Feed,
     room: &mut [u8],
     sent: &Frame,
 ) -> Result<Reply, LinkFault>
-    requires { 0 < length room.old }
-    ensures { Exchanged sent.now (R.remaining reader.old) (R.remaining reader.new) (W.contents writer.old) (W.contents writer.new) result (R.broken reader.new) (W.broken writer.new) }
+    requires room { 0 < length room.old }
+    requires fresh { feed.old ≡ nothing_fed }
+    ensures exchanged { Exchanged sent.now (R.remaining reader.old) (R.remaining reader.new) (W.contents writer.old) (W.contents writer.new) result (R.broken reader.new) (W.broken writer.new) }
+    ensures no_further { OnOk result (feed.new ≡ nothing_fed) }
 {
     match send(alloc, writer, sent) {
-        Ok(()) => receive_reply(alloc, reader, room, sent),
+        Ok(()) => receive_reply(reader, feed, room, sent),
         Err(fault) => Err(fault),
     }
 }
@@ -111,9 +116,11 @@ pub struct PipeLink<R, W> {
     alloc: Global,
     reader: R,
     writer: W,
+    feed: Feed,
     room: Vec<u8>,
     given: u64,
     is_broken: bool,
+    ghost fresh: { is_broken ≡ false → feed ≡ nothing_fed },
     ghost roomy: { 0 < vec_len room },
     ghost few: { given ≤ 2 ^ 40 },
 }
@@ -135,6 +142,7 @@ impl<R: Source, W: Sink> PipeLink<R, W> {
             alloc,
             reader,
             writer,
+            feed: Feed::new(alloc),
             room,
             given: 0,
             is_broken: false,
@@ -163,22 +171,18 @@ impl<R: Source, W: Sink> Link for PipeLink<R, W> {
             number: self.given + 1,
             body: Body::Request(request),
         };
-        match exchange(
+        self.is_broken = true;
+        let reply = exchange(
             self.alloc,
             &mut self.reader,
             &mut self.writer,
+            &mut self.feed,
             self.room.as_mut_slice(),
             &sent,
-        ) {
-            Ok(reply) => {
-                self.given += 1;
-                Ok(reply)
-            }
-            Err(fault) => {
-                self.is_broken = true;
-                Err(fault)
-            }
-        }
+        )?;
+        self.given += 1;
+        self.is_broken = false;
+        Ok(reply)
     }
 
     fn asked(&self) -> u64 {

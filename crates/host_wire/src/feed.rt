@@ -25,6 +25,25 @@ fn drop_front(bytes: &mut Vec<u8>, count: usize)
     bytes.truncate(left);
 }
 
+/// Puts frames behind those that weren't taken, mostly none.
+fn join(ready: &mut VecDeque<Frame>, mut found: VecDeque<Frame>) -> Result<(), WireFault>
+    ensures joined { OnOk result (ready.new.items ≡ ready.old.items ++ found.items) }
+    ensures kept { OnErr result (ready.new.items ≡ ready.old.items) }
+    ensures fault { IfErr result (λ fault. fault ≡ WireFault.Memory) }
+{
+    if found.is_empty() {
+        return Ok(());
+    }
+    if ready.is_empty() {
+        *ready = found;
+        return Ok(());
+    }
+    match ready.append(&mut found) {
+        Ok(()) => Ok(()),
+        Err(_) => Err(WireFault::Memory),
+    }
+}
+
 /// Takes pieces of a stream and gives its frames.
 #[derive(Drop)]
 pub struct Feed {
@@ -66,10 +85,10 @@ impl Feed {
         let before = self.under_way.len();
         self.under_way.extend_from_slice(piece)?;
         match front::frames(self.alloc, self.under_way.as_slice()) {
-            Ok((mut found, used)) => {
-                if self.ready.append(&mut found).is_err() {
+            Ok((found, used)) => {
+                if let Err(fault) = join(&mut self.ready, found) {
                     self.under_way.truncate(before);
-                    return Err(WireFault::Memory);
+                    return Err(fault);
                 }
                 drop_front(&mut self.under_way, used);
                 Ok(())
