@@ -5,6 +5,7 @@ ghost use Rattle.pt_kernel.specs.Hosts.{is_boot};
 
 use crate::conversation::{fed, link_of};
 use lx_abi::{Ask, Event, Reply, Request};
+use lx_kernel::Failed;
 use pt_kernel::{Host, TurnRun};
 use std::alloc::Global;
 use std::test::Fail;
@@ -12,7 +13,9 @@ use std::test::Fail;
 /// A host whose process 1 hasn't begun.
 fn booted(alloc: Global) -> Result<Host, Fail> {
     let mut feed = fed(alloc)?;
-    Ok(link_of(alloc, &mut feed)?.into_host())
+    let link = link_of(alloc, &mut feed);
+    drop(feed);
+    Ok(link?.into_host())
 }
 
 /// The request that a letter stands for: Seize, GetRegs, Syscall or Wait.
@@ -39,12 +42,19 @@ fn shown(reply: &Reply) -> char {
     }
 }
 
+fn answer(host: &mut Host, event: Event) -> Result<Option<Reply>, Failed> {
+    host.event(event)
+}
+
 fn event(host: &mut Host, event: Event) -> char {
-    match &host.event(event) {
+    let answer = answer(host, event);
+    let letter = match &answer {
         Ok(Some(reply)) => shown(reply),
         Ok(None) => '-',
         Err(_) => 'f',
-    }
+    };
+    drop(answer);
+    letter
 }
 
 fn ask(host: &mut Host, letter: char) -> char {
@@ -78,28 +88,44 @@ fn has_turned(host: &Host, turns: u64) -> bool {
     host.turns().runs() == [TurnRun { pid: 1, turns }].as_slice()
 }
 
+/// Steps, and what they give.
+const ROWS: [(&str, &str); 8] = [
+    // Nobody is traced: Wait is answered ECHILD, and no Seize was done.
+    ("SwzgtS", "-.bb-e"),
+    ("rS", ".e"),
+    ("zS", ".d"),
+    ("wzS", ".bs"),
+    // Process 1 leaves Born, enters execve and is held there.
+    ("gSttt", ".d---"),
+    ("SrS", "-.r"),
+    ("wS", ".s"),
+    // No status is left: Wait stays pending.
+    ("wSzS", ".-b-"),
+];
+
+/// The steps of the first row that gives something else.
+fn differing_in(host: &mut Host) -> Option<&'static str> {
+    for (steps, letters) in ROWS {
+        if !give(host, steps, letters) {
+            return Some(steps);
+        }
+    }
+    None
+}
+
+/// The same, and whether process 1 had two turns.
+fn differing(alloc: Global) -> Result<(Option<&'static str>, bool), Fail> {
+    let mut host = booted(alloc)?;
+    let steps = differing_in(&mut host);
+    let has_turned = has_turned(&host, 2);
+    drop(host);
+    Ok((steps, has_turned))
+}
+
 /// A second request is refused, and it is the first that a Serve answers. Turns come without a Wait too, up to the next
 /// stop; a turn of a held process is none.
 #[test]
 fn one_request_at_a_time(rt: HostRuntime) -> Result<(), Fail> {
-    let mut host = booted(rt.alloc())?;
-    // Each row is steps, and what they give.
-    let rows = [
-        // Nobody is traced: Wait is answered ECHILD, and no Seize was done.
-        ("SwzgtS", "-.bb-e"),
-        ("rS", ".e"),
-        ("zS", ".d"),
-        ("wzS", ".bs"),
-        // Process 1 leaves Born, enters execve and is held there.
-        ("gSttt", ".d---"),
-        ("SrS", "-.r"),
-        ("wS", ".s"),
-        // No status is left: Wait stays pending.
-        ("wSzS", ".-b-"),
-    ];
-    for (steps, letters) in rows {
-        assert!(rt; give(&mut host, steps, letters), "{steps}");
-    }
-    assert!(rt; has_turned(&host, 2));
+    assert_eq!(rt; differing(rt.alloc())?, (None, true));
     Ok(())
 }

@@ -84,6 +84,18 @@ impl<'a> Processes for Hosts<'a> {
     }
 }
 
+/// The numbers of the faults of three calls, 0 for a reply.
+fn called<L: Link>(link: &mut L) -> [u8; 3] {
+    let mut calls = [0; 3];
+    for call in calls.iter_mut() {
+        *call = match link.call(Request::Wait) {
+            Ok(_) => 0,
+            Err(fault) => fault.number(),
+        };
+    }
+    calls
+}
+
 /// The number of the fault that a link was not started by, or 0; those of three calls; how many replies came; and how
 /// often the process was killed, and waited for.
 fn seen(alloc: Global, path: &str, replies: &[u8]) -> (u8, [u8; 3], u64, u32, u32) {
@@ -97,14 +109,10 @@ fn seen(alloc: Global, path: &str, replies: &[u8]) -> (u8, [u8; 3], u64, u32, u3
     let (start, calls, asked) = match ChildLink::start(&hosts, path, &["quiet"]) {
         Err(fault) => (fault.number(), [0; 3], 0),
         Ok(mut link) => {
-            let mut calls = [0; 3];
-            for call in calls.iter_mut() {
-                *call = match link.call(Request::Wait) {
-                    Ok(_) => 0,
-                    Err(fault) => fault.number(),
-                };
-            }
-            (0, calls, link.asked())
+            let calls = called(&mut link);
+            let asked = link.asked();
+            drop(link);
+            (0, calls, asked)
         }
     };
     (start, calls, asked, kills.get(), waits.get())

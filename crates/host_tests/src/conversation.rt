@@ -1,11 +1,12 @@
 //! A boot and sixteen requests, with their replies worked out by hand.
 
-use crate::ends::Pieces;
-use crate::frames::{part, stream};
+use crate::ends::{Pieces, serve_between};
+use crate::frames::{are_same, encoded, part, stream};
 use host_link::{Link, LocalLink, PipeLink};
-use host_serve::serve;
-use host_wire::{Body, Counted, Feed, Frame, Sink, Source, encode};
-use lx_abi::{Boot, Request};
+use host_serve::ServeFault;
+use host_wire::{Body, Counted, Feed, Frame, Sink, Source};
+use lx_abi::{Boot, Outcome, Request};
+use lx_boot::BootFault;
 use pt_kernel::{Host, Schedule};
 use std::alloc::Global;
 use std::test::Fail;
@@ -94,12 +95,30 @@ pub fn replies(alloc: Global) -> Result<Vec<u8>, Fail> {
     stream(alloc, messages.as_slice())
 }
 
-/// What the host writes that reads these bytes, so many at a time at most.
-fn served(alloc: Global, bytes: &[u8], most: usize) -> Result<Vec<u8>, Fail> {
-    let mut reader = Counted::new(Pieces::new(bytes, most, false));
+/// Nothing was written to the console, and nobody has ended.
+fn is_empty(served: Result<Outcome, ServeFault>) -> bool {
+    match served {
+        Ok(outcome) => outcome.console.is_empty() && outcome.ended.as_slice().is_empty(),
+        Err(_) => false,
+    }
+}
+
+/// The frames of the replies behind the first, which is that to the boot.
+fn later_replies(alloc: Global) -> Result<Vec<u8>, Fail> {
+    let replies = replies(alloc)?;
+    let later = part(replies.as_slice(), 13, replies.len()).to_vec(alloc);
+    drop(replies);
+    Ok(later?)
+}
+
+/// What the host writes that reads the requests, so many bytes at a time at most.
+fn served(alloc: Global, most: usize) -> Result<Vec<u8>, Fail> {
+    let requests = requests(alloc)?;
+    let mut reader = Counted::new(Pieces::new(requests.as_slice(), most, false));
     let mut writer = Counted::new(Vec::new(alloc));
-    let outcome = serve(alloc, &mut reader, &mut writer)?;
-    if !outcome.console.is_empty() || !outcome.ended.as_slice().is_empty() {
+    let served = serve_between(alloc, &mut reader, &mut writer);
+    drop(reader);
+    if !is_empty(served) {
         return Err(Fail::from("nothing is written, and nobody has ended"));
     }
     Ok(writer.into_inner())
@@ -108,13 +127,10 @@ fn served(alloc: Global, bytes: &[u8], most: usize) -> Result<Vec<u8>, Fail> {
 /// In one piece, byte by byte, and cut where no frame ends.
 #[test]
 fn served_however_cut(rt: HostRuntime) -> Result<(), Fail> {
-    let requests = requests(rt.alloc())?;
-    let wanted = replies(rt.alloc())?;
     for most in [usize::MAX, 1, 7] {
-        let written = served(rt.alloc(), requests.as_slice(), most)?;
-        assert_eq!(rt;
-            written.as_slice(),
-            wanted.as_slice(),
+        let written = served(rt.alloc(), most)?;
+        assert!(rt;
+            are_same(written, replies(rt.alloc())?),
             "{most} bytes at a time"
         );
     }
@@ -129,13 +145,24 @@ fn boot_of(frame: Frame) -> Result<(Boot, u64), Fail> {
     }
 }
 
+fn booted(alloc: Global, boot: Boot) -> Result<Host, BootFault> {
+    Host::boot(alloc, boot)
+}
+
 /// A link to the host of the boot that the feed begins with.
 pub(crate) fn link_of(alloc: Global, feed: &mut Feed) -> Result<LocalLink, Fail> {
     let frame = feed.take().ok_or("a boot")?;
     let (boot, limit) = boot_of(frame)?;
-    match Host::boot(alloc, boot) {
+    match booted(alloc, boot) {
         Ok(host) => Ok(LocalLink::new(host, Schedule::words(Vec::new(alloc), limit))),
         Err(_) => Err(Fail::from("the boot is accepted")),
+    }
+}
+
+fn spelled(alloc: Global, frame: &Frame) -> Result<Vec<u8>, Fail> {
+    match encoded(alloc, frame) {
+        Ok(bytes) => Ok(bytes),
+        Err(_) => Err(Fail::from("a frame")),
     }
 }
 
@@ -152,11 +179,7 @@ fn reply_frame<L: Link>(
     match link.call(request) {
         Ok(reply) => {
             let body = Body::Reply(reply);
-            Ok(
-                encode(alloc, &Frame { number, body })
-                    .ok()
-                    .ok_or("a frame")?,
-            )
+            spelled(alloc, &Frame { number, body })
         }
         Err(_) => Err(Fail::from("a reply")),
     }
@@ -193,20 +216,18 @@ fn counts<L: Link>(link: &L) -> (u64, u64) {
 fn in_this_process(alloc: Global) -> Result<(Vec<u8>, (u64, u64)), Fail> {
     let mut feed = fed(alloc)?;
     let mut link = link_of(alloc, &mut feed)?;
-    let written = answered(alloc, &mut link, &mut feed)?;
-    Ok((written, counts(&link)))
+    let written = answered(alloc, &mut link, &mut feed);
+    let counts = counts(&link);
+    drop(link);
+    drop(feed);
+    Ok((written?, counts))
 }
 
 #[test]
 fn answered_in_this_process(rt: HostRuntime) -> Result<(), Fail> {
     let (written, counts) = in_this_process(rt.alloc())?;
     assert_eq!(rt; counts, (16, 0));
-    // The first reply is that to the boot.
-    let wanted = replies(rt.alloc())?;
-    assert_eq!(rt;
-        written.as_slice(),
-        part(wanted.as_slice(), 13, wanted.len())
-    );
+    assert!(rt; are_same(written, later_replies(rt.alloc())?));
     Ok(())
 }
 
@@ -218,23 +239,33 @@ fn over_pipes<R: Source + Drop, W: Sink + Drop>(
     feed: &mut Feed,
 ) -> Result<(Vec<u8>, (u64, u64)), Fail> {
     let mut link = PipeLink::new(alloc, reader, writer)?;
-    let written = answered(alloc, &mut link, feed)?;
-    Ok((written, counts(&link)))
+    let written = answered(alloc, &mut link, feed);
+    let counts = counts(&link);
+    drop(link);
+    Ok((written?, counts))
+}
+
+/// The same, where the replies come so many bytes at a time, and what was sent.
+fn over_pieces(alloc: Global, most: usize) -> Result<(Vec<u8>, (u64, u64), Vec<u8>), Fail> {
+    let replies = replies(alloc)?;
+    let mut feed = fed(alloc)?;
+    let mut sent = Vec::new(alloc);
+    let reader = Counted::new(Pieces::new(replies.as_slice(), most, false));
+    let answered = over_pipes(alloc, reader, Counted::new(&mut sent), &mut feed);
+    drop(feed);
+    let (written, counts) = answered?;
+    Ok((written, counts, sent))
 }
 
 /// Over pipes the requests are the frames that a host reads, and the replies those that it writes.
 #[test]
 fn answered_over_pipes(rt: HostRuntime) -> Result<(), Fail> {
     let alloc = rt.alloc();
-    let replies = replies(alloc)?;
     for most in [usize::MAX, 1] {
-        let mut feed = fed(alloc)?;
-        let mut sent = Vec::new(alloc);
-        let reader = Counted::new(Pieces::new(replies.as_slice(), most, false));
-        let (written, counts) = over_pipes(alloc, reader, Counted::new(&mut sent), &mut feed)?;
+        let (written, counts, sent) = over_pieces(alloc, most)?;
         assert_eq!(rt; counts, (17, 0));
-        assert_eq!(rt; written.as_slice(), replies.as_slice());
-        assert_eq!(rt; sent.as_slice(), requests(alloc)?.as_slice());
+        assert!(rt; are_same(written, replies(alloc)?));
+        assert!(rt; are_same(sent, requests(alloc)?));
     }
     Ok(())
 }

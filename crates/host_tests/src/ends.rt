@@ -1,6 +1,19 @@
-//! Readers that cut what they give, and fail.
+//! Readers that cut what they give, and fail, and the host that is served between a reader and a writer.
 
+use host_serve::{ServeFault, serve};
+use host_wire::{Sink, Source};
+use lx_abi::Outcome;
+use std::alloc::Global;
 use std::io::{self, ErrorKind, Read};
+
+/// Serves, without clauses.
+pub fn serve_between<R: Source, W: Sink>(
+    alloc: Global,
+    reader: &mut R,
+    writer: &mut W,
+) -> Result<Outcome, ServeFault> {
+    serve(alloc, reader, writer)
+}
 
 /// Gives some bytes, so many at a time at most, and then the end or an error.
 #[derive(Drop)]

@@ -1,5 +1,6 @@
 //! Frames written out by hand: a length of 4 bytes, a number of 8, a kind and a body.
 
+use host_wire::{Frame, WireFault, encode};
 use std::alloc::Global;
 use std::test::Fail;
 
@@ -22,6 +23,19 @@ pub fn stream(alloc: Global, messages: &[&str]) -> Result<Vec<u8>, Fail> {
         bytes.extend_from_slice(frame(alloc, number, message)?.as_slice())?;
     }
     Ok(bytes)
+}
+
+/// Both are the same bytes.
+pub fn are_same(one: Vec<u8>, other: Vec<u8>) -> bool {
+    let same = one.as_slice() == other.as_slice();
+    drop(one);
+    drop(other);
+    same
+}
+
+/// The bytes of a frame, without clauses.
+pub fn encoded(alloc: Global, frame: &Frame) -> Result<Vec<u8>, WireFault> {
+    encode(alloc, frame)
 }
 
 /// Some of the bytes; none where they don't reach so far.

@@ -1,8 +1,8 @@
 //! Each request with each of its refusals, over whole conversations with their replies worked out by hand.
 
 use crate::conversation::AT_EXECVE;
-use crate::frames::stream;
-use host_serve::serve;
+use crate::ends::serve_between;
+use crate::frames::{are_same, stream};
 use host_wire::Counted;
 use std::alloc::Global;
 use std::test::Fail;
@@ -207,26 +207,42 @@ fn boot_of(alloc: Global, listing: Option<&str>) -> Result<String, Fail> {
     )?)
 }
 
-/// What is written in such a conversation, and what was worked out.
-fn conversation(
-    alloc: Global,
-    listing: Option<&str>,
-    rows: &[(&str, &str)],
-) -> Result<(Vec<u8>, Vec<u8>), Fail> {
-    let boot = boot_of(alloc, listing)?;
+/// The frames of a boot and of the requests.
+fn sent(alloc: Global, boot: &str, rows: &[(&str, &str)]) -> Result<Vec<u8>, Fail> {
     let mut requests = Vec::new(alloc);
-    let mut replies = Vec::new(alloc);
-    requests.push(boot.as_str())?;
-    replies.push(DONE)?;
-    for (request, reply) in rows.iter().copied() {
+    requests.push(boot)?;
+    for (request, _) in rows.iter().copied() {
         requests.push(request)?;
+    }
+    stream(alloc, requests.as_slice())
+}
+
+/// The frames of the replies that were worked out.
+fn wanted(alloc: Global, rows: &[(&str, &str)]) -> Result<Vec<u8>, Fail> {
+    let mut replies = Vec::new(alloc);
+    replies.push(DONE)?;
+    for (_, reply) in rows.iter().copied() {
         replies.push(reply)?;
     }
-    let sent = stream(alloc, requests.as_slice())?;
-    let mut reader = Counted::new(sent.as_slice());
+    stream(alloc, replies.as_slice())
+}
+
+/// What is written for these bytes.
+fn served(alloc: Global, sent: &[u8]) -> Result<Vec<u8>, Fail> {
+    let mut reader = Counted::new(sent);
     let mut writer = Counted::new(Vec::new(alloc));
-    let _ = serve(alloc, &mut reader, &mut writer)?;
-    Ok((writer.into_inner(), stream(alloc, replies.as_slice())?))
+    let served = serve_between(alloc, &mut reader, &mut writer);
+    drop(reader);
+    drop(served?);
+    Ok(writer.into_inner())
+}
+
+/// What is written in such a conversation is what was worked out.
+fn is_as_wanted(alloc: Global, listing: Option<&str>, rows: &[(&str, &str)]) -> Result<bool, Fail> {
+    let boot = boot_of(alloc, listing)?;
+    let sent = sent(alloc, boot.as_str(), rows)?;
+    let written = served(alloc, sent.as_slice())?;
+    Ok(are_same(written, wanted(alloc, rows)?))
 }
 
 #[test]
@@ -237,8 +253,7 @@ fn requests_and_their_refusals(rt: HostRuntime) -> Result<(), Fail> {
         (Some(FAULT), PLAINLY.as_slice(), "plainly"),
     ];
     for (listing, conversed, name) in rows {
-        let (written, wanted) = conversation(rt.alloc(), listing, conversed)?;
-        assert_eq!(rt; written.as_slice(), wanted.as_slice(), "{name}");
+        assert!(rt; is_as_wanted(rt.alloc(), listing, conversed)?, "{name}");
     }
     Ok(())
 }

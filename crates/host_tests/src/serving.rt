@@ -1,9 +1,9 @@
 //! How serving ends, and what was answered until then.
 
 use crate::conversation::BOOT;
-use crate::ends::Pieces;
-use crate::frames::{frame, part, stream};
-use host_serve::{ServeFault, serve};
+use crate::ends::{Pieces, serve_between};
+use crate::frames::{are_same, frame, part, stream};
+use host_serve::ServeFault;
 use host_wire::Counted;
 use std::alloc::Global;
 use std::io::{self, ErrorKind, Write};
@@ -36,7 +36,8 @@ const BEGUN: &str = "82000000010080057f";
 fn end_of(alloc: Global, bytes: &[u8], fails: bool) -> (Option<ServeFault>, Vec<u8>) {
     let mut reader = Counted::new(Pieces::new(bytes, usize::MAX, fails));
     let mut writer = Counted::new(Vec::new(alloc));
-    let ended = serve(alloc, &mut reader, &mut writer);
+    let ended = serve_between(alloc, &mut reader, &mut writer);
+    drop(reader);
     (ended.err(), writer.into_inner())
 }
 
@@ -90,11 +91,7 @@ fn order_of_requests(rt: HostRuntime) -> Result<(), Fail> {
     for (requests, fault, replies) in rows {
         let (ended, written) = end_of(alloc, messages(alloc, requests)?.as_slice(), false);
         assert_eq!(rt; ended, fault, "{requests}");
-        assert_eq!(rt;
-            written.as_slice(),
-            messages(alloc, replies)?.as_slice(),
-            "{requests}"
-        );
+        assert!(rt; are_same(written, messages(alloc, replies)?), "{requests}");
     }
     Ok(())
 }
@@ -124,13 +121,12 @@ fn numbers_of_requests(rt: HostRuntime) -> Result<(), Fail> {
 fn input_that_ends(rt: HostRuntime) -> Result<(), Fail> {
     let alloc = rt.alloc();
     let whole = stream(alloc, &[BOOT, WAIT])?;
-    let done = stream(alloc, &[DONE])?;
     for fails in [false, true] {
         for cut in 1..14 {
             let length = whole.len().saturating_sub(cut);
             let (ended, written) = end_of(alloc, part(whole.as_slice(), 0, length), fails);
             assert_eq!(rt; ended, fails.then_some(ServeFault::Read), "{cut}");
-            assert_eq!(rt; written.as_slice(), done.as_slice(), "{cut}");
+            assert!(rt; are_same(written, stream(alloc, &[DONE])?), "{cut}");
         }
     }
     Ok(())
@@ -157,7 +153,7 @@ fn refused_boots(rt: HostRuntime) -> Result<(), Fail> {
         let boot = boot(alloc, "0000000000000064", files, argv)?;
         let (ended, written) = end_of(alloc, stream(alloc, &[boot.as_str()])?.as_slice(), false);
         assert_eq!(rt; ended, None);
-        assert_eq!(rt; written.as_slice(), stream(alloc, &[reply])?.as_slice());
+        assert!(rt; are_same(written, stream(alloc, &[reply])?), "{reply}");
     }
     Ok(())
 }
@@ -175,9 +171,8 @@ fn out_of_turns(rt: HostRuntime) -> Result<(), Fail> {
         let requests = [boot, SEIZE, WAIT, GO, WAIT, "0b"];
         let (ended, written) = end_of(alloc, stream(alloc, requests.as_slice())?.as_slice(), false);
         assert_eq!(rt; ended, None);
-        assert_eq!(rt;
-            written.as_slice(),
-            stream(alloc, replies.as_slice())?.as_slice(),
+        assert!(rt;
+            are_same(written, stream(alloc, replies.as_slice())?),
             "{boot}"
         );
     }
@@ -206,6 +201,18 @@ impl Write for Failing {
     }
 }
 
+/// How serving these bytes ended, and what was written, where so many writes succeed.
+fn end_by(alloc: Global, bytes: &[u8], left: usize) -> (Option<ServeFault>, Vec<u8>) {
+    let mut reader = Counted::new(Pieces::new(bytes, usize::MAX, false));
+    let mut writer = Counted::new(Failing {
+        bytes: Vec::new(alloc),
+        left,
+    });
+    let ended = serve_between(alloc, &mut reader, &mut writer);
+    drop(reader);
+    (ended.err(), writer.into_inner().bytes)
+}
+
 /// Each reply is one write, and after one that fails nothing is read.
 #[test]
 fn writer_that_fails(rt: HostRuntime) -> Result<(), Fail> {
@@ -218,19 +225,9 @@ fn writer_that_fails(rt: HostRuntime) -> Result<(), Fail> {
         (3, None, &[DONE, "880000000a", "880000000a"]),
     ];
     for (left, fault, replies) in rows {
-        let mut reader = Counted::new(Pieces::new(requests.as_slice(), usize::MAX, false));
-        let mut writer = Counted::new(Failing {
-            bytes: Vec::new(alloc),
-            left,
-        });
-        let ended = serve(alloc, &mut reader, &mut writer);
-        assert_eq!(rt; ended.err(), fault, "{left} writes");
-        let written = writer.into_inner().bytes;
-        assert_eq!(rt;
-            written.as_slice(),
-            stream(alloc, replies)?.as_slice(),
-            "{left} writes"
-        );
+        let (ended, written) = end_by(alloc, requests.as_slice(), left);
+        assert_eq!(rt; ended, fault, "{left} writes");
+        assert!(rt; are_same(written, stream(alloc, replies)?), "{left} writes");
     }
     Ok(())
 }

@@ -1,8 +1,8 @@
 //! Frames: each kind as its bytes, faults at their bytes, and streams cut anywhere.
 
 use crate::conversation::BOOT;
-use crate::frames::{frame, part, stream};
-use host_wire::{Body, Feed, Frame, WireFault, encode};
+use crate::frames::{are_same, encoded, frame, part, stream};
+use host_wire::{Body, Feed, Frame, WireFault};
 use lx_abi::{Ask, Reply, Request, Status};
 use std::alloc::Global;
 use std::test::Fail;
@@ -23,17 +23,31 @@ fn with_registers(alloc: Global, prefix: &str) -> Result<String, Fail> {
     Ok(format!(in alloc; "{prefix}{REGISTERS}")?)
 }
 
+/// The frame of these bytes, where nothing is left of them.
+fn whole(alloc: Global, bytes: &[u8]) -> Option<Frame> {
+    let mut feed = Feed::new(alloc);
+    let fits = feed_at_once(&mut feed, bytes);
+    let frame = feed.take();
+    let left = feed.missing();
+    drop(feed);
+    if fits && left == 4 { frame } else { None }
+}
+
 /// What is read of a frame with this message, and is written again.
 fn again(alloc: Global, message: &str) -> Result<Vec<u8>, Fail> {
-    let mut feed = Feed::new(alloc);
-    if feed.feed(frame(alloc, 5, message)?.as_slice()).is_err() {
-        return Err(Fail::from("a frame"));
+    let bytes = frame(alloc, 5, message)?;
+    let frame = whole(alloc, bytes.as_slice()).ok_or("a frame")?;
+    if frame.number != 5 {
+        return Err(Fail::from("the frame of that number"));
     }
-    let frame = feed.take().ok_or("a frame")?;
-    if feed.missing() != 4 || frame.number != 5 {
-        return Err(Fail::from("the frame of that number alone"));
+    spelled(alloc, &frame)
+}
+
+fn spelled(alloc: Global, frame: &Frame) -> Result<Vec<u8>, Fail> {
+    match encoded(alloc, frame) {
+        Ok(bytes) => Ok(bytes),
+        Err(_) => Err(Fail::from("a frame")),
     }
-    Ok(encode(alloc, &frame).ok().ok_or("a frame")?)
 }
 
 /// Each kind of request, and of reply, has one spelling.
@@ -72,12 +86,8 @@ fn each_kind(rt: HostRuntime) -> Result<(), Fail> {
         "8a05",
     ];
     for message in rows {
-        let wanted = frame(alloc, 5, message)?;
-        assert_eq!(rt;
-            again(alloc, message)?.as_slice(),
-            wanted.as_slice(),
-            "{message}"
-        );
+        let read = again(alloc, message)?;
+        assert!(rt; are_same(read, frame(alloc, 5, message)?), "{message}");
     }
     Ok(())
 }
@@ -98,10 +108,8 @@ fn two_frames(rt: HostRuntime) -> Result<(), Fail> {
         ),
     ];
     for (body, wanted) in rows {
-        let bytes = encode(alloc, &Frame { number: 3, body })
-            .ok()
-            .ok_or("a frame")?;
-        assert_eq!(rt; hex::encode(alloc, bytes.as_slice())?.as_str(), wanted);
+        let bytes = spelled(alloc, &Frame { number: 3, body })?;
+        assert!(rt; are_same(bytes, hex::decode(alloc, wanted)?), "{wanted}");
     }
     Ok(())
 }
@@ -110,7 +118,9 @@ fn two_frames(rt: HostRuntime) -> Result<(), Fail> {
 fn fault_of(alloc: Global, bytes: &[u8]) -> (Option<WireFault>, bool) {
     let mut feed = Feed::new(alloc);
     let fault = feed.feed(bytes).err();
-    (fault, feed.take().is_some())
+    let given = gives(&mut feed);
+    drop(feed);
+    (fault, given)
 }
 
 #[test]
@@ -279,7 +289,14 @@ fn half_a_frame(rt: HostRuntime) -> Result<(), Fail> {
         let seen = after_piece(&mut feed, part(bytes.as_slice(), from, to));
         assert_eq!(rt; seen, (true, letter, missing), "{to}");
     }
+    drop(feed);
     Ok(())
+}
+
+/// What a piece is refused for, and how many bytes the frame under way lacks then.
+fn refused(feed: &mut Feed, piece: &[u8]) -> (Option<WireFault>, usize) {
+    let fault = feed.feed(piece).err();
+    (fault, feed.missing())
 }
 
 /// A fault leaves all as if its piece had not come.
@@ -288,24 +305,20 @@ fn after_a_fault(rt: HostRuntime) -> Result<(), Fail> {
     let alloc = rt.alloc();
     let bytes = stream(alloc, &["04", "04"])?;
     let mut feed = Feed::new(alloc);
-    assert!(rt; feed.feed(part(bytes.as_slice(), 0, 16)).is_ok());
+    assert!(rt; feed_at_once(&mut feed, part(bytes.as_slice(), 0, 16)));
     let rows: [(&[u8], WireFault); 3] = [
         (&[9, 0, 0, 0, 0, 0, 0, 0, 2, 0x7f], WireFault::Kind),
         (&[8], WireFault::Length),
         (&[10, 0, 0, 0, 0, 0, 0, 0, 2, 4, 0], WireFault::Body),
     ];
     for (piece, fault) in rows {
-        assert_eq!(rt; feed.feed(piece).err(), Some(fault));
-        assert_eq!(rt; feed.missing(), 1);
+        assert_eq!(rt; refused(&mut feed, piece), (Some(fault), 1));
     }
-    assert!(rt; feed.feed(part(bytes.as_slice(), 16, 26)).is_ok());
-    let mut count = 0u8;
-    for _ in 0..3 {
-        if feed.take().is_some() {
-            count = count.saturating_add(1);
-        }
+    assert!(rt; feed_at_once(&mut feed, part(bytes.as_slice(), 16, 26)));
+    for gives_one in [true, true, false] {
+        assert_eq!(rt; gives(&mut feed), gives_one);
     }
-    assert_eq!(rt; count, 2);
+    drop(feed);
     Ok(())
 }
 
@@ -314,11 +327,7 @@ fn long_frame(alloc: Global, length: usize) -> Result<Vec<u8>, Fail> {
     let body = Body::Reply(Reply::Bytes {
         bytes: containers::Bytes::from_vec(Vec::from_elem(alloc, 7u8, length)?),
     });
-    Ok(
-        encode(alloc, &Frame { number: 1, body })
-            .ok()
-            .ok_or("a frame")?,
-    )
+    spelled(alloc, &Frame { number: 1, body })
 }
 
 /// The feed takes these bytes one by one.
@@ -350,5 +359,6 @@ fn byte_by_byte(rt: HostRuntime) -> Result<(), Fail> {
     assert!(rt; feed_at_once(&mut feed, frame.as_slice()));
     assert!(rt; gives(&mut feed));
     assert!(rt; !gives(&mut feed));
+    drop(feed);
     Ok(())
 }

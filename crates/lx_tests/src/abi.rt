@@ -6,60 +6,125 @@ use lx_abi::{Argument, Choice, Class, Errno, Format, Rule, Script, Set, Signal, 
 use std::alloc::{AllocError, Global};
 use std::test::Fail;
 
+/// The word by which the error of a number stands in a register, its name and its text.
+fn error(number: u64) -> Option<(u64, Option<&'static str>, Option<&'static str>)> {
+    let errno = Errno::from_number(number)?;
+    Some((errno.word(), errno.name(), errno.text()))
+}
+
 #[test]
 fn errors(rt: HostRuntime) {
     for (number, name, text) in [
-        (1, "EPERM", "Operation not permitted"),
-        (5, "EIO", "Input/output error"),
-        (28, "ENOSPC", "No space left on device"),
-        (38, "ENOSYS", "Function not implemented"),
-        (40, "ELOOP", "Too many levels of symbolic links"),
+        (1, Some("EPERM"), Some("Operation not permitted")),
+        (5, Some("EIO"), Some("Input/output error")),
+        (28, Some("ENOSPC"), Some("No space left on device")),
+        (38, Some("ENOSYS"), Some("Function not implemented")),
+        (40, Some("ELOOP"), Some("Too many levels of symbolic links")),
+        (200, None, None),
     ] {
-        let errno = Errno::from_name(name);
-        assert_eq!(rt; errno, Errno::from_number(number));
-        assert_eq!(rt; errno.and_then(Errno::name), Some(name));
-        assert_eq!(rt; errno.and_then(Errno::text), Some(text));
+        let word = u64::wrapping_neg(number);
+        assert_eq!(rt; error(number), Some((word, name, text)));
     }
-    assert_eq!(rt; Errno::from_name("EWHAT"), None);
-    assert_eq!(rt; Errno::from_number(0), None);
-    assert_eq!(rt; Errno::from_number(4096), None);
-    let unnamed = Errno::from_number(200);
-    assert_eq!(rt; unnamed.and_then(Errno::name), None);
-    assert_eq!(rt; unnamed.map(Errno::word), Some(0xffff_ffff_ffff_ff38));
+}
+
+#[test]
+fn names_of_errors(rt: HostRuntime) {
+    for (name, number) in [
+        ("EPERM", 1),
+        ("EIO", 5),
+        ("ENOSPC", 28),
+        ("ENOSYS", 38),
+        ("ELOOP", 40),
+        ("EWHAT", 0),
+        ("", 4096),
+    ] {
+        assert_eq!(rt;
+            Errno::from_name(name),
+            Errno::from_number(number),
+            "{name}"
+        );
+    }
+}
+
+/// Numbers of errors are 1 to 4095.
+#[test]
+fn numbers_of_errors(rt: HostRuntime) {
+    for (number, is_one) in [(0, false), (1, true), (4095, true), (4096, false)] {
+        assert_eq!(rt; Errno::from_number(number).is_some(), is_one, "{number}");
+    }
+}
+
+/// The number of the signal of a name, with SIG or without, and its name without.
+fn signal(name: &str) -> Option<(u8, &'static str)> {
+    let signal = Signal::from_name(name)?;
+    Some((signal.number, signal.name()))
 }
 
 #[test]
 fn signals(rt: HostRuntime) {
-    for (number, name, bare) in [
-        (1, "SIGHUP", "HUP"),
-        (10, "USR1", "USR1"),
-        (17, "SIGCHLD", "CHLD"),
-        (31, "SIGSYS", "SYS"),
+    for (name, wanted) in [
+        ("SIGHUP", Some((1, "HUP"))),
+        ("USR1", Some((10, "USR1"))),
+        ("SIGCHLD", Some((17, "CHLD"))),
+        ("SIGSYS", Some((31, "SYS"))),
+        ("SIGSIGHUP", None),
+        ("", None),
     ] {
-        let signal = Signal::from_name(name);
-        assert_eq!(rt; signal, Signal::from_number(number));
-        assert_eq!(rt; signal.map(Signal::name), Some(bare));
+        assert_eq!(rt; signal(name), wanted, "{name}");
     }
-    assert_eq!(rt; Signal::from_name("SIGSIGHUP"), None);
-    assert_eq!(rt; Signal::from_name(""), None);
-    assert_eq!(rt; Signal::from_number(32), None);
+}
+
+/// Numbers of signals are 1 to 31.
+#[test]
+fn numbers_of_signals(rt: HostRuntime) {
+    for (number, is_one) in [(0, false), (1, true), (31, true), (32, false)] {
+        assert_eq!(rt; Signal::from_number(number).is_some(), is_one, "{number}");
+    }
 }
 
 #[test]
 fn calls(rt: HostRuntime) {
-    for (number, name, classes) in [
-        (17, "getcwd", [Class::File].as_slice()),
-        (56, "openat", [Class::File, Class::Descriptor].as_slice()),
-        (172, "getpid", [].as_slice()),
-        (222, "mmap", [Class::Descriptor, Class::Memory].as_slice()),
-        (260, "wait4", [Class::Process].as_slice()),
+    for (number, name) in [
+        (Some(17), "getcwd"),
+        (Some(56), "openat"),
+        (Some(172), "getpid"),
+        (Some(222), "mmap"),
+        (Some(260), "wait4"),
+        (None, "wrote"),
     ] {
-        assert_eq!(rt; call_number(name), Some(number));
-        assert_eq!(rt; call_name(number), Some(name));
-        assert_eq!(rt; call_classes(number), Some(classes));
+        assert_eq!(rt; call_number(name), number, "{name}");
     }
-    assert_eq!(rt; call_number("wrote"), None);
-    assert_eq!(rt; call_name(65), None);
+}
+
+#[test]
+fn names_of_calls(rt: HostRuntime) {
+    for (number, name) in [
+        (17, Some("getcwd")),
+        (56, Some("openat")),
+        (172, Some("getpid")),
+        (222, Some("mmap")),
+        (260, Some("wait4")),
+        (65, None),
+    ] {
+        assert_eq!(rt; call_name(number), name, "{number}");
+    }
+}
+
+#[test]
+fn classes_of_calls(rt: HostRuntime) {
+    for (number, classes) in [
+        (17, [Class::File].as_slice()),
+        (56, [Class::File, Class::Descriptor].as_slice()),
+        (172, [].as_slice()),
+        (222, [Class::Descriptor, Class::Memory].as_slice()),
+        (260, [Class::Process].as_slice()),
+    ] {
+        assert_eq!(rt; call_classes(number), Some(classes), "{number}");
+    }
+}
+
+#[test]
+fn format_of_read(rt: HostRuntime) {
     let read = Format {
         entry: &[Argument::Int],
         rest: &[Argument::Bytes, Argument::Unsigned],

@@ -1,9 +1,8 @@
 //! Boots of files by their paths, and what they are refused for.
 
+use crate::kernels::fault_of;
 use containers::{Bytes, Seq};
-use lx_abi::{Boot, GuestFile, Script};
-use lx_boot::BootFault;
-use lx_kernel::Kernel;
+use lx_abi::{Boot, GuestFile};
 use std::alloc::{AllocError, Global};
 use std::test::Fail;
 
@@ -50,11 +49,7 @@ pub(crate) fn boot(alloc: Global, paths: &str, argv: &str) -> Result<Boot, Alloc
 
 /// The number of a boot's fault, 0 where it is accepted.
 fn fault(alloc: Global, paths: &str, argv: &str) -> Result<u8, AllocError> {
-    match Kernel::boot(alloc, boot(alloc, paths, argv)?, Script::empty(alloc)) {
-        Ok(_kernel) => Ok(0),
-        Err(BootFault::Memory) => Err(AllocError),
-        Err(fault) => Ok(fault.number()),
-    }
+    fault_of(alloc, boot(alloc, paths, argv)?)
 }
 
 #[test]
@@ -132,11 +127,7 @@ fn fault_of_many(alloc: Global, count: u32, paths: &str, argv: &str) -> Result<u
         input: Bytes::new(alloc),
         follow: true,
     };
-    match Kernel::boot(alloc, boot, Script::empty(alloc)) {
-        Ok(_kernel) => Ok(0),
-        Err(BootFault::Memory) => Err(AllocError.into()),
-        Err(fault) => Ok(fault.number()),
-    }
+    Ok(fault_of(alloc, boot)?)
 }
 
 /// Of more files than there may be, the other faults are still told first. Compared each with each, 100,000 would take

@@ -6,6 +6,8 @@ mod abi;
 #[cfg(test)]
 mod boots;
 #[cfg(test)]
+mod kernels;
+#[cfg(test)]
 mod limits;
 #[cfg(test)]
 mod long_lists;

@@ -1,9 +1,9 @@
 //! Boots at their limits, and one past them.
 
+use crate::kernels;
+use crate::kernels::{booted, fault_of};
 use containers::{Bytes, Seq};
-use lx_abi::{Boot, GuestFile, Script};
-use lx_boot::BootFault;
-use lx_kernel::Kernel;
+use lx_abi::{Boot, GuestFile};
 use std::alloc::{AllocError, Global};
 use std::test::Fail;
 
@@ -76,11 +76,7 @@ fn boot(alloc: Global, size: &Size) -> Result<Boot, AllocError> {
 
 /// The number of the boot's fault, 0 where it is accepted.
 fn fault(alloc: Global, size: &Size) -> Result<u8, AllocError> {
-    match Kernel::boot(alloc, boot(alloc, size)?, Script::empty(alloc)) {
-        Ok(_kernel) => Ok(0),
-        Err(BootFault::Memory) => Err(AllocError),
-        Err(fault) => Ok(fault.number()),
-    }
+    fault_of(alloc, boot(alloc, size)?)
 }
 
 #[test]
@@ -204,10 +200,10 @@ fn nodes_have_a_limit(rt: HostRuntime) -> Result<(), Fail> {
 
 /// How many files and directories a boot makes, beside the root.
 fn nodes(alloc: Global, size: &Size) -> Result<usize, AllocError> {
-    let Ok(kernel) = Kernel::boot(alloc, boot(alloc, size)?, Script::empty(alloc)) else {
-        return Err(AllocError);
-    };
-    Ok(kernel.outcome()?.files.as_slice().len())
+    let kernel = booted(alloc, boot(alloc, size)?)?;
+    let nodes = kernels::nodes(&kernel);
+    drop(kernel);
+    nodes
 }
 
 /// As many nodes are counted as there are: 63 files of 65 nodes each, beside the root.

@@ -1,8 +1,9 @@
 //! execve with long lists, by a guest that is laid out by hand.
 
+use crate::kernels::{booted, make_turns};
 use containers::{Bytes, Seq};
 use elf_image::{Image, Rights, Segment, Segments};
-use lx_abi::{Boot, GuestFile, Item, Script};
+use lx_abi::{Boot, GuestFile, Item};
 use lx_kernel::Kernel;
 use std::alloc::{AllocError, Global};
 use std::test::Fail;
@@ -79,20 +80,21 @@ fn boot(alloc: Global, count: usize, last: u64) -> Result<Boot, AllocError> {
     })
 }
 
+/// The result of the call whose return is the item at this place of the log.
+fn result_at(kernel: &Kernel, place: usize) -> Option<i64> {
+    match kernel.log().get(place) {
+        Some(Item::Done { result, .. }) => Some(result.cast_signed()),
+        _ => None,
+    }
+}
+
 /// The result of the guest's own execve, which its 14th turn logs.
 fn result_of(alloc: Global, count: usize, last: u64) -> Result<Option<i64>, AllocError> {
-    let Ok(mut kernel) = Kernel::boot(alloc, boot(alloc, count, last)?, Script::empty(alloc)) else {
-        return Err(AllocError);
-    };
-    for _ in 0..14 {
-        let Ok(_) = kernel.turn(1) else {
-            return Err(AllocError);
-        };
-    }
-    match kernel.log().get(3).copied() {
-        Some(Item::Done { result, .. }) => Ok(Some(result.cast_signed())),
-        _ => Ok(None),
-    }
+    let mut kernel = booted(alloc, boot(alloc, count, last)?)?;
+    make_turns(&mut kernel, 14)?;
+    let result = result_at(&kernel, 3);
+    drop(kernel);
+    Ok(result)
 }
 
 /// A word of 60 bytes takes 69 of a program's start, and 56 are taken anyway: 949 of them are one byte too many.

@@ -1,44 +1,21 @@
 //! What a tracer reads and changes of a process, by the first program of a boot without files.
 
-use crate::boots::boot;
-use lx_abi::{Cause, Mode, Script, Signal};
+use crate::kernels;
+use crate::kernels::{
+    after, is_killed, join, make_turns, mode, next_able, next_pid, peek, set_registers, signal,
+    skip,
+};
+use lx_abi::{Cause, Mode, Signal};
 use lx_kernel::Kernel;
 use std::alloc::{AllocError, Global};
 use std::test::Fail;
 
-/// A kernel without files after so many turns of process 1.
-fn after(alloc: Global, turns: u32) -> Result<Kernel, AllocError> {
-    let Ok(mut kernel) = Kernel::boot(alloc, boot(alloc, "", "/p")?, Script::empty(alloc)) else {
-        return Err(AllocError);
-    };
-    make_turns(&mut kernel, turns)?;
-    Ok(kernel)
-}
-
-fn make_turns(kernel: &mut Kernel, turns: u32) -> Result<(), AllocError> {
-    for _ in 0..turns {
-        let Ok(_) = kernel.turn(1) else {
-            return Err(AllocError);
-        };
-    }
-    Ok(())
-}
-
-/// pc, sp, a0, a7 and x31 of process 1.
-fn registers_in(kernel: &Kernel) -> Result<Option<[u64; 5]>, AllocError> {
-    match kernel.regs(1)? {
-        None => Ok(None),
-        Some(set) => {
-            let x = set.get();
-            Ok(Some([x[0], x[2], x[10], x[17], x[31]]))
-        }
-    }
-}
-
-/// The same after so many turns.
+/// pc, sp, a0, a7 and x31 of process 1 after so many turns.
 fn registers(alloc: Global, turns: u32) -> Result<Option<[u64; 5]>, AllocError> {
     let kernel = after(alloc, turns)?;
-    registers_in(&kernel)
+    let registers = kernels::registers(&kernel);
+    drop(kernel);
+    registers
 }
 
 /// The words of the boot take 3 bytes below the stack's end, and its vector 64 below them, at a multiple of 16.
@@ -69,9 +46,10 @@ fn registers_of_the_first_program(rt: HostRuntime) -> Result<(), Fail> {
 /// Whether all registers were set to 7, and some of process 1 then.
 fn set(alloc: Global, turns: u32, pid: u32) -> Result<(bool, Option<[u64; 5]>), AllocError> {
     let mut kernel = after(alloc, turns)?;
-    let set = kernel.set_regs(pid, &[7; 32]);
-    let registers = registers_in(&kernel)?;
-    Ok((set, registers))
+    let set = set_registers(&mut kernel, pid);
+    let registers = kernels::registers(&kernel);
+    drop(kernel);
+    Ok((set, registers?))
 }
 
 #[test]
@@ -100,17 +78,17 @@ fn registers_are_set(rt: HostRuntime) -> Result<(), Fail> {
     Ok(())
 }
 
-/// Whether the process lives, and what stands in its memory.
+/// Whether the process lives, and what stands in its memory, after one turn.
 fn peeked(
     alloc: Global,
     pid: u32,
     address: u64,
     length: usize,
 ) -> Result<(bool, Vec<u8>), AllocError> {
-    match after(alloc, 1)?.peek(pid, address, length)? {
-        None => Ok((false, Vec::new(alloc))),
-        Some(bytes) => Ok((true, bytes.as_slice().to_vec(alloc)?)),
-    }
+    let kernel = after(alloc, 1)?;
+    let peeked = peek(alloc, &kernel, pid, address, length);
+    drop(kernel);
+    peeked
 }
 
 /// The first program is one page, and the stack goes on with the page of rt_sigreturn.
@@ -135,8 +113,10 @@ fn memory_is_peeked(rt: HostRuntime) -> Result<(), Fail> {
 /// Whether a signal could be joined after so many turns, and dropped.
 fn changed(alloc: Global, turns: u32) -> Result<(bool, bool), AllocError> {
     let mut kernel = after(alloc, turns)?;
-    let joined = kernel.join(1, Some(Signal::SEGV));
-    Ok((joined, kernel.skip(1)))
+    let joined = join(&mut kernel, Some(Signal::SEGV));
+    let skipped = skip(&mut kernel);
+    drop(kernel);
+    Ok((joined, skipped))
 }
 
 #[test]
@@ -161,23 +141,34 @@ fn signals_are_joined_at_an_entry_alone(rt: HostRuntime) -> Result<(), Fail> {
     Ok(())
 }
 
-/// What a signal that was joined to the first call, or taken back, shows five turns later; whether it was dropped then,
+/// What a signal that was joined to the call of now, or taken back, shows five turns later; whether it was dropped then,
 /// and where the process stands one turn later.
+fn take(
+    kernel: &mut Kernel,
+    back: bool,
+    drops: bool,
+) -> Result<(Option<(Signal, Cause)>, bool, Option<Mode>), AllocError> {
+    let _ = join(kernel, Some(Signal::SEGV));
+    if back {
+        let _ = join(kernel, None);
+    }
+    make_turns(kernel, 5)?;
+    let signal = signal(kernel);
+    let dropped = drops && skip(kernel);
+    make_turns(kernel, 1)?;
+    Ok((signal, dropped, mode(kernel, 1)))
+}
+
+/// The same at the first call.
 fn taken(
     alloc: Global,
     back: bool,
-    drop: bool,
+    drops: bool,
 ) -> Result<(Option<(Signal, Cause)>, bool, Option<Mode>), AllocError> {
     let mut kernel = after(alloc, 2)?;
-    let _ = kernel.join(1, Some(Signal::SEGV));
-    if back {
-        let _ = kernel.join(1, None);
-    }
-    make_turns(&mut kernel, 5)?;
-    let signal = kernel.siginfo(1);
-    let dropped = drop && kernel.skip(1);
-    make_turns(&mut kernel, 1)?;
-    Ok((signal, dropped, kernel.mode(1)))
+    let taken = take(&mut kernel, back, drops);
+    drop(kernel);
+    taken
 }
 
 #[test]
@@ -198,12 +189,19 @@ fn a_taken_signal_ends_its_process_or_is_dropped(rt: HostRuntime) -> Result<(), 
     Ok(())
 }
 
-/// SIGKILL is pending one turn after it was joined to the first call.
+/// SIGKILL is pending one turn after a signal was joined to the call of now.
+fn kill(kernel: &mut Kernel, signal: Signal) -> Result<bool, AllocError> {
+    let _ = join(kernel, Some(signal));
+    make_turns(kernel, 1)?;
+    Ok(is_killed(kernel))
+}
+
+/// The same at the first call.
 fn killed(alloc: Global, signal: Signal) -> Result<bool, AllocError> {
     let mut kernel = after(alloc, 2)?;
-    let _ = kernel.join(1, Some(signal));
-    make_turns(&mut kernel, 1)?;
-    Ok(kernel.is_killed(1))
+    let killed = kill(&mut kernel, signal);
+    drop(kernel);
+    killed
 }
 
 #[test]
@@ -217,7 +215,9 @@ fn sigkill_is_seen(rt: HostRuntime) -> Result<(), Fail> {
 /// The next able process after a pid, and the next pid.
 fn next(alloc: Global, turns: u32, pid: u32) -> Result<(Option<u32>, u32), AllocError> {
     let kernel = after(alloc, turns)?;
-    Ok((kernel.next_able(pid), kernel.next_pid()))
+    let (able, next) = (next_able(&kernel, pid), next_pid(&kernel));
+    drop(kernel);
+    Ok((able, next))
 }
 
 #[test]

@@ -1,36 +1,30 @@
 //! Turns of a boot without files: execve fails, and the first program exits with 127.
 
-use crate::boots::boot;
-use lx_abi::{Item, Mode, Script};
+use crate::kernels::{after, is_able, length, logged, mode, outcome, run};
+use lx_abi::{Ended, Item, Mode, Outcome};
 use lx_kernel::Kernel;
 use std::alloc::{AllocError, Global};
 use std::test::Fail;
 
-/// A kernel without files after so many turns of process 1.
-fn after(alloc: Global, turns: u32) -> Result<Kernel, AllocError> {
-    let Ok(mut kernel) = Kernel::boot(alloc, boot(alloc, "", "/p")?, Script::empty(alloc)) else {
-        return Err(AllocError);
-    };
-    for _ in 0..turns {
-        let Ok(_) = kernel.turn(1) else {
-            return Err(AllocError);
-        };
-    }
-    Ok(kernel)
+/// The mode of process 1, whether it is able, how many items were logged, and the mode of process 2.
+fn seen_of(kernel: &Kernel) -> (Option<Mode>, bool, usize, Option<Mode>) {
+    (
+        mode(kernel, 1),
+        is_able(kernel),
+        length(kernel),
+        mode(kernel, 2),
+    )
 }
 
-/// The mode of process 1, whether it is able, how many items were logged, and the mode of process 2.
+/// The same after so many turns.
 fn seen(
     alloc: Global,
     turns: u32,
 ) -> Result<(Option<Mode>, bool, usize, Option<Mode>), AllocError> {
     let kernel = after(alloc, turns)?;
-    Ok((
-        kernel.mode(1),
-        kernel.able(1),
-        kernel.log().len(),
-        kernel.mode(2),
-    ))
+    let seen = seen_of(&kernel);
+    drop(kernel);
+    Ok(seen)
 }
 
 #[test]
@@ -57,18 +51,37 @@ fn modes_of_a_run(rt: HostRuntime) -> Result<(), Fail> {
 }
 
 /// The last item of the log, and how many bytes the console has.
-fn left(alloc: Global) -> Result<(Option<Item>, usize), AllocError> {
-    let kernel = after(alloc, 12)?;
-    Ok((kernel.log().last().copied(), kernel.console().len()))
+fn left_in(kernel: &Kernel) -> (Option<Item>, usize) {
+    let last = length(kernel).saturating_sub(1);
+    (logged(kernel, last), kernel.console().len())
 }
 
-/// How many files the outcome has after so many turns, how many processes have ended, and the first of them with its
-/// word.
-fn ended(alloc: Global, turns: u32) -> Result<(usize, usize, Option<(u32, u32)>), AllocError> {
-    let outcome = after(alloc, turns)?.outcome()?;
+/// The same after a whole run.
+fn left(alloc: Global) -> Result<(Option<Item>, usize), AllocError> {
+    let kernel = after(alloc, 12)?;
+    let left = left_in(&kernel);
+    drop(kernel);
+    Ok(left)
+}
+
+/// The first process that has ended, with its word.
+fn first_of(ended: &[Ended]) -> Option<(u32, u32)> {
+    let first = ended.first()?;
+    Some((first.pid, first.word))
+}
+
+/// How many files an outcome has, how many processes have ended, and the first of them with its word.
+fn ends_of(outcome: &Outcome) -> (usize, usize, Option<(u32, u32)>) {
     let ended = outcome.ended.as_slice();
-    let first = ended.first().map(|e| (e.pid, e.word));
-    Ok((outcome.files.as_slice().len(), ended.len(), first))
+    (outcome.files.as_slice().len(), ended.len(), first_of(ended))
+}
+
+/// The same of the outcome after so many turns.
+fn ended(alloc: Global, turns: u32) -> Result<(usize, usize, Option<(u32, u32)>), AllocError> {
+    let kernel = after(alloc, turns)?;
+    let outcome = outcome(&kernel);
+    drop(kernel);
+    Ok(ends_of(&outcome?))
 }
 
 #[test]
@@ -102,16 +115,19 @@ fn words_of_the_ended_stay(rt: HostRuntime) -> Result<(), Fail> {
     Ok(())
 }
 
-/// How many turns run in a row after so many, and the mode of process 1 before and after them.
-fn run_after(
-    alloc: Global,
-    turns: u32,
-    limit: u64,
-) -> Result<(Option<u64>, Option<Mode>, Option<Mode>), AllocError> {
+/// How many turns run in a row, and whether the mode of process 1 is the same before and after them.
+fn ran(kernel: &mut Kernel, limit: u64) -> (Option<u64>, bool) {
+    let before = mode(kernel, 1);
+    let ran = run(kernel, limit);
+    (ran, mode(kernel, 1) == before)
+}
+
+/// The same after so many turns.
+fn run_after(alloc: Global, turns: u32, limit: u64) -> Result<(Option<u64>, bool), AllocError> {
     let mut kernel = after(alloc, turns)?;
-    let before = kernel.mode(1);
-    let ran = kernel.run(1, limit).ok();
-    Ok((ran, before, kernel.mode(1)))
+    let ran = ran(&mut kernel, limit);
+    drop(kernel);
+    Ok(ran)
 }
 
 /// Turns in a row: two instructions stand between the first program's calls.
@@ -129,9 +145,11 @@ fn turns_that_stay_in_run(rt: HostRuntime) -> Result<(), Fail> {
         (12, 9, 0),
     ];
     for (turns, limit, wanted) in rows {
-        let (ran, before, after) = run_after(rt.alloc(), turns, limit)?;
-        assert_eq!(rt; ran, Some(wanted), "{limit} after {turns} turns");
-        assert_eq!(rt; before, after, "{limit} after {turns} turns");
+        assert_eq!(rt;
+            run_after(rt.alloc(), turns, limit)?,
+            (Some(wanted), true),
+            "{limit} after {turns} turns"
+        );
     }
     Ok(())
 }

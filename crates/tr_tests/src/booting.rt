@@ -2,10 +2,15 @@
 
 use containers::{Bytes, Seq};
 use lx_abi::{Boot, GuestFile, Rule, Script};
+use lx_boot::BootFault;
+use pt_kernel::Schedule;
 use rv_asm::assemble;
 use std::alloc::Global;
 use std::test::Fail;
+use tr_core::Options;
 use tr_expr::{parse_fault, parse_inject};
+use trace_run::local::Run;
+use trace_run::run_local;
 
 /// A boot of a listing's program at a path, which is run as `/p`.
 pub(crate) fn boot(alloc: Global, path: &str, listing: &str, follow: bool) -> Result<Boot, Fail> {
@@ -24,6 +29,17 @@ pub(crate) fn boot(alloc: Global, path: &str, listing: &str, follow: bool) -> Re
         input: Bytes::new(alloc),
         follow,
     })
+}
+
+/// Boots and traces in this process, without clauses.
+pub(crate) fn run_here(
+    alloc: Global,
+    boot: Boot,
+    schedule: Schedule,
+    script: Script,
+    options: Options,
+) -> Result<Run, BootFault> {
+    run_local(alloc, boot, schedule, script, options)
 }
 
 fn fault(alloc: Global, text: &str) -> Result<Rule, Fail> {

@@ -81,6 +81,7 @@ fn trace(alloc: Global, layout: Layout, parts: &[Part]) -> Result<String, AllocE
         let text = printed(&mut printer, *part)?;
         out.push_str(text.as_str())?;
     }
+    drop(printer);
     Ok(out)
 }
 

@@ -1,6 +1,6 @@
 //! Whole runs in one process: listings that are assembled, booted and traced.
 
-use crate::booting::{boot, script};
+use crate::booting::{boot, run_here, script};
 use containers::Bytes;
 use lx_abi::{Event, Outcome, Script};
 use lx_boot::BootFault;
@@ -9,8 +9,8 @@ use std::alloc::Global;
 use std::test::Fail;
 use tr_core::Options;
 use tr_expr::parse_trace;
+use trace_run::Ended;
 use trace_run::local::Run;
-use trace_run::{Ended, run_local};
 
 const HELLO: &str = "_start: li a0, 1\nla a1, text\nli a2, 3\nli a7, 64\necall\n\
     li a0, 0\nli a7, 94\necall\ntext: .ascii \"hi\\n\"\n";
@@ -159,7 +159,7 @@ fn traced(alloc: Global, row: &Row, limit: u64) -> Result<Run, Fail> {
         string_limit: row.string_limit.min(4096),
         width: row.width,
     };
-    let run = run_local(
+    let run = run_here(
         alloc,
         boot(alloc, "/p", row.listing, false)?,
         Schedule::words(Vec::new(alloc), limit),
@@ -179,6 +179,10 @@ fn word_of(outcome: &Outcome) -> Option<u32> {
     None
 }
 
+fn is_whole(run: &Run) -> bool {
+    matches!(run.ended, Ended::Whole(_))
+}
+
 #[test]
 fn rows(rt: HostRuntime) -> Result<(), Fail> {
     for row in &ROWS {
@@ -186,9 +190,19 @@ fn rows(rt: HostRuntime) -> Result<(), Fail> {
         assert_eq!(rt; run.trace.as_slice(), row.trace.as_bytes());
         assert_eq!(rt; run.outcome.console.as_slice(), row.console.as_bytes());
         assert_eq!(rt; word_of(&run.outcome), Some(row.word));
-        assert!(rt; matches!(run.ended, Ended::Whole(_)));
+        assert!(rt; is_whole(&run));
+        drop(run);
     }
     Ok(())
+}
+
+/// The trace of the first row by so many events, and whether the run was whole.
+fn cut(alloc: Global, limit: u64) -> Result<(Bytes, bool), Fail> {
+    let run = traced(alloc, &ROWS[0], limit)?;
+    let trace = Bytes::from_slice(alloc, run.trace.as_slice());
+    let whole = is_whole(&run);
+    drop(run);
+    Ok((trace?, whole))
 }
 
 /// Wherever the schedule ends, the trace begins that of a schedule with one event more, until the run is whole.
@@ -197,14 +211,11 @@ fn schedules_that_end(rt: HostRuntime) -> Result<(), Fail> {
     let mut before = Bytes::new(rt.alloc());
     let mut whole = false;
     for limit in 0..120 {
-        let run = traced(rt.alloc(), &ROWS[0], limit)?;
-        assert!(rt; run.trace.as_slice().starts_with(before.as_slice()));
-        if matches!(run.ended, Ended::Whole(_)) {
-            whole = true;
-        } else {
-            assert!(rt; !whole);
-        }
-        before = run.trace;
+        let (trace, is_whole) = cut(rt.alloc(), limit)?;
+        assert!(rt; trace.as_slice().starts_with(before.as_slice()));
+        assert!(rt; is_whole || !whole);
+        whole = is_whole;
+        before = trace;
     }
     assert!(rt; whole);
     assert_eq!(rt; before.as_slice(), HELLO_TRACE.as_bytes());
@@ -225,6 +236,7 @@ fn effective_turns(rt: HostRuntime) -> Result<(), Fail> {
     for (limit, turns) in [(0, 0), (1, 0), (3, 0), (4, 1)] {
         let run = traced(rt.alloc(), &ROWS[0], limit)?;
         assert_eq!(rt; turns_of(&run), turns);
+        drop(run);
     }
     Ok(())
 }
@@ -241,14 +253,17 @@ fn fault(alloc: Global, path: &str, events: &[Event]) -> Result<Option<BootFault
         width: 40,
     };
     let boot = boot(alloc, path, HELLO, false)?;
-    match run_local(
+    match run_here(
         alloc,
         boot,
         Schedule::list(list),
         Script::empty(alloc),
         options,
     ) {
-        Ok(_) => Ok(None),
+        Ok(run) => {
+            drop(run);
+            Ok(None)
+        }
         Err(fault) => Ok(Some(fault)),
     }
 }

@@ -1,7 +1,7 @@
 //! An untraced kernel that is given the effective turns of a traced run has its outcome: random guests, scripts and
 //! schedules of the calls that there are.
 
-use crate::booting::boot;
+use crate::booting::{boot, run_here};
 use lx_abi::{Node, Outcome, Script, Word};
 use lx_kernel::Kernel;
 use pt_kernel::{Schedule, TurnRun};
@@ -9,8 +9,8 @@ use std::alloc::{AllocError, Global};
 use std::test::Fail;
 use tr_core::Options;
 use tr_expr::{parse_inject, parse_trace};
+use trace_run::Ended;
 use trace_run::local::Run;
-use trace_run::{Ended, run_local};
 
 const CASES: u64 = 1000;
 
@@ -191,7 +191,7 @@ fn traced(alloc: Global, case: u64) -> Result<Run, Fail> {
         string_limit: 32,
         width: 40,
     };
-    Ok(run_local(
+    Ok(run_here(
         alloc,
         boot(alloc, "/p", guest.as_str(), follow)?,
         schedule,
@@ -200,10 +200,14 @@ fn traced(alloc: Global, case: u64) -> Result<Run, Fail> {
     )?)
 }
 
+fn turn_once(kernel: &mut Kernel, pid: u32) -> bool {
+    kernel.turn(pid).is_ok()
+}
+
 /// So many turns of a process.
 fn turn(kernel: &mut Kernel, pid: u32, turns: u64) -> Result<(), AllocError> {
     for _ in 0..turns {
-        if kernel.turn(pid).is_err() {
+        if !turn_once(kernel, pid) {
             return Err(AllocError);
         }
     }
@@ -226,11 +230,17 @@ fn booted(alloc: Global, case: u64) -> Result<Kernel, Fail> {
     Ok(Kernel::boot(alloc, boot(alloc, "/p", guest.as_str(), follow)?, script)?)
 }
 
+fn outcome(kernel: &Kernel) -> Result<Outcome, AllocError> {
+    kernel.outcome()
+}
+
 /// What it leaves after these turns.
 fn untraced(alloc: Global, case: u64, rows: &[TurnRun]) -> Result<Outcome, Fail> {
     let mut kernel = booted(alloc, case)?;
     turn_by(&mut kernel, rows)?;
-    Ok(kernel.outcome()?)
+    let outcome = outcome(&kernel);
+    drop(kernel);
+    Ok(outcome?)
 }
 
 fn is_same_node(one: &Node, other: &Node) -> bool {
@@ -266,15 +276,23 @@ fn has_several(outcome: &Outcome) -> bool {
     outcome.ended.as_slice().len() > 1
 }
 
-/// What a case shows: the outcomes are one, the run is whole, several processes have ended.
+/// The outcomes are one, the run is whole, several processes have ended.
+fn compared(run: &Run, outcome: &Outcome) -> (bool, bool, bool) {
+    (
+        is_same(&run.outcome, outcome),
+        is_whole(run),
+        has_several(outcome),
+    )
+}
+
+/// What a case shows.
 fn seen(alloc: Global, case: u64) -> Result<(bool, bool, bool), Fail> {
     let run = traced(alloc, case)?;
     let outcome = untraced(alloc, case, run.turns.runs())?;
-    Ok((
-        is_same(&run.outcome, &outcome),
-        is_whole(&run),
-        has_several(&outcome),
-    ))
+    let seen = compared(&run, &outcome);
+    drop(run);
+    drop(outcome);
+    Ok(seen)
 }
 
 /// Some cases are whole and some out of turns, and some have several processes.

@@ -37,10 +37,13 @@ fn peek<'a>(memory: Memory<'a>, address: u64, length: u32) -> &'a [u8] {
 fn feed(alloc: Global, memory: Memory<'_>, mut decoder: Decoder) -> Result<String, AllocError> {
     for _ in 0..96 {
         let Some((address, length)) = decoder.wants() else {
-            return String::from_str(alloc, decoder.text());
+            let text = String::from_str(alloc, decoder.text());
+            drop(decoder);
+            return text;
         };
         decoder.give(Bytes::from_slice(alloc, peek(memory, address, length))?)?;
     }
+    drop(decoder);
     String::from_str(alloc, "not whole after 96 reads")
 }
 

@@ -153,6 +153,8 @@ fn traced(alloc: Global, steps: &[Step], follow: bool, inject: &str) -> Result<(
         options(alloc, follow),
     );
     let end = end_of(&ended);
+    drop(ended);
+    drop(link);
     Ok((writer.into_bytes(), end))
 }
 

@@ -1,14 +1,14 @@
 //! Whole runs of several processes, and of a signal's handler, in one process.
 
-use crate::booting::{boot, script};
+use crate::booting::{boot, run_here, script};
 use lx_abi::Outcome;
 use pt_kernel::Schedule;
 use std::alloc::Global;
 use std::test::Fail;
 use tr_core::Options;
 use tr_expr::parse_trace;
+use trace_run::Ended;
 use trace_run::local::Run;
-use trace_run::{Ended, run_local};
 
 /// Makes two children, each of which asks for its parent's pid, and waits for both.
 const TWO_CHILDREN: &str = "_start: li a0, 17\nli a1, 0\nli a7, 220\necall\nbeqz a0, child\n\
@@ -135,7 +135,7 @@ fn traced(alloc: Global, row: &Row) -> Result<Run, Fail> {
         string_limit: 32,
         width: 40,
     };
-    let run = run_local(
+    let run = run_here(
         alloc,
         boot(alloc, "/p", row.listing, row.follow)?,
         Schedule::parse(alloc, row.turns, 1_000_000)?,
@@ -162,6 +162,7 @@ fn rows(rt: HostRuntime) -> Result<(), Fail> {
         let ended = words_of(rt.alloc(), &run.outcome)?;
         assert_eq!(rt; ended.as_slice(), row.ended);
         assert!(rt; matches!(run.ended, Ended::Whole(_)));
+        drop(run);
     }
     Ok(())
 }

@@ -155,6 +155,7 @@ fn requests(rt: HostRuntime) -> Result<(), Fail> {
             let asked = hear(rt.alloc(), &mut tracer, *step)?;
             assert_eq!(rt; asked, *wanted);
         }
+        drop(tracer);
     }
     Ok(())
 }
