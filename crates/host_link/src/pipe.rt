@@ -171,6 +171,7 @@ impl<R: Source, W: Sink> Link for PipeLink<R, W> {
             number: self.given + 1,
             body: Body::Request(request),
         };
+        // Broken until the reply is there, since a fault may leave a part of a frame in the feed.
         self.is_broken = true;
         let reply = exchange(
             self.alloc,
