@@ -31,7 +31,8 @@ came_whole left left' came sent f broken consumed whole = record {
 }
 
 -- nothing is left of what was fed behind the one frame
-pub nothing_left : {old new : Feeding} {o : Option Frame} {f : Frame} → old ≡ nothing_fed → o ≡ Some f → (old.ready ≡ [] → IsSome o → new ≡ nothing_fed) → new ≡ nothing_fed
+pub nothing_left : {old new : Feeding} {o : Option Frame} {f : Frame} → old ≡ nothing_fed → o ≡ Some f
+    → (old.ready ≡ [] → IsSome o → new ≡ nothing_fed) → new ≡ nothing_fed
 nothing_left fresh is alone = alone (ap (λ (x : Feeding). x.ready) fresh) (subst IsSome (sym is) refl)
 
 pub where_ok : {P : Type 0} (result : Result Reply LinkFault) → P → OnOk result P

@@ -98,7 +98,8 @@ pub(crate) fn exchange<R: Source, W: Sink>(
 ) -> Result<Reply, LinkFault>
     requires room { 0 < length room.old }
     requires fresh { feed.old ≡ nothing_fed }
-    ensures exchanged { Exchanged sent.now (R.remaining reader.old) (R.remaining reader.new) (W.contents writer.old) (W.contents writer.new) result (R.broken reader.new) (W.broken writer.new) }
+    ensures exchanged { Exchanged sent.now (R.remaining reader.old) (R.remaining reader.new) (W.contents writer.old)
+        (W.contents writer.new) result (R.broken reader.new) (W.broken writer.new) }
     ensures no_further { OnOk result (feed.new ≡ nothing_fed) }
 {
     match send(alloc, writer, sent) {

@@ -1,5 +1,5 @@
-//! Kernels under an empty script. Each helper makes one call of theirs, without clauses; a kernel that a function holds at
-//! its end is dropped by name, which is proved in a second where it takes half a minute otherwise.
+//! Kernels under an empty script. Each helper makes one call of theirs, without clauses; a kernel that a function holds
+//! at its end is dropped by name, which is proved in a second where it takes half a minute otherwise.
 
 use crate::boots::boot;
 use lx_abi::{Boot, Cause, Item, Mode, Outcome, Script, Signal};

@@ -141,8 +141,8 @@ fn signals_are_joined_at_an_entry_alone(rt: HostRuntime) -> Result<(), Fail> {
     Ok(())
 }
 
-/// What a signal that was joined to the call of now, or taken back, shows five turns later; whether it was dropped then,
-/// and where the process stands one turn later.
+/// What a signal that was joined to the call of now, or taken back, shows five turns later; whether it was dropped
+/// then, and where the process stands one turn later.
 fn take(
     kernel: &mut Kernel,
     back: bool,
