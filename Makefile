@@ -23,6 +23,7 @@ test:
 	tests/guests
 	tests/calls
 	tests/traces
+	tests/cuts
 	tests/faults
 	tests/served
 
