@@ -1,7 +1,7 @@
 //! A boot and sixteen requests, with their replies worked out by hand.
 
 use crate::ends::{Pieces, serve_between};
-use crate::frames::{are_same, encoded, part, stream};
+use crate::frames::{are_same, part, spelled, stream};
 use host_link::{Link, LocalLink, PipeLink};
 use host_serve::ServeFault;
 use host_wire::{Body, Counted, Feed, Frame, Sink, Source};
@@ -156,13 +156,6 @@ pub(crate) fn link_of(alloc: Global, feed: &mut Feed) -> Result<LocalLink, Fail>
     match booted(alloc, boot) {
         Ok(host) => Ok(LocalLink::new(host, Schedule::words(Vec::new(alloc), limit))),
         Err(_) => Err(Fail::from("the boot is accepted")),
-    }
-}
-
-fn spelled(alloc: Global, frame: &Frame) -> Result<Vec<u8>, Fail> {
-    match encoded(alloc, frame) {
-        Ok(bytes) => Ok(bytes),
-        Err(_) => Err(Fail::from("a frame")),
     }
 }
 

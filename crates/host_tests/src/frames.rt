@@ -33,9 +33,16 @@ pub fn are_same(one: Vec<u8>, other: Vec<u8>) -> bool {
     same
 }
 
-/// The bytes of a frame, without clauses.
-pub fn encoded(alloc: Global, frame: &Frame) -> Result<Vec<u8>, WireFault> {
+fn encoded(alloc: Global, frame: &Frame) -> Result<Vec<u8>, WireFault> {
     encode(alloc, frame)
+}
+
+/// The bytes of a frame.
+pub fn spelled(alloc: Global, frame: &Frame) -> Result<Vec<u8>, Fail> {
+    match encoded(alloc, frame) {
+        Ok(bytes) => Ok(bytes),
+        Err(_) => Err(Fail::from("a frame")),
+    }
 }
 
 /// Some of the bytes; none where they don't reach so far.

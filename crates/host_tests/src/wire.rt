@@ -1,7 +1,7 @@
 //! Frames: each kind as its bytes, faults at their bytes, and streams cut anywhere.
 
 use crate::conversation::BOOT;
-use crate::frames::{are_same, encoded, frame, part, stream};
+use crate::frames::{are_same, frame, part, spelled, stream};
 use host_wire::{Body, Feed, Frame, WireFault};
 use lx_abi::{Ask, Reply, Request, Status};
 use std::alloc::Global;
@@ -41,13 +41,6 @@ fn again(alloc: Global, message: &str) -> Result<Vec<u8>, Fail> {
         return Err(Fail::from("the frame of that number"));
     }
     spelled(alloc, &frame)
-}
-
-fn spelled(alloc: Global, frame: &Frame) -> Result<Vec<u8>, Fail> {
-    match encoded(alloc, frame) {
-        Ok(bytes) => Ok(bytes),
-        Err(_) => Err(Fail::from("a frame")),
-    }
 }
 
 /// Each kind of request, and of reply, has one spelling.

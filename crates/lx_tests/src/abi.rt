@@ -54,19 +54,20 @@ fn numbers_of_errors(rt: HostRuntime) {
     }
 }
 
-/// The number of the signal of a name, with SIG or without, and its name without.
-fn signal(name: &str) -> Option<(u8, &'static str)> {
+/// The number of the signal of a name, with SIG or without, its name without, and whether it is that of the number.
+fn signal(name: &str) -> Option<(u8, &'static str, bool)> {
     let signal = Signal::from_name(name)?;
-    Some((signal.number, signal.name()))
+    let of_number = Signal::from_number(signal.number.into());
+    Some((signal.number, signal.name(), of_number == Some(signal)))
 }
 
 #[test]
 fn signals(rt: HostRuntime) {
     for (name, wanted) in [
-        ("SIGHUP", Some((1, "HUP"))),
-        ("USR1", Some((10, "USR1"))),
-        ("SIGCHLD", Some((17, "CHLD"))),
-        ("SIGSYS", Some((31, "SYS"))),
+        ("SIGHUP", Some((1, "HUP", true))),
+        ("USR1", Some((10, "USR1", true))),
+        ("SIGCHLD", Some((17, "CHLD", true))),
+        ("SIGSYS", Some((31, "SYS", true))),
         ("SIGSIGHUP", None),
         ("", None),
     ] {
