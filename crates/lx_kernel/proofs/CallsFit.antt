@@ -1,12 +1,12 @@
 -- Every call's answer fits, and so does every signal that is taken.
-use Rattle.std.proofs.Common.{◌≡◌, ℕ, Bool, true, false, cond, Option, Some, None, is_some, refl}
+use Rattle.std.proofs.Common.{ℕ, Bool, true, false, cond, Option, Some, None, is_some, refl}
 use Rattle.std.specs.Option.{unwrap_or}
 use Rattle.std.specs.FinMap as maps
 use Rattle.lx_abi.specs.Errnos.{enosys}
 use Rattle.lx_abi.specs.declared.log.Call.{Call}
 use Rattle.lx_abi.specs.declared.log.Cause.{Cause}
 use Rattle.lx_abi.specs.declared.signal.Signal.{Signal}
-use Rattle.lx_model.specs.Machine.{Refused, Returns, Jumps, Execs, Bears, Blocks, Ends, Took, Passes, Kills}
+use Rattle.lx_model.specs.Machine.{Refused, Returns, Jumps, Execs, Bears, Blocks, Ends, Took}
 use Rattle.lx_sig.specs.Frames.{frame_fault}
 use Rattle.lx_sig.specs.Reactions.{reaction as reaction_to}
 use Rattle.lx_sig.specs.declared.reactions.Reaction.{Reaction}
@@ -18,7 +18,7 @@ use Rattle.lx_proc.specs.Answers.{Answers}
 use Rattle.lx_fcalls.specs.Calls.{file_call}
 use Rattle.lx_pcalls.specs.Calls.{process_call}
 use Rattle.lx_pcalls.specs.Interruption.{is_interrupted, interruptible, blocks_or_returns}
-use Rattle.lx_pcalls.specs.Taking.{takes, takes_at, reacts, handles}
+use Rattle.lx_pcalls.specs.Taking.{takes, takes_at, reacts}
 use Rattle.lx_kernel.specs.Calls.{does, called}
 use Rattle.lx_kernel.specs.Fitting.{Fits, CallsFit, TookFits, TakesFit}
 use Rattle.lx_kernel.proofs.FilesFit as files

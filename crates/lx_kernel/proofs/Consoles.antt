@@ -79,7 +79,7 @@ turn_keeps c s child p (Dying w) = λ i e. absurd (cc e)
 turn_keeps c s child p Gone = λ i e. absurd (cc e)
 
 -- and one in which a process ends has left it before
-pub end_keeps : (c : Choice) (s t : Shared) (child p w : ℕ) (own : Own Body) (b : Body) (stage : Stage) → turned (turn linux c s child p own) ≡ turned_by (Ended w) t b p stage → t.console ≡ s.console
-end_keeps c s t child p w own b stage e =
+pub end_keeps : (c : Choice) (s t : Shared) (child p w : ℕ) (own : Own Body) (b : Body) (stage next : Stage) (o : Option Item) → turned (turn linux c s child p own) ≡ turned_by (Ended w) t b p stage next o → t.console ≡ s.console
+end_keeps c s t child p w own b stage next o e =
     ap (λ (x : Turned). x.shared.console) (sym e)
     ∙ turn_keeps c s child p own (item.Exit p w (stage_mode stage)) (ap (λ (x : Turned). x.item) e)

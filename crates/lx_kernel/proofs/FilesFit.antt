@@ -1,15 +1,12 @@
 -- The answers of calls on files fit.
-use Rattle.std.proofs.Common.{◌≡◌, ℕ, ◌&&◌, Bool, true, false, cond, List, [], ◌++◌, length, Option, Some, None, refl, ap, sym, ◌∙◌, arith}
-use Rattle.std.specs.Prelude.{not, nat_lt, nat_le, ◌==◌, ◌^◌, ◌+◌, ◌-◌}
-use Rattle.std.proofs.lemmas.Bool.Decides.{nat_tests}
+use Rattle.std.proofs.Common.{ℕ, ◌&&◌, Bool, true, false, cond, List, [], ◌++◌, length, Option, Some, None, refl}
+use Rattle.std.specs.Prelude.{not, nat_lt, nat_le, ◌==◌, ◌^◌, ◌+◌}
 use Rattle.std.specs.FinMap as maps
-use Rattle.std.specs.declared.result.Result.{Result}
-use Rattle.std.specs.declared.result.Result.TheVariants.{Ok, Err}
 use Rattle.lx_abi.specs.declared.log.Call.{Call}
 use Rattle.containers.specs.Vacant.{vacant}
-use Rattle.lx_model.specs.Machine.{Refused, Returns, Blocks}
-use Rattle.lx_abi.specs.Errnos.{efault, enoent, ebadf, ebusy, eexist, enotdir, eisdir, einval, emfile, efbig, enospc, erange, enotempty}
-use Rattle.lx_files.specs.Limits.{largest_file, most_contents}
+use Rattle.lx_model.specs.Machine.{Refused, Blocks}
+use Rattle.lx_abi.specs.Errnos.{efault, enoent, ebadf, ebusy, eexist, eisdir, einval, emfile, efbig, enospc, erange, enotempty}
+use Rattle.lx_files.specs.Limits.{largest_file}
 use Rattle.lx_files.specs.Trees.{content, has_room, is_empty}
 use Rattle.lx_files.specs.Places.{path_of, seen}
 use Rattle.lx_files.specs.declared.places.Place.{Place}
@@ -25,26 +22,26 @@ use Rattle.lx_proc.specs.declared.state.Body.{Body}
 use Rattle.lx_open.specs.declared.fd_table.FdTable.{FdTable}
 use Rattle.std.specs.Int.{w32, to_le_bytes}
 use Rattle.lx_proc.specs.State.{directory, with_fds}
-use Rattle.lx_proc.specs.Answers.{Answers, argument, low_argument, unless, given, granted, gives}
+use Rattle.lx_proc.specs.Answers.{Answers, argument, low_argument}
 use Rattle.lx_fcalls.specs.Flags.{is_within, has, o_creat, o_excl, o_cloexec, open_flags, access_of, at_removedir, at_symlink_nofollow, at_fdcwd}
 use Rattle.lx_fcalls.specs.Arguments.{place_at}
 use Rattle.lx_fcalls.specs.Close.{close}
 use Rattle.lx_fcalls.specs.Dup.{dup}
 use Rattle.lx_fcalls.specs.Dup3.{dup3}
-use Rattle.lx_fcalls.specs.Openat.{openat, opens_at, opens_seen, opens_file, opens_new}
+use Rattle.lx_fcalls.specs.Openat.{openat, opens_seen}
 use Rattle.lx_fcalls.specs.Pipe2.{pipe2, with_end}
 use Rattle.lx_fcalls.specs.Ftruncate.{ftruncate, truncates}
 use Rattle.lx_fcalls.specs.Lseek.{lseek, seeks, origin, landing}
 use Rattle.lx_files.specs.Contents.{length_after}
 use Rattle.lx_fcalls.specs.Moving.{has_space, most_moved, pipe_size}
-use Rattle.lx_fcalls.specs.Read.{read, reads, reads_object, waits as reading_waits}
-use Rattle.lx_fcalls.specs.Write.{write, writes_object, writes_at, start_of}
-use Rattle.lx_fcalls.specs.Chdir.{chdir, goes_to, goes_at}
+use Rattle.lx_fcalls.specs.Read.{read, reads_object, waits as reading_waits}
+use Rattle.lx_fcalls.specs.Write.{write, writes_object, start_of}
+use Rattle.lx_fcalls.specs.Chdir.{chdir, goes_to}
 use Rattle.lx_fcalls.specs.Getcwd.{getcwd, shown}
-use Rattle.lx_fcalls.specs.Mkdirat.{mkdirat, makes, makes_at}
-use Rattle.lx_fcalls.specs.Unlinkat.{unlinkat, removes_file, removes_directory, is_used, nameless, unless_nameless, unlinks, unlinks_file, unlinks_directory}
+use Rattle.lx_fcalls.specs.Mkdirat.{mkdirat, makes}
+use Rattle.lx_fcalls.specs.Unlinkat.{unlinkat, removes_file, removes_directory, is_used, nameless, unless_nameless, unlinks}
 use Rattle.lx_fcalls.specs.Fstat.{fstat, tells_object}
-use Rattle.lx_fcalls.specs.Newfstatat.{newfstatat, tells, tells_at}
+use Rattle.lx_fcalls.specs.Newfstatat.{newfstatat, tells}
 use Rattle.lx_fcalls.specs.Calls.{file_call}
 use Rattle.std.specs.Prelude.{min, drop, take, is_some}
 use Rattle.rv_mem.specs.Memory.{first_fault, bytes_at}

@@ -8,7 +8,7 @@ use Rattle.std.specs.Cmp.{eq_by_cmp_equiv}
 use Rattle.lx_kernel.proofs.Placed.{get_put}
 use Rattle.std.specs.FinMap as maps
 use Rattle.std.specs.FinMap.{FinMap}
-use Rattle.lx_abi.specs.declared.log.Mode.{Mode}
+use Rattle.lx_abi.specs.declared.log.Item.{Item}
 use Rattle.lx_model.specs.declared.stage.Own.{Own}
 use Rattle.lx_model.specs.declared.stage.Own.TheVariants.{Alive, Dying, Gone}
 use Rattle.lx_model.specs.Finite.{at, placed}
@@ -16,8 +16,8 @@ use Rattle.lx_proc.specs.declared.state.Shared.{Shared}
 use Rattle.lx_proc.specs.declared.state.Body.{Body}
 use Rattle.lx_kernel.specs.Turned.{Turned, is_gone, without_gone, event_of}
 use Rattle.lx_kernel.specs.Turns.{Turns}
+use Rattle.lx_kernel.specs.declared.effects.Effect.{Effect}
 use Rattle.lx_kernel.specs.declared.effects.Effect.TheVariants as effect
-use Rattle.lx_kernel.specs.declared.kernel.Logged.{Logged}
 
 equal_is : (o : Ordering) → is_eq o ≡ true → o ≡ Equal
 equal_is Less e = absurd (cc e)
@@ -69,18 +69,18 @@ placed_by m p own true e = placed_gone m p own e
 placed_by m p own false e = placed_there m p own e
 
 -- the turn of a process with a part of its own
-pub somebody : (g : Own Body → Turned) (owns owns' : Owns) (p : ℕ) (own own' : Own Body) (l : Logged) (s : Shared)
-    → Some own ≡ maps.get owns p → g own ≡ record { shared = s; own = own'; item = l.item; event = event_of l.done } → placed owns p own' ≡ owns' → Turns (g (at Gone owns p)) owns p l s owns'
-somebody g owns owns' p own own' l s there is placed_is =
+pub somebody : (g : Own Body → Turned) (owns owns' : Owns) (p : ℕ) (own own' : Own Body) (item : Option Item) (done : Effect) (s : Shared)
+    → Some own ≡ maps.get owns p → g own ≡ record { shared = s; own = own'; item = item; event = event_of done } → placed owns p own' ≡ owns' → Turns (g (at Gone owns p)) owns p item done s owns'
+somebody g owns owns' p own own' item done s there is placed_is =
     let at_is : at Gone owns p ≡ own = ap (λ o. unwrap_or o Gone) (sym there) in
-    subst (λ t. Turns t owns p l s owns') (sym (ap g at_is ∙ is)) (record { shared_is = refl; owns_is = placed_is; item_is = refl; event_is = refl })
+    subst (λ t. Turns t owns p item done s owns') (sym (ap g at_is ∙ is)) (record { shared_is = refl; owns_is = placed_is; item_is = refl; event_is = refl })
 
 -- and of one without
-pub nobody : (g : Own Body → Turned) (owns owns' : Owns) (p : ℕ) (l : Logged) (mode : Option Mode) (s : Shared)
-    → None ≡ maps.get owns p → g Gone ≡ record { shared = s; own = Gone; item = None; event = event_of effect.Plain } → owns' ≡ owns → l ≡ record { before = mode; after = mode; item = None; done = effect.Plain; gone = true } → Turns (g (at Gone owns p)) owns p l s owns'
-nobody g owns owns' p l mode s none is same nothing =
+pub nobody : (g : Own Body → Turned) (owns owns' : Owns) (p : ℕ) (item : Option Item) (done : Effect) (s : Shared)
+    → None ≡ maps.get owns p → g Gone ≡ record { shared = s; own = Gone; item = None; event = event_of effect.Plain } → owns' ≡ owns → item ≡ None → done ≡ effect.Plain → Turns (g (at Gone owns p)) owns p item done s owns'
+nobody g owns owns' p item done s none is same no_item plain =
     let at_is : at Gone owns p ≡ Gone = ap (λ o. unwrap_or o Gone) (sym none) in
-    subst (λ t. Turns t owns p l s owns') (sym (ap g at_is ∙ is)) (record { shared_is = refl; owns_is = remove_absent owns p (sym none) ∙ sym same; item_is = ap (λ l. l.item) (sym nothing); event_is = ap (λ l. event_of l.done) (sym nothing) })
+    subst (λ t. Turns t owns p item done s owns') (sym (ap g at_is ∙ is)) (record { shared_is = refl; owns_is = remove_absent owns p (sym none) ∙ sym same; item_is = sym no_item; event_is = ap event_of (sym plain) })
 
 -- what a table has at a part that was put in its place
 pub at_placed : (m : Owns) (p : ℕ) (own : Own Body) → at Gone (placed m p own) p ≡ own

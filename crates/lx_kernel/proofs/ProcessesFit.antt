@@ -7,7 +7,6 @@ use Rattle.std.specs.declared.result.Result.{Result}
 use Rattle.std.specs.declared.result.Result.TheVariants.{Ok, Err}
 use Rattle.std.proofs.lemmas.Bool.Decides.{nat_tests}
 use Rattle.rv_mem.specs.Mapping.{mapped, limit_fault, highest_free}
-use Rattle.rv_mem.specs.declared.rights.Rights.{Rights}
 use Rattle.elf_image.specs.Checks.{fault_of}
 use Rattle.elf_image.specs.Images.{image_of}
 use Rattle.lx_abi.specs.Errnos.{eagain, echild, einval, enomem, enoexec, e2big, efault, esrch}
@@ -32,11 +31,11 @@ use Rattle.lx_proc.specs.declared.state.Entry.{Entry}
 use Rattle.lx_proc.specs.State.{last_pid, with_entries, directory}
 use Rattle.lx_proc.specs.Starts.{start_limit}
 use Rattle.lx_proc.specs.Texts.{Text, Whole, TooLong, Unreadable, text_at, list_at}
-use Rattle.lx_proc.specs.Answers.{Answers, argument, low_argument, unless, given, granted, at_entry, gives, is_blocked}
+use Rattle.lx_proc.specs.Answers.{Answers, argument, low_argument, unless, given, granted, gives, is_blocked}
 use Rattle.lx_pcalls.specs.Brk.{brk}
 use Rattle.lx_pcalls.specs.Calls.{process_call, would_block, is_blocked_if}
-use Rattle.lx_pcalls.specs.Clone.{clone, bears, fork_flags, has_room, with_child}
-use Rattle.lx_exec.specs.Execve.{execve, program, with_path, runs_path, runs_at, runs_node, runs_file, runs, begins, renews, renewed}
+use Rattle.lx_pcalls.specs.Clone.{clone, bears, fork_flags, has_room}
+use Rattle.lx_exec.specs.Execve.{execve, program, with_path, runs_at, runs_node, runs_file, renews}
 use Rattle.lx_pcalls.specs.Exit.{exit}
 use Rattle.lx_pcalls.specs.Getpid.{getpid}
 use Rattle.lx_pcalls.specs.Getppid.{getppid}

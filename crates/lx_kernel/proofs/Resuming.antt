@@ -16,15 +16,13 @@ use Rattle.lx_abi.specs.declared.signal.Signal.{Signal}
 use Rattle.lx_abi.specs.Signals.{is_signal}
 use Rattle.lx_model.specs.Machine.{call_of}
 use Rattle.lx_model.specs.Turn.{stepped}
-use Rattle.lx_model.specs.declared.stage.Stage.TheVariants.{Run, Entered, Faulting}
+use Rattle.lx_model.specs.declared.stage.Stage.TheVariants.{Entered, Faulting}
 use Rattle.lx_proc.specs.declared.state.Shared.{Shared}
 use Rattle.lx_proc.specs.declared.state.Body.{Body}
 use Rattle.lx_proc.specs.Registers.{regs}
 use Rattle.lx_kernel.specs.Linux.{linux}
 use Rattle.lx_kernel.specs.Reactions.{stepped_by, fault_signal}
-use Rattle.lx_kernel.specs.Turned.{turned, turned_by}
-use Rattle.lx_kernel.specs.declared.effects.Effect.TheVariants as effect
-use Rattle.lx_kernel.specs.declared.stages.Went.TheVariants.{On}
+use Rattle.lx_kernel.specs.Turned.{turned, goes_on}
 use Rattle.lx_kernel.proofs.Steps.{kept_by}
 
 pub same_signal : (a b : Signal) → a.number ≡ b.number → a ≡ b
@@ -37,13 +35,13 @@ module _ (s : Shared) (p : ℕ) (b : Body) (h : Hart) (m : Memory) where
   after = record b { hart = h; memory = m }
 
   pub stepped_call : (call : Call) → hart.stepped b.hart b.memory ≡ outcome step.Call h m → call ≡ call_of (regs after)
-      → turned (stepped linux s p b (stepped_by b)) ≡ turned_by (On (Entered None) (Some (item.Enter p call)) effect.Plain) s after p Run
+      → turned (stepped linux s p b (stepped_by b)) ≡ goes_on s after (Entered None) (Some (item.Enter p call))
   stepped_call call is called =
       let k : (h ≡ b.hart) × (m ≡ b.memory) = kept_by b.hart b.memory step.Call h m is in
       rw (called, k.0, k.1) (rw is refl)
 
   pub stepped_fault : (kind : FaultKind) (address code : ℕ) (signal : Signal) → hart.stepped b.hart b.memory ≡ outcome (step.Fault kind address) h m → signal.number ≡ signal_number kind → code ≡ signal_code kind
-      → turned (stepped linux s p b (stepped_by b)) ≡ turned_by (On (Faulting signal (Fault code address)) None effect.Plain) s after p Run
+      → turned (stepped linux s p b (stepped_by b)) ≡ goes_on s after (Faulting signal (Fault code address)) None
   stepped_fault kind address code signal is same coded =
       let k : (h ≡ b.hart) × (m ≡ b.memory) = kept_by b.hart b.memory (step.Fault kind address) h m is in
       rw (coded, same_signal signal (fault_signal kind) same, k.0, k.1) (rw is refl)

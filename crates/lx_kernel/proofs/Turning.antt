@@ -14,13 +14,13 @@ use Rattle.lx_model.specs.Turn.{turn, Out, Event, Plain, Execed, Forked}
 use Rattle.lx_model.specs.declared.stage.Own.{Own}
 use Rattle.lx_model.specs.declared.stage.Own.TheVariants.{Gone}
 use Rattle.lx_model.specs.Kernel.{traces, choice_at}
-use Rattle.lx_model.specs.Finite.{at, item_of, Running, ran, bore, turn_out, running_turn}
+use Rattle.lx_model.specs.Finite.{at, item_of, Running, bore, turn_out, running_turn}
 use Rattle.lx_proc.specs.declared.state.Shared.{Shared}
 use Rattle.lx_proc.specs.declared.state.Body.{Body}
 use Rattle.lx_kernel.specs.Linux.{linux}
 use Rattle.lx_kernel.specs.Turned.{turned, event_of, owns_with, next_child, IsLeft, IsBirth}
 use Rattle.lx_kernel.specs.Turns.{Turns}
-use Rattle.lx_kernel.specs.declared.kernel.Logged.{Logged}
+use Rattle.lx_kernel.specs.declared.effects.Effect.{Effect}
 use Rattle.lx_kernel.proofs.Births.{Births, turn_fine, left_by, console_by}
 use Rattle.lx_kernel.proofs.Consoles.{turn_keeps}
 
@@ -35,42 +35,42 @@ with_effect s owns child log Plain = refl
 with_effect s owns child log Execed = refl
 with_effect s owns child log (Forked newborn) = refl
 
-module _ (v : Running Shared Body) (rules : List Rule) (follow : Bool) (p : ℕ) (count : ℕ → ℕ) (agrees : (n : ℕ) → count n ≡ entries p n v.log) (l : Logged) (s : Shared) (owns : FinMap nat_cmp (Own Body))
-    (turns : Turns (turned (turn linux (choice_at linux (choice_of rules) (traces follow p) count (at Gone v.owns p)) v.shared v.child p (at Gone v.owns p))) v.owns p l s owns) where
+module _ (v : Running Shared Body) (rules : List Rule) (follow : Bool) (p : ℕ) (count : ℕ → ℕ) (agrees : (n : ℕ) → count n ≡ entries p n v.log) (item : Option Item) (done : Effect) (s : Shared) (owns : FinMap nat_cmp (Own Body))
+    (turns : Turns (turned (turn linux (choice_at linux (choice_of rules) (traces follow p) count (at Gone v.owns p)) v.shared v.child p (at Gone v.owns p))) v.owns p item done s owns) where
   abbrev out : Out Shared Body
   out = turn_out linux (choice_of rules) follow v p
 
-  turned_out : Turns (turned out) v.owns p l s owns
-  turned_out = subst (λ (f : ℕ → ℕ). Turns (turned (turn linux (choice_at linux (choice_of rules) (traces follow p) f (at Gone v.owns p)) v.shared v.child p (at Gone v.owns p))) v.owns p l s owns) (fun_ext agrees) turns
+  turned_out : Turns (turned out) v.owns p item done s owns
+  turned_out = subst (λ (f : ℕ → ℕ). Turns (turned (turn linux (choice_at linux (choice_of rules) (traces follow p) f (at Gone v.owns p)) v.shared v.child p (at Gone v.owns p))) v.owns p item done s owns) (fun_ext agrees) turns
 
-  pub kernel_item : l.item ≡ item_of out
+  pub kernel_item : item ≡ item_of out
   kernel_item = sym turned_out.item_is
 
-  pub kernel_deed : deed_of (event_of l.done) ≡ deed_of out.event
+  pub kernel_deed : deed_of (event_of done) ≡ deed_of out.event
   kernel_deed = ap deed_of (sym turned_out.event_is)
 
   -- a child is born as it may be
-  born : Births v.shared v.child s (event_of l.done)
+  born : Births v.shared v.child s (event_of done)
   born =
-      subst (λ t. Births v.shared v.child t (event_of l.done)) turned_out.shared_is
+      subst (λ t. Births v.shared v.child t (event_of done)) turned_out.shared_is
       (subst (Births v.shared v.child out.shared) turned_out.event_is
       (turn_fine (choice_at linux (choice_of rules) (traces follow p) (λ n. entries p n v.log) (at Gone v.owns p)) v.shared v.child p (at Gone v.owns p)))
 
-  pub kernel_left : IsLeft l.done v.child
-  kernel_left = left_by v.shared v.child s l.done born
+  pub kernel_left : IsLeft done v.child
+  kernel_left = left_by v.shared v.child s done born
 
-  pub kernel_born : IsBirth (event_of l.done) → s.console ≡ v.shared.console
-  kernel_born = console_by v.shared v.child s (event_of l.done) born
+  pub kernel_born : IsBirth (event_of done) → s.console ≡ v.shared.console
+  kernel_born = console_by v.shared v.child s (event_of done) born
 
   logged_keeps : (o : Option Item) → IsSome o → o ≡ item_of out → out.shared.console ≡ v.shared.console
   logged_keeps None some e = absurd (cc some)
   logged_keeps (Some i) some e = turn_keeps (choice_at linux (choice_of rules) (traces follow p) (λ n. entries p n v.log) (at Gone v.owns p)) v.shared v.child p (at Gone v.owns p) i (sym e)
 
   -- a turn that logged left the console
-  pub kernel_console : IsSome l.item → s.console ≡ v.shared.console
-  kernel_console some = ap (λ (x : Shared). x.console) (sym turned_out.shared_is) ∙ logged_keeps l.item some kernel_item
+  pub kernel_console : IsSome item → s.console ≡ v.shared.console
+  kernel_console some = ap (λ (x : Shared). x.console) (sym turned_out.shared_is) ∙ logged_keeps item some kernel_item
 
-  pub kernel_turned : record { shared = s; owns = owns_with owns v.child (event_of l.done); child = next_child v.child (event_of l.done); log = v.log ++ option_to_list l.item } ≡ running_turn linux (choice_of rules) follow v p
+  pub kernel_turned : record { shared = s; owns = owns_with owns v.child (event_of done); child = next_child v.child (event_of done); log = v.log ++ option_to_list item } ≡ running_turn linux (choice_of rules) follow v p
   kernel_turned =
-      sym (with_effect s owns v.child (v.log ++ option_to_list l.item) (event_of l.done))
+      sym (with_effect s owns v.child (v.log ++ option_to_list item) (event_of done))
       ∙ λ i. bore (record { shared = sym turned_out.shared_is i; owns = sym turned_out.owns_is i; child = v.child; log = v.log ++ option_to_list (kernel_item i) }) (sym turned_out.event_is i)

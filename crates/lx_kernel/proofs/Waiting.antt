@@ -9,7 +9,6 @@ use Rattle.lx_abi.specs.declared.log.Call.{Call}
 use Rattle.lx_model.specs.Machine.{Refused, Returns, Jumps, Execs, Bears, Blocks, Ends}
 use Rattle.lx_proc.specs.declared.state.Shared.{Shared}
 use Rattle.lx_proc.specs.declared.state.Body.{Body}
-use Rattle.lx_proc.specs.declared.state.Entry.{Entry}
 use Rattle.lx_proc.specs.Answers.{Answers, is_blocked}
 use Rattle.lx_fcalls.specs.Calls.{file_call}
 use Rattle.lx_fcalls.specs.Blocking.{would_block as file_would_block, passes}

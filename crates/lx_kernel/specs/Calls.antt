@@ -1,5 +1,5 @@
 -- What each call means (section 2 of the manual pages): a call on files, or else one on processes, memory or signals.
-use Rattle.std.specs.Prelude.{ℕ, Option, Some, None}
+use Rattle.std.specs.Prelude.{ℕ}
 use Rattle.std.specs.Option.{unwrap_or}
 use Rattle.lx_abi.specs.Errnos.{enosys}
 use Rattle.lx_abi.specs.declared.log.Call.{Call}

@@ -1,5 +1,5 @@
 -- What the parts of a turn answer, beside what they leave in the parts that they are lent.
-use Rattle.std.specs.Prelude.{◌≡◌, ℕ, suc, ◌≤◌, Bool, true, false, cond, Option, Some}
+use Rattle.std.specs.Prelude.{ℕ, suc, ◌≤◌, Bool, true, false, cond, Option, Some}
 use Rattle.std.specs.Ordering.{nat_cmp}
 use Rattle.std.specs.FinMap as maps
 use Rattle.std.specs.FinMap.{FinMap}
@@ -40,10 +40,14 @@ event_of (effect.Bore newborn) = Forked newborn.value
 abbrev pub ended : Shared → ℕ → ℕ → Stage → Turned
 ended s p w stage = record { shared = end.dies s p w; own = Dying w; item = Some (item.Exit p w (stage_mode stage)); event = Plain }
 
--- what a stage's turn comes to
-abbrev pub turned_by : Went → Shared → Body → ℕ → Stage → Turned
-turned_by (On next item done) s b p stage = record { shared = s; own = Alive b next; item = item; event = event_of done }
-turned_by (Ended w) s b p stage = ended s p w stage
+-- the process goes on as it stands now, and nothing was done beside
+abbrev pub goes_on : Shared → Body → Stage → Option Item → Turned
+goes_on s b next item = record { shared = s; own = Alive b next; item = item; event = Plain }
+
+-- what the turn of a stage comes to, which leaves this stage and this item
+abbrev pub turned_by : Went → Shared → Body → ℕ → Stage → Stage → Option Item → Turned
+turned_by (On done) s b p stage next item = record { shared = s; own = Alive b next; item = item; event = event_of done }
+turned_by (Ended w) s b p stage next item = ended s p w stage
 
 abbrev pub is_gone : Own Body → Bool
 is_gone (Alive b stage) = false

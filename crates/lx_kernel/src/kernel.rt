@@ -63,33 +63,30 @@ pub struct Moved {
     pub deed: Deed,
 }
 
-/// Where a process stood before a turn and stands after it, what the turn logged, and whether the process is gone, beside
-/// what it left in the parts that it was lent.
+/// Where a process stood before a turn and stands after it, what was done beside, and whether the process is gone.
 #[derive(Drop)]
-struct Logged {
+struct Transition {
     before: Option<Mode>,
     after: Option<Mode>,
-    item: Option<Item>,
     done: Effect,
     gone: bool,
 }
 
-impl Logged {
-    /// Nothing is logged, and the process is gone.
-    fn nothing(before: Option<Mode>, after: Option<Mode>) -> Logged
-        ensures { result ≡ record { before = before; after = after; item = None; done = Effect.Plain; gone = true } }
+impl Transition {
+    /// The process is gone.
+    fn of_gone(before: Option<Mode>, after: Option<Mode>) -> Transition
+        ensures { result ≡ record { before = before; after = after; done = Effect.Plain; gone = true } }
     {
-        Logged {
+        Transition {
             before,
             after,
-            item: None,
             done: Effect::Plain,
             gone: true,
         }
     }
 }
 
-/// One turn of a living process.
+/// One turn of a living process, and what it logs.
 fn turn_alive(
     alloc: Global,
     shared: &mut Shared,
@@ -97,15 +94,17 @@ fn turn_alive(
     child: u32,
     pid: u32,
     body: &mut Body,
-    stage: Stage,
+    stage: &mut Stage,
+    item: &mut Option<Item>,
 ) -> Result<Went, AllocError>
-    ensures turned { IfOk result (λ w. turned (turn linux (choice_of_call tampering.now pid body.old) shared.old child pid (Alive body.old stage)) ≡ turned_by w shared.new body.new pid stage) }
+    requires { item.old ≡ None }
+    ensures turned { IfOk result (λ w. turned (turn linux (choice_of_call tampering.now pid body.old) shared.old child pid (Alive body.old stage.old)) ≡ turned_by w shared.new body.new pid stage.old stage.new item.new) }
     ensures console { OnErr result (shared.new.console ≡ shared.old.console) }
 {
     if is_killed(shared, pid) {
         return Ok(Went::Ended { word: KILL_WORD });
     }
-    let went = go(alloc, shared, tampering, child, pid, body, stage)?;
+    let went = go(alloc, shared, tampering, child, pid, body, stage, item)?;
     Ok(went)
 }
 
@@ -125,7 +124,7 @@ fn end(own: &mut Own<Body>, word: u32)
     *own = Own::Dying { word };
 }
 
-/// One turn of a process with a part of its own.
+/// One turn of a process with a part of its own, and what it logs.
 fn turn_own(
     alloc: Global,
     shared: &mut Shared,
@@ -133,49 +132,42 @@ fn turn_own(
     child: u32,
     pid: u32,
     own: &mut Own<Body>,
-) -> Result<Logged, AllocError>
-    ensures turned { IfOk result (λ l. turned (turn linux (choice_of_own tampering.now pid own.old) shared.old child pid own.old) ≡ record { shared = shared.new; own = own.new; item = l.item; event = event_of l.done }) }
-    ensures before { IfOk result (λ l. l.before ≡ own_mode_of (maps.get shared.old.entries pid) own.old) }
-    ensures after { IfOk result (λ l. l.after ≡ own_mode_of (maps.get shared.new.entries pid) own.new) }
-    ensures gone { IfOk result (λ l. l.gone ≡ is_gone own.new) }
-    ensures absent { own.old ≡ Gone → IsOkAnd result (λ l. (l.item ≡ None) × (event_of l.done ≡ Plain)) }
+    item: &mut Option<Item>,
+) -> Result<Transition, AllocError>
+    requires { item.old ≡ None }
+    ensures turned { IfOk result (λ t. turned (turn linux (choice_of_own tampering.now pid own.old) shared.old child pid own.old) ≡ record { shared = shared.new; own = own.new; item = item.new; event = event_of t.done }) }
+    ensures before { IfOk result (λ t. t.before ≡ own_mode_of (maps.get shared.old.entries pid) own.old) }
+    ensures after { IfOk result (λ t. t.after ≡ own_mode_of (maps.get shared.new.entries pid) own.new) }
+    ensures gone { IfOk result (λ t. t.gone ≡ is_gone own.new) }
+    ensures absent { own.old ≡ Gone → IsOkAnd result (λ t. (item.new ≡ None) × (event_of t.done ≡ Plain)) }
     ensures console { OnErr result (shared.new.console ≡ shared.old.console) }
 {
     match own {
         Own::Gone => {
             let mode = mode_of_gone(shared, pid);
-            Ok(Logged::nothing(mode, mode))
+            Ok(Transition::of_gone(mode, mode))
         }
         Own::Dying { word } => {
             bury(shared, pid, *word);
             leave(own);
-            Ok(Logged::nothing(Some(Mode::Dying), mode_of_gone(shared, pid)))
+            Ok(Transition::of_gone(Some(Mode::Dying), mode_of_gone(shared, pid)))
         }
         Own::Alive { body, stage } => {
-            let left = *stage;
-            match turn_alive(alloc, shared, tampering, child, pid, body, left)? {
-                Went::On { next, item, done } => {
-                    *stage = next;
-                    Ok(Logged {
-                        before: Some(mode(left)),
-                        after: Some(mode(next)),
-                        item,
-                        done,
-                        gone: false,
-                    })
-                }
+            let left = mode(stage);
+            match turn_alive(alloc, shared, tampering, child, pid, body, stage, item)? {
+                Went::On(done) => Ok(Transition {
+                    before: Some(left),
+                    after: Some(mode(stage)),
+                    done,
+                    gone: false,
+                }),
                 Went::Ended { word } => {
                     die(shared, pid, word)?;
                     end(own, word);
-                    let item = Some(Item::Exit {
-                        pid,
-                        word,
-                        left: mode(left),
-                    });
-                    Ok(Logged {
-                        before: Some(mode(left)),
+                    *item = Some(Item::Exit { pid, word, left });
+                    Ok(Transition {
+                        before: Some(left),
                         after: Some(Mode::Dying),
-                        item,
                         done: Effect::Plain,
                         gone: false,
                     })
@@ -202,7 +194,7 @@ fn remove_gone(owns: &mut Map<Own<Body>>, pid: u32, gone: bool)
     }
 }
 
-/// One turn of a process, if it has a part of its own; who is gone leaves the table.
+/// One turn of a process, if it has a part of its own, and what it logs; who is gone leaves the table.
 fn turn_at(
     alloc: Global,
     shared: &mut Shared,
@@ -210,22 +202,24 @@ fn turn_at(
     tampering: &Tampering,
     child: u32,
     pid: u32,
-) -> Result<Logged, AllocError>
-    ensures turns { IfOk result (λ l. Turns (turned (turn linux (choice_of_own tampering.now pid (at Gone owns.old pid)) shared.old child pid (at Gone owns.old pid))) owns.old pid l shared.new owns.new) }
-    ensures before { IfOk result (λ l. l.before ≡ own_mode_of (maps.get shared.old.entries pid) (at Gone owns.old pid)) }
-    ensures after { IfOk result (λ l. l.after ≡ own_mode_of (maps.get shared.new.entries pid) (at Gone owns.new pid)) }
-    ensures absent { at Gone owns.old pid ≡ Gone → IsOkAnd result (λ l. (l.item ≡ None) × (event_of l.done ≡ Plain)) }
+    item: &mut Option<Item>,
+) -> Result<Transition, AllocError>
+    requires { item.old ≡ None }
+    ensures turns { IfOk result (λ t. Turns (turned (turn linux (choice_of_own tampering.now pid (at Gone owns.old pid)) shared.old child pid (at Gone owns.old pid))) owns.old pid item.new t.done shared.new owns.new) }
+    ensures before { IfOk result (λ t. t.before ≡ own_mode_of (maps.get shared.old.entries pid) (at Gone owns.old pid)) }
+    ensures after { IfOk result (λ t. t.after ≡ own_mode_of (maps.get shared.new.entries pid) (at Gone owns.new pid)) }
+    ensures absent { at Gone owns.old pid ≡ Gone → IsOkAnd result (λ t. (item.new ≡ None) × (event_of t.done ≡ Plain)) }
     ensures console { OnErr result (shared.new.console ≡ shared.old.console) }
 {
-    let logged = match owns.get_mut(pid) {
+    let transition = match owns.get_mut(pid) {
         None => {
             let mode = mode_of_gone(shared, pid);
-            return Ok(Logged::nothing(mode, mode));
+            return Ok(Transition::of_gone(mode, mode));
         }
-        Some(own) => turn_own(alloc, shared, tampering, child, pid, own)?,
+        Some(own) => turn_own(alloc, shared, tampering, child, pid, own, item)?,
     };
-    remove_gone(owns, pid, logged.gone);
-    Ok(logged)
+    remove_gone(owns, pid, transition.gone);
+    Ok(transition)
 }
 
 /// A child's body stands under its pid.
@@ -295,7 +289,7 @@ fn mode_of(shared: &Shared, owns: &Map<Own<Body>>, pid: u32) -> Option<Mode>
     ensures { result ≡ own_mode_of (maps.get shared.now.entries pid) (at Gone owns.now pid) }
 {
     match owns.get(pid) {
-        Some(Own::Alive { stage, .. }) => Some(mode(*stage)),
+        Some(Own::Alive { stage, .. }) => Some(mode(stage)),
         Some(Own::Dying { .. }) => Some(Mode::Dying),
         Some(Own::Gone) | None => mode_of_gone(shared, pid),
     }
@@ -342,19 +336,19 @@ fn count_item(occurrences: &mut Occurrences, item: &Item) -> Result<(), AllocErr
 fn log_item(
     log: &mut Vec<Item>,
     occurrences: &mut Occurrences,
-    item: Option<Item>,
+    item: &Option<Item>,
 ) -> Result<(), AllocError>
-    ensures log { OnOk result (log.new.items ≡ log.old.items ++ option_to_list item) }
+    ensures log { OnOk result (log.new.items ≡ log.old.items ++ option_to_list item.now) }
     ensures counted { OnOk result (Agree occurrences.old log.old.items → Agree occurrences.new log.new.items) }
     ensures kept { OnErr result (log.new.items ≡ log.old.items) }
-    ensures none { item ≡ None → IsOk result }
-    ensures some { OnErr result (IsSome item) }
+    ensures none { item.now ≡ None → IsOk result }
+    ensures some { OnErr result (IsSome item.now) }
 {
     let Some(item) = item else {
         return Ok(());
     };
-    count_item(occurrences, &item)?;
-    log.push(item)?;
+    count_item(occurrences, item)?;
+    log.push(*item)?;
     Ok(())
 }
 
@@ -410,24 +404,25 @@ impl Kernel {
             occurrences: &self.occurrences,
             follow: self.follow,
         };
-        let logged = turn_at(
+        let mut item = None;
+        let transition = turn_at(
             self.alloc,
             &mut self.shared,
             &mut self.owns,
             &tampering,
             self.child,
             pid,
+            &mut item,
         )?;
-        let Logged {
+        let Transition {
             before,
             after,
-            item,
             done,
             ..
-        } = logged;
+        } = transition;
         let deed = done.deed();
         place_child(&mut self.owns, &mut self.child, done)?;
-        log_item(&mut self.log, &mut self.occurrences, item)?;
+        log_item(&mut self.log, &mut self.occurrences, &item)?;
         let after = mode_after(&self.shared, &self.owns, pid, deed, after);
         self.failed = false;
         Ok(Moved {

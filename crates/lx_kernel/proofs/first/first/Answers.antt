@@ -1,6 +1,5 @@
 use Rattle.std.proofs.Common.{◌≡◌, ◌∙◌, ap, false, []}
 use Rattle.lx_boot.specs.First.{first_shared, first_owns}
-use Rattle.lx_kernel.specs.Runs.{Run}
 use Rattle.lx_kernel.proofs.first.first.Goals as goal
 
 pub returns : goal.returns

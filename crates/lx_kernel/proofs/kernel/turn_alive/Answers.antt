@@ -7,5 +7,5 @@ use Rattle.lx_kernel.proofs.kernel.turn_alive.Goals as goal
 
 pub returns-clause-turned : goal.returns-clause-turned
 returns-clause-turned c =
-    ap (λ b. turned (killed_or b linux (choice_of_call c.args.tampering.now c.args.pid c.args.body.now) c.args.shared.now c.args.child c.args.pid c.args.body.now c.args.stage)) (sym c.is_killed.ensures ∙ c.if-is_killed.false)
+    ap (λ b. turned (killed_or b linux (choice_of_call c.args.tampering.now c.args.pid c.args.body.now) c.args.shared.now c.args.child c.args.pid c.args.body.now c.args.stage.now)) (sym c.is_killed.ensures ∙ c.if-is_killed.false)
     ∙ c.in_ok-went.ensures.turned

@@ -13,22 +13,22 @@ use Rattle.lx_kernel.proofs.kernel.turn_at.Goals as goal
 
 pub returns-in-None-clause-turns : goal.returns-in-None-clause-turns
 returns-in-None-clause-turns c =
-    nobody (λ own. turned (turn linux (choice_of_own c.args.tampering.now c.args.pid own) c.args.shared.now c.args.child c.args.pid own)) c.args.owns.now c.get_mut.follows.lender-at-none c.args.pid c.nothing.result c.mode_of_gone-mode.result c.args.shared.now
-    c.in-None.ensures.value refl c.get_mut.follows.holds-at-none c.nothing.ensures
+    nobody (λ own. turned (turn linux (choice_of_own c.args.tampering.now c.args.pid own) c.args.shared.now c.args.child c.args.pid own)) c.args.owns.now c.get_mut.follows.lender-at-none c.args.pid c.args.item.now c.of_gone.result.done c.args.shared.now
+    c.in-None.ensures.value refl c.get_mut.follows.holds-at-none c.requires (ap (λ t. t.done) c.of_gone.ensures)
 
 pub returns-clause-turns : goal.returns-clause-turns
 returns-clause-turns c =
     let w = c.turn_own.new.own in
     let h = subst (λ r. OnSome r (c.get_mut.follows.lender w ≡ maps.insert c.args.owns.now c.args.pid w)) c.in-Some.is (c.get_mut.follows.holds w) in
-    somebody (λ own. turned (turn linux (choice_of_own c.args.tampering.now c.args.pid own) c.args.shared.now c.args.child c.args.pid own)) c.args.owns.now c.remove_gone.new.owns c.args.pid c.in-Some.own.now w c.in_ok-logged-in-Some.logged c.turn_own.new.shared
-    c.in-Some.ensures.value c.in_ok-logged-in-Some.ensures.turned
-    (placed_by c.args.owns.now c.args.pid w c.in_ok-logged-in-Some.logged.gone (sym c.in_ok-logged-in-Some.ensures.gone) ∙ ap (λ m. without_gone m c.args.pid c.in_ok-logged-in-Some.logged.gone) (sym h) ∙ sym c.remove_gone.ensures)
+    somebody (λ own. turned (turn linux (choice_of_own c.args.tampering.now c.args.pid own) c.args.shared.now c.args.child c.args.pid own)) c.args.owns.now c.remove_gone.new.owns c.args.pid c.in-Some.own.now w c.turn_own.new.item c.in_ok-transition-in-Some.transition.done c.turn_own.new.shared
+    c.in-Some.ensures.value c.in_ok-transition-in-Some.ensures.turned
+    (placed_by c.args.owns.now c.args.pid w c.in_ok-transition-in-Some.transition.gone (sym c.in_ok-transition-in-Some.ensures.gone) ∙ ap (λ m. without_gone m c.args.pid c.in_ok-transition-in-Some.transition.gone) (sym h) ∙ sym c.remove_gone.ensures)
 
 pub returns-clause-after : goal.returns-clause-after
 returns-clause-after c =
     let w = c.turn_own.new.own in
     let h = subst (λ r. OnSome r (c.get_mut.follows.lender w ≡ maps.insert c.args.owns.now c.args.pid w)) c.in-Some.is (c.get_mut.follows.holds w) in
     let there : placed c.args.owns.now c.args.pid w ≡ c.remove_gone.new.owns =
-    placed_by c.args.owns.now c.args.pid w c.in_ok-logged-in-Some.logged.gone (sym c.in_ok-logged-in-Some.ensures.gone) ∙ ap (λ m. without_gone m c.args.pid c.in_ok-logged-in-Some.logged.gone) (sym h) ∙ sym c.remove_gone.ensures in
-    c.in_ok-logged-in-Some.ensures.after
+    placed_by c.args.owns.now c.args.pid w c.in_ok-transition-in-Some.transition.gone (sym c.in_ok-transition-in-Some.ensures.gone) ∙ ap (λ m. without_gone m c.args.pid c.in_ok-transition-in-Some.transition.gone) (sym h) ∙ sym c.remove_gone.ensures in
+    c.in_ok-transition-in-Some.ensures.after
     ∙ ap (own_mode (maps.get c.turn_own.new.shared.entries c.args.pid)) (sym (at_placed c.args.owns.now c.args.pid w) ∙ ap (λ m. at Gone m c.args.pid) there)

@@ -2,7 +2,6 @@ use Rattle.std.proofs.Common.{◌≡◌, Some, ap, sym, ◌∙◌}
 use Rattle.lx_abi.specs.declared.log.Item.TheVariants as item
 use Rattle.lx_model.specs.Turn.{turn, Plain}
 use Rattle.lx_model.specs.declared.stage.Own.TheVariants.{Alive}
-use Rattle.lx_proc.specs.declared.state.Shared.{Shared}
 use Rattle.lx_kernel.specs.Linux.{linux}
 use Rattle.lx_kernel.specs.Tampering.{choice_of_call, choice_of_own}
 use Rattle.lx_kernel.specs.Turned.{turned, turned_by}
@@ -13,19 +12,19 @@ use Rattle.lx_kernel.proofs.kernel.turn_own.Goals as goal
 pub returns-in-On-clause-turned : goal.returns-in-On-clause-turned
 returns-in-On-clause-turned c =
     ap (λ o. turned (turn linux (choice_of_own c.args.tampering.now c.args.pid o) c.args.shared.now c.args.child c.args.pid o)) c.in-Alive.is
-    ∙ c.in_ok-next-in-Alive.ensures.turned
-    ∙ ap (λ w. turned_by w c.turn_alive.new.shared c.turn_alive.new.body c.args.pid c.in-Alive.stage) c.in-On.is
+    ∙ c.in_ok-done-in-Alive.ensures.turned
+    ∙ ap (λ w. turned_by w c.turn_alive.new.shared c.turn_alive.new.body c.args.pid c.in-Alive.stage c.turn_alive.new.stage c.turn_alive.new.item) c.in-On.is
 
 pub returns-in_ok-die-in-Ended-clause-turned : goal.returns-in_ok-die-in-Ended-clause-turned
 returns-in_ok-die-in-Ended-clause-turned c =
     ap (λ o. turned (turn linux (choice_of_own c.args.tampering.now c.args.pid o) c.args.shared.now c.args.child c.args.pid o)) c.in-Alive.is
-    ∙ c.in_ok-next-in-Alive.ensures.turned
-    ∙ ap (λ w. turned_by w c.turn_alive.new.shared c.turn_alive.new.body c.args.pid c.in-Alive.stage) c.in-Ended.is
-    ∙ λ i. record { shared = sym c.in_ok-die-in-Ended.ensures.died i; own = sym c.end.ensures i; item = Some (item.Exit c.args.pid c.in-Ended.word (sym c.mode-in-Ended.ensures i)); event = Plain }
+    ∙ c.in_ok-done-in-Alive.ensures.turned
+    ∙ ap (λ w. turned_by w c.turn_alive.new.shared c.turn_alive.new.body c.args.pid c.in-Alive.stage c.turn_alive.new.stage c.turn_alive.new.item) c.in-Ended.is
+    ∙ λ i. record { shared = sym c.in_ok-die-in-Ended.ensures.died i; own = sym c.end.ensures i; item = Some (item.Exit c.args.pid c.in-Ended.word (sym c.mode-left.ensures i)); event = Plain }
 
 pub returns-in_err-die-in-Ended-clause-console : goal.returns-in_err-die-in-Ended-clause-console
 returns-in_err-die-in-Ended-clause-console c =
     on_err (c.die.new.shared.console ≡ c.args.shared.now.console) c.from_residual-in_err-die-in-Ended.result
     (c.in_err-die-in-Ended.ensures.console
-    ∙ end_keeps (choice_of_call c.args.tampering.now c.args.pid c.in-Alive.body) c.args.shared.now c.turn_alive.new.shared c.args.child c.args.pid c.in-Ended.word (Alive c.in-Alive.body c.in-Alive.stage) c.turn_alive.new.body c.in-Alive.stage
-    (c.in_ok-next-in-Alive.ensures.turned ∙ ap (λ w. turned_by w c.turn_alive.new.shared c.turn_alive.new.body c.args.pid c.in-Alive.stage) c.in-Ended.is))
+    ∙ end_keeps (choice_of_call c.args.tampering.now c.args.pid c.in-Alive.body) c.args.shared.now c.turn_alive.new.shared c.args.child c.args.pid c.in-Ended.word (Alive c.in-Alive.body c.in-Alive.stage) c.turn_alive.new.body c.in-Alive.stage c.turn_alive.new.stage c.turn_alive.new.item
+    (c.in_ok-done-in-Alive.ensures.turned ∙ ap (λ w. turned_by w c.turn_alive.new.shared c.turn_alive.new.body c.args.pid c.in-Alive.stage c.turn_alive.new.stage c.turn_alive.new.item) c.in-Ended.is))

@@ -1,16 +1,12 @@
-use Rattle.std.proofs.Common.{ap, sym, ◌∙◌}
+use Rattle.std.proofs.Common.{ap, ◌∙◌}
 use Rattle.rv_hart.specs.Steps.{outcome}
-use Rattle.lx_kernel.specs.Turned.{turned_by}
 use Rattle.lx_kernel.proofs.Resuming.{stepped_call, stepped_fault}
-use Rattle.lx_model.specs.declared.stage.Stage.TheVariants.{Run}
 use Rattle.lx_kernel.proofs.stages.step_on.Goals as goal
 
 pub returns-in-Call : goal.returns-in-Call
 returns-in-Call c = λ s.
     stepped_call s c.args.pid c.args.body.now c.step.new.hart c.step.new.space c.call-call.result (c.in_ok-step.ensures.ok ∙ ap (λ t. outcome t c.step.new.hart c.step.new.space) c.in-Call.is) c.call-call.ensures
-    ∙ ap (λ w. turned_by w s (record c.args.body.now { hart = c.step.new.hart; memory = c.step.new.space }) c.args.pid Run) (sym c.logged.ensures)
 
 pub returns-in-Fault : goal.returns-in-Fault
-returns-in-Fault c = λ s.
-    stepped_fault s c.args.pid c.args.body.now c.step.new.hart c.step.new.space c.in-Fault.kind c.in-Fault.address c.code.result c.fault_signal.result (c.in_ok-step.ensures.ok ∙ ap (λ t. outcome t c.step.new.hart c.step.new.space) c.in-Fault.is) c.fault_signal.ensures c.code.ensures
-    ∙ ap (λ w. turned_by w s (record c.args.body.now { hart = c.step.new.hart; memory = c.step.new.space }) c.args.pid Run) (sym c.on-in-Fault.ensures)
+returns-in-Fault c = λ s. rw (c.requires.nothing) (
+    stepped_fault s c.args.pid c.args.body.now c.step.new.hart c.step.new.space c.in-Fault.kind c.in-Fault.address c.code.result c.fault_signal-signal.result (c.in_ok-step.ensures.ok ∙ ap (λ t. outcome t c.step.new.hart c.step.new.space) c.in-Fault.is) c.fault_signal-signal.ensures c.code.ensures)
