@@ -23,9 +23,22 @@ struct Run {
     err: Recorder,
 }
 
-/// Standard error is one line, which begins so.
-fn is_line_of(run: &Run, start: &str) -> bool {
-    match run.err.text().strip_suffix('\n') {
+impl Run {
+    /// It ended with this status, and wrote exactly this.
+    fn is(&self, status: u8, out: &str, err: &str) -> bool {
+        self.status == status && self.out.text() == out && self.err.text() == err
+    }
+
+    /// It ended with this status, and told so in one line on standard error, of which this is the start; nothing stands
+    /// on standard output.
+    fn is_refusal(&self, status: u8, told: &str) -> bool {
+        self.status == status && self.out.text().is_empty() && is_line_from(self.err.text(), told)
+    }
+}
+
+/// A text is one line, which begins so.
+fn is_line_from(text: &str, start: &str) -> bool {
+    match text.strip_suffix('\n') {
         Some(line) => line.starts_with(start) && !line.contains('\n'),
         None => false,
     }
@@ -52,6 +65,7 @@ fn run_with(
 ) -> Result<Run, Fail> {
     let words = words_of(rt, words)?;
     let status = command(rt, words.as_slice(), &mut input, &mut out, &mut err);
+    drop(words);
     Ok(Run { status, out, err })
 }
 
@@ -59,4 +73,39 @@ fn run_with(
 fn run_of(rt: &HostRuntime, words: &[&str]) -> Result<Run, Fail> {
     let (out, err) = (Recorder::new(rt.alloc()), Recorder::new(rt.alloc()));
     run_with(rt, words, Source::of(0), out, err)
+}
+
+/// The status of a run on these words.
+fn status_of(rt: &HostRuntime, words: &[&str]) -> Result<u8, Fail> {
+    Ok(run_of(rt, words)?.status)
+}
+
+/// A run on these words ends with this status, and writes exactly this.
+fn ends_as(
+    rt: &HostRuntime,
+    words: &[&str],
+    status: u8,
+    out: &str,
+    err: &str,
+) -> Result<bool, Fail> {
+    let run = run_of(rt, words)?;
+    let same = run.is(status, out, err);
+    drop(run);
+    Ok(same)
+}
+
+/// A run on these words ends with this status, and shows this on standard output.
+fn shows(rt: &HostRuntime, words: &[&str], status: u8, out: &str) -> Result<bool, Fail> {
+    let run = run_of(rt, words)?;
+    let same = run.status == status && run.out.text() == out;
+    drop(run);
+    Ok(same)
+}
+
+/// The words are refused with status 2, by one line that begins so.
+fn is_refused(rt: &HostRuntime, words: &[&str], told: &str) -> Result<bool, Fail> {
+    let run = run_of(rt, words)?;
+    let refused = run.is_refusal(2, told);
+    drop(run);
+    Ok(refused)
 }

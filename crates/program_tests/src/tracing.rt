@@ -17,6 +17,13 @@ struct Run {
     err: Recorder,
 }
 
+impl Run {
+    /// It ended with this status, and wrote exactly this.
+    fn is(&self, status: u8, out: &str, err: &str) -> bool {
+        self.status == status && self.out.text() == out && self.err.text() == err
+    }
+}
+
 /// Runs the program on these words and streams, with no input.
 fn run_with(
     rt: &HostRuntime,
@@ -33,6 +40,7 @@ fn run_with(
     }
     let mut input: &[u8] = &[];
     let status = command(rt, all.as_slice(), &mut input, &mut out, &mut err);
+    drop(all);
     Ok(Run { status, out, err })
 }
 
@@ -40,4 +48,18 @@ fn run_with(
 fn run_of(rt: &HostRuntime, words: &[&str]) -> Result<Run, Fail> {
     let (out, err) = (Recorder::new(rt.alloc()), Recorder::new(rt.alloc()));
     run_with(rt, words, out, err)
+}
+
+/// A run on these words ends with this status, and writes exactly this.
+fn ends_as(
+    rt: &HostRuntime,
+    words: &[&str],
+    status: u8,
+    out: &str,
+    err: &str,
+) -> Result<bool, Fail> {
+    let run = run_of(rt, words)?;
+    let same = run.is(status, out, err);
+    drop(run);
+    Ok(same)
 }

@@ -101,6 +101,18 @@ fn boot_over<L: Link>(
     }
 }
 
+/// Boots the host behind a link, and runs the tracer over it.
+fn boot_and_run<L: Link, W: Sink>(
+    alloc: Global,
+    link: &mut L,
+    plan: Plan,
+    limit: u64,
+    lines: &mut Lines<W>,
+) -> Result<Outcome, Fault> {
+    boot_over(alloc, link, plan.boot, limit, plan.turns)?;
+    run_over(alloc, link, lines, plan.script, plan.options)
+}
+
 /// Runs the tracer with the kernel in a process that the program at this path serves.
 fn run_there<R: Processes + AllocGlobal, W: Sink>(
     rt: &R,
@@ -109,10 +121,10 @@ fn run_there<R: Processes + AllocGlobal, W: Sink>(
     limit: u64,
     lines: &mut Lines<W>,
 ) -> Result<Outcome, Fault> {
-    let alloc = rt.alloc();
     let mut link = ChildLink::start(rt, path, &[])?;
-    boot_over(alloc, &mut link, plan.boot, limit, plan.turns)?;
-    run_over(alloc, &mut link, lines, plan.script, plan.options)
+    let ended = boot_and_run(rt.alloc(), &mut link, plan, limit, lines);
+    drop(link);
+    ended
 }
 
 fn run_kernel<R: Processes + AllocGlobal, W: Sink>(
@@ -134,7 +146,10 @@ fn trace_to<R: Processes + AllocGlobal, W: Write>(
     plan: Plan,
     writer: &mut W,
 ) -> Result<Outcome, Fault> {
-    run_kernel(rt, kernel, plan, &mut Lines::new(Counted::new(writer)))
+    let mut lines = Lines::new(Counted::new(writer));
+    let ended = run_kernel(rt, kernel, plan, &mut lines);
+    drop(lines);
+    ended
 }
 
 /// Writes the trace to `err`. Where the run ends in a fault, a line that stands open is ended.
@@ -147,6 +162,7 @@ fn trace_to_error<R: Processes + AllocGlobal, E: Write>(
     let mut lines = Lines::new(Counted::new(&mut *err));
     let ended = run_kernel(rt, kernel, plan, &mut lines);
     let cut = ended.is_err() && lines.is_open();
+    drop(lines);
     if cut && writeln!(err).is_err() {
         return Err(Fault::Output);
     }
@@ -223,5 +239,7 @@ pub fn trace<R: Files + Processes + AllocGlobal, I: Read, O: Write, E: Write>(
         limit: options.limit,
     };
     let outcome = run_with(rt, matches.get_str("output"), kernel, plan, out, err)?;
-    finish(&outcome, out)
+    let status = finish(&outcome, out);
+    drop(outcome);
+    status
 }

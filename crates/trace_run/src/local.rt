@@ -114,5 +114,7 @@ pub fn trace_local<W: Sink>(
     options.follow = boot.follow;
     let host = Host::boot(alloc, boot)?;
     let mut local = LocalLink::new(host, schedule);
-    Ok(run(alloc, &mut local, writer, script, options))
+    let ended = run(alloc, &mut local, writer, script, options);
+    drop(local);
+    Ok(ended)
 }

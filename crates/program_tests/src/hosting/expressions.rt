@@ -1,6 +1,6 @@
 //! What is told of expressions that are refused.
 
-use crate::hosting::{is_line_of, run_of};
+use crate::hosting::ends_as;
 use std::test::Fail;
 
 /// What isn't there yet is told as such.
@@ -38,12 +38,12 @@ fn refused_expressions(rt: HostRuntime) -> Result<(), Fail> {
         ),
     ];
     for (text, told) in rows {
-        let line = format!(in rt.alloc(); "guest_host: -e {told}")?;
-        let run = run_of(&rt, &["plain", "-e", text, "--", "/p"])?;
-        assert_eq!(rt; run.status, 2, "{text}");
-        assert_eq!(rt; run.out.text(), "", "{text}");
-        assert_eq!(rt; run.err.text().trim_end(), line.as_str(), "{text}");
-        assert!(rt; is_line_of(&run, "guest_host: -e "), "{text}");
+        let line = format!(in rt.alloc(); "guest_host: -e {told}\n")?;
+        let words = ["plain", "-e", text, "--", "/p"];
+        assert!(rt;
+            ends_as(&rt, words.as_slice(), 2, "", line.as_str())?,
+            "{text}"
+        );
     }
     Ok(())
 }

@@ -1,7 +1,7 @@
 //! Faults: their statuses and texts, their order, and outputs that fail.
 
 use crate::guest::{HELLO, HELLO_LOG};
-use crate::hosting::{is_line_of, run_of, run_with};
+use crate::hosting::{is_refused, run_of, run_with};
 use crate::streams::{Recorder, Source};
 use front_end::arguments;
 use guest_commands::{Fault, tell};
@@ -101,13 +101,12 @@ fn order_of_faults(rt: HostRuntime) -> Result<(), Fail> {
         let (out, err) = (Recorder::new(rt.alloc()), Recorder::new(rt.alloc()));
         let input = Source::failing(0, ErrorKind::Other);
         let run = run_with(&rt, words, input, out, err)?;
-        assert_eq!(rt; run.status, 2, "{told}");
-        assert_eq!(rt; run.out.text(), "", "{told}");
-        assert!(rt; is_line_of(&run, told), "{told}");
+        let refused = run.is_refusal(2, told);
+        drop(run);
+        assert!(rt; refused, "{told}");
     }
-    let run = run_of(&rt, &["plain", relative, "--", "/p"])?;
-    assert_eq!(rt; run.status, 2);
-    assert!(rt; is_line_of(&run, "guest_host: boot fault 1: "));
+    let words = ["plain", relative, "--", "/p"];
+    assert!(rt; is_refused(&rt, words.as_slice(), "guest_host: boot fault 1: ")?);
     fs::remove_file(&rt, "ordered.elf")?;
     Ok(())
 }
@@ -129,25 +128,32 @@ fn failing_outputs(rt: HostRuntime) -> Result<(), Fail> {
         let err = Recorder::failing(rt.alloc(), logged);
         let run = run_with(&rt, words.as_slice(), Source::of(0), out, err)?;
         let status = if logged == 1 { 0 } else { 3 };
-        assert_eq!(rt; run.status, status);
-        assert_eq!(rt; run.out.text(), console);
-        assert_eq!(rt; run.err.text(), log);
+        let same = run.is(status, console, log);
+        drop(run);
+        assert!(rt; same, "{shown} {logged}");
     }
     fs::remove_file(&rt, "failing.elf")?;
     Ok(())
+}
+
+/// A run on this word ends with status 0, and nothing stands on standard error.
+fn is_told(rt: &HostRuntime, word: &str) -> Result<bool, Fail> {
+    let run = run_of(rt, &[word])?;
+    let told = run.status == 0 && run.err.text().is_empty();
+    drop(run);
+    Ok(told)
 }
 
 /// Help and version go to standard output; where they can't, the fault is one of output.
 #[test]
 fn failing_help(rt: HostRuntime) -> Result<(), Fail> {
     for word in ["--help", "--version"] {
-        let told = run_of(&rt, &[word])?;
-        assert_eq!(rt; told.status, 0, "{word}");
-        assert_eq!(rt; told.err.text(), "", "{word}");
+        assert!(rt; is_told(&rt, word)?, "{word}");
         let (out, err) = (Recorder::failing(rt.alloc(), 0), Recorder::new(rt.alloc()));
         let run = run_with(&rt, &[word], Source::of(0), out, err)?;
-        assert_eq!(rt; run.status, 3, "{word}");
-        assert_eq!(rt; run.err.text(), "guest_host: output fault\n", "{word}");
+        let same = run.is(3, "", "guest_host: output fault\n");
+        drop(run);
+        assert!(rt; same, "{word}");
     }
     Ok(())
 }

@@ -1,6 +1,6 @@
 //! Listings that are assembled and run, or refused.
 
-use crate::hosting::{Run, is_line_of, run_of};
+use crate::hosting::{Run, ends_as, is_refused, run_of};
 use std::fs;
 use std::test::Fail;
 
@@ -28,14 +28,19 @@ fn run_of_listing(rt: &HostRuntime, listing: &str) -> Result<Run, Fail> {
     Ok(run)
 }
 
+/// A listing is assembled, and its run ends with this status, this log and an empty console.
+fn runs_as(rt: &HostRuntime, listing: &str, status: u8, log: &str) -> Result<bool, Fail> {
+    let run = run_of_listing(rt, listing)?;
+    let same = run.is(status, "", log);
+    drop(run);
+    Ok(same)
+}
+
 /// Two headers, of 64 and 56 bytes, and three words.
 #[test]
 fn file_of_a_listing(rt: HostRuntime) -> Result<(), Fail> {
     fs::write(&rt, "exit.s", EXIT)?;
-    let run = run_of(&rt, &["asm", "exit.s", "exit.elf"])?;
-    assert_eq!(rt; run.status, 0);
-    assert_eq!(rt; run.out.text(), "");
-    assert_eq!(rt; run.err.text(), "");
+    assert!(rt; ends_as(&rt, &["asm", "exit.s", "exit.elf"], 0, "", "")?);
     assert_eq!(rt; fs::read(&rt, "exit.elf")?.len(), 132);
     fs::remove_file(&rt, "exit.s")?;
     fs::remove_file(&rt, "exit.elf")?;
@@ -79,10 +84,7 @@ fn guests_that_end(rt: HostRuntime) -> Result<(), Fail> {
     ];
     for (listing, logged, status) in rows {
         let log = format!(in rt.alloc(); "{EXECVE}{logged}")?;
-        let run = run_of_listing(&rt, listing)?;
-        assert_eq!(rt; run.status, status, "{listing}");
-        assert_eq!(rt; run.out.text(), "", "{listing}");
-        assert_eq!(rt; run.err.text(), log.as_str(), "{listing}");
+        assert!(rt; runs_as(&rt, listing, status, log.as_str())?, "{listing}");
     }
     Ok(())
 }
@@ -100,10 +102,10 @@ fn faulty_listings(rt: HostRuntime) -> Result<(), Fail> {
     ];
     for (listing, told) in rows {
         fs::write(&rt, "faulty.s", listing)?;
-        let run = run_of(&rt, &["asm", "faulty.s", "faulty.elf"])?;
-        assert_eq!(rt; run.status, 2, "{listing}");
-        assert_eq!(rt; run.out.text(), "", "{listing}");
-        assert_eq!(rt; run.err.text(), told, "{listing}");
+        assert!(rt;
+            ends_as(&rt, &["asm", "faulty.s", "faulty.elf"], 2, "", told)?,
+            "{listing}"
+        );
         assert!(rt; fs::read(&rt, "faulty.elf").is_err(), "{listing}");
     }
     fs::remove_file(&rt, "faulty.s")?;
@@ -123,10 +125,7 @@ fn files_out_of_reach(rt: HostRuntime) -> Result<(), Fail> {
         ),
     ];
     for (from, to, told) in rows {
-        let run = run_of(&rt, &["asm", from, to])?;
-        assert_eq!(rt; run.status, 2, "{from}");
-        assert_eq!(rt; run.out.text(), "", "{from}");
-        assert!(rt; is_line_of(&run, told), "{from}");
+        assert!(rt; is_refused(&rt, &["asm", from, to], told)?, "{from}");
     }
     fs::remove_file(&rt, "reachable.s")?;
     Ok(())

@@ -1,7 +1,7 @@
 //! What is read of files and input.
 
 use crate::guest::HELLO;
-use crate::hosting::{is_line_of, run_of, run_with};
+use crate::hosting::{is_refused, run_of, run_with};
 use crate::streams::{Recorder, Source};
 use front_end::{BootWords, boot_of, read_files, read_input};
 use std::fs;
@@ -90,8 +90,9 @@ fn refused_input(rt: HostRuntime) -> Result<(), Fail> {
     for (input, status, told) in rows {
         let (out, err) = (Recorder::new(rt.alloc()), Recorder::new(rt.alloc()));
         let run = run_with(&rt, &["plain", "--", "/p"], input, out, err)?;
-        assert_eq!(rt; run.status, status, "{told}");
-        assert!(rt; is_line_of(&run, told), "{told}");
+        let refused = run.is_refusal(status, told);
+        drop(run);
+        assert!(rt; refused, "{told}");
     }
     Ok(())
 }
@@ -118,6 +119,14 @@ fn bytes_of_large_files(rt: HostRuntime) -> Result<(), Fail> {
     Ok(())
 }
 
+/// A run on these words ends with this status, and standard error begins so.
+fn begins(rt: &HostRuntime, words: &[&str], status: u8, told: &str) -> Result<bool, Fail> {
+    let run = run_of(rt, words)?;
+    let same = run.status == status && run.err.text().starts_with(told);
+    drop(run);
+    Ok(same)
+}
+
 /// A file may have 16,777,216 bytes; a larger one is the boot's to refuse, after its earlier faults.
 #[test]
 fn large_files(rt: HostRuntime) -> Result<(), Fail> {
@@ -137,9 +146,7 @@ fn large_files(rt: HostRuntime) -> Result<(), Fail> {
         ),
     ];
     for (words, status, told) in rows {
-        let run = run_of(&rt, words)?;
-        assert_eq!(rt; run.status, status, "{told}");
-        assert!(rt; run.err.text().starts_with(told), "{told}");
+        assert!(rt; begins(&rt, words, status, told)?, "{told}");
     }
     fs::remove_file(&rt, "most")?;
     Ok(())
@@ -148,9 +155,8 @@ fn large_files(rt: HostRuntime) -> Result<(), Fail> {
 #[test]
 fn listing_that_is_no_text(rt: HostRuntime) -> Result<(), Fail> {
     fs::write(&rt, "binary.s", [0xffu8].as_slice())?;
-    let run = run_of(&rt, &["asm", "binary.s", "unmade.elf"])?;
-    assert_eq!(rt; run.status, 2);
-    assert!(rt; is_line_of(&run, "guest_host: binary.s: not UTF-8"));
+    let words = ["asm", "binary.s", "unmade.elf"];
+    assert!(rt; is_refused(&rt, words.as_slice(), "guest_host: binary.s: not UTF-8")?);
     fs::remove_file(&rt, "binary.s")?;
     Ok(())
 }

@@ -1,7 +1,7 @@
 //! Runs of programs: their statuses, consoles and logs.
 
 use crate::guest::{HELLO, HELLO_LOG, TWO_WRITERS};
-use crate::hosting::run_of;
+use crate::hosting::{ends_as, run_of, shows};
 use guest_commands::status_of;
 use lx_abi::{Item, Mode};
 use std::fs;
@@ -109,13 +109,22 @@ fn runs_of_the_stored_guest(rt: HostRuntime) -> Result<(), Fail> {
         ),
     ];
     for (words, status, out, err) in rows {
-        let run = run_of(&rt, words)?;
-        assert_eq!(rt; run.status, status);
-        assert_eq!(rt; run.out.text(), out);
-        assert_eq!(rt; run.err.text(), err);
+        assert!(rt; ends_as(&rt, words, status, out, err)?, "{words:?}");
     }
     fs::remove_file(&rt, "hello.elf")?;
     Ok(())
+}
+
+/// The status of a run on these words, the lines of its log, and the bytes of its console.
+fn lengths_of(rt: &HostRuntime, words: &[&str]) -> Result<(u8, usize, usize), Fail> {
+    let run = run_of(rt, words)?;
+    let lengths = (
+        run.status,
+        run.err.text().lines().count(),
+        run.out.text().len(),
+    );
+    drop(run);
+    Ok(lengths)
 }
 
 /// The stub leaves Born in turn 1 and enters execve in turn 2, which is done in turn 4 and told of in turn 5. The
@@ -154,10 +163,11 @@ fn limits(rt: HostRuntime) -> Result<(), Fail> {
             "--",
             "/p",
         ];
-        let run = run_of(&rt, words.as_slice())?;
-        assert_eq!(rt; run.status, status, "{limit}");
-        assert_eq!(rt; run.err.text().lines().count(), lines, "{limit}");
-        assert_eq!(rt; run.out.text().len(), shown, "{limit}");
+        assert_eq!(rt;
+            lengths_of(&rt, words.as_slice())?,
+            (status, lines, shown),
+            "{limit}"
+        );
     }
     fs::remove_file(&rt, "limited.elf")?;
     Ok(())
@@ -195,9 +205,7 @@ fn children_are_tampered_with(rt: HostRuntime) -> Result<(), Fail> {
         &["plain", "-e", FAULT, "--file=/p=tampered.elf", "--", "/p"],
     ];
     for words in rows {
-        let run = run_of(&rt, words)?;
-        assert_eq!(rt; run.status, 0);
-        assert_eq!(rt; run.out.text(), "");
+        assert!(rt; shows(&rt, words, 0, "")?, "{words:?}");
     }
     fs::remove_file(&rt, "tampered.s")?;
     fs::remove_file(&rt, "tampered.elf")?;

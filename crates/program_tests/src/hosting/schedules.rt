@@ -1,25 +1,17 @@
 //! The order of turns, by words and without.
 
 use crate::guest::{HELLO, TWO_WRITERS};
-use crate::hosting::{is_line_of, run_of};
+use crate::hosting::{is_refused, run_of, shows, status_of};
 use std::alloc::Global;
 use std::fs;
 use std::test::Fail;
-
-/// The status of a run on these words.
-fn status_of(rt: &HostRuntime, words: &[&str]) -> Result<u8, Fail> {
-    Ok(run_of(rt, words)?.status)
-}
 
 /// A call that doesn't wait has five turns: Run, Entered, Doing, Acted and Finished are left by one each. Before those
 /// of execve one leaves Born. The default schedule lets each process come to its end.
 #[test]
 fn orders_of_writes(rt: HostRuntime) -> Result<(), Fail> {
     fs::write(&rt, "writers.s", TWO_WRITERS)?;
-    assert_eq!(rt;
-        run_of(&rt, &["asm", "writers.s", "writers.elf"])?.status,
-        0
-    );
+    assert_eq!(rt; status_of(&rt, &["asm", "writers.s", "writers.elf"])?, 0);
     let rows = [
         ("", "aabb"),
         ("1. 1. 1. 2. 1. 2.", "abab"),
@@ -44,9 +36,7 @@ fn orders_of_writes(rt: HostRuntime) -> Result<(), Fail> {
             "--",
             "/p",
         ];
-        let run = run_of(&rt, words.as_slice())?;
-        assert_eq!(rt; run.status, 0, "{text:?}");
-        assert_eq!(rt; run.out.text(), console, "{text:?}");
+        assert!(rt; shows(&rt, words.as_slice(), 0, console)?, "{text:?}");
     }
     for file in ["writers.s", "writers.elf", "writers.turns"] {
         fs::remove_file(&rt, file)?;
@@ -100,17 +90,17 @@ fn rows_of_turns(rt: HostRuntime) -> Result<(), Fail> {
         fs::write(&rt, "counting.s", counting(rt.alloc(), nops)?.as_str())?;
         fs::write(&rt, "counting.turns", text)?;
         assert_eq!(rt; status_of(&rt, &["asm", "counting.s", "counting.elf"])?, 0);
-        let run = run_of(
-            &rt,
-            &[
-                "plain",
-                "--turns=counting.turns",
-                "--file=/p=counting.elf",
-                "--",
-                "/p",
-            ],
-        )?;
-        assert_eq!(rt; run.out.text(), console, "{nops:?} {text:?}");
+        let words = [
+            "plain",
+            "--turns=counting.turns",
+            "--file=/p=counting.elf",
+            "--",
+            "/p",
+        ];
+        assert!(rt;
+            shows(&rt, words.as_slice(), 0, console)?,
+            "{nops:?} {text:?}"
+        );
     }
     for file in ["counting.s", "counting.elf", "counting.turns"] {
         fs::remove_file(&rt, file)?;
@@ -155,6 +145,14 @@ fn waiting_ends_a_row(rt: HostRuntime) -> Result<(), Fail> {
     Ok(())
 }
 
+/// The status of a run on these words, and the lines of its log.
+fn status_and_lines(rt: &HostRuntime, words: &[&str]) -> Result<(u8, usize), Fail> {
+    let run = run_of(rt, words)?;
+    let seen = (run.status, run.err.text().lines().count());
+    drop(run);
+    Ok(seen)
+}
+
 /// The limit counts turns, also those that nobody has, and no word s. The first line of the log comes with turn 2 of
 /// process 1, the second with turn 5, the third with turn 12.
 #[test]
@@ -183,9 +181,11 @@ fn limits_of_words(rt: HostRuntime) -> Result<(), Fail> {
             "--",
             "/p",
         ];
-        let run = run_of(&rt, words.as_slice())?;
-        assert_eq!(rt; run.status, 4, "{text:?} {limit}");
-        assert_eq!(rt; run.err.text().lines().count(), lines, "{text:?} {limit}");
+        assert_eq!(rt;
+            status_and_lines(&rt, words.as_slice())?,
+            (4, lines),
+            "{text:?} {limit}"
+        );
     }
     fs::remove_file(&rt, "counted.elf")?;
     fs::remove_file(&rt, "counted.turns")?;
@@ -208,10 +208,8 @@ fn refused_schedules(rt: HostRuntime) -> Result<(), Fail> {
     ];
     for (text, told) in rows {
         fs::write(&rt, "bad.turns", text)?;
-        let run = run_of(&rt, &["plain", "--turns", "bad.turns", "--", "/p"])?;
-        assert_eq!(rt; run.status, 2, "{told}");
-        assert_eq!(rt; run.out.text(), "", "{told}");
-        assert!(rt; is_line_of(&run, told), "{told}");
+        let words = ["plain", "--turns", "bad.turns", "--", "/p"];
+        assert!(rt; is_refused(&rt, words.as_slice(), told)?, "{told}");
     }
     fs::remove_file(&rt, "bad.turns")?;
     Ok(())

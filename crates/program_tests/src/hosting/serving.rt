@@ -32,9 +32,9 @@ fn ends_and_faults(rt: HostRuntime) -> Result<(), Fail> {
         };
         let (out, err) = (Recorder::new(rt.alloc()), Recorder::new(rt.alloc()));
         let run = run_with(&rt, &["serve"], input, out, err)?;
-        assert_eq!(rt; run.status, status, "after {count} bytes");
-        assert_eq!(rt; run.out.text(), "");
-        assert_eq!(rt; run.err.text(), told);
+        let same = run.is(status, "", told);
+        drop(run);
+        assert!(rt; same, "after {count} bytes");
     }
     Ok(())
 }
@@ -79,7 +79,11 @@ fn serve(rt: &HostRuntime, requests: &[u8]) -> Result<(u8, usize, usize), Fail> 
     let (mut out, mut err) = (Recorder::new(rt.alloc()), Recorder::new(rt.alloc()));
     let words = words_of(rt, &["serve"])?;
     let status = command(rt, words.as_slice(), &mut input, &mut out, &mut err);
-    Ok((status, input.reads, out.ends.len()))
+    let seen = (status, input.reads, out.ends.len());
+    drop(words);
+    drop(out);
+    drop(err);
+    Ok(seen)
 }
 
 /// A request is one read, and a reply one write; the last read finds the end.

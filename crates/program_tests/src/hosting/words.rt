@@ -1,7 +1,7 @@
 //! Which words are taken, and what is told of others.
 
 use crate::guest::HELLO;
-use crate::hosting::{is_line_of, run_of};
+use crate::hosting::{is_refused, run_of, shows};
 use front_end::{Escaped, Shown};
 use std::fs;
 use std::test::Fail;
@@ -80,10 +80,7 @@ fn refused_words(rt: HostRuntime) -> Result<(), Fail> {
     ];
     for (words, told) in rows {
         let line = format!(in rt.alloc(); "guest_host: {told}")?;
-        let run = run_of(&rt, words)?;
-        assert_eq!(rt; run.status, 2, "{told}");
-        assert_eq!(rt; run.out.text(), "", "{told}");
-        assert!(rt; is_line_of(&run, line.as_str()), "{told}");
+        assert!(rt; is_refused(&rt, words, line.as_str())?, "{told}");
     }
     Ok(())
 }
@@ -95,10 +92,9 @@ fn long_words(rt: HostRuntime) -> Result<(), Fail> {
     let cut = "long/".repeat(rt.alloc(), 40)?;
     let file = format!(in rt.alloc(); "guest_host: --file {cut}...: no = between ")?;
     let option = format!(in rt.alloc(); "guest_host: unexpected argument '{cut}...' found")?;
-    let run = run_of(&rt, &["plain", "--file", long.as_str(), "--", "/p"])?;
-    assert!(rt; is_line_of(&run, file.as_str()));
-    let run = run_of(&rt, &["plain", long.as_str()])?;
-    assert!(rt; is_line_of(&run, option.as_str()));
+    let words = ["plain", "--file", long.as_str(), "--", "/p"];
+    assert!(rt; is_refused(&rt, words.as_slice(), file.as_str())?);
+    assert!(rt; is_refused(&rt, &["plain", long.as_str()], option.as_str())?);
     Ok(())
 }
 
@@ -126,6 +122,16 @@ fn shown_words(rt: HostRuntime) -> Result<(), Fail> {
     let cut = format!(in rt.alloc(); "{wide}...")?;
     assert_eq!(rt; format!(in rt.alloc(); "{}", Escaped(line.as_str()))?, cut);
     Ok(())
+}
+
+/// A run on these words ends with status 0, and writes a text with these parts to standard output alone.
+fn tells(rt: &HostRuntime, words: &[&str], parts: &[&str]) -> Result<bool, Fail> {
+    let run = run_of(rt, words)?;
+    let told = run.status == 0
+        && run.err.text().is_empty()
+        && parts.iter().all(|part| run.out.text().contains(*part));
+    drop(run);
+    Ok(told)
 }
 
 /// Each help names what the command takes.
@@ -162,12 +168,7 @@ fn helps(rt: HostRuntime) -> Result<(), Fail> {
         ),
     ];
     for (words, parts) in rows {
-        let run = run_of(&rt, words)?;
-        assert_eq!(rt; run.status, 0);
-        assert_eq!(rt; run.err.text(), "");
-        for part in parts.iter().copied() {
-            assert!(rt; run.out.text().contains(part), "{part}");
-        }
+        assert!(rt; tells(&rt, words, parts)?, "{words:?}");
     }
     Ok(())
 }
@@ -176,21 +177,17 @@ fn helps(rt: HostRuntime) -> Result<(), Fail> {
 #[test]
 fn words_of_the_program(rt: HostRuntime) -> Result<(), Fail> {
     fs::write(&rt, "named.elf", HELLO.as_slice())?;
-    let run = run_of(
-        &rt,
-        &[
-            "plain",
-            "--file",
-            "/p=named.elf",
-            "--",
-            "/p",
-            "--limit",
-            "+5",
-            "--",
-        ],
-    )?;
-    assert_eq!(rt; run.status, 0);
-    assert_eq!(rt; run.out.text(), "hi\n");
+    let words = [
+        "plain",
+        "--file",
+        "/p=named.elf",
+        "--",
+        "/p",
+        "--limit",
+        "+5",
+        "--",
+    ];
+    assert!(rt; shows(&rt, words.as_slice(), 0, "hi\n")?);
     fs::remove_file(&rt, "named.elf")?;
     Ok(())
 }

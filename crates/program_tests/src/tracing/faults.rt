@@ -3,6 +3,18 @@
 use crate::tracing::run_of;
 use std::test::Fail;
 
+/// A run on these words ends with this status, writes one line that begins so to standard error, and nothing else.
+fn is_refused(rt: &HostRuntime, words: &[&str], status: u8, start: &str) -> Result<bool, Fail> {
+    let run = run_of(rt, words)?;
+    let told = run.err.text();
+    let refused = run.status == status
+        && run.out.text().is_empty()
+        && told.starts_with(start)
+        && told.lines().count() == 1;
+    drop(run);
+    Ok(refused)
+}
+
 /// Each ends with this status, one line on standard error that begins so, and nothing on standard output.
 #[test]
 fn refused_traces(rt: HostRuntime) -> Result<(), Fail> {
@@ -89,11 +101,7 @@ fn refused_traces(rt: HostRuntime) -> Result<(), Fail> {
         ),
     ];
     for (words, status, start) in rows {
-        let run = run_of(&rt, words)?;
-        assert_eq!(rt; run.status, status);
-        assert!(rt; run.err.text().starts_with(start));
-        assert_eq!(rt; run.err.text().lines().count(), 1usize);
-        assert!(rt; run.out.text().is_empty());
+        assert!(rt; is_refused(&rt, words, status, start)?, "{start}");
     }
     Ok(())
 }
