@@ -24,9 +24,9 @@ fn is_alive(kernel: &Kernel) -> bool {
     })
 }
 
-/// Process 1's exit code, or 128 and the signal that ended it.
+/// Process 1's exit code, or 128 and the signal that ended it; a process ends once, mostly late in the log.
 pub fn status_of(log: &[Item]) -> u8 {
-    for item in log {
+    for item in log.iter().rev() {
         if let Item::Exit { pid: 1, word, .. } = item {
             return if word % 128 == 0 {
                 (word / 256 % 256) as u8
@@ -59,8 +59,8 @@ fn turn<E: Write>(kernel: &mut Kernel, pid: u32, log: &mut Log<E>) -> Result<Opt
     let Ok(moved) = kernel.turn(pid) else {
         return Err(Fault::Memory);
     };
-    match moved.item {
-        Some(item) => log.print(&item)?,
+    match &moved.item {
+        Some(item) => log.print(item)?,
         None => log.wait(1)?,
     }
     Ok(moved.after)
@@ -195,9 +195,11 @@ fn run_plan<O: Write, E: Write>(
 ) -> Result<u8, Fault> {
     let ended = log_turns(alloc, &mut plan, err);
     let shown = write_console(&plan.kernel, out);
+    let status = status(&plan.kernel);
+    drop(plan);
     ended?;
     shown?;
-    Ok(status(&plan.kernel))
+    Ok(status)
 }
 
 /// Runs the program that the words name.
