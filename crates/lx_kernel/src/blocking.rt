@@ -15,7 +15,8 @@ use lx_proc::{Body, Shared};
 
 /// The call would block, unless something interrupts it.
 fn waits(shared: &Shared, pid: u32, call: &Call, body: &Body) -> bool
-    ensures { result ≡ (file_would_block shared.now pid call.now body.now || process_would_block shared.now pid call.now) }
+    ensures { result
+        ≡ (file_would_block shared.now pid call.now body.now || process_would_block shared.now pid call.now) }
 {
     lx_fcalls::would_block(shared, pid, call, body) || lx_pcalls::would_block(shared, pid, call)
 }

@@ -71,7 +71,8 @@ fn run_own(own: &mut Own<Body>, decoder: &mut Decoder, limit: u64) -> Result<u64
 
 /// No signal comes before the next instruction of the process.
 fn is_undisturbed(shared: &Shared, pid: u32) -> bool
-    ensures { result ≡ (not (is_killed_at (maps.get shared.now.entries pid)) && not (is_some (next_of (maps.get shared.now.entries pid)))) }
+    ensures { result ≡ (not (is_killed_at (maps.get shared.now.entries pid)) && not (is_some (next_of
+        (maps.get shared.now.entries pid)))) }
 {
     !is_killed(shared, pid) && next(shared, pid).is_none()
 }
@@ -84,7 +85,8 @@ pub fn run(
     pid: u32,
     limit: u64,
 ) -> Result<u64, AllocError>
-    ensures { IfOk result (λ n. (k : KernelRun) → k.running.shared ≡ shared.now → k.running.owns ≡ owns.old → Burst k pid limit n (with_owns k owns.new)) }
+    ensures { IfOk result (λ n. (k : KernelRun) → k.running.shared ≡ shared.now → k.running.owns
+        ≡ owns.old → Burst k pid limit n (with_owns k owns.new)) }
 {
     if !is_undisturbed(shared, pid) {
         return Ok(0);

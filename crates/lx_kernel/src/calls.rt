@@ -19,7 +19,8 @@ fn reply_to(
     call: &Call,
     body: &mut Body,
 ) -> Result<Reply, AllocError>
-    ensures answer { IfOk result (λ r. answer_of r shared.new body.new ≡ called shared.old child pid call.now body.old) }
+    ensures answer { IfOk result (λ r. answer_of r shared.new body.new
+        ≡ called shared.old child pid call.now body.old) }
     ensures kept { IfOk result (λ r. Kept r shared.old body.old shared.new body.new) }
     ensures console { OnErr result (shared.new.console ≡ shared.old.console) }
 {
@@ -42,7 +43,8 @@ pub fn does(
     call: &Call,
     body: &mut Body,
 ) -> Result<Reply, AllocError>
-    ensures answer { IfOk result (λ r. answer_of r shared.new body.new ≡ meaning shared.old child pid call.now body.old) }
+    ensures answer { IfOk result (λ r. answer_of r shared.new body.new
+        ≡ meaning shared.old child pid call.now body.old) }
     ensures kept { IfOk result (λ r. Kept r shared.old body.old shared.new body.new) }
     ensures console { OnErr result (shared.new.console ≡ shared.old.console) }
 {

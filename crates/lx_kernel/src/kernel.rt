@@ -1,6 +1,7 @@
 //! The kernel: one turn of one process at a time.
 
-ghost use Rattle.std.specs.Prelude.{◌≡◌, ◌↔◌, ◌++◌, ◌+◌, [], None, true, false, not, is_some, if◌then◌else◌, IfOk, OnOk, OnErr, IsOk, IsErr, IsOkAnd, IsSome, IsTrue, ℕ};
+ghost use Rattle.std.specs.Prelude.{◌≡◌, ◌↔◌, ◌++◌, ◌+◌, [], None, true, false, not, is_some};
+ghost use Rattle.std.specs.Prelude.{if◌then◌else◌, IfOk, OnOk, OnErr, IsOk, IsErr, IsOkAnd, IsSome, IsTrue, ℕ};
 ghost use Rattle.std.specs.FinMap as maps;
 ghost use Rattle.lx_model.specs.Finite.{at, item_of};
 ghost use Rattle.lx_model.specs.Deeds.{deed_of};
@@ -9,12 +10,14 @@ ghost use Rattle.lx_model.specs.Turn.{turn};
 ghost use Rattle.lx_model.specs.declared.stage.Own.TheVariants.{Alive, Dying, Gone};
 ghost use Rattle.lx_model.specs.declared.stage.Stage.TheVariants.{Born};
 ghost use Rattle.lx_kernel.specs.Linux.{linux};
-ghost use Rattle.lx_kernel.specs.Turned.{turned, turned_by, event_of, is_gone, owns_with, without_gone, next_child, IsLeft, IsBirth};
+ghost use Rattle.lx_kernel.specs.Turned.{turned, turned_by, event_of, is_gone, owns_with};
+ghost use Rattle.lx_kernel.specs.Turned.{without_gone, next_child, IsLeft, IsBirth};
 ghost use Rattle.lx_kernel.specs.Turns.{Turns};
 ghost use Rattle.lx_kernel.specs.Outcomes.{outcome_in};
 ghost use Rattle.lx_kernel.specs.Tampering.{choice_of_call, choice_of_own};
 ghost use Rattle.lx_kernel.specs.Bursts.{Burst};
-ghost use Rattle.lx_kernel.specs.Tracing.{own_in, regs_of, peek_of, signal_of, with_regs, with_joined, with_dropped, with_part};
+ghost use Rattle.lx_kernel.specs.Tracing.{own_in, regs_of, peek_of, signal_of};
+ghost use Rattle.lx_kernel.specs.Tracing.{with_regs, with_joined, with_dropped, with_part};
 ghost use Rattle.lx_proc.specs.declared.state.Body.{Body};
 ghost use Rattle.lx_kernel.specs.Scheduling.{IsNextOf};
 ghost use Rattle.lx_kernel.specs.Runs.{turn_in, after_turn, is_able_in, mode_in, own_mode as own_mode_of, life_mode};
@@ -98,7 +101,9 @@ fn turn_alive(
     item: &mut Option<Item>,
 ) -> Result<Went, AllocError>
     requires { item.old ≡ None }
-    ensures turned { IfOk result (λ w. turned (turn linux (choice_of_call tampering.now pid body.old) shared.old child pid (Alive body.old stage.old)) ≡ turned_by w shared.new body.new pid stage.old stage.new item.new) }
+    ensures turned { IfOk result (λ w. turned (turn linux
+        (choice_of_call tampering.now pid body.old) shared.old child pid (Alive body.old stage.old))
+        ≡ turned_by w shared.new body.new pid stage.old stage.new item.new) }
     ensures console { OnErr result (shared.new.console ≡ shared.old.console) }
 {
     if is_killed(shared, pid) {
@@ -135,7 +140,9 @@ fn turn_own(
     item: &mut Option<Item>,
 ) -> Result<Transition, AllocError>
     requires { item.old ≡ None }
-    ensures turned { IfOk result (λ t. turned (turn linux (choice_of_own tampering.now pid own.old) shared.old child pid own.old) ≡ record { shared = shared.new; own = own.new; item = item.new; event = event_of t.done }) }
+    ensures turned { IfOk result (λ t. turned (turn linux
+        (choice_of_own tampering.now pid own.old) shared.old child pid own.old) ≡
+        record { shared = shared.new; own = own.new; item = item.new; event = event_of t.done }) }
     ensures before { IfOk result (λ t. t.before ≡ own_mode_of (maps.get shared.old.entries pid) own.old) }
     ensures after { IfOk result (λ t. t.after ≡ own_mode_of (maps.get shared.new.entries pid) own.new) }
     ensures gone { IfOk result (λ t. t.gone ≡ is_gone own.new) }
@@ -205,8 +212,11 @@ fn turn_at(
     item: &mut Option<Item>,
 ) -> Result<Transition, AllocError>
     requires { item.old ≡ None }
-    ensures turns { IfOk result (λ t. Turns (turned (turn linux (choice_of_own tampering.now pid (at Gone owns.old pid)) shared.old child pid (at Gone owns.old pid))) owns.old pid item.new t.done shared.new owns.new) }
-    ensures before { IfOk result (λ t. t.before ≡ own_mode_of (maps.get shared.old.entries pid) (at Gone owns.old pid)) }
+    ensures turns { IfOk result (λ t. Turns (turned (turn linux (choice_of_own tampering.now pid
+        (at Gone owns.old pid)) shared.old child pid
+        (at Gone owns.old pid))) owns.old pid item.new t.done shared.new owns.new) }
+    ensures before { IfOk result (λ t. t.before
+        ≡ own_mode_of (maps.get shared.old.entries pid) (at Gone owns.old pid)) }
     ensures after { IfOk result (λ t. t.after ≡ own_mode_of (maps.get shared.new.entries pid) (at Gone owns.new pid)) }
     ensures absent { at Gone owns.old pid ≡ Gone → IsOkAnd result (λ t. (item.new ≡ None) × (event_of t.done ≡ Plain)) }
     ensures console { OnErr result (shared.new.console ≡ shared.old.console) }
@@ -324,7 +334,8 @@ fn mode_after(
 
 /// Counts an entry into a call.
 fn count_item(occurrences: &mut Occurrences, item: &Item) -> Result<(), AllocError>
-    ensures { OnOk result ((p n : ℕ) → count_of occurrences.new p n ≡ (if is_entry p n item.now then 1 else 0) + count_of occurrences.old p n) }
+    ensures { OnOk result ((p n : ℕ) → count_of occurrences.new p n
+        ≡ (if is_entry p n item.now then 1 else 0) + count_of occurrences.old p n) }
 {
     match item {
         Item::Enter { pid, call } => occurrences.count(*pid, call.number),
@@ -362,7 +373,13 @@ impl Kernel {
         script: Script,
         follow: bool,
     ) -> Self
-        ensures { result ≡ record { running = record { shared = shared; owns = owns; child = 2; log = [] }; script = script; follow = follow; failed = false } }
+        ensures { result ≡ record {
+          running =
+              record { shared = shared; owns = owns; child = 2; log = [] };
+          script = script;
+          follow = follow;
+          failed = false;
+        } }
     {
         Kernel {
             alloc,

@@ -3,7 +3,8 @@
 ghost use Rattle.lx_model.specs.Machine.{IsMachine};
 ghost use Rattle.lx_kernel.specs.Fitting.{CallsFit, TakesFit};
 ghost use Rattle.lx_kernel.specs.Linux.{linux};
-ghost use Rattle.lx_kernel.specs.Laws.{BootsAreFirst, TurnsAreSteps, BootsRunAlike, TurnsLogWords, BootsLogWords, KernelsLogWords};
+ghost use Rattle.lx_kernel.specs.Laws.{BootsAreFirst, TurnsAreSteps, BootsRunAlike};
+ghost use Rattle.lx_kernel.specs.Laws.{TurnsLogWords, BootsLogWords, KernelsLogWords};
 
 use lx_model::laws::kernels_run_alike;
 use lx_proc::{Body, Shared};

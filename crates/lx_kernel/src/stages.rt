@@ -72,7 +72,8 @@ fn step_on(
 ) -> Result<(), AllocError>
     requires in_run { stage.old ≡ stages.Run }
     requires nothing { item.old ≡ None }
-    ensures { OnOk result ((s : Shared) → turned (stepped linux s pid body.old (stepped_by body.old)) ≡ goes_on s body.new stage.new item.new) }
+    ensures { OnOk result ((s : Shared) → turned (stepped linux s pid body.old (stepped_by body.old))
+        ≡ goes_on s body.new stage.new item.new) }
 {
     match step(&mut body.hart, &mut body.memory)? {
         Step::Ran => Ok(()),
@@ -103,7 +104,8 @@ fn resume(
 ) -> Result<(), AllocError>
     requires in_run { stage.old ≡ stages.Run }
     requires nothing { item.old ≡ None }
-    ensures { OnOk result ((s : Shared) → turned (stepped linux s pid body.old (resumed body.old body.old.interrupted)) ≡ goes_on s body.new stage.new item.new) }
+    ensures { OnOk result ((s : Shared) → turned (stepped linux s pid body.old (resumed body.old body.old.interrupted))
+        ≡ goes_on s body.new stage.new item.new) }
 {
     match body.interrupted {
         Some(at) => {
@@ -124,7 +126,8 @@ fn run(
 ) -> Result<(), AllocError>
     requires in_run { stage.old ≡ stages.Run }
     requires nothing { item.old ≡ None }
-    ensures turned { OnOk result (turned (stepped linux shared.old pid body.old (runs shared.old pid body.old (next_of (maps.get shared.old.entries pid)))) ≡ goes_on shared.new body.new stage.new item.new) }
+    ensures turned { OnOk result (turned (stepped linux shared.old pid body.old (runs shared.old pid body.old (next_of
+        (maps.get shared.old.entries pid)))) ≡ goes_on shared.new body.new stage.new item.new) }
     ensures console { OnErr result (shared.new.console ≡ shared.old.console) }
 {
     match signals::next(shared, pid) {
@@ -196,7 +199,9 @@ fn do_call(
     call: Call,
 ) -> Result<Went, AllocError>
     requires { stage.old ≡ stages.Doing call }
-    ensures turned { IfOk result (λ w. turned (answered linux shared.old child pid body.old call (meaning shared.old child pid call body.old)) ≡ turned_by w shared.new body.new pid (stages.Doing call) stage.new None) }
+    ensures turned { IfOk result (λ w. turned (answered linux shared.old child pid body.old call
+        (meaning shared.old child pid call body.old)) ≡ turned_by w shared.new body.new pid
+        (stages.Doing call) stage.new None) }
     ensures console { OnErr result (shared.new.console ≡ shared.old.console) }
 {
     match does(alloc, shared, child, pid, &call, body)? {
@@ -222,7 +227,9 @@ fn react(
     signal: Signal,
     cause: Cause,
 ) -> Result<Went, AllocError>
-    ensures turned { IfOk result (λ w. turned (took linux shared.old pid signal cause (takes shared.old pid body.old signal cause)) ≡ turned_by w shared.new body.new pid (stages.Taken signal cause) stage.new None) }
+    ensures turned { IfOk result (λ w. turned (took linux shared.old pid signal cause
+        (takes shared.old pid body.old signal cause)) ≡ turned_by w shared.new body.new pid
+        (stages.Taken signal cause) stage.new None) }
     ensures console { OnErr result (shared.new.console ≡ shared.old.console) }
 {
     match take(shared, pid, body, signal, cause)? {
@@ -246,7 +253,9 @@ pub fn go(
     item: &mut Option<Item>,
 ) -> Result<Went, AllocError>
     requires { item.old ≡ None }
-    ensures turned { IfOk result (λ w. turned (lives linux (choice_of_call tampering.now pid body.old) shared.old child pid body.old stage.old) ≡ turned_by w shared.new body.new pid stage.old stage.new item.new) }
+    ensures turned { IfOk result (λ w. turned (lives linux
+        (choice_of_call tampering.now pid body.old) shared.old child pid body.old stage.old)
+        ≡ turned_by w shared.new body.new pid stage.old stage.new item.new) }
     ensures console { OnErr result (shared.new.console ≡ shared.old.console) }
 {
     match *stage {

@@ -3,7 +3,8 @@
 ghost use Rattle.std.specs.Prelude.{◌≡◌, IfOk, is_some};
 ghost use Rattle.lx_model.specs.Finite.{at};
 ghost use Rattle.lx_model.specs.declared.stage.Own.TheVariants.{Gone};
-ghost use Rattle.lx_kernel.specs.Tracing.{regs_of, peek_of, signal_of, with_regs, with_joined, with_dropped, with_part_at, IsPart, joining, dropping};
+ghost use Rattle.lx_kernel.specs.Tracing.{regs_of, peek_of, signal_of, with_regs, with_joined};
+ghost use Rattle.lx_kernel.specs.Tracing.{with_dropped, with_part_at, IsPart, joining, dropping};
 
 use containers::{Bytes, Map};
 use lx_abi::{Cause, RegisterSet, Registers, Signal};
