@@ -5,6 +5,7 @@ mod asm;
 mod entry;
 mod expressions;
 mod fault;
+mod line;
 mod log;
 mod plain;
 mod plan;

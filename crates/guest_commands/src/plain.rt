@@ -56,7 +56,8 @@ struct Passed {
 
 /// One turn of a process, whose item is printed: where it stands after it.
 fn turn<E: Write>(kernel: &mut Kernel, pid: u32, log: &mut Log<E>) -> Result<Option<Mode>, Fault> {
-    let Ok(moved) = kernel.turn(pid) else {
+    let turned = kernel.turn(pid);
+    let Ok(moved) = &turned else {
         return Err(Fault::Memory);
     };
     match &moved.item {
@@ -106,8 +107,8 @@ fn turns_from<E: Write>(
     })
 }
 
-/// A process that stands so can have the next turn of its row: it is able, and no call of it is finished. Only a call can
-/// wait.
+/// A process that stands so can have the next turn of its row: it is able, and no call of it is finished. Only a call
+/// can wait.
 fn goes_on(kernel: &Kernel, pid: u32, mode: Option<Mode>) -> bool {
     match mode {
         None | Some(Mode::Zombie) | Some(Mode::Finished) => false,

@@ -7,6 +7,7 @@ use lx_abi::Outcome;
 use std::alloc::Global;
 use std::io::{BufReader, Read, Write};
 
+/// The same with both ends counted, until the end of input or a fault.
 fn serve_over<I: Read, O: Write>(
     alloc: Global,
     input: &mut I,

@@ -1,0 +1,106 @@
+//! A line of the log of calls.
+
+use itoa::{Buffer, Integer};
+use lx_abi::{Call, Item};
+
+/// The most bytes of a line; none takes more than 148.
+pub const LONGEST_LINE: usize = 256;
+
+const DIGITS: &[u8; 16] = b"0123456789abcdef";
+
+/// The line of an item. It is made in a place of its own: by `write!`, or piece by piece in a `Vec`, it would take as long
+/// as the turns of its call.
+#[derive(Drop)]
+pub struct Line {
+    bytes: [u8; LONGEST_LINE],
+    length: u8,
+}
+
+impl Line {
+    /// `E pid number a0 .. a5`, `D pid result`, `S pid signal` or `X pid word`, and a line feed.
+    pub fn of(item: &Item) -> Self {
+        let mut line = Line {
+            bytes: [0; LONGEST_LINE],
+            length: 0,
+        };
+        line.push_item(item);
+        line.push(b'\n');
+        line
+    }
+
+    pub fn as_bytes(&self) -> &[u8] {
+        &self.bytes[..usize::from(self.length)]
+    }
+
+    fn push(&mut self, byte: u8) {
+        self.bytes[usize::from(self.length)] = byte;
+        self.length = self.length.wrapping_add(1);
+    }
+
+    fn push_text(&mut self, text: &[u8]) {
+        for byte in text {
+            self.push(*byte);
+        }
+    }
+
+    /// Adds a number in decimal digits.
+    fn push_decimal<N: Integer>(&mut self, number: N) {
+        let mut buffer = Buffer::new();
+        self.push_text(buffer.format(number).as_bytes());
+    }
+
+    /// Adds a number in hexadecimal digits.
+    fn push_hexadecimal(&mut self, number: u64) {
+        self.push_text(b"0x");
+        let digits = 16 - (number | 1).leading_zeros() / 4;
+        for place in 0..digits {
+            let digit = number >> (4 * (digits - 1 - place)) & 15;
+            self.push(DIGITS[digit as usize]);
+        }
+    }
+
+    /// Adds a letter and a pid.
+    fn push_head(&mut self, letter: u8, pid: u32) {
+        self.push(letter);
+        self.push(b' ');
+        self.push_decimal(pid);
+        self.push(b' ');
+    }
+
+    fn push_entry(&mut self, pid: u32, call: &Call) {
+        self.push_head(b'E', pid);
+        self.push_decimal(call.number);
+        for argument in &call.arguments {
+            self.push(b' ');
+            self.push_hexadecimal(*argument);
+        }
+    }
+
+    fn push_result(&mut self, pid: u32, value: i64, replaced: bool) {
+        self.push_head(b'D', pid);
+        self.push_decimal(value);
+        if replaced {
+            self.push_text(b" r");
+        }
+    }
+
+    fn push_item(&mut self, item: &Item) {
+        match item {
+            Item::Enter { pid, call } => self.push_entry(*pid, call),
+            Item::Done {
+                pid,
+                result,
+                replaced,
+                ..
+            } => self.push_result(*pid, result.cast_signed(), *replaced),
+            Item::Taken { pid, signal, .. } => {
+                self.push_head(b'S', *pid);
+                self.push_decimal(signal.number);
+            }
+            Item::Exit { pid, word, .. } => {
+                self.push_head(b'X', *pid);
+                self.push_decimal(*word);
+            }
+        }
+    }
+}
