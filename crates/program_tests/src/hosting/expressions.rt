@@ -3,6 +3,14 @@
 use crate::hosting::ends_as;
 use std::test::Fail;
 
+/// An expression is refused with status 2, by one line that tells this of it.
+fn is_refused_as(rt: &HostRuntime, text: &str, told: &str) -> Result<bool, Fail> {
+    let line = format!(in rt.alloc(); "guest_host: -e {told}\n")?;
+    let refused = ends_as(rt, &["plain", "-e", text, "--", "/p"], 2, "", line.as_str())?;
+    drop(line);
+    Ok(refused)
+}
+
 /// What isn't there yet is told as such.
 #[test]
 fn refused_expressions(rt: HostRuntime) -> Result<(), Fail> {
@@ -38,12 +46,7 @@ fn refused_expressions(rt: HostRuntime) -> Result<(), Fail> {
         ),
     ];
     for (text, told) in rows {
-        let line = format!(in rt.alloc(); "guest_host: -e {told}\n")?;
-        let words = ["plain", "-e", text, "--", "/p"];
-        assert!(rt;
-            ends_as(&rt, words.as_slice(), 2, "", line.as_str())?,
-            "{text}"
-        );
+        assert!(rt; is_refused_as(&rt, text, told)?, "{text}");
     }
     Ok(())
 }

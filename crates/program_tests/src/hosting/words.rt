@@ -3,6 +3,7 @@
 use crate::guest::HELLO;
 use crate::hosting::{is_refused, run_of, shows};
 use front_end::{Escaped, Shown};
+use std::alloc::{AllocError, Global};
 use std::fs;
 use std::test::Fail;
 
@@ -98,6 +99,11 @@ fn long_words(rt: HostRuntime) -> Result<(), Fail> {
     Ok(())
 }
 
+/// A word as it is shown.
+fn shown(alloc: Global, word: &str) -> Result<String, AllocError> {
+    format!(in alloc; "{}", Shown(word))
+}
+
 #[test]
 fn shown_words(rt: HostRuntime) -> Result<(), Fail> {
     let rows = [
@@ -108,19 +114,35 @@ fn shown_words(rt: HostRuntime) -> Result<(), Fail> {
         ("größer", "größer"),
         ("back\\slash 'quote'", "back\\slash 'quote'"),
     ];
-    for (word, shown) in rows {
-        assert_eq!(rt; format!(in rt.alloc(); "{}", Shown(word))?.as_str(), shown);
+    for (word, want) in rows {
+        assert_eq!(rt; shown(rt.alloc(), word)?.as_str(), want);
     }
-    let most = "x".repeat(rt.alloc(), 200)?;
-    let more = "x".repeat(rt.alloc(), 201)?;
-    let wide = "x".repeat(rt.alloc(), 199)?;
-    assert_eq!(rt; format!(in rt.alloc(); "{}", Escaped(most.as_str()))?, most);
-    let cut = format!(in rt.alloc(); "{most}...")?;
-    assert_eq!(rt; format!(in rt.alloc(); "{}", Escaped(more.as_str()))?, cut);
-    // A character that doesn't fit whole is left out.
-    let line = format!(in rt.alloc(); "{wide}\n")?;
-    let cut = format!(in rt.alloc(); "{wide}...")?;
-    assert_eq!(rt; format!(in rt.alloc(); "{}", Escaped(line.as_str()))?, cut);
+    Ok(())
+}
+
+/// So many times `x`, and a text behind them.
+fn long_text(alloc: Global, count: usize, end: &str) -> Result<String, AllocError> {
+    let many = "x".repeat(alloc, count)?;
+    format!(in alloc; "{many}{end}")
+}
+
+/// A text as it is escaped.
+fn escaped(alloc: Global, text: &str) -> Result<String, AllocError> {
+    format!(in alloc; "{}", Escaped(text))
+}
+
+/// A text is cut behind 200 bytes, and a character that doesn't fit whole is left out.
+#[test]
+fn cut_words(rt: HostRuntime) -> Result<(), Fail> {
+    for (count, end, kept, told) in [
+        (200, "", 200, ""),
+        (201, "", 200, "..."),
+        (199, "\n", 199, "..."),
+    ] {
+        let text = long_text(rt.alloc(), count, end)?;
+        let want = long_text(rt.alloc(), kept, told)?;
+        assert_eq!(rt; escaped(rt.alloc(), text.as_str())?, want);
+    }
     Ok(())
 }
 
