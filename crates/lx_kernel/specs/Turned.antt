@@ -38,7 +38,12 @@ event_of (effect.Bore newborn) = Forked newborn.value
 
 -- the end of a process that leaves a stage
 abbrev pub ended : Shared → ℕ → ℕ → Stage → Turned
-ended s p w stage = record { shared = end.dies s p w; own = Dying w; item = Some (item.Exit p w (stage_mode stage)); event = Plain }
+ended s p w stage = record {
+  shared = end.dies s p w;
+  own = Dying w;
+  item = Some (item.Exit p w (stage_mode stage));
+  event = Plain;
+}
 
 -- the process goes on as it stands now, and nothing was done beside
 abbrev pub goes_on : Shared → Body → Stage → Option Item → Turned
@@ -46,7 +51,12 @@ goes_on s b next item = record { shared = s; own = Alive b next; item = item; ev
 
 -- what the turn of a stage comes to, which leaves this stage and this item
 abbrev pub turned_by : Went → Shared → Body → ℕ → Stage → Stage → Option Item → Turned
-turned_by (On done) s b p stage next item = record { shared = s; own = Alive b next; item = item; event = event_of done }
+turned_by (On done) s b p stage next item = record {
+  shared = s;
+  own = Alive b next;
+  item = item;
+  event = event_of done;
+}
 turned_by (Ended w) s b p stage next item = ended s p w stage
 
 abbrev pub is_gone : Own Body → Bool

@@ -11,7 +11,8 @@ use Rattle.lx_kernel.specs.Turned.{Turned, event_of}
 use Rattle.lx_kernel.specs.declared.effects.Effect.{Effect}
 
 -- the turn's parts are in their places
-pub record Turns (t : Turned) (owns : FinMap nat_cmp (Own Body)) (pid : ℕ) (item' : Option Item) (done : Effect) (shared' : Shared) (owns' : FinMap nat_cmp (Own Body)) : Type 0 where
+pub record Turns (t : Turned) (owns : FinMap nat_cmp (Own Body)) (pid : ℕ) (item' : Option Item)
+    (done : Effect) (shared' : Shared) (owns' : FinMap nat_cmp (Own Body)) : Type 0 where
   pub shared_is : t.shared ≡ shared'
   pub owns_is : placed owns pid t.own ≡ owns'
   pub item_is : t.item ≡ item'
