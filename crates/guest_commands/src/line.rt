@@ -8,8 +8,8 @@ pub const LONGEST_LINE: usize = 256;
 
 const DIGITS: &[u8; 16] = b"0123456789abcdef";
 
-/// The line of an item. It is made in a place of its own: by `write!`, or piece by piece in a `Vec`, it would take as long
-/// as the turns of its call.
+/// The line of an item. It is made in a place of its own: by `write!`, or piece by piece in a `Vec`, it would take as
+/// long as the turns of its call.
 #[derive(Drop)]
 pub struct Line {
     bytes: [u8; LONGEST_LINE],
