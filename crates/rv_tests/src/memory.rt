@@ -66,11 +66,6 @@ fn fork(space: &Space) -> Result<Space, AllocError> {
     space.fork()
 }
 
-/// The byte at an address, if its page is there.
-fn byte(space: &Space, address: u64) -> Result<Option<u8>, AllocError> {
-    Ok(peek(space, address, 1)?.first().copied())
-}
-
 /// Pages 1 to 3 for reading and writing, 4 for reading, 5 and 6 for execution, 8 with no right.
 fn example(alloc: Global) -> Result<Space, MemFault> {
     let mut space = Space::new(alloc);
@@ -134,16 +129,10 @@ fn doubles_are_stored_across_pages(rt: HostRuntime) -> Result<(), Fail> {
     Ok(())
 }
 
-/// The example with an instruction over the end of page 5.
-fn coded(alloc: Global) -> Result<Space, MemFault> {
-    let mut space = example(alloc)?;
-    load(&mut space, 0x5ffe, &[0x13, 0x05, 0x10, 0x00])?;
-    Ok(space)
-}
-
 #[test]
 fn words_are_fetched_at_any_address(rt: HostRuntime) -> Result<(), Fail> {
-    let mut space = coded(rt.alloc())?;
+    let mut space = example(rt.alloc())?;
+    load(&mut space, 0x5ffe, &[0x13, 0x05, 0x10, 0x00])?;
     for (address, want) in [
         (0x5ffe, Ok(0x0010_0513)),
         (0x5000, Ok(0)),
@@ -273,31 +262,17 @@ fn room_is_found_from_the_top(rt: HostRuntime) -> Result<(), Fail> {
     Ok(())
 }
 
-/// A space with 7 on page 1, and its fork, which has 9 there and page 2 no more.
-fn forked(alloc: Global) -> Result<(Space, Space), MemFault> {
-    let mut parent = example(alloc)?;
-    write(&mut parent, 0x1000, &[7])?;
-    let Ok(mut child) = fork(&parent) else {
-        return Err(MemFault::Memory);
-    };
-    write(&mut child, 0x1000, &[9])?;
-    unmap(&mut child, 2, 1);
-    Ok((parent, child))
-}
-
-fn byte_in_each(
-    (parent, child): &(Space, Space),
-    address: u64,
-) -> Result<(Option<u8>, Option<u8>), AllocError> {
-    Ok((byte(parent, address)?, byte(child, address)?))
-}
-
 #[test]
 fn forked_spaces_go_their_own_ways(rt: HostRuntime) -> Result<(), Fail> {
-    let spaces = forked(rt.alloc())?;
-    for (address, want) in [(0x1000, (Some(7), Some(9))), (0x2000, (Some(0), None))] {
-        assert_eq!(rt; byte_in_each(&spaces, address)?, want, "at {address}");
-    }
+    let mut parent = example(rt.alloc())?;
+    write(&mut parent, 0x1000, &[7])?;
+    let mut child = fork(&parent)?;
+    write(&mut child, 0x1000, &[9])?;
+    unmap(&mut child, 2, 1);
+    assert_eq!(rt; read(&parent, 0x1000, 1)?.as_slice(), [7].as_slice());
+    assert_eq!(rt; read(&parent, 0x2000, 1)?.as_slice(), [0].as_slice());
+    assert_eq!(rt; read(&child, 0x1000, 1)?.as_slice(), [9].as_slice());
+    assert_eq!(rt; peek(&child, 0x2000, 1)?.len(), 0);
     Ok(())
 }
 
@@ -328,7 +303,8 @@ fn pages_are_limited(rt: HostRuntime) -> Result<(), Fail> {
 fn first_bytes(space: &Space, alloc: Global) -> Result<Vec<u8>, AllocError> {
     let mut bytes = Vec::new(alloc);
     for number in 0..8u64 {
-        bytes.push(byte(space, 4096 * number)?.unwrap_or(b'.'))?;
+        let byte = peek(space, 4096 * number, 1)?.first().copied();
+        bytes.push(byte.unwrap_or(b'.'))?;
     }
     Ok(bytes)
 }
@@ -343,17 +319,6 @@ fn numbered(alloc: Global) -> Result<Space, MemFault> {
     Ok(space)
 }
 
-/// The same, after pages were taken away.
-fn first_bytes_without(
-    space: &mut Space,
-    first: u16,
-    pages: u16,
-    alloc: Global,
-) -> Result<Vec<u8>, AllocError> {
-    unmap(space, first, pages);
-    first_bytes(space, alloc)
-}
-
 #[test]
 fn pages_stay_where_others_are_unmapped(rt: HostRuntime) -> Result<(), Fail> {
     let mut space = numbered(rt.alloc())?;
@@ -365,8 +330,9 @@ fn pages_stay_where_others_are_unmapped(rt: HostRuntime) -> Result<(), Fail> {
         (4, 1, ".....5.."),
         (0, 60_000, "........"),
     ] {
+        unmap(&mut space, first, pages);
         assert_eq!(rt;
-            first_bytes_without(&mut space, first, pages, rt.alloc())?.as_slice(),
+            first_bytes(&space, rt.alloc())?.as_slice(),
             want.as_bytes(),
             "{pages} pages from {first} taken away"
         );
@@ -374,17 +340,11 @@ fn pages_stay_where_others_are_unmapped(rt: HostRuntime) -> Result<(), Fail> {
     Ok(())
 }
 
-/// The same, where pages 2 and 3 were taken away and came back, and page 0 came, all up to page 5 readable only.
-fn mapped_again(alloc: Global) -> Result<Space, MemFault> {
-    let mut space = numbered(alloc)?;
-    unmap(&mut space, 2, 2);
-    map(&mut space, 0, 6, READ)?;
-    Ok(space)
-}
-
 #[test]
 fn pages_come_back_blank(rt: HostRuntime) -> Result<(), Fail> {
-    let mut space = mapped_again(rt.alloc())?;
+    let mut space = numbered(rt.alloc())?;
+    unmap(&mut space, 2, 2);
+    map(&mut space, 0, 6, READ)?;
     assert_eq!(rt;
         first_bytes(&space, rt.alloc())?.as_slice(),
         b"\x001\x00\x00456.".as_slice()
@@ -397,18 +357,12 @@ fn pages_come_back_blank(rt: HostRuntime) -> Result<(), Fail> {
     Ok(())
 }
 
-/// Pages 5 to 7, the last first.
-fn mapped_out_of_order(alloc: Global) -> Result<Space, MemFault> {
-    let mut space = Space::new(alloc);
+#[test]
+fn pages_are_crossed_in_whatever_order_they_were_mapped(rt: HostRuntime) -> Result<(), Fail> {
+    let mut space = Space::new(rt.alloc());
     for number in [7, 5, 6] {
         map(&mut space, number, 1, READ_WRITE)?;
     }
-    Ok(space)
-}
-
-#[test]
-fn pages_are_crossed_in_whatever_order_they_were_mapped(rt: HostRuntime) -> Result<(), Fail> {
-    let mut space = mapped_out_of_order(rt.alloc())?;
     let bytes = vec![in rt.alloc(); 3u8; 4098]?;
     for (address, want) in [
         (0x5fff, Ok(())),
@@ -424,17 +378,11 @@ fn pages_are_crossed_in_whatever_order_they_were_mapped(rt: HostRuntime) -> Resu
     Ok(())
 }
 
-/// The numbered pages without page 3.
-fn gapped(alloc: Global) -> Result<Space, MemFault> {
-    let mut space = numbered(alloc)?;
-    unmap(&mut space, 3, 1);
-    Ok(space)
-}
-
 /// With each allocation made to fail in turn, this shows that a call that is refused memory changes nothing.
 #[test]
 fn a_refused_map_changes_nothing(rt: HostRuntime) -> Result<(), Fail> {
-    let mut space = gapped(rt.alloc())?;
+    let mut space = numbered(rt.alloc())?;
+    unmap(&mut space, 3, 1);
     if map(&mut space, 0, 40, EXECUTE).is_err() {
         assert_eq!(rt;
             first_bytes(&space, rt.alloc())?.as_slice(),
@@ -447,69 +395,28 @@ fn a_refused_map_changes_nothing(rt: HostRuntime) -> Result<(), Fail> {
     Ok(())
 }
 
-/// The length and the first byte of an address's page, where its code is near.
-fn code_near(space: &Space, address: u64) -> Option<(usize, u8)> {
-    space.code_near(address).map(|page| (page.len(), page[0]))
-}
-
-fn read_near(space: &Space, address: u64) -> Option<[u8; 2]> {
-    space.read_near(address)
-}
-
-fn write_near(space: &mut Space, address: u64, byte: u8) -> bool {
-    space.write_near(address, [byte])
-}
-
-/// Page 1 for reading and writing, 2 for execution, 3 and 65 for reading; each of the first two was used.
-fn used(alloc: Global) -> Result<Space, MemFault> {
-    let mut space = Space::new(alloc);
-    for (page, rights) in [(1, READ_WRITE), (2, EXECUTE), (3, READ), (65, READ)] {
-        map(&mut space, page, 1, rights)?;
-    }
+/// What is near is what was used lately, and of pages whose numbers agree in their lowest 6 bits the last; elsewhere
+/// there is no answer.
+#[test]
+fn near_accesses(rt: HostRuntime) -> Result<(), Fail> {
+    let mut space = Space::new(rt.alloc());
+    map(&mut space, 1, 1, READ_WRITE)?;
+    map(&mut space, 2, 1, EXECUTE)?;
+    map(&mut space, 3, 1, READ)?;
+    map(&mut space, 65, 1, READ)?;
     load(&mut space, 0x2000, &[0x73, 0, 0, 0])?;
     store_double(&mut space, 0x1008, 0x0102)?;
-    fetch(&mut space, 0x2000)?;
-    Ok(space)
-}
-
-/// What is near is what was used lately; elsewhere there is no answer.
-#[test]
-fn near_code(rt: HostRuntime) -> Result<(), Fail> {
-    let space = used(rt.alloc())?;
-    for (address, want) in [
-        (0x2abc, Some((4096, 0x73))),
-        (0x2000, Some((4096, 0x73))),
-        (0x1008, None),
-    ] {
-        assert_eq!(rt; code_near(&space, address), want, "at {address}");
-    }
-    Ok(())
-}
-
-/// Two bytes that are near, and whether a 7 is written near behind the first.
-fn near(space: &mut Space, address: u64) -> (Option<[u8; 2]>, bool) {
-    let bytes = read_near(space, address);
-    (bytes, write_near(space, address.wrapping_add(1), 7))
-}
-
-/// Of pages whose numbers agree in their lowest 6 bits the last that was used is near.
-#[test]
-fn near_data(rt: HostRuntime) -> Result<(), Fail> {
-    let mut space = used(rt.alloc())?;
-    for (used, address, want) in [
-        (0x1008, 0x1008, (Some([2, 1]), true)),
-        (0x1008, 0x1008, (Some([2, 7]), true)),
-        (0x1008, 0x3000, (None, false)),
-        (0x3000, 0x3000, (Some([0, 0]), false)),
-        (0x3000, 0x1008, (Some([2, 7]), true)),
-        (0x41000, 0x1008, (None, false)),
-    ] {
-        load_double(&mut space, used)?;
-        assert_eq!(rt;
-            near(&mut space, address),
-            want,
-            "at {address} behind {used}"
-        );
-    }
+    assert_eq!(rt; fetch(&mut space, 0x2000)?, 0x73);
+    assert_eq!(rt; space.code_near(0x2abc).map(|page| page.len()), Some(4096));
+    assert_eq!(rt; space.code_near(0x2000).map(|page| page[0]), Some(0x73));
+    assert_eq!(rt; space.code_near(0x1008).map(|page| page.len()), None);
+    assert_eq!(rt; space.read_near(0x1008), Some([2u8, 1]));
+    assert_eq!(rt; space.read_near::<2>(0x3000), None);
+    assert_eq!(rt; load_double(&mut space, 0x3000)?, 0);
+    assert_eq!(rt; space.write_near(0x1009, [7u8]), true);
+    assert_eq!(rt; space.read_near(0x1008), Some([2u8, 7]));
+    assert_eq!(rt; space.write_near(0x3000, [7u8]), false);
+    assert_eq!(rt; load_double(&mut space, 0x41000)?, 0);
+    assert_eq!(rt; space.write_near(0x1009, [7u8]), false);
     Ok(())
 }
