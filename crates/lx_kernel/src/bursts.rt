@@ -7,10 +7,10 @@ ghost use Rattle.lx_kernel.specs.Bursts.{Burst, Continues, OwnContinues, with_ow
 ghost use Rattle.lx_kernel.specs.Runs.{Run as KernelRun};
 ghost use Rattle.lx_model.specs.declared.stage.Own.TheVariants as Own;
 
-use crate::signals::{is_killed, next};
 use containers::Map;
 use lx_model::{Own, Stage};
 use lx_proc::{Body, Shared, make_again};
+use lx_sig::{is_pending, next};
 use rv_hart::Decoder;
 use std::alloc::AllocError;
 
@@ -74,7 +74,10 @@ fn is_undisturbed(shared: &Shared, pid: u32) -> bool
     ensures { result ≡ (not (is_killed_at (maps.get shared.now.entries pid)) && not (is_some (next_of
         (maps.get shared.now.entries pid)))) }
 {
-    !is_killed(shared, pid) && next(shared, pid).is_none()
+    match shared.entries.get(pid) {
+        None => true,
+        Some(entry) => !is_pending(&entry.signals, 9) && next(&entry.signals).is_none(),
+    }
 }
 
 /// Turns of a process while each begins and ends in Run, at most so many: how many there were.

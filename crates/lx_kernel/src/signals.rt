@@ -6,7 +6,7 @@ ghost use Rattle.lx_kernel.specs.Reactions.{next_of, cause_in, taken, is_killed 
 
 use lx_abi::{Cause, Signal};
 use lx_proc::Shared;
-use lx_sig::make_pending;
+use lx_sig::{is_pending, make_pending};
 
 /// The signal that the process would take.
 pub fn next(shared: &Shared, pid: u32) -> Option<Signal>
@@ -45,6 +45,6 @@ pub fn is_killed(shared: &Shared, pid: u32) -> bool
 {
     match shared.entries.get(pid) {
         None => false,
-        Some(entry) => entry.signals.pending[9].is_some(),
+        Some(entry) => is_pending(&entry.signals, 9),
     }
 }

@@ -5,12 +5,11 @@ use Rattle.std.proofs.lemmas.Grind.{common_steps}
 use Rattle.std.specs.FinMap.{get}
 use Rattle.rv_mem.specs.Memory.{Memory, Cell, first_fault, fault_of, byte_of, bytes_at, written}
 use Rattle.rv_mem.specs.declared.rights.Access.{Access}
-use Rattle.rv_mem.specs.declared.rights.Access.TheVariants.{Write}
 use Rattle.rv_mem.proofs.Runs.{first_allowed, next_fault}
 use Rattle.rv_mem.proofs.Writes.{with_new, get-written_in}
 use Rattle.rv_hart.specs.declared.hart.Hart.{Hart}
 use Rattle.lx_abi.specs.declared.signal.Signal.{Signal}
-use Rattle.lx_sig.specs.Frames.{handler_registers, handling, frame_address, sp_of}
+use Rattle.lx_sig.specs.Frames.{handling, frame_address, sp_of}
 use Rattle.lx_sig.specs.Pending.{Action}
 
 -- each byte of a run that allows an access does

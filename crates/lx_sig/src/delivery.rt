@@ -15,7 +15,15 @@ fn cause(signals: &Signals, number: u8) -> Option<Cause>
     requires { number < 32 }
     ensures { result ≡ cause_of signals.now number }
 {
-    signals.pending[usize::from(number)]
+    signals.pending.cause(number)
+}
+
+/// The signal with this number is pending.
+pub fn is_pending(signals: &Signals, number: u8) -> bool
+    requires { number < 32 }
+    ensures { result ≡ is_some (cause_of signals.now number) }
+{
+    cause(signals, number).is_some()
 }
 
 /// The action of the signal with this number.
@@ -32,13 +40,16 @@ fn comes(signals: &Signals, number: u8) -> bool
     requires within { number < 32 }
     ensures { result ≡ may_come signals.now number }
 {
-    cause(signals, number).is_some() && !has(signals.mask, number)
+    is_pending(signals, number) && !has(signals.mask, number)
 }
 
 /// The number of the lowest pending signal that is not blocked.
 fn lowest(signals: &Signals) -> Option<u8>
     ensures { result ≡ find (may_come signals.now) (range_with_len 1 31) }
 {
+    if signals.pending.is_empty() {
+        return None;
+    }
     (1..32u8).find(|n| comes(signals, *n))
 }
 
@@ -91,8 +102,8 @@ pub fn may_interrupt(signals: &Signals) -> bool
 pub fn make_pending(signals: &mut Signals, signal: Signal, cause_now: Cause)
     ensures { signals.new ≡ with_pending signals.old signal cause_now }
 {
-    if cause(signals, signal.number).is_none() {
-        signals.pending[usize::from(signal.number)] = Some(cause_now);
+    if !is_pending(signals, signal.number) {
+        signals.pending.insert(signal.number, cause_now);
     }
 }
 
@@ -102,6 +113,6 @@ pub fn take(signals: &mut Signals, signal: Signal) -> Option<Cause>
     ensures taken { signals.new ≡ without_pending signals.old signal }
 {
     let first = cause(signals, signal.number);
-    signals.pending[usize::from(signal.number)] = None;
+    signals.pending.remove(signal.number);
     first
 }

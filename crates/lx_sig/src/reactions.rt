@@ -6,6 +6,7 @@ ghost use Rattle.lx_sig.specs.Reactions.{is_fault as is_faults, acts as acts_as,
 ghost use Rattle.lx_sig.specs.Reactions.{without_handler as without_handlers, after_exec, of_child, no_signals};
 
 use crate::delivery::{action, is_ignored, is_ignored_by_default};
+use crate::pending::Pending;
 use crate::sets::has;
 use crate::state::{Action, Signals};
 use lx_abi::{Cause, Signal};
@@ -81,7 +82,7 @@ pub fn for_child(signals: &Signals) -> Signals
     ensures { result ≡ of_child signals.now }
 {
     Signals {
-        pending: [None; 32],
+        pending: Pending::none(),
         mask: signals.mask,
         actions: signals.actions,
     }
@@ -93,7 +94,7 @@ impl Signals {
         ensures { result ≡ no_signals }
     {
         Signals {
-            pending: [None; 32],
+            pending: Pending::none(),
             mask: 0,
             actions: [DEFAULT; 32],
         }

@@ -1,6 +1,6 @@
 //! What a process keeps of its signals.
 
-use lx_abi::Cause;
+use crate::pending::Pending;
 
 /// What a process does with a signal that it takes (sigaction(2), struct sigaction).
 #[derive(Clone, Copy, Debug, PartialEq, Eq)]
@@ -11,9 +11,6 @@ pub struct Action {
     /// What is blocked too while the handler runs.
     pub mask: Mask,
 }
-
-/// Signals that are pending, by number, each with why it came first. Nothing has the number 0.
-pub type Pending = [Option<Cause>; 32];
 
 /// A set of signals: signal n is bit n - 1.
 pub type Mask = u64;

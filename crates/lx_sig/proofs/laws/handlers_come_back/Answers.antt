@@ -3,7 +3,6 @@ use Rattle.rv_mem.specs.Memory.{bytes_at}
 use Rattle.rv_mem.specs.declared.rights.Access.TheVariants.{Write}
 use Rattle.lx_sig.specs.Frames.{frame, frame_size, frame_address, frame_at, with_frame, resumed, handling, blocking, popped_hart, popped_mask, sp_of}
 use Rattle.lx_sig.specs.Sets.{cleaned}
-use Rattle.lx_sig.specs.Pending.{Signals}
 use Rattle.lx_sig.proofs.ReadBack.{frame_back}
 use Rattle.lx_sig.proofs.Stacked.{bytes_back, handler_sp}
 use Rattle.lx_sig.proofs.laws.handlers_come_back.Goals as goal
