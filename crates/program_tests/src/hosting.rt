@@ -11,49 +11,10 @@ mod schedules;
 mod serving;
 mod words;
 
+use crate::run::{Run, words_of};
 use crate::streams::{Recorder, Source};
 use guest_commands::command;
 use std::test::Fail;
-
-/// What a run gives: its status, and what it wrote.
-#[derive(Drop)]
-struct Run {
-    status: u8,
-    out: Recorder,
-    err: Recorder,
-}
-
-impl Run {
-    /// It ended with this status, and wrote exactly this.
-    fn is(&self, status: u8, out: &str, err: &str) -> bool {
-        self.status == status && self.out.text() == out && self.err.text() == err
-    }
-
-    /// It ended with this status, and told so in one line on standard error, of which this is the start; nothing stands
-    /// on standard output.
-    fn is_refusal(&self, status: u8, told: &str) -> bool {
-        self.status == status && self.out.text().is_empty() && is_line_from(self.err.text(), told)
-    }
-}
-
-/// A text is one line, which begins so.
-fn is_line_from(text: &str, start: &str) -> bool {
-    match text.strip_suffix('\n') {
-        Some(line) => line.starts_with(start) && !line.contains('\n'),
-        None => false,
-    }
-}
-
-/// The program's name and these words.
-fn words_of(rt: &HostRuntime, words: &[&str]) -> Result<Vec<String>, Fail> {
-    let alloc = rt.alloc();
-    let mut all: Vec<String> = Vec::new(alloc);
-    all.push(format!(in alloc; "guest_host")?)?;
-    for word in words {
-        all.push(format!(in alloc; "{word}")?)?;
-    }
-    Ok(all)
-}
 
 /// Runs the program on these words and streams.
 fn run_with(
@@ -63,7 +24,7 @@ fn run_with(
     mut out: Recorder,
     mut err: Recorder,
 ) -> Result<Run, Fail> {
-    let words = words_of(rt, words)?;
+    let words = words_of(rt, "guest_host", words)?;
     let status = command(rt, words.as_slice(), &mut input, &mut out, &mut err);
     drop(words);
     Ok(Run { status, out, err })

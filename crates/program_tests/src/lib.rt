@@ -7,6 +7,8 @@ mod guest;
 #[cfg(test)]
 mod hosting;
 #[cfg(test)]
+mod run;
+#[cfg(test)]
 mod streams;
 #[cfg(test)]
 mod tracing;

@@ -4,25 +4,11 @@ mod faults;
 mod runs;
 
 use crate::guest::HELLO;
+use crate::run::{Run, words_of};
 use crate::streams::Recorder;
 use std::fs;
 use std::test::Fail;
 use trace_command::command;
-
-/// What a run gives: its status, and what it wrote.
-#[derive(Drop)]
-struct Run {
-    status: u8,
-    out: Recorder,
-    err: Recorder,
-}
-
-impl Run {
-    /// It ended with this status, and wrote exactly this.
-    fn is(&self, status: u8, out: &str, err: &str) -> bool {
-        self.status == status && self.out.text() == out && self.err.text() == err
-    }
-}
 
 /// Runs the program on these words and streams, with no input.
 fn run_with(
@@ -31,16 +17,11 @@ fn run_with(
     mut out: Recorder,
     mut err: Recorder,
 ) -> Result<Run, Fail> {
-    let alloc = rt.alloc();
     fs::write(rt, "hello", HELLO.as_slice())?;
-    let mut all: Vec<String> = Vec::new(alloc);
-    all.push(format!(in alloc; "strace_cli")?)?;
-    for word in words {
-        all.push(format!(in alloc; "{word}")?)?;
-    }
+    let words = words_of(rt, "strace_cli", words)?;
     let mut input: &[u8] = &[];
-    let status = command(rt, all.as_slice(), &mut input, &mut out, &mut err);
-    drop(all);
+    let status = command(rt, words.as_slice(), &mut input, &mut out, &mut err);
+    drop(words);
     Ok(Run { status, out, err })
 }
 

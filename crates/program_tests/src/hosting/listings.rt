@@ -1,6 +1,7 @@
 //! Listings that are assembled and run, or refused.
 
-use crate::hosting::{Run, ends_as, is_refused, run_of};
+use crate::hosting::{ends_as, is_refused, run_of};
+use crate::run::Run;
 use std::fs;
 use std::test::Fail;
 

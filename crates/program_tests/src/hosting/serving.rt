@@ -1,6 +1,7 @@
 //! The command that serves a tracer.
 
-use crate::hosting::{run_with, words_of};
+use crate::hosting::run_with;
+use crate::run::words_of;
 use crate::streams::{Recorder, Source};
 use guest_commands::command;
 use std::io::{self, ErrorKind, Read};
@@ -77,7 +78,7 @@ fn serve(rt: &HostRuntime, requests: &[u8]) -> Result<(u8, usize, usize), Fail> 
         reads: 0,
     };
     let (mut out, mut err) = (Recorder::new(rt.alloc()), Recorder::new(rt.alloc()));
-    let words = words_of(rt, &["serve"])?;
+    let words = words_of(rt, "guest_host", &["serve"])?;
     let status = command(rt, words.as_slice(), &mut input, &mut out, &mut err);
     let seen = (status, input.reads, out.ends.len());
     drop(words);

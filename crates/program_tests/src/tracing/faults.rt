@@ -6,11 +6,7 @@ use std::test::Fail;
 /// A run on these words ends with this status, writes one line that begins so to standard error, and nothing else.
 fn is_refused(rt: &HostRuntime, words: &[&str], status: u8, start: &str) -> Result<bool, Fail> {
     let run = run_of(rt, words)?;
-    let told = run.err.text();
-    let refused = run.status == status
-        && run.out.text().is_empty()
-        && told.starts_with(start)
-        && told.lines().count() == 1;
+    let refused = run.is_refusal(status, start);
     drop(run);
     Ok(refused)
 }

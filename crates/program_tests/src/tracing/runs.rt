@@ -1,7 +1,8 @@
 //! Where the trace and the console go, and what is left where a run is cut.
 
+use crate::run::Run;
 use crate::streams::Recorder;
-use crate::tracing::{Run, ends_as, run_of, run_with};
+use crate::tracing::{ends_as, run_of, run_with};
 use std::fs;
 use std::test::Fail;
 
