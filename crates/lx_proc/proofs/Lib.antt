@@ -4,3 +4,6 @@ pub mod Reading
 pub mod Looking
 pub mod Pointers
 pub mod Ended
+pub mod PairSets
+pub mod Kin
+pub mod Searching

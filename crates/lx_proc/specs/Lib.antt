@@ -5,3 +5,5 @@ pub mod Starts
 pub mod Texts
 pub mod Read
 pub mod WaitWords
+pub mod Pairs
+pub mod Families

@@ -21,10 +21,7 @@ pub fn signals(shared: &Shared, pid: u32) -> Option<Signals>
 pub fn set_signals(shared: &mut Shared, pid: u32, signals: Signals)
     ensures { shared.new ≡ with_signals_at shared.old pid signals }
 {
-    match shared.entries.get_mut(pid) {
-        None => {}
-        Some(entry) => entry.signals = signals,
-    }
+    shared.entries.set_signals(pid, signals);
 }
 
 /// The path of a process's working directory.

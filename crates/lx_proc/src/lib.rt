@@ -2,9 +2,12 @@
 #![tactic(auto)]
 
 mod entries;
+mod families;
+mod pairs;
 mod registers;
 pub mod reply;
 pub mod state;
+mod table;
 pub mod texts;
 pub mod wait_words;
 
@@ -12,5 +15,6 @@ pub use entries::{directory, set_signals, signals};
 pub use registers::{a0, call, make_again, registers_of, return_from_call, set_registers};
 pub use reply::Reply;
 pub use state::{Body, Entry, Heap, LAST_PID, Life, MOST_PROCESSES, Shared};
+pub use table::Table;
 pub use texts::{START_LIMIT, Text, WORD_COST, Words, list_at, text_at};
 pub use wait_words::WaitWords;

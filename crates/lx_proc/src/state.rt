@@ -1,7 +1,8 @@
 //! What processes share, and what each has to itself.
 
+use crate::table::Table;
 use crate::wait_words::WaitWords;
-use containers::{Bytes, Map};
+use containers::Bytes;
 use lx_files::Tree;
 use lx_open::{FdTable, Queue};
 use lx_sig::{Interrupted, Signals};
@@ -40,7 +41,7 @@ pub struct Shared {
     /// What is left of the input.
     pub input: Queue,
     pub console: Bytes,
-    pub entries: Map<Entry>,
+    pub entries: Table,
     /// Of each process that has ended, also once it has left the table.
     pub ended: WaitWords,
 }
