@@ -14,13 +14,12 @@ ghost use Rattle.lx_exec.specs.Execve.{execve as meaning, program as program_of,
 ghost use Rattle.lx_exec.specs.Execve.{runs_at as place_run, runs_path as path_run, renewed, renews};
 
 use crate::programs::{begin_program, start_fits};
-use containers::Map;
 use elf_image::{ElfFault, Image};
 use lx_abi::{Call, Errno, Node};
 use lx_files::Place;
 use lx_files::places::{locate, path};
 use lx_open::release::close_on_exec;
-use lx_proc::{Body, Entry, Reply, Shared, Text, Words, directory, list_at, text_at};
+use lx_proc::{Body, Reply, Shared, Table, Text, Words, directory, list_at, text_at};
 use lx_sig::reset_for_exec;
 use std::alloc::{AllocError, Global};
 
@@ -185,13 +184,15 @@ fn run_program(
 }
 
 /// Handlers don't outlive execve.
-fn reset_handlers(entries: &mut Map<Entry>, pid: u32)
+fn reset_handlers(entries: &mut Table, pid: u32)
     ensures { entries.new ≡ changed entries.old pid (λ e. with_signals e (after_exec e.signals)) }
 {
-    match entries.get_mut(pid) {
-        None => {}
-        Some(entry) => reset_for_exec(&mut entry.signals),
-    }
+    let Some(entry) = entries.get(pid) else {
+        return;
+    };
+    let mut signals = entry.signals;
+    reset_for_exec(&mut signals);
+    entries.set_signals(pid, signals);
 }
 
 fn close_descriptors(shared: &mut Shared, pid: u32)

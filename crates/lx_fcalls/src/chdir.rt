@@ -7,21 +7,18 @@ ghost use Rattle.lx_fcalls.specs.Chdir.{chdir as meaning, goes_at};
 
 use crate::arguments::place_at;
 use crate::flags::AT_FDCWD;
-use containers::{Bytes, Map};
+use containers::Bytes;
 use lx_abi::{Call, Errno};
 use lx_files::Place;
 use lx_files::places::{Sight, look, path};
-use lx_proc::{Body, Entry, Reply, Shared};
+use lx_proc::{Body, Reply, Shared, Table};
 use std::alloc::{AllocError, Global};
 
 /// A process is in another directory.
-fn enter(entries: &mut Map<Entry>, pid: u32, path: Vec<u8>)
+fn enter(entries: &mut Table, pid: u32, path: Vec<u8>)
     ensures { entries.new ≡ changed entries.old pid (λ e. record e { directory = path.items }) }
 {
-    match entries.get_mut(pid) {
-        None => {}
-        Some(entry) => entry.directory = Bytes::from_vec(path),
-    }
+    entries.set_directory(pid, Bytes::from_vec(path));
 }
 
 fn go_at(

@@ -6,11 +6,10 @@ ghost use Rattle.lx_fcalls.specs.Write.{write as meaning, writes_object, writes_
 ghost use Rattle.lx_fcalls.specs.Write.{writes_console, raised_sigpipe, breaks_pipe as breaks_pipe_of, start_of};
 
 use crate::contents::{LARGEST_FILE, MOST_MOVED, PIPE_SIZE, content, has_space};
-use containers::Map;
 use lx_abi::{Call, Cause, Errno, Signal};
 use lx_files::nodes::length_after;
 use lx_open::{Description, Object, Slot};
-use lx_proc::{Body, Entry, Reply, Shared};
+use lx_proc::{Body, Reply, Shared, Table};
 use lx_sig::{low_argument, make_pending};
 use rv_mem::MemFault;
 use std::alloc::{AllocError, Global};
@@ -29,13 +28,15 @@ fn write_console(shared: &mut Shared, body: &mut Body, bytes: &[u8]) -> Result<R
 }
 
 /// SIGPIPE is pending to a process, by itself.
-fn raise_sigpipe(entries: &mut Map<Entry>, pid: u32)
+fn raise_sigpipe(entries: &mut Table, pid: u32)
     ensures { entries.new ≡ raised_sigpipe entries.old pid }
 {
-    match entries.get_mut(pid) {
-        None => {}
-        Some(entry) => make_pending(&mut entry.signals, Signal::PIPE, Cause::Sent { pid }),
-    }
+    let Some(entry) = entries.get(pid) else {
+        return;
+    };
+    let mut signals = entry.signals;
+    make_pending(&mut signals, Signal::PIPE, Cause::Sent { pid });
+    entries.set_signals(pid, signals);
 }
 
 fn break_pipe(shared: &mut Shared, pid: u32, body: &mut Body) -> Reply
