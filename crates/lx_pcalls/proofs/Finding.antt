@@ -5,7 +5,7 @@ use Rattle.std.specs.Ordering.{nat_cmp, is_lt, eq_by_cmp}
 use Rattle.std.specs.FinMap as maps
 use Rattle.std.specs.FinMap.Entries as entry
 use Rattle.std.proofs.lemmas.Bool.Decides.{nat_tests}
-use Rattle.lx_pcalls.specs.Wait4.{IsNextThat}
+use Rattle.lx_proc.specs.Pairs.{IsNextThat}
 
 pub left : (a b : Bool) → T (a && b) → T a
 left true b h = tt
@@ -32,7 +32,7 @@ pub same : (n : ℕ) → eq_by_cmp nat_cmp n n ≡ true
 same n = grind (arith, nat_tests)
 
 module _ (test : ℕ → Bool) where
-  none_found : ((q : ℕ) → test q ≡ false) → (ks : List ℕ) → find test ks ≡ None
+  pub none_found : ((q : ℕ) → test q ≡ false) → (ks : List ℕ) → find test ks ≡ None
   none_found fails [] = refl
   none_found fails (k ∷ ks) = ap (λ b. cond b (Some k) (find test ks)) (fails k) ∙ none_found fails ks
 
@@ -82,7 +82,7 @@ module _ {X : Type 0} where
     first_found n holds fails (e ∷ es) s h =
         first_step n holds fails e es (left _ _ s) h (λ there. first_found n holds fails es (right _ _ s) there) (nat_lt e.0 n) refl (nat_lt n e.0) refl
 
-    found : (m : maps.FinMap nat_cmp X) (n : ℕ) → is_some (maps.get m n) ≡ true → test n ≡ true → ((q : ℕ) → q < n → test q ≡ false) → find test (maps.keys m) ≡ Some n
+    pub found : (m : maps.FinMap nat_cmp X) (n : ℕ) → is_some (maps.get m n) ≡ true → test n ≡ true → ((q : ℕ) → q < n → test q ≡ false) → find test (maps.keys m) ≡ Some n
     found m n there holds fails = first_found n holds fails (maps.entries m) (maps.entries_sorted m) (ap is_some (sym (maps.get-entries m n)) ∙ there)
 
     -- key 0 was looked at, and then those above it

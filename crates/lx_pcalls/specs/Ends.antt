@@ -10,8 +10,9 @@ use Rattle.lx_open.specs.Releases.{all_closed}
 use Rattle.lx_proc.specs.declared.state.Life.{Life}
 use Rattle.lx_proc.specs.declared.state.Entry.{Entry}
 use Rattle.lx_proc.specs.declared.state.Shared.{Shared}
-use Rattle.lx_proc.specs.declared.state.Life.TheVariants.{Alive, Dying, Zombie}
+use Rattle.lx_proc.specs.declared.state.Life.TheVariants.{Dying, Zombie}
 use Rattle.lx_proc.specs.State.{Entries, changed, with_entries, with_held, with_signals}
+use Rattle.lx_proc.specs.Families.{is_zombie}
 
 abbrev pub with_life : Entry → Life → Entry
 with_life e life = record e { life = life }
@@ -29,11 +30,6 @@ abbrev pub dies : Shared → ℕ → ℕ → Shared
 dies s p w = with_word (with_held s (all_closed s.tree s.fds p)) p w
 
 -- Leaving Dying.
-
-abbrev pub is_zombie : Life → Bool
-is_zombie Alive = false
-is_zombie (Dying w) = false
-is_zombie (Zombie w) = true
 
 abbrev pub orphan : Entries → ℕ → Entry → Bool → Entries
 orphan entries child e true = maps.remove entries child

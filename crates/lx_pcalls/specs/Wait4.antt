@@ -1,5 +1,5 @@
 -- wait4(pid, wstatus, options, rusage): wait4(2).
-use Rattle.std.specs.Prelude.{◌≡◌, ℕ, ◌-◌, ◌^◌, ◌==◌, ◌&&◌, ◌||◌, ◌<◌, nat_lt, nat_le, not, Bool, true, false, find, Option, Some, None, is_some, if◌then◌else◌}
+use Rattle.std.specs.Prelude.{ℕ, ◌-◌, ◌^◌, ◌==◌, ◌&&◌, ◌||◌, nat_lt, nat_le, not, Bool, true, false, find, Option, Some, None, is_some, if◌then◌else◌}
 use Rattle.std.specs.FinMap as maps
 use Rattle.std.specs.Int.{w32, to_le_bytes}
 use Rattle.lx_abi.specs.Errnos.{echild, einval}
@@ -73,8 +73,3 @@ wait4_would_block s p call =
     && not (argument call 2 == 1)
     && is_some (first_child s.entries p (low_argument call 0) false)
     && not (is_some (first_child s.entries p (low_argument call 0) true))
-
--- the first that passes above a number
-abbrev pub IsNextThat : (ℕ → Bool) → ℕ → Option ℕ → Type 0
-IsNextThat test n None = (q : ℕ) → n < q → test q ≡ false
-IsNextThat test n (Some k) = (n < k) × (test k ≡ true) × ((q : ℕ) → n < q → q < k → test q ≡ false)

@@ -6,26 +6,23 @@ ghost use Rattle.lx_proc.specs.State.{changed};
 ghost use Rattle.lx_proc.specs.Answers.{answer_of, Kept};
 ghost use Rattle.lx_pcalls.specs.Kill.{kill as meaning, kills, sent_to};
 
-use containers::Map;
 use lx_abi::{Call, Cause, Errno, Signal};
-use lx_proc::{Body, Entry, Life, Reply, Shared};
+use lx_proc::{Body, Life, Reply, Shared, Table};
 use lx_sig::{Aim, aim_of_kill, make_pending};
 
 /// A process that lives has the signal pending, unless it has it already.
-fn send(entries: &mut Map<Entry>, pid: u32, target: u32, signal: Signal)
+fn send(entries: &mut Table, pid: u32, target: u32, signal: Signal)
     ensures { entries.new ≡ changed entries.old target (λ e. sent_to e e.life pid signal) }
 {
-    match entries.get_mut(target) {
-        None => {}
-        Some(entry) => send_to(entry, pid, signal),
-    }
-}
-
-fn send_to(entry: &mut Entry, pid: u32, signal: Signal)
-    ensures { entry.new ≡ sent_to entry.old entry.old.life pid signal }
-{
+    let Some(entry) = entries.get(target) else {
+        return;
+    };
     match entry.life {
-        Life::Alive => make_pending(&mut entry.signals, signal, Cause::Sent { pid }),
+        Life::Alive => {
+            let mut signals = entry.signals;
+            make_pending(&mut signals, signal, Cause::Sent { pid });
+            entries.set_signals(target, signals);
+        }
         Life::Dying { .. } | Life::Zombie { .. } => {}
     }
 }

@@ -5,12 +5,11 @@ ghost use Rattle.std.specs.FinMap as maps;
 ghost use Rattle.lx_proc.specs.Answers.{answer_of, Kept};
 ghost use Rattle.lx_pcalls.specs.Wait4.{wait4 as meaning, wait4_would_block as would_block_of, may_wait as may_wait_of};
 ghost use Rattle.lx_pcalls.specs.Wait4.{is_child as is_child_of, is_meant as is_meant_of};
-ghost use Rattle.lx_pcalls.specs.Wait4.{first_child as first_child_of};
-ghost use Rattle.lx_pcalls.specs.Wait4.{zombie_word as zombie_word_of, word_in, reaps, waits, IsNextThat};
+ghost use Rattle.lx_pcalls.specs.Wait4.{any_child, first_child as first_child_of};
+ghost use Rattle.lx_pcalls.specs.Wait4.{zombie_word as zombie_word_of, word_in, reaps, waits};
 
-use containers::Map;
 use lx_abi::{Call, Errno};
-use lx_proc::{Body, Entry, Life, Reply, Shared};
+use lx_proc::{Body, Entry, Life, Reply, Shared, Table};
 use lx_sig::low_argument;
 use rv_mem::MemFault;
 use std::alloc::AllocError;
@@ -49,7 +48,7 @@ fn is_meant(entry: &Entry, parent: u32, wanted: u32, zombies: bool, pid: u32) ->
 
 /// A child that a call waits for, and a zombie where only those are meant.
 #[tactic(auto, unfolding(crate::specs::Wait4::is_child))]
-fn is_child(entries: &Map<Entry>, parent: u32, wanted: u32, zombies: bool, pid: u32) -> bool
+fn is_child(entries: &Table, parent: u32, wanted: u32, zombies: bool, pid: u32) -> bool
     ensures { result ≡ is_child_of entries.now parent wanted zombies pid }
 {
     match entries.get(pid) {
@@ -58,36 +57,30 @@ fn is_child(entries: &Map<Entry>, parent: u32, wanted: u32, zombies: bool, pid: 
     }
 }
 
-/// The lowest of them above a pid.
-fn next_child(
-    entries: &Map<Entry>,
-    parent: u32,
-    wanted: u32,
-    zombies: bool,
-    after: u32,
-) -> Option<u32>
-    ensures { IsNextThat (is_child_of entries.now parent wanted zombies) after result }
+/// The lowest child of all, and the lowest zombie where only those are meant.
+#[tactic(auto, unfolding(crate::specs::Wait4::first_child))]
+fn first_of_any(entries: &Table, parent: u32, zombies: bool) -> Option<u32>
+    ensures { result ≡ first_child_of entries.now parent any_child zombies }
 {
-    let mut passed = after;
-    while let Some(pid) = entries.next_key(passed) {
-        if is_child(entries, parent, wanted, zombies, pid) {
-            return Some(pid);
-        }
-        passed = pid;
+    // no process has pid 0, but a table may have a key 0
+    if is_child(entries, parent, ANY, zombies, 0) {
+        return Some(0);
     }
-    None
+    entries.next_child(parent, zombies, 0)
 }
 
 /// The lowest of them.
 #[tactic(auto, unfolding(crate::specs::Wait4::first_child))]
-fn first_child(entries: &Map<Entry>, parent: u32, wanted: u32, zombies: bool) -> Option<u32>
+fn first_child(entries: &Table, parent: u32, wanted: u32, zombies: bool) -> Option<u32>
     ensures { result ≡ first_child_of entries.now parent wanted zombies }
 {
-    // no process has pid 0, but a table may have a key 0
-    if is_child(entries, parent, wanted, zombies, 0) {
-        return Some(0);
+    if wanted == ANY {
+        return first_of_any(entries, parent, zombies);
     }
-    next_child(entries, parent, wanted, zombies, 0)
+    if is_child(entries, parent, wanted, zombies, wanted) {
+        return Some(wanted);
+    }
+    None
 }
 
 /// The zombie's word is written, and then it leaves the table.
@@ -118,7 +111,7 @@ fn reap(
 }
 
 /// How the process with this pid ended, if it is a zombie.
-fn word_of(entries: &Map<Entry>, pid: u32) -> Option<u32>
+fn word_of(entries: &Table, pid: u32) -> Option<u32>
     ensures { result ≡ word_in (maps.get entries.now pid) }
 {
     match entries.get(pid) {
