@@ -11,7 +11,7 @@ use lx_exec::begin_stub;
 use lx_files::plant;
 use lx_model::{Own, Stage};
 use lx_open::{Description, FdTable, Object, Queue};
-use lx_proc::{Body, Entry, Life, Shared, WaitWords};
+use lx_proc::{Body, Entry, Life, Shared, Table, WaitWords};
 use lx_sig::Signals;
 use std::alloc::{AllocError, Global};
 
@@ -71,7 +71,7 @@ pub fn first_shared(alloc: Global, files: &[GuestFile], input: Bytes) -> Result<
 {
     let tree = plant(alloc, files)?;
     let fds = first_fds(alloc)?;
-    let mut entries = Map::new(alloc);
+    let mut entries = Table::new(alloc);
     entries.insert(1, first_entry(alloc))?;
     Ok(Shared {
         tree,
