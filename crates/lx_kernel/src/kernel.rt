@@ -155,7 +155,7 @@ fn turn_own(
             Ok(Transition::of_gone(mode, mode))
         }
         Own::Dying { word } => {
-            bury(shared, pid, *word);
+            bury(shared, pid, *word)?;
             leave(own);
             Ok(Transition::of_gone(Some(Mode::Dying), mode_of_gone(shared, pid)))
         }

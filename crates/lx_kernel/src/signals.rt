@@ -23,20 +23,25 @@ pub fn take(shared: &mut Shared, pid: u32, signal: Signal) -> Cause
     ensures cause { result ≡ cause_in (maps.get shared.old.entries pid) signal }
     ensures taken { shared.new ≡ taken shared.old pid signal }
 {
-    match shared.entries.get_mut(pid) {
-        None => Cause::Kernel,
-        Some(entry) => lx_sig::take(&mut entry.signals, signal).unwrap_or(Cause::Kernel),
-    }
+    let Some(entry) = shared.entries.get(pid) else {
+        return Cause::Kernel;
+    };
+    let mut signals = entry.signals;
+    let cause = lx_sig::take(&mut signals, signal).unwrap_or(Cause::Kernel);
+    shared.entries.set_signals(pid, signals);
+    cause
 }
 
 /// Makes a signal of the kernel's pending, unless it is.
 pub fn join(shared: &mut Shared, pid: u32, signal: Signal)
     ensures { shared.new ≡ joined shared.old pid signal }
 {
-    match shared.entries.get_mut(pid) {
-        None => {}
-        Some(entry) => make_pending(&mut entry.signals, signal, Cause::Kernel),
-    }
+    let Some(entry) = shared.entries.get(pid) else {
+        return;
+    };
+    let mut signals = entry.signals;
+    make_pending(&mut signals, signal, Cause::Kernel);
+    shared.entries.set_signals(pid, signals);
 }
 
 /// SIGKILL is pending.
