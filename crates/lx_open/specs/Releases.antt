@@ -1,6 +1,6 @@
 -- What goes once nothing names it (POSIX close, unlink): a description that no descriptor names, a pipe without ends,
 -- and a node that neither a path nor a description names.
-use Rattle.std.specs.Prelude.{ℕ, Bool, true, false, ◌||◌, not, List, [], ◌∷◌, Option, Some, None, if◌then◌else◌}
+use Rattle.std.specs.Prelude.{◌≡◌, ℕ, Bool, true, false, ◌||◌, not, List, [], ◌∷◌, Option, Some, None, if◌then◌else◌}
 use Rattle.std.specs.List.{range_with_len}
 use Rattle.std.specs.FinMap as maps
 use Rattle.lx_files.specs.declared.tree.Tree.{Tree}
@@ -43,6 +43,10 @@ abbrev pub slot_closed : Tree → FdTable → ℕ → Option Slot → Held
 slot_closed tree fds key None = record { tree = tree; fds = fds }
 slot_closed tree fds key (Some s) =
     description_released tree (record fds { slots = maps.remove fds.slots key }) s.description
+
+-- the descriptions and what the pipes hold are the same
+abbrev pub AreEndsKept : FdTable → FdTable → Type 0
+AreEndsKept fds fds' = (fds'.descriptions ≡ fds.descriptions) × (fds'.pipes ≡ fds.pipes)
 
 -- a descriptor names nothing from now on
 unfoldable pub closed : Tree → FdTable → ℕ → ℕ → Held

@@ -1,9 +1,10 @@
 //! What goes once nothing names it.
 
-ghost use Rattle.std.specs.Prelude.{◌≡◌};
+ghost use Rattle.std.specs.Prelude.{◌≡◌, IsTrue};
 ghost use Rattle.lx_open.specs.Releases.{node_released, pipe_released, object_released, description_released};
 ghost use Rattle.lx_open.specs.Releases.{closed, unlinked};
 ghost use Rattle.lx_open.specs.Releases.{is_meant as is_meant_of, closed_if_meant, closed_each, all_closed};
+ghost use Rattle.lx_open.specs.Releases.{AreEndsKept};
 ghost use Rattle.lx_open.specs.Releases.{closed_on_exec};
 ghost use Rattle.std.specs.Prelude.{true, false};
 ghost use Rattle.std.specs.List.{range_with_len};
@@ -41,32 +42,44 @@ fn release_object(tree: &mut Tree, fds: &mut FdTable, object: Object)
     }
 }
 
+/// A description goes that no descriptor names: whether it stays.
 #[tactic(auto, unfolding(crate::specs::Releases::description_released))]
-fn release_description(tree: &mut Tree, fds: &mut FdTable, number: u32)
-    ensures { record { tree = tree.new; fds = fds.new } ≡ description_released tree.old fds.old number }
+fn release_description(tree: &mut Tree, fds: &mut FdTable, number: u32) -> bool
+    ensures held { record { tree = tree.new; fds = fds.new } ≡ description_released tree.old fds.old number }
+    ensures kept { IsTrue result → AreEndsKept fds.old fds.new }
 {
     if fds.slots.has(number) {
-        return;
+        return true;
     }
     let Some(description) = fds.descriptions.get(number) else {
-        return;
+        return true;
     };
     fds.descriptions.remove(number);
     release_object(tree, fds, description.object);
+    false
 }
 
-/// A descriptor names nothing from now on.
+/// A descriptor names nothing from now on: whether its description stays.
 #[tactic(auto, unfolding(crate::specs::Releases::closed))]
-pub fn close(tree: &mut Tree, fds: &mut FdTable, pid: u32, fd: u32)
-    ensures { record { tree = tree.new; fds = fds.new } ≡ closed tree.old fds.old pid fd }
+fn close_one(tree: &mut Tree, fds: &mut FdTable, pid: u32, fd: u32) -> bool
+    ensures held { record { tree = tree.new; fds = fds.new } ≡ closed tree.old fds.old pid fd }
+    ensures kept { IsTrue result → AreEndsKept fds.old fds.new }
 {
     let Some(slot) = fds.slot(pid, fd) else {
-        return;
+        return true;
     };
     if fd < 256 {
         fds.slots.remove(pair(pid, fd));
-        release_description(tree, fds, slot.description);
+        return release_description(tree, fds, slot.description);
     }
+    true
+}
+
+/// A descriptor names nothing from now on.
+pub fn close(tree: &mut Tree, fds: &mut FdTable, pid: u32, fd: u32)
+    ensures { record { tree = tree.new; fds = fds.new } ≡ closed tree.old fds.old pid fd }
+{
+    close_one(tree, fds, pid, fd);
 }
 
 /// A path names nothing from now on.
@@ -89,32 +102,40 @@ fn is_meant(on_exec: bool, slot: Option<Slot>) -> bool
     }
 }
 
-fn close_if_meant(tree: &mut Tree, fds: &mut FdTable, on_exec: bool, pid: u32, fd: u32)
-    ensures { record { tree = tree.new; fds = fds.new }
+fn close_if_meant(tree: &mut Tree, fds: &mut FdTable, on_exec: bool, pid: u32, fd: u32) -> bool
+    ensures held { record { tree = tree.new; fds = fds.new }
         ≡ closed_if_meant on_exec (record { tree = tree.old; fds = fds.old }) pid fd }
+    ensures kept { IsTrue result → AreEndsKept fds.old fds.new }
 {
     if is_meant(on_exec, fds.slot(pid, fd)) {
-        close(tree, fds, pid, fd);
+        return close_one(tree, fds, pid, fd);
     }
+    true
 }
 
-fn close_each(tree: &mut Tree, fds: &mut FdTable, on_exec: bool, pid: u32)
-    ensures { record { tree = tree.new; fds = fds.new }
+fn close_each(tree: &mut Tree, fds: &mut FdTable, on_exec: bool, pid: u32) -> bool
+    ensures held { record { tree = tree.new; fds = fds.new }
         ≡ closed_each on_exec (record { tree = tree.old; fds = fds.old }) pid (range_with_len 0 256) }
+    ensures kept { IsTrue result → AreEndsKept fds.old fds.new }
 {
     let mut at = 0u32;
+    let mut kept = true;
     while let Some(fd) = fds.next_open(pid, at) {
-        close_if_meant(tree, fds, on_exec, pid, fd);
+        let stays = close_if_meant(tree, fds, on_exec, pid, fd);
+        kept = stays & kept;
         at = fd + 1;
     }
+    kept
 }
 
-/// All descriptors of a process name nothing from now on, as at its end (POSIX _Exit).
+/// All descriptors of a process name nothing from now on, as at its end (POSIX _Exit): whether each description stays,
+/// since another process has it too.
 #[tactic(auto, unfolding(crate::specs::Releases::all_closed))]
-pub fn close_all(tree: &mut Tree, fds: &mut FdTable, pid: u32)
-    ensures { record { tree = tree.new; fds = fds.new } ≡ all_closed tree.old fds.old pid }
+pub fn close_all(tree: &mut Tree, fds: &mut FdTable, pid: u32) -> bool
+    ensures held { record { tree = tree.new; fds = fds.new } ≡ all_closed tree.old fds.old pid }
+    ensures kept { IsTrue result → AreEndsKept fds.old fds.new }
 {
-    close_each(tree, fds, false, pid);
+    close_each(tree, fds, false, pid)
 }
 
 /// A process's descriptors with FD_CLOEXEC name nothing from now on (POSIX exec).
