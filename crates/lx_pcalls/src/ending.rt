@@ -1,8 +1,8 @@
 //! The end of a process (_exit(2), wait(2)).
 
-ghost use Rattle.std.specs.Prelude.{◌≡◌, OnOk, OnErr};
+ghost use Rattle.std.specs.Prelude.{◌≡◌, IfOk, OnOk, OnErr, IsTrue};
 ghost use Rattle.lx_proc.specs.State.{changed, with_held};
-ghost use Rattle.lx_open.specs.Releases.{all_closed};
+ghost use Rattle.lx_open.specs.Releases.{all_closed, AreEndsKept};
 ghost use Rattle.lx_pcalls.specs.Ends.{with_word, dies, orphaned, cause_of_end};
 ghost use Rattle.lx_pcalls.specs.Ends.{released as released_entries};
 ghost use Rattle.lx_pcalls.specs.Ends.{wants_no_news as wants_no_news_of, told, retired, buried};
@@ -26,20 +26,25 @@ fn keep_word(shared: &mut Shared, pid: u32, word: u32) -> Result<(), AllocError>
     Ok(())
 }
 
-fn close_descriptors(shared: &mut Shared, pid: u32)
-    ensures { shared.new ≡ with_held shared.old (all_closed shared.old.tree shared.old.fds pid) }
+/// The process's descriptors are closed: whether each description stays.
+fn close_descriptors(shared: &mut Shared, pid: u32) -> bool
+    ensures closed { shared.new ≡ with_held shared.old (all_closed shared.old.tree shared.old.fds pid) }
+    ensures kept { IsTrue result → AreEndsKept shared.old.fds shared.new.fds }
 {
-    close_all(&mut shared.tree, &mut shared.fds, pid);
+    close_all(&mut shared.tree, &mut shared.fds, pid)
 }
 
-/// A process enters Dying: its descriptors are closed, and its wait word is kept.
+/// A process enters Dying: its descriptors are closed, and its wait word is kept. Whether each description stays, since
+/// another process has it too.
 #[inline(never)]
-pub fn die(shared: &mut Shared, pid: u32, word: u32) -> Result<(), AllocError>
+pub fn die(shared: &mut Shared, pid: u32, word: u32) -> Result<bool, AllocError>
     ensures died { OnOk result (shared.new ≡ dies shared.old pid word) }
+    ensures kept { IfOk result (λ kept. IsTrue kept → AreEndsKept shared.old.fds shared.new.fds) }
     ensures console { OnErr result (shared.new.console ≡ shared.old.console) }
 {
-    close_descriptors(shared, pid);
-    keep_word(shared, pid, word)
+    let kept = close_descriptors(shared, pid);
+    keep_word(shared, pid, word)?;
+    Ok(kept)
 }
 
 /// A child gets parent 0, and leaves the table where it is a zombie.
