@@ -1,5 +1,6 @@
 pub mod Births
 pub mod Booting
+pub mod Calming
 pub mod CallsFit
 pub mod Consoles
 pub mod Continuing
@@ -13,8 +14,11 @@ pub mod Plainness
 pub mod ProcessesFit
 pub mod Reaching
 pub mod Recording
+pub mod Resting
 pub mod Resuming
 pub mod Running
+pub mod Sleeping
 pub mod Steps
 pub mod Turning
 pub mod Waiting
+pub mod Watching

@@ -1,10 +1,25 @@
 -- The next process in the cycle of pids.
-use Rattle.std.proofs.Common.{◌≡◌, ℕ, ◌+◌, ◌<◌, ◌≤◌, Bool, true, false, Option, Some, None, refl, arith}
-use Rattle.std.specs.Prelude.{nat_le}
+use Rattle.std.proofs.Common.{◌≡◌, ◌⊎◌, ℕ, ◌+◌, ◌<◌, ◌≤◌, Bool, true, false, Option, Some, None, inl, inr, refl, subst, arith}
+use Rattle.std.specs.Prelude.{◌&&◌, ◌||◌, not, nat_le, nat_lt, IsSome}
+use Rattle.std.specs.Ordering.{nat_cmp}
+use Rattle.std.specs.FinMap as maps
+use Rattle.std.specs.FinMap.{FinMap}
+use Rattle.containers.specs.Keys.{IsNextKey}
+use Rattle.lx_model.specs.Finite.{at}
+use Rattle.lx_model.specs.declared.stage.Stage.TheVariants as stage
+use Rattle.lx_model.specs.declared.stage.Own.{Own}
+use Rattle.lx_model.specs.declared.stage.Own.TheVariants.{Alive, Dying, Gone}
+use Rattle.lx_proc.specs.declared.state.Shared.{Shared}
+use Rattle.lx_proc.specs.declared.state.Body.{Body}
+use Rattle.lx_fcalls.specs.Blocking.{would_block as file_would_block}
+use Rattle.lx_pcalls.specs.Calls.{would_block as process_would_block}
+use Rattle.lx_pcalls.specs.Interruption.{is_interrupted}
 use Rattle.std.proofs.lemmas.Bool.Decides.{nat_tests}
 use Rattle.lx_kernel.specs.Runs.{Run, is_able_in}
-use Rattle.lx_kernel.specs.Blocking.{can_turn_in}
-use Rattle.lx_kernel.specs.Scheduling.{IsFirstFrom, IsNextOf}
+use Rattle.lx_kernel.specs.Blocking.{can_turn, can_turn_in, would_block}
+use Rattle.lx_kernel.specs.Reactions.{is_killed}
+use Rattle.lx_kernel.specs.Scheduling.{Owns, AreUnable, IsFirstFrom, IsNextIn, IsNextOf}
+use Rattle.lx_kernel.specs.Sleeping.{is_quiet, rests, AllRest}
 use Rattle.lx_kernel.proofs.Moving.{able_where_turns}
 
 split : (q n : ℕ) (P : Type 0) (b : Bool) → nat_le q n ≡ b → (q ≤ n → P) → (n < q → P) → P
@@ -37,3 +52,54 @@ module _ (k : Run) where
     above = λ q lt able. absurd (not_able q (none q (omega arith)) able);
     else_first = λ le q able. split pid q (pid ≤ q) (nat_le pid q) refl (λ le. le) (λ less. absurd (not_able q (h.2 q (omega arith) less) able));
   }
+
+  next_of : (after : ℕ) (o : Option ℕ) → IsSome o → IsFirstFrom k.running.shared k.running.owns (after + 1) o → IsNextOf k after o
+  next_of after None some h = absurd (cc some)
+  next_of after (Some pid) some h = next_above after pid h
+
+  pub next_in : (after : ℕ) (o : Option ℕ) → IsNextIn k.running.shared k.running.owns after o → IsNextOf k after o
+  next_in after o h = elim h [ inl above ↦ next_of after o above.0 above.1 | inr first ↦ next_first after o first.0 first.1 ]
+
+-- Who rests has no turn
+
+quiet_waits : (killed waits other interrupted : Bool) → (waits && (not killed && not interrupted)) ≡ true → (killed || not ((waits || other) && not interrupted)) ≡ false
+quiet_waits true true other interrupted e = absurd (cc e)
+quiet_waits true false other interrupted e = absurd (cc e)
+quiet_waits false true other true e = absurd (cc e)
+quiet_waits false true other false e = refl
+quiet_waits false false other interrupted e = absurd (cc e)
+
+rests_unable : (s : Shared) (q : ℕ) (own : Own Body) → rests s q own ≡ true → can_turn s q own ≡ false
+unfolding rests can_turn would_block
+rests_unable s q (Alive b stage.Born) e = absurd (cc e)
+rests_unable s q (Alive b stage.Run) e = absurd (cc e)
+rests_unable s q (Alive b (stage.Faulting signal cause)) e = absurd (cc e)
+rests_unable s q (Alive b (stage.Entered joined)) e = absurd (cc e)
+rests_unable s q (Alive b (stage.Doing call)) e = quiet_waits (is_killed (maps.get s.entries q)) (file_would_block s q call b) (process_would_block s q call) (is_interrupted (maps.get s.entries q)) e
+rests_unable s q (Alive b (stage.Replaced call x)) e = absurd (cc e)
+rests_unable s q (Alive b (stage.Acted call x replaced)) e = absurd (cc e)
+rests_unable s q (Alive b stage.Finished) e = absurd (cc e)
+rests_unable s q (Alive b (stage.Taken signal cause)) e = absurd (cc e)
+rests_unable s q (Alive b stage.Dropped) e = absurd (cc e)
+rests_unable s q (Dying w) e = absurd (cc e)
+rests_unable s q Gone e = refl
+
+module _ {X : Type 0} (keys : FinMap nat_cmp X) (s : Shared) (owns : Owns) (rest : AllRest keys s owns) (after passed : ℕ) (low : after ≤ passed) (unable : AreUnable s owns (after + 1) (passed + 1)) where
+  resting : (q : ℕ) → 0 < q → maps.get keys q ≡ None → can_turn_in s owns q ≡ false
+  resting q up none = rests_unable s q (at Gone owns q) (rest q up none)
+
+  -- none up to the next key
+  pub unable_before : (pid : ℕ) → IsNextKey keys passed (Some pid) → AreUnable s owns (after + 1) pid
+  unable_before pid next = λ q from to. split q passed (can_turn_in s owns q ≡ false) (nat_le q passed) refl
+      (λ le. unable q from (omega (arith, le)))
+      (λ lt. resting q (omega (arith, lt)) (next.2 q lt to))
+
+  pub unable_upto : (pid : ℕ) → IsNextKey keys passed (Some pid) → can_turn_in s owns pid ≡ false → AreUnable s owns (after + 1) (pid + 1)
+  unable_upto pid next here = λ q from to. split pid q (can_turn_in s owns q ≡ false) (nat_le pid q) refl
+      (λ ge. subst (λ n. can_turn_in s owns n ≡ false) (let same : pid ≡ q = omega (arith, ge, to) in same) here)
+      (λ lt. unable_before pid next q from lt)
+
+  pub unable_all : IsNextKey keys passed None → IsFirstFrom s owns (after + 1) None
+  unable_all last = λ q from. split q passed (can_turn_in s owns q ≡ false) (nat_le q passed) refl
+      (λ le. unable q from (omega (arith, le)))
+      (λ lt. resting q (omega (arith, lt)) (last q lt))

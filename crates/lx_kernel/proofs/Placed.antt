@@ -7,7 +7,7 @@ use Rattle.std.specs.declared.cmp.Ordering.TheVariants.{Less, Equal, Greater}
 use Rattle.std.specs.FinMap as maps
 use Rattle.std.specs.FinMap.{FinMap}
 
-equal_is : (o : Ordering) → is_eq o ≡ true → o ≡ Equal
+pub equal_is : (o : Ordering) → is_eq o ≡ true → o ≡ Equal
 equal_is Less e = absurd (cc e)
 equal_is Equal e = refl
 equal_is Greater e = absurd (cc e)

@@ -14,3 +14,4 @@ pub mod Turns
 pub mod Tracing
 pub mod Laws
 pub mod Scheduling
+pub mod Sleeping

@@ -1,5 +1,5 @@
 -- Which process is the next that can take a turn, in the order of pids.
-use Rattle.std.specs.Prelude.{◌≡◌, ℕ, ◌<◌, ◌≤◌, true, false, Option, Some, None}
+use Rattle.std.specs.Prelude.{◌≡◌, ◌⊎◌, ◌+◌, ℕ, ◌<◌, ◌≤◌, true, false, Option, Some, None, IsSome}
 use Rattle.std.specs.Ordering.{nat_cmp}
 use Rattle.std.specs.FinMap.{FinMap}
 use Rattle.lx_model.specs.declared.stage.Own.{Own}
@@ -32,3 +32,9 @@ AreUnable s owns from to = (q : ℕ) → from ≤ q → q < to → can_turn_in s
 abbrev pub IsFirstFrom : Shared → Owns → ℕ → Option ℕ → Type 0
 IsFirstFrom s owns from None = (q : ℕ) → from ≤ q → can_turn_in s owns q ≡ false
 IsFirstFrom s owns from (Some pid) = (from ≤ pid) × (can_turn_in s owns pid ≡ true) × AreUnable s owns from pid
+
+-- the first above a pid, or else the first of all
+abbrev pub IsNextIn : Shared → Owns → ℕ → Option ℕ → Type 0
+IsNextIn s owns after o =
+    (IsSome o × IsFirstFrom s owns (after + 1) o)
+    ⊎ (IsFirstFrom s owns (after + 1) None × IsFirstFrom s owns 0 o)

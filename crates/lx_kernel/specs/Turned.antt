@@ -1,5 +1,5 @@
 -- What the parts of a turn answer, beside what they leave in the parts that they are lent.
-use Rattle.std.specs.Prelude.{ℕ, suc, ◌≤◌, Bool, true, false, cond, Option, Some}
+use Rattle.std.specs.Prelude.{◌≡◌, ℕ, suc, ◌≤◌, Bool, true, false, cond, Option, Some}
 use Rattle.std.specs.Ordering.{nat_cmp}
 use Rattle.std.specs.FinMap as maps
 use Rattle.std.specs.FinMap.{FinMap}
@@ -58,6 +58,11 @@ turned_by (On done) s b p stage next item = record {
   event = event_of done;
 }
 turned_by (Ended w) s b p stage next item = ended s p w stage
+
+-- a process that ends leaves what is shared until then
+abbrev pub EndsSame : Went → Shared → Shared → Type 0
+EndsSame (On done) s s' = Unit {0}
+EndsSame (Ended w) s s' = s' ≡ s
 
 abbrev pub is_gone : Own Body → Bool
 is_gone (Alive b stage) = false

@@ -5,6 +5,11 @@ ghost use Rattle.lx_fcalls.specs.Blocking.{would_block as file_would_block};
 ghost use Rattle.lx_pcalls.specs.Calls.{would_block as process_would_block};
 ghost use Rattle.lx_model.specs.declared.stage.Own.TheVariants.{Alive};
 ghost use Rattle.lx_kernel.specs.Blocking.{would_block as would_block_in, can_turn as can_turn_of, can_turn_in};
+ghost use Rattle.lx_kernel.specs.Sleeping.{is_quiet as is_quiet_at, rests_at as rests_of, rests as rests_in};
+ghost use Rattle.lx_kernel.specs.Sleeping.{is_calm_call as is_calm_call_of, is_calm_at as is_calm_stage};
+ghost use Rattle.std.specs.FinMap as maps;
+ghost use Rattle.lx_model.specs.Finite.{at};
+ghost use Rattle.lx_model.specs.declared.stage.Own.TheVariants.{Gone};
 
 use crate::signals::is_killed;
 use containers::Map;
@@ -49,5 +54,64 @@ pub fn can_turn(shared: &Shared, owns: &Map<Own<Body>>, pid: u32) -> bool
         Some(Own::Alive { body, stage }) => can_go_on(shared, pid, body, *stage),
         Some(Own::Dying { .. }) => true,
         Some(Own::Gone) | None => false,
+    }
+}
+
+/// No signal is pending that would end a wait.
+fn is_quiet(shared: &Shared, pid: u32) -> bool
+    ensures { result ≡ is_quiet_at (maps.get shared.now.entries pid) }
+{
+    !is_killed(shared, pid) && !is_interrupted(shared, pid)
+}
+
+/// The living process waits in a read or a write of a pipe.
+fn rests_at(shared: &Shared, pid: u32, body: &Body, stage: Stage) -> bool
+    ensures { result ≡ rests_of shared.now pid body.now stage }
+{
+    match stage {
+        Stage::Doing { call } => {
+            lx_fcalls::would_block(shared, pid, &call, body) && is_quiet(shared, pid)
+        }
+        _ => false,
+    }
+}
+
+/// The process waits in a read or a write of a pipe, or is gone.
+#[tactic(auto, unfolding(crate::specs::Sleeping::rests))]
+pub fn rests(shared: &Shared, owns: &Map<Own<Body>>, pid: u32) -> bool
+    ensures { result ≡ rests_in shared.now pid (at Gone owns.now pid) }
+{
+    match owns.get(pid) {
+        Some(Own::Alive { body, stage }) => rests_at(shared, pid, body, *stage),
+        Some(Own::Dying { .. }) => false,
+        Some(Own::Gone) | None => true,
+    }
+}
+
+/// A call that leaves the descriptors and the signals of each other process as they are.
+fn is_calm_call(number: u64) -> bool
+    ensures { result ≡ is_calm_call_of number }
+{
+    number == 124
+        || number == 134
+        || number == 135
+        || number == 139
+        || number == 172
+        || number == 173
+        || number == 178
+        || number == 214
+        || number == 215
+        || number == 220
+        || number == 222
+        || number == 260
+}
+
+/// A turn of a process that stands so, and lives after it, wakes no other.
+pub fn is_calm(stage: Stage) -> bool
+    ensures { result ≡ is_calm_stage stage }
+{
+    match stage {
+        Stage::Doing { call } => is_calm_call(call.number),
+        _ => true,
     }
 }

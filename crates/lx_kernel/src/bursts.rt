@@ -1,11 +1,14 @@
 //! Turns of one process in a row that all begin and end in Run.
 
-ghost use Rattle.std.specs.Prelude.{◌≡◌, None, IfOk, not, ◌&&◌, is_some};
+ghost use Rattle.std.specs.Prelude.{◌≡◌, ℕ, None, IfOk, OnOk, not, ◌&&◌, is_some};
 ghost use Rattle.std.specs.FinMap as maps;
 ghost use Rattle.lx_kernel.specs.Reactions.{next_of, is_killed as is_killed_at};
 ghost use Rattle.lx_kernel.specs.Bursts.{Burst, Continues, OwnContinues, with_owns};
 ghost use Rattle.lx_kernel.specs.Runs.{Run as KernelRun};
+ghost use Rattle.lx_kernel.specs.Sleeping.{IsKept};
+ghost use Rattle.lx_model.specs.Finite.{at};
 ghost use Rattle.lx_model.specs.declared.stage.Own.TheVariants as Own;
+ghost use Rattle.lx_model.specs.declared.stage.Own.TheVariants.{Gone};
 
 use containers::Map;
 use lx_model::{Own, Stage};
@@ -88,8 +91,9 @@ pub fn run(
     pid: u32,
     limit: u64,
 ) -> Result<u64, AllocError>
-    ensures { IfOk result (λ n. (k : KernelRun) → k.running.shared ≡ shared.now → k.running.owns
+    ensures burst { IfOk result (λ n. (k : KernelRun) → k.running.shared ≡ shared.now → k.running.owns
         ≡ owns.old → Burst k pid limit n (with_owns k owns.new)) }
+    ensures kept { OnOk result ((q : ℕ) → IsKept shared.now q (at Gone owns.old q) (at Gone owns.new q)) }
 {
     if !is_undisturbed(shared, pid) {
         return Ok(0);

@@ -10,7 +10,7 @@ ghost use Rattle.lx_model.specs.Turn.{turn};
 ghost use Rattle.lx_model.specs.declared.stage.Own.TheVariants.{Alive, Dying, Gone};
 ghost use Rattle.lx_model.specs.declared.stage.Stage.TheVariants.{Born};
 ghost use Rattle.lx_kernel.specs.Linux.{linux};
-ghost use Rattle.lx_kernel.specs.Turned.{turned, turned_by, event_of, is_gone, owns_with};
+ghost use Rattle.lx_kernel.specs.Turned.{turned, turned_by, event_of, is_gone, owns_with, EndsSame};
 ghost use Rattle.lx_kernel.specs.Turned.{without_gone, next_child, IsLeft, IsBirth};
 ghost use Rattle.lx_kernel.specs.Turns.{Turns};
 ghost use Rattle.lx_kernel.specs.Outcomes.{outcome_in};
@@ -20,17 +20,19 @@ ghost use Rattle.lx_kernel.specs.Tracing.{own_in, regs_of, peek_of, signal_of};
 ghost use Rattle.lx_kernel.specs.Tracing.{with_regs, with_joined, with_dropped, with_part};
 ghost use Rattle.lx_proc.specs.declared.state.Body.{Body};
 ghost use Rattle.lx_kernel.specs.Scheduling.{IsNextOf};
+ghost use Rattle.lx_kernel.specs.Sleeping.{Calms, told_by};
 ghost use Rattle.lx_kernel.specs.Runs.{turn_in, after_turn, is_able_in, mode_in, own_mode as own_mode_of, life_mode};
 ghost use Rattle.lx_kernel.specs.Occurrences.{Agree};
 ghost use Rattle.lx_abi.specs.Occurrences.{count_of};
 ghost use Rattle.lx_abi.specs.Log.{is_entry};
 ghost use Rattle.std.specs.Option.{option_to_list};
 
-use crate::blocking::can_turn;
+use crate::blocking::{can_turn, is_calm};
 use crate::effects::Effect;
 use crate::outcome::outcome;
-use crate::scheduling::{first_able, next_able};
+use crate::scheduling::next_in_cycle;
 use crate::signals::is_killed;
+use crate::sleepers::{Hints, Sleepers};
 use crate::stages::{Went, go, mode};
 use crate::tampering::Tampering;
 use crate::{bursts, tracing};
@@ -66,25 +68,40 @@ pub struct Moved {
     pub deed: Deed,
 }
 
-/// Where a process stood before a turn and stands after it, what was done beside, and whether the process is gone.
+/// Where a process stood before a turn and stands after it, what was done beside, whether the process is gone, whether
+/// the turn was calm to the others, who is roused beside, and whether the process may rest now.
 #[derive(Drop)]
 struct Transition {
     before: Option<Mode>,
     after: Option<Mode>,
     done: Effect,
     gone: bool,
+    calm: bool,
+    roused: u32,
+    may_rest: bool,
 }
 
 impl Transition {
     /// The process is gone.
-    fn of_gone(before: Option<Mode>, after: Option<Mode>) -> Transition
-        ensures { result ≡ record { before = before; after = after; done = Effect.Plain; gone = true } }
+    fn of_gone(before: Option<Mode>, after: Option<Mode>, roused: u32) -> Transition
+        ensures { result ≡ record {
+          before = before;
+          after = after;
+          done = Effect.Plain;
+          gone = true;
+          calm = true;
+          roused = roused;
+          may_rest = false;
+        } }
     {
         Transition {
             before,
             after,
             done: Effect::Plain,
             gone: true,
+            calm: true,
+            roused,
+            may_rest: false,
         }
     }
 }
@@ -104,6 +121,7 @@ fn turn_alive(
     ensures turned { IfOk result (λ w. turned (turn linux
         (choice_of_call tampering.now pid body.old) shared.old child pid (Alive body.old stage.old))
         ≡ turned_by w shared.new body.new pid stage.old stage.new item.new) }
+    ensures ends { IfOk result (λ w. EndsSame w shared.old shared.new) }
     ensures console { OnErr result (shared.new.console ≡ shared.old.console) }
 {
     if is_killed(shared, pid) {
@@ -129,6 +147,24 @@ fn end(own: &mut Own<Body>, word: u32)
     *own = Own::Dying { word };
 }
 
+/// Who is told of a process's end: its parent.
+fn told_of(shared: &Shared, pid: u32) -> u32
+    ensures { result ≡ told_by pid (maps.get shared.now.entries pid) }
+{
+    match shared.entries.get(pid) {
+        None => pid,
+        Some(entry) => entry.parent,
+    }
+}
+
+/// The process is in a call that may wait for a pipe.
+fn reads_or_writes(stage: &Stage) -> bool {
+    match stage {
+        Stage::Doing { call } => call.number == 63 || call.number == 64,
+        _ => false,
+    }
+}
+
 /// One turn of a process with a part of its own, and what it logs.
 fn turn_own(
     alloc: Global,
@@ -146,30 +182,36 @@ fn turn_own(
     ensures before { IfOk result (λ t. t.before ≡ own_mode_of (maps.get shared.old.entries pid) own.old) }
     ensures after { IfOk result (λ t. t.after ≡ own_mode_of (maps.get shared.new.entries pid) own.new) }
     ensures gone { IfOk result (λ t. t.gone ≡ is_gone own.new) }
+    ensures calm { IfOk result (λ t. IsTrue t.calm → Calms shared.old shared.new child pid t.roused (event_of t.done)) }
     ensures absent { own.old ≡ Gone → IsOkAnd result (λ t. (item.new ≡ None) × (event_of t.done ≡ Plain)) }
     ensures console { OnErr result (shared.new.console ≡ shared.old.console) }
 {
     match own {
         Own::Gone => {
             let mode = mode_of_gone(shared, pid);
-            Ok(Transition::of_gone(mode, mode))
+            Ok(Transition::of_gone(mode, mode, pid))
         }
         Own::Dying { word } => {
+            let parent = told_of(shared, pid);
             bury(shared, pid, *word)?;
             leave(own);
-            Ok(Transition::of_gone(Some(Mode::Dying), mode_of_gone(shared, pid)))
+            Ok(Transition::of_gone(Some(Mode::Dying), mode_of_gone(shared, pid), parent))
         }
         Own::Alive { body, stage } => {
             let left = mode(stage);
+            let calm = is_calm(*stage);
             match turn_alive(alloc, shared, tampering, child, pid, body, stage, item)? {
                 Went::On(done) => Ok(Transition {
                     before: Some(left),
                     after: Some(mode(stage)),
                     done,
                     gone: false,
+                    calm,
+                    roused: pid,
+                    may_rest: reads_or_writes(stage),
                 }),
                 Went::Ended { word } => {
-                    die(shared, pid, word)?;
+                    let calm = die(shared, pid, word)?;
                     end(own, word);
                     *item = Some(Item::Exit { pid, word, left });
                     Ok(Transition {
@@ -177,6 +219,9 @@ fn turn_own(
                         after: Some(Mode::Dying),
                         done: Effect::Plain,
                         gone: false,
+                        calm,
+                        roused: pid,
+                        may_rest: false,
                     })
                 }
             }
@@ -218,13 +263,14 @@ fn turn_at(
     ensures before { IfOk result (λ t. t.before
         ≡ own_mode_of (maps.get shared.old.entries pid) (at Gone owns.old pid)) }
     ensures after { IfOk result (λ t. t.after ≡ own_mode_of (maps.get shared.new.entries pid) (at Gone owns.new pid)) }
+    ensures calm { IfOk result (λ t. IsTrue t.calm → Calms shared.old shared.new child pid t.roused (event_of t.done)) }
     ensures absent { at Gone owns.old pid ≡ Gone → IsOkAnd result (λ t. (item.new ≡ None) × (event_of t.done ≡ Plain)) }
     ensures console { OnErr result (shared.new.console ≡ shared.old.console) }
 {
     let transition = match owns.get_mut(pid) {
         None => {
             let mode = mode_of_gone(shared, pid);
-            return Ok(Transition::of_gone(mode, mode));
+            return Ok(Transition::of_gone(mode, mode, pid));
         }
         Some(own) => turn_own(alloc, shared, tampering, child, pid, own, item)?,
     };
@@ -267,6 +313,7 @@ pub struct Kernel {
     alloc: Global,
     shared: Shared,
     owns: Map<Own<Body>>,
+    sleepers: Sleepers,
     /// The next pid.
     child: u32,
     log: Vec<Item>,
@@ -284,6 +331,7 @@ impl Model for Kernel {
     ghost use Rattle.std.specs.FinMap as maps;
     ghost use Rattle.lx_kernel.specs.Runs.{Run};
     ghost use Rattle.lx_kernel.specs.Occurrences.{Agree};
+    ghost use Rattle.lx_kernel.specs.Sleeping.{Watch};
 
     ghost Value = { Run };
 
@@ -291,7 +339,7 @@ impl Model for Kernel {
 
     ghost view = { λ k. record { running = record { shared = k.shared; owns = k.owns; child = k.child; log = k.log.items }; script = k.script; follow = k.follow; failed = k.failed } };
 
-    ghost invariant = { λ k. k.failed ≡ false → Agree k.occurrences k.log.items };
+    ghost invariant = { λ k. k.failed ≡ false → Agree k.occurrences k.log.items × Watch k.sleepers k.shared k.owns };
 }
 
 /// Where a process stands.
@@ -373,6 +421,7 @@ impl Kernel {
         script: Script,
         follow: bool,
     ) -> Self
+        requires { (q : ℕ) → (q ≡ 1 → ⊥) → at Gone owns q ≡ Gone }
         ensures { result ≡ record {
           running =
               record { shared = shared; owns = owns; child = 2; log = [] };
@@ -381,10 +430,13 @@ impl Kernel {
           failed = false;
         } }
     {
+        let mut sleepers = Sleepers::new(alloc);
+        sleepers.wake(1);
         Kernel {
             alloc,
             shared,
             owns,
+            sleepers,
             child: 2,
             log: Vec::new(alloc),
             occurrences: Occurrences::new(alloc),
@@ -435,10 +487,22 @@ impl Kernel {
             before,
             after,
             done,
-            ..
+            gone,
+            calm,
+            roused,
+            may_rest,
         } = transition;
         let deed = done.deed();
+        self.sleepers.welcome(&done, self.child);
         place_child(&mut self.owns, &mut self.child, done)?;
+        self.sleepers.rouse(&self.shared, &self.owns, pid, roused);
+        self.sleepers.pass(
+            &self.shared,
+            &self.owns,
+            pid,
+            calm,
+            Hints { may_rest, gone },
+        );
         log_item(&mut self.log, &mut self.occurrences, &item)?;
         let after = mode_after(&self.shared, &self.owns, pid, deed, after);
         self.failed = false;
@@ -481,9 +545,10 @@ impl Kernel {
     pub fn next_able(&self, after: u32) -> Option<u32>
         ensures { IsNextOf self.now after result }
     {
-        match next_able(&self.shared, &self.owns, after) {
-            Some(pid) => Some(pid),
-            None => first_able(&self.shared, &self.owns),
+        if self.failed || !self.sleepers.known {
+            next_in_cycle(&self.shared, &self.owns, &self.owns, after)
+        } else {
+            next_in_cycle(&self.shared, &self.owns, &self.sleepers.awake, after)
         }
     }
 

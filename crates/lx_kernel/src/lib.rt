@@ -11,6 +11,7 @@ pub mod laws;
 mod outcome;
 mod scheduling;
 mod signals;
+mod sleepers;
 pub mod stages;
 pub mod tampering;
 mod tracing;

@@ -1,20 +1,21 @@
 //! Which processes can take a turn.
 
-ghost use Rattle.std.specs.Prelude.{◌≡◌, ◌+◌};
-ghost use Rattle.lx_kernel.specs.Scheduling.{IsFirstFrom};
+ghost use Rattle.std.specs.Prelude.{◌+◌};
+ghost use Rattle.lx_kernel.specs.Scheduling.{IsFirstFrom, IsNextIn};
+ghost use Rattle.lx_kernel.specs.Sleeping.{AllRest};
 
 use crate::blocking::can_turn;
 use containers::Map;
 use lx_model::Own;
 use lx_proc::{Body, Shared};
 
-/// The first process above a pid that can take a turn.
-#[tactic(auto, unfolding(crate::specs::Blocking::can_turn))]
-pub fn next_able(shared: &Shared, owns: &Map<Own<Body>>, after: u32) -> Option<u32>
+/// The first process above a pid that can take a turn. Each that rests may be left out of the keys.
+fn next_able<V>(shared: &Shared, owns: &Map<Own<Body>>, keys: &Map<V>, after: u32) -> Option<u32>
+    requires { AllRest keys.now shared.now owns.now }
     ensures { IsFirstFrom shared.now owns.now (after + 1) result }
 {
     let mut passed = after;
-    while let Some(pid) = owns.next_key(passed) {
+    while let Some(pid) = keys.next_key(passed) {
         if can_turn(shared, owns, pid) {
             return Some(pid);
         }
@@ -24,12 +25,29 @@ pub fn next_able(shared: &Shared, owns: &Map<Own<Body>>, after: u32) -> Option<u
 }
 
 /// The first process that can take a turn.
-pub fn first_able(shared: &Shared, owns: &Map<Own<Body>>) -> Option<u32>
+fn first_able<V>(shared: &Shared, owns: &Map<Own<Body>>, keys: &Map<V>) -> Option<u32>
+    requires { AllRest keys.now shared.now owns.now }
     ensures { IsFirstFrom shared.now owns.now 0 result }
 {
     // no process has pid 0, but a table may have a key 0
     if can_turn(shared, owns, 0) {
         return Some(0);
     }
-    next_able(shared, owns, 0)
+    next_able(shared, owns, keys, 0)
+}
+
+/// The first process above a pid that can take a turn, or else the first of all.
+pub fn next_in_cycle<V>(
+    shared: &Shared,
+    owns: &Map<Own<Body>>,
+    keys: &Map<V>,
+    after: u32,
+) -> Option<u32>
+    requires { AllRest keys.now shared.now owns.now }
+    ensures { IsNextIn shared.now owns.now after result }
+{
+    match next_able(shared, owns, keys, after) {
+        Some(pid) => Some(pid),
+        None => first_able(shared, owns, keys),
+    }
 }

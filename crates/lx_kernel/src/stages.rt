@@ -11,7 +11,7 @@ ghost use Rattle.lx_proc.specs.Registers.{regs};
 ghost use Rattle.lx_kernel.specs.Reactions.{next_of, runs, stepped_by, resumed};
 ghost use Rattle.lx_kernel.specs.Calls.{does as meaning};
 ghost use Rattle.lx_kernel.specs.Tampering.{choice_of_call};
-ghost use Rattle.lx_kernel.specs.Turned.{turned, turned_by, goes_on};
+ghost use Rattle.lx_kernel.specs.Turned.{turned, turned_by, goes_on, EndsSame};
 ghost use Rattle.lx_model.specs.declared.stage.Stage.TheVariants as stages;
 ghost use Rattle.lx_proc.specs.declared.state.Shared.{Shared};
 
@@ -202,6 +202,7 @@ fn do_call(
     ensures turned { IfOk result (λ w. turned (answered linux shared.old child pid body.old call
         (meaning shared.old child pid call body.old)) ≡ turned_by w shared.new body.new pid
         (stages.Doing call) stage.new None) }
+    ensures ends { IfOk result (λ w. EndsSame w shared.old shared.new) }
     ensures console { OnErr result (shared.new.console ≡ shared.old.console) }
 {
     match does(alloc, shared, child, pid, &call, body)? {
@@ -230,6 +231,7 @@ fn react(
     ensures turned { IfOk result (λ w. turned (took linux shared.old pid signal cause
         (takes shared.old pid body.old signal cause)) ≡ turned_by w shared.new body.new pid
         (stages.Taken signal cause) stage.new None) }
+    ensures ends { IfOk result (λ w. EndsSame w shared.old shared.new) }
     ensures console { OnErr result (shared.new.console ≡ shared.old.console) }
 {
     match take(shared, pid, body, signal, cause)? {
@@ -256,6 +258,7 @@ pub fn go(
     ensures turned { IfOk result (λ w. turned (lives linux
         (choice_of_call tampering.now pid body.old) shared.old child pid body.old stage.old)
         ≡ turned_by w shared.new body.new pid stage.old stage.new item.new) }
+    ensures ends { IfOk result (λ w. EndsSame w shared.old shared.new) }
     ensures console { OnErr result (shared.new.console ≡ shared.old.console) }
 {
     match *stage {

@@ -1,5 +1,9 @@
-use Rattle.std.proofs.Common.{◌≡◌, ◌∙◌, ap, false, []}
+use Rattle.std.proofs.Common.{◌≡◌, ◌∙◌, ap, sym, subst, false, []}
 use Rattle.lx_boot.specs.First.{first_shared, first_owns}
+use Rattle.lx_model.specs.Finite.{at}
+use Rattle.lx_model.specs.declared.stage.Own.TheVariants.{Gone}
+use Rattle.lx_kernel.specs.Scheduling.{Owns}
+use Rattle.lx_kernel.proofs.Watching.{alone}
 use Rattle.lx_kernel.proofs.first.first.Goals as goal
 
 pub returns : goal.returns
@@ -17,3 +21,7 @@ returns c =
       follow = c.args.boot.follow;
       failed = false;
     }
+
+pub new-requires-2 : goal.new-requires-2
+new-requires-2 c = λ q ne.
+    ap (λ (o : Owns). at Gone o q) c.in_ok-owns.ensures ∙ alone _ q ne

@@ -3,10 +3,10 @@ use Rattle.lx_kernel.specs.Scheduling.{AreUnable}
 use Rattle.lx_kernel.proofs.scheduling.next_able.Given as goal
 
 abbrev pub invariant-loop-pid : goal.invariant-loop-pid
-invariant-loop-pid l = record {
+invariant-loop-pid g l = record {
   low : l.after ≤ l.passed;
   unable : AreUnable l.shared l.owns (l.after + 1) (l.passed + 1);
 }
 
 abbrev pub decreases-loop-pid : goal.decreases-loop-pid
-decreases-loop-pid l = 2 ^ 32 - l.passed
+decreases-loop-pid g l = 2 ^ 32 - l.passed

@@ -1,17 +1,24 @@
-use Rattle.std.proofs.Common.{Some, subst}
+use Rattle.std.proofs.Common.{Bool, false, sym, subst, ap, ◌∙◌}
+use Rattle.std.specs.FinMap as maps
+use Rattle.std.specs.Option.{unwrap_or}
+use Rattle.lx_model.specs.declared.stage.Own.TheVariants.{Gone}
 use Rattle.lx_kernel.specs.Runs.{Run}
 use Rattle.lx_kernel.specs.Scheduling.{IsNextOf}
-use Rattle.lx_kernel.proofs.NextAble.{next_above, next_first}
+use Rattle.lx_kernel.proofs.NextAble.{next_in}
+use Rattle.lx_kernel.proofs.Sleeping.{gone_rests}
 use Rattle.lx_kernel.proofs.kernel.Kernel.next_able.Goals as goal
 
-pub returns-in-Some : goal.returns-in-Some
-returns-in-Some c =
-    let k = c.self.inside in
-    let run : Run = record { running = record { shared = k.shared; owns = k.owns; child = k.child; log = k.log.items }; script = k.script; follow = k.follow; failed = k.failed } in
-    subst (λ r. IsNextOf r c.args.after (Some c.in-Some.pid)) c.self.view_is (next_above run c.args.after c.in-Some.pid c.in-Some.ensures)
+pub next_in_cycle-requires : goal.next_in_cycle-requires
+next_in_cycle-requires c = λ q up none. gone_rests c.self.inside.shared q _ (ap (λ o. unwrap_or o Gone) none)
 
-pub returns-in-None : goal.returns-in-None
-returns-in-None c =
+pub returns-then-not-self : goal.returns-then-not-self
+returns-then-not-self c =
     let k = c.self.inside in
     let run : Run = record { running = record { shared = k.shared; owns = k.owns; child = k.child; log = k.log.items }; script = k.script; follow = k.follow; failed = k.failed } in
-    subst (λ r. IsNextOf r c.args.after c.first_able.result) c.self.view_is (next_first run c.args.after c.first_able.result c.in-None.ensures c.first_able.ensures)
+    subst (λ r. IsNextOf r c.args.after c.next_in_cycle.result) c.self.view_is (next_in run c.args.after c.next_in_cycle.result c.next_in_cycle.ensures)
+
+pub returns-else-not-self : goal.returns-else-not-self
+returns-else-not-self c =
+    let k = c.self.inside in
+    let run : Run = record { running = record { shared = k.shared; owns = k.owns; child = k.child; log = k.log.items }; script = k.script; follow = k.follow; failed = k.failed } in
+    subst (λ r. IsNextOf r c.args.after c.next_in_cycle-else-not-self.result) c.self.view_is (next_in run c.args.after c.next_in_cycle-else-not-self.result c.next_in_cycle-else-not-self.ensures)

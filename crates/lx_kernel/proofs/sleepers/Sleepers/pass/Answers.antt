@@ -1,0 +1,7 @@
+use Rattle.std.proofs.Common.{sym, ◌∙◌}
+use Rattle.lx_kernel.proofs.Sleeping.{all_awake}
+use Rattle.lx_kernel.proofs.sleepers.Sleepers.pass.Goals as goal
+
+pub returns-then-not-hints-2 : goal.returns-then-not-hints-2
+returns-then-not-hints-2 c = λ known.
+    all_awake c.args.self.now c.args.shared.now c.args.owns.now (sym c.len.ensures ∙ c.if-len-eq0.true) (c.requires.listed known)

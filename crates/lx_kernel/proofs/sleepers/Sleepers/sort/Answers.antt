@@ -1,0 +1,45 @@
+use Rattle.std.proofs.Common.{ap, sym, ◌∙◌}
+use Rattle.std.specs.FinMap as maps
+use Rattle.lx_proc.specs.declared.state.Shared.{Shared}
+use Rattle.lx_kernel.proofs.Sleeping.{other_put, other_left, put_there, absent_gone, gone_rests}
+use Rattle.lx_kernel.proofs.sleepers.Sleepers.sort.Goals as goal
+
+pub returns-then-is_absent-clause-itself : goal.returns-then-is_absent-clause-itself
+returns-then-is_absent-clause-itself c = λ known unwatched.
+    let gone = absent_gone (maps.get c.args.owns.now c.args.pid) (sym c.is_absent.ensures ∙ c.if-is_absent.true) in
+    (gone_rests c.args.shared.now c.args.pid _ gone, λ unslept. gone)
+
+pub returns-then-is_absent-clause-others : goal.returns-then-is_absent-clause-others
+returns-then-is_absent-clause-others c = λ known. (
+  sym c.forget.ensures.known ∙ known,
+  λ q ne. (
+    ap (λ m. maps.get m q) c.forget.ensures.awake ∙ other_left c.args.self.now.awake c.args.pid q ne,
+    ap (λ m. maps.get m q) c.forget.ensures.asleep ∙ other_left c.args.self.now.asleep c.args.pid q ne,
+  ),
+)
+
+pub returns-then-rests-clause-itself : goal.returns-then-rests-clause-itself
+returns-then-rests-clause-itself c = λ known unwatched.
+    (sym c.rests.ensures ∙ c.if-rests.true, λ unslept. put_there c.args.self.now.asleep c.put_to_sleep.new.self.asleep c.args.pid tt (c.put_to_sleep.ensures.asleep known) unslept)
+
+pub returns-then-rests-clause-others : goal.returns-then-rests-clause-others
+returns-then-rests-clause-others c = λ known. (
+  c.put_to_sleep.ensures.known known,
+  λ q ne. (
+    ap (λ m. maps.get m q) c.put_to_sleep.ensures.awake ∙ other_left c.args.self.now.awake c.args.pid q ne,
+    ap (λ m. maps.get m q) (c.put_to_sleep.ensures.asleep known) ∙ other_put c.args.self.now.asleep c.args.pid q ne tt,
+  ),
+)
+
+pub returns-else-hints-2-clause-itself : goal.returns-else-hints-2-clause-itself
+returns-else-hints-2-clause-itself c = λ known unwatched.
+    put_there c.args.self.now.awake c.wake.new.self.awake c.args.pid tt (c.wake.ensures.awake known) unwatched
+
+pub returns-else-hints-2-clause-others : goal.returns-else-hints-2-clause-others
+returns-else-hints-2-clause-others c = λ known. (
+  c.wake.ensures.known known,
+  λ q ne. (
+    ap (λ m. maps.get m q) (c.wake.ensures.awake known) ∙ other_put c.args.self.now.awake c.args.pid q ne tt,
+    ap (λ m. maps.get m q) c.wake.ensures.asleep ∙ other_left c.args.self.now.asleep c.args.pid q ne,
+  ),
+)

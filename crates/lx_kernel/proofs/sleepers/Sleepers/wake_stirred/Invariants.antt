@@ -1,0 +1,13 @@
+use Rattle.std.proofs.Common.{◌≡◌, ◌-◌, ◌^◌, true}
+use Rattle.lx_kernel.specs.Sleeping.{AreListed}
+use Rattle.lx_kernel.proofs.Sleeping.{RestUpTo}
+use Rattle.lx_kernel.proofs.sleepers.Sleepers.wake_stirred.Given as goal
+
+abbrev pub invariant-loop-pid : goal.invariant-loop-pid
+invariant-loop-pid l = record {
+  listed : l.self.known ≡ true → AreListed l.self l.owns;
+  seen : l.self.known ≡ true → RestUpTo l.self l.shared l.owns l.passed;
+}
+
+abbrev pub decreases-loop-pid : goal.decreases-loop-pid
+decreases-loop-pid l = 2 ^ 32 - l.passed

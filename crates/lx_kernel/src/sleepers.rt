@@ -1,0 +1,166 @@
+//! Which processes a search for the next turn looks at.
+
+ghost use Rattle.std.specs.Prelude.{◌≡◌, ◌<◌, ℕ, None, true, is_none};
+ghost use Rattle.std.specs.FinMap as maps;
+ghost use Rattle.lx_model.specs.Finite.{at};
+ghost use Rattle.lx_model.specs.declared.stage.Own.TheVariants.{Gone};
+ghost use Rattle.lx_kernel.specs.Sleeping.{IsWatched, IsSameBut, AreListed, Watch, welcomed};
+ghost use Rattle.lx_kernel.specs.Turned.{event_of};
+
+use crate::blocking::rests;
+use crate::effects::Effect;
+use containers::Map;
+use lx_model::Own;
+use lx_proc::{Body, Shared};
+use std::alloc::Global;
+
+/// The processes that may be able, and those that wait in a read or a write of a pipe, which a search passes over.
+#[derive(Drop)]
+pub struct Sleepers {
+    pub awake: Map<()>,
+    pub asleep: Map<()>,
+    /// No memory was wanted for the sets; without it they say nothing, and a search looks at each process.
+    pub known: bool,
+}
+
+/// What a turn may have done to the sets, beside what it did to others.
+#[derive(Clone, Copy)]
+pub struct Hints {
+    /// Its process is in a read or a write.
+    pub may_rest: bool,
+    /// Its process is gone.
+    pub gone: bool,
+}
+
+/// The process has no part of its own.
+fn is_absent(owns: &Map<Own<Body>>, pid: u32) -> bool
+    ensures { result ≡ is_none (maps.get owns.now pid) }
+{
+    owns.get(pid).is_none()
+}
+
+/// It may be in any set.
+const ANY: Hints = Hints {
+    may_rest: true,
+    gone: true,
+};
+
+impl Sleepers {
+    /// Both sets are empty.
+    pub fn new(alloc: Global) -> Self
+        ensures { result ≡ record { awake = maps.empty; asleep = maps.empty; known = true } }
+    {
+        Sleepers {
+            awake: Map::new(alloc),
+            asleep: Map::new(alloc),
+            known: true,
+        }
+    }
+
+    /// A process is awake.
+    pub fn wake(&mut self, pid: u32)
+        ensures awake { self.new.known ≡ true → self.new.awake ≡ maps.insert self.old.awake pid tt }
+        ensures asleep { self.new.asleep ≡ maps.remove self.old.asleep pid }
+        ensures known { self.new.known ≡ true → self.old.known ≡ true }
+    {
+        if self.awake.insert(pid, ()).is_err() {
+            self.known = false;
+        }
+        self.asleep.remove(pid);
+    }
+
+    /// A child that is born is awake.
+    pub fn welcome(&mut self, done: &Effect, child: u32)
+        ensures sets { self.new.known ≡ true → self.new ≡ welcomed self.old child (event_of done.now) }
+        ensures known { self.new.known ≡ true → self.old.known ≡ true }
+    {
+        match done {
+            Effect::Bore(_) => self.wake(child),
+            Effect::Plain | Effect::Execed => {}
+        }
+    }
+
+    /// A process sleeps.
+    fn put_to_sleep(&mut self, pid: u32)
+        ensures awake { self.new.awake ≡ maps.remove self.old.awake pid }
+        ensures asleep { self.new.known ≡ true → self.new.asleep ≡ maps.insert self.old.asleep pid tt }
+        ensures known { self.new.known ≡ true → self.old.known ≡ true }
+    {
+        if self.asleep.insert(pid, ()).is_err() {
+            self.known = false;
+        }
+        self.awake.remove(pid);
+    }
+
+    /// A process is in neither set.
+    fn forget(&mut self, pid: u32)
+        ensures awake { self.new.awake ≡ maps.remove self.old.awake pid }
+        ensures asleep { self.new.asleep ≡ maps.remove self.old.asleep pid }
+        ensures known { self.new.known ≡ self.old.known }
+    {
+        self.awake.remove(pid);
+        self.asleep.remove(pid);
+    }
+
+    /// The process is put into its set.
+    fn sort(&mut self, shared: &Shared, owns: &Map<Own<Body>>, pid: u32, hints: Hints)
+        ensures itself { self.new.known ≡ true → IsWatched self.new shared.now pid (at Gone owns.now pid) }
+        ensures others { self.new.known ≡ true → IsSameBut self.old self.new pid }
+    {
+        if hints.gone && is_absent(owns, pid) {
+            self.forget(pid);
+        } else if hints.may_rest && rests(shared, owns, pid) {
+            self.put_to_sleep(pid);
+        } else {
+            self.wake(pid);
+        }
+    }
+
+    /// Those wake who no longer rest.
+    fn wake_stirred(&mut self, shared: &Shared, owns: &Map<Own<Body>>)
+        requires { self.old.known ≡ true → AreListed self.old owns.now }
+        ensures { Watch self.new shared.now owns.now }
+    {
+        let mut passed = 0;
+        while let Some(pid) = self.asleep.next_key(passed) {
+            self.sort(shared, owns, pid, ANY);
+            passed = pid;
+        }
+    }
+
+    /// A process that another's turn may have roused is put into its set.
+    pub fn rouse(&mut self, shared: &Shared, owns: &Map<Own<Body>>, pid: u32, roused: u32)
+        requires { self.old.known ≡ true → AreListed self.old owns.now }
+        ensures listed { self.new.known ≡ true → AreListed self.new owns.now }
+        ensures itself { self.new.known ≡ true → (roused ≡ pid → ⊥)
+            → IsWatched self.new shared.now roused (at Gone owns.now roused) }
+        ensures others { self.new.known ≡ true → IsSameBut self.old self.new roused }
+    {
+        if roused != pid {
+            self.sort(shared, owns, roused, ANY);
+        }
+    }
+
+    /// A turn of a process has passed, which was calm to the others or not.
+    pub fn pass(
+        &mut self,
+        shared: &Shared,
+        owns: &Map<Own<Body>>,
+        pid: u32,
+        calm: bool,
+        hints: Hints,
+    )
+        requires listed { self.old.known ≡ true → AreListed self.old owns.now }
+        requires others { calm ≡ true → self.old.known ≡ true → (q : ℕ) → 0 < q → (q ≡ pid → ⊥)
+            → IsWatched self.old shared.now q (at Gone owns.now q) }
+        ensures { Watch self.new shared.now owns.now }
+    {
+        if self.asleep.len() == 0 && !hints.may_rest && !hints.gone {
+            return;
+        }
+        self.sort(shared, owns, pid, hints);
+        if !calm {
+            self.wake_stirred(shared, owns);
+        }
+    }
+}
