@@ -139,7 +139,8 @@ fn turns_of<E: Write>(
     Ok(())
 }
 
-/// Turns by a schedule until it has ended, each item printed.
+/// Turns by a schedule until it has ended, each item printed. Apart, so that the compiler lays out the loop by itself.
+#[inline(never)]
 fn turns<E: Write>(
     kernel: &mut Kernel,
     schedule: &mut Schedule,

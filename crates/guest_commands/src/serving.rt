@@ -22,6 +22,7 @@ fn serve_over<I: Read, O: Write>(
 }
 
 /// Answers the frames on `input` by frames to `out`, each in one write, until the end of input.
+#[inline(never)]
 pub fn run<I: Read, O: Write>(alloc: Global, input: &mut I, out: &mut O) -> Result<u8, Fault> {
     let Ok(mut input) = BufReader::new(alloc, input) else {
         return Err(Fault::Serving(ServeFault::Failed));
