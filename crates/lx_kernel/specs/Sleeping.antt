@@ -54,14 +54,16 @@ AllRest keys s owns = (q : ℕ) → 0 < q → maps.get keys q ≡ None → rests
 
 -- a process that isn't awake rests, and where it isn't asleep either it is gone
 abbrev pub IsWatched : Sleepers → Shared → ℕ → Own Body → Type 0
-IsWatched sets s p own = maps.get sets.awake p ≡ None → (rests s p own ≡ true) × (maps.get sets.asleep p ≡ None → own ≡ Gone)
+IsWatched sets s p own =
+    maps.get sets.awake p ≡ None → (rests s p own ≡ true) × (maps.get sets.asleep p ≡ None → own ≡ Gone)
 
 abbrev pub AreWatched : Sleepers → Shared → Owns → Type 0
 AreWatched sets s owns = (q : ℕ) → 0 < q → IsWatched sets s q (at Gone owns q)
 
 -- who is in neither set is gone
 abbrev pub AreListed : Sleepers → Owns → Type 0
-AreListed sets owns = (q : ℕ) → 0 < q → maps.get sets.awake q ≡ None → maps.get sets.asleep q ≡ None → at Gone owns q ≡ Gone
+AreListed sets owns =
+    (q : ℕ) → 0 < q → maps.get sets.awake q ≡ None → maps.get sets.asleep q ≡ None → at Gone owns q ≡ Gone
 
 -- as long as memory was never wanted
 abbrev pub Watch : Sleepers → Shared → Owns → Type 0
