@@ -65,7 +65,7 @@ abbrev pub AreListed : Sleepers → Owns → Type 0
 AreListed sets owns =
     (q : ℕ) → 0 < q → maps.get sets.awake q ≡ None → maps.get sets.asleep q ≡ None → at Gone owns q ≡ Gone
 
--- as long as memory was never wanted
+-- as long as memory for them was never refused
 abbrev pub Watch : Sleepers → Shared → Owns → Type 0
 Watch sets s owns = sets.known ≡ true → AreWatched sets s owns
 
@@ -86,7 +86,8 @@ IsSameBut sets sets' p =
 
 -- Turns.
 
--- calls that leave the descriptors and the signals of each other process as they are
+-- calls that leave the descriptors and the signals of each other process as they are: sched_yield, rt_sigaction,
+-- rt_sigprocmask, rt_sigreturn, getpid, getppid, gettid, brk, munmap, clone, mmap and wait4
 abbrev pub is_calm_call : ℕ → Bool
 is_calm_call n =
     (n == 124) || (n == 134) || (n == 135) || (n == 139) || (n == 172) || (n == 173) || (n == 178) || (n == 214)

@@ -19,7 +19,7 @@ use std::alloc::Global;
 pub struct Sleepers {
     pub awake: Map<()>,
     pub asleep: Map<()>,
-    /// No memory was wanted for the sets; without it they say nothing, and a search looks at each process.
+    /// No memory was refused to the sets. Once some was, they say nothing, and a search looks at each process.
     pub known: bool,
 }
 
