@@ -16,9 +16,9 @@ use Rattle.lx_proc.specs.declared.state.Shared.{Shared}
 use Rattle.lx_proc.specs.declared.state.Body.{Body}
 use Rattle.lx_sig.specs.declared.state.Interrupted.{Interrupted}
 use Rattle.lx_proc.specs.Registers.{made_again}
-use Rattle.lx_kernel.specs.Reactions.{resumed, ran_by, fault_signal}
+use Rattle.lx_turn.specs.Reactions.{resumed, ran_by, fault_signal}
 use Rattle.lx_kernel.specs.Bursts.{Follows, Halts, Continues}
-use Rattle.lx_kernel.proofs.Steps.{kept_by}
+use Rattle.lx_turn.proofs.Steps.{kept_by}
 
 abbrev Turns : Type 0
 Turns = Ran Shared Body

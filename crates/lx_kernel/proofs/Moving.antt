@@ -21,12 +21,13 @@ use Rattle.lx_proc.specs.declared.state.Shared.{Shared}
 use Rattle.lx_proc.specs.declared.state.Body.{Body}
 use Rattle.lx_proc.specs.Answers.{is_blocked}
 use Rattle.lx_pcalls.specs.Taking.{takes}
-use Rattle.lx_kernel.specs.Blocking.{would_block, waits, can_turn, can_turn_in}
-use Rattle.lx_kernel.specs.Calls.{does}
-use Rattle.lx_kernel.specs.Linux.{linux}
-use Rattle.lx_kernel.specs.Reactions.{is_killed}
+use Rattle.lx_turn.specs.Blocking.{would_block, waits, can_turn}
+use Rattle.lx_kernel.specs.Scheduling.{can_turn_in}
+use Rattle.lx_turn.specs.Calls.{does}
+use Rattle.lx_turn.specs.Linux.{linux}
+use Rattle.lx_turn.specs.Reactions.{is_killed}
 use Rattle.lx_kernel.specs.Runs.{Run as KernelRun, is_able_in}
-use Rattle.lx_kernel.proofs.Waiting.{does_waits}
+use Rattle.lx_turn.proofs.Waiting.{does_waits}
 
 -- where it waits, its process stays in Doing, and else it leaves it
 answered_moves : (s : Shared) (child p : ℕ) (b : Body) (call : Call) (a : Answer Shared Body) → is_blocked a ≡ false → own_mode (answered linux s child p b call a).own ≢ Some mode.Doing

@@ -1,6 +1,6 @@
 -- The next process in the cycle of pids.
-use Rattle.std.proofs.Common.{◌≡◌, ◌⊎◌, ℕ, ◌+◌, ◌<◌, ◌≤◌, Bool, true, false, Option, Some, None, inl, inr, refl, subst, arith}
-use Rattle.std.specs.Prelude.{◌&&◌, ◌||◌, not, nat_le, nat_lt, IsSome}
+use Rattle.std.proofs.Common.{◌≡◌, ℕ, ◌+◌, ◌<◌, ◌≤◌, Bool, true, false, Option, Some, None, inl, inr, refl, subst, arith}
+use Rattle.std.specs.Prelude.{◌&&◌, ◌||◌, not, nat_le, IsSome}
 use Rattle.std.specs.Ordering.{nat_cmp}
 use Rattle.std.specs.FinMap as maps
 use Rattle.std.specs.FinMap.{FinMap}
@@ -14,17 +14,15 @@ use Rattle.lx_proc.specs.declared.state.Body.{Body}
 use Rattle.lx_fcalls.specs.Blocking.{would_block as file_would_block}
 use Rattle.lx_pcalls.specs.Calls.{would_block as process_would_block}
 use Rattle.lx_pcalls.specs.Interruption.{is_interrupted}
-use Rattle.std.proofs.lemmas.Bool.Decides.{nat_tests}
 use Rattle.lx_kernel.specs.Runs.{Run, is_able_in}
-use Rattle.lx_kernel.specs.Blocking.{can_turn, can_turn_in, would_block}
-use Rattle.lx_kernel.specs.Reactions.{is_killed}
+use Rattle.lx_turn.specs.Blocking.{can_turn, would_block}
+use Rattle.lx_kernel.specs.Scheduling.{can_turn_in}
+use Rattle.lx_turn.specs.Reactions.{is_killed}
 use Rattle.lx_kernel.specs.Scheduling.{Owns, AreUnable, IsFirstFrom, IsNextIn, IsNextOf}
-use Rattle.lx_kernel.specs.Sleeping.{is_quiet, rests, AllRest}
+use Rattle.lx_turn.specs.Resting.{rests}
+use Rattle.lx_kernel.specs.Sleeping.{AllRest}
 use Rattle.lx_kernel.proofs.Moving.{able_where_turns}
-
-split : (q n : ℕ) (P : Type 0) (b : Bool) → nat_le q n ≡ b → (q ≤ n → P) → (n < q → P) → P
-split q n P true e low high = low (grind (arith, nat_tests))
-split q n P false e low high = high (grind (arith, nat_tests))
+use Rattle.lx_kernel.proofs.Sleeping.{below}
 
 module _ (k : Run) where
   abbrev can : ℕ → Bool
@@ -41,7 +39,7 @@ module _ (k : Run) where
       let low = h.0 in
       record {
         able = able_there pid h.1;
-        above = λ q lt able. (omega (arith, low), split pid q (pid ≤ q) (nat_le pid q) refl (λ le. le) (λ less. absurd (not_able q (h.2 q (omega arith) less) able)));
+        above = λ q lt able. (omega (arith, low), below pid q (pid ≤ q) (nat_le pid q) refl (λ le. le) (λ less. absurd (not_able q (h.2 q (omega arith) less) able)));
         else_first = λ le. absurd (omega (arith, low));
       }
 
@@ -50,7 +48,7 @@ module _ (k : Run) where
   next_first after (Some pid) none h = record {
     able = able_there pid h.1;
     above = λ q lt able. absurd (not_able q (none q (omega arith)) able);
-    else_first = λ le q able. split pid q (pid ≤ q) (nat_le pid q) refl (λ le. le) (λ less. absurd (not_able q (h.2 q (omega arith) less) able));
+    else_first = λ le q able. below pid q (pid ≤ q) (nat_le pid q) refl (λ le. le) (λ less. absurd (not_able q (h.2 q (omega arith) less) able));
   }
 
   next_of : (after : ℕ) (o : Option ℕ) → IsSome o → IsFirstFrom k.running.shared k.running.owns (after + 1) o → IsNextOf k after o
@@ -90,16 +88,16 @@ module _ {X : Type 0} (keys : FinMap nat_cmp X) (s : Shared) (owns : Owns) (rest
 
   -- none up to the next key
   pub unable_before : (pid : ℕ) → IsNextKey keys passed (Some pid) → AreUnable s owns (after + 1) pid
-  unable_before pid next = λ q from to. split q passed (can_turn_in s owns q ≡ false) (nat_le q passed) refl
+  unable_before pid next = λ q from to. below q passed (can_turn_in s owns q ≡ false) (nat_le q passed) refl
       (λ le. unable q from (omega (arith, le)))
       (λ lt. resting q (omega (arith, lt)) (next.2 q lt to))
 
   pub unable_upto : (pid : ℕ) → IsNextKey keys passed (Some pid) → can_turn_in s owns pid ≡ false → AreUnable s owns (after + 1) (pid + 1)
-  unable_upto pid next here = λ q from to. split pid q (can_turn_in s owns q ≡ false) (nat_le pid q) refl
+  unable_upto pid next here = λ q from to. below pid q (can_turn_in s owns q ≡ false) (nat_le pid q) refl
       (λ ge. subst (λ n. can_turn_in s owns n ≡ false) (let same : pid ≡ q = omega (arith, ge, to) in same) here)
       (λ lt. unable_before pid next q from lt)
 
   pub unable_all : IsNextKey keys passed None → IsFirstFrom s owns (after + 1) None
-  unable_all last = λ q from. split q passed (can_turn_in s owns q ≡ false) (nat_le q passed) refl
+  unable_all last = λ q from. below q passed (can_turn_in s owns q ≡ false) (nat_le q passed) refl
       (λ le. unable q from (omega (arith, le)))
       (λ lt. resting q (omega (arith, lt)) (last q lt))

@@ -1,11 +1,9 @@
 -- The table of processes' own parts after a turn.
 use Rattle.std.proofs.Common.{◌≡◌, ℕ, Bool, true, false, cond, Option, Some, None, refl, ap, sym, subst, ◌∙◌, unwrap_or}
-use Rattle.std.specs.Ordering.{nat_cmp, eq_by_cmp, is_eq}
-use Rattle.std.specs.declared.cmp.Ordering.{Ordering}
-use Rattle.std.specs.declared.cmp.Ordering.TheVariants.{Less, Equal, Greater}
+use Rattle.std.specs.Ordering.{nat_cmp, eq_by_cmp}
 use Rattle.std.proofs.lemmas.Cmp.{nat_cmp_total}
 use Rattle.std.specs.Cmp.{eq_by_cmp_equiv}
-use Rattle.lx_kernel.proofs.Placed.{get_put}
+use Rattle.lx_turn.proofs.Placed.{equal_is, get_put}
 use Rattle.std.specs.FinMap as maps
 use Rattle.std.specs.FinMap.{FinMap}
 use Rattle.lx_abi.specs.declared.log.Item.{Item}
@@ -14,15 +12,11 @@ use Rattle.lx_model.specs.declared.stage.Own.TheVariants.{Alive, Dying, Gone}
 use Rattle.lx_model.specs.Finite.{at, placed}
 use Rattle.lx_proc.specs.declared.state.Shared.{Shared}
 use Rattle.lx_proc.specs.declared.state.Body.{Body}
-use Rattle.lx_kernel.specs.Turned.{Turned, is_gone, without_gone, event_of}
+use Rattle.lx_turn.specs.Turned.{Turned, is_gone, event_of}
+use Rattle.lx_kernel.specs.Turns.{without_gone}
 use Rattle.lx_kernel.specs.Turns.{Turns}
-use Rattle.lx_kernel.specs.declared.effects.Effect.{Effect}
-use Rattle.lx_kernel.specs.declared.effects.Effect.TheVariants as effect
-
-equal_is : (o : Ordering) → is_eq o ≡ true → o ≡ Equal
-equal_is Less e = absurd (cc e)
-equal_is Equal e = refl
-equal_is Greater e = absurd (cc e)
+use Rattle.lx_turn.specs.declared.effects.Effect.{Effect}
+use Rattle.lx_turn.specs.declared.effects.Effect.TheVariants as effect
 
 module _ {X : Type 0} (m : FinMap nat_cmp X) (p : ℕ) where
   same : (b : Bool) (x : X) (y : Option X) → cond b None (cond b (Some x) y) ≡ cond b None y

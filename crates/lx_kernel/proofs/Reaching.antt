@@ -12,11 +12,11 @@ use Rattle.lx_model.specs.declared.stage.Stage.{Stage}
 use Rattle.lx_model.specs.declared.stage.Own.{Own}
 use Rattle.lx_model.specs.declared.stage.Own.TheVariants.{Alive, Dying, Gone}
 use Rattle.lx_proc.specs.declared.state.Body.{Body}
-use Rattle.lx_kernel.specs.Turned.{is_gone}
+use Rattle.lx_turn.specs.Turned.{is_gone}
 use Rattle.lx_kernel.specs.Runs.{Run}
 use Rattle.lx_kernel.specs.Tracing.{joining, dropping, with_regs, with_joined, with_dropped, with_part, with_part_at, IsPart}
 use Rattle.lx_kernel.proofs.Placing.{placed_there}
-use Rattle.lx_kernel.proofs.Placed.{put_same}
+use Rattle.lx_turn.proofs.Placed.{put_same}
 
 abbrev Owns : Type 0
 Owns = FinMap nat_cmp (Own Body)

@@ -25,18 +25,18 @@ use Rattle.lx_model.specs.declared.stage.Own.TheVariants.{Alive, Dying, Gone}
 use Rattle.lx_proc.specs.declared.state.Shared.{Shared}
 use Rattle.lx_proc.specs.declared.state.Body.{Body}
 use Rattle.lx_sig.specs.declared.state.Interrupted.{Interrupted}
-use Rattle.lx_kernel.specs.Calls.{does}
+use Rattle.lx_turn.specs.Calls.{does}
 use Rattle.lx_pcalls.specs.Ends.{buried}
-use Rattle.lx_kernel.specs.Fitting.{Fits, TookFits}
+use Rattle.lx_turn.specs.Fitting.{Fits, TookFits}
 use Rattle.lx_boot.specs.First.{first_shared}
 use Rattle.lx_kernel.specs.First.{first_run}
 use Rattle.lx_kernel.specs.Laws.{after_all, with_end, logged_words, HasLoggedWords, TurnsLogWords, BootsLogWords, KernelsLogWords}
 use Rattle.lx_pcalls.specs.Taking.{takes}
-use Rattle.lx_kernel.specs.Linux.{linux}
-use Rattle.lx_kernel.specs.Reactions.{next_of, runs as runs_in, resumed, ran_by, is_killed}
+use Rattle.lx_turn.specs.Linux.{linux}
+use Rattle.lx_turn.specs.Reactions.{next_of, runs as runs_in, resumed, ran_by, is_killed}
 use Rattle.lx_exec.specs.Programs.{booted}
 use Rattle.lx_kernel.specs.Runs.{Run as KernelRun, after_turn}
-use Rattle.lx_kernel.proofs.CallsFit.{calls_fit, takes_fit}
+use Rattle.lx_turn.proofs.CallsFit.{calls_fit, takes_fit}
 
 -- A turn.
 

@@ -25,11 +25,12 @@ use Rattle.lx_proc.specs.declared.state.Body.{Body}
 use Rattle.lx_proc.specs.declared.state.Entry.{Entry}
 use Rattle.lx_proc.specs.declared.state.Life.{Life}
 use Rattle.lx_proc.specs.declared.state.Life.TheVariants as state
-use Rattle.lx_kernel.specs.Linux.{linux}
-use Rattle.lx_kernel.specs.Reactions.{resumed, runs, next_of, is_killed}
-use Rattle.lx_kernel.specs.Runs.{Run, turn_in, after_turn, mode_in, own_mode, life_mode}
+use Rattle.lx_turn.specs.Linux.{linux}
+use Rattle.lx_turn.specs.Reactions.{resumed, runs, next_of, is_killed}
+use Rattle.lx_kernel.specs.Runs.{Run, turn_in, after_turn, mode_in}
+use Rattle.lx_turn.specs.Modes.{own_mode, life_mode}
 use Rattle.lx_kernel.specs.Bursts.{after_turns, StaysInRun, Burst, Follows, Halts, Continues, OwnContinues, with_owns}
-use Rattle.lx_kernel.proofs.Placed.{get_put, put_same, put_twice}
+use Rattle.lx_turn.proofs.Placed.{get_put, put_same, put_twice}
 
 abbrev Owns : Type 0
 Owns = FinMap nat_cmp (Own Body)

@@ -1,10 +1,9 @@
 -- The sets of processes that are awake and asleep.
-use Rattle.std.proofs.Common.{◌≡◌, ◌<◌, ℕ, Bool, true, false, cond, List, [], ◌∷◌, length, Option, Some, None, refl, ap, sym, subst, ◌∙◌, arith}
+use Rattle.std.proofs.Common.{◌≡◌, ◌<◌, ℕ, Bool, true, false, List, [], ◌∷◌, length, Option, Some, None, refl, ap, sym, subst, ◌∙◌, arith}
 use Rattle.std.specs.Prelude.{◌==◌, ◌≤◌, nat_le, is_none}
 use Rattle.std.specs.Option.{unwrap_or}
 use Rattle.containers.specs.Keys.{IsNextKey}
-use Rattle.std.specs.Ordering.{nat_cmp, eq_by_cmp}
-use Rattle.std.specs.Cmp.{nat_cmp_total}
+use Rattle.std.specs.Ordering.{nat_cmp}
 use Rattle.std.specs.FinMap as maps
 use Rattle.std.specs.FinMap.{FinMap}
 use Rattle.std.specs.FinMap.Entries as entry
@@ -15,29 +14,10 @@ use Rattle.lx_model.specs.declared.stage.Own.TheVariants.{Alive, Dying, Gone}
 use Rattle.lx_proc.specs.declared.state.Shared.{Shared}
 use Rattle.lx_proc.specs.declared.state.Body.{Body}
 use Rattle.lx_kernel.specs.Scheduling.{Owns}
-use Rattle.lx_kernel.specs.Sleeping.{rests, IsWatched, AreWatched, AreListed, IsSameBut}
+use Rattle.lx_turn.specs.Resting.{rests}
+use Rattle.lx_kernel.specs.Sleeping.{IsWatched, AreWatched, AreListed, IsSameBut}
 use Rattle.lx_kernel.specs.declared.sleepers.Sleepers.{Sleepers}
-use Rattle.lx_kernel.proofs.Placed.{equal_is, get_put}
-
--- one number is another, or isn't
-pub either : (q p : ℕ) (P : Type 0) (b : Bool) → (q == p) ≡ b → (q ≡ p → P) → ((q ≡ p → ⊥) → P) → P
-either q p P true e same other = same (grind (arith, nat_tests))
-either q p P false e same other = other (λ s. let t : (q == p) ≡ true = grind (arith, nat_tests) in absurd (cc (sym e ∙ t)))
-
-apart : (q p : ℕ) (b : Bool) → eq_by_cmp nat_cmp q p ≡ b → (q ≡ p → ⊥) → b ≡ false
-apart q p true e ne = absurd (ne (maps.nat_cmp-IsAntisymmetric q p (equal_is (nat_cmp q p) e)))
-apart q p false e ne = refl
-
-module _ {X : Type 0} (m : FinMap nat_cmp X) (p q : ℕ) (ne : q ≡ p → ⊥) where
-  differs : eq_by_cmp nat_cmp q p ≡ false
-  differs = apart q p (eq_by_cmp nat_cmp q p) refl ne
-
-  -- a map at another key than that which is put in, or taken out
-  pub other_put : (x : X) → maps.get (maps.insert m p x) q ≡ maps.get m q
-  other_put x = maps.get-insert nat_cmp_total m p x q ∙ ap (λ b. cond b (Some x) (maps.get m q)) differs
-
-  pub other_left : maps.get (maps.remove m p) q ≡ maps.get m q
-  other_left = maps.get-remove nat_cmp_total m p q ∙ ap (λ b. cond b None (maps.get m q)) differs
+use Rattle.lx_turn.proofs.Placed.{either, get_put}
 
 none_in : {X : Type 0} (q : ℕ) (es : List (ℕ × X)) → length es ≡ 0 → entry.find nat_cmp q es ≡ None
 none_in q [] e = refl
@@ -91,7 +71,8 @@ absent_gone (Some own) e = absurd (cc e)
 abbrev pub RestUpTo : Sleepers → Shared → Owns → ℕ → Type 0
 RestUpTo sets s owns n = (q : ℕ) → 0 < q → q ≤ n → maps.get sets.awake q ≡ None → rests s q (at Gone owns q) ≡ true
 
-below : (q n : ℕ) (P : Type 0) (b : Bool) → nat_le q n ≡ b → (q ≤ n → P) → (n < q → P) → P
+-- one number is at most another, or above it
+pub below : (q n : ℕ) (P : Type 0) (b : Bool) → nat_le q n ≡ b → (q ≤ n → P) → (n < q → P) → P
 below q n P true e low high = low (grind (arith, nat_tests))
 below q n P false e low high = high (grind (arith, nat_tests))
 

@@ -1,5 +1,5 @@
 -- A turn of the kernel, from what the turn of one process leaves.
-use Rattle.std.proofs.Common.{◌≡◌, ℕ, Bool, List, ◌++◌, Option, Some, None, Result, Ok, Err, OnErr, refl, ap, sym, subst, ◌∙◌}
+use Rattle.std.proofs.Common.{◌≡◌, ℕ, Bool, List, ◌++◌, Option, Some, None, refl, ap, sym, subst, ◌∙◌}
 use Rattle.std.specs.Ordering.{nat_cmp}
 use Rattle.std.specs.Option.{option_to_list}
 use Rattle.std.specs.FinMap.{FinMap}
@@ -17,16 +17,13 @@ use Rattle.lx_model.specs.Kernel.{traces, choice_at}
 use Rattle.lx_model.specs.Finite.{at, item_of, Running, bore, turn_out, running_turn}
 use Rattle.lx_proc.specs.declared.state.Shared.{Shared}
 use Rattle.lx_proc.specs.declared.state.Body.{Body}
-use Rattle.lx_kernel.specs.Linux.{linux}
-use Rattle.lx_kernel.specs.Turned.{turned, event_of, owns_with, next_child, IsLeft, IsBirth}
+use Rattle.lx_turn.specs.Linux.{linux}
+use Rattle.lx_turn.specs.Turned.{turned, event_of, IsLeft, IsBirth}
+use Rattle.lx_kernel.specs.Turns.{owns_with, next_child}
 use Rattle.lx_kernel.specs.Turns.{Turns}
-use Rattle.lx_kernel.specs.declared.effects.Effect.{Effect}
-use Rattle.lx_kernel.proofs.Births.{Births, turn_fine, left_by, console_by}
-use Rattle.lx_kernel.proofs.Consoles.{turn_keeps}
-
-pub on_err : {T E : Type 0} (P : Type 0) (r : Result T E) → P → OnErr r P
-on_err P (Ok x) h = tt
-on_err P (Err e) h = h
+use Rattle.lx_turn.specs.declared.effects.Effect.{Effect}
+use Rattle.lx_turn.proofs.Births.{Births, turn_fine, left_by, console_by}
+use Rattle.lx_turn.proofs.Consoles.{turn_keeps}
 
 -- a kernel after an effect
 with_effect : (s : Shared) (owns : FinMap nat_cmp (Own Body)) (child : ℕ) (log : List Item) (e : Event Body)

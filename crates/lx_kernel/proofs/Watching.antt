@@ -1,15 +1,13 @@
 -- What keeps the sets of processes right.
-use Rattle.std.proofs.Common.{◌≡◌, ◌⊎◌, ◌<◌, ℕ, Bool, true, false, List, ◌++◌, Option, Some, None, inl, inr, refl, ap, sym, subst, ◌∙◌}
+use Rattle.std.proofs.Common.{◌≡◌, ◌<◌, ℕ, Bool, true, List, Option, Some, None, inl, inr, refl, ap, sym, subst, ◌∙◌}
 use Rattle.std.specs.Prelude.{◌==◌}
-use Rattle.std.specs.Option.{unwrap_or, option_to_list}
+use Rattle.std.specs.Option.{unwrap_or}
 use Rattle.std.specs.Ordering.{nat_cmp}
 use Rattle.std.specs.FinMap as maps
-use mathlib.Core.Path.{fun_ext}
 use Rattle.lx_abi.specs.declared.log.Item.{Item}
 use Rattle.lx_abi.specs.declared.script.Rule.{Rule}
 use Rattle.lx_abi.specs.declared.signal.Signal.{Signal}
 use Rattle.lx_abi.specs.Scripts.{choice_of}
-use Rattle.lx_abi.specs.Log.{entries}
 use Rattle.lx_model.specs.Machine.{Regs}
 use Rattle.lx_model.specs.Kernel.{traces, choice_at}
 use Rattle.lx_model.specs.Turn.{Out, Event, Plain, Execed, Forked, turn}
@@ -21,18 +19,21 @@ use Rattle.lx_model.specs.declared.stage.Own.TheVariants.{Alive, Dying, Gone}
 use Rattle.lx_proc.specs.declared.state.Shared.{Shared}
 use Rattle.lx_proc.specs.declared.state.Body.{Body}
 use Rattle.lx_fcalls.specs.Blocking.{would_block, read_would_block, write_would_block}
-use Rattle.lx_kernel.specs.Linux.{linux}
+use Rattle.lx_turn.specs.Linux.{linux}
 use Rattle.lx_kernel.specs.Bursts.{OwnContinues}
 use Rattle.lx_kernel.specs.Scheduling.{Owns}
-use Rattle.lx_kernel.specs.Sleeping.{rests, IsKept, IsSameBut, IsWatched, AreWatched, AreListed, Watch, Calms, welcomed}
+use Rattle.lx_turn.specs.Resting.{rests, Calms}
+use Rattle.lx_kernel.specs.Sleeping.{IsKept, IsSameBut, IsWatched, AreWatched, AreListed, Watch, welcomed}
 use Rattle.lx_kernel.specs.Tracing.{with_regs, with_joined, with_dropped, with_part_at}
-use Rattle.lx_kernel.specs.Turned.{turned, Turned, event_of, owns_with, IsBirth}
+use Rattle.lx_turn.specs.Turned.{turned, Turned, event_of, IsBirth}
+use Rattle.lx_kernel.specs.Turns.{owns_with}
 use Rattle.lx_kernel.specs.Turns.{Turns}
-use Rattle.lx_kernel.specs.declared.effects.Effect.{Effect}
+use Rattle.lx_turn.specs.declared.effects.Effect.{Effect}
 use Rattle.lx_kernel.specs.declared.sleepers.Sleepers.{Sleepers}
-use Rattle.lx_kernel.proofs.Placed.{get_put}
+use Rattle.lx_turn.proofs.Placed.{get_put}
 use Rattle.lx_kernel.proofs.Placing.{at_placed}
-use Rattle.lx_kernel.proofs.Sleeping.{either, other_put, other_left, put_there, gone_rests}
+use Rattle.lx_turn.proofs.Placed.{either, other_put, other_left}
+use Rattle.lx_kernel.proofs.Sleeping.{put_there, gone_rests}
 
 kept_same : (s : Shared) (q : ℕ) (own : Own Body) → IsKept s q own own
 kept_same s q own = (λ e. e, λ e. e)

@@ -8,7 +8,7 @@ use Rattle.lx_model.specs.declared.stage.Own.{Own}
 use Rattle.lx_model.specs.declared.stage.Own.TheVariants.{Alive}
 use Rattle.lx_model.specs.declared.stage.Stage.TheVariants as stages
 use Rattle.lx_proc.specs.declared.state.Body.{Body}
-use Rattle.lx_kernel.specs.Reactions.{resumed}
+use Rattle.lx_turn.specs.Reactions.{resumed}
 use Rattle.lx_kernel.specs.Runs.{Run, after_turn, mode_in}
 
 -- the kernel after so many turns of one process

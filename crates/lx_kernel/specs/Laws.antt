@@ -11,7 +11,7 @@ use Rattle.lx_model.specs.Kernel.{Script, Kernel, first_kernel, kernel_run}
 use Rattle.lx_model.specs.Finite.{Is, Running, first_running, running_turn}
 use Rattle.lx_boot.specs.First.{first_shared}
 use Rattle.lx_kernel.specs.First.{first_run}
-use Rattle.lx_kernel.specs.Linux.{linux}
+use Rattle.lx_turn.specs.Linux.{linux}
 use Rattle.lx_exec.specs.Programs.{booted}
 use Rattle.lx_kernel.specs.Runs.{Run, after_turn}
 use Rattle.lx_proc.specs.declared.state.Shared.{Shared}

@@ -1,15 +1,8 @@
-pub mod Calls
-pub mod Reactions
-pub mod Linux
-pub mod Fitting
-pub mod Blocking
 pub mod Bursts
 pub mod First
 pub mod Occurrences
 pub mod Outcomes
 pub mod Runs
-pub mod Tampering
-pub mod Turned
 pub mod Turns
 pub mod Tracing
 pub mod Laws

@@ -1,12 +1,14 @@
 -- Which process is the next that can take a turn, in the order of pids.
-use Rattle.std.specs.Prelude.{◌≡◌, ◌⊎◌, ◌+◌, ℕ, ◌<◌, ◌≤◌, true, false, Option, Some, None, IsSome}
+use Rattle.std.specs.Prelude.{◌≡◌, ◌⊎◌, ◌+◌, ℕ, Bool, ◌<◌, ◌≤◌, true, false, Option, Some, None, IsSome}
 use Rattle.std.specs.Ordering.{nat_cmp}
 use Rattle.std.specs.FinMap.{FinMap}
+use Rattle.lx_model.specs.Finite.{at}
 use Rattle.lx_model.specs.declared.stage.Own.{Own}
+use Rattle.lx_model.specs.declared.stage.Own.TheVariants.{Gone}
 use Rattle.lx_proc.specs.declared.state.Shared.{Shared}
 use Rattle.lx_proc.specs.declared.state.Body.{Body}
+use Rattle.lx_turn.specs.Blocking.{can_turn}
 use Rattle.lx_kernel.specs.Runs.{Run, is_able_in}
-use Rattle.lx_kernel.specs.Blocking.{can_turn_in}
 
 -- an able process: the first above a pid, or the first of all where none is above
 pub record IsNextAble (k : Run) (after pid : ℕ) : Type 0 where
@@ -23,6 +25,10 @@ IsNextOf k after (Some pid) = IsNextAble k after pid
 
 abbrev pub Owns : Type 0
 Owns = FinMap nat_cmp (Own Body)
+
+-- a turn of the process does something
+abbrev pub can_turn_in : Shared → Owns → ℕ → Bool
+can_turn_in s owns p = can_turn s p (at Gone owns p)
 
 -- no process from one pid up to before another can take a turn
 abbrev pub AreUnable : Shared → Owns → ℕ → ℕ → Type 0

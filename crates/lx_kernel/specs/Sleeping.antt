@@ -1,46 +1,17 @@
--- Which processes rest: a search for the next turn needs no look at them.
-use Rattle.std.specs.Prelude.{◌≡◌, ◌<◌, ℕ, Bool, true, false, not, ◌&&◌, ◌||◌, ◌==◌, Option, Some, None}
+-- Which processes a search for the next turn looks at: it needs no look at those that rest.
+use Rattle.std.specs.Prelude.{◌≡◌, ◌<◌, ℕ, true, None}
 use Rattle.std.specs.Ordering.{nat_cmp}
 use Rattle.std.specs.FinMap as maps
 use Rattle.std.specs.FinMap.{FinMap}
 use Rattle.lx_model.specs.Turn.{Event, Plain, Execed, Forked}
 use Rattle.lx_model.specs.Finite.{at}
-use Rattle.lx_model.specs.declared.stage.Stage.{Stage}
-use Rattle.lx_model.specs.declared.stage.Stage.TheVariants.{Born, Run, Faulting, Entered, Doing, Replaced, Acted, Finished, Taken, Dropped}
 use Rattle.lx_model.specs.declared.stage.Own.{Own}
-use Rattle.lx_model.specs.declared.stage.Own.TheVariants.{Alive, Dying, Gone}
-use Rattle.lx_proc.specs.declared.state.Entry.{Entry}
+use Rattle.lx_model.specs.declared.stage.Own.TheVariants.{Gone}
 use Rattle.lx_proc.specs.declared.state.Shared.{Shared}
 use Rattle.lx_proc.specs.declared.state.Body.{Body}
-use Rattle.lx_fcalls.specs.Blocking.{would_block as file_would_block}
-use Rattle.lx_pcalls.specs.Interruption.{is_interrupted}
-use Rattle.lx_kernel.specs.Reactions.{is_killed}
+use Rattle.lx_turn.specs.Resting.{rests}
 use Rattle.lx_kernel.specs.Scheduling.{Owns}
-use Rattle.lx_kernel.specs.Turned.{IsBirth}
 use Rattle.lx_kernel.specs.declared.sleepers.Sleepers.{Sleepers}
-
--- no signal is pending that would end a wait
-abbrev pub is_quiet : Option Entry → Bool
-is_quiet e = not (is_killed e) && not (is_interrupted e)
-
--- the process waits in a read or a write of a pipe
-abbrev pub rests_at : Shared → ℕ → Body → Stage → Bool
-rests_at s p b Born = false
-rests_at s p b Run = false
-rests_at s p b (Faulting signal cause) = false
-rests_at s p b (Entered joined) = false
-rests_at s p b (Doing call) = file_would_block s p call b && is_quiet (maps.get s.entries p)
-rests_at s p b (Replaced call x) = false
-rests_at s p b (Acted call x replaced) = false
-rests_at s p b Finished = false
-rests_at s p b (Taken signal cause) = false
-rests_at s p b Dropped = false
-
--- so it has no turn, as one that is gone has none
-unfoldable pub rests : Shared → ℕ → Own Body → Bool
-rests s p (Alive b stage) = rests_at s p b stage
-rests s p (Dying w) = false
-rests s p Gone = true
 
 -- a part that rests, or is gone, is so with another in its place
 abbrev pub IsKept : Shared → ℕ → Own Body → Own Body → Type 0
@@ -83,35 +54,3 @@ abbrev pub IsSameBut : Sleepers → Sleepers → ℕ → Type 0
 IsSameBut sets sets' p =
     (sets.known ≡ true) × ((q : ℕ) → (q ≡ p → ⊥)
     → (maps.get sets'.awake q ≡ maps.get sets.awake q) × (maps.get sets'.asleep q ≡ maps.get sets.asleep q))
-
--- Turns.
-
--- calls that leave the descriptors and the signals of each other process as they are: sched_yield, rt_sigaction,
--- rt_sigprocmask, rt_sigreturn, getpid, getppid, gettid, brk, munmap, clone, mmap and wait4
-abbrev pub is_calm_call : ℕ → Bool
-is_calm_call n =
-    (n == 124) || (n == 134) || (n == 135) || (n == 139) || (n == 172) || (n == 173) || (n == 178) || (n == 214)
-    || (n == 215) || (n == 220) || (n == 222) || (n == 260)
-
-abbrev pub is_calm_at : Stage → Bool
-is_calm_at Born = true
-is_calm_at Run = true
-is_calm_at (Faulting signal cause) = true
-is_calm_at (Entered joined) = true
-is_calm_at (Doing call) = is_calm_call call.number
-is_calm_at (Replaced call x) = true
-is_calm_at (Acted call x replaced) = true
-is_calm_at Finished = true
-is_calm_at (Taken signal cause) = true
-is_calm_at Dropped = true
-
--- each other process that rested rests, but for one that is roused, and a child that is born
-abbrev pub Calms : Shared → Shared → ℕ → ℕ → ℕ → Event Body → Type 0
-Calms s s' child p roused event =
-    (q : ℕ) → (q ≡ p → ⊥) → (q ≡ roused → ⊥) → (IsBirth event → q ≡ child → ⊥) → (own : Own Body) → rests s q own ≡ true
-    → rests s' q own ≡ true
-
--- who is told of a process's end
-abbrev pub told_by : ℕ → Option Entry → ℕ
-told_by p None = p
-told_by p (Some e) = e.parent

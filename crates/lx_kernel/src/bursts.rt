@@ -2,7 +2,7 @@
 
 ghost use Rattle.std.specs.Prelude.{◌≡◌, ℕ, None, IfOk, OnOk, not, ◌&&◌, is_some};
 ghost use Rattle.std.specs.FinMap as maps;
-ghost use Rattle.lx_kernel.specs.Reactions.{next_of, is_killed as is_killed_at};
+ghost use Rattle.lx_turn.specs.Reactions.{next_of, is_killed as is_killed_at};
 ghost use Rattle.lx_kernel.specs.Bursts.{Burst, Continues, OwnContinues, with_owns};
 ghost use Rattle.lx_kernel.specs.Runs.{Run as KernelRun};
 ghost use Rattle.lx_kernel.specs.Sleeping.{IsKept};

@@ -1,52 +1,42 @@
 //! The kernel: one turn of one process at a time.
 
-ghost use Rattle.std.specs.Prelude.{◌≡◌, ◌↔◌, ◌++◌, ◌+◌, [], None, true, false, not, is_some};
+ghost use Rattle.std.specs.Prelude.{◌≡◌, ◌↔◌, ◌++◌, ◌+◌, [], None, true, false, is_some};
 ghost use Rattle.std.specs.Prelude.{if◌then◌else◌, IfOk, OnOk, OnErr, IsOk, IsErr, IsOkAnd, IsSome, IsTrue, ℕ};
 ghost use Rattle.std.specs.FinMap as maps;
+ghost use Rattle.std.specs.Option.{option_to_list};
+ghost use Rattle.lx_abi.specs.Log.{is_entry};
+ghost use Rattle.lx_abi.specs.Occurrences.{count_of};
 ghost use Rattle.lx_model.specs.Finite.{at, item_of};
 ghost use Rattle.lx_model.specs.Deeds.{deed_of};
-ghost use Rattle.lx_model.specs.Turn.{Plain};
-ghost use Rattle.lx_model.specs.Turn.{turn};
-ghost use Rattle.lx_model.specs.declared.stage.Own.TheVariants.{Alive, Dying, Gone};
+ghost use Rattle.lx_model.specs.Turn.{turn, Plain};
+ghost use Rattle.lx_model.specs.declared.stage.Own.TheVariants.{Alive, Gone};
 ghost use Rattle.lx_model.specs.declared.stage.Stage.TheVariants.{Born};
-ghost use Rattle.lx_kernel.specs.Linux.{linux};
-ghost use Rattle.lx_kernel.specs.Turned.{turned, turned_by, event_of, is_gone, owns_with, EndsSame};
-ghost use Rattle.lx_kernel.specs.Turned.{without_gone, next_child, IsLeft, IsBirth};
-ghost use Rattle.lx_kernel.specs.Turns.{Turns};
-ghost use Rattle.lx_kernel.specs.Outcomes.{outcome_in};
-ghost use Rattle.lx_kernel.specs.Tampering.{choice_of_call, choice_of_own};
+ghost use Rattle.lx_turn.specs.Linux.{linux};
+ghost use Rattle.lx_turn.specs.Modes.{own_mode as own_mode_of};
+ghost use Rattle.lx_turn.specs.Resting.{Calms};
+ghost use Rattle.lx_turn.specs.Tampering.{choice_of_own};
+ghost use Rattle.lx_turn.specs.Turned.{turned, event_of, IsLeft, IsBirth};
 ghost use Rattle.lx_kernel.specs.Bursts.{Burst};
+ghost use Rattle.lx_kernel.specs.Occurrences.{Agree};
+ghost use Rattle.lx_kernel.specs.Outcomes.{outcome_in};
+ghost use Rattle.lx_kernel.specs.Runs.{turn_in, after_turn, is_able_in, mode_in};
+ghost use Rattle.lx_kernel.specs.Scheduling.{IsNextOf};
 ghost use Rattle.lx_kernel.specs.Tracing.{own_in, regs_of, peek_of, signal_of};
 ghost use Rattle.lx_kernel.specs.Tracing.{with_regs, with_joined, with_dropped, with_part};
-ghost use Rattle.lx_proc.specs.declared.state.Body.{Body};
-ghost use Rattle.lx_kernel.specs.Scheduling.{IsNextOf};
-ghost use Rattle.lx_kernel.specs.Sleeping.{Calms, told_by};
-ghost use Rattle.lx_kernel.specs.Runs.{turn_in, after_turn, is_able_in, mode_in, own_mode as own_mode_of, life_mode};
-ghost use Rattle.lx_kernel.specs.Occurrences.{Agree};
-ghost use Rattle.lx_abi.specs.Occurrences.{count_of};
-ghost use Rattle.lx_abi.specs.Log.{is_entry};
-ghost use Rattle.std.specs.Option.{option_to_list};
+ghost use Rattle.lx_kernel.specs.Turns.{Turns, without_gone, owns_with, next_child};
 
-use crate::blocking::{can_turn, is_calm};
-use crate::effects::Effect;
 use crate::outcome::outcome;
-use crate::scheduling::next_in_cycle;
-use crate::signals::is_killed;
+use crate::scheduling::{can_turn_at, next_in_cycle};
 use crate::sleepers::{Hints, Sleepers};
-use crate::stages::{Went, go, mode};
-use crate::tampering::Tampering;
 use crate::{bursts, tracing};
 use containers::{Bytes, Map};
 use lx_abi::{Cause, Item, Mode, Occurrences, Outcome, RegisterSet, Registers, Script, Signal};
 use lx_model::{Deed, Own, Stage};
-use lx_pcalls::{bury, die};
-use lx_proc::{Body, Life, Shared};
+use lx_proc::{Body, Shared};
+use lx_turn::{Effect, Tampering, Transition, is_killed, mode_of_gone, mode_of_stage, turn_own};
 use rv_hart::Decoder;
 use std::alloc::{AllocError, Global};
 use std::marker::Model;
-
-/// The wait word of an end by SIGKILL.
-const KILL_WORD: u32 = 9;
 
 /// Want of memory was met, now or before: every turn answers this from then on.
 #[derive(Clone, Copy, Debug, PartialEq, Eq)]
@@ -66,167 +56,6 @@ pub struct Moved {
     pub after: Option<Mode>,
     pub item: Option<Item>,
     pub deed: Deed,
-}
-
-/// Where a process stood before a turn and stands after it, what was done beside, whether the process is gone, whether
-/// the turn was calm to the others, who is roused beside, and whether the process may rest now.
-#[derive(Drop)]
-struct Transition {
-    before: Option<Mode>,
-    after: Option<Mode>,
-    done: Effect,
-    gone: bool,
-    calm: bool,
-    roused: u32,
-    may_rest: bool,
-}
-
-impl Transition {
-    /// The process is gone.
-    fn of_gone(before: Option<Mode>, after: Option<Mode>, roused: u32) -> Transition
-        ensures { result ≡ record {
-          before = before;
-          after = after;
-          done = Effect.Plain;
-          gone = true;
-          calm = true;
-          roused = roused;
-          may_rest = false;
-        } }
-    {
-        Transition {
-            before,
-            after,
-            done: Effect::Plain,
-            gone: true,
-            calm: true,
-            roused,
-            may_rest: false,
-        }
-    }
-}
-
-/// One turn of a living process, and what it logs.
-fn turn_alive(
-    alloc: Global,
-    shared: &mut Shared,
-    tampering: &Tampering,
-    child: u32,
-    pid: u32,
-    body: &mut Body,
-    stage: &mut Stage,
-    item: &mut Option<Item>,
-) -> Result<Went, AllocError>
-    requires { item.old ≡ None }
-    ensures turned { IfOk result (λ w. turned (turn linux
-        (choice_of_call tampering.now pid body.old) shared.old child pid (Alive body.old stage.old))
-        ≡ turned_by w shared.new body.new pid stage.old stage.new item.new) }
-    ensures ends { IfOk result (λ w. EndsSame w shared.old shared.new) }
-    ensures console { OnErr result (shared.new.console ≡ shared.old.console) }
-{
-    if is_killed(shared, pid) {
-        return Ok(Went::Ended { word: KILL_WORD });
-    }
-    let went = go(alloc, shared, tampering, child, pid, body, stage, item)?;
-    Ok(went)
-}
-
-/// The process is gone. Apart, since a function pays at its entry for the size of its locals.
-#[inline(never)]
-fn leave(own: &mut Own<Body>)
-    ensures { own.new ≡ Gone }
-{
-    *own = Own::Gone;
-}
-
-/// The process is dying.
-#[inline(never)]
-fn end(own: &mut Own<Body>, word: u32)
-    ensures { own.new ≡ Dying word }
-{
-    *own = Own::Dying { word };
-}
-
-/// Who is told of a process's end: its parent.
-fn told_of(shared: &Shared, pid: u32) -> u32
-    ensures { result ≡ told_by pid (maps.get shared.now.entries pid) }
-{
-    match shared.entries.get(pid) {
-        None => pid,
-        Some(entry) => entry.parent,
-    }
-}
-
-/// The process is in a call that may wait for a pipe.
-fn reads_or_writes(stage: &Stage) -> bool {
-    match stage {
-        Stage::Doing { call } => call.number == 63 || call.number == 64,
-        _ => false,
-    }
-}
-
-/// One turn of a process with a part of its own, and what it logs.
-fn turn_own(
-    alloc: Global,
-    shared: &mut Shared,
-    tampering: &Tampering,
-    child: u32,
-    pid: u32,
-    own: &mut Own<Body>,
-    item: &mut Option<Item>,
-) -> Result<Transition, AllocError>
-    requires { item.old ≡ None }
-    ensures turned { IfOk result (λ t. turned (turn linux
-        (choice_of_own tampering.now pid own.old) shared.old child pid own.old) ≡
-        record { shared = shared.new; own = own.new; item = item.new; event = event_of t.done }) }
-    ensures before { IfOk result (λ t. t.before ≡ own_mode_of (maps.get shared.old.entries pid) own.old) }
-    ensures after { IfOk result (λ t. t.after ≡ own_mode_of (maps.get shared.new.entries pid) own.new) }
-    ensures gone { IfOk result (λ t. t.gone ≡ is_gone own.new) }
-    ensures calm { IfOk result (λ t. IsTrue t.calm → Calms shared.old shared.new child pid t.roused (event_of t.done)) }
-    ensures absent { own.old ≡ Gone → IsOkAnd result (λ t. (item.new ≡ None) × (event_of t.done ≡ Plain)) }
-    ensures console { OnErr result (shared.new.console ≡ shared.old.console) }
-{
-    match own {
-        Own::Gone => {
-            let mode = mode_of_gone(shared, pid);
-            Ok(Transition::of_gone(mode, mode, pid))
-        }
-        Own::Dying { word } => {
-            let parent = told_of(shared, pid);
-            bury(shared, pid, *word)?;
-            leave(own);
-            Ok(Transition::of_gone(Some(Mode::Dying), mode_of_gone(shared, pid), parent))
-        }
-        Own::Alive { body, stage } => {
-            let left = mode(stage);
-            let calm = is_calm(*stage);
-            match turn_alive(alloc, shared, tampering, child, pid, body, stage, item)? {
-                Went::On(done) => Ok(Transition {
-                    before: Some(left),
-                    after: Some(mode(stage)),
-                    done,
-                    gone: false,
-                    calm,
-                    roused: pid,
-                    may_rest: reads_or_writes(stage),
-                }),
-                Went::Ended { word } => {
-                    let calm = die(shared, pid, word)?;
-                    end(own, word);
-                    *item = Some(Item::Exit { pid, word, left });
-                    Ok(Transition {
-                        before: Some(left),
-                        after: Some(Mode::Dying),
-                        done: Effect::Plain,
-                        gone: false,
-                        calm,
-                        roused: pid,
-                        may_rest: false,
-                    })
-                }
-            }
-        }
-    }
 }
 
 /// A process leaves the table.
@@ -347,19 +176,9 @@ fn mode_of(shared: &Shared, owns: &Map<Own<Body>>, pid: u32) -> Option<Mode>
     ensures { result ≡ own_mode_of (maps.get shared.now.entries pid) (at Gone owns.now pid) }
 {
     match owns.get(pid) {
-        Some(Own::Alive { stage, .. }) => Some(mode(stage)),
+        Some(Own::Alive { stage, .. }) => Some(mode_of_stage(stage)),
         Some(Own::Dying { .. }) => Some(Mode::Dying),
         Some(Own::Gone) | None => mode_of_gone(shared, pid),
-    }
-}
-
-/// Where a process stands whose own part is given up.
-fn mode_of_gone(shared: &Shared, pid: u32) -> Option<Mode>
-    ensures { result ≡ life_mode (maps.get shared.now.entries pid) }
-{
-    match shared.entries.get(pid)?.life {
-        Life::Zombie { .. } => Some(Mode::Zombie),
-        Life::Alive | Life::Dying { .. } => None,
     }
 }
 
@@ -538,7 +357,7 @@ impl Kernel {
     pub fn able(&self, pid: u32) -> bool
         ensures { IsTrue result ↔ is_able_in self.now pid }
     {
-        can_turn(&self.shared, &self.owns, pid)
+        can_turn_at(&self.shared, &self.owns, pid)
     }
 
     /// The next process that can take a turn, in the cycle of pids: the first above this pid, or else the first.

@@ -4,14 +4,14 @@ ghost use Rattle.std.specs.Prelude.{◌≡◌, ◌<◌, ℕ, None, true, is_none
 ghost use Rattle.std.specs.FinMap as maps;
 ghost use Rattle.lx_model.specs.Finite.{at};
 ghost use Rattle.lx_model.specs.declared.stage.Own.TheVariants.{Gone};
+ghost use Rattle.lx_turn.specs.Resting.{rests as rests_in};
+ghost use Rattle.lx_turn.specs.Turned.{event_of};
 ghost use Rattle.lx_kernel.specs.Sleeping.{IsWatched, IsSameBut, AreListed, Watch, welcomed};
-ghost use Rattle.lx_kernel.specs.Turned.{event_of};
 
-use crate::blocking::rests;
-use crate::effects::Effect;
 use containers::Map;
 use lx_model::Own;
 use lx_proc::{Body, Shared};
+use lx_turn::{Effect, rests};
 use std::alloc::Global;
 
 /// The processes that may be able, and those that wait in a read or a write of a pipe, which a search passes over.
@@ -37,6 +37,17 @@ fn is_absent(owns: &Map<Own<Body>>, pid: u32) -> bool
     ensures { result ≡ is_none (maps.get owns.now pid) }
 {
     owns.get(pid).is_none()
+}
+
+/// The process waits in a read or a write of a pipe, or is gone.
+#[tactic(auto, unfolding(lx_turn::specs::Resting::rests))]
+fn rests_at(shared: &Shared, owns: &Map<Own<Body>>, pid: u32) -> bool
+    ensures { result ≡ rests_in shared.now pid (at Gone owns.now pid) }
+{
+    match owns.get(pid) {
+        Some(own) => rests(shared, pid, own),
+        None => true,
+    }
 }
 
 /// It may be in any set.
@@ -109,7 +120,7 @@ impl Sleepers {
     {
         if hints.gone && is_absent(owns, pid) {
             self.forget(pid);
-        } else if hints.may_rest && rests(shared, owns, pid) {
+        } else if hints.may_rest && rests_at(shared, owns, pid) {
             self.put_to_sleep(pid);
         } else {
             self.wake(pid);

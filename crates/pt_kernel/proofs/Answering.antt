@@ -19,10 +19,10 @@ use Rattle.lx_model.specs.Turn.{stage_mode}
 use Rattle.lx_model.specs.Finite.{at, placed, with_own}
 use Rattle.lx_proc.specs.declared.state.Shared.{Shared}
 use Rattle.lx_proc.specs.declared.state.Body.{Body}
-use Rattle.lx_kernel.specs.Linux.{linux}
+use Rattle.lx_turn.specs.Linux.{linux}
 use Rattle.lx_kernel.specs.Runs.{Run as KernelRun}
 use Rattle.lx_kernel.specs.Tracing.{own_in, signal_at}
-use Rattle.lx_kernel.proofs.Placed.{put_same}
+use Rattle.lx_turn.proofs.Placed.{put_same}
 use Rattle.lx_kernel.proofs.Placing.{remove_absent}
 use Rattle.pt_model.specs.declared.ptrace.Watch.{Watch}
 use Rattle.pt_model.specs.declared.ptrace.Traced.{Traced}

@@ -22,10 +22,11 @@ use Rattle.lx_proc.specs.declared.state.Entry.{Entry}
 use Rattle.lx_proc.specs.declared.state.Life.{Life}
 use Rattle.lx_proc.specs.declared.state.Life.TheVariants as life
 use Rattle.lx_kernel.specs.Bursts.{StaysInRun, after_turns as kernel_after_turns, Burst as KernelBurst}
-use Rattle.lx_kernel.specs.Linux.{linux}
-use Rattle.lx_kernel.specs.Runs.{Run as KernelRun, turn_in, after_turn, mode_in, life_mode, own_mode as kernel_mode}
+use Rattle.lx_turn.specs.Linux.{linux}
+use Rattle.lx_kernel.specs.Runs.{Run as KernelRun, turn_in, after_turn, mode_in}
+use Rattle.lx_turn.specs.Modes.{life_mode, own_mode as kernel_mode}
 use Rattle.lx_kernel.specs.Tracing.{own_in}
-use Rattle.lx_kernel.proofs.Placed.{put_same}
+use Rattle.lx_turn.proofs.Placed.{put_same}
 use Rattle.pt_model.specs.declared.ptrace.Traced.{Traced}
 use Rattle.pt_model.specs.declared.ptrace.Watch.{Watch}
 use Rattle.pt_model.specs.Ptrace.{may_die, reports_of, stop_at}

@@ -9,7 +9,7 @@ use Rattle.lx_model.specs.declared.stage.Own.{Own}
 use Rattle.lx_model.specs.declared.stage.Own.TheVariants.{Alive, Gone}
 use Rattle.lx_model.specs.declared.stage.Stage.TheVariants.{Run as In_run}
 use Rattle.lx_proc.specs.declared.state.Body.{Body}
-use Rattle.lx_kernel.specs.Linux.{linux}
+use Rattle.lx_turn.specs.Linux.{linux}
 use Rattle.pt_model.specs.Hosting.{no_script, traced_at}
 use Rattle.pt_schedule.specs.declared.schedule.Schedule.{Schedule}
 use Rattle.pt_schedule.specs.declared.schedule.TurnRun.{TurnRun}

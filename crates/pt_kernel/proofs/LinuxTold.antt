@@ -12,8 +12,8 @@ use Rattle.lx_proc.specs.declared.state.Shared.{Shared}
 use Rattle.lx_proc.specs.declared.state.Body.{Body}
 use Rattle.lx_sig.specs.Calls.{argument}
 use Rattle.lx_pcalls.specs.Taking.{takes}
-use Rattle.lx_kernel.specs.Linux.{linux}
-use Rattle.lx_kernel.specs.Fitting.{Fits, CallsFit, TookFits, TakesFit}
+use Rattle.lx_turn.specs.Linux.{linux}
+use Rattle.lx_turn.specs.Fitting.{Fits, CallsFit, TookFits, TakesFit}
 
 exit_word : (n w : ℕ) → w ≡ n % 256 * 256 → is_exit_word w ≡ true
 exit_word n w h = grind (arith, nat_tests)

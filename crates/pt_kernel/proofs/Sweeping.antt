@@ -25,8 +25,8 @@ use Rattle.lx_proc.specs.declared.state.Body.{Body}
 use Rattle.lx_proc.specs.declared.state.Entry.{Entry}
 use Rattle.lx_proc.specs.declared.state.Life.{Life}
 use Rattle.lx_proc.specs.declared.state.Life.TheVariants as life
-use Rattle.lx_kernel.specs.Linux.{linux}
-use Rattle.lx_kernel.specs.Runs.{life_mode, own_mode as kernel_mode}
+use Rattle.lx_turn.specs.Linux.{linux}
+use Rattle.lx_turn.specs.Modes.{life_mode, own_mode as kernel_mode}
 use Rattle.pt_model.specs.declared.ptrace.Report.{Report}
 use Rattle.pt_model.specs.declared.ptrace.Watch.{Watch}
 use Rattle.pt_model.specs.Ptrace.{Proc, is_effective}

@@ -27,8 +27,9 @@ use Rattle.lx_proc.specs.declared.state.Body.{Body}
 use Rattle.lx_proc.specs.declared.state.Entry.{Entry}
 use Rattle.lx_proc.specs.declared.state.Life.{Life}
 use Rattle.lx_proc.specs.declared.state.Life.TheVariants as life
-use Rattle.lx_kernel.specs.Linux.{linux}
-use Rattle.lx_kernel.specs.Runs.{Run as KernelRun, turn_in, after_turn, mode_in, life_mode, own_mode as kernel_mode}
+use Rattle.lx_turn.specs.Linux.{linux}
+use Rattle.lx_kernel.specs.Runs.{Run as KernelRun, turn_in, after_turn, mode_in}
+use Rattle.lx_turn.specs.Modes.{life_mode, own_mode as kernel_mode}
 use Rattle.lx_kernel.specs.Tracing.{own_in}
 use Rattle.pt_model.specs.declared.ptrace.Watch.{Watch}
 use Rattle.pt_model.specs.Ptrace.{tracee_stop, stop_at, is_dying}

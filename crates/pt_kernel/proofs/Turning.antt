@@ -11,7 +11,7 @@ use Rattle.lx_model.specs.Deeds.{deed_of}
 use Rattle.lx_model.specs.Finite.{at, item_of, Running, ran, bore, turn_out}
 use Rattle.lx_proc.specs.declared.state.Shared.{Shared}
 use Rattle.lx_proc.specs.declared.state.Body.{Body}
-use Rattle.lx_kernel.specs.Linux.{linux}
+use Rattle.lx_turn.specs.Linux.{linux}
 use Rattle.lx_kernel.specs.Runs.{Run as KernelRun, turn_in, after_turn, mode_in}
 use Rattle.lx_kernel.specs.Tracing.{own_in}
 use Rattle.pt_model.specs.declared.ptrace.Watch.{Watch}

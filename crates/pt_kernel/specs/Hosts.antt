@@ -14,7 +14,7 @@ use Rattle.lx_model.specs.declared.stage.Own.TheVariants.{Alive, Gone}
 use Rattle.lx_model.specs.Finite.{at, Running, with_own, own_mode, turn_out}
 use Rattle.lx_proc.specs.declared.state.Shared.{Shared}
 use Rattle.lx_proc.specs.declared.state.Body.{Body}
-use Rattle.lx_kernel.specs.Linux.{linux}
+use Rattle.lx_turn.specs.Linux.{linux}
 use Rattle.lx_kernel.specs.Outcomes.{outcome_in}
 use Rattle.lx_kernel.specs.Runs.{Run as KernelRun}
 use Rattle.lx_kernel.specs.Tracing.{own_in}

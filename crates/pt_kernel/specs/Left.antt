@@ -11,7 +11,7 @@ use Rattle.lx_proc.specs.declared.state.Shared.{Shared}
 use Rattle.lx_proc.specs.declared.state.Body.{Body}
 use Rattle.lx_boot.specs.First.{first_shared}
 use Rattle.lx_kernel.specs.Laws.{logged_words}
-use Rattle.lx_kernel.specs.Linux.{linux}
+use Rattle.lx_turn.specs.Linux.{linux}
 use Rattle.lx_files.specs.Listing.{files_of}
 use Rattle.lx_kernel.specs.Outcomes.{outcome_in}
 use Rattle.lx_exec.specs.Programs.{booted}

@@ -7,7 +7,7 @@ use Rattle.lx_model.specs.Finite.{own_mode}
 use Rattle.lx_model.specs.Machine.{Machine}
 use Rattle.lx_proc.specs.declared.state.Shared.{Shared}
 use Rattle.lx_proc.specs.declared.state.Body.{Body}
-use Rattle.lx_kernel.specs.Linux.{linux}
+use Rattle.lx_turn.specs.Linux.{linux}
 use Rattle.lx_kernel.specs.Outcomes.{outcome_in}
 use Rattle.pt_model.specs.Attending.{Attending, is_ready, called, left_pending, Schedules, Gives}
 use Rattle.pt_model.specs.Hosting.{host_in, IsFresh}

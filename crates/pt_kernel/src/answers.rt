@@ -12,7 +12,7 @@ ghost use Rattle.lx_abi.specs.Signals.{may_join};
 ghost use Rattle.lx_abi.specs.declared.log.Cause.{Cause};
 ghost use Rattle.lx_abi.specs.declared.ptrace.Request.{Request};
 ghost use Rattle.lx_kernel.specs.Runs.{Run as KernelRun};
-ghost use Rattle.lx_kernel.specs.Linux.{linux};
+ghost use Rattle.lx_turn.specs.Linux.{linux};
 ghost use Rattle.lx_proc.specs.declared.state.Body.{Body};
 ghost use Rattle.lx_kernel.specs.Tracing.{own_in};
 ghost use Rattle.pt_model.specs.Ptrace.{watch_of};

@@ -3,10 +3,11 @@
 ghost use Rattle.pt_kernel.specs.Left.{BootsLeaveAsPlain};
 ghost use Rattle.pt_kernel.specs.Seen.{HostsAreCalled};
 ghost use Rattle.pt_model.specs.Headline.{IsTold, HeadlineAt};
-ghost use Rattle.lx_kernel.specs.Linux.{linux};
+ghost use Rattle.lx_turn.specs.Linux.{linux};
 
-use lx_kernel::laws::{calls_fit, linux_is_a_machine, words_are_logged};
+use lx_kernel::laws::words_are_logged;
 use lx_proc::{Body, Shared};
+use lx_turn::laws::{calls_fit, linux_is_a_machine};
 use pt_model::laws::{every_script_is_one, hosts_run_alike, tracing_is_transparent, turns_tell};
 
 /// What wait(2) tells of Linux's calls fits their numbers, and no read of a memory gives more bytes than were asked

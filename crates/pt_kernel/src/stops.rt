@@ -1,7 +1,7 @@
 //! Where a process stands to its tracer.
 
 ghost use Rattle.std.specs.Prelude.{◌≡◌};
-ghost use Rattle.lx_kernel.specs.Linux.{linux};
+ghost use Rattle.lx_turn.specs.Linux.{linux};
 ghost use Rattle.lx_kernel.specs.Tracing.{own_in};
 ghost use Rattle.pt_model.specs.Ptrace.{is_effective};
 ghost use Rattle.pt_model.specs.Hosting.{as_proc, deed_stop, item_stop, mode_stop};

@@ -5,7 +5,7 @@ ghost use Rattle.std.specs.FinMap as maps;
 ghost use Rattle.lx_abi.specs.declared.ptrace.Request.{Request};
 ghost use Rattle.lx_model.specs.Finite.{at, own_mode};
 ghost use Rattle.lx_model.specs.declared.stage.Own.TheVariants.{Gone};
-ghost use Rattle.lx_kernel.specs.Linux.{linux};
+ghost use Rattle.lx_turn.specs.Linux.{linux};
 ghost use Rattle.lx_kernel.specs.Outcomes.{outcome_in};
 ghost use Rattle.lx_kernel.specs.Tracing.{own_in};
 ghost use Rattle.pt_model.specs.Ptrace.{is_effective};

@@ -11,7 +11,7 @@ use Rattle.lx_proc.specs.declared.state.Body.{Body}
 use Rattle.lx_proc.specs.declared.state.Entry.{Entry}
 use Rattle.lx_proc.specs.declared.state.Life.{Life}
 use Rattle.lx_proc.specs.declared.state.Life.TheVariants as life
-use Rattle.lx_kernel.specs.Runs.{life_mode, own_mode as kernel_mode}
+use Rattle.lx_turn.specs.Modes.{life_mode, own_mode as kernel_mode}
 use Rattle.pt_schedule.specs.Modes.{is_finished, mode_number, is_run, same_mode, moves}
 
 mode_of : ℕ → Option Mode

@@ -5,7 +5,7 @@ use Rattle.lx_abi.specs.declared.ptrace.Reply.TheVariants.{Done as Agreed}
 use Rattle.lx_abi.specs.declared.ptrace.Request.{Request}
 use Rattle.lx_proc.specs.declared.state.Shared.{Shared}
 use Rattle.lx_proc.specs.declared.state.Body.{Body}
-use Rattle.lx_kernel.specs.Linux.{linux}
+use Rattle.lx_turn.specs.Linux.{linux}
 use Rattle.lx_kernel.specs.Outcomes.{outcome_in}
 use Rattle.pt_model.specs.Calls.{WorldsCall, RunsAppend, OutOfTurnsShowsNothing}
 use Rattle.pt_model.specs.Parts.{Options as Model_options}

@@ -7,7 +7,7 @@ use Rattle.lx_abi.specs.declared.schedule.Event.{Event}
 use Rattle.lx_abi.specs.declared.script.Rule.{Rule}
 use Rattle.lx_abi.specs.Scripts.{choice_of}
 use Rattle.lx_boot.specs.First.{first_shared}
-use Rattle.lx_kernel.specs.Linux.{linux}
+use Rattle.lx_turn.specs.Linux.{linux}
 use Rattle.lx_kernel.specs.Outcomes.{outcome_in}
 use Rattle.lx_exec.specs.Programs.{booted}
 use Rattle.lx_proc.specs.declared.state.Shared.{Shared}

@@ -7,8 +7,8 @@ ghost use Rattle.trace_run.specs.Runs.{calls_of};
 ghost use Rattle.trace_run.specs.Tells.{RunsTell, ServedRunsTell};
 
 use host_link::{Link, LocalLink};
-use lx_kernel::laws::linux_is_a_machine;
 use lx_proc::{Body, Shared};
+use lx_turn::laws::linux_is_a_machine;
 use pt_kernel::Schedule;
 use pt_kernel::laws::{hosts_are_called, linux_is_told};
 use pt_model::laws::{

@@ -1,4 +1,4 @@
-use Rattle.std.proofs.Common.{◌≡◌, ◌∙◌, ap, sym, subst, false, []}
+use Rattle.std.proofs.Common.{◌≡◌, ◌∙◌, ap, false, []}
 use Rattle.lx_boot.specs.First.{first_shared, first_owns}
 use Rattle.lx_model.specs.Finite.{at}
 use Rattle.lx_model.specs.declared.stage.Own.TheVariants.{Gone}

@@ -2,12 +2,13 @@ use Rattle.std.proofs.Common.{◌≡◌, ap, sym, subst, refl, ◌∙◌}
 use Rattle.std.specs.Prelude.{OnSome}
 use Rattle.std.specs.FinMap as maps
 use Rattle.lx_model.specs.Turn.{turn}
-use Rattle.lx_kernel.specs.Linux.{linux}
-use Rattle.lx_kernel.specs.Tampering.{choice_of_own}
-use Rattle.lx_kernel.specs.Turned.{turned, without_gone}
+use Rattle.lx_turn.specs.Linux.{linux}
+use Rattle.lx_turn.specs.Tampering.{choice_of_own}
+use Rattle.lx_turn.specs.Turned.{turned}
+use Rattle.lx_kernel.specs.Turns.{without_gone}
 use Rattle.lx_model.specs.Finite.{at, placed}
 use Rattle.lx_model.specs.declared.stage.Own.TheVariants.{Gone}
-use Rattle.lx_kernel.specs.Runs.{own_mode}
+use Rattle.lx_turn.specs.Modes.{own_mode}
 use Rattle.lx_kernel.proofs.Placing.{somebody, nobody, placed_by, at_placed}
 use Rattle.lx_kernel.proofs.kernel.turn_at.Goals as goal
 

@@ -2,7 +2,7 @@ use Rattle.std.proofs.Common.{sym, ap, ◌∙◌}
 use Rattle.lx_abi.specs.declared.ptrace.Reply.TheVariants.{Done as Agreed, Message as Message_is}
 use Rattle.lx_model.specs.declared.stage.Own.TheVariants.{Alive}
 use Rattle.lx_proc.specs.declared.state.Body.{Body}
-use Rattle.lx_kernel.specs.Linux.{linux}
+use Rattle.lx_turn.specs.Linux.{linux}
 use Rattle.lx_kernel.specs.Tracing.{own_in, with_part, with_regs}
 use Rattle.pt_model.specs.Requests.{says, stopped}
 use Rattle.pt_model.specs.Hosting.{as_proc}

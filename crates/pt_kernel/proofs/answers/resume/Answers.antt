@@ -1,6 +1,6 @@
 use Rattle.std.proofs.Common.{sym, ap, ◌∙◌}
 use Rattle.std.specs.FinMap as maps
-use Rattle.lx_kernel.specs.Runs.{own_mode}
+use Rattle.lx_turn.specs.Modes.{own_mode}
 use Rattle.lx_kernel.specs.Tracing.{signal_of}
 use Rattle.pt_kernel.specs.Stops.{is_entered}
 use Rattle.pt_kernel.proofs.Answering.{goes_elsewhere}

@@ -1,5 +1,4 @@
-use Rattle.std.proofs.Common.{Bool, false, sym, subst, ap, ◌∙◌}
-use Rattle.std.specs.FinMap as maps
+use Rattle.std.proofs.Common.{subst, ap}
 use Rattle.std.specs.Option.{unwrap_or}
 use Rattle.lx_model.specs.declared.stage.Own.TheVariants.{Gone}
 use Rattle.lx_kernel.specs.Runs.{Run}

@@ -1,4 +1,4 @@
-use Rattle.std.proofs.Common.{◌≡◌, ℕ, false, ap, sym, subst, ◌∙◌}
+use Rattle.std.proofs.Common.{◌≡◌, false, ap, sym, subst, ◌∙◌}
 use Rattle.lx_model.specs.Finite.{at}
 use Rattle.lx_model.specs.declared.stage.Own.TheVariants.{Gone}
 use Rattle.lx_model.specs.Deeds.{deed_of}
@@ -7,10 +7,11 @@ use Rattle.lx_proc.specs.declared.state.Shared.{Shared}
 use Rattle.lx_proc.specs.declared.state.Body.{Body}
 use Rattle.lx_abi.specs.Occurrences.{count_of}
 use Rattle.lx_kernel.specs.Runs.{Run, turn_in, after_turn, mode_in}
-use Rattle.lx_kernel.proofs.Turning.{on_err, kernel_item, kernel_deed, kernel_left, kernel_born, kernel_console, kernel_turned}
+use Rattle.lx_turn.proofs.Consoles.{on_err}
+use Rattle.lx_kernel.proofs.Turning.{kernel_item, kernel_deed, kernel_left, kernel_born, kernel_console, kernel_turned}
 use Rattle.lx_kernel.specs.Sleeping.{AreListed, IsWatched, welcomed}
 use Rattle.lx_kernel.specs.Scheduling.{Owns}
-use Rattle.lx_kernel.specs.Turned.{event_of}
+use Rattle.lx_turn.specs.Turned.{event_of}
 use Rattle.lx_kernel.specs.declared.sleepers.Sleepers.{Sleepers}
 use Rattle.lx_kernel.proofs.Watching.{turn_listed, turn_watched, roused_watched}
 use Rattle.lx_kernel.proofs.kernel.Kernel.turn.Goals as goal

@@ -1,7 +1,7 @@
 use Rattle.std.proofs.Common.{ap, sym, ◌∙◌}
 use Rattle.std.specs.FinMap as maps
-use Rattle.lx_proc.specs.declared.state.Shared.{Shared}
-use Rattle.lx_kernel.proofs.Sleeping.{other_put, other_left, put_there, absent_gone, gone_rests}
+use Rattle.lx_turn.proofs.Placed.{other_put, other_left}
+use Rattle.lx_kernel.proofs.Sleeping.{put_there, absent_gone, gone_rests}
 use Rattle.lx_kernel.proofs.sleepers.Sleepers.sort.Goals as goal
 
 pub returns-then-is_absent-clause-itself : goal.returns-then-is_absent-clause-itself
@@ -18,12 +18,12 @@ returns-then-is_absent-clause-others c = λ known. (
   ),
 )
 
-pub returns-then-rests-clause-itself : goal.returns-then-rests-clause-itself
-returns-then-rests-clause-itself c = λ known unwatched.
-    (sym c.rests.ensures ∙ c.if-rests.true, λ unslept. put_there c.args.self.now.asleep c.put_to_sleep.new.self.asleep c.args.pid tt (c.put_to_sleep.ensures.asleep known) unslept)
+pub returns-then-rests_at-clause-itself : goal.returns-then-rests_at-clause-itself
+returns-then-rests_at-clause-itself c = λ known unwatched.
+    (sym c.rests_at.ensures ∙ c.if-rests_at.true, λ unslept. put_there c.args.self.now.asleep c.put_to_sleep.new.self.asleep c.args.pid tt (c.put_to_sleep.ensures.asleep known) unslept)
 
-pub returns-then-rests-clause-others : goal.returns-then-rests-clause-others
-returns-then-rests-clause-others c = λ known. (
+pub returns-then-rests_at-clause-others : goal.returns-then-rests_at-clause-others
+returns-then-rests_at-clause-others c = λ known. (
   c.put_to_sleep.ensures.known known,
   λ q ne. (
     ap (λ m. maps.get m q) c.put_to_sleep.ensures.awake ∙ other_left c.args.self.now.awake c.args.pid q ne,

@@ -1,4 +1,0 @@
-use Rattle.lx_kernel.proofs.calls.does.Goals as goal
-
-pub returns-clause-kept : goal.returns-clause-kept
-returns-clause-kept c = c.interrupt.ensures.kept c.args.shared.now c.args.body.now c.in_ok-reply.ensures.kept

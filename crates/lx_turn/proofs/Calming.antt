@@ -1,0 +1,512 @@
+-- Turns that let each other process that rests rest on.
+use Rattle.std.proofs.Common.{◌≡◌, ℕ, Bool, true, false, cond, List, [], ◌∷◌, Option, Some, None, refl, ap, sym, subst, ◌∙◌, arith}
+use Rattle.std.specs.Prelude.{◌==◌, ◌||◌, ◌*◌, ◌<◌, nat_lt, fold, is_some, is_none, not, if◌then◌else◌}
+use Rattle.std.specs.List.{filter, range_with_len}
+use Rattle.std.specs.Option.{unwrap_or}
+use Rattle.std.specs.FinMap as maps
+use Rattle.std.specs.Int.{w32, to_le_bytes}
+use Rattle.std.specs.declared.result.Result.TheVariants.{Ok, Err}
+use Rattle.std.proofs.lemmas.Bool.Decides.{nat_tests}
+use Rattle.rv_hart.specs.declared.outcome.Step.{Step}
+use Rattle.rv_hart.specs.declared.outcome.Step.TheVariants as step
+use Rattle.rv_hart.specs.Steps.{Outcome, stepped as instruction}
+use Rattle.rv_mem.specs.Mapping.{mapped, limit_fault, highest_free}
+use Rattle.rv_mem.specs.Memory.{first_fault, written}
+use Rattle.rv_mem.specs.declared.rights.Access.TheVariants as access
+use Rattle.lx_abi.specs.Errnos.{eagain, echild, einval, efault, enomem, enosys, esrch}
+use Rattle.lx_abi.specs.declared.log.Call.{Call}
+use Rattle.lx_abi.specs.declared.log.Cause.{Cause}
+use Rattle.lx_abi.specs.declared.signal.Signal.{Signal}
+use Rattle.lx_abi.specs.declared.script.Choice.{Choice}
+use Rattle.lx_model.specs.Machine.{Answer, Refused, Returns, Jumps, Execs, Bears, Blocks, Ends, Took}
+use Rattle.lx_model.specs.Turn.{Out, Event, Plain, Forked, turn, killed_or, lives, stepped, answered, took, joins}
+use Rattle.lx_model.specs.declared.stage.Stage.{Stage}
+use Rattle.lx_model.specs.declared.stage.Stage.TheVariants.{Born, Run, Faulting, Entered, Doing, Replaced, Acted, Finished, Taken, Dropped}
+use Rattle.lx_model.specs.declared.stage.Own.{Own}
+use Rattle.lx_model.specs.declared.stage.Own.TheVariants.{Alive, Dying, Gone}
+use Rattle.lx_sig.specs.Calls.{Outcome as SignalOutcome}
+use Rattle.lx_sig.specs.Frames.{return_fault, frame_fault}
+use Rattle.lx_sig.specs.Reactions.{reaction as reaction_to}
+use Rattle.lx_sig.specs.Sigaction.{sigaction}
+use Rattle.lx_sig.specs.Sigprocmask.{sigprocmask}
+use Rattle.lx_sig.specs.declared.reactions.Reaction.{Reaction}
+use Rattle.lx_sig.specs.declared.reactions.Reaction.TheVariants as reaction
+use Rattle.lx_sig.specs.declared.state.Interrupted.{Interrupted}
+use Rattle.lx_open.specs.Opens.{inherited}
+use Rattle.lx_proc.specs.declared.state.Entry.{Entry}
+use Rattle.lx_proc.specs.declared.state.Shared.{Shared}
+use Rattle.lx_proc.specs.declared.state.Body.{Body}
+use Rattle.lx_proc.specs.State.{changed, with_entries, with_memory}
+use Rattle.lx_proc.specs.Answers.{Answers, argument, low_argument, unless, given, gives}
+use Rattle.lx_exec.specs.Pages.{pages_for, rights_for}
+use Rattle.lx_fcalls.specs.Calls.{file_call}
+use Rattle.lx_pcalls.specs.Brk.{brk}
+use Rattle.lx_pcalls.specs.Calls.{process_call}
+use Rattle.lx_pcalls.specs.Clone.{clone, bears, child_entry, child_body, fork_flags, has_room}
+use Rattle.lx_pcalls.specs.Getpid.{getpid}
+use Rattle.lx_pcalls.specs.Getppid.{getppid}
+use Rattle.lx_pcalls.specs.Interruption.{is_interrupted, interruptible, blocks_or_returns}
+use Rattle.lx_pcalls.specs.Mmap.{mmap, may_map, maps_at, map_low, map_high}
+use Rattle.lx_pcalls.specs.Munmap.{munmap, may_unmap}
+use Rattle.lx_pcalls.specs.RtSigaction.{rt_sigaction}
+use Rattle.lx_pcalls.specs.RtSigprocmask.{rt_sigprocmask}
+use Rattle.lx_pcalls.specs.RtSigreturn.{rt_sigreturn}
+use Rattle.lx_pcalls.specs.SchedYield.{sched_yield}
+use Rattle.lx_pcalls.specs.Signals.{leaves}
+use Rattle.lx_pcalls.specs.Taking.{takes, takes_at, reacts}
+use Rattle.lx_pcalls.specs.Wait4.{wait4, waits, reaps, may_wait, first_child, word_in}
+use Rattle.lx_turn.specs.Calls.{does, called}
+use Rattle.lx_turn.specs.Linux.{linux}
+use Rattle.lx_turn.specs.Reactions.{next_of, runs, resumed, ran_by, is_killed}
+use Rattle.lx_turn.specs.Resting.{is_quiet, is_calm_at, is_calm_call, Calms, told_by}
+use Rattle.lx_turn.proofs.Placed.{either, other_put, other_left}
+use Rattle.lx_abi.specs.declared.log.Item.{Item}
+use Rattle.lx_files.specs.declared.tree.Tree.{Tree}
+use Rattle.lx_open.specs.Kinds.{SlotMap}
+use Rattle.lx_open.specs.Opens.{pair, slot, description, is_named, has_readers, has_writers}
+use Rattle.lx_open.specs.Releases.{Held, AreEndsKept, description_released, description_dropped, object_released, slot_closed, closed, closed_if_meant, closed_each, all_closed, is_meant}
+use Rattle.lx_open.specs.declared.description.Description.{Description}
+use Rattle.lx_open.specs.declared.description.Object.{Object}
+use Rattle.lx_open.specs.declared.description.Object.TheVariants.{Input, Console, ReadEnd, WriteEnd, Opened}
+use Rattle.lx_open.specs.declared.description.Slot.{Slot}
+use Rattle.lx_open.specs.declared.fd_table.FdTable.{FdTable}
+use Rattle.lx_proc.specs.State.{Entries}
+use Rattle.lx_proc.specs.declared.state.Life.TheVariants.{Zombie}
+use Rattle.lx_pcalls.specs.Ends.{dies, buried, buried_entry, orphan, orphaned, released, released_entry, retired_by, told, wants_no_news, with_life}
+use Rattle.lx_proc.specs.Families.{is_zombie}
+use Rattle.lx_turn.specs.Turned.{Turned, turned, turned_by, event_of}
+use Rattle.lx_turn.specs.declared.effects.Effect.{Effect}
+use Rattle.lx_turn.specs.declared.stages.Went.TheVariants.{On}
+use Rattle.lx_turn.proofs.Placed.{get_put}
+use Rattle.lx_turn.proofs.Resting.{other_pair, rests_on, waits_same, waits_alike, inherited_alike, entry_other, quiet_same, quiet_left}
+
+module _ (s : Shared) (child p : ℕ) where
+  abbrev Calm : Shared → Event Body → Type 0
+  Calm t event = Calms s t child p p event
+
+  -- nothing is changed
+  same_calm : (event : Event Body) → Calm s event
+  same_calm event = λ q ne still unborn own h. h
+
+  -- the process's own entry is
+  entry_calm : (f : Entry → Entry) (event : Event Body) → Calm (with_entries s (changed s.entries p f)) event
+  entry_calm f event = λ q ne still unborn own h.
+      let t : Shared = with_entries s (changed s.entries p f) in
+      rests_on s t q (waits_same s t q refl)
+      (quiet_same (maps.get s.entries q) (maps.get t.entries q) (entry_other s.entries p q f (maps.get s.entries p) ne)) own h
+
+  entries_calm : (f g : Entry → Entry) (event : Event Body) → Calm (with_entries s (changed (changed s.entries p f) p g)) event
+  entries_calm f g event = λ q ne still unborn own h.
+      let t : Shared = with_entries s (changed (changed s.entries p f) p g) in
+      rests_on s t q (waits_same s t q refl)
+      (quiet_same (maps.get s.entries q) (maps.get t.entries q)
+      (entry_other (changed s.entries p f) p q g (maps.get (changed s.entries p f) p) ne ∙ entry_other s.entries p q f (maps.get s.entries p) ne)) own h
+
+  -- an entry leaves the table
+  left_calm : (n : ℕ) (event : Event Body) → Calm (with_entries s (maps.remove s.entries n)) event
+  left_calm n event = λ q ne still unborn own h.
+      let t : Shared = with_entries s (maps.remove s.entries n) in
+      rests_on s t q (waits_same s t q refl) (quiet_left s.entries n q) own h
+
+  -- a child is born
+  born_calm : (e : Entry) (newborn : Body) → Calm (record s { fds = inherited s.fds p child; entries = maps.insert s.entries child e }) (Forked newborn)
+  unfolding inherited
+  born_calm e newborn = λ q ne still unborn own h.
+      let t : Shared = record s { fds = inherited s.fds p child; entries = maps.insert s.entries child e } in
+      let other = unborn tt in
+      rests_on s t q (waits_alike s t q (inherited s.fds p child).slots refl (inherited_alike s.fds p child q other))
+      (quiet_same (maps.get s.entries q) (maps.get t.entries q) (other_put s.entries child q other e)) own h
+
+  -- Answers
+
+  abbrev IsCalm : Answers → Type 0
+  IsCalm (Refused e) = Unit {0}
+  IsCalm (Returns t b x) = Calm t Plain
+  IsCalm (Jumps t b) = Calm t Plain
+  IsCalm (Execs t b) = ⊥
+  IsCalm (Bears t b newborn) = Calm t (Forked newborn)
+  IsCalm Blocks = Unit {0}
+  IsCalm (Ends w) = Unit {0}
+
+  either_calm : (test : Bool) (x y : Answers) → IsCalm x → IsCalm y → IsCalm (cond test x y)
+  either_calm true x y h g = h
+  either_calm false x y h g = g
+
+  unless_calm : (test : Bool) (e : ℕ) (a : Answers) → IsCalm a → IsCalm (unless test e a)
+  unless_calm test e a h = either_calm test a (Refused e) h tt
+
+  given_calm : {A : Type 0} (o : Option A) (e : ℕ) (f : A → Answers) → ((x : A) → IsCalm (f x)) → IsCalm (given o e f)
+  given_calm None e f h = tt
+  given_calm (Some x) e f h = h x
+
+  gives_calm : (t : Shared) (b : Body) (at : ℕ) (bytes : List ℕ) (result : ℕ) → Calm t Plain → IsCalm (gives t b at bytes result)
+  gives_calm t b at bytes result h = either_calm (is_some (first_fault access.Write b.memory at _)) (Refused efault) (Returns t (with_memory b (written b.memory at bytes)) result) tt h
+
+  leaves_calm : (b : Body) (o : SignalOutcome) → IsCalm (leaves s p b o)
+  leaves_calm b (Err e) = tt
+  leaves_calm b (Ok c) = entry_calm _ Plain
+
+  module _ (call : Call) (b : Body) where
+    sigaction_calm : IsCalm (rt_sigaction s p call b)
+    sigaction_calm = given_calm (maps.get s.entries p) esrch _ (λ (e : Entry). leaves_calm b (sigaction e.signals b.memory call))
+
+    sigprocmask_calm : IsCalm (rt_sigprocmask s p call b)
+    sigprocmask_calm = given_calm (maps.get s.entries p) esrch _ (λ (e : Entry). leaves_calm b (sigprocmask e.signals b.memory call))
+
+    sigreturn_calm : IsCalm (rt_sigreturn s p b)
+    sigreturn_calm = given_calm (maps.get s.entries p) esrch _ (λ (e : Entry). unless_calm (not (is_some (return_fault b.memory b.hart))) efault _ (entry_calm _ Plain))
+
+    getppid_calm : IsCalm (getppid s p b)
+    getppid_calm = given_calm (maps.get s.entries p) esrch _ (λ e. same_calm Plain)
+
+    brk_calm : IsCalm (brk s call b)
+    unfolding brk
+    brk_calm = same_calm Plain
+
+    munmap_calm : IsCalm (munmap s call b)
+    unfolding munmap
+    munmap_calm = unless_calm (may_unmap (argument call 0) (argument call 1)) einval _ (same_calm Plain)
+
+    mmap_calm : IsCalm (mmap s call b)
+    unfolding mmap
+    mmap_calm =
+        let pages = pages_for (argument call 1) in
+        let rights = rights_for (argument call 2) in
+        unless_calm (may_map call) einval _
+        (given_calm (highest_free b.memory pages map_low map_high) enomem (maps_at s b pages rights)
+        (λ a. unless_calm (is_none (limit_fault (mapped b.memory a (4096 * pages) rights))) enomem _ (same_calm Plain)))
+
+    clone_calm : IsCalm (clone s child p call b)
+    unfolding clone
+    clone_calm =
+        unless_calm (argument call 0 == fork_flags) einval _
+        (given_calm (maps.get s.entries p) esrch (bears s child p call b)
+        (λ e. unless_calm (has_room s child) eagain _ (born_calm (child_entry e p) (child_body b (argument call 1)))))
+
+    reaps_calm : (n word : ℕ) → IsCalm (reaps s b call n word)
+    reaps_calm n word =
+        let left : Shared = with_entries s (maps.remove s.entries n) in
+        either_calm (argument call 1 == 0) (Returns left b n) (gives left b (argument call 1) (to_le_bytes w32 word) n) (left_calm n Plain)
+        (gives_calm left b (argument call 1) (to_le_bytes w32 word) n (left_calm n Plain))
+
+    waits_calm : (o : Option ℕ) → IsCalm (waits s b call o)
+    waits_calm None = either_calm (argument call 2 == 1) (Returns s b 0) Blocks (same_calm Plain) tt
+    waits_calm (Some n) = given_calm (word_in (maps.get s.entries n)) echild (reaps s b call n) (reaps_calm n)
+
+    wait4_calm : IsCalm (wait4 s p call b)
+    unfolding wait4
+    wait4_calm =
+        unless_calm (may_wait call) einval _
+        (unless_calm (is_some (first_child s.entries p (low_argument call 0) false)) echild _
+        (waits_calm (first_child s.entries p (low_argument call 0) true)))
+
+    -- by number
+
+    calm_at : (n : ℕ) (a : Answers) → call.number ≡ n → file_call s p call b ≡ None → process_call s child p call b ≡ Some a → IsCalm a → IsCalm (called s child p call b)
+    calm_at n a is no_file answer calm =
+        subst (λ o. IsCalm (unwrap_or o (unwrap_or (process_call s child p call b) (Refused enosys)))) (sym no_file)
+        (subst (λ o. IsCalm (unwrap_or o (Refused enosys))) (sym answer) calm)
+
+  blocked_calm : (b : Body) (interrupted : Bool) → IsCalm (blocks_or_returns s b interrupted)
+  blocked_calm b true = same_calm Plain
+  blocked_calm b false = tt
+
+  interrupted_calm : (b : Body) (a : Answers) → IsCalm a → IsCalm (interruptible s p b a)
+  interrupted_calm b (Refused e) h = h
+  interrupted_calm b (Returns t c x) h = h
+  interrupted_calm b (Jumps t c) h = h
+  interrupted_calm b (Execs t c) h = h
+  interrupted_calm b (Bears t c newborn) h = h
+  interrupted_calm b Blocks h = blocked_calm b (is_interrupted (maps.get s.entries p))
+  interrupted_calm b (Ends w) h = h
+
+or_else : (P : Type 0) (a b : Bool) → (a || b) ≡ true → (a ≡ true → P) → (b ≡ true → P) → P
+or_else P true b e left right = left refl
+or_else P false b e left right = right e
+
+numbered : (a b : ℕ) → (a == b) ≡ true → a ≡ b
+numbered a b h = grind (arith, nat_tests)
+
+module _ (s : Shared) (child p : ℕ) (call : Call) (b : Body) where
+  abbrev CalledCalm : Type 0
+  CalledCalm = IsCalm s child p (called s child p call b)
+
+  yields : call.number ≡ 124 → CalledCalm
+  unfolding file_call process_call
+  yields h = calm_at s child p call b 124 (sched_yield s b) h (rw h refl) (rw h refl) (same_calm s child p Plain)
+
+  acts : call.number ≡ 134 → CalledCalm
+  unfolding file_call process_call
+  acts h = calm_at s child p call b 134 (rt_sigaction s p call b) h (rw h refl) (rw h refl) (sigaction_calm s child p call b)
+
+  masks : call.number ≡ 135 → CalledCalm
+  unfolding file_call process_call
+  masks h = calm_at s child p call b 135 (rt_sigprocmask s p call b) h (rw h refl) (rw h refl) (sigprocmask_calm s child p call b)
+
+  returns : call.number ≡ 139 → CalledCalm
+  unfolding file_call process_call
+  returns h = calm_at s child p call b 139 (rt_sigreturn s p b) h (rw h refl) (rw h refl) (sigreturn_calm s child p call b)
+
+  names_itself : call.number ≡ 172 → CalledCalm
+  unfolding file_call process_call
+  names_itself h = calm_at s child p call b 172 (getpid s p b) h (rw h refl) (rw h refl) (same_calm s child p Plain)
+
+  names_parent : call.number ≡ 173 → CalledCalm
+  unfolding file_call process_call
+  names_parent h = calm_at s child p call b 173 (getppid s p b) h (rw h refl) (rw h refl) (getppid_calm s child p call b)
+
+  names_thread : call.number ≡ 178 → CalledCalm
+  unfolding file_call process_call
+  names_thread h = calm_at s child p call b 178 (getpid s p b) h (rw h refl) (rw h refl) (same_calm s child p Plain)
+
+  breaks : call.number ≡ 214 → CalledCalm
+  unfolding file_call process_call
+  breaks h = calm_at s child p call b 214 (brk s call b) h (rw h refl) (rw h refl) (brk_calm s child p call b)
+
+  unmaps : call.number ≡ 215 → CalledCalm
+  unfolding file_call process_call
+  unmaps h = calm_at s child p call b 215 (munmap s call b) h (rw h refl) (rw h refl) (munmap_calm s child p call b)
+
+  clones : call.number ≡ 220 → CalledCalm
+  unfolding file_call process_call
+  clones h = calm_at s child p call b 220 (clone s child p call b) h (rw h refl) (rw h refl) (clone_calm s child p call b)
+
+  maps_pages : call.number ≡ 222 → CalledCalm
+  unfolding file_call process_call
+  maps_pages h = calm_at s child p call b 222 (mmap s call b) h (rw h refl) (rw h refl) (mmap_calm s child p call b)
+
+  awaits : call.number ≡ 260 → CalledCalm
+  unfolding file_call process_call
+  awaits h = calm_at s child p call b 260 (wait4 s p call b) h (rw h refl) (rw h refl) (wait4_calm s child p call b)
+
+  abbrev N : ℕ
+  N = call.number
+
+  called_calm : is_calm_call call.number ≡ true → CalledCalm
+  called_calm e = or_else CalledCalm _ (N == 260) e (λ e. or_else CalledCalm _ (N == 222) e (λ e. or_else CalledCalm _ (N == 220) e (λ e. or_else CalledCalm _ (N == 215) e (λ e. or_else CalledCalm _ (N == 214) e (λ e. or_else CalledCalm _ (N == 178) e (λ e. or_else CalledCalm _ (N == 173) e (λ e. or_else CalledCalm _ (N == 172) e (λ e. or_else CalledCalm _ (N == 139) e (λ e. or_else CalledCalm _ (N == 135) e (λ e. or_else CalledCalm _ (N == 134) e (λ e. yields (numbered N 124 e)) (λ h. acts (numbered N 134 h))) (λ h. masks (numbered N 135 h))) (λ h. returns (numbered N 139 h))) (λ h. names_itself (numbered N 172 h))) (λ h. names_parent (numbered N 173 h))) (λ h. names_thread (numbered N 178 h))) (λ h. breaks (numbered N 214 h))) (λ h. unmaps (numbered N 215 h))) (λ h. clones (numbered N 220 h))) (λ h. maps_pages (numbered N 222 h))) (λ h. awaits (numbered N 260 h))
+
+  does_calm : is_calm_call call.number ≡ true → IsCalm s child p (does s child p call b)
+  unfolding does
+  does_calm e = interrupted_calm s child p b (called s child p call b) (called_calm e)
+
+-- Turns
+
+-- a calm turn between these stands of its process
+abbrev is_calm : Own Body → Own Body → Bool
+is_calm (Alive b stage) (Alive c next) = is_calm_at stage
+is_calm (Alive b stage) (Dying w) = false
+is_calm (Alive b stage) Gone = false
+is_calm (Dying w) own = false
+is_calm Gone own = true
+
+-- an out of a turn from this stand
+abbrev OutCalms : Shared → ℕ → ℕ → Own Body → Out Shared Body → Type 0
+OutCalms s child p own o = is_calm own o.own ≡ true → Calms s o.shared child p p o.event
+
+ran_calm : (s : Shared) (child p : ℕ) (b : Body) (stage : Stage) (o : Outcome) (st : Step) → OutCalms s child p (Alive b stage) (stepped linux s p b (ran_by b o st))
+ran_calm s child p b stage o step.Ran = λ e. same_calm s child p Plain
+ran_calm s child p b stage o step.Call = λ e. same_calm s child p Plain
+ran_calm s child p b stage o (step.Fault kind address) = λ e. same_calm s child p Plain
+
+resumed_calm : (s : Shared) (child p : ℕ) (b : Body) (stage : Stage) (at : Option Interrupted) → OutCalms s child p (Alive b stage) (stepped linux s p b (resumed b at))
+resumed_calm s child p b stage (Some at) = λ e. same_calm s child p Plain
+resumed_calm s child p b stage None = ran_calm s child p b stage (instruction b.hart b.memory) (instruction b.hart b.memory).step
+
+runs_calm : (s : Shared) (child p : ℕ) (b : Body) (stage : Stage) (signal : Option Signal) → OutCalms s child p (Alive b stage) (stepped linux s p b (runs s p b signal))
+runs_calm s child p b stage (Some signal) = λ e. entry_calm s child p _ Plain
+runs_calm s child p b stage None = resumed_calm s child p b stage b.interrupted
+
+joins_calm : (s : Shared) (child p : ℕ) (first second : Option Signal) → Calms s (joins linux (joins linux s p first) p second) child p p Plain
+joins_calm s child p None None = same_calm s child p Plain
+joins_calm s child p (Some signal) None = entry_calm s child p _ Plain
+joins_calm s child p None (Some signal) = entry_calm s child p _ Plain
+joins_calm s child p (Some signal) (Some other) = entries_calm s child p _ _ Plain
+
+answered_calm : (s : Shared) (child p : ℕ) (b : Body) (call : Call) (a : Answer Shared Body) → (is_calm_call call.number ≡ true → IsCalm s child p a) → OutCalms s child p (Alive b (Doing call)) (answered linux s child p b call a)
+answered_calm s child p b call (Refused x) h = λ e. same_calm s child p Plain
+answered_calm s child p b call (Returns t c x) h = λ e. h e
+answered_calm s child p b call (Jumps t c) h = λ e. h e
+answered_calm s child p b call (Execs t c) h = λ e. absurd (h e)
+answered_calm s child p b call (Bears t c born) h = λ e. h e
+answered_calm s child p b call Blocks h = λ e. same_calm s child p Plain
+answered_calm s child p b call (Ends w) h = λ e. absurd (cc e)
+
+took_either : (s : Shared) (child p : ℕ) (b : Body) (stage : Stage) (signal : Signal) (cause : Cause) (test : Bool) (x y : Took Shared Body)
+    → OutCalms s child p (Alive b stage) (took linux s p signal cause x) → OutCalms s child p (Alive b stage) (took linux s p signal cause y) → OutCalms s child p (Alive b stage) (took linux s p signal cause (cond test x y))
+took_either s child p b stage signal cause true x y h g = h
+took_either s child p b stage signal cause false x y h g = g
+
+reacts_calm : (s : Shared) (child p : ℕ) (e : Entry) (b : Body) (stage : Stage) (signal : Signal) (cause : Cause) (r : Reaction) → OutCalms s child p (Alive b stage) (took linux s p signal cause (reacts s p e b signal r))
+reacts_calm s child p e b stage signal cause reaction.Passes = λ e. same_calm s child p Plain
+reacts_calm s child p e b stage signal cause reaction.Ends = λ e. absurd (cc e)
+reacts_calm s child p e b stage signal cause (reaction.Handles a) = took_either s child p b stage signal cause (is_some (frame_fault b.memory b.hart)) _ _ (λ e. absurd (cc e)) (λ e. entry_calm s child p _ Plain)
+
+takes_at_calm : (s : Shared) (child p : ℕ) (b : Body) (stage : Stage) (signal : Signal) (cause : Cause) (o : Option Entry) → OutCalms s child p (Alive b stage) (took linux s p signal cause (takes_at o s p b signal cause))
+takes_at_calm s child p b stage signal cause None = λ e. same_calm s child p Plain
+takes_at_calm s child p b stage signal cause (Some e) = reacts_calm s child p e b stage signal cause (reaction_to e.signals signal cause)
+
+takes_calm : (s : Shared) (child p : ℕ) (b : Body) (stage : Stage) (signal : Signal) (cause : Cause) → OutCalms s child p (Alive b stage) (took linux s p signal cause (takes s p b signal cause))
+unfolding takes
+takes_calm s child p b stage signal cause = takes_at_calm s child p b stage signal cause (maps.get s.entries p)
+
+lives_calm : (c : Choice) (s : Shared) (child p : ℕ) (b : Body) (stage : Stage) → OutCalms s child p (Alive b stage) (lives linux c s child p b stage)
+lives_calm c s child p b Born = λ e. same_calm s child p Plain
+lives_calm c s child p b Run = runs_calm s child p b Run (next_of (maps.get s.entries p))
+lives_calm c s child p b (Faulting signal cause) = λ e. same_calm s child p Plain
+lives_calm c s child p b (Entered joined) = λ e. joins_calm s child p joined c.signal
+lives_calm c s child p b (Doing call) = answered_calm s child p b call (does s child p call b) (does_calm s child p call b)
+lives_calm c s child p b (Replaced call x) = λ e. same_calm s child p Plain
+lives_calm c s child p b (Acted call x replaced) = λ e. same_calm s child p Plain
+lives_calm c s child p b Finished = λ e. same_calm s child p Plain
+lives_calm c s child p b (Taken signal cause) = takes_calm s child p b (Taken signal cause) signal cause
+lives_calm c s child p b Dropped = λ e. same_calm s child p Plain
+
+killed_calm : (killed : Bool) (c : Choice) (s : Shared) (child p : ℕ) (b : Body) (stage : Stage) → OutCalms s child p (Alive b stage) (killed_or killed linux c s child p b stage)
+killed_calm true c s child p b stage = λ e. absurd (cc e)
+killed_calm false c s child p b stage = lives_calm c s child p b stage
+
+turn_calm : (c : Choice) (s : Shared) (child p : ℕ) (own : Own Body) → OutCalms s child p own (turn linux c s child p own)
+turn_calm c s child p (Alive b stage) = killed_calm (is_killed (maps.get s.entries p)) c s child p b stage
+turn_calm c s child p (Dying w) = λ e. absurd (cc e)
+turn_calm c s child p Gone = λ e. same_calm s child p Plain
+
+-- a turn of a living process that goes on
+pub on_calm : (c : Choice) (s : Shared) (child p : ℕ) (b : Body) (stage : Stage) (done : Effect) (t : Shared) (d : Body) (next : Stage) (item : Option Item) → turned (turn linux c s child p (Alive b stage)) ≡ turned_by (On done) t d p stage next item → is_calm_at stage ≡ true → Calms s t child p p (event_of done)
+on_calm c s child p b stage done t d next item e calm =
+    let o : Out Shared Body = turn linux c s child p (Alive b stage) in
+    subst (λ (x : Shared). Calms s x child p p (event_of done)) (ap (λ (x : Turned). x.shared) e)
+    (subst (λ (x : Event Body). Calms s o.shared child p p x) (ap (λ (x : Turned). x.event) e)
+    (turn_calm c s child p (Alive b stage) (ap (λ (x : Turned). is_calm (Alive b stage) x.own) e ∙ calm)))
+
+-- and one that has none
+pub gone_calm : (s : Shared) (child p : ℕ) (event : Event Body) → Calms s s child p p event
+gone_calm s child p event = same_calm s child p event
+
+-- The end of a process
+
+-- its descriptors are no other's
+module _ (p q fd : ℕ) (ne : q ≡ p → ⊥) (small : fd < 256) where
+  released_slots : (tree : Tree) (fds : FdTable) (n : ℕ) → (description_released tree fds n).fds.slots ≡ fds.slots
+  unfolding description_released
+  released_slots tree fds n = named (is_named fds n) (description fds n)
+    where
+      pipe_kept : (t : FdTable) (b : Bool) (pipe : ℕ) → (if b then t else record t { pipes = maps.remove t.pipes pipe }).slots ≡ t.slots
+      pipe_kept t true pipe = refl
+      pipe_kept t false pipe = refl
+
+      object_kept : (t : FdTable) (object : Object) → (object_released tree t object).fds.slots ≡ t.slots
+      object_kept t Input = refl
+      object_kept t Console = refl
+      object_kept t (ReadEnd pipe) = pipe_kept t (has_readers t pipe || has_writers t pipe) pipe
+      object_kept t (WriteEnd pipe) = pipe_kept t (has_readers t pipe || has_writers t pipe) pipe
+      object_kept t (Opened node) = refl
+
+      dropped : (o : Option Description) → (description_dropped tree fds n o).fds.slots ≡ fds.slots
+      dropped None = refl
+      dropped (Some d) = object_kept (record fds { descriptions = maps.remove fds.descriptions n }) d.object
+
+      named : (b : Bool) (o : Option Description) → (if b then record { tree = tree; fds = fds } else description_dropped tree fds n o).fds.slots ≡ fds.slots
+      named true o = refl
+      named false o = dropped o
+
+  abbrev At : Held → Option Slot
+  At h = maps.get h.fds.slots (pair q fd)
+
+  closed_slot : (h : Held) (n : ℕ) (b : Bool) → nat_lt n 256 ≡ b → (o : Option Slot) → At (slot_closed h.tree h.fds (pair p n) (cond b o None)) ≡ At h
+  closed_slot h n true e None = refl
+  closed_slot h n true e (Some named) =
+      ap (λ (slots : SlotMap). maps.get slots (pair q fd)) (released_slots h.tree (record h.fds { slots = maps.remove h.fds.slots (pair p n) }) named.description)
+      ∙ other_left h.fds.slots (pair p n) (pair q fd) (other_pair p q fd ne small n (let lt : n < 256 = grind (arith) in lt))
+  closed_slot h n false e o = refl
+
+  closed_other : (h : Held) (n : ℕ) → At (closed h.tree h.fds p n) ≡ At h
+  unfolding closed
+  closed_other h n = closed_slot h n (nat_lt n 256) refl (maps.get h.fds.slots (pair p n))
+
+  if_other : (h : Held) (n : ℕ) (b : Bool) → At (if b then closed h.tree h.fds p n else h) ≡ At h
+  if_other h n true = closed_other h n
+  if_other h n false = refl
+
+  each_closed : (h : Held) (ns : List ℕ) → At (closed_each false h p ns) ≡ At h
+  unfolding closed_each
+  each_closed h [] = refl
+  each_closed h (n ∷ ns) = each_closed (closed_if_meant false h p n) ns ∙ if_other h n (is_meant false (slot h.fds p n))
+
+all_other : (tree : Tree) (fds : FdTable) (p q fd : ℕ) → (q ≡ p → ⊥) → (b : Bool) → nat_lt fd 256 ≡ b
+    → cond b (maps.get (all_closed tree fds p).fds.slots (pair q fd)) None ≡ cond b (maps.get fds.slots (pair q fd)) None
+unfolding all_closed
+all_other tree fds p q fd ne true e = each_closed p q fd ne (let lt : fd < 256 = grind (arith) in lt) (record { tree = tree; fds = fds }) (range_with_len 0 256)
+all_other tree fds p q fd ne false e = refl
+
+-- where each description stays, each other process rests on
+pub end_calm : (s : Shared) (child p w : ℕ) → AreEndsKept s.fds (dies s p w).fds → Calms s (dies s p w) child p p Plain
+end_calm s child p w kept = λ q ne still unborn own h.
+    let t : Shared = dies s p w in
+    rests_on s t q
+    (waits_alike s t q t.fds.slots (λ i. record { slots = t.fds.slots; descriptions = kept.0 i; pipes = kept.1 i }) (λ fd. all_other s.tree s.fds p q fd ne (nat_lt fd 256) refl))
+    (quiet_same (maps.get s.entries q) (maps.get t.entries q) (entry_other s.entries p q _ (maps.get s.entries p) ne)) own h
+
+-- Burial
+
+abbrev Quiet : Entries → ℕ → Type 0
+Quiet m q = is_quiet (maps.get m q) ≡ true
+
+adopted_quiet : (m : Entries) (n q : ℕ) (e : Entry) (b : Bool) → maps.get m n ≡ Some e → Quiet m q → Quiet (orphan m n e b) q
+adopted_quiet m n q e true there h = quiet_left m n q h
+adopted_quiet m n q e false there h = either q n (Quiet (maps.insert m n (record e { parent = 0 })) q) (q == n) refl
+    (λ same. subst (λ x. Quiet (maps.insert m n (record e { parent = 0 })) x) (sym same)
+    (ap is_quiet (get_put m n (record e { parent = 0 })) ∙ sym (ap is_quiet there) ∙ ap (λ x. is_quiet (maps.get m x)) (sym same) ∙ h))
+    (λ ne. quiet_same (maps.get m q) (maps.get (maps.insert m n (record e { parent = 0 })) q) (other_put m n q ne (record e { parent = 0 })) h)
+
+mine_quiet : (m : Entries) (n q : ℕ) (e : Entry) (b : Bool) → maps.get m n ≡ Some e → Quiet m q → Quiet (if b then orphan m n e (is_zombie e.life) else m) q
+mine_quiet m n q e true there h = adopted_quiet m n q e (is_zombie e.life) there h
+mine_quiet m n q e false there h = h
+
+entry_quiet : (m : Entries) (p n q : ℕ) (o : Option Entry) → maps.get m n ≡ o → Quiet m q → Quiet (released_entry m p n o) q
+entry_quiet m p n q None there h = h
+entry_quiet m p n q (Some e) there h = mine_quiet m n q e (e.parent == p) there h
+
+released_quiet : (m : Entries) (p n q : ℕ) → Quiet m q → Quiet (released p m n) q
+unfolding released
+released_quiet m p n q h = entry_quiet m p n q (maps.get m n) refl h
+
+each_quiet : (m : Entries) (p q : ℕ) (ns : List ℕ) → Quiet m q → Quiet (fold (released p) m ns) q
+each_quiet m p q [] h = h
+each_quiet m p q (n ∷ ns) h = each_quiet (released p m n) p q ns (released_quiet m p n q h)
+
+told_quiet : (m : Entries) (p w parent q : ℕ) (b : Bool) → (q ≡ p → ⊥) → (q ≡ parent → ⊥) → Quiet m q
+    → Quiet (if b then maps.remove m p else changed (changed m parent (λ e. told e p w)) p (λ e. with_life e (Zombie w))) q
+told_quiet m p w parent q true ne other h = quiet_left m p q h
+told_quiet m p w parent q false ne other h =
+    let told_parent = changed m parent (λ e. told e p w) in
+    quiet_same (maps.get m q) (maps.get (changed told_parent p (λ e. with_life e (Zombie w))) q)
+    (entry_other told_parent p q (λ e. with_life e (Zombie w)) (maps.get told_parent p) ne ∙ entry_other m parent q (λ e. told e p w) (maps.get m parent) other) h
+
+retired_quiet : (m : Entries) (p w parent q : ℕ) (o : Option Entry) → (q ≡ p → ⊥) → (q ≡ parent → ⊥) → Quiet m q → Quiet (retired_by m p w parent o) q
+retired_quiet m p w parent q None ne other h = quiet_left m p q h
+retired_quiet m p w parent q (Some e) ne other h = told_quiet m p w parent q (wants_no_news e) ne other h
+
+buried_quiet : (m : Entries) (p w q : ℕ) (o : Option Entry) → (q ≡ p → ⊥) → (q ≡ told_by p o → ⊥) → Quiet m q → Quiet (buried_entry m p w o) q
+unfolding orphaned
+buried_quiet m p w q None ne other h = h
+buried_quiet m p w q (Some e) ne other h =
+    let left = orphaned m p in
+    retired_quiet left p w e.parent q (maps.get left e.parent) ne other (each_quiet m p q (filter (nat_lt 0) (maps.keys m)) h)
+
+-- who isn't told of a burial rests on
+pub burial_calm : (s : Shared) (child p w : ℕ) → Calms s (buried s p w) child p (told_by p (maps.get s.entries p)) Plain
+unfolding buried
+burial_calm s child p w = λ q ne other unborn own h.
+    let t : Shared = with_entries s (buried_entry s.entries p w (maps.get s.entries p)) in
+    rests_on s t q (waits_same s t q refl) (buried_quiet s.entries p w q (maps.get s.entries p) ne other) own h
+
+pub told_calm : (s t : Shared) (child p w : ℕ) → t ≡ buried s p w → (roused : ℕ) → roused ≡ told_by p (maps.get s.entries p) → Calms s t child p roused Plain
+told_calm s t child p w is roused told =
+    subst (λ (x : Shared). Calms s x child p roused Plain) (sym is)
+    (subst (λ r. Calms s (buried s p w) child p r Plain) (sym told) (burial_calm s child p w))
+
+pub ended_calm : (s now t : Shared) (child p w : ℕ) → now ≡ s → t ≡ dies now p w → AreEndsKept now.fds t.fds → Calms s t child p p Plain
+ended_calm s now t child p w same is kept =
+    subst (λ (x : Shared). Calms x t child p p Plain) same
+    (subst (λ (x : Shared). Calms now x child p p Plain) (sym is)
+    (end_calm now child p w (subst (λ (x : Shared). AreEndsKept now.fds x.fds) is kept)))

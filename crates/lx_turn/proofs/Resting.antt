@@ -1,0 +1,126 @@
+-- What keeps a process that rests at rest.
+use Rattle.std.proofs.Common.{◌≡◌, ℕ, zero, suc, ◌+◌, ◌<◌, ◌≤◌, Bool, true, false, cond, List, [], ◌∷◌, Option, Some, None, refl, ap, ◌∙◌, arith}
+use Rattle.std.specs.Prelude.{◌==◌, ◌&&◌, nat_lt, min, if◌then◌else◌}
+use Rattle.std.specs.Ordering.{nat_cmp, eq_by_cmp}
+use Rattle.std.specs.Cmp.{nat_cmp_total}
+use Rattle.std.specs.List.{range_with_len}
+use Rattle.std.specs.FinMap as maps
+use Rattle.lx_abi.specs.declared.log.Call.{Call}
+use Rattle.lx_model.specs.declared.stage.Stage.TheVariants.{Born, Run, Faulting, Entered, Doing, Replaced, Acted, Finished, Taken, Dropped}
+use Rattle.lx_model.specs.declared.stage.Own.{Own}
+use Rattle.lx_model.specs.declared.stage.Own.TheVariants.{Alive, Dying, Gone}
+use Rattle.lx_open.specs.Kinds.{SlotMap}
+use Rattle.lx_open.specs.declared.description.Slot.{Slot}
+use Rattle.lx_open.specs.declared.fd_table.FdTable.{FdTable}
+use Rattle.lx_open.specs.Opens.{pair, slot, inherited, inherited_each, inherited_slot}
+use Rattle.lx_proc.specs.declared.state.Entry.{Entry}
+use Rattle.lx_proc.specs.declared.state.Shared.{Shared}
+use Rattle.lx_proc.specs.declared.state.Body.{Body}
+use Rattle.lx_proc.specs.State.{Entries, changed_entry}
+use Rattle.lx_proc.specs.Answers.{argument, low_argument}
+use Rattle.lx_fcalls.specs.Blocking.{would_block, read_would_block, write_would_block, open_passes, passes, read_waits, write_waits}
+use Rattle.lx_open.specs.Opens.{description}
+use Rattle.lx_fcalls.specs.Moving.{most_moved}
+use Rattle.lx_turn.specs.Resting.{is_quiet, rests}
+use Rattle.lx_turn.proofs.Placed.{other_put}
+
+both : (a b : Bool) → (a && b) ≡ true → (a ≡ true) × (b ≡ true)
+both true b e = (refl, e)
+both false b e = absurd (cc e)
+
+join : (a b : Bool) → a ≡ true → b ≡ true → (a && b) ≡ true
+join true b e h = h
+join false b e h = absurd (cc e)
+
+-- a process rests on where its call still waits and no signal has come
+pub rests_on : (s s' : Shared) (q : ℕ) → ((call : Call) (b : Body) → would_block s' q call b ≡ would_block s q call b)
+    → (is_quiet (maps.get s.entries q) ≡ true → is_quiet (maps.get s'.entries q) ≡ true)
+    → (own : Own Body) → rests s q own ≡ true → rests s' q own ≡ true
+unfolding rests
+rests_on s s' q waits quiet (Alive b Born) e = e
+rests_on s s' q waits quiet (Alive b Run) e = e
+rests_on s s' q waits quiet (Alive b (Faulting signal cause)) e = e
+rests_on s s' q waits quiet (Alive b (Entered joined)) e = e
+rests_on s s' q waits quiet (Alive b (Doing call)) e =
+    let h = both (would_block s q call b) (is_quiet (maps.get s.entries q)) e in
+    join (would_block s' q call b) (is_quiet (maps.get s'.entries q)) (waits call b ∙ h.0) (quiet h.1)
+rests_on s s' q waits quiet (Alive b (Replaced call x)) e = e
+rests_on s s' q waits quiet (Alive b (Acted call x replaced)) e = e
+rests_on s s' q waits quiet (Alive b Finished) e = e
+rests_on s s' q waits quiet (Alive b (Taken signal cause)) e = e
+rests_on s s' q waits quiet (Alive b Dropped) e = e
+rests_on s s' q waits quiet (Dying w) e = e
+rests_on s s' q waits quiet Gone e = e
+
+-- Descriptors
+
+-- with the same descriptions and pipes, a call waits as what its process's descriptors name
+pub waits_alike : (s s' : Shared) (q : ℕ) (slots : SlotMap) → s'.fds ≡ record s.fds { slots = slots } → ((fd : ℕ) → slot (record s.fds { slots = slots }) q fd ≡ slot s.fds q fd)
+    → (call : Call) (b : Body) → would_block s' q call b ≡ would_block s q call b
+unfolding would_block read_would_block write_would_block
+waits_alike s s' q slots is same call b =
+    let fds : FdTable = record s.fds { slots = slots } in
+    let n = min (argument call 2) most_moved in
+    let fd = low_argument call 0 in
+    let reads = λ (t : FdTable). open_passes t q fd (read_waits t n) in
+    let writes = λ (t : FdTable). open_passes t q fd (write_waits t b.memory (argument call 1) n) in
+    ap (λ (t : FdTable). if call.number == 63 then reads t else if call.number == 64 then writes t else false) is
+    ∙ ap (λ o. if call.number == 63 then passes (λ named. passes (read_waits s.fds n) (description s.fds named.description)) o
+    else if call.number == 64 then passes (λ named. passes (write_waits s.fds b.memory (argument call 1) n) (description s.fds named.description)) o
+    else false) (same fd)
+
+pub waits_same : (s s' : Shared) (q : ℕ) → s'.fds ≡ s.fds → (call : Call) (b : Body) → would_block s' q call b ≡ would_block s q call b
+waits_same s s' q is = waits_alike s s' q s.fds.slots is (λ fd. refl)
+
+-- A child's descriptors are no other's.
+
+abbrev AllSmall : List ℕ → Type 0
+AllSmall [] = Unit {0}
+AllSmall (n ∷ ns) = (n < 256) × AllSmall ns
+
+small_range : (a n : ℕ) → a + n ≤ 256 → AllSmall (range_with_len a n)
+small_range a zero le = tt
+small_range a (suc n) le = (omega (arith, le), small_range (a + 1) n (omega (arith, le)))
+
+-- two processes have no pair in common
+pub other_pair : (child q fd : ℕ) → (q ≡ child → ⊥) → fd < 256 → (n : ℕ) → n < 256 → pair q fd ≡ pair child n → ⊥
+other_pair child q fd ne small n lt e = ne (omega (arith, lt, small, e))
+
+module _ (parent child q fd : ℕ) (ne : q ≡ child → ⊥) (small : fd < 256) where
+  slot_other : (slots : SlotMap) (n : ℕ) (o : Option Slot) → n < 256 → maps.get (inherited_slot slots child n o) (pair q fd) ≡ maps.get slots (pair q fd)
+  slot_other slots n None lt = refl
+  slot_other slots n (Some named) lt = other_put slots (pair child n) (pair q fd) (other_pair child q fd ne small n lt) named
+
+  each_other : (slots : SlotMap) (ns : List ℕ) → AllSmall ns → maps.get (inherited_each slots parent child ns) (pair q fd) ≡ maps.get slots (pair q fd)
+  unfolding inherited_each
+  each_other slots [] small = refl
+  each_other slots (n ∷ ns) small =
+      each_other (inherited_slot slots child n (maps.get slots (pair parent n))) ns small.1
+      ∙ slot_other slots n (maps.get slots (pair parent n)) small.0
+
+slot_kept : (fds : FdTable) (parent child q fd : ℕ) → (q ≡ child → ⊥) → (b : Bool) → nat_lt fd 256 ≡ b
+    → cond b (maps.get (inherited_each fds.slots parent child (range_with_len 0 256)) (pair q fd)) None ≡ cond b (maps.get fds.slots (pair q fd)) None
+slot_kept fds parent child q fd ne true e = each_other parent child q fd ne (let lt : fd < 256 = grind (arith) in lt) fds.slots (range_with_len 0 256) (small_range 0 256 (omega arith))
+slot_kept fds parent child q fd ne false e = refl
+
+pub inherited_alike : (fds : FdTable) (parent child q : ℕ) → (q ≡ child → ⊥) → (fd : ℕ) → slot (inherited fds parent child) q fd ≡ slot fds q fd
+unfolding inherited
+inherited_alike fds parent child q ne fd = slot_kept fds parent child q fd ne (nat_lt fd 256) refl
+
+-- Signals
+
+-- another's entry is changed
+pub entry_other : (entries : Entries) (p q : ℕ) (f : Entry → Entry) (o : Option Entry) → (q ≡ p → ⊥) → maps.get (changed_entry entries p f o) q ≡ maps.get entries q
+entry_other entries p q f None ne = refl
+entry_other entries p q f (Some e) ne = other_put entries p q ne (f e)
+
+pub quiet_same : (o o' : Option Entry) → o' ≡ o → is_quiet o ≡ true → is_quiet o' ≡ true
+quiet_same o o' e h = ap is_quiet e ∙ h
+
+none_quiet : (b : Bool) (o : Option Entry) → is_quiet o ≡ true → is_quiet (cond b None o) ≡ true
+none_quiet true o h = refl
+none_quiet false o h = h
+
+-- one that has left the table has no signal
+pub quiet_left : (entries : Entries) (n q : ℕ) → is_quiet (maps.get entries q) ≡ true → is_quiet (maps.get (maps.remove entries n) q) ≡ true
+quiet_left entries n q h = ap is_quiet (maps.get-remove nat_cmp_total entries n q) ∙ none_quiet (eq_by_cmp nat_cmp q n) (maps.get entries q) h

@@ -1,0 +1,9 @@
+pub mod Calls
+pub mod Reactions
+pub mod Linux
+pub mod Fitting
+pub mod Blocking
+pub mod Modes
+pub mod Resting
+pub mod Tampering
+pub mod Turned

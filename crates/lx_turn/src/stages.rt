@@ -1,0 +1,312 @@
+//! One turn of a living process, stage by stage.
+
+ghost use Rattle.std.specs.Prelude.{◌≡◌, IfOk, OnOk, OnErr, None, false};
+ghost use Rattle.rv_hart.specs.Faults.{signal_number};
+ghost use Rattle.std.specs.FinMap as maps;
+ghost use Rattle.lx_model.specs.Turn.{stage_mode, joins, chosen, stepped, answered, took, lives, result_word};
+ghost use Rattle.lx_model.specs.Machine.{call_of, with_result};
+ghost use Rattle.lx_pcalls.specs.Taking.{takes};
+ghost use Rattle.lx_turn.specs.Linux.{linux};
+ghost use Rattle.lx_proc.specs.Registers.{regs};
+ghost use Rattle.lx_turn.specs.Reactions.{next_of, runs, stepped_by, resumed};
+ghost use Rattle.lx_turn.specs.Calls.{does as meaning};
+ghost use Rattle.lx_turn.specs.Tampering.{choice_of_call};
+ghost use Rattle.lx_turn.specs.Turned.{turned, turned_by, goes_on, EndsSame};
+ghost use Rattle.lx_model.specs.declared.stage.Stage.TheVariants as stages;
+ghost use Rattle.lx_proc.specs.declared.state.Shared.{Shared};
+
+use crate::calls::does;
+use crate::effects::Effect;
+use crate::signals;
+use crate::tampering::Tampering;
+use lx_abi::{Call, Cause, Choice, Item, Mode, Signal};
+use lx_model::Stage;
+use lx_pcalls::{Reacted, take};
+use lx_proc::{Body, Reply, Shared, a0, call, make_again, return_from_call};
+use rv_hart::{FaultKind, Step, step};
+use std::alloc::{AllocError, Global};
+
+/// What a turn of a living process came to, beside what it left in the places that it was lent.
+#[derive(Drop)]
+pub enum Went {
+    /// It goes on, and this was done beside.
+    On(Effect),
+    /// It ends with this wait word; what is shared is unchanged.
+    Ended { word: u32 },
+}
+
+/// Where a stage stands.
+pub fn mode_of_stage(stage: &Stage) -> Mode
+    ensures { result ≡ stage_mode stage.now }
+{
+    match stage {
+        Stage::Born => Mode::Born,
+        Stage::Run => Mode::Run,
+        Stage::Faulting { .. } => Mode::Faulting,
+        Stage::Entered { .. } => Mode::Entered,
+        Stage::Doing { .. } | Stage::Replaced { .. } => Mode::Doing,
+        Stage::Acted { .. } => Mode::Acted,
+        Stage::Finished => Mode::Finished,
+        Stage::Taken { .. } | Stage::Dropped => Mode::Taken,
+    }
+}
+
+/// The signal of a fault.
+fn fault_signal(kind: FaultKind) -> Signal
+    ensures { result.number ≡ signal_number kind }
+{
+    match kind {
+        FaultKind::Illegal => Signal::ILL,
+        FaultKind::Breakpoint => Signal::TRAP,
+        FaultKind::Misaligned => Signal::BUS,
+        FaultKind::Unmapped | FaultKind::Forbidden => Signal::SEGV,
+    }
+}
+
+/// One instruction runs, or can't.
+fn step_on(
+    pid: u32,
+    body: &mut Body,
+    stage: &mut Stage,
+    item: &mut Option<Item>,
+) -> Result<(), AllocError>
+    requires in_run { stage.old ≡ stages.Run }
+    requires nothing { item.old ≡ None }
+    ensures { OnOk result ((s : Shared) → turned (stepped linux s pid body.old (stepped_by body.old))
+        ≡ goes_on s body.new stage.new item.new) }
+{
+    match step(&mut body.hart, &mut body.memory)? {
+        Step::Ran => Ok(()),
+        Step::Call => {
+            let call = call(body);
+            *stage = Stage::Entered { joined: None };
+            *item = Some(Item::Enter { pid, call });
+            Ok(())
+        }
+        Step::Fault { kind, address } => {
+            let cause = Cause::Fault {
+                code: kind.code(),
+                address,
+            };
+            let signal = fault_signal(kind);
+            *stage = Stage::Faulting { signal, cause };
+            Ok(())
+        }
+    }
+}
+
+/// An interrupted call is made again, or one instruction runs.
+fn resume(
+    pid: u32,
+    body: &mut Body,
+    stage: &mut Stage,
+    item: &mut Option<Item>,
+) -> Result<(), AllocError>
+    requires in_run { stage.old ≡ stages.Run }
+    requires nothing { item.old ≡ None }
+    ensures { OnOk result ((s : Shared) → turned (stepped linux s pid body.old (resumed body.old body.old.interrupted))
+        ≡ goes_on s body.new stage.new item.new) }
+{
+    match body.interrupted {
+        Some(at) => {
+            make_again(body, at);
+            Ok(())
+        }
+        None => step_on(pid, body, stage, item),
+    }
+}
+
+/// A turn in Run.
+fn run(
+    shared: &mut Shared,
+    pid: u32,
+    body: &mut Body,
+    stage: &mut Stage,
+    item: &mut Option<Item>,
+) -> Result<(), AllocError>
+    requires in_run { stage.old ≡ stages.Run }
+    requires nothing { item.old ≡ None }
+    ensures turned { OnOk result (turned (stepped linux shared.old pid body.old (runs shared.old pid body.old (next_of
+        (maps.get shared.old.entries pid)))) ≡ goes_on shared.new body.new stage.new item.new) }
+    ensures console { OnErr result (shared.new.console ≡ shared.old.console) }
+{
+    match signals::next(shared, pid) {
+        Some(signal) => {
+            let cause = signals::take(shared, pid, signal);
+            *stage = Stage::Taken { signal, cause };
+            *item = Some(Item::Taken { pid, signal, cause });
+            Ok(())
+        }
+        None => resume(pid, body, stage, item),
+    }
+}
+
+/// The signals that are joined to a call are made pending.
+fn join(shared: &mut Shared, pid: u32, signal: Option<Signal>)
+    ensures { shared.new ≡ joins linux shared.old pid signal }
+{
+    match signal {
+        None => {}
+        Some(signal) => signals::join(shared, pid, signal),
+    }
+}
+
+/// What is done about a call.
+fn chosen_stage(call: Call, choice: Choice) -> Stage
+    ensures { result ≡ chosen call (result_word choice) }
+{
+    match choice.result {
+        None => Stage::Doing { call },
+        Some(value) => Stage::Replaced {
+            call,
+            result: value.cast_unsigned(),
+        },
+    }
+}
+
+/// The call was done with this result, and this beside it.
+fn acted(stage: &mut Stage, call: Call, value: u64, done: Effect) -> Went
+    ensures stage { stage.new ≡ stages.Acted call value false }
+    ensures went { result ≡ Went.On done }
+{
+    *stage = Stage::Acted {
+        call,
+        result: value,
+        replaced: false,
+    };
+    Went::On(done)
+}
+
+/// The result stands in its place, and the call was done.
+fn return_with(body: &mut Body, stage: &mut Stage, call: Call, value: u64, done: Effect) -> Went
+    ensures body { body.new ≡ with_result linux body.old value }
+    ensures stage { stage.new ≡ stages.Acted call value false }
+    ensures went { result ≡ Went.On done }
+{
+    return_from_call(body, value);
+    acted(stage, call, value, done)
+}
+
+/// A call is done, if it can be. Apart, since a function pays at its entry for the size of its locals.
+#[inline(never)]
+fn do_call(
+    alloc: Global,
+    shared: &mut Shared,
+    child: u32,
+    pid: u32,
+    body: &mut Body,
+    stage: &mut Stage,
+    call: Call,
+) -> Result<Went, AllocError>
+    requires { stage.old ≡ stages.Doing call }
+    ensures turned { IfOk result (λ w. turned (answered linux shared.old child pid body.old call
+        (meaning shared.old child pid call body.old)) ≡ turned_by w shared.new body.new pid
+        (stages.Doing call) stage.new None) }
+    ensures ends { IfOk result (λ w. EndsSame w shared.old shared.new) }
+    ensures console { OnErr result (shared.new.console ≡ shared.old.console) }
+{
+    match does(alloc, shared, child, pid, &call, body)? {
+        Reply::Refused(error) => Ok(return_with(body, stage, call, error.word(), Effect::Plain)),
+        Reply::Returned(result) => Ok(return_with(body, stage, call, result, Effect::Plain)),
+        Reply::Jumped => Ok(acted(stage, call, a0(body), Effect::Plain)),
+        Reply::Execed => Ok(acted(stage, call, a0(body), Effect::Execed)),
+        Reply::Bore(newborn) => {
+            Ok(return_with(body, stage, call, u64::from(child), Effect::Bore(newborn)))
+        }
+        Reply::Blocked => Ok(Went::On(Effect::Plain)),
+        Reply::Ended(word) => Ok(Went::Ended { word }),
+    }
+}
+
+/// A taken signal does what its action says: its process goes on, or ends.
+#[inline(never)]
+fn react(
+    shared: &mut Shared,
+    pid: u32,
+    body: &mut Body,
+    stage: &mut Stage,
+    signal: Signal,
+    cause: Cause,
+) -> Result<Went, AllocError>
+    ensures turned { IfOk result (λ w. turned (took linux shared.old pid signal cause
+        (takes shared.old pid body.old signal cause)) ≡ turned_by w shared.new body.new pid
+        (stages.Taken signal cause) stage.new None) }
+    ensures ends { IfOk result (λ w. EndsSame w shared.old shared.new) }
+    ensures console { OnErr result (shared.new.console ≡ shared.old.console) }
+{
+    match take(shared, pid, body, signal, cause)? {
+        Reacted::Passed => {
+            *stage = Stage::Run;
+            Ok(Went::On(Effect::Plain))
+        }
+        Reacted::Killed(word) => Ok(Went::Ended { word }),
+    }
+}
+
+/// One turn of a living process without a pending SIGKILL, and what it logs.
+pub fn go(
+    alloc: Global,
+    shared: &mut Shared,
+    tampering: &Tampering,
+    child: u32,
+    pid: u32,
+    body: &mut Body,
+    stage: &mut Stage,
+    item: &mut Option<Item>,
+) -> Result<Went, AllocError>
+    requires { item.old ≡ None }
+    ensures turned { IfOk result (λ w. turned (lives linux
+        (choice_of_call tampering.now pid body.old) shared.old child pid body.old stage.old)
+        ≡ turned_by w shared.new body.new pid stage.old stage.new item.new) }
+    ensures ends { IfOk result (λ w. EndsSame w shared.old shared.new) }
+    ensures console { OnErr result (shared.new.console ≡ shared.old.console) }
+{
+    match *stage {
+        Stage::Born | Stage::Finished | Stage::Dropped => {
+            *stage = Stage::Run;
+            Ok(Went::On(Effect::Plain))
+        }
+        Stage::Run => {
+            run(shared, pid, body, stage, item)?;
+            Ok(Went::On(Effect::Plain))
+        }
+        Stage::Faulting { signal, cause } => {
+            *stage = Stage::Taken { signal, cause };
+            *item = Some(Item::Taken { pid, signal, cause });
+            Ok(Went::On(Effect::Plain))
+        }
+        Stage::Entered { joined } => {
+            let call = call(body);
+            let choice = tampering.choice(pid, call.number);
+            join(shared, pid, joined);
+            join(shared, pid, choice.signal);
+            *stage = chosen_stage(call, choice);
+            Ok(Went::On(Effect::Plain))
+        }
+        Stage::Doing { call } => do_call(alloc, shared, child, pid, body, stage, call),
+        Stage::Replaced { call, result } => {
+            return_from_call(body, result);
+            *stage = Stage::Acted {
+                call,
+                result,
+                replaced: true,
+            };
+            Ok(Went::On(Effect::Plain))
+        }
+        Stage::Acted {
+            call,
+            result,
+            replaced,
+        } => {
+            *stage = Stage::Finished;
+            *item = Some(Item::Done {
+                pid,
+                call,
+                result,
+                replaced,
+            });
+            Ok(Went::On(Effect::Plain))
+        }
+        Stage::Taken { signal, cause } => react(shared, pid, body, stage, signal, cause),
+    }
+}
