@@ -21,3 +21,5 @@ pub mod Hands
 pub mod Counting
 pub mod Admission
 pub mod Scripts
+pub mod Endings
+pub mod Faults

@@ -1,5 +1,5 @@
 -- The world as a host that attends to the tracer's requests, and the replies that are its own.
-use Rattle.std.specs.Prelude.{◌≡◌, ℕ, Bool, true, cond, List, [], ◌∷◌, ◌++◌, map, Some, None}
+use Rattle.std.specs.Prelude.{◌≡◌, ℕ, Bool, true, false, cond, List, [], ◌∷◌, ◌++◌, map, Some, None}
 use Rattle.std.specs.Option.{option_to_list}
 use Rattle.lx_abi.specs.declared.outcome.Outcome.{Outcome}
 use Rattle.lx_abi.specs.declared.ptrace.Reply.{Reply}
@@ -15,7 +15,7 @@ use Rattle.pt_model.specs.World.{World, met, happens, world_run, turns_of, effec
 use Rattle.pt_model.specs.Attending.{Attending, event, turned, Called, called, reply_or, answers_to, Schedules, Gives, listed}
 use Rattle.pt_model.specs.View.{view, traced, parts}
 use Rattle.pt_model.specs.Headline.{IsTold, IsTexts, IsScript, traced_run, plain_run, Headline}
-use Rattle.pt_model.specs.Replies.{told_by, reply_to, replies}
+use Rattle.pt_model.specs.Replies.{told_by, reply_to, replies, admits}
 
 -- The world is the attending host with the tracer's request pending
 
@@ -198,4 +198,15 @@ FailuresLeaveAPrefix S B =
     IsOwn m outcome o script s b events rs →
     (lost : ℕ → Bool) × ((later : List Part) × (
     (told_by o script (Agreed ∷ rs)).printed ++ later
+    ≡ parts o (view lost (traced o.follow (plain_run m outcome o script s b events).log))))
+
+-- and where it fails by a reply that the tracer doesn't admit, after replies that are its own
+abbrev pub FaultsLeaveAPrefix : Type 0 → Type 0 → Type 0
+FaultsLeaveAPrefix S B =
+    (m : Machine S B) → IsMachine m → IsTold m →
+    (outcome : S → Outcome) (o : Options) → IsTexts o.texts → (script : Script) → IsScript script →
+    (s : S) (b : B) (events : List Event) (rs more : List Reply) (bad : Reply) →
+    IsOwn m outcome o script s b events rs → admits o (told_by o script (Agreed ∷ rs)).tracer bad ≡ false →
+    (lost : ℕ → Bool) × ((later : List Part) × (
+    (told_by o script (Agreed ∷ (rs ++ bad ∷ more))).printed ++ later
     ≡ parts o (view lost (traced o.follow (plain_run m outcome o script s b events).log))))

@@ -3,7 +3,7 @@ use Rattle.std.specs.Prelude.{◌≡◌, ◌⊎◌, ℕ, ◌+◌, ◌≤◌, Boo
 use Rattle.std.specs.Option.{option_to_list}
 use Rattle.lx_abi.specs.declared.outcome.Outcome.{Outcome}
 use Rattle.lx_abi.specs.declared.ptrace.Reply.{Reply}
-use Rattle.lx_abi.specs.declared.ptrace.Reply.TheVariants.{Done as Agreed, Status as Status_is}
+use Rattle.lx_abi.specs.declared.ptrace.Reply.TheVariants.{Done as Agreed, Status as Status_is, Outcome as Outcome_is, OutOfTurns as Out_of_turns}
 use Rattle.lx_abi.specs.declared.ptrace.Request.{Request}
 use Rattle.lx_abi.specs.declared.schedule.Event.{Event}
 use Rattle.lx_abi.specs.declared.schedule.Event.TheVariants.{Turn, Serve}
@@ -184,3 +184,12 @@ pub record LetGo (o : Options) (script : Script) (x : Moved) (p : ℕ) (rs : Lis
 abbrev pub EachIsLetGo : Type 0
 EachIsLetGo = (o : Options) (script : Script) (x : Moved) (p : ℕ) (place : Place) (rs : List Reply) →
     x.tracer.focus ≡ Serving p place → (after_all o script x rs).tracer.focus ≡ Waiting → LetGo o script x p rs
+
+-- a tracer is whole by the reply to Outcome alone, and out of turns by OutOfTurns alone
+abbrev pub WholeIsTold : Type 0
+WholeIsTold = (o : Options) (script : Script) (t : Tracer) (r : Reply) (x : Outcome) →
+    (next o script t r).tracer.focus ≡ Over x → (t.focus ≡ Asking_outcome) × (r ≡ Outcome_is x)
+
+abbrev pub OutOfTurnsIsTold : Type 0
+OutOfTurnsIsTold = (o : Options) (script : Script) (t : Tracer) (r : Reply) →
+    (next o script t r).tracer.focus ≡ Turns_over → r ≡ Out_of_turns

@@ -2,11 +2,11 @@
 
 ghost use Rattle.pt_model.specs.Headline.{IsTransparent};
 ghost use Rattle.pt_model.specs.Replies.{RepliesTellAll, BootComesFirst, TracesGrow, FaultsAreForGood, TakenIsCounted};
-ghost use Rattle.pt_model.specs.Replies.{AdmittedRepliesAnswer, FewRequests, NobodyIsLeftHeld};
+ghost use Rattle.pt_model.specs.Replies.{AdmittedRepliesAnswer, FewRequests, NobodyIsLeftHeld, WholeIsTold, OutOfTurnsIsTold};
 ghost use Rattle.pt_model.specs.Replies.{StatusesComeToHand, TheHandStays, EachIsLetGo, UnreadCallsHaveNoExit};
 ghost use Rattle.pt_model.specs.Calls.{WorldsAttend, WorldsCall, RunsAppend, OverIsForGood, EventsOfReplies};
-ghost use Rattle.pt_model.specs.Calls.{ListsGiveThemselves, TalksAreAnswers, TalksAreOwn, OutOfTurnsShowsNothing, OwnRepliesTell, FailuresLeaveAPrefix};
-ghost use Rattle.pt_model.specs.Calls.{SchedulesAreLists};
+ghost use Rattle.pt_model.specs.Calls.{ListsGiveThemselves, TalksAreAnswers, TalksAreOwn, OutOfTurnsShowsNothing};
+ghost use Rattle.pt_model.specs.Calls.{OwnRepliesTell, FailuresLeaveAPrefix, FaultsLeaveAPrefix, SchedulesAreLists};
 ghost use Rattle.pt_model.specs.Laws.{KernelTurnsApart, HostTurnsApart, TheDeadHaveEnded};
 ghost use Rattle.pt_model.specs.HostLaws.{HostsBeginAlike, HostsTurnAlike, HostsServeAlike, HostsAttendAlike};
 ghost use Rattle.pt_model.specs.HostLaws.{HostsRunTheKernel, EmptyScriptIsNone, TurnsTell, HostsAreReady, HostsAreAble};
@@ -113,6 +113,11 @@ pub fn failures_leave_a_prefix<S, B>()
     ensures { FailuresLeaveAPrefix S B }
 {}
 
+/// So it does where it fails by a reply that isn't admitted.
+pub fn faults_leave_a_prefix<S, B>()
+    ensures { FaultsLeaveAPrefix S B }
+{}
+
 /// A status that is no end puts its tracee in hand, and nobody else comes to hand before it is let go or has met
 /// ESRCH; only then is Wait asked again.
 pub fn nobody_is_left_held()
@@ -135,4 +140,10 @@ pub fn requests_are_few()
 /// A reply that is admitted is of a kind that answers the request.
 pub fn admitted_replies_answer()
     ensures { AdmittedRepliesAnswer }
+{}
+
+/// A run is whole by the reply to Outcome alone, and out of turns by OutOfTurns alone.
+pub fn ends_are_told()
+    ensures whole { WholeIsTold }
+    ensures out_of_turns { OutOfTurnsIsTold }
 {}
