@@ -1,4 +1,5 @@
 pub mod Machine
+pub mod Rows
 pub mod Turn
 pub mod Kernel
 pub mod Finite

@@ -7,10 +7,11 @@ use Rattle.lx_abi.specs.declared.status.Stop.TheVariants.{Syscall as Syscall_sto
 use Rattle.lx_abi.specs.Scripts.{no_choice}
 use Rattle.lx_model.specs.Machine.{Machine}
 use Rattle.lx_model.specs.Turn.{Event, Plain, Execed, Forked, Out, turn}
-use Rattle.lx_model.specs.declared.stage.Stage.TheVariants.{Born, Run, Faulting, Entered, Doing, Replaced, Acted, Finished, Taken, Dropped}
+use Rattle.lx_model.specs.declared.stage.Stage.TheVariants.{Born}
 use Rattle.lx_model.specs.declared.stage.Own.{Own}
 use Rattle.lx_model.specs.declared.stage.Own.TheVariants.{Alive, Dying, Gone}
 use Rattle.lx_model.specs.Kernel.{put}
+use Rattle.lx_model.specs.Rows.{row}
 pub use Rattle.pt_model.specs.declared.ptrace.Report.{Report}
 pub use Rattle.pt_model.specs.declared.ptrace.Watch.{Watch}
 
@@ -47,19 +48,9 @@ event_stop w Plain = None
 event_stop w Execed = cond w.execs (Some (Event_stop At_exec)) None
 event_stop w (Forked b) = cond w.forks (Some (Event_stop At_fork)) None
 
--- the stop of a tracee after its turn, from where it stands and what its call did (ptrace(2),
--- "Syscall-stops", "Signal-delivery-stop", "PTRACE_EVENT stops")
+-- the stop of a tracee after its turn, from where it stands and what its call did
 abbrev pub tracee_stop : {B : Type 0} → Watch → Own B → Event B → Option Stop
-tracee_stop w (Alive b Born) e = None
-tracee_stop w (Alive b Run) e = None
-tracee_stop w (Alive b (Faulting signal cause)) e = None
-tracee_stop w (Alive b (Entered joined)) e = Some (Syscall_stop w.good)
-tracee_stop w (Alive b (Doing call)) e = None
-tracee_stop w (Alive b (Replaced call result)) e = None
-tracee_stop w (Alive b (Acted call result replaced)) e = event_stop w e
-tracee_stop w (Alive b Finished) e = Some (Syscall_stop w.good)
-tracee_stop w (Alive b (Taken signal cause)) e = Some (Signal_stop signal)
-tracee_stop w (Alive b Dropped) e = None
+tracee_stop w (Alive b stage) e = (row stage).stop w.good (event_stop w e)
 tracee_stop w (Dying word) e = Some (Ended word)
 tracee_stop w Gone e = None
 

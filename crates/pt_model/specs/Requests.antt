@@ -1,5 +1,5 @@
 -- How a request is answered (ptrace(2), wait(2)).
-use Rattle.std.specs.Prelude.{ℕ, ◌==◌, nat_le, Bool, true, false, cond, not, ◌&&◌, ◌||◌, List, [], ◌∷◌, ◌++◌, Option, Some, None, filter}
+use Rattle.std.specs.Prelude.{ℕ, ◌==◌, nat_le, Bool, true, false, cond, not, ◌&&◌, List, [], ◌∷◌, ◌++◌, Option, Some, None, filter}
 use Rattle.lx_abi.specs.declared.log.Cause.{Cause}
 use Rattle.lx_abi.specs.declared.log.Cause.TheVariants.{Sent, Kernel as By_kernel, Exited, Killed, Fault}
 use Rattle.lx_abi.specs.declared.outcome.Outcome.{Outcome}
@@ -14,14 +14,13 @@ use Rattle.lx_abi.specs.declared.signal.Signal.{Signal}
 use Rattle.lx_abi.specs.declared.status.EventStop.TheVariants.{Stop as At_start}
 use Rattle.lx_abi.specs.declared.status.Stop.{Stop}
 use Rattle.lx_abi.specs.declared.status.Stop.TheVariants.{Syscall as Syscall_stop, Signal as Signal_stop, Event as Event_stop, Ended}
-use Rattle.lx_abi.specs.Signals.{may_join, signal_numbered}
 use Rattle.lx_abi.specs.Status.{word_of}
 use Rattle.lx_model.specs.Machine.{Machine}
 use Rattle.lx_model.specs.declared.stage.Stage.{Stage}
-use Rattle.lx_model.specs.declared.stage.Stage.TheVariants.{Born, Run, Faulting, Entered, Doing, Replaced, Acted, Finished, Taken, Dropped}
 use Rattle.lx_model.specs.declared.stage.Own.{Own}
 use Rattle.lx_model.specs.declared.stage.Own.TheVariants.{Alive, Dying, Gone}
 use Rattle.lx_model.specs.Kernel.{put}
+use Rattle.lx_model.specs.Rows.{row}
 use Rattle.pt_model.specs.Ptrace.{Watch, watch_of, Proc, Report, Host}
 
 -- The errors of errno(3) that requests have
@@ -79,17 +78,12 @@ info_of signal cause = record {
 }
 
 -- at another stop than a signal's the answer is EINVAL
+abbrev pub info_reply : Option (Signal × Cause) → Reply
+info_reply None = einval
+info_reply (Some i) = Info_is (info_of i.0 i.1)
+
 abbrev pub info_at : Stage → Reply
-info_at Born = einval
-info_at Run = einval
-info_at (Faulting signal cause) = einval
-info_at (Entered joined) = einval
-info_at (Doing call) = einval
-info_at (Replaced call result) = einval
-info_at (Acted call result replaced) = einval
-info_at Finished = einval
-info_at (Taken signal cause) = Info_is (info_of signal cause)
-info_at Dropped = einval
+info_at stage = info_reply (row stage).info
 
 -- One process
 
@@ -103,26 +97,14 @@ pub record Answered (B : Type 0) : Type 0 where
 abbrev pub says : {B : Type 0} → Proc B → Reply → Answered B
 says t r = record { proc = t; reply = r; seized = false }
 
--- Syscall: it goes on from this stage
+-- it is let go, from this stage
 abbrev pub let_go : {B : Type 0} → Proc B → B → Stage → Answered B
 let_go t b stage = says (record { own = Alive b stage; held = false; watch = t.watch }) Agreed
 
-abbrev pub plainly : {B : Type 0} → Proc B → B → Stage → ℕ → Answered B
-plainly t b stage n = cond (n == 0) (let_go t b stage) (says t eio)
-
--- Syscall with a signal's number: at an entry stop the signal is joined; at a signal stop its own number
--- passes it on and 0 drops it; elsewhere, and with any other number, EIO
-abbrev pub resumed : {B : Type 0} → Proc B → B → Stage → ℕ → Answered B
-resumed t b Born n = plainly t b Born n
-resumed t b Run n = plainly t b Run n
-resumed t b (Faulting signal cause) n = plainly t b (Faulting signal cause) n
-resumed t b (Entered joined) n = cond ((n == 0) || may_join n) (let_go t b (Entered (signal_numbered n))) (says t eio)
-resumed t b (Doing call) n = plainly t b (Doing call) n
-resumed t b (Replaced call result) n = plainly t b (Replaced call result) n
-resumed t b (Acted call result replaced) n = plainly t b (Acted call result replaced) n
-resumed t b Finished n = plainly t b Finished n
-resumed t b (Taken signal cause) n = cond (signal.number == n) (let_go t b (Taken signal cause)) (plainly t b Dropped n)
-resumed t b Dropped n = plainly t b Dropped n
+-- Syscall: where it may not be let go, EIO
+abbrev pub goes_from : {B : Type 0} → Proc B → B → Option Stage → Answered B
+goes_from t b None = says t eio
+goes_from t b (Some stage) = let_go t b stage
 
 abbrev pub may_peek : ℕ → Bool
 may_peek n = nat_le 1 n && nat_le n 4096
@@ -144,7 +126,7 @@ stopped m t b stage message (SetRegs r) =
     says (record { own = Alive (m.with_regs b r) stage; held = t.held; watch = t.watch }) Agreed
 stopped m t b stage message (Peek address length) =
     says t (cond (may_peek length) (peeked (m.peek b address length)) einval)
-stopped m t b stage message (Syscall n) = resumed t b stage n
+stopped m t b stage message (Syscall n) = goes_from t b ((row stage).resume n)
 stopped m t b stage message EventMsg = says t (Message_is message)
 stopped m t b stage message SigInfo = says t (info_at stage)
 
