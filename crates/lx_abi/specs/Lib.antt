@@ -3,6 +3,7 @@ pub mod Errnos
 pub mod Errors
 pub mod Flags
 pub mod Log
+pub mod Modes
 pub mod Occurrences
 pub mod Scripts
 pub mod Signals

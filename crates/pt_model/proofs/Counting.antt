@@ -19,15 +19,9 @@ use Rattle.pt_model.specs.Headline.{IsTexts}
 use Rattle.pt_model.specs.Replies.{one_if_asked, asked_after, asked_since, FewRequests}
 
 abbrev past_most : Place → Type 0
-past_most Seizing = Unit {0}
-past_most Entry_regs = Unit {0}
 past_most (Entry_peek r got w) = length got < most_reads
-past_most (Entry_set r n) = Unit {0}
-past_most Exit_regs = Unit {0}
-past_most (Exit_set r x) = Unit {0}
 past_most (Exit_peek x replaced got w) = length got < most_reads
-past_most (Signal_info n) = Unit {0}
-past_most (Resuming n) = Unit {0}
+past_most _ = Unit {0}
 
 -- how many requests may follow the pending one before the next status
 abbrev spare_at : Place → ℕ
@@ -45,10 +39,7 @@ abbrev spare : List ℕ → Focus → ℕ
 spare known Booting = 2
 spare known Waiting = cond (is_empty known) 1 0
 spare known (Serving p place) = spare_at place
-spare known Asking_outcome = 0
-spare known (Over x) = 0
-spare known Turns_over = 0
-spare known Faulted = 0
+spare _ _ = 0
 
 -- who is in hand is known, but for process 1 while he is seized
 abbrev is_seizing : Place → Bool

@@ -30,43 +30,25 @@ abbrev pub released : {B : Type 0} → Proc B → Own B → Proc B
 released t h = record { own = h; held = false; watch = t.watch }
 
 abbrev pub stage_at : ℕ → Focus → Option Place
-stage_at q Booting = None
-stage_at q Waiting = None
 stage_at q (Serving p st) = cond (p == q) (Some st) None
-stage_at q Asking_outcome = None
-stage_at q (Over x) = None
-stage_at q Turns_over = None
-stage_at q Faulted = None
+stage_at _ _ = None
 
 -- the item that the tracer has in hand
 abbrev pub hand_at : {S B : Type 0} → Machine S B → (ℕ → Phase B) → Focus → List Noted
-hand_at m phases Booting = []
-hand_at m phases Waiting = []
 hand_at m phases (Serving p st) = hand_in m p (phases p)
-hand_at m phases Asking_outcome = []
-hand_at m phases (Over x) = []
-hand_at m phases Turns_over = []
-hand_at m phases Faulted = []
+hand_at _ _ _ = []
 
 -- was Wait answered that no tracee is left
 abbrev pub is_past : Focus → Bool
-is_past Booting = false
-is_past Waiting = false
-is_past (Serving p st) = false
 is_past Asking_outcome = true
 is_past (Over x) = true
-is_past Turns_over = false
-is_past Faulted = false
+is_past _ = false
 
 -- at a fault, or out of turns
 abbrev pub is_stuck : Focus → Bool
-is_stuck Booting = false
-is_stuck Waiting = false
-is_stuck (Serving p st) = false
-is_stuck Asking_outcome = false
-is_stuck (Over x) = false
 is_stuck Turns_over = true
 is_stuck Faulted = true
+is_stuck _ = false
 
 -- a process that has not ended, and the log of the tracees
 pub record Living (lost : ℕ → Bool) (log : List Noted) (q : ℕ) : Type 0 where

@@ -7,7 +7,7 @@ use Rattle.lx_abi.specs.declared.signal.Signal.{Signal}
 use Rattle.lx_abi.specs.Scripts.{no_choice}
 use Rattle.lx_abi.specs.Signals.{is_signal, may_join, signal_numbered}
 use Rattle.lx_abi.specs.Status.{stop_of}
-use Rattle.lx_model.specs.Machine.{IsMachine, Answer, Refused, Returns, Jumps, Execs, Bears, Blocks, Ends, Took, Passes, Kills}
+use Rattle.lx_model.specs.Machine.{IsMachine, Answer, Execs, Bears, Ends, Took, Passes, Kills}
 use Rattle.pt_model.specs.Requests.{may_peek}
 use Rattle.pt_model.specs.Admissible.{clone_number, execve_number, is_exit_number, is_exit_word}
 use Rattle.pt_model.specs.Parts.{Half}
@@ -67,13 +67,10 @@ script_is call n s h = joined_well ((call == 64) && (n == 2)) (call == 172) s h
 
 -- an answer fits the call's number
 abbrev fits : Call → Answer Shares Body → Bool
-fits c (Refused e) = true
-fits c (Returns s b x) = true
-fits c (Jumps s b) = true
 fits c (Execs s b) = c.number == execve_number
 fits c (Bears s b born) = c.number == clone_number
-fits c Blocks = true
 fits c (Ends w) = is_exit_number c.number && is_exit_word w
+fits _ _ = true
 
 abbrev end_fits : Took Shares Body → Bool
 end_fits (Passes s b) = true

@@ -73,13 +73,9 @@ admits_answer q r = false
 
 -- the registers at its call's entry were read
 abbrev pub was_read : Standing → Bool
-was_read Unmet = false
-was_read Between = false
-was_read After_signal = false
-was_read Unread = false
 was_read Read = true
 was_read After_event = true
-was_read At_end = false
+was_read _ = false
 
 abbrev pub clone_number : ℕ
 clone_number = 220
@@ -112,28 +108,42 @@ end_fits number false Read word = (word == 9) || (is_exit_number number && is_ex
 end_fits number replaced After_event word = word == 9
 end_fits number replaced At_end word = false
 
+-- a call's entry or exit
+abbrev pub call_fits : Standing → Bool
+call_fits Unmet = false
+call_fits Between = true
+call_fits After_signal = true
+call_fits Unread = true
+call_fits Read = true
+call_fits After_event = true
+call_fits At_end = false
+
+abbrev pub signal_fits : Standing → Bool
+signal_fits Unmet = false
+signal_fits Between = true
+signal_fits After_signal = true
+signal_fits Unread = false
+signal_fits Read = false
+signal_fits After_event = false
+signal_fits At_end = false
+
+abbrev pub is_start : EventStop → Bool
+is_start At_start = true
+is_start _ = false
+
+-- the first stop of a tracee, or the event of its call
+abbrev pub event_stop_fits : Bool → ℕ → Standing → EventStop → Bool
+event_stop_fits follow number Unmet event = is_start event
+event_stop_fits follow number Between event = false
+event_stop_fits follow number After_signal event = false
+event_stop_fits follow number Unread event = false
+event_stop_fits follow number Read event = event_fits follow number event
+event_stop_fits follow number After_event event = false
+event_stop_fits follow number At_end event = false
+
 -- the stop may be told of a tracee with this standing, the number of its call, and whether that is replaced
 abbrev pub stop_fits : Bool → ℕ → Bool → Standing → Stop → Bool
-stop_fits follow number replaced Unmet (Syscall_stop good) = false
-stop_fits follow number replaced Between (Syscall_stop good) = true
-stop_fits follow number replaced After_signal (Syscall_stop good) = true
-stop_fits follow number replaced Unread (Syscall_stop good) = true
-stop_fits follow number replaced Read (Syscall_stop good) = true
-stop_fits follow number replaced After_event (Syscall_stop good) = true
-stop_fits follow number replaced At_end (Syscall_stop good) = false
-stop_fits follow number replaced Unmet (Signal_stop signal) = false
-stop_fits follow number replaced Between (Signal_stop signal) = true
-stop_fits follow number replaced After_signal (Signal_stop signal) = true
-stop_fits follow number replaced Unread (Signal_stop signal) = false
-stop_fits follow number replaced Read (Signal_stop signal) = false
-stop_fits follow number replaced After_event (Signal_stop signal) = false
-stop_fits follow number replaced At_end (Signal_stop signal) = false
-stop_fits follow number replaced Unmet (Event_stop At_start) = true
-stop_fits follow number replaced Unmet (Event_stop event) = false
-stop_fits follow number replaced Between (Event_stop event) = false
-stop_fits follow number replaced After_signal (Event_stop event) = false
-stop_fits follow number replaced Unread (Event_stop event) = false
-stop_fits follow number replaced Read (Event_stop event) = event_fits follow number event
-stop_fits follow number replaced After_event (Event_stop event) = false
-stop_fits follow number replaced At_end (Event_stop event) = false
+stop_fits follow number replaced standing (Syscall_stop good) = call_fits standing
+stop_fits follow number replaced standing (Signal_stop signal) = signal_fits standing
+stop_fits follow number replaced standing (Event_stop event) = event_stop_fits follow number standing event
 stop_fits follow number replaced standing (Ended word) = end_fits number replaced standing word

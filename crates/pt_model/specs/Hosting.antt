@@ -4,7 +4,7 @@ use Rattle.std.specs.Prelude.{◌≡◌, ℕ, ◌==◌, ◌≤◌, Bool, true, f
 use Rattle.std.specs.Ordering.{nat_cmp}
 use Rattle.std.specs.FinMap as maps
 use Rattle.lx_abi.specs.declared.log.Item.{Item}
-use Rattle.lx_abi.specs.declared.log.Item.TheVariants.{Enter, Done, Taken as Signalled, Exit}
+use Rattle.lx_abi.specs.declared.log.Item.TheVariants.{Taken as Signalled, Exit}
 use Rattle.lx_abi.specs.declared.log.Mode.{Mode}
 use Rattle.lx_abi.specs.declared.log.Mode.TheVariants as mode
 use Rattle.lx_abi.specs.declared.outcome.Outcome.{Outcome}
@@ -29,6 +29,7 @@ use Rattle.pt_model.specs.Ptrace.{Watch, Proc, Report, Host, tracee_stop, stop_a
 use Rattle.pt_model.specs.Requests.{esrch, echild, Answered, stopped, unseized, told}
 use Rattle.pt_model.specs.Attending.{Attending, left_pending}
 pub use Rattle.pt_model.specs.declared.ptrace.Traced.{Traced}
+pub use Rattle.lx_abi.specs.Modes.{ends_dying}
 pub use Rattle.lx_model.specs.declared.stage.Deed.{Deed}
 pub use Rattle.lx_model.specs.declared.stage.Deed.TheVariants as deed
 pub use Rattle.lx_model.specs.Deeds.{deed_of}
@@ -138,44 +139,22 @@ deed_stop w deed.Bore = cond w.forks (Some (Event_stop At_fork)) None
 
 -- a signal that was taken, or an end, is that of the item
 abbrev pub item_stop : Option Item → Option Stop
-item_stop None = None
-item_stop (Some (Enter p call)) = None
-item_stop (Some (Done p call result replaced)) = None
 item_stop (Some (Signalled p signal cause)) = Some (Signal_stop signal)
 item_stop (Some (Exit p word left)) = Some (Ended word)
+item_stop _ = None
 
 -- the stop of a tracee that has come to this mode
 abbrev pub mode_stop : Watch → Mode → Option Item → Deed → Option Stop
-mode_stop w mode.Born item deed = None
-mode_stop w mode.Run item deed = None
-mode_stop w mode.Faulting item deed = None
 mode_stop w mode.Entered item deed = Some (Syscall_stop w.good)
-mode_stop w mode.Doing item deed = None
 mode_stop w mode.Acted item deed = deed_stop w deed
 mode_stop w mode.Finished item deed = Some (Syscall_stop w.good)
 mode_stop w mode.Taken item deed = item_stop item
 mode_stop w mode.Dying item deed = item_stop item
-mode_stop w mode.Zombie item deed = None
+mode_stop _ _ _ _ = None
 
 abbrev pub told_stop : Watch → Option Mode → Option Item → Deed → Option Stop
 told_stop w None item deed = None
 told_stop w (Some mode) item deed = mode_stop w mode item deed
-
-abbrev pub is_dying_mode : Mode → Bool
-is_dying_mode mode.Born = false
-is_dying_mode mode.Run = false
-is_dying_mode mode.Faulting = false
-is_dying_mode mode.Entered = false
-is_dying_mode mode.Doing = false
-is_dying_mode mode.Acted = false
-is_dying_mode mode.Finished = false
-is_dying_mode mode.Taken = false
-is_dying_mode mode.Dying = true
-is_dying_mode mode.Zombie = false
-
-abbrev pub ends_dying : Option Mode → Bool
-ends_dying None = false
-ends_dying (Some mode) = is_dying_mode mode
 
 -- Requests
 

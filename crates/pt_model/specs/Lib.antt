@@ -2,6 +2,9 @@ pub mod Ptrace
 pub mod Requests
 pub mod Parts
 pub mod Admissible
+pub mod Known
+pub mod Hearing
+pub mod Focus
 pub mod Tracer
 pub mod World
 pub mod Attending

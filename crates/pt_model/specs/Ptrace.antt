@@ -3,7 +3,7 @@
 use Rattle.std.specs.Prelude.{ℕ, suc, ◌==◌, Bool, true, false, cond, not, List, [], ◌∷◌, ◌++◌, Option, Some, None, filter, bit_and}
 use Rattle.lx_abi.specs.declared.status.EventStop.TheVariants.{Fork as At_fork, Exec as At_exec, Stop as At_start}
 use Rattle.lx_abi.specs.declared.status.Stop.{Stop}
-use Rattle.lx_abi.specs.declared.status.Stop.TheVariants.{Syscall as Syscall_stop, Signal as Signal_stop, Event as Event_stop, Ended}
+use Rattle.lx_abi.specs.declared.status.Stop.TheVariants.{Event as Event_stop, Ended}
 use Rattle.lx_abi.specs.Scripts.{no_choice}
 use Rattle.lx_model.specs.Machine.{Machine}
 use Rattle.lx_model.specs.Turn.{Event, Plain, Execed, Forked, Out, turn}
@@ -80,9 +80,7 @@ without p reports = filter (λ r. not (p == r.pid)) reports
 -- SIGKILL is pending for a tracee before Dying
 abbrev pub may_die : {S B : Type 0} → Machine S B → S → ℕ → Option Watch → Own B → Bool
 may_die m s p (Some w) (Alive b stage) = m.killed s p
-may_die m s p (Some w) (Dying word) = false
-may_die m s p (Some w) Gone = false
-may_die m s p None own = false
+may_die _ _ _ _ _ = false
 
 -- a held process takes no turn but to Dying, by SIGKILL (ptrace(2), "Death under ptrace"); process 1
 -- before Seize is alone, and nobody can kill it

@@ -62,11 +62,8 @@ status_of (Killed p v) = v
 status_of (Fault code a) = 0
 
 abbrev pub address_of : Cause → ℕ
-address_of (Sent p) = 0
-address_of By_kernel = 0
-address_of (Exited p v) = 0
-address_of (Killed p v) = 0
 address_of (Fault code a) = a
+address_of _ = 0
 
 abbrev pub info_of : Signal → Cause → Info
 info_of signal cause = record {

@@ -1,13 +1,12 @@
 -- A view of a log: what of it may be shown, and as which parts. At an end by SIGKILL the last item of its
 -- process before it may be left out, where its report was not yet told; that is the one freedom of a trace.
 use Rattle.std.specs.Prelude.{ℕ, zero, suc, ◌==◌, Bool, true, false, cond, ◌&&◌, ◌||◌, List, [], ◌∷◌, ◌++◌, Option, Some, None, filter}
-use Rattle.lx_abi.specs.declared.log.Mode.{Mode}
-use Rattle.lx_abi.specs.declared.log.Mode.TheVariants as mode
 use Rattle.lx_abi.specs.declared.log.Item.{Item}
 use Rattle.lx_abi.specs.declared.log.Item.TheVariants.{Enter, Done, Taken as Signalled, Exit}
 use Rattle.lx_abi.specs.declared.status.EventStop.{EventStop}
 use Rattle.lx_abi.specs.declared.status.Stop.TheVariants.{Syscall as Syscall_stop, Signal as Signal_stop, Event as Event_stop, Ended}
 use Rattle.lx_abi.specs.Log.{Note, Noted, pid_of}
+pub use Rattle.lx_abi.specs.Modes.{may_lose}
 use Rattle.lx_model.specs.Turn.{kill_word}
 use Rattle.lx_model.specs.Kernel.{traces}
 use Rattle.pt_model.specs.Ptrace.{Report}
@@ -19,25 +18,10 @@ abbrev pub first_of : ℕ → List Noted → Option Noted
 first_of p [] = None
 first_of p (n ∷ log) = cond (p == pid_of n.item) (Some n) (first_of p log)
 
--- a process that left one of these modes was held, at a stop that may not have been told
-abbrev pub may_lose : Mode → Bool
-may_lose mode.Born = false
-may_lose mode.Run = false
-may_lose mode.Faulting = false
-may_lose mode.Entered = true
-may_lose mode.Doing = false
-may_lose mode.Acted = false
-may_lose mode.Finished = true
-may_lose mode.Taken = true
-may_lose mode.Dying = false
-may_lose mode.Zombie = false
-
--- an end by SIGKILL from such a mode
+-- an end by SIGKILL from a mode in which a tracee is held
 abbrev pub is_kill : Item → Bool
-is_kill (Enter p call) = false
-is_kill (Done p call result replaced) = false
-is_kill (Signalled p signal cause) = false
 is_kill (Exit p word left) = (word == kill_word) && may_lose left
+is_kill _ = false
 
 abbrev pub kills : Option Noted → Bool
 kills None = false
@@ -51,10 +35,8 @@ view lost (n ∷ log) =
 
 -- an end by SIGKILL stands in the log
 abbrev pub is_killed : Item → Bool
-is_killed (Enter p call) = false
-is_killed (Done p call result replaced) = false
-is_killed (Signalled p signal cause) = false
 is_killed (Exit p word left) = word == kill_word
+is_killed _ = false
 
 abbrev pub has_kill : List Noted → Bool
 has_kill [] = false
@@ -66,10 +48,8 @@ traced follow log = filter (λ n. traces follow (pid_of n.item)) log
 
 -- the process's end stands in the log
 abbrev pub is_exit : ℕ → Item → Bool
-is_exit p (Enter q call) = false
-is_exit p (Done q call result replaced) = false
-is_exit p (Signalled q signal cause) = false
 is_exit p (Exit q word left) = p == q
+is_exit _ _ = false
 
 abbrev pub has_exit : ℕ → List Noted → Bool
 has_exit p [] = false
