@@ -5,3 +5,4 @@ pub mod Kernel
 pub mod Finite
 pub mod Deeds
 pub mod Laws
+pub mod KernelLaws
