@@ -420,3 +420,32 @@ fn near_accesses(rt: HostRuntime) -> Result<(), Fail> {
     assert_eq!(rt; space.write_near(0x1009, [7u8]), false);
     Ok(())
 }
+
+/// A hundred pages forked a thousand times, each copy dropped at once. No page is copied, so all of it makes fewer than
+/// 60,000 requests for memory: with that one refused (`rt try rv_tests --test --fail-alloc 60000`) every fork succeeds.
+#[test]
+fn forks_share_their_pages(rt: HostRuntime) -> Result<(), Fail> {
+    let mut space = Space::new(rt.alloc());
+    map(&mut space, 0, 100, READ_WRITE)?;
+    for turn in 0..1_000u16 {
+        assert_eq!(rt; fork(&space).is_ok(), true, "fork {turn}");
+    }
+    Ok(())
+}
+
+/// With each allocation made to fail in turn, this shows that a write to shared pages that is refused memory changes
+/// neither space.
+#[test]
+fn a_refused_write_to_shared_pages_changes_nothing(rt: HostRuntime) -> Result<(), Fail> {
+    let mut parent = numbered(rt.alloc())?;
+    let child = fork(&parent)?;
+    let want = if write(&mut parent, 0x2ffe, &[b'x'; 4099]).is_ok() {
+        b".12xx56."
+    } else {
+        b".123456."
+    };
+    for (space, want) in [(&parent, want), (&child, b".123456.")] {
+        assert_eq!(rt; first_bytes(space, rt.alloc())?.as_slice(), want.as_slice());
+    }
+    Ok(())
+}
