@@ -1,3 +1,4 @@
 pub mod Gathered
 pub mod Streams
 pub mod Written
+pub mod Spelled

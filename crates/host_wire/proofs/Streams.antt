@@ -60,7 +60,7 @@ settled_quiet fs bytes n len told kind short =
     let c : eqb (length bytes) (4 + told_length bytes) ≡ false = ne_eqb (length bytes) (4 + told_length bytes) (λ e. absurd (omega (arith, e, len, short))) in
     rw (a, b, c) refl
 
-told_front : (bytes : List ℕ) (n : ℕ) → 4 ≤ n → told_length (take n bytes) ≡ told_length bytes
+pub told_front : (bytes : List ℕ) (n : ℕ) → 4 ≤ n → told_length (take n bytes) ≡ told_length bytes
 told_front bytes n le = big_from-take 0 4 n bytes (omega arith)
 
 quiet_front : (fs : List Frame) (bytes : List ℕ) (n : ℕ) → IsQuiet bytes n → settled fs (take n bytes) ≡ Going fs (take n bytes)
@@ -243,7 +243,7 @@ settled_prepended : (gs fs : List Frame) (r : List ℕ) → settled (gs ++ fs) r
 unfolding settled
 settled_prepended gs fs r = choose_prepended (eqb (length r) 4 && not (is_length (told_length r))) (eqb (length r) 13 && not (is_kind (get_or r 12 0))) (eqb (length r) (4 + told_length r)) gs fs (frame_at r) r
 
-goes_on_prepended : (gs : List Frame) (s : Stream) (bs : List ℕ) → goes_on (prepended gs s) bs ≡ prepended gs (goes_on s bs)
+pub goes_on_prepended : (gs : List Frame) (s : Stream) (bs : List ℕ) → goes_on (prepended gs s) bs ≡ prepended gs (goes_on s bs)
 unfolding goes_on
 goes_on_prepended gs s [] = refl
 goes_on_prepended gs (Failed fault) (b ∷ bs) = refl
@@ -329,7 +329,7 @@ few_bytes under_way piece n unfinished le long size = elim (cases_lt (length und
       omega (arith, length-append under_way piece, missing_long under_way ge, le, told, size, lacks under_way unfinished ge)
 ]
 
-parts_of : {fs gs : List Frame} {r t : List ℕ} → Going fs r ≡ Going gs t → (fs ≡ gs) × (r ≡ t)
+pub parts_of : {fs gs : List Frame} {r t : List ℕ} → Going fs r ≡ Going gs t → (fs ≡ gs) × (r ≡ t)
 parts_of e = (cc, cc)
 
 feeding_is : {gs : List Frame} (f : Feeding) → (gs ≡ f.ready) × ([] ≡ f.under_way) → f ≡ record { ready = gs; under_way = [] }

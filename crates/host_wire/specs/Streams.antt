@@ -4,6 +4,7 @@ use Rattle.host_frame.specs.declared.frame.Frame.{Frame}
 use Rattle.host_frame.specs.declared.fault.WireFault.{WireFault}
 use Rattle.host_frame.specs.declared.fault.WireFault.TheVariants.{Length, Kind, Body, Memory}
 use Rattle.host_frame.specs.Reading.{frame_at, told_length}
+use Rattle.host_frame.specs.Spelling.{FitsFrame, IsShort, spelled}
 
 abbrev pub is_length : ℕ → Bool
 is_length n = nat_le 9 n && nat_le n 134217728
@@ -98,3 +99,12 @@ fed f piece = goes_on (as_stream f) piece
 -- no whole frame, or one and no byte after it
 abbrev pub HasOne : Feeding → Type 0
 HasOne f = (f.ready ≡ []) ⊎ ((frame : Frame) × (f ≡ record { ready = frame ∷ []; under_way = [] }))
+
+-- frames that have a spelling, and theirs in a row
+abbrev pub AreFrames : List Frame → Type 0
+AreFrames [] = Unit {0}
+AreFrames (f ∷ fs) = FitsFrame f × (IsShort f × AreFrames fs)
+
+unfoldable pub spelled_all : List Frame → List ℕ
+spelled_all [] = []
+spelled_all (f ∷ fs) = spelled f ++ spelled_all fs

@@ -4,3 +4,4 @@ pub mod Modes
 pub mod Places
 pub mod Rowing
 pub mod Spending
+pub mod Few

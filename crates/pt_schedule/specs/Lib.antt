@@ -4,3 +4,4 @@ pub mod Turns
 pub mod Schedules
 pub mod Rows
 pub mod Untraced
+pub mod Few
