@@ -1,14 +1,12 @@
-//! Tests of the programs, by what their commands write and the status that they end with. A crate with tests of its own
-//! is proved twice, so they stand here alone.
+//! Tests of what the programs' runs can't show: want of memory, statuses of logs, how much of a file is read. What runs
+//! can show stands in guests/runs.
 #![tactic(auto)]
 
 #[cfg(test)]
-mod guest;
+mod faults;
 #[cfg(test)]
-mod hosting;
+mod readings;
 #[cfg(test)]
-mod run;
+mod statuses;
 #[cfg(test)]
 mod streams;
-#[cfg(test)]
-mod tracing;

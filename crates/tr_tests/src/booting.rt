@@ -1,14 +1,13 @@
 //! What the tests of whole runs begin with.
 
 use containers::{Bytes, Seq};
-use lx_abi::{Boot, GuestFile, Rule, Script};
+use lx_abi::{Boot, GuestFile, Script};
 use lx_boot::BootFault;
 use pt_kernel::Schedule;
 use rv_asm::assemble;
 use std::alloc::Global;
 use std::test::Fail;
 use tr_core::Options;
-use tr_expr::{parse_fault, parse_inject};
 use trace_run::local::Run;
 use trace_run::run_local;
 
@@ -40,23 +39,4 @@ pub(crate) fn run_here(
     options: Options,
 ) -> Result<Run, BootFault> {
     run_local(alloc, boot, schedule, script, options)
-}
-
-fn fault(alloc: Global, text: &str) -> Result<Rule, Fail> {
-    Ok(parse_fault(alloc, text)?)
-}
-
-fn inject(alloc: Global, text: &str) -> Result<Rule, Fail> {
-    Ok(parse_inject(alloc, text)?)
-}
-
-/// The script of an expression behind `inject=` or, with a first letter `!`, behind `fault=`; the empty one of none.
-pub(crate) fn script(alloc: Global, text: &str) -> Result<Script, Fail> {
-    let mut rules = Vec::new(alloc);
-    match text.strip_prefix("!") {
-        Some(text) => rules.push(fault(alloc, text)?)?,
-        None if text.is_empty() => {}
-        None => rules.push(inject(alloc, text)?)?,
-    }
-    Ok(Script::new(rules))
 }

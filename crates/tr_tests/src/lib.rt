@@ -2,8 +2,6 @@
 #![tactic(auto)]
 
 #[cfg(test)]
-mod arguments;
-#[cfg(test)]
 mod booting;
 #[cfg(test)]
 mod expressions;
@@ -14,14 +12,10 @@ mod local_runs;
 #[cfg(test)]
 mod random_runs;
 #[cfg(test)]
-mod reading;
-#[cfg(test)]
 mod runs;
-#[cfg(test)]
-mod several_processes;
 #[cfg(test)]
 mod steps;
 #[cfg(test)]
-mod structures;
+mod texts;
 #[cfg(test)]
 mod tracer;

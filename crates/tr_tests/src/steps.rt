@@ -11,10 +11,6 @@ pub const BEGUN: u32 = 0x80057f;
 /// A syscall stop under TRACESYSGOOD.
 pub const SYSCALL: u32 = 0x857f;
 
-pub const FORKED: u32 = 0x1057f;
-
-pub const EXECED: u32 = 0x4057f;
-
 /// A signal stop of SIGUSR1.
 pub const BY_USR1: u32 = 0x0a7f;
 
@@ -27,7 +23,6 @@ pub enum Step {
     Status(u32, u32),
     /// The registers of a call: a7, and a0 to a2.
     Call(u64, u64, u64, u64),
-    Bytes(&'static [u8]),
     Errno(u32),
     /// SIGUSR1 that the kernel sent.
     Usr1,
@@ -63,9 +58,6 @@ pub fn reply(alloc: Global, step: Step) -> Result<Reply, AllocError> {
         Step::Call(number, a0, a1, a2) => Reply::Registers {
             registers: RegisterSet::new(alloc, &registers(number, a0, a1, a2))?,
         },
-        Step::Bytes(bytes) => Reply::Bytes {
-            bytes: Bytes::from_slice(alloc, bytes)?,
-        },
         Step::Errno(number) => Reply::Errno { number },
         Step::Usr1 => Reply::Info {
             info: Info {
@@ -84,9 +76,9 @@ pub fn reply(alloc: Global, step: Step) -> Result<Reply, AllocError> {
 }
 
 /// Every call is shown.
-pub fn options(alloc: Global, follow: bool) -> Options {
+pub fn options(alloc: Global) -> Options {
     Options {
-        follow,
+        follow: false,
         shown: Set::AllBut(Seq::new(alloc)),
         string_limit: 32,
         width: 40,

@@ -1,6 +1,6 @@
-//! What a tracer asks, reply by reply.
+//! What a tracer asks, reply by reply, with ample memory. Other conversations stand in guests/conversations.
 
-use crate::steps::{BEGUN, BY_USR1, EXECED, FORKED, SYSCALL, Step, options, reply};
+use crate::steps::{BEGUN, BY_USR1, SYSCALL, Step, options, reply};
 use lx_abi::{Ask, Request, Script};
 use std::alloc::Global;
 use std::test::Fail;
@@ -48,55 +48,6 @@ static TAMPERED: [(Step, Asked); 18] = [
     (Step::Outcome, Asked::Over),
 ];
 
-/// A call that isn't replaced keeps its number: nothing is set at its exit. Strings are read in the order of the
-/// arguments, and what can't be read ends them.
-static READ: [(Step, Asked); 11] = [
-    (Step::Done, Asked::Seize(1, 0x11)),
-    (Step::Done, Asked::Wait),
-    (Step::Status(1, BEGUN), Asked::Syscall(1, 0)),
-    (Step::Done, Asked::Wait),
-    (Step::Status(1, SYSCALL), Asked::GetRegs(1)),
-    (Step::Call(64, 1, 0x3000, 100), Asked::Peek(1, 0x3000, 32)),
-    (Step::Errno(5), Asked::Syscall(1, 0)),
-    (Step::Done, Asked::Wait),
-    (Step::Status(1, SYSCALL), Asked::GetRegs(1)),
-    (
-        Step::Call(64, u64::MAX - 13, 0x3000, 100),
-        Asked::Syscall(1, 0),
-    ),
-    (Step::Done, Asked::Wait),
-];
-
-/// Children are tracees under follow; one that is gone is left, and the others go on.
-static FOLLOWED: [(Step, Asked); 13] = [
-    (Step::Done, Asked::Seize(1, 0x13)),
-    (Step::Done, Asked::Wait),
-    (Step::Status(1, BEGUN), Asked::Syscall(1, 0)),
-    (Step::Done, Asked::Wait),
-    (Step::Status(1, SYSCALL), Asked::GetRegs(1)),
-    (Step::Call(220, 17, 0, 0), Asked::Syscall(1, 0)),
-    (Step::Done, Asked::Wait),
-    (Step::Status(1, FORKED), Asked::Syscall(1, 0)),
-    (Step::Done, Asked::Wait),
-    (Step::Status(2, BEGUN), Asked::Syscall(2, 0)),
-    (Step::Errno(3), Asked::Wait),
-    (Step::Status(2, 9), Asked::Wait),
-    (Step::Errno(10), Asked::Fault(TraceFault::Inadmissible)),
-];
-
-/// Only replies that fit the tracee's place are admitted; a fault is for good.
-static EXEC_OUTSIDE_EXECVE: [(Step, Asked); 6] = [
-    (Step::Done, Asked::Seize(1, 0x11)),
-    (Step::Done, Asked::Wait),
-    (Step::Status(1, BEGUN), Asked::Syscall(1, 0)),
-    (Step::Done, Asked::Wait),
-    (
-        Step::Status(1, EXECED),
-        Asked::Fault(TraceFault::Inadmissible),
-    ),
-    (Step::Done, Asked::Fault(TraceFault::Inadmissible)),
-];
-
 fn asked_of(pid: u32, ask: &Ask) -> Asked {
     match ask {
         Ask::Seize { options } => Asked::Seize(pid, *options),
@@ -125,12 +76,12 @@ fn request_in(answer: Result<Act, TraceFault>) -> Asked {
     }
 }
 
-fn tracer(alloc: Global, follow: bool, inject: &str) -> Result<Tracer, Fail> {
+fn tracer(alloc: Global, inject: &str) -> Result<Tracer, Fail> {
     let mut rules = Vec::new(alloc);
     if !inject.is_empty() {
         rules.push(parse_inject(alloc, inject)?)?;
     }
-    Ok(Tracer::new(alloc, Script::new(rules), options(alloc, follow)))
+    Ok(Tracer::new(alloc, Script::new(rules), options(alloc)))
 }
 
 /// Hears one reply, where the tracer still takes one.
@@ -144,18 +95,11 @@ fn hear(alloc: Global, tracer: &mut Tracer, step: Step) -> Result<Asked, Fail> {
 
 #[test]
 fn requests(rt: HostRuntime) -> Result<(), Fail> {
-    for (steps, follow, inject) in [
-        (TAMPERED.as_slice(), false, "getpid:retval=9"),
-        (READ.as_slice(), false, ""),
-        (FOLLOWED.as_slice(), true, ""),
-        (EXEC_OUTSIDE_EXECVE.as_slice(), false, ""),
-    ] {
-        let mut tracer = tracer(rt.alloc(), follow, inject)?;
-        for (step, wanted) in steps {
-            let asked = hear(rt.alloc(), &mut tracer, *step)?;
-            assert_eq!(rt; asked, *wanted);
-        }
-        drop(tracer);
+    let mut tracer = tracer(rt.alloc(), "getpid:retval=9")?;
+    for (step, wanted) in &TAMPERED {
+        let asked = hear(rt.alloc(), &mut tracer, *step)?;
+        assert_eq!(rt; asked, *wanted);
     }
+    drop(tracer);
     Ok(())
 }
