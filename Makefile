@@ -30,9 +30,10 @@ install:
 	for program in $(PROGRAMS); do \
 		install crates/$$program/out/$$program $(DESTDIR)$(PREFIX)/bin/ && \
 		install -m 644 docs/$$program.1 $(DESTDIR)$(PREFIX)/share/man/man1/ && \
-		install -m 644 completions/$$program.bash $(DESTDIR)$(PREFIX)/share/bash-completion/completions/$$program && \
-		install -m 644 completions/_$$program $(DESTDIR)$(PREFIX)/share/zsh/site-functions/ && \
-		install -m 644 completions/$$program.fish $(DESTDIR)$(PREFIX)/share/fish/vendor_completions.d/ || exit 1; done
+		install -m 644 completions/girmolet.bash $(DESTDIR)$(PREFIX)/share/bash-completion/completions/$$program && \
+		install -m 644 completions/girmolet.fish $(DESTDIR)$(PREFIX)/share/fish/vendor_completions.d/$$program.fish \
+		|| exit 1; done
+	install -m 644 completions/_girmolet $(DESTDIR)$(PREFIX)/share/zsh/site-functions/
 
 # The gate: every proof from nothing, the edits that must fail, the tests and the stored runs; then the scripts of
 # tests/ that need a built program.
@@ -42,6 +43,7 @@ test:
 	tests/calls
 	tests/traces
 	tests/c-guests
+	tests/completions
 	tests/cuts
 	tests/faults
 	tests/served
