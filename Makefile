@@ -44,6 +44,7 @@ test:
 	tests/traces
 	tests/c-guests
 	tests/completions
+	tests/documents
 	tests/cuts
 	tests/faults
 	tests/served
