@@ -8,9 +8,18 @@
 
 int main(int, char **);
 
+enum {
+    SYS_unlinkat = 35, SYS_openat = 56, SYS_close = 57, SYS_pipe2 = 59, SYS_lseek = 62, SYS_read = 63, SYS_write = 64,
+    SYS_exit_group = 94, SYS_brk = 214, SYS_clone = 220, SYS_wait4 = 260
+};
+#define LINUX_AT_FDCWD (-100)
+#define LINUX_SIGCHLD 17
+
 static char thread_area[512] __attribute__((aligned(16))); // errno stands here; zero at the start
 
-__asm__(".globl _start\n_start: .option push\n.option norelax\nla gp, __global_pointer$\n.option pop\nmv a0, sp\ncall begin\n");
+__asm__(".globl _start\n"
+        "_start: .option push\n.option norelax\nla gp, __global_pointer$\n.option pop\n"
+        "mv a0, sp\ncall begin\n");
 
 // Makes a call of Linux; an error becomes errno and -1.
 static long call(long number, long a, long b, long c, long d) {
@@ -22,22 +31,22 @@ static long call(long number, long a, long b, long c, long d) {
     return -1;
 }
 
-void _exit(int status) { for (;;) call(94, status, 0, 0, 0); }
-ssize_t read(int fd, void *to, size_t count) { return call(63, fd, (long)to, count, 0); }
-ssize_t write(int fd, const void *from, size_t count) { return call(64, fd, (long)from, count, 0); }
-int close(int fd) { return call(57, fd, 0, 0, 0); }
-off_t lseek(int fd, off_t offset, int whence) { return call(62, fd, offset, whence, 0); }
-int unlink(const char *path) { return call(35, -100, (long)path, 0, 0); }
+void _exit(int status) { for (;;) call(SYS_exit_group, status, 0, 0, 0); }
+ssize_t read(int fd, void *to, size_t count) { return call(SYS_read, fd, (long)to, count, 0); }
+ssize_t write(int fd, const void *from, size_t count) { return call(SYS_write, fd, (long)from, count, 0); }
+int close(int fd) { return call(SYS_close, fd, 0, 0, 0); }
+off_t lseek(int fd, off_t offset, int whence) { return call(SYS_lseek, fd, offset, whence, 0); }
+int unlink(const char *path) { return call(SYS_unlinkat, LINUX_AT_FDCWD, (long)path, 0, 0); }
 int isatty(int fd) { return fd < 3; }
-int pipe(int ends[2]) { return call(59, (long)ends, 0, 0, 0); }
-pid_t fork(void) { return call(220, 17, 0, 0, 0); }
-pid_t waitpid(pid_t pid, int *word, int options) { return call(260, pid, (long)word, options, 0); }
+int pipe(int ends[2]) { return call(SYS_pipe2, (long)ends, 0, 0, 0); }
+pid_t fork(void) { return call(SYS_clone, LINUX_SIGCHLD, 0, 0, 0); }
+pid_t waitpid(pid_t pid, int *word, int options) { return call(SYS_wait4, pid, (long)word, options, 0); }
 
 // The flags of open are newlib's; Linux has other numbers.
 int open(const char *path, int flags, ...) {
-    int linux_flags = (flags & 3) | (flags & O_CREAT ? 0x40 : 0) | (flags & O_EXCL ? 0x80 : 0) | (flags & O_TRUNC ? 0x200 : 0)
-        | (flags & O_APPEND ? 0x400 : 0);
-    return call(56, -100, (long)path, linux_flags, 0644);
+    int linux_flags = (flags & 3) | (flags & O_CREAT ? 0x40 : 0) | (flags & O_EXCL ? 0x80 : 0)
+        | (flags & O_TRUNC ? 0x200 : 0) | (flags & O_APPEND ? 0x400 : 0);
+    return call(SYS_openat, LINUX_AT_FDCWD, (long)path, linux_flags, 0644);
 }
 
 // The streams of descriptors 0 to 2, the last two written line by line.
@@ -60,9 +69,12 @@ __attribute__((noreturn)) void begin(long *sp) {
 // The heap, by brk, which answers the end as it is then.
 void *sbrk(ptrdiff_t more) {
     static long end;
-    if (!end) end = call(214, 0, 0, 0, 0);
+    if (!end) end = call(SYS_brk, 0, 0, 0, 0);
     long old = end;
-    if (more && call(214, end + more, 0, 0, 0) != end + more) { errno = ENOMEM; return (void *)-1; }
+    if (more && call(SYS_brk, end + more, 0, 0, 0) != end + more) {
+        errno = ENOMEM;
+        return (void *)-1;
+    }
     end = old + more;
     return (void *)old;
 }
