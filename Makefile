@@ -1,11 +1,16 @@
 # The programs, each crates/NAME/out/NAME once it is built.
 PROGRAMS = guest_host strace_cli
 
-.PHONY: run build test check wrong-bodies
+# Where make install puts programs, manual pages and completions; DESTDIR stands before it.
+PREFIX = /usr/local
 
-# Traces the stored guest: by the proved program where it is built and new, else by the same sources unproved. The plain
-# kernel runs it by make run-guest_host.
-run: run-strace_cli
+.PHONY: run build install test check wrong-bodies
+
+# Traces a guest whose second write is made to fail: by the proved program where it is built and new, else by the same
+# sources unproved. make run-strace_cli and make run-guest_host run the programs on their stored runs.
+run:
+	@echo '$$ strace_cli -e trace=write -e fault=write:when=2 --file /p=three_writes -- /p'
+	@tests/stored-run strace_cli -o /dev/stdout -e trace=write -e fault=write:when=2 --file /p=three_writes -- /p
 
 run-%:
 	@tests/stored-run $*
@@ -16,6 +21,20 @@ build: $(PROGRAMS:%=build-%)
 build-%:
 	cd crates/$* && rt run -- --help >/dev/null && touch out/$*
 
+# Installs what make build left: it builds nothing.
+install:
+	@for program in $(PROGRAMS); do test -x crates/$$program/out/$$program || \
+		{ echo "$$program isn't built: make build" >&2; exit 1; }; done
+	install -d $(addprefix $(DESTDIR)$(PREFIX)/,bin share/man/man1 share/bash-completion/completions \
+		share/zsh/site-functions share/fish/vendor_completions.d)
+	for program in $(PROGRAMS); do \
+		install crates/$$program/out/$$program $(DESTDIR)$(PREFIX)/bin/ && \
+		install -m 644 docs/$$program.1 $(DESTDIR)$(PREFIX)/share/man/man1/ && \
+		install -m 644 completions/girmolet.bash $(DESTDIR)$(PREFIX)/share/bash-completion/completions/$$program && \
+		install -m 644 completions/girmolet.fish $(DESTDIR)$(PREFIX)/share/fish/vendor_completions.d/$$program.fish \
+		|| exit 1; done
+	install -m 644 completions/_girmolet $(DESTDIR)$(PREFIX)/share/zsh/site-functions/
+
 # The gate: every proof from nothing, the edits that must fail, the tests and the stored runs; then the scripts of
 # tests/ that need a built program.
 test:
@@ -23,6 +42,9 @@ test:
 	tests/guests
 	tests/calls
 	tests/traces
+	tests/c-guests
+	tests/completions
+	tests/documents
 	tests/cuts
 	tests/faults
 	tests/served

@@ -1,4 +1,4 @@
-# Makes 100,000 calls of getpid, which answer ENOSYS so far, and exits.
+# Makes 100,000 calls of getpid, and exits.
 _start:
     li s0, 100000
 again:

@@ -1,0 +1,74 @@
+# Completion of strace_cli and guest_host for fish: put it into ~/.config/fish/completions, under both names.
+# Written by completions/make.
+set -g __girmolet_calls all none %file %desc %process %signal %memory brk chdir clone close dup dup3 execve exit exit_group fstat ftruncate getcwd getpid getppid gettid kill lseek mkdirat mmap munmap newfstatat openat pipe2 read rt_sigaction rt_sigprocmask rt_sigreturn sched_yield unlinkat wait4 write
+set -g __girmolet_errors E2BIG EACCES EADDRINUSE EADDRNOTAVAIL EADV EAFNOSUPPORT EAGAIN EALREADY EBADE EBADF EBADFD EBADMSG EBADR EBADRQC EBADSLT EBFONT EBUSY ECANCELED ECHILD ECHRNG ECOMM ECONNABORTED ECONNREFUSED ECONNRESET EDEADLK EDESTADDRREQ EDOM EDOTDOT EDQUOT EEXIST EFAULT EFBIG EHOSTDOWN EHOSTUNREACH EHWPOISON EIDRM EILSEQ EINPROGRESS EINTR EINVAL EIO EISCONN EISDIR EISNAM EKEYEXPIRED EKEYREJECTED EKEYREVOKED EL2HLT EL2NSYNC EL3HLT EL3RST ELIBACC ELIBBAD ELIBEXEC ELIBMAX ELIBSCN ELNRNG ELOOP EMEDIUMTYPE EMFILE EMLINK EMSGSIZE EMULTIHOP ENAMETOOLONG ENAVAIL ENETDOWN ENETRESET ENETUNREACH ENFILE ENOANO ENOBUFS ENOCSI ENODATA ENODEV ENOENT ENOEXEC ENOKEY ENOLCK ENOLINK ENOMEDIUM ENOMEM ENOMSG ENONET ENOPKG ENOPROTOOPT ENOSPC ENOSR ENOSTR ENOSYS ENOTBLK ENOTCONN ENOTDIR ENOTEMPTY ENOTNAM ENOTRECOVERABLE ENOTSOCK ENOTSUP ENOTTY ENOTUNIQ ENXIO EOPNOTSUPP EOVERFLOW EOWNERDEAD EPERM EPFNOSUPPORT EPIPE EPROTO EPROTONOSUPPORT EPROTOTYPE ERANGE EREMCHG EREMOTE EREMOTEIO ERESTART ERFKILL EROFS ESHUTDOWN ESOCKTNOSUPPORT ESPIPE ESRCH ESRMNT ESTALE ESTRPIPE ETIME ETIMEDOUT ETOOMANYREFS ETXTBSY EUCLEAN EUNATCH EUSERS EWOULDBLOCK EXDEV EXFULL
+set -g __girmolet_signals HUP INT QUIT ILL TRAP ABRT BUS FPE KILL USR1 SEGV USR2 PIPE ALRM TERM STKFLT CHLD URG XCPU XFSZ VTALRM PROF WINCH IO PWR SYS
+
+# Candidates for an expression, of this qualifier or with its own.
+function __girmolet_expression
+    set -l option ''
+    set -l word (commandline -ct)
+    if string match -qr '^--[a-z]+=' -- $word
+        set word (string replace -r '^--[a-z]+=' '' -- $word)
+    end
+    if test -n "$argv[1]"
+        set option $argv[1]=
+    end
+    set -l whole $option$word
+    set -l found
+    if string match -qr ':error=[^:]*$' -- $whole
+        set found (string replace -r '[^=]*$' '' -- $whole)$__girmolet_errors
+    else if string match -qr ':signal=[^:]*$' -- $whole
+        set found (string replace -r '[^=]*$' '' -- $whole)$__girmolet_signals
+    else if string match -qr '^inject=.*:[^:=]*$' -- $whole
+        set found (string replace -r '[^:]*$' '' -- $whole){error=,retval=,signal=,when=}
+    else if string match -qr '^fault=.*:[^:=]*$' -- $whole
+        set found (string replace -r '[^:]*$' '' -- $whole){error=,when=}
+    else if not string match -q '*:*' -- $whole
+        set -l before (string match -r '^(?:(?:trace|t|inject|fault)=)?(?:.*,)?[!?]?' -- $whole)
+        set found $before$__girmolet_calls
+        if test -z "$before"
+            set -a found trace= inject= fault=
+        end
+    end
+    string replace -- $option '' $found
+end
+
+# The path of the guest stays before the path of the file.
+function __girmolet_file
+    set -l word (commandline -ct)
+    if string match -q '*=*' -- $word
+        set -l guest (string replace -r '=.*' '=' -- $word)
+        printf '%s\n' $guest(__fish_complete_path (string replace -r '^[^=]*=' '' -- $word))
+    end
+end
+
+complete -c strace_cli -s e -x -a '(__girmolet_expression)' -d 'Which calls are shown or tampered with'
+complete -c strace_cli -l trace -x -a '(__girmolet_expression trace)' -d 'Which calls are shown'
+complete -c strace_cli -l inject -x -a '(__girmolet_expression inject)' -d 'Which calls are tampered with'
+complete -c strace_cli -l fault -x -a '(__girmolet_expression fault)' -d 'Which calls fail'
+complete -c strace_cli -s f -l follow-forks -d 'Trace children too'
+complete -c strace_cli -s o -l output -r -F -d 'Write the trace to a file'
+complete -c strace_cli -s s -l string-limit -x -d 'The most bytes of a string that are shown'
+complete -c strace_cli -s a -l columns -x -d 'The column of results'
+complete -c strace_cli -s E -x -d 'A word of the environment'
+complete -c strace_cli -l host -r -F -d 'Run the kernel by this program, as guest_host'
+complete -c strace_cli -l turns -r -F -d 'A schedule by words'
+complete -c strace_cli -l limit -x -d 'The most events that there are'
+complete -c strace_cli -l file -x -a '(__girmolet_file)' -d 'A file of the guest'
+complete -c strace_cli -l files-out -x -a '(__fish_complete_directories)' -d 'Write the files that the run leaves'
+complete -c strace_cli -l files-list -r -F -d 'List the files that the run leaves'
+complete -c strace_cli -l explain -d 'Explain faults'
+complete -c strace_cli -s h -l help -d 'Print help'
+complete -c strace_cli -s V -l version -d 'Print the version'
+complete -c guest_host -n '__fish_seen_subcommand_from plain' -s e -x -a '(__girmolet_expression)' -d 'Which calls are shown or tampered with'
+complete -c guest_host -n '__fish_seen_subcommand_from plain' -s E -x -d 'A word of the environment'
+complete -c guest_host -n '__fish_seen_subcommand_from plain' -l turns -r -F -d 'A schedule by words'
+complete -c guest_host -n '__fish_seen_subcommand_from plain' -l limit -x -d 'The most events that there are'
+complete -c guest_host -n '__fish_seen_subcommand_from plain' -l file -x -a '(__girmolet_file)' -d 'A file of the guest'
+complete -c guest_host -n '__fish_seen_subcommand_from plain' -l files-out -x -a '(__fish_complete_directories)' -d 'Write the files that the run leaves'
+complete -c guest_host -n '__fish_seen_subcommand_from plain' -l files-list -r -F -d 'List the files that the run leaves'
+complete -c guest_host -n '__fish_seen_subcommand_from plain' -l explain -d 'Explain faults'
+complete -c guest_host -s h -l help -d 'Print help'
+complete -c guest_host -s V -l version -d 'Print the version'
+complete -c guest_host -n __fish_use_subcommand -x -a 'plain asm serve'
