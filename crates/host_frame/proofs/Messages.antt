@@ -17,8 +17,8 @@ use Rattle.host_values.specs.Reading.{◌>>=◌, paths_rise, pids_rise}
 use Rattle.host_values.specs.Spelling.{byte, word, double, registers, text, items, guest_file, outcome_file, ended, schedule_word, AreRegisters, FitsText, FitItems, FitsWord, FitsOutcomeFile, FitsEnded}
 use Rattle.host_values.proofs.Forms.{IsBytes, IsForm, Takes, same, bind_some, some_is, byte_form, word_form, double_form, registers_form, text_form, items_form, of_one, of_two, and_then, pick}
 use Rattle.host_values.proofs.Inverse.{retyped, of_one_if, of_two_to, if_some, choose, no_items, guest_file_items, schedule_word_items, outcome_file_items, ended_items}
-use Rattle.host_frame.specs.declared.frame.Body.{Body}
-use Rattle.host_frame.specs.declared.frame.Body.TheVariants.{Request as Of_request, Reply as Of_reply}
+use Rattle.host_frame.specs.declared.frame.Payload.{Payload}
+use Rattle.host_frame.specs.declared.frame.Payload.TheVariants.{Request as Of_request, Reply as Of_reply}
 use Rattle.host_frame.specs.Reading as reading
 use Rattle.host_frame.specs.Reading.{flag_of, follow_at, boot_at, parts_at, outcome_at, request_at, reply_at, body_at, frame_at, status_at, regs_at, bytes_at, message_at, info_at, errno_at, refused_at, to_at}
 use Rattle.host_frame.specs.Spelling.{flag, head, parts, boot, ask_message, request_message, reply_message, message, FitsBoot, FitsRequest, FitsReply, FitsMessage}
@@ -244,16 +244,16 @@ reply_again (Refused fault) rest fits = refused_form.again fault rest fits
 
 -- ---- bodies
 
-all_read : (b c : Body) (rest : List ℕ) → reading.ended (b, rest) ≡ Some c → (b ≡ c) × (rest ≡ [])
+all_read : (b c : Payload) (rest : List ℕ) → reading.ended (b, rest) ≡ Some c → (b ≡ c) × (rest ≡ [])
 all_read b c rest e = elim (choose (eqb (length rest) 0) (Some b) None e) [
   | inl h ↦ (some_is b c h.1, no_items rest (eqb-true (length rest) 0 h.0))
   | inr h ↦ absurd (cc h.1)
 ]
 
-abbrev pub IsBody : ℕ → List ℕ → Body → Type 0
+abbrev pub IsBody : ℕ → List ℕ → Payload → Type 0
 IsBody kind bytes b = ((message b).0 ≡ kind) × ((bytes ≡ (message b).1) × FitsMessage b)
 
-pub body_takes : (kind : ℕ) (bytes : List ℕ) (b : Body) → IsBytes bytes → body_at kind bytes ≡ Some b → IsBody kind bytes b
+pub body_takes : (kind : ℕ) (bytes : List ℕ) (b : Payload) → IsBytes bytes → body_at kind bytes ≡ Some b → IsBody kind bytes b
 unfolding body_at
 body_takes kind bytes b all e = elim (choose (ltb kind 0x80) _ _ e) [
   | inl h ↦
@@ -293,7 +293,7 @@ reply_kind (Errno_is number) = refl
 reply_kind OutOfTurns = refl
 reply_kind (Refused fault) = refl
 
-pub body_again : (b : Body) → FitsMessage b → body_at (message b).0 (message b).1 ≡ Some b
+pub body_again : (b : Payload) → FitsMessage b → body_at (message b).0 (message b).1 ≡ Some b
 unfolding body_at
 body_again (Of_request q) fits =
     let k : ℕ = (request_message q).0 in

@@ -9,18 +9,18 @@ use Rattle.lx_abi.specs.declared.ptrace.Reply.TheVariants.{Done, Status as Statu
 use Rattle.host_values.specs.Reading.{◌>>=◌}
 use Rattle.host_values.specs.Spelling.{byte, word, double}
 use Rattle.host_values.proofs.Forms.{IsBytes, IsBytes-drop, back4, back8, bind_some, some_is}
-use Rattle.host_frame.specs.declared.frame.Body.{Body}
-use Rattle.host_frame.specs.declared.frame.Body.TheVariants.{Request as Of_request, Reply as Of_reply}
+use Rattle.host_frame.specs.declared.frame.Payload.{Payload}
+use Rattle.host_frame.specs.declared.frame.Payload.TheVariants.{Request as Of_request, Reply as Of_reply}
 use Rattle.host_frame.specs.declared.frame.Frame.{Frame}
 use Rattle.host_frame.specs.Reading.{body_at, frame_at, told_length}
 use Rattle.host_frame.specs.Spelling.{message, content, spelled, FitsFrame}
 use Rattle.host_frame.proofs.Messages.{body_takes, body_again}
 
-abbrev frame_is : ℕ → Body → Frame
+abbrev frame_is : ℕ → Payload → Frame
 frame_is number body = record { number = number; body = body }
 
 -- a kind is one byte
-kind_byte : (b : Body) → byte (message b).0 ≡ (message b).0 ∷ []
+kind_byte : (b : Payload) → byte (message b).0 ≡ (message b).0 ∷ []
 kind_byte (Of_request (Boot_with b limit words)) = refl
 kind_byte (Of_request Wait) = refl
 kind_byte (Of_request Ask_outcome) = refl
@@ -62,7 +62,7 @@ frame_again f fits =
     let kind : get_or all 12 0 ≡ k = sym (get_or-drop 12 all 0 0) ∙ ap (λ (x : List ℕ). get_or x 0 0) (from_kind ∙ ap (λ (x : List ℕ). x ++ m) (kind_byte f.body)) in
     let rest : drop 13 all ≡ m = ap (drop 13) (sym (append_assoc w (d ++ b) m)) ∙ drop_at (w ++ (d ++ b)) m 13 (omega (arith, length-append w (d ++ b), length-append d b, w-long, d-long, b-long)) in
     let body : body_at (get_or all 12 0) (drop 13 all) ≡ Some f.body = ap (λ (x : ℕ). body_at x (drop 13 all)) kind ∙ ap (body_at k) rest ∙ body_again f.body fits.1 in
-    ap (λ (o : Option Body). o >>= λ y. Some (frame_is (big_number 8 (drop 4 all)) y)) body ∙ ap (λ (n : ℕ). Some (frame_is n f.body)) number
+    ap (λ (o : Option Payload). o >>= λ y. Some (frame_is (big_number 8 (drop 4 all)) y)) body ∙ ap (λ (n : ℕ). Some (frame_is n f.body)) number
 
 byte_is : (n : ℕ) → n < 256 → byte n ≡ n ∷ []
 byte_is n lt = let e : n % 256 ≡ n = omega (arith, lt) in ap (λ (x : ℕ). x ∷ []) e
@@ -73,7 +73,7 @@ frame_takes bytes f all long size e =
     let n : ℕ = big_number 8 (drop 4 bytes) in
     let k : ℕ = get_or bytes 12 0 in
     let s = bind_some (body_at k (drop 13 bytes)) (λ y. Some (frame_is n y)) f e in
-    let y : Body = s.0 in
+    let y : Payload = s.0 in
     let t = body_takes k (drop 13 bytes) y (IsBytes-drop 13 bytes all) s.1 in
     let front : double n ≡ take 8 (drop 4 bytes) = back8 (drop 4 bytes) (omega (arith, length-drop 4 bytes, long)) (IsBytes-drop 4 bytes all) in
     let kind : byte (message y).0 ≡ k ∷ [] = ap byte t.0 ∙ byte_is k (all 12) in

@@ -9,8 +9,8 @@ use Rattle.lx_abi.specs.declared.ptrace.Request.TheVariants.{Boot as Boot_with, 
 use Rattle.lx_abi.specs.declared.ptrace.Reply.{Reply}
 use Rattle.lx_abi.specs.declared.ptrace.Reply.TheVariants.{Done, Status as Status_is, Registers as Registers_are, Bytes as Bytes_are, Message as Message_is, Info as Info_is, Outcome as Outcome_is, Errno as Errno_is, OutOfTurns, Refused}
 use Rattle.host_values.specs.Reading.{◌>>=◌, number_at, registers_at, text_at, items_at, guest_file_at, schedule_word_at, outcome_file_at, ended_at, paths_rise, pids_rise}
-use Rattle.host_frame.specs.declared.frame.Body.{Body}
-use Rattle.host_frame.specs.declared.frame.Body.TheVariants.{Request as Of_request, Reply as Of_reply}
+use Rattle.host_frame.specs.declared.frame.Payload.{Payload}
+use Rattle.host_frame.specs.declared.frame.Payload.TheVariants.{Request as Of_request, Reply as Of_reply}
 use Rattle.host_frame.specs.declared.frame.Frame.{Frame}
 use Rattle.host_frame.specs.declared.fault.WireFault.{WireFault}
 use Rattle.host_frame.specs.declared.fault.WireFault.TheVariants as fault
@@ -165,11 +165,11 @@ reply_at kind bytes =
 -- ---- bodies and frames
 
 -- nothing is left over
-abbrev pub ended : Body × List ℕ → Option Body
+abbrev pub ended : Payload × List ℕ → Option Payload
 ended x = if length x.1 == 0 then Some x.0 else None
 
 -- a request or a reply, by its kind
-unfoldable pub body_at : ℕ → List ℕ → Option Body
+unfoldable pub body_at : ℕ → List ℕ → Option Payload
 body_at kind bytes =
     if nat_lt kind 0x80 then (request_at kind bytes >>= λ x. ended (Of_request x.0, x.1))
     else (reply_at kind bytes >>= λ x. ended (Of_reply x.0, x.1))
@@ -187,7 +187,7 @@ frame_at bytes = do
 -- what a function returned of a frame's bytes
 abbrev pub Decodes : Result Frame WireFault → Option Frame → Type 0
 Decodes (Ok f) read = read ≡ Some f
-Decodes (Err fault.Body) read = read ≡ None
+Decodes (Err fault.Payload) read = read ≡ None
 Decodes (Err fault.Memory) read = Unit {0}
 Decodes (Err fault.Length) read = ⊥
 Decodes (Err fault.Kind) read = ⊥

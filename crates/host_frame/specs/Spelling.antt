@@ -13,9 +13,9 @@ use Rattle.lx_abi.specs.declared.ptrace.Reply.TheVariants.{Done, Status as Statu
 use Rattle.host_values.specs.Reading.{paths_rise, pids_rise}
 use Rattle.host_values.specs.Spelling.{byte, word, double, registers, text, items, guest_file, schedule_word, outcome_file, ended, AreRegisters, FitsText, FitItems, FitsGuestFile, FitsWord, FitsOutcomeFile, FitsEnded}
 use Rattle.host_frame.specs.declared.fault.WireFault.{WireFault}
-use Rattle.host_frame.specs.declared.fault.WireFault.TheVariants.{Length, Kind, Body as Body_fault, Memory}
-use Rattle.host_frame.specs.declared.frame.Body.{Body}
-use Rattle.host_frame.specs.declared.frame.Body.TheVariants.{Request as Of_request, Reply as Of_reply}
+use Rattle.host_frame.specs.declared.fault.WireFault.TheVariants.{Length, Kind, Payload as Body_fault, Memory}
+use Rattle.host_frame.specs.declared.frame.Payload.{Payload}
+use Rattle.host_frame.specs.declared.frame.Payload.TheVariants.{Request as Of_request, Reply as Of_reply}
 use Rattle.host_frame.specs.declared.frame.Frame.{Frame}
 
 -- ---- parts of a boot
@@ -64,7 +64,7 @@ reply_message (Errno_is number) = (0x88, word number)
 reply_message OutOfTurns = (0x89, [])
 reply_message (Refused fault) = (0x8a, byte fault)
 
-abbrev pub message : Body → ℕ × List ℕ
+abbrev pub message : Payload → ℕ × List ℕ
 message (Of_request r) = request_message r
 message (Of_reply r) = reply_message r
 
@@ -111,7 +111,7 @@ FitsReply (Errno_is number) = number < 256 ^ 4
 FitsReply OutOfTurns = Unit {0}
 FitsReply (Refused fault) = fault < 256 ^ 1
 
-abbrev pub FitsMessage : Body → Type 0
+abbrev pub FitsMessage : Payload → Type 0
 FitsMessage (Of_request q) = FitsRequest q
 FitsMessage (Of_reply r) = FitsReply r
 

@@ -13,7 +13,7 @@ pub enum WireFault {
     #[error("no message has a frame's kind")]
     Kind = 2,
     #[error("a frame's body is none of its kind")]
-    Body = 3,
+    Payload = 3,
     #[error("memory ran out")]
     Memory = 4,
 }

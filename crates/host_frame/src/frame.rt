@@ -10,7 +10,7 @@ pub const LONGEST: usize = 134_217_728;
 
 /// What a frame carries.
 #[derive(Drop)]
-pub enum Body {
+pub enum Payload {
     Request(Request),
     Reply(Reply),
 }
@@ -19,5 +19,5 @@ pub enum Body {
 #[derive(Drop)]
 pub struct Frame {
     pub number: u64,
-    pub body: Body,
+    pub body: Payload,
 }

@@ -9,6 +9,6 @@ mod sizing;
 mod writing;
 
 pub use fault::WireFault;
-pub use frame::{Body, Frame, LONGEST, SHORTEST};
+pub use frame::{Frame, LONGEST, Payload, SHORTEST};
 pub use reading::decode;
 pub use writing::encode;

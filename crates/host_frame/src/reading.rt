@@ -6,7 +6,7 @@ ghost use Rattle.host_frame.specs.Reading as spec;
 ghost use Rattle.host_frame.specs.Reading.{Decodes};
 
 use crate::fault::WireFault;
-use crate::frame::{Body, Frame};
+use crate::frame::{Frame, Payload};
 use byteorder::{BigEndian, ByteOrder};
 use host_values::{
     Bad, byte_at, double_at, list_of, paths_rise, pids_rise, registers_of, text_of, word_at,
@@ -68,7 +68,7 @@ fn ask(alloc: Global, kind: u8, bytes: &[u8]) -> Result<(Ask, &[u8]), Bad>
         0x08 => syscall(bytes),
         0x09 => Ok((Ask::EventMsg, bytes)),
         0x0a => Ok((Ask::SigInfo, bytes)),
-        _ => Err(Bad::Body),
+        _ => Err(Bad::Payload),
     }
 }
 
@@ -162,7 +162,7 @@ fn follow(bytes: &[u8]) -> Result<(bool, &[u8]), Bad>
     let (version, rest) = byte_at(bytes)?;
     let (follow, rest) = byte_at(rest)?;
     if version != 1 || follow >= 2 {
-        return Err(Bad::Body);
+        return Err(Bad::Payload);
     }
     Ok((follow == 1, rest))
 }
@@ -204,7 +204,7 @@ fn outcome(alloc: Global, bytes: &[u8]) -> Result<(Reply, &[u8]), Bad>
     let (files, rest) = list_of(alloc, rest)?;
     let (ended, rest) = list_of(alloc, rest)?;
     if !(paths_rise(files.as_slice()) && pids_rise(ended.as_slice())) {
-        return Err(Bad::Body);
+        return Err(Bad::Payload);
     }
     let outcome = Outcome {
         console,
@@ -239,23 +239,23 @@ fn reply(alloc: Global, kind: u8, bytes: &[u8]) -> Result<(Reply, &[u8]), Bad>
         0x88 => errno(bytes),
         0x89 => Ok((Reply::OutOfTurns, bytes)),
         0x8a => refused(bytes),
-        _ => Err(Bad::Body),
+        _ => Err(Bad::Payload),
     }
 }
 
 #[tactic(auto, unfolding(crate::specs::Reading::body_at))]
-fn body(alloc: Global, kind: u8, bytes: &[u8]) -> Result<Body, Bad>
+fn body(alloc: Global, kind: u8, bytes: &[u8]) -> Result<Payload, Bad>
     ensures { Gives (λ x. x) result (spec.body_at kind bytes.now) }
 {
     let (body, rest) = if kind < 0x80 {
         let (request, rest) = request(alloc, kind, bytes)?;
-        (Body::Request(request), rest)
+        (Payload::Request(request), rest)
     } else {
         let (reply, rest) = reply(alloc, kind, bytes)?;
-        (Body::Reply(reply), rest)
+        (Payload::Reply(reply), rest)
     };
     if !rest.is_empty() {
-        return Err(Bad::Body);
+        return Err(Bad::Payload);
     }
     Ok(body)
 }
@@ -280,7 +280,7 @@ pub fn decode(alloc: Global, bytes: &[u8]) -> Result<Frame, WireFault>
 {
     match frame(alloc, bytes) {
         Ok(frame) => Ok(frame),
-        Err(Bad::Body) => Err(WireFault::Body),
+        Err(Bad::Payload) => Err(WireFault::Payload),
         Err(Bad::Memory) => Err(WireFault::Memory),
     }
 }

@@ -5,7 +5,7 @@ ghost use Rattle.host_values.specs.Spelling as value;
 ghost use Rattle.host_values.specs.Sizes.{Spends};
 ghost use Rattle.host_frame.specs.Spelling as spec;
 
-use crate::frame::{Body, Frame, LONGEST, SHORTEST};
+use crate::frame::{Frame, LONGEST, Payload, SHORTEST};
 use host_values::{registers_size, spend_list, spend_text};
 use lx_abi::{Ask, Boot, Outcome, Reply, Request, Word};
 
@@ -77,12 +77,12 @@ fn spend_reply(budget: usize, reply: &Reply) -> Option<usize>
     }
 }
 
-fn spend_body(budget: usize, body: &Body) -> Option<usize>
+fn spend_body(budget: usize, body: &Payload) -> Option<usize>
     ensures { Spends result budget (length (spec.message body.now).1) }
 {
     match body {
-        Body::Request(request) => spend_request(budget, request),
-        Body::Reply(reply) => spend_reply(budget, reply),
+        Payload::Request(request) => spend_request(budget, request),
+        Payload::Reply(reply) => spend_reply(budget, reply),
     }
 }
 

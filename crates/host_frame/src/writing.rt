@@ -5,7 +5,7 @@ ghost use Rattle.host_values.specs.Spelling as value;
 ghost use Rattle.host_frame.specs.Spelling as spec;
 
 use crate::fault::WireFault;
-use crate::frame::{Body, Frame};
+use crate::frame::{Frame, Payload};
 use crate::sizing::content_size;
 use host_values::{put_byte, put_double, put_length, put_list, put_registers, put_text, put_word};
 use lx_abi::{Ask, Boot, Info, Outcome, Reply, Request, Word};
@@ -165,21 +165,21 @@ fn reply_kind(reply: &Reply) -> u8
     }
 }
 
-fn kind(body: &Body) -> u8
+fn kind(body: &Payload) -> u8
     ensures { result ≡ (spec.message body.now).0 }
 {
     match body {
-        Body::Request(request) => request_kind(request),
-        Body::Reply(reply) => reply_kind(reply),
+        Payload::Request(request) => request_kind(request),
+        Payload::Reply(reply) => reply_kind(reply),
     }
 }
 
-fn put_body(out: &mut Vec<u8>, body: &Body) -> Result<(), AllocError>
+fn put_body(out: &mut Vec<u8>, body: &Payload) -> Result<(), AllocError>
     ensures { OnOk result (out.new.items ≡ out.old.items ++ (spec.message body.now).1) }
 {
     match body {
-        Body::Request(request) => put_request(out, request),
-        Body::Reply(reply) => put_reply(out, reply),
+        Payload::Request(request) => put_request(out, request),
+        Payload::Reply(reply) => put_reply(out, reply),
     }
 }
 

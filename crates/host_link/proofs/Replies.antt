@@ -4,8 +4,8 @@ use Rattle.std.specs.Prelude.{IsSome, OnOk}
 use Rattle.std.specs.Io.KnownBytes.{Consumes}
 use Rattle.lx_abi.specs.declared.ptrace.Reply.{Reply}
 use Rattle.pt_model.specs.Admissible.{answers}
-use Rattle.host_frame.specs.declared.frame.Body.{Body}
-use Rattle.host_frame.specs.declared.frame.Body.TheVariants.{Request as Of_request, Reply as Of_reply}
+use Rattle.host_frame.specs.declared.frame.Payload.{Payload}
+use Rattle.host_frame.specs.declared.frame.Payload.TheVariants.{Request as Of_request, Reply as Of_reply}
 use Rattle.host_frame.specs.declared.frame.Frame.{Frame}
 use Rattle.host_wire.specs.Receiving.{Received}
 use Rattle.host_wire.specs.Streams.{Going, Feeding, nothing_fed, stream_of}
@@ -17,7 +17,7 @@ at_answer : (P : Result Reply LinkFault → Type 0) → ((r : Reply) → P (Ok r
 at_answer P ok other true r = ok r
 at_answer P ok other false r = other
 
-at_number : (P : Result Reply LinkFault → Type 0) → ((r : Reply) → P (Ok r)) → P (Err Sequence) → P (Err Inadmissible) → (b : Bool) (x y : Body) → P (cond b (reply_of x y) (Err Sequence))
+at_number : (P : Result Reply LinkFault → Type 0) → ((r : Reply) → P (Ok r)) → P (Err Sequence) → P (Err Inadmissible) → (b : Bool) (x y : Payload) → P (cond b (reply_of x y) (Err Sequence))
 at_number P ok late other false x y = late
 at_number P ok late other true (Of_request q) (Of_reply r) = at_answer P ok other (answers q r) r
 at_number P ok late other true (Of_request q) (Of_request p) = other

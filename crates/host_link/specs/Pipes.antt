@@ -4,10 +4,10 @@ use Rattle.std.specs.Io.KnownBytes.{Appends, Consumes, IsAtEnd}
 use Rattle.lx_abi.specs.declared.ptrace.Reply.{Reply}
 use Rattle.lx_abi.specs.declared.ptrace.Request.{Request}
 use Rattle.pt_model.specs.Admissible.{answers}
-use Rattle.host_frame.specs.declared.frame.Body.{Body}
-use Rattle.host_frame.specs.declared.frame.Body.TheVariants.{Request as Of_request, Reply as Of_reply}
+use Rattle.host_frame.specs.declared.frame.Payload.{Payload}
+use Rattle.host_frame.specs.declared.frame.Payload.TheVariants.{Request as Of_request, Reply as Of_reply}
 use Rattle.host_frame.specs.declared.frame.Frame.{Frame}
-use Rattle.host_frame.specs.declared.fault.WireFault.TheVariants.{Length, Kind, Body as Body_fault, Memory as No_memory}
+use Rattle.host_frame.specs.declared.fault.WireFault.TheVariants.{Length, Kind, Payload as Body_fault, Memory as No_memory}
 use Rattle.host_wire.specs.declared.receiving.ReceiveFault.{ReceiveFault}
 use Rattle.host_wire.specs.declared.receiving.ReceiveFault.TheVariants as receiving
 use Rattle.host_wire.specs.Ends.{AppendsPart}
@@ -35,13 +35,13 @@ SentAs (Err TooMany) f old new broken = ⊥
 -- ---- the next frame
 
 -- a reply of a kind that answers the request
-abbrev pub is_answer : Body → Body → Bool
+abbrev pub is_answer : Payload → Payload → Bool
 is_answer (Of_request q) (Of_reply r) = answers q r
 is_answer (Of_request q) (Of_request p) = false
 is_answer (Of_reply s) b = false
 
 -- the reply in a frame, to the request in another: of its number, and of a kind that answers it
-abbrev pub reply_of : Body → Body → Result Reply LinkFault
+abbrev pub reply_of : Payload → Payload → Result Reply LinkFault
 reply_of (Of_request q) (Of_reply r) = if answers q r then Ok r else Err Inadmissible
 reply_of (Of_request q) (Of_request p) = Err Inadmissible
 reply_of (Of_reply s) b = Err Inadmissible

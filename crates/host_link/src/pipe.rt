@@ -9,7 +9,7 @@ use crate::fault::LinkFault;
 use crate::fits::answers;
 use crate::link::{Link, MOST_REPLIES};
 use host_wire::{
-    Body, Broken, Feed, Frame, ReceiveFault, Sink, Source, WireFault, encode, receive,
+    Broken, Feed, Frame, Payload, ReceiveFault, Sink, Source, WireFault, encode, receive,
 };
 use lx_abi::{Reply, Request};
 use std::alloc::{AllocError, Global};
@@ -20,7 +20,7 @@ fn fault_of(fault: ReceiveFault) -> LinkFault
     match fault {
         ReceiveFault::Read => LinkFault::Read,
         ReceiveFault::Wire(WireFault::Memory) => LinkFault::Memory,
-        ReceiveFault::Wire(WireFault::Length | WireFault::Kind | WireFault::Body) =>
+        ReceiveFault::Wire(WireFault::Length | WireFault::Kind | WireFault::Payload) =>
             LinkFault::Malformed,
     }
 }
@@ -31,7 +31,7 @@ fn send<W: Sink>(alloc: Global, writer: &mut W, frame: &Frame) -> Result<(), Lin
     let bytes = match encode(alloc, frame) {
         Ok(bytes) => bytes,
         Err(WireFault::Memory) => return Err(LinkFault::Memory),
-        Err(WireFault::Length | WireFault::Kind | WireFault::Body) => return Err(
+        Err(WireFault::Length | WireFault::Kind | WireFault::Payload) => return Err(
             LinkFault::Malformed,
         ),
     };
@@ -42,19 +42,19 @@ fn send<W: Sink>(alloc: Global, writer: &mut W, frame: &Frame) -> Result<(), Lin
 }
 
 /// The reply in the body of a frame, if it answers the body that was sent.
-fn reply_of(sent: &Body, body: Body) -> Result<Reply, LinkFault>
+fn reply_of(sent: &Payload, body: Payload) -> Result<Reply, LinkFault>
     ensures { result ≡ spec.reply_of sent.now body }
 {
     match (sent, body) {
-        (Body::Request(request), Body::Reply(reply)) => {
+        (Payload::Request(request), Payload::Reply(reply)) => {
             if answers(request, &reply) {
                 Ok(reply)
             } else {
                 Err(LinkFault::Inadmissible)
             }
         }
-        (Body::Request(_), Body::Request(_)) => Err(LinkFault::Inadmissible),
-        (Body::Reply(_), _) => Err(LinkFault::Inadmissible),
+        (Payload::Request(_), Payload::Request(_)) => Err(LinkFault::Inadmissible),
+        (Payload::Reply(_), _) => Err(LinkFault::Inadmissible),
     }
 }
 
@@ -170,7 +170,7 @@ impl<R: Source, W: Sink> Link for PipeLink<R, W> {
         }
         let sent = Frame {
             number: self.given + 1,
-            body: Body::Request(request),
+            body: Payload::Request(request),
         };
         // Broken until the reply is there, since a fault may leave a part of a frame in the feed.
         self.is_broken = true;

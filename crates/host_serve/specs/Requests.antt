@@ -2,10 +2,10 @@
 use Rattle.std.specs.Prelude.{◌≡◌, ◌⊎◌, ◌≤◌, ◌^◌, ℕ, ◌==◌, if◌then◌else◌, List, [], ◌∷◌, length, Option, Some, None, Result, Ok, Err}
 use Rattle.std.specs.Io.KnownBytes.{Consumes, IsAtEnd}
 use Rattle.lx_abi.specs.declared.ptrace.Request.{Request}
-use Rattle.host_frame.specs.declared.frame.Body.{Body as Message}
-use Rattle.host_frame.specs.declared.frame.Body.TheVariants.{Request as Of_request, Reply as Of_reply}
+use Rattle.host_frame.specs.declared.frame.Payload.{Payload as Message}
+use Rattle.host_frame.specs.declared.frame.Payload.TheVariants.{Request as Of_request, Reply as Of_reply}
 use Rattle.host_frame.specs.declared.frame.Frame.{Frame}
-use Rattle.host_frame.specs.declared.fault.WireFault.TheVariants.{Length, Kind, Body, Memory}
+use Rattle.host_frame.specs.declared.fault.WireFault.TheVariants.{Length, Kind, Payload, Memory}
 use Rattle.host_wire.specs.declared.receiving.ReceiveFault.{ReceiveFault}
 use Rattle.host_wire.specs.declared.receiving.ReceiveFault.TheVariants as receiving
 use Rattle.host_wire.specs.Streams.{Stream, Going, Failed as Failed_by, stream_of}
@@ -20,7 +20,7 @@ abbrev pub IsOther : Frame → ℕ → Type 0
 IsOther f number = (q : Request) → f ≡ request_frame number q → ⊥
 
 abbrev pub IsFaulty : Stream → Type 0
-IsFaulty stream = (stream ≡ Failed_by Length) ⊎ ((stream ≡ Failed_by Kind) ⊎ (stream ≡ Failed_by Body))
+IsFaulty stream = (stream ≡ Failed_by Length) ⊎ ((stream ≡ Failed_by Kind) ⊎ (stream ≡ Failed_by Payload))
 
 -- what came is the next request, the end of input within a frame or before it, or the cause of a fault
 abbrev pub NextAs : Result (Option Request) ServeFault → ℕ → List ℕ → Stream → Option (List ℕ) → ℕ → Type 0
@@ -43,7 +43,7 @@ fault_of receiving.Read = Read
 fault_of (receiving.Wire Memory) = Failed
 fault_of (receiving.Wire Length) = Wire
 fault_of (receiving.Wire Kind) = Wire
-fault_of (receiving.Wire Body) = Wire
+fault_of (receiving.Wire Payload) = Wire
 
 abbrev pub request_of : Message → Option Request
 request_of (Of_request q) = Some q

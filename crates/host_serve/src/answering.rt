@@ -4,7 +4,7 @@ ghost use Rattle.std.specs.Prelude.{◌≡◌};
 ghost use Rattle.host_serve.specs.Serving.{SentAs};
 
 use crate::fault::ServeFault;
-use host_wire::{Body, Broken, Frame, Sink, WireFault, encode};
+use host_wire::{Broken, Frame, Payload, Sink, WireFault, encode};
 use lx_abi::Reply;
 use std::alloc::Global;
 
@@ -19,12 +19,14 @@ pub(crate) fn send<W: Sink>(
 {
     let frame = Frame {
         number,
-        body: Body::Reply(reply),
+        body: Payload::Reply(reply),
     };
     let bytes = match encode(alloc, &frame) {
         Ok(bytes) => bytes,
         Err(WireFault::Memory) => return Err(ServeFault::Failed),
-        Err(WireFault::Length | WireFault::Kind | WireFault::Body) => return Err(ServeFault::Wire),
+        Err(WireFault::Length | WireFault::Kind | WireFault::Payload) => return Err(
+            ServeFault::Wire,
+        ),
     };
     match writer.put(bytes.as_slice()) {
         Ok(()) => Ok(()),

@@ -7,7 +7,7 @@ ghost use Rattle.pt_kernel.specs.Hosts.{is_boot as is_boot_model};
 ghost use Rattle.host_serve.specs.Requests.{Next};
 
 use crate::fault::ServeFault;
-use host_wire::{Body, Feed, Frame, ReceiveFault, Source, WireFault, receive};
+use host_wire::{Feed, Frame, Payload, ReceiveFault, Source, WireFault, receive};
 use lx_abi::Request;
 
 pub(crate) fn is_boot(request: &Request) -> bool
@@ -25,7 +25,7 @@ fn fault_of(fault: ReceiveFault) -> ServeFault
     match fault {
         ReceiveFault::Read => ServeFault::Read,
         ReceiveFault::Wire(WireFault::Memory) => ServeFault::Failed,
-        ReceiveFault::Wire(WireFault::Length | WireFault::Kind | WireFault::Body) =>
+        ReceiveFault::Wire(WireFault::Length | WireFault::Kind | WireFault::Payload) =>
             ServeFault::Wire,
     }
 }
@@ -38,8 +38,8 @@ fn request_in(frame: Frame, number: u64) -> Option<Request>
         return None;
     }
     match frame.body {
-        Body::Request(request) => Some(request),
-        Body::Reply(_) => None,
+        Payload::Request(request) => Some(request),
+        Payload::Reply(_) => None,
     }
 }
 

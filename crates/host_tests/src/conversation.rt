@@ -4,7 +4,7 @@ use crate::ends::{Pieces, serve_between};
 use crate::frames::{are_same, part, spelled, stream};
 use host_link::{Link, LocalLink, PipeLink};
 use host_serve::ServeFault;
-use host_wire::{Body, Counted, Feed, Frame, Sink, Source};
+use host_wire::{Counted, Feed, Frame, Payload, Sink, Source};
 use lx_abi::{Boot, Outcome, Request};
 use lx_boot::BootFault;
 use pt_kernel::{Host, Schedule};
@@ -140,7 +140,7 @@ fn served_however_cut(rt: HostRuntime) -> Result<(), Fail> {
 /// What is known of a request to a host in this process: its own boot.
 fn boot_of(frame: Frame) -> Result<(Boot, u64), Fail> {
     match frame.body {
-        Body::Request(Request::Boot { boot, limit, .. }) => Ok((boot, limit)),
+        Payload::Request(Request::Boot { boot, limit, .. }) => Ok((boot, limit)),
         _ => Err(Fail::from("the first frame is a boot")),
     }
 }
@@ -164,14 +164,14 @@ fn reply_frame<L: Link>(
     alloc: Global,
     link: &mut L,
     number: u64,
-    body: Body,
+    body: Payload,
 ) -> Result<Vec<u8>, Fail> {
-    let Body::Request(request) = body else {
+    let Payload::Request(request) = body else {
         return Err(Fail::from("a request"));
     };
     match link.call(request) {
         Ok(reply) => {
-            let body = Body::Reply(reply);
+            let body = Payload::Reply(reply);
             spelled(alloc, &Frame { number, body })
         }
         Err(_) => Err(Fail::from("a reply")),

@@ -2,7 +2,7 @@
 
 use crate::conversation::BOOT;
 use crate::frames::{are_same, frame, part, spelled, stream};
-use host_wire::{Body, Feed, Frame, WireFault};
+use host_wire::{Feed, Frame, Payload, WireFault};
 use lx_abi::{Ask, Reply, Request, Status};
 use std::alloc::Global;
 use std::test::Fail;
@@ -94,9 +94,12 @@ fn two_frames(rt: HostRuntime) -> Result<(), Fail> {
         status: Status { word: 0x80057f },
     };
     let rows = [
-        (Body::Request(Request::Wait), "00000009000000000000000304"),
         (
-            Body::Reply(status),
+            Payload::Request(Request::Wait),
+            "00000009000000000000000304",
+        ),
+        (
+            Payload::Reply(status),
             "00000011000000000000000382000000010080057f",
         ),
     ];
@@ -122,7 +125,7 @@ fn faults(rt: HostRuntime) -> Result<(), Fail> {
     let (length, kind, body) = (
         Some(WireFault::Length),
         Some(WireFault::Kind),
-        Some(WireFault::Body),
+        Some(WireFault::Payload),
     );
     let rows = [
         // the length is told by four bytes, and is 9 to 134,217,728
@@ -231,7 +234,11 @@ fn bodies(rt: HostRuntime) -> Result<(), Fail> {
     for (message, is_read) in rows {
         let (fault, given) = fault_of(alloc, frame(alloc, 1, message)?.as_slice());
         assert_eq!(rt; given, is_read, "{message}");
-        assert_eq!(rt; fault, (!is_read).then_some(WireFault::Body), "{message}");
+        assert_eq!(rt;
+            fault,
+            (!is_read).then_some(WireFault::Payload),
+            "{message}"
+        );
     }
     Ok(())
 }
@@ -241,7 +248,7 @@ fn is_peek(frame: &Frame) -> bool {
     frame.number == 2
         && matches!(
             &frame.body,
-            Body::Request(Request::To {
+            Payload::Request(Request::To {
                 pid: 1,
                 ask: Ask::Peek {
                     address: 0x3f_ffff_effd,
@@ -302,7 +309,7 @@ fn after_a_fault(rt: HostRuntime) -> Result<(), Fail> {
     let rows: [(&[u8], WireFault); 3] = [
         (&[9, 0, 0, 0, 0, 0, 0, 0, 2, 0x7f], WireFault::Kind),
         (&[8], WireFault::Length),
-        (&[10, 0, 0, 0, 0, 0, 0, 0, 2, 4, 0], WireFault::Body),
+        (&[10, 0, 0, 0, 0, 0, 0, 0, 2, 4, 0], WireFault::Payload),
     ];
     for (piece, fault) in rows {
         assert_eq!(rt; refused(&mut feed, piece), (Some(fault), 1));
@@ -317,7 +324,7 @@ fn after_a_fault(rt: HostRuntime) -> Result<(), Fail> {
 
 /// The frame of a reply of so many bytes.
 fn long_frame(alloc: Global, length: usize) -> Result<Vec<u8>, Fail> {
-    let body = Body::Reply(Reply::Bytes {
+    let body = Payload::Reply(Reply::Bytes {
         bytes: containers::Bytes::from_vec(Vec::from_elem(alloc, 7u8, length)?),
     });
     spelled(alloc, &Frame { number: 1, body })

@@ -23,7 +23,7 @@ next_item reads front count i bytes x after total lt h so_far =
 pub bad_item : {X : Type 0} (reads : List ℕ → Option (X × List ℕ)) (e : Bad) (front : List X) (count i : ℕ) (bytes : List ℕ) (total : Option (List X × List ℕ)) → i < count → Fails e (reads bytes)
     → with_front front (each_at reads (count - i) bytes) ≡ total → Fails e total
 bad_item reads bad.Memory front count i bytes total lt h so_far = tt
-bad_item reads bad.Body front count i bytes total lt h so_far =
+bad_item reads bad.Payload front count i bytes total lt h so_far =
     let k : count - i ≡ suc (count - (i + 1)) = omega arith in
     let one : with_front front (each_at reads (count - i) bytes) ≡ None = rw (k, h) refl in
     sym so_far ∙ one

@@ -21,7 +21,7 @@ None >>= f = None
 -- What a function returned is what reading gives, unless memory ran out.
 abbrev pub Fails : {Y : Type 0} → Bad → Option Y → Type 0
 Fails bad.Memory read = Unit {0}
-Fails bad.Body read = read ≡ None
+Fails bad.Payload read = read ≡ None
 
 abbrev pub Gives : {X Y : Type 0} → (X → Y) → Result X Bad → Option Y → Type 0
 Gives view (Ok x) read = read ≡ Some (view x)

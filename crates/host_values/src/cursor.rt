@@ -14,7 +14,7 @@ pub fn byte_at(bytes: &[u8]) -> Result<(u8, &[u8]), Bad>
     ensures { Gives (λ x. (x.0, x.1.now)) result (number_at 1 bytes.now) }
 {
     match bytes {
-        [] => Err(Bad::Body),
+        [] => Err(Bad::Payload),
         [byte, rest @ ..] => Ok((*byte, rest)),
     }
 }
@@ -23,7 +23,7 @@ pub fn word_at(bytes: &[u8]) -> Result<(u32, &[u8]), Bad>
     ensures { Gives (λ x. (x.0, x.1.now)) result (number_at 4 bytes.now) }
 {
     if bytes.len() < 4 {
-        return Err(Bad::Body);
+        return Err(Bad::Payload);
     }
     Ok((BigEndian::read_u32(bytes), &bytes[4..]))
 }
@@ -32,7 +32,7 @@ pub fn double_at(bytes: &[u8]) -> Result<(u64, &[u8]), Bad>
     ensures { Gives (λ x. (x.0, x.1.now)) result (number_at 8 bytes.now) }
 {
     if bytes.len() < 8 {
-        return Err(Bad::Body);
+        return Err(Bad::Payload);
     }
     Ok((BigEndian::read_u64(bytes), &bytes[8..]))
 }
@@ -44,7 +44,7 @@ pub fn text_of(alloc: Global, bytes: &[u8]) -> Result<(Bytes, &[u8]), Bad>
     let (len, rest) = word_at(bytes)?;
     let len = len as usize;
     if rest.len() < len {
-        return Err(Bad::Body);
+        return Err(Bad::Payload);
     }
     let (text, rest) = rest.split_at(len);
     Ok((Bytes::from_slice(alloc, text)?, rest))
@@ -55,7 +55,7 @@ pub fn registers_of(alloc: Global, bytes: &[u8]) -> Result<(RegisterSet, &[u8]),
     ensures { Gives (λ x. (x.0, x.1.now)) result (registers_at bytes.now) }
 {
     if bytes.len() < 256 {
-        return Err(Bad::Body);
+        return Err(Bad::Payload);
     }
     let (front, rest) = bytes.split_at(256);
     let mut registers = [0; 32];

@@ -8,7 +8,7 @@ use std::alloc::{AllocError, AllocFailed};
 #[derive(Clone, Copy, Debug, PartialEq, Eq)]
 pub enum Bad {
     Memory,
-    Body,
+    Payload,
 }
 
 impl<T: Drop> From<AllocFailed<T>> for Bad {

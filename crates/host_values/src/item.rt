@@ -163,7 +163,7 @@ impl Item for Word {
         let (pid, rest) = word_at(rest)?;
         match schedule_word_of(kind, pid) {
             Some(word) => Ok((word, rest)),
-            None => Err(Bad::Body),
+            None => Err(Bad::Payload),
         }
     }
 }
@@ -227,7 +227,7 @@ impl Item for OutcomeFile {
         let (content, rest) = text_of(alloc, rest)?;
         match node_of(kind, content) {
             Some(node) => Ok((OutcomeFile { path, node }, rest)),
-            None => Err(Bad::Body),
+            None => Err(Bad::Payload),
         }
     }
 }

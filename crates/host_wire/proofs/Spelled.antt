@@ -9,17 +9,17 @@ use Rattle.lx_abi.specs.declared.ptrace.Ask.TheVariants.{Seize, SetOptions, GetR
 use Rattle.lx_abi.specs.declared.ptrace.Request.TheVariants.{Boot as Boot_with, Wait, To, Outcome as Ask_outcome}
 use Rattle.lx_abi.specs.declared.ptrace.Reply.TheVariants.{Done, Status as Status_is, Registers as Registers_are, Bytes as Bytes_are, Message as Message_is, Info as Info_is, Outcome as Outcome_is, Errno as Errno_is, OutOfTurns, Refused}
 use Rattle.host_values.specs.Spelling.{byte, word, double}
-use Rattle.host_frame.specs.declared.frame.Body.{Body}
-use Rattle.host_frame.specs.declared.frame.Body.TheVariants.{Request as Of_request, Reply as Of_reply}
+use Rattle.host_frame.specs.declared.frame.Payload.{Payload}
+use Rattle.host_frame.specs.declared.frame.Payload.TheVariants.{Request as Of_request, Reply as Of_reply}
 use Rattle.host_frame.specs.declared.frame.Frame.{Frame}
 use Rattle.host_frame.specs.declared.fault.WireFault.{WireFault}
-use Rattle.host_frame.specs.declared.fault.WireFault.TheVariants.{Length, Kind, Body as Body_fault}
+use Rattle.host_frame.specs.declared.fault.WireFault.TheVariants.{Length, Kind, Payload as Body_fault}
 use Rattle.host_frame.specs.Reading.{frame_at, told_length}
 use Rattle.host_frame.specs.Spelling.{message, content, spelled, FitsFrame, IsShort}
 use Rattle.host_wire.specs.Streams.{is_length, is_kind, Stream, Going, Failed, goes_on, Front, More, Bad, Whole, whole, front_of, stream_of, AreFrames, spelled_all}
 use Rattle.host_wire.proofs.Streams.{after, by_front, goes_on_prepended, prepended, parts_of, frames_join, told_front, whole_front}
 
-kind_is : (b : Body) → is_kind (message b).0 ≡ true
+kind_is : (b : Payload) → is_kind (message b).0 ≡ true
 kind_is (Of_request (Boot_with b limit words)) = refl
 kind_is (Of_request Wait) = refl
 kind_is (Of_request Ask_outcome) = refl
@@ -42,7 +42,7 @@ kind_is (Of_reply (Errno_is number)) = refl
 kind_is (Of_reply OutOfTurns) = refl
 kind_is (Of_reply (Refused fault)) = refl
 
-kind_byte : (b : Body) → byte (message b).0 ≡ (message b).0 ∷ []
+kind_byte : (b : Payload) → byte (message b).0 ≡ (message b).0 ∷ []
 kind_byte (Of_request (Boot_with b limit words)) = refl
 kind_byte (Of_request Wait) = refl
 kind_byte (Of_request Ask_outcome) = refl

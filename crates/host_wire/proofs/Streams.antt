@@ -7,7 +7,7 @@ use Rattle.std.proofs.lemmas.List.{drop_more, take_more, get_or-take, length-tak
 use Rattle.byteorder.specs.Numbers.{big_from-take}
 use Rattle.host_frame.specs.declared.frame.Frame.{Frame}
 use Rattle.host_frame.specs.declared.fault.WireFault.{WireFault}
-use Rattle.host_frame.specs.declared.fault.WireFault.TheVariants.{Length, Kind, Body, Memory}
+use Rattle.host_frame.specs.declared.fault.WireFault.TheVariants.{Length, Kind, Payload, Memory}
 use Rattle.host_frame.specs.Reading.{frame_at, told_length}
 use Rattle.host_wire.specs.Streams.{is_length, is_kind, Stream, Going, Failed, closed, settled, goes_on, Front, More, Bad, Whole, whole, front_of, IsUnfinished, stream_of, missing_of, FailsAs, GivesFront, Feeding, fed, as_stream, HasOne}
 
@@ -124,7 +124,7 @@ kind_fails fs bytes le told bad =
     decides fs bytes 12 q (omega (arith, le)) ∙ ap (λ (s : Stream). goes_on s (drop 13 bytes)) s ∙ failed_stays Kind (drop 13 bytes)
 
 closes : (fs : List Frame) (bytes : List ℕ) (o : Option Frame) (n : ℕ) → goes_on (closed fs o) (drop n bytes) ≡ after fs bytes (whole o n)
-closes fs bytes None n = failed_stays Body (drop n bytes)
+closes fs bytes None n = failed_stays Payload (drop n bytes)
 closes fs bytes (Some f) n = refl
 
 whole_comes : (fs : List Frame) (bytes : List ℕ) (n : ℕ) → 4 + told_length bytes ≡ n + 1 → n + 1 ≤ length bytes → is_length (told_length bytes) ≡ true → is_kind (get_or bytes 12 0) ≡ true
@@ -194,7 +194,7 @@ by_front fs bytes = elim (cases_lt (length bytes) 4) [
 pub refused : (fs : List Frame) (bytes : List ℕ) (fault : WireFault) (total : Stream) → FailsAs Bad fault (front_of bytes) → goes_on (Going fs []) bytes ≡ total → FailsAs Failed fault total
 refused fs bytes Length total e so_far = sym so_far ∙ by_front fs bytes ∙ ap (after fs bytes) e
 refused fs bytes Kind total e so_far = sym so_far ∙ by_front fs bytes ∙ ap (after fs bytes) e
-refused fs bytes Body total e so_far = sym so_far ∙ by_front fs bytes ∙ ap (after fs bytes) e
+refused fs bytes Payload total e so_far = sym so_far ∙ by_front fs bytes ∙ ap (after fs bytes) e
 refused fs bytes Memory total e so_far = tt
 
 pub one_frame : (fs : List Frame) (bytes : List ℕ) (f : Frame) (n : ℕ) (total : Stream) → front_of bytes ≡ Whole f n → goes_on (Going fs []) bytes ≡ total → goes_on (Going (fs ++ f ∷ []) []) (drop n bytes) ≡ total
@@ -263,7 +263,7 @@ fed_is ready under_way piece h =
 pub fed_fails : (ready : List Frame) (s t : Stream) (fault : WireFault) → t ≡ prepended ready s → FailsAs Failed fault s → FailsAs Failed fault t
 fed_fails ready s t Length e h = e ∙ ap (prepended ready) h
 fed_fails ready s t Kind e h = e ∙ ap (prepended ready) h
-fed_fails ready s t Body e h = e ∙ ap (prepended ready) h
+fed_fails ready s t Payload e h = e ∙ ap (prepended ready) h
 fed_fails ready s t Memory e h = tt
 
 -- ---- what is missing

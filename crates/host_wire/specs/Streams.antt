@@ -2,7 +2,7 @@
 use Rattle.std.specs.Prelude.{◌≡◌, ◌⊎◌, ℕ, ◌+◌, ◌-◌, List, [], ◌∷◌, ◌++◌, length, take, slice_index, Option, Some, None, Result, Ok, Err, Bool, ◌&&◌, ◌||◌, not, nat_lt, nat_le, ◌==◌, if◌then◌else◌}
 use Rattle.host_frame.specs.declared.frame.Frame.{Frame}
 use Rattle.host_frame.specs.declared.fault.WireFault.{WireFault}
-use Rattle.host_frame.specs.declared.fault.WireFault.TheVariants.{Length, Kind, Body, Memory}
+use Rattle.host_frame.specs.declared.fault.WireFault.TheVariants.{Length, Kind, Payload, Memory}
 use Rattle.host_frame.specs.Reading.{frame_at, told_length}
 use Rattle.host_frame.specs.Spelling.{FitsFrame, IsShort, spelled}
 
@@ -18,7 +18,7 @@ pub data Stream : Type 0 where
   Failed : WireFault → Stream
 
 abbrev pub closed : List Frame → Option Frame → Stream
-closed frames None = Failed Body
+closed frames None = Failed Payload
 closed frames (Some f) = Going (frames ++ f ∷ []) []
 
 -- what the newest byte of the frame under way decides: the fourth its length, the thirteenth its kind, the last its body
@@ -51,7 +51,7 @@ pub data Front : Type 0 where
   Whole : Frame → ℕ → Front
 
 abbrev pub whole : Option Frame → ℕ → Front
-whole None n = Bad Body
+whole None n = Bad Payload
 whole (Some f) n = Whole f n
 
 unfoldable pub front_of : List ℕ → Front
@@ -71,7 +71,7 @@ IsUnfinished bytes = front_of bytes ≡ More
 abbrev pub FailsAs : {X : Type 0} → (WireFault → X) → WireFault → X → Type 0
 FailsAs fails Length x = x ≡ fails Length
 FailsAs fails Kind x = x ≡ fails Kind
-FailsAs fails Body x = x ≡ fails Body
+FailsAs fails Payload x = x ≡ fails Payload
 FailsAs fails Memory x = Unit {0}
 
 abbrev pub GivesFront : Result (Option (Frame × ℕ)) WireFault → Front → Type 0

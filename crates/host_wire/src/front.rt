@@ -27,7 +27,7 @@ fn whole(alloc: Global, bytes: &[u8]) -> Result<Option<(Frame, usize)>, WireFaul
     match decode(alloc, bytes) {
         Ok(frame) => Ok(Some((frame, bytes.len()))),
         Err(WireFault::Memory) => Err(WireFault::Memory),
-        Err(WireFault::Length | WireFault::Kind | WireFault::Body) => Err(WireFault::Body),
+        Err(WireFault::Length | WireFault::Kind | WireFault::Payload) => Err(WireFault::Payload),
     }
 }
 

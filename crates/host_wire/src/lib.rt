@@ -11,5 +11,5 @@ pub mod receiving;
 pub use counted::Counted;
 pub use ends::{Broken, Sink, Source};
 pub use feed::Feed;
-pub use host_frame::{Body, Frame, WireFault, encode};
+pub use host_frame::{Frame, Payload, WireFault, encode};
 pub use receiving::{ReceiveFault, receive};

@@ -4,9 +4,9 @@ use Rattle.std.specs.FinMap as maps
 use Rattle.std.specs.FinMap.{FinMap}
 use Rattle.std.specs.Ordering.{nat_cmp}
 use Rattle.lx_abi.specs.declared.boot.GuestFile.{GuestFile}
-use Rattle.lx_model.specs.declared.stage.Own.{Own}
+use Rattle.lx_model.specs.declared.stage.Task.{Task}
 use Rattle.lx_model.specs.declared.stage.Stage.TheVariants.{Born}
-use Rattle.lx_model.specs.declared.stage.Own.TheVariants as own
+use Rattle.lx_model.specs.declared.stage.Task.TheVariants as task
 use Rattle.lx_sig.specs.Reactions.{no_signals}
 use Rattle.lx_open.specs.declared.description.Object.{Object}
 use Rattle.lx_open.specs.declared.description.Object.TheVariants.{Input, Console}
@@ -15,7 +15,7 @@ use Rattle.lx_open.specs.declared.fd_table.FdTable.{FdTable}
 use Rattle.lx_open.specs.Opens.{opened, no_fds}
 use Rattle.lx_proc.specs.declared.state.Entry.{Entry}
 use Rattle.lx_proc.specs.declared.state.Shared.{Shared}
-use Rattle.lx_proc.specs.declared.state.Body.{Body}
+use Rattle.lx_proc.specs.declared.state.UserState.{UserState}
 use Rattle.lx_proc.specs.declared.state.Life.TheVariants.{Alive}
 use Rattle.lx_exec.specs.Programs.{booted}
 use Rattle.lx_files.specs.Boots.{tree_of}
@@ -38,5 +38,5 @@ first_fds = opened (opened (opened no_fds 1 0 (reads Input) false) 1 1 (writes C
 abbrev pub first_shared : List GuestFile → List ℕ → Shared
 first_shared files input = record { tree = tree_of files; fds = first_fds; input = input; console = []; entries = maps.insert maps.empty 1 first_entry; ended = maps.empty }
 
-abbrev pub first_owns : List (List ℕ) → List (List ℕ) → FinMap nat_cmp (Own Body)
-first_owns argv env = maps.insert maps.empty 1 (own.Alive (booted argv env) Born)
+abbrev pub first_tasks : List (List ℕ) → List (List ℕ) → FinMap nat_cmp (Task UserState)
+first_tasks argv env = maps.insert maps.empty 1 (task.Alive (booted argv env) Born)

@@ -1,7 +1,7 @@
 //! The parts of a kernel's first state.
 
 ghost use Rattle.std.specs.Prelude.{◌≡◌, ◌≤◌, IfOk};
-ghost use Rattle.lx_boot.specs.First.{first_entry as entry_of_first, first_fds as fds_at_first, reads, writes, first_shared as shared_at_first, first_owns as owns_at_first};
+ghost use Rattle.lx_boot.specs.First.{first_entry as entry_of_first, first_fds as fds_at_first, reads, writes, first_shared as shared_at_first, first_tasks as tasks_at_first};
 ghost use Rattle.lx_exec.specs.Programs.{start_size};
 ghost use Rattle.lx_proc.specs.Starts.{start_limit};
 
@@ -9,9 +9,9 @@ use containers::{Bytes, Map};
 use lx_abi::GuestFile;
 use lx_exec::begin_stub;
 use lx_files::plant;
-use lx_model::{Own, Stage};
-use lx_open::{Description, FdTable, Object, Queue};
-use lx_proc::{Body, Entry, Life, Shared, Table, WaitWords};
+use lx_model::{Stage, Task};
+use lx_open::{Description, FdTable, Object, PipeBuffer};
+use lx_proc::{Entry, Life, Shared, Table, UserState, WaitWords};
 use lx_sig::Signals;
 use std::alloc::{AllocError, Global};
 
@@ -76,7 +76,7 @@ pub fn first_shared(alloc: Global, files: &[GuestFile], input: Bytes) -> Result<
     Ok(Shared {
         tree,
         fds,
-        input: Queue::from_vec(input.into_vec()),
+        input: PipeBuffer::from_vec(input.into_vec()),
         console: Bytes::new(alloc),
         entries,
         ended: WaitWords::new(alloc),
@@ -84,22 +84,22 @@ pub fn first_shared(alloc: Global, files: &[GuestFile], input: Bytes) -> Result<
 }
 
 /// The own part of process 1, alone.
-pub fn first_owns(
+pub fn first_tasks(
     alloc: Global,
     argv: &[Bytes],
     env: &[Bytes],
-) -> Result<Map<Own<Body>>, AllocError>
+) -> Result<Map<Task<UserState>>, AllocError>
     requires { start_size argv.now env.now ≤ start_limit }
-    ensures { IfOk result (λ o. o ≡ owns_at_first argv.now env.now) }
+    ensures { IfOk result (λ o. o ≡ tasks_at_first argv.now env.now) }
 {
-    let body = begin_stub(alloc, argv, env)?;
-    let mut owns = Map::new(alloc);
-    owns.insert(
+    let user = begin_stub(alloc, argv, env)?;
+    let mut tasks = Map::new(alloc);
+    tasks.insert(
         1,
-        Own::Alive {
-            body,
+        Task::Alive {
+            user,
             stage: Stage::Born,
         },
     )?;
-    Ok(owns)
+    Ok(tasks)
 }

@@ -7,4 +7,4 @@ mod limits;
 pub mod neighbours;
 
 pub use boots::{BootFault, boot_fault};
-pub use first::{first_owns, first_shared};
+pub use first::{first_shared, first_tasks};

@@ -15,7 +15,7 @@ use Rattle.lx_files.specs.Places.{place, path_of}
 use Rattle.lx_files.specs.declared.places.Place.{Place}
 use Rattle.lx_open.specs.Releases.{closed_on_exec}
 use Rattle.lx_proc.specs.declared.state.Shared.{Shared}
-use Rattle.lx_proc.specs.declared.state.Body.{Body}
+use Rattle.lx_proc.specs.declared.state.UserState.{UserState}
 use Rattle.lx_proc.specs.State.{changed, with_entries, with_held, with_signals, directory}
 use Rattle.lx_proc.specs.Answers.{Answers, argument, given, granted}
 use Rattle.lx_proc.specs.Starts.{start_limit}
@@ -47,19 +47,19 @@ runs_at s argv env at = runs_node s at.slashed (node_at s.tree (path_of at)) arg
 abbrev pub runs_path : Shared → ℕ → List ℕ → List (List ℕ) → List (List ℕ) → Answers
 runs_path s p path argv env = granted (place s.tree (directory s p) path) (runs_at s argv env)
 
-abbrev pub with_lists : Shared → ℕ → Call → Body → List ℕ → Answers
+abbrev pub with_lists : Shared → ℕ → Call → UserState → List ℕ → Answers
 with_lists s p call b path =
     given (list_at b.memory (argument call 1)) efault (λ argv.
     given (list_at b.memory (argument call 2)) efault (λ env.
     runs_path s p path argv env))
 
-abbrev pub with_path : Shared → ℕ → Call → Body → Text → Answers
+abbrev pub with_path : Shared → ℕ → Call → UserState → Text → Answers
 with_path s p call b Unreadable = Refused efault
 with_path s p call b TooLong = Refused enametoolong
 with_path s p call b (Whole path) = with_lists s p call b path
 
 -- the program that takes the place of the caller's
-unfoldable pub program : Shared → ℕ → Call → Body → Answers
+unfoldable pub program : Shared → ℕ → Call → UserState → Answers
 program s p call b = with_path s p call b (text_at b.memory path_limit (argument call 0))
 
 -- a new program has its process's descriptors, but those that close on exec, and its signals, without handlers
@@ -77,5 +77,5 @@ renews p (Bears s b child) = Bears s b child
 renews p Blocks = Blocks
 renews p (Ends w) = Ends w
 
-unfoldable pub execve : Shared → ℕ → Call → Body → Answers
+unfoldable pub execve : Shared → ℕ → Call → UserState → Answers
 execve s p call b = renews p (program s p call b)

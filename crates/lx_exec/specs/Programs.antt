@@ -9,7 +9,7 @@ use Rattle.elf_image.specs.declared.image.Rights as image_rights
 use Rattle.elf_image.specs.declared.image.Segment.{Segment}
 use Rattle.elf_image.specs.declared.image.Image.{Image}
 use Rattle.lx_proc.specs.declared.state.Heap.{Heap}
-use Rattle.lx_proc.specs.declared.state.Body.{Body}
+use Rattle.lx_proc.specs.declared.state.UserState.{UserState}
 use Rattle.lx_exec.specs.Pages.{pages_for}
 use Rattle.lx_exec.specs.declared.programs.Start.{Start}
 
@@ -103,7 +103,7 @@ first_heap image = record {
 }
 
 -- the body of a process that begins with a program
-abbrev pub started : Image → List (List ℕ) → List (List ℕ) → Body
+abbrev pub started : Image → List (List ℕ) → List (List ℕ) → UserState
 started image argv env = record {
   hart = record { pc = image.entry; registers = start_registers argv env };
   memory = start_memory image argv env;
@@ -119,7 +119,7 @@ pub record IsStart (s : Start) (argv env : List (List ℕ)) : Type 0 where
   pub sp_is : s.sp ≡ start_sp argv env
 
 -- the body of a process that begins with an image, over what is laid out for its stack
-abbrev pub begun : Image → Start → Body
+abbrev pub begun : Image → Start → UserState
 begun image s = record {
   hart = record { pc = image.entry; registers = set (replicate 32 0) 2 s.sp };
   memory = written (written (with_image bare_memory image) s.address s.strings.items) s.sp (doublewords s.vector.items);
@@ -139,5 +139,5 @@ stub_registers argv env =
     set (set (set (set (start_registers argv env) 10 (strings_start argv env)) 11 (start_sp argv env + 8)) 12 (start_sp argv env + 16 + 8 * length argv)) 17 221
 
 -- the body of process 1
-abbrev pub booted : List (List ℕ) → List (List ℕ) → Body
+abbrev pub booted : List (List ℕ) → List (List ℕ) → UserState
 booted argv env = record (started stub_image argv env) { hart = record { pc = 0x10000; registers = stub_registers argv env } }

@@ -4,7 +4,7 @@ ghost use Rattle.std.specs.Prelude.{◌≡◌, ℕ, List, IfOk, OnErr};
 ghost use Rattle.elf_image.specs.Images.{IsLaidOut};
 ghost use Rattle.lx_files.specs.Trees.{node_at};
 ghost use Rattle.lx_proc.specs.declared.state.Shared.{Shared};
-ghost use Rattle.lx_proc.specs.declared.state.Body.{Body};
+ghost use Rattle.lx_proc.specs.declared.state.UserState.{UserState};
 ghost use Rattle.lx_proc.specs.State.{Entries, changed, with_signals, with_held};
 ghost use Rattle.lx_proc.specs.Answers.{answer_of, Kept};
 ghost use Rattle.lx_proc.specs.Read.{Reads};
@@ -19,7 +19,7 @@ use lx_abi::{Call, Errno, Node};
 use lx_files::Place;
 use lx_files::places::{locate, path};
 use lx_open::release::close_on_exec;
-use lx_proc::{Body, Reply, Shared, Table, Text, Words, directory, list_at, text_at};
+use lx_proc::{CallReply, Shared, Table, Text, UserState, Words, directory, list_at, text_at};
 use lx_sig::reset_for_exec;
 use std::alloc::{AllocError, Global};
 
@@ -32,24 +32,24 @@ fn begin(
     image: &Image,
     argv: &Words,
     env: &Words,
-    body: &mut Body,
-) -> Result<Reply, AllocError>
+    user: &mut UserState,
+) -> Result<CallReply, AllocError>
     requires { IsLaidOut image.now }
     ensures answer { IfOk result (λ r. (s : Shared) (a e : List (List ℕ)) → Reads argv.now (Some a)
-        → Reads env.now (Some e) → answer_of r s body.new ≡ begins s image.now a e) }
-    ensures kept { IfOk result (λ r. (s : Shared) → Kept r s body.old s body.new) }
+        → Reads env.now (Some e) → answer_of r s user.new ≡ begins s image.now a e) }
+    ensures kept { IfOk result (λ r. (s : Shared) → Kept r s user.old s user.new) }
 {
     let Words::Whole(argv) = argv else {
-        return Ok(Reply::Refused(Errno::E2BIG));
+        return Ok(CallReply::Refused(Errno::E2BIG));
     };
     let Words::Whole(env) = env else {
-        return Ok(Reply::Refused(Errno::E2BIG));
+        return Ok(CallReply::Refused(Errno::E2BIG));
     };
     if !start_fits(argv, env) {
-        return Ok(Reply::Refused(Errno::E2BIG));
+        return Ok(CallReply::Refused(Errno::E2BIG));
     }
-    *body = begin_program(alloc, image, argv, env)?;
-    Ok(Reply::Execed)
+    *user = begin_program(alloc, image, argv, env)?;
+    Ok(CallReply::Execed)
 }
 
 /// A file's program takes the place of the caller's.
@@ -58,16 +58,16 @@ fn run(
     content: &[u8],
     argv: &Words,
     env: &Words,
-    body: &mut Body,
-) -> Result<Reply, AllocError>
+    user: &mut UserState,
+) -> Result<CallReply, AllocError>
     ensures answer { IfOk result (λ r. (s : Shared) (a e : List (List ℕ)) → Reads argv.now (Some a)
-        → Reads env.now (Some e) → answer_of r s body.new ≡ runs s content.now a e) }
-    ensures kept { IfOk result (λ r. (s : Shared) → Kept r s body.old s body.new) }
+        → Reads env.now (Some e) → answer_of r s user.new ≡ runs s content.now a e) }
+    ensures kept { IfOk result (λ r. (s : Shared) → Kept r s user.old s user.new) }
 {
     match elf_image::read(alloc, content) {
         Err(ElfFault::Memory) => Err(AllocError),
-        Err(_) => Ok(Reply::Refused(Errno::ENOEXEC)),
-        Ok(image) => begin(alloc, &image, argv, env, body),
+        Err(_) => Ok(CallReply::Refused(Errno::ENOEXEC)),
+        Ok(image) => begin(alloc, &image, argv, env, user),
     }
 }
 
@@ -77,16 +77,16 @@ fn run_file(
     content: &[u8],
     argv: &Words,
     env: &Words,
-    body: &mut Body,
-) -> Result<Reply, AllocError>
+    user: &mut UserState,
+) -> Result<CallReply, AllocError>
     ensures answer { IfOk result (λ r. (s : Shared) (a e : List (List ℕ)) → Reads argv.now (Some a)
-        → Reads env.now (Some e) → answer_of r s body.new ≡ runs_file s slashed content.now a e) }
-    ensures kept { IfOk result (λ r. (s : Shared) → Kept r s body.old s body.new) }
+        → Reads env.now (Some e) → answer_of r s user.new ≡ runs_file s slashed content.now a e) }
+    ensures kept { IfOk result (λ r. (s : Shared) → Kept r s user.old s user.new) }
 {
     if slashed {
-        return Ok(Reply::Refused(Errno::ENOTDIR));
+        return Ok(CallReply::Refused(Errno::ENOTDIR));
     }
-    run(alloc, content, argv, env, body)
+    run(alloc, content, argv, env, user)
 }
 
 /// What stands at a path is run.
@@ -97,16 +97,16 @@ fn run_node(
     path: &[u8],
     argv: &Words,
     env: &Words,
-    body: &mut Body,
-) -> Result<Reply, AllocError>
+    user: &mut UserState,
+) -> Result<CallReply, AllocError>
     ensures answer { IfOk result (λ r. (a e : List (List ℕ)) → Reads argv.now (Some a) → Reads env.now (Some e)
-        → answer_of r shared.now body.new ≡ runs_node shared.now slashed (node_at shared.now.tree path.now) a e) }
-    ensures kept { IfOk result (λ r. Kept r shared.now body.old shared.now body.new) }
+        → answer_of r shared.now user.new ≡ runs_node shared.now slashed (node_at shared.now.tree path.now) a e) }
+    ensures kept { IfOk result (λ r. Kept r shared.now user.old shared.now user.new) }
 {
     match shared.tree.find(path) {
-        None => Ok(Reply::Refused(Errno::ENOENT)),
-        Some(Node::Directory) => Ok(Reply::Refused(Errno::EACCES)),
-        Some(Node::File(content)) => run_file(alloc, slashed, content.as_slice(), argv, env, body),
+        None => Ok(CallReply::Refused(Errno::ENOENT)),
+        Some(Node::Directory) => Ok(CallReply::Refused(Errno::EACCES)),
+        Some(Node::File(content)) => run_file(alloc, slashed, content.as_slice(), argv, env, user),
     }
 }
 
@@ -116,11 +116,11 @@ fn run_at(
     place: &Place,
     argv: &Words,
     env: &Words,
-    body: &mut Body,
-) -> Result<Reply, AllocError>
+    user: &mut UserState,
+) -> Result<CallReply, AllocError>
     ensures answer { IfOk result (λ r. (a e : List (List ℕ)) → Reads argv.now (Some a) → Reads env.now (Some e)
-        → answer_of r shared.now body.new ≡ place_run shared.now a e place.now) }
-    ensures kept { IfOk result (λ r. Kept r shared.now body.old shared.now body.new) }
+        → answer_of r shared.now user.new ≡ place_run shared.now a e place.now) }
+    ensures kept { IfOk result (λ r. Kept r shared.now user.old shared.now user.new) }
 {
     let path = path(alloc, place)?;
     run_node(
@@ -130,7 +130,7 @@ fn run_at(
         path.as_slice(),
         argv,
         env,
-        body,
+        user,
     )
 }
 
@@ -142,15 +142,15 @@ fn run_path(
     path: &[u8],
     argv: &Words,
     env: &Words,
-    body: &mut Body,
-) -> Result<Reply, AllocError>
+    user: &mut UserState,
+) -> Result<CallReply, AllocError>
     ensures answer { IfOk result (λ r. (a e : List (List ℕ)) → Reads argv.now (Some a) → Reads env.now (Some e)
-        → answer_of r shared.now body.new ≡ path_run shared.now pid path.now a e) }
-    ensures kept { IfOk result (λ r. Kept r shared.now body.old shared.now body.new) }
+        → answer_of r shared.now user.new ≡ path_run shared.now pid path.now a e) }
+    ensures kept { IfOk result (λ r. Kept r shared.now user.old shared.now user.new) }
 {
     match locate(alloc, &shared.tree, directory(shared, pid), path)? {
-        Err(error) => Ok(Reply::Refused(error)),
-        Ok(place) => run_at(alloc, shared, &place, argv, env, body),
+        Err(error) => Ok(CallReply::Refused(error)),
+        Ok(place) => run_at(alloc, shared, &place, argv, env, user),
     }
 }
 
@@ -161,26 +161,26 @@ fn run_program(
     shared: &Shared,
     pid: u32,
     call: &Call,
-    body: &mut Body,
-) -> Result<Reply, AllocError>
+    user: &mut UserState,
+) -> Result<CallReply, AllocError>
     ensures answer { IfOk result
-        (λ r. answer_of r shared.now body.new ≡ program_of shared.now pid call.now body.old) }
-    ensures kept { IfOk result (λ r. Kept r shared.now body.old shared.now body.new) }
+        (λ r. answer_of r shared.now user.new ≡ program_of shared.now pid call.now user.old) }
+    ensures kept { IfOk result (λ r. Kept r shared.now user.old shared.now user.new) }
 {
-    let path = match text_at(alloc, &mut body.memory, call.arguments[0], PATH_LIMIT)? {
+    let path = match text_at(alloc, &mut user.memory, call.arguments[0], PATH_LIMIT)? {
         Text::Whole(path) => path,
-        Text::TooLong => return Ok(Reply::Refused(Errno::ENAMETOOLONG)),
-        Text::Unreadable => return Ok(Reply::Refused(Errno::EFAULT)),
+        Text::TooLong => return Ok(CallReply::Refused(Errno::ENAMETOOLONG)),
+        Text::Unreadable => return Ok(CallReply::Refused(Errno::EFAULT)),
     };
-    let argv = list_at(alloc, &mut body.memory, call.arguments[1])?;
+    let argv = list_at(alloc, &mut user.memory, call.arguments[1])?;
     if argv.is_unreadable() {
-        return Ok(Reply::Refused(Errno::EFAULT));
+        return Ok(CallReply::Refused(Errno::EFAULT));
     }
-    let env = list_at(alloc, &mut body.memory, call.arguments[2])?;
+    let env = list_at(alloc, &mut user.memory, call.arguments[2])?;
     if env.is_unreadable() {
-        return Ok(Reply::Refused(Errno::EFAULT));
+        return Ok(CallReply::Refused(Errno::EFAULT));
     }
-    run_path(alloc, shared, pid, path.as_slice(), &argv, &env, body)
+    run_path(alloc, shared, pid, path.as_slice(), &argv, &env, user)
 }
 
 /// Handlers don't outlive execve.
@@ -209,14 +209,14 @@ fn renew(shared: &mut Shared, pid: u32)
 }
 
 /// Where a new program stands, its process's descriptors and signals are as it wants them.
-fn renew_after(shared: &mut Shared, pid: u32, reply: Reply) -> Reply
-    ensures answer { (b : Body) → answer_of result shared.new b ≡ renews pid (answer_of reply shared.old b) }
-    ensures kept { (b b' : Body) → Kept reply shared.old b shared.old b' → Kept result shared.old b shared.new b' }
+fn renew_after(shared: &mut Shared, pid: u32, reply: CallReply) -> CallReply
+    ensures answer { (b : UserState) → answer_of result shared.new b ≡ renews pid (answer_of reply shared.old b) }
+    ensures kept { (b b' : UserState) → Kept reply shared.old b shared.old b' → Kept result shared.old b shared.new b' }
 {
     match reply {
-        Reply::Execed => {
+        CallReply::Execed => {
             renew(shared, pid);
-            Reply::Execed
+            CallReply::Execed
         }
         other => other,
     }
@@ -230,12 +230,12 @@ pub fn execve(
     shared: &mut Shared,
     pid: u32,
     call: &Call,
-    body: &mut Body,
-) -> Result<Reply, AllocError>
-    ensures answer { IfOk result (λ r. answer_of r shared.new body.new ≡ meaning shared.old pid call.now body.old) }
-    ensures kept { IfOk result (λ r. Kept r shared.old body.old shared.new body.new) }
+    user: &mut UserState,
+) -> Result<CallReply, AllocError>
+    ensures answer { IfOk result (λ r. answer_of r shared.new user.new ≡ meaning shared.old pid call.now user.old) }
+    ensures kept { IfOk result (λ r. Kept r shared.old user.old shared.new user.new) }
     ensures same { OnErr result (shared.new ≡ shared.old) }
 {
-    let reply = run_program(alloc, shared, pid, call, body)?;
+    let reply = run_program(alloc, shared, pid, call, user)?;
     Ok(renew_after(shared, pid, reply))
 }

@@ -17,7 +17,7 @@ ghost use Rattle.lx_exec.specs.Programs.{highest_end as highest_end_of, first_he
 use crate::pages::{PAGE, pages_for};
 use containers::Bytes;
 use elf_image::{Image, Rights as SegmentRights, Segment, Segments};
-use lx_proc::{Body, Heap, START_LIMIT, WORD_COST};
+use lx_proc::{Heap, START_LIMIT, UserState, WORD_COST};
 use rv_hart::Hart;
 use rv_mem::{MemFault, Rights, Space};
 use std::alloc::{AllocError, Global};
@@ -273,7 +273,7 @@ fn empty_heap(image: &Image) -> Heap
 }
 
 /// The body of a process that begins with an image, over what is laid out for its stack.
-fn begin(alloc: Global, image: &Image, start: &Start) -> Result<Body, AllocError>
+fn begin(alloc: Global, image: &Image, start: &Start) -> Result<UserState, AllocError>
     requires laid_out { IsLaidOut image.now }
     requires on_stack { IsOnStack start.now }
     ensures { IfOk result (λ b. b ≡ begun image.now start.now) }
@@ -285,7 +285,7 @@ fn begin(alloc: Global, image: &Image, start: &Start) -> Result<Body, AllocError
     load(&mut memory, start.sp, vector.as_slice())?;
     let mut hart = Hart::new(image.entry);
     hart.registers[2] = start.sp;
-    Ok(Body {
+    Ok(UserState {
         hart,
         memory,
         heap: empty_heap(image),
@@ -300,7 +300,7 @@ pub fn begin_program(
     image: &Image,
     argv: &[Bytes],
     env: &[Bytes],
-) -> Result<Body, AllocError>
+) -> Result<UserState, AllocError>
     requires fits { start_size argv.now env.now ≤ start_limit }
     requires laid_out { IsLaidOut image.now }
     ensures { IfOk result (λ b. b ≡ started image.now argv.now env.now) }
@@ -364,16 +364,16 @@ fn stub(alloc: Global) -> Result<Image, AllocError>
 
 /// The body of process 1.
 #[tactic(auto, unfolding(crate::specs::Programs::start_memory))]
-pub fn begin_stub(alloc: Global, argv: &[Bytes], env: &[Bytes]) -> Result<Body, AllocError>
+pub fn begin_stub(alloc: Global, argv: &[Bytes], env: &[Bytes]) -> Result<UserState, AllocError>
     requires { start_size argv.now env.now ≤ start_limit }
     ensures { IfOk result (λ b. b ≡ booted argv.now env.now) }
 {
     let image = stub(alloc)?;
     let start = lay_out(alloc, argv, env)?;
-    let mut body = begin(alloc, &image, &start)?;
-    body.hart.registers[10] = start.address;
-    body.hart.registers[11] = start.sp + 8;
-    body.hart.registers[12] = start.sp + 16 + 8 * argv.len() as u64;
-    body.hart.registers[17] = EXECVE;
-    Ok(body)
+    let mut user = begin(alloc, &image, &start)?;
+    user.hart.registers[10] = start.address;
+    user.hart.registers[11] = start.sp + 8;
+    user.hart.registers[12] = start.sp + 16 + 8 * argv.len() as u64;
+    user.hart.registers[17] = EXECVE;
+    Ok(user)
 }

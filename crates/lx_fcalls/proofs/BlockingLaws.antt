@@ -16,7 +16,7 @@ use Rattle.lx_files.specs.Contents.{overwritten, length_after}
 use Rattle.lx_files.specs.Trees.{content, with_content}
 use Rattle.lx_open.specs.Opens.{with_offset, slot, description, held, has_readers}
 use Rattle.lx_proc.specs.declared.state.Shared.{Shared}
-use Rattle.lx_proc.specs.declared.state.Body.{Body}
+use Rattle.lx_proc.specs.declared.state.UserState.{UserState}
 use Rattle.lx_proc.specs.State.{with_memory}
 use Rattle.lx_proc.specs.Answers.{Answers, argument, low_argument, unless, given, gives}
 use Rattle.lx_fcalls.specs.Moving.{has_space, most_moved, pipe_size}
@@ -30,7 +30,7 @@ pub unless_never : (h : Bool) (e : ℕ) (a : Answers) → is_blocked a ≡ false
 unless_never true e a never = never
 unless_never false e a never = refl
 
-pub gives_never : (s : Shared) (b : Body) (at : ℕ) (bytes : List ℕ) (x : ℕ) → is_blocked (gives s b at bytes x) ≡ false
+pub gives_never : (s : Shared) (b : UserState) (at : ℕ) (bytes : List ℕ) (x : ℕ) → is_blocked (gives s b at bytes x) ≡ false
 gives_never s b at bytes x = go (is_some (first_fault access.Write b.memory at (length bytes)))
   where
     go : (f : Bool) → is_blocked (cond f (Refused efault) (Returns s (with_memory b (written b.memory at bytes)) x)) ≡ false
@@ -41,7 +41,7 @@ or_blocks : (w : Bool) (a : Answers) → is_blocked a ≡ false → is_blocked (
 or_blocks true a never = refl
 or_blocks false a never = never
 
-reading : (s : Shared) (b : Body) (named : Slot) (d : Description) (at n : ℕ) (o : Object) → is_blocked (reads_object s b named d at n o) ≡ reading_waits s.fds n o
+reading : (s : Shared) (b : UserState) (named : Slot) (d : Description) (at n : ℕ) (o : Object) → is_blocked (reads_object s b named d at n o) ≡ reading_waits s.fds n o
 reading s b named d at n Input = gives_never _ b at _ _
 reading s b named d at n Console = refl
 reading s b named d at n (ReadEnd pipe) = or_blocks (waits s.fds pipe n) _ (gives_never _ b at _ _)
@@ -52,7 +52,7 @@ unless_both : (h : Bool) (e : ℕ) (a : Answers) (w : Bool) → is_blocked a ≡
 unless_both true e a w is = is
 unless_both false e a w is = refl
 
-pub read_blocks : (s : Shared) (p : ℕ) (call : Call) (b : Body) → is_blocked (read s p call b) ≡ read_would_block s p call
+pub read_blocks : (s : Shared) (p : ℕ) (call : Call) (b : UserState) → is_blocked (read s p call b) ≡ read_would_block s p call
 unfolding read read_would_block
 read_blocks s p call b = on_slot (slot s.fds p (low_argument call 0))
   where
@@ -70,17 +70,17 @@ read_blocks s p call b = on_slot (slot s.fds p (low_argument call 0))
     on_slot None = refl
     on_slot (Some named) = on_description named (description s.fds named.description)
 
-console_never : (s : Shared) (b : Body) (bytes : List ℕ) → is_blocked (writes_console s b bytes) ≡ false
+console_never : (s : Shared) (b : UserState) (bytes : List ℕ) → is_blocked (writes_console s b bytes) ≡ false
 console_never s b bytes = unless_never (has_space s 0 (length bytes)) enospc (Returns (record s { console = s.console ++ bytes }) b (length bytes)) refl
 
-file_never : (s : Shared) (b : Body) (named : Slot) (node at : ℕ) (bytes : List ℕ) → is_blocked (writes_at s b named node at bytes) ≡ false
+file_never : (s : Shared) (b : UserState) (named : Slot) (node at : ℕ) (bytes : List ℕ) → is_blocked (writes_at s b named node at bytes) ≡ false
 file_never s b named node at bytes =
     let old = length (content s.tree node) in
     let room = has_space s old (length_after old at (length bytes)) in
     let answer : Answers = Returns (record s { tree = with_content s.tree node (λ old. overwritten old at bytes); fds = with_offset s.fds named.description (at + length bytes) }) b (length bytes) in
     unless_never (nat_le (at + length bytes) largest_file) efbig (unless room enospc answer) (unless_never room enospc answer refl)
 
-whole_never : (s : Shared) (b : Body) (named : Slot) (d : Description) (node : ℕ) (bytes : List ℕ) → is_blocked (writes_file s b named d node bytes) ≡ false
+whole_never : (s : Shared) (b : UserState) (named : Slot) (d : Description) (node : ℕ) (bytes : List ℕ) → is_blocked (writes_file s b named d node bytes) ≡ false
 whole_never s b named d node bytes = go (length bytes == 0)
   where
     go : (none : Bool) → is_blocked (cond none (Returns s b 0) (writes_at s b named node (start_of s d node) bytes)) ≡ false
@@ -92,7 +92,7 @@ in_pipe true true broken put a b = refl
 in_pipe true false broken put a b = b
 in_pipe false full broken put a b = a
 
-writing : (s : Shared) (p : ℕ) (b : Body) (named : Slot) (d : Description) (bytes : List ℕ) (n : ℕ) (o : Object) → length bytes ≡ n → is_blocked (writes_object s p b named d bytes o) ≡ writing_waits s.fds n o
+writing : (s : Shared) (p : ℕ) (b : UserState) (named : Slot) (d : Description) (bytes : List ℕ) (n : ℕ) (o : Object) → length bytes ≡ n → is_blocked (writes_object s p b named d bytes o) ≡ writing_waits s.fds n o
 writing s p b named d bytes n Input is = refl
 writing s p b named d bytes n Console is = console_never s b bytes
 writing s p b named d bytes n (ReadEnd pipe) is = refl
@@ -105,7 +105,7 @@ faulting : (f : Option MemFault) (a : Answers) (w : Bool) → is_blocked a ≡ w
 faulting None a w is = is
 faulting (Some f) a w is = refl
 
-pub write_blocks : (s : Shared) (p : ℕ) (call : Call) (b : Body) → is_blocked (write s p call b) ≡ write_would_block s p call b
+pub write_blocks : (s : Shared) (p : ℕ) (call : Call) (b : UserState) → is_blocked (write s p call b) ≡ write_would_block s p call b
 unfolding write write_would_block
 write_blocks s p call b = on_slot (slot s.fds p (low_argument call 0))
   where

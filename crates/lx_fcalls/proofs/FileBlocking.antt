@@ -12,15 +12,15 @@ use Rattle.lx_files.specs.Limits.{largest_file}
 use Rattle.lx_files.specs.Trees.{content, has_room, is_empty}
 use Rattle.lx_files.specs.Places.{path_of, seen}
 use Rattle.lx_files.specs.declared.places.Place.{Place}
-use Rattle.lx_files.specs.declared.places.Sight.{Sight}
-use Rattle.lx_files.specs.declared.places.Sight.TheVariants.{Absent, IsFile, IsDirectory, NotDirectory}
+use Rattle.lx_files.specs.declared.places.Lookup.{Lookup}
+use Rattle.lx_files.specs.declared.places.Lookup.TheVariants.{Absent, IsFile, IsDirectory, NotDirectory}
 use Rattle.lx_open.specs.Opens as opens
 use Rattle.lx_open.specs.declared.description.Object.{Object}
 use Rattle.lx_open.specs.declared.description.Object.TheVariants.{Input, Console, ReadEnd, WriteEnd, Opened}
 use Rattle.lx_open.specs.declared.description.Description.{Description}
 use Rattle.lx_open.specs.declared.description.Slot.{Slot}
 use Rattle.lx_proc.specs.declared.state.Shared.{Shared}
-use Rattle.lx_proc.specs.declared.state.Body.{Body}
+use Rattle.lx_proc.specs.declared.state.UserState.{UserState}
 use Rattle.lx_open.specs.declared.fd_table.FdTable.{FdTable}
 use Rattle.std.specs.Int.{w32, to_le_bytes}
 use Rattle.lx_proc.specs.State.{directory, with_fds}
@@ -56,7 +56,7 @@ granted_never : {A : Type 0} (r : Result A ℕ) (f : A → Answers) → ((x : A)
 granted_never (Err e) f never = refl
 granted_never (Ok x) f never = never x
 
-module _ (s : Shared) (p : ℕ) (call : Call) (b : Body) where
+module _ (s : Shared) (p : ℕ) (call : Call) (b : UserState) where
   close_never : is_blocked (close s p call b) ≡ false
   unfolding close
   close_never = given_never (opens.slot s.fds p (low_argument call 0)) ebadf _ (λ named. refl)
@@ -107,7 +107,7 @@ module _ (s : Shared) (p : ℕ) (call : Call) (b : Body) where
       unless_never (nat_lt (argument call 1) (2 ^ 63)) einval _ (given_never (opens.slot s.fds p (low_argument call 0)) ebadf _ (λ named. given_never (opens.description s.fds named.description) ebadf _ (λ d.
       unless_never d.may_write einval _ (truncates_never (argument call 1) d.object))))
 
-  makes_never : (path : List ℕ) (sight : Sight) → is_blocked (makes s b path sight) ≡ false
+  makes_never : (path : List ℕ) (sight : Lookup) → is_blocked (makes s b path sight) ≡ false
   makes_never path Absent = unless_never (has_room s.tree) enospc _ refl
   makes_never path IsFile = refl
   makes_never path IsDirectory = refl
@@ -117,13 +117,13 @@ module _ (s : Shared) (p : ℕ) (call : Call) (b : Body) where
   unfolding mkdirat
   mkdirat_never = granted_never (place_at s p b (low_argument call 0) (argument call 1)) _ (λ place. makes_never (path_of place) (seen s.tree place))
 
-  removes_file_never : (path : List ℕ) (sight : Sight) → is_blocked (removes_file s b path sight) ≡ false
+  removes_file_never : (path : List ℕ) (sight : Lookup) → is_blocked (removes_file s b path sight) ≡ false
   removes_file_never path Absent = refl
   removes_file_never path IsFile = refl
   removes_file_never path IsDirectory = refl
   removes_file_never path NotDirectory = refl
 
-  removes_directory_never : (path : List ℕ) (sight : Sight) → is_blocked (removes_directory s b path sight) ≡ false
+  removes_directory_never : (path : List ℕ) (sight : Lookup) → is_blocked (removes_directory s b path sight) ≡ false
   removes_directory_never path Absent = refl
   removes_directory_never path IsFile = refl
   removes_directory_never path NotDirectory = refl
@@ -142,7 +142,7 @@ module _ (s : Shared) (p : ℕ) (call : Call) (b : Body) where
   unlinkat_never =
       unless_never (is_within (argument call 2) at_removedir) einval _ (granted_never (place_at s p b (low_argument call 0) (argument call 1)) _ (λ place. unlinks_never (has (argument call 2) at_removedir) place))
 
-  goes_never : (path : List ℕ) (sight : Sight) → is_blocked (goes_to s p b path sight) ≡ false
+  goes_never : (path : List ℕ) (sight : Lookup) → is_blocked (goes_to s p b path sight) ≡ false
   goes_never path Absent = refl
   goes_never path IsFile = refl
   goes_never path NotDirectory = refl
@@ -156,7 +156,7 @@ module _ (s : Shared) (p : ℕ) (call : Call) (b : Body) where
   unfolding getcwd
   getcwd_never = unless_never (nat_le (length (shown (directory s p))) (argument call 1)) erange _ (gives_never s b _ _ _)
 
-  opens_never : (flags : ℕ) (place : Place) (sight : Sight) → is_blocked (opens_seen s p b flags place sight) ≡ false
+  opens_never : (flags : ℕ) (place : Place) (sight : Lookup) → is_blocked (opens_seen s p b flags place sight) ≡ false
   opens_never flags place Absent =
       unless_never (has flags o_creat) enoent _ (unless_never (not place.slashed) eisdir _ (given_never (opens.free s.fds.slots p) emfile _ (λ fd. unless_never (has_room s.tree) enospc _ refl)))
   opens_never flags place IsFile =
@@ -181,7 +181,7 @@ module _ (s : Shared) (p : ℕ) (call : Call) (b : Body) where
   unfolding fstat
   fstat_never = given_never (opens.slot s.fds p (low_argument call 0)) ebadf _ (λ named. given_never (opens.description s.fds named.description) ebadf _ (λ d. tells_object_never (argument call 1) d.object))
 
-  tells_never : (at : ℕ) (path : List ℕ) (sight : Sight) → is_blocked (tells s b at path sight) ≡ false
+  tells_never : (at : ℕ) (path : List ℕ) (sight : Lookup) → is_blocked (tells s b at path sight) ≡ false
   tells_never at path Absent = refl
   tells_never at path IsFile = gives_never s b _ _ _
   tells_never at path IsDirectory = gives_never s b _ _ _

@@ -12,7 +12,7 @@ use Rattle.lx_open.specs.declared.description.Slot.{Slot}
 use Rattle.lx_proc.specs.Answers.{Answers, given, granted}
 use Rattle.lx_proc.specs.State.{directory}
 use Rattle.lx_proc.specs.Texts.{Text, Whole, TooLong, Unreadable, text_at}
-use Rattle.lx_proc.specs.declared.state.Body.{Body}
+use Rattle.lx_proc.specs.declared.state.UserState.{UserState}
 use Rattle.lx_proc.specs.declared.state.Shared.{Shared}
 use Rattle.lx_fcalls.specs.Flags.{at_fdcwd}
 
@@ -35,8 +35,8 @@ abbrev pub place_from : Shared → ℕ → ℕ → List ℕ → Result Place ℕ
 place_from s p dirfd text = if may_begin dirfd text then place s.tree (directory s p) text else Err ebadf
 
 -- the place of a path argument
-abbrev pub place_at : Shared → ℕ → Body → ℕ → ℕ → Result Place ℕ
+abbrev pub place_at : Shared → ℕ → UserState → ℕ → ℕ → Result Place ℕ
 place_at s p b dirfd at = and_then (place_from s p dirfd) (read_text (text_at b.memory path_limit at))
 
-abbrev pub at_place : Shared → ℕ → Body → ℕ → ℕ → (Place → Answers) → Answers
+abbrev pub at_place : Shared → ℕ → UserState → ℕ → ℕ → (Place → Answers) → Answers
 at_place s p b dirfd at answer = granted (place_at s p b dirfd at) answer

@@ -10,7 +10,7 @@ use Rattle.lx_open.specs.declared.description.Object.{Object}
 use Rattle.lx_open.specs.declared.description.Object.TheVariants.{Input, Console, ReadEnd, WriteEnd, Opened}
 use Rattle.lx_open.specs.declared.fd_table.FdTable.{FdTable}
 use Rattle.lx_proc.specs.Answers.{argument, low_argument}
-use Rattle.lx_proc.specs.declared.state.Body.{Body}
+use Rattle.lx_proc.specs.declared.state.UserState.{UserState}
 use Rattle.lx_proc.specs.declared.state.Shared.{Shared}
 use Rattle.lx_fcalls.specs.Moving.{most_moved, pipe_size}
 use Rattle.lx_fcalls.specs.Read.{waits}
@@ -51,13 +51,13 @@ writing_waits fds n (Opened node) = false
 abbrev pub write_waits : FdTable → Memory → ℕ → ℕ → Description → Bool
 write_waits fds m at n d = d.may_write && (is_none (first_fault access.Read m at n) && writing_waits fds n d.object)
 
-unfoldable pub write_would_block : Shared → ℕ → Call → Body → Bool
+unfoldable pub write_would_block : Shared → ℕ → Call → UserState → Bool
 write_would_block s p call b =
     open_passes s.fds p (low_argument call 0)
     (write_waits s.fds b.memory (argument call 1) (min (argument call 2) most_moved))
 
 -- no other call on files blocks
-unfoldable pub would_block : Shared → ℕ → Call → Body → Bool
+unfoldable pub would_block : Shared → ℕ → Call → UserState → Bool
 would_block s p call b =
     if call.number == 63 then read_would_block s p call
     else if call.number == 64 then write_would_block s p call b

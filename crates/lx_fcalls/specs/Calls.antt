@@ -2,7 +2,7 @@
 use Rattle.std.specs.Prelude.{ℕ, ◌==◌, Option, Some, None, if◌then◌else◌}
 use Rattle.lx_abi.specs.declared.log.Call.{Call}
 use Rattle.lx_proc.specs.Answers.{Answers}
-use Rattle.lx_proc.specs.declared.state.Body.{Body}
+use Rattle.lx_proc.specs.declared.state.UserState.{UserState}
 use Rattle.lx_proc.specs.declared.state.Shared.{Shared}
 use Rattle.lx_fcalls.specs.Chdir.{chdir}
 use Rattle.lx_fcalls.specs.Close.{close}
@@ -20,7 +20,7 @@ use Rattle.lx_fcalls.specs.Read.{read}
 use Rattle.lx_fcalls.specs.Unlinkat.{unlinkat}
 use Rattle.lx_fcalls.specs.Write.{write}
 
-unfoldable pub file_call : Shared → ℕ → Call → Body → Option Answers
+unfoldable pub file_call : Shared → ℕ → Call → UserState → Option Answers
 file_call s p call b =
     if call.number == 17 then Some (getcwd s p call b)
     else if call.number == 23 then Some (dup s p call b)

@@ -8,10 +8,10 @@ use Rattle.lx_open.specs.Opens.{with_slot}
 use Rattle.lx_open.specs.Opens as opens
 use Rattle.lx_proc.specs.Answers.{Answers, low_argument, given}
 use Rattle.lx_proc.specs.State.{with_fds}
-use Rattle.lx_proc.specs.declared.state.Body.{Body}
+use Rattle.lx_proc.specs.declared.state.UserState.{UserState}
 use Rattle.lx_proc.specs.declared.state.Shared.{Shared}
 
-unfoldable pub dup : Shared → ℕ → Call → Body → Answers
+unfoldable pub dup : Shared → ℕ → Call → UserState → Answers
 dup s p call b =
     given (opens.slot s.fds p (low_argument call 0)) ebadf (λ named.
     given (opens.free s.fds.slots p) emfile (λ fd.

@@ -7,7 +7,7 @@ use Rattle.lx_open.specs.Opens.{description, most_fds, with_slot}
 use Rattle.lx_open.specs.Releases.{Held, closed}
 use Rattle.lx_open.specs.Opens as opens
 use Rattle.lx_proc.specs.Answers.{Answers, argument, low_argument, unless, given}
-use Rattle.lx_proc.specs.declared.state.Body.{Body}
+use Rattle.lx_proc.specs.declared.state.UserState.{UserState}
 use Rattle.lx_proc.specs.declared.state.Shared.{Shared}
 use Rattle.lx_fcalls.specs.Flags.{is_within, has, o_cloexec}
 
@@ -18,7 +18,7 @@ renamed s p fd description closes h = record s {
   fds = with_slot h.fds p fd (record { description = description; closes_on_exec = closes });
 }
 
-unfoldable pub dup3 : Shared → ℕ → Call → Body → Answers
+unfoldable pub dup3 : Shared → ℕ → Call → UserState → Answers
 dup3 s p call b =
     let old = low_argument call 0 in
     let new = low_argument call 1 in

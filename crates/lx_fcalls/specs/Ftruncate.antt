@@ -10,25 +10,25 @@ use Rattle.lx_open.specs.declared.description.Object.{Object}
 use Rattle.lx_open.specs.declared.description.Object.TheVariants.{Input, Console, ReadEnd, WriteEnd, Opened}
 use Rattle.lx_proc.specs.Answers.{Answers, argument, low_argument, unless}
 use Rattle.lx_proc.specs.State.{with_tree}
-use Rattle.lx_proc.specs.declared.state.Body.{Body}
+use Rattle.lx_proc.specs.declared.state.UserState.{UserState}
 use Rattle.lx_proc.specs.declared.state.Shared.{Shared}
 use Rattle.lx_fcalls.specs.Arguments.{opened}
 use Rattle.lx_fcalls.specs.Moving.{has_space}
 
-abbrev pub truncates_node : Shared → Body → ℕ → ℕ → Answers
+abbrev pub truncates_node : Shared → UserState → ℕ → ℕ → Answers
 truncates_node s b n node =
     unless (nat_le n largest_file) efbig
     (unless (has_space s (length (content s.tree node)) n) enospc
     (Returns (with_tree s (with_content s.tree node (padded_to n))) b 0))
 
-abbrev pub truncates : Shared → Body → ℕ → Object → Answers
+abbrev pub truncates : Shared → UserState → ℕ → Object → Answers
 truncates s b n Input = Refused einval
 truncates s b n Console = Refused einval
 truncates s b n (ReadEnd pipe) = Refused einval
 truncates s b n (WriteEnd pipe) = Refused einval
 truncates s b n (Opened node) = truncates_node s b n node
 
-unfoldable pub ftruncate : Shared → ℕ → Call → Body → Answers
+unfoldable pub ftruncate : Shared → ℕ → Call → UserState → Answers
 ftruncate s p call b =
     unless (nat_lt (argument call 1) (2 ^ 63)) einval
     (opened s p (low_argument call 0) (λ named d.

@@ -13,7 +13,7 @@ use Rattle.lx_open.specs.declared.description.Object.TheVariants.{Input, Console
 use Rattle.lx_open.specs.declared.description.Slot.{Slot}
 use Rattle.lx_proc.specs.Answers.{Answers, argument, low_argument, unless, given}
 use Rattle.lx_proc.specs.State.{with_fds}
-use Rattle.lx_proc.specs.declared.state.Body.{Body}
+use Rattle.lx_proc.specs.declared.state.UserState.{UserState}
 use Rattle.lx_proc.specs.declared.state.Shared.{Shared}
 use Rattle.lx_fcalls.specs.Arguments.{opened}
 
@@ -36,20 +36,20 @@ origin s d node whence =
     else if whence == 2 then Some (length (content s.tree node))
     else None
 
-abbrev pub seeks_node : Shared → Body → Slot → Description → ℕ → ℕ → ℕ → Answers
+abbrev pub seeks_node : Shared → UserState → Slot → Description → ℕ → ℕ → ℕ → Answers
 seeks_node s b named d by whence node =
     given (origin s d node whence) einval (λ from.
     given (landing from by) einval (λ to.
     Returns (with_fds s (with_offset s.fds named.description to)) b to))
 
-abbrev pub seeks : Shared → Body → Slot → Description → ℕ → ℕ → Object → Answers
+abbrev pub seeks : Shared → UserState → Slot → Description → ℕ → ℕ → Object → Answers
 seeks s b named d by whence Input = Refused espipe
 seeks s b named d by whence Console = Refused espipe
 seeks s b named d by whence (ReadEnd pipe) = Refused espipe
 seeks s b named d by whence (WriteEnd pipe) = Refused espipe
 seeks s b named d by whence (Opened node) = seeks_node s b named d by whence node
 
-unfoldable pub lseek : Shared → ℕ → Call → Body → Answers
+unfoldable pub lseek : Shared → ℕ → Call → UserState → Answers
 lseek s p call b =
     opened s p (low_argument call 0) (λ named d.
     unless (nat_lt (argument call 2) 3) einval

@@ -12,7 +12,7 @@ use Rattle.lx_open.specs.declared.fd_table.FdTable.{FdTable}
 use Rattle.lx_open.specs.Opens as opens
 use Rattle.lx_proc.specs.Answers.{Answers, argument, unless, given, gives}
 use Rattle.lx_proc.specs.State.{with_fds}
-use Rattle.lx_proc.specs.declared.state.Body.{Body}
+use Rattle.lx_proc.specs.declared.state.UserState.{UserState}
 use Rattle.lx_proc.specs.declared.state.Shared.{Shared}
 use Rattle.lx_fcalls.specs.Flags.{is_within, has, o_cloexec}
 use Rattle.lx_fcalls.specs.Read.{reads}
@@ -23,7 +23,7 @@ end_of object reads = record { object = object; offset = 0; may_read = reads; ma
 abbrev pub with_end : FdTable → ℕ → ℕ → Object → Bool → Bool → FdTable
 with_end fds p fd object reads closes = opens.opened fds p fd (end_of object reads) closes
 
-abbrev pub pipes : Shared → ℕ → Body → ℕ → Bool → ℕ → Answers
+abbrev pub pipes : Shared → ℕ → UserState → ℕ → Bool → ℕ → Answers
 pipes s p b at closes pipe =
     given (opens.free s.fds.slots p) emfile (λ first.
     let one = with_end (with_pipe s.fds pipe []) p first (ReadEnd pipe) true closes in
@@ -31,7 +31,7 @@ pipes s p b at closes pipe =
     gives (with_fds s (with_end one p second (WriteEnd pipe) false closes)) b at
     (to_le_bytes w32 first ++ to_le_bytes w32 second) 0))
 
-unfoldable pub pipe2 : Shared → ℕ → Call → Body → Answers
+unfoldable pub pipe2 : Shared → ℕ → Call → UserState → Answers
 pipe2 s p call b =
     let flags = argument call 1 in
     unless (is_within flags o_cloexec) einval

@@ -20,12 +20,12 @@ use Rattle.lx_open.specs.declared.description.Slot.{Slot}
 use Rattle.lx_sig.specs.Pending.{with_pending}
 use Rattle.lx_proc.specs.Answers.{Answers, argument, low_argument, unless}
 use Rattle.lx_proc.specs.State.{Entries, with_fds, with_entries, changed, with_signals}
-use Rattle.lx_proc.specs.declared.state.Body.{Body}
+use Rattle.lx_proc.specs.declared.state.UserState.{UserState}
 use Rattle.lx_proc.specs.declared.state.Shared.{Shared}
 use Rattle.lx_fcalls.specs.Arguments.{opened}
 use Rattle.lx_fcalls.specs.Moving.{most_moved, pipe_size, has_space}
 
-abbrev pub writes_console : Shared → Body → List ℕ → Answers
+abbrev pub writes_console : Shared → UserState → List ℕ → Answers
 writes_console s b bytes =
     unless (has_space s 0 (length bytes)) enospc
     (Returns (record s { console = s.console ++ bytes }) b (length bytes))
@@ -38,17 +38,17 @@ abbrev pub raised_sigpipe : Entries → ℕ → Entries
 raised_sigpipe entries p = changed entries p (λ e. with_signals e (with_pending e.signals sigpipe (Sent p)))
 
 -- SIGPIPE comes beside the error (write(2), EPIPE)
-abbrev pub breaks_pipe : Shared → ℕ → Body → Answers
+abbrev pub breaks_pipe : Shared → ℕ → UserState → Answers
 breaks_pipe s p b = Returns (with_entries s (raised_sigpipe s.entries p)) b (error_word epipe)
 
 -- all bytes or none
-abbrev pub writes_pipe : Shared → ℕ → Body → ℕ → List ℕ → Answers
+abbrev pub writes_pipe : Shared → ℕ → UserState → ℕ → List ℕ → Answers
 writes_pipe s p b pipe bytes =
     if not (has_readers s.fds pipe) then breaks_pipe s p b
     else if nat_lt pipe_size (length (held s.fds pipe) + length bytes) then Blocks
     else Returns (with_fds s (with_held s.fds pipe (λ there. there ++ bytes))) b (length bytes)
 
-abbrev pub writes_at : Shared → Body → Slot → ℕ → ℕ → List ℕ → Answers
+abbrev pub writes_at : Shared → UserState → Slot → ℕ → ℕ → List ℕ → Answers
 writes_at s b named node at bytes =
     let old = length (content s.tree node) in
     unless (nat_le (at + length bytes) largest_file) efbig
@@ -63,19 +63,19 @@ abbrev pub start_of : Shared → Description → ℕ → ℕ
 start_of s d node = if d.appends then length (content s.tree node) else d.offset
 
 -- a write of no bytes has no other result (POSIX write)
-abbrev pub writes_file : Shared → Body → Slot → Description → ℕ → List ℕ → Answers
+abbrev pub writes_file : Shared → UserState → Slot → Description → ℕ → List ℕ → Answers
 writes_file s b named d node bytes =
     if length bytes == 0 then Returns s b 0
     else writes_at s b named node (start_of s d node) bytes
 
-abbrev pub writes_object : Shared → ℕ → Body → Slot → Description → List ℕ → Object → Answers
+abbrev pub writes_object : Shared → ℕ → UserState → Slot → Description → List ℕ → Object → Answers
 writes_object s p b named d bytes Input = Refused ebadf
 writes_object s p b named d bytes Console = writes_console s b bytes
 writes_object s p b named d bytes (ReadEnd pipe) = Refused ebadf
 writes_object s p b named d bytes (WriteEnd pipe) = writes_pipe s p b pipe bytes
 writes_object s p b named d bytes (Opened node) = writes_file s b named d node bytes
 
-unfoldable pub write : Shared → ℕ → Call → Body → Answers
+unfoldable pub write : Shared → ℕ → Call → UserState → Answers
 write s p call b =
     let n = min (argument call 2) most_moved in
     let at = argument call 1 in

@@ -12,18 +12,22 @@ use containers::Bytes;
 use lx_abi::Errno;
 use lx_files::Place;
 use lx_files::places::locate;
-use lx_proc::{Body, Shared, Text, directory, text_at};
+use lx_proc::{Shared, Text, UserState, directory, text_at};
 use std::alloc::{AllocError, Global};
 
 /// The most bytes of a path, with its NUL.
 const PATH_LIMIT: u64 = 4096;
 
 /// The text of a path argument.
-fn read_path(alloc: Global, body: &mut Body, at: u64) -> Result<Result<Bytes, Errno>, AllocError>
-    ensures text { IfOk result (λ r. numbered r ≡ read_text (text_in body.old.memory path_limit at)) }
-    ensures kept { body.new ≡ body.old }
+fn read_path(
+    alloc: Global,
+    user: &mut UserState,
+    at: u64,
+) -> Result<Result<Bytes, Errno>, AllocError>
+    ensures text { IfOk result (λ r. numbered r ≡ read_text (text_in user.old.memory path_limit at)) }
+    ensures kept { user.new ≡ user.old }
 {
-    match text_at(alloc, &mut body.memory, at, PATH_LIMIT)? {
+    match text_at(alloc, &mut user.memory, at, PATH_LIMIT)? {
         Text::Whole(text) => Ok(Ok(text)),
         Text::TooLong => Ok(Err(Errno::ENAMETOOLONG)),
         Text::Unreadable => Ok(Err(Errno::EFAULT)),
@@ -56,14 +60,14 @@ pub fn place_at(
     alloc: Global,
     shared: &Shared,
     pid: u32,
-    body: &mut Body,
+    user: &mut UserState,
     dirfd: u32,
     at: u64,
 ) -> Result<Result<Place, Errno>, AllocError>
-    ensures place { IfOk result (λ r. numbered r ≡ place_at_of shared.now pid body.old dirfd at) }
-    ensures kept { body.new ≡ body.old }
+    ensures place { IfOk result (λ r. numbered r ≡ place_at_of shared.now pid user.old dirfd at) }
+    ensures kept { user.new ≡ user.old }
 {
-    match read_path(alloc, body, at)? {
+    match read_path(alloc, user, at)? {
         Ok(text) => place_from(alloc, shared, pid, dirfd, text.as_slice()),
         Err(error) => Ok(Err(error)),
     }

@@ -11,7 +11,7 @@ use crate::contents::{MOST_MOVED, PIPE_SIZE};
 use crate::read::waits;
 use lx_abi::Call;
 use lx_open::{Description, FdTable, Object};
-use lx_proc::{Body, Shared};
+use lx_proc::{Shared, UserState};
 use lx_sig::low_argument;
 use rv_mem::Space;
 
@@ -65,8 +65,8 @@ fn write_waits(
 
 /// A write would block.
 #[tactic(auto, unfolding(crate::specs::Blocking::write_would_block))]
-fn write_would_block(shared: &Shared, pid: u32, call: &Call, body: &Body) -> bool
-    ensures { result ≡ write_would_block_of shared.now pid call.now body.now }
+fn write_would_block(shared: &Shared, pid: u32, call: &Call, user: &UserState) -> bool
+    ensures { result ≡ write_would_block_of shared.now pid call.now user.now }
 {
     let Some(slot) = shared.fds.slot(pid, low_argument(call, 0)) else {
         return false;
@@ -77,7 +77,7 @@ fn write_would_block(shared: &Shared, pid: u32, call: &Call, body: &Body) -> boo
     let count = call.arguments[2].min(MOST_MOVED) as usize;
     write_waits(
         &shared.fds,
-        &body.memory,
+        &user.memory,
         call.arguments[1],
         count,
         description,
@@ -86,18 +86,18 @@ fn write_would_block(shared: &Shared, pid: u32, call: &Call, body: &Body) -> boo
 
 /// A call on files would block. Takes no memory.
 #[tactic(auto, unfolding(crate::specs::Blocking::would_block))]
-pub fn would_block(shared: &Shared, pid: u32, call: &Call, body: &Body) -> bool
-    ensures { result ≡ would_block_of shared.now pid call.now body.now }
+pub fn would_block(shared: &Shared, pid: u32, call: &Call, user: &UserState) -> bool
+    ensures { result ≡ would_block_of shared.now pid call.now user.now }
 {
     match call.number {
         63 => read_would_block(shared, pid, call),
-        64 => write_would_block(shared, pid, call, body),
+        64 => write_would_block(shared, pid, call, user),
         _ => false,
     }
 }
 
 /// A call on files blocks where it would, and nowhere else.
-pub fn file_blocks(_shared: &Shared, _pid: u32, _call: &Call, _body: &Body)
-    ensures { passes is_blocked (file_call_of _shared.now _pid _call.now _body.now)
-        ≡ would_block_of _shared.now _pid _call.now _body.now }
+pub fn file_blocks(_shared: &Shared, _pid: u32, _call: &Call, _user: &UserState)
+    ensures { passes is_blocked (file_call_of _shared.now _pid _call.now _user.now)
+        ≡ would_block_of _shared.now _pid _call.now _user.now }
 {}

@@ -10,8 +10,8 @@ use crate::flags::AT_FDCWD;
 use containers::Bytes;
 use lx_abi::{Call, Errno};
 use lx_files::Place;
-use lx_files::places::{Sight, look, path};
-use lx_proc::{Body, Reply, Shared, Table};
+use lx_files::places::{Lookup, look, path};
+use lx_proc::{CallReply, Shared, Table, UserState};
 use std::alloc::{AllocError, Global};
 
 /// A process is in another directory.
@@ -25,20 +25,20 @@ fn go_at(
     alloc: Global,
     shared: &mut Shared,
     pid: u32,
-    body: &mut Body,
+    user: &mut UserState,
     place: &Place,
-) -> Result<Reply, AllocError>
-    ensures answer { IfOk result (λ r. answer_of r shared.new body.new ≡ goes_at shared.old pid body.old place.now) }
-    ensures kept { IfOk result (λ r. Kept r shared.old body.old shared.new body.new) }
+) -> Result<CallReply, AllocError>
+    ensures answer { IfOk result (λ r. answer_of r shared.new user.new ≡ goes_at shared.old pid user.old place.now) }
+    ensures kept { IfOk result (λ r. Kept r shared.old user.old shared.new user.new) }
     ensures console { OnErr result (shared.new.console ≡ shared.old.console) }
 {
     let path = path(alloc, place)?;
     match look(&shared.tree, place.slashed, path.as_slice()) {
-        Sight::Absent => Ok(Reply::Refused(Errno::ENOENT)),
-        Sight::IsFile | Sight::NotDirectory => Ok(Reply::Refused(Errno::ENOTDIR)),
-        Sight::IsDirectory => {
+        Lookup::Absent => Ok(CallReply::Refused(Errno::ENOENT)),
+        Lookup::IsFile | Lookup::NotDirectory => Ok(CallReply::Refused(Errno::ENOTDIR)),
+        Lookup::IsDirectory => {
             enter(&mut shared.entries, pid, path);
-            Ok(Reply::Returned(0))
+            Ok(CallReply::Returned(0))
         }
     }
 }
@@ -50,14 +50,14 @@ pub fn chdir(
     shared: &mut Shared,
     pid: u32,
     call: &Call,
-    body: &mut Body,
-) -> Result<Reply, AllocError>
-    ensures answer { IfOk result (λ r. answer_of r shared.new body.new ≡ meaning shared.old pid call.now body.old) }
-    ensures kept { IfOk result (λ r. Kept r shared.old body.old shared.new body.new) }
+    user: &mut UserState,
+) -> Result<CallReply, AllocError>
+    ensures answer { IfOk result (λ r. answer_of r shared.new user.new ≡ meaning shared.old pid call.now user.old) }
+    ensures kept { IfOk result (λ r. Kept r shared.old user.old shared.new user.new) }
     ensures console { OnErr result (shared.new.console ≡ shared.old.console) }
 {
-    match place_at(alloc, shared, pid, body, AT_FDCWD, call.arguments[0])? {
-        Ok(place) => go_at(alloc, shared, pid, body, &place),
-        Err(error) => Ok(Reply::Refused(error)),
+    match place_at(alloc, shared, pid, user, AT_FDCWD, call.arguments[0])? {
+        Ok(place) => go_at(alloc, shared, pid, user, &place),
+        Err(error) => Ok(CallReply::Refused(error)),
     }
 }

@@ -5,19 +5,19 @@ ghost use Rattle.lx_proc.specs.Answers.{answer_of, Kept};
 ghost use Rattle.lx_fcalls.specs.Close.{close as meaning};
 
 use lx_abi::{Call, Errno};
-use lx_proc::{Body, Reply, Shared};
+use lx_proc::{CallReply, Shared, UserState};
 use lx_sig::low_argument;
 
 /// close(2). Refused with EBADF.
 #[tactic(auto, unfolding(crate::specs::Close::close))]
-pub fn close(shared: &mut Shared, pid: u32, call: &Call, body: &mut Body) -> Reply
-    ensures answer { answer_of result shared.new body.new ≡ meaning shared.old pid call.now body.old }
-    ensures kept { Kept result shared.old body.old shared.new body.new }
+pub fn close(shared: &mut Shared, pid: u32, call: &Call, user: &mut UserState) -> CallReply
+    ensures answer { answer_of result shared.new user.new ≡ meaning shared.old pid call.now user.old }
+    ensures kept { Kept result shared.old user.old shared.new user.new }
 {
     let fd = low_argument(call, 0);
     if shared.fds.slot(pid, fd).is_none() {
-        return Reply::Refused(Errno::EBADF);
+        return CallReply::Refused(Errno::EBADF);
     }
     lx_open::release::close(&mut shared.tree, &mut shared.fds, pid, fd);
-    Reply::Returned(0)
+    CallReply::Returned(0)
 }

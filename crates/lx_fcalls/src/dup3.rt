@@ -8,7 +8,7 @@ use crate::flags::{O_CLOEXEC, has};
 use lx_abi::{Call, Errno};
 use lx_open::Slot;
 use lx_open::fd_table::{MOST_FDS, pair};
-use lx_proc::{Body, Reply, Shared};
+use lx_proc::{CallReply, Shared, UserState};
 use lx_sig::low_argument;
 use std::alloc::AllocError;
 
@@ -18,26 +18,26 @@ pub fn dup3(
     shared: &mut Shared,
     pid: u32,
     call: &Call,
-    body: &mut Body,
-) -> Result<Reply, AllocError>
-    ensures answer { IfOk result (λ r. answer_of r shared.new body.new ≡ meaning shared.old pid call.now body.old) }
-    ensures kept { IfOk result (λ r. Kept r shared.old body.old shared.new body.new) }
+    user: &mut UserState,
+) -> Result<CallReply, AllocError>
+    ensures answer { IfOk result (λ r. answer_of r shared.new user.new ≡ meaning shared.old pid call.now user.old) }
+    ensures kept { IfOk result (λ r. Kept r shared.old user.old shared.new user.new) }
     ensures console { OnErr result (shared.new.console ≡ shared.old.console) }
 {
     let flags = call.arguments[2];
     if flags & O_CLOEXEC != flags {
-        return Ok(Reply::Refused(Errno::EINVAL));
+        return Ok(CallReply::Refused(Errno::EINVAL));
     }
     let old = low_argument(call, 0);
     let Some(slot) = shared.fds.slot(pid, old) else {
-        return Ok(Reply::Refused(Errno::EBADF));
+        return Ok(CallReply::Refused(Errno::EBADF));
     };
     let new = low_argument(call, 1);
     if new >= MOST_FDS {
-        return Ok(Reply::Refused(Errno::EBADF));
+        return Ok(CallReply::Refused(Errno::EBADF));
     }
     if old == new {
-        return Ok(Reply::Refused(Errno::EINVAL));
+        return Ok(CallReply::Refused(Errno::EINVAL));
     }
     lx_open::release::close(&mut shared.tree, &mut shared.fds, pid, new);
     let copy = Slot {
@@ -45,5 +45,5 @@ pub fn dup3(
         closes_on_exec: has(flags, O_CLOEXEC),
     };
     shared.fds.slots.insert(pair(pid, new), copy)?;
-    Ok(Reply::Returned(u64::from(new)))
+    Ok(CallReply::Returned(u64::from(new)))
 }

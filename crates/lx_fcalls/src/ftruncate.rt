@@ -7,46 +7,46 @@ ghost use Rattle.lx_fcalls.specs.Ftruncate.{ftruncate as meaning, truncates, tru
 use crate::contents::{LARGEST_FILE, content, has_space};
 use lx_abi::{Call, Errno};
 use lx_open::Object;
-use lx_proc::{Body, Reply, Shared};
+use lx_proc::{CallReply, Shared, UserState};
 use lx_sig::low_argument;
 use std::alloc::AllocError;
 
 fn truncate_node(
     shared: &mut Shared,
-    body: &mut Body,
+    user: &mut UserState,
     len: u64,
     node: u32,
-) -> Result<Reply, AllocError>
-    ensures answer { IfOk result (λ r. answer_of r shared.new body.new ≡ truncates_node shared.old body.old len node) }
-    ensures kept { IfOk result (λ r. Kept r shared.old body.old shared.new body.new) }
+) -> Result<CallReply, AllocError>
+    ensures answer { IfOk result (λ r. answer_of r shared.new user.new ≡ truncates_node shared.old user.old len node) }
+    ensures kept { IfOk result (λ r. Kept r shared.old user.old shared.new user.new) }
     ensures console { OnErr result (shared.new.console ≡ shared.old.console) }
 {
     if len > LARGEST_FILE {
-        return Ok(Reply::Refused(Errno::EFBIG));
+        return Ok(CallReply::Refused(Errno::EFBIG));
     }
     let old = content(&shared.tree, node).len() as u64;
     if !has_space(shared, old, len) {
-        return Ok(Reply::Refused(Errno::ENOSPC));
+        return Ok(CallReply::Refused(Errno::ENOSPC));
     }
     shared.tree.nodes.resize(node, len as usize)?;
-    Ok(Reply::Returned(0))
+    Ok(CallReply::Returned(0))
 }
 
 fn truncate_object(
     shared: &mut Shared,
-    body: &mut Body,
+    user: &mut UserState,
     len: u64,
     object: Object,
-) -> Result<Reply, AllocError>
-    ensures answer { IfOk result (λ r. answer_of r shared.new body.new ≡ truncates shared.old body.old len object) }
-    ensures kept { IfOk result (λ r. Kept r shared.old body.old shared.new body.new) }
+) -> Result<CallReply, AllocError>
+    ensures answer { IfOk result (λ r. answer_of r shared.new user.new ≡ truncates shared.old user.old len object) }
+    ensures kept { IfOk result (λ r. Kept r shared.old user.old shared.new user.new) }
     ensures console { OnErr result (shared.new.console ≡ shared.old.console) }
 {
     match object {
         Object::Input | Object::Console | Object::ReadEnd(_) | Object::WriteEnd(_) => {
-            Ok(Reply::Refused(Errno::EINVAL))
+            Ok(CallReply::Refused(Errno::EINVAL))
         }
-        Object::Opened(node) => truncate_node(shared, body, len, node),
+        Object::Opened(node) => truncate_node(shared, user, len, node),
     }
 }
 
@@ -57,24 +57,24 @@ pub fn ftruncate(
     shared: &mut Shared,
     pid: u32,
     call: &Call,
-    body: &mut Body,
-) -> Result<Reply, AllocError>
-    ensures answer { IfOk result (λ r. answer_of r shared.new body.new ≡ meaning shared.old pid call.now body.old) }
-    ensures kept { IfOk result (λ r. Kept r shared.old body.old shared.new body.new) }
+    user: &mut UserState,
+) -> Result<CallReply, AllocError>
+    ensures answer { IfOk result (λ r. answer_of r shared.new user.new ≡ meaning shared.old pid call.now user.old) }
+    ensures kept { IfOk result (λ r. Kept r shared.old user.old shared.new user.new) }
     ensures console { OnErr result (shared.new.console ≡ shared.old.console) }
 {
     let len = call.arguments[1];
     if len >= 0x8000_0000_0000_0000 {
-        return Ok(Reply::Refused(Errno::EINVAL));
+        return Ok(CallReply::Refused(Errno::EINVAL));
     }
     let Some(slot) = shared.fds.slot(pid, low_argument(call, 0)) else {
-        return Ok(Reply::Refused(Errno::EBADF));
+        return Ok(CallReply::Refused(Errno::EBADF));
     };
     let Some(description) = shared.fds.descriptions.get(slot.description) else {
-        return Ok(Reply::Refused(Errno::EBADF));
+        return Ok(CallReply::Refused(Errno::EBADF));
     };
     if !description.may_write {
-        return Ok(Reply::Refused(Errno::EINVAL));
+        return Ok(CallReply::Refused(Errno::EINVAL));
     }
-    truncate_object(shared, body, len, description.object)
+    truncate_object(shared, user, len, description.object)
 }

@@ -7,7 +7,7 @@ ghost use Rattle.lx_fcalls.specs.Getcwd.{getcwd as meaning, shown as shown_of};
 use crate::giving::give;
 use containers::Bytes;
 use lx_abi::{Call, Errno};
-use lx_proc::{Body, Reply, Shared, directory};
+use lx_proc::{CallReply, Shared, UserState, directory};
 use std::alloc::{AllocError, Global};
 
 /// A path as a text, with its NUL.
@@ -29,18 +29,18 @@ pub fn getcwd(
     shared: &mut Shared,
     pid: u32,
     call: &Call,
-    body: &mut Body,
-) -> Result<Reply, AllocError>
-    ensures answer { IfOk result (λ r. answer_of r shared.new body.new ≡ meaning shared.old pid call.now body.old) }
-    ensures kept { IfOk result (λ r. Kept r shared.old body.old shared.new body.new) }
+    user: &mut UserState,
+) -> Result<CallReply, AllocError>
+    ensures answer { IfOk result (λ r. answer_of r shared.new user.new ≡ meaning shared.old pid call.now user.old) }
+    ensures kept { IfOk result (λ r. Kept r shared.old user.old shared.new user.new) }
     ensures console { OnErr result (shared.new.console ≡ shared.old.console) }
 {
     let text = shown(alloc, directory(shared, pid))?;
     if text.len() as u64 > call.arguments[1] {
-        return Ok(Reply::Refused(Errno::ERANGE));
+        return Ok(CallReply::Refused(Errno::ERANGE));
     }
-    if !give(&mut body.memory, call.arguments[0], text.as_slice())? {
-        return Ok(Reply::Refused(Errno::EFAULT));
+    if !give(&mut user.memory, call.arguments[0], text.as_slice())? {
+        return Ok(CallReply::Refused(Errno::EFAULT));
     }
-    Ok(Reply::Returned(text.len() as u64))
+    Ok(CallReply::Returned(text.len() as u64))
 }

@@ -8,7 +8,7 @@ ghost use Rattle.lx_fcalls.specs.Lseek.{seeks_node, seeks};
 use crate::contents::{LARGEST_FILE, content};
 use lx_abi::{Call, Errno};
 use lx_open::{Description, Object, Slot};
-use lx_proc::{Body, Reply, Shared};
+use lx_proc::{CallReply, Shared, UserState};
 use lx_sig::low_argument;
 
 /// Where a signed distance leads from a place.
@@ -46,64 +46,64 @@ fn origin(shared: &Shared, description: Description, node: u32, whence: u64) -> 
 
 fn seek_node(
     shared: &mut Shared,
-    body: &mut Body,
+    user: &mut UserState,
     slot: Slot,
     description: Description,
     by: u64,
     whence: u64,
     node: u32,
-) -> Reply
-    ensures answer { answer_of result shared.new body.new
-        ≡ seeks_node shared.old body.old slot description by whence node }
-    ensures kept { Kept result shared.old body.old shared.new body.new }
+) -> CallReply
+    ensures answer { answer_of result shared.new user.new
+        ≡ seeks_node shared.old user.old slot description by whence node }
+    ensures kept { Kept result shared.old user.old shared.new user.new }
 {
     let Some(from) = origin(shared, description, node, whence) else {
-        return Reply::Refused(Errno::EINVAL);
+        return CallReply::Refused(Errno::EINVAL);
     };
     let Some(to) = landing(from, by) else {
-        return Reply::Refused(Errno::EINVAL);
+        return CallReply::Refused(Errno::EINVAL);
     };
     shared.fds.descriptions.move_to(slot.description, to);
-    Reply::Returned(to)
+    CallReply::Returned(to)
 }
 
 fn seek_object(
     shared: &mut Shared,
-    body: &mut Body,
+    user: &mut UserState,
     slot: Slot,
     description: Description,
     by: u64,
     whence: u64,
-) -> Reply
-    ensures answer { answer_of result shared.new body.new
-        ≡ seeks shared.old body.old slot description by whence description.object }
-    ensures kept { Kept result shared.old body.old shared.new body.new }
+) -> CallReply
+    ensures answer { answer_of result shared.new user.new
+        ≡ seeks shared.old user.old slot description by whence description.object }
+    ensures kept { Kept result shared.old user.old shared.new user.new }
 {
     match description.object {
         Object::Input | Object::Console | Object::ReadEnd(_) | Object::WriteEnd(_) =>
-            Reply::Refused(Errno::ESPIPE),
-        Object::Opened(node) => seek_node(shared, body, slot, description, by, whence, node),
+            CallReply::Refused(Errno::ESPIPE),
+        Object::Opened(node) => seek_node(shared, user, slot, description, by, whence, node),
     }
 }
 
 /// lseek(2). Refused with EBADF, EINVAL for another whence, ESPIPE, or EINVAL outside 0 to the largest file.
 #[tactic(auto, unfolding(crate::specs::Lseek::lseek))]
-pub fn lseek(shared: &mut Shared, pid: u32, call: &Call, body: &mut Body) -> Reply
-    ensures answer { answer_of result shared.new body.new ≡ meaning shared.old pid call.now body.old }
-    ensures kept { Kept result shared.old body.old shared.new body.new }
+pub fn lseek(shared: &mut Shared, pid: u32, call: &Call, user: &mut UserState) -> CallReply
+    ensures answer { answer_of result shared.new user.new ≡ meaning shared.old pid call.now user.old }
+    ensures kept { Kept result shared.old user.old shared.new user.new }
 {
     let Some(slot) = shared.fds.slot(pid, low_argument(call, 0)) else {
-        return Reply::Refused(Errno::EBADF);
+        return CallReply::Refused(Errno::EBADF);
     };
     let Some(description) = shared.fds.descriptions.get(slot.description) else {
-        return Reply::Refused(Errno::EBADF);
+        return CallReply::Refused(Errno::EBADF);
     };
     if call.arguments[2] >= 3 {
-        return Reply::Refused(Errno::EINVAL);
+        return CallReply::Refused(Errno::EINVAL);
     }
     seek_object(
         shared,
-        body,
+        user,
         slot,
         description,
         call.arguments[1],

@@ -7,31 +7,31 @@ ghost use Rattle.lx_fcalls.specs.Mkdirat.{mkdirat as meaning, makes_at};
 use crate::arguments::place_at;
 use lx_abi::{Call, Errno, Node};
 use lx_files::Place;
-use lx_files::places::{Sight, look, path};
-use lx_proc::{Body, Reply, Shared};
+use lx_files::places::{Lookup, look, path};
+use lx_proc::{CallReply, Shared, UserState};
 use lx_sig::low_argument;
 use std::alloc::{AllocError, Global};
 
 fn make_at(
     alloc: Global,
     shared: &mut Shared,
-    body: &mut Body,
+    user: &mut UserState,
     place: &Place,
-) -> Result<Reply, AllocError>
-    ensures answer { IfOk result (λ r. answer_of r shared.new body.new ≡ makes_at shared.old body.old place.now) }
-    ensures kept { IfOk result (λ r. Kept r shared.old body.old shared.new body.new) }
+) -> Result<CallReply, AllocError>
+    ensures answer { IfOk result (λ r. answer_of r shared.new user.new ≡ makes_at shared.old user.old place.now) }
+    ensures kept { IfOk result (λ r. Kept r shared.old user.old shared.new user.new) }
     ensures console { OnErr result (shared.new.console ≡ shared.old.console) }
 {
     let path = path(alloc, place)?;
     match look(&shared.tree, place.slashed, path.as_slice()) {
-        Sight::IsFile | Sight::IsDirectory => Ok(Reply::Refused(Errno::EEXIST)),
-        Sight::NotDirectory => Ok(Reply::Refused(Errno::ENOTDIR)),
-        Sight::Absent => {
+        Lookup::IsFile | Lookup::IsDirectory => Ok(CallReply::Refused(Errno::EEXIST)),
+        Lookup::NotDirectory => Ok(CallReply::Refused(Errno::ENOTDIR)),
+        Lookup::Absent => {
             if !shared.tree.has_room() {
-                return Ok(Reply::Refused(Errno::ENOSPC));
+                return Ok(CallReply::Refused(Errno::ENOSPC));
             }
             shared.tree.create(alloc, path.as_slice(), Node::Directory)?;
-            Ok(Reply::Returned(0))
+            Ok(CallReply::Returned(0))
         }
     }
 }
@@ -43,21 +43,21 @@ pub fn mkdirat(
     shared: &mut Shared,
     pid: u32,
     call: &Call,
-    body: &mut Body,
-) -> Result<Reply, AllocError>
-    ensures answer { IfOk result (λ r. answer_of r shared.new body.new ≡ meaning shared.old pid call.now body.old) }
-    ensures kept { IfOk result (λ r. Kept r shared.old body.old shared.new body.new) }
+    user: &mut UserState,
+) -> Result<CallReply, AllocError>
+    ensures answer { IfOk result (λ r. answer_of r shared.new user.new ≡ meaning shared.old pid call.now user.old) }
+    ensures kept { IfOk result (λ r. Kept r shared.old user.old shared.new user.new) }
     ensures console { OnErr result (shared.new.console ≡ shared.old.console) }
 {
     match place_at(
         alloc,
         shared,
         pid,
-        body,
+        user,
         low_argument(call, 0),
         call.arguments[1],
     )? {
-        Ok(place) => make_at(alloc, shared, body, &place),
-        Err(error) => Ok(Reply::Refused(error)),
+        Ok(place) => make_at(alloc, shared, user, &place),
+        Err(error) => Ok(CallReply::Refused(error)),
     }
 }

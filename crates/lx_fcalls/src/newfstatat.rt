@@ -8,9 +8,9 @@ use crate::arguments::place_at;
 use crate::flags::AT_SYMLINK_NOFOLLOW;
 use crate::stat::{DIRECTORY, FILE, give_stat};
 use lx_abi::{Call, Errno, Node};
-use lx_files::places::{Sight, look, path};
+use lx_files::places::{Lookup, look, path};
 use lx_files::{Place, Tree};
-use lx_proc::{Body, Reply, Shared};
+use lx_proc::{CallReply, Shared, UserState};
 use lx_sig::low_argument;
 use std::alloc::{AllocError, Global};
 
@@ -27,22 +27,22 @@ fn size_at(tree: &Tree, path: &[u8]) -> u64
 fn tell(
     alloc: Global,
     shared: &mut Shared,
-    body: &mut Body,
+    user: &mut UserState,
     at: u64,
     path: &[u8],
-    sight: Sight,
-) -> Result<Reply, AllocError>
-    ensures answer { IfOk result (λ r. answer_of r shared.new body.new ≡ tells shared.old body.old at path.now sight) }
-    ensures kept { IfOk result (λ r. Kept r shared.old body.old shared.new body.new) }
+    sight: Lookup,
+) -> Result<CallReply, AllocError>
+    ensures answer { IfOk result (λ r. answer_of r shared.new user.new ≡ tells shared.old user.old at path.now sight) }
+    ensures kept { IfOk result (λ r. Kept r shared.old user.old shared.new user.new) }
     ensures console { OnErr result (shared.new.console ≡ shared.old.console) }
 {
     match sight {
-        Sight::Absent => Ok(Reply::Refused(Errno::ENOENT)),
-        Sight::NotDirectory => Ok(Reply::Refused(Errno::ENOTDIR)),
-        Sight::IsDirectory => give_stat(alloc, shared, body, at, DIRECTORY, 0),
-        Sight::IsFile => {
+        Lookup::Absent => Ok(CallReply::Refused(Errno::ENOENT)),
+        Lookup::NotDirectory => Ok(CallReply::Refused(Errno::ENOTDIR)),
+        Lookup::IsDirectory => give_stat(alloc, shared, user, at, DIRECTORY, 0),
+        Lookup::IsFile => {
             let size = size_at(&shared.tree, path);
-            give_stat(alloc, shared, body, at, FILE, size)
+            give_stat(alloc, shared, user, at, FILE, size)
         }
     }
 }
@@ -50,17 +50,17 @@ fn tell(
 fn tell_at(
     alloc: Global,
     shared: &mut Shared,
-    body: &mut Body,
+    user: &mut UserState,
     at: u64,
     place: &Place,
-) -> Result<Reply, AllocError>
-    ensures answer { IfOk result (λ r. answer_of r shared.new body.new ≡ tells_at shared.old body.old at place.now) }
-    ensures kept { IfOk result (λ r. Kept r shared.old body.old shared.new body.new) }
+) -> Result<CallReply, AllocError>
+    ensures answer { IfOk result (λ r. answer_of r shared.new user.new ≡ tells_at shared.old user.old at place.now) }
+    ensures kept { IfOk result (λ r. Kept r shared.old user.old shared.new user.new) }
     ensures console { OnErr result (shared.new.console ≡ shared.old.console) }
 {
     let path = path(alloc, place)?;
     let sight = look(&shared.tree, place.slashed, path.as_slice());
-    tell(alloc, shared, body, at, path.as_slice(), sight)
+    tell(alloc, shared, user, at, path.as_slice(), sight)
 }
 
 /// newfstatat(2). Refused with EINVAL for other flags, as the path is, or with ENOENT, ENOTDIR or EFAULT.
@@ -70,25 +70,25 @@ pub fn newfstatat(
     shared: &mut Shared,
     pid: u32,
     call: &Call,
-    body: &mut Body,
-) -> Result<Reply, AllocError>
-    ensures answer { IfOk result (λ r. answer_of r shared.new body.new ≡ meaning shared.old pid call.now body.old) }
-    ensures kept { IfOk result (λ r. Kept r shared.old body.old shared.new body.new) }
+    user: &mut UserState,
+) -> Result<CallReply, AllocError>
+    ensures answer { IfOk result (λ r. answer_of r shared.new user.new ≡ meaning shared.old pid call.now user.old) }
+    ensures kept { IfOk result (λ r. Kept r shared.old user.old shared.new user.new) }
     ensures console { OnErr result (shared.new.console ≡ shared.old.console) }
 {
     let flags = call.arguments[3];
     if flags & AT_SYMLINK_NOFOLLOW != flags {
-        return Ok(Reply::Refused(Errno::EINVAL));
+        return Ok(CallReply::Refused(Errno::EINVAL));
     }
     match place_at(
         alloc,
         shared,
         pid,
-        body,
+        user,
         low_argument(call, 0),
         call.arguments[1],
     )? {
-        Ok(place) => tell_at(alloc, shared, body, call.arguments[2], &place),
-        Err(error) => Ok(Reply::Refused(error)),
+        Ok(place) => tell_at(alloc, shared, user, call.arguments[2], &place),
+        Err(error) => Ok(CallReply::Refused(error)),
     }
 }

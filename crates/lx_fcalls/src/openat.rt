@@ -9,9 +9,9 @@ use crate::flags::{O_APPEND, O_CLOEXEC, O_CREAT, O_EXCL, O_TRUNC, OPEN_FLAGS, ha
 use containers::Bytes;
 use lx_abi::{Call, Errno, Node};
 use lx_files::Place;
-use lx_files::places::{Sight, look, path};
+use lx_files::places::{Lookup, look, path};
 use lx_open::{Description, Object};
-use lx_proc::{Body, Reply, Shared};
+use lx_proc::{CallReply, Shared, UserState};
 use lx_sig::low_argument;
 use std::alloc::{AllocError, Global};
 
@@ -32,27 +32,27 @@ fn open_new(
     alloc: Global,
     shared: &mut Shared,
     pid: u32,
-    body: &mut Body,
+    user: &mut UserState,
     flags: u64,
     slashed: bool,
     path: &[u8],
-) -> Result<Reply, AllocError>
-    ensures answer { IfOk result (λ r. answer_of r shared.new body.new
-        ≡ opens_new shared.old pid body.old flags slashed path.now) }
-    ensures kept { IfOk result (λ r. Kept r shared.old body.old shared.new body.new) }
+) -> Result<CallReply, AllocError>
+    ensures answer { IfOk result (λ r. answer_of r shared.new user.new
+        ≡ opens_new shared.old pid user.old flags slashed path.now) }
+    ensures kept { IfOk result (λ r. Kept r shared.old user.old shared.new user.new) }
     ensures console { OnErr result (shared.new.console ≡ shared.old.console) }
 {
     if !has(flags, O_CREAT) {
-        return Ok(Reply::Refused(Errno::ENOENT));
+        return Ok(CallReply::Refused(Errno::ENOENT));
     }
     if slashed {
-        return Ok(Reply::Refused(Errno::EISDIR));
+        return Ok(CallReply::Refused(Errno::EISDIR));
     }
     let Some(fd) = shared.fds.free(pid) else {
-        return Ok(Reply::Refused(Errno::EMFILE));
+        return Ok(CallReply::Refused(Errno::EMFILE));
     };
     if !shared.tree.has_room() {
-        return Ok(Reply::Refused(Errno::ENOSPC));
+        return Ok(CallReply::Refused(Errno::ENOSPC));
     }
     let node = shared
         .tree
@@ -60,30 +60,30 @@ fn open_new(
     shared
         .fds
         .open(pid, fd, opening(node, flags), has(flags, O_CLOEXEC))?;
-    Ok(Reply::Returned(u64::from(fd)))
+    Ok(CallReply::Returned(u64::from(fd)))
 }
 
 /// A file that is there.
 fn open_file(
     shared: &mut Shared,
     pid: u32,
-    body: &mut Body,
+    user: &mut UserState,
     flags: u64,
     path: &[u8],
-) -> Result<Reply, AllocError>
-    ensures answer { IfOk result (λ r. answer_of r shared.new body.new
-        ≡ opens_file shared.old pid body.old flags path.now) }
-    ensures kept { IfOk result (λ r. Kept r shared.old body.old shared.new body.new) }
+) -> Result<CallReply, AllocError>
+    ensures answer { IfOk result (λ r. answer_of r shared.new user.new
+        ≡ opens_file shared.old pid user.old flags path.now) }
+    ensures kept { IfOk result (λ r. Kept r shared.old user.old shared.new user.new) }
     ensures console { OnErr result (shared.new.console ≡ shared.old.console) }
 {
     if has(flags, O_CREAT) && has(flags, O_EXCL) {
-        return Ok(Reply::Refused(Errno::EEXIST));
+        return Ok(CallReply::Refused(Errno::EEXIST));
     }
     let Some(fd) = shared.fds.free(pid) else {
-        return Ok(Reply::Refused(Errno::EMFILE));
+        return Ok(CallReply::Refused(Errno::EMFILE));
     };
     let Some(node) = shared.tree.names.get(path) else {
-        return Ok(Reply::Refused(Errno::ENOENT));
+        return Ok(CallReply::Refused(Errno::ENOENT));
     };
     if has(flags, O_TRUNC) {
         shared.tree.nodes.clear(node);
@@ -91,36 +91,36 @@ fn open_file(
     shared
         .fds
         .open(pid, fd, opening(node, flags), has(flags, O_CLOEXEC))?;
-    Ok(Reply::Returned(u64::from(fd)))
+    Ok(CallReply::Returned(u64::from(fd)))
 }
 
 fn open_at(
     alloc: Global,
     shared: &mut Shared,
     pid: u32,
-    body: &mut Body,
+    user: &mut UserState,
     flags: u64,
     place: &Place,
-) -> Result<Reply, AllocError>
-    ensures answer { IfOk result (λ r. answer_of r shared.new body.new
-        ≡ opens_at shared.old pid body.old flags place.now) }
-    ensures kept { IfOk result (λ r. Kept r shared.old body.old shared.new body.new) }
+) -> Result<CallReply, AllocError>
+    ensures answer { IfOk result (λ r. answer_of r shared.new user.new
+        ≡ opens_at shared.old pid user.old flags place.now) }
+    ensures kept { IfOk result (λ r. Kept r shared.old user.old shared.new user.new) }
     ensures console { OnErr result (shared.new.console ≡ shared.old.console) }
 {
     let path = path(alloc, place)?;
     match look(&shared.tree, place.slashed, path.as_slice()) {
-        Sight::Absent => open_new(
+        Lookup::Absent => open_new(
             alloc,
             shared,
             pid,
-            body,
+            user,
             flags,
             place.slashed,
             path.as_slice(),
         ),
-        Sight::IsFile => open_file(shared, pid, body, flags, path.as_slice()),
-        Sight::IsDirectory => Ok(Reply::Refused(Errno::EISDIR)),
-        Sight::NotDirectory => Ok(Reply::Refused(Errno::ENOTDIR)),
+        Lookup::IsFile => open_file(shared, pid, user, flags, path.as_slice()),
+        Lookup::IsDirectory => Ok(CallReply::Refused(Errno::EISDIR)),
+        Lookup::NotDirectory => Ok(CallReply::Refused(Errno::ENOTDIR)),
     }
 }
 
@@ -132,25 +132,25 @@ pub fn openat(
     shared: &mut Shared,
     pid: u32,
     call: &Call,
-    body: &mut Body,
-) -> Result<Reply, AllocError>
-    ensures answer { IfOk result (λ r. answer_of r shared.new body.new ≡ meaning shared.old pid call.now body.old) }
-    ensures kept { IfOk result (λ r. Kept r shared.old body.old shared.new body.new) }
+    user: &mut UserState,
+) -> Result<CallReply, AllocError>
+    ensures answer { IfOk result (λ r. answer_of r shared.new user.new ≡ meaning shared.old pid call.now user.old) }
+    ensures kept { IfOk result (λ r. Kept r shared.old user.old shared.new user.new) }
     ensures console { OnErr result (shared.new.console ≡ shared.old.console) }
 {
     let flags = call.arguments[2];
     if flags & OPEN_FLAGS != flags || flags % 4 == 3 {
-        return Ok(Reply::Refused(Errno::EINVAL));
+        return Ok(CallReply::Refused(Errno::EINVAL));
     }
     match place_at(
         alloc,
         shared,
         pid,
-        body,
+        user,
         low_argument(call, 0),
         call.arguments[1],
     )? {
-        Ok(place) => open_at(alloc, shared, pid, body, flags, &place),
-        Err(error) => Ok(Reply::Refused(error)),
+        Ok(place) => open_at(alloc, shared, pid, user, flags, &place),
+        Err(error) => Ok(CallReply::Refused(error)),
     }
 }

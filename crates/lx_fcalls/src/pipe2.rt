@@ -11,8 +11,8 @@ use crate::flags::{O_CLOEXEC, has};
 use crate::giving::give;
 use containers::Bytes;
 use lx_abi::{Call, Errno};
-use lx_open::{Description, FdTable, Object, Queue};
-use lx_proc::{Body, Reply, Shared};
+use lx_open::{Description, FdTable, Object, PipeBuffer};
+use lx_proc::{CallReply, Shared, UserState};
 use std::alloc::{AllocError, Global};
 
 /// Two descriptors as a guest has them in its memory.
@@ -52,7 +52,7 @@ fn open_ends(
         (with_end (with_pipe fds.old pipe []) pid first (object_is.ReadEnd pipe) true closes)
         pid second (object_is.WriteEnd pipe) false closes) }
 {
-    fds.pipes.insert(pipe, Queue::new(alloc))?;
+    fds.pipes.insert(pipe, PipeBuffer::new(alloc))?;
     fds.open(pid, first, end(Object::ReadEnd(pipe), true), closes)?;
     fds.open(pid, second, end(Object::WriteEnd(pipe), false), closes)?;
     Ok(())
@@ -62,28 +62,28 @@ fn make_pipe(
     alloc: Global,
     shared: &mut Shared,
     pid: u32,
-    body: &mut Body,
+    user: &mut UserState,
     at: u64,
     closes: bool,
     pipe: u32,
-) -> Result<Reply, AllocError>
-    ensures answer { IfOk result (λ r. answer_of r shared.new body.new
-        ≡ pipes shared.old pid body.old at closes pipe) }
-    ensures kept { IfOk result (λ r. Kept r shared.old body.old shared.new body.new) }
+) -> Result<CallReply, AllocError>
+    ensures answer { IfOk result (λ r. answer_of r shared.new user.new
+        ≡ pipes shared.old pid user.old at closes pipe) }
+    ensures kept { IfOk result (λ r. Kept r shared.old user.old shared.new user.new) }
     ensures console { OnErr result (shared.new.console ≡ shared.old.console) }
 {
     let Some(first) = shared.fds.free(pid) else {
-        return Ok(Reply::Refused(Errno::EMFILE));
+        return Ok(CallReply::Refused(Errno::EMFILE));
     };
     let Some(second) = shared.fds.free_after(pid, first) else {
-        return Ok(Reply::Refused(Errno::EMFILE));
+        return Ok(CallReply::Refused(Errno::EMFILE));
     };
     let numbers = two(alloc, first, second)?;
-    if !give(&mut body.memory, at, numbers.as_slice())? {
-        return Ok(Reply::Refused(Errno::EFAULT));
+    if !give(&mut user.memory, at, numbers.as_slice())? {
+        return Ok(CallReply::Refused(Errno::EFAULT));
     }
     open_ends(alloc, &mut shared.fds, pid, pipe, first, second, closes)?;
-    Ok(Reply::Returned(0))
+    Ok(CallReply::Returned(0))
 }
 
 /// pipe2(2). Refused with EINVAL for other flags, EMFILE or EFAULT.
@@ -93,22 +93,22 @@ pub fn pipe2(
     shared: &mut Shared,
     pid: u32,
     call: &Call,
-    body: &mut Body,
-) -> Result<Reply, AllocError>
-    ensures answer { IfOk result (λ r. answer_of r shared.new body.new ≡ meaning shared.old pid call.now body.old) }
-    ensures kept { IfOk result (λ r. Kept r shared.old body.old shared.new body.new) }
+    user: &mut UserState,
+) -> Result<CallReply, AllocError>
+    ensures answer { IfOk result (λ r. answer_of r shared.new user.new ≡ meaning shared.old pid call.now user.old) }
+    ensures kept { IfOk result (λ r. Kept r shared.old user.old shared.new user.new) }
     ensures console { OnErr result (shared.new.console ≡ shared.old.console) }
 {
     let flags = call.arguments[1];
     if flags & O_CLOEXEC != flags {
-        return Ok(Reply::Refused(Errno::EINVAL));
+        return Ok(CallReply::Refused(Errno::EINVAL));
     }
     let pipe = shared.fds.pipes.vacant(0)?;
     make_pipe(
         alloc,
         shared,
         pid,
-        body,
+        user,
         call.arguments[0],
         has(flags, O_CLOEXEC),
         pipe,

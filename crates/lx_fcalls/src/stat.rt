@@ -7,7 +7,7 @@ ghost use Rattle.lx_fcalls.specs.Stat.{stat as stat_of};
 use crate::giving::give;
 use containers::Bytes;
 use lx_abi::Errno;
-use lx_proc::{Body, Reply, Shared};
+use lx_proc::{CallReply, Shared, UserState};
 use std::alloc::{AllocError, Global};
 
 // Types and permissions.
@@ -37,19 +37,19 @@ fn stat(alloc: Global, mode: u32, size: u64) -> Result<Bytes, AllocError>
 pub fn give_stat(
     alloc: Global,
     shared: &mut Shared,
-    body: &mut Body,
+    user: &mut UserState,
     at: u64,
     mode: u32,
     size: u64,
-) -> Result<Reply, AllocError>
-    ensures answer { IfOk result (λ r. answer_of r shared.new body.new
-        ≡ gives shared.old body.old at (stat_of mode size) 0) }
-    ensures kept { IfOk result (λ r. Kept r shared.old body.old shared.new body.new) }
+) -> Result<CallReply, AllocError>
+    ensures answer { IfOk result (λ r. answer_of r shared.new user.new
+        ≡ gives shared.old user.old at (stat_of mode size) 0) }
+    ensures kept { IfOk result (λ r. Kept r shared.old user.old shared.new user.new) }
     ensures console { OnErr result (shared.new.console ≡ shared.old.console) }
 {
     let bytes = stat(alloc, mode, size)?;
-    if !give(&mut body.memory, at, bytes.as_slice())? {
-        return Ok(Reply::Refused(Errno::EFAULT));
+    if !give(&mut user.memory, at, bytes.as_slice())? {
+        return Ok(CallReply::Refused(Errno::EFAULT));
     }
-    Ok(Reply::Returned(0))
+    Ok(CallReply::Returned(0))
 }

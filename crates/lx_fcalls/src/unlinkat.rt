@@ -13,25 +13,25 @@ ghost use Rattle.lx_fcalls.specs.Unlinkat.{unlinks, unlinks_file, unlinks_direct
 use crate::arguments::place_at;
 use crate::flags::{AT_REMOVEDIR, has};
 use lx_abi::{Call, Errno};
-use lx_files::places::{Sight, look, path};
+use lx_files::places::{Lookup, look, path};
 use lx_files::{Place, Tree};
 use lx_open::release::unlink;
-use lx_proc::{Body, Entry, Reply, Shared};
+use lx_proc::{CallReply, Entry, Shared, UserState};
 use lx_sig::low_argument;
 use std::alloc::{AllocError, Global};
 
 /// A path to what is no directory is taken away.
-fn remove_file(shared: &mut Shared, body: &mut Body, path: &[u8], sight: Sight) -> Reply
-    ensures answer { answer_of result shared.new body.new ≡ removes_file shared.old body.old path.now sight }
-    ensures kept { Kept result shared.old body.old shared.new body.new }
+fn remove_file(shared: &mut Shared, user: &mut UserState, path: &[u8], sight: Lookup) -> CallReply
+    ensures answer { answer_of result shared.new user.new ≡ removes_file shared.old user.old path.now sight }
+    ensures kept { Kept result shared.old user.old shared.new user.new }
 {
     match sight {
-        Sight::Absent => Reply::Refused(Errno::ENOENT),
-        Sight::IsDirectory => Reply::Refused(Errno::EISDIR),
-        Sight::NotDirectory => Reply::Refused(Errno::ENOTDIR),
-        Sight::IsFile => {
+        Lookup::Absent => CallReply::Refused(Errno::ENOENT),
+        Lookup::IsDirectory => CallReply::Refused(Errno::EISDIR),
+        Lookup::NotDirectory => CallReply::Refused(Errno::ENOTDIR),
+        Lookup::IsFile => {
             unlink(&mut shared.tree, &shared.fds, path);
-            Reply::Returned(0)
+            CallReply::Returned(0)
         }
     }
 }
@@ -69,27 +69,27 @@ fn is_used(alloc: Global, shared: &Shared, path: &[u8]) -> Result<bool, AllocErr
 fn remove_directory(
     alloc: Global,
     shared: &mut Shared,
-    body: &mut Body,
+    user: &mut UserState,
     path: &[u8],
-    sight: Sight,
-) -> Result<Reply, AllocError>
-    ensures answer { IfOk result (λ r. answer_of r shared.new body.new
-        ≡ removes_directory shared.old body.old path.now sight) }
-    ensures kept { IfOk result (λ r. Kept r shared.old body.old shared.new body.new) }
+    sight: Lookup,
+) -> Result<CallReply, AllocError>
+    ensures answer { IfOk result (λ r. answer_of r shared.new user.new
+        ≡ removes_directory shared.old user.old path.now sight) }
+    ensures kept { IfOk result (λ r. Kept r shared.old user.old shared.new user.new) }
     ensures console { OnErr result (shared.new.console ≡ shared.old.console) }
 {
     match sight {
-        Sight::Absent => Ok(Reply::Refused(Errno::ENOENT)),
-        Sight::IsFile | Sight::NotDirectory => Ok(Reply::Refused(Errno::ENOTDIR)),
-        Sight::IsDirectory => {
+        Lookup::Absent => Ok(CallReply::Refused(Errno::ENOENT)),
+        Lookup::IsFile | Lookup::NotDirectory => Ok(CallReply::Refused(Errno::ENOTDIR)),
+        Lookup::IsDirectory => {
             if !is_empty(alloc, &shared.tree, path)? {
-                return Ok(Reply::Refused(Errno::ENOTEMPTY));
+                return Ok(CallReply::Refused(Errno::ENOTEMPTY));
             }
             if is_used(alloc, shared, path)? {
-                return Ok(Reply::Refused(Errno::EBUSY));
+                return Ok(CallReply::Refused(Errno::EBUSY));
             }
             unlink(&mut shared.tree, &shared.fds, path);
-            Ok(Reply::Returned(0))
+            Ok(CallReply::Returned(0))
         }
     }
 }
@@ -113,12 +113,12 @@ fn nameless(last: &[u8], none: Errno, dot: Errno, dots: Errno) -> Option<Errno>
 fn unlink_directory(
     alloc: Global,
     shared: &mut Shared,
-    body: &mut Body,
+    user: &mut UserState,
     place: &Place,
-) -> Result<Reply, AllocError>
-    ensures answer { IfOk result (λ r. answer_of r shared.new body.new
-        ≡ unlinks_directory shared.old body.old place.now) }
-    ensures kept { IfOk result (λ r. Kept r shared.old body.old shared.new body.new) }
+) -> Result<CallReply, AllocError>
+    ensures answer { IfOk result (λ r. answer_of r shared.new user.new
+        ≡ unlinks_directory shared.old user.old place.now) }
+    ensures kept { IfOk result (λ r. Kept r shared.old user.old shared.new user.new) }
     ensures console { OnErr result (shared.new.console ≡ shared.old.console) }
 {
     match nameless(
@@ -127,11 +127,11 @@ fn unlink_directory(
         Errno::EINVAL,
         Errno::ENOTEMPTY,
     ) {
-        Some(error) => Ok(Reply::Refused(error)),
+        Some(error) => Ok(CallReply::Refused(error)),
         None => {
             let path = path(alloc, place)?;
             let sight = look(&shared.tree, place.slashed, path.as_slice());
-            remove_directory(alloc, shared, body, path.as_slice(), sight)
+            remove_directory(alloc, shared, user, path.as_slice(), sight)
         }
     }
 }
@@ -139,11 +139,11 @@ fn unlink_directory(
 fn unlink_file(
     alloc: Global,
     shared: &mut Shared,
-    body: &mut Body,
+    user: &mut UserState,
     place: &Place,
-) -> Result<Reply, AllocError>
-    ensures answer { IfOk result (λ r. answer_of r shared.new body.new ≡ unlinks_file shared.old body.old place.now) }
-    ensures kept { IfOk result (λ r. Kept r shared.old body.old shared.new body.new) }
+) -> Result<CallReply, AllocError>
+    ensures answer { IfOk result (λ r. answer_of r shared.new user.new ≡ unlinks_file shared.old user.old place.now) }
+    ensures kept { IfOk result (λ r. Kept r shared.old user.old shared.new user.new) }
     ensures console { OnErr result (shared.new.console ≡ shared.old.console) }
 {
     match nameless(
@@ -152,11 +152,11 @@ fn unlink_file(
         Errno::EISDIR,
         Errno::EISDIR,
     ) {
-        Some(error) => Ok(Reply::Refused(error)),
+        Some(error) => Ok(CallReply::Refused(error)),
         None => {
             let path = path(alloc, place)?;
             let sight = look(&shared.tree, place.slashed, path.as_slice());
-            Ok(remove_file(shared, body, path.as_slice(), sight))
+            Ok(remove_file(shared, user, path.as_slice(), sight))
         }
     }
 }
@@ -164,19 +164,19 @@ fn unlink_file(
 fn unlink_at(
     alloc: Global,
     shared: &mut Shared,
-    body: &mut Body,
+    user: &mut UserState,
     directories: bool,
     place: &Place,
-) -> Result<Reply, AllocError>
-    ensures answer { IfOk result (λ r. answer_of r shared.new body.new
-        ≡ unlinks shared.old body.old directories place.now) }
-    ensures kept { IfOk result (λ r. Kept r shared.old body.old shared.new body.new) }
+) -> Result<CallReply, AllocError>
+    ensures answer { IfOk result (λ r. answer_of r shared.new user.new
+        ≡ unlinks shared.old user.old directories place.now) }
+    ensures kept { IfOk result (λ r. Kept r shared.old user.old shared.new user.new) }
     ensures console { OnErr result (shared.new.console ≡ shared.old.console) }
 {
     if directories {
-        return unlink_directory(alloc, shared, body, place);
+        return unlink_directory(alloc, shared, user, place);
     }
-    unlink_file(alloc, shared, body, place)
+    unlink_file(alloc, shared, user, place)
 }
 
 /// unlinkat(2): a directory with AT_REMOVEDIR, else another file. Refused with EINVAL for other flags, as the path is,
@@ -187,25 +187,25 @@ pub fn unlinkat(
     shared: &mut Shared,
     pid: u32,
     call: &Call,
-    body: &mut Body,
-) -> Result<Reply, AllocError>
-    ensures answer { IfOk result (λ r. answer_of r shared.new body.new ≡ meaning shared.old pid call.now body.old) }
-    ensures kept { IfOk result (λ r. Kept r shared.old body.old shared.new body.new) }
+    user: &mut UserState,
+) -> Result<CallReply, AllocError>
+    ensures answer { IfOk result (λ r. answer_of r shared.new user.new ≡ meaning shared.old pid call.now user.old) }
+    ensures kept { IfOk result (λ r. Kept r shared.old user.old shared.new user.new) }
     ensures console { OnErr result (shared.new.console ≡ shared.old.console) }
 {
     let flags = call.arguments[2];
     if flags & AT_REMOVEDIR != flags {
-        return Ok(Reply::Refused(Errno::EINVAL));
+        return Ok(CallReply::Refused(Errno::EINVAL));
     }
     match place_at(
         alloc,
         shared,
         pid,
-        body,
+        user,
         low_argument(call, 0),
         call.arguments[1],
     )? {
-        Ok(place) => unlink_at(alloc, shared, body, has(flags, AT_REMOVEDIR), &place),
-        Err(error) => Ok(Reply::Refused(error)),
+        Ok(place) => unlink_at(alloc, shared, user, has(flags, AT_REMOVEDIR), &place),
+        Err(error) => Ok(CallReply::Refused(error)),
     }
 }

@@ -9,22 +9,26 @@ use crate::contents::{LARGEST_FILE, MOST_MOVED, PIPE_SIZE, content, has_space};
 use lx_abi::{Call, Cause, Errno, Signal};
 use lx_files::nodes::length_after;
 use lx_open::{Description, Object, Slot};
-use lx_proc::{Body, Reply, Shared, Table};
+use lx_proc::{CallReply, Shared, Table, UserState};
 use lx_sig::{low_argument, make_pending};
 use rv_mem::MemFault;
 use std::alloc::{AllocError, Global};
 
-fn write_console(shared: &mut Shared, body: &mut Body, bytes: &[u8]) -> Result<Reply, AllocError>
-    ensures answer { IfOk result (λ r. answer_of r shared.new body.new
-        ≡ writes_console shared.old body.old bytes.now) }
-    ensures kept { IfOk result (λ r. Kept r shared.old body.old shared.new body.new) }
+fn write_console(
+    shared: &mut Shared,
+    user: &mut UserState,
+    bytes: &[u8],
+) -> Result<CallReply, AllocError>
+    ensures answer { IfOk result (λ r. answer_of r shared.new user.new
+        ≡ writes_console shared.old user.old bytes.now) }
+    ensures kept { IfOk result (λ r. Kept r shared.old user.old shared.new user.new) }
     ensures console { OnErr result (shared.new.console ≡ shared.old.console) }
 {
     if !has_space(shared, 0, bytes.len() as u64) {
-        return Ok(Reply::Refused(Errno::ENOSPC));
+        return Ok(CallReply::Refused(Errno::ENOSPC));
     }
     shared.console.extend(bytes)?;
-    Ok(Reply::Returned(bytes.len() as u64))
+    Ok(CallReply::Returned(bytes.len() as u64))
 }
 
 /// SIGPIPE is pending to a process, by itself.
@@ -39,64 +43,64 @@ fn raise_sigpipe(entries: &mut Table, pid: u32)
     entries.set_signals(pid, signals);
 }
 
-fn break_pipe(shared: &mut Shared, pid: u32, body: &mut Body) -> Reply
-    ensures answer { answer_of result shared.new body.new ≡ breaks_pipe_of shared.old pid body.old }
-    ensures kept { Kept result shared.old body.old shared.new body.new }
+fn break_pipe(shared: &mut Shared, pid: u32, user: &mut UserState) -> CallReply
+    ensures answer { answer_of result shared.new user.new ≡ breaks_pipe_of shared.old pid user.old }
+    ensures kept { Kept result shared.old user.old shared.new user.new }
 {
     raise_sigpipe(&mut shared.entries, pid);
-    Reply::Returned(Errno::EPIPE.word())
+    CallReply::Returned(Errno::EPIPE.word())
 }
 
 fn write_pipe(
     alloc: Global,
     shared: &mut Shared,
     pid: u32,
-    body: &mut Body,
+    user: &mut UserState,
     pipe: u32,
     bytes: &[u8],
-) -> Result<Reply, AllocError>
+) -> Result<CallReply, AllocError>
     requires { length bytes.now ≤ 65536 }
-    ensures answer { IfOk result (λ r. answer_of r shared.new body.new
-        ≡ writes_pipe shared.old pid body.old pipe bytes.now) }
-    ensures kept { IfOk result (λ r. Kept r shared.old body.old shared.new body.new) }
+    ensures answer { IfOk result (λ r. answer_of r shared.new user.new
+        ≡ writes_pipe shared.old pid user.old pipe bytes.now) }
+    ensures kept { IfOk result (λ r. Kept r shared.old user.old shared.new user.new) }
     ensures console { OnErr result (shared.new.console ≡ shared.old.console) }
 {
     if !shared.fds.descriptions.has_readers(pipe) {
-        return Ok(break_pipe(shared, pid, body));
+        return Ok(break_pipe(shared, pid, user));
     }
     if shared.fds.held(pipe).len() > PIPE_SIZE - bytes.len() {
-        return Ok(Reply::Blocked);
+        return Ok(CallReply::Blocked);
     }
     shared.fds.put_in_pipe(alloc, pipe, bytes)?;
-    Ok(Reply::Returned(bytes.len() as u64))
+    Ok(CallReply::Returned(bytes.len() as u64))
 }
 
 fn write_at(
     shared: &mut Shared,
-    body: &mut Body,
+    user: &mut UserState,
     slot: Slot,
     node: u32,
     at: u64,
     bytes: &[u8],
-) -> Result<Reply, AllocError>
+) -> Result<CallReply, AllocError>
     requires { length bytes.now ≤ 65536 }
-    ensures answer { IfOk result (λ r. answer_of r shared.new body.new
-        ≡ writes_at shared.old body.old slot node at bytes.now) }
-    ensures kept { IfOk result (λ r. Kept r shared.old body.old shared.new body.new) }
+    ensures answer { IfOk result (λ r. answer_of r shared.new user.new
+        ≡ writes_at shared.old user.old slot node at bytes.now) }
+    ensures kept { IfOk result (λ r. Kept r shared.old user.old shared.new user.new) }
     ensures console { OnErr result (shared.new.console ≡ shared.old.console) }
 {
     let n = bytes.len() as u64;
     if at > LARGEST_FILE - n {
-        return Ok(Reply::Refused(Errno::EFBIG));
+        return Ok(CallReply::Refused(Errno::EFBIG));
     }
     let old = content(&shared.tree, node).len();
     let after = length_after(old, at as usize, bytes.len());
     if !has_space(shared, old as u64, after as u64) {
-        return Ok(Reply::Refused(Errno::ENOSPC));
+        return Ok(CallReply::Refused(Errno::ENOSPC));
     }
     shared.tree.nodes.overwrite(node, at as usize, bytes)?;
     shared.fds.descriptions.move_to(slot.description, at + n);
-    Ok(Reply::Returned(n))
+    Ok(CallReply::Returned(n))
 }
 
 /// Where a write begins.
@@ -112,45 +116,45 @@ fn start(shared: &Shared, description: Description, node: u32) -> u64
 
 fn write_file(
     shared: &mut Shared,
-    body: &mut Body,
+    user: &mut UserState,
     slot: Slot,
     description: Description,
     node: u32,
     bytes: &[u8],
-) -> Result<Reply, AllocError>
+) -> Result<CallReply, AllocError>
     requires { length bytes.now ≤ 65536 }
-    ensures answer { IfOk result (λ r. answer_of r shared.new body.new
-        ≡ writes_file shared.old body.old slot description node bytes.now) }
-    ensures kept { IfOk result (λ r. Kept r shared.old body.old shared.new body.new) }
+    ensures answer { IfOk result (λ r. answer_of r shared.new user.new
+        ≡ writes_file shared.old user.old slot description node bytes.now) }
+    ensures kept { IfOk result (λ r. Kept r shared.old user.old shared.new user.new) }
     ensures console { OnErr result (shared.new.console ≡ shared.old.console) }
 {
     if bytes.len() == 0 {
-        return Ok(Reply::Returned(0));
+        return Ok(CallReply::Returned(0));
     }
     let at = start(shared, description, node);
-    write_at(shared, body, slot, node, at, bytes)
+    write_at(shared, user, slot, node, at, bytes)
 }
 
 fn write_object(
     alloc: Global,
     shared: &mut Shared,
     pid: u32,
-    body: &mut Body,
+    user: &mut UserState,
     slot: Slot,
     description: Description,
     bytes: &[u8],
-) -> Result<Reply, AllocError>
+) -> Result<CallReply, AllocError>
     requires { length bytes.now ≤ 65536 }
-    ensures answer { IfOk result (λ r. answer_of r shared.new body.new
-        ≡ writes_object shared.old pid body.old slot description bytes.now description.object) }
-    ensures kept { IfOk result (λ r. Kept r shared.old body.old shared.new body.new) }
+    ensures answer { IfOk result (λ r. answer_of r shared.new user.new
+        ≡ writes_object shared.old pid user.old slot description bytes.now description.object) }
+    ensures kept { IfOk result (λ r. Kept r shared.old user.old shared.new user.new) }
     ensures console { OnErr result (shared.new.console ≡ shared.old.console) }
 {
     match description.object {
-        Object::Console => write_console(shared, body, bytes),
-        Object::Input | Object::ReadEnd(_) => Ok(Reply::Refused(Errno::EBADF)),
-        Object::WriteEnd(pipe) => write_pipe(alloc, shared, pid, body, pipe, bytes),
-        Object::Opened(node) => write_file(shared, body, slot, description, node, bytes),
+        Object::Console => write_console(shared, user, bytes),
+        Object::Input | Object::ReadEnd(_) => Ok(CallReply::Refused(Errno::EBADF)),
+        Object::WriteEnd(pipe) => write_pipe(alloc, shared, pid, user, pipe, bytes),
+        Object::Opened(node) => write_file(shared, user, slot, description, node, bytes),
     }
 }
 
@@ -162,33 +166,33 @@ pub fn write(
     shared: &mut Shared,
     pid: u32,
     call: &Call,
-    body: &mut Body,
-) -> Result<Reply, AllocError>
-    ensures answer { IfOk result (λ r. answer_of r shared.new body.new ≡ meaning shared.old pid call.now body.old) }
-    ensures kept { IfOk result (λ r. Kept r shared.old body.old shared.new body.new) }
+    user: &mut UserState,
+) -> Result<CallReply, AllocError>
+    ensures answer { IfOk result (λ r. answer_of r shared.new user.new ≡ meaning shared.old pid call.now user.old) }
+    ensures kept { IfOk result (λ r. Kept r shared.old user.old shared.new user.new) }
     ensures console { OnErr result (shared.new.console ≡ shared.old.console) }
 {
     let Some(slot) = shared.fds.slot(pid, low_argument(call, 0)) else {
-        return Ok(Reply::Refused(Errno::EBADF));
+        return Ok(CallReply::Refused(Errno::EBADF));
     };
     let Some(description) = shared.fds.descriptions.get(slot.description) else {
-        return Ok(Reply::Refused(Errno::EBADF));
+        return Ok(CallReply::Refused(Errno::EBADF));
     };
     if !description.may_write {
-        return Ok(Reply::Refused(Errno::EBADF));
+        return Ok(CallReply::Refused(Errno::EBADF));
     }
     let count = call.arguments[2].min(MOST_MOVED) as usize;
-    match body.memory.read(call.arguments[1], count) {
+    match user.memory.read(call.arguments[1], count) {
         Ok(bytes) => write_object(
             alloc,
             shared,
             pid,
-            body,
+            user,
             slot,
             description,
             bytes.as_slice(),
         ),
         Err(MemFault::Memory) => Err(AllocError),
-        Err(_) => Ok(Reply::Refused(Errno::EFAULT)),
+        Err(_) => Ok(CallReply::Refused(Errno::EFAULT)),
     }
 }

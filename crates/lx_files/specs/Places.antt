@@ -13,8 +13,8 @@ use Rattle.lx_files.specs.Limits.{longest_name}
 use Rattle.lx_files.specs.Paths.{Path, slash, parent}
 use Rattle.lx_files.specs.Trees.{Tree, node_at}
 pub use Rattle.lx_files.specs.declared.places.Place.{Place}
-use Rattle.lx_files.specs.declared.places.Sight.{Sight}
-use Rattle.lx_files.specs.declared.places.Sight.TheVariants.{Absent, IsFile, IsDirectory, NotDirectory}
+use Rattle.lx_files.specs.declared.places.Lookup.{Lookup}
+use Rattle.lx_files.specs.declared.places.Lookup.TheVariants.{Absent, IsFile, IsDirectory, NotDirectory}
 
 -- on from an answer, unless it is a refusal
 abbrev pub and_then : {A B : Type 0} → (A → Result B ℕ) → Result A ℕ → Result B ℕ
@@ -91,11 +91,11 @@ abbrev pub path_of : Place → Path
 path_of place = beyond place.under place.last
 
 -- what stands at a path; a slash behind it wants a directory
-abbrev pub sight : Bool → Option Node → Sight
+abbrev pub sight : Bool → Option Node → Lookup
 sight slashed None = Absent
 sight true (Some (File bytes)) = NotDirectory
 sight false (Some (File bytes)) = IsFile
 sight slashed (Some Directory) = IsDirectory
 
-abbrev pub seen : Tree → Place → Sight
+abbrev pub seen : Tree → Place → Lookup
 seen tree place = sight place.slashed (node_at tree (path_of place))

@@ -28,7 +28,7 @@ const LONGEST_NAME: usize = 255;
 
 /// What stands at a place.
 #[derive(Clone, Copy, Debug, PartialEq, Eq)]
-pub enum Sight {
+pub enum Lookup {
     Absent,
     IsFile,
     IsDirectory,
@@ -171,17 +171,17 @@ pub fn path(alloc: Global, place: &Place) -> Result<Vec<u8>, AllocError>
 }
 
 /// What stands at a path.
-pub fn look(tree: &Tree, slashed: bool, path: &[u8]) -> Sight
+pub fn look(tree: &Tree, slashed: bool, path: &[u8]) -> Lookup
     ensures { result ≡ sight_of slashed (node_at tree.now path.now) }
 {
     match tree.find(path) {
-        None => Sight::Absent,
-        Some(Node::Directory) => Sight::IsDirectory,
+        None => Lookup::Absent,
+        Some(Node::Directory) => Lookup::IsDirectory,
         Some(Node::File(_)) => {
             if slashed {
-                Sight::NotDirectory
+                Lookup::NotDirectory
             } else {
-                Sight::IsFile
+                Lookup::IsFile
             }
         }
     }

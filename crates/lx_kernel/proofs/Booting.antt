@@ -5,7 +5,7 @@ use Rattle.lx_model.specs.Kernel.{first_kernel, kernel_run}
 use Rattle.lx_model.specs.Finite.{Is, running, first_running}
 use Rattle.lx_model.specs.Laws.{KernelsBeginAlike, KernelsRunAlike}
 use Rattle.lx_proc.specs.declared.state.Shared.{Shared}
-use Rattle.lx_proc.specs.declared.state.Body.{Body}
+use Rattle.lx_proc.specs.declared.state.UserState.{UserState}
 use Rattle.lx_boot.specs.First.{first_shared}
 use Rattle.lx_kernel.specs.First.{first_run}
 use Rattle.lx_turn.specs.Linux.{linux}
@@ -18,10 +18,10 @@ after_all_is : (k : Run) (pids : List ℕ) → (after_all k pids).running ≡ ru
 after_all_is k [] = refl
 after_all_is k (p ∷ pids) = after_all_is (after_turn k p) pids
 
-pub boots_run_alike : KernelsBeginAlike Shared Body → KernelsRunAlike Shared Body → BootsRunAlike
+pub boots_run_alike : KernelsBeginAlike Shared UserState → KernelsRunAlike Shared UserState → BootsRunAlike
 boots_run_alike begin run boot script pids =
     let k : Run = first_run boot script in
     let s : Shared = first_shared boot.files boot.input in
-    let b : Body = booted boot.argv boot.env in
+    let b : UserState = booted boot.argv boot.env in
     let whole = kernel_run linux (choice_of script) boot.follow (first_kernel s b) pids in
     subst (λ v. Is v whole) (sym (after_all_is k pids)) (run linux (choice_of script) boot.follow (first_running s b) (first_kernel s b) (begin s b) pids)

@@ -13,7 +13,7 @@ use Rattle.lx_abi.specs.declared.log.Cause.TheVariants.{Fault}
 use Rattle.lx_abi.specs.declared.signal.Signal.{Signal}
 use Rattle.lx_model.specs.Machine.{Ran, Goes, Calls, Faults}
 use Rattle.lx_proc.specs.declared.state.Shared.{Shared}
-use Rattle.lx_proc.specs.declared.state.Body.{Body}
+use Rattle.lx_proc.specs.declared.state.UserState.{UserState}
 use Rattle.lx_sig.specs.declared.state.Interrupted.{Interrupted}
 use Rattle.lx_proc.specs.Registers.{made_again}
 use Rattle.lx_turn.specs.Reactions.{resumed, ran_by, fault_signal}
@@ -21,20 +21,20 @@ use Rattle.lx_kernel.specs.Bursts.{Follows, Halts, Continues}
 use Rattle.lx_turn.proofs.Steps.{kept_by}
 
 abbrev Turns : Type 0
-Turns = Ran Shared Body
+Turns = Ran Shared UserState
 
-calls_no_body : (d : Body) → ◌≢◌ {A = Turns} Calls (Goes d)
-calls_no_body d = λ e. cc
+calls_no_user : (d : UserState) → ◌≢◌ {A = Turns} Calls (Goes d)
+calls_no_user d = λ e. cc
 
-faults_no_body : (signal : Signal) (cause : Cause) (d : Body) → ◌≢◌ {A = Turns} (Faults signal cause) (Goes d)
-faults_no_body signal cause d = λ e. cc
+faults_no_user : (signal : Signal) (cause : Cause) (d : UserState) → ◌≢◌ {A = Turns} (Faults signal cause) (Goes d)
+faults_no_user signal cause d = λ e. cc
 
 -- what leads nowhere is no turn from its body
-halts_by : (b : Body) (r : Turns) → resumed b b.interrupted ≡ r → ((d : Body) → r ≢ Goes d) → Halts b
+halts_by : (b : UserState) (r : Turns) → resumed b b.interrupted ≡ r → ((d : UserState) → r ≢ Goes d) → Halts b
 halts_by b r is never = λ d e. never d (sym is ∙ e)
 
 -- no turn
-none_follows : (limit n : ℕ) (b c : Body) → 0 ≡ n → b ≡ c → (0 < limit → Halts b) → Continues limit n b c
+none_follows : (limit n : ℕ) (b c : UserState) → 0 ≡ n → b ≡ c → (0 < limit → Halts b) → Continues limit n b c
 none_follows limit n b c none same halts =
     record {
       within = omega (arith, none);
@@ -43,7 +43,7 @@ none_follows limit n b c none same halts =
     }
 
 -- one turn more
-pub one_more : (limit n : ℕ) (b d c : Body) → resumed b b.interrupted ≡ Goes d → Continues limit n d c → Continues (suc limit) (suc n) b c
+pub one_more : (limit n : ℕ) (b d c : UserState) → resumed b b.interrupted ≡ Goes d → Continues limit n d c → Continues (suc limit) (suc n) b c
 one_more limit n b d c goes rest =
     let within : n ≤ limit = rest.within in
     record {
@@ -52,12 +52,12 @@ one_more limit n b d c goes rest =
       halts = λ l. rest.halts (omega (arith, l));
     }
 
-module _ (b : Body) (none : b.interrupted ≡ None) where
+module _ (b : UserState) (none : b.interrupted ≡ None) where
   abbrev first : Outcome
   first = hart.stepped b.hart b.memory
 
   -- the body after its first step
-  abbrev next : Body
+  abbrev next : UserState
   next = record b { hart = first.hart; memory = first.memory }
 
   -- what the first step did, as a turn
@@ -65,8 +65,8 @@ module _ (b : Body) (none : b.interrupted ≡ None) where
   resumed_by t is = ap (resumed b) none ∙ ap (ran_by b first) is
 
   -- a step that ran nothing left the body
-  same_body : (t : Step) (s : Step) (h : Hart) (m : Memory) → (first.hart ≡ b.hart) × (first.memory ≡ b.memory) → first ≡ outcome s h m → b ≡ record b { hart = h; memory = m }
-  same_body t s h m kept last =
+  same_user : (t : Step) (s : Step) (h : Hart) (m : Memory) → (first.hart ≡ b.hart) × (first.memory ≡ b.memory) → first ≡ outcome s h m → b ≡ record b { hart = h; memory = m }
+  same_user t s h m kept last =
       let harts : b.hart ≡ h = sym kept.0 ∙ ap (λ o. o.hart) last in
       let memories : b.memory ≡ m = sym kept.1 ∙ ap (λ o. o.memory) last in
       λ i. record b { hart = harts i; memory = memories i }
@@ -82,15 +82,15 @@ module _ (b : Body) (none : b.interrupted ≡ None) where
       (one_more l ran.ran b next (record b { hart = h; memory = m }) (resumed_by step.Ran is) (rest ran.ran (ap (λ q. course ran.ran q.last) e)))
   by_first step.Call l n s h m is e rest =
       none_follows (suc l) n b (record b { hart = h; memory = m }) (ap (λ q. q.ran) e)
-      (same_body step.Call s h m (kept_by b.hart b.memory step.Call first.hart first.memory (ap (λ t. outcome t first.hart first.memory) is)) (ap (λ q. q.last) e))
-      (λ l. halts_by b Calls (resumed_by step.Call is) calls_no_body)
+      (same_user step.Call s h m (kept_by b.hart b.memory step.Call first.hart first.memory (ap (λ t. outcome t first.hart first.memory) is)) (ap (λ q. q.last) e))
+      (λ l. halts_by b Calls (resumed_by step.Call is) calls_no_user)
   by_first (step.Fault kind address) l n s h m is e rest =
       none_follows (suc l) n b (record b { hart = h; memory = m }) (ap (λ q. q.ran) e)
-      (same_body (step.Fault kind address) s h m (kept_by b.hart b.memory (step.Fault kind address) first.hart first.memory (ap (λ t. outcome t first.hart first.memory) is)) (ap (λ q. q.last) e))
-      (λ l. halts_by b (Faults (fault_signal kind) (Fault (signal_code kind) address)) (resumed_by (step.Fault kind address) is) (faults_no_body (fault_signal kind) (Fault (signal_code kind) address)))
+      (same_user (step.Fault kind address) s h m (kept_by b.hart b.memory (step.Fault kind address) first.hart first.memory (ap (λ t. outcome t first.hart first.memory) is)) (ap (λ q. q.last) e))
+      (λ l. halts_by b (Faults (fault_signal kind) (Fault (signal_code kind) address)) (resumed_by (step.Fault kind address) is) (faults_no_user (fault_signal kind) (Fault (signal_code kind) address)))
 
 -- a run of instructions is a row of turns
-pub run_continues : (limit : ℕ) (b : Body) → b.interrupted ≡ None → (n : ℕ) (s : Step) (h : Hart) (m : Memory) → run_of limit b.hart b.memory ≡ course n (outcome s h m) → Continues limit n b (record b { hart = h; memory = m })
+pub run_continues : (limit : ℕ) (b : UserState) → b.interrupted ≡ None → (n : ℕ) (s : Step) (h : Hart) (m : Memory) → run_of limit b.hart b.memory ≡ course n (outcome s h m) → Continues limit n b (record b { hart = h; memory = m })
 unfolding run_of
 run_continues zero b none n s h m e =
     none_follows zero n b (record b { hart = h; memory = m }) (ap (λ q. q.ran) e)
@@ -99,8 +99,8 @@ run_continues (suc l) b none n s h m e =
     by_first b none (hart.stepped b.hart b.memory).step l n s h m refl e (λ k. run_continues l (next b none) none k s h m)
 
 -- an interrupted call is made again, and then instructions run
-pub again_continues : (limit n : ℕ) (b c : Body) (at : Interrupted) → b.interrupted ≡ Some at → Continues limit n (made_again b at) c → Continues (suc limit) (suc n) b c
+pub again_continues : (limit n : ℕ) (b c : UserState) (at : Interrupted) → b.interrupted ≡ Some at → Continues limit n (made_again b at) c → Continues (suc limit) (suc n) b c
 again_continues limit n b c at is rest = one_more limit n b (made_again b at) c (ap (resumed b) is) rest
 
-pub no_turns : (b : Body) → Continues 0 0 b b
+pub no_turns : (b : UserState) → Continues 0 0 b b
 no_turns b = none_follows 0 0 b b refl refl (λ l. absurd (omega (arith, l)))

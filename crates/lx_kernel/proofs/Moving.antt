@@ -11,14 +11,14 @@ use Rattle.lx_model.specs.Machine.{Answer, Refused, Returns, Jumps, Execs, Bears
 use Rattle.lx_model.specs.Turn.{turn, killed_or, lives, answered, took, chosen, result_word, stage_mode}
 use Rattle.lx_model.specs.declared.stage.Stage.{Stage}
 use Rattle.lx_model.specs.declared.stage.Stage.TheVariants.{Born, Run, Faulting, Entered, Doing, Replaced, Acted, Finished, Taken, Dropped}
-use Rattle.lx_model.specs.declared.stage.Own.{Own}
-use Rattle.lx_model.specs.declared.stage.Own.TheVariants.{Alive, Dying, Gone}
-use Rattle.lx_model.specs.Finite.{own_mode, at}
+use Rattle.lx_model.specs.declared.stage.Task.{Task}
+use Rattle.lx_model.specs.declared.stage.Task.TheVariants.{Alive, Dying, Gone}
+use Rattle.lx_model.specs.Finite.{task_mode, at}
 use Rattle.lx_model.specs.Kernel.{traces, choice_at}
 use Rattle.lx_abi.specs.Scripts.{choice_of}
 use Rattle.lx_abi.specs.Log.{entries}
 use Rattle.lx_proc.specs.declared.state.Shared.{Shared}
-use Rattle.lx_proc.specs.declared.state.Body.{Body}
+use Rattle.lx_proc.specs.declared.state.UserState.{UserState}
 use Rattle.lx_proc.specs.Answers.{is_blocked}
 use Rattle.lx_pcalls.specs.Taking.{takes}
 use Rattle.lx_turn.specs.Blocking.{would_block, waits, can_turn}
@@ -30,7 +30,7 @@ use Rattle.lx_kernel.specs.Runs.{Run as KernelRun, is_able_in}
 use Rattle.lx_turn.proofs.Waiting.{does_waits}
 
 -- where it waits, its process stays in Doing, and else it leaves it
-answered_moves : (s : Shared) (child p : ℕ) (b : Body) (call : Call) (a : Answer Shared Body) → is_blocked a ≡ false → own_mode (answered linux s child p b call a).own ≢ Some mode.Doing
+answered_moves : (s : Shared) (child p : ℕ) (b : UserState) (call : Call) (a : Answer Shared UserState) → is_blocked a ≡ false → task_mode (answered linux s child p b call a).task ≢ Some mode.Doing
 answered_moves s child p b call (Refused e) h = λ e. cc
 answered_moves s child p b call (Returns t c x) h = λ e. cc
 answered_moves s child p b call (Jumps t c) h = λ e. cc
@@ -39,7 +39,7 @@ answered_moves s child p b call (Bears t c born) h = λ e. cc
 answered_moves s child p b call Blocks h = absurd (cc h)
 answered_moves s child p b call (Ends w) h = λ e. cc
 
-answered_waits : (s : Shared) (child p : ℕ) (b : Body) (call : Call) (a : Answer Shared Body) → is_blocked a ≡ true → own_mode (answered linux s child p b call a).own ≡ Some mode.Doing
+answered_waits : (s : Shared) (child p : ℕ) (b : UserState) (call : Call) (a : Answer Shared UserState) → is_blocked a ≡ true → task_mode (answered linux s child p b call a).task ≡ Some mode.Doing
 answered_waits s child p b call (Refused e) h = absurd (cc h)
 answered_waits s child p b call (Returns t c x) h = absurd (cc h)
 answered_waits s child p b call (Jumps t c) h = absurd (cc h)
@@ -48,27 +48,27 @@ answered_waits s child p b call (Bears t c born) h = absurd (cc h)
 answered_waits s child p b call Blocks h = refl
 answered_waits s child p b call (Ends w) h = absurd (cc h)
 
-chosen_moves : (b : Body) (call : Call) (o : Option ℕ) → own_mode (Alive b (chosen call o)) ≢ Some mode.Entered
+chosen_moves : (b : UserState) (call : Call) (o : Option ℕ) → task_mode (Alive b (chosen call o)) ≢ Some mode.Entered
 chosen_moves b call None = λ e. cc
 chosen_moves b call (Some x) = λ e. cc
 
-took_moves : (s : Shared) (p : ℕ) (signal : Signal) (cause : Cause) (t : Took Shared Body) → own_mode (took linux s p signal cause t).own ≢ Some mode.Taken
+took_moves : (s : Shared) (p : ℕ) (signal : Signal) (cause : Cause) (t : Took Shared UserState) → task_mode (took linux s p signal cause t).task ≢ Some mode.Taken
 took_moves s p signal cause (Passes t c) = λ e. cc
 took_moves s p signal cause (Kills w) = λ e. cc
 
-abbrev IsMoved : Choice → Shared → ℕ → ℕ → Body → Stage → Own Body → Type 0
-IsMoved c s child p b stage after = (own_mode (Alive b stage) ≡ Some mode.Run) ⊎ (own_mode after ≢ own_mode (Alive b stage))
+abbrev IsMoved : Choice → Shared → ℕ → ℕ → UserState → Stage → Task UserState → Type 0
+IsMoved c s child p b stage after = (task_mode (Alive b stage) ≡ Some mode.Run) ⊎ (task_mode after ≢ task_mode (Alive b stage))
 
 -- a turn of a process that waits changes nothing, and of one that doesn't
-abbrev Turns : Bool → Choice → Shared → ℕ → ℕ → Body → Stage → Own Body → Type 0
+abbrev Turns : Bool → Choice → Shared → ℕ → ℕ → UserState → Stage → Task UserState → Type 0
 Turns false c s child p b stage after = IsMoved c s child p b stage after
 Turns true c s child p b stage after = IsMoved c s child p b stage after → ⊥
 
-doing_turns : (c : Choice) (s : Shared) (child p : ℕ) (b : Body) (call : Call) (w : Bool) → would_block s p call b ≡ w → Turns w c s child p b (Doing call) (answered linux s child p b call (does s child p call b)).own
+doing_turns : (c : Choice) (s : Shared) (child p : ℕ) (b : UserState) (call : Call) (w : Bool) → would_block s p call b ≡ w → Turns w c s child p b (Doing call) (answered linux s child p b call (does s child p call b)).task
 doing_turns c s child p b call false is = inr (answered_moves s child p b call (does s child p call b) (does_waits s child p call b ∙ is))
 doing_turns c s child p b call true is = λ h. elim h [ inl e ↦ absurd (cc e) | inr ne ↦ absurd (ne (answered_waits s child p b call (does s child p call b) (does_waits s child p call b ∙ is))) ]
 
-lives_turns : (c : Choice) (s : Shared) (child p : ℕ) (b : Body) (stage : Stage) → Turns (waits s p b stage) c s child p b stage (lives linux c s child p b stage).own
+lives_turns : (c : Choice) (s : Shared) (child p : ℕ) (b : UserState) (stage : Stage) → Turns (waits s p b stage) c s child p b stage (lives linux c s child p b stage).task
 lives_turns c s child p b Born = inr (λ e. cc)
 lives_turns c s child p b Run = inl refl
 lives_turns c s child p b (Faulting signal cause) = inr (λ e. cc)
@@ -96,24 +96,24 @@ not_dying Dropped = λ e. cc
 abbrev Moves : Bool → Type 0 → Type 0
 Moves can moved = (IsTrue can → moved) × (moved → IsTrue can)
 
-waits_move : (w : Bool) (c : Choice) (s : Shared) (child p : ℕ) (b : Body) (stage : Stage) (after : Own Body) → Turns w c s child p b stage after → Moves (not w) (IsMoved c s child p b stage after)
+waits_move : (w : Bool) (c : Choice) (s : Shared) (child p : ℕ) (b : UserState) (stage : Stage) (after : Task UserState) → Turns w c s child p b stage after → Moves (not w) (IsMoved c s child p b stage after)
 waits_move false c s child p b stage after h = (λ e. h, λ m. refl)
 waits_move true c s child p b stage after h = (λ e. absurd (cc e), λ m. absurd (h m))
 
-killed_moves : (killed : Bool) (c : Choice) (s : Shared) (child p : ℕ) (b : Body) (stage : Stage) → Moves (killed || not (waits s p b stage)) (IsMoved c s child p b stage (killed_or killed linux c s child p b stage).own)
+killed_moves : (killed : Bool) (c : Choice) (s : Shared) (child p : ℕ) (b : UserState) (stage : Stage) → Moves (killed || not (waits s p b stage)) (IsMoved c s child p b stage (killed_or killed linux c s child p b stage).task)
 killed_moves true c s child p b stage = (λ e. inr (not_dying stage), λ m. refl)
-killed_moves false c s child p b stage = waits_move (waits s p b stage) c s child p b stage (lives linux c s child p b stage).own (lives_turns c s child p b stage)
+killed_moves false c s child p b stage = waits_move (waits s p b stage) c s child p b stage (lives linux c s child p b stage).task (lives_turns c s child p b stage)
 
 module _ (k : KernelRun) (pid : ℕ) where
-  abbrev IsAbleAs : Own Body → Type 0
-  IsAbleAs own = (own_mode own ≡ Some mode.Run) ⊎ (own_mode (turn linux (choice_at linux (choice_of k.script) (traces k.follow pid) (λ n. entries pid n k.running.log) own) k.running.shared k.running.child pid own).own ≢ own_mode own)
+  abbrev IsAbleAs : Task UserState → Type 0
+  IsAbleAs task = (task_mode task ≡ Some mode.Run) ⊎ (task_mode (turn linux (choice_at linux (choice_of k.script) (traces k.follow pid) (λ n. entries pid n k.running.log) task) k.running.shared k.running.child pid task).task ≢ task_mode task)
 
-  able_as : (own : Own Body) → IsTrue (can_turn k.running.shared pid own) ↔ IsAbleAs own
+  able_as : (task : Task UserState) → IsTrue (can_turn k.running.shared pid task) ↔ IsAbleAs task
   unfolding can_turn
   able_as (Alive b stage) = killed_moves (is_killed (maps.get k.running.shared.entries pid)) _ k.running.shared k.running.child pid b stage
   able_as (Dying w) = (λ e. inr (λ e. cc), λ h. refl)
   able_as Gone = (λ e. absurd (cc e), λ h. elim h [ inl e ↦ absurd (cc e) | inr ne ↦ absurd (ne refl) ])
 
   -- a process is able exactly where a turn of it does something
-  pub able_where_turns : IsTrue (can_turn_in k.running.shared k.running.owns pid) ↔ is_able_in k pid
-  able_where_turns = able_as (at Gone k.running.owns pid)
+  pub able_where_turns : IsTrue (can_turn_in k.running.shared k.running.tasks pid) ↔ is_able_in k pid
+  able_where_turns = able_as (at Gone k.running.tasks pid)

@@ -7,10 +7,10 @@ use Rattle.std.specs.FinMap.{FinMap}
 use Rattle.containers.specs.Keys.{IsNextKey}
 use Rattle.lx_model.specs.Finite.{at}
 use Rattle.lx_model.specs.declared.stage.Stage.TheVariants as stage
-use Rattle.lx_model.specs.declared.stage.Own.{Own}
-use Rattle.lx_model.specs.declared.stage.Own.TheVariants.{Alive, Dying, Gone}
+use Rattle.lx_model.specs.declared.stage.Task.{Task}
+use Rattle.lx_model.specs.declared.stage.Task.TheVariants.{Alive, Dying, Gone}
 use Rattle.lx_proc.specs.declared.state.Shared.{Shared}
-use Rattle.lx_proc.specs.declared.state.Body.{Body}
+use Rattle.lx_proc.specs.declared.state.UserState.{UserState}
 use Rattle.lx_fcalls.specs.Blocking.{would_block as file_would_block}
 use Rattle.lx_pcalls.specs.Calls.{would_block as process_would_block}
 use Rattle.lx_pcalls.specs.Interruption.{is_interrupted}
@@ -18,7 +18,7 @@ use Rattle.lx_kernel.specs.Runs.{Run, is_able_in}
 use Rattle.lx_turn.specs.Blocking.{can_turn, would_block}
 use Rattle.lx_kernel.specs.Scheduling.{can_turn_in}
 use Rattle.lx_turn.specs.Reactions.{is_killed}
-use Rattle.lx_kernel.specs.Scheduling.{Owns, AreUnable, IsFirstFrom, IsNextIn, IsNextOf}
+use Rattle.lx_kernel.specs.Scheduling.{Tasks, AreUnable, IsFirstFrom, IsNextIn, IsNextOf}
 use Rattle.lx_turn.specs.Resting.{rests}
 use Rattle.lx_kernel.specs.Sleeping.{AllRest}
 use Rattle.lx_kernel.proofs.Moving.{able_where_turns}
@@ -26,7 +26,7 @@ use Rattle.lx_kernel.proofs.Sleeping.{below}
 
 module _ (k : Run) where
   abbrev can : ℕ → Bool
-  can q = can_turn_in k.running.shared k.running.owns q
+  can q = can_turn_in k.running.shared k.running.tasks q
 
   able_there : (q : ℕ) → can q ≡ true → is_able_in k q
   able_there q e = (able_where_turns k q).0 e
@@ -34,7 +34,7 @@ module _ (k : Run) where
   not_able : (q : ℕ) → can q ≡ false → is_able_in k q → ⊥
   not_able q e able = let h : can q ≡ true = (able_where_turns k q).1 able in cc
 
-  pub next_above : (after pid : ℕ) → IsFirstFrom k.running.shared k.running.owns (after + 1) (Some pid) → IsNextOf k after (Some pid)
+  pub next_above : (after pid : ℕ) → IsFirstFrom k.running.shared k.running.tasks (after + 1) (Some pid) → IsNextOf k after (Some pid)
   next_above after pid h =
       let low = h.0 in
       record {
@@ -43,7 +43,7 @@ module _ (k : Run) where
         else_first = λ le. absurd (omega (arith, low));
       }
 
-  pub next_first : (after : ℕ) (o : Option ℕ) → IsFirstFrom k.running.shared k.running.owns (after + 1) None → IsFirstFrom k.running.shared k.running.owns 0 o → IsNextOf k after o
+  pub next_first : (after : ℕ) (o : Option ℕ) → IsFirstFrom k.running.shared k.running.tasks (after + 1) None → IsFirstFrom k.running.shared k.running.tasks 0 o → IsNextOf k after o
   next_first after None none h = λ q able. not_able q (h q (omega arith)) able
   next_first after (Some pid) none h = record {
     able = able_there pid h.1;
@@ -51,11 +51,11 @@ module _ (k : Run) where
     else_first = λ le q able. below pid q (pid ≤ q) (nat_le pid q) refl (λ le. le) (λ less. absurd (not_able q (h.2 q (omega arith) less) able));
   }
 
-  next_of : (after : ℕ) (o : Option ℕ) → IsSome o → IsFirstFrom k.running.shared k.running.owns (after + 1) o → IsNextOf k after o
+  next_of : (after : ℕ) (o : Option ℕ) → IsSome o → IsFirstFrom k.running.shared k.running.tasks (after + 1) o → IsNextOf k after o
   next_of after None some h = absurd (cc some)
   next_of after (Some pid) some h = next_above after pid h
 
-  pub next_in : (after : ℕ) (o : Option ℕ) → IsNextIn k.running.shared k.running.owns after o → IsNextOf k after o
+  pub next_in : (after : ℕ) (o : Option ℕ) → IsNextIn k.running.shared k.running.tasks after o → IsNextOf k after o
   next_in after o h = elim h [ inl above ↦ next_of after o above.0 above.1 | inr first ↦ next_first after o first.0 first.1 ]
 
 -- Who rests has no turn
@@ -67,7 +67,7 @@ quiet_waits false true other true e = absurd (cc e)
 quiet_waits false true other false e = refl
 quiet_waits false false other interrupted e = absurd (cc e)
 
-rests_unable : (s : Shared) (q : ℕ) (own : Own Body) → rests s q own ≡ true → can_turn s q own ≡ false
+rests_unable : (s : Shared) (q : ℕ) (task : Task UserState) → rests s q task ≡ true → can_turn s q task ≡ false
 unfolding rests can_turn would_block
 rests_unable s q (Alive b stage.Born) e = absurd (cc e)
 rests_unable s q (Alive b stage.Run) e = absurd (cc e)
@@ -82,22 +82,22 @@ rests_unable s q (Alive b stage.Dropped) e = absurd (cc e)
 rests_unable s q (Dying w) e = absurd (cc e)
 rests_unable s q Gone e = refl
 
-module _ {X : Type 0} (keys : FinMap nat_cmp X) (s : Shared) (owns : Owns) (rest : AllRest keys s owns) (after passed : ℕ) (low : after ≤ passed) (unable : AreUnable s owns (after + 1) (passed + 1)) where
-  resting : (q : ℕ) → 0 < q → maps.get keys q ≡ None → can_turn_in s owns q ≡ false
-  resting q up none = rests_unable s q (at Gone owns q) (rest q up none)
+module _ {X : Type 0} (keys : FinMap nat_cmp X) (s : Shared) (tasks : Tasks) (rest : AllRest keys s tasks) (after passed : ℕ) (low : after ≤ passed) (unable : AreUnable s tasks (after + 1) (passed + 1)) where
+  resting : (q : ℕ) → 0 < q → maps.get keys q ≡ None → can_turn_in s tasks q ≡ false
+  resting q up none = rests_unable s q (at Gone tasks q) (rest q up none)
 
   -- none up to the next key
-  pub unable_before : (pid : ℕ) → IsNextKey keys passed (Some pid) → AreUnable s owns (after + 1) pid
-  unable_before pid next = λ q from to. below q passed (can_turn_in s owns q ≡ false) (nat_le q passed) refl
+  pub unable_before : (pid : ℕ) → IsNextKey keys passed (Some pid) → AreUnable s tasks (after + 1) pid
+  unable_before pid next = λ q from to. below q passed (can_turn_in s tasks q ≡ false) (nat_le q passed) refl
       (λ le. unable q from (omega (arith, le)))
       (λ lt. resting q (omega (arith, lt)) (next.2 q lt to))
 
-  pub unable_upto : (pid : ℕ) → IsNextKey keys passed (Some pid) → can_turn_in s owns pid ≡ false → AreUnable s owns (after + 1) (pid + 1)
-  unable_upto pid next here = λ q from to. below pid q (can_turn_in s owns q ≡ false) (nat_le pid q) refl
-      (λ ge. subst (λ n. can_turn_in s owns n ≡ false) (let same : pid ≡ q = omega (arith, ge, to) in same) here)
+  pub unable_upto : (pid : ℕ) → IsNextKey keys passed (Some pid) → can_turn_in s tasks pid ≡ false → AreUnable s tasks (after + 1) (pid + 1)
+  unable_upto pid next here = λ q from to. below pid q (can_turn_in s tasks q ≡ false) (nat_le pid q) refl
+      (λ ge. subst (λ n. can_turn_in s tasks n ≡ false) (let same : pid ≡ q = omega (arith, ge, to) in same) here)
       (λ lt. unable_before pid next q from lt)
 
-  pub unable_all : IsNextKey keys passed None → IsFirstFrom s owns (after + 1) None
-  unable_all last = λ q from. below q passed (can_turn_in s owns q ≡ false) (nat_le q passed) refl
+  pub unable_all : IsNextKey keys passed None → IsFirstFrom s tasks (after + 1) None
+  unable_all last = λ q from. below q passed (can_turn_in s tasks q ≡ false) (nat_le q passed) refl
       (λ le. unable q from (omega (arith, le)))
       (λ lt. resting q (omega (arith, lt)) (last q lt))

@@ -20,10 +20,10 @@ use Rattle.lx_model.specs.Finite.{Is, at, item_of, Running, ran, bore, turn_out,
 use Rattle.lx_model.specs.Laws.{KernelsBeginAlike, KernelsRunAlike}
 use Rattle.lx_model.specs.declared.stage.Stage.{Stage}
 use Rattle.lx_model.specs.declared.stage.Stage.TheVariants.{Born, Run, Faulting, Entered, Doing, Replaced, Acted, Finished, Taken, Dropped}
-use Rattle.lx_model.specs.declared.stage.Own.{Own}
-use Rattle.lx_model.specs.declared.stage.Own.TheVariants.{Alive, Dying, Gone}
+use Rattle.lx_model.specs.declared.stage.Task.{Task}
+use Rattle.lx_model.specs.declared.stage.Task.TheVariants.{Alive, Dying, Gone}
 use Rattle.lx_proc.specs.declared.state.Shared.{Shared}
-use Rattle.lx_proc.specs.declared.state.Body.{Body}
+use Rattle.lx_proc.specs.declared.state.UserState.{UserState}
 use Rattle.lx_sig.specs.declared.state.Interrupted.{Interrupted}
 use Rattle.lx_turn.specs.Calls.{does}
 use Rattle.lx_pcalls.specs.Ends.{buried}
@@ -41,23 +41,23 @@ use Rattle.lx_turn.proofs.CallsFit.{calls_fit, takes_fit}
 -- A turn.
 
 -- an out has the words of what was shared, with that of its item
-abbrev Records : Shared → Out Shared Body → Type 0
+abbrev Records : Shared → Out Shared UserState → Type 0
 Records s o = o.shared.ended ≡ fold with_end s.ended (option_to_list (item_of o))
 
-ran_records : (s : Shared) (p : ℕ) (b : Body) (o : Outcome) (st : Step) → Records s (stepped linux s p b (ran_by b o st))
+ran_records : (s : Shared) (p : ℕ) (b : UserState) (o : Outcome) (st : Step) → Records s (stepped linux s p b (ran_by b o st))
 ran_records s p b o step.Ran = refl
 ran_records s p b o step.Call = refl
 ran_records s p b o (step.Fault kind address) = refl
 
-resumed_records : (s : Shared) (p : ℕ) (b : Body) (at : Option Interrupted) → Records s (stepped linux s p b (resumed b at))
+resumed_records : (s : Shared) (p : ℕ) (b : UserState) (at : Option Interrupted) → Records s (stepped linux s p b (resumed b at))
 resumed_records s p b (Some at) = refl
 resumed_records s p b None = ran_records s p b (instruction b.hart b.memory) (instruction b.hart b.memory).step
 
-runs_record : (s : Shared) (p : ℕ) (b : Body) (signal : Option Signal) → Records s (stepped linux s p b (runs_in s p b signal))
+runs_record : (s : Shared) (p : ℕ) (b : UserState) (signal : Option Signal) → Records s (stepped linux s p b (runs_in s p b signal))
 runs_record s p b (Some signal) = refl
 runs_record s p b None = resumed_records s p b b.interrupted
 
-answered_records : (s : Shared) (child p : ℕ) (b : Body) (call : Call) (a : Answer Shared Body) → Fits child s call a → Records s (answered linux s child p b call a)
+answered_records : (s : Shared) (child p : ℕ) (b : UserState) (call : Call) (a : Answer Shared UserState) → Fits child s call a → Records s (answered linux s child p b call a)
 answered_records s child p b call (Refused x) h = refl
 answered_records s child p b call (Returns t c x) h = h
 answered_records s child p b call (Jumps t c) h = h
@@ -66,7 +66,7 @@ answered_records s child p b call (Bears t c born) h = h.words
 answered_records s child p b call Blocks h = refl
 answered_records s child p b call (Ends w) h = refl
 
-took_records : (s : Shared) (p : ℕ) (signal : Signal) (cause : Cause) (t : Took Shared Body) → TookFits s t → Records s (took linux s p signal cause t)
+took_records : (s : Shared) (p : ℕ) (signal : Signal) (cause : Cause) (t : Took Shared UserState) → TookFits s t → Records s (took linux s p signal cause t)
 took_records s p signal cause (Passes t c) h = h
 took_records s p signal cause (Kills w) h = refl
 
@@ -76,7 +76,7 @@ joins_record s p None (Some y) = refl
 joins_record s p (Some x) None = refl
 joins_record s p (Some x) (Some y) = refl
 
-lives_records : (c : Choice) (s : Shared) (child p : ℕ) (b : Body) (stage : Stage) → Records s (lives linux c s child p b stage)
+lives_records : (c : Choice) (s : Shared) (child p : ℕ) (b : UserState) (stage : Stage) → Records s (lives linux c s child p b stage)
 lives_records c s child p b Born = refl
 lives_records c s child p b Run = runs_record s p b (next_of (maps.get s.entries p))
 lives_records c s child p b (Faulting signal cause) = refl
@@ -88,7 +88,7 @@ lives_records c s child p b Finished = refl
 lives_records c s child p b (Taken signal cause) = took_records s p signal cause (takes s p b signal cause) (takes_fit s p b signal cause)
 lives_records c s child p b Dropped = refl
 
-killed_records : (killed : Bool) (c : Choice) (s : Shared) (child p : ℕ) (b : Body) (stage : Stage) → Records s (killed_or killed linux c s child p b stage)
+killed_records : (killed : Bool) (c : Choice) (s : Shared) (child p : ℕ) (b : UserState) (stage : Stage) → Records s (killed_or killed linux c s child p b stage)
 killed_records true c s child p b stage = refl
 killed_records false c s child p b stage = lives_records c s child p b stage
 
@@ -96,30 +96,30 @@ buried_words : (s : Shared) (p w : ℕ) → (buried s p w).ended ≡ s.ended
 unfolding buried
 buried_words s p w = refl
 
-pub turn_records : (c : Choice) (s : Shared) (child p : ℕ) (own : Own Body) → Records s (turn linux c s child p own)
+pub turn_records : (c : Choice) (s : Shared) (child p : ℕ) (task : Task UserState) → Records s (turn linux c s child p task)
 turn_records c s child p (Alive b stage) = killed_records (is_killed (maps.get s.entries p)) c s child p b stage
 turn_records c s child p (Dying w) = buried_words s p w
 turn_records c s child p Gone = refl
 
 -- A run.
 
-bore_words : (v : Running Shared Body) (e : Event Body) → (bore v e).shared.ended ≡ v.shared.ended
+bore_words : (v : Running Shared UserState) (e : Event UserState) → (bore v e).shared.ended ≡ v.shared.ended
 bore_words v Plain = refl
 bore_words v Execed = refl
 bore_words v (Forked b) = refl
 
-bore_log : (v : Running Shared Body) (e : Event Body) → (bore v e).log ≡ v.log
+bore_log : (v : Running Shared UserState) (e : Event UserState) → (bore v e).log ≡ v.log
 bore_log v Plain = refl
 bore_log v Execed = refl
 bore_log v (Forked b) = refl
 
 pub turns_log_words : TurnsLogWords
 turns_log_words script follow v p h =
-    let o : Out Shared Body = turn_out linux script follow v p in
-    let own : Own Body = at Gone v.owns p in
+    let o : Out Shared UserState = turn_out linux script follow v p in
+    let task : Task UserState = at Gone v.tasks p in
     let items = option_to_list (item_of o) in
     bore_words (ran v p o) o.event
-    ∙ turn_records (choice_at linux script (traces follow p) (λ n. entries p n v.log) own) v.shared v.child p own
+    ∙ turn_records (choice_at linux script (traces follow p) (λ n. entries p n v.log) task) v.shared v.child p task
     ∙ ap (λ words. fold with_end words items) h
     ∙ sym (fold-append with_end maps.empty v.log items)
     ∙ ap (fold with_end maps.empty) (sym (bore_log (ran v p o) o.event))
@@ -131,14 +131,14 @@ all_log_words k (p ∷ pids) h = all_log_words (after_turn k p) pids (turns_log_
 pub boots_log_words : BootsLogWords
 boots_log_words boot script pids = all_log_words (first_run boot script) pids refl
 
-running_log_words : (script : Script) (follow : Bool) (v : Running Shared Body) (pids : List ℕ) → HasLoggedWords v → HasLoggedWords (running linux script follow v pids)
+running_log_words : (script : Script) (follow : Bool) (v : Running Shared UserState) (pids : List ℕ) → HasLoggedWords v → HasLoggedWords (running linux script follow v pids)
 running_log_words script follow v [] h = h
 running_log_words script follow v (p ∷ pids) h = running_log_words script follow (running_turn linux script follow v p) pids (turns_log_words script follow v p h)
 
-pub kernels_log_words : KernelsBeginAlike Shared Body → KernelsRunAlike Shared Body → KernelsLogWords
+pub kernels_log_words : KernelsBeginAlike Shared UserState → KernelsRunAlike Shared UserState → KernelsLogWords
 kernels_log_words begin run script follow boot pids =
     let s : Shared = first_shared boot.files boot.input in
-    let b : Body = booted boot.argv boot.env in
+    let b : UserState = booted boot.argv boot.env in
     let is : Is (running linux script follow (first_running s b) pids) (kernel_run linux script follow (first_kernel s b) pids) = run linux script follow (first_running s b) (first_kernel s b) (begin s b) pids in
     ap (λ (s : Shared). s.ended) (sym is.shared)
     ∙ running_log_words script follow (first_running s b) pids refl

@@ -17,23 +17,23 @@ use Rattle.lx_model.specs.Turn.{turn, Out, stepped, killed_or, stage_mode}
 use Rattle.lx_model.specs.Kernel.{traces, choice_at}
 use Rattle.lx_model.specs.declared.stage.Stage.{Stage}
 use Rattle.lx_model.specs.declared.stage.Stage.TheVariants as stages
-use Rattle.lx_model.specs.declared.stage.Own.{Own}
-use Rattle.lx_model.specs.declared.stage.Own.TheVariants.{Alive, Dying, Gone}
+use Rattle.lx_model.specs.declared.stage.Task.{Task}
+use Rattle.lx_model.specs.declared.stage.Task.TheVariants.{Alive, Dying, Gone}
 use Rattle.lx_model.specs.Finite.{at, ran, bore}
 use Rattle.lx_proc.specs.declared.state.Shared.{Shared}
-use Rattle.lx_proc.specs.declared.state.Body.{Body}
+use Rattle.lx_proc.specs.declared.state.UserState.{UserState}
 use Rattle.lx_proc.specs.declared.state.Entry.{Entry}
 use Rattle.lx_proc.specs.declared.state.Life.{Life}
 use Rattle.lx_proc.specs.declared.state.Life.TheVariants as state
 use Rattle.lx_turn.specs.Linux.{linux}
 use Rattle.lx_turn.specs.Reactions.{resumed, runs, next_of, is_killed}
 use Rattle.lx_kernel.specs.Runs.{Run, turn_in, after_turn, mode_in}
-use Rattle.lx_turn.specs.Modes.{own_mode, life_mode}
-use Rattle.lx_kernel.specs.Bursts.{after_turns, StaysInRun, Burst, Follows, Halts, Continues, OwnContinues, with_owns}
+use Rattle.lx_turn.specs.Modes.{task_mode, life_mode}
+use Rattle.lx_kernel.specs.Bursts.{after_turns, StaysInRun, Burst, Follows, Halts, Continues, TaskContinues, with_tasks}
 use Rattle.lx_turn.proofs.Placed.{get_put, put_same, put_twice}
 
-abbrev Owns : Type 0
-Owns = FinMap nat_cmp (Own Body)
+abbrev Tasks : Type 0
+Tasks = FinMap nat_cmp (Task UserState)
 
 -- Where a process stands.
 
@@ -46,10 +46,10 @@ gone_not_run : (e : Option Entry) → life_mode e ≢ Some mode.Run
 gone_not_run None = λ h. cc
 gone_not_run (Some e) = life_not_run e.life e refl
 
-abbrev IsRunning : Own Body → Type 0
-IsRunning own = (b : Body) × (own ≡ Alive b stages.Run)
+abbrev IsRunning : Task UserState → Type 0
+IsRunning task = (b : UserState) × (task ≡ Alive b stages.Run)
 
-running_stage : (b : Body) (stage : Stage) → Some (stage_mode stage) ≡ Some mode.Run → IsRunning (Alive b stage)
+running_stage : (b : UserState) (stage : Stage) → Some (stage_mode stage) ≡ Some mode.Run → IsRunning (Alive b stage)
 running_stage b stages.Born h = absurd (cc h)
 running_stage b stages.Run h = (b, refl)
 running_stage b (stages.Faulting signal cause) h = absurd (cc h)
@@ -61,44 +61,44 @@ running_stage b stages.Finished h = absurd (cc h)
 running_stage b (stages.Taken signal cause) h = absurd (cc h)
 running_stage b stages.Dropped h = absurd (cc h)
 
-running_of : (e : Option Entry) (own : Own Body) → own_mode e own ≡ Some mode.Run → IsRunning own
+running_of : (e : Option Entry) (task : Task UserState) → task_mode e task ≡ Some mode.Run → IsRunning task
 running_of e (Alive b stage) h = running_stage b stage h
 running_of e (Dying w) h = absurd (cc h)
 running_of e Gone h = absurd (gone_not_run e h)
 
 -- a process that isn't in Run
-pub not_in_run : (k : Run) (p : ℕ) → ((b : Body) → at Gone k.running.owns p ≢ Alive b stages.Run) → StaysInRun k p → ⊥
+pub not_in_run : (k : Run) (p : ℕ) → ((b : UserState) → at Gone k.running.tasks p ≢ Alive b stages.Run) → StaysInRun k p → ⊥
 not_in_run k p never stays =
-    let r : IsRunning (at Gone k.running.owns p) = running_of (maps.get k.running.shared.entries p) (at Gone k.running.owns p) stays.0 in
+    let r : IsRunning (at Gone k.running.tasks p) = running_of (maps.get k.running.shared.entries p) (at Gone k.running.tasks p) stays.0 in
     never r.0 r.1
 
-at_put : (owns : Owns) (p : ℕ) (own : Own Body) → at Gone (maps.insert owns p own) p ≡ own
-at_put owns p own = ap (λ o. unwrap_or o Gone) (get_put owns p own)
+at_put : (tasks : Tasks) (p : ℕ) (task : Task UserState) → at Gone (maps.insert tasks p task) p ≡ task
+at_put tasks p task = ap (λ o. unwrap_or o Gone) (get_put tasks p task)
 
-there_of : (o : Option (Own Body)) (b : Body) (stage : Stage) → unwrap_or o Gone ≡ Alive b stage → o ≡ Some (Alive b stage)
+there_of : (o : Option (Task UserState)) (b : UserState) (stage : Stage) → unwrap_or o Gone ≡ Alive b stage → o ≡ Some (Alive b stage)
 there_of None b stage e = absurd (cc e)
-there_of (Some own) b stage e = ap Some e
+there_of (Some task) b stage e = ap Some e
 
 -- A turn in Run.
 
-module _ (k : Run) (p : ℕ) (b : Body) (here : at Gone k.running.owns p ≡ Alive b stages.Run) where
+module _ (k : Run) (p : ℕ) (b : UserState) (here : at Gone k.running.tasks p ≡ Alive b stages.Run) where
   abbrev shared : Shared
   shared = k.running.shared
 
-  abbrev choice : Own Body → Choice
-  choice own = choice_at linux (choice_of k.script) (traces k.follow p) (λ n. entries p n k.running.log) own
+  abbrev choice : Task UserState → Choice
+  choice task = choice_at linux (choice_of k.script) (traces k.follow p) (λ n. entries p n k.running.log) task
 
   turn_of : (killed : Bool) → is_killed (maps.get shared.entries p) ≡ killed → turn_in k p ≡ killed_or killed linux (choice (Alive b stages.Run)) shared k.running.child p b stages.Run
   turn_of killed is =
-      ap (λ own. turn linux (choice own) shared k.running.child p own) here
+      ap (λ task. turn linux (choice task) shared k.running.child p task) here
       ∙ ap (λ q. killed_or q linux (choice (Alive b stages.Run)) shared k.running.child p b stages.Run) is
 
   -- the kernel after a turn that is this
-  abbrev left : Out Shared Body → Run
+  abbrev left : Out Shared UserState → Run
   left o = record k { running = bore (ran k.running p o) o.event }
 
-  mode_put : (s : Shared) (own : Own Body) → own_mode (maps.get s.entries p) (at Gone (maps.insert k.running.owns p own) p) ≡ own_mode (maps.get s.entries p) own
-  mode_put s own = ap (own_mode (maps.get s.entries p)) (at_put k.running.owns p own)
+  mode_put : (s : Shared) (task : Task UserState) → task_mode (maps.get s.entries p) (at Gone (maps.insert k.running.tasks p task) p) ≡ task_mode (maps.get s.entries p) task
+  mode_put s task = ap (task_mode (maps.get s.entries p)) (at_put k.running.tasks p task)
 
   -- SIGKILL is pending: the process ends
   killed_stops : is_killed (maps.get shared.entries p) ≡ true → mode_in (after_turn k p) p ≢ Some mode.Run
@@ -114,23 +114,23 @@ module _ (k : Run) (p : ℕ) (b : Body) (here : at Gone k.running.owns p ≡ Ali
     -- a signal is pending: it is taken
     taking_stops : (signal : Signal) → next_of (maps.get shared.entries p) ≡ Some signal → mode_in (after_turn k p) p ≢ Some mode.Run
     taking_stops signal is e =
-        let r : Ran Shared Body = runs shared p b (Some signal) in
+        let r : Ran Shared UserState = runs shared p b (Some signal) in
         let after : after_turn k p ≡ left (stepped linux shared p b r) = ap left (turn_with (Some signal) is) in
-        let taken : Some mode.Taken ≡ Some mode.Run = sym (mode_put (stepped linux shared p b r).shared (stepped linux shared p b r).own) ∙ ap (λ k. mode_in k p) (sym after) ∙ e in
+        let taken : Some mode.Taken ≡ Some mode.Run = sym (mode_put (stepped linux shared p b r).shared (stepped linux shared p b r).task) ∙ ap (λ k. mode_in k p) (sym after) ∙ e in
         cc taken
 
     module _ (calm : next_of (maps.get shared.entries p) ≡ None) where
-      turn_by : (r : Ran Shared Body) → resumed b b.interrupted ≡ r → turn_in k p ≡ stepped linux shared p b r
+      turn_by : (r : Ran Shared UserState) → resumed b b.interrupted ≡ r → turn_in k p ≡ stepped linux shared p b r
       turn_by r is = turn_with None calm ∙ ap (stepped linux shared p b) is
 
       -- a turn in Run that goes on leaves its body in Run, and no other mark
-      goes : (d : Body) → resumed b b.interrupted ≡ Goes d → after_turn k p ≡ with_owns k (maps.insert k.running.owns p (Alive d stages.Run))
+      goes : (d : UserState) → resumed b b.interrupted ≡ Goes d → after_turn k p ≡ with_tasks k (maps.insert k.running.tasks p (Alive d stages.Run))
       goes d is =
           ap left (turn_by (Goes d) is)
-          ∙ ap (λ (log : List Item). record k { running = record { shared = shared; owns = maps.insert k.running.owns p (Alive d stages.Run); child = k.running.child; log = log } }) (append-nil k.running.log)
+          ∙ ap (λ (log : List Item). record k { running = record { shared = shared; tasks = maps.insert k.running.tasks p (Alive d stages.Run); child = k.running.child; log = log } }) (append-nil k.running.log)
 
       -- and one that doesn't leaves Run
-      halt_as : (r : Ran Shared Body) → resumed b b.interrupted ≡ r → Halts b → mode_in (after_turn k p) p ≢ Some mode.Run
+      halt_as : (r : Ran Shared UserState) → resumed b b.interrupted ≡ r → Halts b → mode_in (after_turn k p) p ≢ Some mode.Run
       halt_as (Goes d) is halts e = absurd (halts d is)
       halt_as Calls is halts e =
           let entered : Some mode.Entered ≡ Some mode.Run = sym (mode_put shared (Alive b (stages.Entered None))) ∙ ap (λ k. mode_in k p) (sym (ap left (turn_by Calls is))) ∙ e in
@@ -145,35 +145,35 @@ module _ (k : Run) (p : ℕ) (b : Body) (here : at Gone k.running.owns p ≡ Ali
 -- Turns in a row.
 
 -- the process stands in Run with this body, and no signal comes
-record Ready (k : Run) (p : ℕ) (b : Body) : Type 0 where
-  pub here : at Gone k.running.owns p ≡ Alive b stages.Run
+record Ready (k : Run) (p : ℕ) (b : UserState) : Type 0 where
+  pub here : at Gone k.running.tasks p ≡ Alive b stages.Run
   pub alive : is_killed (maps.get k.running.shared.entries p) ≡ false
   pub calm : next_of (maps.get k.running.shared.entries p) ≡ None
 
 -- the kernel with the process in Run with this body
-abbrev standing : Run → ℕ → Body → Run
-standing k p b = with_owns k (maps.insert k.running.owns p (Alive b stages.Run))
+abbrev standing : Run → ℕ → UserState → Run
+standing k p b = with_tasks k (maps.insert k.running.tasks p (Alive b stages.Run))
 
-ready_next : (k : Run) (p : ℕ) (b d : Body) → Ready k p b → Ready (standing k p d) p d
-ready_next k p b d r = record { here = at_put k.running.owns p (Alive d stages.Run); alive = r.alive; calm = r.calm }
+ready_next : (k : Run) (p : ℕ) (b d : UserState) → Ready k p b → Ready (standing k p d) p d
+ready_next k p b d r = record { here = at_put k.running.tasks p (Alive d stages.Run); alive = r.alive; calm = r.calm }
 
-in_run : (k : Run) (p : ℕ) (b : Body) → Ready k p b → mode_in k p ≡ Some mode.Run
-in_run k p b r = ap (own_mode (maps.get k.running.shared.entries p)) r.here
+in_run : (k : Run) (p : ℕ) (b : UserState) → Ready k p b → mode_in k p ≡ Some mode.Run
+in_run k p b r = ap (task_mode (maps.get k.running.shared.entries p)) r.here
 
-one_turn : (k : Run) (p : ℕ) (b d : Body) → Ready k p b → resumed b b.interrupted ≡ Goes d → after_turn k p ≡ standing k p d
+one_turn : (k : Run) (p : ℕ) (b d : UserState) → Ready k p b → resumed b b.interrupted ≡ Goes d → after_turn k p ≡ standing k p d
 one_turn k p b d r is = goes k p b r.here r.alive r.calm d is
 
-turns_follow : (n : ℕ) (k : Run) (p : ℕ) (b c : Body) → Ready k p b → Follows n b c → after_turns k p n ≡ standing k p c
+turns_follow : (n : ℕ) (k : Run) (p : ℕ) (b c : UserState) → Ready k p b → Follows n b c → after_turns k p n ≡ standing k p c
 unfolding after_turns
 turns_follow zero k p b c r same =
-    let there : maps.get k.running.owns p ≡ Some (Alive b stages.Run) = there_of (maps.get k.running.owns p) b stages.Run r.here in
-    ap (with_owns k) (sym (put_same k.running.owns p (Alive b stages.Run) there)) ∙ ap (standing k p) same
+    let there : maps.get k.running.tasks p ≡ Some (Alive b stages.Run) = there_of (maps.get k.running.tasks p) b stages.Run r.here in
+    ap (with_tasks k) (sym (put_same k.running.tasks p (Alive b stages.Run) there)) ∙ ap (standing k p) same
 turns_follow (suc n) k p b c r f =
     ap (λ k. after_turns k p n) (one_turn k p b f.0 r f.1)
     ∙ turns_follow n (standing k p f.0) p f.0 c (ready_next k p b f.0 r) f.2
-    ∙ ap (with_owns k) (put_twice k.running.owns p (Alive f.0 stages.Run) (Alive c stages.Run))
+    ∙ ap (with_tasks k) (put_twice k.running.tasks p (Alive f.0 stages.Run) (Alive c stages.Run))
 
-turns_stay : (n : ℕ) (k : Run) (p : ℕ) (b c : Body) → Ready k p b → Follows n b c → (i : ℕ) → i < n → StaysInRun (after_turns k p i) p
+turns_stay : (n : ℕ) (k : Run) (p : ℕ) (b c : UserState) → Ready k p b → Follows n b c → (i : ℕ) → i < n → StaysInRun (after_turns k p i) p
 unfolding after_turns
 turns_stay zero k p b c r f i l = absurd (omega (arith, l))
 turns_stay (suc n) k p b c r f zero l = (in_run k p b r, ap (λ k. mode_in k p) (one_turn k p b f.0 r f.1) ∙ in_run (standing k p f.0) p f.0 (ready_next k p b f.0 r))
@@ -182,8 +182,8 @@ turns_stay (suc n) k p b c r f (suc i) l =
     (turns_stay n (standing k p f.0) p f.0 c (ready_next k p b f.0 r) f.2 i (omega (arith, l)))
 
 -- a body that goes on makes a burst
-pub burst_of : (k : Run) (p : ℕ) (b c : Body) (limit n : ℕ) → at Gone k.running.owns p ≡ Alive b stages.Run → is_killed (maps.get k.running.shared.entries p) ≡ false → next_of (maps.get k.running.shared.entries p) ≡ None
-    → Continues limit n b c → Burst k p limit n (with_owns k (maps.insert k.running.owns p (Alive c stages.Run)))
+pub burst_of : (k : Run) (p : ℕ) (b c : UserState) (limit n : ℕ) → at Gone k.running.tasks p ≡ Alive b stages.Run → is_killed (maps.get k.running.shared.entries p) ≡ false → next_of (maps.get k.running.shared.entries p) ≡ None
+    → Continues limit n b c → Burst k p limit n (with_tasks k (maps.insert k.running.tasks p (Alive c stages.Run)))
 burst_of k p b c limit n here alive calm goes_on =
     let r : Ready k p b = record { here = here; alive = alive; calm = calm } in
     let last : Ready (standing k p c) p c = ready_next k p b c r in
@@ -200,7 +200,7 @@ unfolding after_turns
 no_burst k p limit never = record { within = omega arith; turned = refl; in_run = λ i l. absurd (omega (arith, l)); stopped = λ l. never }
 
 -- a signal comes first
-disturbed_by : (k : Run) (p : ℕ) (b : Body) → at Gone k.running.owns p ≡ Alive b stages.Run → (killed : Bool) (next : Option Signal) → is_killed (maps.get k.running.shared.entries p) ≡ killed → next_of (maps.get k.running.shared.entries p) ≡ next
+disturbed_by : (k : Run) (p : ℕ) (b : UserState) → at Gone k.running.tasks p ≡ Alive b stages.Run → (killed : Bool) (next : Option Signal) → is_killed (maps.get k.running.shared.entries p) ≡ killed → next_of (maps.get k.running.shared.entries p) ≡ next
     → (not killed && not (is_some next)) ≡ false → mode_in (after_turn k p) p ≢ Some mode.Run
 disturbed_by k p b here true next is coming e = killed_stops k p b here is
 disturbed_by k p b here false None is coming e = absurd (cc e)
@@ -208,7 +208,7 @@ disturbed_by k p b here false (Some signal) is coming e = taking_stops k p b her
 
 pub disturbed : (k : Run) (p : ℕ) → (not (is_killed (maps.get k.running.shared.entries p)) && not (is_some (next_of (maps.get k.running.shared.entries p)))) ≡ false → StaysInRun k p → ⊥
 disturbed k p e stays =
-    let r : IsRunning (at Gone k.running.owns p) = running_of (maps.get k.running.shared.entries p) (at Gone k.running.owns p) stays.0 in
+    let r : IsRunning (at Gone k.running.tasks p) = running_of (maps.get k.running.shared.entries p) (at Gone k.running.tasks p) stays.0 in
     disturbed_by k p r.0 r.1 (is_killed (maps.get k.running.shared.entries p)) (next_of (maps.get k.running.shared.entries p)) refl refl e stays.1
 
 calm_by : (killed : Bool) (next : Option Signal) → (not killed && not (is_some next)) ≡ true → (killed ≡ false) × (next ≡ None)
@@ -222,32 +222,32 @@ undisturbed e h = calm_by (is_killed e) (next_of e) h
 -- The burst of a process's own part.
 
 -- a kernel whose shared parts and own parts are these
-module _ (k : Run) (p limit : ℕ) (s : Shared) (owns : Owns) (same_shared : k.running.shared ≡ s) (same_owns : k.running.owns ≡ owns) where
+module _ (k : Run) (p limit : ℕ) (s : Shared) (tasks : Tasks) (same_shared : k.running.shared ≡ s) (same_tasks : k.running.tasks ≡ tasks) where
   -- nothing was put in
-  unchanged : with_owns k owns ≡ k
-  unchanged = ap (with_owns k) (sym same_owns)
+  unchanged : with_tasks k tasks ≡ k
+  unchanged = ap (with_tasks k) (sym same_tasks)
 
-  still : (StaysInRun k p → ⊥) → Burst k p limit 0 (with_owns k owns)
+  still : (StaysInRun k p → ⊥) → Burst k p limit 0 (with_tasks k tasks)
   still never = subst (Burst k p limit 0) (sym unchanged) (no_burst k p limit never)
 
-  pub disturbed_burst : (not (is_killed (maps.get s.entries p)) && not (is_some (next_of (maps.get s.entries p)))) ≡ false → Burst k p limit 0 (with_owns k owns)
+  pub disturbed_burst : (not (is_killed (maps.get s.entries p)) && not (is_some (next_of (maps.get s.entries p)))) ≡ false → Burst k p limit 0 (with_tasks k tasks)
   disturbed_burst e = still (disturbed k p (ap (λ (s : Shared). not (is_killed (maps.get s.entries p)) && not (is_some (next_of (maps.get s.entries p)))) same_shared ∙ e))
 
-  at_owns : at Gone k.running.owns p ≡ at Gone owns p
-  at_owns = ap (λ o. at Gone o p) same_owns
+  at_tasks : at Gone k.running.tasks p ≡ at Gone tasks p
+  at_tasks = ap (λ o. at Gone o p) same_tasks
 
-  pub absent_burst : maps.get owns p ≡ None → Burst k p limit 0 (with_owns k owns)
-  absent_burst none = still (not_in_run k p (λ b e. let gone : Gone ≡ Alive b stages.Run = sym (at_owns ∙ ap (λ o. unwrap_or o Gone) none) ∙ e in cc gone))
+  pub absent_burst : maps.get tasks p ≡ None → Burst k p limit 0 (with_tasks k tasks)
+  absent_burst none = still (not_in_run k p (λ b e. let gone : Gone ≡ Alive b stages.Run = sym (at_tasks ∙ ap (λ o. unwrap_or o Gone) none) ∙ e in cc gone))
 
   -- a process whose part went on
-  pub own_burst : (n : ℕ) (own own' : Own Body) → (not (is_killed (maps.get s.entries p)) && not (is_some (next_of (maps.get s.entries p)))) ≡ true
-      → maps.get owns p ≡ Some own → OwnContinues limit n own own' → Burst k p limit n (with_owns k (maps.insert owns p own'))
-  own_burst n own own' calm there (inl (b, c, was, is, goes_on)) =
+  pub task_burst : (n : ℕ) (task task' : Task UserState) → (not (is_killed (maps.get s.entries p)) && not (is_some (next_of (maps.get s.entries p)))) ≡ true
+      → maps.get tasks p ≡ Some task → TaskContinues limit n task task' → Burst k p limit n (with_tasks k (maps.insert tasks p task'))
+  task_burst n task task' calm there (inl (b, c, was, is, goes_on)) =
       let u : (is_killed (maps.get k.running.shared.entries p) ≡ false) × (next_of (maps.get k.running.shared.entries p) ≡ None) = undisturbed (maps.get k.running.shared.entries p) (ap (λ (s : Shared). not (is_killed (maps.get s.entries p)) && not (is_some (next_of (maps.get s.entries p)))) same_shared ∙ calm) in
-      subst (Burst k p limit n) (ap (λ o. with_owns k (maps.insert o p (Alive c stages.Run))) same_owns ∙ ap (λ own. with_owns k (maps.insert owns p own)) (sym is))
-      (burst_of k p b c limit n (at_owns ∙ ap (λ o. unwrap_or o Gone) there ∙ was) u.0 u.1 goes_on)
-  own_burst n own own' calm there (inr (none, same, never)) =
-      let here : at Gone k.running.owns p ≡ own = at_owns ∙ ap (λ o. unwrap_or o Gone) there in
-      let put : maps.insert owns p own' ≡ owns = ap (maps.insert owns p) same ∙ put_same owns p own there in
-      subst (λ n. Burst k p limit n (with_owns k (maps.insert owns p own'))) (sym none)
-      (subst (λ o. Burst k p limit 0 (with_owns k o)) (sym put) (still (not_in_run k p (λ b e. never b (sym here ∙ e)))))
+      subst (Burst k p limit n) (ap (λ o. with_tasks k (maps.insert o p (Alive c stages.Run))) same_tasks ∙ ap (λ task. with_tasks k (maps.insert tasks p task)) (sym is))
+      (burst_of k p b c limit n (at_tasks ∙ ap (λ o. unwrap_or o Gone) there ∙ was) u.0 u.1 goes_on)
+  task_burst n task task' calm there (inr (none, same, never)) =
+      let here : at Gone k.running.tasks p ≡ task = at_tasks ∙ ap (λ o. unwrap_or o Gone) there in
+      let put : maps.insert tasks p task' ≡ tasks = ap (maps.insert tasks p) same ∙ put_same tasks p task there in
+      subst (λ n. Burst k p limit n (with_tasks k (maps.insert tasks p task'))) (sym none)
+      (subst (λ o. Burst k p limit 0 (with_tasks k o)) (sym put) (still (not_in_run k p (λ b e. never b (sym here ∙ e)))))

@@ -9,11 +9,11 @@ use Rattle.std.specs.FinMap.{FinMap}
 use Rattle.std.specs.FinMap.Entries as entry
 use Rattle.std.proofs.lemmas.Bool.Decides.{nat_tests}
 use Rattle.lx_model.specs.Finite.{at}
-use Rattle.lx_model.specs.declared.stage.Own.{Own}
-use Rattle.lx_model.specs.declared.stage.Own.TheVariants.{Alive, Dying, Gone}
+use Rattle.lx_model.specs.declared.stage.Task.{Task}
+use Rattle.lx_model.specs.declared.stage.Task.TheVariants.{Alive, Dying, Gone}
 use Rattle.lx_proc.specs.declared.state.Shared.{Shared}
-use Rattle.lx_proc.specs.declared.state.Body.{Body}
-use Rattle.lx_kernel.specs.Scheduling.{Owns}
+use Rattle.lx_proc.specs.declared.state.UserState.{UserState}
+use Rattle.lx_kernel.specs.Scheduling.{Tasks}
 use Rattle.lx_turn.specs.Resting.{rests}
 use Rattle.lx_kernel.specs.Sleeping.{IsWatched, AreWatched, AreListed, IsSameBut}
 use Rattle.lx_kernel.specs.declared.sleepers.Sleepers.{Sleepers}
@@ -28,31 +28,31 @@ pub none_in_empty : {X : Type 0} (m : FinMap nat_cmp X) → maps.len m ≡ 0 →
 none_in_empty m e q = maps.get-entries m q ∙ none_in q (maps.entries m) (sym (maps.len-entries m) ∙ e)
 
 -- who is gone rests
-pub gone_rests : (s : Shared) (p : ℕ) (own : Own Body) → own ≡ Gone → rests s p own ≡ true
+pub gone_rests : (s : Shared) (p : ℕ) (task : Task UserState) → task ≡ Gone → rests s p task ≡ true
 unfolding rests
 gone_rests s p (Alive b stage) e = absurd (cc e)
 gone_rests s p (Dying w) e = absurd (cc e)
 gone_rests s p Gone e = refl
 
 -- where nobody sleeps, all who aren't awake are gone
-pub all_awake : (sets : Sleepers) (s : Shared) (owns : Owns) → maps.len sets.asleep ≡ 0 → AreListed sets owns → AreWatched sets s owns
-all_awake sets s owns none listed = λ q up unwatched.
+pub all_awake : (sets : Sleepers) (s : Shared) (tasks : Tasks) → maps.len sets.asleep ≡ 0 → AreListed sets tasks → AreWatched sets s tasks
+all_awake sets s tasks none listed = λ q up unwatched.
     let gone = listed q up unwatched (none_in_empty sets.asleep none q) in
-    (gone_rests s q (at Gone owns q) gone, λ e. gone)
+    (gone_rests s q (at Gone tasks q) gone, λ e. gone)
 
-module _ (sets sets' : Sleepers) (s : Shared) (owns : Owns) (p : ℕ) (same : IsSameBut sets sets' p) (itself : IsWatched sets' s p (at Gone owns p)) where
+module _ (sets sets' : Sleepers) (s : Shared) (tasks : Tasks) (p : ℕ) (same : IsSameBut sets sets' p) (itself : IsWatched sets' s p (at Gone tasks p)) where
   -- all are watched, where the others were
-  pub watched_but : ((q : ℕ) → 0 < q → (q ≡ p → ⊥) → IsWatched sets s q (at Gone owns q)) → AreWatched sets' s owns
-  watched_but others = λ q up. either q p (IsWatched sets' s q (at Gone owns q)) (q == p) refl
-      (λ e. subst (λ n. IsWatched sets' s n (at Gone owns n)) (sym e) itself)
+  pub watched_but : ((q : ℕ) → 0 < q → (q ≡ p → ⊥) → IsWatched sets s q (at Gone tasks q)) → AreWatched sets' s tasks
+  watched_but others = λ q up. either q p (IsWatched sets' s q (at Gone tasks q)) (q == p) refl
+      (λ e. subst (λ n. IsWatched sets' s n (at Gone tasks n)) (sym e) itself)
       (λ ne unwatched.
       let h = others q up ne (sym (same.1 q ne).0 ∙ unwatched) in
       (h.0, λ unslept. h.1 (sym (same.1 q ne).1 ∙ unslept)))
 
   -- and listed
-  pub listed_but : AreListed sets owns → AreListed sets' owns
-  listed_but listed = λ q up. either q p (maps.get sets'.awake q ≡ None → maps.get sets'.asleep q ≡ None → at Gone owns q ≡ Gone) (q == p) refl
-      (λ e. subst (λ n. maps.get sets'.awake n ≡ None → maps.get sets'.asleep n ≡ None → at Gone owns n ≡ Gone) (sym e) (λ unwatched unslept. (itself unwatched).1 unslept))
+  pub listed_but : AreListed sets tasks → AreListed sets' tasks
+  listed_but listed = λ q up. either q p (maps.get sets'.awake q ≡ None → maps.get sets'.asleep q ≡ None → at Gone tasks q ≡ Gone) (q == p) refl
+      (λ e. subst (λ n. maps.get sets'.awake n ≡ None → maps.get sets'.asleep n ≡ None → at Gone tasks n ≡ Gone) (sym e) (λ unwatched unslept. (itself unwatched).1 unslept))
       (λ ne unwatched unslept. listed q up (sym (same.1 q ne).0 ∙ unwatched) (sym (same.1 q ne).1 ∙ unslept))
 
 -- what was put in is there
@@ -61,39 +61,39 @@ put_there {X = X} m m' p x is none =
     let e : ◌≡◌ {A = Option X} (Some x) None = sym (ap (λ m. maps.get m p) is ∙ get_put m p x) ∙ none in
     absurd (cc e)
 
-pub absent_gone : (o : Option (Own Body)) → is_none o ≡ true → unwrap_or o Gone ≡ Gone
+pub absent_gone : (o : Option (Task UserState)) → is_none o ≡ true → unwrap_or o Gone ≡ Gone
 absent_gone None e = refl
-absent_gone (Some own) e = absurd (cc e)
+absent_gone (Some task) e = absurd (cc e)
 
 -- Over the sleepers in a row.
 
 -- those up to a number rest, unless they are awake
-abbrev pub RestUpTo : Sleepers → Shared → Owns → ℕ → Type 0
-RestUpTo sets s owns n = (q : ℕ) → 0 < q → q ≤ n → maps.get sets.awake q ≡ None → rests s q (at Gone owns q) ≡ true
+abbrev pub RestUpTo : Sleepers → Shared → Tasks → ℕ → Type 0
+RestUpTo sets s tasks n = (q : ℕ) → 0 < q → q ≤ n → maps.get sets.awake q ≡ None → rests s q (at Gone tasks q) ≡ true
 
 -- one number is at most another, or above it
 pub below : (q n : ℕ) (P : Type 0) (b : Bool) → nat_le q n ≡ b → (q ≤ n → P) → (n < q → P) → P
 below q n P true e low high = low (grind (arith, nat_tests))
 below q n P false e low high = high (grind (arith, nat_tests))
 
-module _ (sets : Sleepers) (s : Shared) (owns : Owns) (passed : ℕ) (listed : AreListed sets owns) (seen : RestUpTo sets s owns passed) where
+module _ (sets : Sleepers) (s : Shared) (tasks : Tasks) (passed : ℕ) (listed : AreListed sets tasks) (seen : RestUpTo sets s tasks passed) where
   -- who isn't asleep either rests as well
-  unlisted : (q : ℕ) → 0 < q → maps.get sets.awake q ≡ None → maps.get sets.asleep q ≡ None → rests s q (at Gone owns q) ≡ true
-  unlisted q up unwatched unslept = gone_rests s q (at Gone owns q) (listed q up unwatched unslept)
+  unlisted : (q : ℕ) → 0 < q → maps.get sets.awake q ≡ None → maps.get sets.asleep q ≡ None → rests s q (at Gone tasks q) ≡ true
+  unlisted q up unwatched unslept = gone_rests s q (at Gone tasks q) (listed q up unwatched unslept)
 
-  pub rest_up_to : (sets' : Sleepers) (p : ℕ) → IsNextKey sets.asleep passed (Some p) → IsSameBut sets sets' p → IsWatched sets' s p (at Gone owns p) → RestUpTo sets' s owns p
-  rest_up_to sets' p next same itself = λ q up le. either q p (maps.get sets'.awake q ≡ None → rests s q (at Gone owns q) ≡ true) (q == p) refl
-      (λ e. subst (λ n. maps.get sets'.awake n ≡ None → rests s n (at Gone owns n) ≡ true) (sym e) (λ unwatched. (itself unwatched).0))
+  pub rest_up_to : (sets' : Sleepers) (p : ℕ) → IsNextKey sets.asleep passed (Some p) → IsSameBut sets sets' p → IsWatched sets' s p (at Gone tasks p) → RestUpTo sets' s tasks p
+  rest_up_to sets' p next same itself = λ q up le. either q p (maps.get sets'.awake q ≡ None → rests s q (at Gone tasks q) ≡ true) (q == p) refl
+      (λ e. subst (λ n. maps.get sets'.awake n ≡ None → rests s n (at Gone tasks n) ≡ true) (sym e) (λ unwatched. (itself unwatched).0))
       (λ ne unwatched.
       let before = sym (same.1 q ne).0 ∙ unwatched in
-      below q passed (rests s q (at Gone owns q) ≡ true) (nat_le q passed) refl
+      below q passed (rests s q (at Gone tasks q) ≡ true) (nat_le q passed) refl
       (λ low. seen q up low before)
       (λ high. unlisted q up before (next.2 q high (strict q p ne le))))
     where
       strict : (q p : ℕ) → (q ≡ p → ⊥) → q ≤ p → q < p
       strict q p ne le = below p q (q < p) (nat_le p q) refl (λ ge. absurd (ne (omega (arith, le, ge)))) (λ lt. lt)
 
-  pub all_watched : IsNextKey sets.asleep passed None → AreWatched sets s owns
-  all_watched last = λ q up unwatched. below q passed ((rests s q (at Gone owns q) ≡ true) × (maps.get sets.asleep q ≡ None → at Gone owns q ≡ Gone)) (nat_le q passed) refl
+  pub all_watched : IsNextKey sets.asleep passed None → AreWatched sets s tasks
+  all_watched last = λ q up unwatched. below q passed ((rests s q (at Gone tasks q) ≡ true) × (maps.get sets.asleep q ≡ None → at Gone tasks q ≡ Gone)) (nat_le q passed) refl
       (λ low. (seen q up low unwatched, λ unslept. listed q up unwatched unslept))
       (λ high. (unlisted q up unwatched (last q high), λ unslept. listed q up unwatched unslept))

@@ -11,34 +11,34 @@ use Rattle.lx_abi.specs.Scripts.{choice_of}
 use Rattle.lx_abi.specs.Log.{entries}
 use Rattle.lx_model.specs.Deeds.{deed_of}
 use Rattle.lx_model.specs.Turn.{turn, Out, Event, Plain, Execed, Forked}
-use Rattle.lx_model.specs.declared.stage.Own.{Own}
-use Rattle.lx_model.specs.declared.stage.Own.TheVariants.{Gone}
+use Rattle.lx_model.specs.declared.stage.Task.{Task}
+use Rattle.lx_model.specs.declared.stage.Task.TheVariants.{Gone}
 use Rattle.lx_model.specs.Kernel.{traces, choice_at}
 use Rattle.lx_model.specs.Finite.{at, item_of, Running, bore, turn_out, running_turn}
 use Rattle.lx_proc.specs.declared.state.Shared.{Shared}
-use Rattle.lx_proc.specs.declared.state.Body.{Body}
+use Rattle.lx_proc.specs.declared.state.UserState.{UserState}
 use Rattle.lx_turn.specs.Linux.{linux}
 use Rattle.lx_turn.specs.Turned.{turned, event_of, IsLeft, IsBirth}
-use Rattle.lx_kernel.specs.Turns.{owns_with, next_child}
+use Rattle.lx_kernel.specs.Turns.{tasks_with, next_child}
 use Rattle.lx_kernel.specs.Turns.{Turns}
 use Rattle.lx_turn.specs.declared.effects.Effect.{Effect}
 use Rattle.lx_turn.proofs.Births.{Births, turn_fine, left_by, console_by}
 use Rattle.lx_turn.proofs.Consoles.{turn_keeps}
 
 -- a kernel after an effect
-with_effect : (s : Shared) (owns : FinMap nat_cmp (Own Body)) (child : ℕ) (log : List Item) (e : Event Body)
-    → bore (record { shared = s; owns = owns; child = child; log = log }) e ≡ record { shared = s; owns = owns_with owns child e; child = next_child child e; log = log }
-with_effect s owns child log Plain = refl
-with_effect s owns child log Execed = refl
-with_effect s owns child log (Forked newborn) = refl
+with_effect : (s : Shared) (tasks : FinMap nat_cmp (Task UserState)) (child : ℕ) (log : List Item) (e : Event UserState)
+    → bore (record { shared = s; tasks = tasks; child = child; log = log }) e ≡ record { shared = s; tasks = tasks_with tasks child e; child = next_child child e; log = log }
+with_effect s tasks child log Plain = refl
+with_effect s tasks child log Execed = refl
+with_effect s tasks child log (Forked newborn) = refl
 
-module _ (v : Running Shared Body) (rules : List Rule) (follow : Bool) (p : ℕ) (count : ℕ → ℕ) (agrees : (n : ℕ) → count n ≡ entries p n v.log) (item : Option Item) (done : Effect) (s : Shared) (owns : FinMap nat_cmp (Own Body))
-    (turns : Turns (turned (turn linux (choice_at linux (choice_of rules) (traces follow p) count (at Gone v.owns p)) v.shared v.child p (at Gone v.owns p))) v.owns p item done s owns) where
-  abbrev out : Out Shared Body
+module _ (v : Running Shared UserState) (rules : List Rule) (follow : Bool) (p : ℕ) (count : ℕ → ℕ) (agrees : (n : ℕ) → count n ≡ entries p n v.log) (item : Option Item) (done : Effect) (s : Shared) (tasks : FinMap nat_cmp (Task UserState))
+    (turns : Turns (turned (turn linux (choice_at linux (choice_of rules) (traces follow p) count (at Gone v.tasks p)) v.shared v.child p (at Gone v.tasks p))) v.tasks p item done s tasks) where
+  abbrev out : Out Shared UserState
   out = turn_out linux (choice_of rules) follow v p
 
-  turned_out : Turns (turned out) v.owns p item done s owns
-  turned_out = subst (λ (f : ℕ → ℕ). Turns (turned (turn linux (choice_at linux (choice_of rules) (traces follow p) f (at Gone v.owns p)) v.shared v.child p (at Gone v.owns p))) v.owns p item done s owns) (fun_ext agrees) turns
+  turned_out : Turns (turned out) v.tasks p item done s tasks
+  turned_out = subst (λ (f : ℕ → ℕ). Turns (turned (turn linux (choice_at linux (choice_of rules) (traces follow p) f (at Gone v.tasks p)) v.shared v.child p (at Gone v.tasks p))) v.tasks p item done s tasks) (fun_ext agrees) turns
 
   pub kernel_item : item ≡ item_of out
   kernel_item = sym turned_out.item_is
@@ -51,7 +51,7 @@ module _ (v : Running Shared Body) (rules : List Rule) (follow : Bool) (p : ℕ)
   born =
       subst (λ t. Births v.shared v.child t (event_of done)) turned_out.shared_is
       (subst (Births v.shared v.child out.shared) turned_out.event_is
-      (turn_fine (choice_at linux (choice_of rules) (traces follow p) (λ n. entries p n v.log) (at Gone v.owns p)) v.shared v.child p (at Gone v.owns p)))
+      (turn_fine (choice_at linux (choice_of rules) (traces follow p) (λ n. entries p n v.log) (at Gone v.tasks p)) v.shared v.child p (at Gone v.tasks p)))
 
   pub kernel_left : IsLeft done v.child
   kernel_left = left_by v.shared v.child s done born
@@ -61,13 +61,13 @@ module _ (v : Running Shared Body) (rules : List Rule) (follow : Bool) (p : ℕ)
 
   logged_keeps : (o : Option Item) → IsSome o → o ≡ item_of out → out.shared.console ≡ v.shared.console
   logged_keeps None some e = absurd (cc some)
-  logged_keeps (Some i) some e = turn_keeps (choice_at linux (choice_of rules) (traces follow p) (λ n. entries p n v.log) (at Gone v.owns p)) v.shared v.child p (at Gone v.owns p) i (sym e)
+  logged_keeps (Some i) some e = turn_keeps (choice_at linux (choice_of rules) (traces follow p) (λ n. entries p n v.log) (at Gone v.tasks p)) v.shared v.child p (at Gone v.tasks p) i (sym e)
 
   -- a turn that logged left the console
   pub kernel_console : IsSome item → s.console ≡ v.shared.console
   kernel_console some = ap (λ (x : Shared). x.console) (sym turned_out.shared_is) ∙ logged_keeps item some kernel_item
 
-  pub kernel_turned : record { shared = s; owns = owns_with owns v.child (event_of done); child = next_child v.child (event_of done); log = v.log ++ option_to_list item } ≡ running_turn linux (choice_of rules) follow v p
+  pub kernel_turned : record { shared = s; tasks = tasks_with tasks v.child (event_of done); child = next_child v.child (event_of done); log = v.log ++ option_to_list item } ≡ running_turn linux (choice_of rules) follow v p
   kernel_turned =
-      sym (with_effect s owns v.child (v.log ++ option_to_list item) (event_of done))
-      ∙ λ i. bore (record { shared = sym turned_out.shared_is i; owns = sym turned_out.owns_is i; child = v.child; log = v.log ++ option_to_list (kernel_item i) }) (sym turned_out.event_is i)
+      sym (with_effect s tasks v.child (v.log ++ option_to_list item) (event_of done))
+      ∙ λ i. bore (record { shared = sym turned_out.shared_is i; tasks = sym turned_out.tasks_is i; child = v.child; log = v.log ++ option_to_list (kernel_item i) }) (sym turned_out.event_is i)

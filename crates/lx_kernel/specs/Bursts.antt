@@ -4,10 +4,10 @@ use Rattle.std.specs.Ordering.{nat_cmp}
 use Rattle.std.specs.FinMap.{FinMap}
 use Rattle.lx_abi.specs.declared.log.Mode.TheVariants as mode
 use Rattle.lx_model.specs.Machine.{Goes}
-use Rattle.lx_model.specs.declared.stage.Own.{Own}
-use Rattle.lx_model.specs.declared.stage.Own.TheVariants.{Alive}
+use Rattle.lx_model.specs.declared.stage.Task.{Task}
+use Rattle.lx_model.specs.declared.stage.Task.TheVariants.{Alive}
 use Rattle.lx_model.specs.declared.stage.Stage.TheVariants as stages
-use Rattle.lx_proc.specs.declared.state.Body.{Body}
+use Rattle.lx_proc.specs.declared.state.UserState.{UserState}
 use Rattle.lx_turn.specs.Reactions.{resumed}
 use Rattle.lx_kernel.specs.Runs.{Run, after_turn, mode_in}
 
@@ -30,25 +30,25 @@ pub record Burst (k : Run) (pid limit n : ℕ) (k' : Run) : Type 0 where
 -- A body alone.
 
 -- c comes from b by n turns in Run
-abbrev pub Follows : ℕ → Body → Body → Type 0
+abbrev pub Follows : ℕ → UserState → UserState → Type 0
 Follows zero b c = b ≡ c
-Follows (suc n) b c = (d : Body) × (resumed b b.interrupted ≡ Goes d) × Follows n d c
+Follows (suc n) b c = (d : UserState) × (resumed b b.interrupted ≡ Goes d) × Follows n d c
 
 -- no turn leads on from it
-abbrev pub Halts : Body → Type 0
-Halts b = (d : Body) → resumed b b.interrupted ≢ Goes d
+abbrev pub Halts : UserState → Type 0
+Halts b = (d : UserState) → resumed b b.interrupted ≢ Goes d
 
-pub record Continues (limit n : ℕ) (b c : Body) : Type 0 where
+pub record Continues (limit n : ℕ) (b c : UserState) : Type 0 where
   pub within : n ≤ limit
   pub follows : Follows n b c
   pub halts : n < limit → Halts c
 
 -- a process that stands in Run goes on with its body; one that stands elsewhere stays as it is
-abbrev pub OwnContinues : ℕ → ℕ → Own Body → Own Body → Type 0
-OwnContinues limit n own own' =
-    ((b : Body) × (c : Body) × (own ≡ Alive b stages.Run) × (own' ≡ Alive c stages.Run) × Continues limit n b c)
-    ⊎ ((n ≡ 0) × (own' ≡ own) × ((b : Body) → own ≢ Alive b stages.Run))
+abbrev pub TaskContinues : ℕ → ℕ → Task UserState → Task UserState → Type 0
+TaskContinues limit n task task' =
+    ((b : UserState) × (c : UserState) × (task ≡ Alive b stages.Run) × (task' ≡ Alive c stages.Run) × Continues limit n b c)
+    ⊎ ((n ≡ 0) × (task' ≡ task) × ((b : UserState) → task ≢ Alive b stages.Run))
 
 -- the kernel with other parts of its processes' own
-abbrev pub with_owns : Run → FinMap nat_cmp (Own Body) → Run
-with_owns k owns = record k { running = record k.running { owns = owns } }
+abbrev pub with_tasks : Run → FinMap nat_cmp (Task UserState) → Run
+with_tasks k tasks = record k { running = record k.running { tasks = tasks } }

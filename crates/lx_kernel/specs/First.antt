@@ -2,13 +2,13 @@
 use Rattle.std.specs.Prelude.{List, [], false}
 use Rattle.lx_abi.specs.declared.boot.Boot.{Boot}
 use Rattle.lx_abi.specs.declared.script.Rule.{Rule}
-use Rattle.lx_boot.specs.First.{first_shared, first_owns}
+use Rattle.lx_boot.specs.First.{first_shared, first_tasks}
 use Rattle.lx_kernel.specs.Runs.{Run}
 
 -- process 1 is alone, and nothing is logged
 abbrev pub first_run : Boot → List Rule → Run
 first_run boot script = record {
-  running = record { shared = first_shared boot.files boot.input; owns = first_owns boot.argv boot.env; child = 2; log = [] };
+  running = record { shared = first_shared boot.files boot.input; tasks = first_tasks boot.argv boot.env; child = 2; log = [] };
   script = script;
   follow = boot.follow;
   failed = false;

@@ -15,7 +15,7 @@ use Rattle.lx_turn.specs.Linux.{linux}
 use Rattle.lx_exec.specs.Programs.{booted}
 use Rattle.lx_kernel.specs.Runs.{Run, after_turn}
 use Rattle.lx_proc.specs.declared.state.Shared.{Shared}
-use Rattle.lx_proc.specs.declared.state.Body.{Body}
+use Rattle.lx_proc.specs.declared.state.UserState.{UserState}
 use Rattle.lx_proc.specs.WaitWords.{Words}
 
 -- process 1 begins in its first program, and is alone
@@ -47,12 +47,12 @@ abbrev pub logged_words : List Item → Words
 logged_words log = fold with_end maps.empty log
 
 -- what is shared has the words of the log's ends
-abbrev pub HasLoggedWords : Running Shared Body → Type 0
+abbrev pub HasLoggedWords : Running Shared UserState → Type 0
 HasLoggedWords v = v.shared.ended ≡ logged_words v.log
 
 -- a turn keeps this, under every script
 abbrev pub TurnsLogWords : Type 0
-TurnsLogWords = (script : Script) (follow : Bool) (v : Running Shared Body) (pid : ℕ) → HasLoggedWords v → HasLoggedWords (running_turn linux script follow v pid)
+TurnsLogWords = (script : Script) (follow : Bool) (v : Running Shared UserState) (pid : ℕ) → HasLoggedWords v → HasLoggedWords (running_turn linux script follow v pid)
 
 -- so it holds after any turns of a boot
 abbrev pub BootsLogWords : Type 0
@@ -61,5 +61,5 @@ BootsLogWords = (boot : Boot) (script : List Rule) (pids : List ℕ) → HasLogg
 -- and of the untraced kernel of the definitions
 abbrev pub KernelsLogWords : Type 0
 KernelsLogWords = (script : Script) (follow : Bool) (boot : Boot) (pids : List ℕ) →
-    let k : Kernel Shared Body = kernel_run linux script follow (first_kernel (first_shared boot.files boot.input) (booted boot.argv boot.env)) pids in
+    let k : Kernel Shared UserState = kernel_run linux script follow (first_kernel (first_shared boot.files boot.input) (booted boot.argv boot.env)) pids in
     k.shared.ended ≡ logged_words (items_of k.log)

@@ -5,21 +5,21 @@ use Rattle.lx_abi.specs.declared.log.Mode.{Mode}
 use Rattle.lx_abi.specs.declared.script.Rule.{Rule}
 use Rattle.lx_abi.specs.Scripts.{choice_of}
 use Rattle.lx_model.specs.Turn.{Out}
-use Rattle.lx_model.specs.declared.stage.Own.TheVariants.{Gone}
+use Rattle.lx_model.specs.declared.stage.Task.TheVariants.{Gone}
 use Rattle.lx_model.specs.Finite.{at, Running, turn_out, running_turn, IsAble}
 use Rattle.lx_proc.specs.declared.state.Shared.{Shared}
-use Rattle.lx_proc.specs.declared.state.Body.{Body}
+use Rattle.lx_proc.specs.declared.state.UserState.{UserState}
 use Rattle.lx_turn.specs.Linux.{linux}
-use Rattle.lx_turn.specs.Modes.{own_mode}
+use Rattle.lx_turn.specs.Modes.{task_mode}
 
 pub record Run : Type 0 where
-  pub running : Running Shared Body
+  pub running : Running Shared UserState
   pub script : List Rule
   pub follow : Bool
   pub failed : Bool
 
 -- what a turn of the process gives
-abbrev pub turn_in : Run → ℕ → Out Shared Body
+abbrev pub turn_in : Run → ℕ → Out Shared UserState
 turn_in k pid = turn_out linux (choice_of k.script) k.follow k.running pid
 
 -- the kernel after it
@@ -32,4 +32,4 @@ is_able_in k pid = IsAble linux (choice_of k.script) k.follow k.running pid
 
 -- where a process stands
 abbrev pub mode_in : Run → ℕ → Option Mode
-mode_in k pid = own_mode (maps.get k.running.shared.entries pid) (at Gone k.running.owns pid)
+mode_in k pid = task_mode (maps.get k.running.shared.entries pid) (at Gone k.running.tasks pid)

@@ -3,10 +3,10 @@ use Rattle.std.specs.Prelude.{◌≡◌, ◌⊎◌, ◌+◌, ℕ, Bool, ◌<◌,
 use Rattle.std.specs.Ordering.{nat_cmp}
 use Rattle.std.specs.FinMap.{FinMap}
 use Rattle.lx_model.specs.Finite.{at}
-use Rattle.lx_model.specs.declared.stage.Own.{Own}
-use Rattle.lx_model.specs.declared.stage.Own.TheVariants.{Gone}
+use Rattle.lx_model.specs.declared.stage.Task.{Task}
+use Rattle.lx_model.specs.declared.stage.Task.TheVariants.{Gone}
 use Rattle.lx_proc.specs.declared.state.Shared.{Shared}
-use Rattle.lx_proc.specs.declared.state.Body.{Body}
+use Rattle.lx_proc.specs.declared.state.UserState.{UserState}
 use Rattle.lx_turn.specs.Blocking.{can_turn}
 use Rattle.lx_kernel.specs.Runs.{Run, is_able_in}
 
@@ -23,24 +23,24 @@ IsNextOf k after (Some pid) = IsNextAble k after pid
 
 -- Of what is shared and the table of own parts.
 
-abbrev pub Owns : Type 0
-Owns = FinMap nat_cmp (Own Body)
+abbrev pub Tasks : Type 0
+Tasks = FinMap nat_cmp (Task UserState)
 
 -- a turn of the process does something
-abbrev pub can_turn_in : Shared → Owns → ℕ → Bool
-can_turn_in s owns p = can_turn s p (at Gone owns p)
+abbrev pub can_turn_in : Shared → Tasks → ℕ → Bool
+can_turn_in s tasks p = can_turn s p (at Gone tasks p)
 
 -- no process from one pid up to before another can take a turn
-abbrev pub AreUnable : Shared → Owns → ℕ → ℕ → Type 0
-AreUnable s owns from to = (q : ℕ) → from ≤ q → q < to → can_turn_in s owns q ≡ false
+abbrev pub AreUnable : Shared → Tasks → ℕ → ℕ → Type 0
+AreUnable s tasks from to = (q : ℕ) → from ≤ q → q < to → can_turn_in s tasks q ≡ false
 
 -- the first that can, from a pid on
-abbrev pub IsFirstFrom : Shared → Owns → ℕ → Option ℕ → Type 0
-IsFirstFrom s owns from None = (q : ℕ) → from ≤ q → can_turn_in s owns q ≡ false
-IsFirstFrom s owns from (Some pid) = (from ≤ pid) × (can_turn_in s owns pid ≡ true) × AreUnable s owns from pid
+abbrev pub IsFirstFrom : Shared → Tasks → ℕ → Option ℕ → Type 0
+IsFirstFrom s tasks from None = (q : ℕ) → from ≤ q → can_turn_in s tasks q ≡ false
+IsFirstFrom s tasks from (Some pid) = (from ≤ pid) × (can_turn_in s tasks pid ≡ true) × AreUnable s tasks from pid
 
 -- the first above a pid, or else the first of all
-abbrev pub IsNextIn : Shared → Owns → ℕ → Option ℕ → Type 0
-IsNextIn s owns after o =
-    (IsSome o × IsFirstFrom s owns (after + 1) o)
-    ⊎ (IsFirstFrom s owns (after + 1) None × IsFirstFrom s owns 0 o)
+abbrev pub IsNextIn : Shared → Tasks → ℕ → Option ℕ → Type 0
+IsNextIn s tasks after o =
+    (IsSome o × IsFirstFrom s tasks (after + 1) o)
+    ⊎ (IsFirstFrom s tasks (after + 1) None × IsFirstFrom s tasks 0 o)

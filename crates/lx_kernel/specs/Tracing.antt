@@ -7,31 +7,31 @@ use Rattle.std.specs.FinMap.{FinMap}
 use Rattle.lx_abi.specs.declared.log.Cause.{Cause}
 use Rattle.lx_abi.specs.declared.signal.Signal.{Signal}
 use Rattle.lx_model.specs.Machine.{Regs}
-use Rattle.lx_model.specs.Finite.{at, placed, with_own}
+use Rattle.lx_model.specs.Finite.{at, placed, with_task}
 use Rattle.lx_model.specs.declared.stage.Stage.{Stage}
 use Rattle.lx_model.specs.declared.stage.Stage.TheVariants.{Born, Run, Faulting, Entered, Doing, Replaced, Acted, Finished, Taken, Dropped}
-use Rattle.lx_model.specs.declared.stage.Own.{Own}
-use Rattle.lx_model.specs.declared.stage.Own.TheVariants.{Alive, Dying, Gone}
-use Rattle.lx_proc.specs.declared.state.Body.{Body}
+use Rattle.lx_model.specs.declared.stage.Task.{Task}
+use Rattle.lx_model.specs.declared.stage.Task.TheVariants.{Alive, Dying, Gone}
+use Rattle.lx_proc.specs.declared.state.UserState.{UserState}
 use Rattle.lx_turn.specs.Linux.{linux}
 use Rattle.lx_kernel.specs.Runs.{Run as KernelRun}
 
 -- a process's own part
-abbrev pub own_in : KernelRun → ℕ → Own Body
-own_in k pid = at Gone k.running.owns pid
+abbrev pub task_in : KernelRun → ℕ → Task UserState
+task_in k pid = at Gone k.running.tasks pid
 
 -- What is read
 
-abbrev pub body_of : Own Body → Option Body
-body_of (Alive b stage) = Some b
-body_of (Dying w) = None
-body_of Gone = None
+abbrev pub user_of : Task UserState → Option UserState
+user_of (Alive b stage) = Some b
+user_of (Dying w) = None
+user_of Gone = None
 
-abbrev pub regs_of : Own Body → Option Regs
-regs_of own = option_map (λ b. linux.regs b) (body_of own)
+abbrev pub regs_of : Task UserState → Option Regs
+regs_of task = option_map (λ b. linux.regs b) (user_of task)
 
-abbrev pub peek_of : Own Body → ℕ → ℕ → Option (List ℕ)
-peek_of own address length = option_map (λ b. linux.peek b address length) (body_of own)
+abbrev pub peek_of : Task UserState → ℕ → ℕ → Option (List ℕ)
+peek_of task address length = option_map (λ b. linux.peek b address length) (user_of task)
 
 abbrev pub signal_at : Stage → Option (Signal × Cause)
 signal_at Born = None
@@ -46,7 +46,7 @@ signal_at (Taken signal cause) = Some (signal, cause)
 signal_at Dropped = None
 
 -- the signal at a signal stop, and why it came
-abbrev pub signal_of : Own Body → Option (Signal × Cause)
+abbrev pub signal_of : Task UserState → Option (Signal × Cause)
 signal_of (Alive b stage) = signal_at stage
 signal_of (Dying w) = None
 signal_of Gone = None
@@ -79,32 +79,32 @@ dropping Finished = None
 dropping (Taken signal cause) = Some Dropped
 dropping Dropped = None
 
-abbrev pub with_regs : Regs → Own Body → Option (Own Body)
+abbrev pub with_regs : Regs → Task UserState → Option (Task UserState)
 with_regs r (Alive b stage) = Some (Alive (linux.with_regs b r) stage)
 with_regs r (Dying w) = None
 with_regs r Gone = None
 
-abbrev pub with_joined : Option Signal → Own Body → Option (Own Body)
+abbrev pub with_joined : Option Signal → Task UserState → Option (Task UserState)
 with_joined signal (Alive b stage) = option_map (λ s. Alive b s) (joining signal stage)
 with_joined signal (Dying w) = None
 with_joined signal Gone = None
 
-abbrev pub with_dropped : Own Body → Option (Own Body)
+abbrev pub with_dropped : Task UserState → Option (Task UserState)
 with_dropped (Alive b stage) = option_map (λ s. Alive b s) (dropping stage)
 with_dropped (Dying w) = None
 with_dropped Gone = None
 
 -- the kernel with the process's own part changed so
-abbrev pub with_part : KernelRun → ℕ → Option (Own Body) → KernelRun
+abbrev pub with_part : KernelRun → ℕ → Option (Task UserState) → KernelRun
 with_part k pid None = k
-with_part k pid (Some own) = record k { running = with_own k.running pid own }
+with_part k pid (Some task) = record k { running = with_task k.running pid task }
 
 -- Of one part, and of the table of parts: what is left, and whether it was changed.
 
-abbrev pub IsPart : Option (Own Body) → Own Body → Own Body → Bool → Type 0
-IsPart None own own' changed = (own' ≡ own) × (changed ≡ false)
-IsPart (Some other) own own' changed = (own' ≡ other) × (changed ≡ true)
+abbrev pub IsPart : Option (Task UserState) → Task UserState → Task UserState → Bool → Type 0
+IsPart None task task' changed = (task' ≡ task) × (changed ≡ false)
+IsPart (Some other) task task' changed = (task' ≡ other) × (changed ≡ true)
 
-abbrev pub with_part_at : FinMap nat_cmp (Own Body) → ℕ → Option (Own Body) → FinMap nat_cmp (Own Body)
-with_part_at owns pid None = owns
-with_part_at owns pid (Some own) = placed owns pid own
+abbrev pub with_part_at : FinMap nat_cmp (Task UserState) → ℕ → Option (Task UserState) → FinMap nat_cmp (Task UserState)
+with_part_at tasks pid None = tasks
+with_part_at tasks pid (Some task) = placed tasks pid task

@@ -6,35 +6,35 @@ use Rattle.std.specs.FinMap.{FinMap}
 use Rattle.lx_abi.specs.declared.log.Item.{Item}
 use Rattle.lx_model.specs.Turn.{Event, Plain, Execed, Forked}
 use Rattle.lx_model.specs.declared.stage.Stage.TheVariants.{Born}
-use Rattle.lx_model.specs.declared.stage.Own.{Own}
-use Rattle.lx_model.specs.declared.stage.Own.TheVariants.{Alive}
+use Rattle.lx_model.specs.declared.stage.Task.{Task}
+use Rattle.lx_model.specs.declared.stage.Task.TheVariants.{Alive}
 use Rattle.lx_model.specs.Finite.{placed}
 use Rattle.lx_proc.specs.declared.state.Shared.{Shared}
-use Rattle.lx_proc.specs.declared.state.Body.{Body}
+use Rattle.lx_proc.specs.declared.state.UserState.{UserState}
 use Rattle.lx_turn.specs.Turned.{Turned, event_of}
 use Rattle.lx_turn.specs.declared.effects.Effect.{Effect}
 
 -- the turn's parts are in their places
-pub record Turns (t : Turned) (owns : FinMap nat_cmp (Own Body)) (pid : ℕ) (item' : Option Item)
-    (done : Effect) (shared' : Shared) (owns' : FinMap nat_cmp (Own Body)) : Type 0 where
+pub record Turns (t : Turned) (tasks : FinMap nat_cmp (Task UserState)) (pid : ℕ) (item' : Option Item)
+    (done : Effect) (shared' : Shared) (tasks' : FinMap nat_cmp (Task UserState)) : Type 0 where
   pub shared_is : t.shared ≡ shared'
-  pub owns_is : placed owns pid t.own ≡ owns'
+  pub tasks_is : placed tasks pid t.task ≡ tasks'
   pub item_is : t.item ≡ item'
   pub event_is : t.event ≡ event_of done
 
 -- The table of own parts, without the process where it is gone.
 
-abbrev pub without_gone : FinMap nat_cmp (Own Body) → ℕ → Bool → FinMap nat_cmp (Own Body)
-without_gone owns p gone = cond gone (maps.remove owns p) owns
+abbrev pub without_gone : FinMap nat_cmp (Task UserState) → ℕ → Bool → FinMap nat_cmp (Task UserState)
+without_gone tasks p gone = cond gone (maps.remove tasks p) tasks
 
 -- The table after an effect, and the next pid.
 
-abbrev pub owns_with : FinMap nat_cmp (Own Body) → ℕ → Event Body → FinMap nat_cmp (Own Body)
-owns_with owns child Plain = owns
-owns_with owns child Execed = owns
-owns_with owns child (Forked newborn) = maps.insert owns child (Alive newborn Born)
+abbrev pub tasks_with : FinMap nat_cmp (Task UserState) → ℕ → Event UserState → FinMap nat_cmp (Task UserState)
+tasks_with tasks child Plain = tasks
+tasks_with tasks child Execed = tasks
+tasks_with tasks child (Forked newborn) = maps.insert tasks child (Alive newborn Born)
 
-abbrev pub next_child : ℕ → Event Body → ℕ
+abbrev pub next_child : ℕ → Event UserState → ℕ
 next_child child Plain = child
 next_child child Execed = child
 next_child child (Forked newborn) = suc child

@@ -3,39 +3,43 @@
 ghost use Rattle.std.specs.Prelude.{◌≡◌, ℕ, None, IfOk, OnOk, not, ◌&&◌, is_some};
 ghost use Rattle.std.specs.FinMap as maps;
 ghost use Rattle.lx_turn.specs.Reactions.{next_of, is_killed as is_killed_at};
-ghost use Rattle.lx_kernel.specs.Bursts.{Burst, Continues, OwnContinues, with_owns};
+ghost use Rattle.lx_kernel.specs.Bursts.{Burst, Continues, TaskContinues, with_tasks};
 ghost use Rattle.lx_kernel.specs.Runs.{Run as KernelRun};
 ghost use Rattle.lx_kernel.specs.Sleeping.{IsKept};
 ghost use Rattle.lx_model.specs.Finite.{at};
-ghost use Rattle.lx_model.specs.declared.stage.Own.TheVariants as Own;
-ghost use Rattle.lx_model.specs.declared.stage.Own.TheVariants.{Gone};
+ghost use Rattle.lx_model.specs.declared.stage.Task.TheVariants as Task;
+ghost use Rattle.lx_model.specs.declared.stage.Task.TheVariants.{Gone};
 
 use containers::Map;
-use lx_model::{Own, Stage};
-use lx_proc::{Body, Shared, make_again};
+use lx_model::{Stage, Task};
+use lx_proc::{Shared, UserState, make_again};
 use lx_sig::{is_pending, next};
-use rv_hart::Decoder;
+use rv_hart::DecodedCode;
 use std::alloc::AllocError;
 
 /// Runs instructions, at most so many: how many ran.
-fn run_instructions(body: &mut Body, decoder: &mut Decoder, limit: u64) -> Result<u64, AllocError>
-    requires { body.old.interrupted ≡ None }
-    ensures { IfOk result (λ n. Continues limit n body.old body.new) }
+fn run_instructions(
+    user: &mut UserState,
+    decoder: &mut DecodedCode,
+    limit: u64,
+) -> Result<u64, AllocError>
+    requires { user.old.interrupted ≡ None }
+    ensures { IfOk result (λ n. Continues limit n user.old user.new) }
 {
-    let progress = rv_hart::run(&mut body.hart, &mut body.memory, decoder, limit)?;
+    let progress = rv_hart::run(&mut user.hart, &mut user.memory, decoder, limit)?;
     Ok(progress.ran)
 }
 
 /// Turns of a body in Run, at most so many: how many there were.
-fn run_body(body: &mut Body, decoder: &mut Decoder, limit: u64) -> Result<u64, AllocError>
-    ensures { IfOk result (λ n. Continues limit n body.old body.new) }
+fn run_user(user: &mut UserState, decoder: &mut DecodedCode, limit: u64) -> Result<u64, AllocError>
+    ensures { IfOk result (λ n. Continues limit n user.old user.new) }
 {
-    match body.interrupted {
-        None => run_instructions(body, decoder, limit),
+    match user.interrupted {
+        None => run_instructions(user, decoder, limit),
         Some(_) if limit == 0 => Ok(0),
         Some(at) => {
-            make_again(body, at);
-            let ran = run_instructions(body, decoder, limit - 1)?;
+            make_again(user, at);
+            let ran = run_instructions(user, decoder, limit - 1)?;
             Ok(ran + 1)
         }
     }
@@ -43,16 +47,16 @@ fn run_body(body: &mut Body, decoder: &mut Decoder, limit: u64) -> Result<u64, A
 
 /// Turns of a living process that stands in Run; one that stands elsewhere has none.
 fn run_alive(
-    body: &mut Body,
+    user: &mut UserState,
     stage: Stage,
-    decoder: &mut Decoder,
+    decoder: &mut DecodedCode,
     limit: u64,
 ) -> Result<u64, AllocError>
-    ensures { IfOk result (λ n. OwnContinues limit n (Own.Alive body.old stage) (Own.Alive body.new stage)) }
+    ensures { IfOk result (λ n. TaskContinues limit n (Task.Alive user.old stage) (Task.Alive user.new stage)) }
 {
     match stage {
         Stage::Run => {
-            let ran = run_body(body, decoder, limit)?;
+            let ran = run_user(user, decoder, limit)?;
             Ok(ran)
         }
         _ => Ok(0),
@@ -60,15 +64,19 @@ fn run_alive(
 }
 
 /// Turns of a process that nothing disturbs.
-fn run_own(own: &mut Own<Body>, decoder: &mut Decoder, limit: u64) -> Result<u64, AllocError>
-    ensures { IfOk result (λ n. OwnContinues limit n own.old own.new) }
+fn run_task(
+    task: &mut Task<UserState>,
+    decoder: &mut DecodedCode,
+    limit: u64,
+) -> Result<u64, AllocError>
+    ensures { IfOk result (λ n. TaskContinues limit n task.old task.new) }
 {
-    match own {
-        Own::Alive { body, stage } => {
-            let ran = run_alive(body, *stage, decoder, limit)?;
+    match task {
+        Task::Alive { user, stage } => {
+            let ran = run_alive(user, *stage, decoder, limit)?;
             Ok(ran)
         }
-        Own::Dying { .. } | Own::Gone => Ok(0),
+        Task::Dying { .. } | Task::Gone => Ok(0),
     }
 }
 
@@ -86,22 +94,22 @@ fn is_undisturbed(shared: &Shared, pid: u32) -> bool
 /// Turns of a process while each begins and ends in Run, at most so many: how many there were.
 pub fn run(
     shared: &Shared,
-    owns: &mut Map<Own<Body>>,
-    decoder: &mut Decoder,
+    tasks: &mut Map<Task<UserState>>,
+    decoder: &mut DecodedCode,
     pid: u32,
     limit: u64,
 ) -> Result<u64, AllocError>
-    ensures burst { IfOk result (λ n. (k : KernelRun) → k.running.shared ≡ shared.now → k.running.owns
-        ≡ owns.old → Burst k pid limit n (with_owns k owns.new)) }
-    ensures kept { OnOk result ((q : ℕ) → IsKept shared.now q (at Gone owns.old q) (at Gone owns.new q)) }
+    ensures burst { IfOk result (λ n. (k : KernelRun) → k.running.shared ≡ shared.now → k.running.tasks
+        ≡ tasks.old → Burst k pid limit n (with_tasks k tasks.new)) }
+    ensures kept { OnOk result ((q : ℕ) → IsKept shared.now q (at Gone tasks.old q) (at Gone tasks.new q)) }
 {
     if !is_undisturbed(shared, pid) {
         return Ok(0);
     }
-    match owns.get_mut(pid) {
+    match tasks.get_mut(pid) {
         None => Ok(0),
-        Some(own) => {
-            let ran = run_own(own, decoder, limit)?;
+        Some(task) => {
+            let ran = run_task(task, decoder, limit)?;
             Ok(ran)
         }
     }

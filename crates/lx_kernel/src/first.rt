@@ -10,8 +10,8 @@ ghost use Rattle.std.specs.declared.result.Result.TheVariants.{Err};
 
 use crate::kernel::Kernel;
 use lx_abi::{Boot, Script};
-use lx_boot::{BootFault, boot_fault, first_owns, first_shared};
-use rv_hart::Decoder;
+use lx_boot::{BootFault, boot_fault, first_shared, first_tasks};
+use rv_hart::DecodedCode;
 use std::alloc::{AllocError, Global};
 
 /// The kernel of an accepted boot.
@@ -27,9 +27,9 @@ fn first(alloc: Global, boot: Boot, script: Script) -> Result<Kernel, AllocError
         follow,
     } = boot;
     let shared = first_shared(alloc, files.as_slice(), input)?;
-    let owns = first_owns(alloc, argv.as_slice(), env.as_slice())?;
-    let decoder = Decoder::new(alloc)?;
-    Ok(Kernel::new(alloc, shared, owns, decoder, script, follow))
+    let tasks = first_tasks(alloc, argv.as_slice(), env.as_slice())?;
+    let decoder = DecodedCode::new(alloc)?;
+    Ok(Kernel::new(alloc, shared, tasks, decoder, script, follow))
 }
 
 impl Kernel {

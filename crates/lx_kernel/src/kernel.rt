@@ -9,21 +9,21 @@ ghost use Rattle.lx_abi.specs.Occurrences.{count_of};
 ghost use Rattle.lx_model.specs.Finite.{at, item_of};
 ghost use Rattle.lx_model.specs.Deeds.{deed_of};
 ghost use Rattle.lx_model.specs.Turn.{turn, Plain};
-ghost use Rattle.lx_model.specs.declared.stage.Own.TheVariants.{Alive, Gone};
+ghost use Rattle.lx_model.specs.declared.stage.Task.TheVariants.{Alive, Gone};
 ghost use Rattle.lx_model.specs.declared.stage.Stage.TheVariants.{Born};
 ghost use Rattle.lx_turn.specs.Linux.{linux};
-ghost use Rattle.lx_turn.specs.Modes.{own_mode as own_mode_of};
+ghost use Rattle.lx_turn.specs.Modes.{task_mode as task_mode_of};
 ghost use Rattle.lx_turn.specs.Resting.{Calms};
-ghost use Rattle.lx_turn.specs.Tampering.{choice_of_own};
+ghost use Rattle.lx_turn.specs.Injection.{choice_of_task};
 ghost use Rattle.lx_turn.specs.Turned.{turned, event_of, IsLeft, IsBirth};
 ghost use Rattle.lx_kernel.specs.Bursts.{Burst};
 ghost use Rattle.lx_kernel.specs.Occurrences.{Agree};
 ghost use Rattle.lx_kernel.specs.Outcomes.{outcome_in};
 ghost use Rattle.lx_kernel.specs.Runs.{turn_in, after_turn, is_able_in, mode_in};
 ghost use Rattle.lx_kernel.specs.Scheduling.{IsNextOf};
-ghost use Rattle.lx_kernel.specs.Tracing.{own_in, regs_of, peek_of, signal_of};
+ghost use Rattle.lx_kernel.specs.Tracing.{task_in, regs_of, peek_of, signal_of};
 ghost use Rattle.lx_kernel.specs.Tracing.{with_regs, with_joined, with_dropped, with_part};
-ghost use Rattle.lx_kernel.specs.Turns.{Turns, without_gone, owns_with, next_child};
+ghost use Rattle.lx_kernel.specs.Turns.{Turns, without_gone, tasks_with, next_child};
 
 use crate::outcome::outcome;
 use crate::scheduling::{can_turn_at, next_in_cycle};
@@ -31,10 +31,10 @@ use crate::sleepers::{Hints, Sleepers};
 use crate::{bursts, tracing};
 use containers::{Bytes, Map};
 use lx_abi::{Cause, Item, Mode, Occurrences, Outcome, RegisterSet, Registers, Script, Signal};
-use lx_model::{Deed, Own, Stage};
-use lx_proc::{Body, Shared};
-use lx_turn::{Effect, Tampering, Transition, is_killed, mode_of_gone, mode_of_stage, turn_own};
-use rv_hart::Decoder;
+use lx_model::{Deed, Stage, Task};
+use lx_proc::{Shared, UserState};
+use lx_turn::{Effect, Injection, Transition, is_killed, mode_of_gone, mode_of_stage, turn_task};
+use rv_hart::DecodedCode;
 use std::alloc::{AllocError, Global};
 use std::marker::Model;
 
@@ -60,18 +60,18 @@ pub struct Moved {
 
 /// A process leaves the table.
 #[inline(never)]
-fn remove(owns: &mut Map<Own<Body>>, pid: u32)
-    ensures { owns.new ≡ maps.remove owns.old pid }
+fn remove(tasks: &mut Map<Task<UserState>>, pid: u32)
+    ensures { tasks.new ≡ maps.remove tasks.old pid }
 {
-    owns.remove(pid);
+    tasks.remove(pid);
 }
 
 /// Who is gone leaves the table.
-fn remove_gone(owns: &mut Map<Own<Body>>, pid: u32, gone: bool)
-    ensures { owns.new ≡ without_gone owns.old pid gone }
+fn remove_gone(tasks: &mut Map<Task<UserState>>, pid: u32, gone: bool)
+    ensures { tasks.new ≡ without_gone tasks.old pid gone }
 {
     if gone {
-        remove(owns, pid);
+        remove(tasks, pid);
     }
 }
 
@@ -79,57 +79,65 @@ fn remove_gone(owns: &mut Map<Own<Body>>, pid: u32, gone: bool)
 fn turn_at(
     alloc: Global,
     shared: &mut Shared,
-    owns: &mut Map<Own<Body>>,
-    tampering: &Tampering,
+    tasks: &mut Map<Task<UserState>>,
+    injection: &Injection,
     child: u32,
     pid: u32,
     item: &mut Option<Item>,
 ) -> Result<Transition, AllocError>
     requires { item.old ≡ None }
-    ensures turns { IfOk result (λ t. Turns (turned (turn linux (choice_of_own tampering.now pid
-        (at Gone owns.old pid)) shared.old child pid
-        (at Gone owns.old pid))) owns.old pid item.new t.done shared.new owns.new) }
+    ensures turns { IfOk result (λ t. Turns (turned (turn linux (choice_of_task injection.now pid
+        (at Gone tasks.old pid)) shared.old child pid
+        (at Gone tasks.old pid))) tasks.old pid item.new t.done shared.new tasks.new) }
     ensures before { IfOk result (λ t. t.before
-        ≡ own_mode_of (maps.get shared.old.entries pid) (at Gone owns.old pid)) }
-    ensures after { IfOk result (λ t. t.after ≡ own_mode_of (maps.get shared.new.entries pid) (at Gone owns.new pid)) }
+        ≡ task_mode_of (maps.get shared.old.entries pid) (at Gone tasks.old pid)) }
+    ensures after { IfOk result (λ t. t.after ≡ task_mode_of (maps.get shared.new.entries pid) (at Gone tasks.new pid)) }
     ensures calm { IfOk result (λ t. IsTrue t.calm → Calms shared.old shared.new child pid t.roused (event_of t.done)) }
-    ensures absent { at Gone owns.old pid ≡ Gone → IsOkAnd result (λ t. (item.new ≡ None) × (event_of t.done ≡ Plain)) }
+    ensures absent { at Gone tasks.old pid ≡ Gone → IsOkAnd result (λ t. (item.new ≡ None) × (event_of t.done ≡ Plain)) }
     ensures console { OnErr result (shared.new.console ≡ shared.old.console) }
 {
-    let transition = match owns.get_mut(pid) {
+    let transition = match tasks.get_mut(pid) {
         None => {
             let mode = mode_of_gone(shared, pid);
             return Ok(Transition::of_gone(mode, mode, pid));
         }
-        Some(own) => turn_own(alloc, shared, tampering, child, pid, own, item)?,
+        Some(task) => turn_task(alloc, shared, injection, child, pid, task, item)?,
     };
-    remove_gone(owns, pid, transition.gone);
+    remove_gone(tasks, pid, transition.gone);
     Ok(transition)
 }
 
 /// A child's body stands under its pid.
 #[inline(never)]
-fn place_body(owns: &mut Map<Own<Body>>, child: u32, body: Box<Body>) -> Result<(), AllocError>
-    ensures { OnOk result (owns.new ≡ maps.insert owns.old child (Alive body.value Born)) }
+fn place_user(
+    tasks: &mut Map<Task<UserState>>,
+    child: u32,
+    user: Box<UserState>,
+) -> Result<(), AllocError>
+    ensures { OnOk result (tasks.new ≡ maps.insert tasks.old child (Alive user.value Born)) }
 {
-    let body = Box::into_inner(body);
+    let user = Box::into_inner(user);
     let stage = Stage::Born;
-    owns.insert(child, Own::Alive { body, stage })?;
+    tasks.insert(child, Task::Alive { user, stage })?;
     Ok(())
 }
 
 /// A child that is born has a part of its own, under the next pid.
-fn place_child(owns: &mut Map<Own<Body>>, child: &mut u32, done: Effect) -> Result<(), AllocError>
+fn place_child(
+    tasks: &mut Map<Task<UserState>>,
+    child: &mut u32,
+    done: Effect,
+) -> Result<(), AllocError>
     requires { IsLeft done child.old }
-    ensures owns { OnOk result (owns.new ≡ owns_with owns.old child.old (event_of done)) }
+    ensures tasks { OnOk result (tasks.new ≡ tasks_with tasks.old child.old (event_of done)) }
     ensures child { OnOk result (child.new ≡ next_child child.old (event_of done)) }
     ensures plain { event_of done ≡ Plain → IsOk result }
     ensures born { OnErr result (IsBirth (event_of done)) }
 {
     match done {
         Effect::Plain | Effect::Execed => Ok(()),
-        Effect::Bore(body) => {
-            place_body(owns, *child, body)?;
+        Effect::Bore(user) => {
+            place_user(tasks, *child, user)?;
             *child += 1;
             Ok(())
         }
@@ -141,14 +149,14 @@ fn place_child(owns: &mut Map<Own<Body>>, child: &mut u32, done: Effect) -> Resu
 pub struct Kernel {
     alloc: Global,
     shared: Shared,
-    owns: Map<Own<Body>>,
+    tasks: Map<Task<UserState>>,
     sleepers: Sleepers,
     /// The next pid.
     child: u32,
     log: Vec<Item>,
     occurrences: Occurrences,
     /// The instructions that were met lately, of any process.
-    decoder: Decoder,
+    decoder: DecodedCode,
     script: Script,
     follow: bool,
     failed: bool,
@@ -166,35 +174,35 @@ impl Model for Kernel {
 
     ghost coded = { Prim.hlevel (codes, maps.code) };
 
-    ghost view = { λ k. record { running = record { shared = k.shared; owns = k.owns; child = k.child; log = k.log.items }; script = k.script; follow = k.follow; failed = k.failed } };
+    ghost view = { λ k. record { running = record { shared = k.shared; tasks = k.tasks; child = k.child; log = k.log.items }; script = k.script; follow = k.follow; failed = k.failed } };
 
-    ghost invariant = { λ k. k.failed ≡ false → Agree k.occurrences k.log.items × Watch k.sleepers k.shared k.owns };
+    ghost invariant = { λ k. k.failed ≡ false → Agree k.occurrences k.log.items × Watch k.sleepers k.shared k.tasks };
 }
 
 /// Where a process stands.
-fn mode_of(shared: &Shared, owns: &Map<Own<Body>>, pid: u32) -> Option<Mode>
-    ensures { result ≡ own_mode_of (maps.get shared.now.entries pid) (at Gone owns.now pid) }
+fn mode_of(shared: &Shared, tasks: &Map<Task<UserState>>, pid: u32) -> Option<Mode>
+    ensures { result ≡ task_mode_of (maps.get shared.now.entries pid) (at Gone tasks.now pid) }
 {
-    match owns.get(pid) {
-        Some(Own::Alive { stage, .. }) => Some(mode_of_stage(stage)),
-        Some(Own::Dying { .. }) => Some(Mode::Dying),
-        Some(Own::Gone) | None => mode_of_gone(shared, pid),
+    match tasks.get(pid) {
+        Some(Task::Alive { stage, .. }) => Some(mode_of_stage(stage)),
+        Some(Task::Dying { .. }) => Some(Mode::Dying),
+        Some(Task::Gone) | None => mode_of_gone(shared, pid),
     }
 }
 
 /// Where a process stands after a turn that did this, where it stood so before a child was placed.
 fn mode_after(
     shared: &Shared,
-    owns: &Map<Own<Body>>,
+    tasks: &Map<Task<UserState>>,
     pid: u32,
     deed: Deed,
     mode: Option<Mode>,
 ) -> Option<Mode>
-    requires { (deed ≡ Deed.Bore → ⊥) → mode ≡ own_mode_of (maps.get shared.now.entries pid) (at Gone owns.now pid) }
-    ensures { result ≡ own_mode_of (maps.get shared.now.entries pid) (at Gone owns.now pid) }
+    requires { (deed ≡ Deed.Bore → ⊥) → mode ≡ task_mode_of (maps.get shared.now.entries pid) (at Gone tasks.now pid) }
+    ensures { result ≡ task_mode_of (maps.get shared.now.entries pid) (at Gone tasks.now pid) }
 {
     match deed {
-        Deed::Bore => mode_of(shared, owns, pid),
+        Deed::Bore => mode_of(shared, tasks, pid),
         Deed::Plain | Deed::Execed => mode,
     }
 }
@@ -235,15 +243,15 @@ impl Kernel {
     pub(crate) fn new(
         alloc: Global,
         shared: Shared,
-        owns: Map<Own<Body>>,
-        decoder: Decoder,
+        tasks: Map<Task<UserState>>,
+        decoder: DecodedCode,
         script: Script,
         follow: bool,
     ) -> Self
-        requires { (q : ℕ) → (q ≡ 1 → ⊥) → at Gone owns q ≡ Gone }
+        requires { (q : ℕ) → (q ≡ 1 → ⊥) → at Gone tasks q ≡ Gone }
         ensures { result ≡ record {
           running =
-              record { shared = shared; owns = owns; child = 2; log = [] };
+              record { shared = shared; tasks = tasks; child = 2; log = [] };
           script = script;
           follow = follow;
           failed = false;
@@ -254,7 +262,7 @@ impl Kernel {
         Kernel {
             alloc,
             shared,
-            owns,
+            tasks,
             sleepers,
             child: 2,
             log: Vec::new(alloc),
@@ -281,13 +289,13 @@ impl Kernel {
         ensures console { OnErr result (self.new.running.shared.console ≡ self.old.running.shared.console) }
 
         // A process that isn't there needs no memory.
-        ensures absent { self.old.failed ≡ false → own_in self.old pid ≡ Gone → IsOk result }
+        ensures absent { self.old.failed ≡ false → task_in self.old pid ≡ Gone → IsOk result }
     {
         if self.failed {
             return Err(Failed);
         }
         self.failed = true;
-        let tampering = Tampering {
+        let injection = Injection {
             script: &self.script,
             occurrences: &self.occurrences,
             follow: self.follow,
@@ -296,8 +304,8 @@ impl Kernel {
         let transition = turn_at(
             self.alloc,
             &mut self.shared,
-            &mut self.owns,
-            &tampering,
+            &mut self.tasks,
+            &injection,
             self.child,
             pid,
             &mut item,
@@ -313,17 +321,17 @@ impl Kernel {
         } = transition;
         let deed = done.deed();
         self.sleepers.welcome(&done, self.child);
-        place_child(&mut self.owns, &mut self.child, done)?;
-        self.sleepers.rouse(&self.shared, &self.owns, pid, roused);
+        place_child(&mut self.tasks, &mut self.child, done)?;
+        self.sleepers.rouse(&self.shared, &self.tasks, pid, roused);
         self.sleepers.pass(
             &self.shared,
-            &self.owns,
+            &self.tasks,
             pid,
             calm,
             Hints { may_rest, gone },
         );
         log_item(&mut self.log, &mut self.occurrences, &item)?;
-        let after = mode_after(&self.shared, &self.owns, pid, deed, after);
+        let after = mode_after(&self.shared, &self.tasks, pid, deed, after);
         self.failed = false;
         Ok(Moved {
             before,
@@ -348,7 +356,7 @@ impl Kernel {
             return Err(Failed);
         }
         self.failed = true;
-        let ran = bursts::run(&self.shared, &mut self.owns, &mut self.decoder, pid, limit)?;
+        let ran = bursts::run(&self.shared, &mut self.tasks, &mut self.decoder, pid, limit)?;
         self.failed = false;
         Ok(ran)
     }
@@ -357,7 +365,7 @@ impl Kernel {
     pub fn able(&self, pid: u32) -> bool
         ensures { IsTrue result ↔ is_able_in self.now pid }
     {
-        can_turn_at(&self.shared, &self.owns, pid)
+        can_turn_at(&self.shared, &self.tasks, pid)
     }
 
     /// The next process that can take a turn, in the cycle of pids: the first above this pid, or else the first.
@@ -365,9 +373,9 @@ impl Kernel {
         ensures { IsNextOf self.now after result }
     {
         if self.failed || !self.sleepers.known {
-            next_in_cycle(&self.shared, &self.owns, &self.owns, after)
+            next_in_cycle(&self.shared, &self.tasks, &self.tasks, after)
         } else {
-            next_in_cycle(&self.shared, &self.owns, &self.sleepers.awake, after)
+            next_in_cycle(&self.shared, &self.tasks, &self.sleepers.awake, after)
         }
     }
 
@@ -375,7 +383,7 @@ impl Kernel {
     pub fn mode(&self, pid: u32) -> Option<Mode>
         ensures { result ≡ mode_in self.now pid }
     {
-        mode_of(&self.shared, &self.owns, pid)
+        mode_of(&self.shared, &self.tasks, pid)
     }
 
     /// The pid that the next child gets.
@@ -394,48 +402,48 @@ impl Kernel {
 
     /// pc and x1 to x31 of the process, if it lives.
     pub fn regs(&self, pid: u32) -> Result<Option<RegisterSet>, AllocError>
-        ensures { IfOk result (λ registers. registers ≡ regs_of (own_in self.now pid)) }
+        ensures { IfOk result (λ registers. registers ≡ regs_of (task_in self.now pid)) }
     {
-        tracing::regs(self.alloc, &self.owns, pid)
+        tracing::regs(self.alloc, &self.tasks, pid)
     }
 
     /// The bytes of the process's memory from an address on, up to the first that is not mapped, if it lives.
     pub fn peek(&self, pid: u32, address: u64, length: usize) -> Result<Option<Bytes>, AllocError>
-        ensures { IfOk result (λ bytes. bytes ≡ peek_of (own_in self.now pid) address length) }
+        ensures { IfOk result (λ bytes. bytes ≡ peek_of (task_in self.now pid) address length) }
     {
-        tracing::peek(&self.owns, pid, address, length)
+        tracing::peek(&self.tasks, pid, address, length)
     }
 
     /// The signal that the process has taken and stands at, and why it came first.
     pub fn siginfo(&self, pid: u32) -> Option<(Signal, Cause)>
-        ensures { result ≡ signal_of (own_in self.now pid) }
+        ensures { result ≡ signal_of (task_in self.now pid) }
     {
-        tracing::signal(&self.owns, pid)
+        tracing::signal(&self.tasks, pid)
     }
 
     /// Sets pc and x1 to x31 of the process: false, and nothing is changed, where it doesn't live.
     pub fn set_regs(&mut self, pid: u32, registers: &Registers) -> bool
-        ensures part { self.new ≡ with_part self.old pid (with_regs registers.now (own_in self.old pid)) }
-        ensures there { result ≡ is_some (with_regs registers.now (own_in self.old pid)) }
+        ensures part { self.new ≡ with_part self.old pid (with_regs registers.now (task_in self.old pid)) }
+        ensures there { result ≡ is_some (with_regs registers.now (task_in self.old pid)) }
     {
-        tracing::set_regs(&mut self.owns, pid, registers)
+        tracing::set_regs(&mut self.tasks, pid, registers)
     }
 
     /// Sets the signal that the next turn joins to the call that the process has entered: false, and nothing is
     /// changed, where it stands elsewhere.
     pub fn join(&mut self, pid: u32, signal: Option<Signal>) -> bool
-        ensures part { self.new ≡ with_part self.old pid (with_joined signal (own_in self.old pid)) }
-        ensures there { result ≡ is_some (with_joined signal (own_in self.old pid)) }
+        ensures part { self.new ≡ with_part self.old pid (with_joined signal (task_in self.old pid)) }
+        ensures there { result ≡ is_some (with_joined signal (task_in self.old pid)) }
     {
-        tracing::join(&mut self.owns, pid, signal)
+        tracing::join(&mut self.tasks, pid, signal)
     }
 
     /// Drops the signal that the process has taken: false, and nothing is changed, where it stands elsewhere.
     pub fn skip(&mut self, pid: u32) -> bool
-        ensures part { self.new ≡ with_part self.old pid (with_dropped (own_in self.old pid)) }
-        ensures there { result ≡ is_some (with_dropped (own_in self.old pid)) }
+        ensures part { self.new ≡ with_part self.old pid (with_dropped (task_in self.old pid)) }
+        ensures there { result ≡ is_some (with_dropped (task_in self.old pid)) }
     {
-        tracing::skip(&mut self.owns, pid)
+        tracing::skip(&mut self.tasks, pid)
     }
 
     /// What was logged so far.

@@ -4,7 +4,7 @@ ghost use Rattle.lx_kernel.specs.Laws.{BootsAreFirst, TurnsAreSteps, BootsRunAli
 ghost use Rattle.lx_kernel.specs.Laws.{TurnsLogWords, BootsLogWords, KernelsLogWords};
 
 use lx_model::laws::kernels_run_alike;
-use lx_proc::{Body, Shared};
+use lx_proc::{Shared, UserState};
 
 /// A boot gives the untraced kernel of the definitions in its first state, and turns are that kernel's.
 pub fn boots_are_first_runs()
@@ -12,7 +12,7 @@ pub fn boots_are_first_runs()
     ensures steps { TurnsAreSteps }
     ensures runs { BootsRunAlike }
 {
-    kernels_run_alike::<Shared, Body>();
+    kernels_run_alike::<Shared, UserState>();
 }
 
 /// The wait words that an outcome shows are those of the ends in the log: a turn keeps this, and a boot begins with it.
@@ -21,5 +21,5 @@ pub fn words_are_logged()
     ensures boots { BootsLogWords }
     ensures kernels { KernelsLogWords }
 {
-    kernels_run_alike::<Shared, Body>();
+    kernels_run_alike::<Shared, UserState>();
 }

@@ -3,14 +3,14 @@
 ghost use Rattle.std.specs.Prelude.{◌≡◌, ◌<◌, ℕ, None, true, is_none};
 ghost use Rattle.std.specs.FinMap as maps;
 ghost use Rattle.lx_model.specs.Finite.{at};
-ghost use Rattle.lx_model.specs.declared.stage.Own.TheVariants.{Gone};
+ghost use Rattle.lx_model.specs.declared.stage.Task.TheVariants.{Gone};
 ghost use Rattle.lx_turn.specs.Resting.{rests as rests_in};
 ghost use Rattle.lx_turn.specs.Turned.{event_of};
 ghost use Rattle.lx_kernel.specs.Sleeping.{IsWatched, IsSameBut, AreListed, Watch, welcomed};
 
 use containers::Map;
-use lx_model::Own;
-use lx_proc::{Body, Shared};
+use lx_model::Task;
+use lx_proc::{Shared, UserState};
 use lx_turn::{Effect, rests};
 use std::alloc::Global;
 
@@ -33,19 +33,19 @@ pub struct Hints {
 }
 
 /// The process has no part of its own.
-fn is_absent(owns: &Map<Own<Body>>, pid: u32) -> bool
-    ensures { result ≡ is_none (maps.get owns.now pid) }
+fn is_absent(tasks: &Map<Task<UserState>>, pid: u32) -> bool
+    ensures { result ≡ is_none (maps.get tasks.now pid) }
 {
-    owns.get(pid).is_none()
+    tasks.get(pid).is_none()
 }
 
 /// The process waits in a read or a write of a pipe, or is gone.
 #[tactic(auto, unfolding(lx_turn::specs::Resting::rests))]
-fn rests_at(shared: &Shared, owns: &Map<Own<Body>>, pid: u32) -> bool
-    ensures { result ≡ rests_in shared.now pid (at Gone owns.now pid) }
+fn rests_at(shared: &Shared, tasks: &Map<Task<UserState>>, pid: u32) -> bool
+    ensures { result ≡ rests_in shared.now pid (at Gone tasks.now pid) }
 {
-    match owns.get(pid) {
-        Some(own) => rests(shared, pid, own),
+    match tasks.get(pid) {
+        Some(task) => rests(shared, pid, task),
         None => true,
     }
 }
@@ -114,13 +114,13 @@ impl Sleepers {
     }
 
     /// The process is put into its set.
-    fn sort(&mut self, shared: &Shared, owns: &Map<Own<Body>>, pid: u32, hints: Hints)
-        ensures itself { self.new.known ≡ true → IsWatched self.new shared.now pid (at Gone owns.now pid) }
+    fn sort(&mut self, shared: &Shared, tasks: &Map<Task<UserState>>, pid: u32, hints: Hints)
+        ensures itself { self.new.known ≡ true → IsWatched self.new shared.now pid (at Gone tasks.now pid) }
         ensures others { self.new.known ≡ true → IsSameBut self.old self.new pid }
     {
-        if hints.gone && is_absent(owns, pid) {
+        if hints.gone && is_absent(tasks, pid) {
             self.forget(pid);
-        } else if hints.may_rest && rests_at(shared, owns, pid) {
+        } else if hints.may_rest && rests_at(shared, tasks, pid) {
             self.put_to_sleep(pid);
         } else {
             self.wake(pid);
@@ -128,27 +128,27 @@ impl Sleepers {
     }
 
     /// Those wake who no longer rest.
-    fn wake_stirred(&mut self, shared: &Shared, owns: &Map<Own<Body>>)
-        requires { self.old.known ≡ true → AreListed self.old owns.now }
-        ensures { Watch self.new shared.now owns.now }
+    fn wake_stirred(&mut self, shared: &Shared, tasks: &Map<Task<UserState>>)
+        requires { self.old.known ≡ true → AreListed self.old tasks.now }
+        ensures { Watch self.new shared.now tasks.now }
     {
         let mut passed = 0;
         while let Some(pid) = self.asleep.next_key(passed) {
-            self.sort(shared, owns, pid, ANY);
+            self.sort(shared, tasks, pid, ANY);
             passed = pid;
         }
     }
 
     /// A process that another's turn may have roused is put into its set.
-    pub fn rouse(&mut self, shared: &Shared, owns: &Map<Own<Body>>, pid: u32, roused: u32)
-        requires { self.old.known ≡ true → AreListed self.old owns.now }
-        ensures listed { self.new.known ≡ true → AreListed self.new owns.now }
+    pub fn rouse(&mut self, shared: &Shared, tasks: &Map<Task<UserState>>, pid: u32, roused: u32)
+        requires { self.old.known ≡ true → AreListed self.old tasks.now }
+        ensures listed { self.new.known ≡ true → AreListed self.new tasks.now }
         ensures itself { self.new.known ≡ true → (roused ≡ pid → ⊥)
-            → IsWatched self.new shared.now roused (at Gone owns.now roused) }
+            → IsWatched self.new shared.now roused (at Gone tasks.now roused) }
         ensures others { self.new.known ≡ true → IsSameBut self.old self.new roused }
     {
         if roused != pid {
-            self.sort(shared, owns, roused, ANY);
+            self.sort(shared, tasks, roused, ANY);
         }
     }
 
@@ -156,22 +156,22 @@ impl Sleepers {
     pub fn pass(
         &mut self,
         shared: &Shared,
-        owns: &Map<Own<Body>>,
+        tasks: &Map<Task<UserState>>,
         pid: u32,
         calm: bool,
         hints: Hints,
     )
-        requires listed { self.old.known ≡ true → AreListed self.old owns.now }
+        requires listed { self.old.known ≡ true → AreListed self.old tasks.now }
         requires others { calm ≡ true → self.old.known ≡ true → (q : ℕ) → 0 < q → (q ≡ pid → ⊥)
-            → IsWatched self.old shared.now q (at Gone owns.now q) }
-        ensures { Watch self.new shared.now owns.now }
+            → IsWatched self.old shared.now q (at Gone tasks.now q) }
+        ensures { Watch self.new shared.now tasks.now }
     {
         if self.asleep.len() == 0 && !hints.may_rest && !hints.gone {
             return;
         }
-        self.sort(shared, owns, pid, hints);
+        self.sort(shared, tasks, pid, hints);
         if !calm {
-            self.wake_stirred(shared, owns);
+            self.wake_stirred(shared, tasks);
         }
     }
 }

@@ -2,58 +2,58 @@
 
 ghost use Rattle.std.specs.Prelude.{◌≡◌, IfOk, is_some};
 ghost use Rattle.lx_model.specs.Finite.{at};
-ghost use Rattle.lx_model.specs.declared.stage.Own.TheVariants.{Gone};
+ghost use Rattle.lx_model.specs.declared.stage.Task.TheVariants.{Gone};
 ghost use Rattle.lx_kernel.specs.Tracing.{regs_of, peek_of, signal_of, with_regs, with_joined};
 ghost use Rattle.lx_kernel.specs.Tracing.{with_dropped, with_part_at, IsPart, joining, dropping};
 
 use containers::{Bytes, Map};
 use lx_abi::{Cause, RegisterSet, Registers, Signal};
-use lx_model::{Own, Stage};
-use lx_proc::{Body, registers_of, set_registers};
+use lx_model::{Stage, Task};
+use lx_proc::{UserState, registers_of, set_registers};
 use std::alloc::{AllocError, Global};
 
 /// pc and x1 to x31 of a process that lives.
 pub fn regs(
     alloc: Global,
-    owns: &Map<Own<Body>>,
+    tasks: &Map<Task<UserState>>,
     pid: u32,
 ) -> Result<Option<RegisterSet>, AllocError>
-    ensures { IfOk result (λ registers. registers ≡ regs_of (at Gone owns.now pid)) }
+    ensures { IfOk result (λ registers. registers ≡ regs_of (at Gone tasks.now pid)) }
 {
-    match owns.get(pid) {
-        Some(Own::Alive { body, .. }) => {
-            let registers = RegisterSet::new(alloc, &registers_of(body))?;
+    match tasks.get(pid) {
+        Some(Task::Alive { user, .. }) => {
+            let registers = RegisterSet::new(alloc, &registers_of(user))?;
             Ok(Some(registers))
         }
-        Some(Own::Dying { .. } | Own::Gone) | None => Ok(None),
+        Some(Task::Dying { .. } | Task::Gone) | None => Ok(None),
     }
 }
 
 /// The bytes from an address on, up to the first that is not mapped.
 pub fn peek(
-    owns: &Map<Own<Body>>,
+    tasks: &Map<Task<UserState>>,
     pid: u32,
     address: u64,
     length: usize,
 ) -> Result<Option<Bytes>, AllocError>
-    ensures { IfOk result (λ bytes. bytes ≡ peek_of (at Gone owns.now pid) address length) }
+    ensures { IfOk result (λ bytes. bytes ≡ peek_of (at Gone tasks.now pid) address length) }
 {
-    match owns.get(pid) {
-        Some(Own::Alive { body, .. }) => {
-            let bytes = body.memory.peek(address, length)?;
+    match tasks.get(pid) {
+        Some(Task::Alive { user, .. }) => {
+            let bytes = user.memory.peek(address, length)?;
             Ok(Some(Bytes::from_vec(bytes)))
         }
-        Some(Own::Dying { .. } | Own::Gone) | None => Ok(None),
+        Some(Task::Dying { .. } | Task::Gone) | None => Ok(None),
     }
 }
 
 /// The signal that a process has taken, and why it came.
-pub fn signal(owns: &Map<Own<Body>>, pid: u32) -> Option<(Signal, Cause)>
-    ensures { result ≡ signal_of (at Gone owns.now pid) }
+pub fn signal(tasks: &Map<Task<UserState>>, pid: u32) -> Option<(Signal, Cause)>
+    ensures { result ≡ signal_of (at Gone tasks.now pid) }
 {
-    match owns.get(pid) {
+    match tasks.get(pid) {
         Some(
-            Own::Alive {
+            Task::Alive {
                 stage: Stage::Taken { signal, cause },
                 ..
             },
@@ -62,26 +62,26 @@ pub fn signal(owns: &Map<Own<Body>>, pid: u32) -> Option<(Signal, Cause)>
     }
 }
 
-fn set_own_regs(own: &mut Own<Body>, registers: &Registers) -> bool
-    ensures { IsPart (with_regs registers.now own.old) own.old own.new result }
+fn set_task_regs(task: &mut Task<UserState>, registers: &Registers) -> bool
+    ensures { IsPart (with_regs registers.now task.old) task.old task.new result }
 {
-    match own {
-        Own::Alive { body, .. } => {
-            set_registers(body, registers);
+    match task {
+        Task::Alive { user, .. } => {
+            set_registers(user, registers);
             true
         }
-        Own::Dying { .. } | Own::Gone => false,
+        Task::Dying { .. } | Task::Gone => false,
     }
 }
 
 /// Sets pc and x1 to x31 of a process that lives.
-pub fn set_regs(owns: &mut Map<Own<Body>>, pid: u32, registers: &Registers) -> bool
-    ensures part { owns.new ≡ with_part_at owns.old pid (with_regs registers.now (at Gone owns.old pid)) }
-    ensures there { result ≡ is_some (with_regs registers.now (at Gone owns.old pid)) }
+pub fn set_regs(tasks: &mut Map<Task<UserState>>, pid: u32, registers: &Registers) -> bool
+    ensures part { tasks.new ≡ with_part_at tasks.old pid (with_regs registers.now (at Gone tasks.old pid)) }
+    ensures there { result ≡ is_some (with_regs registers.now (at Gone tasks.old pid)) }
 {
-    match owns.get_mut(pid) {
+    match tasks.get_mut(pid) {
         None => false,
-        Some(own) => set_own_regs(own, registers),
+        Some(task) => set_task_regs(task, registers),
     }
 }
 
@@ -95,29 +95,29 @@ fn join_stage(stage: Stage, signal: Option<Signal>) -> Option<Stage>
     }
 }
 
-fn join_own(own: &mut Own<Body>, signal: Option<Signal>) -> bool
-    ensures { IsPart (with_joined signal own.old) own.old own.new result }
+fn join_task(task: &mut Task<UserState>, signal: Option<Signal>) -> bool
+    ensures { IsPart (with_joined signal task.old) task.old task.new result }
 {
-    match own {
-        Own::Alive { stage, .. } => match join_stage(*stage, signal) {
+    match task {
+        Task::Alive { stage, .. } => match join_stage(*stage, signal) {
             None => false,
             Some(joined) => {
                 *stage = joined;
                 true
             }
         },
-        Own::Dying { .. } | Own::Gone => false,
+        Task::Dying { .. } | Task::Gone => false,
     }
 }
 
 /// Sets the signal that is joined to the call that a process is at.
-pub fn join(owns: &mut Map<Own<Body>>, pid: u32, signal: Option<Signal>) -> bool
-    ensures part { owns.new ≡ with_part_at owns.old pid (with_joined signal (at Gone owns.old pid)) }
-    ensures there { result ≡ is_some (with_joined signal (at Gone owns.old pid)) }
+pub fn join(tasks: &mut Map<Task<UserState>>, pid: u32, signal: Option<Signal>) -> bool
+    ensures part { tasks.new ≡ with_part_at tasks.old pid (with_joined signal (at Gone tasks.old pid)) }
+    ensures there { result ≡ is_some (with_joined signal (at Gone tasks.old pid)) }
 {
-    match owns.get_mut(pid) {
+    match tasks.get_mut(pid) {
         None => false,
-        Some(own) => join_own(own, signal),
+        Some(task) => join_task(task, signal),
     }
 }
 
@@ -131,28 +131,28 @@ fn drop_stage(stage: Stage) -> Option<Stage>
     }
 }
 
-fn skip_own(own: &mut Own<Body>) -> bool
-    ensures { IsPart (with_dropped own.old) own.old own.new result }
+fn skip_task(task: &mut Task<UserState>) -> bool
+    ensures { IsPart (with_dropped task.old) task.old task.new result }
 {
-    match own {
-        Own::Alive { stage, .. } => match drop_stage(*stage) {
+    match task {
+        Task::Alive { stage, .. } => match drop_stage(*stage) {
             None => false,
             Some(dropped) => {
                 *stage = dropped;
                 true
             }
         },
-        Own::Dying { .. } | Own::Gone => false,
+        Task::Dying { .. } | Task::Gone => false,
     }
 }
 
 /// Drops the signal that a process has taken.
-pub fn skip(owns: &mut Map<Own<Body>>, pid: u32) -> bool
-    ensures part { owns.new ≡ with_part_at owns.old pid (with_dropped (at Gone owns.old pid)) }
-    ensures there { result ≡ is_some (with_dropped (at Gone owns.old pid)) }
+pub fn skip(tasks: &mut Map<Task<UserState>>, pid: u32) -> bool
+    ensures part { tasks.new ≡ with_part_at tasks.old pid (with_dropped (at Gone tasks.old pid)) }
+    ensures there { result ≡ is_some (with_dropped (at Gone tasks.old pid)) }
 {
-    match owns.get_mut(pid) {
+    match tasks.get_mut(pid) {
         None => false,
-        Some(own) => skip_own(own),
+        Some(task) => skip_task(task),
     }
 }

@@ -10,7 +10,7 @@ use Rattle.std.specs.FinMap as maps
 use mathlib.Core.Path.{fun_ext}
 use Rattle.lx_abi.specs.Log.{Noted, items_of}
 use Rattle.lx_model.specs.Machine.{Machine}
-use Rattle.lx_model.specs.Turn.{Own, Alive, Dying, Born, Gone, Event, Plain, Execed, Forked, Out}
+use Rattle.lx_model.specs.Turn.{Task, Alive, Dying, Born, Gone, Event, Plain, Execed, Forked, Out}
 use Rattle.lx_model.specs.Kernel.{Script, put, born, Kernel, after_turn, with_child, turn_of, kernel_turn, kernel_run}
 use Rattle.lx_model.specs.Finite.{at, item_of, placed, Running, ran, bore, turn_out, running_turn, running, Is}
 use Rattle.lx_model.specs.Laws.{KernelsBeginAlike}
@@ -33,10 +33,10 @@ at-remove {X} d table p = fun_ext (λ q. rw (maps.get-remove nat_cmp_total table
     go q true = refl
     go q false = refl
 
-pub at-placed : {B : Type 0} (owns : maps.FinMap nat_cmp (Own B)) (p : ℕ) (own : Own B) → at Gone (placed owns p own) ≡ put (at Gone owns) p own
-at-placed owns p (Alive b stage) = at-insert Gone owns p (Alive b stage)
-at-placed owns p (Dying w) = at-insert Gone owns p (Dying w)
-at-placed owns p Gone = at-remove Gone owns p
+pub at-placed : {B : Type 0} (tasks : maps.FinMap nat_cmp (Task B)) (p : ℕ) (task : Task B) → at Gone (placed tasks p task) ≡ put (at Gone tasks) p task
+at-placed tasks p (Alive b stage) = at-insert Gone tasks p (Alive b stage)
+at-placed tasks p (Dying w) = at-insert Gone tasks p (Dying w)
+at-placed tasks p Gone = at-remove Gone tasks p
 
 one_item : (o : Option Noted) → option_to_list (option_map (λ (n : Noted). n.item) o) ≡ items_of (option_to_list o)
 one_item None = refl
@@ -45,13 +45,13 @@ one_item (Some n) = refl
 module _ {S B : Type 0} (m : Machine S B) (script : Script) (follow : Bool) where
   same_out : (v : Running S B) (k : Kernel S B) → Is v k → (p : ℕ) → turn_out m script follow v p ≡ turn_of m script follow k p
   same_out v k e p =
-      let own : at Gone v.owns p ≡ k.owns p = ap (λ (f : ℕ → Own B). f p) e.owns in
-      rw (e.log, e.shared, own, e.child) refl
+      let task : at Gone v.tasks p ≡ k.tasks p = ap (λ (f : ℕ → Task B). f p) e.tasks in
+      rw (e.log, e.shared, task, e.child) refl
 
   ran_is : (v : Running S B) (k : Kernel S B) → Is v k → (p : ℕ) (x : Out S B) → Is (ran v p x) (after_turn k p x)
   ran_is v k e p x = record {
     shared = refl;
-    owns = at-placed v.owns p x.own ∙ ap (λ f. put f p x.own) e.owns;
+    tasks = at-placed v.tasks p x.task ∙ ap (λ f. put f p x.task) e.tasks;
     child = e.child;
     log = ap (λ l. l ++ option_to_list (item_of x)) e.log ∙ ap (λ l. items_of k.log ++ l) (one_item x.item) ∙ sym (map-append (λ (n : Noted). n.item) k.log (option_to_list x.item));
   }
@@ -61,7 +61,7 @@ module _ {S B : Type 0} (m : Machine S B) (script : Script) (follow : Bool) wher
   bore_is v k e Execed = e
   bore_is v k e (Forked b) = record {
     shared = e.shared;
-    owns = at-insert Gone v.owns v.child (Alive b Born) ∙ ap₂ (λ f c. put f c (Alive b Born)) e.owns e.child;
+    tasks = at-insert Gone v.tasks v.child (Alive b Born) ∙ ap₂ (λ f c. put f c (Alive b Born)) e.tasks e.child;
     child = ap suc e.child;
     log = e.log;
   }
@@ -78,12 +78,12 @@ module _ {S B : Type 0} (m : Machine S B) (script : Script) (follow : Bool) wher
 pub one_first : (q : ℕ) → (1 == q) ≡ (q == 1)
 one_first q = grind (arith, nat_tests)
 
-pub owns_first : {B : Type 0} (b : B) → at Gone (maps.insert maps.empty 1 (Alive b Born)) ≡ (λ q. born (q == 1) b)
-owns_first b = at-insert Gone maps.empty 1 (Alive b Born) ∙ fun_ext (λ q. rw (one_first q, maps.get-empty nat_cmp q) (go (q == 1)))
+pub tasks_first : {B : Type 0} (b : B) → at Gone (maps.insert maps.empty 1 (Alive b Born)) ≡ (λ q. born (q == 1) b)
+tasks_first b = at-insert Gone maps.empty 1 (Alive b Born) ∙ fun_ext (λ q. rw (one_first q, maps.get-empty nat_cmp q) (go (q == 1)))
   where
     go : (c : Bool) → cond c (Alive b Born) Gone ≡ born c b
     go true = refl
     go false = refl
 
 pub kernels_begin_alike : {S B : Type 0} → KernelsBeginAlike S B
-kernels_begin_alike s b = record { shared = refl; owns = owns_first b; child = refl; log = refl }
+kernels_begin_alike s b = record { shared = refl; tasks = tasks_first b; child = refl; log = refl }

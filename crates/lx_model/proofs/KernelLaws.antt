@@ -14,7 +14,7 @@ use Rattle.lx_abi.specs.declared.script.Choice.{Choice}
 use Rattle.lx_abi.specs.declared.signal.Signal.{Signal}
 use Rattle.lx_abi.specs.Log.{Noted, pid_of, is_entry, items_of, entries}
 use Rattle.lx_model.specs.Machine.{Machine, Ran, Goes, Calls, Faults, Takes, Answer, Refused, Returns, Jumps, Execs, Bears, Blocks, Ends, Took, Passes, Kills}
-use Rattle.lx_model.specs.Turn.{Stage, Born, Run, Faulting, Entered, Doing, Replaced, Acted, Finished, Taken, Dropped, Own, Alive, Dying, Gone, Event, Plain, Execed, Forked, Out, turn, killed_or, lives, stepped, answered, took}
+use Rattle.lx_model.specs.Turn.{Stage, Born, Run, Faulting, Entered, Doing, Replaced, Acted, Finished, Taken, Dropped, Task, Alive, Dying, Gone, Event, Plain, Execed, Forked, Out, turn, killed_or, lives, stepped, answered, took}
 use Rattle.lx_model.specs.Kernel.{Script, put, traces, choice_at, Kernel, after_turn, with_child, turn_of, kernel_turn, kernel_run, first_kernel, born}
 use Rattle.lx_model.specs.KernelLaws.{NobodyTakesNoTurn, IsFresh, FirstIsFresh, RunsStayFresh, IsGiven, PidsAreGivenOnce, PidsRise, OthersCountNothing, ChoicesAreByOccurrence}
 
@@ -69,7 +69,7 @@ module _ {S B : Type 0} (m : Machine S B) (c : Choice) (s : S) (child p : ℕ) w
   of_alive b stage true = refl
   of_alive b stage false = of_stage b stage
 
-  of_turn : (own : Own B) → IsOf p (turn m c s child p own).item
+  of_turn : (task : Task B) → IsOf p (turn m c s child p task).item
   of_turn (Alive b stage) = of_alive b stage (m.killed s p)
   of_turn (Dying w) = tt
   of_turn Gone = tt
@@ -97,7 +97,7 @@ with_child_log k (Forked b) = refl
 pub others_count_nothing : {S B : Type 0} → OthersCountNothing S B
 others_count_nothing {S} {B} m script follow k p q call ne =
     let o : Out S B = turn_of m script follow k p in
-    let is : IsOf p o.item = of_turn m (choice_at m script (traces follow p) (λ n. entries p n (items_of k.log)) (k.owns p)) k.shared k.child p (k.owns p) in
+    let is : IsOf p o.item = of_turn m (choice_at m script (traces follow p) (λ n. entries p n (items_of k.log)) (k.tasks p)) k.shared k.child p (k.tasks p) in
     ap (λ log. entries q call (items_of log)) (with_child_log (after_turn k p o) o.event)
     ∙ ap (λ items. entries q call items) (map-append (λ (n : Noted). n.item) k.log (option_to_list o.item))
     ∙ ap length (filter-append (is_entry q call) (items_of k.log) (items_of (option_to_list o.item)))
@@ -106,36 +106,36 @@ others_count_nothing {S} {B} m script follow k p q call ne =
 
 pub choices_are_by_occurrence : {S B : Type 0} → ChoicesAreByOccurrence S B
 choices_are_by_occurrence m script follow k p b stage e =
-    ap (λ own. turn m (choice_at m script (traces follow p) (λ n. entries p n (items_of k.log)) own) k.shared k.child p own) e
+    ap (λ task. turn m (choice_at m script (traces follow p) (λ n. entries p n (items_of k.log)) task) k.shared k.child p task) e
 
 -- Who isn't there
 
 module _ {S B : Type 0} (m : Machine S B) (script : Script) (follow : Bool) (k : Kernel S B) (p : ℕ) where
-  abbrev out : Own B → Out S B
-  out own = turn m (choice_at m script (traces follow p) (λ n. entries p n (items_of k.log)) own) k.shared k.child p own
+  abbrev out : Task B → Out S B
+  out task = turn m (choice_at m script (traces follow p) (λ n. entries p n (items_of k.log)) task) k.shared k.child p task
 
-  abbrev after : Own B → Kernel S B
-  after own = with_child (after_turn k p (out own)) (out own).event
+  abbrev after : Task B → Kernel S B
+  after task = with_child (after_turn k p (out task)) (out task).event
 
-  put_gone : k.owns p ≡ Gone → (q : ℕ) → put k.owns p Gone q ≡ k.owns q
+  put_gone : k.tasks p ≡ Gone → (q : ℕ) → put k.tasks p Gone q ≡ k.tasks q
   put_gone gone q = go (p == q) refl
     where
-      go : (b : Bool) → (p == q) ≡ b → cond b Gone (k.owns q) ≡ k.owns q
-      go true e = sym (ap k.owns (sym (is_same p q e)) ∙ gone)
+      go : (b : Bool) → (p == q) ≡ b → cond b Gone (k.tasks q) ≡ k.tasks q
+      go true e = sym (ap k.tasks (sym (is_same p q e)) ∙ gone)
       go false e = refl
 
-  pub nobody_turns : k.owns p ≡ Gone → kernel_turn m script follow k p ≡ k
+  pub nobody_turns : k.tasks p ≡ Gone → kernel_turn m script follow k p ≡ k
   nobody_turns gone = ap after gone
-      ∙ ap₂ (λ owns log. record { shared = k.shared; owns = owns; child = k.child; log = log }) (fun_ext (put_gone gone)) (append-nil k.log)
+      ∙ ap₂ (λ tasks log. record { shared = k.shared; tasks = tasks; child = k.child; log = log }) (fun_ext (put_gone gone)) (append-nil k.log)
 
-  gone_stays : k.owns p ≡ Gone → (out (k.owns p)).own ≡ Gone
-  gone_stays gone = ap (λ own. (out own).own) gone
+  gone_stays : k.tasks p ≡ Gone → (out (k.tasks p)).task ≡ Gone
+  gone_stays gone = ap (λ task. (out task).task) gone
 
-  fresh_after : IsFresh k → IsFresh (after_turn k p (out (k.owns p)))
+  fresh_after : IsFresh k → IsFresh (after_turn k p (out (k.tasks p)))
   fresh_after fresh = λ q l. go q l (p == q) refl
     where
-      go : (q : ℕ) → k.child ≤ q → (b : Bool) → (p == q) ≡ b → cond b (out (k.owns p)).own (k.owns q) ≡ Gone
-      go q l true e = gone_stays (ap k.owns (is_same p q e) ∙ fresh q l)
+      go : (q : ℕ) → k.child ≤ q → (b : Bool) → (p == q) ≡ b → cond b (out (k.tasks p)).task (k.tasks q) ≡ Gone
+      go q l true e = gone_stays (ap k.tasks (is_same p q e) ∙ fresh q l)
       go q l false e = fresh q l
 
 below : (c q : ℕ) → suc c ≤ q → c ≤ q
@@ -160,10 +160,10 @@ alone q l = grind (arith, nat_tests)
 pub first_is_fresh : {S B : Type 0} → FirstIsFresh S B
 first_is_fresh s b = λ q l. ap (λ c. born c b) (alone q l)
 
-given : {S B : Type 0} (k before : Kernel S B) (e : Event B) (b : B) → before.owns before.child ≡ Gone → k.child ≡ before.child → e ≡ Forked b → IsGiven before (with_child k e) b
+given : {S B : Type 0} (k before : Kernel S B) (e : Event B) (b : B) → before.tasks before.child ≡ Gone → k.child ≡ before.child → e ≡ Forked b → IsGiven before (with_child k e) b
 given k before e b free same is = subst (λ x. IsGiven before (with_child k x) b) (sym is) (record {
   free = free;
-  taken = ap (λ q. put k.owns k.child (Alive b Born) q) (sym same) ∙ rw (itself k.child) refl;
+  taken = ap (λ q. put k.tasks k.child (Alive b Born) q) (sym same) ∙ rw (itself k.child) refl;
   rises = ap suc same;
 })
 

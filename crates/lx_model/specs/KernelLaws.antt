@@ -9,13 +9,13 @@ use Rattle.lx_model.specs.Kernel.{Script, traces, Kernel, turn_of, kernel_turn, 
 -- a turn of a pid under which no process is changes nothing
 abbrev pub NobodyTakesNoTurn : Type 0 → Type 0 → Type 0
 NobodyTakesNoTurn S B = (m : Machine S B) (script : Script) (follow : Bool) (k : Kernel S B) (p : ℕ) →
-    k.owns p ≡ Gone → kernel_turn m script follow k p ≡ k
+    k.tasks p ≡ Gone → kernel_turn m script follow k p ≡ k
 
 -- Pids
 
 -- nobody is under the next pid, nor under any above it
 abbrev pub IsFresh : {S B : Type 0} → Kernel S B → Type 0
-IsFresh k = (q : ℕ) → k.child ≤ q → k.owns q ≡ Gone
+IsFresh k = (q : ℕ) → k.child ≤ q → k.tasks q ≡ Gone
 
 abbrev pub FirstIsFresh : Type 0 → Type 0 → Type 0
 FirstIsFresh S B = (s : S) (b : B) → IsFresh (first_kernel s b)
@@ -26,8 +26,8 @@ RunsStayFresh S B = (m : Machine S B) (script : Script) (follow : Bool) (k : Ker
 
 -- a child that is born gets the next pid, and the one after it is next
 pub record IsGiven {S B : Type 0} (before after : Kernel S B) (b : B) : Type 0 where
-  pub free : before.owns before.child ≡ Gone
-  pub taken : after.owns before.child ≡ Alive b Born
+  pub free : before.tasks before.child ≡ Gone
+  pub taken : after.tasks before.child ≡ Alive b Born
   pub rises : after.child ≡ suc before.child
 
 abbrev pub PidsAreGivenOnce : Type 0 → Type 0 → Type 0
@@ -49,7 +49,7 @@ OthersCountNothing S B = (m : Machine S B) (script : Script) (follow : Bool) (k 
 -- at a call's entry the choice is the script's for this call of this process, by how often it entered it
 abbrev pub ChoicesAreByOccurrence : Type 0 → Type 0 → Type 0
 ChoicesAreByOccurrence S B = (m : Machine S B) (script : Script) (follow : Bool) (k : Kernel S B) (p : ℕ) (b : B)
-    (stage : Stage) → k.owns p ≡ Alive b stage →
+    (stage : Stage) → k.tasks p ≡ Alive b stage →
     turn_of m script follow k p
     ≡ turn m (cond (traces follow p) (script (a7_of (m.regs b)) (entries p (a7_of (m.regs b)) (items_of k.log))) no_choice)
     k.shared k.child p (Alive b stage)

@@ -5,4 +5,4 @@
 pub mod laws;
 pub mod stage;
 
-pub use stage::{Deed, Own, Stage};
+pub use stage::{Deed, Stage, Task};

@@ -10,7 +10,7 @@ ghost use Rattle.lx_open.specs.declared.description.Slot.{Slot};
 
 use crate::description::{Description, Slot};
 use crate::descriptions::Descriptions;
-use crate::queue::Queue;
+use crate::queue::PipeBuffer;
 use crate::slots::Slots;
 use containers::Map;
 use std::alloc::{AllocError, Global};
@@ -23,7 +23,7 @@ pub const MOST_FDS: u32 = 256;
 pub struct FdTable {
     pub slots: Slots,
     pub descriptions: Descriptions,
-    pub pipes: Map<Queue>,
+    pub pipes: Map<PipeBuffer>,
 }
 
 /// A process and a descriptor as one number.

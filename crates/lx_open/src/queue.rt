@@ -7,13 +7,13 @@ use std::marker::Model;
 
 /// A queue of bytes, which contracts see as the list of those that are in it.
 #[derive(Drop)]
-pub struct Queue {
+pub struct PipeBuffer {
     items: Vec<u8>,
     // how many of the first are taken
     taken: usize,
 }
 
-impl Model for Queue {
+impl Model for PipeBuffer {
     ghost use Rattle.std.specs.Prelude.{ℕ, List, drop, length, ◌≤◌};
 
     ghost Value = { List ℕ };
@@ -26,11 +26,11 @@ impl Model for Queue {
 /// So many bytes that were taken are given up together.
 const MOST_TAKEN: usize = 65_536;
 
-impl Queue {
+impl PipeBuffer {
     pub fn new(alloc: Global) -> Self
         ensures { result ≡ [] }
     {
-        Queue {
+        PipeBuffer {
             items: Vec::new(alloc),
             taken: 0,
         }
@@ -40,7 +40,7 @@ impl Queue {
     pub fn from_vec(items: Vec<u8>) -> Self
         ensures { result ≡ items.items }
     {
-        Queue { items, taken: 0 }
+        PipeBuffer { items, taken: 0 }
     }
 
     pub fn len(&self) -> usize

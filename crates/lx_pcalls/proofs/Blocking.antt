@@ -25,7 +25,7 @@ use Rattle.lx_files.specs.Trees.{node_at}
 use Rattle.lx_files.specs.Limits.{path_limit}
 use Rattle.lx_files.specs.Places.{place, path_of}
 use Rattle.lx_proc.specs.declared.state.Shared.{Shared}
-use Rattle.lx_proc.specs.declared.state.Body.{Body}
+use Rattle.lx_proc.specs.declared.state.UserState.{UserState}
 use Rattle.lx_proc.specs.State.{with_memory, with_entries, directory}
 use Rattle.lx_proc.specs.Answers.{Answers, is_blocked, argument, low_argument, unless, given, granted, gives}
 use Rattle.lx_proc.specs.Starts.{start_limit}
@@ -65,10 +65,10 @@ refused_or : (c : Bool) (e : ℕ) (a : Answers) → is_blocked a ≡ false → i
 refused_or true e a never = refl
 refused_or false e a never = never
 
-gives_never : (s : Shared) (b : Body) (at : ℕ) (bytes : List ℕ) (x : ℕ) → is_blocked (gives s b at bytes x) ≡ false
+gives_never : (s : Shared) (b : UserState) (at : ℕ) (bytes : List ℕ) (x : ℕ) → is_blocked (gives s b at bytes x) ≡ false
 gives_never s b at bytes x = refused_or (is_some (first_fault access.Write b.memory at (length bytes))) efault (Returns s (with_memory b (written b.memory at bytes)) x) refl
 
-leaves_never : (s : Shared) (p : ℕ) (b : Body) (o : Outcome) → is_blocked (leaves s p b o) ≡ false
+leaves_never : (s : Shared) (p : ℕ) (b : UserState) (o : Outcome) → is_blocked (leaves s p b o) ≡ false
 leaves_never s p b (Err e) = refl
 leaves_never s p b (Ok c) = refl
 
@@ -85,7 +85,7 @@ either : (c : Bool) (a a' : Answers) → is_blocked a ≡ false → is_blocked a
 either true a a' h h' = h
 either false a a' h h' = h'
 
-module _ (s : Shared) (child p : ℕ) (call : Call) (b : Body) where
+module _ (s : Shared) (child p : ℕ) (call : Call) (b : UserState) where
   kill_never : is_blocked (kill s p call b) ≡ false
   unfolding kill
   kill_never = given_never (aim call) einval _ (λ a. given_never (maps.get s.entries a.pid) esrch _ (λ e. refl))

@@ -6,7 +6,7 @@ use Rattle.lx_abi.specs.declared.log.Call.{Call}
 use Rattle.lx_model.specs.Machine.{Returns}
 use Rattle.lx_proc.specs.declared.state.Shared.{Shared}
 use Rattle.lx_proc.specs.declared.state.Heap.{Heap}
-use Rattle.lx_proc.specs.declared.state.Body.{Body}
+use Rattle.lx_proc.specs.declared.state.UserState.{UserState}
 use Rattle.lx_proc.specs.Answers.{Answers, argument}
 use Rattle.lx_exec.specs.Pages.{address_end, pages_for, rights_for}
 
@@ -25,21 +25,21 @@ grown m from to = mapped m (4096 * pages_for from) (4096 * (pages_for to - pages
 abbrev pub shrunk : Memory → ℕ → ℕ → Memory
 shrunk m from to = unmapped m (4096 * pages_for to) (4096 * (pages_for from - pages_for to))
 
-abbrev pub with_heap : Body → Memory → ℕ → Body
+abbrev pub with_heap : UserState → Memory → ℕ → UserState
 with_heap b m x = record b { memory = m; heap = record b.heap { end = x } }
 
 -- with too many pages nothing changes
-abbrev pub grows : Body → ℕ → Body
+abbrev pub grows : UserState → ℕ → UserState
 grows b x =
     if is_none (limit_fault (grown b.memory b.heap.end x)) then with_heap b (grown b.memory b.heap.end x) x
     else b
 
-abbrev pub resizes : Body → ℕ → Body
+abbrev pub resizes : UserState → ℕ → UserState
 resizes b x = if nat_lt b.heap.end x then grows b x else with_heap b (shrunk b.memory b.heap.end x) x
 
 -- nor where it can't end there
-abbrev pub with_end : Body → ℕ → Body
+abbrev pub with_end : UserState → ℕ → UserState
 with_end b x = if may_end b.heap x then resizes b x else b
 
-unfoldable pub brk : Shared → Call → Body → Answers
+unfoldable pub brk : Shared → Call → UserState → Answers
 brk s call b = Returns s (with_end b (argument call 0)) (with_end b (argument call 0)).heap.end

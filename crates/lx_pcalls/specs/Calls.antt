@@ -2,7 +2,7 @@
 use Rattle.std.specs.Prelude.{ℕ, ◌==◌, Bool, false, Option, Some, None, if◌then◌else◌}
 use Rattle.lx_abi.specs.declared.log.Call.{Call}
 use Rattle.lx_proc.specs.declared.state.Shared.{Shared}
-use Rattle.lx_proc.specs.declared.state.Body.{Body}
+use Rattle.lx_proc.specs.declared.state.UserState.{UserState}
 use Rattle.lx_proc.specs.Answers.{Answers, is_blocked}
 use Rattle.lx_pcalls.specs.Exit.{exit}
 use Rattle.lx_pcalls.specs.SchedYield.{sched_yield}
@@ -20,7 +20,7 @@ use Rattle.lx_pcalls.specs.Mmap.{mmap}
 use Rattle.lx_pcalls.specs.Wait4.{wait4, wait4_would_block}
 
 -- a child that the call makes has the pid that is handed in
-unfoldable pub process_call : Shared → ℕ → ℕ → Call → Body → Option Answers
+unfoldable pub process_call : Shared → ℕ → ℕ → Call → UserState → Option Answers
 process_call s child p call b =
     if call.number == 93 then Some (exit call)
     else if call.number == 94 then Some (exit call)

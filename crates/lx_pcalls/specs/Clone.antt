@@ -9,7 +9,7 @@ use Rattle.lx_sig.specs.Reactions.{of_child}
 use Rattle.lx_open.specs.Opens.{inherited}
 use Rattle.lx_proc.specs.declared.state.Shared.{Shared}
 use Rattle.lx_proc.specs.declared.state.Entry.{Entry}
-use Rattle.lx_proc.specs.declared.state.Body.{Body}
+use Rattle.lx_proc.specs.declared.state.UserState.{UserState}
 use Rattle.lx_proc.specs.declared.state.Life.TheVariants.{Alive}
 use Rattle.lx_proc.specs.State.{most_processes, last_pid, with_hart}
 use Rattle.lx_proc.specs.Answers.{Answers, argument, unless, at_entry}
@@ -38,14 +38,14 @@ child_registers r stack = if stack == 0 then set r 10 0 else set (set r 10 0) 2 
 abbrev pub child_hart : Hart → ℕ → Hart
 child_hart h stack = record { pc = (h.pc + 4) % 2 ^ 64; registers = child_registers h.registers stack }
 
-abbrev pub child_body : Body → ℕ → Body
-child_body b stack = with_hart b (child_hart b.hart stack)
+abbrev pub child_user : UserState → ℕ → UserState
+child_user b stack = with_hart b (child_hart b.hart stack)
 
-abbrev pub bears : Shared → ℕ → ℕ → Call → Body → Entry → Answers
+abbrev pub bears : Shared → ℕ → ℕ → Call → UserState → Entry → Answers
 bears s child p call b e =
     unless (has_room s child) eagain
-    (Bears (with_child s child p (child_entry e p)) b (child_body b (argument call 1)))
+    (Bears (with_child s child p (child_entry e p)) b (child_user b (argument call 1)))
 
 -- the child has the pid that is handed in
-unfoldable pub clone : Shared → ℕ → ℕ → Call → Body → Answers
+unfoldable pub clone : Shared → ℕ → ℕ → Call → UserState → Answers
 clone s child p call b = unless (argument call 0 == fork_flags) einval (at_entry s p (bears s child p call b))

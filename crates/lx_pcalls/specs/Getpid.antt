@@ -2,8 +2,8 @@
 use Rattle.std.specs.Prelude.{ℕ}
 use Rattle.lx_model.specs.Machine.{Returns}
 use Rattle.lx_proc.specs.declared.state.Shared.{Shared}
-use Rattle.lx_proc.specs.declared.state.Body.{Body}
+use Rattle.lx_proc.specs.declared.state.UserState.{UserState}
 use Rattle.lx_proc.specs.Answers.{Answers}
 
-abbrev pub getpid : Shared → ℕ → Body → Answers
+abbrev pub getpid : Shared → ℕ → UserState → Answers
 getpid s p b = Returns s b p

@@ -11,7 +11,7 @@ use Rattle.lx_sig.specs.Kill.{aim}
 use Rattle.lx_sig.specs.declared.kill.Aim.{Aim}
 use Rattle.lx_proc.specs.declared.state.Shared.{Shared}
 use Rattle.lx_proc.specs.declared.state.Entry.{Entry}
-use Rattle.lx_proc.specs.declared.state.Body.{Body}
+use Rattle.lx_proc.specs.declared.state.UserState.{UserState}
 use Rattle.lx_proc.specs.declared.state.Life.{Life}
 use Rattle.lx_proc.specs.declared.state.Life.TheVariants.{Alive, Dying, Zombie}
 use Rattle.lx_proc.specs.State.{changed, with_entries, with_signals}
@@ -28,8 +28,8 @@ abbrev pub sends : Shared → ℕ → ℕ → Option Signal → Shared
 sends s p target None = s
 sends s p target (Some signal) = with_entries s (changed s.entries target (λ e. sent_to e e.life p signal))
 
-abbrev pub kills : Shared → ℕ → Body → Aim → Answers
+abbrev pub kills : Shared → ℕ → UserState → Aim → Answers
 kills s p b a = given (maps.get s.entries a.pid) esrch (λ e. Returns (sends s p a.pid a.signal) b 0)
 
-unfoldable pub kill : Shared → ℕ → Call → Body → Answers
+unfoldable pub kill : Shared → ℕ → Call → UserState → Answers
 kill s p call b = given (aim call) einval (kills s p b)

@@ -3,9 +3,9 @@ use Rattle.std.specs.Prelude.{ℕ}
 use Rattle.lx_abi.specs.declared.log.Call.{Call}
 use Rattle.lx_sig.specs.Sigaction.{sigaction}
 use Rattle.lx_proc.specs.declared.state.Shared.{Shared}
-use Rattle.lx_proc.specs.declared.state.Body.{Body}
+use Rattle.lx_proc.specs.declared.state.UserState.{UserState}
 use Rattle.lx_proc.specs.Answers.{Answers, at_entry}
 use Rattle.lx_pcalls.specs.Signals.{leaves}
 
-abbrev pub rt_sigaction : Shared → ℕ → Call → Body → Answers
+abbrev pub rt_sigaction : Shared → ℕ → Call → UserState → Answers
 rt_sigaction s p call b = at_entry s p (λ e. leaves s p b (sigaction e.signals b.memory call))

@@ -11,7 +11,7 @@ use Rattle.lx_sig.specs.Reactions.{reaction as reaction_to}
 use Rattle.lx_sig.specs.Frames.{frame_fault, with_frame, handling, blocking}
 use Rattle.lx_proc.specs.declared.state.Shared.{Shared}
 use Rattle.lx_proc.specs.declared.state.Entry.{Entry}
-use Rattle.lx_proc.specs.declared.state.Body.{Body}
+use Rattle.lx_proc.specs.declared.state.UserState.{UserState}
 use Rattle.lx_proc.specs.State.{with_signals_at}
 use Rattle.lx_pcalls.specs.declared.taking.Reacted.{Reacted}
 use Rattle.lx_pcalls.specs.declared.taking.Reacted.TheVariants as reacted
@@ -20,7 +20,7 @@ use Rattle.lx_pcalls.specs.declared.taking.Reacted.TheVariants as reacted
 abbrev pub segv_word : ℕ
 segv_word = 11
 
-abbrev pub in_handler : Entry → Body → Signal → Action → Body
+abbrev pub in_handler : Entry → UserState → Signal → Action → UserState
 in_handler e b signal a = record b {
   hart = handling b.hart signal a;
   memory = with_frame b.memory b.hart b.interrupted e.signals signal a;
@@ -28,26 +28,26 @@ in_handler e b signal a = record b {
 }
 
 -- the handler begins; where its frame can't be written SIGSEGV ends the process
-abbrev pub handles : Shared → ℕ → Entry → Body → Signal → Action → Took Shared Body
+abbrev pub handles : Shared → ℕ → Entry → UserState → Signal → Action → Took Shared UserState
 handles s p e b signal a =
     if is_some (frame_fault b.memory b.hart) then Kills segv_word
     else Passes (with_signals_at s p (blocking e.signals signal a)) (in_handler e b signal a)
 
-abbrev pub reacts : Shared → ℕ → Entry → Body → Signal → Reaction → Took Shared Body
+abbrev pub reacts : Shared → ℕ → Entry → UserState → Signal → Reaction → Took Shared UserState
 reacts s p e b signal reaction.Passes = Passes s b
 reacts s p e b signal reaction.Ends = Kills signal.number
 reacts s p e b signal (reaction.Handles a) = handles s p e b signal a
 
-abbrev pub takes_at : Option Entry → Shared → ℕ → Body → Signal → Cause → Took Shared Body
+abbrev pub takes_at : Option Entry → Shared → ℕ → UserState → Signal → Cause → Took Shared UserState
 takes_at None s p b signal cause = Passes s b
 takes_at (Some e) s p b signal cause = reacts s p e b signal (reaction_to e.signals signal cause)
 
 -- the process does what its action says
-unfoldable pub takes : Shared → ℕ → Body → Signal → Cause → Took Shared Body
+unfoldable pub takes : Shared → ℕ → UserState → Signal → Cause → Took Shared UserState
 takes s p b signal cause = takes_at (maps.get s.entries p) s p b signal cause
 
 -- What code answers, beside what it leaves in the two parts that it is lent.
-abbrev pub took_of : Reacted → Shared → Body → Took Shared Body
+abbrev pub took_of : Reacted → Shared → UserState → Took Shared UserState
 took_of reacted.Passed s b = Passes s b
 took_of (reacted.Killed w) s b = Kills w
 

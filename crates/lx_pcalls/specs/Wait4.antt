@@ -7,7 +7,7 @@ use Rattle.lx_abi.specs.declared.log.Call.{Call}
 use Rattle.lx_model.specs.Machine.{Returns, Blocks}
 use Rattle.lx_proc.specs.declared.state.Shared.{Shared}
 use Rattle.lx_proc.specs.declared.state.Entry.{Entry}
-use Rattle.lx_proc.specs.declared.state.Body.{Body}
+use Rattle.lx_proc.specs.declared.state.UserState.{UserState}
 use Rattle.lx_proc.specs.declared.state.Life.{Life}
 use Rattle.lx_proc.specs.declared.state.Life.TheVariants.{Alive, Dying, Zombie}
 use Rattle.lx_proc.specs.State.{Entries, with_entries}
@@ -50,17 +50,17 @@ word_in None = None
 word_in (Some e) = zombie_word e.life
 
 -- the zombie's word is written before it leaves the table, unless its place is null
-abbrev pub reaps : Shared → Body → Call → ℕ → ℕ → Answers
+abbrev pub reaps : Shared → UserState → Call → ℕ → ℕ → Answers
 reaps s b call n word =
     let left = with_entries s (maps.remove s.entries n) in
     if argument call 1 == 0 then Returns left b n else gives left b (argument call 1) (to_le_bytes w32 word) n
 
 -- without a zombie WNOHANG gives 0
-abbrev pub waits : Shared → Body → Call → Option ℕ → Answers
+abbrev pub waits : Shared → UserState → Call → Option ℕ → Answers
 waits s b call None = if argument call 2 == 1 then Returns s b 0 else Blocks
 waits s b call (Some n) = given (word_in (maps.get s.entries n)) echild (reaps s b call n)
 
-unfoldable pub wait4 : Shared → ℕ → Call → Body → Answers
+unfoldable pub wait4 : Shared → ℕ → Call → UserState → Answers
 wait4 s p call b =
     unless (may_wait call) einval
     (unless (is_some (first_child s.entries p (low_argument call 0) false)) echild

@@ -8,7 +8,7 @@ ghost use Rattle.lx_pcalls.specs.Brk.{with_end, with_heap, shrunk};
 
 use lx_abi::Call;
 use lx_exec::pages::{ADDRESS_END, PAGE, pages_for, rights_for};
-use lx_proc::{Body, Heap, Reply, Shared};
+use lx_proc::{CallReply, Heap, Shared, UserState};
 use rv_mem::MemFault;
 use std::alloc::AllocError;
 
@@ -25,16 +25,16 @@ fn may_end(heap: Heap, address: u64) -> bool
 }
 
 /// The heap ends higher, unless there would be too many pages.
-fn grow(body: &mut Body, address: u64) -> Result<(), AllocError>
-    requires low { body.old.heap.end ≤ address }
+fn grow(user: &mut UserState, address: u64) -> Result<(), AllocError>
+    requires low { user.old.heap.end ≤ address }
     requires high { address ≤ address_end }
-    ensures { IfOk result (λ u. body.new ≡ grows body.old address) }
+    ensures { IfOk result (λ u. user.new ≡ grows user.old address) }
 {
-    let first = pages_for(body.heap.end);
+    let first = pages_for(user.heap.end);
     let pages = pages_for(address) - first;
-    match body.memory.map(PAGE * first, pages, rights_for(3)) {
+    match user.memory.map(PAGE * first, pages, rights_for(3)) {
         Ok(()) => {
-            body.heap.end = address;
+            user.heap.end = address;
             Ok(())
         }
         Err(MemFault::Memory) => Err(AllocError),
@@ -43,45 +43,45 @@ fn grow(body: &mut Body, address: u64) -> Result<(), AllocError>
 }
 
 /// The heap ends lower.
-fn shrink(body: &mut Body, address: u64)
-    requires low { address ≤ body.old.heap.end }
-    requires high { body.old.heap.end ≤ address_end }
-    ensures { body.new ≡ with_heap body.old (shrunk body.old.memory body.old.heap.end address) address }
+fn shrink(user: &mut UserState, address: u64)
+    requires low { address ≤ user.old.heap.end }
+    requires high { user.old.heap.end ≤ address_end }
+    ensures { user.new ≡ with_heap user.old (shrunk user.old.memory user.old.heap.end address) address }
 {
     let first = pages_for(address);
-    let pages = pages_for(body.heap.end) - first;
-    body.memory.unmap(PAGE * first, pages);
-    body.heap.end = address;
+    let pages = pages_for(user.heap.end) - first;
+    user.memory.unmap(PAGE * first, pages);
+    user.heap.end = address;
 }
 
-fn resize(body: &mut Body, address: u64) -> Result<(), AllocError>
+fn resize(user: &mut UserState, address: u64) -> Result<(), AllocError>
     requires new { address ≤ address_end }
-    requires old { body.old.heap.end ≤ address_end }
-    ensures { IfOk result (λ u. body.new ≡ resizes body.old address) }
+    requires old { user.old.heap.end ≤ address_end }
+    ensures { IfOk result (λ u. user.new ≡ resizes user.old address) }
 {
-    if body.heap.end < address {
-        return grow(body, address);
+    if user.heap.end < address {
+        return grow(user, address);
     }
-    shrink(body, address);
+    shrink(user, address);
     Ok(())
 }
 
 /// The heap ends at the address, where it may.
-fn move_end(body: &mut Body, address: u64) -> Result<(), AllocError>
-    ensures { IfOk result (λ u. body.new ≡ with_end body.old address) }
+fn move_end(user: &mut UserState, address: u64) -> Result<(), AllocError>
+    ensures { IfOk result (λ u. user.new ≡ with_end user.old address) }
 {
-    if may_end(body.heap, address) {
-        return resize(body, address);
+    if may_end(user.heap, address) {
+        return resize(user, address);
     }
     Ok(())
 }
 
 /// brk(addr). Where the heap can't end there, or would have too many pages, nothing changes.
 #[tactic(auto, unfolding(crate::specs::Brk::brk))]
-pub fn brk(_shared: &Shared, call: &Call, body: &mut Body) -> Result<Reply, AllocError>
-    ensures answer { IfOk result (λ r. answer_of r _shared.now body.new ≡ meaning _shared.now call.now body.old) }
-    ensures kept { IfOk result (λ r. Kept r _shared.now body.old _shared.now body.new) }
+pub fn brk(_shared: &Shared, call: &Call, user: &mut UserState) -> Result<CallReply, AllocError>
+    ensures answer { IfOk result (λ r. answer_of r _shared.now user.new ≡ meaning _shared.now call.now user.old) }
+    ensures kept { IfOk result (λ r. Kept r _shared.now user.old _shared.now user.new) }
 {
-    move_end(body, call.arguments[0])?;
-    Ok(Reply::Returned(body.heap.end))
+    move_end(user, call.arguments[0])?;
+    Ok(CallReply::Returned(user.heap.end))
 }

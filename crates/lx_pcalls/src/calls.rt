@@ -19,7 +19,7 @@ use crate::sched_yield::sched_yield;
 use crate::wait4::{wait4, wait4_would_block};
 use lx_abi::Call;
 use lx_exec::execve::execve;
-use lx_proc::{Body, Reply, Shared};
+use lx_proc::{CallReply, Shared, UserState};
 use std::alloc::{AllocError, Global};
 
 /// A call on processes, memory or signals; none where it is another's. A child that it makes has the pid `child`.
@@ -30,30 +30,30 @@ pub fn process_call(
     child: u32,
     pid: u32,
     call: &Call,
-    body: &mut Body,
-) -> Result<Option<Reply>, AllocError>
+    user: &mut UserState,
+) -> Result<Option<CallReply>, AllocError>
     ensures answer { IfOk result
-        (λ r. answered r shared.new body.new ≡ meaning shared.old child pid call.now body.old) }
-    ensures kept { IfOk result (λ r. KeptIf r shared.old body.old shared.new body.new) }
+        (λ r. answered r shared.new user.new ≡ meaning shared.old child pid call.now user.old) }
+    ensures kept { IfOk result (λ r. KeptIf r shared.old user.old shared.new user.new) }
     ensures console { OnErr result (shared.new.console ≡ shared.old.console) }
 {
     match call.number {
-        93 => Ok(Some(exit(shared, call, body))),
-        94 => Ok(Some(exit(shared, call, body))),
-        124 => Ok(Some(sched_yield(shared, body))),
-        129 => Ok(Some(kill(shared, pid, call, body))),
-        134 => Ok(Some(rt_sigaction(shared, pid, call, body)?)),
-        135 => Ok(Some(rt_sigprocmask(shared, pid, call, body)?)),
-        139 => Ok(Some(rt_sigreturn(shared, pid, body))),
-        172 => Ok(Some(getpid(shared, pid, body))),
-        173 => Ok(Some(getppid(shared, pid, body))),
-        178 => Ok(Some(getpid(shared, pid, body))),
-        214 => Ok(Some(brk(shared, call, body)?)),
-        215 => Ok(Some(munmap(shared, call, body))),
-        220 => Ok(Some(clone(alloc, shared, child, pid, call, body)?)),
-        221 => Ok(Some(execve(alloc, shared, pid, call, body)?)),
-        222 => Ok(Some(mmap(shared, call, body)?)),
-        260 => Ok(Some(wait4(shared, pid, call, body)?)),
+        93 => Ok(Some(exit(shared, call, user))),
+        94 => Ok(Some(exit(shared, call, user))),
+        124 => Ok(Some(sched_yield(shared, user))),
+        129 => Ok(Some(kill(shared, pid, call, user))),
+        134 => Ok(Some(rt_sigaction(shared, pid, call, user)?)),
+        135 => Ok(Some(rt_sigprocmask(shared, pid, call, user)?)),
+        139 => Ok(Some(rt_sigreturn(shared, pid, user))),
+        172 => Ok(Some(getpid(shared, pid, user))),
+        173 => Ok(Some(getppid(shared, pid, user))),
+        178 => Ok(Some(getpid(shared, pid, user))),
+        214 => Ok(Some(brk(shared, call, user)?)),
+        215 => Ok(Some(munmap(shared, call, user))),
+        220 => Ok(Some(clone(alloc, shared, child, pid, call, user)?)),
+        221 => Ok(Some(execve(alloc, shared, pid, call, user)?)),
+        222 => Ok(Some(mmap(shared, call, user)?)),
+        260 => Ok(Some(wait4(shared, pid, call, user)?)),
         _ => Ok(None),
     }
 }
@@ -67,7 +67,7 @@ pub fn would_block(shared: &Shared, pid: u32, call: &Call) -> bool
 }
 
 /// Of these calls one blocks where it would, and nowhere else.
-pub fn process_blocks(_shared: &Shared, _child: u32, _pid: u32, _call: &Call, _body: &Body)
-    ensures { is_blocked_if (meaning _shared.now _child _pid _call.now _body.now)
+pub fn process_blocks(_shared: &Shared, _child: u32, _pid: u32, _call: &Call, _user: &UserState)
+    ensures { is_blocked_if (meaning _shared.now _child _pid _call.now _user.now)
         ≡ would_block_of _shared.now _pid _call.now }
 {}

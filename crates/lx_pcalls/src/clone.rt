@@ -3,13 +3,13 @@
 ghost use Rattle.std.specs.Prelude.{◌≡◌, IfOk, OnErr};
 ghost use Rattle.lx_model.specs.Machine.{Bears};
 ghost use Rattle.lx_proc.specs.Answers.{answer_of, Kept};
-ghost use Rattle.lx_pcalls.specs.Clone.{clone as meaning, with_child, child_entry, child_body};
+ghost use Rattle.lx_pcalls.specs.Clone.{clone as meaning, with_child, child_entry, child_user};
 ghost use Rattle.lx_pcalls.specs.Clone.{child_hart as hart_of_child};
 ghost use Rattle.lx_pcalls.specs.Clone.{has_room as has_room_for};
 
 use containers::Bytes;
 use lx_abi::{Call, Errno};
-use lx_proc::{Body, Entry, LAST_PID, Life, MOST_PROCESSES, Reply, Shared};
+use lx_proc::{CallReply, Entry, LAST_PID, Life, MOST_PROCESSES, Shared, UserState};
 use lx_sig::for_child;
 use rv_hart::Hart;
 use std::alloc::{AllocError, Global};
@@ -56,24 +56,24 @@ fn bear(
     child: u32,
     pid: u32,
     stack: u64,
-    body: &Body,
+    user: &UserState,
     entry: Entry,
-) -> Result<Reply, AllocError>
-    ensures answer { IfOk result (λ r. answer_of r shared.new body.now
-        ≡ Bears (with_child shared.old child pid entry) body.now (child_body body.now stack)) }
-    ensures kept { IfOk result (λ r. Kept r shared.old body.now shared.new body.now) }
+) -> Result<CallReply, AllocError>
+    ensures answer { IfOk result (λ r. answer_of r shared.new user.now
+        ≡ Bears (with_child shared.old child pid entry) user.now (child_user user.now stack)) }
+    ensures kept { IfOk result (λ r. Kept r shared.old user.now shared.new user.now) }
     ensures console { OnErr result (shared.new.console ≡ shared.old.console) }
 {
-    let memory = body.memory.fork()?;
+    let memory = user.memory.fork()?;
     shared.fds.inherit(pid, child)?;
     shared.entries.insert(child, entry)?;
-    let newborn = Body {
-        hart: child_hart(&body.hart, stack),
+    let newborn = UserState {
+        hart: child_hart(&user.hart, stack),
         memory,
-        heap: body.heap,
-        interrupted: body.interrupted,
+        heap: user.heap,
+        interrupted: user.interrupted,
     };
-    Ok(Reply::Bore(Box::new(alloc, newborn)?))
+    Ok(CallReply::Bore(Box::new(alloc, newborn)?))
 }
 
 /// clone(flags, stack), of a child with this pid. EINVAL for other flags than SIGCHLD; EAGAIN where the table is full,
@@ -86,22 +86,22 @@ pub fn clone(
     child: u32,
     pid: u32,
     call: &Call,
-    body: &Body,
-) -> Result<Reply, AllocError>
+    user: &UserState,
+) -> Result<CallReply, AllocError>
     ensures answer { IfOk result
-        (λ r. answer_of r shared.new body.now ≡ meaning shared.old child pid call.now body.now) }
-    ensures kept { IfOk result (λ r. Kept r shared.old body.now shared.new body.now) }
+        (λ r. answer_of r shared.new user.now ≡ meaning shared.old child pid call.now user.now) }
+    ensures kept { IfOk result (λ r. Kept r shared.old user.now shared.new user.now) }
     ensures console { OnErr result (shared.new.console ≡ shared.old.console) }
 {
     if call.arguments[0] != FORK_FLAGS {
-        return Ok(Reply::Refused(Errno::EINVAL));
+        return Ok(CallReply::Refused(Errno::EINVAL));
     }
     let Some(parent) = shared.entries.get(pid) else {
-        return Ok(Reply::Refused(Errno::ESRCH));
+        return Ok(CallReply::Refused(Errno::ESRCH));
     };
     if !has_room(shared, child) {
-        return Ok(Reply::Refused(Errno::EAGAIN));
+        return Ok(CallReply::Refused(Errno::EAGAIN));
     }
     let entry = entry_for_child(alloc, parent, pid)?;
-    bear(alloc, shared, child, pid, call.arguments[1], body, entry)
+    bear(alloc, shared, child, pid, call.arguments[1], user, entry)
 }

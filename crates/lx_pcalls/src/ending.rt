@@ -62,7 +62,7 @@ fn release(entries: &mut Table, parent: u32, child: u32)
 }
 
 /// The children of a process that ends are orphans.
-fn release_children(entries: &mut Table, parent: u32)
+fn orphan_children(entries: &mut Table, parent: u32)
     ensures { entries.new ≡ orphaned entries.old parent }
 {
     let mut passed = 0;
@@ -109,7 +109,7 @@ fn tell(entries: &mut Table, parent: u32, pid: u32, word: u32)
 }
 
 /// A process waits for its parent as a zombie, or leaves the table where nobody will wait.
-fn retire(entries: &mut Table, pid: u32, word: u32, parent: u32) -> Result<(), AllocError>
+fn become_zombie(entries: &mut Table, pid: u32, word: u32, parent: u32) -> Result<(), AllocError>
     ensures { OnOk result (entries.new ≡ retired entries.old pid word parent) }
 {
     match entries.get(parent) {
@@ -125,7 +125,7 @@ fn retire(entries: &mut Table, pid: u32, word: u32, parent: u32) -> Result<(), A
 /// A process leaves Dying: its parent gets SIGCHLD, unless it is set to be ignored, and its children are orphans.
 #[inline(never)]
 #[tactic(auto, unfolding(crate::specs::Ends::buried))]
-pub fn bury(shared: &mut Shared, pid: u32, word: u32) -> Result<(), AllocError>
+pub fn release_task(shared: &mut Shared, pid: u32, word: u32) -> Result<(), AllocError>
     ensures buried { OnOk result (shared.new ≡ buried shared.old pid word) }
     ensures console { OnErr result (shared.new.console ≡ shared.old.console) }
 {
@@ -133,7 +133,7 @@ pub fn bury(shared: &mut Shared, pid: u32, word: u32) -> Result<(), AllocError>
         return Ok(());
     };
     let parent = entry.parent;
-    release_children(&mut shared.entries, pid);
-    retire(&mut shared.entries, pid, word, parent)?;
+    orphan_children(&mut shared.entries, pid);
+    become_zombie(&mut shared.entries, pid, word, parent)?;
     Ok(())
 }

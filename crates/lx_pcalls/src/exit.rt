@@ -5,12 +5,12 @@ ghost use Rattle.lx_proc.specs.Answers.{answer_of, Kept};
 ghost use Rattle.lx_pcalls.specs.Exit.{exit as meaning};
 
 use lx_abi::Call;
-use lx_proc::{Body, Reply, Shared};
+use lx_proc::{CallReply, Shared, UserState};
 
 /// exit(status), exit_group(status). The process ends with the status's low eight bits.
-pub fn exit(_shared: &Shared, call: &Call, _body: &Body) -> Reply
-    ensures answer { answer_of result _shared.now _body.now ≡ meaning call.now }
-    ensures kept { Kept result _shared.now _body.now _shared.now _body.now }
+pub fn exit(_shared: &Shared, call: &Call, _user: &UserState) -> CallReply
+    ensures answer { answer_of result _shared.now _user.now ≡ meaning call.now }
+    ensures kept { Kept result _shared.now _user.now _shared.now _user.now }
 {
-    Reply::Ended((call.arguments[0] & 0xff) as u32 * 256)
+    CallReply::Ended((call.arguments[0] & 0xff) as u32 * 256)
 }

@@ -5,10 +5,10 @@ ghost use Rattle.std.specs.FinMap as maps;
 ghost use Rattle.lx_model.specs.Machine.{Blocks};
 ghost use Rattle.lx_proc.specs.Answers.{answer_of, Kept};
 ghost use Rattle.lx_proc.specs.declared.state.Shared.{Shared};
-ghost use Rattle.lx_proc.specs.declared.state.Body.{Body};
+ghost use Rattle.lx_proc.specs.declared.state.UserState.{UserState};
 ghost use Rattle.lx_pcalls.specs.Interruption.{is_interrupted as is_interrupted_by, with_interrupted, interruptible};
 
-use lx_proc::{Body, Reply, Shared};
+use lx_proc::{CallReply, Shared, UserState};
 use lx_sig::{Interrupted, may_interrupt};
 
 /// -512, ERESTARTSYS.
@@ -25,35 +25,35 @@ pub fn is_interrupted(shared: &Shared, pid: u32) -> bool
 }
 
 /// Keeps where the call was made, so that it can be made again.
-fn keep_call(body: &mut Body)
-    ensures { body.new ≡ with_interrupted body.old }
+fn keep_call(user: &mut UserState)
+    ensures { user.new ≡ with_interrupted user.old }
 {
-    body.interrupted = Some(Interrupted {
-        pc: body.hart.pc,
-        a0: body.hart.registers[10],
+    user.interrupted = Some(Interrupted {
+        pc: user.hart.pc,
+        a0: user.hart.registers[10],
     });
 }
 
-fn interrupt_blocked(shared: &Shared, pid: u32, body: &mut Body) -> Reply
-    ensures answer { answer_of result shared.now body.new ≡ interruptible shared.now pid body.old Blocks }
-    ensures kept { Kept result shared.now body.old shared.now body.new }
+fn interrupt_blocked(shared: &Shared, pid: u32, user: &mut UserState) -> CallReply
+    ensures answer { answer_of result shared.now user.new ≡ interruptible shared.now pid user.old Blocks }
+    ensures kept { Kept result shared.now user.old shared.now user.new }
 {
     if !is_interrupted(shared, pid) {
-        return Reply::Blocked;
+        return CallReply::Blocked;
     }
-    keep_call(body);
-    Reply::Returned(INTERRUPTED_WORD)
+    keep_call(user);
+    CallReply::Returned(INTERRUPTED_WORD)
 }
 
 /// What a call's reply comes to: where the call would block, a signal that interrupts it makes it return. The parts are
 /// as the call left them.
-pub fn interrupt(shared: &Shared, pid: u32, body: &mut Body, reply: Reply) -> Reply
-    ensures answer { answer_of result shared.now body.new
-        ≡ interruptible shared.now pid body.old (answer_of reply shared.now body.old) }
-    ensures kept { (s : Shared) (b : Body) → Kept reply s b shared.now body.old → Kept result s b shared.now body.new }
+pub fn interrupt(shared: &Shared, pid: u32, user: &mut UserState, reply: CallReply) -> CallReply
+    ensures answer { answer_of result shared.now user.new
+        ≡ interruptible shared.now pid user.old (answer_of reply shared.now user.old) }
+    ensures kept { (s : Shared) (b : UserState) → Kept reply s b shared.now user.old → Kept result s b shared.now user.new }
 {
     match reply {
-        Reply::Blocked => interrupt_blocked(shared, pid, body),
+        CallReply::Blocked => interrupt_blocked(shared, pid, user),
         other => other,
     }
 }

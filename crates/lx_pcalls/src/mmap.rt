@@ -6,7 +6,7 @@ ghost use Rattle.lx_pcalls.specs.Mmap.{mmap as meaning, may_map as may_map_of, m
 
 use lx_abi::{Call, Errno};
 use lx_exec::pages::{pages_for, rights_for};
-use lx_proc::{Body, Reply, Shared};
+use lx_proc::{CallReply, Shared, UserState};
 use rv_mem::{MemFault, Rights};
 use std::alloc::AllocError;
 
@@ -28,30 +28,35 @@ fn may_map(call: &Call) -> bool
 }
 
 /// Maps pages in the highest place that is free.
-fn map(_shared: &Shared, body: &mut Body, pages: u64, rights: Rights) -> Result<Reply, AllocError>
-    ensures answer { IfOk result (λ r. answer_of r _shared.now body.new ≡ maps _shared.now body.old pages rights) }
-    ensures kept { IfOk result (λ r. Kept r _shared.now body.old _shared.now body.new) }
+fn map(
+    _shared: &Shared,
+    user: &mut UserState,
+    pages: u64,
+    rights: Rights,
+) -> Result<CallReply, AllocError>
+    ensures answer { IfOk result (λ r. answer_of r _shared.now user.new ≡ maps _shared.now user.old pages rights) }
+    ensures kept { IfOk result (λ r. Kept r _shared.now user.old _shared.now user.new) }
 {
-    let Some(address) = body.memory.highest_free(pages, LOW, HIGH) else {
-        return Ok(Reply::Refused(Errno::ENOMEM));
+    let Some(address) = user.memory.highest_free(pages, LOW, HIGH) else {
+        return Ok(CallReply::Refused(Errno::ENOMEM));
     };
-    match body.memory.map(address, pages, rights) {
-        Ok(()) => Ok(Reply::Returned(address)),
+    match user.memory.map(address, pages, rights) {
+        Ok(()) => Ok(CallReply::Returned(address)),
         Err(MemFault::Memory) => Err(AllocError),
-        Err(_) => Ok(Reply::Refused(Errno::ENOMEM)),
+        Err(_) => Ok(CallReply::Refused(Errno::ENOMEM)),
     }
 }
 
 /// mmap(addr, length, prot, flags, fd, offset). EINVAL for a length of 0, other rights or flags, or an offset; ENOMEM
 /// where there is no room, or there would be too many pages.
 #[tactic(auto, unfolding(crate::specs::Mmap::mmap))]
-pub fn mmap(_shared: &Shared, call: &Call, body: &mut Body) -> Result<Reply, AllocError>
-    ensures answer { IfOk result (λ r. answer_of r _shared.now body.new ≡ meaning _shared.now call.now body.old) }
-    ensures kept { IfOk result (λ r. Kept r _shared.now body.old _shared.now body.new) }
+pub fn mmap(_shared: &Shared, call: &Call, user: &mut UserState) -> Result<CallReply, AllocError>
+    ensures answer { IfOk result (λ r. answer_of r _shared.now user.new ≡ meaning _shared.now call.now user.old) }
+    ensures kept { IfOk result (λ r. Kept r _shared.now user.old _shared.now user.new) }
 {
     if !may_map(call) {
-        return Ok(Reply::Refused(Errno::EINVAL));
+        return Ok(CallReply::Refused(Errno::EINVAL));
     }
     let pages = pages_for(call.arguments[1]);
-    map(_shared, body, pages, rights_for(call.arguments[2]))
+    map(_shared, user, pages, rights_for(call.arguments[2]))
 }

@@ -5,7 +5,7 @@ ghost use Rattle.lx_proc.specs.Answers.{answer_of, Kept};
 ghost use Rattle.lx_pcalls.specs.RtSigaction.{rt_sigaction as meaning};
 
 use lx_abi::{Call, Errno};
-use lx_proc::{Body, Reply, Shared, set_signals, signals};
+use lx_proc::{CallReply, Shared, UserState, set_signals, signals};
 use lx_sig::sigaction::sigaction;
 use std::alloc::AllocError;
 
@@ -14,21 +14,21 @@ pub fn rt_sigaction(
     shared: &mut Shared,
     pid: u32,
     call: &Call,
-    body: &mut Body,
-) -> Result<Reply, AllocError>
+    user: &mut UserState,
+) -> Result<CallReply, AllocError>
     ensures answer { IfOk result
-        (λ r. answer_of r shared.new body.new ≡ meaning shared.old pid call.now body.old) }
-    ensures kept { IfOk result (λ r. Kept r shared.old body.old shared.new body.new) }
+        (λ r. answer_of r shared.new user.new ≡ meaning shared.old pid call.now user.old) }
+    ensures kept { IfOk result (λ r. Kept r shared.old user.old shared.new user.new) }
     ensures same { OnErr result (shared.new ≡ shared.old) }
 {
     let Some(mut signals) = signals(shared, pid) else {
-        return Ok(Reply::Refused(Errno::ESRCH));
+        return Ok(CallReply::Refused(Errno::ESRCH));
     };
-    match sigaction(&mut signals, &mut body.memory, call)? {
-        Err(error) => Ok(Reply::Refused(error)),
+    match sigaction(&mut signals, &mut user.memory, call)? {
+        Err(error) => Ok(CallReply::Refused(error)),
         Ok(()) => {
             set_signals(shared, pid, signals);
-            Ok(Reply::Returned(0))
+            Ok(CallReply::Returned(0))
         }
     }
 }

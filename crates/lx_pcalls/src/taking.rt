@@ -4,7 +4,7 @@ ghost use Rattle.std.specs.Prelude.{◌≡◌, IfOk, OnErr};
 ghost use Rattle.lx_pcalls.specs.Taking.{took_of, TookKept, takes};
 
 use lx_abi::{Cause, Signal};
-use lx_proc::{Body, Shared, set_signals, signals};
+use lx_proc::{Shared, UserState, set_signals, signals};
 use lx_sig::{Reaction, push_frame, reaction_to};
 use rv_mem::MemFault;
 use std::alloc::AllocError;
@@ -27,11 +27,11 @@ const SEGV_WORD: u32 = 11;
 pub fn take(
     shared: &mut Shared,
     pid: u32,
-    body: &mut Body,
+    user: &mut UserState,
     signal: Signal,
     cause: Cause,
 ) -> Result<Reacted, AllocError>
-    ensures took { IfOk result (λ r. took_of r shared.new body.new ≡ takes shared.old pid body.old signal cause) }
+    ensures took { IfOk result (λ r. took_of r shared.new user.new ≡ takes shared.old pid user.old signal cause) }
     ensures kept { IfOk result (λ r. TookKept r shared.old shared.new) }
     ensures same { OnErr result (shared.new ≡ shared.old) }
 {
@@ -45,9 +45,9 @@ pub fn take(
     };
     let pushed = push_frame(
         &mut signals,
-        &mut body.hart,
-        &mut body.memory,
-        &mut body.interrupted,
+        &mut user.hart,
+        &mut user.memory,
+        &mut user.interrupted,
         signal,
         action,
     );

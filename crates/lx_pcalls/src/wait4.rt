@@ -9,7 +9,7 @@ ghost use Rattle.lx_pcalls.specs.Wait4.{any_child, first_child as first_child_of
 ghost use Rattle.lx_pcalls.specs.Wait4.{zombie_word as zombie_word_of, word_in, reaps, waits};
 
 use lx_abi::{Call, Errno};
-use lx_proc::{Body, Entry, Life, Reply, Shared, Table};
+use lx_proc::{CallReply, Entry, Life, Shared, Table, UserState};
 use lx_sig::low_argument;
 use rv_mem::MemFault;
 use std::alloc::AllocError;
@@ -87,26 +87,26 @@ fn first_child(entries: &Table, parent: u32, wanted: u32, zombies: bool) -> Opti
 fn reap(
     shared: &mut Shared,
     call: &Call,
-    body: &mut Body,
+    user: &mut UserState,
     pid: u32,
     word: u32,
-) -> Result<Reply, AllocError>
-    ensures answer { IfOk result (λ r. answer_of r shared.new body.new ≡ reaps shared.old body.old call.now pid word) }
-    ensures kept { IfOk result (λ r. Kept r shared.old body.old shared.new body.new) }
+) -> Result<CallReply, AllocError>
+    ensures answer { IfOk result (λ r. answer_of r shared.new user.new ≡ reaps shared.old user.old call.now pid word) }
+    ensures kept { IfOk result (λ r. Kept r shared.old user.old shared.new user.new) }
     ensures same { OnErr result (shared.new ≡ shared.old) }
 {
     let at = call.arguments[1];
     if at == 0 {
         shared.entries.remove(pid);
-        return Ok(Reply::Returned(u64::from(pid)));
+        return Ok(CallReply::Returned(u64::from(pid)));
     }
-    match body.memory.write(at, &word.to_le_bytes()) {
+    match user.memory.write(at, &word.to_le_bytes()) {
         Ok(()) => {
             shared.entries.remove(pid);
-            Ok(Reply::Returned(u64::from(pid)))
+            Ok(CallReply::Returned(u64::from(pid)))
         }
         Err(MemFault::Memory) => Err(AllocError),
-        Err(_) => Ok(Reply::Refused(Errno::EFAULT)),
+        Err(_) => Ok(CallReply::Refused(Errno::EFAULT)),
     }
 }
 
@@ -125,23 +125,23 @@ fn word_of(entries: &Table, pid: u32) -> Option<u32>
 fn wait(
     shared: &mut Shared,
     call: &Call,
-    body: &mut Body,
+    user: &mut UserState,
     zombie: Option<u32>,
-) -> Result<Reply, AllocError>
-    ensures answer { IfOk result (λ r. answer_of r shared.new body.new ≡ waits shared.old body.old call.now zombie) }
-    ensures kept { IfOk result (λ r. Kept r shared.old body.old shared.new body.new) }
+) -> Result<CallReply, AllocError>
+    ensures answer { IfOk result (λ r. answer_of r shared.new user.new ≡ waits shared.old user.old call.now zombie) }
+    ensures kept { IfOk result (λ r. Kept r shared.old user.old shared.new user.new) }
     ensures same { OnErr result (shared.new ≡ shared.old) }
 {
     let Some(pid) = zombie else {
         if call.arguments[2] == WNOHANG {
-            return Ok(Reply::Returned(0));
+            return Ok(CallReply::Returned(0));
         }
-        return Ok(Reply::Blocked);
+        return Ok(CallReply::Blocked);
     };
     let Some(word) = word_of(&shared.entries, pid) else {
-        return Ok(Reply::Refused(Errno::ECHILD));
+        return Ok(CallReply::Refused(Errno::ECHILD));
     };
-    reap(shared, call, body, pid, word)
+    reap(shared, call, user, pid, word)
 }
 
 /// wait4(pid, wstatus, options, rusage). EINVAL for a pid that is neither -1 nor above 0, other options than WNOHANG, or
@@ -151,21 +151,21 @@ pub fn wait4(
     shared: &mut Shared,
     pid: u32,
     call: &Call,
-    body: &mut Body,
-) -> Result<Reply, AllocError>
-    ensures answer { IfOk result (λ r. answer_of r shared.new body.new ≡ meaning shared.old pid call.now body.old) }
-    ensures kept { IfOk result (λ r. Kept r shared.old body.old shared.new body.new) }
+    user: &mut UserState,
+) -> Result<CallReply, AllocError>
+    ensures answer { IfOk result (λ r. answer_of r shared.new user.new ≡ meaning shared.old pid call.now user.old) }
+    ensures kept { IfOk result (λ r. Kept r shared.old user.old shared.new user.new) }
     ensures same { OnErr result (shared.new ≡ shared.old) }
 {
     if !may_wait(call) {
-        return Ok(Reply::Refused(Errno::EINVAL));
+        return Ok(CallReply::Refused(Errno::EINVAL));
     }
     let wanted = low_argument(call, 0);
     if first_child(&shared.entries, pid, wanted, false).is_none() {
-        return Ok(Reply::Refused(Errno::ECHILD));
+        return Ok(CallReply::Refused(Errno::ECHILD));
     }
     let zombie = first_child(&shared.entries, pid, wanted, true);
-    wait(shared, call, body, zombie)
+    wait(shared, call, user, zombie)
 }
 
 /// The call would block. Takes no memory.

@@ -9,16 +9,16 @@ use Rattle.lx_model.specs.Machine.{Answer, Refused, Returns, Jumps, Execs, Bears
 use Rattle.rv_mem.specs.Memory.{first_fault, written}
 use Rattle.rv_mem.specs.declared.rights.Access.TheVariants as access
 pub use Rattle.lx_sig.specs.Calls.{argument, low_argument}
-use Rattle.lx_proc.specs.State.{Shared, Entry, Body, with_memory}
-use Rattle.lx_proc.specs.declared.reply.Reply.{Reply}
-use Rattle.lx_proc.specs.declared.reply.Reply.TheVariants as reply
+use Rattle.lx_proc.specs.State.{Shared, Entry, UserState, with_memory}
+use Rattle.lx_proc.specs.declared.reply.CallReply.{CallReply}
+use Rattle.lx_proc.specs.declared.reply.CallReply.TheVariants as reply
 
 abbrev pub Answers : Type 0
-Answers = Answer Shared Body
+Answers = Answer Shared UserState
 
 -- A call's reply, beside what it left in the two parts that it was lent.
 
-abbrev pub answer_of : Reply → Shared → Body → Answers
+abbrev pub answer_of : CallReply → Shared → UserState → Answers
 answer_of (reply.Refused e) s b = Refused e.number
 answer_of (reply.Returned x) s b = Returns s b x
 answer_of reply.Jumped s b = Jumps s b
@@ -28,7 +28,7 @@ answer_of reply.Blocked s b = Blocks
 answer_of (reply.Ended w) s b = Ends w
 
 -- a refusal, a call that blocks and an end leave both parts
-abbrev pub Kept : Reply → Shared → Body → Shared → Body → Type 0
+abbrev pub Kept : CallReply → Shared → UserState → Shared → UserState → Type 0
 Kept (reply.Refused e) s b s' b' = (s' ≡ s) × (b' ≡ b)
 Kept (reply.Returned x) s b s' b' = Unit {0}
 Kept reply.Jumped s b s' b' = Unit {0}
@@ -38,11 +38,11 @@ Kept reply.Blocked s b s' b' = (s' ≡ s) × (b' ≡ b)
 Kept (reply.Ended w) s b s' b' = (s' ≡ s) × (b' ≡ b)
 
 -- the same of a call that may be another crate's
-abbrev pub answered : Option Reply → Shared → Body → Option Answers
+abbrev pub answered : Option CallReply → Shared → UserState → Option Answers
 answered None s b = None
 answered (Some r) s b = Some (answer_of r s b)
 
-abbrev pub KeptIf : Option Reply → Shared → Body → Shared → Body → Type 0
+abbrev pub KeptIf : Option CallReply → Shared → UserState → Shared → UserState → Type 0
 KeptIf None s b s' b' = (s' ≡ s) × (b' ≡ b)
 KeptIf (Some r) s b s' b' = Kept r s b s' b'
 
@@ -76,7 +76,7 @@ abbrev pub at_entry : Shared → ℕ → (Entry → Answers) → Answers
 at_entry s p answer = given (maps.get s.entries p) esrch answer
 
 -- these bytes at a place of the caller's, and the result
-abbrev pub gives : Shared → Body → ℕ → List ℕ → ℕ → Answers
+abbrev pub gives : Shared → UserState → ℕ → List ℕ → ℕ → Answers
 gives s b at bytes result =
     if is_some (first_fault access.Write b.memory at (length bytes)) then Refused efault
     else Returns s (with_memory b (written b.memory at bytes)) result

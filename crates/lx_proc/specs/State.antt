@@ -16,7 +16,7 @@ pub use Rattle.lx_proc.specs.declared.state.Life.TheVariants.{Alive, Dying, Zomb
 pub use Rattle.lx_proc.specs.declared.state.Entry.{Entry}
 pub use Rattle.lx_proc.specs.declared.state.Shared.{Shared}
 pub use Rattle.lx_proc.specs.declared.state.Heap.{Heap}
-pub use Rattle.lx_proc.specs.declared.state.Body.{Body}
+pub use Rattle.lx_proc.specs.declared.state.UserState.{UserState}
 
 -- The table of processes.
 
@@ -74,8 +74,8 @@ directory s p = unwrap_or (option_map (λ e. e.directory) (maps.get s.entries p)
 
 -- What a process has to itself.
 
-abbrev pub with_memory : Body → Memory → Body
+abbrev pub with_memory : UserState → Memory → UserState
 with_memory b m = record b { memory = m }
 
-abbrev pub with_hart : Body → Hart → Body
+abbrev pub with_hart : UserState → Hart → UserState
 with_hart b h = record b { hart = h }

@@ -13,8 +13,8 @@ pub mod wait_words;
 
 pub use entries::{directory, set_signals, signals};
 pub use registers::{a0, call, make_again, registers_of, return_from_call, set_registers};
-pub use reply::Reply;
-pub use state::{Body, Entry, Heap, LAST_PID, Life, MOST_PROCESSES, Shared};
+pub use reply::CallReply;
+pub use state::{Entry, Heap, LAST_PID, Life, MOST_PROCESSES, Shared, UserState};
 pub use table::Table;
 pub use texts::{START_LIMIT, Text, WORD_COST, Words, list_at, text_at};
 pub use wait_words::WaitWords;

@@ -4,15 +4,15 @@ ghost use Rattle.std.specs.Prelude.{◌≡◌, slice_set, length};
 ghost use Rattle.lx_model.specs.Machine.{call_of, a0_of};
 ghost use Rattle.lx_proc.specs.Registers.{regs, with_regs, with_returned, made_again};
 
-use crate::state::Body;
+use crate::state::UserState;
 use lx_abi::{Call, Registers};
 use lx_sig::Interrupted;
 
 /// The call that the registers ask for.
-pub fn call(body: &Body) -> Call
-    ensures { result ≡ call_of (regs body.now) }
+pub fn call(user: &UserState) -> Call
+    ensures { result ≡ call_of (regs user.now) }
 {
-    let x = &body.hart.registers;
+    let x = &user.hart.registers;
     Call {
         number: x[17],
         arguments: [x[10], x[11], x[12], x[13], x[14], x[15]],
@@ -20,10 +20,10 @@ pub fn call(body: &Body) -> Call
 }
 
 /// a0.
-pub fn a0(body: &Body) -> u64
-    ensures { result ≡ a0_of (regs body.now) }
+pub fn a0(user: &UserState) -> u64
+    ensures { result ≡ a0_of (regs user.now) }
 {
-    body.hart.registers[10]
+    user.hart.registers[10]
 }
 
 /// Sets a0.
@@ -35,20 +35,20 @@ fn set_a0(registers: &mut [u64; 32], value: u64)
 }
 
 /// The result stands in a0, and pc passes the ecall.
-pub fn return_from_call(body: &mut Body, value: u64)
-    ensures { body.new ≡ with_returned body.old value }
+pub fn return_from_call(user: &mut UserState, value: u64)
+    ensures { user.new ≡ with_returned user.old value }
 {
-    body.hart.pc = body.hart.pc.wrapping_add(4);
-    set_a0(&mut body.hart.registers, value);
+    user.hart.pc = user.hart.pc.wrapping_add(4);
+    set_a0(&mut user.hart.registers, value);
 }
 
 /// The interrupted call is made again.
-pub fn make_again(body: &mut Body, at: Interrupted)
-    ensures { body.new ≡ made_again body.old at }
+pub fn make_again(user: &mut UserState, at: Interrupted)
+    ensures { user.new ≡ made_again user.old at }
 {
-    body.hart.pc = at.pc;
-    set_a0(&mut body.hart.registers, at.a0);
-    body.interrupted = None;
+    user.hart.pc = at.pc;
+    set_a0(&mut user.hart.registers, at.a0);
+    user.interrupted = None;
 }
 
 /// Sets the place of x0.
@@ -60,20 +60,20 @@ fn set_first(registers: &mut [u64; 32], value: u64)
 }
 
 /// pc and x1 to x31.
-pub fn registers_of(body: &Body) -> Registers
-    ensures { result ≡ regs body.now }
+pub fn registers_of(user: &UserState) -> Registers
+    ensures { result ≡ regs user.now }
 {
-    let mut registers = body.hart.registers;
-    set_first(&mut registers, body.hart.pc);
+    let mut registers = user.hart.registers;
+    set_first(&mut registers, user.hart.pc);
     registers
 }
 
 /// Sets pc and x1 to x31.
-pub fn set_registers(body: &mut Body, registers: &Registers)
-    ensures { body.new ≡ with_regs body.old registers.now }
+pub fn set_registers(user: &mut UserState, registers: &Registers)
+    ensures { user.new ≡ with_regs user.old registers.now }
 {
-    let x0 = body.hart.registers[0];
-    body.hart.pc = registers[0];
-    body.hart.registers = *registers;
-    body.hart.registers[0] = x0;
+    let x0 = user.hart.registers[0];
+    user.hart.pc = registers[0];
+    user.hart.registers = *registers;
+    user.hart.registers[0] = x0;
 }

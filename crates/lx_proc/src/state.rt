@@ -4,7 +4,7 @@ use crate::table::Table;
 use crate::wait_words::WaitWords;
 use containers::Bytes;
 use lx_files::Tree;
-use lx_open::{FdTable, Queue};
+use lx_open::{FdTable, PipeBuffer};
 use lx_sig::{Interrupted, Signals};
 use rv_hart::Hart;
 use rv_mem::Space;
@@ -39,7 +39,7 @@ pub struct Shared {
     pub tree: Tree,
     pub fds: FdTable,
     /// What is left of the input.
-    pub input: Queue,
+    pub input: PipeBuffer,
     pub console: Bytes,
     pub entries: Table,
     /// Of each process that has ended, also once it has left the table.
@@ -55,7 +55,7 @@ pub struct Heap {
 
 /// What a living process has to itself, beside its stage.
 #[derive(Drop)]
-pub struct Body {
+pub struct UserState {
     pub hart: Hart,
     pub memory: Space,
     pub heap: Heap,

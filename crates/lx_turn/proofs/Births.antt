@@ -12,10 +12,10 @@ use Rattle.lx_model.specs.Machine.{Answer, Refused, Returns, Jumps, Execs, Bears
 use Rattle.lx_model.specs.Turn.{Out, Event, Plain, Execed, Forked, turn, killed_or, lives, stepped, answered, took}
 use Rattle.lx_model.specs.declared.stage.Stage.{Stage}
 use Rattle.lx_model.specs.declared.stage.Stage.TheVariants.{Born, Run, Faulting, Entered, Doing, Replaced, Acted, Finished, Taken, Dropped}
-use Rattle.lx_model.specs.declared.stage.Own.{Own}
-use Rattle.lx_model.specs.declared.stage.Own.TheVariants.{Alive, Dying, Gone}
+use Rattle.lx_model.specs.declared.stage.Task.{Task}
+use Rattle.lx_model.specs.declared.stage.Task.TheVariants.{Alive, Dying, Gone}
 use Rattle.lx_proc.specs.declared.state.Shared.{Shared}
-use Rattle.lx_proc.specs.declared.state.Body.{Body}
+use Rattle.lx_proc.specs.declared.state.UserState.{UserState}
 use Rattle.lx_sig.specs.declared.state.Interrupted.{Interrupted}
 use Rattle.lx_proc.specs.State.{last_pid}
 use Rattle.lx_turn.specs.Calls.{does}
@@ -28,28 +28,28 @@ use Rattle.lx_turn.specs.Linux.{linux}
 use Rattle.lx_turn.specs.Reactions.{next_of, runs, resumed, ran_by, is_killed}
 use Rattle.lx_turn.proofs.CallsFit.{calls_fit}
 
-abbrev pub Births : Shared → ℕ → Shared → Event Body → Type 0
+abbrev pub Births : Shared → ℕ → Shared → Event UserState → Type 0
 Births s child t Plain = Unit {0}
 Births s child t Execed = Unit {0}
 Births s child t (Forked newborn) = (t.console ≡ s.console) × (child ≤ last_pid)
 
-abbrev Fine : Shared → ℕ → Out Shared Body → Type 0
+abbrev Fine : Shared → ℕ → Out Shared UserState → Type 0
 Fine s child o = Births s child o.shared o.event
 
-ran_fine : (s : Shared) (child p : ℕ) (b : Body) (o : Outcome) (st : Step) → Fine s child (stepped linux s p b (ran_by b o st))
+ran_fine : (s : Shared) (child p : ℕ) (b : UserState) (o : Outcome) (st : Step) → Fine s child (stepped linux s p b (ran_by b o st))
 ran_fine s child p b o step.Ran = tt
 ran_fine s child p b o step.Call = tt
 ran_fine s child p b o (step.Fault kind address) = tt
 
-resumed_fine : (s : Shared) (child p : ℕ) (b : Body) (at : Option Interrupted) → Fine s child (stepped linux s p b (resumed b at))
+resumed_fine : (s : Shared) (child p : ℕ) (b : UserState) (at : Option Interrupted) → Fine s child (stepped linux s p b (resumed b at))
 resumed_fine s child p b (Some at) = tt
 resumed_fine s child p b None = ran_fine s child p b (instruction b.hart b.memory) (instruction b.hart b.memory).step
 
-runs_fine : (s : Shared) (child p : ℕ) (b : Body) (signal : Option Signal) → Fine s child (stepped linux s p b (runs s p b signal))
+runs_fine : (s : Shared) (child p : ℕ) (b : UserState) (signal : Option Signal) → Fine s child (stepped linux s p b (runs s p b signal))
 runs_fine s child p b (Some signal) = tt
 runs_fine s child p b None = resumed_fine s child p b b.interrupted
 
-answered_fine : (s : Shared) (child p : ℕ) (b : Body) (call : Call) (a : Answer Shared Body) → Fits child s call a → Fine s child (answered linux s child p b call a)
+answered_fine : (s : Shared) (child p : ℕ) (b : UserState) (call : Call) (a : Answer Shared UserState) → Fits child s call a → Fine s child (answered linux s child p b call a)
 answered_fine s child p b call (Refused x) h = tt
 answered_fine s child p b call (Returns t c x) h = tt
 answered_fine s child p b call (Jumps t c) h = tt
@@ -58,11 +58,11 @@ answered_fine s child p b call (Bears t c newborn) h = (h.console, h.left)
 answered_fine s child p b call Blocks h = tt
 answered_fine s child p b call (Ends w) h = tt
 
-took_fine : (s : Shared) (child p : ℕ) (signal : Signal) (cause : Cause) (t : Took Shared Body) → Fine s child (took linux s p signal cause t)
+took_fine : (s : Shared) (child p : ℕ) (signal : Signal) (cause : Cause) (t : Took Shared UserState) → Fine s child (took linux s p signal cause t)
 took_fine s child p signal cause (Passes t c) = tt
 took_fine s child p signal cause (Kills w) = tt
 
-lives_fine : (c : Choice) (s : Shared) (child p : ℕ) (b : Body) (stage : Stage) → Fine s child (lives linux c s child p b stage)
+lives_fine : (c : Choice) (s : Shared) (child p : ℕ) (b : UserState) (stage : Stage) → Fine s child (lives linux c s child p b stage)
 lives_fine c s child p b Born = tt
 lives_fine c s child p b Run = runs_fine s child p b (next_of (maps.get s.entries p))
 lives_fine c s child p b (Faulting signal cause) = tt
@@ -74,11 +74,11 @@ lives_fine c s child p b Finished = tt
 lives_fine c s child p b (Taken signal cause) = took_fine s child p signal cause (takes s p b signal cause)
 lives_fine c s child p b Dropped = tt
 
-killed_fine : (killed : Bool) (c : Choice) (s : Shared) (child p : ℕ) (b : Body) (stage : Stage) → Fine s child (killed_or killed linux c s child p b stage)
+killed_fine : (killed : Bool) (c : Choice) (s : Shared) (child p : ℕ) (b : UserState) (stage : Stage) → Fine s child (killed_or killed linux c s child p b stage)
 killed_fine true c s child p b stage = tt
 killed_fine false c s child p b stage = lives_fine c s child p b stage
 
-pub turn_fine : (c : Choice) (s : Shared) (child p : ℕ) (own : Own Body) → Fine s child (turn linux c s child p own)
+pub turn_fine : (c : Choice) (s : Shared) (child p : ℕ) (task : Task UserState) → Fine s child (turn linux c s child p task)
 turn_fine c s child p (Alive b stage) = killed_fine (is_killed (maps.get s.entries p)) c s child p b stage
 turn_fine c s child p (Dying w) = tt
 turn_fine c s child p Gone = tt
@@ -90,7 +90,7 @@ left_by s child t effect.Plain h = tt
 left_by s child t effect.Execed h = tt
 left_by s child t (effect.Bore newborn) h = h.1
 
-pub console_by : (s : Shared) (child : ℕ) (t : Shared) (e : Event Body) → Births s child t e → IsBirth e → t.console ≡ s.console
+pub console_by : (s : Shared) (child : ℕ) (t : Shared) (e : Event UserState) → Births s child t e → IsBirth e → t.console ≡ s.console
 console_by s child t Plain h birth = absurd birth
 console_by s child t Execed h birth = absurd birth
 console_by s child t (Forked newborn) h birth = h.0

@@ -22,8 +22,8 @@ use Rattle.lx_model.specs.Machine.{Answer, Refused, Returns, Jumps, Execs, Bears
 use Rattle.lx_model.specs.Turn.{Out, Event, Plain, Forked, turn, killed_or, lives, stepped, answered, took, joins}
 use Rattle.lx_model.specs.declared.stage.Stage.{Stage}
 use Rattle.lx_model.specs.declared.stage.Stage.TheVariants.{Born, Run, Faulting, Entered, Doing, Replaced, Acted, Finished, Taken, Dropped}
-use Rattle.lx_model.specs.declared.stage.Own.{Own}
-use Rattle.lx_model.specs.declared.stage.Own.TheVariants.{Alive, Dying, Gone}
+use Rattle.lx_model.specs.declared.stage.Task.{Task}
+use Rattle.lx_model.specs.declared.stage.Task.TheVariants.{Alive, Dying, Gone}
 use Rattle.lx_sig.specs.Calls.{Outcome as SignalOutcome}
 use Rattle.lx_sig.specs.Frames.{return_fault, frame_fault}
 use Rattle.lx_sig.specs.Reactions.{reaction as reaction_to}
@@ -35,14 +35,14 @@ use Rattle.lx_sig.specs.declared.state.Interrupted.{Interrupted}
 use Rattle.lx_open.specs.Opens.{inherited}
 use Rattle.lx_proc.specs.declared.state.Entry.{Entry}
 use Rattle.lx_proc.specs.declared.state.Shared.{Shared}
-use Rattle.lx_proc.specs.declared.state.Body.{Body}
+use Rattle.lx_proc.specs.declared.state.UserState.{UserState}
 use Rattle.lx_proc.specs.State.{changed, with_entries, with_memory}
 use Rattle.lx_proc.specs.Answers.{Answers, argument, low_argument, unless, given, gives}
 use Rattle.lx_exec.specs.Pages.{pages_for, rights_for}
 use Rattle.lx_fcalls.specs.Calls.{file_call}
 use Rattle.lx_pcalls.specs.Brk.{brk}
 use Rattle.lx_pcalls.specs.Calls.{process_call}
-use Rattle.lx_pcalls.specs.Clone.{clone, bears, child_entry, child_body, fork_flags, has_room}
+use Rattle.lx_pcalls.specs.Clone.{clone, bears, child_entry, child_user, fork_flags, has_room}
 use Rattle.lx_pcalls.specs.Getpid.{getpid}
 use Rattle.lx_pcalls.specs.Getppid.{getppid}
 use Rattle.lx_pcalls.specs.Interruption.{is_interrupted, interruptible, blocks_or_returns}
@@ -81,41 +81,41 @@ use Rattle.lx_turn.proofs.Placed.{get_put}
 use Rattle.lx_turn.proofs.Resting.{other_pair, rests_on, waits_same, waits_alike, inherited_alike, entry_other, quiet_same, quiet_left}
 
 module _ (s : Shared) (child p : ℕ) where
-  abbrev Calm : Shared → Event Body → Type 0
+  abbrev Calm : Shared → Event UserState → Type 0
   Calm t event = Calms s t child p p event
 
   -- nothing is changed
-  same_calm : (event : Event Body) → Calm s event
-  same_calm event = λ q ne still unborn own h. h
+  same_calm : (event : Event UserState) → Calm s event
+  same_calm event = λ q ne still unborn task h. h
 
   -- the process's own entry is
-  entry_calm : (f : Entry → Entry) (event : Event Body) → Calm (with_entries s (changed s.entries p f)) event
-  entry_calm f event = λ q ne still unborn own h.
+  entry_calm : (f : Entry → Entry) (event : Event UserState) → Calm (with_entries s (changed s.entries p f)) event
+  entry_calm f event = λ q ne still unborn task h.
       let t : Shared = with_entries s (changed s.entries p f) in
       rests_on s t q (waits_same s t q refl)
-      (quiet_same (maps.get s.entries q) (maps.get t.entries q) (entry_other s.entries p q f (maps.get s.entries p) ne)) own h
+      (quiet_same (maps.get s.entries q) (maps.get t.entries q) (entry_other s.entries p q f (maps.get s.entries p) ne)) task h
 
-  entries_calm : (f g : Entry → Entry) (event : Event Body) → Calm (with_entries s (changed (changed s.entries p f) p g)) event
-  entries_calm f g event = λ q ne still unborn own h.
+  entries_calm : (f g : Entry → Entry) (event : Event UserState) → Calm (with_entries s (changed (changed s.entries p f) p g)) event
+  entries_calm f g event = λ q ne still unborn task h.
       let t : Shared = with_entries s (changed (changed s.entries p f) p g) in
       rests_on s t q (waits_same s t q refl)
       (quiet_same (maps.get s.entries q) (maps.get t.entries q)
-      (entry_other (changed s.entries p f) p q g (maps.get (changed s.entries p f) p) ne ∙ entry_other s.entries p q f (maps.get s.entries p) ne)) own h
+      (entry_other (changed s.entries p f) p q g (maps.get (changed s.entries p f) p) ne ∙ entry_other s.entries p q f (maps.get s.entries p) ne)) task h
 
   -- an entry leaves the table
-  left_calm : (n : ℕ) (event : Event Body) → Calm (with_entries s (maps.remove s.entries n)) event
-  left_calm n event = λ q ne still unborn own h.
+  left_calm : (n : ℕ) (event : Event UserState) → Calm (with_entries s (maps.remove s.entries n)) event
+  left_calm n event = λ q ne still unborn task h.
       let t : Shared = with_entries s (maps.remove s.entries n) in
-      rests_on s t q (waits_same s t q refl) (quiet_left s.entries n q) own h
+      rests_on s t q (waits_same s t q refl) (quiet_left s.entries n q) task h
 
   -- a child is born
-  born_calm : (e : Entry) (newborn : Body) → Calm (record s { fds = inherited s.fds p child; entries = maps.insert s.entries child e }) (Forked newborn)
+  born_calm : (e : Entry) (newborn : UserState) → Calm (record s { fds = inherited s.fds p child; entries = maps.insert s.entries child e }) (Forked newborn)
   unfolding inherited
-  born_calm e newborn = λ q ne still unborn own h.
+  born_calm e newborn = λ q ne still unborn task h.
       let t : Shared = record s { fds = inherited s.fds p child; entries = maps.insert s.entries child e } in
       let other = unborn tt in
       rests_on s t q (waits_alike s t q (inherited s.fds p child).slots refl (inherited_alike s.fds p child q other))
-      (quiet_same (maps.get s.entries q) (maps.get t.entries q) (other_put s.entries child q other e)) own h
+      (quiet_same (maps.get s.entries q) (maps.get t.entries q) (other_put s.entries child q other e)) task h
 
   -- Answers
 
@@ -139,14 +139,14 @@ module _ (s : Shared) (child p : ℕ) where
   given_calm None e f h = tt
   given_calm (Some x) e f h = h x
 
-  gives_calm : (t : Shared) (b : Body) (at : ℕ) (bytes : List ℕ) (result : ℕ) → Calm t Plain → IsCalm (gives t b at bytes result)
+  gives_calm : (t : Shared) (b : UserState) (at : ℕ) (bytes : List ℕ) (result : ℕ) → Calm t Plain → IsCalm (gives t b at bytes result)
   gives_calm t b at bytes result h = either_calm (is_some (first_fault access.Write b.memory at _)) (Refused efault) (Returns t (with_memory b (written b.memory at bytes)) result) tt h
 
-  leaves_calm : (b : Body) (o : SignalOutcome) → IsCalm (leaves s p b o)
+  leaves_calm : (b : UserState) (o : SignalOutcome) → IsCalm (leaves s p b o)
   leaves_calm b (Err e) = tt
   leaves_calm b (Ok c) = entry_calm _ Plain
 
-  module _ (call : Call) (b : Body) where
+  module _ (call : Call) (b : UserState) where
     sigaction_calm : IsCalm (rt_sigaction s p call b)
     sigaction_calm = given_calm (maps.get s.entries p) esrch _ (λ (e : Entry). leaves_calm b (sigaction e.signals b.memory call))
 
@@ -181,7 +181,7 @@ module _ (s : Shared) (child p : ℕ) where
     clone_calm =
         unless_calm (argument call 0 == fork_flags) einval _
         (given_calm (maps.get s.entries p) esrch (bears s child p call b)
-        (λ e. unless_calm (has_room s child) eagain _ (born_calm (child_entry e p) (child_body b (argument call 1)))))
+        (λ e. unless_calm (has_room s child) eagain _ (born_calm (child_entry e p) (child_user b (argument call 1)))))
 
     reaps_calm : (n word : ℕ) → IsCalm (reaps s b call n word)
     reaps_calm n word =
@@ -207,11 +207,11 @@ module _ (s : Shared) (child p : ℕ) where
         subst (λ o. IsCalm (unwrap_or o (unwrap_or (process_call s child p call b) (Refused enosys)))) (sym no_file)
         (subst (λ o. IsCalm (unwrap_or o (Refused enosys))) (sym answer) calm)
 
-  blocked_calm : (b : Body) (interrupted : Bool) → IsCalm (blocks_or_returns s b interrupted)
+  blocked_calm : (b : UserState) (interrupted : Bool) → IsCalm (blocks_or_returns s b interrupted)
   blocked_calm b true = same_calm Plain
   blocked_calm b false = tt
 
-  interrupted_calm : (b : Body) (a : Answers) → IsCalm a → IsCalm (interruptible s p b a)
+  interrupted_calm : (b : UserState) (a : Answers) → IsCalm a → IsCalm (interruptible s p b a)
   interrupted_calm b (Refused e) h = h
   interrupted_calm b (Returns t c x) h = h
   interrupted_calm b (Jumps t c) h = h
@@ -227,7 +227,7 @@ or_else P false b e left right = right e
 numbered : (a b : ℕ) → (a == b) ≡ true → a ≡ b
 numbered a b h = grind (arith, nat_tests)
 
-module _ (s : Shared) (child p : ℕ) (call : Call) (b : Body) where
+module _ (s : Shared) (child p : ℕ) (call : Call) (b : UserState) where
   abbrev CalledCalm : Type 0
   CalledCalm = IsCalm s child p (called s child p call b)
 
@@ -292,27 +292,27 @@ module _ (s : Shared) (child p : ℕ) (call : Call) (b : Body) where
 -- Turns
 
 -- a calm turn between these stands of its process
-abbrev is_calm : Own Body → Own Body → Bool
+abbrev is_calm : Task UserState → Task UserState → Bool
 is_calm (Alive b stage) (Alive c next) = is_calm_at stage
 is_calm (Alive b stage) (Dying w) = false
 is_calm (Alive b stage) Gone = false
-is_calm (Dying w) own = false
-is_calm Gone own = true
+is_calm (Dying w) task = false
+is_calm Gone task = true
 
 -- an out of a turn from this stand
-abbrev OutCalms : Shared → ℕ → ℕ → Own Body → Out Shared Body → Type 0
-OutCalms s child p own o = is_calm own o.own ≡ true → Calms s o.shared child p p o.event
+abbrev OutCalms : Shared → ℕ → ℕ → Task UserState → Out Shared UserState → Type 0
+OutCalms s child p task o = is_calm task o.task ≡ true → Calms s o.shared child p p o.event
 
-ran_calm : (s : Shared) (child p : ℕ) (b : Body) (stage : Stage) (o : Outcome) (st : Step) → OutCalms s child p (Alive b stage) (stepped linux s p b (ran_by b o st))
+ran_calm : (s : Shared) (child p : ℕ) (b : UserState) (stage : Stage) (o : Outcome) (st : Step) → OutCalms s child p (Alive b stage) (stepped linux s p b (ran_by b o st))
 ran_calm s child p b stage o step.Ran = λ e. same_calm s child p Plain
 ran_calm s child p b stage o step.Call = λ e. same_calm s child p Plain
 ran_calm s child p b stage o (step.Fault kind address) = λ e. same_calm s child p Plain
 
-resumed_calm : (s : Shared) (child p : ℕ) (b : Body) (stage : Stage) (at : Option Interrupted) → OutCalms s child p (Alive b stage) (stepped linux s p b (resumed b at))
+resumed_calm : (s : Shared) (child p : ℕ) (b : UserState) (stage : Stage) (at : Option Interrupted) → OutCalms s child p (Alive b stage) (stepped linux s p b (resumed b at))
 resumed_calm s child p b stage (Some at) = λ e. same_calm s child p Plain
 resumed_calm s child p b stage None = ran_calm s child p b stage (instruction b.hart b.memory) (instruction b.hart b.memory).step
 
-runs_calm : (s : Shared) (child p : ℕ) (b : Body) (stage : Stage) (signal : Option Signal) → OutCalms s child p (Alive b stage) (stepped linux s p b (runs s p b signal))
+runs_calm : (s : Shared) (child p : ℕ) (b : UserState) (stage : Stage) (signal : Option Signal) → OutCalms s child p (Alive b stage) (stepped linux s p b (runs s p b signal))
 runs_calm s child p b stage (Some signal) = λ e. entry_calm s child p _ Plain
 runs_calm s child p b stage None = resumed_calm s child p b stage b.interrupted
 
@@ -322,7 +322,7 @@ joins_calm s child p (Some signal) None = entry_calm s child p _ Plain
 joins_calm s child p None (Some signal) = entry_calm s child p _ Plain
 joins_calm s child p (Some signal) (Some other) = entries_calm s child p _ _ Plain
 
-answered_calm : (s : Shared) (child p : ℕ) (b : Body) (call : Call) (a : Answer Shared Body) → (is_calm_call call.number ≡ true → IsCalm s child p a) → OutCalms s child p (Alive b (Doing call)) (answered linux s child p b call a)
+answered_calm : (s : Shared) (child p : ℕ) (b : UserState) (call : Call) (a : Answer Shared UserState) → (is_calm_call call.number ≡ true → IsCalm s child p a) → OutCalms s child p (Alive b (Doing call)) (answered linux s child p b call a)
 answered_calm s child p b call (Refused x) h = λ e. same_calm s child p Plain
 answered_calm s child p b call (Returns t c x) h = λ e. h e
 answered_calm s child p b call (Jumps t c) h = λ e. h e
@@ -331,25 +331,25 @@ answered_calm s child p b call (Bears t c born) h = λ e. h e
 answered_calm s child p b call Blocks h = λ e. same_calm s child p Plain
 answered_calm s child p b call (Ends w) h = λ e. absurd (cc e)
 
-took_either : (s : Shared) (child p : ℕ) (b : Body) (stage : Stage) (signal : Signal) (cause : Cause) (test : Bool) (x y : Took Shared Body)
+took_either : (s : Shared) (child p : ℕ) (b : UserState) (stage : Stage) (signal : Signal) (cause : Cause) (test : Bool) (x y : Took Shared UserState)
     → OutCalms s child p (Alive b stage) (took linux s p signal cause x) → OutCalms s child p (Alive b stage) (took linux s p signal cause y) → OutCalms s child p (Alive b stage) (took linux s p signal cause (cond test x y))
 took_either s child p b stage signal cause true x y h g = h
 took_either s child p b stage signal cause false x y h g = g
 
-reacts_calm : (s : Shared) (child p : ℕ) (e : Entry) (b : Body) (stage : Stage) (signal : Signal) (cause : Cause) (r : Reaction) → OutCalms s child p (Alive b stage) (took linux s p signal cause (reacts s p e b signal r))
+reacts_calm : (s : Shared) (child p : ℕ) (e : Entry) (b : UserState) (stage : Stage) (signal : Signal) (cause : Cause) (r : Reaction) → OutCalms s child p (Alive b stage) (took linux s p signal cause (reacts s p e b signal r))
 reacts_calm s child p e b stage signal cause reaction.Passes = λ e. same_calm s child p Plain
 reacts_calm s child p e b stage signal cause reaction.Ends = λ e. absurd (cc e)
 reacts_calm s child p e b stage signal cause (reaction.Handles a) = took_either s child p b stage signal cause (is_some (frame_fault b.memory b.hart)) _ _ (λ e. absurd (cc e)) (λ e. entry_calm s child p _ Plain)
 
-takes_at_calm : (s : Shared) (child p : ℕ) (b : Body) (stage : Stage) (signal : Signal) (cause : Cause) (o : Option Entry) → OutCalms s child p (Alive b stage) (took linux s p signal cause (takes_at o s p b signal cause))
+takes_at_calm : (s : Shared) (child p : ℕ) (b : UserState) (stage : Stage) (signal : Signal) (cause : Cause) (o : Option Entry) → OutCalms s child p (Alive b stage) (took linux s p signal cause (takes_at o s p b signal cause))
 takes_at_calm s child p b stage signal cause None = λ e. same_calm s child p Plain
 takes_at_calm s child p b stage signal cause (Some e) = reacts_calm s child p e b stage signal cause (reaction_to e.signals signal cause)
 
-takes_calm : (s : Shared) (child p : ℕ) (b : Body) (stage : Stage) (signal : Signal) (cause : Cause) → OutCalms s child p (Alive b stage) (took linux s p signal cause (takes s p b signal cause))
+takes_calm : (s : Shared) (child p : ℕ) (b : UserState) (stage : Stage) (signal : Signal) (cause : Cause) → OutCalms s child p (Alive b stage) (took linux s p signal cause (takes s p b signal cause))
 unfolding takes
 takes_calm s child p b stage signal cause = takes_at_calm s child p b stage signal cause (maps.get s.entries p)
 
-lives_calm : (c : Choice) (s : Shared) (child p : ℕ) (b : Body) (stage : Stage) → OutCalms s child p (Alive b stage) (lives linux c s child p b stage)
+lives_calm : (c : Choice) (s : Shared) (child p : ℕ) (b : UserState) (stage : Stage) → OutCalms s child p (Alive b stage) (lives linux c s child p b stage)
 lives_calm c s child p b Born = λ e. same_calm s child p Plain
 lives_calm c s child p b Run = runs_calm s child p b Run (next_of (maps.get s.entries p))
 lives_calm c s child p b (Faulting signal cause) = λ e. same_calm s child p Plain
@@ -361,25 +361,25 @@ lives_calm c s child p b Finished = λ e. same_calm s child p Plain
 lives_calm c s child p b (Taken signal cause) = takes_calm s child p b (Taken signal cause) signal cause
 lives_calm c s child p b Dropped = λ e. same_calm s child p Plain
 
-killed_calm : (killed : Bool) (c : Choice) (s : Shared) (child p : ℕ) (b : Body) (stage : Stage) → OutCalms s child p (Alive b stage) (killed_or killed linux c s child p b stage)
+killed_calm : (killed : Bool) (c : Choice) (s : Shared) (child p : ℕ) (b : UserState) (stage : Stage) → OutCalms s child p (Alive b stage) (killed_or killed linux c s child p b stage)
 killed_calm true c s child p b stage = λ e. absurd (cc e)
 killed_calm false c s child p b stage = lives_calm c s child p b stage
 
-turn_calm : (c : Choice) (s : Shared) (child p : ℕ) (own : Own Body) → OutCalms s child p own (turn linux c s child p own)
+turn_calm : (c : Choice) (s : Shared) (child p : ℕ) (task : Task UserState) → OutCalms s child p task (turn linux c s child p task)
 turn_calm c s child p (Alive b stage) = killed_calm (is_killed (maps.get s.entries p)) c s child p b stage
 turn_calm c s child p (Dying w) = λ e. absurd (cc e)
 turn_calm c s child p Gone = λ e. same_calm s child p Plain
 
 -- a turn of a living process that goes on
-pub on_calm : (c : Choice) (s : Shared) (child p : ℕ) (b : Body) (stage : Stage) (done : Effect) (t : Shared) (d : Body) (next : Stage) (item : Option Item) → turned (turn linux c s child p (Alive b stage)) ≡ turned_by (On done) t d p stage next item → is_calm_at stage ≡ true → Calms s t child p p (event_of done)
+pub on_calm : (c : Choice) (s : Shared) (child p : ℕ) (b : UserState) (stage : Stage) (done : Effect) (t : Shared) (d : UserState) (next : Stage) (item : Option Item) → turned (turn linux c s child p (Alive b stage)) ≡ turned_by (On done) t d p stage next item → is_calm_at stage ≡ true → Calms s t child p p (event_of done)
 on_calm c s child p b stage done t d next item e calm =
-    let o : Out Shared Body = turn linux c s child p (Alive b stage) in
+    let o : Out Shared UserState = turn linux c s child p (Alive b stage) in
     subst (λ (x : Shared). Calms s x child p p (event_of done)) (ap (λ (x : Turned). x.shared) e)
-    (subst (λ (x : Event Body). Calms s o.shared child p p x) (ap (λ (x : Turned). x.event) e)
-    (turn_calm c s child p (Alive b stage) (ap (λ (x : Turned). is_calm (Alive b stage) x.own) e ∙ calm)))
+    (subst (λ (x : Event UserState). Calms s o.shared child p p x) (ap (λ (x : Turned). x.event) e)
+    (turn_calm c s child p (Alive b stage) (ap (λ (x : Turned). is_calm (Alive b stage) x.task) e ∙ calm)))
 
 -- and one that has none
-pub gone_calm : (s : Shared) (child p : ℕ) (event : Event Body) → Calms s s child p p event
+pub gone_calm : (s : Shared) (child p : ℕ) (event : Event UserState) → Calms s s child p p event
 gone_calm s child p event = same_calm s child p event
 
 -- The end of a process
@@ -440,11 +440,11 @@ all_other tree fds p q fd ne false e = refl
 
 -- where each description stays, each other process rests on
 pub end_calm : (s : Shared) (child p w : ℕ) → AreEndsKept s.fds (dies s p w).fds → Calms s (dies s p w) child p p Plain
-end_calm s child p w kept = λ q ne still unborn own h.
+end_calm s child p w kept = λ q ne still unborn task h.
     let t : Shared = dies s p w in
     rests_on s t q
     (waits_alike s t q t.fds.slots (λ i. record { slots = t.fds.slots; descriptions = kept.0 i; pipes = kept.1 i }) (λ fd. all_other s.tree s.fds p q fd ne (nat_lt fd 256) refl))
-    (quiet_same (maps.get s.entries q) (maps.get t.entries q) (entry_other s.entries p q _ (maps.get s.entries p) ne)) own h
+    (quiet_same (maps.get s.entries q) (maps.get t.entries q) (entry_other s.entries p q _ (maps.get s.entries p) ne)) task h
 
 -- Burial
 
@@ -496,9 +496,9 @@ buried_quiet m p w q (Some e) ne other h =
 -- who isn't told of a burial rests on
 pub burial_calm : (s : Shared) (child p w : ℕ) → Calms s (buried s p w) child p (told_by p (maps.get s.entries p)) Plain
 unfolding buried
-burial_calm s child p w = λ q ne other unborn own h.
+burial_calm s child p w = λ q ne other unborn task h.
     let t : Shared = with_entries s (buried_entry s.entries p w (maps.get s.entries p)) in
-    rests_on s t q (waits_same s t q refl) (buried_quiet s.entries p w q (maps.get s.entries p) ne other) own h
+    rests_on s t q (waits_same s t q refl) (buried_quiet s.entries p w q (maps.get s.entries p) ne other) task h
 
 pub told_calm : (s t : Shared) (child p w : ℕ) → t ≡ buried s p w → (roused : ℕ) → roused ≡ told_by p (maps.get s.entries p) → Calms s t child p roused Plain
 told_calm s t child p w is roused told =

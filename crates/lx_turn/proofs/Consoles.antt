@@ -15,10 +15,10 @@ use Rattle.lx_model.specs.Turn.{Out, turn, killed_or, lives, stepped, answered, 
 use Rattle.lx_model.specs.Finite.{item_of}
 use Rattle.lx_model.specs.declared.stage.Stage.{Stage}
 use Rattle.lx_model.specs.declared.stage.Stage.TheVariants.{Born, Run, Faulting, Entered, Doing, Replaced, Acted, Finished, Taken, Dropped}
-use Rattle.lx_model.specs.declared.stage.Own.{Own}
-use Rattle.lx_model.specs.declared.stage.Own.TheVariants.{Alive, Dying, Gone}
+use Rattle.lx_model.specs.declared.stage.Task.{Task}
+use Rattle.lx_model.specs.declared.stage.Task.TheVariants.{Alive, Dying, Gone}
 use Rattle.lx_proc.specs.declared.state.Shared.{Shared}
-use Rattle.lx_proc.specs.declared.state.Body.{Body}
+use Rattle.lx_proc.specs.declared.state.UserState.{UserState}
 use Rattle.lx_sig.specs.declared.state.Interrupted.{Interrupted}
 use Rattle.lx_turn.specs.Calls.{does}
 use Rattle.lx_turn.specs.Turned.{Turned, turned, turned_by}
@@ -32,23 +32,23 @@ on_err P (Ok x) h = tt
 on_err P (Err e) h = h
 
 -- an out that logs has the console of what was shared
-abbrev Keeps : Shared → Out Shared Body → Type 0
+abbrev Keeps : Shared → Out Shared UserState → Type 0
 Keeps s o = (i : Item) → item_of o ≡ Some i → o.shared.console ≡ s.console
 
-ran_keeps : (s : Shared) (p : ℕ) (b : Body) (o : Outcome) (st : Step) → Keeps s (stepped linux s p b (ran_by b o st))
+ran_keeps : (s : Shared) (p : ℕ) (b : UserState) (o : Outcome) (st : Step) → Keeps s (stepped linux s p b (ran_by b o st))
 ran_keeps s p b o step.Ran = λ i e. absurd (cc e)
 ran_keeps s p b o step.Call = λ i e. refl
 ran_keeps s p b o (step.Fault kind address) = λ i e. absurd (cc e)
 
-resumed_keeps : (s : Shared) (p : ℕ) (b : Body) (at : Option Interrupted) → Keeps s (stepped linux s p b (resumed b at))
+resumed_keeps : (s : Shared) (p : ℕ) (b : UserState) (at : Option Interrupted) → Keeps s (stepped linux s p b (resumed b at))
 resumed_keeps s p b (Some at) = λ i e. absurd (cc e)
 resumed_keeps s p b None = ran_keeps s p b (instruction b.hart b.memory) (instruction b.hart b.memory).step
 
-runs_keep : (s : Shared) (p : ℕ) (b : Body) (signal : Option Signal) → Keeps s (stepped linux s p b (runs s p b signal))
+runs_keep : (s : Shared) (p : ℕ) (b : UserState) (signal : Option Signal) → Keeps s (stepped linux s p b (runs s p b signal))
 runs_keep s p b (Some signal) = λ i e. refl
 runs_keep s p b None = resumed_keeps s p b b.interrupted
 
-answered_keeps : (s : Shared) (child p : ℕ) (b : Body) (call : Call) (a : Answer Shared Body) → Keeps s (answered linux s child p b call a)
+answered_keeps : (s : Shared) (child p : ℕ) (b : UserState) (call : Call) (a : Answer Shared UserState) → Keeps s (answered linux s child p b call a)
 answered_keeps s child p b call (Refused x) = λ i e. absurd (cc e)
 answered_keeps s child p b call (Returns t c x) = λ i e. absurd (cc e)
 answered_keeps s child p b call (Jumps t c) = λ i e. absurd (cc e)
@@ -57,11 +57,11 @@ answered_keeps s child p b call (Bears t c born) = λ i e. absurd (cc e)
 answered_keeps s child p b call Blocks = λ i e. absurd (cc e)
 answered_keeps s child p b call (Ends w) = λ i e. refl
 
-took_keeps : (s : Shared) (p : ℕ) (signal : Signal) (cause : Cause) (t : Took Shared Body) → Keeps s (took linux s p signal cause t)
+took_keeps : (s : Shared) (p : ℕ) (signal : Signal) (cause : Cause) (t : Took Shared UserState) → Keeps s (took linux s p signal cause t)
 took_keeps s p signal cause (Passes t c) = λ i e. absurd (cc e)
 took_keeps s p signal cause (Kills w) = λ i e. refl
 
-lives_keeps : (c : Choice) (s : Shared) (child p : ℕ) (b : Body) (stage : Stage) → Keeps s (lives linux c s child p b stage)
+lives_keeps : (c : Choice) (s : Shared) (child p : ℕ) (b : UserState) (stage : Stage) → Keeps s (lives linux c s child p b stage)
 lives_keeps c s child p b Born = λ i e. absurd (cc e)
 lives_keeps c s child p b Run = runs_keep s p b (next_of (maps.get s.entries p))
 lives_keeps c s child p b (Faulting signal cause) = λ i e. refl
@@ -73,17 +73,17 @@ lives_keeps c s child p b Finished = λ i e. absurd (cc e)
 lives_keeps c s child p b (Taken signal cause) = took_keeps s p signal cause (takes s p b signal cause)
 lives_keeps c s child p b Dropped = λ i e. absurd (cc e)
 
-killed_keeps : (killed : Bool) (c : Choice) (s : Shared) (child p : ℕ) (b : Body) (stage : Stage) → Keeps s (killed_or killed linux c s child p b stage)
+killed_keeps : (killed : Bool) (c : Choice) (s : Shared) (child p : ℕ) (b : UserState) (stage : Stage) → Keeps s (killed_or killed linux c s child p b stage)
 killed_keeps true c s child p b stage = λ i e. refl
 killed_keeps false c s child p b stage = lives_keeps c s child p b stage
 
-pub turn_keeps : (c : Choice) (s : Shared) (child p : ℕ) (own : Own Body) (i : Item) → item_of (turn linux c s child p own) ≡ Some i → (turn linux c s child p own).shared.console ≡ s.console
+pub turn_keeps : (c : Choice) (s : Shared) (child p : ℕ) (task : Task UserState) (i : Item) → item_of (turn linux c s child p task) ≡ Some i → (turn linux c s child p task).shared.console ≡ s.console
 turn_keeps c s child p (Alive b stage) = killed_keeps (is_killed (maps.get s.entries p)) c s child p b stage
 turn_keeps c s child p (Dying w) = λ i e. absurd (cc e)
 turn_keeps c s child p Gone = λ i e. absurd (cc e)
 
 -- and one in which a process ends has left it before
-pub end_keeps : (c : Choice) (s t : Shared) (child p w : ℕ) (own : Own Body) (b : Body) (stage next : Stage) (o : Option Item) → turned (turn linux c s child p own) ≡ turned_by (Ended w) t b p stage next o → t.console ≡ s.console
-end_keeps c s t child p w own b stage next o e =
+pub end_keeps : (c : Choice) (s t : Shared) (child p w : ℕ) (task : Task UserState) (b : UserState) (stage next : Stage) (o : Option Item) → turned (turn linux c s child p task) ≡ turned_by (Ended w) t b p stage next o → t.console ≡ s.console
+end_keeps c s t child p w task b stage next o e =
     ap (λ (x : Turned). x.shared.console) (sym e)
-    ∙ turn_keeps c s child p own (item.Exit p w (stage_mode stage)) (ap (λ (x : Turned). x.item) e)
+    ∙ turn_keeps c s child p task (item.Exit p w (stage_mode stage)) (ap (λ (x : Turned). x.item) e)

@@ -10,15 +10,15 @@ use Rattle.lx_files.specs.Limits.{largest_file}
 use Rattle.lx_files.specs.Trees.{content, has_room, is_empty}
 use Rattle.lx_files.specs.Places.{path_of, seen}
 use Rattle.lx_files.specs.declared.places.Place.{Place}
-use Rattle.lx_files.specs.declared.places.Sight.{Sight}
-use Rattle.lx_files.specs.declared.places.Sight.TheVariants.{Absent, IsFile, IsDirectory, NotDirectory}
+use Rattle.lx_files.specs.declared.places.Lookup.{Lookup}
+use Rattle.lx_files.specs.declared.places.Lookup.TheVariants.{Absent, IsFile, IsDirectory, NotDirectory}
 use Rattle.lx_open.specs.Opens as opens
 use Rattle.lx_open.specs.declared.description.Object.{Object}
 use Rattle.lx_open.specs.declared.description.Object.TheVariants.{Input, Console, ReadEnd, WriteEnd, Opened}
 use Rattle.lx_open.specs.declared.description.Description.{Description}
 use Rattle.lx_open.specs.declared.description.Slot.{Slot}
 use Rattle.lx_proc.specs.declared.state.Shared.{Shared}
-use Rattle.lx_proc.specs.declared.state.Body.{Body}
+use Rattle.lx_proc.specs.declared.state.UserState.{UserState}
 use Rattle.lx_open.specs.declared.fd_table.FdTable.{FdTable}
 use Rattle.std.specs.Int.{w32, to_le_bytes}
 use Rattle.lx_proc.specs.State.{directory, with_fds}
@@ -49,7 +49,7 @@ use Rattle.rv_mem.specs.declared.rights.Access.TheVariants as access
 use Rattle.lx_turn.specs.Fitting.{Fits}
 use Rattle.lx_turn.proofs.Plainness.{Plain, plain_fits, either_plain, unless_plain, given_plain, granted_plain, gives_plain}
 
-module _ (s : Shared) (p : ℕ) (call : Call) (b : Body) where
+module _ (s : Shared) (p : ℕ) (call : Call) (b : UserState) where
   close_plain : Plain false s (close s p call b)
   unfolding close
   close_plain = given_plain false s (opens.slot s.fds p (low_argument call 0)) ebadf _ (λ named. refl)
@@ -100,7 +100,7 @@ module _ (s : Shared) (p : ℕ) (call : Call) (b : Body) where
       unless_plain false s (nat_lt (argument call 1) (2 ^ 63)) einval _ (given_plain false s (opens.slot s.fds p (low_argument call 0)) ebadf _ (λ named. given_plain false s (opens.description s.fds named.description) ebadf _ (λ d.
       unless_plain false s d.may_write einval _ (truncates_plain (argument call 1) d.object))))
 
-  makes_plain : (path : List ℕ) (sight : Sight) → Plain false s (makes s b path sight)
+  makes_plain : (path : List ℕ) (sight : Lookup) → Plain false s (makes s b path sight)
   makes_plain path Absent = unless_plain false s (has_room s.tree) enospc _ refl
   makes_plain path IsFile = tt
   makes_plain path IsDirectory = tt
@@ -110,13 +110,13 @@ module _ (s : Shared) (p : ℕ) (call : Call) (b : Body) where
   unfolding mkdirat
   mkdirat_plain = granted_plain false s (place_at s p b (low_argument call 0) (argument call 1)) _ (λ place. makes_plain (path_of place) (seen s.tree place))
 
-  removes_file_plain : (path : List ℕ) (sight : Sight) → Plain false s (removes_file s b path sight)
+  removes_file_plain : (path : List ℕ) (sight : Lookup) → Plain false s (removes_file s b path sight)
   removes_file_plain path Absent = tt
   removes_file_plain path IsFile = refl
   removes_file_plain path IsDirectory = tt
   removes_file_plain path NotDirectory = tt
 
-  removes_directory_plain : (path : List ℕ) (sight : Sight) → Plain false s (removes_directory s b path sight)
+  removes_directory_plain : (path : List ℕ) (sight : Lookup) → Plain false s (removes_directory s b path sight)
   removes_directory_plain path Absent = tt
   removes_directory_plain path IsFile = tt
   removes_directory_plain path NotDirectory = tt
@@ -135,7 +135,7 @@ module _ (s : Shared) (p : ℕ) (call : Call) (b : Body) where
   unlinkat_plain =
       unless_plain false s (is_within (argument call 2) at_removedir) einval _ (granted_plain false s (place_at s p b (low_argument call 0) (argument call 1)) _ (λ place. unlinks_plain (has (argument call 2) at_removedir) place))
 
-  goes_plain : (path : List ℕ) (sight : Sight) → Plain false s (goes_to s p b path sight)
+  goes_plain : (path : List ℕ) (sight : Lookup) → Plain false s (goes_to s p b path sight)
   goes_plain path Absent = tt
   goes_plain path IsFile = tt
   goes_plain path NotDirectory = tt
@@ -149,7 +149,7 @@ module _ (s : Shared) (p : ℕ) (call : Call) (b : Body) where
   unfolding getcwd
   getcwd_plain = unless_plain false s (nat_le (length (shown (directory s p))) (argument call 1)) erange _ (gives_plain false s s b _ _ _ refl)
 
-  opens_plain : (flags : ℕ) (place : Place) (sight : Sight) → Plain false s (opens_seen s p b flags place sight)
+  opens_plain : (flags : ℕ) (place : Place) (sight : Lookup) → Plain false s (opens_seen s p b flags place sight)
   opens_plain flags place Absent =
       unless_plain false s (has flags o_creat) enoent _ (unless_plain false s (not place.slashed) eisdir _ (given_plain false s (opens.free s.fds.slots p) emfile _ (λ fd. unless_plain false s (has_room s.tree) enospc _ refl)))
   opens_plain flags place IsFile =
@@ -174,7 +174,7 @@ module _ (s : Shared) (p : ℕ) (call : Call) (b : Body) where
   unfolding fstat
   fstat_plain = given_plain false s (opens.slot s.fds p (low_argument call 0)) ebadf _ (λ named. given_plain false s (opens.description s.fds named.description) ebadf _ (λ d. tells_object_plain (argument call 1) d.object))
 
-  tells_plain : (at : ℕ) (path : List ℕ) (sight : Sight) → Plain false s (tells s b at path sight)
+  tells_plain : (at : ℕ) (path : List ℕ) (sight : Lookup) → Plain false s (tells s b at path sight)
   tells_plain at path Absent = tt
   tells_plain at path IsFile = gives_plain false s s b _ _ _ refl
   tells_plain at path IsDirectory = gives_plain false s s b _ _ _ refl

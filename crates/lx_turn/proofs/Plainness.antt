@@ -9,7 +9,7 @@ use Rattle.lx_abi.specs.Errnos.{efault}
 use Rattle.lx_abi.specs.declared.log.Call.{Call}
 use Rattle.lx_model.specs.Machine.{Refused, Returns, Jumps, Execs, Bears, Blocks, Ends}
 use Rattle.lx_proc.specs.declared.state.Shared.{Shared}
-use Rattle.lx_proc.specs.declared.state.Body.{Body}
+use Rattle.lx_proc.specs.declared.state.UserState.{UserState}
 use Rattle.lx_proc.specs.State.{with_memory}
 use Rattle.lx_proc.specs.Answers.{Answers, unless, given, granted, gives, is_blocked}
 use Rattle.lx_turn.specs.Fitting.{Fits}
@@ -62,5 +62,5 @@ module _ (waits : Bool) (s : Shared) where
   granted_plain (Err e) f h = tt
   granted_plain (Ok x) f h = h x
 
-  pub gives_plain : (t : Shared) (b : Body) (at : ℕ) (bytes : List ℕ) (result : ℕ) → t.ended ≡ s.ended → IsPlain (gives t b at bytes result)
+  pub gives_plain : (t : Shared) (b : UserState) (at : ℕ) (bytes : List ℕ) (result : ℕ) → t.ended ≡ s.ended → IsPlain (gives t b at bytes result)
   gives_plain t b at bytes result h = either_plain (is_some (first_fault access.Write b.memory at (length bytes))) (Refused efault) (Returns t (with_memory b (written b.memory at bytes)) result) tt h

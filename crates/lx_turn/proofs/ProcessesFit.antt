@@ -26,7 +26,7 @@ use Rattle.lx_files.specs.Places.{place, path_of}
 use Rattle.lx_files.specs.Trees.{node_at}
 use Rattle.lx_files.specs.declared.places.Place.{Place}
 use Rattle.lx_proc.specs.declared.state.Shared.{Shared}
-use Rattle.lx_proc.specs.declared.state.Body.{Body}
+use Rattle.lx_proc.specs.declared.state.UserState.{UserState}
 use Rattle.lx_proc.specs.declared.state.Entry.{Entry}
 use Rattle.lx_proc.specs.State.{last_pid, with_entries, directory}
 use Rattle.lx_proc.specs.Starts.{start_limit}
@@ -56,7 +56,7 @@ use Rattle.lx_turn.proofs.Plainness.{Plain, plain_fits, plain_never, either_plai
 numbered : (a b : ℕ) → (a == b) ≡ true → a ≡ b
 numbered a b h = grind (arith, nat_tests)
 
-leaves_plain : (s : Shared) (p : ℕ) (b : Body) (o : Outcome) → Plain false s (leaves s p b o)
+leaves_plain : (s : Shared) (p : ℕ) (b : UserState) (o : Outcome) → Plain false s (leaves s p b o)
 leaves_plain s p b (Err e) = tt
 leaves_plain s p b (Ok c) = refl
 
@@ -69,7 +69,7 @@ sent_words : (s : Shared) (p target : ℕ) (signal : Option Signal) → (sends s
 sent_words s p target None = refl
 sent_words s p target (Some signal) = refl
 
-module _ (s : Shared) (child p : ℕ) (call : Call) (b : Body) where
+module _ (s : Shared) (child p : ℕ) (call : Call) (b : UserState) where
   kills_plain : (a : Aim) → Plain false s (kills s p b a)
   kills_plain a = given_plain false s (maps.get s.entries a.pid) esrch _ (λ e. sent_words s p a.pid a.signal)
 

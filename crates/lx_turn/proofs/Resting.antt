@@ -7,15 +7,15 @@ use Rattle.std.specs.List.{range_with_len}
 use Rattle.std.specs.FinMap as maps
 use Rattle.lx_abi.specs.declared.log.Call.{Call}
 use Rattle.lx_model.specs.declared.stage.Stage.TheVariants.{Born, Run, Faulting, Entered, Doing, Replaced, Acted, Finished, Taken, Dropped}
-use Rattle.lx_model.specs.declared.stage.Own.{Own}
-use Rattle.lx_model.specs.declared.stage.Own.TheVariants.{Alive, Dying, Gone}
+use Rattle.lx_model.specs.declared.stage.Task.{Task}
+use Rattle.lx_model.specs.declared.stage.Task.TheVariants.{Alive, Dying, Gone}
 use Rattle.lx_open.specs.Kinds.{SlotMap}
 use Rattle.lx_open.specs.declared.description.Slot.{Slot}
 use Rattle.lx_open.specs.declared.fd_table.FdTable.{FdTable}
 use Rattle.lx_open.specs.Opens.{pair, slot, inherited, inherited_each, inherited_slot}
 use Rattle.lx_proc.specs.declared.state.Entry.{Entry}
 use Rattle.lx_proc.specs.declared.state.Shared.{Shared}
-use Rattle.lx_proc.specs.declared.state.Body.{Body}
+use Rattle.lx_proc.specs.declared.state.UserState.{UserState}
 use Rattle.lx_proc.specs.State.{Entries, changed_entry}
 use Rattle.lx_proc.specs.Answers.{argument, low_argument}
 use Rattle.lx_fcalls.specs.Blocking.{would_block, read_would_block, write_would_block, open_passes, passes, read_waits, write_waits}
@@ -33,9 +33,9 @@ join true b e h = h
 join false b e h = absurd (cc e)
 
 -- a process rests on where its call still waits and no signal has come
-pub rests_on : (s s' : Shared) (q : ℕ) → ((call : Call) (b : Body) → would_block s' q call b ≡ would_block s q call b)
+pub rests_on : (s s' : Shared) (q : ℕ) → ((call : Call) (b : UserState) → would_block s' q call b ≡ would_block s q call b)
     → (is_quiet (maps.get s.entries q) ≡ true → is_quiet (maps.get s'.entries q) ≡ true)
-    → (own : Own Body) → rests s q own ≡ true → rests s' q own ≡ true
+    → (task : Task UserState) → rests s q task ≡ true → rests s' q task ≡ true
 unfolding rests
 rests_on s s' q waits quiet (Alive b Born) e = e
 rests_on s s' q waits quiet (Alive b Run) e = e
@@ -56,7 +56,7 @@ rests_on s s' q waits quiet Gone e = e
 
 -- with the same descriptions and pipes, a call waits as what its process's descriptors name
 pub waits_alike : (s s' : Shared) (q : ℕ) (slots : SlotMap) → s'.fds ≡ record s.fds { slots = slots } → ((fd : ℕ) → slot (record s.fds { slots = slots }) q fd ≡ slot s.fds q fd)
-    → (call : Call) (b : Body) → would_block s' q call b ≡ would_block s q call b
+    → (call : Call) (b : UserState) → would_block s' q call b ≡ would_block s q call b
 unfolding would_block read_would_block write_would_block
 waits_alike s s' q slots is same call b =
     let fds : FdTable = record s.fds { slots = slots } in
@@ -69,7 +69,7 @@ waits_alike s s' q slots is same call b =
     else if call.number == 64 then passes (λ named. passes (write_waits s.fds b.memory (argument call 1) n) (description s.fds named.description)) o
     else false) (same fd)
 
-pub waits_same : (s s' : Shared) (q : ℕ) → s'.fds ≡ s.fds → (call : Call) (b : Body) → would_block s' q call b ≡ would_block s q call b
+pub waits_same : (s s' : Shared) (q : ℕ) → s'.fds ≡ s.fds → (call : Call) (b : UserState) → would_block s' q call b ≡ would_block s q call b
 waits_same s s' q is = waits_alike s s' q s.fds.slots is (λ fd. refl)
 
 -- A child's descriptors are no other's.

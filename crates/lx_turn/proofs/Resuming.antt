@@ -18,7 +18,7 @@ use Rattle.lx_model.specs.Machine.{call_of}
 use Rattle.lx_model.specs.Turn.{stepped}
 use Rattle.lx_model.specs.declared.stage.Stage.TheVariants.{Entered, Faulting}
 use Rattle.lx_proc.specs.declared.state.Shared.{Shared}
-use Rattle.lx_proc.specs.declared.state.Body.{Body}
+use Rattle.lx_proc.specs.declared.state.UserState.{UserState}
 use Rattle.lx_proc.specs.Registers.{regs}
 use Rattle.lx_turn.specs.Linux.{linux}
 use Rattle.lx_turn.specs.Reactions.{stepped_by, fault_signal}
@@ -30,8 +30,8 @@ same_signal a b e =
     let pairs : ◌≡◌ {A = (n : ℕ) × (is_signal n ≡ true)} (a.number, a.in_range) (b.number, b.in_range) = Σ_prop_path (λ n. Bool-set (is_signal n) true) e in
     λ i. record { number = (pairs i).0; in_range = (pairs i).1 }
 
-module _ (s : Shared) (p : ℕ) (b : Body) (h : Hart) (m : Memory) where
-  abbrev after : Body
+module _ (s : Shared) (p : ℕ) (b : UserState) (h : Hart) (m : Memory) where
+  abbrev after : UserState
   after = record b { hart = h; memory = m }
 
   pub stepped_call : (call : Call) → hart.stepped b.hart b.memory ≡ outcome step.Call h m → call ≡ call_of (regs after)

@@ -8,7 +8,7 @@ use Rattle.lx_abi.specs.Errnos.{enosys}
 use Rattle.lx_abi.specs.declared.log.Call.{Call}
 use Rattle.lx_model.specs.Machine.{Refused, Returns, Jumps, Execs, Bears, Blocks, Ends}
 use Rattle.lx_proc.specs.declared.state.Shared.{Shared}
-use Rattle.lx_proc.specs.declared.state.Body.{Body}
+use Rattle.lx_proc.specs.declared.state.UserState.{UserState}
 use Rattle.lx_proc.specs.Answers.{Answers, is_blocked}
 use Rattle.lx_fcalls.specs.Calls.{file_call}
 use Rattle.lx_fcalls.specs.Blocking.{would_block as file_would_block, passes}
@@ -19,11 +19,11 @@ use Rattle.lx_turn.specs.Calls.{does, called}
 use Rattle.lx_fcalls.proofs.FileBlocking.{file_blocks}
 use Rattle.lx_pcalls.proofs.Blocking.{process_blocks}
 
-blocked_or_returned : (s : Shared) (b : Body) (interrupted : Bool) → is_blocked (blocks_or_returns s b interrupted) ≡ not interrupted
+blocked_or_returned : (s : Shared) (b : UserState) (interrupted : Bool) → is_blocked (blocks_or_returns s b interrupted) ≡ not interrupted
 blocked_or_returned s b true = refl
 blocked_or_returned s b false = refl
 
-interrupted_waits : (s : Shared) (p : ℕ) (b : Body) (a : Answers) → is_blocked (interruptible s p b a) ≡ (is_blocked a && not (is_interrupted (maps.get s.entries p)))
+interrupted_waits : (s : Shared) (p : ℕ) (b : UserState) (a : Answers) → is_blocked (interruptible s p b a) ≡ (is_blocked a && not (is_interrupted (maps.get s.entries p)))
 interrupted_waits s p b (Refused e) = refl
 interrupted_waits s p b (Returns t c x) = refl
 interrupted_waits s p b (Jumps t c) = refl
@@ -36,11 +36,11 @@ interrupted_waits s p b (Ends w) = refl
 numbered : (n : ℕ) → (n == 260) ≡ true → n ≡ 260
 numbered n h = grind (arith, nat_tests)
 
-no_file_call : (s : Shared) (p : ℕ) (call : Call) (b : Body) → call.number ≡ 260 → file_call s p call b ≡ None
+no_file_call : (s : Shared) (p : ℕ) (call : Call) (b : UserState) → call.number ≡ 260 → file_call s p call b ≡ None
 unfolding file_call
 no_file_call s p call b h = rw h refl
 
-other_by : (s : Shared) (p : ℕ) (call : Call) (b : Body) (a : Answers) (is : Bool) → (call.number == 260) ≡ is → file_call s p call b ≡ Some a → process_would_block s p call ≡ false
+other_by : (s : Shared) (p : ℕ) (call : Call) (b : UserState) (a : Answers) (is : Bool) → (call.number == 260) ≡ is → file_call s p call b ≡ Some a → process_would_block s p call ≡ false
 unfolding process_would_block
 other_by s p call b a true h e = let none : ◌≡◌ {A = Option Answers} None (Some a) = sym (no_file_call s p call b (numbered call.number h)) ∙ e in absurd (cc none)
 other_by s p call b a false h e = rw h refl
@@ -53,7 +53,7 @@ or_false : (b : Bool) → (b || false) ≡ b
 or_false true = refl
 or_false false = refl
 
-called_waits : (s : Shared) (child p : ℕ) (call : Call) (b : Body) (o : Option Answers) → file_call s p call b ≡ o → is_blocked (unwrap_or o (unwrap_or (process_call s child p call b) (Refused enosys))) ≡ (file_would_block s p call b || process_would_block s p call)
+called_waits : (s : Shared) (child p : ℕ) (call : Call) (b : UserState) (o : Option Answers) → file_call s p call b ≡ o → is_blocked (unwrap_or o (unwrap_or (process_call s child p call b) (Refused enosys))) ≡ (file_would_block s p call b || process_would_block s p call)
 called_waits s child p call b None e =
     process_waits (process_call s child p call b) ∙ process_blocks s child p call b
     ∙ ap (λ w. w || process_would_block s p call) (sym (sym (file_blocks s p call b) ∙ ap (passes is_blocked) e))
@@ -62,7 +62,7 @@ called_waits s child p call b (Some a) e =
     ∙ ap (λ w. is_blocked a || w) (sym (other_by s p call b a (call.number == 260) refl e))
     ∙ ap (λ w. w || process_would_block s p call) (sym (sym (file_blocks s p call b) ∙ ap (passes is_blocked) e))
 
-pub does_waits : (s : Shared) (child p : ℕ) (call : Call) (b : Body) → is_blocked (does s child p call b) ≡ would_block s p call b
+pub does_waits : (s : Shared) (child p : ℕ) (call : Call) (b : UserState) → is_blocked (does s child p call b) ≡ would_block s p call b
 unfolding does would_block
 does_waits s child p call b =
     interrupted_waits s p b (called s child p call b)

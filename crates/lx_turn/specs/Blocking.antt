@@ -4,21 +4,21 @@ use Rattle.std.specs.FinMap as maps
 use Rattle.lx_abi.specs.declared.log.Call.{Call}
 use Rattle.lx_model.specs.declared.stage.Stage.{Stage}
 use Rattle.lx_model.specs.declared.stage.Stage.TheVariants.{Born, Run, Faulting, Entered, Doing, Replaced, Acted, Finished, Taken, Dropped}
-use Rattle.lx_model.specs.declared.stage.Own.{Own}
-use Rattle.lx_model.specs.declared.stage.Own.TheVariants.{Alive, Dying, Gone}
+use Rattle.lx_model.specs.declared.stage.Task.{Task}
+use Rattle.lx_model.specs.declared.stage.Task.TheVariants.{Alive, Dying, Gone}
 use Rattle.lx_proc.specs.declared.state.Shared.{Shared}
-use Rattle.lx_proc.specs.declared.state.Body.{Body}
+use Rattle.lx_proc.specs.declared.state.UserState.{UserState}
 use Rattle.lx_fcalls.specs.Blocking.{would_block as file_would_block}
 use Rattle.lx_pcalls.specs.Calls.{would_block as process_would_block}
 use Rattle.lx_pcalls.specs.Interruption.{is_interrupted}
 use Rattle.lx_turn.specs.Reactions.{is_killed}
 
 -- the call would wait, and nothing interrupts it
-unfoldable pub would_block : Shared → ℕ → Call → Body → Bool
+unfoldable pub would_block : Shared → ℕ → Call → UserState → Bool
 would_block s p call b = (file_would_block s p call b || process_would_block s p call) && not (is_interrupted (maps.get s.entries p))
 
 -- a process at this stage does nothing but wait
-abbrev pub waits : Shared → ℕ → Body → Stage → Bool
+abbrev pub waits : Shared → ℕ → UserState → Stage → Bool
 waits s p b Born = false
 waits s p b Run = false
 waits s p b (Faulting signal cause) = false
@@ -31,7 +31,7 @@ waits s p b (Taken signal cause) = false
 waits s p b Dropped = false
 
 -- a turn of the process does something
-unfoldable pub can_turn : Shared → ℕ → Own Body → Bool
+unfoldable pub can_turn : Shared → ℕ → Task UserState → Bool
 can_turn s p (Alive b stage) = is_killed (maps.get s.entries p) || not (waits s p b stage)
 can_turn s p (Dying w) = true
 can_turn s p Gone = false

@@ -5,5 +5,5 @@ pub mod Fitting
 pub mod Blocking
 pub mod Modes
 pub mod Resting
-pub mod Tampering
+pub mod Injection
 pub mod Turned

@@ -3,14 +3,14 @@ use Rattle.std.specs.FinMap as maps
 use Rattle.rv_mem.specs.Memory.{mapped_prefix}
 use Rattle.lx_model.specs.Machine.{Machine}
 use Rattle.lx_proc.specs.declared.state.Shared.{Shared}
-use Rattle.lx_proc.specs.declared.state.Body.{Body}
+use Rattle.lx_proc.specs.declared.state.UserState.{UserState}
 use Rattle.lx_proc.specs.Registers.{regs, with_regs}
 use Rattle.lx_pcalls.specs.Taking.{takes}
 use Rattle.lx_turn.specs.Reactions.{next_of, runs, is_killed, joined}
 use Rattle.lx_pcalls.specs.Ends as end
 use Rattle.lx_turn.specs.Calls.{does}
 
-abbrev pub linux : Machine Shared Body
+abbrev pub linux : Machine Shared UserState
 linux = record {
   regs = regs;
   with_regs = with_regs;
@@ -21,5 +21,5 @@ linux = record {
   killed = λ s p. is_killed (maps.get s.entries p);
   join = joined;
   die = end.dies;
-  bury = end.buried;
+  release_task = end.buried;
 }

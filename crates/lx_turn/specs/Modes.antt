@@ -3,12 +3,12 @@ use Rattle.std.specs.Prelude.{Option, Some, None}
 use Rattle.lx_abi.specs.declared.log.Mode.{Mode}
 use Rattle.lx_abi.specs.declared.log.Mode.TheVariants as mode
 use Rattle.lx_model.specs.Turn.{stage_mode}
-use Rattle.lx_model.specs.declared.stage.Own.{Own}
-use Rattle.lx_model.specs.declared.stage.Own.TheVariants as own
+use Rattle.lx_model.specs.declared.stage.Task.{Task}
+use Rattle.lx_model.specs.declared.stage.Task.TheVariants as task
 use Rattle.lx_proc.specs.declared.state.Life.{Life}
 use Rattle.lx_proc.specs.declared.state.Life.TheVariants.{Alive, Dying, Zombie}
 use Rattle.lx_proc.specs.declared.state.Entry.{Entry}
-use Rattle.lx_proc.specs.declared.state.Body.{Body}
+use Rattle.lx_proc.specs.declared.state.UserState.{UserState}
 
 -- where a process stands whose own part is given up
 abbrev pub life_mode : Option Entry → Option Mode
@@ -21,7 +21,7 @@ life_mode (Some e) = zombie_mode e.life
     zombie_mode (Zombie w) = Some mode.Zombie
 
 -- where a process stands
-abbrev pub own_mode : Option Entry → Own Body → Option Mode
-own_mode e (own.Alive b stage) = Some (stage_mode stage)
-own_mode e (own.Dying w) = Some mode.Dying
-own_mode e own.Gone = life_mode e
+abbrev pub task_mode : Option Entry → Task UserState → Option Mode
+task_mode e (task.Alive b stage) = Some (stage_mode stage)
+task_mode e (task.Dying w) = Some mode.Dying
+task_mode e task.Gone = life_mode e

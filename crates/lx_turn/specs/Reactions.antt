@@ -15,7 +15,7 @@ use Rattle.lx_abi.specs.Signals.{is_signal}
 use Rattle.lx_model.specs.Machine.{Ran, Goes, Calls, Faults, Takes}
 use Rattle.lx_sig.specs.Pending.{next, cause_of, with_pending, without_pending}
 use Rattle.lx_proc.specs.declared.state.Shared.{Shared}
-use Rattle.lx_proc.specs.declared.state.Body.{Body}
+use Rattle.lx_proc.specs.declared.state.UserState.{UserState}
 use Rattle.lx_proc.specs.declared.state.Entry.{Entry}
 use Rattle.lx_sig.specs.declared.state.Interrupted.{Interrupted}
 use Rattle.lx_proc.specs.State.{changed, with_entries, with_signals}
@@ -34,16 +34,16 @@ fault_in_range fault.Forbidden = refl
 abbrev pub fault_signal : FaultKind → Signal
 fault_signal k = record { number = signal_number k; in_range = fault_in_range k }
 
-abbrev pub ran_by : Body → Outcome → Step → Ran Shared Body
+abbrev pub ran_by : UserState → Outcome → Step → Ran Shared UserState
 ran_by b o step.Ran = Goes (record b { hart = o.hart; memory = o.memory })
 ran_by b o step.Call = Calls
 ran_by b o (step.Fault kind address) = Faults (fault_signal kind) (Fault (signal_code kind) address)
 
 -- one instruction (the RISC-V Unprivileged ISA)
-abbrev pub stepped_by : Body → Ran Shared Body
+abbrev pub stepped_by : UserState → Ran Shared UserState
 stepped_by b = ran_by b (stepped b.hart b.memory) (stepped b.hart b.memory).step
 
-abbrev pub resumed : Body → Option Interrupted → Ran Shared Body
+abbrev pub resumed : UserState → Option Interrupted → Ran Shared UserState
 resumed b (Some at) = Goes (made_again b at)
 resumed b None = stepped_by b
 
@@ -62,7 +62,7 @@ cause_in (Some e) signal = unwrap_or (cause_of e.signals signal.number) Kernel
 abbrev pub taken : Shared → ℕ → Signal → Shared
 taken s p signal = with_entries s (changed s.entries p (λ e. with_signals e (without_pending e.signals signal)))
 
-abbrev pub runs : Shared → ℕ → Body → Option Signal → Ran Shared Body
+abbrev pub runs : Shared → ℕ → UserState → Option Signal → Ran Shared UserState
 runs s p b (Some signal) = Takes (taken s p signal) signal (cause_in (maps.get s.entries p) signal)
 runs s p b None = resumed b b.interrupted
 

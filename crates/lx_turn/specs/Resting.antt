@@ -4,11 +4,11 @@ use Rattle.std.specs.FinMap as maps
 use Rattle.lx_model.specs.Turn.{Event}
 use Rattle.lx_model.specs.declared.stage.Stage.{Stage}
 use Rattle.lx_model.specs.declared.stage.Stage.TheVariants.{Born, Run, Faulting, Entered, Doing, Replaced, Acted, Finished, Taken, Dropped}
-use Rattle.lx_model.specs.declared.stage.Own.{Own}
-use Rattle.lx_model.specs.declared.stage.Own.TheVariants.{Alive, Dying, Gone}
+use Rattle.lx_model.specs.declared.stage.Task.{Task}
+use Rattle.lx_model.specs.declared.stage.Task.TheVariants.{Alive, Dying, Gone}
 use Rattle.lx_proc.specs.declared.state.Entry.{Entry}
 use Rattle.lx_proc.specs.declared.state.Shared.{Shared}
-use Rattle.lx_proc.specs.declared.state.Body.{Body}
+use Rattle.lx_proc.specs.declared.state.UserState.{UserState}
 use Rattle.lx_fcalls.specs.Blocking.{would_block as file_would_block}
 use Rattle.lx_pcalls.specs.Interruption.{is_interrupted}
 use Rattle.lx_turn.specs.Reactions.{is_killed}
@@ -19,7 +19,7 @@ abbrev pub is_quiet : Option Entry → Bool
 is_quiet e = not (is_killed e) && not (is_interrupted e)
 
 -- the process waits in a read or a write of a pipe
-abbrev pub rests_at : Shared → ℕ → Body → Stage → Bool
+abbrev pub rests_at : Shared → ℕ → UserState → Stage → Bool
 rests_at s p b Born = false
 rests_at s p b Run = false
 rests_at s p b (Faulting signal cause) = false
@@ -32,7 +32,7 @@ rests_at s p b (Taken signal cause) = false
 rests_at s p b Dropped = false
 
 -- so it has no turn, as one that is gone has none
-unfoldable pub rests : Shared → ℕ → Own Body → Bool
+unfoldable pub rests : Shared → ℕ → Task UserState → Bool
 rests s p (Alive b stage) = rests_at s p b stage
 rests s p (Dying w) = false
 rests s p Gone = true
@@ -59,10 +59,10 @@ is_calm_at (Taken signal cause) = true
 is_calm_at Dropped = true
 
 -- each other process that rested rests, but for one that is roused, and a child that is born
-abbrev pub Calms : Shared → Shared → ℕ → ℕ → ℕ → Event Body → Type 0
+abbrev pub Calms : Shared → Shared → ℕ → ℕ → ℕ → Event UserState → Type 0
 Calms s s' child p roused event =
-    (q : ℕ) → (q ≡ p → ⊥) → (q ≡ roused → ⊥) → (IsBirth event → q ≡ child → ⊥) → (own : Own Body) → rests s q own ≡ true
-    → rests s' q own ≡ true
+    (q : ℕ) → (q ≡ p → ⊥) → (q ≡ roused → ⊥) → (IsBirth event → q ≡ child → ⊥) → (task : Task UserState) → rests s q task ≡ true
+    → rests s' q task ≡ true
 
 -- who is told of a process's end
 abbrev pub told_by : ℕ → Option Entry → ℕ

@@ -4,11 +4,11 @@ use Rattle.lx_abi.specs.declared.log.Item.{Item}
 use Rattle.lx_abi.specs.declared.log.Item.TheVariants as item
 use Rattle.lx_model.specs.Turn.{stage_mode, Out, Event, Plain, Execed, Forked}
 use Rattle.lx_model.specs.declared.stage.Stage.{Stage}
-use Rattle.lx_model.specs.declared.stage.Own.{Own}
-use Rattle.lx_model.specs.declared.stage.Own.TheVariants.{Alive, Dying, Gone}
+use Rattle.lx_model.specs.declared.stage.Task.{Task}
+use Rattle.lx_model.specs.declared.stage.Task.TheVariants.{Alive, Dying, Gone}
 use Rattle.lx_model.specs.Finite.{item_of}
 use Rattle.lx_proc.specs.declared.state.Shared.{Shared}
-use Rattle.lx_proc.specs.declared.state.Body.{Body}
+use Rattle.lx_proc.specs.declared.state.UserState.{UserState}
 use Rattle.lx_proc.specs.State.{last_pid}
 use Rattle.lx_pcalls.specs.Ends as end
 use Rattle.lx_turn.specs.declared.effects.Effect.{Effect}
@@ -20,14 +20,14 @@ use Rattle.lx_turn.specs.declared.stages.Went.TheVariants.{On, Ended}
 
 pub record Turned : Type 0 where
   pub shared : Shared
-  pub own : Own Body
+  pub task : Task UserState
   pub item : Option Item
-  pub event : Event Body
+  pub event : Event UserState
 
-abbrev pub turned : Out Shared Body → Turned
-turned o = record { shared = o.shared; own = o.own; item = item_of o; event = o.event }
+abbrev pub turned : Out Shared UserState → Turned
+turned o = record { shared = o.shared; task = o.task; item = item_of o; event = o.event }
 
-abbrev pub event_of : Effect → Event Body
+abbrev pub event_of : Effect → Event UserState
 event_of effect.Plain = Plain
 event_of effect.Execed = Execed
 event_of (effect.Bore newborn) = Forked newborn.value
@@ -36,20 +36,20 @@ event_of (effect.Bore newborn) = Forked newborn.value
 abbrev pub ended : Shared → ℕ → ℕ → Stage → Turned
 ended s p w stage = record {
   shared = end.dies s p w;
-  own = Dying w;
+  task = Dying w;
   item = Some (item.Exit p w (stage_mode stage));
   event = Plain;
 }
 
 -- the process goes on as it stands now, and nothing was done beside
-abbrev pub goes_on : Shared → Body → Stage → Option Item → Turned
-goes_on s b next item = record { shared = s; own = Alive b next; item = item; event = Plain }
+abbrev pub goes_on : Shared → UserState → Stage → Option Item → Turned
+goes_on s b next item = record { shared = s; task = Alive b next; item = item; event = Plain }
 
 -- what the turn of a stage comes to, which leaves this stage and this item
-abbrev pub turned_by : Went → Shared → Body → ℕ → Stage → Stage → Option Item → Turned
+abbrev pub turned_by : Went → Shared → UserState → ℕ → Stage → Stage → Option Item → Turned
 turned_by (On done) s b p stage next item = record {
   shared = s;
-  own = Alive b next;
+  task = Alive b next;
   item = item;
   event = event_of done;
 }
@@ -60,7 +60,7 @@ abbrev pub EndsSame : Went → Shared → Shared → Type 0
 EndsSame (On done) s s' = Unit {0}
 EndsSame (Ended w) s s' = s' ≡ s
 
-abbrev pub is_gone : Own Body → Bool
+abbrev pub is_gone : Task UserState → Bool
 is_gone (Alive b stage) = false
 is_gone (Dying w) = false
 is_gone Gone = true
@@ -72,7 +72,7 @@ IsLeft effect.Execed child = Unit {0}
 IsLeft (effect.Bore newborn) child = child ≤ last_pid
 
 -- a child was born
-abbrev pub IsBirth : Event Body → Type 0
+abbrev pub IsBirth : Event UserState → Type 0
 IsBirth Plain = ⊥
 IsBirth Execed = ⊥
 IsBirth (Forked newborn) = Unit {0}

@@ -4,53 +4,53 @@ ghost use Rattle.std.specs.Prelude.{◌≡◌, ◌||◌};
 ghost use Rattle.std.specs.FinMap as maps;
 ghost use Rattle.lx_fcalls.specs.Blocking.{would_block as file_would_block};
 ghost use Rattle.lx_pcalls.specs.Calls.{would_block as process_would_block};
-ghost use Rattle.lx_model.specs.declared.stage.Own.TheVariants.{Alive};
+ghost use Rattle.lx_model.specs.declared.stage.Task.TheVariants.{Alive};
 ghost use Rattle.lx_turn.specs.Blocking.{would_block as would_block_in, can_turn as can_turn_of};
 ghost use Rattle.lx_turn.specs.Resting.{is_quiet as is_quiet_at, rests_at as rests_of, rests as rests_in};
 ghost use Rattle.lx_turn.specs.Resting.{is_calm_call as is_calm_call_of, is_calm_at as is_calm_stage};
 
 use crate::signals::is_killed;
 use lx_abi::Call;
-use lx_model::{Own, Stage};
+use lx_model::{Stage, Task};
 use lx_pcalls::is_interrupted;
-use lx_proc::{Body, Shared};
+use lx_proc::{Shared, UserState};
 
 /// The call would block, unless something interrupts it.
-fn waits(shared: &Shared, pid: u32, call: &Call, body: &Body) -> bool
+fn waits(shared: &Shared, pid: u32, call: &Call, user: &UserState) -> bool
     ensures { result
-        ≡ (file_would_block shared.now pid call.now body.now || process_would_block shared.now pid call.now) }
+        ≡ (file_would_block shared.now pid call.now user.now || process_would_block shared.now pid call.now) }
 {
-    lx_fcalls::would_block(shared, pid, call, body) || lx_pcalls::would_block(shared, pid, call)
+    lx_fcalls::would_block(shared, pid, call, user) || lx_pcalls::would_block(shared, pid, call)
 }
 
 /// The call would block.
 #[tactic(auto, unfolding(crate::specs::Blocking::would_block))]
-fn would_block(shared: &Shared, pid: u32, call: &Call, body: &Body) -> bool
-    ensures { result ≡ would_block_in shared.now pid call.now body.now }
+fn would_block(shared: &Shared, pid: u32, call: &Call, user: &UserState) -> bool
+    ensures { result ≡ would_block_in shared.now pid call.now user.now }
 {
-    waits(shared, pid, call, body) && !is_interrupted(shared, pid)
+    waits(shared, pid, call, user) && !is_interrupted(shared, pid)
 }
 
 /// A turn of the living process does something.
 #[tactic(auto, unfolding(crate::specs::Blocking::can_turn))]
-fn can_go_on(shared: &Shared, pid: u32, body: &Body, stage: Stage) -> bool
-    ensures { result ≡ can_turn_of shared.now pid (Alive body.now stage) }
+fn can_go_on(shared: &Shared, pid: u32, user: &UserState, stage: Stage) -> bool
+    ensures { result ≡ can_turn_of shared.now pid (Alive user.now stage) }
 {
     match stage {
-        Stage::Doing { call } => is_killed(shared, pid) || !would_block(shared, pid, &call, body),
+        Stage::Doing { call } => is_killed(shared, pid) || !would_block(shared, pid, &call, user),
         _ => true,
     }
 }
 
 /// A turn of the process does something.
 #[tactic(auto, unfolding(crate::specs::Blocking::can_turn))]
-pub fn can_turn(shared: &Shared, pid: u32, own: &Own<Body>) -> bool
-    ensures { result ≡ can_turn_of shared.now pid own.now }
+pub fn can_turn(shared: &Shared, pid: u32, task: &Task<UserState>) -> bool
+    ensures { result ≡ can_turn_of shared.now pid task.now }
 {
-    match own {
-        Own::Alive { body, stage } => can_go_on(shared, pid, body, *stage),
-        Own::Dying { .. } => true,
-        Own::Gone => false,
+    match task {
+        Task::Alive { user, stage } => can_go_on(shared, pid, user, *stage),
+        Task::Dying { .. } => true,
+        Task::Gone => false,
     }
 }
 
@@ -62,12 +62,12 @@ fn is_quiet(shared: &Shared, pid: u32) -> bool
 }
 
 /// The living process waits in a read or a write of a pipe.
-fn rests_at(shared: &Shared, pid: u32, body: &Body, stage: Stage) -> bool
-    ensures { result ≡ rests_of shared.now pid body.now stage }
+fn rests_at(shared: &Shared, pid: u32, user: &UserState, stage: Stage) -> bool
+    ensures { result ≡ rests_of shared.now pid user.now stage }
 {
     match stage {
         Stage::Doing { call } => {
-            lx_fcalls::would_block(shared, pid, &call, body) && is_quiet(shared, pid)
+            lx_fcalls::would_block(shared, pid, &call, user) && is_quiet(shared, pid)
         }
         _ => false,
     }
@@ -75,13 +75,13 @@ fn rests_at(shared: &Shared, pid: u32, body: &Body, stage: Stage) -> bool
 
 /// The process waits in a read or a write of a pipe, or is gone.
 #[tactic(auto, unfolding(crate::specs::Resting::rests))]
-pub fn rests(shared: &Shared, pid: u32, own: &Own<Body>) -> bool
-    ensures { result ≡ rests_in shared.now pid own.now }
+pub fn rests(shared: &Shared, pid: u32, task: &Task<UserState>) -> bool
+    ensures { result ≡ rests_in shared.now pid task.now }
 {
-    match own {
-        Own::Alive { body, stage } => rests_at(shared, pid, body, *stage),
-        Own::Dying { .. } => false,
-        Own::Gone => true,
+    match task {
+        Task::Alive { user, stage } => rests_at(shared, pid, user, *stage),
+        Task::Dying { .. } => false,
+        Task::Gone => true,
     }
 }
 

@@ -7,7 +7,7 @@ ghost use Rattle.lx_turn.specs.Calls.{does as meaning, called};
 use lx_abi::{Call, Errno};
 use lx_fcalls::file_call;
 use lx_pcalls::{interrupt, process_call};
-use lx_proc::{Body, Reply, Shared};
+use lx_proc::{CallReply, Shared, UserState};
 use std::alloc::{AllocError, Global};
 
 /// A call on files, or else one on processes, memory or signals; ENOSYS for a number that none has.
@@ -17,19 +17,19 @@ fn reply_to(
     child: u32,
     pid: u32,
     call: &Call,
-    body: &mut Body,
-) -> Result<Reply, AllocError>
-    ensures answer { IfOk result (λ r. answer_of r shared.new body.new
-        ≡ called shared.old child pid call.now body.old) }
-    ensures kept { IfOk result (λ r. Kept r shared.old body.old shared.new body.new) }
+    user: &mut UserState,
+) -> Result<CallReply, AllocError>
+    ensures answer { IfOk result (λ r. answer_of r shared.new user.new
+        ≡ called shared.old child pid call.now user.old) }
+    ensures kept { IfOk result (λ r. Kept r shared.old user.old shared.new user.new) }
     ensures console { OnErr result (shared.new.console ≡ shared.old.console) }
 {
-    if let Some(reply) = file_call(alloc, shared, pid, call, body)? {
+    if let Some(reply) = file_call(alloc, shared, pid, call, user)? {
         return Ok(reply);
     }
-    match process_call(alloc, shared, child, pid, call, body)? {
+    match process_call(alloc, shared, child, pid, call, user)? {
         Some(reply) => Ok(reply),
-        None => Ok(Reply::Refused(Errno::ENOSYS)),
+        None => Ok(CallReply::Refused(Errno::ENOSYS)),
     }
 }
 
@@ -41,13 +41,13 @@ pub fn does(
     child: u32,
     pid: u32,
     call: &Call,
-    body: &mut Body,
-) -> Result<Reply, AllocError>
-    ensures answer { IfOk result (λ r. answer_of r shared.new body.new
-        ≡ meaning shared.old child pid call.now body.old) }
-    ensures kept { IfOk result (λ r. Kept r shared.old body.old shared.new body.new) }
+    user: &mut UserState,
+) -> Result<CallReply, AllocError>
+    ensures answer { IfOk result (λ r. answer_of r shared.new user.new
+        ≡ meaning shared.old child pid call.now user.old) }
+    ensures kept { IfOk result (λ r. Kept r shared.old user.old shared.new user.new) }
     ensures console { OnErr result (shared.new.console ≡ shared.old.console) }
 {
-    let reply = reply_to(alloc, shared, child, pid, call, body)?;
-    Ok(interrupt(shared, pid, body, reply))
+    let reply = reply_to(alloc, shared, child, pid, call, user)?;
+    Ok(interrupt(shared, pid, user, reply))
 }

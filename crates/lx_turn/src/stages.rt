@@ -10,19 +10,19 @@ ghost use Rattle.lx_turn.specs.Linux.{linux};
 ghost use Rattle.lx_proc.specs.Registers.{regs};
 ghost use Rattle.lx_turn.specs.Reactions.{next_of, runs, stepped_by, resumed};
 ghost use Rattle.lx_turn.specs.Calls.{does as meaning};
-ghost use Rattle.lx_turn.specs.Tampering.{choice_of_call};
+ghost use Rattle.lx_turn.specs.Injection.{choice_of_call};
 ghost use Rattle.lx_turn.specs.Turned.{turned, turned_by, goes_on, EndsSame};
 ghost use Rattle.lx_model.specs.declared.stage.Stage.TheVariants as stages;
 ghost use Rattle.lx_proc.specs.declared.state.Shared.{Shared};
 
 use crate::calls::does;
 use crate::effects::Effect;
+use crate::injection::Injection;
 use crate::signals;
-use crate::tampering::Tampering;
 use lx_abi::{Call, Cause, Choice, Item, Mode, Signal};
 use lx_model::Stage;
 use lx_pcalls::{Reacted, take};
-use lx_proc::{Body, Reply, Shared, a0, call, make_again, return_from_call};
+use lx_proc::{CallReply, Shared, UserState, a0, call, make_again, return_from_call};
 use rv_hart::{FaultKind, Step, step};
 use std::alloc::{AllocError, Global};
 
@@ -66,19 +66,19 @@ fn fault_signal(kind: FaultKind) -> Signal
 /// One instruction runs, or can't.
 fn step_on(
     pid: u32,
-    body: &mut Body,
+    user: &mut UserState,
     stage: &mut Stage,
     item: &mut Option<Item>,
 ) -> Result<(), AllocError>
     requires in_run { stage.old ≡ stages.Run }
     requires nothing { item.old ≡ None }
-    ensures { OnOk result ((s : Shared) → turned (stepped linux s pid body.old (stepped_by body.old))
-        ≡ goes_on s body.new stage.new item.new) }
+    ensures { OnOk result ((s : Shared) → turned (stepped linux s pid user.old (stepped_by user.old))
+        ≡ goes_on s user.new stage.new item.new) }
 {
-    match step(&mut body.hart, &mut body.memory)? {
+    match step(&mut user.hart, &mut user.memory)? {
         Step::Ran => Ok(()),
         Step::Call => {
-            let call = call(body);
+            let call = call(user);
             *stage = Stage::Entered { joined: None };
             *item = Some(Item::Enter { pid, call });
             Ok(())
@@ -98,21 +98,21 @@ fn step_on(
 /// An interrupted call is made again, or one instruction runs.
 fn resume(
     pid: u32,
-    body: &mut Body,
+    user: &mut UserState,
     stage: &mut Stage,
     item: &mut Option<Item>,
 ) -> Result<(), AllocError>
     requires in_run { stage.old ≡ stages.Run }
     requires nothing { item.old ≡ None }
-    ensures { OnOk result ((s : Shared) → turned (stepped linux s pid body.old (resumed body.old body.old.interrupted))
-        ≡ goes_on s body.new stage.new item.new) }
+    ensures { OnOk result ((s : Shared) → turned (stepped linux s pid user.old (resumed user.old user.old.interrupted))
+        ≡ goes_on s user.new stage.new item.new) }
 {
-    match body.interrupted {
+    match user.interrupted {
         Some(at) => {
-            make_again(body, at);
+            make_again(user, at);
             Ok(())
         }
-        None => step_on(pid, body, stage, item),
+        None => step_on(pid, user, stage, item),
     }
 }
 
@@ -120,14 +120,14 @@ fn resume(
 fn run(
     shared: &mut Shared,
     pid: u32,
-    body: &mut Body,
+    user: &mut UserState,
     stage: &mut Stage,
     item: &mut Option<Item>,
 ) -> Result<(), AllocError>
     requires in_run { stage.old ≡ stages.Run }
     requires nothing { item.old ≡ None }
-    ensures turned { OnOk result (turned (stepped linux shared.old pid body.old (runs shared.old pid body.old (next_of
-        (maps.get shared.old.entries pid)))) ≡ goes_on shared.new body.new stage.new item.new) }
+    ensures turned { OnOk result (turned (stepped linux shared.old pid user.old (runs shared.old pid user.old (next_of
+        (maps.get shared.old.entries pid)))) ≡ goes_on shared.new user.new stage.new item.new) }
     ensures console { OnErr result (shared.new.console ≡ shared.old.console) }
 {
     match signals::next(shared, pid) {
@@ -137,7 +137,7 @@ fn run(
             *item = Some(Item::Taken { pid, signal, cause });
             Ok(())
         }
-        None => resume(pid, body, stage, item),
+        None => resume(pid, user, stage, item),
     }
 }
 
@@ -178,12 +178,18 @@ fn acted(stage: &mut Stage, call: Call, value: u64, done: Effect) -> Went
 }
 
 /// The result stands in its place, and the call was done.
-fn return_with(body: &mut Body, stage: &mut Stage, call: Call, value: u64, done: Effect) -> Went
-    ensures body { body.new ≡ with_result linux body.old value }
+fn return_with(
+    user: &mut UserState,
+    stage: &mut Stage,
+    call: Call,
+    value: u64,
+    done: Effect,
+) -> Went
+    ensures user { user.new ≡ with_result linux user.old value }
     ensures stage { stage.new ≡ stages.Acted call value false }
     ensures went { result ≡ Went.On done }
 {
-    return_from_call(body, value);
+    return_from_call(user, value);
     acted(stage, call, value, done)
 }
 
@@ -194,27 +200,33 @@ fn do_call(
     shared: &mut Shared,
     child: u32,
     pid: u32,
-    body: &mut Body,
+    user: &mut UserState,
     stage: &mut Stage,
     call: Call,
 ) -> Result<Went, AllocError>
     requires { stage.old ≡ stages.Doing call }
-    ensures turned { IfOk result (λ w. turned (answered linux shared.old child pid body.old call
-        (meaning shared.old child pid call body.old)) ≡ turned_by w shared.new body.new pid
+    ensures turned { IfOk result (λ w. turned (answered linux shared.old child pid user.old call
+        (meaning shared.old child pid call user.old)) ≡ turned_by w shared.new user.new pid
         (stages.Doing call) stage.new None) }
     ensures ends { IfOk result (λ w. EndsSame w shared.old shared.new) }
     ensures console { OnErr result (shared.new.console ≡ shared.old.console) }
 {
-    match does(alloc, shared, child, pid, &call, body)? {
-        Reply::Refused(error) => Ok(return_with(body, stage, call, error.word(), Effect::Plain)),
-        Reply::Returned(result) => Ok(return_with(body, stage, call, result, Effect::Plain)),
-        Reply::Jumped => Ok(acted(stage, call, a0(body), Effect::Plain)),
-        Reply::Execed => Ok(acted(stage, call, a0(body), Effect::Execed)),
-        Reply::Bore(newborn) => {
-            Ok(return_with(body, stage, call, u64::from(child), Effect::Bore(newborn)))
+    match does(alloc, shared, child, pid, &call, user)? {
+        CallReply::Refused(error) => Ok(return_with(
+            user,
+            stage,
+            call,
+            error.word(),
+            Effect::Plain,
+        )),
+        CallReply::Returned(result) => Ok(return_with(user, stage, call, result, Effect::Plain)),
+        CallReply::Jumped => Ok(acted(stage, call, a0(user), Effect::Plain)),
+        CallReply::Execed => Ok(acted(stage, call, a0(user), Effect::Execed)),
+        CallReply::Bore(newborn) => {
+            Ok(return_with(user, stage, call, u64::from(child), Effect::Bore(newborn)))
         }
-        Reply::Blocked => Ok(Went::On(Effect::Plain)),
-        Reply::Ended(word) => Ok(Went::Ended { word }),
+        CallReply::Blocked => Ok(Went::On(Effect::Plain)),
+        CallReply::Ended(word) => Ok(Went::Ended { word }),
     }
 }
 
@@ -223,18 +235,18 @@ fn do_call(
 fn react(
     shared: &mut Shared,
     pid: u32,
-    body: &mut Body,
+    user: &mut UserState,
     stage: &mut Stage,
     signal: Signal,
     cause: Cause,
 ) -> Result<Went, AllocError>
     ensures turned { IfOk result (λ w. turned (took linux shared.old pid signal cause
-        (takes shared.old pid body.old signal cause)) ≡ turned_by w shared.new body.new pid
+        (takes shared.old pid user.old signal cause)) ≡ turned_by w shared.new user.new pid
         (stages.Taken signal cause) stage.new None) }
     ensures ends { IfOk result (λ w. EndsSame w shared.old shared.new) }
     ensures console { OnErr result (shared.new.console ≡ shared.old.console) }
 {
-    match take(shared, pid, body, signal, cause)? {
+    match take(shared, pid, user, signal, cause)? {
         Reacted::Passed => {
             *stage = Stage::Run;
             Ok(Went::On(Effect::Plain))
@@ -247,17 +259,17 @@ fn react(
 pub fn go(
     alloc: Global,
     shared: &mut Shared,
-    tampering: &Tampering,
+    injection: &Injection,
     child: u32,
     pid: u32,
-    body: &mut Body,
+    user: &mut UserState,
     stage: &mut Stage,
     item: &mut Option<Item>,
 ) -> Result<Went, AllocError>
     requires { item.old ≡ None }
     ensures turned { IfOk result (λ w. turned (lives linux
-        (choice_of_call tampering.now pid body.old) shared.old child pid body.old stage.old)
-        ≡ turned_by w shared.new body.new pid stage.old stage.new item.new) }
+        (choice_of_call injection.now pid user.old) shared.old child pid user.old stage.old)
+        ≡ turned_by w shared.new user.new pid stage.old stage.new item.new) }
     ensures ends { IfOk result (λ w. EndsSame w shared.old shared.new) }
     ensures console { OnErr result (shared.new.console ≡ shared.old.console) }
 {
@@ -267,7 +279,7 @@ pub fn go(
             Ok(Went::On(Effect::Plain))
         }
         Stage::Run => {
-            run(shared, pid, body, stage, item)?;
+            run(shared, pid, user, stage, item)?;
             Ok(Went::On(Effect::Plain))
         }
         Stage::Faulting { signal, cause } => {
@@ -276,16 +288,16 @@ pub fn go(
             Ok(Went::On(Effect::Plain))
         }
         Stage::Entered { joined } => {
-            let call = call(body);
-            let choice = tampering.choice(pid, call.number);
+            let call = call(user);
+            let choice = injection.choice(pid, call.number);
             join(shared, pid, joined);
             join(shared, pid, choice.signal);
             *stage = chosen_stage(call, choice);
             Ok(Went::On(Effect::Plain))
         }
-        Stage::Doing { call } => do_call(alloc, shared, child, pid, body, stage, call),
+        Stage::Doing { call } => do_call(alloc, shared, child, pid, user, stage, call),
         Stage::Replaced { call, result } => {
-            return_from_call(body, result);
+            return_from_call(user, result);
             *stage = Stage::Acted {
                 call,
                 result,
@@ -307,6 +319,6 @@ pub fn go(
             });
             Ok(Went::On(Effect::Plain))
         }
-        Stage::Taken { signal, cause } => react(shared, pid, body, stage, signal, cause),
+        Stage::Taken { signal, cause } => react(shared, pid, user, stage, signal, cause),
     }
 }

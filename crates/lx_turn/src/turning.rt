@@ -3,22 +3,22 @@
 ghost use Rattle.std.specs.Prelude.{◌≡◌, IfOk, OnErr, IsOkAnd, IsTrue, None, false, true};
 ghost use Rattle.std.specs.FinMap as maps;
 ghost use Rattle.lx_model.specs.Turn.{turn, Plain};
-ghost use Rattle.lx_model.specs.declared.stage.Own.TheVariants.{Alive, Dying, Gone};
+ghost use Rattle.lx_model.specs.declared.stage.Task.TheVariants.{Alive, Dying, Gone};
 ghost use Rattle.lx_turn.specs.Linux.{linux};
-ghost use Rattle.lx_turn.specs.Modes.{own_mode as own_mode_of, life_mode};
+ghost use Rattle.lx_turn.specs.Modes.{task_mode as task_mode_of, life_mode};
 ghost use Rattle.lx_turn.specs.Resting.{Calms, told_by};
-ghost use Rattle.lx_turn.specs.Tampering.{choice_of_call, choice_of_own};
+ghost use Rattle.lx_turn.specs.Injection.{choice_of_call, choice_of_task};
 ghost use Rattle.lx_turn.specs.Turned.{turned, turned_by, event_of, is_gone, EndsSame};
 
 use crate::blocking::is_calm;
 use crate::effects::Effect;
+use crate::injection::Injection;
 use crate::signals::is_killed;
 use crate::stages::{Went, go, mode_of_stage};
-use crate::tampering::Tampering;
 use lx_abi::{Item, Mode};
-use lx_model::{Own, Stage};
-use lx_pcalls::{bury, die};
-use lx_proc::{Body, Life, Shared};
+use lx_model::{Stage, Task};
+use lx_pcalls::{die, release_task};
+use lx_proc::{Life, Shared, UserState};
 use std::alloc::{AllocError, Global};
 
 /// The wait word of an end by SIGKILL.
@@ -66,41 +66,41 @@ impl Transition {
 fn turn_alive(
     alloc: Global,
     shared: &mut Shared,
-    tampering: &Tampering,
+    injection: &Injection,
     child: u32,
     pid: u32,
-    body: &mut Body,
+    user: &mut UserState,
     stage: &mut Stage,
     item: &mut Option<Item>,
 ) -> Result<Went, AllocError>
     requires { item.old ≡ None }
     ensures turned { IfOk result (λ w. turned (turn linux
-        (choice_of_call tampering.now pid body.old) shared.old child pid (Alive body.old stage.old))
-        ≡ turned_by w shared.new body.new pid stage.old stage.new item.new) }
+        (choice_of_call injection.now pid user.old) shared.old child pid (Alive user.old stage.old))
+        ≡ turned_by w shared.new user.new pid stage.old stage.new item.new) }
     ensures ends { IfOk result (λ w. EndsSame w shared.old shared.new) }
     ensures console { OnErr result (shared.new.console ≡ shared.old.console) }
 {
     if is_killed(shared, pid) {
         return Ok(Went::Ended { word: KILL_WORD });
     }
-    let went = go(alloc, shared, tampering, child, pid, body, stage, item)?;
+    let went = go(alloc, shared, injection, child, pid, user, stage, item)?;
     Ok(went)
 }
 
 /// The process is gone. Apart, since a function pays at its entry for the size of its locals.
 #[inline(never)]
-fn leave(own: &mut Own<Body>)
-    ensures { own.new ≡ Gone }
+fn leave(task: &mut Task<UserState>)
+    ensures { task.new ≡ Gone }
 {
-    *own = Own::Gone;
+    *task = Task::Gone;
 }
 
 /// The process is dying.
 #[inline(never)]
-fn end(own: &mut Own<Body>, word: u32)
-    ensures { own.new ≡ Dying word }
+fn end(task: &mut Task<UserState>, word: u32)
+    ensures { task.new ≡ Dying word }
 {
-    *own = Own::Dying { word };
+    *task = Task::Dying { word };
 }
 
 /// Who is told of a process's end: its parent.
@@ -122,41 +122,41 @@ fn reads_or_writes(stage: &Stage) -> bool {
 }
 
 /// One turn of a process with a part of its own, and what it logs.
-pub fn turn_own(
+pub fn turn_task(
     alloc: Global,
     shared: &mut Shared,
-    tampering: &Tampering,
+    injection: &Injection,
     child: u32,
     pid: u32,
-    own: &mut Own<Body>,
+    task: &mut Task<UserState>,
     item: &mut Option<Item>,
 ) -> Result<Transition, AllocError>
     requires { item.old ≡ None }
     ensures turned { IfOk result (λ t. turned (turn linux
-        (choice_of_own tampering.now pid own.old) shared.old child pid own.old) ≡
-        record { shared = shared.new; own = own.new; item = item.new; event = event_of t.done }) }
-    ensures before { IfOk result (λ t. t.before ≡ own_mode_of (maps.get shared.old.entries pid) own.old) }
-    ensures after { IfOk result (λ t. t.after ≡ own_mode_of (maps.get shared.new.entries pid) own.new) }
-    ensures gone { IfOk result (λ t. t.gone ≡ is_gone own.new) }
+        (choice_of_task injection.now pid task.old) shared.old child pid task.old) ≡
+        record { shared = shared.new; task = task.new; item = item.new; event = event_of t.done }) }
+    ensures before { IfOk result (λ t. t.before ≡ task_mode_of (maps.get shared.old.entries pid) task.old) }
+    ensures after { IfOk result (λ t. t.after ≡ task_mode_of (maps.get shared.new.entries pid) task.new) }
+    ensures gone { IfOk result (λ t. t.gone ≡ is_gone task.new) }
     ensures calm { IfOk result (λ t. IsTrue t.calm → Calms shared.old shared.new child pid t.roused (event_of t.done)) }
-    ensures absent { own.old ≡ Gone → IsOkAnd result (λ t. (item.new ≡ None) × (event_of t.done ≡ Plain)) }
+    ensures absent { task.old ≡ Gone → IsOkAnd result (λ t. (item.new ≡ None) × (event_of t.done ≡ Plain)) }
     ensures console { OnErr result (shared.new.console ≡ shared.old.console) }
 {
-    match own {
-        Own::Gone => {
+    match task {
+        Task::Gone => {
             let mode = mode_of_gone(shared, pid);
             Ok(Transition::of_gone(mode, mode, pid))
         }
-        Own::Dying { word } => {
+        Task::Dying { word } => {
             let parent = told_of(shared, pid);
-            bury(shared, pid, *word)?;
-            leave(own);
+            release_task(shared, pid, *word)?;
+            leave(task);
             Ok(Transition::of_gone(Some(Mode::Dying), mode_of_gone(shared, pid), parent))
         }
-        Own::Alive { body, stage } => {
+        Task::Alive { user, stage } => {
             let left = mode_of_stage(stage);
             let calm = is_calm(*stage);
-            match turn_alive(alloc, shared, tampering, child, pid, body, stage, item)? {
+            match turn_alive(alloc, shared, injection, child, pid, user, stage, item)? {
                 Went::On(done) => Ok(Transition {
                     before: Some(left),
                     after: Some(mode_of_stage(stage)),
@@ -168,7 +168,7 @@ pub fn turn_own(
                 }),
                 Went::Ended { word } => {
                     let calm = die(shared, pid, word)?;
-                    end(own, word);
+                    end(task, word);
                     *item = Some(Item::Exit { pid, word, left });
                     Ok(Transition {
                         before: Some(left),

@@ -13,15 +13,15 @@ use Rattle.lx_abi.specs.declared.signal.Signal.{Signal}
 use Rattle.lx_abi.specs.Signals.{may_join, signal_numbered}
 use Rattle.lx_model.specs.declared.stage.Stage.{Stage}
 use Rattle.lx_model.specs.declared.stage.Stage.TheVariants.{Born, Run, Faulting, Entered, Doing, Replaced, Acted, Finished, Taken, Dropped}
-use Rattle.lx_model.specs.declared.stage.Own.{Own}
-use Rattle.lx_model.specs.declared.stage.Own.TheVariants.{Alive, Dying, Gone}
+use Rattle.lx_model.specs.declared.stage.Task.{Task}
+use Rattle.lx_model.specs.declared.stage.Task.TheVariants.{Alive, Dying, Gone}
 use Rattle.lx_model.specs.Turn.{stage_mode}
-use Rattle.lx_model.specs.Finite.{at, placed, with_own}
+use Rattle.lx_model.specs.Finite.{at, placed, with_task}
 use Rattle.lx_proc.specs.declared.state.Shared.{Shared}
-use Rattle.lx_proc.specs.declared.state.Body.{Body}
+use Rattle.lx_proc.specs.declared.state.UserState.{UserState}
 use Rattle.lx_turn.specs.Linux.{linux}
 use Rattle.lx_kernel.specs.Runs.{Run as KernelRun}
-use Rattle.lx_kernel.specs.Tracing.{own_in, signal_at}
+use Rattle.lx_kernel.specs.Tracing.{task_in, signal_at}
 use Rattle.lx_turn.proofs.Placed.{put_same}
 use Rattle.lx_kernel.proofs.Placing.{remove_absent}
 use Rattle.pt_model.specs.declared.ptrace.Watch.{Watch}
@@ -31,28 +31,28 @@ use Rattle.pt_model.specs.Requests.{esrch, eio, Answered, says, let_go, plainly 
 use Rattle.pt_model.specs.Hosting.{Hosted, as_proc, untraced, with_answer, hosting_to}
 use Rattle.pt_kernel.specs.declared.tracees.Tracees.{Tracees}
 use Rattle.pt_kernel.specs.Stops.{is_alive, is_entered, plainly, resumption, seize_options}
-use Rattle.pt_kernel.specs.Hosts.{Linux_host, hosting_by, made, IsSwept, with_body, with_tracee, IsAnswer, GoesOn}
+use Rattle.pt_kernel.specs.Hosts.{Linux_host, hosting_by, made, IsSwept, with_user, with_tracee, IsAnswer, GoesOn}
 
 -- What stands already
 
-there : (x : Option (Own Body)) (b : Body) (stage : Stage) → unwrap_or x Gone ≡ Alive b stage → x ≡ Some (Alive b stage)
+there : (x : Option (Task UserState)) (b : UserState) (stage : Stage) → unwrap_or x Gone ≡ Alive b stage → x ≡ Some (Alive b stage)
 there None b stage e = absurd (cc e)
-there (Some own) b stage e = ap (λ o. Some o) e
+there (Some task) b stage e = ap (λ o. Some o) e
 
-pub same_body : (k : KernelRun) (p : ℕ) (b : Body) (stage : Stage) → own_in k p ≡ Alive b stage → with_body k p (Alive b stage) ≡ k
-same_body k p b stage e = ap (λ owns. record k { running = record { shared = k.running.shared; owns = owns; child = k.running.child; log = k.running.log } }) (put_same k.running.owns p (Alive b stage) (there (maps.get k.running.owns p) b stage e))
+pub same_user : (k : KernelRun) (p : ℕ) (b : UserState) (stage : Stage) → task_in k p ≡ Alive b stage → with_user k p (Alive b stage) ≡ k
+same_user k p b stage e = ap (λ tasks. record k { running = record { shared = k.running.shared; tasks = tasks; child = k.running.child; log = k.running.log } }) (put_same k.running.tasks p (Alive b stage) (there (maps.get k.running.tasks p) b stage e))
 
-abbrev with_owns : KernelRun → maps.FinMap nat_cmp (Own Body) → KernelRun
-with_owns k owns = record k { running = record { shared = k.running.shared; owns = owns; child = k.running.child; log = k.running.log } }
+abbrev with_tasks : KernelRun → maps.FinMap nat_cmp (Task UserState) → KernelRun
+with_tasks k tasks = record k { running = record { shared = k.running.shared; tasks = tasks; child = k.running.child; log = k.running.log } }
 
-kept : (k : KernelRun) (p : ℕ) (x : Option (Own Body)) → maps.get k.running.owns p ≡ x → (x ≡ Some Gone → ⊥) → placed k.running.owns p (unwrap_or x Gone) ≡ k.running.owns
-kept k p None e h = remove_absent k.running.owns p e
-kept k p (Some (Alive b stage)) e h = put_same k.running.owns p (Alive b stage) e
-kept k p (Some (Dying w)) e h = put_same k.running.owns p (Dying w) e
+kept : (k : KernelRun) (p : ℕ) (x : Option (Task UserState)) → maps.get k.running.tasks p ≡ x → (x ≡ Some Gone → ⊥) → placed k.running.tasks p (unwrap_or x Gone) ≡ k.running.tasks
+kept k p None e h = remove_absent k.running.tasks p e
+kept k p (Some (Alive b stage)) e h = put_same k.running.tasks p (Alive b stage) e
+kept k p (Some (Dying w)) e h = put_same k.running.tasks p (Dying w) e
 kept k p (Some Gone) e h = absurd (h refl)
 
-pub own_kept : (k : KernelRun) (p : ℕ) → IsSwept k.running → with_body k p (own_in k p) ≡ k
-own_kept k p swept = ap (with_owns k) (kept k p (maps.get k.running.owns p) refl (swept p))
+pub task_kept : (k : KernelRun) (p : ℕ) → IsSwept k.running → with_user k p (task_in k p) ≡ k
+task_kept k p swept = ap (with_tasks k) (kept k p (maps.get k.running.tasks p) refl (swept p))
 
 pub same_tracee : (x : Tracees) (p : ℕ) (t : Traced) → maps.get x.traced p ≡ Some t → record x { traced = maps.insert x.traced p t } ≡ x
 same_tracee x p t e = ap (λ m. record x { traced = m }) (put_same x.traced p t e)
@@ -64,45 +64,45 @@ known_there (Some t) h = refl
 -- Answers that change nothing, one of the two, or the process alone
 
 module _ (k : KernelRun) (x : Tracees) (p : ℕ) (t : Traced) (known : maps.get x.traced p ≡ Some t) where
-  pub answer_reads : (b : Body) (stage : Stage) → own_in k p ≡ Alive b stage → (a : Answered Body) (r : Reply) → a ≡ says (as_proc (Alive b stage) t) r → IsAnswer k x p t.message a r k x
+  pub answer_reads : (b : UserState) (stage : Stage) → task_in k p ≡ Alive b stage → (a : Answered UserState) (r : Reply) → a ≡ says (as_proc (Alive b stage) t) r → IsAnswer k x p t.message a r k x
   answer_reads b stage e a r h = subst (λ c. IsAnswer k x p t.message c r k x) (sym h)
-      (record { kernel = sym (same_body k p b stage e); tracees = sym (same_tracee x p t known); reply = refl })
+      (record { kernel = sym (same_user k p b stage e); tracees = sym (same_tracee x p t known); reply = refl })
 
-  pub answer_sets : (b : Body) (stage : Stage) → own_in k p ≡ Alive b stage → (a : Answered Body) (r : Reply) (held : Bool) (w : Option Watch) (x' : Tracees) →
-      a ≡ says (record { own = Alive b stage; held = held; watch = w }) r → x' ≡ record x { traced = maps.insert x.traced p (record { held = held; watch = w; message = t.message }) } →
+  pub answer_sets : (b : UserState) (stage : Stage) → task_in k p ≡ Alive b stage → (a : Answered UserState) (r : Reply) (held : Bool) (w : Option Watch) (x' : Tracees) →
+      a ≡ says (record { task = Alive b stage; held = held; watch = w }) r → x' ≡ record x { traced = maps.insert x.traced p (record { held = held; watch = w; message = t.message }) } →
       IsAnswer k x p t.message a r k x'
   answer_sets b stage e a r held w x' h g = subst (λ c. IsAnswer k x p t.message c r k x') (sym h)
-      (record { kernel = sym (same_body k p b stage e); tracees = g; reply = refl })
+      (record { kernel = sym (same_user k p b stage e); tracees = g; reply = refl })
 
-  pub answer_writes : (a : Answered Body) (r : Reply) (own : Own Body) (k' : KernelRun) → a ≡ says (as_proc own t) r → k' ≡ with_body k p own → IsAnswer k x p t.message a r k' x
-  answer_writes a r own k' h g = subst (λ c. IsAnswer k x p t.message c r k' x) (sym h)
+  pub answer_writes : (a : Answered UserState) (r : Reply) (task : Task UserState) (k' : KernelRun) → a ≡ says (as_proc task t) r → k' ≡ with_user k p task → IsAnswer k x p t.message a r k' x
+  answer_writes a r task k' h g = subst (λ c. IsAnswer k x p t.message c r k' x) (sym h)
       (record { kernel = g; tracees = sym (same_tracee x p t known); reply = refl })
 
-  pub unseized_reads : IsSwept k.running → (a : Answered Body) (r : Reply) → a ≡ says (as_proc (own_in k p) t) r → IsAnswer k x p t.message a r k x
+  pub unseized_reads : IsSwept k.running → (a : Answered UserState) (r : Reply) → a ≡ says (as_proc (task_in k p) t) r → IsAnswer k x p t.message a r k x
   unseized_reads swept a r h = subst (λ c. IsAnswer k x p t.message c r k x) (sym h)
-      (record { kernel = sym (own_kept k p swept); tracees = sym (same_tracee x p t known); reply = refl })
+      (record { kernel = sym (task_kept k p swept); tracees = sym (same_tracee x p t known); reply = refl })
 
-  pub unseized_seizes : IsSwept k.running → (a : Answered Body) (w : Watch) (x' : Tracees) → a ≡ seize (as_proc (own_in k p) t) (Some w) → x' ≡ with_tracee x p t.message (seize (as_proc (own_in k p) t) (Some w)) → IsAnswer k x p t.message a Agreed k x'
+  pub unseized_seizes : IsSwept k.running → (a : Answered UserState) (w : Watch) (x' : Tracees) → a ≡ seize (as_proc (task_in k p) t) (Some w) → x' ≡ with_tracee x p t.message (seize (as_proc (task_in k p) t) (Some w)) → IsAnswer k x p t.message a Agreed k x'
   unseized_seizes swept a w x' h g = subst (λ c. IsAnswer k x p t.message c Agreed k x') (sym h)
-      (record { kernel = sym (own_kept k p swept); tracees = g; reply = refl })
+      (record { kernel = sym (task_kept k p swept); tracees = g; reply = refl })
 
   -- Syscall
 
-  abbrev by_resumption : Body → Stage → Option Stage → Answered Body
+  abbrev by_resumption : UserState → Stage → Option Stage → Answered UserState
   by_resumption b stage None = says (as_proc (Alive b stage) t) eio
   by_resumption b stage (Some s) = let_go (as_proc (Alive b stage) t) b s
 
-  by_test : (b : Body) (stage s : Stage) (c : Bool) → cond c (let_go (as_proc (Alive b stage) t) b s) (says (as_proc (Alive b stage) t) eio) ≡ by_resumption b stage (cond c (Some s) None)
+  by_test : (b : UserState) (stage s : Stage) (c : Bool) → cond c (let_go (as_proc (Alive b stage) t) b s) (says (as_proc (Alive b stage) t) eio) ≡ by_resumption b stage (cond c (Some s) None)
   by_test b stage s true = refl
   by_test b stage s false = refl
 
-  by_signal : (b : Body) (signal : Signal) (cause : Cause) (n : ℕ) (c : Bool) →
+  by_signal : (b : UserState) (signal : Signal) (cause : Cause) (n : ℕ) (c : Bool) →
       cond c (let_go (as_proc (Alive b (Taken signal cause)) t) b (Taken signal cause)) (goes_plainly (as_proc (Alive b (Taken signal cause)) t) b Dropped n)
       ≡ by_resumption b (Taken signal cause) (cond c (Some (Taken signal cause)) (plainly Dropped n))
   by_signal b signal cause n true = refl
   by_signal b signal cause n false = by_test b (Taken signal cause) Dropped (n == 0)
 
-  resumed_by : (b : Body) (stage : Stage) (n : ℕ) → resumed (as_proc (Alive b stage) t) b stage n ≡ by_resumption b stage (resumption stage n)
+  resumed_by : (b : UserState) (stage : Stage) (n : ℕ) → resumed (as_proc (Alive b stage) t) b stage n ≡ by_resumption b stage (resumption stage n)
   resumed_by b Born n = by_test b Born Born (n == 0)
   resumed_by b Run n = by_test b Run Run (n == 0)
   resumed_by b (Faulting signal cause) n = by_test b (Faulting signal cause) (Faulting signal cause) (n == 0)
@@ -114,33 +114,33 @@ module _ (k : KernelRun) (x : Tracees) (p : ℕ) (t : Traced) (known : maps.get 
   resumed_by b (Taken signal cause) n = by_signal b signal cause n (signal.number == n)
   resumed_by b Dropped n = by_test b Dropped Dropped (n == 0)
 
-  refused_by : (b : Body) (stage : Stage) → own_in k p ≡ Alive b stage → (y : Option Stage) (goes : Bool) (k' : KernelRun) → GoesOn k p b y goes k' → goes ≡ false → IsAnswer k x p t.message (by_resumption b stage y) eio k' x
+  refused_by : (b : UserState) (stage : Stage) → task_in k p ≡ Alive b stage → (y : Option Stage) (goes : Bool) (k' : KernelRun) → GoesOn k p b y goes k' → goes ≡ false → IsAnswer k x p t.message (by_resumption b stage y) eio k' x
   refused_by b stage e None goes k' g h = subst (λ l. IsAnswer k x p t.message (says (as_proc (Alive b stage) t) eio) eio l x) (sym g.1) (answer_reads b stage e (says (as_proc (Alive b stage) t) eio) eio refl)
   refused_by b stage e (Some s) goes k' g h = absurd (cc (g.0, h))
 
-  pub syscall_refused : (b : Body) (stage : Stage) (n : ℕ) → own_in k p ≡ Alive b stage → (goes : Bool) (k' : KernelRun) (r : Reply) → GoesOn k p b (resumption stage n) goes k' → goes ≡ false → r ≡ eio → IsAnswer k x p t.message (resumed (as_proc (Alive b stage) t) b stage n) r k' x
+  pub syscall_refused : (b : UserState) (stage : Stage) (n : ℕ) → task_in k p ≡ Alive b stage → (goes : Bool) (k' : KernelRun) (r : Reply) → GoesOn k p b (resumption stage n) goes k' → goes ≡ false → r ≡ eio → IsAnswer k x p t.message (resumed (as_proc (Alive b stage) t) b stage n) r k' x
   syscall_refused b stage n e goes k' r g h reply = subst (λ q. IsAnswer k x p t.message (resumed (as_proc (Alive b stage) t) b stage n) q k' x) (sym reply)
       (subst (λ c. IsAnswer k x p t.message c eio k' x) (sym (resumed_by b stage n)) (refused_by b stage e (resumption stage n) goes k' g h))
 
-  released_by : (b : Body) (stage : Stage) (y : Option Stage) (goes : Bool) (k' : KernelRun) (x' : Tracees) → GoesOn k p b y goes k' → goes ≡ true →
+  released_by : (b : UserState) (stage : Stage) (y : Option Stage) (goes : Bool) (k' : KernelRun) (x' : Tracees) → GoesOn k p b y goes k' → goes ≡ true →
       x' ≡ record x { traced = maps.insert x.traced p (record { held = false; watch = t.watch; message = t.message }) } → IsAnswer k x p t.message (by_resumption b stage y) Agreed k' x'
   released_by b stage None goes k' x' g h f = absurd (cc (g.0, h))
   released_by b stage (Some s) goes k' x' g h f = record { kernel = g.1; tracees = f; reply = refl }
 
-  pub syscall_done : (b : Body) (stage : Stage) (n : ℕ) (goes : Bool) (k' : KernelRun) (x' : Tracees) → GoesOn k p b (resumption stage n) goes k' → goes ≡ true →
+  pub syscall_done : (b : UserState) (stage : Stage) (n : ℕ) (goes : Bool) (k' : KernelRun) (x' : Tracees) → GoesOn k p b (resumption stage n) goes k' → goes ≡ true →
       x' ≡ record x { traced = maps.insert x.traced p (record { held = false; watch = t.watch; message = t.message }) } → IsAnswer k x p t.message (resumed (as_proc (Alive b stage) t) b stage n) Agreed k' x'
   syscall_done b stage n goes k' x' g h f = subst (λ c. IsAnswer k x p t.message c Agreed k' x') (sym (resumed_by b stage n)) (released_by b stage (resumption stage n) goes k' x' g h f)
 
 -- Where a process goes on
 
-pub signal_passed : (k : KernelRun) (p : ℕ) (b : Body) (signal : Signal) (cause : Cause) (n : ℕ) → (signal.number == n) ≡ true → own_in k p ≡ Alive b (Taken signal cause) → GoesOn k p b (resumption (Taken signal cause) n) true k
-signal_passed k p b signal cause n h e = subst (λ c. GoesOn k p b (cond c (Some (Taken signal cause)) (plainly Dropped n)) true k) (sym h) (refl, sym (same_body k p b (Taken signal cause) e))
+pub signal_passed : (k : KernelRun) (p : ℕ) (b : UserState) (signal : Signal) (cause : Cause) (n : ℕ) → (signal.number == n) ≡ true → task_in k p ≡ Alive b (Taken signal cause) → GoesOn k p b (resumption (Taken signal cause) n) true k
+signal_passed k p b signal cause n h e = subst (λ c. GoesOn k p b (cond c (Some (Taken signal cause)) (plainly Dropped n)) true k) (sym h) (refl, sym (same_user k p b (Taken signal cause) e))
 
-goes_plain : (k : KernelRun) (p : ℕ) (b : Body) (stage : Stage) (c : Bool) → own_in k p ≡ Alive b stage → GoesOn k p b (cond c (Some stage) None) c k
-goes_plain k p b stage true e = (refl, sym (same_body k p b stage e))
+goes_plain : (k : KernelRun) (p : ℕ) (b : UserState) (stage : Stage) (c : Bool) → task_in k p ≡ Alive b stage → GoesOn k p b (cond c (Some stage) None) c k
+goes_plain k p b stage true e = (refl, sym (same_user k p b stage e))
 goes_plain k p b stage false e = (refl, refl)
 
-pub goes_elsewhere : (k : KernelRun) (p : ℕ) (b : Body) (stage : Stage) (n : ℕ) → own_in k p ≡ Alive b stage → is_entered (Some (stage_mode stage)) ≡ false → signal_at stage ≡ None → GoesOn k p b (resumption stage n) (n == 0) k
+pub goes_elsewhere : (k : KernelRun) (p : ℕ) (b : UserState) (stage : Stage) (n : ℕ) → task_in k p ≡ Alive b stage → is_entered (Some (stage_mode stage)) ≡ false → signal_at stage ≡ None → GoesOn k p b (resumption stage n) (n == 0) k
 goes_elsewhere k p b Born n e h g = goes_plain k p b Born (n == 0) e
 goes_elsewhere k p b Run n e h g = goes_plain k p b Run (n == 0) e
 goes_elsewhere k p b (Faulting signal cause) n e h g = goes_plain k p b (Faulting signal cause) (n == 0) e
@@ -154,7 +154,7 @@ goes_elsewhere k p b Dropped n e h g = goes_plain k p b Dropped (n == 0) e
 
 -- Before Seize
 
-pub not_seized : (t : Proc Body) (q : Ask) → seize_options q ≡ None → unseized t q ≡ says t esrch
+pub not_seized : (t : Proc UserState) (q : Ask) → seize_options q ≡ None → unseized t q ≡ says t esrch
 not_seized t (Seize options) e = absurd (cc e)
 not_seized t (SetOptions options) e = refl
 not_seized t GetRegs e = refl
@@ -167,7 +167,7 @@ not_seized t SigInfo e = refl
 options_of : (o options : ℕ) → Some o ≡ Some options → o ≡ options
 options_of o options e = cc
 
-pub is_seized : (t : Proc Body) (q : Ask) (options : ℕ) → seize_options q ≡ Some options → unseized t q ≡ seize t (watch_of options)
+pub is_seized : (t : Proc UserState) (q : Ask) (options : ℕ) → seize_options q ≡ Some options → unseized t q ≡ seize t (watch_of options)
 is_seized t (Seize o) options e = ap (λ n. seize t (watch_of n)) (options_of o options e)
 is_seized t (SetOptions o) options e = absurd (cc e)
 is_seized t GetRegs options e = absurd (cc e)
@@ -179,7 +179,7 @@ is_seized t SigInfo options e = absurd (cc e)
 
 -- The whole
 
-pub alive_is : (own : Own Body) → is_alive own ≡ true → (b : Body) × ((stage : Stage) × (own ≡ Alive b stage))
+pub alive_is : (task : Task UserState) → is_alive task ≡ true → (b : UserState) × ((stage : Stage) × (task ≡ Alive b stage))
 alive_is (Alive b stage) h = (b, (stage, refl))
 alive_is (Dying w) h = absurd (cc h)
 alive_is Gone h = absurd (cc h)
@@ -188,38 +188,38 @@ module _ (k : KernelRun) (x : Tracees) (p : ℕ) (t : Traced) (known : t ≡ at 
   abbrev v : Linux_host
   v = hosting_by k.running x turns pending
 
-  abbrev to : Own Body → Bool → Option Watch → Hosted Shared Body
-  to own held w = hosting_to linux v p t.message (as_proc own t) held w own q
+  abbrev to : Task UserState → Bool → Option Watch → Hosted Shared UserState
+  to task held w = hosting_to linux v p t.message (as_proc task t) held w task q
 
-  pub answered_is : (a : Answered Body) (r : Reply) (k' : KernelRun) (x' : Tracees) → IsAnswer k x p t.message a r k' x' → made (hosting_by k'.running x' turns pending) (Some r) ≡ with_answer v p t.message a
-  answered_is a r k' x' h = ap (λ l. made (hosting_by l.running x' turns pending) (Some r)) h.kernel ∙ ap (λ y. made (hosting_by (with_own k.running p a.proc.own) y turns pending) (Some r)) h.tracees ∙ ap (λ s. made (hosting_by (with_own k.running p a.proc.own) (with_tracee x p t.message a) turns pending) (Some s)) h.reply
+  pub answered_is : (a : Answered UserState) (r : Reply) (k' : KernelRun) (x' : Tracees) → IsAnswer k x p t.message a r k' x' → made (hosting_by k'.running x' turns pending) (Some r) ≡ with_answer v p t.message a
+  answered_is a r k' x' h = ap (λ l. made (hosting_by l.running x' turns pending) (Some r)) h.kernel ∙ ap (λ y. made (hosting_by (with_task k.running p a.proc.task) y turns pending) (Some r)) h.tracees ∙ ap (λ s. made (hosting_by (with_task k.running p a.proc.task) (with_tracee x p t.message a) turns pending) (Some s)) h.reply
 
-  abbrev to_at : Traced → Hosted Shared Body
-  to_at u = hosting_to linux v p u.message (as_proc (own_in k p) u) u.held u.watch (own_in k p) q
+  abbrev to_at : Traced → Hosted Shared UserState
+  to_at u = hosting_to linux v p u.message (as_proc (task_in k p) u) u.held u.watch (task_in k p) q
 
-  pub to_stopped : (b : Body) (stage : Stage) (w : Watch) (r : Reply) (k' : KernelRun) (x' : Tracees) → t.held ≡ true → t.watch ≡ Some w → own_in k p ≡ Alive b stage →
+  pub to_stopped : (b : UserState) (stage : Stage) (w : Watch) (r : Reply) (k' : KernelRun) (x' : Tracees) → t.held ≡ true → t.watch ≡ Some w → task_in k p ≡ Alive b stage →
       IsAnswer k x p t.message (stopped linux (as_proc (Alive b stage) t) b stage t.message q) r k' x' → made (hosting_by k'.running x' turns pending) (Some r) ≡ to_at (at untraced x.traced p)
   to_stopped b stage w r k' x' held watch e h =
       answered_is (stopped linux (as_proc (Alive b stage) t) b stage t.message q) r k' x' h
-      ∙ ap (λ own. to own true (Some w)) (sym e) ∙ ap (λ c. to (own_in k p) c (Some w)) (sym held) ∙ ap (λ y. to (own_in k p) t.held y) (sym watch)
+      ∙ ap (λ task. to task true (Some w)) (sym e) ∙ ap (λ c. to (task_in k p) c (Some w)) (sym held) ∙ ap (λ y. to (task_in k p) t.held y) (sym watch)
       ∙ ap to_at known
 
-  pub to_unseized : (r : Reply) (x' : Tracees) → t.held ≡ true → t.watch ≡ None → IsAnswer k x p t.message (unseized (as_proc (own_in k p) t) q) r k x' → made (hosting_by k.running x' turns pending) (Some r) ≡ to_at (at untraced x.traced p)
+  pub to_unseized : (r : Reply) (x' : Tracees) → t.held ≡ true → t.watch ≡ None → IsAnswer k x p t.message (unseized (as_proc (task_in k p) t) q) r k x' → made (hosting_by k.running x' turns pending) (Some r) ≡ to_at (at untraced x.traced p)
   to_unseized r x' held watch h =
-      answered_is (unseized (as_proc (own_in k p) t) q) r k x' h
-      ∙ ap (λ c. to (own_in k p) c None) (sym held) ∙ ap (λ y. to (own_in k p) t.held y) (sym watch)
+      answered_is (unseized (as_proc (task_in k p) t) q) r k x' h
+      ∙ ap (λ c. to (task_in k p) c None) (sym held) ∙ ap (λ y. to (task_in k p) t.held y) (sym watch)
       ∙ ap to_at known
 
-  ended : (own : Own Body) (w : Watch) → is_alive own ≡ false → made v (Some esrch) ≡ to own true (Some w)
+  ended : (task : Task UserState) (w : Watch) → is_alive task ≡ false → made v (Some esrch) ≡ to task true (Some w)
   ended (Alive b stage) w h = absurd (cc h)
   ended (Dying word) w h = refl
   ended Gone w h = refl
 
-  pub to_ended : (w : Watch) (r : Reply) → t.held ≡ true → t.watch ≡ Some w → is_alive (own_in k p) ≡ false → r ≡ esrch → made v (Some r) ≡ to_at (at untraced x.traced p)
+  pub to_ended : (w : Watch) (r : Reply) → t.held ≡ true → t.watch ≡ Some w → is_alive (task_in k p) ≡ false → r ≡ esrch → made v (Some r) ≡ to_at (at untraced x.traced p)
   to_ended w r held watch h reply =
-      ap (λ s. made v (Some s)) reply ∙ ended (own_in k p) w h
-      ∙ ap (λ c. to (own_in k p) c (Some w)) (sym held) ∙ ap (λ y. to (own_in k p) t.held y) (sym watch)
+      ap (λ s. made v (Some s)) reply ∙ ended (task_in k p) w h
+      ∙ ap (λ c. to (task_in k p) c (Some w)) (sym held) ∙ ap (λ y. to (task_in k p) t.held y) (sym watch)
       ∙ ap to_at known
 
   pub to_free : (r : Reply) → t.held ≡ false → r ≡ esrch → made v (Some r) ≡ to_at (at untraced x.traced p)
-  to_free r held reply = ap (λ s. made v (Some s)) reply ∙ ap (λ c. to (own_in k p) c t.watch) (sym held) ∙ ap to_at known
+  to_free r held reply = ap (λ s. made v (Some s)) reply ∙ ap (λ c. to (task_in k p) c t.watch) (sym held) ∙ ap to_at known

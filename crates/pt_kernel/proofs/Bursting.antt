@@ -10,22 +10,22 @@ use Rattle.lx_abi.specs.Scripts.{choice_of}
 use Rattle.lx_abi.specs.declared.script.Choice.{Choice}
 use Rattle.lx_model.specs.declared.stage.Stage.{Stage}
 use Rattle.lx_model.specs.declared.stage.Stage.TheVariants.{Born, Run, Faulting, Entered, Doing, Replaced, Acted, Finished, Taken, Dropped}
-use Rattle.lx_model.specs.declared.stage.Own.{Own}
-use Rattle.lx_model.specs.declared.stage.Own.TheVariants.{Alive, Dying, Gone}
+use Rattle.lx_model.specs.declared.stage.Task.{Task}
+use Rattle.lx_model.specs.declared.stage.Task.TheVariants.{Alive, Dying, Gone}
 use Rattle.lx_model.specs.Machine.{Ran, Goes, Calls, Faults, Takes}
 use Rattle.lx_model.specs.Turn.{Plain, Out, gives, stepped, killed_or, turn, stage_mode}
 use Rattle.lx_model.specs.Kernel.{choice_at, traces}
-use Rattle.lx_model.specs.Finite.{at, own_mode, Running, ran, bore, turn_out, running_turn}
+use Rattle.lx_model.specs.Finite.{at, task_mode, Running, ran, bore, turn_out, running_turn}
 use Rattle.lx_proc.specs.declared.state.Shared.{Shared}
-use Rattle.lx_proc.specs.declared.state.Body.{Body}
+use Rattle.lx_proc.specs.declared.state.UserState.{UserState}
 use Rattle.lx_proc.specs.declared.state.Entry.{Entry}
 use Rattle.lx_proc.specs.declared.state.Life.{Life}
 use Rattle.lx_proc.specs.declared.state.Life.TheVariants as life
 use Rattle.lx_kernel.specs.Bursts.{StaysInRun, after_turns as kernel_after_turns, Burst as KernelBurst}
 use Rattle.lx_turn.specs.Linux.{linux}
 use Rattle.lx_kernel.specs.Runs.{Run as KernelRun, turn_in, after_turn, mode_in}
-use Rattle.lx_turn.specs.Modes.{life_mode, own_mode as kernel_mode}
-use Rattle.lx_kernel.specs.Tracing.{own_in}
+use Rattle.lx_turn.specs.Modes.{life_mode, task_mode as kernel_mode}
+use Rattle.lx_kernel.specs.Tracing.{task_in}
 use Rattle.lx_turn.proofs.Placed.{put_same}
 use Rattle.pt_model.specs.declared.ptrace.Traced.{Traced}
 use Rattle.pt_model.specs.declared.ptrace.Watch.{Watch}
@@ -38,9 +38,9 @@ use Rattle.pt_model.specs.Hosting.{IsFresh}
 use Rattle.pt_model.proofs.Hosts.{hosts_attend_alike}
 use Rattle.pt_schedule.specs.Cycle.{IsNextPlace}
 use Rattle.pt_schedule.specs.Modes.{moves}
-use Rattle.pt_schedule.specs.Untraced.{sight_of as plain_sight}
+use Rattle.pt_schedule.specs.Untraced.{readiness_of as plain_readiness}
 use Rattle.pt_kernel.specs.declared.traced_kernel.TracedKernel.{TracedKernel}
-use Rattle.pt_kernel.specs.Hosts.{Linux_host, HostState, IsSwept, IsSound, able_in, hosting_of, state_of, sight_of}
+use Rattle.pt_kernel.specs.Hosts.{Linux_host, HostState, IsSwept, IsSound, able_in, hosting_of, state_of, readiness_of}
 use Rattle.pt_kernel.specs.Bursts.{after, after_turns, RunsOn, Burst}
 use Rattle.pt_kernel.proofs.Telling.{left_at}
 use Rattle.pt_kernel.proofs.Sweeping.{swept_event}
@@ -52,7 +52,7 @@ buried_not_run e life.Alive h = cc h
 buried_not_run e (life.Dying w) h = cc h
 buried_not_run e (life.Zombie w) h = cc h
 
-stage_in_run : (b : Body) (stage : Stage) → Some (stage_mode stage) ≡ Some mode.Run → (c : Body) × (Alive b stage ≡ Alive c Run)
+stage_in_run : (b : UserState) (stage : Stage) → Some (stage_mode stage) ≡ Some mode.Run → (c : UserState) × (Alive b stage ≡ Alive c Run)
 stage_in_run b Born h = absurd (cc h)
 stage_in_run b Run h = (b, refl)
 stage_in_run b (Faulting signal cause) h = absurd (cc h)
@@ -64,44 +64,44 @@ stage_in_run b Finished h = absurd (cc h)
 stage_in_run b (Taken signal cause) h = absurd (cc h)
 stage_in_run b Dropped h = absurd (cc h)
 
-own_in_run : (e : Option Entry) (own : Own Body) → kernel_mode e own ≡ Some mode.Run → (c : Body) × (own ≡ Alive c Run)
-own_in_run e (Alive b stage) h = stage_in_run b stage h
-own_in_run e (Dying w) h = absurd (cc h)
-own_in_run None Gone h = absurd (cc h)
-own_in_run (Some e) Gone h = absurd (buried_not_run e e.life h)
+task_in_run : (e : Option Entry) (task : Task UserState) → kernel_mode e task ≡ Some mode.Run → (c : UserState) × (task ≡ Alive c Run)
+task_in_run e (Alive b stage) h = stage_in_run b stage h
+task_in_run e (Dying w) h = absurd (cc h)
+task_in_run None Gone h = absurd (cc h)
+task_in_run (Some e) Gone h = absurd (buried_not_run e e.life h)
 
-pub in_run : (h : HostState) (p : ℕ) → RunsOn h p → (c : Body) × (at Gone h.hosting.running.owns p ≡ Alive c Run)
-in_run h p on = own_in_run (maps.get h.hosting.running.shared.entries p) (at Gone h.hosting.running.owns p) on.stays.0
+pub in_run : (h : HostState) (p : ℕ) → RunsOn h p → (c : UserState) × (at Gone h.hosting.running.tasks p ≡ Alive c Run)
+in_run h p on = task_in_run (maps.get h.hosting.running.shared.entries p) (at Gone h.hosting.running.tasks p) on.stays.0
 
 -- A turn that stays there
 
-module _ (v : Running Shared Body) (p : ℕ) where
-  abbrev Stays : Out Shared Body → Type 0
-  Stays o = (c : Body) × (o ≡ gives v.shared (Alive c Run))
+module _ (v : Running Shared UserState) (p : ℕ) where
+  abbrev Stays : Out Shared UserState → Type 0
+  Stays o = (c : UserState) × (o ≡ gives v.shared (Alive c Run))
 
   -- where the process stands after a turn that bears no child
-  abbrev mode_by : Out Shared Body → Type 0
-  mode_by o = kernel_mode (maps.get o.shared.entries p) (at Gone (ran v p o).owns p) ≡ Some mode.Run
+  abbrev mode_by : Out Shared UserState → Type 0
+  mode_by o = kernel_mode (maps.get o.shared.entries p) (at Gone (ran v p o).tasks p) ≡ Some mode.Run
 
-  mode_left : (o : Out Shared Body) → mode_by o → kernel_mode (maps.get o.shared.entries p) o.own ≡ Some mode.Run
+  mode_left : (o : Out Shared UserState) → mode_by o → kernel_mode (maps.get o.shared.entries p) o.task ≡ Some mode.Run
   mode_left o h = ap (kernel_mode (maps.get o.shared.entries p)) (sym (left_at v p o)) ∙ h
 
-  abbrev After : Out Shared Body → Type 0
-  After o = kernel_mode (maps.get (bore (ran v p o) o.event).shared.entries p) (at Gone (bore (ran v p o) o.event).owns p) ≡ Some mode.Run
+  abbrev After : Out Shared UserState → Type 0
+  After o = kernel_mode (maps.get (bore (ran v p o) o.event).shared.entries p) (at Gone (bore (ran v p o) o.event).tasks p) ≡ Some mode.Run
 
-  stays_by : (b : Body) (killed : Bool) (r : Ran Shared Body) (c : Choice) (child : ℕ) → linux.step v.shared p b ≡ r → After (killed_or killed linux c v.shared child p b Run) → Stays (killed_or killed linux c v.shared child p b Run)
+  stays_by : (b : UserState) (killed : Bool) (r : Ran Shared UserState) (c : Choice) (child : ℕ) → linux.step v.shared p b ≡ r → After (killed_or killed linux c v.shared child p b Run) → Stays (killed_or killed linux c v.shared child p b Run)
   stays_by b true r c child e h = absurd (cc (mode_left (killed_or true linux c v.shared child p b Run) h))
   stays_by b false (Goes d) c child e h = (d, ap (stepped linux v.shared p b) e)
   stays_by b false Calls c child e h = absurd (cc (mode_left (stepped linux v.shared p b Calls) (subst (λ r. After (stepped linux v.shared p b r)) e h)))
   stays_by b false (Faults signal cause) c child e h = absurd (cc (mode_left (stepped linux v.shared p b (Faults signal cause)) (subst (λ r. After (stepped linux v.shared p b r)) e h)))
   stays_by b false (Takes t signal cause) c child e h = absurd (cc (mode_left (stepped linux v.shared p b (Takes t signal cause)) (subst (λ r. After (stepped linux v.shared p b r)) e h)))
 
-abbrev turn_by : KernelRun → ℕ → Own Body → Out Shared Body
-turn_by k p own = turn linux (choice_at linux (choice_of k.script) (traces k.follow p) (λ n. entries p n k.running.log) own) k.running.shared k.running.child p own
+abbrev turn_by : KernelRun → ℕ → Task UserState → Out Shared UserState
+turn_by k p task = turn linux (choice_at linux (choice_of k.script) (traces k.follow p) (λ n. entries p n k.running.log) task) k.running.shared k.running.child p task
 
-stays : (k : KernelRun) (p : ℕ) → StaysInRun k p → (c : Body) × (turn_in k p ≡ gives k.running.shared (Alive c Run))
+stays : (k : KernelRun) (p : ℕ) → StaysInRun k p → (c : UserState) × (turn_in k p ≡ gives k.running.shared (Alive c Run))
 stays k p h =
-    let here : (c : Body) × (own_in k p ≡ Alive c Run) = own_in_run (maps.get k.running.shared.entries p) (own_in k p) h.0 in
+    let here : (c : UserState) × (task_in k p ≡ Alive c Run) = task_in_run (maps.get k.running.shared.entries p) (task_in k p) h.0 in
     let turned : turn_in k p ≡ turn_by k p (Alive here.0 Run) = ap (turn_by k p) here.1 in
     let it : Stays k.running p (turn_by k p (Alive here.0 Run)) =
     stays_by k.running p here.0 (linux.killed k.running.shared p) (linux.step k.running.shared p here.0)
@@ -110,11 +110,11 @@ stays k p h =
 
 -- What the host keeps of it
 
-abbrev with_run : Linux_host → Running Shared Body → List ℕ → Linux_host
+abbrev with_run : Linux_host → Running Shared UserState → List ℕ → Linux_host
 with_run v r turns = record { running = r; traced = v.traced; queue = v.queue; tracees = v.tracees; turns = turns; pending = v.pending }
 
 -- nothing changes of who isn't held
-module _ (v : Linux_host) (p child : ℕ) (c : Body) where
+module _ (v : Linux_host) (p child : ℕ) (c : UserState) where
   kept_by : (o : Option Traced) → maps.get v.traced p ≡ o → (unwrap_or o untraced).held ≡ false → traced_after v.traced p child (unwrap_or o untraced).message (unwrap_or o untraced).watch (Alive c Run) Plain ≡ v.traced
   kept_by None e h = refl
   kept_by (Some t) e h = of_watch t.watch refl
@@ -127,17 +127,17 @@ module _ (v : Linux_host) (p child : ℕ) (c : Body) where
   kept : (traced_at v p).held ≡ false → traced_after v.traced p child (traced_at v p).message (traced_at v p).watch (Alive c Run) Plain ≡ v.traced
   kept h = kept_by (maps.get v.traced p) refl h
 
-no_reports : (v : Linux_host) (p : ℕ) (w : Option Watch) (c : Body) → v.queue ++ reports_of p (stop_at {B = Body} w (Alive c Run) Plain) ≡ v.queue
+no_reports : (v : Linux_host) (p : ℕ) (w : Option Watch) (c : UserState) → v.queue ++ reports_of p (stop_at {B = UserState} w (Alive c Run) Plain) ≡ v.queue
 no_reports v p None c = append-nil v.queue
 no_reports v p (Some w) c = append-nil v.queue
 
 abbrev kernel_by : Linux_host → Bool → Bool → KernelRun
 kernel_by v follow failed = record { running = v.running; script = []; follow = follow; failed = failed }
 
-abbrev hosted_by : Linux_host → ℕ → Out Shared Body → Linux_host
+abbrev hosted_by : Linux_host → ℕ → Out Shared UserState → Linux_host
 hosted_by v p o = hosted v p (traced_at v p) o
 
-hosted_stays : (v : Linux_host) (p : ℕ) (c : Body) → (traced_at v p).held ≡ false → hosted_by v p (gives v.running.shared (Alive c Run)) ≡ with_run v (ran v.running p (gives v.running.shared (Alive c Run))) (v.turns ++ p ∷ [])
+hosted_stays : (v : Linux_host) (p : ℕ) (c : UserState) → (traced_at v p).held ≡ false → hosted_by v p (gives v.running.shared (Alive c Run)) ≡ with_run v (ran v.running p (gives v.running.shared (Alive c Run))) (v.turns ++ p ∷ [])
 hosted_stays v p c h =
     ap₂ (λ traced queue. record { running = ran v.running p (gives v.running.shared (Alive c Run)); traced = traced; queue = queue; tracees = v.tracees; turns = v.turns ++ p ∷ []; pending = v.pending })
     (kept v p v.running.child c h) (no_reports v p (traced_at v p).watch c)
@@ -147,12 +147,12 @@ one_turn : (v : Linux_host) (follow failed : Bool) (p : ℕ) → (traced_at v p)
     hosting_turn linux follow v p ≡ with_run v (after_turn (kernel_by v follow failed) p).running (v.turns ++ p ∷ [])
 one_turn v follow failed p free on =
     let k : KernelRun = kernel_by v follow failed in
-    let it : (c : Body) × (turn_in k p ≡ gives v.running.shared (Alive c Run)) = stays k p on in
+    let it : (c : UserState) × (turn_in k p ≡ gives v.running.shared (Alive c Run)) = stays k p on in
     let same : turn_out linux no_script follow v.running p ≡ turn_in k p = ap (λ script. turn_out linux script follow v.running p) (sym empty_script_is_none) in
-    ap (λ held. cond (cond held (may_die linux v.running.shared p (traced_at v p).watch (at Gone v.running.owns p)) true) (hosted_by v p (turn_out linux no_script follow v.running p)) v) free
+    ap (λ held. cond (cond held (may_die linux v.running.shared p (traced_at v p).watch (at Gone v.running.tasks p)) true) (hosted_by v p (turn_out linux no_script follow v.running p)) v) free
     ∙ ap (hosted_by v p) (same ∙ it.1)
     ∙ hosted_stays v p it.0 free
-    ∙ ap (λ (o : Out Shared Body). with_run v (bore (ran v.running p o) o.event) (v.turns ++ p ∷ [])) (sym it.1)
+    ∙ ap (λ (o : Out Shared UserState). with_run v (bore (ran v.running p o) o.event) (v.turns ++ p ∷ [])) (sym it.1)
 
 -- So many turns
 
@@ -180,7 +180,7 @@ kept_by_burst k k' p limit n b =
     let it : k' ≡ record k { running = (kernel_after_turns k p n).running } = b.turned ∙ kept_turns n k p in
     (ap (λ (x : KernelRun). x.script) it, ap (λ (x : KernelRun). x.follow) it)
 
-module _ (v : Linux_host) (follow failed : Bool) (p limit n : ℕ) (free : (traced_at v p).held ≡ false) (waits : (sight_of (state v follow)).ready ≡ false) where
+module _ (v : Linux_host) (follow failed : Bool) (p limit n : ℕ) (free : (traced_at v p).held ≡ false) (waits : (readiness_of (state v follow)).ready ≡ false) where
   abbrev k : KernelRun
   k = kernel_by v follow failed
 
@@ -206,14 +206,14 @@ none_by : (h : HostState) (p limit : ℕ) → h.failed ≡ false → (RunsOn h p
 unfolding after_turns
 none_by h p limit whole never = record { whole = whole; within = omega arith; turned = refl; runs_on = λ i l. absurd (omega (arith, l)); stopped = λ l. never }
 
-pub none_ready : (h : HostState) (p limit : ℕ) → h.failed ≡ false → (sight_of h).ready ≡ true → Burst h p limit 0 h
+pub none_ready : (h : HostState) (p limit : ℕ) → h.failed ≡ false → (readiness_of h).ready ≡ true → Burst h p limit 0 h
 none_ready h p limit whole ready = none_by h p limit whole (λ on. not_both _ ready on.waits)
 
 pub none_held : (h : HostState) (p limit : ℕ) → h.failed ≡ false → (traced_at h.hosting p).held ≡ true → Burst h p limit 0 h
 none_held h p limit whole held = none_by h p limit whole (λ on. not_both _ held on.free)
 
 -- by the parts of the host
-pub burst_made : (c c' : TracedKernel) (p limit n : ℕ) (k' : KernelRun) (turns' : List ℕ) → c.kernel.script ≡ [] → (traced_at (hosting_of c) p).held ≡ false → (sight_of (state_of c false)).ready ≡ false →
+pub burst_made : (c c' : TracedKernel) (p limit n : ℕ) (k' : KernelRun) (turns' : List ℕ) → c.kernel.script ≡ [] → (traced_at (hosting_of c) p).held ≡ false → (readiness_of (state_of c false)).ready ≡ false →
     KernelBurst c.kernel p limit n k' → turns' ≡ c.turns ++ replicate n p → c' ≡ record c { kernel = k'; turns = turns' } → Burst (state_of c false) p limit n (state_of c' false)
 burst_made c c' p limit n k' turns' empty free waits b e f =
     let same : c.kernel ≡ kernel_by (hosting_of c) c.kernel.follow c.kernel.failed = ap (λ script. record { running = c.kernel.running; script = script; follow = c.kernel.follow; failed = c.kernel.failed }) empty in
@@ -245,10 +245,10 @@ and_false true x e = e
 and_false false x e = refl
 
 module _ (c : TracedKernel) (empty : c.kernel.script ≡ []) where
-  unable : (n : ℕ) → (plain_sight c.kernel).able n ≡ false → able_in (hosting_of c) c.kernel.follow n ≡ false
+  unable : (n : ℕ) → (plain_readiness c.kernel).able n ≡ false → able_in (hosting_of c) c.kernel.follow n ≡ false
   unable n e = and_false _ _
-      (ap (λ script. moves (own_mode (at Gone c.kernel.running.owns n)) (own_mode (turn_out linux script c.kernel.follow c.kernel.running n).own)) (sym (ap choice_of empty ∙ empty_script_is_none)) ∙ e)
+      (ap (λ script. moves (task_mode (at Gone c.kernel.running.tasks n)) (task_mode (turn_out linux script c.kernel.follow c.kernel.running n).task)) (sym (ap choice_of empty ∙ empty_script_is_none)) ∙ e)
 
-  pub place_in : (p : ℕ) (r : Option ℕ) → IsNextPlace (plain_sight c.kernel).able p r → IsNextPlace (able_in (hosting_of c) c.kernel.follow) p r
+  pub place_in : (p : ℕ) (r : Option ℕ) → IsNextPlace (plain_readiness c.kernel).able p r → IsNextPlace (able_in (hosting_of c) c.kernel.follow) p r
   place_in p None h = λ n l. unable n (h n l)
   place_in p (Some q) h = (h.0, λ n l m. unable n (h.1 n l m))

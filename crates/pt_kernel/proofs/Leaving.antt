@@ -6,7 +6,7 @@ use Rattle.lx_abi.specs.declared.outcome.Outcome.{Outcome}
 use Rattle.lx_abi.specs.declared.script.Rule.{Rule}
 use Rattle.lx_model.specs.Kernel.{Kernel}
 use Rattle.lx_proc.specs.declared.state.Shared.{Shared}
-use Rattle.lx_proc.specs.declared.state.Body.{Body}
+use Rattle.lx_proc.specs.declared.state.UserState.{UserState}
 use Rattle.lx_boot.specs.First.{first_shared}
 use Rattle.lx_kernel.specs.Laws.{logged_words, KernelsLogWords}
 use Rattle.lx_turn.specs.Linux.{linux}
@@ -21,8 +21,8 @@ use Rattle.pt_kernel.specs.Left.{traced_boot, plain_boot, BootsLeaveAsPlain}
 pub boots_leave : HeadlineAt linux → ((rules : List Rule) → IsScript (choice_of rules)) → KernelsLogWords → BootsLeaveAsPlain
 boots_leave headline scripts logged boot o texts script events =
     let s : Shared = first_shared boot.files boot.input in
-    let b : Body = booted boot.argv boot.env in
-    let k : Kernel Shared Body = plain_boot boot o (choice_of script) events in
+    let b : UserState = booted boot.argv boot.env in
+    let k : Kernel Shared UserState = plain_boot boot o (choice_of script) events in
     let h : Headline outcome_in o (traced_boot boot o (choice_of script) events) k = headline outcome_in o texts (choice_of script) (scripts script) s b events in
     let words : k.shared.ended ≡ logged_words (items_of k.log) = logged (choice_of script) o.follow boot (effective linux outcome_in o (choice_of script) (first_world s b) events) in
     let as_left : Words → Outcome = λ ended. record { console = k.shared.console; files = files_of k.shared.tree; ended = ends_of ended } in

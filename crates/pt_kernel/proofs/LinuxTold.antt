@@ -9,7 +9,7 @@ use Rattle.lx_model.specs.Machine.{Answer, Refused, Returns, Jumps, Execs, Bears
 use Rattle.pt_model.specs.Admissible.{clone_number, execve_number, is_exit_number, is_exit_word}
 use Rattle.pt_model.specs.Headline.{IsTold}
 use Rattle.lx_proc.specs.declared.state.Shared.{Shared}
-use Rattle.lx_proc.specs.declared.state.Body.{Body}
+use Rattle.lx_proc.specs.declared.state.UserState.{UserState}
 use Rattle.lx_sig.specs.Calls.{argument}
 use Rattle.lx_pcalls.specs.Taking.{takes}
 use Rattle.lx_turn.specs.Linux.{linux}
@@ -19,7 +19,7 @@ exit_word : (n w : ℕ) → w ≡ n % 256 * 256 → is_exit_word w ≡ true
 exit_word n w h = grind (arith, nat_tests)
 
 -- what an answer tells of its call's number
-abbrev Tells : Call → Answer Shared Body → Type 0
+abbrev Tells : Call → Answer Shared UserState → Type 0
 Tells c (Refused e) = Unit {0}
 Tells c (Returns s b x) = Unit {0}
 Tells c (Jumps s b) = Unit {0}
@@ -28,7 +28,7 @@ Tells c (Bears s b born) = c.number ≡ clone_number
 Tells c Blocks = Unit {0}
 Tells c (Ends w) = (is_exit_number c.number ≡ true) × (is_exit_word w ≡ true)
 
-tells : (s : Shared) (child : ℕ) (c : Call) (a : Answer Shared Body) → Fits child s c a → Tells c a
+tells : (s : Shared) (child : ℕ) (c : Call) (a : Answer Shared UserState) → Fits child s c a → Tells c a
 tells s child c (Refused e) h = tt
 tells s child c (Returns t b x) h = tt
 tells s child c (Jumps t b) h = tt
@@ -37,11 +37,11 @@ tells s child c (Bears t b born) h = h.number
 tells s child c Blocks h = tt
 tells s child c (Ends w) h = (h.0, exit_word (argument c 0) w h.1)
 
-abbrev end_fits : Took Shared Body → Bool
+abbrev end_fits : Took Shared UserState → Bool
 end_fits (Passes s b) = true
 end_fits (Kills w) = is_signal w
 
-ends_fit : (s : Shared) (t : Took Shared Body) → TookFits s t → end_fits t ≡ true
+ends_fit : (s : Shared) (t : Took Shared UserState) → TookFits s t → end_fits t ≡ true
 ends_fit s (Passes u b) h = refl
 ends_fit s (Kills w) h = h
 

@@ -15,18 +15,18 @@ use Rattle.lx_abi.specs.declared.schedule.Event.{Event}
 use Rattle.lx_abi.specs.declared.schedule.Event.TheVariants.{Turn, Serve}
 use Rattle.lx_abi.specs.declared.status.Stop.{Stop}
 use Rattle.lx_abi.specs.declared.status.Stop.TheVariants.{Syscall as Syscall_stop, Signal as Signal_stop, Event as Event_stop, Ended}
-use Rattle.lx_model.specs.declared.stage.Own.{Own}
-use Rattle.lx_model.specs.declared.stage.Own.TheVariants.{Alive, Dying, Gone}
+use Rattle.lx_model.specs.declared.stage.Task.{Task}
+use Rattle.lx_model.specs.declared.stage.Task.TheVariants.{Alive, Dying, Gone}
 use Rattle.lx_model.specs.declared.stage.Stage.TheVariants.{Born}
 use Rattle.lx_model.specs.Turn.{Event as Effect, Plain, Execed, Forked}
-use Rattle.lx_model.specs.Finite.{at, placed, Running, ran, bore, turn_out, running_turn, own_mode, first_running}
+use Rattle.lx_model.specs.Finite.{at, placed, Running, ran, bore, turn_out, running_turn, task_mode, first_running}
 use Rattle.lx_proc.specs.declared.state.Shared.{Shared}
-use Rattle.lx_proc.specs.declared.state.Body.{Body}
+use Rattle.lx_proc.specs.declared.state.UserState.{UserState}
 use Rattle.lx_proc.specs.declared.state.Entry.{Entry}
 use Rattle.lx_proc.specs.declared.state.Life.{Life}
 use Rattle.lx_proc.specs.declared.state.Life.TheVariants as life
 use Rattle.lx_turn.specs.Linux.{linux}
-use Rattle.lx_turn.specs.Modes.{life_mode, own_mode as kernel_mode}
+use Rattle.lx_turn.specs.Modes.{life_mode, task_mode as kernel_mode}
 use Rattle.pt_model.specs.declared.ptrace.Report.{Report}
 use Rattle.pt_model.specs.declared.ptrace.Watch.{Watch}
 use Rattle.pt_model.specs.Ptrace.{Proc, is_effective}
@@ -35,49 +35,49 @@ use Rattle.pt_model.specs.Hosting.{proc_in, traced_at, no_script, hosting_to, to
 use Rattle.pt_model.proofs.Hosts.{hosts_run_the_kernel}
 use Rattle.pt_kernel.specs.Hosts.{Linux_host, IsSwept}
 
-abbrev Owns : Type 0
-Owns = maps.FinMap nat_cmp (Own Body)
+abbrev Tasks : Type 0
+Tasks = maps.FinMap nat_cmp (Task UserState)
 
-abbrev Swept : Owns → Type 0
-Swept owns = (p : ℕ) → maps.get owns p ≡ Some Gone → ⊥
+abbrev Swept : Tasks → Type 0
+Swept tasks = (p : ℕ) → maps.get tasks p ≡ Some Gone → ⊥
 
-inserted : (owns : Owns) (p q : ℕ) (own : Own Body) → (Some own ≡ Some Gone → ⊥) → Swept owns → maps.get (maps.insert owns p own) q ≡ Some Gone → ⊥
-inserted owns p q own there h e = go (eq_by_cmp nat_cmp q p) (sym (maps.get-insert nat_cmp_total owns p own q) ∙ e)
+inserted : (tasks : Tasks) (p q : ℕ) (task : Task UserState) → (Some task ≡ Some Gone → ⊥) → Swept tasks → maps.get (maps.insert tasks p task) q ≡ Some Gone → ⊥
+inserted tasks p q task there h e = go (eq_by_cmp nat_cmp q p) (sym (maps.get-insert nat_cmp_total tasks p task q) ∙ e)
   where
-    go : (b : Bool) → cond b (Some own) (maps.get owns q) ≡ Some Gone → ⊥
+    go : (b : Bool) → cond b (Some task) (maps.get tasks q) ≡ Some Gone → ⊥
     go true = there
     go false = h q
 
-removed : (owns : Owns) (p q : ℕ) → Swept owns → maps.get (maps.remove owns p) q ≡ Some Gone → ⊥
-removed owns p q h e = go (eq_by_cmp nat_cmp q p) (sym (maps.get-remove nat_cmp_total owns p q) ∙ e)
+removed : (tasks : Tasks) (p q : ℕ) → Swept tasks → maps.get (maps.remove tasks p) q ≡ Some Gone → ⊥
+removed tasks p q h e = go (eq_by_cmp nat_cmp q p) (sym (maps.get-remove nat_cmp_total tasks p q) ∙ e)
   where
-    go : (b : Bool) → cond b None (maps.get owns q) ≡ Some Gone → ⊥
+    go : (b : Bool) → cond b None (maps.get tasks q) ≡ Some Gone → ⊥
     go true = λ f. cc f
     go false = h q
 
-swept_placed : (owns : Owns) (p : ℕ) (own : Own Body) → Swept owns → Swept (placed owns p own)
-swept_placed owns p (Alive b stage) h q e = inserted owns p q (Alive b stage) (λ f. cc f) h e
-swept_placed owns p (Dying w) h q e = inserted owns p q (Dying w) (λ f. cc f) h e
-swept_placed owns p Gone h q e = removed owns p q h e
+swept_placed : (tasks : Tasks) (p : ℕ) (task : Task UserState) → Swept tasks → Swept (placed tasks p task)
+swept_placed tasks p (Alive b stage) h q e = inserted tasks p q (Alive b stage) (λ f. cc f) h e
+swept_placed tasks p (Dying w) h q e = inserted tasks p q (Dying w) (λ f. cc f) h e
+swept_placed tasks p Gone h q e = removed tasks p q h e
 
-swept_bore : (r : Running Shared Body) (e : Effect Body) → IsSwept r → IsSwept (bore r e)
+swept_bore : (r : Running Shared UserState) (e : Effect UserState) → IsSwept r → IsSwept (bore r e)
 swept_bore r Plain h = h
 swept_bore r Execed h = h
-swept_bore r (Forked b) h = λ q e. inserted r.owns r.child q (Alive b Born) (λ f. cc f) h e
+swept_bore r (Forked b) h = λ q e. inserted r.tasks r.child q (Alive b Born) (λ f. cc f) h e
 
-swept_turn : (follow : Bool) (r : Running Shared Body) (p : ℕ) → IsSwept r → IsSwept (running_turn linux no_script follow r p)
-swept_turn follow r p h = swept_bore (ran r p (turn_out linux no_script follow r p)) (turn_out linux no_script follow r p).event (swept_placed r.owns p (turn_out linux no_script follow r p).own h)
+swept_turn : (follow : Bool) (r : Running Shared UserState) (p : ℕ) → IsSwept r → IsSwept (running_turn linux no_script follow r p)
+swept_turn follow r p h = swept_bore (ran r p (turn_out linux no_script follow r p)) (turn_out linux no_script follow r p).event (swept_placed r.tasks p (turn_out linux no_script follow r p).task h)
 
-swept_either : (b : Bool) (r s : Running Shared Body) → IsSwept r → IsSwept s → IsSwept (cond b r s)
+swept_either : (b : Bool) (r s : Running Shared UserState) → IsSwept r → IsSwept s → IsSwept (cond b r s)
 swept_either true r s h g = h
 swept_either false r s h g = g
 
-swept_to : (v : Linux_host) (p message : ℕ) (t : Proc Body) (held : Bool) (w : Option Watch) (own : Own Body) (q : Ask) → IsSwept v.running → IsSwept (hosting_to linux v p message t held w own q).hosting.running
-swept_to v p message t true (Some w) (Alive b stage) q h = swept_placed v.running.owns p (stopped linux t b stage message q).proc.own h
+swept_to : (v : Linux_host) (p message : ℕ) (t : Proc UserState) (held : Bool) (w : Option Watch) (task : Task UserState) (q : Ask) → IsSwept v.running → IsSwept (hosting_to linux v p message t held w task q).hosting.running
+swept_to v p message t true (Some w) (Alive b stage) q h = swept_placed v.running.tasks p (stopped linux t b stage message q).proc.task h
 swept_to v p message t true (Some w) (Dying word) q h = h
 swept_to v p message t true (Some w) Gone q h = h
-swept_to v p message t true None own q h = swept_placed v.running.owns p (unseized t q).proc.own h
-swept_to v p message t false w own q h = h
+swept_to v p message t true None task q h = swept_placed v.running.tasks p (unseized t q).proc.task h
+swept_to v p message t false w task q h = h
 
 swept_took : (v : Linux_host) (rest : List Report) (p : ℕ) (s : Stop) → IsSwept v.running → IsSwept (took_report v rest p s).running
 swept_took v rest p (Syscall_stop good) h = h
@@ -93,7 +93,7 @@ swept_wait v (r ∷ rest) qs h = swept_took v rest r.pid r.stop h
 swept_serve : (outcome : Shared → Outcome) (v : Linux_host) (q : Request) → IsSwept v.running → IsSwept (hosting_serve linux outcome v q).hosting.running
 swept_serve outcome v (Boot_with boot limit words) h = h
 swept_serve outcome v Wait h = swept_wait v v.queue v.tracees h
-swept_serve outcome v (To p q) h = swept_to v p (traced_at v p).message (proc_in v p) (traced_at v p).held (traced_at v p).watch (at Gone v.running.owns p) q h
+swept_serve outcome v (To p q) h = swept_to v p (traced_at v p).message (proc_in v p) (traced_at v p).held (traced_at v p).watch (at Gone v.running.tasks p) q h
 swept_serve outcome v Ask_outcome h = h
 
 swept_pending : (outcome : Shared → Outcome) (v : Linux_host) (x : Option Request) → IsSwept v.running → IsSwept (hosting_pending linux outcome v x).hosting.running
@@ -104,5 +104,5 @@ pub swept_event : (outcome : Shared → Outcome) (follow : Bool) (v : Linux_host
 swept_event outcome follow v (Turn p) h = subst IsSwept (sym (hosts_run_the_kernel linux follow v p)) (swept_either (is_effective linux v.running.shared p (proc_in v p)) (running_turn linux no_script follow v.running p) v.running (swept_turn follow v.running p h) h)
 swept_event outcome follow v Serve h = swept_pending outcome v v.pending h
 
-pub swept_first : (s : Shared) (b : Body) → IsSwept (first_running s b)
+pub swept_first : (s : Shared) (b : UserState) → IsSwept (first_running s b)
 swept_first s b q e = inserted maps.empty 1 q (Alive b Born) (λ f. cc f) (λ p f. cc (sym (maps.get-empty nat_cmp p) ∙ f)) e

@@ -12,25 +12,25 @@ use Rattle.lx_model.specs.declared.stage.Deed.{Deed}
 use Rattle.lx_model.specs.declared.stage.Deed.TheVariants as deed
 use Rattle.lx_model.specs.declared.stage.Stage.{Stage}
 use Rattle.lx_model.specs.declared.stage.Stage.TheVariants.{Born, Run, Faulting, Entered, Doing, Replaced, Acted, Finished, Taken, Dropped}
-use Rattle.lx_model.specs.declared.stage.Own.{Own}
-use Rattle.lx_model.specs.declared.stage.Own.TheVariants.{Alive, Dying, Gone}
+use Rattle.lx_model.specs.declared.stage.Task.{Task}
+use Rattle.lx_model.specs.declared.stage.Task.TheVariants.{Alive, Dying, Gone}
 use Rattle.lx_model.specs.Machine.{Machine, Ran, Goes, Calls, Faults, Takes, Answer, Refused, Returns, Jumps, Execs, Bears, Blocks, Ends, Took, Passes, Kills}
 use Rattle.lx_model.specs.Turn.{Event, Plain, Execed, Forked, Out, stepped, answered, took, lives, killed_or, turn}
 use Rattle.lx_model.specs.Deeds.{deed_of}
 use Rattle.lx_model.specs.Kernel.{choice_at, traces}
-use Rattle.lx_model.specs.Finite.{at, item_of, Running, ran, bore, own_mode}
+use Rattle.lx_model.specs.Finite.{at, item_of, Running, ran, bore, task_mode}
 use Rattle.lx_model.proofs.Bridge.{at-placed}
 use Rattle.lx_abi.specs.Log.{entries}
 use Rattle.lx_abi.specs.Scripts.{choice_of}
 use Rattle.lx_proc.specs.declared.state.Shared.{Shared}
-use Rattle.lx_proc.specs.declared.state.Body.{Body}
+use Rattle.lx_proc.specs.declared.state.UserState.{UserState}
 use Rattle.lx_proc.specs.declared.state.Entry.{Entry}
 use Rattle.lx_proc.specs.declared.state.Life.{Life}
 use Rattle.lx_proc.specs.declared.state.Life.TheVariants as life
 use Rattle.lx_turn.specs.Linux.{linux}
 use Rattle.lx_kernel.specs.Runs.{Run as KernelRun, turn_in, after_turn, mode_in}
-use Rattle.lx_turn.specs.Modes.{life_mode, own_mode as kernel_mode}
-use Rattle.lx_kernel.specs.Tracing.{own_in}
+use Rattle.lx_turn.specs.Modes.{life_mode, task_mode as kernel_mode}
+use Rattle.lx_kernel.specs.Tracing.{task_in}
 use Rattle.pt_model.specs.declared.ptrace.Watch.{Watch}
 use Rattle.pt_model.specs.Ptrace.{tracee_stop, stop_at, is_dying}
 use Rattle.pt_model.specs.Hosting.{told_stop, ends_dying}
@@ -42,7 +42,7 @@ use Rattle.pt_kernel.specs.Stops.{turn_stop, stop_after, dies_after, is_alive, l
 
 module _ {S B : Type 0} (m : Machine S B) where
   abbrev AtItsCall : Out S B → Type 0
-  AtItsCall o = deed_of o.event ≡ deed.Bore → own_mode o.own ≡ Some mode.Acted
+  AtItsCall o = deed_of o.event ≡ deed.Bore → task_mode o.task ≡ Some mode.Acted
 
   stepped_at : (s : S) (p : ℕ) (b : B) (r : Ran S B) → AtItsCall (stepped m s p b r)
   stepped_at s p b (Goes c) e = absurd (cc e)
@@ -79,7 +79,7 @@ module _ {S B : Type 0} (m : Machine S B) where
   killed_at true c s child p b stage e = absurd (cc e)
   killed_at false c s child p b stage e = lives_at c s child p b stage e
 
-  at_its_call : (c : Choice) (s : S) (child p : ℕ) (own : Own B) → AtItsCall (turn m c s child p own)
+  at_its_call : (c : Choice) (s : S) (child p : ℕ) (task : Task B) → AtItsCall (turn m c s child p task)
   at_its_call c s child p (Alive b stage) e = killed_at (m.killed s p) c s child p b stage e
   at_its_call c s child p (Dying w) e = absurd (cc e)
   at_its_call c s child p Gone e = absurd (cc e)
@@ -95,7 +95,7 @@ gone_stop : (w : Watch) (x : Option Entry) (i : Option Item) (d : Deed) → told
 gone_stop w None i d = refl
 gone_stop w (Some e) i d = buried_stop w e e.life i d
 
-same_stop : (w : Watch) (x : Option Entry) (own : Own Body) (i : Option Item) (d : Deed) → told_stop w (kernel_mode x own) i d ≡ told_stop w (own_mode own) i d
+same_stop : (w : Watch) (x : Option Entry) (task : Task UserState) (i : Option Item) (d : Deed) → told_stop w (kernel_mode x task) i d ≡ told_stop w (task_mode task) i d
 same_stop w x (Alive b stage) i d = refl
 same_stop w x (Dying v) i d = refl
 same_stop w x Gone i d = gone_stop w x i d
@@ -105,7 +105,7 @@ buried_end e life.Alive = refl
 buried_end e (life.Dying x) = refl
 buried_end e (life.Zombie x) = refl
 
-same_end : (x : Option Entry) (own : Own Body) → ends_dying (kernel_mode x own) ≡ ends_dying (own_mode own)
+same_end : (x : Option Entry) (task : Task UserState) → ends_dying (kernel_mode x task) ≡ ends_dying (task_mode task)
 same_end x (Alive b stage) = refl
 same_end x (Dying v) = refl
 same_end None Gone = refl
@@ -113,42 +113,42 @@ same_end (Some e) Gone = buried_end e e.life
 
 -- The mode that a turn leaves
 
-abbrev stands : Running Shared Body → ℕ → Option Mode
-stands r p = kernel_mode (maps.get r.shared.entries p) (at Gone r.owns p)
+abbrev stands : Running Shared UserState → ℕ → Option Mode
+stands r p = kernel_mode (maps.get r.shared.entries p) (at Gone r.tasks p)
 
-pub left_at : (v : Running Shared Body) (p : ℕ) (o : Out Shared Body) → at Gone (ran v p o).owns p ≡ o.own
-left_at v p o = ap (λ (f : ℕ → Own Body). f p) (at-placed v.owns p o.own) ∙ put_here (at Gone v.owns) p o.own
+pub left_at : (v : Running Shared UserState) (p : ℕ) (o : Out Shared UserState) → at Gone (ran v p o).tasks p ≡ o.task
+left_at v p o = ap (λ (f : ℕ → Task UserState). f p) (at-placed v.tasks p o.task) ∙ put_here (at Gone v.tasks) p o.task
 
-module _ (v : Running Shared Body) (p : ℕ) (o : Out Shared Body) where
-  stop_of : (w : Watch) (e : Event Body) → told_stop w (own_mode o.own) (item_of o) (deed_of e) ≡ tracee_stop w o.own e → (deed_of e ≡ deed.Bore → own_mode o.own ≡ Some mode.Acted) →
-      turn_stop w (stands (bore (ran v p o) e) p) (item_of o) (deed_of e) ≡ tracee_stop w o.own e
-  stop_of w Plain told bears = ap (λ own. told_stop w (kernel_mode (maps.get o.shared.entries p) own) (item_of o) deed.Plain) (left_at v p o) ∙ same_stop w (maps.get o.shared.entries p) o.own (item_of o) deed.Plain ∙ told
-  stop_of w Execed told bears = ap (λ own. told_stop w (kernel_mode (maps.get o.shared.entries p) own) (item_of o) deed.Execed) (left_at v p o) ∙ same_stop w (maps.get o.shared.entries p) o.own (item_of o) deed.Execed ∙ told
+module _ (v : Running Shared UserState) (p : ℕ) (o : Out Shared UserState) where
+  stop_of : (w : Watch) (e : Event UserState) → told_stop w (task_mode o.task) (item_of o) (deed_of e) ≡ tracee_stop w o.task e → (deed_of e ≡ deed.Bore → task_mode o.task ≡ Some mode.Acted) →
+      turn_stop w (stands (bore (ran v p o) e) p) (item_of o) (deed_of e) ≡ tracee_stop w o.task e
+  stop_of w Plain told bears = ap (λ task. told_stop w (kernel_mode (maps.get o.shared.entries p) task) (item_of o) deed.Plain) (left_at v p o) ∙ same_stop w (maps.get o.shared.entries p) o.task (item_of o) deed.Plain ∙ told
+  stop_of w Execed told bears = ap (λ task. told_stop w (kernel_mode (maps.get o.shared.entries p) task) (item_of o) deed.Execed) (left_at v p o) ∙ same_stop w (maps.get o.shared.entries p) o.task (item_of o) deed.Execed ∙ told
   stop_of w (Forked b) told bears = sym (ap (λ x. told_stop w x (item_of o) deed.Bore) (bears refl)) ∙ told
 
-  end_of : (e : Event Body) → ends_dying (own_mode o.own) ≡ is_dying o.own → (deed_of e ≡ deed.Bore → own_mode o.own ≡ Some mode.Acted) → dies_after (stands (bore (ran v p o) e) p) (deed_of e) ≡ is_dying o.own
-  end_of Plain told bears = ap (λ own. ends_dying (kernel_mode (maps.get o.shared.entries p) own)) (left_at v p o) ∙ same_end (maps.get o.shared.entries p) o.own ∙ told
-  end_of Execed told bears = ap (λ own. ends_dying (kernel_mode (maps.get o.shared.entries p) own)) (left_at v p o) ∙ same_end (maps.get o.shared.entries p) o.own ∙ told
+  end_of : (e : Event UserState) → ends_dying (task_mode o.task) ≡ is_dying o.task → (deed_of e ≡ deed.Bore → task_mode o.task ≡ Some mode.Acted) → dies_after (stands (bore (ran v p o) e) p) (deed_of e) ≡ is_dying o.task
+  end_of Plain told bears = ap (λ task. ends_dying (kernel_mode (maps.get o.shared.entries p) task)) (left_at v p o) ∙ same_end (maps.get o.shared.entries p) o.task ∙ told
+  end_of Execed told bears = ap (λ task. ends_dying (kernel_mode (maps.get o.shared.entries p) task)) (left_at v p o) ∙ same_end (maps.get o.shared.entries p) o.task ∙ told
   end_of (Forked b) told bears = sym (ap ends_dying (bears refl)) ∙ told
 
 module _ (k : KernelRun) (p : ℕ) where
   abbrev chosen_in : Choice
-  chosen_in = choice_at linux (choice_of k.script) (traces k.follow p) (λ n. entries p n k.running.log) (own_in k p)
+  chosen_in = choice_at linux (choice_of k.script) (traces k.follow p) (λ n. entries p n k.running.log) (task_in k p)
 
-  pub stop_after_turn : (w : Option Watch) → stop_after w (mode_in (after_turn k p) p) (item_of (turn_in k p)) (deed_of (turn_in k p).event) ≡ stop_at w (turn_in k p).own (turn_in k p).event
+  pub stop_after_turn : (w : Option Watch) → stop_after w (mode_in (after_turn k p) p) (item_of (turn_in k p)) (deed_of (turn_in k p).event) ≡ stop_at w (turn_in k p).task (turn_in k p).event
   stop_after_turn None = refl
   stop_after_turn (Some w) = stop_of k.running p (turn_in k p) w (turn_in k p).event
-      (turns_tell linux chosen_in k.running.shared k.running.child p (own_in k p) w).0
-      (at_its_call linux chosen_in k.running.shared k.running.child p (own_in k p))
+      (turns_tell linux chosen_in k.running.shared k.running.child p (task_in k p) w).0
+      (at_its_call linux chosen_in k.running.shared k.running.child p (task_in k p))
 
-  pub dies_after_turn : dies_after (mode_in (after_turn k p) p) (deed_of (turn_in k p).event) ≡ is_dying (turn_in k p).own
+  pub dies_after_turn : dies_after (mode_in (after_turn k p) p) (deed_of (turn_in k p).event) ≡ is_dying (turn_in k p).task
   dies_after_turn = end_of k.running p (turn_in k p) (turn_in k p).event
-      (turns_tell linux chosen_in k.running.shared k.running.child p (own_in k p) (record { good = false; forks = false; execs = false })).1
-      (at_its_call linux chosen_in k.running.shared k.running.child p (own_in k p))
+      (turns_tell linux chosen_in k.running.shared k.running.child p (task_in k p) (record { good = false; forks = false; execs = false })).1
+      (at_its_call linux chosen_in k.running.shared k.running.child p (task_in k p))
 
 -- Who lives, by its mode
 
-lives_at_stage : (stage : Stage) (b : Body) (x : Option Entry) → lives_in (kernel_mode x (Alive b stage)) ≡ true
+lives_at_stage : (stage : Stage) (b : UserState) (x : Option Entry) → lives_in (kernel_mode x (Alive b stage)) ≡ true
 lives_at_stage Born b x = refl
 lives_at_stage Run b x = refl
 lives_at_stage (Faulting signal cause) b x = refl
@@ -165,7 +165,7 @@ buried_lives e life.Alive = refl
 buried_lives e (life.Dying x) = refl
 buried_lives e (life.Zombie x) = refl
 
-pub lives_by_mode : (x : Option Entry) (own : Own Body) → lives_in (kernel_mode x own) ≡ is_alive own
+pub lives_by_mode : (x : Option Entry) (task : Task UserState) → lives_in (kernel_mode x task) ≡ is_alive task
 lives_by_mode x (Alive b stage) = lives_at_stage stage b x
 lives_by_mode x (Dying w) = refl
 lives_by_mode None Gone = refl

@@ -10,10 +10,10 @@ use Rattle.lx_model.specs.Turn.{Event, Plain, Execed, Forked, Out}
 use Rattle.lx_model.specs.Deeds.{deed_of}
 use Rattle.lx_model.specs.Finite.{at, item_of, Running, ran, bore, turn_out}
 use Rattle.lx_proc.specs.declared.state.Shared.{Shared}
-use Rattle.lx_proc.specs.declared.state.Body.{Body}
+use Rattle.lx_proc.specs.declared.state.UserState.{UserState}
 use Rattle.lx_turn.specs.Linux.{linux}
 use Rattle.lx_kernel.specs.Runs.{Run as KernelRun, turn_in, after_turn, mode_in}
-use Rattle.lx_kernel.specs.Tracing.{own_in}
+use Rattle.lx_kernel.specs.Tracing.{task_in}
 use Rattle.pt_model.specs.declared.ptrace.Watch.{Watch}
 use Rattle.pt_model.specs.declared.ptrace.Traced.{Traced}
 use Rattle.pt_model.specs.Ptrace.{stop_at, is_dying, is_effective, reports_of, without, inherits}
@@ -26,15 +26,15 @@ use Rattle.pt_kernel.specs.Tracees.{stopped_at, with_child, after_turn as tracee
 use Rattle.pt_kernel.specs.Hosts.{Linux_host, hosting_by}
 use Rattle.pt_kernel.proofs.Telling.{stop_after_turn, dies_after_turn}
 
-abbrev turned_by : Option Watch → Out Shared Body → Event Body → ℕ → Turned
-turned_by w o e child = record { stop = stop_at w o.own e; dying = is_dying o.own; deed = deed_of e; child = child }
+abbrev turned_by : Option Watch → Out Shared UserState → Event UserState → ℕ → Turned
+turned_by w o e child = record { stop = stop_at w o.task e; dying = is_dying o.task; deed = deed_of e; child = child }
 
-module _ (r : Running Shared Body) (x : Tracees) (turns : List ℕ) (pending : Option Request) where
-  child_is : (s : Running Shared Body) (y : Tracees) (ts : List ℕ) (child : ℕ) (w : Option Watch) → with_newborn (hosting_by s y ts pending) child w ≡ hosting_by s (with_child y child w) ts pending
+module _ (r : Running Shared UserState) (x : Tracees) (turns : List ℕ) (pending : Option Request) where
+  child_is : (s : Running Shared UserState) (y : Tracees) (ts : List ℕ) (child : ℕ) (w : Option Watch) → with_newborn (hosting_by s y ts pending) child w ≡ hosting_by s (with_child y child w) ts pending
   child_is s y ts child None = refl
   child_is s y ts child (Some w) = refl
 
-  hosted_at : (p : ℕ) (t : Traced) (o : Out Shared Body) (w : Option Watch) (e : Event Body) →
+  hosted_at : (p : ℕ) (t : Traced) (o : Out Shared UserState) (w : Option Watch) (e : Event UserState) →
       hosted (hosting_by r x turns pending) p (record t { watch = w }) (record o { event = e })
       ≡ hosting_by (bore (ran r p (record o { event = e })) e) (tracees_after x p (record t { watch = w }) (turned_by w o e r.child)) (turns ++ p ∷ []) pending
   hosted_at p t o None Plain = refl
@@ -43,7 +43,7 @@ module _ (r : Running Shared Body) (x : Tracees) (turns : List ℕ) (pending : O
   hosted_at p t o (Some w) Plain = refl
   hosted_at p t o (Some w) Execed = refl
   hosted_at p t o (Some w) (Forked b) = child_is (bore (ran r p (record o { event = Forked b })) (Forked b))
-      (record { traced = stopped_at x.traced p t.message (Some w) (turned_by (Some w) o (Forked b) r.child); queue = cond (is_dying o.own) (without p x.queue) x.queue ++ reports_of p (stop_at (Some w) o.own (Forked b)); pids = x.pids })
+      (record { traced = stopped_at x.traced p t.message (Some w) (turned_by (Some w) o (Forked b) r.child); queue = cond (is_dying o.task) (without p x.queue) x.queue ++ reports_of p (stop_at (Some w) o.task (Forked b)); pids = x.pids })
       (turns ++ p ∷ []) r.child (inherits (Some w))
 
   -- a turn that is effective
@@ -60,7 +60,7 @@ module _ (k : KernelRun) (x : Tracees) (turns : List ℕ) (pending : Option Requ
   abbrev told : Option Stop → Bool → Deed → Turned
   told stop dying d = record { stop = stop; dying = dying; deed = d; child = k.running.child }
 
-  pub turn_done : k.script ≡ [] → is_effective linux k.running.shared p (as_proc (own_in k p) t) ≡ true →
+  pub turn_done : k.script ≡ [] → is_effective linux k.running.shared p (as_proc (task_in k p) t) ≡ true →
       hosting_by (after_turn k p).running (tracees_after x p t (told (stop_after t.watch (mode_in (after_turn k p) p) (item_of (turn_in k p)) (deed_of (turn_in k p).event)) (dies_after (mode_in (after_turn k p) p) (deed_of (turn_in k p).event)) (deed_of (turn_in k p).event))) (turns ++ p ∷ []) pending
       ≡ hosting_turn linux k.follow v p
   turn_done empty effective =
@@ -68,14 +68,14 @@ module _ (k : KernelRun) (x : Tracees) (turns : List ℕ) (pending : Option Requ
       ∙ sym (hosted_at k.running x turns pending p t (turn_in k p) t.watch (turn_in k p).event)
       ∙ ap (λ o. hosted v p t o) (turn_is k.running x turns pending k p refl empty)
       ∙ ap (λ u. hosted v p u (turn_out linux no_script k.follow k.running p)) known
-      ∙ ap (λ b. cond b (hosted v p (at untraced x.traced p) (turn_out linux no_script k.follow k.running p)) v) (sym (ap (λ u. is_effective linux k.running.shared p (as_proc (own_in k p) u)) (sym known) ∙ effective))
+      ∙ ap (λ b. cond b (hosted v p (at untraced x.traced p) (turn_out linux no_script k.follow k.running p)) v) (sym (ap (λ u. is_effective linux k.running.shared p (as_proc (task_in k p) u)) (sym known) ∙ effective))
 
-  pub no_turn : is_effective linux k.running.shared p (as_proc (own_in k p) t) ≡ false → v ≡ hosting_turn linux k.follow v p
-  no_turn held = ap (λ b. cond b (hosted v p (at untraced x.traced p) (turn_out linux no_script k.follow k.running p)) v) (sym (ap (λ u. is_effective linux k.running.shared p (as_proc (own_in k p) u)) (sym known) ∙ held))
+  pub no_turn : is_effective linux k.running.shared p (as_proc (task_in k p) t) ≡ false → v ≡ hosting_turn linux k.follow v p
+  no_turn held = ap (λ b. cond b (hosted v p (at untraced x.traced p) (turn_out linux no_script k.follow k.running p)) v) (sym (ap (λ u. is_effective linux k.running.shared p (as_proc (task_in k p) u)) (sym known) ∙ held))
 
   -- by the parts of the host that the turn left
   module _ (k' : KernelRun) (x' : Tracees) (turns' : List ℕ) (stop : Option Stop) (dying : Bool) (d : Deed) (after : Option Mode) (item : Option Item) (child : ℕ) where
-    pub turn_made : k.script ≡ [] → is_effective linux k.running.shared p (as_proc (own_in k p) t) ≡ true → k' ≡ after_turn k p →
+    pub turn_made : k.script ≡ [] → is_effective linux k.running.shared p (as_proc (task_in k p) t) ≡ true → k' ≡ after_turn k p →
         after ≡ mode_in k' p → item ≡ item_of (turn_in k p) → d ≡ deed_of (turn_in k p).event →
         stop ≡ stop_after t.watch after item d → dying ≡ dies_after after d → child ≡ k.running.child →
         x' ≡ tracees_after x p t (record { stop = stop; dying = dying; deed = d; child = child }) → turns' ≡ turns ++ p ∷ [] →

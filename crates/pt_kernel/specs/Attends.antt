@@ -4,7 +4,7 @@ use Rattle.lx_abi.specs.declared.ptrace.Reply.{Reply}
 use Rattle.lx_abi.specs.declared.schedule.Event.{Event}
 use Rattle.pt_schedule.specs.declared.schedule.Schedule.{Schedule}
 use Rattle.pt_schedule.specs.Schedules.{next_of}
-use Rattle.pt_kernel.specs.Hosts.{HostState, sight_of, event_of}
+use Rattle.pt_kernel.specs.Hosts.{HostState, readiness_of, event_of}
 use Rattle.pt_kernel.specs.Bursts.{after}
 
 -- where host and schedule stand in the end, and what was answered: none where the schedule ended before
@@ -22,12 +22,12 @@ GoesOn h s es z None again = again
 -- answers nothing
 abbrev pub IsFed : HostState → Schedule → List Event → Attended → Type 0
 IsFed h s [] z =
-    ((next_of s (sight_of h)).event ≡ None)
-    × (z ≡ record { host = h; schedule = (next_of s (sight_of h)).schedule; reply = None })
+    ((next_of s (readiness_of h)).event ≡ None)
+    × (z ≡ record { host = h; schedule = (next_of s (readiness_of h)).schedule; reply = None })
 IsFed h s (e ∷ es) z =
-    ((next_of s (sight_of h)).event ≡ Some e)
-    × GoesOn (after h e) (next_of s (sight_of h)).schedule es z (event_of h e).reply
-    (IsFed (after h e) (next_of s (sight_of h)).schedule es z)
+    ((next_of s (readiness_of h)).event ≡ Some e)
+    × GoesOn (after h e) (next_of s (readiness_of h)).schedule es z (event_of h e).reply
+    (IsFed (after h e) (next_of s (readiness_of h)).schedule es z)
 
 pub record Attends (h : HostState) (s : Schedule) (z : Attended) : Type 0 where
   -- the events that the schedule gave

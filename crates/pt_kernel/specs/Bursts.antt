@@ -5,7 +5,7 @@ use Rattle.lx_abi.specs.declared.schedule.Event.TheVariants.{Turn}
 use Rattle.lx_kernel.specs.Bursts.{StaysInRun}
 use Rattle.lx_kernel.specs.Runs.{Run}
 use Rattle.pt_model.specs.Hosting.{traced_at}
-use Rattle.pt_kernel.specs.Hosts.{HostState, sight_of, event_of}
+use Rattle.pt_kernel.specs.Hosts.{HostState, readiness_of, event_of}
 
 -- the host after an event
 abbrev pub after : HostState → Event → HostState
@@ -22,7 +22,7 @@ kernel_of h = record { running = h.hosting.running; script = []; follow = h.foll
 
 -- the next turn of a process that its tracer doesn't hold runs an instruction, and no request is ready before it
 pub record RunsOn (h : HostState) (pid : ℕ) : Type 0 where
-  pub waits : (sight_of h).ready ≡ false
+  pub waits : (readiness_of h).ready ≡ false
   pub free : (traced_at h.hosting pid).held ≡ false
   pub stays : StaysInRun (kernel_of h) pid
 

@@ -9,28 +9,28 @@ use Rattle.lx_abi.specs.declared.schedule.Event.{Event}
 use Rattle.lx_abi.specs.declared.status.EventStop.TheVariants.{Stop as At_start}
 use Rattle.lx_abi.specs.declared.status.Stop.TheVariants.{Event as Event_stop}
 use Rattle.lx_model.specs.declared.stage.Stage.{Stage}
-use Rattle.lx_model.specs.declared.stage.Own.{Own}
-use Rattle.lx_model.specs.declared.stage.Own.TheVariants.{Alive, Gone}
-use Rattle.lx_model.specs.Finite.{at, Running, with_own, own_mode, turn_out}
+use Rattle.lx_model.specs.declared.stage.Task.{Task}
+use Rattle.lx_model.specs.declared.stage.Task.TheVariants.{Alive, Gone}
+use Rattle.lx_model.specs.Finite.{at, Running, with_task, task_mode, turn_out}
 use Rattle.lx_proc.specs.declared.state.Shared.{Shared}
-use Rattle.lx_proc.specs.declared.state.Body.{Body}
+use Rattle.lx_proc.specs.declared.state.UserState.{UserState}
 use Rattle.lx_turn.specs.Linux.{linux}
 use Rattle.lx_kernel.specs.Outcomes.{outcome_in}
 use Rattle.lx_kernel.specs.Runs.{Run as KernelRun}
-use Rattle.lx_kernel.specs.Tracing.{own_in}
+use Rattle.lx_kernel.specs.Tracing.{task_in}
 use Rattle.pt_model.specs.declared.ptrace.Traced.{Traced}
 use Rattle.pt_model.specs.Ptrace.{is_effective}
 use Rattle.pt_model.specs.Requests.{Answered, stopped}
 use Rattle.pt_model.specs.Hosting.{Hosting, Hosted, as_proc, proc_in, no_script, ready_in, hosting_event, IsFresh}
 use Rattle.pt_schedule.specs.Modes.{is_finished, moves}
-use Rattle.pt_schedule.specs.Schedules.{Sight}
+use Rattle.pt_schedule.specs.Schedules.{Readiness}
 use Rattle.pt_kernel.specs.declared.tracees.Tracees.{Tracees}
 use Rattle.pt_kernel.specs.declared.traced_kernel.TracedKernel.{TracedKernel}
 
 abbrev pub Linux_host : Type 0
-Linux_host = Hosting Shared Body
+Linux_host = Hosting Shared UserState
 
-abbrev pub hosting_by : Running Shared Body → Tracees → List ℕ → Option Request → Linux_host
+abbrev pub hosting_by : Running Shared UserState → Tracees → List ℕ → Option Request → Linux_host
 hosting_by running x turns pending = record {
   running = running;
   traced = x.traced;
@@ -44,39 +44,39 @@ abbrev pub hosting_of : TracedKernel → Linux_host
 hosting_of c = hosting_by c.kernel.running c.tracees c.turns c.pending
 
 -- no process that is gone keeps a place in the table
-abbrev pub IsSwept : Running Shared Body → Type 0
-IsSwept k = (p : ℕ) → maps.get k.owns p ≡ Some Gone → ⊥
+abbrev pub IsSwept : Running Shared UserState → Type 0
+IsSwept k = (p : ℕ) → maps.get k.tasks p ≡ Some Gone → ⊥
 
 -- What an answer leaves
 
-abbrev pub with_body : KernelRun → ℕ → Own Body → KernelRun
-with_body k p own = record k { running = with_own k.running p own }
+abbrev pub with_user : KernelRun → ℕ → Task UserState → KernelRun
+with_user k p task = record k { running = with_task k.running p task }
 
-abbrev pub with_tracee : Tracees → ℕ → ℕ → Answered Body → Tracees
+abbrev pub with_tracee : Tracees → ℕ → ℕ → Answered UserState → Tracees
 with_tracee x p message a = record {
   traced = maps.insert x.traced p (record { held = a.proc.held; watch = a.proc.watch; message = message });
   queue = cond a.seized (x.queue ++ record { pid = p; stop = Event_stop At_start } ∷ []) x.queue;
   pids = cond a.seized (x.pids ++ p ∷ []) x.pids;
 }
 
-pub record IsAnswer (k : KernelRun) (x : Tracees) (p message : ℕ) (a : Answered Body)
+pub record IsAnswer (k : KernelRun) (x : Tracees) (p message : ℕ) (a : Answered UserState)
     (r : Reply) (k' : KernelRun) (x' : Tracees) : Type 0 where
-  pub kernel : k' ≡ with_body k p a.proc.own
+  pub kernel : k' ≡ with_user k p a.proc.task
   pub tracees : x' ≡ with_tracee x p message a
   pub reply : r ≡ a.reply
 
 -- a held tracee that lives is answered so
 abbrev pub Answers : KernelRun → Tracees → ℕ → Traced → Ask → Reply → KernelRun → Tracees → Type 0
-Answers k x p t q r k' x' = (b : Body) (stage : Stage) → own_in k p ≡ Alive b stage →
+Answers k x p t q r k' x' = (b : UserState) (stage : Stage) → task_in k p ≡ Alive b stage →
     IsAnswer k x p t.message (stopped linux (as_proc (Alive b stage) t) b stage t.message q) r k' x'
 
 -- it goes on from a stage, or the kernel is unchanged
-abbrev pub GoesOn : KernelRun → ℕ → Body → Option Stage → Bool → KernelRun → Type 0
+abbrev pub GoesOn : KernelRun → ℕ → UserState → Option Stage → Bool → KernelRun → Type 0
 GoesOn k p b None goes k' = (goes ≡ false) × (k' ≡ k)
-GoesOn k p b (Some stage) goes k' = (goes ≡ true) × (k' ≡ with_body k p (Alive b stage))
+GoesOn k p b (Some stage) goes k' = (goes ≡ true) × (k' ≡ with_user k p (Alive b stage))
 
 -- what an event leaves, and its reply
-abbrev pub made : Linux_host → Option Reply → Hosted Shared Body
+abbrev pub made : Linux_host → Option Reply → Hosted Shared UserState
 made v r = record { hosting = v; reply = r }
 
 -- The host's value
@@ -109,14 +109,14 @@ is_boot Ask_outcome = false
 abbrev pub able_in : Linux_host → Bool → ℕ → Bool
 able_in v follow p =
     is_effective linux v.running.shared p (proc_in v p)
-    && moves (own_mode (at Gone v.running.owns p)) (own_mode (turn_out linux no_script follow v.running p).own)
+    && moves (task_mode (at Gone v.running.tasks p)) (task_mode (turn_out linux no_script follow v.running p).task)
 
-abbrev pub sight_of : HostState → Sight
-sight_of h = record {
+abbrev pub readiness_of : HostState → Readiness
+readiness_of h = record {
   ready = ready_in h.hosting.pending h.hosting.queue h.hosting.tracees;
   able = λ p. not h.failed && able_in h.hosting h.follow p;
-  finished = λ p. is_finished (own_mode (at Gone h.hosting.running.owns p));
+  finished = λ p. is_finished (task_mode (at Gone h.hosting.running.tasks p));
 }
 
-abbrev pub event_of : HostState → Event → Hosted Shared Body
+abbrev pub event_of : HostState → Event → Hosted Shared UserState
 event_of h e = hosting_event linux outcome_in h.follow h.hosting e

@@ -8,7 +8,7 @@ use Rattle.lx_abi.specs.declared.schedule.Event.{Event}
 use Rattle.lx_abi.specs.declared.script.Rule.{Rule}
 use Rattle.lx_model.specs.Kernel.{Script, Kernel}
 use Rattle.lx_proc.specs.declared.state.Shared.{Shared}
-use Rattle.lx_proc.specs.declared.state.Body.{Body}
+use Rattle.lx_proc.specs.declared.state.UserState.{UserState}
 use Rattle.lx_boot.specs.First.{first_shared}
 use Rattle.lx_kernel.specs.Laws.{logged_words}
 use Rattle.lx_turn.specs.Linux.{linux}
@@ -22,17 +22,17 @@ use Rattle.pt_model.specs.Tracer.{Over}
 use Rattle.pt_model.specs.World.{World}
 
 -- a boot, traced by these events
-abbrev pub traced_boot : Boot → Options → Script → List Event → World Shared Body
+abbrev pub traced_boot : Boot → Options → Script → List Event → World Shared UserState
 traced_boot boot o script events =
     traced_run linux outcome_in o script (first_shared boot.files boot.input) (booted boot.argv boot.env) events
 
 -- and the untraced kernel under the script, by their effective turns
-abbrev pub plain_boot : Boot → Options → Script → List Event → Kernel Shared Body
+abbrev pub plain_boot : Boot → Options → Script → List Event → Kernel Shared UserState
 plain_boot boot o script events =
     plain_run linux outcome_in o script (first_shared boot.files boot.input) (booted boot.argv boot.env) events
 
 -- the console, the files, and the wait words of the ends in the log
-abbrev pub left_by : Kernel Shared Body → Outcome
+abbrev pub left_by : Kernel Shared UserState → Outcome
 left_by k = record {
   console = k.shared.console;
   files = files_of k.shared.tree;
@@ -40,7 +40,7 @@ left_by k = record {
 }
 
 -- at every moment these are left, and the reply to Outcome says so
-pub record Leaves (w : World Shared Body) (x : Outcome) : Type 0 where
+pub record Leaves (w : World Shared UserState) (x : Outcome) : Type 0 where
   pub left : outcome_in w.host.shared ≡ x
   pub replied : (y : Outcome) → w.tracer.focus ≡ Over y → y ≡ x
 

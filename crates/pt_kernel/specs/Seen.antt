@@ -3,10 +3,10 @@ use Rattle.std.specs.Prelude.{◌≡◌, ℕ, Bool, true, false, ◌&&◌, List,
 use Rattle.std.specs.Option.{option_map}
 use Rattle.lx_abi.specs.declared.ptrace.Request.{Request}
 use Rattle.lx_abi.specs.declared.schedule.Event.{Event}
-use Rattle.lx_model.specs.Finite.{own_mode}
+use Rattle.lx_model.specs.Finite.{task_mode}
 use Rattle.lx_model.specs.Machine.{Machine}
 use Rattle.lx_proc.specs.declared.state.Shared.{Shared}
-use Rattle.lx_proc.specs.declared.state.Body.{Body}
+use Rattle.lx_proc.specs.declared.state.UserState.{UserState}
 use Rattle.lx_turn.specs.Linux.{linux}
 use Rattle.lx_kernel.specs.Outcomes.{outcome_in}
 use Rattle.pt_model.specs.Attending.{Attending, is_ready, called, left_pending, Schedules, Gives}
@@ -15,26 +15,26 @@ use Rattle.pt_model.specs.Ptrace.{Host, is_effective, is_there, host_turn_of}
 use Rattle.pt_kernel.specs.Attends.{Attended, Attends}
 use Rattle.pt_kernel.specs.Hosts.{Linux_host, HostState}
 use Rattle.pt_schedule.specs.Modes.{is_finished, moves}
-use Rattle.pt_schedule.specs.Schedules.{Sight, Given, next_of}
+use Rattle.pt_schedule.specs.Schedules.{Readiness, Given, next_of}
 use Rattle.pt_schedule.specs.declared.schedule.Schedule.{Schedule}
 
 -- a turn of the process is effective, and runs an instruction or changes its mode
 abbrev pub is_able : {S B : Type 0} → Machine S B → Host S B → ℕ → Bool
 is_able m h p =
-    is_effective m h.shared p (h.procs p) && moves (own_mode (h.procs p).own) (own_mode (host_turn_of m h p).own)
+    is_effective m h.shared p (h.procs p) && moves (task_mode (h.procs p).task) (task_mode (host_turn_of m h p).task)
 
-abbrev pub sees : Attending Shared Body → Sight
+abbrev pub sees : Attending Shared UserState → Readiness
 sees a = record {
   ready = is_ready linux outcome_in a;
   able = is_able linux a.host;
-  finished = λ p. is_finished (own_mode (a.host.procs p).own);
+  finished = λ p. is_finished (task_mode (a.host.procs p).task);
 }
 
 -- the event, and what is left of the schedule; none where it has ended
 abbrev pub given : Given Schedule → Option (Event × Schedule)
 given g = option_map (λ e. (e, g.schedule)) g.event
 
-abbrev pub next_of_host : Schedules Schedule Shared Body
+abbrev pub next_of_host : Schedules Schedule Shared UserState
 next_of_host x a = given (next_of x (sees a))
 
 -- The pending request, attended to over finite maps, is a call of the ptrace machine: the schedule gave these events

@@ -11,8 +11,8 @@ use Rattle.lx_model.specs.declared.stage.Deed.{Deed}
 use Rattle.lx_model.specs.declared.stage.Deed.TheVariants as deed
 use Rattle.lx_model.specs.declared.stage.Stage.{Stage}
 use Rattle.lx_model.specs.declared.stage.Stage.TheVariants.{Born, Run, Faulting, Entered, Doing, Replaced, Acted, Finished, Taken, Dropped}
-use Rattle.lx_model.specs.declared.stage.Own.{Own}
-use Rattle.lx_model.specs.declared.stage.Own.TheVariants.{Alive, Dying, Gone}
+use Rattle.lx_model.specs.declared.stage.Task.{Task}
+use Rattle.lx_model.specs.declared.stage.Task.TheVariants.{Alive, Dying, Gone}
 use Rattle.pt_model.specs.declared.ptrace.Watch.{Watch}
 use Rattle.pt_model.specs.Hosting.{deed_stop, told_stop, ends_dying}
 
@@ -32,7 +32,7 @@ dies_after after deed.Execed = ends_dying after
 dies_after after deed.Bore = false
 
 -- it has not ended
-abbrev pub is_alive : {B : Type 0} → Own B → Bool
+abbrev pub is_alive : {B : Type 0} → Task B → Bool
 is_alive (Alive b stage) = true
 is_alive (Dying word) = false
 is_alive Gone = false

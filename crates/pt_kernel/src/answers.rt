@@ -5,7 +5,7 @@ ghost use Rattle.std.specs.FinMap as maps;
 ghost use Rattle.lx_abi.specs.declared.ptrace.Ask.TheVariants as Asks;
 ghost use Rattle.lx_model.specs.Finite.{at};
 ghost use Rattle.lx_model.specs.declared.stage.Stage.{Stage};
-ghost use Rattle.lx_model.specs.declared.stage.Own.TheVariants as Owns;
+ghost use Rattle.lx_model.specs.declared.stage.Task.TheVariants as Tasks;
 ghost use Rattle.lx_model.specs.declared.stage.Stage.TheVariants as Stages;
 ghost use Rattle.lx_abi.specs.declared.signal.Signal.{Signal};
 ghost use Rattle.lx_abi.specs.Signals.{may_join};
@@ -13,8 +13,8 @@ ghost use Rattle.lx_abi.specs.declared.log.Cause.{Cause};
 ghost use Rattle.lx_abi.specs.declared.ptrace.Request.{Request};
 ghost use Rattle.lx_kernel.specs.Runs.{Run as KernelRun};
 ghost use Rattle.lx_turn.specs.Linux.{linux};
-ghost use Rattle.lx_proc.specs.declared.state.Body.{Body};
-ghost use Rattle.lx_kernel.specs.Tracing.{own_in};
+ghost use Rattle.lx_proc.specs.declared.state.UserState.{UserState};
+ghost use Rattle.lx_kernel.specs.Tracing.{task_in};
 ghost use Rattle.pt_model.specs.Ptrace.{watch_of};
 ghost use Rattle.pt_model.specs.Requests.{seize as seize_by, info_of, info_at, code_of, sender_of, status_of, address_of, may_peek, peeked, unseized};
 ghost use Rattle.pt_model.specs.Hosting.{as_proc, untraced, hosting_to};
@@ -89,7 +89,7 @@ fn may_join(number: u32) -> bool
 
 fn get_regs(kernel: &Kernel, pid: u32) -> Result<Reply, AllocError>
     ensures { IfOk result
-        (λ r. (b : Body) (stage : Stage) → own_in kernel.now pid ≡ Owns.Alive b stage
+        (λ r. (b : UserState) (stage : Stage) → task_in kernel.now pid ≡ Tasks.Alive b stage
         → r ≡ Reply.Registers (linux.regs b)) }
 {
     match kernel.regs(pid)? {
@@ -110,7 +110,7 @@ fn peeked(bytes: Bytes) -> Reply
 
 fn peek(kernel: &Kernel, pid: u32, address: u64, length: u32) -> Result<Reply, AllocError>
     ensures { IfOk result
-        (λ r. (b : Body) (stage : Stage) → own_in kernel.now pid ≡ Owns.Alive b stage
+        (λ r. (b : UserState) (stage : Stage) → task_in kernel.now pid ≡ Tasks.Alive b stage
         → r ≡ cond (may_peek length) (peeked (linux.peek b address length)) (Reply.Errno 22)) }
 {
     if length < 1 || length > 4096 {
@@ -123,7 +123,7 @@ fn peek(kernel: &Kernel, pid: u32, address: u64, length: u32) -> Result<Reply, A
 }
 
 fn sig_info(kernel: &Kernel, pid: u32) -> Reply
-    ensures { (b : Body) (stage : Stage) → own_in kernel.now pid ≡ Owns.Alive b stage → result ≡ info_at stage }
+    ensures { (b : UserState) (stage : Stage) → task_in kernel.now pid ≡ Tasks.Alive b stage → result ≡ info_at stage }
 {
     match kernel.siginfo(pid) {
         Some((signal, cause)) => Reply::Info {
@@ -135,7 +135,7 @@ fn sig_info(kernel: &Kernel, pid: u32) -> Reply
 
 /// A tracee at the entry of a call goes on, with a signal joined to it.
 fn resume_call(kernel: &mut Kernel, pid: u32, number: u32) -> bool
-    ensures { (b : Body) (joined : Option Signal) → own_in kernel.old pid ≡ Owns.Alive b (Stages.Entered joined)
+    ensures { (b : UserState) (joined : Option Signal) → task_in kernel.old pid ≡ Tasks.Alive b (Stages.Entered joined)
         → GoesOn kernel.old pid b (resumption (Stages.Entered joined) number) result kernel.new }
 {
     if number != 0 && !may_join(number) {
@@ -146,7 +146,7 @@ fn resume_call(kernel: &mut Kernel, pid: u32, number: u32) -> bool
 
 /// A tracee at a signal that it has taken goes on, with the signal or without it.
 fn resume_signal(kernel: &mut Kernel, pid: u32, taken: Signal, number: u32) -> bool
-    ensures { (b : Body) (cause : Cause) → own_in kernel.old pid ≡ Owns.Alive b (Stages.Taken taken cause)
+    ensures { (b : UserState) (cause : Cause) → task_in kernel.old pid ≡ Tasks.Alive b (Stages.Taken taken cause)
         → GoesOn kernel.old pid b (resumption (Stages.Taken taken cause) number) result kernel.new }
 {
     if u32::from(taken.number) == number {
@@ -160,7 +160,7 @@ fn resume_signal(kernel: &mut Kernel, pid: u32, taken: Signal, number: u32) -> b
 
 /// A tracee goes on; false, and nothing is changed, where the signal's number is refused.
 fn resume(kernel: &mut Kernel, pid: u32, number: u32) -> bool
-    ensures { (b : Body) (stage : Stage) → own_in kernel.old pid ≡ Owns.Alive b stage
+    ensures { (b : UserState) (stage : Stage) → task_in kernel.old pid ≡ Tasks.Alive b stage
         → GoesOn kernel.old pid b (resumption stage number) result kernel.new }
 {
     if is_entered(kernel.mode(pid)) {
@@ -275,7 +275,7 @@ fn seize(tracees: &mut Tracees, pid: u32, traced: Traced, options: u32) -> Resul
     ensures { IfOk result
         (λ r. (k : KernelRun) → IsSwept k.running
         → IsAnswer k tracees.old pid traced.message
-        (seize_by (as_proc (own_in k pid) traced) (watch_of options)) r k tracees.new) }
+        (seize_by (as_proc (task_in k pid) traced) (watch_of options)) r k tracees.new) }
 {
     match watch_of(options) {
         None => Ok(refusal(EINVAL)),
@@ -297,7 +297,7 @@ fn answer_unseized(
     ensures { IfOk result
         (λ r. (k : KernelRun) → IsSwept k.running
         → IsAnswer k tracees.old pid traced.message
-        (unseized (as_proc (own_in k pid) traced) ask.now) r k tracees.new) }
+        (unseized (as_proc (task_in k pid) traced) ask.now) r k tracees.new) }
 {
     match seize_options(ask) {
         None => Ok(refusal(ESRCH)),
@@ -321,9 +321,9 @@ pub fn answer(
         → made (hosting_by kernel.new.running tracees.new turns pending) (Some r)
         ≡ hosting_to linux (hosting_by kernel.old.running tracees.old turns pending) pid
         (at untraced tracees.old.traced pid).message
-        (as_proc (own_in kernel.old pid) (at untraced tracees.old.traced pid))
+        (as_proc (task_in kernel.old pid) (at untraced tracees.old.traced pid))
         (at untraced tracees.old.traced pid).held (at untraced tracees.old.traced pid).watch
-        (own_in kernel.old pid) ask.now) }
+        (task_in kernel.old pid) ask.now) }
     ensures script { OnOk result ((kernel.new.script ≡ kernel.old.script) × (kernel.new.follow ≡ kernel.old.follow)) }
 {
     let traced = tracees.traced(pid);

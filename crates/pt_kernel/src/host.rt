@@ -8,7 +8,7 @@ ghost use Rattle.lx_kernel.specs.Outcomes.{outcome_in};
 ghost use Rattle.lx_exec.specs.Programs.{booted};
 ghost use Rattle.pt_model.specs.Hosting.{first_hosting, hosting_asked};
 ghost use Rattle.pt_schedule.specs.Cycle.{IsNextPlace};
-ghost use Rattle.pt_kernel.specs.Hosts.{sight_of, event_of, is_boot};
+ghost use Rattle.pt_kernel.specs.Hosts.{readiness_of, event_of, is_boot};
 ghost use Rattle.pt_kernel.specs.Bursts.{Burst};
 
 use crate::traced_kernel::TracedKernel;
@@ -17,7 +17,7 @@ use crate::turns::Turns;
 use lx_abi::{Boot, Event, Outcome, Reply, Request, Script};
 use lx_boot::BootFault;
 use lx_kernel::{Failed, Kernel};
-use pt_schedule::System;
+use pt_schedule::Schedulable;
 use std::alloc::{AllocError, Global};
 use std::marker::Model;
 
@@ -134,14 +134,14 @@ impl Host {
 
     /// A request is pending, and would be answered.
     pub fn ready(&self) -> bool
-        ensures { result ≡ (sight_of self.now).ready }
+        ensures { result ≡ (readiness_of self.now).ready }
     {
         self.kernel.ready()
     }
 
     /// A turn of the process would run an instruction or change its mode; none would in a host that failed.
     pub fn able(&self, pid: u32) -> bool
-        ensures { result ≡ (sight_of self.now).able pid }
+        ensures { result ≡ (readiness_of self.now).able pid }
     {
         !self.failed && self.kernel.able(pid)
     }
@@ -168,10 +168,10 @@ impl Host {
     }
 }
 
-impl System for Host {
-    ghost use Rattle.pt_kernel.specs.Hosts.{sight_of};
+impl Schedulable for Host {
+    ghost use Rattle.pt_kernel.specs.Hosts.{readiness_of};
 
-    ghost sight = { sight_of };
+    ghost readiness = { readiness_of };
 
     fn is_ready(&self) -> bool {
         self.ready()

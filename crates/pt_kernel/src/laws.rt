@@ -6,7 +6,7 @@ ghost use Rattle.pt_model.specs.Headline.{IsTold, HeadlineAt};
 ghost use Rattle.lx_turn.specs.Linux.{linux};
 
 use lx_kernel::laws::words_are_logged;
-use lx_proc::{Body, Shared};
+use lx_proc::{Shared, UserState};
 use lx_turn::laws::{calls_fit, linux_is_a_machine};
 use pt_model::laws::{every_script_is_one, hosts_run_alike, tracing_is_transparent, turns_tell};
 
@@ -35,7 +35,7 @@ pub fn linux_is_transparent()
 {
     linux_is_a_machine();
     linux_is_told();
-    tracing_is_transparent::<Shared, Body>();
+    tracing_is_transparent::<Shared, UserState>();
 }
 
 /// A request that a host attends to is a call of the ptrace machine over functions, by the events that the schedule
@@ -43,6 +43,6 @@ pub fn linux_is_transparent()
 pub fn hosts_are_called()
     ensures { HostsAreCalled }
 {
-    hosts_run_alike::<Shared, Body>();
-    turns_tell::<Shared, Body>();
+    hosts_run_alike::<Shared, UserState>();
+    turns_tell::<Shared, UserState>();
 }

@@ -11,11 +11,11 @@ use std::marker::Model;
 
 /// A queue, which contracts see as the list of its values, the first to leave first.
 #[derive(Drop)]
-pub struct Queue<V> {
+pub struct ReportQueue<V> {
     items: VecDeque<V>,
 }
 
-impl<V> Model for Queue<V> {
+impl<V> Model for ReportQueue<V> {
     ghost use Rattle.std.specs.Prelude.{List};
 
     ghost Value = { List V };
@@ -23,11 +23,11 @@ impl<V> Model for Queue<V> {
     ghost view = { λ q. q.items.items };
 }
 
-impl<V> Queue<V> {
+impl<V> ReportQueue<V> {
     pub fn new(alloc: Global) -> Self
         ensures { result ≡ [] }
     {
-        Queue {
+        ReportQueue {
             items: VecDeque::new(alloc),
         }
     }
@@ -46,7 +46,7 @@ impl<V> Queue<V> {
     }
 }
 
-impl<V: Drop> Queue<V> {
+impl<V: Drop> ReportQueue<V> {
     pub fn push(&mut self, value: V) -> Result<(), AllocError>
         ensures ok { OnOk result (self.new ≡ self.old ++ value ∷ []) }
         ensures err { OnErr result (self.new ≡ self.old) }
@@ -56,7 +56,7 @@ impl<V: Drop> Queue<V> {
     }
 }
 
-impl Queue<Report> {
+impl ReportQueue<Report> {
     /// The reports of a process leave.
     pub fn withdraw(&mut self, pid: u32)
         ensures { self.new ≡ without pid self.old }
@@ -65,7 +65,7 @@ impl Queue<Report> {
     }
 }
 
-impl Queue<u32> {
+impl ReportQueue<u32> {
     /// A process leaves.
     pub fn leave(&mut self, pid: u32)
         ensures { self.new ≡ filter (λ q. not (pid == q)) self.old }

@@ -2,7 +2,7 @@
 
 ghost use Rattle.std.specs.Prelude.{◌≡◌};
 ghost use Rattle.lx_turn.specs.Linux.{linux};
-ghost use Rattle.lx_kernel.specs.Tracing.{own_in};
+ghost use Rattle.lx_kernel.specs.Tracing.{task_in};
 ghost use Rattle.pt_model.specs.Ptrace.{is_effective};
 ghost use Rattle.pt_model.specs.Hosting.{as_proc, deed_stop, item_stop, mode_stop};
 ghost use Rattle.pt_kernel.specs.Stops.{stop_after, turn_stop, dies_after, is_alive, lives_in, is_entered};
@@ -99,14 +99,14 @@ pub fn is_entered(mode: Option<Mode>) -> bool
 
 /// The process has not ended.
 pub fn is_alive(kernel: &Kernel, pid: u32) -> bool
-    ensures { result ≡ is_alive (own_in kernel.now pid) }
+    ensures { result ≡ is_alive (task_in kernel.now pid) }
 {
     lives_in(kernel.mode(pid))
 }
 
 /// A turn of a process reaches the kernel: its tracer doesn't hold it, or SIGKILL is pending for it.
 pub fn is_effective(kernel: &Kernel, pid: u32, traced: Traced) -> bool
-    ensures { result ≡ is_effective linux kernel.now.running.shared pid (as_proc (own_in kernel.now pid) traced) }
+    ensures { result ≡ is_effective linux kernel.now.running.shared pid (as_proc (task_in kernel.now pid) traced) }
 {
     if !traced.held {
         return true;

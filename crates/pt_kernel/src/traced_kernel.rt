@@ -3,11 +3,11 @@
 ghost use Rattle.std.specs.Prelude.{◌≡◌, ◌∷◌, ◌++◌, [], Some, None, OnOk, IfOk, ℕ, List, Option, false};
 ghost use Rattle.std.specs.FinMap as maps;
 ghost use Rattle.lx_abi.specs.declared.ptrace.Request.{Request};
-ghost use Rattle.lx_model.specs.Finite.{at, own_mode};
-ghost use Rattle.lx_model.specs.declared.stage.Own.TheVariants.{Gone};
+ghost use Rattle.lx_model.specs.Finite.{at, task_mode};
+ghost use Rattle.lx_model.specs.declared.stage.Task.TheVariants.{Gone};
 ghost use Rattle.lx_turn.specs.Linux.{linux};
 ghost use Rattle.lx_kernel.specs.Outcomes.{outcome_in};
-ghost use Rattle.lx_kernel.specs.Tracing.{own_in};
+ghost use Rattle.lx_kernel.specs.Tracing.{task_in};
 ghost use Rattle.pt_model.specs.Ptrace.{is_effective};
 ghost use Rattle.pt_model.specs.Hosting.{as_proc, untraced, hosting_turn, hosting_serve, hosting_pending, hosting_event, ready_in};
 ghost use Rattle.pt_schedule.specs.Cycle.{IsNextPlace};
@@ -22,7 +22,7 @@ use crate::tracees::{Tracees, Turned};
 use crate::turns::Turns;
 use lx_abi::{Event, Reply, Request};
 use lx_kernel::{Failed, Kernel};
-use pt_schedule::{System, TurnRun};
+use pt_schedule::{Schedulable, TurnRun};
 
 /// The kernel under the empty script, its tracees, the effective turns so far, and the request that is pending.
 #[derive(Drop)]
@@ -180,7 +180,7 @@ impl TracedKernel {
 
     /// The process stands where its call is finished.
     pub fn has_finished(&self, pid: u32) -> bool
-        ensures { result ≡ is_finished (own_mode (at Gone self.now.kernel.running.owns pid)) }
+        ensures { result ≡ is_finished (task_mode (at Gone self.now.kernel.running.tasks pid)) }
     {
         self.kernel.has_finished(pid)
     }

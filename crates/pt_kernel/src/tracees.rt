@@ -8,7 +8,7 @@ ghost use Rattle.pt_model.specs.Hosting.{untraced, released, wait_ready};
 ghost use Rattle.pt_model.specs.Requests.{told};
 ghost use Rattle.pt_kernel.specs.Tracees.{heir, message_after, stopped_at, with_child, attached, after_turn, waited, tells, took, seized};
 
-use crate::queue::Queue;
+use crate::queue::ReportQueue;
 use containers::Map;
 use lx_abi::{EventStop, Reply, Stop};
 use lx_model::Deed;
@@ -24,9 +24,9 @@ pub struct Tracees {
     /// Process 1, and the tracees; those that have ended stay.
     pub traced: Map<Traced>,
     /// The stops that Wait hasn't told of, in the order in which they arose.
-    pub queue: Queue<Report>,
+    pub queue: ReportQueue<Report>,
     /// The tracees whose end wasn't waited for, in the order in which they came.
-    pub pids: Queue<u32>,
+    pub pids: ReportQueue<u32>,
 }
 
 /// What a turn came to, as a tracer is told of it.
@@ -81,8 +81,8 @@ impl Tracees {
         )?;
         Ok(Tracees {
             traced,
-            queue: Queue::new(alloc),
-            pids: Queue::new(alloc),
+            queue: ReportQueue::new(alloc),
+            pids: ReportQueue::new(alloc),
         })
     }
 

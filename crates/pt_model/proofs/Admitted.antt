@@ -11,7 +11,7 @@ use Rattle.pt_model.specs.Requests.{answer, esrch, peeked}
 use Rattle.lx_abi.specs.Signals.{may_join}
 use Rattle.pt_model.specs.Parts.{At_entry, At_exit, Options}
 use Rattle.pt_model.specs.Admissible.{admits_answer}
-use Rattle.pt_model.specs.Tracer.{Known, Place, Seizing, Entry_regs, Entry_peek, Entry_set, Exit_regs, Exit_set, Exit_peek, Signal_info, Resuming, asks, signal_word}
+use Rattle.pt_model.specs.Tracer.{Known, Awaiting, Seizing, Entry_regs, Entry_peek, Entry_set, Exit_regs, Exit_set, Exit_peek, Signal_info, Resuming, asks, signal_word}
 use Rattle.pt_model.specs.Headline.{IsTold, IsTexts, IsScript}
 use Rattle.pt_model.proofs.Phases.{Phase, Running, Enter_due, Enter_asked, Enter_peeking, Enter_setting, Enter_resuming, Enter_free, In_call, In_replaced, Has_acted, Exit_due, Exit_asked, Exit_setting, Exit_peeking, Exit_resuming, Exit_free, Fault_free, Sig_due, Sig_asked, Sig_resuming, Sig_free, Dead_due, Dead, Nobody, Unborn, Boot_held, Born_due, Born_resuming, Born_free, Event_due, Event_resuming, Loose, proc_of, stage_of, is_other, Chosen, Knows}
 use Rattle.pt_model.proofs.Local.{same_pid, some_inj, may_resume, seize_answer}
@@ -21,10 +21,10 @@ bytes_admitted a n [] l = refl
 bytes_admitted a n (x ∷ bytes) l = grind (arith, nat_tests)
 
 module _ {S B : Type 0} (m : Machine S B) (told : IsTold m) (o : Options) (texts : IsTexts o.texts) (script : Script) (scripts : IsScript script) (k : Known) (e : ℕ → ℕ) (message : ℕ) where
-  abbrev Admits : Phase B → Place → Type 0
+  abbrev Admits : Phase B → Awaiting → Type 0
   Admits ph st = admits_answer (asks o st) (answer m message (proc_of m o.follow ph) (asks o st)).reply ≡ true
 
-  dead_admitted : (w : ℕ) (mode : Mode) (st : Place) → is_other (Some st) ≡ true → admits_answer (asks o st) esrch ≡ true
+  dead_admitted : (w : ℕ) (mode : Mode) (st : Awaiting) → is_other (Some st) ≡ true → admits_answer (asks o st) esrch ≡ true
   dead_admitted w mode Seizing h = absurd (cc h)
   dead_admitted w mode Entry_regs h = refl
   dead_admitted w mode (Entry_peek r d x) h = refl
@@ -41,7 +41,7 @@ module _ {S B : Type 0} (m : Machine S B) (told : IsTold m) (o : Options) (texts
       let j : may_join v.number ≡ true = scripts (a7_of (m.regs b)) (e (a7_of (m.regs b))) v h.signal in
       rw (may_resume (v.number == 0) (may_join v.number) j) refl
 
-  pub admitted : (ph : Phase B) → Knows m o script ph k e → (st : Place) → stage_of m ph ≡ Some st → Admits ph st
+  pub admitted : (ph : Phase B) → Knows m o script ph k e → (st : Awaiting) → stage_of m ph ≡ Some st → Admits ph st
   admitted (Enter_asked b) h st q = subst (λ x. Admits (Enter_asked b) x) (some_inj _ _ q) (refl)
   admitted (Enter_peeking b d w n) h st q = subst (λ x. Admits (Enter_peeking b d w n) x) (some_inj _ _ q) (rw (texts.fits (At_entry (call_of (m.regs b)) (sp_of (m.regs b))) d w h.2) (bytes_admitted w.0 w.1 (m.peek b w.0 w.1) (told.peeks b w.0 w.1)))
   admitted (Enter_setting b v n) h st q = subst (λ x. Admits (Enter_setting b v n) x) (some_inj _ _ q) (refl)

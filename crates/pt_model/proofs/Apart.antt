@@ -16,8 +16,8 @@ use Rattle.lx_model.specs.Machine.{Machine, Ran, Goes, Calls, Faults, Takes, Ans
 use Rattle.lx_model.specs.Turn.{Event, Plain, Execed, Forked, Out, stepped, answered, took, lives, killed_or, turn}
 use Rattle.lx_model.specs.declared.stage.Stage.{Stage}
 use Rattle.lx_model.specs.declared.stage.Stage.TheVariants.{Born, Run, Faulting, Entered, Doing, Replaced, Acted, Finished, Taken, Dropped}
-use Rattle.lx_model.specs.declared.stage.Own.{Own}
-use Rattle.lx_model.specs.declared.stage.Own.TheVariants.{Alive, Dying, Gone}
+use Rattle.lx_model.specs.declared.stage.Task.{Task}
+use Rattle.lx_model.specs.declared.stage.Task.TheVariants.{Alive, Dying, Gone}
 use Rattle.lx_model.specs.Kernel.{Script, put, Kernel, after_turn, with_child, turn_of, kernel_turn, kernel_run, first_kernel}
 use Rattle.pt_model.specs.Ptrace.{Watch, Proc, Report, Host, without, tracee_stop, stop_at, is_dying, is_there, reports_of, may_die, is_effective, proc_after, moved, newborn, inherits, bears, host_turn_of}
 use Rattle.pt_model.specs.Requests.{take_report}
@@ -28,13 +28,13 @@ use Rattle.pt_model.proofs.Views.{has_exit-append}
 
 -- Others
 
-child_apart : {S B : Type 0} (k : Kernel S B) (e : Event B) (q : ℕ) → k.child ≢ q → (with_child k e).owns q ≡ k.owns q
+child_apart : {S B : Type 0} (k : Kernel S B) (e : Event B) (q : ℕ) → k.child ≢ q → (with_child k e).tasks q ≡ k.tasks q
 child_apart k Plain q d = refl
 child_apart k Execed q d = refl
-child_apart k (Forked b) q d = put_apart k.owns k.child (Alive b Born) q d
+child_apart k (Forked b) q d = put_apart k.tasks k.child (Alive b Born) q d
 
 pub kernel_turns_apart : {S B : Type 0} → KernelTurnsApart S B
-kernel_turns_apart m script follow k p q d c = child_apart (after_turn k p (turn_of m script follow k p)) (turn_of m script follow k p).event q c ∙ put_apart k.owns p (turn_of m script follow k p).own q d
+kernel_turns_apart m script follow k p q d c = child_apart (after_turn k p (turn_of m script follow k p)) (turn_of m script follow k p).event q c ∙ put_apart k.tasks p (turn_of m script follow k p).task q d
 
 newborn_apart : {S B : Type 0} (h : Host S B) (b : B) (w : Option Watch) (q : ℕ) → h.child ≢ q → (newborn h b w).procs q ≡ h.procs q
 newborn_apart h b None q d = put_apart h.procs h.child _ q d
@@ -61,7 +61,7 @@ host_turns_apart {S} {B} m h p q d c = go (is_effective m h.shared p (h.procs p)
 module _ {S B : Type 0} (m : Machine S B) (s : S) (child p : ℕ) where
   -- a turn that ends a process logs its end
   abbrev Logs : Out S B → Type 0
-  Logs o = is_alive o.own ≡ false → has_exit p (option_to_list o.item) ≡ true
+  Logs o = is_alive o.task ≡ false → has_exit p (option_to_list o.item) ≡ true
 
   here : (p == p) || false ≡ true
   here = rw (is_same p) refl
@@ -101,14 +101,14 @@ module _ {S B : Type 0} (m : Machine S B) (s : S) (child p : ℕ) where
   killed_logs true c b stage h = here
   killed_logs false c b stage h = lives_logs c b stage h
 
-  turn_logs : (c : Choice) (own : Own B) → is_alive own ≡ true → Logs (turn m c s child p own)
+  turn_logs : (c : Choice) (task : Task B) → is_alive task ≡ true → Logs (turn m c s child p task)
   turn_logs c (Alive b stage) a h = killed_logs (m.killed s p) c b stage h
   turn_logs c (Dying w) a h = absurd (cc a)
   turn_logs c Gone a h = absurd (cc a)
 
 -- who was born and lives no more has logged its end
 record Ended_all {S B : Type 0} (k : Kernel S B) : Type 0 where
-  each : (q : ℕ) → 1 ≤ q → q < k.child → is_alive (k.owns q) ≡ false → has_exit q k.log ≡ true
+  each : (q : ℕ) → 1 ≤ q → q < k.child → is_alive (k.tasks q) ≡ false → has_exit q k.log ≡ true
 
 or_left : (a b : Bool) → a ≡ true → (a || b) ≡ true
 or_left true b h = refl
@@ -119,16 +119,16 @@ or_right true b h = refl
 or_right false b h = h
 
 module _ {S B : Type 0} (m : Machine S B) (script : Script) (follow : Bool) (k : Kernel S B) (p : ℕ) where
-  own_turn : (alive : Bool) → is_alive (k.owns p) ≡ alive → Ended_all k → 1 ≤ p → p < k.child → is_alive (turn_of m script follow k p).own ≡ false → has_exit p (k.log ++ option_to_list (turn_of m script follow k p).item) ≡ true
-  own_turn true e t l g h = has_exit-append p k.log _ ∙ or_right (has_exit p k.log) _ (turn_logs m k.shared k.child p _ (k.owns p) e h)
-  own_turn false e t l g h = has_exit-append p k.log _ ∙ or_left (has_exit p k.log) _ (t.each p l g e)
+  task_turn : (alive : Bool) → is_alive (k.tasks p) ≡ alive → Ended_all k → 1 ≤ p → p < k.child → is_alive (turn_of m script follow k p).task ≡ false → has_exit p (k.log ++ option_to_list (turn_of m script follow k p).item) ≡ true
+  task_turn true e t l g h = has_exit-append p k.log _ ∙ or_right (has_exit p k.log) _ (turn_logs m k.shared k.child p _ (k.tasks p) e h)
+  task_turn false e t l g h = has_exit-append p k.log _ ∙ or_left (has_exit p k.log) _ (t.each p l g e)
 
   turned_ended : Ended_all k → Ended_all (after_turn k p (turn_of m script follow k p))
   turned_ended t = record {
     each = λ q l g h. ⊎_elim
         (λ (e : p ≡ q). subst (λ x. has_exit x (k.log ++ option_to_list (turn_of m script follow k p).item) ≡ true) e
-        (own_turn (is_alive (k.owns p)) refl t (subst (λ x. 1 ≤ x) (sym e) l) (subst (λ x. x < k.child) (sym e) g) (ap is_alive (sym (put_here k.owns p (turn_of m script follow k p).own) ∙ ap (put k.owns p (turn_of m script follow k p).own) e) ∙ h)))
-        (λ (d : p ≢ q). has_exit-append q k.log _ ∙ or_left (has_exit q k.log) _ (t.each q l g (ap is_alive (sym (put_apart k.owns p (turn_of m script follow k p).own q d)) ∙ h)))
+        (task_turn (is_alive (k.tasks p)) refl t (subst (λ x. 1 ≤ x) (sym e) l) (subst (λ x. x < k.child) (sym e) g) (ap is_alive (sym (put_here k.tasks p (turn_of m script follow k p).task) ∙ ap (put k.tasks p (turn_of m script follow k p).task) e) ∙ h)))
+        (λ (d : p ≢ q). has_exit-append q k.log _ ∙ or_left (has_exit q k.log) _ (t.each q l g (ap is_alive (sym (put_apart k.tasks p (turn_of m script follow k p).task q d)) ∙ h)))
         (same_or_not p q);
   }
 
@@ -137,8 +137,8 @@ born_ended k Plain t = t
 born_ended k Execed t = t
 born_ended k (Forked b) t = record {
   each = λ q l g h. ⊎_elim
-      (λ (e : k.child ≡ q). absurd (cc (h, ap is_alive (sym (put_here k.owns k.child (Alive b Born)) ∙ ap (put k.owns k.child (Alive b Born)) e))))
-      (λ (d : k.child ≢ q). t.each q l (omega (arith, g, d)) (ap is_alive (sym (put_apart k.owns k.child (Alive b Born) q d)) ∙ h))
+      (λ (e : k.child ≡ q). absurd (cc (h, ap is_alive (sym (put_here k.tasks k.child (Alive b Born)) ∙ ap (put k.tasks k.child (Alive b Born)) e))))
+      (λ (d : k.child ≢ q). t.each q l (omega (arith, g, d)) (ap is_alive (sym (put_apart k.tasks k.child (Alive b Born) q d)) ∙ h))
       (same_or_not k.child q);
 }
 
@@ -146,8 +146,8 @@ run_ended : {S B : Type 0} (m : Machine S B) (script : Script) (follow : Bool) (
 run_ended m script follow [] k t = t
 run_ended m script follow (p ∷ ps) k t = run_ended m script follow ps (kernel_turn m script follow k p) (born_ended (after_turn k p (turn_of m script follow k p)) (turn_of m script follow k p).event (turned_ended m script follow k p t))
 
-alive_first : {S B : Type 0} (s : S) (b : B) (q : ℕ) → 1 ≡ q → is_alive ((first_kernel s b).owns q) ≡ false → ⊥
-alive_first s b q e h = let here : is_alive ((first_kernel s b).owns 1) ≡ false = ap (λ x. is_alive ((first_kernel s b).owns x)) e ∙ h in cc here
+alive_first : {S B : Type 0} (s : S) (b : B) (q : ℕ) → 1 ≡ q → is_alive ((first_kernel s b).tasks q) ≡ false → ⊥
+alive_first s b q e h = let here : is_alive ((first_kernel s b).tasks 1) ≡ false = ap (λ x. is_alive ((first_kernel s b).tasks x)) e ∙ h in cc here
 
 first_ended : {S B : Type 0} (s : S) (b : B) → Ended_all (first_kernel s b)
 first_ended s b = record { each = λ q l g h. let e : 1 ≡ q = omega (arith, l, g) in absurd (alive_first s b q e h) }
@@ -157,14 +157,14 @@ the_dead_have_ended m script follow s b pids q = (run_ended m script follow pids
 
 -- Held processes
 
-no_kill : {S B : Type 0} (m : Machine S B) (s : S) (p : ℕ) (w : Option Watch) (own : Own B) → m.killed s p ≡ false → may_die m s p w own ≡ false
+no_kill : {S B : Type 0} (m : Machine S B) (s : S) (p : ℕ) (w : Option Watch) (task : Task B) → m.killed s p ≡ false → may_die m s p w task ≡ false
 no_kill m s p (Some w) (Alive b stage) h = h
 no_kill m s p (Some w) (Dying v) h = refl
 no_kill m s p (Some w) Gone h = refl
-no_kill m s p None own h = refl
+no_kill m s p None task h = refl
 
 pub the_held_are_still : {S B : Type 0} → TheHeldAreStill S B
-the_held_are_still m h p held alive = rw (held, no_kill m h.shared p (h.procs p).watch (h.procs p).own alive) refl
+the_held_are_still m h p held alive = rw (held, no_kill m h.shared p (h.procs p).watch (h.procs p).task alive) refl
 
 pub the_held_can_be_killed : {S B : Type 0} → TheHeldCanBeKilled S B
 the_held_can_be_killed m h p b stage w e killed = rw (e, killed) (put_here h.procs p _)
@@ -183,7 +183,7 @@ first_report_is_told m outcome h r rest e = rw e (refl, take_queue h rest r.pid 
 module _ {S B : Type 0} (m : Machine S B) (w : Watch) (s : S) (child p : ℕ) where
   -- a turn that bears a child leaves its process at the clone that did
   abbrev Clones : Out S B → Type 0
-  Clones o = (born : B) → o.event ≡ Forked born → (is_dying o.own ≡ false) × (tracee_stop w o.own (Forked born) ≡ cond w.forks (Some (Event_stop At_fork)) None)
+  Clones o = (born : B) → o.event ≡ Forked born → (is_dying o.task ≡ false) × (tracee_stop w o.task (Forked born) ≡ cond w.forks (Some (Event_stop At_fork)) None)
 
   stepped_clones : (b : B) (r : Ran S B) → Clones (stepped m s p b r)
   stepped_clones b (Goes c) born h = absurd (cc h)
@@ -196,7 +196,7 @@ module _ {S B : Type 0} (m : Machine S B) (w : Watch) (s : S) (child p : ℕ) wh
   answered_clones b c (Returns t d x) born h = absurd (cc h)
   answered_clones b c (Jumps t d) born h = absurd (cc h)
   answered_clones b c (Execs t d) born h = absurd (cc h)
-  answered_clones b c (Bears t d child_body) born h = (refl, refl)
+  answered_clones b c (Bears t d child_user) born h = (refl, refl)
   answered_clones b c Blocks born h = absurd (cc h)
   answered_clones b c (Ends v) born h = absurd (cc h)
 
@@ -220,18 +220,18 @@ module _ {S B : Type 0} (m : Machine S B) (w : Watch) (s : S) (child p : ℕ) wh
   killed_clones true c b stage born h = absurd (cc h)
   killed_clones false c b stage born h = lives_clones c b stage born h
 
-  turn_clones : (c : Choice) (own : Own B) → Clones (turn m c s child p own)
+  turn_clones : (c : Choice) (task : Task B) → Clones (turn m c s child p task)
   turn_clones c (Alive b stage) born h = killed_clones (m.killed s p) c b stage born h
   turn_clones c (Dying v) born h = absurd (cc h)
   turn_clones c Gone born h = absurd (cc h)
 
-fork_queue : {S B : Type 0} (h : Host S B) (p : ℕ) (w : Watch) (o : Out S B) (born : B) → w.forks ≡ true → o.event ≡ Forked born → is_dying o.own ≡ false → tracee_stop w o.own (Forked born) ≡ cond w.forks (Some (Event_stop At_fork)) None →
+fork_queue : {S B : Type 0} (h : Host S B) (p : ℕ) (w : Watch) (o : Out S B) (born : B) → w.forks ≡ true → o.event ≡ Forked born → is_dying o.task ≡ false → tracee_stop w o.task (Forked born) ≡ cond w.forks (Some (Event_stop At_fork)) None →
     (bears (moved h p (Some w) o) (Some w) o.event).queue ≡ h.queue ++ record { pid = p; stop = Event_stop At_fork } ∷ record { pid = h.child; stop = Event_stop At_start } ∷ []
 fork_queue h p w o born f x dying stop = rw (x, dying, stop, f) (append_assoc h.queue (record { pid = p; stop = Event_stop At_fork } ∷ []) (record { pid = h.child; stop = Event_stop At_start } ∷ []))
 
 pub fork_is_told_first : {S B : Type 0} → ForkIsToldFirst S B
 fork_is_told_first m h p w born e f g x =
-    let c : (is_dying (host_turn_of m h p).own ≡ false) × (tracee_stop w (host_turn_of m h p).own (Forked born) ≡ cond w.forks (Some (Event_stop At_fork)) None) = turn_clones m w h.shared h.child p no_choice (h.procs p).own born x in
+    let c : (is_dying (host_turn_of m h p).task ≡ false) × (tracee_stop w (host_turn_of m h p).task (Forked born) ≡ cond w.forks (Some (Event_stop At_fork)) None) = turn_clones m w h.shared h.child p no_choice (h.procs p).task born x in
     rw (g, e) (fork_queue h p w (host_turn_of m h p) born f x c.0 c.1)
 
 reports_for-append : (q : ℕ) (xs ys : List Report) → reports_for q (xs ++ ys) ≡ reports_for q xs + reports_for q ys
@@ -257,9 +257,9 @@ reports_for-apart p q d (r ∷ queue) = go (p == r.pid) refl (reports_for-apart 
         go_on true more = ap suc more
         go_on false more = more
 
-reports_for_own : (p : ℕ) (stop : Option Stop) → reports_for p (reports_of p stop) ≡ one_if (is_there stop)
-reports_for_own p (Some s) = rw (is_same p) refl
-reports_for_own p None = refl
+reports_for_task : (p : ℕ) (stop : Option Stop) → reports_for p (reports_of p stop) ≡ one_if (is_there stop)
+reports_for_task p (Some s) = rw (is_same p) refl
+reports_for_task p None = refl
 
 reports_for_other : (p q : ℕ) → p ≢ q → (stop : Option Stop) → reports_for q (reports_of p stop) ≡ 0
 reports_for_other p q d (Some s) = rw (is_not_same q p (λ e. d (sym e))) refl
@@ -274,9 +274,9 @@ bears_report h w Plain q d = refl
 bears_report h w Execed q d = refl
 bears_report h w (Forked b) q d = born_report h b (inherits w) q d
 
-own_reports : (p : ℕ) (queue : List Report) (dying : Bool) (stop : Option Stop) → reports_for p (cond dying (without p queue) queue ++ reports_of p stop) ≡ cond dying 0 (reports_for p queue) + one_if (is_there stop)
-own_reports p queue true stop = reports_for-append p (without p queue) (reports_of p stop) ∙ ap₂ (λ x y. x + y) (reports_for-without p queue) (reports_for_own p stop)
-own_reports p queue false stop = reports_for-append p queue (reports_of p stop) ∙ ap (λ x. reports_for p queue + x) (reports_for_own p stop)
+task_reports : (p : ℕ) (queue : List Report) (dying : Bool) (stop : Option Stop) → reports_for p (cond dying (without p queue) queue ++ reports_of p stop) ≡ cond dying 0 (reports_for p queue) + one_if (is_there stop)
+task_reports p queue true stop = reports_for-append p (without p queue) (reports_of p stop) ∙ ap₂ (λ x y. x + y) (reports_for-without p queue) (reports_for_task p stop)
+task_reports p queue false stop = reports_for-append p queue (reports_of p stop) ∙ ap (λ x. reports_for p queue + x) (reports_for_task p stop)
 
 other_reports : (p q : ℕ) → p ≢ q → (queue : List Report) (dying : Bool) (stop : Option Stop) → reports_for q (cond dying (without p queue) queue ++ reports_of p stop) ≡ reports_for q queue
 other_reports p q d queue true stop = reports_for-append q (without p queue) (reports_of p stop) ∙ ap₂ (λ x y. x + y) (reports_for-apart p q d queue) (reports_for_other p q d stop) ∙ add-zero (reports_for q queue)
@@ -287,13 +287,13 @@ one_report_a_stop {S} {B} m h p d g =
     let w : Option Watch = (h.procs p).watch in
     let o : Out S B = host_turn_of m h p in
     let c : h.child ≢ p = λ e. d (sym e) in
-    let left : (turned_host m h p).procs p ≡ proc_after w o.own o.event = bears_apart (moved h p w o) w o.event p c ∙ put_here h.procs p (proc_after w o.own o.event) in
-    let told : reports_for p (turned_host m h p).queue ≡ cond (is_dying o.own) 0 (reports_for p h.queue) + one_if (is_there (stop_at w o.own o.event)) = bears_report (moved h p w o) w o.event p c ∙ own_reports p h.queue (is_dying o.own) (stop_at w o.own o.event) in
-    rw g (told ∙ ap (λ (t : Proc B). cond (is_dying o.own) 0 (reports_for p h.queue) + one_if t.held) (sym left))
+    let left : (turned_host m h p).procs p ≡ proc_after w o.task o.event = bears_apart (moved h p w o) w o.event p c ∙ put_here h.procs p (proc_after w o.task o.event) in
+    let told : reports_for p (turned_host m h p).queue ≡ cond (is_dying o.task) 0 (reports_for p h.queue) + one_if (is_there (stop_at w o.task o.event)) = bears_report (moved h p w o) w o.event p c ∙ task_reports p h.queue (is_dying o.task) (stop_at w o.task o.event) in
+    rw g (told ∙ ap (λ (t : Proc B). cond (is_dying o.task) 0 (reports_for p h.queue) + one_if t.held) (sym left))
 
 pub no_other_report : {S B : Type 0} → NoOtherReport S B
 no_other_report {S} {B} m h p q d c = go (is_effective m h.shared p (h.procs p))
   where
     go : (b : Bool) → reports_for q (cond b (turned_host m h p) h).queue ≡ reports_for q h.queue
-    go true = bears_report (moved h p (h.procs p).watch (host_turn_of m h p)) (h.procs p).watch (host_turn_of m h p).event q c ∙ other_reports p q d h.queue (is_dying (host_turn_of m h p).own) (stop_at (h.procs p).watch (host_turn_of m h p).own (host_turn_of m h p).event)
+    go true = bears_report (moved h p (h.procs p).watch (host_turn_of m h p)) (h.procs p).watch (host_turn_of m h p).event q c ∙ other_reports p q d h.queue (is_dying (host_turn_of m h p).task) (stop_at (h.procs p).watch (host_turn_of m h p).task (host_turn_of m h p).event)
     go false = refl

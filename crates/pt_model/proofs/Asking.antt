@@ -9,7 +9,7 @@ use Rattle.lx_model.specs.Kernel.{Script}
 use Rattle.pt_model.specs.Requests.{esrch}
 use Rattle.pt_model.specs.Parts.{At_entry, At_exit, Options}
 use Rattle.pt_model.specs.Admissible.{admits_answer}
-use Rattle.pt_model.specs.Tracer.{Known, Place, Seizing, Entry_regs, Entry_peek, Entry_set, Exit_regs, Exit_set, Exit_peek, Signal_info, Resuming, asks, hears, entry_with, look_entry, read_entry, look_exit, read_exit, exit_with, peeked_entry, peeked_exit, Waiting, Serving, focus_on, admits_at, next_at}
+use Rattle.pt_model.specs.Tracer.{Known, Awaiting, Seizing, Entry_regs, Entry_peek, Entry_set, Exit_regs, Exit_set, Exit_peek, Signal_info, Resuming, asks, hears, entry_with, look_entry, read_entry, look_exit, read_exit, exit_with, peeked_entry, peeked_exit, Waiting, Serving, focus_on, admits_at, next_at}
 use Rattle.pt_model.specs.Replies.{LetsGo, NobodyIsLeftHeld}
 use Rattle.pt_model.proofs.Maps.{equal_if}
 
@@ -60,7 +60,7 @@ module _ (o : Options) (script : Script) (p : ℕ) (k : Known) where
       left false c f g = absurd (cc (f, g))
 
   -- only a resumption, and ESRCH, leave nothing to ask
-  let_go : (place : Place) (r : Reply) → admits_answer (asks o place) r ≡ true → (hears o script p k place r).next ≡ None → (r ≡ Out_of_turns → ⊥) → (LetsGo place × (r ≡ Agreed)) ⊎ (r ≡ esrch)
+  let_go : (place : Awaiting) (r : Reply) → admits_answer (asks o place) r ≡ true → (hears o script p k place r).next ≡ None → (r ≡ Out_of_turns → ⊥) → (LetsGo place × (r ≡ Agreed)) ⊎ (r ≡ esrch)
   let_go Seizing Agreed a h t = inl (tt, refl)
   let_go Seizing (Status_is v z) a h t = absurd (cc a)
   let_go Seizing (Registers_are v) a h t = absurd (cc a)
@@ -152,11 +152,11 @@ module _ (o : Options) (script : Script) (p : ℕ) (k : Known) where
   let_go (Resuming n) Out_of_turns a h t = absurd (t refl)
   let_go (Resuming n) (Boot_refused v) a h t = absurd (cc a)
 
-is_waiting : (p : ℕ) (x : Option Place) → focus_on p x ≡ Waiting → x ≡ None
+is_waiting : (p : ℕ) (x : Option Awaiting) → focus_on p x ≡ Waiting → x ≡ None
 is_waiting p None h = refl
 is_waiting p (Some place) h = absurd (cc h)
 
-heard_focus : (o : Options) (script : Script) (known : ℕ → Known) (p : ℕ) (place : Place) (r : Reply) → (next_at o script known (Serving p place) r).focus ≡ Waiting → ((hears o script p (known p) place r).next ≡ None) × (r ≡ Out_of_turns → ⊥)
+heard_focus : (o : Options) (script : Script) (known : ℕ → Known) (p : ℕ) (place : Awaiting) (r : Reply) → (next_at o script known (Serving p place) r).focus ≡ Waiting → ((hears o script p (known p) place r).next ≡ None) × (r ≡ Out_of_turns → ⊥)
 heard_focus o script known p place Agreed h = (is_waiting p _ h, λ e. cc e)
 heard_focus o script known p place (Status_is v z) h = (is_waiting p _ h, λ e. cc e)
 heard_focus o script known p place (Registers_are v) h = (is_waiting p _ h, λ e. cc e)

@@ -13,18 +13,18 @@ use Rattle.lx_model.specs.Kernel.{Script}
 use Rattle.pt_model.specs.Ptrace.{is_there}
 use Rattle.pt_model.specs.Parts.{Half, At_entry, At_exit, Options, Part}
 use Rattle.pt_model.specs.Admissible.{was_read, admits_answer}
-use Rattle.pt_model.specs.Tracer.{Known, Place, Seizing, Entry_regs, Entry_peek, Entry_set, Exit_regs, Exit_set, Exit_peek, Signal_info, Resuming, asks, hears, entry_with, look_entry, read_entry, look_exit, read_exit, exit_with, bytes_of, peeked_entry, peeked_exit, Focus, Booting, Waiting, Serving, Asking_outcome, Over, Turns_over, Faulted, Tracer, Moved, focus_on, stays, first_place, exit_place, took_status, admits_stop, is_empty, is_among, with_tracee, tracees_after, told_tracees, takes, faults, next_at, next, new_tracer}
+use Rattle.pt_model.specs.Tracer.{Known, Awaiting, Seizing, Entry_regs, Entry_peek, Entry_set, Exit_regs, Exit_set, Exit_peek, Signal_info, Resuming, asks, hears, entry_with, look_entry, read_entry, look_exit, read_exit, exit_with, bytes_of, peeked_entry, peeked_exit, Focus, Booting, Waiting, Serving, Asking_outcome, Over, Turns_over, Faulted, Tracer, Moved, focus_on, stays, first_place, exit_place, took_status, admits_stop, is_empty, is_among, with_tracee, tracees_after, told_tracees, takes, faults, next_at, next, new_tracer}
 use Rattle.pt_model.specs.View.{most_reads}
 use Rattle.pt_model.specs.Headline.{IsTexts}
 use Rattle.pt_model.specs.Replies.{one_if_asked, asked_after, asked_since, FewRequests}
 
-abbrev past_most : Place → Type 0
+abbrev past_most : Awaiting → Type 0
 past_most (Entry_peek r got w) = length got < most_reads
 past_most (Exit_peek x replaced got w) = length got < most_reads
 past_most _ = Unit {0}
 
 -- how many requests may follow the pending one before the next status
-abbrev spare_at : Place → ℕ
+abbrev spare_at : Awaiting → ℕ
 spare_at Seizing = 1
 spare_at Entry_regs = 99
 spare_at (Entry_peek r got w) = 98 - length got
@@ -42,7 +42,7 @@ spare known (Serving p place) = spare_at place
 spare _ _ = 0
 
 -- who is in hand is known, but for process 1 while he is seized
-abbrev is_seizing : Place → Bool
+abbrev is_seizing : Awaiting → Bool
 is_seizing Seizing = true
 is_seizing _ = false
 
@@ -67,39 +67,39 @@ with_some (x ∷ known) p = go (is_among p (x ∷ known))
     go false = refl
 
 -- what is asked next of the tracee in hand leaves less to ask
-record Falls (place : Place) (x : Option Place) : Type 0 where
-  each : (next : Place) → x ≡ Some next → past_most next × (spare_at next < spare_at place) × (is_seizing next ≡ false)
+record Falls (place : Awaiting) (x : Option Awaiting) : Type 0 where
+  each : (next : Awaiting) → x ≡ Some next → past_most next × (spare_at next < spare_at place) × (is_seizing next ≡ false)
 
-none_falls : (place : Place) → Falls place None
+none_falls : (place : Awaiting) → Falls place None
 none_falls place = record { each = λ next e. absurd (cc e) }
 
-some_falls : (place next : Place) → past_most next → spare_at next < spare_at place → is_seizing next ≡ false → Falls place (Some next)
+some_falls : (place next : Awaiting) → past_most next → spare_at next < spare_at place → is_seizing next ≡ false → Falls place (Some next)
 some_falls place next m l s = record { each = λ y e. subst (λ z. past_most z × (spare_at z < spare_at place) × (is_seizing z ≡ false)) (place_is next y e) (m, l, s) }
   where
-    place_is : (a b : Place) → Some a ≡ Some b → a ≡ b
+    place_is : (a b : Awaiting) → Some a ≡ Some b → a ≡ b
     place_is a b e = cc
 
 module _ (o : Options) (texts : IsTexts o.texts) (script : Script) (p : ℕ) (k : Known) where
   fewer : (half : Half) (got : List (List ℕ)) (w : ℕ × ℕ) → o.texts.wants half got ≡ Some w → length got < most_reads
   fewer half got w e = ⊎_elim (λ (l : length got < most_reads). l) (λ (l : most_reads ≤ length got). absurd (cc (texts.stops half got l, e))) (lt_or_le (length got) most_reads)
 
-  entry_with_falls : (place : Place) → 2 < spare_at place → (r : Regs) (got : List (List ℕ)) (signal : ℕ) (x : Option ℕ) → Falls place (entry_with o p r got k signal x).next
+  entry_with_falls : (place : Awaiting) → 2 < spare_at place → (r : Regs) (got : List (List ℕ)) (signal : ℕ) (x : Option ℕ) → Falls place (entry_with o p r got k signal x).next
   entry_with_falls place l r got signal None = some_falls place (Resuming signal) tt (omega (arith, l)) refl
   entry_with_falls place l r got signal (Some x) = some_falls place (Entry_set _ signal) tt l refl
 
-  look_entry_falls : (place : Place) → 2 < spare_at place → (r : Regs) (got : List (List ℕ)) → (length got < most_reads → 98 - length got < spare_at place) → (w : Option (ℕ × ℕ)) → o.texts.wants (At_entry (call_of r) (sp_of r)) got ≡ w → Falls place (look_entry o script p r got k w).next
+  look_entry_falls : (place : Awaiting) → 2 < spare_at place → (r : Regs) (got : List (List ℕ)) → (length got < most_reads → 98 - length got < spare_at place) → (w : Option (ℕ × ℕ)) → o.texts.wants (At_entry (call_of r) (sp_of r)) got ≡ w → Falls place (look_entry o script p r got k w).next
   look_entry_falls place l r got less None e = entry_with_falls place l r got _ (result_word (script (a7_of r) (k.counts (a7_of r) + 1)))
   look_entry_falls place l r got less (Some w) e = some_falls place (Entry_peek r got w) (fewer _ got w e) (less (fewer _ got w e)) refl
 
-  read_entry_falls : (place : Place) → 2 < spare_at place → (r : Regs) (got : List (List ℕ)) → (length got < most_reads → 98 - length got < spare_at place) → (shown : Bool) → Falls place (read_entry o script p r got k shown).next
+  read_entry_falls : (place : Awaiting) → 2 < spare_at place → (r : Regs) (got : List (List ℕ)) → (length got < most_reads → 98 - length got < spare_at place) → (shown : Bool) → Falls place (read_entry o script p r got k shown).next
   read_entry_falls place l r got less true = look_entry_falls place l r got less (o.texts.wants (At_entry (call_of r) (sp_of r)) got) refl
   read_entry_falls place l r got less false = entry_with_falls place l r [] _ (result_word (script (a7_of r) (k.counts (a7_of r) + 1)))
 
-  look_exit_falls : (place : Place) → 1 < spare_at place → (x : ℕ) (replaced : Bool) (got : List (List ℕ)) → (length got < most_reads → 97 - length got < spare_at place) → (w : Option (ℕ × ℕ)) → o.texts.wants (At_exit k.called x) got ≡ w → Falls place (look_exit o p x replaced got k w).next
+  look_exit_falls : (place : Awaiting) → 1 < spare_at place → (x : ℕ) (replaced : Bool) (got : List (List ℕ)) → (length got < most_reads → 97 - length got < spare_at place) → (w : Option (ℕ × ℕ)) → o.texts.wants (At_exit k.called x) got ≡ w → Falls place (look_exit o p x replaced got k w).next
   look_exit_falls place l x replaced got less None e = some_falls place (Resuming 0) tt l refl
   look_exit_falls place l x replaced got less (Some w) e = some_falls place (Exit_peek x replaced got w) (fewer _ got w e) (less (fewer _ got w e)) refl
 
-  read_exit_falls : (place : Place) → 1 < spare_at place → (x : ℕ) (replaced : Bool) (got : List (List ℕ)) → (length got < most_reads → 97 - length got < spare_at place) → (shown : Bool) → Falls place (read_exit o p x replaced got k shown).next
+  read_exit_falls : (place : Awaiting) → 1 < spare_at place → (x : ℕ) (replaced : Bool) (got : List (List ℕ)) → (length got < most_reads → 97 - length got < spare_at place) → (shown : Bool) → Falls place (read_exit o p x replaced got k shown).next
   read_exit_falls place l x replaced got less true = look_exit_falls place l x replaced got less (o.texts.wants (At_exit k.called x) got) refl
   read_exit_falls place l x replaced got less false = some_falls place (Resuming 0) tt l refl
 
@@ -115,7 +115,7 @@ module _ (o : Options) (texts : IsTexts o.texts) (script : Script) (p : ℕ) (k 
   exit_read x replaced got w m None = none_falls (Exit_peek x replaced got w)
   exit_read x replaced got w m (Some bytes) = read_exit_falls (Exit_peek x replaced got w) (omega (arith, m)) x replaced (got ++ bytes ∷ []) (λ l. omega (arith, m, length-append got (bytes ∷ []))) true
 
-  falls : (place : Place) (r : Reply) → past_most place → Falls place (hears o script p k place r).next
+  falls : (place : Awaiting) (r : Reply) → past_most place → Falls place (hears o script p k place r).next
   falls Seizing Agreed m = none_falls Seizing
   falls Seizing (Status_is v z) m = none_falls Seizing
   falls Seizing (Registers_are v) m = none_falls Seizing
@@ -194,7 +194,7 @@ record Few (o : Options) (t : Tracer) (asked : ℕ) : Type 0 where
   bounded : asked + spare t.tracees t.focus ≤ 100
   sound : Sound t.tracees t.focus
 
-positive : (place : Place) → past_most place → 1 ≤ spare_at place
+positive : (place : Awaiting) → past_most place → 1 ≤ spare_at place
 positive Seizing m = omega arith
 positive Entry_regs m = omega arith
 positive (Entry_peek r got w) m = omega (arith, m)
@@ -256,16 +256,16 @@ module _ (o : Options) (texts : IsTexts o.texts) (script : Script) (known : ℕ 
   child_few n false none l = fault_few o (now Waiting) asked (cond none 1 0) l
 
   -- the tracee in hand
-  hand_few : (p : ℕ) (place : Place) (r : Reply) → asked + spare_at place ≤ 100 → past_most place → (after : List ℕ) → is_empty after ≡ false → (x : Option Place) → Falls place x → (printed : List Part) (k : ℕ → Known) → Few o (record { known = k; tracees = after; focus = focus_on p x; taken = suc taken }) (asked + one_if_asked o (record { known = k; tracees = after; focus = focus_on p x; taken = suc taken }))
+  hand_few : (p : ℕ) (place : Awaiting) (r : Reply) → asked + spare_at place ≤ 100 → past_most place → (after : List ℕ) → is_empty after ≡ false → (x : Option Awaiting) → Falls place x → (printed : List Part) (k : ℕ → Known) → Few o (record { known = k; tracees = after; focus = focus_on p x; taken = suc taken }) (asked + one_if_asked o (record { known = k; tracees = after; focus = focus_on p x; taken = suc taken }))
   hand_few p place r l m after some None f printed k = record { bounded = rw some (omega (arith, l, positive place m)); sound = tt }
   hand_few p place r l m after some (Some next) f printed k =
       let g : past_most next × (spare_at next < spare_at place) × (is_seizing next ≡ false) = f.each next refl in
       record { bounded = omega (arith, l, g.1); sound = (g.0, λ s. some) }
 
-  abbrev Served : ℕ → Place → Reply → Bool → Type 0
+  abbrev Served : ℕ → Awaiting → Reply → Bool → Type 0
   Served p place r b = Few o (cond b (takes (now (Serving p place)) (Serving p place) r (next_at o script known (Serving p place) r)) (faults (now (Serving p place)))).tracer (count o (b && false) (cond b (takes (now (Serving p place)) (Serving p place) r (next_at o script known (Serving p place) r)) (faults (now (Serving p place)))).tracer asked)
 
-  kept : (p : ℕ) (place : Place) (r : Reply) → is_seizing place ≡ false → tracees_after tracees (Serving p place) r ≡ tracees
+  kept : (p : ℕ) (place : Awaiting) (r : Reply) → is_seizing place ≡ false → tracees_after tracees (Serving p place) r ≡ tracees
   kept p Seizing r h = absurd (cc h)
   kept p Entry_regs r h = refl
   kept p (Entry_peek a b c) r h = refl
@@ -276,11 +276,11 @@ module _ (o : Options) (texts : IsTexts o.texts) (script : Script) (known : ℕ 
   kept p (Signal_info a) r h = refl
   kept p (Resuming a) r h = refl
 
-  known_still : (p : ℕ) (place : Place) (r : Reply) → admits_answer (asks o place) r ≡ true → (r ≡ Out_of_turns → ⊥) → (seizing : Bool) → is_seizing place ≡ seizing → (seizing ≡ false → is_empty tracees ≡ false) → is_empty (tracees_after tracees (Serving p place) r) ≡ false
+  known_still : (p : ℕ) (place : Awaiting) (r : Reply) → admits_answer (asks o place) r ≡ true → (r ≡ Out_of_turns → ⊥) → (seizing : Bool) → is_seizing place ≡ seizing → (seizing ≡ false → is_empty tracees ≡ false) → is_empty (tracees_after tracees (Serving p place) r) ≡ false
   known_still p place r a t false e h = ap is_empty (kept p place r e) ∙ h refl
   known_still p place r a t true e h = by_seizing place e r a t
     where
-      by_seizing : (place : Place) → is_seizing place ≡ true → (r : Reply) → admits_answer (asks o place) r ≡ true → (r ≡ Out_of_turns → ⊥) → is_empty (tracees_after tracees (Serving p place) r) ≡ false
+      by_seizing : (place : Awaiting) → is_seizing place ≡ true → (r : Reply) → admits_answer (asks o place) r ≡ true → (r ≡ Out_of_turns → ⊥) → is_empty (tracees_after tracees (Serving p place) r) ≡ false
       by_seizing Seizing e Agreed a t = with_some tracees p
       by_seizing Seizing e Out_of_turns a t = absurd (t refl)
       by_seizing Seizing e (Status_is v z) a t = absurd (cc a)
@@ -293,7 +293,7 @@ module _ (o : Options) (texts : IsTexts o.texts) (script : Script) (known : ℕ 
       by_seizing Seizing e (Boot_refused v) a t = absurd (cc a)
       by_seizing _ e r a t = absurd (cc e)
 
-  hand_step : (p : ℕ) (place : Place) → asked + spare_at place ≤ 100 → Sound tracees (Serving p place) → (r : Reply) (b : Bool) → admits_answer (asks o place) r ≡ b → Served p place r b
+  hand_step : (p : ℕ) (place : Awaiting) → asked + spare_at place ≤ 100 → Sound tracees (Serving p place) → (r : Reply) (b : Bool) → admits_answer (asks o place) r ≡ b → Served p place r b
   hand_step p place l h r false a = fault_few o (now (Serving p place)) asked (spare_at place) l
   hand_step p place l h Agreed true a = hand_few p place Agreed l h.0 (tracees_after tracees (Serving p place) Agreed) (known_still p place Agreed a (λ e. cc e) (is_seizing place) refl h.1) (hears o script p (known p) place Agreed).next (falls o texts script p (known p) place Agreed h.0) [] _
   hand_step p place l h (Status_is v z) true a = hand_few p place (Status_is v z) l h.0 (tracees_after tracees (Serving p place) (Status_is v z)) (known_still p place (Status_is v z) a (λ e. cc e) (is_seizing place) refl h.1) (hears o script p (known p) place (Status_is v z)).next (falls o texts script p (known p) place (Status_is v z) h.0) [] _

@@ -9,13 +9,13 @@ use Rattle.lx_abi.specs.Status.{stop_of}
 use Rattle.lx_model.specs.Kernel.{Script}
 use Rattle.pt_model.specs.Parts.{Options}
 use Rattle.pt_model.specs.Replies.{WholeIsTold, OutOfTurnsIsTold}
-use Rattle.pt_model.specs.Tracer.{Known, Place, Focus, Booting, Waiting, Serving, Asking_outcome, Over, Turns_over, Faulted, Tracer, focus_on, hears, took_status, admits_at, next_at, next}
+use Rattle.pt_model.specs.Tracer.{Known, Awaiting, Focus, Booting, Waiting, Serving, Asking_outcome, Over, Turns_over, Faulted, Tracer, focus_on, hears, took_status, admits_at, next_at, next}
 
 -- neither whole nor out of turns
 abbrev GoesOn : Focus → Type 0
 GoesOn f = ((x : Outcome) → f ≡ Over x → ⊥) × (f ≡ Turns_over → ⊥)
 
-on_focus : (p : ℕ) (place : Option Place) → GoesOn (focus_on p place)
+on_focus : (p : ℕ) (place : Option Awaiting) → GoesOn (focus_on p place)
 on_focus p (Some place) = (λ x e. absurd cc, λ e. absurd cc)
 on_focus p None = (λ x e. absurd cc, λ e. absurd cc)
 

@@ -16,7 +16,7 @@ use Rattle.pt_model.specs.Ptrace.{Report}
 use Rattle.pt_model.specs.Requests.{answer, echild, told, serve_wait}
 use Rattle.pt_model.specs.Admissible.{admits_answer}
 use Rattle.pt_model.specs.Parts.{Options}
-use Rattle.pt_model.specs.Tracer.{Known, Place, asks, Focus, Booting, Waiting, Serving, Asking_outcome, Over, Turns_over, Faulted, Tracer, focus_on, took_status, stays, Next, next_at, request, admits_stop, is_empty, takes, faults}
+use Rattle.pt_model.specs.Tracer.{Known, Awaiting, asks, Focus, Booting, Waiting, Serving, Asking_outcome, Over, Turns_over, Faulted, Tracer, focus_on, took_status, stays, Next, next_at, request, admits_stop, is_empty, takes, faults}
 use Rattle.pt_model.specs.World.{World, met, happens_asked, happens, world_run, effective, first_world}
 use Rattle.pt_model.specs.View.{parts, items_in}
 use Rattle.pt_model.specs.Headline.{IsPast, IsTransparent, traced_run, plain_run}
@@ -31,7 +31,7 @@ module _ {S B : Type 0} (m : Machine S B) (o : Options) (script : Script) (s : S
   first_phase false q = Unborn (traces o.follow q)
 
   first_tie : (q : ℕ) (one : Bool) → (q == 1) ≡ one → Tie m o script (λ x. false) (first_world s b) (first_kernel s b) [] q (first_phase one q)
-  first_tie q true e = record { proc = rw e refl; own = rw e refl; knows = record { outside = refl; unmet = refl; same = λ n. refl }; stage = rw (back q true e) refl; due = refl; living = λ l. record { spared = refl; no_exit = refl }; listed = λ l. absurd (cc l); sort = rw e (or_true o.follow) }
+  first_tie q true e = record { proc = rw e refl; task = rw e refl; knows = record { outside = refl; unmet = refl; same = λ n. refl }; stage = rw (back q true e) refl; due = refl; living = λ l. record { spared = refl; no_exit = refl }; listed = λ l. absurd (cc l); sort = rw e (or_true o.follow) }
     where
       back : (q : ℕ) (t : Bool) → (q == 1) ≡ t → (1 == q) ≡ t
       back q t e = grind (arith, nat_tests)
@@ -39,7 +39,7 @@ module _ {S B : Type 0} (m : Machine S B) (o : Options) (script : Script) (s : S
       or_true : (f : Bool) → (f || true) ≡ true
       or_true true = refl
       or_true false = refl
-  first_tie q false e = record { proc = rw e refl; own = rw e refl; knows = record { outside = refl; unmet = refl; same = λ n. refl }; stage = rw (back q false e) refl; due = refl; living = λ l. record { spared = refl; no_exit = refl }; listed = λ l. absurd (cc l); sort = refl }
+  first_tie q false e = record { proc = rw e refl; task = rw e refl; knows = record { outside = refl; unmet = refl; same = λ n. refl }; stage = rw (back q false e) refl; due = refl; living = λ l. record { spared = refl; no_exit = refl }; listed = λ l. absurd (cc l); sort = refl }
     where
       back : (q : ℕ) (t : Bool) → (q == 1) ≡ t → (1 == q) ≡ t
       back q t e = grind (arith, nat_tests)
@@ -88,11 +88,11 @@ module _ {S B : Type 0} (m : Machine S B) (outcome : S → Outcome) (o : Options
   not_over_wait w f [] (q ∷ qs) x e = cc (f, e)
   not_over_wait w f (r ∷ rs) qs x e = not_over_if (admits_stop o r.pid (w.tracer.known r.pid) (stop_of (word_of r.stop))) w.tracer Waiting (told r.pid r.stop) (took_status o w.tracer.known r.pid (stop_of (word_of r.stop))) x (not_over_status w.tracer.known r.pid (stop_of (word_of r.stop)) x) e
 
-  not_over_focus : (p : ℕ) (next : Option Place) (x : Outcome) → focus_on p next ≡ Over x → ⊥
+  not_over_focus : (p : ℕ) (next : Option Awaiting) (x : Outcome) → focus_on p next ≡ Over x → ⊥
   not_over_focus p None x e = cc e
   not_over_focus p (Some st) x e = cc e
 
-  not_over_serving : (known : ℕ → Known) (p : ℕ) (st : Place) (r : Reply) (x : Outcome) → (next_at o script known (Serving p st) r).focus ≡ Over x → ⊥
+  not_over_serving : (known : ℕ → Known) (p : ℕ) (st : Awaiting) (r : Reply) (x : Outcome) → (next_at o script known (Serving p st) r).focus ≡ Over x → ⊥
   not_over_serving known p st Out_of_turns x e = cc e
   not_over_serving known p st Agreed x e = not_over_focus p _ x e
   not_over_serving known p st (Status_is q y) x e = not_over_focus p _ x e

@@ -7,7 +7,7 @@ use Rattle.lx_abi.specs.declared.status.Stop.TheVariants.{Syscall as Syscall_sto
 use Rattle.lx_abi.specs.Status.{stop_of}
 use Rattle.lx_model.specs.Kernel.{Script}
 use Rattle.pt_model.specs.Parts.{Options}
-use Rattle.pt_model.specs.Tracer.{Known, Place, Waiting, Serving, Turns_over, focus_on, took_status, admits_at, takes, faults, next_at, next_from, next, Moved}
+use Rattle.pt_model.specs.Tracer.{Known, Awaiting, Waiting, Serving, Turns_over, focus_on, took_status, admits_at, takes, faults, next_at, next_from, next, Moved}
 use Rattle.pt_model.specs.Replies.{after, after_all, admits, in_hand, comes_to_hand, StatusesComeToHand, TheHandStays, UnreadCallsHaveNoExit, LetGo, EachIsLetGo}
 use Rattle.pt_model.proofs.Asking.{nobody_is_left_held}
 use Rattle.pt_model.proofs.Composition.{Stuck, stays_stuck, first_fault}
@@ -26,7 +26,7 @@ pub unread_calls_have_no_exit : UnreadCallsHaveNoExit
 unread_calls_have_no_exit o script t p status good f s i u a = rw (a, f, s, i, u) (refl, refl)
 
 -- after a reply to a request of p, p is in hand or nobody
-serving_leads : (o : Options) (script : Script) (known : ℕ → Known) (p : ℕ) (place : Place) (r : Reply) → ((x : Option Place) × ((next_at o script known (Serving p place) r).focus ≡ focus_on p x)) ⊎ ((next_at o script known (Serving p place) r).focus ≡ Turns_over)
+serving_leads : (o : Options) (script : Script) (known : ℕ → Known) (p : ℕ) (place : Awaiting) (r : Reply) → ((x : Option Awaiting) × ((next_at o script known (Serving p place) r).focus ≡ focus_on p x)) ⊎ ((next_at o script known (Serving p place) r).focus ≡ Turns_over)
 serving_leads o script known p place Agreed = inl (_, refl)
 serving_leads o script known p place (Status_is v z) = inl (_, refl)
 serving_leads o script known p place (Registers_are v) = inl (_, refl)
@@ -38,7 +38,7 @@ serving_leads o script known p place (Errno_is v) = inl (_, refl)
 serving_leads o script known p place Out_of_turns = inr refl
 serving_leads o script known p place (Boot_refused v) = inl (_, refl)
 
-focused_hand : (p q : ℕ) (x : Option Place) → in_hand (focus_on p x) ≡ Some q → q ≡ p
+focused_hand : (p q : ℕ) (x : Option Awaiting) → in_hand (focus_on p x) ≡ Some q → q ≡ p
 focused_hand p q None h = absurd (cc h)
 focused_hand p q (Some place) h = cc h
 
@@ -48,7 +48,7 @@ the_hand_stays o script t p q place r f h = go (admits_at o t.known t.tracees (S
     go : (b : Bool) → in_hand (cond b (takes t (Serving p place) r (next_at o script t.known (Serving p place) r)) (faults t)).tracer.focus ≡ Some q → q ≡ p
     go false g = absurd (cc g)
     go true g = ⊎_elim
-        (λ (e : (x : Option Place) × ((next_at o script t.known (Serving p place) r).focus ≡ focus_on p x)). focused_hand p q e.0 (ap in_hand (sym e.1) ∙ g))
+        (λ (e : (x : Option Awaiting) × ((next_at o script t.known (Serving p place) r).focus ≡ focus_on p x)). focused_hand p q e.0 (ap in_hand (sym e.1) ∙ g))
         (λ (e : (next_at o script t.known (Serving p place) r).focus ≡ Turns_over). absurd (cc (e, g)))
         (serving_leads o script t.known p place r)
 
@@ -65,17 +65,17 @@ pub each_is_let_go : EachIsLetGo
 each_is_let_go o script x p place [] f w = absurd (cc (f, w))
 each_is_let_go o script x p place (r ∷ rs) f w = go (admits o x.tracer r) refl (λ place2 g. each_is_let_go o script (after o script x r) p place2 rs g w)
   where
-    led : admits o x.tracer r ≡ true → ((place2 : Place) → (next o script x.tracer r).tracer.focus ≡ Serving p place2 → LetGo o script (after o script x r) p rs) → (y : Option Place) → (next o script x.tracer r).tracer.focus ≡ focus_on p y → LetGo o script x p (r ∷ rs)
+    led : admits o x.tracer r ≡ true → ((place2 : Awaiting) → (next o script x.tracer r).tracer.focus ≡ Serving p place2 → LetGo o script (after o script x r) p rs) → (y : Option Awaiting) → (next o script x.tracer r).tracer.focus ≡ focus_on p y → LetGo o script x p (r ∷ rs)
     led e again None g = record { before = []; place = place; reply = r; more = rs; split = refl; asked = f; how = nobody_is_left_held o script x.tracer p place r f e g }
     led e again (Some place2) g = one_more o script x p r rs (again place2 g)
 
-    go : (b : Bool) → admits o x.tracer r ≡ b → ((place2 : Place) → (next o script x.tracer r).tracer.focus ≡ Serving p place2 → LetGo o script (after o script x r) p rs) → LetGo o script x p (r ∷ rs)
+    go : (b : Bool) → admits o x.tracer r ≡ b → ((place2 : Awaiting) → (next o script x.tracer r).tracer.focus ≡ Serving p place2 → LetGo o script (after o script x r) p rs) → LetGo o script x p (r ∷ rs)
     go false e again =
         let s : Stuck x (after_all o script (after o script x r) rs) = stays_stuck o script x (after o script x r) rs (first_fault o script x r e) in
         absurd (cc (s.focus, w))
     go true e again =
         let came : (next o script x.tracer r).tracer.focus ≡ (next_at o script x.tracer.known (Serving p place) r).focus = rw e (ap (λ y. (next_at o script x.tracer.known y r).focus) f) in
         ⊎_elim
-        (λ (h : (y : Option Place) × ((next_at o script x.tracer.known (Serving p place) r).focus ≡ focus_on p y)). led e again h.0 (came ∙ h.1))
+        (λ (h : (y : Option Awaiting) × ((next_at o script x.tracer.known (Serving p place) r).focus ≡ focus_on p y)). led e again h.0 (came ∙ h.1))
         (λ (h : (next_at o script x.tracer.known (Serving p place) r).focus ≡ Turns_over). absurd (never_waits o script (after o script x r) rs (came ∙ h) w))
         (serving_leads o script x.tracer.known p place r)

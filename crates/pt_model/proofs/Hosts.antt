@@ -27,16 +27,16 @@ use Rattle.lx_model.specs.Machine.{call_of, Ran, Goes, Calls, Faults, Takes, Ans
 use Rattle.lx_model.specs.Turn.{Event, Plain, Execed, Forked, Out, gives, joins, stepped, chosen, result_word, answered as answered_call, took, lives, killed_or, turn}
 use Rattle.lx_model.specs.declared.stage.Stage.{Stage}
 use Rattle.lx_model.specs.declared.stage.Stage.TheVariants.{Born, Run, Faulting, Entered, Doing, Replaced, Acted, Finished, Taken, Dropped}
-use Rattle.lx_model.specs.declared.stage.Own.{Own}
-use Rattle.lx_model.specs.declared.stage.Own.TheVariants.{Alive, Dying, Gone}
+use Rattle.lx_model.specs.declared.stage.Task.{Task}
+use Rattle.lx_model.specs.declared.stage.Task.TheVariants.{Alive, Dying, Gone}
 use Rattle.lx_model.specs.Kernel.{put, traces, choice_at, born}
-use Rattle.lx_model.specs.Finite.{at, item_of, ran, bore, turn_out, running_turn, own_mode}
+use Rattle.lx_model.specs.Finite.{at, item_of, ran, bore, turn_out, running_turn, task_mode}
 use Rattle.pt_model.specs.Ptrace.{Watch, Proc, Report, Host, tracee_stop, stop_at, is_dying, is_there, reports_of, without, may_die, is_effective, proc_after, messages_after, moved, inherits, newborn, bears, host_turn_of}
 use Rattle.pt_model.specs.Requests.{esrch, says, Answered, stopped, unseized, answer_at, answered, serve_wait, take_report, serve}
 use Rattle.pt_model.specs.Attending.{Attending, would_answer, left_pending, serve_pending, event}
 use Rattle.pt_model.specs.Hosting.{Traced, untraced, Hosting, traced_at, as_proc, proc_in, host_in, attending_in, IsFresh, no_script, message_after, traced_after, deed_of, told_stop, ends_dying, wait_ready, ready_in, with_newborn, with_birth, hosted, Hosted, refuses, with_answer, hosting_to, released, took_report, hosting_wait, hosting_serve, hosting_pending, first_hosting}
 use Rattle.pt_model.specs.HostLaws.{HostsTurnAlike, HostsServeAlike, HostsAttendAlike, HostsBeginAlike, HostsRunTheKernel, EmptyScriptIsNone, TurnsTell, HostsAreReady, HostsAreAble}
-use Rattle.lx_model.proofs.Bridge.{same_key, at-insert, at-placed, one_first, owns_first}
+use Rattle.lx_model.proofs.Bridge.{same_key, at-insert, at-placed, one_first, tasks_first}
 
 -- Maps
 
@@ -50,17 +50,17 @@ same_where f p q false e = refl
 put_same : {X : Type 0} (f : ℕ → X) (p : ℕ) → put f p (f p) ≡ f
 put_same f p = fun_ext (λ q. same_where f p q (p == q) refl)
 
-abbrev procs_by : {B : Type 0} → (ℕ → Own B) → (ℕ → Traced) → ℕ → Proc B
+abbrev procs_by : {B : Type 0} → (ℕ → Task B) → (ℕ → Traced) → ℕ → Proc B
 procs_by f s q = as_proc (f q) (s q)
 
 abbrev messages_by : (ℕ → Traced) → ℕ → ℕ
 messages_by s q = (s q).message
 
 -- what is kept, and the own parts, changed at one process
-procs_put : {B : Type 0} (f g : ℕ → Own B) (s t : ℕ → Traced) (p : ℕ) (own : Own B) (x : Traced) → g ≡ put f p own → t ≡ put s p x → (λ q. as_proc (g q) (t q)) ≡ put (λ q. as_proc (f q) (s q)) p (as_proc own x)
-procs_put f g s t p own x e h = ap₂ procs_by e h ∙ fun_ext (λ q. go q (p == q))
+procs_put : {B : Type 0} (f g : ℕ → Task B) (s t : ℕ → Traced) (p : ℕ) (task : Task B) (x : Traced) → g ≡ put f p task → t ≡ put s p x → (λ q. as_proc (g q) (t q)) ≡ put (λ q. as_proc (f q) (s q)) p (as_proc task x)
+procs_put f g s t p task x e h = ap₂ procs_by e h ∙ fun_ext (λ q. go q (p == q))
   where
-    go : (q : ℕ) (b : Bool) → as_proc (cond b own (f q)) (cond b x (s q)) ≡ cond b (as_proc own x) (as_proc (f q) (s q))
+    go : (q : ℕ) (b : Bool) → as_proc (cond b task (f q)) (cond b x (s q)) ≡ cond b (as_proc task x) (as_proc (f q) (s q))
     go q true = refl
     go q false = refl
 
@@ -105,11 +105,11 @@ fresh_child child traced x f q l =
 
 -- Turns
 
-no_chosen : {S B : Type 0} (m : Machine S B) (traced : Bool) (count : ℕ → ℕ) (own : Own B) → choice_at m no_script traced count own ≡ no_choice
+no_chosen : {S B : Type 0} (m : Machine S B) (traced : Bool) (count : ℕ → ℕ) (task : Task B) → choice_at m no_script traced count task ≡ no_choice
 no_chosen m true count (Alive b stage) = refl
 no_chosen m true count (Dying w) = refl
 no_chosen m true count Gone = refl
-no_chosen m false count own = refl
+no_chosen m false count task = refl
 
 pub empty_script_is_none : EmptyScriptIsNone
 unfolding choice_of
@@ -124,17 +124,17 @@ same_host s f g queue tracees k l child e h = ap₂ (λ a b. host_by s a queue t
 
 module _ {S B : Type 0} (m : Machine S B) where
   -- who takes a turn and is no tracee is not held
-  idle : (s : S) (p : ℕ) (held : Bool) (w : Option Watch) (own : Own B) → cond held (may_die m s p w own) true ≡ true → w ≡ None → held ≡ false
-  idle s p true None own e h = absurd (cc e)
-  idle s p true (Some w) own e h = absurd (cc h)
-  idle s p false w own e h = refl
+  idle : (s : S) (p : ℕ) (held : Bool) (w : Option Watch) (task : Task B) → cond held (may_die m s p w task) true ≡ true → w ≡ None → held ≡ false
+  idle s p true None task e h = absurd (cc e)
+  idle s p true (Some w) task e h = absurd (cc h)
+  idle s p false w task e h = refl
 
   -- what the turn leaves, before a child is born
   abbrev unborn : Hosting S B → ℕ → Traced → Out S B → Hosting S B
   unborn v p t o = record {
     running = ran v.running p o;
-    traced = traced_after v.traced p v.running.child t.message t.watch o.own o.event;
-    queue = cond (is_dying o.own) (without p v.queue) v.queue ++ reports_of p (stop_at t.watch o.own o.event);
+    traced = traced_after v.traced p v.running.child t.message t.watch o.task o.event;
+    queue = cond (is_dying o.task) (without p v.queue) v.queue ++ reports_of p (stop_at t.watch o.task o.event);
     tracees = v.tracees;
     turns = v.turns ++ p ∷ [];
     pending = v.pending;
@@ -154,56 +154,56 @@ module _ {S B : Type 0} (m : Machine S B) where
       go false = put_same messages p
 
   after_is : (v : Hosting S B) (p : ℕ) (o : Out S B) (w : Option Watch) → (traced_at v p).watch ≡ w → (w ≡ None → (traced_at v p).held ≡ false) →
-      host_in (record { running = ran v.running p o; traced = traced_after v.traced p v.running.child (traced_at v p).message w o.own o.event; queue = cond (is_dying o.own) (without p v.queue) v.queue ++ reports_of p (stop_at w o.own o.event); tracees = v.tracees; turns = v.turns ++ p ∷ []; pending = v.pending })
+      host_in (record { running = ran v.running p o; traced = traced_after v.traced p v.running.child (traced_at v p).message w o.task o.event; queue = cond (is_dying o.task) (without p v.queue) v.queue ++ reports_of p (stop_at w o.task o.event); tracees = v.tracees; turns = v.turns ++ p ∷ []; pending = v.pending })
       ≡ moved (host_in v) p w o
   after_is v p o None e h = same_host o.shared _ _ _ v.tracees _ _ v.running.child
-      (procs_put (at Gone v.running.owns) _ (traced_at v) (traced_at v) p o.own (traced_at v p) (at-placed v.running.owns p o.own) (sym (put_same (traced_at v) p)) ∙ ap (put (proc_in v) p) (unwatched (traced_at v p) e (h refl)))
+      (procs_put (at Gone v.running.tasks) _ (traced_at v) (traced_at v) p o.task (traced_at v p) (at-placed v.running.tasks p o.task) (sym (put_same (traced_at v) p)) ∙ ap (put (proc_in v) p) (unwatched (traced_at v p) e (h refl)))
       refl
     where
-      unwatched : (t : Traced) → t.watch ≡ None → t.held ≡ false → as_proc o.own t ≡ proc_after None o.own o.event
+      unwatched : (t : Traced) → t.watch ≡ None → t.held ≡ false → as_proc o.task t ≡ proc_after None o.task o.event
       unwatched t f g = rw (f, g) refl
   after_is v p o (Some w) e h = same_host o.shared _ _ _ v.tracees _ _ v.running.child
-      (procs_put (at Gone v.running.owns) _ (traced_at v) _ p o.own x (at-placed v.running.owns p o.own) (at-insert untraced v.traced p x))
+      (procs_put (at Gone v.running.tasks) _ (traced_at v) _ p o.task x (at-placed v.running.tasks p o.task) (at-insert untraced v.traced p x))
       (messages_put (traced_at v) _ p x (at-insert untraced v.traced p x) ∙ message_put (λ q. (traced_at v q).message) p v.running.child w o.event)
     where
       x : Traced
-      x = record { held = is_there (tracee_stop w o.own o.event); watch = Some w; message = message_after (traced_at v p).message p v.running.child w o.event }
+      x = record { held = is_there (tracee_stop w o.task o.event); watch = Some w; message = message_after (traced_at v p).message p v.running.child w o.event }
 
   -- a child
-  abbrev with_body : Hosting S B → Event B → Hosting S B
-  with_body v e = record { running = bore v.running e; traced = v.traced; queue = v.queue; tracees = v.tracees; turns = v.turns; pending = v.pending }
+  abbrev with_user : Hosting S B → Event B → Hosting S B
+  with_user v e = record { running = bore v.running e; traced = v.traced; queue = v.queue; tracees = v.tracees; turns = v.turns; pending = v.pending }
 
   unknown : (v : Hosting S B) → IsFresh v → traced_at v v.running.child ≡ untraced
   unknown v fresh = rw (fresh v.running.child (omega arith)) refl
 
-  child_is : (v : Hosting S B) (b : B) (w : Option Watch) → IsFresh v → host_in (with_newborn (with_body v (Forked b)) v.running.child w) ≡ newborn (host_in v) b w
+  child_is : (v : Hosting S B) (b : B) (w : Option Watch) → IsFresh v → host_in (with_newborn (with_user v (Forked b)) v.running.child w) ≡ newborn (host_in v) b w
   child_is v b None fresh =
       let c : ℕ = v.running.child in
       same_host v.running.shared _ _ v.queue v.tracees _ _ (suc c)
-      (procs_put (at Gone v.running.owns) _ (traced_at v) (traced_at v) c (Alive b Born) (traced_at v c) (at-insert Gone v.running.owns c (Alive b Born)) (sym (put_same (traced_at v) c)) ∙ ap (λ t. put (proc_in v) c (as_proc (Alive b Born) t)) (unknown v fresh))
+      (procs_put (at Gone v.running.tasks) _ (traced_at v) (traced_at v) c (Alive b Born) (traced_at v c) (at-insert Gone v.running.tasks c (Alive b Born)) (sym (put_same (traced_at v) c)) ∙ ap (λ t. put (proc_in v) c (as_proc (Alive b Born) t)) (unknown v fresh))
       refl
   child_is v b (Some w) fresh =
       let c : ℕ = v.running.child in
       let x : Traced = record { held = true; watch = Some w; message = 0 } in
       same_host v.running.shared _ _ (v.queue ++ record { pid = c; stop = Event_stop At_start } ∷ []) (v.tracees ++ c ∷ []) _ _ (suc c)
-      (procs_put (at Gone v.running.owns) _ (traced_at v) _ c (Alive b Born) x (at-insert Gone v.running.owns c (Alive b Born)) (at-insert untraced v.traced c x))
+      (procs_put (at Gone v.running.tasks) _ (traced_at v) _ c (Alive b Born) x (at-insert Gone v.running.tasks c (Alive b Born)) (at-insert untraced v.traced c x))
       (messages_put (traced_at v) _ c x (at-insert untraced v.traced c x) ∙ ap (put (λ q. (traced_at v q).message) c) (sym (ap (λ (t : Traced). t.message) (unknown v fresh))) ∙ put_same (λ q. (traced_at v q).message) c)
 
-  birth_is : (v : Hosting S B) (w : Option Watch) (e : Event B) → IsFresh v → host_in (with_birth (with_body v e) v.running.child w e) ≡ bears (host_in v) w e
+  birth_is : (v : Hosting S B) (w : Option Watch) (e : Event B) → IsFresh v → host_in (with_birth (with_user v e) v.running.child w e) ≡ bears (host_in v) w e
   birth_is v w Plain fresh = refl
   birth_is v w Execed fresh = refl
   birth_is v w (Forked b) fresh = child_is v b (inherits w) fresh
 
-  after_fresh : (child : ℕ) (traced : maps.FinMap nat_cmp Traced) (p message : ℕ) (w : Option Watch) (own : Own B) (e : Event B) → (at untraced traced p).watch ≡ w → Fresh child traced → Fresh child (traced_after traced p child message w own e)
-  after_fresh child traced p message None own e h f = f
-  after_fresh child traced p message (Some w) own e h f = fresh_insert child traced p _ f (is_watched (maps.get traced p) w h)
+  after_fresh : (child : ℕ) (traced : maps.FinMap nat_cmp Traced) (p message : ℕ) (w : Option Watch) (task : Task B) (e : Event B) → (at untraced traced p).watch ≡ w → Fresh child traced → Fresh child (traced_after traced p child message w task e)
+  after_fresh child traced p message None task e h f = f
+  after_fresh child traced p message (Some w) task e h f = fresh_insert child traced p _ f (is_watched (maps.get traced p) w h)
 
-  birth_fresh : (v : Hosting S B) (w : Option Watch) (e : Event B) → IsFresh v → IsFresh (with_birth (with_body v e) v.running.child w e)
+  birth_fresh : (v : Hosting S B) (w : Option Watch) (e : Event B) → IsFresh v → IsFresh (with_birth (with_user v e) v.running.child w e)
   birth_fresh v w Plain f = f
   birth_fresh v w Execed f = f
   birth_fresh v w (Forked b) f = go (inherits w)
     where
-      go : (x : Option Watch) → IsFresh (with_newborn (with_body v (Forked b)) v.running.child x)
+      go : (x : Option Watch) → IsFresh (with_newborn (with_user v (Forked b)) v.running.child x)
       go None = λ q l. f q (omega (arith, l))
       go (Some x) = fresh_child v.running.child v.traced _ f
 
@@ -211,11 +211,11 @@ module _ {S B : Type 0} (m : Machine S B) where
       (host_in (hosted v p (traced_at v p) o) ≡ bears (moved (host_in v) p (traced_at v p).watch o) (traced_at v p).watch o.event) × IsFresh (hosted v p (traced_at v p) o)
   turn_is v p o fresh eff =
       let u : Hosting S B = unborn v p (traced_at v p) o in
-      let f : IsFresh u = after_fresh v.running.child v.traced p (traced_at v p).message (traced_at v p).watch o.own o.event refl fresh in
-      (birth_is u (traced_at v p).watch o.event f ∙ ap (λ h. bears h (traced_at v p).watch o.event) (after_is v p o (traced_at v p).watch refl (idle v.running.shared p (traced_at v p).held (traced_at v p).watch (at Gone v.running.owns p) eff)), birth_fresh u (traced_at v p).watch o.event f)
+      let f : IsFresh u = after_fresh v.running.child v.traced p (traced_at v p).message (traced_at v p).watch o.task o.event refl fresh in
+      (birth_is u (traced_at v p).watch o.event f ∙ ap (λ h. bears h (traced_at v p).watch o.event) (after_is v p o (traced_at v p).watch refl (idle v.running.shared p (traced_at v p).held (traced_at v p).watch (at Gone v.running.tasks p) eff)), birth_fresh u (traced_at v p).watch o.event f)
 
   out_is : (follow : Bool) (v : Hosting S B) (p : ℕ) → turn_out m no_script follow v.running p ≡ host_turn_of m (host_in v) p
-  out_is follow v p = ap (λ c. turn m c v.running.shared v.running.child p (at Gone v.running.owns p)) (no_chosen m (traces follow p) (λ n. entries p n v.running.log) (at Gone v.running.owns p))
+  out_is follow v p = ap (λ c. turn m c v.running.shared v.running.child p (at Gone v.running.tasks p)) (no_chosen m (traces follow p) (λ n. entries p n v.running.log) (at Gone v.running.tasks p))
 
   turned_is : (follow : Bool) (v : Hosting S B) (p : ℕ) → IsFresh v → (b : Bool) → is_effective m v.running.shared p (proc_in v p) ≡ b →
       (host_in (cond b (hosted v p (traced_at v p) (turn_out m no_script follow v.running p)) v) ≡ cond b (bears (moved (host_in v) p (traced_at v p).watch (host_turn_of m (host_in v) p)) (traced_at v p).watch (host_turn_of m (host_in v) p).event) (host_in v))
@@ -238,7 +238,7 @@ module _ {S B : Type 0} (m : Machine S B) where
   answer_is : (v : Hosting S B) (p : ℕ) (a : Answered B) → IsFresh v → is_there (maps.get v.traced p) ≡ true → Alike (answered (host_in v) p a) (Some a.reply) (with_answer v p (traced_at v p).message a)
   answer_is v p a fresh kept = (
     same_host v.running.shared _ _ _ _ _ _ v.running.child
-        (procs_put (at Gone v.running.owns) _ (traced_at v) _ p a.proc.own x (at-placed v.running.owns p a.proc.own) (at-insert untraced v.traced p x))
+        (procs_put (at Gone v.running.tasks) _ (traced_at v) _ p a.proc.task x (at-placed v.running.tasks p a.proc.task) (at-insert untraced v.traced p x))
         (messages_put (traced_at v) _ p x (at-insert untraced v.traced p x) ∙ put_same (messages_by (traced_at v)) p),
     refl,
     fresh_insert v.running.child v.traced p x fresh kept,
@@ -247,13 +247,13 @@ module _ {S B : Type 0} (m : Machine S B) where
       x : Traced
       x = record { held = a.proc.held; watch = a.proc.watch; message = (traced_at v p).message }
 
-  to_is : (v : Hosting S B) (p : ℕ) (q : Ask) → IsFresh v → (held : Bool) (w : Option Watch) (own : Own B) → (held ≡ true → is_there (maps.get v.traced p) ≡ true) →
-      Alike (answered (host_in v) p (answer_at m (traced_at v p).message (proc_in v p) held w own q)) (Some (answer_at m (traced_at v p).message (proc_in v p) held w own q).reply) (hosting_to m v p (traced_at v p).message (proc_in v p) held w own q)
+  to_is : (v : Hosting S B) (p : ℕ) (q : Ask) → IsFresh v → (held : Bool) (w : Option Watch) (task : Task B) → (held ≡ true → is_there (maps.get v.traced p) ≡ true) →
+      Alike (answered (host_in v) p (answer_at m (traced_at v p).message (proc_in v p) held w task q)) (Some (answer_at m (traced_at v p).message (proc_in v p) held w task q).reply) (hosting_to m v p (traced_at v p).message (proc_in v p) held w task q)
   to_is v p q fresh true (Some w) (Alive b stage) kept = answer_is v p (stopped m (proc_in v p) b stage (traced_at v p).message q) fresh (kept refl)
   to_is v p q fresh true (Some w) (Dying word) kept = refuses_is v p fresh
   to_is v p q fresh true (Some w) Gone kept = refuses_is v p fresh
-  to_is v p q fresh true None own kept = answer_is v p (unseized (proc_in v p) q) fresh (kept refl)
-  to_is v p q fresh false w own kept = refuses_is v p fresh
+  to_is v p q fresh true None task kept = answer_is v p (unseized (proc_in v p) q) fresh (kept refl)
+  to_is v p q fresh false w task kept = refuses_is v p fresh
 
   -- who is waited for
   abbrev let_go : Traced → Traced
@@ -277,7 +277,7 @@ module _ {S B : Type 0} (m : Machine S B) where
   took_is v rest p (Ended word) fresh =
       let r : at untraced (released v.traced p (maps.get v.traced p)) ≡ put (traced_at v) p (let_go (traced_at v p)) = released_is v.traced p (maps.get v.traced p) refl in (
         same_host v.running.shared _ _ rest (filter (λ q. not (p == q)) v.tracees) _ _ v.running.child
-            (procs_put (at Gone v.running.owns) (at Gone v.running.owns) (traced_at v) _ p (at Gone v.running.owns p) (let_go (traced_at v p)) (sym (put_same (at Gone v.running.owns) p)) r)
+            (procs_put (at Gone v.running.tasks) (at Gone v.running.tasks) (traced_at v) _ p (at Gone v.running.tasks p) (let_go (traced_at v p)) (sym (put_same (at Gone v.running.tasks) p)) r)
             (messages_put (traced_at v) _ p (let_go (traced_at v p)) r ∙ put_same (messages_by (traced_at v)) p),
         released_fresh v.running.child v.traced p (maps.get v.traced p) refl fresh,
       )
@@ -292,7 +292,7 @@ module _ {S B : Type 0} (m : Machine S B) where
 pub hosts_serve_alike : {S B : Type 0} → HostsServeAlike S B
 hosts_serve_alike m outcome v (Boot_with boot limit words) fresh = (refl, refl, fresh)
 hosts_serve_alike m outcome v Wait fresh = wait_is m v v.queue v.tracees fresh
-hosts_serve_alike m outcome v (To p q) fresh = to_is m v p q fresh (traced_at v p).held (traced_at v p).watch (at Gone v.running.owns p) (is_kept (maps.get v.traced p))
+hosts_serve_alike m outcome v (To p q) fresh = to_is m v p q fresh (traced_at v p).held (traced_at v p).watch (at Gone v.running.tasks p) (is_kept (maps.get v.traced p))
 hosts_serve_alike m outcome v Ask_outcome fresh = (refl, refl, fresh)
 
 -- Events
@@ -314,18 +314,18 @@ module _ {S B : Type 0} (m : Machine S B) where
       ((cond b (hosted v p (traced_at v p) (turn_out m no_script follow v.running p)) v).running ≡ cond b (running_turn m no_script follow v.running p) v.running)
       × ((cond b (hosted v p (traced_at v p) (turn_out m no_script follow v.running p)) v).turns ≡ v.turns ++ cond b (p ∷ []) [])
       × ((cond b (hosted v p (traced_at v p) (turn_out m no_script follow v.running p)) v).pending ≡ v.pending)
-  turn_keeps follow v p true = birth_keeps (with_body v p (turn_out m no_script follow v.running p)) v.running.child (traced_at v p).watch (turn_out m no_script follow v.running p).event
+  turn_keeps follow v p true = birth_keeps (with_user v p (turn_out m no_script follow v.running p)) v.running.child (traced_at v p).watch (turn_out m no_script follow v.running p).event
     where
-      with_body : Hosting S B → ℕ → Out S B → Hosting S B
-      with_body v p o = record { running = bore (ran v.running p o) o.event; traced = traced_after v.traced p v.running.child (traced_at v p).message (traced_at v p).watch o.own o.event; queue = cond (is_dying o.own) (without p v.queue) v.queue ++ reports_of p (stop_at (traced_at v p).watch o.own o.event); tracees = v.tracees; turns = v.turns ++ p ∷ []; pending = v.pending }
+      with_user : Hosting S B → ℕ → Out S B → Hosting S B
+      with_user v p o = record { running = bore (ran v.running p o) o.event; traced = traced_after v.traced p v.running.child (traced_at v p).message (traced_at v p).watch o.task o.event; queue = cond (is_dying o.task) (without p v.queue) v.queue ++ reports_of p (stop_at (traced_at v p).watch o.task o.event); tracees = v.tracees; turns = v.turns ++ p ∷ []; pending = v.pending }
   turn_keeps follow v p false = (refl, sym (append-nil v.turns), refl)
 
-  answer_turns : (v : Hosting S B) (p message : ℕ) (t : Proc B) (held : Bool) (w : Option Watch) (own : Own B) (q : Ask) → (hosting_to m v p message t held w own q).hosting.turns ≡ v.turns
+  answer_turns : (v : Hosting S B) (p message : ℕ) (t : Proc B) (held : Bool) (w : Option Watch) (task : Task B) (q : Ask) → (hosting_to m v p message t held w task q).hosting.turns ≡ v.turns
   answer_turns v p message t true (Some w) (Alive b stage) q = refl
   answer_turns v p message t true (Some w) (Dying word) q = refl
   answer_turns v p message t true (Some w) Gone q = refl
-  answer_turns v p message t true None own q = refl
-  answer_turns v p message t false w own q = refl
+  answer_turns v p message t true None task q = refl
+  answer_turns v p message t false w task q = refl
 
   took_turns : (v : Hosting S B) (rest : List Report) (p : ℕ) (stop : Stop) → (took_report v rest p stop).turns ≡ v.turns
   took_turns v rest p (Syscall_stop good) = refl
@@ -341,7 +341,7 @@ module _ {S B : Type 0} (m : Machine S B) where
   serve_turns : (outcome : S → Outcome) (v : Hosting S B) (q : Request) → (hosting_serve m outcome v q).hosting.turns ≡ v.turns
   serve_turns outcome v (Boot_with boot limit words) = refl
   serve_turns outcome v Wait = wait_turns v v.queue v.tracees
-  serve_turns outcome v (To p q) = answer_turns v p (traced_at v p).message (proc_in v p) (traced_at v p).held (traced_at v p).watch (at Gone v.running.owns p) q
+  serve_turns outcome v (To p q) = answer_turns v p (traced_at v p).message (proc_in v p) (traced_at v p).held (traced_at v p).watch (at Gone v.running.tasks p) q
   serve_turns outcome v Ask_outcome = refl
 
   pending_is : (outcome : S → Outcome) (v : Hosting S B) → IsFresh v → (x : Option Request) → v.pending ≡ x →
@@ -375,7 +375,7 @@ traced_first = at-insert untraced maps.empty 1 (record { held = true; watch = No
 
 pub hosts_begin_alike : {S B : Type 0} → HostsBeginAlike S B
 hosts_begin_alike {S} {B} s b =
-    (same_host s _ _ [] [] _ _ 2 (ap₂ procs_by (owns_first b) traced_first) (ap messages_by traced_first), fresh)
+    (same_host s _ _ [] [] _ _ 2 (ap₂ procs_by (tasks_first b) traced_first) (ap messages_by traced_first), fresh)
   where
     fresh : (q : ℕ) → 2 ≤ q → maps.get (first_hosting s b).traced q ≡ None
     fresh q l =
@@ -387,7 +387,7 @@ hosts_begin_alike {S} {B} s b =
 
 module _ {S B : Type 0} (m : Machine S B) (w : Watch) where
   abbrev Tells : Out S B → Type 0
-  Tells o = (told_stop w (own_mode o.own) (item_of o) (deed_of o.event) ≡ tracee_stop w o.own o.event) × (ends_dying (own_mode o.own) ≡ is_dying o.own)
+  Tells o = (told_stop w (task_mode o.task) (item_of o) (deed_of o.event) ≡ tracee_stop w o.task o.event) × (ends_dying (task_mode o.task) ≡ is_dying o.task)
 
   stepped_tells : (s : S) (p : ℕ) (b : B) (r : Ran S B) → Tells (stepped m s p b r)
   stepped_tells s p b (Goes c) = (refl, refl)
@@ -449,11 +449,11 @@ hosts_are_ready m outcome v = go v.pending
     go (Some Ask_outcome) = refl
 
 -- the turn runs an instruction or changes the mode
-abbrev Moves : {S B : Type 0} → Own B → Out S B → Type 0
-Moves own o = (own_mode own ≡ Some mode.Run) ⊎ (own_mode o.own ≢ own_mode own)
+abbrev Moves : {S B : Type 0} → Task B → Out S B → Type 0
+Moves task o = (task_mode task ≡ Some mode.Run) ⊎ (task_mode o.task ≢ task_mode task)
 
 pub hosts_are_able : {S B : Type 0} → HostsAreAble S B
 hosts_are_able {S} {B} m follow v p = (
-  λ h. (h.0, subst (λ (o : Out S B). Moves (at Gone v.running.owns p) o) (out_is m follow v p) h.1),
-  λ h. (h.0, subst (λ (o : Out S B). Moves (at Gone v.running.owns p) o) (sym (out_is m follow v p)) h.1),
+  λ h. (h.0, subst (λ (o : Out S B). Moves (at Gone v.running.tasks p) o) (out_is m follow v p) h.1),
+  λ h. (h.0, subst (λ (o : Out S B). Moves (at Gone v.running.tasks p) o) (sym (out_is m follow v p)) h.1),
 )

@@ -96,9 +96,9 @@ pub dues_of_other-without : (p q : ℕ) (dues : List Due) → p ≢ q → dues_o
 dues_of_other-without p q [] h = refl
 dues_of_other-without p q (i ∷ dues) h = grind (arith, nat_tests, dues_of_other-without p q dues h)
 
-pub dues_of_own : (p : ℕ) (dues : List Due) → DuesOf p dues → dues_of p dues ≡ dues
-dues_of_own p [] h = refl
-dues_of_own p (i ∷ dues) h = rw (h.0, is_same p, dues_of_own p dues h.1) refl
+pub dues_of_task : (p : ℕ) (dues : List Due) → DuesOf p dues → dues_of p dues ≡ dues
+dues_of_task p [] h = refl
+dues_of_task p (i ∷ dues) h = rw (h.0, is_same p, dues_of_task p dues h.1) refl
 
 pub dues_of_other : (p q : ℕ) (dues : List Due) → p ≢ q → DuesOf p dues → dues_of q dues ≡ []
 dues_of_other p q [] d h = refl
@@ -107,9 +107,9 @@ dues_of_other p q (i ∷ dues) d h = rw (h.0, is_not_same q p (λ e. d (sym e)),
 pub noted_of-append : (q : ℕ) (xs ys : List Noted) → noted_of q (xs ++ ys) ≡ noted_of q xs ++ noted_of q ys
 noted_of-append q xs ys = filter-append (λ i. q == pid_of i.item) xs ys
 
-pub noted_of_own : (p : ℕ) (items : List Noted) → AllOf p items → noted_of p items ≡ items
-noted_of_own p [] h = refl
-noted_of_own p (i ∷ items) h = rw (h.0, is_same p, noted_of_own p items h.1) refl
+pub noted_of_task : (p : ℕ) (items : List Noted) → AllOf p items → noted_of p items ≡ items
+noted_of_task p [] h = refl
+noted_of_task p (i ∷ items) h = rw (h.0, is_same p, noted_of_task p items h.1) refl
 
 pub noted_of_other : (p q : ℕ) (items : List Noted) → p ≢ q → AllOf p items → noted_of q items ≡ []
 noted_of_other p q [] d h = refl
@@ -129,11 +129,11 @@ pub entries-append : (q n : ℕ) (xs ys : List Noted) → entries q n (items_of 
 entries-append q n xs ys = ap (entries q n) (map-append (λ (i : Noted). i.item) xs ys) ∙ ap length (filter-append (is_entry q n) (items_of xs) (items_of ys)) ∙ length-append (filter (is_entry q n) (items_of xs)) (filter (is_entry q n) (items_of ys))
 
 -- the items of a tracee are in the trace, and those of no other process
-pub traced_own : (follow : Bool) (p : ℕ) (t : Bool) → traces follow p ≡ t → (items : List Noted) → AllOf p items → traced follow items ≡ cond t items []
-traced_own follow p true e [] h = refl
-traced_own follow p false e [] h = refl
-traced_own follow p true e (i ∷ items) h = rw (h.0, e, traced_own follow p true e items h.1) refl
-traced_own follow p false e (i ∷ items) h = rw (h.0, e, traced_own follow p false e items h.1) refl
+pub traced_task : (follow : Bool) (p : ℕ) (t : Bool) → traces follow p ≡ t → (items : List Noted) → AllOf p items → traced follow items ≡ cond t items []
+traced_task follow p true e [] h = refl
+traced_task follow p false e [] h = refl
+traced_task follow p true e (i ∷ items) h = rw (h.0, e, traced_task follow p true e items h.1) refl
+traced_task follow p false e (i ∷ items) h = rw (h.0, e, traced_task follow p false e items h.1) refl
 
 pub traced-append : (follow : Bool) (xs ys : List Noted) → traced follow (xs ++ ys) ≡ traced follow xs ++ traced follow ys
 traced-append follow xs ys = filter-append (λ i. traces follow (pid_of i.item)) xs ys

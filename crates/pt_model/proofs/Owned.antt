@@ -11,7 +11,7 @@ use Rattle.lx_model.specs.Kernel.{Script, Kernel}
 use Rattle.pt_model.specs.Ptrace.{Host, is_there}
 use Rattle.pt_model.specs.Parts.{Options, Part}
 use Rattle.pt_model.specs.Admissible.{admits_answer}
-use Rattle.pt_model.specs.Tracer.{Place, Seizing, Entry_regs, Entry_peek, Entry_set, Exit_regs, Exit_set, Exit_peek, Signal_info, Resuming, asks, Focus, Booting, Waiting, Serving, Asking_outcome, Over, Turns_over, Faulted, Tracer, next_from, next, Moved, request, new_tracer}
+use Rattle.pt_model.specs.Tracer.{Awaiting, Seizing, Entry_regs, Entry_peek, Entry_set, Exit_regs, Exit_set, Exit_peek, Signal_info, Resuming, asks, Focus, Booting, Waiting, Serving, Asking_outcome, Over, Turns_over, Faulted, Tracer, next_from, next, Moved, request, new_tracer}
 use Rattle.pt_model.specs.World.{World, met, world_run, effective, first_world}
 use Rattle.pt_model.specs.Attending.{Schedules, event, turned, Called, answered_by, called, reply_or}
 use Rattle.pt_model.specs.Headline.{IsTold, IsTexts, IsScript, Headline, traced_run, plain_run}
@@ -21,7 +21,7 @@ use Rattle.pt_model.proofs.Final.{transparent}
 use Rattle.pt_model.proofs.Composition.{after_all-append, replies_tell_all, traces_grow}
 use Rattle.pt_model.proofs.Called.{worlds_call, runs_append, over_is_for_good, events_of_replies}
 
-always_out : (o : Options) (place : Place) → admits_answer (asks o place) Out_of_turns ≡ true
+always_out : (o : Options) (place : Awaiting) → admits_answer (asks o place) Out_of_turns ≡ true
 always_out o Seizing = refl
 always_out o Entry_regs = refl
 always_out o (Entry_peek r got w) = refl
@@ -91,9 +91,9 @@ module _ {S B : Type 0} (m : Machine S B) (outcome : S → Outcome) (o : Options
       let none : xs ≡ [] = no_more w.tracer x.1 c.host c.left xs (ap is_there k.0) said k.2 in
       ([], ap₂ (λ y l. (y ∷ map (λ y. y.1) l) ++ []) said none ∙ sym (last_one w events x.0 c k.0 e (none_left events w.host x.0 e) (worlds_call m outcome o script w x.0 events k.0)))
 
-  own_from : (xs : List (Request × Reply)) (w : World S B) (events : List Event) → Talks m outcome o script w.tracer w.host events xs → OwnFrom w events (map (λ x. x.1) xs)
-  own_from [] w events k = (world_replies m outcome o script w events, refl)
-  own_from (x ∷ xs) w events k = talked w events x xs k (own_from xs) (called m outcome w.host x.0 events).reply refl
+  task_from : (xs : List (Request × Reply)) (w : World S B) (events : List Event) → Talks m outcome o script w.tracer w.host events xs → OwnFrom w events (map (λ x. x.1) xs)
+  task_from [] w events k = (world_replies m outcome o script w events, refl)
+  task_from (x ∷ xs) w events k = talked w events x xs k (task_from xs) (called m outcome w.host x.0 events).reply refl
 
 module _ {S B : Type 0} (m : Machine S B) (outcome : S → Outcome) where
   -- what a list of events does before others
@@ -148,7 +148,7 @@ schedules_are_lists choose m outcome o script t x h events xs k = over_list choo
 
 pub talks_are_own : {S B : Type 0} → TalksAreOwn S B
 talks_are_own {S} {B} m outcome o script s b events xs k =
-    let a : OwnFrom m outcome o script (first_world s b) events (map (λ x. x.1) xs) = own_from m outcome o script xs (first_world s b) events k in
+    let a : OwnFrom m outcome o script (first_world s b) events (map (λ x. x.1) xs) = task_from m outcome o script xs (first_world s b) events k in
     record { more = a.0; begins = a.1 }
 
 pub talks_are_answers : {S B : Type 0} → TalksAreAnswers S B
@@ -229,23 +229,23 @@ module _ {S B : Type 0} (m : Machine S B) (laws : IsMachine m) (words : IsTold m
         done = λ g. (refl, refl);
       }
 
-  own_run : IsOwn m outcome o script s b events rs → OwnRun m outcome o script s b events rs
-  own_run own = ⊎_elim
+  task_run : IsOwn m outcome o script s b events rs → OwnRun m outcome o script s b events rs
+  task_run task = ⊎_elim
       (λ (a : (rest : List Reply) × (replies m outcome o script (first_world s b) events ≡ rs ++ rest)). by_events (events_of_replies m outcome o script (first_world s b) events rs a.0 a.1))
       (λ (a : (is_there (request o (traced_run m outcome o script s b events).tracer.focus) ≡ true) × (rs ≡ replies m outcome o script (first_world s b) events ++ Out_of_turns ∷ [])). by_all a.0 a.1)
-      (begins_or_is rs own.more (replies m outcome o script (first_world s b) events) (is_there (request o (traced_run m outcome o script s b events).tracer.focus)) own.begins)
+      (begins_or_is rs task.more (replies m outcome o script (first_world s b) events) (is_there (request o (traced_run m outcome o script s b events).tracer.focus)) task.begins)
 
 pub own_replies_tell : {S B : Type 0} → OwnRepliesTell S B
-own_replies_tell m laws words outcome o texts script scripts s b events rs own = own_run m laws words outcome o texts script scripts s b events rs own
+own_replies_tell m laws words outcome o texts script scripts s b events rs task = task_run m laws words outcome o texts script scripts s b events rs task
 
 pub failures_leave_a_prefix : {S B : Type 0} → FailuresLeaveAPrefix S B
 unfolding by_all
-failures_leave_a_prefix {S} {B} m laws words outcome o texts script scripts s b events rs own =
+failures_leave_a_prefix {S} {B} m laws words outcome o texts script scripts s b events rs task =
     let w : World S B = traced_run m outcome o script s b events in
     let k : Kernel S B = plain_run m outcome o script s b events in
     let h : Headline outcome o w k = transparent m laws words outcome o texts script scripts s b events in
-    let g : (later : List Part) × ((told_by o script (Agreed ∷ rs ++ own.more)).printed ≡ (told_by o script (Agreed ∷ rs)).printed ++ later) = traces_grow o script (Agreed ∷ rs) own.more in
-    let all : (told_by o script (Agreed ∷ rs ++ own.more)).printed ≡ w.printed = ap (λ x. (told_by o script (Agreed ∷ x)).printed) own.begins ∙ shown_by (is_there (request o w.tracer.focus)) refl in
+    let g : (later : List Part) × ((told_by o script (Agreed ∷ rs ++ task.more)).printed ≡ (told_by o script (Agreed ∷ rs)).printed ++ later) = traces_grow o script (Agreed ∷ rs) task.more in
+    let all : (told_by o script (Agreed ∷ rs ++ task.more)).printed ≡ w.printed = ap (λ x. (told_by o script (Agreed ∷ x)).printed) task.begins ∙ shown_by (is_there (request o w.tracer.focus)) refl in
     (h.lost, (g.0 ++ h.tells.later, sym (append_assoc (told_by o script (Agreed ∷ rs)).printed g.0 h.tells.later) ∙ ap (λ x. x ++ h.tells.later) (sym g.1 ∙ all) ∙ h.tells.begins))
   where
     shown_by : (y : Bool) → is_there (request o (traced_run m outcome o script s b events).tracer.focus) ≡ y → (told_by o script (Agreed ∷ (replies m outcome o script (first_world s b) events ++ out_of_turns_if y))).printed ≡ (traced_run m outcome o script s b events).printed

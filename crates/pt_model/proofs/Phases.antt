@@ -14,13 +14,13 @@ use Rattle.lx_model.specs.Machine.{Regs, call_of, a0_of, a7_of, sp_of, with_a0, 
 use Rattle.lx_model.specs.Turn.{note_of, no_note, result_word}
 use Rattle.lx_model.specs.declared.stage.Stage.{Stage}
 use Rattle.lx_model.specs.declared.stage.Stage.TheVariants.{Born, Run, Faulting, Entered, Doing, Replaced, Acted, Finished, Taken}
-use Rattle.lx_model.specs.declared.stage.Own.{Own}
-use Rattle.lx_model.specs.declared.stage.Own.TheVariants.{Alive, Dying, Gone}
+use Rattle.lx_model.specs.declared.stage.Task.{Task}
+use Rattle.lx_model.specs.declared.stage.Task.TheVariants.{Alive, Dying, Gone}
 use Rattle.lx_model.specs.Kernel.{Script}
 use Rattle.pt_model.specs.Ptrace.{Watch, Proc, is_there}
 use Rattle.pt_model.specs.Parts.{Half, At_entry, At_exit, Options}
 use Rattle.pt_model.specs.Admissible.{Standing, Unmet, Between, After_signal, Unread, Read, was_read, event_fits, end_fits}
-use Rattle.pt_model.specs.Tracer.{Known, Place, Seizing, Entry_regs, Entry_peek, Entry_set, Exit_regs, Exit_set, Exit_peek, Signal_info, Resuming, signal_word}
+use Rattle.pt_model.specs.Tracer.{Known, Awaiting, Seizing, Entry_regs, Entry_peek, Entry_set, Exit_regs, Exit_set, Exit_peek, Signal_info, Resuming, signal_word}
 use Rattle.pt_model.specs.View.{has_exit, may_lose, reads, most_reads, Due, Logged, Unlogged, due_pid, items_in}
 use Rattle.pt_model.proofs.Registers.{no_such_result}
 
@@ -48,7 +48,7 @@ pub data Phase (B : Type 0) : Type 0 where
   Sig_asked : B → Signal → Cause → Phase B
   Sig_resuming : B → Signal → Cause → Phase B
   Sig_free : B → Signal → Cause → Phase B
-  Dead_due : ℕ → Mode → Option Place → Phase B
+  Dead_due : ℕ → Mode → Option Awaiting → Phase B
   Dead : ℕ → Phase B
   Nobody : Phase B
   -- not yet born; will it be a tracee
@@ -62,7 +62,7 @@ pub data Phase (B : Type 0) : Type 0 where
   Event_due : EventStop → B → Call → Phase B
   Event_resuming : B → Call → Phase B
   -- not a tracee
-  Loose : Own B → Phase B
+  Loose : Task B → Phase B
 
 -- the end of a process as it is logged
 abbrev pub exit_of : ℕ → ℕ → Mode → Noted
@@ -76,11 +76,11 @@ some None = false
 abbrev pub watch : Bool → Watch
 watch follow = record { good = true; forks = follow; execs = true }
 
-abbrev pub free : {B : Type 0} → Bool → Own B → Proc B
-free follow h = record { own = h; held = false; watch = Some (watch follow) }
+abbrev pub free : {B : Type 0} → Bool → Task B → Proc B
+free follow h = record { task = h; held = false; watch = Some (watch follow) }
 
-abbrev pub held : {B : Type 0} → Bool → Own B → Proc B
-held follow h = record { own = h; held = true; watch = Some (watch follow) }
+abbrev pub held : {B : Type 0} → Bool → Task B → Proc B
+held follow h = record { task = h; held = true; watch = Some (watch follow) }
 
 module _ {S B : Type 0} (m : Machine S B) where
   -- the traced process where its call is replaced
@@ -110,39 +110,39 @@ module _ {S B : Type 0} (m : Machine S B) where
   acted_masked b c (Some v) = Acted (call_of (m.regs (masked b (Some v)))) no_such_result false
 
   -- a signal that is to be joined
-  abbrev pub own_of : Phase B → Own B
-  own_of (Running b) = Alive b Run
-  own_of (Enter_due b) = Alive b (Entered None)
-  own_of (Enter_asked b) = Alive b (Entered None)
-  own_of (Enter_peeking b d w n) = Alive b (Entered None)
-  own_of (Enter_setting b v n) = Alive b (Entered None)
-  own_of (Enter_resuming b r n) = Alive b (Entered None)
-  own_of (Enter_free b r n) = Alive b (Entered None)
-  own_of (In_call b c) = Alive b (Doing c)
-  own_of (In_replaced b v) = Alive b (Replaced (call_of (m.regs b)) v)
-  own_of (Has_acted b c r) = Alive (left b r) (Acted (call_in b c r) (result_in b r) (some r))
-  own_of (Exit_due b c r) = Alive (left b r) Finished
-  own_of (Exit_asked b c r) = Alive (left b r) Finished
-  own_of (Exit_setting b v) = Alive (left b (Some v)) Finished
-  own_of (Exit_peeking b c x r d w n) = Alive b Finished
-  own_of (Exit_resuming b) = Alive b Finished
-  own_of (Exit_free b) = Alive b Finished
-  own_of (Fault_free b n cause) = Alive b (Faulting n cause)
-  own_of (Sig_due b n cause) = Alive b (Taken n cause)
-  own_of (Sig_asked b n cause) = Alive b (Taken n cause)
-  own_of (Sig_resuming b n cause) = Alive b (Taken n cause)
-  own_of (Sig_free b n cause) = Alive b (Taken n cause)
-  own_of (Dead_due w mode s) = Dying w
-  own_of (Dead w) = Dying w
-  own_of Nobody = Gone
-  own_of (Unborn t) = Gone
-  own_of (Boot_held b) = Alive b Born
-  own_of (Born_due b) = Alive b Born
-  own_of (Born_resuming b) = Alive b Born
-  own_of (Born_free b) = Alive b Born
-  own_of (Event_due n b c) = Alive b (Acted c (a0_of (m.regs b)) false)
-  own_of (Event_resuming b c) = Alive b (Acted c (a0_of (m.regs b)) false)
-  own_of (Loose h) = h
+  abbrev pub task_of : Phase B → Task B
+  task_of (Running b) = Alive b Run
+  task_of (Enter_due b) = Alive b (Entered None)
+  task_of (Enter_asked b) = Alive b (Entered None)
+  task_of (Enter_peeking b d w n) = Alive b (Entered None)
+  task_of (Enter_setting b v n) = Alive b (Entered None)
+  task_of (Enter_resuming b r n) = Alive b (Entered None)
+  task_of (Enter_free b r n) = Alive b (Entered None)
+  task_of (In_call b c) = Alive b (Doing c)
+  task_of (In_replaced b v) = Alive b (Replaced (call_of (m.regs b)) v)
+  task_of (Has_acted b c r) = Alive (left b r) (Acted (call_in b c r) (result_in b r) (some r))
+  task_of (Exit_due b c r) = Alive (left b r) Finished
+  task_of (Exit_asked b c r) = Alive (left b r) Finished
+  task_of (Exit_setting b v) = Alive (left b (Some v)) Finished
+  task_of (Exit_peeking b c x r d w n) = Alive b Finished
+  task_of (Exit_resuming b) = Alive b Finished
+  task_of (Exit_free b) = Alive b Finished
+  task_of (Fault_free b n cause) = Alive b (Faulting n cause)
+  task_of (Sig_due b n cause) = Alive b (Taken n cause)
+  task_of (Sig_asked b n cause) = Alive b (Taken n cause)
+  task_of (Sig_resuming b n cause) = Alive b (Taken n cause)
+  task_of (Sig_free b n cause) = Alive b (Taken n cause)
+  task_of (Dead_due w mode s) = Dying w
+  task_of (Dead w) = Dying w
+  task_of Nobody = Gone
+  task_of (Unborn t) = Gone
+  task_of (Boot_held b) = Alive b Born
+  task_of (Born_due b) = Alive b Born
+  task_of (Born_resuming b) = Alive b Born
+  task_of (Born_free b) = Alive b Born
+  task_of (Event_due n b c) = Alive b (Acted c (a0_of (m.regs b)) false)
+  task_of (Event_resuming b c) = Alive b (Acted c (a0_of (m.regs b)) false)
+  task_of (Loose h) = h
 
   abbrev pub proc_of : Bool → Phase B → Proc B
   proc_of f (Running b) = free f (Alive b Run)
@@ -169,14 +169,14 @@ module _ {S B : Type 0} (m : Machine S B) where
   proc_of f (Dead_due w mode s) = held f (Dying w)
   proc_of f (Dead w) = free f (Dying w)
   proc_of f Nobody = free f Gone
-  proc_of f (Unborn t) = record { own = Gone; held = false; watch = None }
-  proc_of f (Boot_held b) = record { own = Alive b Born; held = true; watch = None }
+  proc_of f (Unborn t) = record { task = Gone; held = false; watch = None }
+  proc_of f (Boot_held b) = record { task = Alive b Born; held = true; watch = None }
   proc_of f (Born_due b) = held f (Alive b Born)
   proc_of f (Born_resuming b) = held f (Alive b Born)
   proc_of f (Born_free b) = free f (Alive b Born)
   proc_of f (Event_due n b c) = held f (Alive b (Acted c (a0_of (m.regs b)) false))
   proc_of f (Event_resuming b c) = held f (Alive b (Acted c (a0_of (m.regs b)) false))
-  proc_of f (Loose h) = record { own = h; held = false; watch = None }
+  proc_of f (Loose h) = record { task = h; held = false; watch = None }
 
   abbrev pub enter_of : ℕ → B → Noted
   enter_of p b = record { item = Enter p (call_of (m.regs b)); note = note_of m b }
@@ -212,7 +212,7 @@ module _ {S B : Type 0} (m : Machine S B) where
   hand_in p _ = []
 
   -- what the tracer is asking of p
-  abbrev pub stage_of : Phase B → Option Place
+  abbrev pub stage_of : Phase B → Option Awaiting
   stage_of (Enter_asked b) = Some Entry_regs
   stage_of (Enter_peeking b d w n) = Some (Entry_peek (m.regs b) d w)
   stage_of (Enter_setting b v n) = Some (Entry_set (with_a7 (m.regs b) no_call) (signal_word n))
@@ -280,7 +280,7 @@ pub record Chosen (script : Script) (r : Regs) (x : Option ℕ) (n : Option Sign
   pub signal : (script (a7_of r) (e (a7_of r))).signal ≡ n
 
 -- nobody dies while he is seized
-abbrev pub is_other : Option Place → Bool
+abbrev pub is_other : Option Awaiting → Bool
 is_other None = true
 is_other (Some Seizing) = false
 is_other (Some _) = true

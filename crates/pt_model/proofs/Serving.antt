@@ -20,19 +20,19 @@ use Rattle.lx_abi.specs.declared.status.Stop.TheVariants.{Syscall as Syscall_sto
 use Rattle.lx_abi.specs.Log.{Noted, items_of, entries}
 use Rattle.lx_abi.specs.Status.{word_of, stop_of}
 use Rattle.lx_model.specs.Machine.{Machine, IsMachine}
-use Rattle.lx_model.specs.declared.stage.Own.{Own}
-use Rattle.lx_model.specs.declared.stage.Own.TheVariants.{Alive, Dying, Gone}
+use Rattle.lx_model.specs.declared.stage.Task.{Task}
+use Rattle.lx_model.specs.declared.stage.Task.TheVariants.{Alive, Dying, Gone}
 use Rattle.lx_model.specs.Kernel.{Script, put, traces, Kernel}
 use Rattle.pt_model.specs.Ptrace.{watch_of, Watch, Proc, Report, Host, is_there}
 use Rattle.pt_model.specs.Requests.{Answered, answer_at, answer, answered, seize, echild, take_report, serve_wait, serve}
 use Rattle.pt_model.specs.Admissible.{Standing, Unmet, Between, After_signal, Unread, Read, After_event, was_read, stop_fits, event_fits, admits_answer}
 use Rattle.pt_model.specs.Parts.{Options, Part}
-use Rattle.pt_model.specs.Tracer.{Booting, Known, Place, Seizing, Resuming, asks, options_word, Heard, hears, Focus, Waiting, Serving, Asking_outcome, Over, Turns_over, Faulted, focus_on, heard, stays, stands_at, turned_over, event_standing, took_status, next_at, request, admits_stop, is_empty, is_among, with_tracee, told_tracees, tracees_after, Moved, takes, faults}
+use Rattle.pt_model.specs.Tracer.{Booting, Known, Awaiting, Seizing, Resuming, asks, options_word, Heard, hears, Focus, Waiting, Serving, Asking_outcome, Over, Turns_over, Faulted, focus_on, heard, stays, stands_at, turned_over, event_standing, took_status, next_at, request, admits_stop, is_empty, is_among, with_tracee, told_tracees, tracees_after, Moved, takes, faults}
 use Rattle.pt_model.specs.World.{World, met, happens_asked}
 use Rattle.pt_model.specs.View.{part, parts, Due, Logged, Unlogged, due_pid, items_in, report_of}
 use Rattle.pt_model.specs.Headline.{IsTold, IsTexts, IsScript}
 use Rattle.pt_model.proofs.Words.{syscall_back, signal_stop_back, event_back, end_back}
-use Rattle.pt_model.proofs.Phases.{Phase, Enter_due, Enter_asked, Enter_peeking, Exit_due, Exit_asked, Exit_setting, Exit_peeking, Exit_resuming, Sig_due, Sig_asked, Dead_due, Dead, Born_due, Born_resuming, Event_due, Event_resuming, dues_of, is_unborn, is_traced, enter_of, done_of, signal_of, exit_of, own_of, proc_of, due_in, stage_of, Knows, hand_in, dead, reaped, is_between, fits_end}
+use Rattle.pt_model.proofs.Phases.{Phase, Enter_due, Enter_asked, Enter_peeking, Exit_due, Exit_asked, Exit_setting, Exit_peeking, Exit_resuming, Sig_due, Sig_asked, Dead_due, Dead, Born_due, Born_resuming, Event_due, Event_resuming, dues_of, is_unborn, is_traced, enter_of, done_of, signal_of, exit_of, task_of, proc_of, due_in, stage_of, Knows, hand_in, dead, reaped, is_between, fits_end}
 use Rattle.pt_model.proofs.Local.{Seizes, Not_seized, Seized, is_out, Served, served}
 use Rattle.pt_model.proofs.Admitted.{admitted}
 use Rattle.pt_model.proofs.Maps.{report_pid, among_last, among_new, among_old, equal_if, same_or_not, is_same, is_not_same, put_here, put_apart, items_in-append, parts-append}
@@ -40,19 +40,19 @@ use Rattle.pt_model.proofs.Ties.{released, stage_at, hand_at, is_past, is_stuck,
 
 module _ {S B : Type 0} (m : Machine S B) (o : Options) (script : Script) (w : World S B) (kernel : Kernel S B) where
   -- Serve, while the tracer asks of p
-  stage_here : (p : ℕ) (next : Option Place) → stage_at p (focus_on p next) ≡ next
+  stage_here : (p : ℕ) (next : Option Awaiting) → stage_at p (focus_on p next) ≡ next
   stage_here p None = refl
   stage_here p (Some st) = rw (is_same p) refl
 
-  stage_apart : (p q : ℕ) → p ≢ q → (next : Option Place) → stage_at q (focus_on p next) ≡ None
+  stage_apart : (p q : ℕ) → p ≢ q → (next : Option Awaiting) → stage_at q (focus_on p next) ≡ None
   stage_apart p q d None = refl
   stage_apart p q d (Some st) = rw (is_not_same p q d) refl
 
-  hand_said : (p : ℕ) (phases : ℕ → Phase B) (next : Phase B) (x : Option Place) → stage_of m next ≡ x → hand_at m (put phases p next) (focus_on p x) ≡ hand_in m p next
+  hand_said : (p : ℕ) (phases : ℕ → Phase B) (next : Phase B) (x : Option Awaiting) → stage_of m next ≡ x → hand_at m (put phases p next) (focus_on p x) ≡ hand_in m p next
   hand_said p phases next None e = sym (no_hand m o script w kernel p next e)
   hand_said p phases next (Some st) e = ap (hand_in m p) (put_here phases p next)
 
-  not_past : (p : ℕ) (x : Option Place) → is_past (focus_on p x) ≡ true → ⊥
+  not_past : (p : ℕ) (x : Option Awaiting) → is_past (focus_on p x) ≡ true → ⊥
   not_past p None e = cc e
   not_past p (Some st) e = cc e
 
@@ -89,10 +89,10 @@ module _ {S B : Type 0} (m : Machine S B) (o : Options) (script : Script) (w : W
   seized_among p q true tracees h = among_old q p tracees h
   seized_among p q false tracees h = h
 
-  abbrev replied : ℕ → Place → Answered B → Heard → World S B
+  abbrev replied : ℕ → Awaiting → Answered B → Heard → World S B
   replied p st a h = record { host = answered w.host p a; tracer = record { known = put w.tracer.known p h.known; tracees = tracees_after w.tracer.tracees (Serving p st) a.reply; focus = focus_on p h.next; taken = suc w.tracer.taken }; printed = w.printed ++ h.printed }
 
-  not_stuck : (p : ℕ) (x : Option Place) → is_stuck (focus_on p x) ≡ false
+  not_stuck : (p : ℕ) (x : Option Awaiting) → is_stuck (focus_on p x) ≡ false
   not_stuck p None = refl
   not_stuck p (Some st) = refl
 
@@ -109,13 +109,13 @@ module _ {S B : Type 0} (m : Machine S B) (o : Options) (script : Script) (w : W
       go true l = h q l
       go false l = one (is_among q known) (q == p) refl refl (sym (among_last q p known) ∙ l)
 
-  known_after : (p : ℕ) (st : Place) (known tracees : List ℕ) (a : Answered B) → (st ≡ Seizing → a.reply ≡ Agreed → a.seized ≡ true) → ((q : ℕ) → is_among q known ≡ true → is_among q tracees ≡ true) → (reply : Reply) → a.reply ≡ reply → (q : ℕ) → is_among q (tracees_after known (Serving p st) reply) ≡ true → is_among q (cond a.seized (tracees ++ p ∷ []) tracees) ≡ true
+  known_after : (p : ℕ) (st : Awaiting) (known tracees : List ℕ) (a : Answered B) → (st ≡ Seizing → a.reply ≡ Agreed → a.seized ≡ true) → ((q : ℕ) → is_among q known ≡ true → is_among q tracees ≡ true) → (reply : Reply) → a.reply ≡ reply → (q : ℕ) → is_among q (tracees_after known (Serving p st) reply) ≡ true → is_among q (cond a.seized (tracees ++ p ∷ []) tracees) ≡ true
   known_after p Seizing known tracees a seizes h Agreed e q l =
       let s : a.seized ≡ true = seizes refl e in
       rw s (with_heeded p known (tracees ++ p ∷ []) (λ x g. among_old x p tracees (h x g)) (among_new p tracees) q l)
   known_after p st known tracees a seizes h reply e q l = seized_among p q a.seized tracees (h q l)
 
-  replied_tied : (t : Tied m o script w kernel) (p : ℕ) (st : Place) → w.tracer.focus ≡ Serving p st → (a : Answered B) (h : Heard) → (st ≡ Seizing → a.reply ≡ Agreed → a.seized ≡ true) → Served m o.follow o script p (t.phases p) (λ n. entries p n (items_of kernel.log)) a h → Tied m o script (replied p st a h) kernel
+  replied_tied : (t : Tied m o script w kernel) (p : ℕ) (st : Awaiting) → w.tracer.focus ≡ Serving p st → (a : Answered B) (h : Heard) → (st ≡ Seizing → a.reply ≡ Agreed → a.seized ≡ true) → Served m o.follow o script p (t.phases p) (λ n. entries p n (items_of kernel.log)) a h → Tied m o script (replied p st a h) kernel
   replied_tied t p st f a h seizes u = record {
     phases = put t.phases p u.next;
     past = t.past ++ u.said;
@@ -126,7 +126,7 @@ module _ {S B : Type 0} (m : Machine S B) (o : Options) (script : Script) (w : W
     each = changed m o script w kernel t.lost t.lost t.rest (rest_of t.rest u.seized) t.phases t.each (replied p st a h) kernel p u.next
         (record {
           proc = put_here w.host.procs p a.proc ∙ u.proc;
-          own = (t.each p).own ∙ sym u.own;
+          task = (t.each p).task ∙ sym u.task;
           knows = subst (λ k. Knows m o script u.next k (λ n. entries p n (items_of kernel.log))) (sym (put_here w.tracer.known p h.known)) u.knows;
           stage = u.stage ∙ sym (stage_here p h.next);
           due = seized_due p (t.phases p) u.next a.seized t.rest u.seized (t.each p).due;
@@ -136,7 +136,7 @@ module _ {S B : Type 0} (m : Machine S B) (o : Options) (script : Script) (w : W
         })
         (λ q d ph tie. record {
           proc = put_apart w.host.procs p a.proc q d ∙ tie.proc;
-          own = tie.own;
+          task = tie.task;
           knows = subst (λ k. Knows m o script ph k (λ n. entries q n (items_of kernel.log))) (sym (put_apart w.tracer.known p h.known q d)) tie.knows;
           stage = tie.stage ∙ ap (stage_at q) f ∙ stage_apart p q d (Some st) ∙ sym (stage_apart p q d h.next);
           due = tie.due ∙ seized_apart p q (t.phases p) u.next a.seized t.rest u.seized d;
@@ -154,7 +154,7 @@ module _ {S B : Type 0} (m : Machine S B) (o : Options) (script : Script) (w : W
     fresh = λ q l. still_fresh m o script w kernel p u.next t.phases u.unborn q (t.fresh q l);
   }
 
-  next_serving : (known : ℕ → Known) (p : ℕ) (st : Place) (r : Reply) → is_out r ≡ false → next_at o script known (Serving p st) r ≡ heard known p (hears o script p (known p) st r)
+  next_serving : (known : ℕ → Known) (p : ℕ) (st : Awaiting) (r : Reply) → is_out r ≡ false → next_at o script known (Serving p st) r ≡ heard known p (hears o script p (known p) st r)
   next_serving known p st Out_of_turns h = absurd (cc h)
   next_serving known p st Agreed h = refl
   next_serving known p st (Status_is q x) h = refl
@@ -166,7 +166,7 @@ module _ {S B : Type 0} (m : Machine S B) (o : Options) (script : Script) (w : W
   next_serving known p st (Errno_is n) h = refl
   next_serving known p st (Boot_refused x) h = refl
 
-  served_here : IsMachine m → IsTexts o.texts → IsScript script → (t : Tied m o script w kernel) (p : ℕ) (st : Place) → w.tracer.focus ≡ Serving p st → Served m o.follow o script p (t.phases p) (λ n. entries p n (items_of kernel.log)) (answer m (w.host.messages p) (w.host.procs p) (asks o st)) (hears o script p (w.tracer.known p) st (answer m (w.host.messages p) (w.host.procs p) (asks o st)).reply)
+  served_here : IsMachine m → IsTexts o.texts → IsScript script → (t : Tied m o script w kernel) (p : ℕ) (st : Awaiting) → w.tracer.focus ≡ Serving p st → Served m o.follow o script p (t.phases p) (λ n. entries p n (items_of kernel.log)) (answer m (w.host.messages p) (w.host.procs p) (asks o st)) (hears o script p (w.tracer.known p) st (answer m (w.host.messages p) (w.host.procs p) (asks o st)).reply)
   served_here laws texts scripts t p st f = rw (t.each p).proc (served m laws o texts script scripts p (w.tracer.known p) (λ n. entries p n (items_of kernel.log)) (w.host.messages p) (t.phases p) (t.each p).knows st ((t.each p).stage ∙ ap (stage_at p) f ∙ stage_here p (Some st)))
 
   -- a Seize that is agreed to makes a tracee
@@ -177,20 +177,20 @@ module _ {S B : Type 0} (m : Machine S B) (o : Options) (script : Script) (w : W
   seize_made t None h = absurd (cc h)
   seize_made t (Some x) h = refl
 
-  seize_at : (message : ℕ) (t : Proc B) (is_held : Bool) (x : Option Watch) (own : Own B) (options : ℕ) → SeizesIt (answer_at m message t is_held x own (Seize options))
+  seize_at : (message : ℕ) (t : Proc B) (is_held : Bool) (x : Option Watch) (task : Task B) (options : ℕ) → SeizesIt (answer_at m message t is_held x task (Seize options))
   seize_at message t true (Some x) (Alive b stage) options h = absurd (cc h)
   seize_at message t true (Some x) (Dying v) options h = absurd (cc h)
   seize_at message t true (Some x) Gone options h = absurd (cc h)
-  seize_at message t true None own options h = seize_made t (watch_of options) h
-  seize_at message t false x own options h = absurd (cc h)
+  seize_at message t true None task options h = seize_made t (watch_of options) h
+  seize_at message t false x task options h = absurd (cc h)
 
-  seizes_at : (message : ℕ) (t : Proc B) (st : Place) → st ≡ Seizing → SeizesIt (answer m message t (asks o st))
-  seizes_at message t st e = subst (λ x. SeizesIt (answer m message t (asks o x))) (sym e) (seize_at message t t.held t.watch t.own (options_word o.follow))
+  seizes_at : (message : ℕ) (t : Proc B) (st : Awaiting) → st ≡ Seizing → SeizesIt (answer m message t (asks o st))
+  seizes_at message t st e = subst (λ x. SeizesIt (answer m message t (asks o x))) (sym e) (seize_at message t t.held t.watch t.task (options_word o.follow))
 
   abbrev met_with : Host S B → Moved → World S B
   met_with h x = record { host = h; tracer = x.tracer; printed = w.printed ++ x.printed }
 
-  serving_tied : (outcome : S → Outcome) → IsMachine m → IsTold m → IsTexts o.texts → IsScript script → (t : Tied m o script w kernel) (p : ℕ) (st : Place) → w.tracer.focus ≡ Serving p st → Tied m o script (met o script w (Serving p st) (serve m outcome w.host (To p (asks o st))).host (serve m outcome w.host (To p (asks o st))).reply) kernel
+  serving_tied : (outcome : S → Outcome) → IsMachine m → IsTold m → IsTexts o.texts → IsScript script → (t : Tied m o script w kernel) (p : ℕ) (st : Awaiting) → w.tracer.focus ≡ Serving p st → Tied m o script (met o script w (Serving p st) (serve m outcome w.host (To p (asks o st))).host (serve m outcome w.host (To p (asks o st))).reply) kernel
   serving_tied outcome laws words texts scripts t p st f =
       let a : Answered B = answer m (w.host.messages p) (w.host.procs p) (asks o st) in
       let u : Served m o.follow o script p (t.phases p) (λ n. entries p n (items_of kernel.log)) a (hears o script p (w.tracer.known p) st a.reply) = served_here laws texts scripts t p st f in
@@ -209,7 +209,7 @@ module _ {S B : Type 0} (m : Machine S B) (o : Options) (script : Script) (w : W
     lost = t.lost;
     shared = t.shared;
     queue = t.queue;
-    each = λ q. record { proc = (t.each q).proc; own = (t.each q).own; knows = (t.each q).knows; stage = (t.each q).stage ∙ stages q; due = (t.each q).due; living = (t.each q).living; listed = (t.each q).listed; sort = (t.each q).sort };
+    each = λ q. record { proc = (t.each q).proc; task = (t.each q).task; knows = (t.each q).knows; stage = (t.each q).stage ∙ stages q; due = (t.each q).due; living = (t.each q).living; listed = (t.each q).listed; sort = (t.each q).sort };
     told = same ∙ t.told;
     viewed = ap (λ x. t.past ++ (x ++ items_in t.rest)) (hands t.phases) ∙ t.viewed;
     over = over;
@@ -271,7 +271,7 @@ module _ {S B : Type 0} (m : Machine S B) (o : Options) (script : Script) (w : W
     each = changed m o script w kernel t.lost t.lost t.rest after t.phases t.each v kernel (due_pid i) u.next u.here
         (λ q d ph tie. record {
           proc = u.procs q d ∙ tie.proc;
-          own = tie.own;
+          task = tie.task;
           knows = subst (λ k. Knows m o script ph k (λ n. entries q n (items_of kernel.log))) (sym (u.knowns q d)) tie.knows;
           stage = tie.stage ∙ ap (stage_at q) f ∙ sym (u.stages q d);
           due = tie.due ∙ ap (dues_of q) e ∙ rw (is_not_same q (due_pid i) (λ x. d (sym x))) refl;
@@ -391,7 +391,7 @@ module _ {S B : Type 0} (m : Machine S B) (o : Options) (script : Script) (w : W
       queue = refl;
       here = record {
         proc = tie.proc;
-        own = tie.own;
+        task = tie.task;
         knows = rw (put_here w.tracer.known p (turned_over (w.tracer.known p))) (record { inside_is = ap not tie.knows.inside_is; stands = ap (λ x. cond x Between Unread) tie.knows.inside_is; one_more = tie.knows.one_more });
         stage = rw (is_same p, tie.knows.inside_is) refl;
         due = tail;
@@ -422,7 +422,7 @@ module _ {S B : Type 0} (m : Machine S B) (o : Options) (script : Script) (w : W
       queue = refl;
       here = record {
         proc = tie.proc;
-        own = tie.own;
+        task = tie.task;
         knows = rw (put_here w.tracer.known p (turned_over (w.tracer.known p))) (record { inside_is = ap not tie.knows.inside_is; saved_is = tie.knows.saved_is; called_is = tie.knows.called_is; stands = ap (λ x. is_between (cond x Between Unread)) tie.knows.inside_is; same = tie.knows.same });
         stage = rw (is_same p, tie.knows.inside_is, tie.knows.stands, shown) refl;
         due = tail;
@@ -452,7 +452,7 @@ module _ {S B : Type 0} (m : Machine S B) (o : Options) (script : Script) (w : W
       queue = refl;
       here = record {
         proc = tie.proc;
-        own = tie.own;
+        task = tie.task;
         knows = rw (put_here w.tracer.known p (turned_over (w.tracer.known p))) (record { outside = ap not tie.knows.inside_is; between = ap (λ x. is_between (cond x Between Unread)) tie.knows.inside_is; same = tie.knows.same });
         stage = rw (is_same p, tie.knows.inside_is, tie.knows.stands, shown) refl;
         due = tail;
@@ -483,7 +483,7 @@ module _ {S B : Type 0} (m : Machine S B) (o : Options) (script : Script) (w : W
       queue = refl;
       here = record {
         proc = tie.proc;
-        own = tie.own;
+        task = tie.task;
         knows = rw (put_here w.tracer.known p (stands_at (w.tracer.known p) After_signal)) (record { outside = tie.knows.outside; passing = refl; same = tie.knows.same });
         stage = rw (is_same p) refl;
         due = tail;
@@ -508,7 +508,7 @@ module _ {S B : Type 0} (m : Machine S B) (o : Options) (script : Script) (w : W
     }
 
     at_event : (p : ℕ) (n : EventStop) (ph next : Phase B) → Tie m o script lost w kernel rest p ph → [] ≡ dues_of p after →
-        proc_of m o.follow ph ≡ proc_of m o.follow next → own_of m ph ≡ own_of m next → stage_of m next ≡ Some (Resuming 0) → Knows m o script next (stands_at (w.tracer.known p) (event_standing n)) (λ x. entries p x (items_of kernel.log)) → due_in m p next ≡ [] → is_unborn next ≡ is_unborn ph → (dead next ≡ false → dead ph ≡ false) → (reaped next ≡ false → reaped ph ≡ false) → is_traced ph ≡ is_traced next → reaped ph ≡ false → admits_stop o p (w.tracer.known p) (Some (Event_stop n)) ≡ true →
+        proc_of m o.follow ph ≡ proc_of m o.follow next → task_of m ph ≡ task_of m next → stage_of m next ≡ Some (Resuming 0) → Knows m o script next (stands_at (w.tracer.known p) (event_standing n)) (λ x. entries p x (items_of kernel.log)) → due_in m p next ≡ [] → is_unborn next ≡ is_unborn ph → (dead next ≡ false → dead ph ≡ false) → (reaped next ≡ false → reaped ph ≡ false) → is_traced ph ≡ is_traced next → reaped ph ≡ false → admits_stop o p (w.tracer.known p) (Some (Event_stop n)) ≡ true →
         Taken_up lost p ph after (Unlogged p n) (waited (map report_of after) p (Event_stop n))
     at_event p n ph next tie tail pr ha st kn du un de re so here fits = record {
       next = next;
@@ -516,7 +516,7 @@ module _ {S B : Type 0} (m : Machine S B) (o : Options) (script : Script) (w : W
       queue = refl;
       here = record {
         proc = tie.proc ∙ pr;
-        own = tie.own ∙ ha;
+        task = tie.task ∙ ha;
         knows = rw (put_here w.tracer.known p (stands_at (w.tracer.known p) (event_standing n))) kn;
         stage = st ∙ sym (stage_here p (Some (Resuming 0)));
         due = du ∙ tail;
@@ -540,14 +540,14 @@ module _ {S B : Type 0} (m : Machine S B) (o : Options) (script : Script) (w : W
       sane = refl;
     }
 
-    at_end : (p v : ℕ) (mode : Mode) (st : Option Place) → Tie m o script lost w kernel rest p (Dead_due v mode st) → [] ≡ dues_of p after → Taken_up lost p (Dead_due v mode st) after (Logged (exit_of p v mode)) (waited (map report_of after) p (Ended v))
+    at_end : (p v : ℕ) (mode : Mode) (st : Option Awaiting) → Tie m o script lost w kernel rest p (Dead_due v mode st) → [] ≡ dues_of p after → Taken_up lost p (Dead_due v mode st) after (Logged (exit_of p v mode)) (waited (map report_of after) p (Ended v))
     at_end p v mode st tie tail = record {
       next = Dead v;
       shared = refl;
       queue = refl;
       here = record {
-        proc = put_here w.host.procs p _ ∙ ap (λ (t : Proc B). released t t.own) tie.proc;
-        own = tie.own;
+        proc = put_here w.host.procs p _ ∙ ap (λ (t : Proc B). released t t.task) tie.proc;
+        task = tie.task;
         knows = tt;
         stage = refl;
         due = tail;

@@ -12,24 +12,24 @@ use Rattle.lx_abi.specs.Log.{Noted, pid_of, items_of, entries}
 use Rattle.lx_model.specs.Machine.{Machine, IsMachine}
 use Rattle.lx_model.specs.Turn.{Event, Plain, Execed, Forked, Out}
 use Rattle.lx_model.specs.declared.stage.Stage.TheVariants.{Born}
-use Rattle.lx_model.specs.declared.stage.Own.{Own}
-use Rattle.lx_model.specs.declared.stage.Own.TheVariants.{Alive}
+use Rattle.lx_model.specs.declared.stage.Task.{Task}
+use Rattle.lx_model.specs.declared.stage.Task.TheVariants.{Alive}
 use Rattle.lx_model.specs.Kernel.{Script, put, traces, Kernel, after_turn, with_child, turn_of}
 use Rattle.pt_model.specs.Ptrace.{Proc, Report, Host, without, stop_at, is_dying, reports_of, is_effective, proc_after, moved, newborn, inherits, bears, host_turn_of}
 use Rattle.pt_model.specs.Parts.{Options}
-use Rattle.pt_model.specs.Tracer.{Place, Focus, Booting, Waiting, Serving, Asking_outcome, Over, Turns_over, Faulted, is_among}
+use Rattle.pt_model.specs.Tracer.{Awaiting, Focus, Booting, Waiting, Serving, Asking_outcome, Over, Turns_over, Faulted, is_among}
 use Rattle.pt_model.specs.World.{World}
 use Rattle.pt_model.specs.View.{has_exit, view, traced, parts, Due, Unlogged, items_in, report_of}
 use Rattle.pt_model.specs.Headline.{IsTold}
-use Rattle.pt_model.proofs.Phases.{Phase, Enter_asked, Enter_peeking, Exit_asked, Exit_setting, Exit_peeking, Sig_asked, Unborn, Born_due, Loose, dues_of, DuesOf, watch, is_unborn, is_traced, exit_of, own_of, proc_of, due_in, stage_of, Knows, hand_in, dead, reaped, Fate, Goes_on, Says_nothing, Owes_nothing, Loses, noted_of, AllOf}
+use Rattle.pt_model.proofs.Phases.{Phase, Enter_asked, Enter_peeking, Exit_asked, Exit_setting, Exit_peeking, Sig_asked, Unborn, Born_due, Loose, dues_of, DuesOf, watch, is_unborn, is_traced, exit_of, task_of, proc_of, due_in, stage_of, Knows, hand_in, dead, reaped, Fate, Goes_on, Says_nothing, Owes_nothing, Loses, noted_of, AllOf}
 use Rattle.pt_model.proofs.Local.{Turned, turned, Birth, No_birth, Loose_birth, Traced_birth}
-use Rattle.pt_model.proofs.Maps.{among_new, among_old, same_or_not, is_same, is_not_same, put_here, put_apart, items_without, without-map, noted_of-append, items_in-append, items_in-without, items_in-of, dues_without, dues_of-append, dues_of_same-without, dues_of_other-without, dues_of_own, dues_of_other, noted_of_own, noted_of_other, no_entry, entries-append, traced_own, traced-append}
+use Rattle.pt_model.proofs.Maps.{among_new, among_old, same_or_not, is_same, is_not_same, put_here, put_apart, items_without, without-map, noted_of-append, items_in-append, items_in-without, items_in-of, dues_without, dues_of-append, dues_of_same-without, dues_of_other-without, dues_of_task, dues_of_other, noted_of_task, noted_of_other, no_entry, entries-append, traced_task, traced-append}
 use Rattle.pt_model.proofs.Views.{view-append, view_killed, drop_last_behind, without_none, has_exit-append, no_exit_other}
 
-abbrev pub released : {B : Type 0} → Proc B → Own B → Proc B
-released t h = record { own = h; held = false; watch = t.watch }
+abbrev pub released : {B : Type 0} → Proc B → Task B → Proc B
+released t h = record { task = h; held = false; watch = t.watch }
 
-abbrev pub stage_at : ℕ → Focus → Option Place
+abbrev pub stage_at : ℕ → Focus → Option Awaiting
 stage_at q (Serving p st) = cond (p == q) (Some st) None
 stage_at _ _ = None
 
@@ -58,7 +58,7 @@ pub record Living (lost : ℕ → Bool) (log : List Noted) (q : ℕ) : Type 0 wh
 -- what ties process q
 pub record Tie {S B : Type 0} (m : Machine S B) (o : Options) (script : Script) (lost : ℕ → Bool) (w : World S B) (kernel : Kernel S B) (rest : List Due) (q : ℕ) (ph : Phase B) : Type 0 where
   pub proc : w.host.procs q ≡ proc_of m o.follow ph
-  pub own : kernel.owns q ≡ own_of m ph
+  pub task : kernel.tasks q ≡ task_of m ph
   pub knows : Knows m o script ph (w.tracer.known q) (λ n. entries q n (items_of kernel.log))
   pub stage : stage_of m ph ≡ stage_at q w.tracer.focus
   pub due : due_in m q ph ≡ dues_of q rest
@@ -104,37 +104,37 @@ module _ {S B : Type 0} (m : Machine S B) (o : Options) (script : Script) (w : W
   queue_after false p rest dues queue reports e f = rw (e, ← f) (sym (map-append report_of rest dues))
 
   pub due_after : (dying : Bool) (p : ℕ) (rest dues due : List Due) → due ≡ dues_of p rest → DuesOf p dues → cond dying [] due ++ dues ≡ dues_of p (cond dying (dues_without p rest) rest ++ dues)
-  due_after true p rest dues due e own = rw (dues_of-append, dues_of_same-without, dues_of_own p dues own) refl
-  due_after false p rest dues due e own = rw (dues_of-append, dues_of_own p dues own, e) refl
+  due_after true p rest dues due e task = rw (dues_of-append, dues_of_same-without, dues_of_task p dues task) refl
+  due_after false p rest dues due e task = rw (dues_of-append, dues_of_task p dues task, e) refl
 
   pub due_apart : (dying : Bool) (p q : ℕ) → p ≢ q → (rest dues : List Due) → DuesOf p dues → dues_of q rest ≡ dues_of q (cond dying (dues_without p rest) rest ++ dues)
-  due_apart true p q d rest dues own = rw (dues_of-append, dues_of_other-without p q rest d, dues_of_other p q dues d own) (sym (append-nil (dues_of q rest)))
-  due_apart false p q d rest dues own = rw (dues_of-append, dues_of_other p q dues d own) (sym (append-nil (dues_of q rest)))
+  due_apart true p q d rest dues task = rw (dues_of-append, dues_of_other-without p q rest d, dues_of_other p q dues d task) (sym (append-nil (dues_of q rest)))
+  due_apart false p q d rest dues task = rw (dues_of-append, dues_of_other p q dues d task) (sym (append-nil (dues_of q rest)))
 
   -- the hand, and the view, after a turn of p
-  hand_own : (p : ℕ) (ph : Phase B) → AllOf p (hand_in m p ph)
-  hand_own p (Enter_asked b) = (refl, tt)
-  hand_own p (Enter_peeking b d w n) = (refl, tt)
-  hand_own p (Exit_asked b c r) = (refl, tt)
-  hand_own p (Exit_setting b v) = (refl, tt)
-  hand_own p (Exit_peeking b c x r d w n) = (refl, tt)
-  hand_own p (Sig_asked b n cause) = (refl, tt)
-  hand_own p _ = tt
+  hand_task : (p : ℕ) (ph : Phase B) → AllOf p (hand_in m p ph)
+  hand_task p (Enter_asked b) = (refl, tt)
+  hand_task p (Enter_peeking b d w n) = (refl, tt)
+  hand_task p (Exit_asked b c r) = (refl, tt)
+  hand_task p (Exit_setting b v) = (refl, tt)
+  hand_task p (Exit_peeking b c x r d w n) = (refl, tt)
+  hand_task p (Sig_asked b n cause) = (refl, tt)
+  hand_task p _ = tt
 
-  without_own : (p : ℕ) (items : List Noted) → AllOf p items → items_without p items ≡ []
-  without_own p [] h = refl
-  without_own p (i ∷ items) h = rw (h.0, is_same p, without_own p items h.1) refl
+  without_task : (p : ℕ) (items : List Noted) → AllOf p items → items_without p items ≡ []
+  without_task p [] h = refl
+  without_task p (i ∷ items) h = rw (h.0, is_same p, without_task p items h.1) refl
 
   without_other : (p q : ℕ) (items : List Noted) → p ≢ q → AllOf q items → items_without p items ≡ items
   without_other p q items d h = without_none p items (noted_of_other q p items (λ e. d (sym e)) h)
 
   dropped_one : (dying : Bool) (p : ℕ) (hand next : List Noted) → AllOf p hand → next ≡ cond dying [] hand → next ≡ cond dying (items_without p hand) hand
-  dropped_one true p hand next own e = e ∙ sym (without_own p hand own)
-  dropped_one false p hand next own e = e
+  dropped_one true p hand next task e = e ∙ sym (without_task p hand task)
+  dropped_one false p hand next task e = e
 
   dropped_none : (dying : Bool) (p q : ℕ) (hand : List Noted) → p ≢ q → AllOf q hand → hand ≡ cond dying (items_without p hand) hand
-  dropped_none true p q hand d own = sym (without_other p q hand d own)
-  dropped_none false p q hand d own = refl
+  dropped_none true p q hand d task = sym (without_other p q hand d task)
+  dropped_none false p q hand d task = refl
 
   hand_after : (dying : Bool) (p : ℕ) (phases : ℕ → Phase B) (next : Phase B) (focus : Focus) → hand_in m p next ≡ cond dying [] (hand_in m p (phases p)) → hand_at m (put phases p next) focus ≡ cond dying (items_without p (hand_at m phases focus)) (hand_at m phases focus)
   hand_after true p phases next Booting h = refl
@@ -150,8 +150,8 @@ module _ {S B : Type 0} (m : Machine S B) (o : Options) (script : Script) (w : W
   hand_after true p phases next Faulted h = refl
   hand_after false p phases next Faulted h = refl
   hand_after dying p phases next (Serving q st) h = ⊎_elim
-      (λ (e : p ≡ q). subst (λ x. hand_in m x (put phases p next x) ≡ cond dying (items_without p (hand_in m x (phases x))) (hand_in m x (phases x))) e (ap (hand_in m p) (put_here phases p next) ∙ dropped_one dying p (hand_in m p (phases p)) (hand_in m p next) (hand_own p (phases p)) h))
-      (λ (d : p ≢ q). ap (hand_in m q) (put_apart phases p next q d) ∙ dropped_none dying p q (hand_in m q (phases q)) d (hand_own q (phases q)))
+      (λ (e : p ≡ q). subst (λ x. hand_in m x (put phases p next x) ≡ cond dying (items_without p (hand_in m x (phases x))) (hand_in m x (phases x))) e (ap (hand_in m p) (put_here phases p next) ∙ dropped_one dying p (hand_in m p (phases p)) (hand_in m p next) (hand_task p (phases p)) h))
+      (λ (d : p ≢ q). ap (hand_in m q) (put_apart phases p next q d) ∙ dropped_none dying p q (hand_in m q (phases q)) d (hand_task q (phases q)))
       (same_or_not p q)
 
   -- what p owes
@@ -172,8 +172,8 @@ module _ {S B : Type 0} (m : Machine S B) (o : Options) (script : Script) (w : W
   in_hand p phases Turns_over h = sym (no_hand p (phases p) h)
   in_hand p phases Faulted h = sym (no_hand p (phases p) h)
   in_hand p phases (Serving q st) h = ⊎_elim
-      (λ (e : p ≡ q). subst (λ x. noted_of p (hand_in m x (phases x)) ≡ hand_in m p (phases p)) e (noted_of_own p (hand_in m p (phases p)) (hand_own p (phases p))))
-      (λ (d : p ≢ q). noted_of_other q p (hand_in m q (phases q)) (λ e. d (sym e)) (hand_own q (phases q)) ∙ sym (no_hand p (phases p) (h ∙ rw (is_not_same q p (λ e. d (sym e))) refl)))
+      (λ (e : p ≡ q). subst (λ x. noted_of p (hand_in m x (phases x)) ≡ hand_in m p (phases p)) e (noted_of_task p (hand_in m p (phases p)) (hand_task p (phases p))))
+      (λ (d : p ≢ q). noted_of_other q p (hand_in m q (phases q)) (λ e. d (sym e)) (hand_task q (phases q)) ∙ sym (no_hand p (phases p) (h ∙ rw (is_not_same q p (λ e. d (sym e))) refl)))
       (same_or_not p q)
 
   owed : (t : Tied m o script w kernel) (p : ℕ) → noted_of p (hand_at m t.phases w.tracer.focus ++ items_in t.rest) ≡ hand_in m p (t.phases p) ++ items_in (due_in m p (t.phases p))
@@ -203,14 +203,14 @@ module _ {S B : Type 0} (m : Machine S B) (o : Options) (script : Script) (w : W
   viewed_after : (t : Tied m o script w kernel) (p : ℕ) (next : Phase B) (dying : Bool) (items : List Noted) (f : Fate m p (t.phases p) next dying items) → AllOf p items →
       t.past ++ (cond dying (items_without p (hand_at m t.phases w.tracer.focus ++ items_in t.rest)) (hand_at m t.phases w.tracer.focus ++ items_in t.rest) ++ items) ≡ view (lost_after p t.lost f) (traced o.follow kernel.log ++ items)
   unfolding lost_after
-  viewed_after t p next dying items (Goes_on a b c) own =
+  viewed_after t p next dying items (Goes_on a b c) task =
       let kept : t.lost p ≡ false = ((t.each p).living b).spared in
-      rw (a, view-append t.lost p kept (traced o.follow kernel.log) items own, ← t.viewed) (sym (append_assoc t.past _ items))
-  viewed_after t p next dying items (Says_nothing a d c) own = rw (c, same_either dying _ _ (without_none p _ (owed t p ∙ d)), append-nil {A = Noted} (hand_at m t.phases w.tracer.focus ++ items_in t.rest), append-nil {A = Noted} (traced o.follow kernel.log)) t.viewed
-  viewed_after t p next dying items (Owes_nothing a b c d) own =
+      rw (a, view-append t.lost p kept (traced o.follow kernel.log) items task, ← t.viewed) (sym (append_assoc t.past _ items))
+  viewed_after t p next dying items (Says_nothing a d c) task = rw (c, same_either dying _ _ (without_none p _ (owed t p ∙ d)), append-nil {A = Noted} (hand_at m t.phases w.tracer.focus ++ items_in t.rest), append-nil {A = Noted} (traced o.follow kernel.log)) t.viewed
+  viewed_after t p next dying items (Owes_nothing a b c d) task =
       let kept : t.lost p ≡ false = ((t.each p).living c).spared in
-      rw (a, without_none p _ (owed t p ∙ d), view-append t.lost p kept (traced o.follow kernel.log) items own, ← t.viewed) (sym (append_assoc t.past _ items))
-  viewed_after t p next dying items (Loses a b c x d mode e f) own =
+      rw (a, without_none p _ (owed t p ∙ d), view-append t.lost p kept (traced o.follow kernel.log) items task, ← t.viewed) (sym (append_assoc t.past _ items))
+  viewed_after t p next dying items (Loses a b c x d mode e f) task =
       let live : Living t.lost (traced o.follow kernel.log) p = (t.each p).living c in
       rw (a, f, view_killed t.lost p mode e live.spared (traced o.follow kernel.log) live.no_exit, ← t.viewed, drop_last_behind p x t.past _ (owed t p ∙ d)) (sym (append_assoc t.past _ (exit_of p 9 mode ∷ [])))
 
@@ -227,48 +227,48 @@ module _ {S B : Type 0} (m : Machine S B) (o : Options) (script : Script) (w : W
       (λ (d : p ≢ q). ap is_unborn (put_apart phases p next q d) ∙ h)
       (same_or_not p q)
 
-  some_own : (t : Bool) (p : ℕ) (items : List Noted) → AllOf p items → AllOf p (cond t items [])
-  some_own true p items h = h
-  some_own false p items h = tt
+  some_task : (t : Bool) (p : ℕ) (items : List Noted) → AllOf p items → AllOf p (cond t items [])
+  some_task true p items h = h
+  some_task false p items h = tt
 
   seen_after : (p : ℕ) (ph : Phase B) (items : List Noted) → traces o.follow p ≡ is_traced ph → AllOf p items → traced o.follow (kernel.log ++ items) ≡ traced o.follow kernel.log ++ cond (is_traced ph) items []
-  seen_after p ph items e own = traced-append o.follow kernel.log items ∙ ap (λ x. traced o.follow kernel.log ++ x) (traced_own o.follow p (is_traced ph) e items own)
+  seen_after p ph items e task = traced-append o.follow kernel.log items ∙ ap (λ x. traced o.follow kernel.log ++ x) (traced_task o.follow p (is_traced ph) e items task)
 
   pub moved_tied : (t : Tied m o script w kernel) (p : ℕ) (by host : Out S B) → Turned m o.follow o script p (t.phases p) (w.tracer.known p) (λ n. entries p n (items_of kernel.log)) by host → Tied m o script (record { host = moved w.host p (proc_of m o.follow (t.phases p)).watch host; tracer = w.tracer; printed = w.printed }) (after_turn kernel p by)
   moved_tied t p by host u =
       let items : List Noted = cond (is_traced (t.phases p)) (option_to_list by.item) [] in
-      let own : AllOf p items = some_own (is_traced (t.phases p)) p (option_to_list by.item) u.whole in
+      let task : AllOf p items = some_task (is_traced (t.phases p)) p (option_to_list by.item) u.whole in
       let log : traced o.follow (kernel.log ++ (option_to_list by.item)) ≡ traced o.follow kernel.log ++ items = seen_after p (t.phases p) (option_to_list by.item) (t.each p).sort u.whole in
       record {
         phases = put t.phases p u.next;
         past = t.past;
-        rest = cond (is_dying host.own) (dues_without p t.rest) t.rest ++ u.dues;
+        rest = cond (is_dying host.task) (dues_without p t.rest) t.rest ++ u.dues;
         lost = lost_after p t.lost u.fate;
         shared = u.shared;
-        queue = queue_after (is_dying host.own) p t.rest u.dues w.host.queue (reports_of p (stop_at (proc_of m o.follow (t.phases p)).watch host.own host.event)) t.queue u.reports;
-        each = changed t.lost (lost_after p t.lost u.fate) t.rest (cond (is_dying host.own) (dues_without p t.rest) t.rest ++ u.dues) t.phases t.each (record { host = moved w.host p (proc_of m o.follow (t.phases p)).watch host; tracer = w.tracer; printed = w.printed }) (after_turn kernel p by) p u.next
+        queue = queue_after (is_dying host.task) p t.rest u.dues w.host.queue (reports_of p (stop_at (proc_of m o.follow (t.phases p)).watch host.task host.event)) t.queue u.reports;
+        each = changed t.lost (lost_after p t.lost u.fate) t.rest (cond (is_dying host.task) (dues_without p t.rest) t.rest ++ u.dues) t.phases t.each (record { host = moved w.host p (proc_of m o.follow (t.phases p)).watch host; tracer = w.tracer; printed = w.printed }) (after_turn kernel p by) p u.next
             (record {
-              proc = put_here w.host.procs p (proc_after (proc_of m o.follow (t.phases p)).watch host.own host.event) ∙ u.proc;
-              own = put_here kernel.owns p by.own ∙ u.own;
+              proc = put_here w.host.procs p (proc_after (proc_of m o.follow (t.phases p)).watch host.task host.event) ∙ u.proc;
+              task = put_here kernel.tasks p by.task ∙ u.task;
               knows = subst (λ f. Knows m o script u.next (w.tracer.known p) f) (sym (fun_ext (λ n. entries-append p n kernel.log (option_to_list by.item)))) u.knows;
               stage = u.stage ∙ (t.each p).stage;
-              due = u.due ∙ due_after (is_dying host.own) p t.rest u.dues (due_in m p (t.phases p)) (t.each p).due u.owns;
-              living = λ a. subst (λ l. Living (lost_after p t.lost u.fate) l p) (sym log) (living_here p (t.phases p) u.next (is_dying host.own) items (traced o.follow kernel.log) t.lost u.fate (t.each p).living a);
+              due = u.due ∙ due_after (is_dying host.task) p t.rest u.dues (due_in m p (t.phases p)) (t.each p).due u.tasks;
+              living = λ a. subst (λ l. Living (lost_after p t.lost u.fate) l p) (sym log) (living_here p (t.phases p) u.next (is_dying host.task) items (traced o.follow kernel.log) t.lost u.fate (t.each p).living a);
               listed = λ r. (t.each p).listed (u.listed r);
               sort = (t.each p).sort ∙ sym u.sort;
             })
             (λ q d ph tie. record {
-              proc = put_apart w.host.procs p (proc_after (proc_of m o.follow (t.phases p)).watch host.own host.event) q d ∙ tie.proc;
-              own = put_apart kernel.owns p by.own q d ∙ tie.own;
+              proc = put_apart w.host.procs p (proc_after (proc_of m o.follow (t.phases p)).watch host.task host.event) q d ∙ tie.proc;
+              task = put_apart kernel.tasks p by.task q d ∙ tie.task;
               knows = subst (λ f. Knows m o script ph (w.tracer.known q) f) (sym (fun_ext (λ n. entries-append q n kernel.log (option_to_list by.item) ∙ ap (λ x. entries q n (items_of kernel.log) + x) (no_entry p q n (option_to_list by.item) d u.whole) ∙ add-zero (entries q n (items_of kernel.log))))) tie.knows;
               stage = tie.stage;
-              due = tie.due ∙ due_apart (is_dying host.own) p q d t.rest u.dues u.owns;
-              living = λ a. subst (λ l. Living (lost_after p t.lost u.fate) l q) (sym log) (record { spared = lost_apart p q t.lost u.fate d ∙ (tie.living a).spared; no_exit = rw (has_exit-append q (traced o.follow kernel.log) items, (tie.living a).no_exit) (no_exit_other p q items d own) });
+              due = tie.due ∙ due_apart (is_dying host.task) p q d t.rest u.dues u.tasks;
+              living = λ a. subst (λ l. Living (lost_after p t.lost u.fate) l q) (sym log) (record { spared = lost_apart p q t.lost u.fate d ∙ (tie.living a).spared; no_exit = rw (has_exit-append q (traced o.follow kernel.log) items, (tie.living a).no_exit) (no_exit_other p q items d task) });
               listed = tie.listed;
               sort = tie.sort;
             });
         told = t.told;
-        viewed = ap (λ x. t.past ++ (x ++ items_in (cond (is_dying host.own) (dues_without p t.rest) t.rest ++ u.dues))) (hand_after (is_dying host.own) p t.phases u.next w.tracer.focus u.hand) ∙ ap (λ x. t.past ++ x) (joined (is_dying host.own) p (hand_at m t.phases w.tracer.focus) items t.rest u.dues u.logged) ∙ viewed_after t p u.next (is_dying host.own) items u.fate own ∙ ap (view (lost_after p t.lost u.fate)) (sym log);
+        viewed = ap (λ x. t.past ++ (x ++ items_in (cond (is_dying host.task) (dues_without p t.rest) t.rest ++ u.dues))) (hand_after (is_dying host.task) p t.phases u.next w.tracer.focus u.hand) ∙ ap (λ x. t.past ++ x) (joined (is_dying host.task) p (hand_at m t.phases w.tracer.focus) items t.rest u.dues u.logged) ∙ viewed_after t p u.next (is_dying host.task) items u.fate task ∙ ap (view (lost_after p t.lost u.fate)) (sym log);
         over = t.over;
         heeded = t.heeded;
         sane = t.sane;
@@ -278,7 +278,7 @@ module _ {S B : Type 0} (m : Machine S B) (o : Options) (script : Script) (w : W
       }
 
   pub turn_here : IsMachine m → IsTold m → (t : Tied m o script w kernel) (p : ℕ) → is_effective m w.host.shared p (w.host.procs p) ≡ true → Turned m o.follow o script p (t.phases p) (w.tracer.known p) (λ n. entries p n (items_of kernel.log)) (turn_of m script o.follow kernel p) (host_turn_of m w.host p)
-  turn_here laws words t p f = rw ((t.each p).sort, (t.each p).own, ← t.shared, ← t.child, (t.each p).proc) (turned m laws words o script w.host.shared w.host.child p (w.tracer.known p) (λ n. entries p n (items_of kernel.log)) o.follow refl (t.phases p) (t.each p).knows (rw (t.each p).proc at f))
+  turn_here laws words t p f = rw ((t.each p).sort, (t.each p).task, ← t.shared, ← t.child, (t.each p).proc) (turned m laws words o script w.host.shared w.host.child p (w.tracer.known p) (λ n. entries p n (items_of kernel.log)) o.follow refl (t.phases p) (t.each p).knows (rw (t.each p).proc at f))
 
   pub or_true : (b : Bool) → (b || true) ≡ true
   or_true true = refl
@@ -296,7 +296,7 @@ module _ {S B : Type 0} (m : Machine S B) (o : Options) (script : Script) (w : W
   with_host h = record { host = h; tracer = w.tracer; printed = w.printed }
 
   abbrev kernel_born : B → Kernel S B
-  kernel_born b = record { shared = kernel.shared; owns = put kernel.owns w.host.child (Alive b Born); child = suc w.host.child; log = kernel.log }
+  kernel_born b = record { shared = kernel.shared; tasks = put kernel.tasks w.host.child (Alive b Born); child = suc w.host.child; log = kernel.log }
 
   child_tied : (t : Tied m o script w kernel) (b : B) → (is_past w.tracer.focus ≡ true → ⊥) → o.follow ≡ true → Tied m o script (with_host (newborn w.host b (Some (watch o.follow)))) (kernel_born b)
   child_tied t b going follows =
@@ -313,7 +313,7 @@ module _ {S B : Type 0} (m : Machine S B) (o : Options) (script : Script) (w : W
         each = changed t.lost t.lost t.rest (t.rest ++ Unlogged c At_start ∷ []) t.phases t.each (with_host (newborn w.host b (Some (watch o.follow)))) (kernel_born b) c (Born_due b)
             (record {
               proc = put_here w.host.procs c _;
-              own = put_here kernel.owns c _;
+              task = put_here kernel.tasks c _;
               knows = tie.knows;
               stage = tie.stage;
               due = due_after false c t.rest (Unlogged c At_start ∷ []) [] tie.due (refl, tt);
@@ -323,7 +323,7 @@ module _ {S B : Type 0} (m : Machine S B) (o : Options) (script : Script) (w : W
             })
             (λ q d ph old. record {
               proc = put_apart w.host.procs c _ q d ∙ old.proc;
-              own = put_apart kernel.owns c _ q d ∙ old.own;
+              task = put_apart kernel.tasks c _ q d ∙ old.task;
               knows = old.knows;
               stage = old.stage;
               due = old.due ∙ due_apart false c q d t.rest (Unlogged c At_start ∷ []) (refl, tt);
@@ -361,7 +361,7 @@ module _ {S B : Type 0} (m : Machine S B) (o : Options) (script : Script) (w : W
         each = changed t.lost t.lost t.rest t.rest t.phases t.each (with_host (newborn w.host b None)) (kernel_born b) c (Loose (Alive b Born))
             (record {
               proc = put_here w.host.procs c _;
-              own = put_here kernel.owns c _;
+              task = put_here kernel.tasks c _;
               knows = tt;
               stage = tie.stage;
               due = tie.due;
@@ -371,7 +371,7 @@ module _ {S B : Type 0} (m : Machine S B) (o : Options) (script : Script) (w : W
             })
             (λ q d ph old. record {
               proc = put_apart w.host.procs c _ q d ∙ old.proc;
-              own = put_apart kernel.owns c _ q d ∙ old.own;
+              task = put_apart kernel.tasks c _ q d ∙ old.task;
               knows = old.knows;
               stage = old.stage;
               due = old.due;
@@ -390,7 +390,7 @@ module _ {S B : Type 0} (m : Machine S B) (o : Options) (script : Script) (w : W
       }
 
   at_kernel : (t : Tied m o script w kernel) (b : B) (h : Host S B) → Tied m o script (with_host h) (kernel_born b) → Tied m o script (with_host h) (with_child kernel (Forked b))
-  at_kernel t b h u = subst (λ c. Tied m o script (with_host h) (record { shared = kernel.shared; owns = put kernel.owns c (Alive b Born); child = suc c; log = kernel.log })) t.child u
+  at_kernel t b h u = subst (λ c. Tied m o script (with_host h) (record { shared = kernel.shared; tasks = put kernel.tasks c (Alive b Born); child = suc c; log = kernel.log })) t.child u
 
   watched_child : (t : Tied m o script w kernel) (b : B) → (is_past w.tracer.focus ≡ true → ⊥) → (f : Bool) → o.follow ≡ f → Tied m o script (with_host (newborn w.host b (cond f (Some (watch o.follow)) None))) (kernel_born b)
   watched_child t b going true e = child_tied t b going e

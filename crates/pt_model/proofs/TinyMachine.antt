@@ -13,7 +13,7 @@ use Rattle.pt_model.specs.Admissible.{clone_number, execve_number, is_exit_numbe
 use Rattle.pt_model.specs.Parts.{Half}
 use Rattle.pt_model.specs.Headline.{IsTold, IsTexts, IsScript}
 use Rattle.pt_model.proofs.Maps.{equal_if}
-use Rattle.pt_model.specs.Tiny.{padded, tiny, Shares, Body, calls, first_argument, usr1}
+use Rattle.pt_model.specs.Tiny.{padded, tiny, Shares, UserState, calls, first_argument, usr1}
 use Rattle.pt_model.specs.TinyRuns.{RunsOfTiny, options, script, reads_once}
 
 pub padded_length : (n : ℕ) (r : List ℕ) → length (padded n r) ≡ n
@@ -66,13 +66,13 @@ pub script_is : IsScript script
 script_is call n s h = joined_well ((call == 64) && (n == 2)) (call == 172) s h
 
 -- an answer fits the call's number
-abbrev fits : Call → Answer Shares Body → Bool
+abbrev fits : Call → Answer Shares UserState → Bool
 fits c (Execs s b) = c.number == execve_number
 fits c (Bears s b born) = c.number == clone_number
 fits c (Ends w) = is_exit_number c.number && is_exit_word w
 fits _ _ = true
 
-abbrev end_fits : Took Shares Body → Bool
+abbrev end_fits : Took Shares UserState → Bool
 end_fits (Passes s b) = true
 end_fits (Kills w) = is_signal w
 
@@ -91,11 +91,11 @@ and_right : (a b : Bool) → (a && b) ≡ true → b ≡ true
 and_right true b h = h
 and_right false b h = absurd (cc h)
 
-either : (c : Call) (b : Bool) (x y : Answer Shares Body) → (b ≡ true → fits c x ≡ true) → fits c y ≡ true → fits c (cond b x y) ≡ true
+either : (c : Call) (b : Bool) (x y : Answer Shares UserState) → (b ≡ true → fits c x ≡ true) → fits c y ≡ true → fits c (cond b x y) ≡ true
 either c true x y h g = h refl
 either c false x y h g = g
 
-calls_fit : (s : Shares) (child p : ℕ) (c : Call) (b : Body) → fits c (calls s child p c b) ≡ true
+calls_fit : (s : Shares) (child p : ℕ) (c : Call) (b : UserState) → fits c (calls s child p c b) ≡ true
 calls_fit s child p c b =
     either c (c.number == 63) _ _ (λ h. refl)
     (either c (c.number == 64) _ _ (λ h. refl)
@@ -105,7 +105,7 @@ calls_fit s child p c b =
     (either c (c.number == 220) _ _ (λ h. h)
     (either c (c.number == 221) _ _ (λ h. h) refl))))))
 
-takes_fit : (s : Shares) (b : Body) (signal : Signal) (q : Bool) → end_fits (cond q (Passes s b) (Kills signal.number)) ≡ true
+takes_fit : (s : Shares) (b : UserState) (signal : Signal) (q : Bool) → end_fits (cond q (Passes s b) (Kills signal.number)) ≡ true
 takes_fit s b signal true = refl
 takes_fit s b signal false = signal.in_range
 

@@ -14,7 +14,7 @@ use Rattle.pt_model.specs.World.{World, happens_asked, happens, world_run, turns
 use Rattle.pt_model.specs.View.{view, traced, parts, Due, due_pid, items_in}
 use Rattle.pt_model.specs.Laws.{is_alive}
 use Rattle.pt_model.specs.Headline.{NothingKeptBack, IsTold, IsTexts, IsScript}
-use Rattle.pt_model.proofs.Phases.{Phase, Dead, Nobody, Unborn, Boot_held, Loose, dues_of, is_traced, own_of, proc_of, due_in, stage_of, reaped}
+use Rattle.pt_model.proofs.Phases.{Phase, Dead, Nobody, Unborn, Boot_held, Loose, dues_of, is_traced, task_of, proc_of, due_in, stage_of, reaped}
 use Rattle.pt_model.proofs.Local.{Turned}
 use Rattle.pt_model.proofs.Maps.{is_same, parts-append}
 use Rattle.pt_model.proofs.Ties.{stage_at, hand_at, is_past, Tied, moved_tied, turn_here, born_tied}
@@ -99,7 +99,7 @@ module _ {S B : Type 0} (m : Machine S B) (o : Options) (script : Script) (w : W
   pub told_so_far : (t : Tied m o script w kernel) → w.printed ++ parts o (hand_at m t.phases w.tracer.focus ++ items_in t.rest) ≡ parts o (view t.lost (traced o.follow kernel.log))
   told_so_far t = ap (λ x. x ++ parts o (hand_at m t.phases w.tracer.focus ++ items_in t.rest)) t.told ∙ sym (parts-append o t.past _) ∙ ap (parts o) t.viewed
 
-  gone_phase : (ph : Phase B) → reaped ph ≡ true → is_traced ph ≡ true → stage_of m ph ≡ None → is_alive (own_of m ph) ≡ false
+  gone_phase : (ph : Phase B) → reaped ph ≡ true → is_traced ph ≡ true → stage_of m ph ≡ None → is_alive (task_of m ph) ≡ false
   gone_phase (Dead v) h tr st = refl
   gone_phase Nobody h tr st = refl
   gone_phase (Unborn x) h tr st = refl
@@ -116,5 +116,5 @@ module _ {S B : Type 0} (m : Machine S B) (o : Options) (script : Script) (w : W
   no_stage q Turns_over h = refl
   no_stage q Faulted h = refl
 
-  pub none_left : (t : Tied m o script w kernel) → is_past w.tracer.focus ≡ true → (q : ℕ) → traces o.follow q ≡ true → is_alive (kernel.owns q) ≡ false
-  none_left t f q tr = ap is_alive (t.each q).own ∙ gone_phase (t.phases q) (is_reaped (reaped (t.phases q)) q w.host.tracees (t.over f) (t.each q).listed) (sym (t.each q).sort ∙ tr) ((t.each q).stage ∙ no_stage q w.tracer.focus f)
+  pub none_left : (t : Tied m o script w kernel) → is_past w.tracer.focus ≡ true → (q : ℕ) → traces o.follow q ≡ true → is_alive (kernel.tasks q) ≡ false
+  none_left t f q tr = ap is_alive (t.each q).task ∙ gone_phase (t.phases q) (is_reaped (reaped (t.phases q)) q w.host.tracees (t.over f) (t.each q).listed) (sym (t.each q).sort ∙ tr) ((t.each q).stage ∙ no_stage q w.tracer.focus f)

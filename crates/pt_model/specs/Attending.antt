@@ -8,7 +8,7 @@ use Rattle.lx_abi.specs.declared.ptrace.Request.{Request}
 use Rattle.lx_abi.specs.declared.schedule.Event.{Event}
 use Rattle.lx_abi.specs.declared.schedule.Event.TheVariants.{Turn, Serve}
 use Rattle.lx_model.specs.Machine.{Machine}
-use Rattle.lx_model.specs.Finite.{own_mode}
+use Rattle.lx_model.specs.Finite.{task_mode}
 use Rattle.pt_model.specs.Ptrace.{Host, host_turn_of, host_turn, is_effective, is_there}
 use Rattle.pt_model.specs.Requests.{serve}
 
@@ -36,7 +36,7 @@ is_ready m outcome a = would_answer m outcome a.host a.pending
 abbrev pub IsHostAble : {S B : Type 0} → Machine S B → Host S B → ℕ → Type 0
 IsHostAble m h p =
     (is_effective m h.shared p (h.procs p) ≡ true)
-    × ((own_mode (h.procs p).own ≡ Some mode.Run) ⊎ (own_mode (host_turn_of m h p).own ≢ own_mode (h.procs p).own))
+    × ((task_mode (h.procs p).task ≡ Some mode.Run) ⊎ (task_mode (host_turn_of m h p).task ≢ task_mode (h.procs p).task))
 
 -- Events
 

@@ -15,7 +15,7 @@ use Rattle.lx_abi.specs.declared.status.Stop.TheVariants.{Event as Event_stop, E
 use Rattle.lx_abi.specs.Status.{stop_of}
 use Rattle.lx_model.specs.Kernel.{Script, put}
 use Rattle.pt_model.specs.Admissible.{Standing, Between, After_signal, After_event, At_end, was_read}
-use Rattle.pt_model.specs.Hearing.{Place, Seizing, Entry_regs, Exit_regs, Signal_info, Resuming, asks, Heard, hears}
+use Rattle.pt_model.specs.Hearing.{Awaiting, Seizing, Entry_regs, Exit_regs, Signal_info, Resuming, asks, Heard, hears}
 use Rattle.pt_model.specs.Known.{Known, stands_at, turned_over}
 use Rattle.pt_model.specs.Parts.{Options, Part, Part_exit}
 use Rattle.pt_model.specs.Ptrace.{is_there}
@@ -26,7 +26,7 @@ pub data Focus : Type 0 where
   Booting : Focus
   Waiting : Focus
   -- the tracee in hand
-  Serving : ℕ → Place → Focus
+  Serving : ℕ → Awaiting → Focus
   Asking_outcome : Focus
   -- nothing more: the run is whole, was answered OutOfTurns, or met a reply that isn't admitted
   Over : Outcome → Focus
@@ -60,7 +60,7 @@ pub record Next : Type 0 where
 abbrev pub stays : (ℕ → Known) → Focus → Next
 stays known focus = record { known = known; focus = focus; printed = [] }
 
-abbrev pub focus_on : ℕ → Option Place → Focus
+abbrev pub focus_on : ℕ → Option Awaiting → Focus
 focus_on p (Some place) = Serving p place
 focus_on p None = Waiting
 
@@ -68,11 +68,11 @@ abbrev pub heard : (ℕ → Known) → ℕ → Heard → Next
 heard known p h = record { known = put known p h.known; focus = focus_on p h.next; printed = h.printed }
 
 -- at an exit the registers are wanted where its entry was read, and the call is shown or replaced
-abbrev pub exit_place : Bool → Place
+abbrev pub exit_place : Bool → Awaiting
 exit_place true = Exit_regs
 exit_place false = Resuming 0
 
-abbrev pub first_place : Options → Known → Bool → Place
+abbrev pub first_place : Options → Known → Bool → Awaiting
 first_place o k true = exit_place (was_read k.standing && (o.shows k.called.number || is_there k.saved))
 first_place o k false = Entry_regs
 

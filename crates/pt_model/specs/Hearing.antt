@@ -16,28 +16,28 @@ use Rattle.pt_model.specs.Known.{Known, opened, closed}
 use Rattle.pt_model.specs.Parts.{At_entry, At_exit, Options, Part, Part_signal, enter_part, done_part}
 
 -- what is being asked of the tracee in hand
-pub data Place : Type 0 where
-  Seizing : Place
-  Entry_regs : Place
+pub data Awaiting : Type 0 where
+  Seizing : Awaiting
+  Entry_regs : Awaiting
   -- the registers, what was read, and the address and length that are read now
-  Entry_peek : Regs → List (List ℕ) → ℕ × ℕ → Place
+  Entry_peek : Regs → List (List ℕ) → ℕ × ℕ → Awaiting
   -- the registers with the number -1, and the signal to resume with
-  Entry_set : Regs → ℕ → Place
-  Exit_regs : Place
+  Entry_set : Regs → ℕ → Awaiting
+  Exit_regs : Awaiting
   -- the registers with the call's number and the result in its place
-  Exit_set : Regs → ℕ → Place
+  Exit_set : Regs → ℕ → Awaiting
   -- the result, whether it was replaced, what was read, and what is read now
-  Exit_peek : ℕ → Bool → List (List ℕ) → ℕ × ℕ → Place
+  Exit_peek : ℕ → Bool → List (List ℕ) → ℕ × ℕ → Awaiting
   -- the signal of the stop
-  Signal_info : ℕ → Place
+  Signal_info : ℕ → Awaiting
   -- with a signal, 0 for none
-  Resuming : ℕ → Place
+  Resuming : ℕ → Awaiting
 
 -- TRACESYSGOOD, TRACEEXEC and with follow TRACEFORK
 abbrev pub options_word : Bool → ℕ
 options_word follow = cond follow 0x13 0x11
 
-abbrev pub asks : Options → Place → Ask
+abbrev pub asks : Options → Awaiting → Ask
 asks o Seizing = Seize (options_word o.follow)
 asks o Entry_regs = GetRegs
 asks o (Entry_peek r got w) = Peek w.0 w.1
@@ -51,13 +51,13 @@ asks o (Resuming n) = Syscall n
 -- what a reply makes of what is known, what is asked next, and what is printed
 pub record Heard : Type 0 where
   pub known : Known
-  pub next : Option Place
+  pub next : Option Awaiting
   pub printed : List Part
 
 abbrev pub nothing : Known → Heard
 nothing k = record { known = k; next = None; printed = [] }
 
-abbrev pub moves : Known → Place → Heard
+abbrev pub moves : Known → Awaiting → Heard
 moves k place = record { known = k; next = Some place; printed = [] }
 
 abbrev pub signal_word : Option Signal → ℕ
@@ -169,7 +169,7 @@ at_info p k n (Some i) = record { known = k; next = Some (Resuming n); printed =
 at_info p k n None = nothing k
 
 -- after Seize and a resumption nothing more is asked of it
-abbrev pub hears : Options → Script → ℕ → Known → Place → Reply → Heard
+abbrev pub hears : Options → Script → ℕ → Known → Awaiting → Reply → Heard
 hears o script p k Seizing reply = nothing k
 hears o script p k Entry_regs reply = at_entry_regs o script p k (regs_in reply)
 hears o script p k (Entry_peek r got w) reply = peeked_entry o script p r got k (bytes_of reply)

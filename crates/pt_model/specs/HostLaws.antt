@@ -7,8 +7,8 @@ use Rattle.lx_abi.specs.declared.script.Choice.{Choice}
 use Rattle.lx_abi.specs.Scripts.{choice_of}
 use Rattle.lx_model.specs.Machine.{Machine}
 use Rattle.lx_model.specs.Turn.{Out, turn}
-use Rattle.lx_model.specs.declared.stage.Own.{Own}
-use Rattle.lx_model.specs.Finite.{item_of, running_turn, own_mode, IsAble}
+use Rattle.lx_model.specs.declared.stage.Task.{Task}
+use Rattle.lx_model.specs.Finite.{item_of, running_turn, task_mode, IsAble}
 use Rattle.pt_model.specs.Ptrace.{Watch, tracee_stop, is_dying, is_effective, host_turn}
 use Rattle.pt_model.specs.Requests.{serve}
 use Rattle.pt_model.specs.World.{first_world}
@@ -50,10 +50,10 @@ EmptyScriptIsNone = choice_of [] ≡ no_script
 
 -- a turn's mode, item and deed tell its process's stop
 abbrev pub TurnsTell : Type 0 → Type 0 → Type 0
-TurnsTell S B = (m : Machine S B) (c : Choice) (s : S) (child p : ℕ) (own : Own B) (w : Watch) →
-    let o : Out S B = turn m c s child p own in
-    (told_stop w (own_mode o.own) (item_of o) (deed_of o.event) ≡ tracee_stop w o.own o.event)
-    × (ends_dying (own_mode o.own) ≡ is_dying o.own)
+TurnsTell S B = (m : Machine S B) (c : Choice) (s : S) (child p : ℕ) (task : Task B) (w : Watch) →
+    let o : Out S B = turn m c s child p task in
+    (told_stop w (task_mode o.task) (item_of o) (deed_of o.event) ≡ tracee_stop w o.task o.event)
+    × (ends_dying (task_mode o.task) ≡ is_dying o.task)
 
 -- whether a host is ready, its queue and its tracees tell
 abbrev pub HostsAreReady : Type 0 → Type 0 → Type 0

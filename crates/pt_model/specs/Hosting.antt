@@ -21,10 +21,10 @@ use Rattle.lx_abi.specs.declared.status.Stop.TheVariants.{Syscall as Syscall_sto
 use Rattle.lx_abi.specs.Scripts.{no_choice}
 use Rattle.lx_model.specs.Machine.{Machine}
 use Rattle.lx_model.specs.Turn.{Event, Plain, Execed, Forked, Out}
-use Rattle.lx_model.specs.declared.stage.Own.{Own}
-use Rattle.lx_model.specs.declared.stage.Own.TheVariants.{Alive, Dying, Gone}
+use Rattle.lx_model.specs.declared.stage.Task.{Task}
+use Rattle.lx_model.specs.declared.stage.Task.TheVariants.{Alive, Dying, Gone}
 use Rattle.lx_model.specs.Kernel.{Script}
-use Rattle.lx_model.specs.Finite.{at, Running, ran, bore, turn_out, first_running, with_own}
+use Rattle.lx_model.specs.Finite.{at, Running, ran, bore, turn_out, first_running, with_task}
 use Rattle.pt_model.specs.Ptrace.{Watch, Proc, Report, Host, tracee_stop, stop_at, is_dying, is_there, reports_of, without, is_effective, inherits}
 use Rattle.pt_model.specs.Requests.{esrch, echild, Answered, stopped, unseized, told}
 use Rattle.pt_model.specs.Attending.{Attending, left_pending}
@@ -53,11 +53,11 @@ pub record Hosting (S B : Type 0) : Type 0 where
 abbrev pub traced_at : {S B : Type 0} → Hosting S B → ℕ → Traced
 traced_at v = at untraced v.traced
 
-abbrev pub as_proc : {B : Type 0} → Own B → Traced → Proc B
-as_proc own t = record { own = own; held = t.held; watch = t.watch }
+abbrev pub as_proc : {B : Type 0} → Task B → Traced → Proc B
+as_proc task t = record { task = task; held = t.held; watch = t.watch }
 
 abbrev pub proc_in : {S B : Type 0} → Hosting S B → ℕ → Proc B
-proc_in v p = as_proc (at Gone v.running.owns p) (traced_at v p)
+proc_in v p = as_proc (at Gone v.running.tasks p) (traced_at v p)
 
 abbrev pub host_in : {S B : Type 0} → Hosting S B → Host S B
 host_in v = record {
@@ -88,10 +88,10 @@ message_after message p child w (Forked b) = cond w.forks child message
 
 -- what is kept of a tracee after its turn; of who is none nothing is
 abbrev pub traced_after : {B : Type 0} → maps.FinMap nat_cmp Traced → ℕ → ℕ → ℕ
-    → Option Watch → Own B → Event B → maps.FinMap nat_cmp Traced
-traced_after traced p child message None own e = traced
-traced_after traced p child message (Some w) own e = maps.insert traced p (record {
-  held = is_there (tracee_stop w own e);
+    → Option Watch → Task B → Event B → maps.FinMap nat_cmp Traced
+traced_after traced p child message None task e = traced
+traced_after traced p child message (Some w) task e = maps.insert traced p (record {
+  held = is_there (tracee_stop w task e);
   watch = Some w;
   message = message_after message p child w e;
 })
@@ -117,8 +117,8 @@ with_birth v child w (Forked b) = with_newborn v child (inherits w)
 abbrev pub hosted : {S B : Type 0} → Hosting S B → ℕ → Traced → Out S B → Hosting S B
 hosted v p t o = with_birth (record {
   running = bore (ran v.running p o) o.event;
-  traced = traced_after v.traced p v.running.child t.message t.watch o.own o.event;
-  queue = cond (is_dying o.own) (without p v.queue) v.queue ++ reports_of p (stop_at t.watch o.own o.event);
+  traced = traced_after v.traced p v.running.child t.message t.watch o.task o.event;
+  queue = cond (is_dying o.task) (without p v.queue) v.queue ++ reports_of p (stop_at t.watch o.task o.event);
   tracees = v.tracees;
   turns = v.turns ++ p ∷ [];
   pending = v.pending;
@@ -169,7 +169,7 @@ refuses v = record { hosting = v; reply = Some esrch }
 abbrev pub with_answer : {S B : Type 0} → Hosting S B → ℕ → ℕ → Answered B → Hosted S B
 with_answer v p message a = record {
   hosting = record {
-    running = with_own v.running p a.proc.own;
+    running = with_task v.running p a.proc.task;
     traced = maps.insert v.traced p (record { held = a.proc.held; watch = a.proc.watch; message = message });
     queue = cond a.seized (v.queue ++ record { pid = p; stop = Event_stop At_start } ∷ []) v.queue;
     tracees = cond a.seized (v.tracees ++ p ∷ []) v.tracees;
@@ -181,12 +181,12 @@ with_answer v p message a = record {
 
 -- a request to a process that is not held, or is ending, changes nothing
 abbrev pub hosting_to : {S B : Type 0} → Machine S B → Hosting S B
-    → ℕ → ℕ → Proc B → Bool → Option Watch → Own B → Ask → Hosted S B
+    → ℕ → ℕ → Proc B → Bool → Option Watch → Task B → Ask → Hosted S B
 hosting_to m v p message t true (Some w) (Alive b stage) q = with_answer v p message (stopped m t b stage message q)
 hosting_to m v p message t true (Some w) (Dying word) q = refuses v
 hosting_to m v p message t true (Some w) Gone q = refuses v
-hosting_to m v p message t true None own q = with_answer v p message (unseized t q)
-hosting_to m v p message t false w own q = refuses v
+hosting_to m v p message t true None task q = with_answer v p message (unseized t q)
+hosting_to m v p message t false w task q = refuses v
 
 -- who is waited for is held no more
 abbrev pub released : maps.FinMap nat_cmp Traced → ℕ → Option Traced → maps.FinMap nat_cmp Traced
@@ -226,7 +226,7 @@ hosting_serve m outcome v (Boot_with boot limit words) = record { hosting = v; r
 hosting_serve m outcome v Wait = hosting_wait v v.queue v.tracees
 hosting_serve m outcome v (To p q) =
     hosting_to m v p (traced_at v p).message (proc_in v p) (traced_at v p).held (traced_at v p).watch
-    (at Gone v.running.owns p) q
+    (at Gone v.running.tasks p) q
 hosting_serve m outcome v Ask_outcome = record { hosting = v; reply = Some (Outcome_is (outcome v.running.shared)) }
 
 -- Events, and the request that is pending

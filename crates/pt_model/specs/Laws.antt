@@ -10,8 +10,8 @@ use Rattle.lx_abi.specs.Scripts.{choice_of}
 use Rattle.lx_model.specs.Machine.{Machine}
 use Rattle.lx_model.specs.Turn.{kill_word, Forked}
 use Rattle.lx_model.specs.declared.stage.Stage.{Stage}
-use Rattle.lx_model.specs.declared.stage.Own.{Own}
-use Rattle.lx_model.specs.declared.stage.Own.TheVariants.{Alive, Dying, Gone}
+use Rattle.lx_model.specs.declared.stage.Task.{Task}
+use Rattle.lx_model.specs.declared.stage.Task.TheVariants.{Alive, Dying, Gone}
 use Rattle.lx_model.specs.Kernel.{Script, Kernel, kernel_turn, kernel_run, first_kernel}
 use Rattle.pt_model.specs.Ptrace.{Watch, Host, Report, is_dying, is_effective, host_turn, host_turn_of}
 use Rattle.pt_model.specs.Requests.{told, serve}
@@ -22,13 +22,13 @@ use Rattle.pt_model.specs.View.{view, has_exit, has_kill}
 abbrev pub KernelTurnsApart : Type 0 → Type 0 → Type 0
 KernelTurnsApart S B =
     (m : Machine S B) (script : Script) (follow : Bool) (k : Kernel S B) (p q : ℕ) → p ≢ q → k.child ≢ q →
-    (kernel_turn m script follow k p).owns q ≡ k.owns q
+    (kernel_turn m script follow k p).tasks q ≡ k.tasks q
 
 abbrev pub HostTurnsApart : Type 0 → Type 0 → Type 0
 HostTurnsApart S B = (m : Machine S B) (h : Host S B) (p q : ℕ) → p ≢ q → h.child ≢ q →
     (host_turn m h p).procs q ≡ h.procs q
 
-abbrev pub is_alive : {B : Type 0} → Own B → Bool
+abbrev pub is_alive : {B : Type 0} → Task B → Bool
 is_alive (Alive b stage) = true
 is_alive (Dying word) = false
 is_alive Gone = false
@@ -37,7 +37,7 @@ is_alive Gone = false
 abbrev pub TheDeadHaveEnded : Type 0 → Type 0 → Type 0
 TheDeadHaveEnded S B = (m : Machine S B) (script : Script) (follow : Bool) (s : S) (b : B) (pids : List ℕ) (q : ℕ) →
     let k : Kernel S B = kernel_run m script follow (first_kernel s b) pids in
-    1 ≤ q → q < k.child → is_alive (k.owns q) ≡ false → has_exit q k.log ≡ true
+    1 ≤ q → q < k.child → is_alive (k.tasks q) ≡ false → has_exit q k.log ≡ true
 
 -- a turn of a held process changes nothing
 abbrev pub TheHeldAreStill : Type 0 → Type 0 → Type 0
@@ -48,8 +48,8 @@ TheHeldAreStill S B = (m : Machine S B) (h : Host S B) (p : ℕ) →
 abbrev pub TheHeldCanBeKilled : Type 0 → Type 0 → Type 0
 TheHeldCanBeKilled S B =
     (m : Machine S B) (h : Host S B) (p : ℕ) (b : B) (stage : Stage) (w : Watch) →
-    h.procs p ≡ record { own = Alive b stage; held = true; watch = Some w } → m.killed h.shared p ≡ true →
-    (host_turn m h p).procs p ≡ record { own = Dying kill_word; held = true; watch = Some w }
+    h.procs p ≡ record { task = Alive b stage; held = true; watch = Some w } → m.killed h.shared p ≡ true →
+    (host_turn m h p).procs p ≡ record { task = Dying kill_word; held = true; watch = Some w }
 
 -- Wait tells the first report, and takes it
 abbrev pub FirstReportIsTold : Type 0 → Type 0 → Type 0
@@ -81,7 +81,7 @@ abbrev pub OneReportAStop : Type 0 → Type 0 → Type 0
 OneReportAStop S B =
     (m : Machine S B) (h : Host S B) (p : ℕ) → p ≢ h.child → is_effective m h.shared p (h.procs p) ≡ true →
     reports_for p (host_turn m h p).queue
-    ≡ cond (is_dying (host_turn_of m h p).own) 0 (reports_for p h.queue) + one_if ((host_turn m h p).procs p).held
+    ≡ cond (is_dying (host_turn_of m h p).task) 0 (reports_for p h.queue) + one_if ((host_turn m h p).procs p).held
 
 -- and it reports nobody else, but for a child
 abbrev pub NoOtherReport : Type 0 → Type 0 → Type 0

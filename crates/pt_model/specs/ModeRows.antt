@@ -12,13 +12,13 @@ use Rattle.lx_model.specs.Machine.{pc_of, a0_of}
 use Rattle.lx_model.specs.Turn.{Out, turn}
 use Rattle.lx_model.specs.declared.stage.Stage.{Stage}
 use Rattle.lx_model.specs.declared.stage.Stage.TheVariants.{Born, Run, Faulting, Entered, Doing, Replaced, Acted, Finished, Taken, Dropped}
-use Rattle.lx_model.specs.declared.stage.Own.{Own}
-use Rattle.lx_model.specs.declared.stage.Own.TheVariants.{Alive, Dying, Gone}
-use Rattle.lx_model.specs.Finite.{own_mode, item_of}
-use Rattle.pt_model.specs.Tiny.{Pending, Shares, Body, registers_of, tiny, body, nothing_yet, segv, sigkill, usr1, chld}
+use Rattle.lx_model.specs.declared.stage.Task.{Task}
+use Rattle.lx_model.specs.declared.stage.Task.TheVariants.{Alive, Dying, Gone}
+use Rattle.lx_model.specs.Finite.{task_mode, item_of}
+use Rattle.pt_model.specs.Tiny.{Pending, Shares, UserState, registers_of, tiny, user, nothing_yet, segv, sigkill, usr1, chld}
 
 -- the pc and a0 of a process that lives
-abbrev pub result_in : Own Body → Option (ℕ × ℕ)
+abbrev pub result_in : Task UserState → Option (ℕ × ℕ)
 result_in (Alive b stage) = Some (pc_of (registers_of b), a0_of (registers_of b))
 result_in (Dying word) = None
 result_in Gone = None
@@ -28,16 +28,16 @@ result_in Gone = None
 abbrev pub Left : Type 0
 Left = (Option Mode × Option Item) × Option (ℕ × ℕ) × List ℕ × List ℕ
 
-abbrev pub brief : Out Shares Body → Left
+abbrev pub brief : Out Shares UserState → Left
 brief o = (
-  (own_mode o.own, item_of o),
-  result_in o.own,
+  (task_mode o.task, item_of o),
+  result_in o.task,
   o.shared.console,
   map (λ (x : Pending). x.signal.number) o.shared.pending,
 )
 
 -- what process 1 comes to by a turn from this stage, with its choice, the pending signals, and its body
-abbrev pub row : Choice → List Pending → Body → Stage → Left
+abbrev pub row : Choice → List Pending → UserState → Stage → Left
 row c pending b stage = brief (turn tiny c (record { console = []; pending = pending; ended = [] }) 2 1 (Alive b stage))
 
 abbrev pub pends : List Pending
@@ -47,7 +47,7 @@ abbrev pub pends_kill : List Pending
 pends_kill = record { pid = 1; signal = sigkill; cause = By_kernel } ∷ []
 
 -- a body that is at the ecall of this call
-abbrev pub at_call : ℕ → ℕ → Body
+abbrev pub at_call : ℕ → ℕ → UserState
 at_call n x = record {
   pc = 0;
   registers = 0 ∷ 0 ∷ 0 ∷ 0 ∷ 0 ∷ 0 ∷ 0 ∷ 0 ∷ 0 ∷ 0 ∷ x ∷ 0 ∷ 0 ∷ 0 ∷ 0 ∷ 0 ∷ 0 ∷ n ∷ [];
@@ -66,15 +66,15 @@ abbrev pub replaces : Choice
 replaces = record { result = Some (pos 5); signal = None }
 
 pub record ModeRows : Type 0 where
-  pub born : row no_choice [] (body []) Born ≡ ((Some mode.Run, None), Some (0, 0), [], [])
+  pub born : row no_choice [] (user []) Born ≡ ((Some mode.Run, None), Some (0, 0), [], [])
   -- Run: a signal first, then one instruction
   pub signal_first : row no_choice pends (at_call 64 7) Run
       ≡ ((Some mode.Taken, Some (Signalled 1 usr1 By_kernel)), Some (0, 7), [], [])
-  pub instruction : row no_choice [] (body (64 ∷ 7 ∷ [])) Run ≡ ((Some mode.Run, None), Some (0, 7), [], [])
+  pub instruction : row no_choice [] (user (64 ∷ 7 ∷ [])) Run ≡ ((Some mode.Run, None), Some (0, 7), [], [])
   pub ecall : row no_choice [] (at_call 64 7) Run
       ≡ ((Some mode.Entered, Some (Enter 1 (call 64 7))), Some (0, 7), [], [])
-  pub fault : row no_choice [] (body (999 ∷ 16 ∷ [])) Run ≡ ((Some mode.Faulting, None), Some (0, 0), [], [])
-  pub faulting : row no_choice [] (body []) (Faulting segv (Fault 1 16))
+  pub fault : row no_choice [] (user (999 ∷ 16 ∷ [])) Run ≡ ((Some mode.Faulting, None), Some (0, 0), [], [])
+  pub faulting : row no_choice [] (user []) (Faulting segv (Fault 1 16))
       ≡ ((Some mode.Taken, Some (Signalled 1 segv (Fault 1 16))), Some (0, 0), [], [])
   pub entered : row no_choice [] (at_call 64 7) (Entered None) ≡ ((Some mode.Doing, None), Some (0, 7), [], [])
   pub entered_replaced : row replaces [] (at_call 64 7) (Entered None) ≡ ((Some mode.Doing, None), Some (0, 7), [], [])
@@ -94,17 +94,17 @@ pub record ModeRows : Type 0 where
       ≡ ((Some mode.Acted, None), Some (4, 5), [], [])
   pub acted : row no_choice [] (at_call 64 1) (Acted (call 64 7) 1 true)
       ≡ ((Some mode.Finished, Some (Done 1 (call 64 7) 1 true)), Some (0, 1), [], [])
-  pub finished : row no_choice [] (body []) Finished ≡ ((Some mode.Run, None), Some (0, 0), [], [])
-  pub taken_ignored : row no_choice [] (body []) (Taken chld By_kernel) ≡ ((Some mode.Run, None), Some (0, 0), [], [])
-  pub taken_ends : row no_choice [] (body []) (Taken usr1 By_kernel)
+  pub finished : row no_choice [] (user []) Finished ≡ ((Some mode.Run, None), Some (0, 0), [], [])
+  pub taken_ignored : row no_choice [] (user []) (Taken chld By_kernel) ≡ ((Some mode.Run, None), Some (0, 0), [], [])
+  pub taken_ends : row no_choice [] (user []) (Taken usr1 By_kernel)
       ≡ ((Some mode.Dying, Some (Exit 1 10 mode.Taken)), None, [], [])
-  pub dropped : row no_choice [] (body []) Dropped ≡ ((Some mode.Run, None), Some (0, 0), [], [])
+  pub dropped : row no_choice [] (user []) Dropped ≡ ((Some mode.Run, None), Some (0, 0), [], [])
   -- SIGKILL before all
   pub killed_run : row no_choice pends_kill (at_call 64 7) Run
       ≡ ((Some mode.Dying, Some (Exit 1 9 mode.Run)), None, [], 9 ∷ [])
   pub killed_entered : row replaces pends_kill (at_call 64 7) (Entered None)
       ≡ ((Some mode.Dying, Some (Exit 1 9 mode.Entered)), None, [], 9 ∷ [])
-  pub killed_taken : row no_choice pends_kill (body []) (Taken usr1 By_kernel)
+  pub killed_taken : row no_choice pends_kill (user []) (Taken usr1 By_kernel)
       ≡ ((Some mode.Dying, Some (Exit 1 9 mode.Taken)), None, [], 9 ∷ [])
   pub dying : brief (turn tiny no_choice nothing_yet 2 1 (Dying 768)) ≡ ((None, None), None, [], [])
   pub gone : brief (turn tiny no_choice nothing_yet 2 1 Gone) ≡ ((None, None), None, [], [])

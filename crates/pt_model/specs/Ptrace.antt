@@ -8,8 +8,8 @@ use Rattle.lx_abi.specs.Scripts.{no_choice}
 use Rattle.lx_model.specs.Machine.{Machine}
 use Rattle.lx_model.specs.Turn.{Event, Plain, Execed, Forked, Out, turn}
 use Rattle.lx_model.specs.declared.stage.Stage.TheVariants.{Born}
-use Rattle.lx_model.specs.declared.stage.Own.{Own}
-use Rattle.lx_model.specs.declared.stage.Own.TheVariants.{Alive, Dying, Gone}
+use Rattle.lx_model.specs.declared.stage.Task.{Task}
+use Rattle.lx_model.specs.declared.stage.Task.TheVariants.{Alive, Dying, Gone}
 use Rattle.lx_model.specs.Kernel.{put}
 use Rattle.lx_model.specs.Rows.{row}
 pub use Rattle.pt_model.specs.declared.ptrace.Report.{Report}
@@ -23,7 +23,7 @@ watch_of o =
 
 -- a process as a tracer meets it
 pub record Proc (B : Type 0) : Type 0 where
-  pub own : Own B
+  pub task : Task B
   -- in a stop, and not resumed
   pub held : Bool
   -- its options, where it is a tracee
@@ -49,17 +49,17 @@ event_stop w Execed = cond w.execs (Some (Event_stop At_exec)) None
 event_stop w (Forked b) = cond w.forks (Some (Event_stop At_fork)) None
 
 -- the stop of a tracee after its turn, from where it stands and what its call did
-abbrev pub tracee_stop : {B : Type 0} → Watch → Own B → Event B → Option Stop
+abbrev pub tracee_stop : {B : Type 0} → Watch → Task B → Event B → Option Stop
 tracee_stop w (Alive b stage) e = (row stage).stop w.good (event_stop w e)
 tracee_stop w (Dying word) e = Some (Ended word)
 tracee_stop w Gone e = None
 
 -- a process that is no tracee has no stops
-abbrev pub stop_at : {B : Type 0} → Option Watch → Own B → Event B → Option Stop
-stop_at (Some w) own e = tracee_stop w own e
-stop_at None own e = None
+abbrev pub stop_at : {B : Type 0} → Option Watch → Task B → Event B → Option Stop
+stop_at (Some w) task e = tracee_stop w task e
+stop_at None task e = None
 
-abbrev pub is_dying : {B : Type 0} → Own B → Bool
+abbrev pub is_dying : {B : Type 0} → Task B → Bool
 is_dying (Alive b stage) = false
 is_dying (Dying word) = true
 is_dying Gone = false
@@ -78,17 +78,17 @@ without p reports = filter (λ r. not (p == r.pid)) reports
 -- Which turns reach the kernel
 
 -- SIGKILL is pending for a tracee before Dying
-abbrev pub may_die : {S B : Type 0} → Machine S B → S → ℕ → Option Watch → Own B → Bool
+abbrev pub may_die : {S B : Type 0} → Machine S B → S → ℕ → Option Watch → Task B → Bool
 may_die m s p (Some w) (Alive b stage) = m.killed s p
 may_die _ _ _ _ _ = false
 
 -- a held process takes no turn but to Dying, by SIGKILL (ptrace(2), "Death under ptrace"); process 1
 -- before Seize is alone, and nobody can kill it
 abbrev pub is_effective : {S B : Type 0} → Machine S B → S → ℕ → Proc B → Bool
-is_effective m s p t = cond t.held (may_die m s p t.watch t.own) true
+is_effective m s p t = cond t.held (may_die m s p t.watch t.task) true
 
-abbrev pub proc_after : {B : Type 0} → Option Watch → Own B → Event B → Proc B
-proc_after w own e = record { own = own; held = is_there (stop_at w own e); watch = w }
+abbrev pub proc_after : {B : Type 0} → Option Watch → Task B → Event B → Proc B
+proc_after w task e = record { task = task; held = is_there (stop_at w task e); watch = w }
 
 abbrev pub messages_after : {B : Type 0} → (ℕ → ℕ) → ℕ → ℕ → Option Watch → Event B → ℕ → ℕ
 messages_after messages p child None e = messages
@@ -101,8 +101,8 @@ messages_after messages p child (Some w) (Forked b) = cond w.forks (put messages
 abbrev pub moved : {S B : Type 0} → Host S B → ℕ → Option Watch → Out S B → Host S B
 moved h p w o = record {
   shared = o.shared;
-  procs = put h.procs p (proc_after w o.own o.event);
-  queue = cond (is_dying o.own) (without p h.queue) h.queue ++ reports_of p (stop_at w o.own o.event);
+  procs = put h.procs p (proc_after w o.task o.event);
+  queue = cond (is_dying o.task) (without p h.queue) h.queue ++ reports_of p (stop_at w o.task o.event);
   tracees = h.tracees;
   messages = messages_after h.messages p h.child w o.event;
   child = h.child;
@@ -119,7 +119,7 @@ inherits (Some w) = cond w.forks (Some w) None
 abbrev pub newborn : {S B : Type 0} → Host S B → B → Option Watch → Host S B
 newborn h b None = record {
   shared = h.shared;
-  procs = put h.procs h.child (record { own = Alive b Born; held = false; watch = None });
+  procs = put h.procs h.child (record { task = Alive b Born; held = false; watch = None });
   queue = h.queue;
   tracees = h.tracees;
   messages = h.messages;
@@ -127,7 +127,7 @@ newborn h b None = record {
 }
 newborn h b (Some w) = record {
   shared = h.shared;
-  procs = put h.procs h.child (record { own = Alive b Born; held = true; watch = Some w });
+  procs = put h.procs h.child (record { task = Alive b Born; held = true; watch = Some w });
   queue = h.queue ++ record { pid = h.child; stop = Event_stop At_start } ∷ [];
   tracees = h.tracees ++ h.child ∷ [];
   messages = h.messages;
@@ -143,7 +143,7 @@ bears h w (Forked b) = newborn h b (inherits w)
 
 -- the kernel's own turn, with no choice: a signal that is joined stands in the stage already
 abbrev pub host_turn_of : {S B : Type 0} → Machine S B → Host S B → ℕ → Out S B
-host_turn_of m h p = turn m no_choice h.shared h.child p (h.procs p).own
+host_turn_of m h p = turn m no_choice h.shared h.child p (h.procs p).task
 
 abbrev pub host_turn : {S B : Type 0} → Machine S B → Host S B → ℕ → Host S B
 host_turn m h p =
@@ -151,10 +151,10 @@ host_turn m h p =
     (bears (moved h p (h.procs p).watch (host_turn_of m h p)) (h.procs p).watch (host_turn_of m h p).event) h
 
 -- process 1 is held from the boot, and no tracee yet
-abbrev pub first_host : {S B : Type 0} → S → (ℕ → Own B) → Host S B
-first_host s owns = record {
+abbrev pub first_host : {S B : Type 0} → S → (ℕ → Task B) → Host S B
+first_host s tasks = record {
   shared = s;
-  procs = λ p. record { own = owns p; held = p == 1; watch = None };
+  procs = λ p. record { task = tasks p; held = p == 1; watch = None };
   queue = [];
   tracees = [];
   messages = λ p. 0;

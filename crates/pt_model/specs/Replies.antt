@@ -17,7 +17,7 @@ use Rattle.pt_model.specs.Ptrace.{is_there}
 use Rattle.pt_model.specs.Requests.{esrch, serve}
 use Rattle.pt_model.specs.Parts.{Options, Part}
 use Rattle.pt_model.specs.Admissible.{was_read, answers}
-use Rattle.pt_model.specs.Tracer.{Place, Seizing, Entry_regs, Entry_peek, Entry_set, Exit_regs, Exit_set, Exit_peek, Signal_info, Resuming, Focus, Booting, Waiting, Serving, Asking_outcome, Over, Turns_over, Faulted, Tracer, Moved, request, admits_at, next, new_tracer, first_tracer}
+use Rattle.pt_model.specs.Tracer.{Awaiting, Seizing, Entry_regs, Entry_peek, Entry_set, Exit_regs, Exit_set, Exit_peek, Signal_info, Resuming, Focus, Booting, Waiting, Serving, Asking_outcome, Over, Turns_over, Faulted, Tracer, Moved, request, admits_at, next, new_tracer, first_tracer}
 use Rattle.pt_model.specs.World.{World, happens, world_run, first_world}
 use Rattle.pt_model.specs.Headline.{IsTexts}
 
@@ -141,7 +141,7 @@ StatusesComeToHand = (o : Options) (script : Script) (t : Tracer) (p : ℕ) (sta
 
 -- no other process comes to hand by a reply that concerns it
 abbrev pub TheHandStays : Type 0
-TheHandStays = (o : Options) (script : Script) (t : Tracer) (p q : ℕ) (place : Place) (r : Reply) →
+TheHandStays = (o : Options) (script : Script) (t : Tracer) (p q : ℕ) (place : Awaiting) (r : Reply) →
     t.focus ≡ Serving p place → in_hand (next o script t r).tracer.focus ≡ Some q → q ≡ p
 
 -- an exit whose entry was never read is neither read nor shown
@@ -153,7 +153,7 @@ UnreadCallsHaveNoExit = (o : Options) (script : Script) (t : Tracer) (p : ℕ) (
     × ((next o script t (Status_is p status)).printed ≡ [])
 
 -- Seize, and the last request to a tracee in a stop
-abbrev pub LetsGo : Place → Type 0
+abbrev pub LetsGo : Awaiting → Type 0
 LetsGo Seizing = Unit {0}
 LetsGo Entry_regs = ⊥
 LetsGo (Entry_peek r got w) = ⊥
@@ -166,14 +166,14 @@ LetsGo (Resuming n) = Unit {0}
 
 -- A tracee in hand is let go, or met ESRCH, before Wait is asked again: nothing that was learnt is dropped.
 abbrev pub NobodyIsLeftHeld : Type 0
-NobodyIsLeftHeld = (o : Options) (script : Script) (t : Tracer) (p : ℕ) (place : Place) (r : Reply) →
+NobodyIsLeftHeld = (o : Options) (script : Script) (t : Tracer) (p : ℕ) (place : Awaiting) (r : Reply) →
     t.focus ≡ Serving p place → admits o t r ≡ true → (next o script t r).tracer.focus ≡ Waiting →
     (LetsGo place × (r ≡ Agreed)) ⊎ (r ≡ esrch)
 
 -- these replies let the tracee in hand go: with the reply to its last request, or with ESRCH
 pub record LetGo (o : Options) (script : Script) (x : Moved) (p : ℕ) (rs : List Reply) : Type 0 where
   pub before : List Reply
-  pub place : Place
+  pub place : Awaiting
   pub reply : Reply
   pub more : List Reply
   pub split : rs ≡ before ++ reply ∷ more
@@ -182,7 +182,7 @@ pub record LetGo (o : Options) (script : Script) (x : Moved) (p : ℕ) (rs : Lis
 
 -- so whoever came to hand was let go before the next Wait, whatever the replies were
 abbrev pub EachIsLetGo : Type 0
-EachIsLetGo = (o : Options) (script : Script) (x : Moved) (p : ℕ) (place : Place) (rs : List Reply) →
+EachIsLetGo = (o : Options) (script : Script) (x : Moved) (p : ℕ) (place : Awaiting) (rs : List Reply) →
     x.tracer.focus ≡ Serving p place → (after_all o script x rs).tracer.focus ≡ Waiting → LetGo o script x p rs
 
 -- a tracer is whole by the reply to Outcome alone, and out of turns by OutOfTurns alone

@@ -8,10 +8,10 @@ use Rattle.lx_abi.specs.declared.ptrace.Request.TheVariants.{Wait, To}
 use Rattle.pt_model.specs.Ptrace.{Host, host_turn}
 use Rattle.pt_model.specs.Requests.{esrch, eio, echild, einval, serve}
 use Rattle.pt_model.specs.World.{first_world}
-use Rattle.pt_model.specs.Tiny.{Shares, Body, tiny, tiny_outcome, body, nothing_yet}
+use Rattle.pt_model.specs.Tiny.{Shares, UserState, tiny, tiny_outcome, user, nothing_yet}
 
 abbrev pub Tiny_host : Type 0
-Tiny_host = Host Shares Body
+Tiny_host = Host Shares UserState
 
 abbrev pub says : Tiny_host → Request → Option Reply
 says h q = (serve tiny tiny_outcome h q).reply
@@ -32,7 +32,7 @@ waited h = after h Wait
 
 -- process 1 before Seize, seized, at its first entry stop, and at that call's exit stop
 abbrev pub booted : List ℕ → Tiny_host
-booted program = (first_world nothing_yet (body program)).host
+booted program = (first_world nothing_yet (user program)).host
 
 abbrev pub seized : ℕ → List ℕ → Tiny_host
 seized options program = after (booted program) (To 1 (Seize options))

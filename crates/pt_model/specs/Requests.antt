@@ -17,8 +17,8 @@ use Rattle.lx_abi.specs.declared.status.Stop.TheVariants.{Syscall as Syscall_sto
 use Rattle.lx_abi.specs.Status.{word_of}
 use Rattle.lx_model.specs.Machine.{Machine}
 use Rattle.lx_model.specs.declared.stage.Stage.{Stage}
-use Rattle.lx_model.specs.declared.stage.Own.{Own}
-use Rattle.lx_model.specs.declared.stage.Own.TheVariants.{Alive, Dying, Gone}
+use Rattle.lx_model.specs.declared.stage.Task.{Task}
+use Rattle.lx_model.specs.declared.stage.Task.TheVariants.{Alive, Dying, Gone}
 use Rattle.lx_model.specs.Kernel.{put}
 use Rattle.lx_model.specs.Rows.{row}
 use Rattle.pt_model.specs.Ptrace.{Watch, watch_of, Proc, Report, Host}
@@ -96,7 +96,7 @@ says t r = record { proc = t; reply = r; seized = false }
 
 -- it is let go, from this stage
 abbrev pub let_go : {B : Type 0} → Proc B → B → Stage → Answered B
-let_go t b stage = says (record { own = Alive b stage; held = false; watch = t.watch }) Agreed
+let_go t b stage = says (record { task = Alive b stage; held = false; watch = t.watch }) Agreed
 
 -- Syscall: where it may not be let go, EIO
 abbrev pub goes_from : {B : Type 0} → Proc B → B → Option Stage → Answered B
@@ -112,7 +112,7 @@ peeked (x ∷ bytes) = Bytes_are (x ∷ bytes)
 
 abbrev pub set_options : {B : Type 0} → Proc B → Option Watch → Answered B
 set_options t None = says t einval
-set_options t (Some w) = says (record { own = t.own; held = t.held; watch = Some w }) Agreed
+set_options t (Some w) = says (record { task = t.task; held = t.held; watch = Some w }) Agreed
 
 -- a held tracee that lives; its message is EventMsg's
 abbrev pub stopped : {S B : Type 0} → Machine S B → Proc B → B → Stage → ℕ → Ask → Answered B
@@ -120,7 +120,7 @@ stopped m t b stage message (Seize options) = says t esrch
 stopped m t b stage message (SetOptions options) = set_options t (watch_of options)
 stopped m t b stage message GetRegs = says t (Registers_are (m.regs b))
 stopped m t b stage message (SetRegs r) =
-    says (record { own = Alive (m.with_regs b r) stage; held = t.held; watch = t.watch }) Agreed
+    says (record { task = Alive (m.with_regs b r) stage; held = t.held; watch = t.watch }) Agreed
 stopped m t b stage message (Peek address length) =
     says t (cond (may_peek length) (peeked (m.peek b address length)) einval)
 stopped m t b stage message (Syscall n) = goes_from t b ((row stage).resume n)
@@ -130,7 +130,7 @@ stopped m t b stage message SigInfo = says t (info_at stage)
 abbrev pub seize : {B : Type 0} → Proc B → Option Watch → Answered B
 seize t None = says t einval
 seize t (Some w) = record {
-  proc = record { own = t.own; held = t.held; watch = Some w };
+  proc = record { task = t.task; held = t.held; watch = Some w };
   reply = Agreed;
   seized = true;
 }
@@ -147,15 +147,15 @@ unseized t EventMsg = says t esrch
 unseized t SigInfo = says t esrch
 
 -- ESRCH comes before any other refusal: the process is not held, not a tracee, or ending
-abbrev pub answer_at : {S B : Type 0} → Machine S B → ℕ → Proc B → Bool → Option Watch → Own B → Ask → Answered B
+abbrev pub answer_at : {S B : Type 0} → Machine S B → ℕ → Proc B → Bool → Option Watch → Task B → Ask → Answered B
 answer_at m message t true (Some w) (Alive b stage) q = stopped m t b stage message q
 answer_at m message t true (Some w) (Dying word) q = says t esrch
 answer_at m message t true (Some w) Gone q = says t esrch
-answer_at m message t true None own q = unseized t q
-answer_at m message t false w own q = says t esrch
+answer_at m message t true None task q = unseized t q
+answer_at m message t false w task q = says t esrch
 
 abbrev pub answer : {S B : Type 0} → Machine S B → ℕ → Proc B → Ask → Answered B
-answer m message t q = answer_at m message t t.held t.watch t.own q
+answer m message t q = answer_at m message t t.held t.watch t.task q
 
 abbrev pub answered : {S B : Type 0} → Host S B → ℕ → Answered B → Host S B
 answered h p a = record {
@@ -186,7 +186,7 @@ take_report h rest p (Signal_stop signal) = with_queue h rest
 take_report h rest p (Event_stop event) = with_queue h rest
 take_report h rest p (Ended word) = record {
   shared = h.shared;
-  procs = put h.procs p (record { own = (h.procs p).own; held = false; watch = (h.procs p).watch });
+  procs = put h.procs p (record { task = (h.procs p).task; held = false; watch = (h.procs p).watch });
   queue = rest;
   tracees = filter (λ q. not (p == q)) h.tracees;
   messages = h.messages;

@@ -8,7 +8,7 @@ use Rattle.pt_model.specs.Parts.{Half, Options, Part, Part_enter, Part_done, Par
 use Rattle.pt_model.specs.World.{World, End, Whole, Events_used_up, end_of}
 use Rattle.lx_model.specs.Machine.{IsMachine}
 use Rattle.pt_model.specs.Headline.{IsTold, IsTexts, IsScript, traced_run, plain_run}
-use Rattle.pt_model.specs.Tiny.{Shares, Body, tiny, tiny_outcome, body, nothing_yet, usr1}
+use Rattle.pt_model.specs.Tiny.{Shares, UserState, tiny, tiny_outcome, user, nothing_yet, usr1}
 
 -- a text reads one byte string, and is it
 abbrev pub reads_once : Half → List (List ℕ) → Option (ℕ × ℕ)
@@ -47,8 +47,8 @@ times (suc n) es = es ++ times n es
 abbrev pub rounds : ℕ → List Event
 rounds n = times n (Serve ∷ Turn 1 ∷ Serve ∷ Serve ∷ Turn 2 ∷ Serve ∷ [])
 
-abbrev pub traced : Bool → List ℕ → ℕ → World Shares Body
-traced follow program n = traced_run tiny tiny_outcome (options follow) script nothing_yet (body program) (rounds n)
+abbrev pub traced : Bool → List ℕ → ℕ → World Shares UserState
+traced follow program n = traced_run tiny tiny_outcome (options follow) script nothing_yet (user program) (rounds n)
 
 abbrev pub to_number : Bool → ℕ
 to_number true = 1
@@ -61,10 +61,10 @@ brief (Part_done p c x replaced text) = (1, p, x, to_number replaced)
 brief (Part_signal p i) = (2, p, i.signal, i.address)
 brief (Part_exit p w) = (3, p, w, 0)
 
-abbrev pub told : World Shares Body → List (ℕ × ℕ × ℕ × ℕ)
+abbrev pub told : World Shares UserState → List (ℕ × ℕ × ℕ × ℕ)
 told w = map brief w.printed
 
-abbrev pub ends : World Shares Body → End
+abbrev pub ends : World Shares UserState → End
 ends w = end_of w.tracer.focus
 
 -- writes of 7 and of 8, and an exit with 3
@@ -84,7 +84,7 @@ pub record RunsOfTiny : Type 0 where
   pub replaced_outcome : ends (traced false writes 40)
       ≡ Whole (record { console = 7 ∷ []; files = []; ended = record { pid = 1; word = 768 } ∷ [] })
   pub plain_outcome :
-      tiny_outcome (plain_run tiny tiny_outcome (options false) script nothing_yet (body writes) (rounds 40)).shared
+      tiny_outcome (plain_run tiny tiny_outcome (options false) script nothing_yet (user writes) (rounds 40)).shared
       ≡ record { console = 7 ∷ []; files = []; ended = record { pid = 1; word = 768 } ∷ [] }
   -- the events are used up before the end
   pub used_up : ends (traced false writes 7) ≡ Events_used_up

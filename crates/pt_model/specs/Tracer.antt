@@ -12,7 +12,7 @@ use Rattle.pt_model.specs.Admissible.{stop_fits, admits_answer}
 use Rattle.pt_model.specs.Parts.{Options, Part}
 use Rattle.pt_model.specs.Ptrace.{is_there}
 pub use Rattle.pt_model.specs.Known.{Known, opened, closed, stands_at, turned_over, new_known}
-pub use Rattle.pt_model.specs.Hearing.{Place, Seizing, Entry_regs, Entry_peek, Entry_set, Exit_regs, Exit_set, Exit_peek}
+pub use Rattle.pt_model.specs.Hearing.{Awaiting, Seizing, Entry_regs, Entry_peek, Entry_set, Exit_regs, Exit_set, Exit_peek}
 pub use Rattle.pt_model.specs.Hearing.{Signal_info, Resuming, options_word, asks, Heard, nothing, moves, signal_word}
 pub use Rattle.pt_model.specs.Hearing.{entry_with, entry_by, entry, look_entry, read_entry}
 pub use Rattle.pt_model.specs.Hearing.{exit, look_exit, read_exit, exit_with, regs_in, bytes_of, told_info, says_done}

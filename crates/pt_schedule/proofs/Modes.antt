@@ -4,14 +4,14 @@ use Rattle.std.specs.Prelude.{◌==◌, ◌||◌}
 use Rattle.std.proofs.lemmas.Bool.Decides.{nat_tests}
 use Rattle.lx_abi.specs.declared.log.Mode.{Mode}
 use Rattle.lx_abi.specs.declared.log.Mode.TheVariants as mode
-use Rattle.lx_model.specs.declared.stage.Own.{Own}
-use Rattle.lx_model.specs.declared.stage.Own.TheVariants.{Alive, Dying, Gone}
-use Rattle.lx_model.specs.Finite.{own_mode}
-use Rattle.lx_proc.specs.declared.state.Body.{Body}
+use Rattle.lx_model.specs.declared.stage.Task.{Task}
+use Rattle.lx_model.specs.declared.stage.Task.TheVariants.{Alive, Dying, Gone}
+use Rattle.lx_model.specs.Finite.{task_mode}
+use Rattle.lx_proc.specs.declared.state.UserState.{UserState}
 use Rattle.lx_proc.specs.declared.state.Entry.{Entry}
 use Rattle.lx_proc.specs.declared.state.Life.{Life}
 use Rattle.lx_proc.specs.declared.state.Life.TheVariants as life
-use Rattle.lx_turn.specs.Modes.{life_mode, own_mode as kernel_mode}
+use Rattle.lx_turn.specs.Modes.{life_mode, task_mode as kernel_mode}
 use Rattle.pt_schedule.specs.Modes.{is_finished, mode_number, is_run, same_mode, moves}
 
 mode_of : ℕ → Option Mode
@@ -68,7 +68,7 @@ buried_finished e (life.Dying x) = refl
 buried_finished e (life.Zombie x) = refl
 
 -- no zombie is at the end of a call
-pub finished_by_mode : (x : Option Entry) (own : Own Body) → is_finished (kernel_mode x own) ≡ is_finished (own_mode own)
+pub finished_by_mode : (x : Option Entry) (task : Task UserState) → is_finished (kernel_mode x task) ≡ is_finished (task_mode task)
 finished_by_mode x (Alive b stage) = refl
 finished_by_mode x (Dying w) = refl
 finished_by_mode None Gone = refl

@@ -12,7 +12,7 @@ use Rattle.pt_schedule.specs.declared.schedule.Order.TheVariants as order
 use Rattle.pt_schedule.specs.declared.schedule.Schedule.{Schedule}
 use Rattle.pt_schedule.specs.declared.schedule.TurnRun.{TurnRun}
 use Rattle.pt_schedule.specs.Cycle.{next_able}
-use Rattle.pt_schedule.specs.Schedules.{Sight, Given, turn_with, turn_of, next_row, by_word, serve_of, end_of, go_on, after_serves, next_worded, next_by, next_of, left_in, events_left}
+use Rattle.pt_schedule.specs.Schedules.{Readiness, Given, turn_with, turn_of, next_row, by_word, serve_of, end_of, go_on, after_serves, next_worded, next_by, next_of, left_in, events_left}
 use Rattle.pt_schedule.specs.Rows.{by_row, by_return, by_either, by_last, run_by, run_of, row_after, worded_after, order_after, after_turns, Continues, GivesRun, RunsAreTurns}
 
 abbrev worded_by : List Word → Bool → Option Returning → Option Row → ℕ → Worded
@@ -22,7 +22,7 @@ abbrev gives : Worded → ℕ → Given Worded
 gives w p = record { event = Some (Turn p); schedule = worded_after w 1 }
 
 record GivesIn (w : Worded) (p n : ℕ) : Type 0 where
-  next : (seen : Sight) → Continues seen p → next_worded w seen ≡ gives w p
+  next : (seen : Readiness) → Continues seen p → next_worded w seen ≡ gives w p
   rest : by_last (worded_after w 1) (worded_after w 1).row ≡ Some (record { pid = p; turns = n - 1 })
 
 some_left : (n : ℕ) → 0 < n → (n == 0) ≡ false
@@ -48,7 +48,7 @@ equal_pid p = grind (arith, nat_tests)
 abbrev at_row : Row → ℕ → Worded
 at_row r left = worded_by [] true None (Some r) left
 
-row_given : (r : Row) (left : ℕ) (seen : Sight) (z ready able more : Bool) → z ≡ false → ready ≡ false → able ≡ true → more ≡ true →
+row_given : (r : Row) (left : ℕ) (seen : Readiness) (z ready able more : Bool) → z ≡ false → ready ≡ false → able ≡ true → more ≡ true →
     cond z (end_of (at_row r left)) (cond (true && ready) (serve_of (at_row r left)) (cond ready (serve_of (at_row r left)) (cond (able && more) (turn_with (at_row r left) r.pid (r.left - 1)) (next_row (at_row r left) (next_able seen.able r.pid)))))
     ≡ gives (at_row r left) r.pid
 row_given r left seen true ready able more e f g k = absurd (cc e)
@@ -72,7 +72,7 @@ at_return words serving t r left = worded_by words serving (Some t) (Some r) lef
 abbrev again : List Word → Bool → Returning → Row → ℕ → Bool → ℕ → Given Worded
 again words serving t r left finished n = record { event = Some (Turn t.pid); schedule = worded_by words serving (Some (record t { finished = finished })) (Some (record { pid = t.pid; left = n })) (left - 1) }
 
-return_given : (words : List Word) (serving : Bool) (t : Returning) (r : Row) (left : ℕ) (seen : Sight) (z ready able began ends same : Bool) →
+return_given : (words : List Word) (serving : Bool) (t : Returning) (r : Row) (left : ℕ) (seen : Readiness) (z ready able began ends same : Bool) →
     z ≡ false → ready ≡ false → able ≡ true → began ≡ false → same ≡ true →
     cond z (end_of (at_return words serving t r left)) (cond (serving && ready) (serve_of (at_return words serving t r left)) (cond (able && not (began && not ends)) (again words serving t r left ends (cond same (r.left - 1) 999)) (by_word (at_return words serving t r left) seen words)))
     ≡ again words serving t r left ends (r.left - 1)

@@ -5,11 +5,11 @@ use Rattle.lx_abi.specs.declared.schedule.Word.{Word}
 use Rattle.pt_schedule.specs.declared.schedule.Listed.{Listed}
 use Rattle.pt_schedule.specs.declared.schedule.Order.TheVariants as order
 use Rattle.pt_schedule.specs.declared.schedule.Schedule.{Schedule}
-use Rattle.pt_schedule.specs.Schedules.{Sight, next_of, events_left, listed, worded, most_events}
+use Rattle.pt_schedule.specs.Schedules.{Readiness, next_of, events_left, listed, worded, most_events}
 
 -- an event that is given leaves one less to come
 abbrev pub EventsAreFew : Type 0
-EventsAreFew = (s : Schedule) (seen : Sight) (e : Event) → (next_of s seen).event ≡ Some e →
+EventsAreFew = (s : Schedule) (seen : Readiness) (e : Event) → (next_of s seen).event ≡ Some e →
     events_left (next_of s seen).schedule + 1 ≡ events_left s
 
 -- and at first there are so many at most
@@ -26,6 +26,6 @@ abbrev pub some_listed : List Event → ℕ → Schedule
 some_listed es left = record { order = order.Listed (record { events = es; left = left }) }
 
 abbrev pub ListsGiveTheirEvents : Type 0
-ListsGiveTheirEvents = (e : Event) (es : List Event) (n : ℕ) (seen : Sight) →
+ListsGiveTheirEvents = (e : Event) (es : List Event) (n : ℕ) (seen : Readiness) →
     ((next_of (some_listed (e ∷ es) (suc n)) seen).event ≡ Some e)
     × ((next_of (some_listed (e ∷ es) (suc n)) seen).schedule ≡ some_listed es n)

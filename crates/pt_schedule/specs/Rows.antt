@@ -9,7 +9,7 @@ use Rattle.pt_schedule.specs.declared.schedule.TurnRun.{TurnRun}
 use Rattle.pt_schedule.specs.declared.worded.Returning.{Returning}
 use Rattle.pt_schedule.specs.declared.worded.Row.{Row}
 use Rattle.pt_schedule.specs.declared.worded.Worded.{Worded}
-use Rattle.pt_schedule.specs.Schedules.{Sight, next_of}
+use Rattle.pt_schedule.specs.Schedules.{Readiness, next_of}
 
 -- What is told
 
@@ -56,14 +56,14 @@ after_turns s n = record { order = order_after s.order n }
 -- The law
 
 -- the process can have another turn, and nothing else comes before
-pub record Continues (seen : Sight) (p : ℕ) : Type 0 where
+pub record Continues (seen : Readiness) (p : ℕ) : Type 0 where
   pub waits : seen.ready ≡ false
   pub able : seen.able p ≡ true
   pub within : seen.finished p ≡ false
 
 -- a schedule that tells of turns gives them one by one
 pub record GivesRun (s : Schedule) (r : TurnRun) : Type 0 where
-  pub next : (seen : Sight) → Continues seen r.pid → next_of s seen ≡ record { event = Some (Turn r.pid); schedule = after_turns s 1 }
+  pub next : (seen : Readiness) → Continues seen r.pid → next_of s seen ≡ record { event = Some (Turn r.pid); schedule = after_turns s 1 }
   pub rest : run_of (after_turns s 1) ≡ Some (record { pid = r.pid; turns = r.turns - 1 })
 
 abbrev pub RunsAreTurns : Type 0

@@ -16,7 +16,7 @@ use Rattle.pt_schedule.specs.declared.schedule.Order.TheVariants as order
 use Rattle.pt_schedule.specs.declared.schedule.Schedule.{Schedule}
 
 -- what a schedule sees of a host
-pub record Sight : Type 0 where
+pub record Readiness : Type 0 where
   -- a request is pending, and would be answered
   pub ready : Bool
   -- a turn of the process would run an instruction or change its mode
@@ -77,16 +77,16 @@ next_row w None = end_of w
 next_row w (Some p) = turn_with w p (most_in_a_row - 1)
 
 -- the row goes on where its process is able and had fewer turns than a row may have
-abbrev pub go_on : Worded → Sight → Option Row → Given Worded
+abbrev pub go_on : Worded → Readiness → Option Row → Given Worded
 go_on w seen None = next_row w (next_able seen.able 0)
 go_on w seen (Some r) = cond (seen.able r.pid && nat_lt 0 r.left) (turn_with w r.pid (r.left - 1)) (next_row w (next_able seen.able r.pid))
 
-abbrev pub by_default : Worded → Sight → Given Worded
+abbrev pub by_default : Worded → Readiness → Given Worded
 by_default w seen = cond seen.ready (serve_of w) (go_on w seen w.row)
 
 -- `p`: a turn, then requests are served while one is ready; `-p`: a turn alone; `s`: a request is served;
 -- `p.`: as `p`, until a call of p has left Finished, or p isn't able
-abbrev pub by_word : Worded → Sight → List Word → Given Worded
+abbrev pub by_word : Worded → Readiness → List Word → Given Worded
 by_word w seen [] = by_default (record w { serving = true; returning = None }) seen
 by_word w seen (word.Turn p ∷ ws) = turn_of (record w { words = ws; serving = true; returning = None }) p
 by_word w seen (word.TurnAlone p ∷ ws) = turn_of (record w { words = ws; serving = false; returning = None }) p
@@ -94,14 +94,14 @@ by_word w seen (word.Serve ∷ ws) = serve_of (record w { words = ws; serving = 
 by_word w seen (word.UntilReturn p ∷ ws) = turn_of (record w { words = ws; serving = true; returning = Some (record { pid = p; finished = seen.finished p }) }) p
 
 -- `p.` goes on: p is able, and its last turn has not left Finished
-abbrev pub goes_on : Sight → Returning → Bool
+abbrev pub goes_on : Readiness → Returning → Bool
 goes_on seen r = seen.able r.pid && not (r.finished && not (seen.finished r.pid))
 
-abbrev pub after_serves : Worded → Sight → Option Returning → Given Worded
+abbrev pub after_serves : Worded → Readiness → Option Returning → Given Worded
 after_serves w seen None = by_word w seen w.words
 after_serves w seen (Some r) = cond (goes_on seen r) (turn_of (record w { returning = Some (record r { finished = seen.finished r.pid }) }) r.pid) (by_word w seen w.words)
 
-abbrev pub next_worded : Worded → Sight → Given Worded
+abbrev pub next_worded : Worded → Readiness → Given Worded
 next_worded w seen = cond (w.left == 0) (end_of w) (cond (w.serving && seen.ready) (serve_of w) (after_serves w seen w.returning))
 
 -- A list of events gives these
@@ -118,12 +118,12 @@ next_listed l = cond (l.left == 0) (record { event = None; schedule = l }) (firs
 abbrev pub with_order : {S : Type 0} → Given S → (S → Order) → Given Schedule
 with_order g f = record { event = g.event; schedule = record { order = f g.schedule } }
 
-unfoldable pub next_by : Order → Sight → Given Schedule
+unfoldable pub next_by : Order → Readiness → Given Schedule
 next_by (order.Listed l) seen = with_order (next_listed l) (λ x. order.Listed x)
 next_by (order.Worded w) seen = with_order (next_worded w seen) (λ x. order.Worded x)
 
 -- the next event of a schedule, as the host stands
-abbrev pub next_of : Schedule → Sight → Given Schedule
+abbrev pub next_of : Schedule → Readiness → Given Schedule
 next_of s seen = next_by s.order seen
 
 -- how many events a schedule may still give
@@ -153,5 +153,5 @@ abbrev pub given_turn : Given Schedule → GivenTurn
 given_turn g = record { pid = turn_given g.event; schedule = g.schedule }
 
 -- the pid of the next turn
-abbrev pub next_turn_of : Schedule → Sight → GivenTurn
+abbrev pub next_turn_of : Schedule → Readiness → GivenTurn
 next_turn_of s seen = given_turn (next_by (unserved s.order) seen)

@@ -3,14 +3,14 @@
 ghost use Rattle.std.specs.Prelude.{◌≡◌, ◌-◌, ◌+◌, ◌≤◌, ◌<◌};
 ghost use Rattle.pt_schedule.specs.Cycle.{first_able, next_able};
 
-use crate::system::System;
+use crate::system::Schedulable;
 use lx_proc::LAST_PID;
 
 /// The first of the pids from one up to before another that is able.
-fn first_able<S: System>(system: &S, from: u32, end: u32) -> Option<u32>
+fn first_able<S: Schedulable>(system: &S, from: u32, end: u32) -> Option<u32>
     requires above { 0 < from }
     requires below { from ≤ end }
-    ensures { result ≡ first_able (S.sight system.now).able from (end - from) }
+    ensures { result ≡ first_able (S.readiness system.now).able from (end - from) }
 {
     let mut passed = from - 1;
     while let Some(pid) = system.next_after(passed) {
@@ -27,8 +27,8 @@ fn first_able<S: System>(system: &S, from: u32, end: u32) -> Option<u32>
 
 /// The next able pid after this one, in cyclic order.
 #[tactic(auto, unfolding(crate::specs::Cycle::next_able))]
-pub fn next_able<S: System>(system: &S, last: u32) -> Option<u32>
-    ensures { result ≡ next_able (S.sight system.now).able last }
+pub fn next_able<S: Schedulable>(system: &S, last: u32) -> Option<u32>
+    ensures { result ≡ next_able (S.readiness system.now).able last }
 {
     let below = last.min(LAST_PID);
     match first_able(system, below + 1, LAST_PID + 1) {

@@ -9,6 +9,6 @@ pub mod system;
 mod untraced;
 mod worded;
 
-pub use queue::Queue;
+pub use queue::TurnQueue;
 pub use schedule::{Schedule, TurnRun};
-pub use system::System;
+pub use system::Schedulable;

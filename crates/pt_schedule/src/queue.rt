@@ -10,11 +10,11 @@ use std::marker::Model;
 
 /// A queue, which contracts see as the list of its values, the first to leave first.
 #[derive(Drop)]
-pub struct Queue<V> {
+pub struct TurnQueue<V> {
     items: VecDeque<V>,
 }
 
-impl<V> Model for Queue<V> {
+impl<V> Model for TurnQueue<V> {
     ghost use Rattle.std.specs.Prelude.{List};
 
     ghost Value = { List V };
@@ -22,11 +22,11 @@ impl<V> Model for Queue<V> {
     ghost view = { λ q. q.items.items };
 }
 
-impl<V> Queue<V> {
+impl<V> TurnQueue<V> {
     pub fn from_vec(items: Vec<V>) -> Self
         ensures { result ≡ items.items }
     {
-        Queue {
+        TurnQueue {
             items: VecDeque::from_vec(items),
         }
     }
@@ -39,7 +39,7 @@ impl<V> Queue<V> {
     }
 }
 
-impl<V: Copy> Queue<V> {
+impl<V: Copy> TurnQueue<V> {
     /// The first value.
     pub fn first(&self) -> Option<V>
         ensures { result ≡ slice_get self.now 0 }
@@ -48,7 +48,7 @@ impl<V: Copy> Queue<V> {
     }
 }
 
-impl Queue<Event> {
+impl TurnQueue<Event> {
     /// The events before the next turn leave.
     pub fn pass_serves(&mut self)
         ensures { self.new ≡ turns_from self.old }
@@ -65,7 +65,7 @@ impl Queue<Event> {
     }
 }
 
-impl Queue<Word> {
+impl TurnQueue<Word> {
     /// The words before the next turn leave.
     pub fn pass_serves(&mut self)
         ensures { self.new ≡ from_turn self.old }

@@ -5,10 +5,10 @@ ghost use Rattle.lx_abi.specs.Words.{words_of, IsRefusal};
 ghost use Rattle.pt_schedule.specs.Turns.{turns_from};
 ghost use Rattle.pt_schedule.specs.Schedules.{most_events, next_listed, next_of, listed, worded, scheduled, unserved, next_turn_of};
 ghost use Rattle.pt_schedule.specs.Rows.{run_of, after_turns};
-ghost use Rattle.pt_schedule.specs.Untraced.{sight_of};
+ghost use Rattle.pt_schedule.specs.Untraced.{readiness_of};
 
-use crate::queue::Queue;
-use crate::system::System;
+use crate::queue::TurnQueue;
+use crate::system::Schedulable;
 use crate::worded::Worded;
 use lx_abi::{Event, ScheduleFault, Word, parse_words};
 use lx_kernel::Kernel;
@@ -27,7 +27,7 @@ pub struct TurnRun {
 /// Exactly these events.
 #[derive(Drop)]
 struct Listed {
-    events: Queue<Event>,
+    events: TurnQueue<Event>,
     left: u64,
 }
 
@@ -77,7 +77,7 @@ impl Schedule {
     {
         Schedule {
             order: Order::Listed(Listed {
-                events: Queue::from_vec(events),
+                events: TurnQueue::from_vec(events),
                 left: MOST_EVENTS,
             }),
         }
@@ -89,7 +89,7 @@ impl Schedule {
     {
         Schedule {
             order: Order::Worded(Worded {
-                words: Queue::from_vec(words),
+                words: TurnQueue::from_vec(words),
                 serving: true,
                 returning: None,
                 row: None,
@@ -110,8 +110,8 @@ impl Schedule {
 
     /// The next event; none where the schedule has ended, which is for good.
     #[tactic(auto, unfolding(crate::specs::Schedules::next_by))]
-    pub fn next<S: System>(&mut self, system: &S) -> Option<Event>
-        ensures { record { event = result; schedule = self.new } ≡ next_of self.old (S.sight system.now) }
+    pub fn next<S: Schedulable>(&mut self, system: &S) -> Option<Event>
+        ensures { record { event = result; schedule = self.new } ≡ next_of self.old (S.readiness system.now) }
     {
         match &mut self.order {
             Order::Listed(listed) => listed.next(),
@@ -132,7 +132,7 @@ impl Schedule {
 
     /// The process that has the next turn of a kernel without a tracer; none where the schedule has ended.
     pub fn next_plain(&mut self, kernel: &Kernel) -> Option<u32>
-        ensures { record { pid = result; schedule = self.new } ≡ next_turn_of self.old (sight_of kernel.now) }
+        ensures { record { pid = result; schedule = self.new } ≡ next_turn_of self.old (readiness_of kernel.now) }
     {
         self.pass_serves();
         match self.next(kernel) {

@@ -3,7 +3,7 @@
 ghost use Rattle.std.specs.Prelude.{◌≡◌};
 ghost use Rattle.pt_schedule.specs.Modes.{is_finished};
 
-use crate::system::System;
+use crate::system::Schedulable;
 use lx_abi::Mode;
 use lx_kernel::Kernel;
 
@@ -14,10 +14,10 @@ fn is_finished(mode: Option<Mode>) -> bool
     matches!(mode, Some(Mode::Finished))
 }
 
-impl System for Kernel {
-    ghost use Rattle.pt_schedule.specs.Untraced.{sight_of};
+impl Schedulable for Kernel {
+    ghost use Rattle.pt_schedule.specs.Untraced.{readiness_of};
 
-    ghost sight = { sight_of };
+    ghost readiness = { readiness_of };
 
     fn is_ready(&self) -> bool {
         false

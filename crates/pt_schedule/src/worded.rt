@@ -6,9 +6,9 @@ ghost use Rattle.pt_schedule.specs.Turns.{from_turn};
 ghost use Rattle.pt_schedule.specs.Rows.{by_row, by_return, by_either, by_last, row_after, worded_after};
 
 use crate::cycle::next_able;
-use crate::queue::Queue;
+use crate::queue::TurnQueue;
 use crate::schedule::TurnRun;
-use crate::system::System;
+use crate::system::Schedulable;
 use lx_abi::{Event, Word};
 
 /// The most turns in a row that one process has while another is able.
@@ -31,7 +31,7 @@ pub struct Returning {
 /// Words, and then the default schedule.
 #[derive(Drop)]
 pub struct Worded {
-    pub words: Queue<Word>,
+    pub words: TurnQueue<Word>,
     /// Requests are served while one is ready.
     pub serving: bool,
     pub returning: Option<Returning>,
@@ -88,9 +88,9 @@ impl Worded {
     }
 
     /// A turn by the default schedule.
-    fn go_on<S: System>(&mut self, system: &S) -> Option<Event>
+    fn go_on<S: Schedulable>(&mut self, system: &S) -> Option<Event>
         requires { 0 < self.old.left }
-        ensures { record { event = result; schedule = self.new } ≡ go_on self.old (S.sight system.now) self.old.row }
+        ensures { record { event = result; schedule = self.new } ≡ go_on self.old (S.readiness system.now) self.old.row }
     {
         match self.row {
             None => self.next_row(next_able(system, 0)),
@@ -104,9 +104,9 @@ impl Worded {
         }
     }
 
-    fn next_by_default<S: System>(&mut self, system: &S) -> Option<Event>
+    fn next_by_default<S: Schedulable>(&mut self, system: &S) -> Option<Event>
         requires { 0 < self.old.left }
-        ensures { record { event = result; schedule = self.new } ≡ by_default self.old (S.sight system.now) }
+        ensures { record { event = result; schedule = self.new } ≡ by_default self.old (S.readiness system.now) }
     {
         if system.is_ready() {
             self.serve()
@@ -132,9 +132,9 @@ impl Worded {
     }
 
     /// The next word begins.
-    fn next_word<S: System>(&mut self, system: &S) -> Option<Event>
+    fn next_word<S: Schedulable>(&mut self, system: &S) -> Option<Event>
         requires { 0 < self.old.left }
-        ensures { record { event = result; schedule = self.new } ≡ by_word self.old (S.sight system.now) self.old.words }
+        ensures { record { event = result; schedule = self.new } ≡ by_word self.old (S.readiness system.now) self.old.words }
     {
         match self.words.pop() {
             None => {
@@ -157,9 +157,9 @@ impl Worded {
     }
 
     /// What comes once requests were served.
-    fn after_serves<S: System>(&mut self, system: &S) -> Option<Event>
+    fn after_serves<S: Schedulable>(&mut self, system: &S) -> Option<Event>
         requires { 0 < self.old.left }
-        ensures { record { event = result; schedule = self.new } ≡ after_serves self.old (S.sight system.now) self.old.returning }
+        ensures { record { event = result; schedule = self.new } ≡ after_serves self.old (S.readiness system.now) self.old.returning }
     {
         match self.returning {
             Some(Returning { pid, finished }) if goes_on(system, pid, finished) => {
@@ -171,8 +171,8 @@ impl Worded {
         }
     }
 
-    pub fn next<S: System>(&mut self, system: &S) -> Option<Event>
-        ensures { record { event = result; schedule = self.new } ≡ next_worded self.old (S.sight system.now) }
+    pub fn next<S: Schedulable>(&mut self, system: &S) -> Option<Event>
+        ensures { record { event = result; schedule = self.new } ≡ next_worded self.old (S.readiness system.now) }
     {
         if self.left == 0 {
             return None;
@@ -262,8 +262,8 @@ fn row_after(turns: u64, row: Option<Row>) -> Option<Row>
 }
 
 /// A word `p.` goes on.
-fn goes_on<S: System>(system: &S, pid: u32, finished: bool) -> bool
-    ensures { result ≡ goes_on (S.sight system.now) (record { pid = pid; finished = finished }) }
+fn goes_on<S: Schedulable>(system: &S, pid: u32, finished: bool) -> bool
+    ensures { result ≡ goes_on (S.readiness system.now) (record { pid = pid; finished = finished }) }
 {
     system.is_able(pid) && !(finished && !system.has_finished(pid))
 }

@@ -14,7 +14,7 @@ use Rattle.std.proofs.lemmas.Option.{slice_get-get_or}
 use Rattle.std.proofs.Math.ListN.{get_or-map}
 use Rattle.std.proofs.lemmas.List.{get_or_append_left, length-map}
 use Rattle.std.proofs.Math.Seq.{get_or-append_seam}
-use Rattle.rv_asm.specs.Codes.{Place, place_named}
+use Rattle.rv_asm.specs.Codes.{Location, place_named}
 use Rattle.rv_asm.specs.Labels.{number_of, IsIndex}
 use Rattle.rv_syntax.specs.Text.{is_text}
 
@@ -112,32 +112,32 @@ module _ {K : Type 0} (text : K → List ℕ) where
 
 -- ---- labels
 
-step : (b : Bool) (q : Place) (x y r : Option Place) → x ≡ option_or y r → (if b then Some q else x) ≡ option_or (if b then Some q else y) r
+step : (b : Bool) (q : Location) (x y r : Option Location) → x ≡ option_or y r → (if b then Some q else x) ≡ option_or (if b then Some q else y) r
 step true q x y r e = refl
 step false q x y r e = e
 
-pub place_named-append : (ps : List Place) (p : Place) (w : List ℕ) → place_named (ps ++ p ∷ []) w ≡ option_or (place_named ps w) (if is_text p.name w then Some p else None)
+pub place_named-append : (ps : List Location) (p : Location) (w : List ℕ) → place_named (ps ++ p ∷ []) w ≡ option_or (place_named ps w) (if is_text p.name w then Some p else None)
 place_named-append [] p w = refl
 place_named-append (q ∷ ps) p w = step (is_text q.name w) q (place_named (ps ++ p ∷ []) w) (place_named ps w) (if is_text p.name w then Some p else None) (place_named-append ps p w)
 
-longer : (ps : List Place) (p : Place) → length (ps ++ p ∷ []) ≡ length ps + 1
+longer : (ps : List Location) (p : Location) → length (ps ++ p ∷ []) ≡ length ps + 1
 longer ps p = length-append ps (p ∷ [])
 
-within_by : (ps : List Place) (p : Place) (o : Option ℕ) (b : Bool) (i : ℕ) → ((j : ℕ) → o ≡ Some j → j < length ps) → option_or o (if b then Some (length ps) else None) ≡ Some i → i < length (ps ++ p ∷ [])
+within_by : (ps : List Location) (p : Location) (o : Option ℕ) (b : Bool) (i : ℕ) → ((j : ℕ) → o ≡ Some j → j < length ps) → option_or o (if b then Some (length ps) else None) ≡ Some i → i < length (ps ++ p ∷ [])
 within_by ps p (Some j) b i h e = let same : j ≡ i = (let f : Some j ≡ Some i = e in cc f) in omega (arith, same, h j refl, longer ps p)
 within_by ps p None true i h e = let same : length ps ≡ i = (let f : Some (length ps) ≡ Some i = e in cc f) in omega (arith, same, longer ps p)
 within_by ps p None false i h e = absurd (let never : None ≡ Some i = e in cc never)
 
-named_by : (ps : List Place) (p : Place) (o : Option ℕ) (b : Bool) (f : Option Place) → ((j : ℕ) → o ≡ Some j → j < length ps) → option_and_then (slice_get ps) o ≡ f
+named_by : (ps : List Location) (p : Location) (o : Option ℕ) (b : Bool) (f : Option Location) → ((j : ℕ) → o ≡ Some j → j < length ps) → option_and_then (slice_get ps) o ≡ f
     → option_and_then (slice_get (ps ++ p ∷ [])) (option_or o (if b then Some (length ps) else None)) ≡ option_or f (if b then Some p else None)
 named_by ps p (Some j) b f h e =
     let lt : j < length ps = h j refl in
-    slice_get-get_or (ps ++ p ∷ []) j p (omega (arith, lt, longer ps p)) ∙ ap (λ (x : Place). Some x) (get_or_append_left ps (p ∷ []) p j lt)
-    ∙ ap (λ (g : Option Place). option_or g (if b then Some p else None)) (sym (slice_get-get_or ps j p lt) ∙ e)
+    slice_get-get_or (ps ++ p ∷ []) j p (omega (arith, lt, longer ps p)) ∙ ap (λ (x : Location). Some x) (get_or_append_left ps (p ∷ []) p j lt)
+    ∙ ap (λ (g : Option Location). option_or g (if b then Some p else None)) (sym (slice_get-get_or ps j p lt) ∙ e)
 named_by ps p None true f h e =
-    slice_get-get_or (ps ++ p ∷ []) (length ps) p (omega (arith, longer ps p)) ∙ ap (λ (x : Place). Some x) (get_or-append_seam ps p [] p)
-    ∙ ap (λ (g : Option Place). option_or g (Some p)) e
-named_by ps p None false f h e = ap (λ (g : Option Place). option_or g None) e
+    slice_get-get_or (ps ++ p ∷ []) (length ps) p (omega (arith, longer ps p)) ∙ ap (λ (x : Location). Some x) (get_or-append_seam ps p [] p)
+    ∙ ap (λ (g : Option Location). option_or g (Some p)) e
+named_by ps p None false f h e = ap (λ (g : Option Location). option_or g None) e
 
 -- ---- the index
 
@@ -146,16 +146,16 @@ IsIndex-none text t empty =
     let none : (w : List ℕ) → number_of text t w ≡ None = λ w. ap (λ es. found text es w) empty in
     record {
       within = λ w i e. absurd (let never : None ≡ Some i = sym (none w) ∙ e in cc never);
-      named = λ w. ap (option_and_then (slice_get {X = Place} [])) (none w);
+      named = λ w. ap (option_and_then (slice_get {X = Location} [])) (none w);
     }
 
-pub IsIndex-same : {K : Type 0} (text : K → List ℕ) (t u : BTreeMap K ℕ) (ps : List Place) → u.entries ≡ t.entries → IsIndex text t ps → IsIndex text u ps
+pub IsIndex-same : {K : Type 0} (text : K → List ℕ) (t u : BTreeMap K ℕ) (ps : List Location) → u.entries ≡ t.entries → IsIndex text t ps → IsIndex text u ps
 IsIndex-same text t u ps same index = record {
   within = λ w i e. index.within w i (ap (λ es. found text es w) (sym same) ∙ e);
   named = λ w. ap (λ es. option_and_then (slice_get ps) (found text es w)) same ∙ index.named w;
 }
 
-pub IsIndex-push : {K : Type 0} (text : K → List ℕ) (t u : BTreeMap K ℕ) (ps : List Place) (p : Place) → IsIndex text t ps
+pub IsIndex-push : {K : Type 0} (text : K → List ℕ) (t u : BTreeMap K ℕ) (ps : List Location) (p : Location) → IsIndex text t ps
     → ((w : List ℕ) → number_of text u w ≡ option_or (number_of text t w) (if is_text p.name w then Some (length ps) else None)) → IsIndex text u (ps ++ p ∷ [])
 IsIndex-push text t u ps p index added = record {
   within = λ w i e. within_by ps p (number_of text t w) (is_text p.name w) i (index.within w) (sym (added w) ∙ e);
@@ -165,14 +165,14 @@ IsIndex-push text t u ps p index added = record {
 
 -- ---- the label of a number
 
-pub number_within : {A : Type 0} (f : A → Place) (xs : List A) (i : ℕ) → i < length (map f xs) → i < length xs
+pub number_within : {A : Type 0} (f : A → Location) (xs : List A) (i : ℕ) → i < length (map f xs) → i < length xs
 number_within f xs i lt = subst (λ n. i < n) (length-map xs f) lt
 
-label_at : {A : Type 0} (f : A → Place) (xs : List A) (i : ℕ) (x : A) → i < length xs → x ≡ get_or xs i x → Some (f x) ≡ slice_get (map f xs) i
+label_at : {A : Type 0} (f : A → Location) (xs : List A) (i : ℕ) (x : A) → i < length xs → x ≡ get_or xs i x → Some (f x) ≡ slice_get (map f xs) i
 label_at f xs i x lt is =
-    ap (λ z. Some (f z)) is ∙ ap (λ (p : Place). Some p) (sym (get_or-map f xs i x))
+    ap (λ z. Some (f z)) is ∙ ap (λ (p : Location). Some p) (sym (get_or-map f xs i x))
     ∙ sym (slice_get-get_or (map f xs) i (f x) (subst (λ n. i < n) (sym (length-map xs f)) lt))
 
-pub place_at : {A K : Type 0} (f : A → Place) (text : K → List ℕ) (t : BTreeMap K ℕ) (xs : List A) (i : ℕ) (x : A) (w : List ℕ) → IsIndex text t (map f xs) → number_of text t w ≡ Some i
+pub place_at : {A K : Type 0} (f : A → Location) (text : K → List ℕ) (t : BTreeMap K ℕ) (xs : List A) (i : ℕ) (x : A) (w : List ℕ) → IsIndex text t (map f xs) → number_of text t w ≡ Some i
     → i < length xs → x ≡ get_or xs i x → Some (f x) ≡ place_named (map f xs) w
 place_at f text t xs i x w index at lt is = label_at f xs i x lt is ∙ ap (option_and_then (slice_get (map f xs))) (sym at) ∙ index.named w

@@ -12,7 +12,7 @@ use Rattle.elf_image.specs.Images.{extent_of, IsInRange, IsLaidOut}
 use Rattle.rv_asm.specs.declared.code.Expansion.{Expansion}
 use Rattle.rv_asm.specs.declared.fault.AsmKind.{AsmKind}
 use Rattle.rv_asm.specs.declared.fault.AsmKind.TheVariants as kinds
-use Rattle.rv_asm.specs.Codes.{◌>>=◌, Place, instructions_of, words_of, size_of, bytes_of}
+use Rattle.rv_asm.specs.Codes.{◌>>=◌, Location, instructions_of, words_of, size_of, bytes_of}
 use Rattle.rv_syntax.specs.Statements.{Said}
 use Rattle.rv_asm.specs.Lines.{labels_of, body_of, statement_of}
 use Rattle.rv_asm.specs.Listing.{checked, said_bytes, is_duplicate, line_bytes, located, bytes_from, places_of, entry_of, image_at, image_of, listing_of}
@@ -29,7 +29,7 @@ passed true b w ws e = absurd cc
 passed false true w ws e = absurd cc
 passed false false w ws e = (refl, cc)
 
-statement_fits : (ps : List Place) (at : ℕ) (d : Bool) (s : Said) (ws : Expansion ℕ) → checked ps at d s ≡ Ok ws → at + length (bytes_of at s ws) ≤ 0x20000
+statement_fits : (ps : List Location) (at : ℕ) (d : Bool) (s : Said) (ws : Expansion ℕ) → checked ps at d s ≡ Ok ws → at + length (bytes_of at s ws) ≤ 0x20000
 statement_fits ps at d s ws e =
     let found = steps (instructions_of ps at s) (λ is. words_of is >>= λ w. cond d (Err kinds.Duplicate) (cond (nat_lt 0x20000 (at + size_of at s)) (Err kinds.TooLarge) (Ok w))) ws e in
     let spelled = steps (words_of found.0) (λ w. cond d (Err kinds.Duplicate) (cond (nat_lt 0x20000 (at + size_of at s)) (Err kinds.TooLarge) (Ok w))) ws found.2 in
@@ -43,7 +43,7 @@ nothing_fits : (d : Bool) (at : ℕ) (bytes : List ℕ) → at ≤ 0x20000 → �
 nothing_fits true at bytes le e = absurd cc
 nothing_fits false at bytes le e = let none : bytes ≡ [] = cc in rw none (omega arith)
 
-said_fits : (ps : List Place) (at : ℕ) (d : Bool) (o : Option Said) (bytes : List ℕ) → at ≤ 0x20000 → said_bytes ps at d o ≡ Ok bytes → at + length bytes ≤ 0x20000
+said_fits : (ps : List Location) (at : ℕ) (d : Bool) (o : Option Said) (bytes : List ℕ) → at ≤ 0x20000 → said_bytes ps at d o ≡ Ok bytes → at + length bytes ≤ 0x20000
 said_fits ps at d None bytes le e = nothing_fits d at bytes le e
 said_fits ps at d (Some s) bytes le e =
     let found = steps (checked ps at d s) (λ w. Ok (bytes_of at s w)) bytes e in
@@ -51,7 +51,7 @@ said_fits ps at d (Some s) bytes le e =
     let fits = statement_fits ps at d s found.0 found.1 in
     subst (λ (x : List ℕ). at + length x ≤ 0x20000) same fits
 
-line_fits : (ps : List Place) (at n : ℕ) (t : List ℕ) (bytes : List ℕ) → at ≤ 0x20000 → line_bytes ps at n t ≡ Ok bytes → at + length bytes ≤ 0x20000
+line_fits : (ps : List Location) (at n : ℕ) (t : List ℕ) (bytes : List ℕ) → at ≤ 0x20000 → line_bytes ps at n t ≡ Ok bytes → at + length bytes ≤ 0x20000
 unfolding line_bytes
 line_fits ps at n t bytes le e =
     let found = steps (statement_of (body_of t)) (said_bytes ps at (is_duplicate ps n (labels_of t))) bytes e in
@@ -61,7 +61,7 @@ unlocated : (n : ℕ) (r : Result (List ℕ) AsmKind) (bytes : List ℕ) → loc
 unlocated n (Ok x) bytes e = cc
 unlocated n (Err k) bytes e = absurd cc
 
-bytes_fit : (ps : List Place) (ts : List (List ℕ)) (at n : ℕ) (bytes : List ℕ) → at ≤ 0x20000 → bytes_from ps at n ts ≡ Ok bytes → at + length bytes ≤ 0x20000
+bytes_fit : (ps : List Location) (ts : List (List ℕ)) (at n : ℕ) (bytes : List ℕ) → at ≤ 0x20000 → bytes_from ps at n ts ≡ Ok bytes → at + length bytes ≤ 0x20000
 unfolding bytes_from
 bytes_fit ps [] at n bytes le e = let none : bytes ≡ [] = cc in rw none (omega arith)
 bytes_fit ps (t ∷ ts) at n bytes le e =

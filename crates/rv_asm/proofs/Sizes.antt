@@ -16,7 +16,7 @@ use Rattle.rv_syntax.specs.declared.forms.Width.TheVariants as width
 use Rattle.rv_syntax.specs.declared.numbers.Number.{Number}
 use Rattle.std.specs.Option.{option_map_or}
 use Rattle.rv_syntax.specs.Statements.{Said, Does, Sets, Branches, Jumps, Points, Numbers, Text, Space, Align}
-use Rattle.rv_asm.specs.Codes.{◌>>=◌, Place, address_of, is_signed, has_word, encoded, words_of, AllSpelled, bytes_in, padding, size_of, instructions_of, bytes_of, number_bytes, numbers_bytes, words_bytes}
+use Rattle.rv_asm.specs.Codes.{◌>>=◌, Location, address_of, is_signed, has_word, encoded, words_of, AllSpelled, bytes_in, padding, size_of, instructions_of, bytes_of, number_bytes, numbers_bytes, words_bytes}
 
 both_of : (x y : Bool) → (x && y) ≡ true → (x ≡ true) × (y ≡ true)
 both_of true y e = (refl, e)
@@ -102,7 +102,7 @@ length-numbers_bytes width.Word (n ∷ ns) = omega (arith, length-append (number
 length-numbers_bytes width.Double (n ∷ ns) = omega (arith, length-append (number_bytes width.Double n) (numbers_bytes width.Double ns), length-numbers_bytes width.Double ns)
 
 -- the bytes that stand for a statement are as many as its size says, so labels stand where they are said to
-pub sizes_agree : (ps : List Place) (at : ℕ) (s : Said) (is : Expansion Inst) (ws : Expansion ℕ) → instructions_of ps at s ≡ Ok is → words_of is ≡ Ok ws → length (bytes_of at s ws) ≡ size_of at s
+pub sizes_agree : (ps : List Location) (at : ℕ) (s : Said) (is : Expansion Inst) (ws : Expansion ℕ) → instructions_of ps at s ≡ Ok is → words_of is ≡ Ok ws → length (bytes_of at s ws) ≡ size_of at s
 unfolding instructions_of bytes_of size_of
 sizes_agree ps at (Does i) is ws found e = known_one i is ws found e
 sizes_agree ps at (Sets rd n) is ws found e = setting_long _ _ _ _ _ is ws found e

@@ -57,23 +57,23 @@ size_of at (Align n) = padding n.magnitude at
 -- ---- labels
 
 -- a label, its address, and the line that it stands on
-pub record Place : Type 0 where
+pub record Location : Type 0 where
   pub name : List ℕ
   pub address : ℕ
   pub line : ℕ
 
-abbrev pub place_of : Symbol → Place
+abbrev pub place_of : Symbol → Location
 place_of s = record { name = s.name.now; address = s.address; line = s.line }
 
 -- the first label of a name
-abbrev pub place_named : List Place → List ℕ → Option Place
+abbrev pub place_named : List Location → List ℕ → Option Location
 place_named [] w = None
 place_named (p ∷ ps) w = if is_text p.name w then Some p else place_named ps w
 
-abbrev pub address_of : List Place → List ℕ → Option ℕ
+abbrev pub address_of : List Location → List ℕ → Option ℕ
 address_of ps w = option_map (λ p. p.address) (place_named ps w)
 
-abbrev pub to_label : {A : Type 0} → List Place → List ℕ → (ℕ → Result A AsmKind) → Result A AsmKind
+abbrev pub to_label : {A : Type 0} → List Location → List ℕ → (ℕ → Result A AsmKind) → Result A AsmKind
 to_label ps label make = option_map_or make (address_of ps label) (Err Label)
 
 -- from one address to another; no instruction reaches as far as the ends
@@ -118,7 +118,7 @@ if_so true = Ok Nothing
 if_so false = Err Range
 
 -- the instructions of a statement at an address
-unfoldable pub instructions_of : List Place → ℕ → Said → Result (Expansion Inst) AsmKind
+unfoldable pub instructions_of : List Location → ℕ → Said → Result (Expansion Inst) AsmKind
 instructions_of ps at (Does i) = Ok (One i)
 instructions_of ps at (Sets rd n) = setting rd n
 instructions_of ps at (Branches condition rs1 rs2 label) =

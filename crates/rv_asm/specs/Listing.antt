@@ -9,7 +9,7 @@ use Rattle.rv_asm.specs.declared.code.Expansion.{Expansion}
 use Rattle.rv_syntax.specs.Text.{is_text}
 use Rattle.rv_syntax.specs.Statements.{Said}
 use Rattle.rv_asm.specs.Lines.{labels_of, body_of, statement_of, next_at}
-use Rattle.rv_asm.specs.Codes.{◌>>=◌, Place, place_named, address_of, size_of, instructions_of, words_of, bytes_of}
+use Rattle.rv_asm.specs.Codes.{◌>>=◌, Location, place_named, address_of, size_of, instructions_of, words_of, bytes_of}
 
 -- the number of a kind, as programs show it
 abbrev pub kind_number : AsmKind → ℕ
@@ -23,15 +23,15 @@ kind_number kinds.Memory = 7
 
 -- ---- labels
 
-abbrev pub places_at : ℕ → ℕ → List (List ℕ) → List Place
+abbrev pub places_at : ℕ → ℕ → List (List ℕ) → List Location
 places_at at line names = map (λ n. record { name = n; address = at; line = line }) names
 
 -- the labels of the lines from number n on: each stands where its line begins, which is behind the statements before it
-unfoldable pub places : ℕ → ℕ → List (List ℕ) → List Place
+unfoldable pub places : ℕ → ℕ → List (List ℕ) → List Location
 places at n [] = []
 places at n (t ∷ ts) = places_at at n (labels_of t) ++ places (next_at at (body_of t)) (n + 1) ts
 
-abbrev pub is_earlier : Option Place → ℕ → Bool
+abbrev pub is_earlier : Option Location → ℕ → Bool
 is_earlier None n = false
 is_earlier (Some p) n = nat_lt p.line n
 
@@ -41,13 +41,13 @@ repeats [] = false
 repeats (w ∷ ws) = list_any (is_text w) ws || repeats ws
 
 -- a label of line n stands on an earlier line, or twice on this one
-abbrev pub is_duplicate : List Place → ℕ → List (List ℕ) → Bool
+abbrev pub is_duplicate : List Location → ℕ → List (List ℕ) → Bool
 is_duplicate ps n names = list_any (λ w. is_earlier (place_named ps w) n) names || repeats names
 
 -- ---- bytes
 
 -- the words of a statement, or its first fault in the order of the kinds; an image ends at 0x20000 at the latest
-abbrev pub checked : List Place → ℕ → Bool → Said → Result (Expansion ℕ) AsmKind
+abbrev pub checked : List Location → ℕ → Bool → Said → Result (Expansion ℕ) AsmKind
 checked ps at duplicate s = do
   insts ← instructions_of ps at s
   words ← words_of insts
@@ -55,13 +55,13 @@ checked ps at duplicate s = do
       else (if nat_lt 0x20000 (at + size_of at s) then Err kinds.TooLarge else Ok words)
 
 -- the bytes of what a line says
-abbrev pub said_bytes : List Place → ℕ → Bool → Option Said → Result (List ℕ) AsmKind
+abbrev pub said_bytes : List Location → ℕ → Bool → Option Said → Result (List ℕ) AsmKind
 said_bytes ps at duplicate None = if duplicate then Err kinds.Duplicate else Ok []
 said_bytes ps at duplicate (Some s) = do
   words ← checked ps at duplicate s
   Ok (bytes_of at s words)
 
-unfoldable pub line_bytes : List Place → ℕ → ℕ → List ℕ → Result (List ℕ) AsmKind
+unfoldable pub line_bytes : List Location → ℕ → ℕ → List ℕ → Result (List ℕ) AsmKind
 line_bytes ps at n t = do
   s ← statement_of (body_of t)
   said_bytes ps at (is_duplicate ps n (labels_of t)) s
@@ -71,7 +71,7 @@ located n (Ok x) = Ok x
 located n (Err k) = Err (record { line = n; kind = k })
 
 -- the bytes of the lines from number n on, which begin at an address
-unfoldable pub bytes_from : List Place → ℕ → ℕ → List (List ℕ) → Result (List ℕ) AsmFault
+unfoldable pub bytes_from : List Location → ℕ → ℕ → List (List ℕ) → Result (List ℕ) AsmFault
 bytes_from ps at n [] = Ok []
 bytes_from ps at n (t ∷ ts) = do
   bytes ← located n (line_bytes ps at n t)
@@ -88,10 +88,10 @@ with_front front r = r >>= λ bytes. Ok (front ++ bytes)
 abbrev pub start : ℕ
 start = 0x10000
 
-abbrev pub places_of : List (List ℕ) → List Place
+abbrev pub places_of : List (List ℕ) → List Location
 places_of ts = places start 1 ts
 
-abbrev pub entry_of : List Place → ℕ
+abbrev pub entry_of : List Location → ℕ
 entry_of ps = unwrap_or (address_of ps (codes "_start")) start
 
 -- one segment at 0x10000, which may be read, written and executed

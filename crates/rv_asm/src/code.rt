@@ -2,7 +2,7 @@
 
 ghost use Rattle.std.specs.Prelude.{◌≡◌, ◌≤◌, ◌<◌, ◌+◌, ◌*◌, ◌++◌, ◌^◌, map, option_map, IfSome, IfOk, OnOk, Ok, ℕ, List, replicate, length};
 ghost use Rattle.std.specs.List.{list_all};
-ghost use Rattle.rv_asm.specs.Codes.{Place, bytes_in, size_of, padding, place_of, place_named, address_of, distance, upper_part, lower_part, add, setting, pointing, fits, if_so, instructions_of, encoded, words_of, is_range_kind, is_out_of_range, placed_size, AllSpelled, number_bytes, numbers_bytes, words_bytes, bytes_of};
+ghost use Rattle.rv_asm.specs.Codes.{Location, bytes_in, size_of, padding, place_of, place_named, address_of, distance, upper_part, lower_part, add, setting, pointing, fits, if_so, instructions_of, encoded, words_of, is_range_kind, is_out_of_range, placed_size, AllSpelled, number_bytes, numbers_bytes, words_bytes, bytes_of};
 ghost use Rattle.rv_syntax.specs.Statements.{Said, said};
 ghost use Rattle.rv_asm.specs.declared.code.Expansion.{Expansion};
 ghost use Rattle.rv_isa.specs.declared.inst.Inst.{Inst};
@@ -286,7 +286,7 @@ pub fn words_spell_instructions()
 /// The bytes of a statement are as many as its size says, so that a label stands where the sizes
 /// before it say.
 pub fn sizes_agree()
-    ensures { (ps : List Place) (at : ℕ) (s : Said) (is : Expansion Inst) (ws : Expansion ℕ)
+    ensures { (ps : List Location) (at : ℕ) (s : Said) (is : Expansion Inst) (ws : Expansion ℕ)
         → instructions_of ps at s ≡ Ok is → words_of is ≡ Ok ws → length (bytes_of at s ws) ≡ size_of at s }
 {}
 

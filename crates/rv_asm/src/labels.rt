@@ -23,10 +23,10 @@ pub struct Labels<'a> {
 
 impl<'a> Model for Labels<'a> {
     ghost use Rattle.std.specs.Prelude.{List, map};
-    ghost use Rattle.rv_asm.specs.Codes.{Place, place_of};
+    ghost use Rattle.rv_asm.specs.Codes.{Location, place_of};
     ghost use Rattle.rv_asm.specs.Labels.{IsIndex};
 
-    ghost Value = { List Place };
+    ghost Value = { List Location };
 
     ghost view = { λ l. map place_of l.symbols.items };
 

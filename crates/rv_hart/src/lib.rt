@@ -20,7 +20,7 @@ mod running;
 mod tests;
 mod transfer;
 
-pub use decoder::Decoder;
+pub use decoder::DecodedCode;
 pub use execute::step;
 pub use hart::Hart;
 pub use outcome::{FaultKind, Step};

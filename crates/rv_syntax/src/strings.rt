@@ -2,7 +2,7 @@
 
 ghost use Rattle.std.specs.Prelude.{◌≡◌, IfOk, option_map};
 ghost use Rattle.rv_syntax.specs.Strings.{escape, step_of, string_from, string_at};
-ghost use Rattle.rv_syntax.specs.declared.strings.Reading.TheVariants.{Plain};
+ghost use Rattle.rv_syntax.specs.declared.strings.StringReader.TheVariants.{Plain};
 
 use crate::numbers::digit_value;
 use crate::text::mark;
@@ -10,7 +10,7 @@ use std::alloc::{AllocError, Global};
 
 /// Where the reader of a string stands.
 #[derive(Clone, Copy, Debug)]
-pub enum Reading {
+pub enum StringReader {
     Plain,
     /// Behind a backslash.
     Escaped,
@@ -25,7 +25,7 @@ pub enum Reading {
 pub enum Step {
     Close,
     Refuse,
-    Go(Reading),
+    Go(StringReader),
     Put(u8),
 }
 
@@ -43,22 +43,22 @@ fn escape(byte: u8) -> Option<u8>
     }
 }
 
-fn advance(reading: Reading, byte: u8) -> Step
+fn advance(reading: StringReader, byte: u8) -> Step
     ensures { result ≡ step_of reading byte }
 {
     let digit = digit_value(byte);
     match reading {
-        Reading::Plain if byte == b'"' => Step::Close,
-        Reading::Plain if byte == b'\\' => Step::Go(Reading::Escaped),
-        Reading::Plain => Step::Put(byte),
-        Reading::Escaped if byte == b'x' => Step::Go(Reading::High),
-        Reading::Escaped => match escape(byte) {
+        StringReader::Plain if byte == b'"' => Step::Close,
+        StringReader::Plain if byte == b'\\' => Step::Go(StringReader::Escaped),
+        StringReader::Plain => Step::Put(byte),
+        StringReader::Escaped if byte == b'x' => Step::Go(StringReader::High),
+        StringReader::Escaped => match escape(byte) {
             Some(value) => Step::Put(value),
             None => Step::Refuse,
         },
-        Reading::High if digit < 16 => Step::Go(Reading::Low(16 * digit)),
-        Reading::Low(high) if digit < 16 => Step::Put(high | digit),
-        Reading::High | Reading::Low(_) => Step::Refuse,
+        StringReader::High if digit < 16 => Step::Go(StringReader::Low(16 * digit)),
+        StringReader::Low(high) if digit < 16 => Step::Put(high | digit),
+        StringReader::High | StringReader::Low(_) => Step::Refuse,
     }
 }
 
@@ -67,7 +67,7 @@ fn read_string(alloc: Global, text: &[u8]) -> Result<Option<(Vec<u8>, &[u8])>, A
     ensures { IfOk result (λ r. option_map (λ x. (x.0.items, x.1.now)) r ≡ string_from Plain text.now) }
 {
     let mut bytes = Vec::new(alloc);
-    let mut reading = Reading::Plain;
+    let mut reading = StringReader::Plain;
     for (i, byte) in text.iter().enumerate() {
         match advance(reading, *byte) {
             Step::Close => return Ok(Some((bytes, &text[i + 1..]))),
@@ -75,7 +75,7 @@ fn read_string(alloc: Global, text: &[u8]) -> Result<Option<(Vec<u8>, &[u8])>, A
             Step::Go(next) => reading = next,
             Step::Put(value) => {
                 bytes.push(value)?;
-                reading = Reading::Plain;
+                reading = StringReader::Plain;
             }
         }
     }

@@ -3,7 +3,7 @@ use Rattle.std.proofs.Common.{ℕ, zero, suc, ◌≡◌, ◌+◌, ◌-◌, ◌/�
 use Rattle.lx_abi.specs.Flags as tables
 use Rattle.lx_abi.specs.declared.calls.Argument.{Argument}
 use Rattle.lx_abi.specs.declared.calls.Argument.TheVariants as kind
-use Rattle.tr_args.specs.declared.context.Place.{Place}
+use Rattle.tr_args.specs.declared.context.ArgumentPlace.{ArgumentPlace}
 use Rattle.tr_values.specs.Sheets.{Sheet, Shown, Has, put, reads, ◌>>=◌}
 use Rattle.tr_values.specs.Numbers.{int, long, unsigned, pointer, pointer_text, hex, hex_text, mode, mode_text}
 use Rattle.tr_values.specs.Escapes.{nul_at, quoted, cut}
@@ -199,7 +199,7 @@ directory_f : (x : ℕ) → Framed (directory x)
 unfolding directory
 directory_f x = either_f (x % 2 ^ 32 == 2 ^ 32 - 100) (put (codes "AT_FDCWD")) (int x) (put_f _) (int_f x)
 
-shown_f : (a : Argument) (p : Place) → is_list a ≡ false → Framed (shown a p)
+shown_f : (a : Argument) (p : ArgumentPlace) → is_list a ≡ false → Framed (shown a p)
 unfolding shown long unsigned descriptor_flags stat_flags map_flags wait_options unlink_flags whence mask_change protection signal_number
 shown_f kind.Int p h = int_f p.value
 shown_f kind.Long p h = put_f _
@@ -232,9 +232,9 @@ shown_f kind.FrameMask p h = frame_mask_f p.sp
 shown_f kind.ChildStack p h = child_f p.next
 shown_f kind.CloneFlags p h = clone_f p.before
 
-argument_f : (a : Argument) (p : Place) → is_list a ≡ false → Framed (argument a p)
+argument_f : (a : Argument) (p : ArgumentPlace) → is_list a ≡ false → Framed (argument a p)
 unfolding argument
 argument_f a p h = either_f (is_result a && has_failed p.result) (pointer p.value) (shown a p) (pointer_f p.value) (shown_f a p h)
 
-pub next_f : (some : Bool) (a : Argument) (p : Place) → is_list a ≡ false → Framed (next_argument some a p)
+pub next_f : (some : Bool) (a : Argument) (p : ArgumentPlace) → is_list a ≡ false → Framed (next_argument some a p)
 next_f some a p h = either_f (is_left_out a p) (λ s. Has s) (λ s. put (comma some) s >>= argument a p) has_f (after_f (put (comma some)) (argument a p) (put_f (comma some)) (argument_f a p h))

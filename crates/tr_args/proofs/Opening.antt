@@ -4,8 +4,8 @@ use Rattle.tr_args.specs.declared.lists.Listing.{Listing}
 use Rattle.tr_values.specs.Sheets.{Sheet, Shown, Has, Wants, put, ◌>>=◌}
 use Rattle.tr_values.specs.Numbers.{pointer}
 use Rattle.tr_args.specs.Lists.{comma, item, items, word, words, null_at, most_items, list_read, list}
-use Rattle.tr_values.specs.declared.sheet.Stop.{Stop}
-use Rattle.tr_values.specs.declared.sheet.Stop.TheVariants.{Wants as Stops, Memory}
+use Rattle.tr_values.specs.declared.sheet.Needed.{Needed}
+use Rattle.tr_values.specs.declared.sheet.Needed.TheVariants.{Wants as Stops, Memory}
 use Rattle.tr_args.specs.Progress.{sheet, Finds, Begins, items_at, items_left, end_text, list_shown, list_left, opened_by, opened, listing_of, none_shown, Moves}
 use Rattle.tr_args.proofs.Going.{ext}
 
@@ -78,7 +78,7 @@ pub put_both : (a b : List ℕ) (s t u : Sheet) → put a s ≡ Has t → put b 
 put_both a b s t u e f = put_is b t u f ∙ ap (λ x. sheet (x.out ++ b) x.left) (put_is a s t e)
 
 -- whatever was found
-pub opens_found : (r : Result (Option Listing) Stop) (most : ℕ) (some : Bool) (address : ℕ) (bs : List ℕ) (s t u v : Sheet) → (address == 0) ≡ false → s ≡ sheet t.out (bs ∷ t.left) → put (comma some) t ≡ Has u → Finds r (opened address bs) u v → Begins r most (list_shown most some address) s v
+pub opens_found : (r : Result (Option Listing) Needed) (most : ℕ) (some : Bool) (address : ℕ) (bs : List ℕ) (s t u v : Sheet) → (address == 0) ≡ false → s ≡ sheet t.out (bs ∷ t.left) → put (comma some) t ≡ Has u → Finds r (opened address bs) u v → Begins r most (list_shown most some address) s v
 opens_found (Ok l) most some address bs s t u v e k p h =
     let i = put_is (comma some) t u p in
     opens most some address bs l s v e h.0 h.1
@@ -87,5 +87,5 @@ opens_found (Ok l) most some address bs s t u v e k p h =
 opens_found (Err (Stops a n)) most some address bs s t u v e k p h = absurd h
 opens_found (Err Memory) most some address bs s t u v e k p h = tt
 
-pub opens_stopped : (stop : Stop) (most : ℕ) (some : Bool) (address : ℕ) (s t : Sheet) → (address == 0) ≡ false → s.left ≡ [] → stop ≡ Stops address 264 → t ≡ s → Begins (Err stop) most (list_shown most some address) s t
+pub opens_stopped : (stop : Needed) (most : ℕ) (some : Bool) (address : ℕ) (s t : Sheet) → (address == 0) ≡ false → s.left ≡ [] → stop ≡ Stops address 264 → t ≡ s → Begins (Err stop) most (list_shown most some address) s t
 opens_stopped stop most some address s t e l k h = subst (λ e. Begins (Err e) most (list_shown most some address) s t) (sym k) (opens_not most some address s e l, h)

@@ -9,7 +9,7 @@ use Rattle.lx_abi.specs.Calls.{calls, call_format}
 use Rattle.pt_model.specs.Requests.{may_peek}
 use Rattle.pt_model.specs.Parts.{Half, At_entry, At_exit}
 use Rattle.pt_model.specs.Headline.{IsTexts}
-use Rattle.tr_args.specs.declared.context.Place.{Place}
+use Rattle.tr_args.specs.declared.context.ArgumentPlace.{ArgumentPlace}
 use Rattle.tr_args.specs.declared.context.Context.{Context}
 use Rattle.tr_values.specs.Sheets.{Sheet, Shown, Has, Wants, put, ◌>>=◌}
 use Rattle.tr_values.specs.Numbers.{int, long, unsigned, pointer, hex, mode}
@@ -92,7 +92,7 @@ abbrev pub cost : Argument → ℕ
 cost kind.Strings = 65
 cost _ = 1
 
-shown_w : (a : Argument) (p : Place) → p.most ≤ 4096 → Within (cost a) (shown a p)
+shown_w : (a : Argument) (p : ArgumentPlace) → p.most ≤ 4096 → Within (cost a) (shown a p)
 unfolding shown int long unsigned pointer hex mode descriptor_flags stat_flags map_flags wait_options unlink_flags whence mask_change open_flags protection child_stack directory signal_number
 shown_w kind.Int p h s = omega arith
 shown_w kind.Long p h s = omega arith
@@ -125,11 +125,11 @@ shown_w kind.FrameMask p h s = frame_mask_w p.sp s
 shown_w kind.ChildStack p h s = omega arith
 shown_w kind.CloneFlags p h s = clone_w p.before s
 
-argument_w : (a : Argument) (p : Place) → p.most ≤ 4096 → Within (cost a) (argument a p)
+argument_w : (a : Argument) (p : ArgumentPlace) → p.most ≤ 4096 → Within (cost a) (argument a p)
 unfolding argument pointer
 argument_w a p h = either (cost a) (is_result a && has_failed p.result) (pointer p.value) (shown a p) (λ e s. omega arith) (λ e. shown_w a p h)
 
-next_w : (some : Bool) (a : Argument) (p : Place) → p.most ≤ 4096 → Within (cost a) (next_argument some a p)
+next_w : (some : Bool) (a : Argument) (p : ArgumentPlace) → p.most ≤ 4096 → Within (cost a) (next_argument some a p)
 next_w some a p h = either (cost a) (is_left_out a p) (λ s. Has s) (λ s. put (comma some) s >>= argument a p) (λ e s. omega arith) (λ e. wider (0 + cost a) (cost a) (λ s. put (comma some) s >>= argument a p) (omega arith) (after 0 (cost a) (put (comma some)) (argument a p) (λ s. omega arith) (argument_w a p h)))
 
 abbrev pub costs : List Argument → ℕ

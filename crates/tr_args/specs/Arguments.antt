@@ -7,11 +7,11 @@ use Rattle.lx_abi.specs.Calls.{call_format}
 use Rattle.tr_values.specs.Sheets.{Sheet, Shown, Has, Wants, put, ◌>>=◌}
 use Rattle.tr_values.specs.Calls.{name_text}
 use Rattle.tr_args.specs.Kinds.{next_argument}
-use Rattle.tr_args.specs.declared.context.Place.{Place}
+use Rattle.tr_args.specs.declared.context.ArgumentPlace.{ArgumentPlace}
 use Rattle.tr_args.specs.declared.context.Context.{Context}
 
 -- the place of an argument by its number
-abbrev pub place : Context → ℕ → Place
+abbrev pub place : Context → ℕ → ArgumentPlace
 place c i = record {
   before = get_or c.arguments (i - 1) 0;
   value = get_or c.arguments i 0;

@@ -18,7 +18,7 @@ use Rattle.tr_values.specs.Actions.{action}
 use Rattle.tr_values.specs.Files.{stat}
 use Rattle.tr_values.specs.WaitWords.{wait_status}
 use Rattle.tr_values.specs.Children.{child_stack, clone_flags}
-use Rattle.tr_args.specs.declared.context.Place.{Place}
+use Rattle.tr_args.specs.declared.context.ArgumentPlace.{ArgumentPlace}
 
 -- a word of -4095 to -1
 abbrev pub is_error : ℕ → Bool
@@ -34,7 +34,7 @@ count_of next None = next
 count_of next (Some result) = result
 
 -- by the kind of the argument
-unfoldable pub shown : Argument → Place → Sheet → Shown
+unfoldable pub shown : Argument → ArgumentPlace → Sheet → Shown
 shown kind.Int p = int p.value
 shown kind.Long p = long p.value
 shown kind.Unsigned p = unsigned p.value
@@ -77,14 +77,14 @@ is_result kind.DescriptorPair = true
 is_result kind.WaitStatus = true
 is_result _ = false
 
-unfoldable pub argument : Argument → Place → Sheet → Shown
+unfoldable pub argument : Argument → ArgumentPlace → Sheet → Shown
 argument a p s = if is_result a && has_failed p.result then pointer p.value s else shown a p s
 
 -- the mode of a new file is shown with O_CREAT alone
-abbrev pub is_left_out : Argument → Place → Bool
+abbrev pub is_left_out : Argument → ArgumentPlace → Bool
 is_left_out kind.CreationMode p = not (has p.before o_creat)
 is_left_out _ p = false
 
 -- an argument, behind a comma where one stands before it
-abbrev pub next_argument : Bool → Argument → Place → Sheet → Shown
+abbrev pub next_argument : Bool → Argument → ArgumentPlace → Sheet → Shown
 next_argument some a p s = if is_left_out a p then Has s else (put (comma some) s >>= argument a p)

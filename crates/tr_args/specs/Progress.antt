@@ -11,8 +11,8 @@ use Rattle.tr_args.specs.declared.progress.Row.{Row}
 use Rattle.tr_args.specs.declared.progress.Stage.{Stage}
 use Rattle.tr_args.specs.declared.progress.Stage.TheVariants.{Unbegun, Under, Whole}
 use Rattle.tr_args.specs.declared.progress.Made.{Made}
-use Rattle.tr_values.specs.declared.sheet.Stop.{Stop}
-use Rattle.tr_values.specs.declared.sheet.Stop.TheVariants.{Wants as Stops, Memory}
+use Rattle.tr_values.specs.declared.sheet.Needed.{Needed}
+use Rattle.tr_values.specs.declared.sheet.Needed.TheVariants.{Wants as Stops, Memory}
 use Rattle.tr_values.specs.Sheets.{Sheet, Shown, Has, Wants, put, ◌>>=◌}
 use Rattle.tr_args.specs.Lists.{comma, item, list, word, words, null_at, most_items}
 use Rattle.tr_values.specs.Numbers.{pointer_text}
@@ -64,19 +64,19 @@ pub record Moves (f : Sheet → Shown) (s : Sheet) (g : Sheet → Shown) (t : Sh
   pub goes : (more : List (List ℕ)) → f (sheet s.out (front ++ more)) ≡ g (sheet t.out more)
 
 -- all of it is shown, or nothing
-abbrev pub Takes : Result (Unit {0}) Stop → (Sheet → Shown) → Sheet → Sheet → Type 0
+abbrev pub Takes : Result (Unit {0}) Needed → (Sheet → Shown) → Sheet → Sheet → Type 0
 Takes (Ok u) f s t = Moves f s (λ x. Has x) t
 Takes (Err (Stops address length)) f s t = (f s ≡ Wants address length) × (t ≡ s)
 Takes (Err Memory) f s t = ⊤
 
 -- all of it is shown, or a part
-abbrev pub Goes : Result (Unit {0}) Stop → (Sheet → Shown) → Sheet → (Sheet → Shown) → Sheet → Type 0
+abbrev pub Goes : Result (Unit {0}) Needed → (Sheet → Shown) → Sheet → (Sheet → Shown) → Sheet → Type 0
 Goes (Ok u) f s g t = Moves f s (λ x. Has x) t
 Goes (Err (Stops address length)) f s g t = Moves f s g t × (g t ≡ Wants address length)
 Goes (Err Memory) f s g t = ⊤
 
 -- all of it is shown but a list, or nothing
-abbrev pub Begins : Result (Option Listing) Stop → ℕ → (Sheet → Shown) → Sheet → Sheet → Type 0
+abbrev pub Begins : Result (Option Listing) Needed → ℕ → (Sheet → Shown) → Sheet → Sheet → Type 0
 Begins (Ok list) most f s t = Moves f s (list_left most list) t
 Begins (Err (Stops address length)) most f s t = (f s ≡ Wants address length) × (t ≡ s)
 Begins (Err Memory) most f s t = ⊤
@@ -105,7 +105,7 @@ abbrev pub none_shown : Option Listing → Type 0
 none_shown None = Unit {0}
 none_shown (Some l) = l.some ≡ false
 
-abbrev pub Finds : Result (Option Listing) Stop → List ℕ × Option (List ℕ × Bool) → Sheet → Sheet → Type 0
+abbrev pub Finds : Result (Option Listing) Needed → List ℕ × Option (List ℕ × Bool) → Sheet → Sheet → Type 0
 Finds (Ok list) o s t = (listing_of list ≡ o.1) × none_shown list × (t ≡ sheet (s.out ++ o.0) s.left)
 Finds (Err (Stops address length)) o s t = ⊥
 Finds (Err Memory) o s t = ⊤
@@ -115,7 +115,7 @@ kinds_of None = []
 kinds_of (Some k) = k.0 ∷ k.1.now
 
 -- what stands before the arguments of a half is shown
-abbrev pub Starts : Result Row Stop → Context → Sheet → Sheet → Type 0
+abbrev pub Starts : Result Row Needed → Context → Sheet → Sheet → Type 0
 Starts (Ok row) c s t = Moves (half_by c.result c) s (stage_left c (Under row)) t
 Starts (Err (Stops address length)) c s t = ⊥
 Starts (Err Memory) c s t = ⊤

@@ -4,7 +4,7 @@ ghost use Rattle.std.specs.Prelude.{◌≡◌, ◌≤◌, ◌<◌, ◌+◌, ◌&
 ghost use Rattle.tr_args.specs.Arguments as spec;
 ghost use Rattle.lx_abi.specs.Calls.{call_format};
 
-use crate::context::{Context, Place};
+use crate::context::{ArgumentPlace, Context};
 use lx_abi::calls::call_format;
 use lx_abi::{Argument, Format};
 
@@ -15,11 +15,11 @@ fn at(arguments: &[u64; 6], i: usize) -> u64
 }
 
 /// The place of an argument by its number.
-pub(crate) fn place(context: &Context, i: usize) -> Place
+pub(crate) fn place(context: &Context, i: usize) -> ArgumentPlace
     requires { i < 2 ^ 32 }
     ensures { result ≡ spec.place context.now i }
 {
-    Place {
+    ArgumentPlace {
         before: at(&context.arguments, i.saturating_sub(1)),
         value: at(&context.arguments, i),
         next: at(&context.arguments, i + 1),

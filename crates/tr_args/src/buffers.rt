@@ -5,7 +5,7 @@ ghost use Rattle.tr_args.specs.Buffers as spec;
 ghost use Rattle.tr_values.specs.Sheets.{Leaves};
 
 use tr_values::escapes::{cut, quoted};
-use tr_values::{Sheet, Stop, numbers};
+use tr_values::{Needed, Sheet, numbers};
 
 #[tactic(auto, unfolding(crate::specs::Buffers::buffer_read))]
 fn buffer_read(
@@ -14,7 +14,7 @@ fn buffer_read(
     count: u64,
     shown: u32,
     bytes: &[u8],
-) -> Result<(), Stop>
+) -> Result<(), Needed>
     ensures { Leaves result sheet.new (spec.buffer_read address count shown bytes.now sheet.old) }
 {
     if bytes.len() < shown as usize {
@@ -38,7 +38,12 @@ fn least(count: u64, most: u32) -> u32
 
 /// A buffer of so many bytes, of which the first are shown.
 #[tactic(auto, unfolding(crate::specs::Buffers::buffer))]
-pub(crate) fn buffer(sheet: &mut Sheet<'_>, most: u32, address: u64, count: u64) -> Result<(), Stop>
+pub(crate) fn buffer(
+    sheet: &mut Sheet<'_>,
+    most: u32,
+    address: u64,
+    count: u64,
+) -> Result<(), Needed>
     ensures { Leaves result sheet.new (spec.buffer most address count sheet.old) }
 {
     let shown = least(count, most);

@@ -15,7 +15,7 @@ pub struct Context {
 
 /// An argument of a call, and what its text may depend on besides.
 #[derive(Clone, Copy, Debug)]
-pub(crate) struct Place {
+pub(crate) struct ArgumentPlace {
     /// The argument before it.
     pub(crate) before: u64,
     pub(crate) value: u64,

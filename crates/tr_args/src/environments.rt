@@ -4,9 +4,9 @@ ghost use Rattle.tr_args.specs.Environments as spec;
 ghost use Rattle.tr_values.specs.Sheets.{Leaves, put};
 
 use crate::lists::{null_at, words};
-use tr_values::{Sheet, Stop, numbers};
+use tr_values::{Needed, Sheet, numbers};
 
-fn variables(sheet: &mut Sheet<'_>, count: u64) -> Result<(), Stop>
+fn variables(sheet: &mut Sheet<'_>, count: u64) -> Result<(), Needed>
     ensures { Leaves result sheet.new (put (spec.variables count) sheet.old) }
 {
     sheet.put(" /* ")?;
@@ -15,7 +15,7 @@ fn variables(sheet: &mut Sheet<'_>, count: u64) -> Result<(), Stop>
 }
 
 #[tactic(auto, unfolding(crate::specs::Environments::environment_read))]
-fn environment_read(sheet: &mut Sheet<'_>, address: u64, bytes: &[u8]) -> Result<(), Stop>
+fn environment_read(sheet: &mut Sheet<'_>, address: u64, bytes: &[u8]) -> Result<(), Needed>
     ensures { Leaves result sheet.new (spec.environment_read address bytes.now sheet.old) }
 {
     numbers::pointer(sheet, address)?;
@@ -30,7 +30,7 @@ fn environment_read(sheet: &mut Sheet<'_>, address: u64, bytes: &[u8]) -> Result
 
 /// The address of the environment, and how many variables it has.
 #[tactic(auto, unfolding(crate::specs::Environments::environment))]
-pub(crate) fn environment(sheet: &mut Sheet<'_>, address: u64) -> Result<(), Stop>
+pub(crate) fn environment(sheet: &mut Sheet<'_>, address: u64) -> Result<(), Needed>
     ensures { Leaves result sheet.new (spec.environment address sheet.old) }
 {
     if address == 0 {

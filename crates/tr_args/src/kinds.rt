@@ -6,7 +6,7 @@ ghost use Rattle.tr_values.specs.Sheets.{Leaves};
 ghost use Rattle.tr_args.specs.Progress.{Takes, Begins, is_list};
 
 use crate::buffers::buffer;
-use crate::context::Place;
+use crate::context::ArgumentPlace;
 use crate::environments::environment;
 use crate::lists::{Listing, comma, open};
 use crate::paths::path;
@@ -15,7 +15,7 @@ use lx_abi::flags::{O_CREAT, has};
 use tr_values::actions::action;
 use tr_values::files::stat;
 use tr_values::wait_words::wait_status;
-use tr_values::{Sheet, Stop, children, descriptors, flags, numbers, signals};
+use tr_values::{Needed, Sheet, children, descriptors, flags, numbers, signals};
 
 /// The result is an error: -4095 to -1.
 fn has_failed(outcome: Option<u64>) -> bool
@@ -45,7 +45,7 @@ fn is_result(argument: Argument) -> bool
 
 /// An argument whose call didn't fail.
 #[tactic(auto, unfolding(crate::specs::Kinds::shown))]
-fn shown(sheet: &mut Sheet<'_>, argument: Argument, place: Place) -> Result<(), Stop>
+fn shown(sheet: &mut Sheet<'_>, argument: Argument, place: ArgumentPlace) -> Result<(), Needed>
     requires most { place.most ≤ 4096 }
     requires kind { is_list argument ≡ false }
     ensures { Leaves result sheet.new (spec.shown argument place sheet.old) }
@@ -87,7 +87,7 @@ fn shown(sheet: &mut Sheet<'_>, argument: Argument, place: Place) -> Result<(), 
 }
 
 #[tactic(auto, unfolding(crate::specs::Kinds::argument))]
-fn argument(sheet: &mut Sheet<'_>, argument: Argument, place: Place) -> Result<(), Stop>
+fn argument(sheet: &mut Sheet<'_>, argument: Argument, place: ArgumentPlace) -> Result<(), Needed>
     requires most { place.most ≤ 4096 }
     requires kind { is_list argument ≡ false }
     ensures { Leaves result sheet.new (spec.argument argument place sheet.old) }
@@ -99,7 +99,7 @@ fn argument(sheet: &mut Sheet<'_>, argument: Argument, place: Place) -> Result<(
 }
 
 /// The mode of a new file, where none is made.
-fn is_left_out(argument: Argument, place: Place) -> bool
+fn is_left_out(argument: Argument, place: ArgumentPlace) -> bool
     ensures { result ≡ spec.is_left_out argument place }
 {
     match argument {
@@ -113,8 +113,8 @@ fn comma_argument(
     sheet: &mut Sheet<'_>,
     some: bool,
     kind: Argument,
-    place: Place,
-) -> Result<(), Stop>
+    place: ArgumentPlace,
+) -> Result<(), Needed>
     requires most { place.most ≤ 4096 }
     requires kind { is_list kind ≡ false }
     ensures { Leaves result sheet.new (spec.next_argument some kind place sheet.old) }
@@ -131,8 +131,8 @@ fn next_argument(
     sheet: &mut Sheet<'_>,
     some: bool,
     kind: Argument,
-    place: Place,
-) -> Result<(), Stop>
+    place: ArgumentPlace,
+) -> Result<(), Needed>
     requires most { place.most ≤ 4096 }
     requires kind { is_list kind ≡ false }
     ensures { Takes result (spec.next_argument some kind place) sheet.old sheet.new }
@@ -155,8 +155,8 @@ pub(crate) fn begin(
     sheet: &mut Sheet<'_>,
     some: bool,
     kind: Argument,
-    place: Place,
-) -> Result<Option<Listing>, Stop>
+    place: ArgumentPlace,
+) -> Result<Option<Listing>, Needed>
     requires { place.most ≤ 4096 }
     ensures { Begins result place.most (spec.next_argument some kind place) sheet.old sheet.new }
 {

@@ -9,7 +9,7 @@ ghost use Rattle.tr_args.specs.Progress.{Takes, Goes, Begins, Finds, item_shown,
 use containers::Bytes;
 use std::alloc::{AllocError, Global};
 use tr_values::escapes::{cut, first, nul_at, quoted};
-use tr_values::{Sheet, Stop, numbers};
+use tr_values::{Needed, Sheet, numbers};
 
 /// At most so many items of a list are shown.
 const MOST_ITEMS: usize = 32;
@@ -38,7 +38,7 @@ pub(crate) fn null_at(words: &[[u8; 8]]) -> usize
 }
 
 #[tactic(auto, unfolding(crate::specs::Lists::item_read))]
-fn item_read(sheet: &mut Sheet<'_>, most: u32, address: u64, bytes: &[u8]) -> Result<(), Stop>
+fn item_read(sheet: &mut Sheet<'_>, most: u32, address: u64, bytes: &[u8]) -> Result<(), Needed>
     ensures { Leaves result sheet.new (spec.item_read most address bytes.now sheet.old) }
 {
     let nul = nul_at(bytes);
@@ -53,7 +53,7 @@ fn item_read(sheet: &mut Sheet<'_>, most: u32, address: u64, bytes: &[u8]) -> Re
 
 /// Of an item of which more than 4,096 bytes are wanted, and which the first read didn't end.
 #[tactic(auto, unfolding(crate::specs::Lists::item_more))]
-fn item_more(sheet: &mut Sheet<'_>, most: u32, address: u64, bytes: &[u8]) -> Result<(), Stop>
+fn item_more(sheet: &mut Sheet<'_>, most: u32, address: u64, bytes: &[u8]) -> Result<(), Needed>
     requires least { 4096 ≤ most }
     requires most { most ≤ 4096 }
     ensures { Leaves result sheet.new (spec.item_more most address bytes.now sheet.old) }
@@ -68,7 +68,7 @@ fn item_more(sheet: &mut Sheet<'_>, most: u32, address: u64, bytes: &[u8]) -> Re
 }
 
 #[tactic(auto, unfolding(crate::specs::Lists::item))]
-fn item(sheet: &mut Sheet<'_>, most: u32, address: u64) -> Result<(), Stop>
+fn item(sheet: &mut Sheet<'_>, most: u32, address: u64) -> Result<(), Needed>
     requires { most ≤ 4096 }
     ensures { Leaves result sheet.new (spec.item most address sheet.old) }
 {
@@ -81,14 +81,14 @@ fn item(sheet: &mut Sheet<'_>, most: u32, address: u64) -> Result<(), Stop>
 }
 
 /// Behind what is shown.
-pub(crate) fn comma(sheet: &mut Sheet<'_>, some: bool) -> Result<(), Stop>
+pub(crate) fn comma(sheet: &mut Sheet<'_>, some: bool) -> Result<(), Needed>
     ensures { Leaves result sheet.new (put (spec.comma some) sheet.old) }
 {
     sheet.put(if some { ", " } else { "" })
 }
 
 /// An item, behind a comma where one stands before it.
-fn comma_item(sheet: &mut Sheet<'_>, most: u32, some: bool, address: u64) -> Result<(), Stop>
+fn comma_item(sheet: &mut Sheet<'_>, most: u32, some: bool, address: u64) -> Result<(), Needed>
     requires { most ≤ 4096 }
     ensures { Leaves result sheet.new (item_shown most some address sheet.old) }
 {
@@ -97,7 +97,7 @@ fn comma_item(sheet: &mut Sheet<'_>, most: u32, some: bool, address: u64) -> Res
 }
 
 /// The same, or nothing of it.
-fn next_item(sheet: &mut Sheet<'_>, most: u32, some: bool, address: u64) -> Result<(), Stop>
+fn next_item(sheet: &mut Sheet<'_>, most: u32, some: bool, address: u64) -> Result<(), Needed>
     requires { most ≤ 4096 }
     ensures { Takes result (item_shown most some address) sheet.old sheet.new }
 {
@@ -131,7 +131,7 @@ impl Listing {
 
 /// The items that were read.
 #[tactic(auto, unfolding(crate::specs::Progress::items_at))]
-fn items_on(sheet: &mut Sheet<'_>, most: u32, list: &mut Listing) -> Result<(), Stop>
+fn items_on(sheet: &mut Sheet<'_>, most: u32, list: &mut Listing) -> Result<(), Needed>
     requires { most ≤ 4096 }
     ensures goes { Goes result (items_left most list.old) sheet.old (items_left most list.new) sheet.new }
     ensures cut { list.new.cut ≡ list.old.cut }
@@ -150,14 +150,14 @@ fn items_on(sheet: &mut Sheet<'_>, most: u32, list: &mut Listing) -> Result<(), 
 }
 
 /// Behind the last item.
-fn list_end(sheet: &mut Sheet<'_>, cut: bool) -> Result<(), Stop>
+fn list_end(sheet: &mut Sheet<'_>, cut: bool) -> Result<(), Needed>
     ensures { Leaves result sheet.new (put (end_text cut) sheet.old) }
 {
     sheet.put(if cut { ", ...]" } else { "]" })
 }
 
 /// The items that were read, and the end behind the last.
-fn listing_on(sheet: &mut Sheet<'_>, most: u32, list: &mut Listing) -> Result<(), Stop>
+fn listing_on(sheet: &mut Sheet<'_>, most: u32, list: &mut Listing) -> Result<(), Needed>
     requires { most ≤ 4096 }
     ensures { Goes result (list_left most (Some list.old)) sheet.old (list_left most (Some list.new)) sheet.new }
 {
@@ -172,7 +172,7 @@ pub(crate) fn list_on(
     sheet: &mut Sheet<'_>,
     most: u32,
     list: &mut Option<Listing>,
-) -> Result<(), Stop>
+) -> Result<(), Needed>
     requires { most ≤ 4096 }
     ensures goes { Goes result (list_left most list.old) sheet.old (list_left most list.new) sheet.new }
     ensures whole { OnOk result (list.new ≡ None) }
@@ -198,7 +198,7 @@ fn addresses(alloc: Global, words: &[[u8; 8]]) -> Result<Vec<u64>, AllocError>
 
 /// The address of a list that can't be read to its end.
 #[tactic(auto, unfolding(tr_values::specs::Numbers::pointer))]
-fn lost(sheet: &mut Sheet<'_>, address: u64) -> Result<Option<Listing>, Stop>
+fn lost(sheet: &mut Sheet<'_>, address: u64) -> Result<Option<Listing>, Needed>
     ensures { Finds result (pointer_text address, None) sheet.old sheet.new }
 {
     match numbers::pointer(sheet, address) {
@@ -208,7 +208,7 @@ fn lost(sheet: &mut Sheet<'_>, address: u64) -> Result<Option<Listing>, Stop>
 }
 
 /// A list that ends, or of which more can be read than are shown; else its address.
-fn found(sheet: &mut Sheet<'_>, address: u64, bytes: &[u8]) -> Result<Option<Listing>, Stop>
+fn found(sheet: &mut Sheet<'_>, address: u64, bytes: &[u8]) -> Result<Option<Listing>, Needed>
     ensures { Finds result (opened address bytes.now) sheet.old sheet.new }
 {
     let words = words(bytes);
@@ -232,7 +232,7 @@ pub(crate) fn open(
     some: bool,
     most: u32,
     address: u64,
-) -> Result<Option<Listing>, Stop>
+) -> Result<Option<Listing>, Needed>
     requires { most ≤ 4096 }
     ensures { Begins result most (list_shown most some address) sheet.old sheet.new }
 {

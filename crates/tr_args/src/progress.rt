@@ -14,7 +14,7 @@ use containers::Bytes;
 use lx_abi::Argument;
 use std::alloc::{AllocError, Global};
 use tr_values::calls::name;
-use tr_values::{Sheet, Stop};
+use tr_values::{Needed, Sheet};
 
 /// What is left of the arguments of a half.
 #[derive(Drop)]
@@ -73,7 +73,7 @@ fn next_kind(kinds: &'static [Argument]) -> Option<(Argument, &'static [Argument
 
 /// The arguments that can be made of what was read.
 #[tactic(auto, unfolding(crate::specs::Progress::row_left))]
-fn row_on(sheet: &mut Sheet<'_>, context: &Context, row: &mut Row) -> Result<(), Stop>
+fn row_on(sheet: &mut Sheet<'_>, context: &Context, row: &mut Row) -> Result<(), Needed>
     requires most { context.now.most ≤ 4096 }
     requires few { row.old.number + length row.old.kinds.now < 2 ^ 32 }
     ensures goes { Goes result (row_left context.now row.old) sheet.old (row_left context.now row.new) sheet.new }
@@ -101,7 +101,7 @@ fn row_on(sheet: &mut Sheet<'_>, context: &Context, row: &mut Row) -> Result<(),
 }
 
 /// What stands behind the arguments of a half.
-fn end(sheet: &mut Sheet<'_>, comma: bool) -> Result<(), Stop>
+fn end(sheet: &mut Sheet<'_>, comma: bool) -> Result<(), Needed>
     ensures { Leaves result sheet.new (put (behind comma) sheet.old) }
 {
     sheet.put(if comma { ", " } else { "" })
@@ -109,7 +109,7 @@ fn end(sheet: &mut Sheet<'_>, comma: bool) -> Result<(), Stop>
 
 /// The rest of a half, as far as it can be made of what was read.
 #[tactic(auto, unfolding(crate::specs::Progress::stage_left))]
-fn rest_on(sheet: &mut Sheet<'_>, context: &Context, row: &mut Row) -> Result<(), Stop>
+fn rest_on(sheet: &mut Sheet<'_>, context: &Context, row: &mut Row) -> Result<(), Needed>
     requires most { context.now.most ≤ 4096 }
     requires few { row.old.number + length row.old.kinds.now < 2 ^ 32 }
     ensures goes { Goes result (stage_left context.now (Stage.Under row.old)) sheet.old
@@ -123,7 +123,7 @@ fn rest_on(sheet: &mut Sheet<'_>, context: &Context, row: &mut Row) -> Result<()
 }
 
 /// What stands before the arguments of a half, and its arguments.
-fn begun(sheet: &mut Sheet<'_>, context: &Context) -> Result<Row, Stop>
+fn begun(sheet: &mut Sheet<'_>, context: &Context) -> Result<Row, Needed>
     ensures begins { Starts result context.now sheet.old sheet.new }
     ensures few { IfOk result (λ r. r.number + length r.kinds.now < 2 ^ 32) }
 {
@@ -174,7 +174,7 @@ fn made_with(
             };
             Ok((made, None))
         }
-        Err(Stop::Wants { address, length }) => {
+        Err(Needed::Wants { address, length }) => {
             let used = count - sheet.unread();
             let made = Made {
                 text: sheet.into_text(),
@@ -183,7 +183,7 @@ fn made_with(
             };
             Ok((made, Some((address, length))))
         }
-        Err(Stop::Memory) => Err(AllocError),
+        Err(Needed::Memory) => Err(AllocError),
     }
 }
 

@@ -4,7 +4,7 @@ use Rattle.lx_abi.specs.declared.ptrace.Reply.{Reply}
 use Rattle.lx_abi.specs.declared.ptrace.Reply.TheVariants.{Done as Agreed, Status as Status_is, Registers as Registers_are, Bytes as Bytes_are, Message as Message_is, Info as Info_is, Outcome as Outcome_is, Errno as Errno_is, OutOfTurns as Out_of_turns, Refused as Boot_refused}
 use Rattle.lx_model.specs.Kernel.{Script}
 use Rattle.pt_model.specs.Parts.{Options}
-use Rattle.pt_model.specs.Tracer.{Known, Next, Place, Seizing, heard, hears, next_at, tracees_after, with_tracee, admits_at}
+use Rattle.pt_model.specs.Tracer.{Known, Next, Awaiting, Seizing, heard, hears, next_at, tracees_after, with_tracee, admits_at}
 use Rattle.pt_model.specs.Tracer as tracer
 use Rattle.tr_core.specs.Hearings.{says_done}
 use Rattle.tr_core.specs.Known.{place_of}
@@ -30,7 +30,7 @@ waits-is o script known (Errno_is n) = asking o known (says_childless (Errno_is 
 waits-is o script known Out_of_turns = refl
 waits-is o script known (Boot_refused fault) = refl
 
-serves-is : (o : Options) (script : Script) (known : ℕ → Known) (p : ℕ) (place : Place) (r : Reply) → next_at o script known (tracer.Serving p place) r ≡ serves_by o script known p place r (says_out r)
+serves-is : (o : Options) (script : Script) (known : ℕ → Known) (p : ℕ) (place : Awaiting) (r : Reply) → next_at o script known (tracer.Serving p place) r ≡ serves_by o script known p place r (says_out r)
 serves-is o script known p place Agreed = ap (heard known p) (hears-is o script p (known p) place Agreed)
 serves-is o script known p place (Status_is q status) = ap (heard known p) (hears-is o script p (known p) place (Status_is q status))
 serves-is o script known p place (Registers_are regs) = ap (heard known p) (hears-is o script p (known p) place (Registers_are regs))
@@ -54,7 +54,7 @@ ends-is o script known (Errno_is n) = refl
 ends-is o script known Out_of_turns = refl
 ends-is o script known (Boot_refused fault) = refl
 
-seizes-is : (tracees : List ℕ) (p : ℕ) (place : Place) (r : Reply) → tracees_after tracees (tracer.Serving p place) r ≡ tracees_by_reply tracees p (is_seizing place && says_done r)
+seizes-is : (tracees : List ℕ) (p : ℕ) (place : Awaiting) (r : Reply) → tracees_after tracees (tracer.Serving p place) r ≡ tracees_by_reply tracees p (is_seizing place && says_done r)
 seizes-is tracees p Seizing Agreed = refl
 seizes-is tracees p Seizing (Status_is q status) = refl
 seizes-is tracees p Seizing (Registers_are regs) = refl

@@ -16,7 +16,7 @@ use Rattle.lx_model.specs.Turn.{result_word}
 use Rattle.tr_core.specs.Hearings.{Comes, going_on}
 use Rattle.tr_core.specs.Known.{known_of, place_of}
 use Rattle.tr_core.specs.Pens.{Pen, wrote as wrote_of, pen_after}
-use Rattle.tr_core.specs.declared.place.Place.{Place}
+use Rattle.tr_core.specs.declared.place.Awaiting.{Awaiting}
 use Rattle.tr_core.specs.declared.place.Tracee.{Tracee}
 
 abbrev heard_at : Options → ℕ → Regs → List (List ℕ) → Known → ℕ → Option ℕ → Heard
@@ -42,7 +42,7 @@ counted f g pid number h = fun_ext (λ n. go n (pid == pid) (grind (arith, nat_t
         omega (arith, k, here)
 
 -- the code's step is the definition's
-pub entered : (o : Options) (script : Script) (p : ℕ) (r : Regs) (got : List (List ℕ)) (t : Tracee) (f g : ℕ → ℕ) (call : Call) (choice : Choice) (saved : Option ℕ) (signal : ℕ) (next : Place) (bytes : List ℕ) (old new : Pen)
+pub entered : (o : Options) (script : Script) (p : ℕ) (r : Regs) (got : List (List ℕ)) (t : Tracee) (f g : ℕ → ℕ) (call : Call) (choice : Choice) (saved : Option ℕ) (signal : ℕ) (next : Awaiting) (bytes : List ℕ) (old new : Pen)
     → call ≡ call_of r
     → choice ≡ script call.number (f call.number + 1)
     → saved ≡ result_word choice
@@ -69,18 +69,18 @@ entered o script p r got t f g call choice saved signal next bytes old new is ch
     })
 
 -- more is read
-pub more : (k : Known) (place : Place) (bytes : List ℕ) (pen : Pen) → bytes ≡ [] → Comes (moves k (place_of place)) k (Some place) bytes pen pen
+pub more : (k : Known) (place : Awaiting) (bytes : List ℕ) (pen : Pen) → bytes ≡ [] → Comes (moves k (place_of place)) k (Some place) bytes pen pen
 unfolding wrote_of pen_after
 more k place bytes pen e = record { known = refl; place = refl; text = e; pen = refl }
 
 -- the same where the place is known by what it stands for
-pub more_of : (k : Known) (place : Place) (asked : tracer.Place) (bytes : List ℕ) (pen : Pen) → place_of place ≡ asked → bytes ≡ []
+pub more_of : (k : Known) (place : Awaiting) (asked : tracer.Awaiting) (bytes : List ℕ) (pen : Pen) → place_of place ≡ asked → bytes ≡ []
     → Comes (moves k asked) k (Some place) bytes pen pen
 unfolding wrote_of pen_after
 more_of k place asked bytes pen p e = record { known = refl; place = ap (λ l. Some l) (sym p); text = e; pen = refl }
 
 -- the same at what the code knows
-pub stops : (k m : Known) (pl ql : tracer.Place) (next : Option Place) (bytes : List ℕ) (pen : Pen) → m ≡ k → ql ≡ pl → Comes (moves m ql) m next bytes pen pen → Comes (moves k pl) m next bytes pen pen
+pub stops : (k m : Known) (pl ql : tracer.Awaiting) (next : Option Awaiting) (bytes : List ℕ) (pen : Pen) → m ≡ k → ql ≡ pl → Comes (moves m ql) m next bytes pen pen → Comes (moves k pl) m next bytes pen pen
 stops k m pl ql next bytes pen e f h = subst (λ p. Comes (moves k p) m next bytes pen pen) f (subst (λ l. Comes (moves l ql) m next bytes pen pen) e h)
 
 pub stands : (t : Tracee) (s : Standing) (m : Standing) (counts : ℕ → ℕ) → s ≡ m → known_of (record { inside = t.inside; called = t.called; saved = t.saved; standing = s }) counts ≡ stands_at (known_of t counts) m

@@ -19,7 +19,7 @@ use Rattle.tr_core.specs.Known.{known_of, new_tracee, place_of}
 use Rattle.tr_core.specs.Pens.{Pen}
 use Rattle.tr_core.specs.Tracers.{Goes, focus_of, known_in}
 use Rattle.lx_abi.specs.declared.occurrences.Occurrences.{Occurrences}
-use Rattle.tr_core.specs.declared.place.Place.{Place}
+use Rattle.tr_core.specs.declared.place.Awaiting.{Awaiting}
 use Rattle.tr_core.specs.declared.place.Tracee.{Tracee}
 use Rattle.tr_core.specs.declared.tracer.Core.{Core}
 
@@ -34,12 +34,12 @@ put_in m old new pid t k others e = fun_ext (λ q. ap (λ x. known_of x (counts_
     go q false i = ap (λ c. known_of (at new_tracee m q) c) (fun_ext (λ n. others q n i))
 
 -- a core whose tracee was kept
-pub record Keeps (pid : ℕ) (t : Tracee) (next : Option Place) (old mid new : Core) : Type 0 where
+pub record Keeps (pid : ℕ) (t : Tracee) (next : Option Awaiting) (old mid new : Core) : Type 0 where
   pub known : new.known ≡ maps.insert old.known pid t
   pub focus : focus_of new.focus ≡ focus_on pid (option_map place_of next)
   pub rest : (new.settings ≡ mid.settings) × (new.counts ≡ mid.counts) × (new.living ≡ mid.living) × (new.printer ≡ mid.printer) × (new.taken ≡ mid.taken)
 
-pub kept : (h : Heard) (pid : ℕ) (t : Tracee) (next : Option Place) (bytes : List ℕ) (counts : Occurrences) (pen : Pen) (living : List ℕ) (old new : Core)
+pub kept : (h : Heard) (pid : ℕ) (t : Tracee) (next : Option Awaiting) (bytes : List ℕ) (counts : Occurrences) (pen : Pen) (living : List ℕ) (old new : Core)
     → Comes h (known_of t (counts_at counts pid)) next bytes old.printer pen → LeavesOthers pid old.counts counts
     → Keeps pid t next old (record old { counts = counts; printer = pen; living = living }) new
     → Goes (heard (known_in old) pid h) living bytes old new
@@ -59,7 +59,7 @@ took_stop-is o known p (Signal_stop signal) = refl
 took_stop-is o known p (Event_stop event) = refl
 took_stop-is o known p (Ended word) = refl
 
-pub status_kept : (o : Options) (pid : ℕ) (stop : Stop) (was t : Tracee) (next : Option Place) (bytes : List ℕ) (pen : Pen) (living : List ℕ) (old new : Core)
+pub status_kept : (o : Options) (pid : ℕ) (stop : Stop) (was t : Tracee) (next : Option Awaiting) (bytes : List ℕ) (pen : Pen) (living : List ℕ) (old new : Core)
     → was ≡ at new_tracee old.known pid
     → ((counts : ℕ → ℕ) → Comes (stop_heard o pid (known_of was counts) stop) (known_of t counts) next bytes old.printer pen)
     → living ≡ told_tracees old.living pid (Some stop)
@@ -71,7 +71,7 @@ status_kept o pid stop was t next bytes pen living old new is comes lives keeps 
     (subst (λ l. Goes (heard (known_in old) pid (stop_heard o pid (known_in old pid) stop)) l bytes old new) lives
     (kept (stop_heard o pid (known_in old pid) stop) pid t next bytes old.counts pen living old new c (λ q n e. refl) keeps))
 
-pub reply_kept : (o : Options) (script : Script) (pid : ℕ) (place : Place) (reply : Reply) (was t : Tracee) (next : Option Place) (bytes : List ℕ) (counts : Occurrences) (pen : Pen) (old new : Core)
+pub reply_kept : (o : Options) (script : Script) (pid : ℕ) (place : Awaiting) (reply : Reply) (was t : Tracee) (next : Option Awaiting) (bytes : List ℕ) (counts : Occurrences) (pen : Pen) (old new : Core)
     → was ≡ at new_tracee old.known pid
     → Comes (heard_by o script pid (known_of was (counts_at old.counts pid)) (place_of place) reply) (known_of t (counts_at counts pid)) next bytes old.printer pen
     → LeavesOthers pid old.counts counts

@@ -4,10 +4,10 @@ use Rattle.lx_abi.specs.declared.ptrace.Reply.{Reply}
 use Rattle.lx_abi.specs.declared.ptrace.Reply.TheVariants.{Done as Agreed, Status as Status_is, Registers as Registers_are, Bytes as Bytes_are, Message as Message_is, Info as Info_is, Outcome as Outcome_is, Errno as Errno_is, OutOfTurns as Out_of_turns, Refused as Boot_refused}
 use Rattle.lx_model.specs.Kernel.{Script}
 use Rattle.pt_model.specs.Parts.{Options}
-use Rattle.pt_model.specs.Tracer.{Known, Place, Seizing, Entry_regs, Entry_peek, Entry_set, Exit_regs, Exit_set, Exit_peek, Signal_info, Resuming, hears}
+use Rattle.pt_model.specs.Tracer.{Known, Awaiting, Seizing, Entry_regs, Entry_peek, Entry_set, Exit_regs, Exit_set, Exit_peek, Signal_info, Resuming, hears}
 use Rattle.tr_core.specs.Hearings.{heard_by}
 
-pub hears-is : (o : Options) (script : Script) (p : ℕ) (k : Known) (place : Place) (reply : Reply) → hears o script p k place reply ≡ heard_by o script p k place reply
+pub hears-is : (o : Options) (script : Script) (p : ℕ) (k : Known) (place : Awaiting) (reply : Reply) → hears o script p k place reply ≡ heard_by o script p k place reply
 hears-is o script p k Seizing Agreed = refl
 hears-is o script p k Seizing (Status_is q status) = refl
 hears-is o script p k Seizing (Registers_are regs) = refl

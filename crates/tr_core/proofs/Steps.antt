@@ -10,7 +10,7 @@ use Rattle.lx_abi.specs.declared.status.Stop.TheVariants.{Syscall as Syscall_sto
 use Rattle.lx_model.specs.Kernel.{Script}
 use Rattle.pt_model.specs.Parts.{Options}
 use Rattle.lx_model.specs.Finite.{at}
-use Rattle.pt_model.specs.Tracer.{Known, Next, Place, Moved, Tracer, focus_on, next_at, tracees_after, admits_at, takes, faults, new_known, stays, took_status, took_stop}
+use Rattle.pt_model.specs.Tracer.{Known, Next, Awaiting, Moved, Tracer, focus_on, next_at, tracees_after, admits_at, takes, faults, new_known, stays, took_status, took_stop}
 use Rattle.pt_model.specs.Tracer as tracer
 use Rattle.tr_core.specs.Hearings.{counts_at}
 use Rattle.tr_core.specs.Settings.{options_of, script_of}
@@ -31,7 +31,7 @@ use Rattle.tr_core.proofs.Admitting.{next-is, tracees-is}
 
 -- an admitted reply is no fault
 
-on_fine : (p : ℕ) (o : Option Place) → is_faulted_at (focus_on p o) ≡ false
+on_fine : (p : ℕ) (o : Option Awaiting) → is_faulted_at (focus_on p o) ≡ false
 on_fine p None = refl
 on_fine p (Some place) = refl
 
@@ -48,7 +48,7 @@ wait_fine o known None false true = refl
 wait_fine o known None false false = refl
 wait_fine o known (Some t) c u = stop_fine o known t.0 t.1
 
-serve_fine : (o : Options) (script : Script) (known : ℕ → Known) (p : ℕ) (place : Place) (r : Reply) (u : Bool) → is_faulted_at (serves_by o script known p place r u).focus ≡ false
+serve_fine : (o : Options) (script : Script) (known : ℕ → Known) (p : ℕ) (place : Awaiting) (r : Reply) (u : Bool) → is_faulted_at (serves_by o script known p place r u).focus ≡ false
 serve_fine o script known p place r true = refl
 serve_fine o script known p place r false = on_fine p _
 

@@ -11,7 +11,7 @@ use Rattle.lx_abi.specs.declared.status.Stop.{Stop}
 use Rattle.lx_abi.specs.Status.{stop_of}
 use Rattle.lx_model.specs.Kernel.{Script}
 use Rattle.pt_model.specs.Parts.{Options}
-use Rattle.pt_model.specs.Tracer.{Known, Next, Place, Seizing, Waiting, Asking_outcome, Over, Turns_over, stays}
+use Rattle.pt_model.specs.Tracer.{Known, Next, Awaiting, Seizing, Waiting, Asking_outcome, Over, Turns_over, stays}
 use Rattle.pt_model.specs.Tracer.{heard, took_status, told_tracees, with_tracee}
 use Rattle.pt_model.specs.Tracer as tracer
 use Rattle.tr_core.specs.Hearings.{heard_by, says_done}
@@ -77,11 +77,11 @@ abbrev pub tracees_by_status : List ℕ → Option (ℕ × Option Stop) → List
 tracees_by_status tracees (Some told) = told_tracees tracees told.0 told.1
 tracees_by_status tracees None = tracees
 
-abbrev pub serves_by : Options → Script → (ℕ → Known) → ℕ → Place → Reply → Bool → Next
+abbrev pub serves_by : Options → Script → (ℕ → Known) → ℕ → Awaiting → Reply → Bool → Next
 serves_by o script known p place reply true = stays known Turns_over
 serves_by o script known p place reply false = heard known p (heard_by o script p (known p) place reply)
 
-abbrev pub is_seizing : Place → Bool
+abbrev pub is_seizing : Awaiting → Bool
 is_seizing Seizing = true
 is_seizing tracer.Entry_regs = false
 is_seizing (tracer.Entry_peek r got w) = false

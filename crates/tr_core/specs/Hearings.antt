@@ -20,7 +20,7 @@ use Rattle.lx_abi.specs.declared.status.Stop.TheVariants.{Syscall as Syscall_sto
 use Rattle.lx_abi.specs.declared.status.Stop.TheVariants.{Event as Event_stop, Ended}
 use Rattle.pt_model.specs.declared.standing.Standing.TheVariants.{AfterSignal as After_signal, AtEnd as At_end}
 use Rattle.pt_model.specs.Tracer as tracer
-use Rattle.tr_core.specs.declared.place.Place.{Place}
+use Rattle.tr_core.specs.declared.place.Awaiting.{Awaiting}
 use Rattle.tr_core.specs.Known.{place_of}
 use Rattle.lx_abi.specs.Occurrences.{count_of}
 use Rattle.lx_abi.specs.declared.occurrences.Occurrences.{Occurrences}
@@ -35,14 +35,14 @@ abbrev pub LeavesOthers : ℕ → Occurrences → Occurrences → Type 0
 LeavesOthers pid old new = (q n : ℕ) → (pid == q) ≡ false → count_of new q n ≡ count_of old q n
 
 -- this is known, asked next and printed
-pub record Comes (m : Heard) (k : Known) (next : Option Place) (bytes : List ℕ) (old new : Pen) : Type 0 where
+pub record Comes (m : Heard) (k : Known) (next : Option Awaiting) (bytes : List ℕ) (old new : Pen) : Type 0 where
   pub known : m.known ≡ k
   pub place : m.next ≡ option_map place_of next
   pub text : bytes ≡ wrote old m.printed
   pub pen : new ≡ pen_after old m.printed
 
 -- from an entry stop
-abbrev pub going_on : Regs → ℕ → Option ℕ → tracer.Place
+abbrev pub going_on : Regs → ℕ → Option ℕ → tracer.Awaiting
 going_on r signal None = Resuming signal
 going_on r signal (Some x) = Entry_set (with_a7 r no_call) signal
 
@@ -105,7 +105,7 @@ at_info p k n None = nothing k
 at_info p k n (Some i) = record { known = k; next = Some (Resuming n); printed = Part_signal p i ∷ [] }
 
 -- hears, with the place looked at first
-abbrev pub heard_by : Options → Script → ℕ → Known → tracer.Place → Reply → Heard
+abbrev pub heard_by : Options → Script → ℕ → Known → tracer.Awaiting → Reply → Heard
 heard_by o script p k Seizing reply = nothing k
 heard_by o script p k Entry_regs reply = at_entry_regs o script p k (regs_in reply)
 heard_by o script p k (Entry_peek r got w) reply = peeked_entry o script p r got k (bytes_of reply)

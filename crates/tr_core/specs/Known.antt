@@ -5,9 +5,9 @@ use Rattle.pt_model.specs.declared.standing.Standing.TheVariants.{Unmet}
 use Rattle.pt_model.specs.Tracer.{Known}
 use Rattle.pt_model.specs.Tracer as tracer
 use Rattle.tr_core.specs.declared.place.Tracee.{Tracee}
-use Rattle.tr_core.specs.declared.place.Place.{Place}
-use Rattle.tr_core.specs.declared.place.Place.TheVariants.{Seizing, EntryRegs, EntryPeek, EntrySet, ExitRegs}
-use Rattle.tr_core.specs.declared.place.Place.TheVariants.{ExitSet, ExitPeek, SignalInfo, Resuming}
+use Rattle.tr_core.specs.declared.place.Awaiting.{Awaiting}
+use Rattle.tr_core.specs.declared.place.Awaiting.TheVariants.{Seizing, EntryRegs, EntryPeek, EntrySet, ExitRegs}
+use Rattle.tr_core.specs.declared.place.Awaiting.TheVariants.{ExitSet, ExitPeek, SignalInfo, Resuming}
 
 -- a tracee, with how often it entered each call
 abbrev pub known_of : Tracee → (ℕ → ℕ) → Known
@@ -23,7 +23,7 @@ new_tracee =
       standing = Unmet;
     }
 
-abbrev pub place_of : Place → tracer.Place
+abbrev pub place_of : Awaiting → tracer.Awaiting
 place_of Seizing = tracer.Seizing
 place_of EntryRegs = tracer.Entry_regs
 place_of (EntryPeek r got w) = tracer.Entry_peek r got w

@@ -8,7 +8,7 @@ ghost use Rattle.pt_model.specs.Parts.{Options};
 ghost use Rattle.pt_model.specs.Tracer.{asks};
 ghost use Rattle.tr_core.specs.Known.{place_of};
 
-use crate::place::Place;
+use crate::place::Awaiting;
 use lx_abi::{EventStop, Reply, Stop};
 use pt_model::Standing;
 
@@ -17,25 +17,26 @@ const CLONE: u64 = 220;
 const EXECVE: u64 = 221;
 
 /// A reply to what is asked of the tracee in hand.
-pub fn admits_answer(place: &Place, reply: &Reply) -> bool
+pub fn admits_answer(place: &Awaiting, reply: &Reply) -> bool
     ensures { (o : Options) → result ≡ admits_answer_of (asks o (place_of place.now)) reply.now }
 {
     match (place, reply) {
         (_, Reply::OutOfTurns)
         | (
-            Place::Seizing
-            | Place::EntrySet { .. }
-            | Place::ExitSet { .. }
-            | Place::Resuming { .. },
+            Awaiting::Seizing
+            | Awaiting::EntrySet { .. }
+            | Awaiting::ExitSet { .. }
+            | Awaiting::Resuming { .. },
             Reply::Done,
         )
-        | (Place::EntryRegs | Place::ExitRegs, Reply::Registers { .. })
-        | (Place::SignalInfo { .. }, Reply::Info { .. }) => true,
-        (Place::EntryPeek { want, .. } | Place::ExitPeek { want, .. }, Reply::Bytes { bytes }) => 1
-            <= bytes.len()
-            && bytes.len() as u64 <= u64::from(want.1),
-        (Place::Seizing, Reply::Errno { .. }) => false,
-        (Place::EntryPeek { .. } | Place::ExitPeek { .. }, Reply::Errno { number }) => {
+        | (Awaiting::EntryRegs | Awaiting::ExitRegs, Reply::Registers { .. })
+        | (Awaiting::SignalInfo { .. }, Reply::Info { .. }) => true,
+        (
+            Awaiting::EntryPeek { want, .. } | Awaiting::ExitPeek { want, .. },
+            Reply::Bytes { bytes },
+        ) => 1 <= bytes.len() && bytes.len() as u64 <= u64::from(want.1),
+        (Awaiting::Seizing, Reply::Errno { .. }) => false,
+        (Awaiting::EntryPeek { .. } | Awaiting::ExitPeek { .. }, Reply::Errno { number }) => {
             *number == 3 || *number == 5
         }
         (_, Reply::Errno { number }) => *number == 3,

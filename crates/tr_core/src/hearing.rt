@@ -16,7 +16,7 @@ ghost use Rattle.tr_core.specs.Hearings.{Comes, LeavesOthers, counts_at, going_o
 ghost use Rattle.tr_core.specs.Hearings.{at_entry_regs, at_exit_regs, at_exit_set, at_entry_set, at_info, heard_by};
 ghost use Rattle.tr_core.specs.Hearings.{stop_heard};
 
-use crate::place::{Place, Tracee};
+use crate::place::{Awaiting, Tracee};
 use crate::printer;
 use crate::settings::Settings;
 use containers::Bytes;
@@ -32,7 +32,7 @@ const NO_CALL: u64 = u64::MAX;
 /// What is asked next of the tracee in hand, none where it is let go, and what is printed.
 #[derive(Drop)]
 pub struct Heard {
-    pub next: Option<Place>,
+    pub next: Option<Awaiting>,
     pub bytes: Bytes,
 }
 
@@ -111,15 +111,15 @@ fn print_exit(
 }
 
 /// How a tracee goes on from its entry stop.
-fn go_on(registers: RegisterSet, signal: u32, saved: Option<u64>) -> Place
+fn go_on(registers: RegisterSet, signal: u32, saved: Option<u64>) -> Awaiting
     ensures { place_of result ≡ going_on registers signal saved }
 {
     match saved {
-        None => Place::Resuming { signal },
+        None => Awaiting::Resuming { signal },
         Some(_) => {
             let mut registers = registers;
             set_number(&mut registers, NO_CALL);
-            Place::EntrySet { registers, signal }
+            Awaiting::EntrySet { registers, signal }
         }
     }
 }
@@ -206,7 +206,7 @@ fn read_entry(
     match wish {
         None => enter(settings, counts, printer, pid, tracee, registers, &got),
         Some(want) => Ok(Heard {
-            next: Some(Place::EntryPeek {
+            next: Some(Awaiting::EntryPeek {
                 registers,
                 got,
                 want,
@@ -234,7 +234,7 @@ fn leave(
     let bytes = print_exit(settings, printer, pid, tracee.called, value, replaced, got)?;
     tracee.saved = None;
     Ok(Heard {
-        next: Some(Place::Resuming { signal: 0 }),
+        next: Some(Awaiting::Resuming { signal: 0 }),
         bytes,
     })
 }
@@ -265,7 +265,7 @@ fn read_exit(
     match wish {
         None => leave(settings, printer, pid, tracee, value, replaced, &got),
         Some(want) => Ok(Heard {
-            next: Some(Place::ExitPeek {
+            next: Some(Awaiting::ExitPeek {
                 result: value,
                 replaced,
                 got,
@@ -289,7 +289,7 @@ fn nothing(settings: &Settings) -> Heard
 
 /// This is asked next, and nothing printed.
 #[tactic(auto, unfolding(crate::specs::Pens::wrote, crate::specs::Pens::pen_after))]
-fn asks(settings: &Settings, place: Place) -> Heard
+fn asks(settings: &Settings, place: Awaiting) -> Heard
     ensures { (k : Known) (pen : Pen) → Comes (tracer.moves k (place_of place)) k result.next result.bytes pen pen }
 {
     Heard {
@@ -421,7 +421,7 @@ fn hear_exit(
             set_number(&mut registers, tracee.called.number);
             Ok(asks(
                 settings,
-                Place::ExitSet {
+                Awaiting::ExitSet {
                     registers,
                     result: value,
                 },
@@ -548,7 +548,7 @@ fn hear_set(settings: &Settings, signal: u32, done: bool) -> Heard
     ensures { (k : Known) (pen : Pen) → Comes (at_entry_set k signal done) k result.next result.bytes pen pen }
 {
     if done {
-        asks(settings, Place::Resuming { signal })
+        asks(settings, Awaiting::Resuming { signal })
     } else {
         nothing(settings)
     }
@@ -571,7 +571,7 @@ fn hear_info(
         Some(info) => {
             let bytes = printer::signal(printer, pid, info)?;
             Ok(Heard {
-                next: Some(Place::Resuming { signal }),
+                next: Some(Awaiting::Resuming { signal }),
                 bytes,
             })
         }
@@ -609,7 +609,7 @@ pub(crate) fn hear(
     printer: &mut Printer,
     pid: u32,
     tracee: &mut Tracee,
-    place: Place,
+    place: Awaiting,
     reply: Reply,
 ) -> Result<Heard, AllocError>
     ensures heard { IfOk result
@@ -620,26 +620,26 @@ pub(crate) fn hear(
     ensures others { OnOk result (LeavesOthers pid counts.old counts.new) }
 {
     match place {
-        Place::Seizing => Ok(nothing(settings)),
-        Place::Resuming { .. } => Ok(nothing(settings)),
-        Place::EntryRegs => {
+        Awaiting::Seizing => Ok(nothing(settings)),
+        Awaiting::Resuming { .. } => Ok(nothing(settings)),
+        Awaiting::EntryRegs => {
             let came = registers_in(reply);
             hear_entry(settings, counts, printer, pid, tracee, came)
         }
-        Place::EntryPeek { registers, got, .. } => {
+        Awaiting::EntryPeek { registers, got, .. } => {
             let came = read_by(settings, reply);
             hear_entry_bytes(settings, counts, printer, pid, tracee, registers, got, came)
         }
-        Place::EntrySet { signal, .. } => Ok(hear_set(settings, signal, is_done(&reply))),
-        Place::ExitRegs => {
+        Awaiting::EntrySet { signal, .. } => Ok(hear_set(settings, signal, is_done(&reply))),
+        Awaiting::ExitRegs => {
             let came = registers_in(reply);
             hear_exit_regs(settings, printer, pid, tracee, came)
         }
-        Place::ExitSet { result: value, .. } => {
+        Awaiting::ExitSet { result: value, .. } => {
             let done = is_done(&reply);
             hear_put_back(settings, printer, pid, tracee, value, done)
         }
-        Place::ExitPeek {
+        Awaiting::ExitPeek {
             result: value,
             replaced,
             got,
@@ -648,7 +648,7 @@ pub(crate) fn hear(
             let came = read_by(settings, reply);
             hear_exit_bytes(settings, printer, pid, tracee, value, replaced, got, came)
         }
-        Place::SignalInfo { signal } => {
+        Awaiting::SignalInfo { signal } => {
             let came = info_in(&reply);
             hear_info(settings, printer, pid, signal, came)
         }
@@ -664,19 +664,19 @@ fn was_read(standing: Standing) -> bool
 
 /// Where a call begins or ends: at an exit the registers are wanted where its entry was read, and the call is
 /// shown or replaced.
-fn first_place(settings: &Settings, tracee: &Tracee) -> Place
+fn first_place(settings: &Settings, tracee: &Tracee) -> Awaiting
     ensures { (counts : ℕ → ℕ)
         → place_of result ≡ tracer.first_place (options_of settings.now) (known_of tracee.now counts)
         tracee.now.inside }
 {
     if !tracee.inside {
-        Place::EntryRegs
+        Awaiting::EntryRegs
     } else if was_read(tracee.standing)
         && (settings.options.shown.contains(tracee.called.number) || tracee.saved.is_some())
     {
-        Place::ExitRegs
+        Awaiting::ExitRegs
     } else {
-        Place::Resuming { signal: 0 }
+        Awaiting::Resuming { signal: 0 }
     }
 }
 
@@ -723,11 +723,11 @@ pub(crate) fn take_stop(
         Stop::Signal { signal } => {
             tracee.standing = Standing::AfterSignal;
             let signal = u32::from(signal.number);
-            Ok(asks(settings, Place::SignalInfo { signal }))
+            Ok(asks(settings, Awaiting::SignalInfo { signal }))
         }
         Stop::Event { event } => {
             tracee.standing = event_standing(event);
-            Ok(asks(settings, Place::Resuming { signal: 0 }))
+            Ok(asks(settings, Awaiting::Resuming { signal: 0 }))
         }
         Stop::Ended { word } => {
             tracee.standing = Standing::AtEnd;

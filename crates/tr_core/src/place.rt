@@ -15,7 +15,7 @@ pub struct Tracee {
 
 /// What is being asked of the tracee in hand.
 #[derive(Drop)]
-pub enum Place {
+pub enum Awaiting {
     Seizing,
     EntryRegs,
     EntryPeek {
@@ -52,7 +52,7 @@ pub enum Focus {
     /// The reply to Boot comes first.
     Booting,
     Waiting,
-    Serving { pid: u32, place: Place },
+    Serving { pid: u32, place: Awaiting },
     AskingOutcome,
     Over(Outcome),
     TurnsOver,

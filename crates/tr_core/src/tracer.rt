@@ -20,7 +20,7 @@ ghost use Rattle.tr_core.specs.Admitted.{next_by, tracees_by};
 use crate::admission::{admits_answer, stop_fits};
 use crate::hearing::{hear, is_done, take_stop};
 use crate::living::Living;
-use crate::place::{Focus, Place, Tracee};
+use crate::place::{Awaiting, Focus, Tracee};
 use crate::settings::{Options, Settings};
 use crate::tracing::{Act, TraceFault, Tracing};
 use containers::{Bytes, Map};
@@ -89,7 +89,7 @@ fn admits(core: &Core, reply: &Reply) -> bool
 }
 
 /// What was heard of a tracee is kept, and asked next.
-fn keep(core: &mut Core, pid: u32, tracee: Tracee, next: Option<Place>) -> Result<(), AllocError>
+fn keep(core: &mut Core, pid: u32, tracee: Tracee, next: Option<Awaiting>) -> Result<(), AllocError>
     ensures known { OnOk result (core.new.known ≡ maps.insert core.old.known pid tracee) }
     ensures focus { OnOk result (focus_of core.new.focus ≡ focus_on pid (option_map place_of next)) }
     ensures rest { OnOk result ((core.new.settings ≡ core.old.settings) × (core.new.counts ≡ core.old.counts)
@@ -129,7 +129,7 @@ fn hear_status(core: &mut Core, pid: u32, stop: Stop) -> Result<Bytes, AllocErro
 }
 
 /// A reply, which is admitted, to what was asked of the tracee in hand.
-fn hear_reply(core: &mut Core, pid: u32, place: Place, reply: Reply) -> Result<Bytes, AllocError>
+fn hear_reply(core: &mut Core, pid: u32, place: Awaiting, reply: Reply) -> Result<Bytes, AllocError>
     ensures { IfOk result
         (λ b. Goes
         (heard (known_in core.old) pid
@@ -222,7 +222,7 @@ fn hear_wait(
 fn hear_served(
     core: &mut Core,
     pid: u32,
-    place: Place,
+    place: Awaiting,
     reply: Reply,
     out: bool,
 ) -> Result<Bytes, AllocError>
@@ -264,14 +264,19 @@ fn attend_seized(living: &mut Living, pid: u32, seized: bool) -> Result<(), Allo
     Ok(())
 }
 
-fn is_seizing(place: &Place) -> bool
+fn is_seizing(place: &Awaiting) -> bool
     ensures { result ≡ seizes (place_of place.now) }
 {
-    matches!(place, Place::Seizing)
+    matches!(place, Awaiting::Seizing)
 }
 
 /// A reply to the tracee in hand, and the list of tracees after it.
-fn hear_serving(core: &mut Core, pid: u32, place: Place, reply: Reply) -> Result<Bytes, AllocError>
+fn hear_serving(
+    core: &mut Core,
+    pid: u32,
+    place: Awaiting,
+    reply: Reply,
+) -> Result<Bytes, AllocError>
     ensures { IfOk result
         (λ b. Goes
         (serves_by (options_of core.old.settings) (script_of core.old.settings) (known_in core.old) pid
@@ -309,7 +314,7 @@ fn go(core: &mut Core, focus: Focus, reply: Reply) -> Result<Bytes, AllocError>
             core,
             Focus::Serving {
                 pid: 1,
-                place: Place::Seizing,
+                place: Awaiting::Seizing,
             },
         )),
         Focus::Over(_) => Ok(stay(core, Focus::Faulted)),
@@ -335,23 +340,23 @@ fn step(core: &mut Core, reply: Reply) -> Result<Option<Bytes>, AllocError>
     Ok(Some(bytes))
 }
 
-fn ask_of(settings: &Settings, place: &Place) -> Result<Ask, AllocError>
+fn ask_of(settings: &Settings, place: &Awaiting) -> Result<Ask, AllocError>
     ensures { IfOk result (λ ask. ask ≡ asks (options_of settings.now) (place_of place.now)) }
 {
     let ask = match place {
-        Place::Seizing => Ask::Seize {
+        Awaiting::Seizing => Ask::Seize {
             options: if settings.options.follow { 0x13 } else { 0x11 },
         },
-        Place::EntryRegs | Place::ExitRegs => Ask::GetRegs,
-        Place::EntryPeek { want, .. } | Place::ExitPeek { want, .. } => Ask::Peek {
+        Awaiting::EntryRegs | Awaiting::ExitRegs => Ask::GetRegs,
+        Awaiting::EntryPeek { want, .. } | Awaiting::ExitPeek { want, .. } => Ask::Peek {
             address: want.0,
             length: want.1,
         },
-        Place::EntrySet { registers, .. } | Place::ExitSet { registers, .. } => Ask::SetRegs {
+        Awaiting::EntrySet { registers, .. } | Awaiting::ExitSet { registers, .. } => Ask::SetRegs {
             registers: RegisterSet::new(settings.alloc, registers.get())?,
         },
-        Place::SignalInfo { .. } => Ask::SigInfo,
-        Place::Resuming { signal } => Ask::Syscall { signal: *signal },
+        Awaiting::SignalInfo { .. } => Ask::SigInfo,
+        Awaiting::Resuming { signal } => Ask::Syscall { signal: *signal },
     };
     Ok(ask)
 }

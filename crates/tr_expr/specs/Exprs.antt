@@ -5,14 +5,14 @@ use Rattle.tr_expr.specs.Sets.{SaysSet, RefusesSet}
 use Rattle.tr_expr.specs.Rules.{SaysRule, RefusesRule}
 use Rattle.tr_expr.specs.declared.expr.Expr.{Expr}
 use Rattle.tr_expr.specs.declared.expr.Expr.TheVariants.{Trace, Inject as Tamper}
-use Rattle.tr_expr.specs.declared.rule.Tampering.{Tampering}
-use Rattle.tr_expr.specs.declared.rule.Tampering.TheVariants.{Inject, Fault}
+use Rattle.tr_expr.specs.declared.rule.InjectParts.{InjectParts}
+use Rattle.tr_expr.specs.declared.rule.InjectParts.TheVariants.{Inject, Fault}
 use Rattle.tr_expr.specs.declared.fault.ExprFault.{ExprFault}
 
 -- a set, or a tampering expression
 pub data Word : Type 0 where
   Traced : List ℕ → Word
-  Tampered : Tampering → List ℕ → Word
+  Tampered : InjectParts → List ℕ → Word
 
 abbrev pub word_of : List ℕ → Word
 word_of text =

@@ -11,8 +11,8 @@ use Rattle.tr_expr.specs.Numbers.{number, within}
 use Rattle.tr_expr.specs.Texts.{has_mark, before_mark, after_mark}
 use Rattle.tr_expr.specs.Whens.{Occurrences, when_value}
 use Rattle.tr_expr.specs.Faults.{refusal_of}
-use Rattle.tr_expr.specs.declared.rule.Tampering.{Tampering}
-use Rattle.tr_expr.specs.declared.rule.Tampering.TheVariants.{Inject, Fault}
+use Rattle.tr_expr.specs.declared.rule.InjectParts.{InjectParts}
+use Rattle.tr_expr.specs.declared.rule.InjectParts.TheVariants.{Inject, Fault}
 use Rattle.tr_expr.specs.declared.fault.ExprFault.{ExprFault}
 use Rattle.tr_expr.specs.declared.fault.ExprFault.TheVariants.{UnknownErrno, UnknownSignal, BadNumber, BadWhen, UnknownPart}
 
@@ -25,7 +25,7 @@ pub data Part : Type 0 where
   Unknown : Part
 
 -- fault= knows error and when alone
-abbrev pub taken : Tampering → Part → Part
+abbrev pub taken : InjectParts → Part → Part
 taken Inject part = part
 taken Fault (Error value) = Error value
 taken Fault (Retval value) = Unknown
@@ -41,7 +41,7 @@ keyed key value =
     else (if bytes_eq key (codes "when") then When value else Unknown)))
 
 -- a part is cut at its first =
-abbrev pub part_of : Tampering → List ℕ → Part
+abbrev pub part_of : InjectParts → List ℕ → Part
 part_of form text =
     taken form (if has_mark 61 text then keyed (before_mark 61 text) (after_mark 61 text) else Unknown)
 

@@ -30,5 +30,5 @@ mod text;
 pub use expr::{Expr, parse_expr};
 pub use fault::ExprFault;
 pub use lx_abi::{Choice, Rule, Script, Set, When};
-pub use rule::{Tampering, parse_fault, parse_inject};
+pub use rule::{InjectParts, parse_fault, parse_inject};
 pub use set::parse_trace;

@@ -9,7 +9,7 @@ ghost use Rattle.tr_expr.specs.Saids.{shown};
 
 use crate::fault::ExprFault;
 use crate::number::number;
-use crate::rule::Tampering;
+use crate::rule::InjectParts;
 use lx_abi::{Errno, Signal};
 
 /// A part, as what stands after its `=`.
@@ -34,16 +34,16 @@ fn keyed<'a>(key: &str, value: &'a str) -> Part<'a>
     }
 }
 
-fn taken(form: Tampering, part: Part<'_>) -> Part<'_>
+fn taken(form: InjectParts, part: Part<'_>) -> Part<'_>
     ensures { shown result ≡ spec.taken form (shown part.entry) }
 {
     match (form, part) {
-        (Tampering::Fault, Part::Retval(_) | Part::Signal(_)) => Part::Unknown,
+        (InjectParts::Fault, Part::Retval(_) | Part::Signal(_)) => Part::Unknown,
         (_, part) => part,
     }
 }
 
-pub(crate) fn read_part(form: Tampering, text: &str) -> Part<'_>
+pub(crate) fn read_part(form: InjectParts, text: &str) -> Part<'_>
     ensures { shown result ≡ spec.part_of form text.now }
 {
     match text.split_once('=') {

@@ -6,7 +6,7 @@ ghost use Rattle.tr_expr.specs.Rules.{SaysRule, RefusesRule, whole_causes};
 ghost use Rattle.tr_expr.specs.Saids.{IsSaidBy};
 ghost use Rattle.tr_expr.specs.Whens.{view, every};
 ghost use Rattle.tr_expr.specs.Faults.{found};
-ghost use Rattle.tr_expr.specs.declared.rule.Tampering.TheVariants.{Inject, Fault};
+ghost use Rattle.tr_expr.specs.declared.rule.InjectParts.TheVariants.{Inject, Fault};
 
 use crate::fault::ExprFault;
 use crate::occurrences;
@@ -17,25 +17,25 @@ use std::alloc::Global;
 
 /// `inject=`, or `fault=`, which knows the parts error and when alone.
 #[derive(Clone, Copy, Debug, PartialEq, Eq)]
-pub enum Tampering {
+pub enum InjectParts {
     Inject,
     Fault,
 }
 
-impl Tampering {
+impl InjectParts {
     /// The result where no part says one.
     pub(crate) fn usual_result(self) -> Option<i64>
         ensures { result ≡ spec.usual_result self }
     {
         match self {
-            Tampering::Inject => None,
-            Tampering::Fault => Some(-i64::from(Errno::ENOSYS.number)),
+            InjectParts::Inject => None,
+            InjectParts::Fault => Some(-i64::from(Errno::ENOSYS.number)),
         }
     }
 }
 
 /// The text of the set, and what the parts say.
-fn cut(form: Tampering, text: &str) -> (&str, Said)
+fn cut(form: InjectParts, text: &str) -> (&str, Said)
     ensures set { result.0.now ≡ spec.set_text text.now }
     ensures said { IsSaidBy (spec.parts form text.now) result.1 }
 {
@@ -55,7 +55,7 @@ fn occurrences_of(said: &Said) -> When
 }
 
 /// The fault that is found first, in the set or the parts.
-fn refusal(form: Tampering, set: Option<ExprFault>, said: &Said) -> Option<ExprFault>
+fn refusal(form: InjectParts, set: Option<ExprFault>, said: &Said) -> Option<ExprFault>
     ensures { (xs ys : _) → set ≡ found None xs → said.now.fault ≡ found None ys
         → result ≡ found None (xs ++ (ys ++ whole_causes form said.now.error said.now.retval said.now.signal)) }
 {
@@ -65,7 +65,7 @@ fn refusal(form: Tampering, set: Option<ExprFault>, said: &Said) -> Option<ExprF
     }
 }
 
-fn parse_rule(alloc: Global, form: Tampering, text: &str) -> Result<Rule, ExprFault>
+fn parse_rule(alloc: Global, form: InjectParts, text: &str) -> Result<Rule, ExprFault>
     ensures meaning { IfOk result (SaysRule form text.now) }
     ensures refusal { IfErr result (RefusesRule form text.now) }
 {
@@ -89,7 +89,7 @@ pub fn parse_inject(alloc: Global, text: &str) -> Result<Rule, ExprFault>
     ensures meaning { IfOk result (SaysRule Inject text.now) }
     ensures refusal { IfErr result (RefusesRule Inject text.now) }
 {
-    parse_rule(alloc, Tampering::Inject, text)
+    parse_rule(alloc, InjectParts::Inject, text)
 }
 
 /// The rule that a text says, as after `fault=`. The calls fail with `ENOSYS` where it names no other error.
@@ -97,5 +97,5 @@ pub fn parse_fault(alloc: Global, text: &str) -> Result<Rule, ExprFault>
     ensures meaning { IfOk result (SaysRule Fault text.now) }
     ensures refusal { IfErr result (RefusesRule Fault text.now) }
 {
-    parse_rule(alloc, Tampering::Fault, text)
+    parse_rule(alloc, InjectParts::Fault, text)
 }

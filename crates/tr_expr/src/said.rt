@@ -12,7 +12,7 @@ ghost use Rattle.tr_expr.specs.Saids.{IsSaidBy, shown};
 use crate::fault::ExprFault;
 use crate::occurrences::read_when;
 use crate::part::{self, Part, read_part};
-use crate::rule::Tampering;
+use crate::rule::InjectParts;
 use lx_abi::{Signal, When};
 
 /// What the parts so far say, and the fault that is found first.
@@ -64,14 +64,14 @@ impl Said {
     }
 
     /// The result that replaces a call's own.
-    pub(crate) fn result(&self, form: Tampering) -> Option<i64>
+    pub(crate) fn result(&self, form: InjectParts) -> Option<i64>
         ensures { result ≡ result_by form self.now.error self.now.retval }
     {
         self.error.or(self.retval).or(form.usual_result())
     }
 
     /// The fault that is found first, of the parts together too.
-    pub(crate) fn refusal(&self, form: Tampering) -> Option<ExprFault>
+    pub(crate) fn refusal(&self, form: InjectParts) -> Option<ExprFault>
         ensures { result
             ≡ found self.now.fault (whole_causes form self.now.error self.now.retval self.now.signal) }
     {
@@ -86,7 +86,7 @@ impl Said {
 }
 
 /// What parts say that are joined by colons.
-pub(crate) fn said_by(form: Tampering, parts: &str) -> Said
+pub(crate) fn said_by(form: InjectParts, parts: &str) -> Said
     ensures { IsSaidBy (map (part_of form) (pieces 58 parts.now)) result }
 {
     let mut said = Said::NOTHING;

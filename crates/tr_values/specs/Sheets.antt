@@ -1,8 +1,8 @@
 -- A sheet: text under way, and the byte strings that were read for it, those not looked at yet.
 use Rattle.std.specs.Prelude.{◌≡◌, ℕ, List, [], ◌∷◌, ◌++◌, Result, Ok, Err, ⊤}
 use Rattle.std.specs.Borrow.{Bor}
-use Rattle.tr_values.specs.declared.sheet.Stop.{Stop}
-use Rattle.tr_values.specs.declared.sheet.Stop.TheVariants.{Wants as Stops, Memory}
+use Rattle.tr_values.specs.declared.sheet.Needed.{Needed}
+use Rattle.tr_values.specs.declared.sheet.Needed.TheVariants.{Wants as Stops, Memory}
 
 pub record Sheet : Type 0 where
   pub out : List ℕ
@@ -31,12 +31,12 @@ abbrev pub reads : ℕ → ℕ → (List ℕ → Sheet → Shown) → Sheet → 
 reads address length f s = reads_from address length f s.out s.left
 
 -- what a function that shows a part left
-abbrev pub Leaves : Result (Unit {0}) Stop → Sheet → Shown → Type 0
+abbrev pub Leaves : Result (Unit {0}) Needed → Sheet → Shown → Type 0
 Leaves (Ok u) s shown = shown ≡ Has s
 Leaves (Err (Stops address length)) s shown = shown ≡ Wants address length
 Leaves (Err Memory) s shown = ⊤
 
 -- what a read of so many bytes at this address left: the bytes, or the wish for them
-abbrev pub HasRead : Result (Bor (List ℕ)) Stop → ℕ → ℕ → Sheet → Sheet → Type 0
+abbrev pub HasRead : Result (Bor (List ℕ)) Needed → ℕ → ℕ → Sheet → Sheet → Type 0
 HasRead (Ok bytes) address length s t = s ≡ record { out = t.out; left = bytes.now ∷ t.left }
 HasRead (Err stop) address length s t = (s.left ≡ []) × (stop ≡ Stops address length) × (t ≡ s)

@@ -4,10 +4,10 @@ ghost use Rattle.tr_values.specs.Children as spec;
 ghost use Rattle.tr_values.specs.Sheets.{Leaves};
 
 use crate::numbers;
-use crate::sheet::{Sheet, Stop};
+use crate::sheet::{Needed, Sheet};
 
 #[tactic(auto, unfolding(crate::specs::Children::child_stack))]
-pub fn child_stack(sheet: &mut Sheet<'_>, address: u64) -> Result<(), Stop>
+pub fn child_stack(sheet: &mut Sheet<'_>, address: u64) -> Result<(), Needed>
     ensures { Leaves result sheet.new (spec.child_stack address sheet.old) }
 {
     sheet.put("child_stack=")?;
@@ -15,7 +15,7 @@ pub fn child_stack(sheet: &mut Sheet<'_>, address: u64) -> Result<(), Stop>
 }
 
 #[tactic(auto, unfolding(crate::specs::Children::clone_flags))]
-pub fn clone_flags(sheet: &mut Sheet<'_>, word: u64) -> Result<(), Stop>
+pub fn clone_flags(sheet: &mut Sheet<'_>, word: u64) -> Result<(), Needed>
     ensures { Leaves result sheet.new (spec.clone_flags word sheet.old) }
 {
     sheet.put("flags=")?;

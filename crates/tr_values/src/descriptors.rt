@@ -5,12 +5,12 @@ ghost use Rattle.tr_values.specs.Descriptors as spec;
 ghost use Rattle.tr_values.specs.Sheets.{Leaves};
 
 use crate::numbers;
-use crate::sheet::{Sheet, Stop};
+use crate::sheet::{Needed, Sheet};
 use crate::structs::{half_at, struct_at};
 
 /// `AT_FDCWD`, or a number.
 #[tactic(auto, unfolding(crate::specs::Descriptors::directory))]
-pub fn directory(sheet: &mut Sheet<'_>, x: u64) -> Result<(), Stop>
+pub fn directory(sheet: &mut Sheet<'_>, x: u64) -> Result<(), Needed>
     ensures { Leaves result sheet.new (spec.directory x sheet.old) }
 {
     if x % (1 << 32) == (1 << 32) - 100 {
@@ -21,7 +21,7 @@ pub fn directory(sheet: &mut Sheet<'_>, x: u64) -> Result<(), Stop>
 }
 
 #[tactic(auto, unfolding(crate::specs::Descriptors::pair_read))]
-fn pair_read(sheet: &mut Sheet<'_>, bytes: &[u8]) -> Result<(), Stop>
+fn pair_read(sheet: &mut Sheet<'_>, bytes: &[u8]) -> Result<(), Needed>
     requires { 8 ≤ length bytes.now }
     ensures { Leaves result sheet.new (spec.pair_read bytes.now sheet.old) }
 {
@@ -34,7 +34,7 @@ fn pair_read(sheet: &mut Sheet<'_>, bytes: &[u8]) -> Result<(), Stop>
 
 /// The two descriptors that pipe2 gives.
 #[tactic(auto, unfolding(crate::specs::Descriptors::pair))]
-pub fn pair(sheet: &mut Sheet<'_>, address: u64) -> Result<(), Stop>
+pub fn pair(sheet: &mut Sheet<'_>, address: u64) -> Result<(), Needed>
     ensures { Leaves result sheet.new (spec.pair address sheet.old) }
 {
     struct_at!(sheet, address, 8, pair_read)

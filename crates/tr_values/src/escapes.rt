@@ -4,7 +4,7 @@ ghost use Rattle.std.specs.Prelude.{◌≡◌, ◌≤◌, ◌<◌, ◌+◌, ◌�
 ghost use Rattle.tr_values.specs.Escapes as spec;
 ghost use Rattle.tr_values.specs.Sheets.{Leaves, put};
 
-use crate::sheet::{Sheet, Stop};
+use crate::sheet::{Needed, Sheet};
 
 fn begins_with_digit(bytes: &[u8]) -> bool
     ensures { result ≡ spec.begins_with_digit bytes.now }
@@ -15,7 +15,7 @@ fn begins_with_digit(bytes: &[u8]) -> bool
     }
 }
 
-fn digit(sheet: &mut Sheet<'_>, d: u8) -> Result<(), Stop>
+fn digit(sheet: &mut Sheet<'_>, d: u8) -> Result<(), Needed>
     requires { d < 10 }
     ensures { Leaves result sheet.new (put ((48 + d) ∷ []) sheet.old) }
 {
@@ -23,7 +23,7 @@ fn digit(sheet: &mut Sheet<'_>, d: u8) -> Result<(), Stop>
 }
 
 /// The shortest octal escape, and one of three digits before a digit.
-fn octal_escape(sheet: &mut Sheet<'_>, byte: u8, digit_next: bool) -> Result<(), Stop>
+fn octal_escape(sheet: &mut Sheet<'_>, byte: u8, digit_next: bool) -> Result<(), Needed>
     ensures { Leaves result sheet.new (put (spec.octal_escape byte digit_next) sheet.old) }
 {
     sheet.put("\\")?;
@@ -36,7 +36,7 @@ fn octal_escape(sheet: &mut Sheet<'_>, byte: u8, digit_next: bool) -> Result<(),
     }
 }
 
-fn escape(sheet: &mut Sheet<'_>, byte: u8, digit_next: bool) -> Result<(), Stop>
+fn escape(sheet: &mut Sheet<'_>, byte: u8, digit_next: bool) -> Result<(), Needed>
     ensures { Leaves result sheet.new (put (spec.escape byte digit_next) sheet.old) }
 {
     match byte {
@@ -53,7 +53,7 @@ fn escape(sheet: &mut Sheet<'_>, byte: u8, digit_next: bool) -> Result<(), Stop>
 }
 
 #[tactic(auto, unfolding(crate::specs::Escapes::escaped))]
-fn escaped(sheet: &mut Sheet<'_>, bytes: &[u8]) -> Result<(), Stop>
+fn escaped(sheet: &mut Sheet<'_>, bytes: &[u8]) -> Result<(), Needed>
     ensures { Leaves result sheet.new (put (spec.escaped bytes.now) sheet.old) }
 {
     let mut left = bytes;
@@ -65,7 +65,7 @@ fn escaped(sheet: &mut Sheet<'_>, bytes: &[u8]) -> Result<(), Stop>
 }
 
 #[tactic(auto, unfolding(crate::specs::Escapes::quoted))]
-pub fn quoted(sheet: &mut Sheet<'_>, bytes: &[u8]) -> Result<(), Stop>
+pub fn quoted(sheet: &mut Sheet<'_>, bytes: &[u8]) -> Result<(), Needed>
     ensures { Leaves result sheet.new (spec.quoted bytes.now sheet.old) }
 {
     sheet.put("\"")?;
@@ -74,7 +74,7 @@ pub fn quoted(sheet: &mut Sheet<'_>, bytes: &[u8]) -> Result<(), Stop>
 }
 
 /// Bytes of which there are more.
-pub fn cut(sheet: &mut Sheet<'_>, bytes: &[u8]) -> Result<(), Stop>
+pub fn cut(sheet: &mut Sheet<'_>, bytes: &[u8]) -> Result<(), Needed>
     ensures { Leaves result sheet.new (spec.cut bytes.now sheet.old) }
 {
     quoted(sheet, bytes)?;

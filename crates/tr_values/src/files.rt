@@ -4,13 +4,13 @@ ghost use Rattle.std.specs.Prelude.{◌≤◌, length};
 ghost use Rattle.tr_values.specs.Files as spec;
 ghost use Rattle.tr_values.specs.Sheets.{Leaves};
 
-use crate::sheet::{Sheet, Stop};
+use crate::sheet::{Needed, Sheet};
 use crate::structs::{half_at, struct_at, word_at};
 use crate::{flags, numbers};
 use lx_abi::flags::FILE_TYPES;
 
 #[tactic(auto, unfolding(crate::specs::Files::file_type))]
-fn file_type(sheet: &mut Sheet<'_>, x: u64) -> Result<(), Stop>
+fn file_type(sheet: &mut Sheet<'_>, x: u64) -> Result<(), Needed>
     ensures { Leaves result sheet.new (spec.file_type x sheet.old) }
 {
     flags::named(sheet, &FILE_TYPES, x)
@@ -18,7 +18,7 @@ fn file_type(sheet: &mut Sheet<'_>, x: u64) -> Result<(), Stop>
 
 /// A type and permissions.
 #[tactic(auto, unfolding(crate::specs::Files::file_mode))]
-fn file_mode(sheet: &mut Sheet<'_>, mode: u64) -> Result<(), Stop>
+fn file_mode(sheet: &mut Sheet<'_>, mode: u64) -> Result<(), Needed>
     ensures { Leaves result sheet.new (spec.file_mode mode sheet.old) }
 {
     file_type(sheet, mode / 4096 * 4096)?;
@@ -27,7 +27,7 @@ fn file_mode(sheet: &mut Sheet<'_>, mode: u64) -> Result<(), Stop>
 }
 
 #[tactic(auto, unfolding(crate::specs::Files::stat_read))]
-fn stat_read(sheet: &mut Sheet<'_>, bytes: &[u8]) -> Result<(), Stop>
+fn stat_read(sheet: &mut Sheet<'_>, bytes: &[u8]) -> Result<(), Needed>
     requires { 128 ≤ length bytes.now }
     ensures { Leaves result sheet.new (spec.stat_read bytes.now sheet.old) }
 {
@@ -40,7 +40,7 @@ fn stat_read(sheet: &mut Sheet<'_>, bytes: &[u8]) -> Result<(), Stop>
 
 /// A struct stat in memory.
 #[tactic(auto, unfolding(crate::specs::Files::stat))]
-pub fn stat(sheet: &mut Sheet<'_>, address: u64) -> Result<(), Stop>
+pub fn stat(sheet: &mut Sheet<'_>, address: u64) -> Result<(), Needed>
     ensures { Leaves result sheet.new (spec.stat address sheet.old) }
 {
     struct_at!(sheet, address, 128, stat_read)

@@ -7,17 +7,17 @@ ghost use Rattle.tr_values.specs.Flags as spec;
 ghost use Rattle.tr_values.specs.Sheets.{Leaves, put};
 
 use crate::numbers;
-use crate::sheet::{Sheet, Stop};
+use crate::sheet::{Needed, Sheet};
 use lx_abi::flags as tables;
 use lx_abi::flags::{Named, has};
 
-fn bar(sheet: &mut Sheet<'_>, some: bool) -> Result<(), Stop>
+fn bar(sheet: &mut Sheet<'_>, some: bool) -> Result<(), Needed>
     ensures { Leaves result sheet.new (put (spec.bar some) sheet.old) }
 {
     sheet.put(if some { "|" } else { "" })
 }
 
-fn rest(sheet: &mut Sheet<'_>, some: bool, word: u64) -> Result<(), Stop>
+fn rest(sheet: &mut Sheet<'_>, some: bool, word: u64) -> Result<(), Needed>
     ensures { Leaves result sheet.new (put (spec.rest_text some word) sheet.old) }
 {
     if word == 0 {
@@ -29,7 +29,7 @@ fn rest(sheet: &mut Sheet<'_>, some: bool, word: u64) -> Result<(), Stop>
 
 /// Names, and the rest in hex, beside a name that may stand there already.
 #[tactic(auto, unfolding(crate::specs::Flags::flags_text))]
-fn more_flags(sheet: &mut Sheet<'_>, some: bool, word: u64, rows: &[Named]) -> Result<(), Stop>
+fn more_flags(sheet: &mut Sheet<'_>, some: bool, word: u64, rows: &[Named]) -> Result<(), Needed>
     requires { IsTrue (list_all is_flag rows.now) }
     ensures { Leaves result sheet.new (put (spec.flags_text some word (map named_row rows.now)) sheet.old) }
 {
@@ -46,14 +46,14 @@ fn more_flags(sheet: &mut Sheet<'_>, some: bool, word: u64, rows: &[Named]) -> R
     }
 }
 
-fn flags(sheet: &mut Sheet<'_>, rows: &[Named], word: u64) -> Result<(), Stop>
+fn flags(sheet: &mut Sheet<'_>, rows: &[Named], word: u64) -> Result<(), Needed>
     requires { IsTrue (list_all is_flag rows.now) }
     ensures { Leaves result sheet.new (spec.flags (map named_row rows.now) word sheet.old) }
 {
     more_flags(sheet, false, word, rows)
 }
 
-fn flags_or(sheet: &mut Sheet<'_>, none: &str, rows: &[Named], word: u64) -> Result<(), Stop>
+fn flags_or(sheet: &mut Sheet<'_>, none: &str, rows: &[Named], word: u64) -> Result<(), Needed>
     requires { IsTrue (list_all is_flag rows.now) }
     ensures { Leaves result sheet.new (spec.flags_or none.now (map named_row rows.now) word sheet.old) }
 {
@@ -66,7 +66,7 @@ fn flags_or(sheet: &mut Sheet<'_>, none: &str, rows: &[Named], word: u64) -> Res
 
 /// The name of a number, else hex.
 #[tactic(auto, unfolding(crate::specs::Flags::name_of, crate::specs::Numbers::hex))]
-pub(crate) fn named(sheet: &mut Sheet<'_>, rows: &[Named], number: u64) -> Result<(), Stop>
+pub(crate) fn named(sheet: &mut Sheet<'_>, rows: &[Named], number: u64) -> Result<(), Needed>
     ensures { Leaves result sheet.new (spec.named (map named_row rows.now) number sheet.old) }
 {
     match rows {
@@ -81,7 +81,7 @@ pub(crate) fn named(sheet: &mut Sheet<'_>, rows: &[Named], number: u64) -> Resul
     }
 }
 
-fn access_mode(sheet: &mut Sheet<'_>, number: u64) -> Result<(), Stop>
+fn access_mode(sheet: &mut Sheet<'_>, number: u64) -> Result<(), Needed>
     ensures { Leaves result sheet.new (spec.access_mode number sheet.old) }
 {
     named(sheet, &tables::ACCESS_MODES, number)
@@ -89,7 +89,7 @@ fn access_mode(sheet: &mut Sheet<'_>, number: u64) -> Result<(), Stop>
 
 /// An access mode and flags beside it.
 #[tactic(auto, unfolding(crate::specs::Flags::open_flags))]
-pub fn open_flags(sheet: &mut Sheet<'_>, word: u64) -> Result<(), Stop>
+pub fn open_flags(sheet: &mut Sheet<'_>, word: u64) -> Result<(), Needed>
     ensures { Leaves result sheet.new (spec.open_flags word sheet.old) }
 {
     access_mode(sheet, word % 4)?;
@@ -97,63 +97,63 @@ pub fn open_flags(sheet: &mut Sheet<'_>, word: u64) -> Result<(), Stop>
 }
 
 #[tactic(auto, unfolding(crate::specs::Flags::descriptor_flags))]
-pub fn descriptor_flags(sheet: &mut Sheet<'_>, word: u64) -> Result<(), Stop>
+pub fn descriptor_flags(sheet: &mut Sheet<'_>, word: u64) -> Result<(), Needed>
     ensures { Leaves result sheet.new (spec.descriptor_flags word sheet.old) }
 {
     flags(sheet, &tables::DESCRIPTOR_FLAGS, word)
 }
 
 #[tactic(auto, unfolding(crate::specs::Flags::stat_flags))]
-pub fn stat_flags(sheet: &mut Sheet<'_>, word: u64) -> Result<(), Stop>
+pub fn stat_flags(sheet: &mut Sheet<'_>, word: u64) -> Result<(), Needed>
     ensures { Leaves result sheet.new (spec.stat_flags word sheet.old) }
 {
     flags(sheet, &tables::STAT_FLAGS, word)
 }
 
 #[tactic(auto, unfolding(crate::specs::Flags::unlink_flags))]
-pub fn unlink_flags(sheet: &mut Sheet<'_>, word: u64) -> Result<(), Stop>
+pub fn unlink_flags(sheet: &mut Sheet<'_>, word: u64) -> Result<(), Needed>
     ensures { Leaves result sheet.new (spec.unlink_flags word sheet.old) }
 {
     flags(sheet, &tables::UNLINK_FLAGS, word)
 }
 
 #[tactic(auto, unfolding(crate::specs::Flags::protection))]
-pub fn protection(sheet: &mut Sheet<'_>, word: u64) -> Result<(), Stop>
+pub fn protection(sheet: &mut Sheet<'_>, word: u64) -> Result<(), Needed>
     ensures { Leaves result sheet.new (spec.protection word sheet.old) }
 {
     flags_or(sheet, "PROT_NONE", &tables::PROTECTIONS, word)
 }
 
 #[tactic(auto, unfolding(crate::specs::Flags::map_flags))]
-pub fn map_flags(sheet: &mut Sheet<'_>, word: u64) -> Result<(), Stop>
+pub fn map_flags(sheet: &mut Sheet<'_>, word: u64) -> Result<(), Needed>
     ensures { Leaves result sheet.new (spec.map_flags word sheet.old) }
 {
     flags(sheet, &tables::MAP_FLAGS, word)
 }
 
 #[tactic(auto, unfolding(crate::specs::Flags::wait_options))]
-pub fn wait_options(sheet: &mut Sheet<'_>, word: u64) -> Result<(), Stop>
+pub fn wait_options(sheet: &mut Sheet<'_>, word: u64) -> Result<(), Needed>
     ensures { Leaves result sheet.new (spec.wait_options word sheet.old) }
 {
     flags(sheet, &tables::WAIT_OPTIONS, word)
 }
 
 #[tactic(auto, unfolding(crate::specs::Flags::action_flags))]
-pub(crate) fn action_flags(sheet: &mut Sheet<'_>, word: u64) -> Result<(), Stop>
+pub(crate) fn action_flags(sheet: &mut Sheet<'_>, word: u64) -> Result<(), Needed>
     ensures { Leaves result sheet.new (spec.action_flags word sheet.old) }
 {
     flags(sheet, &tables::ACTION_FLAGS, word)
 }
 
 #[tactic(auto, unfolding(crate::specs::Flags::whence))]
-pub fn whence(sheet: &mut Sheet<'_>, number: u64) -> Result<(), Stop>
+pub fn whence(sheet: &mut Sheet<'_>, number: u64) -> Result<(), Needed>
     ensures { Leaves result sheet.new (spec.whence number sheet.old) }
 {
     named(sheet, &tables::WHENCES, number)
 }
 
 #[tactic(auto, unfolding(crate::specs::Flags::mask_change))]
-pub fn mask_change(sheet: &mut Sheet<'_>, number: u64) -> Result<(), Stop>
+pub fn mask_change(sheet: &mut Sheet<'_>, number: u64) -> Result<(), Needed>
     ensures { Leaves result sheet.new (spec.mask_change number sheet.old) }
 {
     named(sheet, &tables::MASK_CHANGES, number)

@@ -16,4 +16,4 @@ pub mod signals;
 mod structs;
 pub mod wait_words;
 
-pub use sheet::{Sheet, Stop};
+pub use sheet::{Needed, Sheet};

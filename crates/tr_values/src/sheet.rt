@@ -3,7 +3,7 @@
 ghost use Rattle.std.specs.Prelude.{◌≡◌, ◌<◌, ℕ, List, ◌++◌, ◌∷◌, [], OnOk, OnErr, IfErr, IfOk, decimal, codes, string_bytes, false, length};
 ghost use Rattle.std.specs.Fmt.{digits};
 ghost use Rattle.tr_values.specs.Sheets as spec;
-ghost use Rattle.tr_values.specs.declared.sheet.Stop.TheVariants.{Memory};
+ghost use Rattle.tr_values.specs.declared.sheet.Needed.TheVariants.{Memory};
 
 use containers::Bytes;
 use std::alloc::{AllocError, Global};
@@ -11,17 +11,17 @@ use std::marker::Model;
 
 /// Why a text isn't whole yet.
 #[derive(Clone, Copy, Debug, PartialEq, Eq)]
-pub enum Stop {
+pub enum Needed {
     /// So many bytes at this address are read first.
     Wants { address: u64, length: u32 },
     Memory,
 }
 
-impl From<AllocError> for Stop {
+impl From<AllocError> for Needed {
     ghost from_gives = { λ _ e. e ≡ Memory };
 
-    fn from(_error: AllocError) -> Stop {
-        Stop::Memory
+    fn from(_error: AllocError) -> Needed {
+        Needed::Memory
     }
 }
 
@@ -77,7 +77,7 @@ impl<'a> Sheet<'a> {
     }
 
     /// What was put to a part.
-    pub fn take(&mut self, part: Sheet<'a>) -> Result<(), Stop>
+    pub fn take(&mut self, part: Sheet<'a>) -> Result<(), Needed>
         ensures { spec.Leaves result self.new
             (spec.put part.entry.out (record { out = self.old.out; left = part.entry.left })) }
     {
@@ -103,14 +103,14 @@ impl<'a> Sheet<'a> {
         self.text
     }
 
-    pub fn put(&mut self, text: &str) -> Result<(), Stop>
+    pub fn put(&mut self, text: &str) -> Result<(), Needed>
         ensures { spec.Leaves result self.new (spec.put text.now self.old) }
     {
         self.text.push_str(text)?;
         Ok(())
     }
 
-    pub(crate) fn byte(&mut self, byte: u8) -> Result<(), Stop>
+    pub(crate) fn byte(&mut self, byte: u8) -> Result<(), Needed>
         requires { byte < 128 }
         ensures { spec.Leaves result self.new (spec.put (byte ∷ []) self.old) }
     {
@@ -118,21 +118,21 @@ impl<'a> Sheet<'a> {
         Ok(())
     }
 
-    pub fn decimal(&mut self, n: u64) -> Result<(), Stop>
+    pub fn decimal(&mut self, n: u64) -> Result<(), Needed>
         ensures { spec.Leaves result self.new (spec.put (decimal n) self.old) }
     {
         write!(self.text, "{n}")?;
         Ok(())
     }
 
-    pub(crate) fn hex(&mut self, n: u64) -> Result<(), Stop>
+    pub(crate) fn hex(&mut self, n: u64) -> Result<(), Needed>
         ensures { spec.Leaves result self.new (spec.put (codes "0x" ++ digits 16 false n) self.old) }
     {
         write!(self.text, "0x{n:x}")?;
         Ok(())
     }
 
-    pub(crate) fn octal(&mut self, n: u64) -> Result<(), Stop>
+    pub(crate) fn octal(&mut self, n: u64) -> Result<(), Needed>
         ensures { spec.Leaves result self.new (spec.put (digits 8 false n) self.old) }
     {
         write!(self.text, "{n:o}")?;
@@ -140,7 +140,7 @@ impl<'a> Sheet<'a> {
     }
 
     /// The bytes that were read, or the wish to read them.
-    pub fn read(&mut self, address: u64, length: u32) -> Result<&'a [u8], Stop>
+    pub fn read(&mut self, address: u64, length: u32) -> Result<&'a [u8], Needed>
         ensures { spec.HasRead result address length self.old self.new }
     {
         match self.unread.split_first() {
@@ -148,7 +148,7 @@ impl<'a> Sheet<'a> {
                 self.unread = rest;
                 Ok(bytes.as_slice())
             }
-            None => Err(Stop::Wants { address, length }),
+            None => Err(Needed::Wants { address, length }),
         }
     }
 }

@@ -5,13 +5,13 @@ ghost use Rattle.tr_values.specs.Signals as spec;
 ghost use Rattle.tr_values.specs.Sheets.{Leaves, put};
 
 use crate::numbers;
-use crate::sheet::{Sheet, Stop};
+use crate::sheet::{Needed, Sheet};
 use crate::structs::{struct_at, word_at};
 use lx_abi::Signal;
 
 /// A name with `SIG`, else the low 32 bits, signed.
 #[tactic(auto, unfolding(crate::specs::Signals::signal_number))]
-pub fn signal_number(sheet: &mut Sheet<'_>, x: u64) -> Result<(), Stop>
+pub fn signal_number(sheet: &mut Sheet<'_>, x: u64) -> Result<(), Needed>
     ensures { Leaves result sheet.new (spec.signal_number x sheet.old) }
 {
     match Signal::from_number(x % (1 << 32)) {
@@ -24,7 +24,7 @@ pub fn signal_number(sheet: &mut Sheet<'_>, x: u64) -> Result<(), Stop>
 }
 
 /// A name without `SIG`, else the number.
-pub(crate) fn bare_signal(sheet: &mut Sheet<'_>, n: u64) -> Result<(), Stop>
+pub(crate) fn bare_signal(sheet: &mut Sheet<'_>, n: u64) -> Result<(), Needed>
     ensures { Leaves result sheet.new (put (spec.bare_signal n) sheet.old) }
 {
     match Signal::from_number(n) {
@@ -35,7 +35,7 @@ pub(crate) fn bare_signal(sheet: &mut Sheet<'_>, n: u64) -> Result<(), Stop>
 
 /// Of so many signals from `n` on those in a set, of which the lowest bit is `n`'s.
 #[tactic(auto, unfolding(crate::specs::Signals::signals_text))]
-fn signals(sheet: &mut Sheet<'_>, count: u64, some: bool, n: u64, set: u64) -> Result<(), Stop>
+fn signals(sheet: &mut Sheet<'_>, count: u64, some: bool, n: u64, set: u64) -> Result<(), Needed>
     requires { n + count ≤ 65 }
     ensures { Leaves result sheet.new (put (spec.signals_text count some n set) sheet.old) }
 {
@@ -51,7 +51,7 @@ fn signals(sheet: &mut Sheet<'_>, count: u64, some: bool, n: u64, set: u64) -> R
 }
 
 #[tactic(auto, unfolding(crate::specs::Signals::set_shown))]
-pub(crate) fn set_shown(sheet: &mut Sheet<'_>, set: u64) -> Result<(), Stop>
+pub(crate) fn set_shown(sheet: &mut Sheet<'_>, set: u64) -> Result<(), Needed>
     ensures { Leaves result sheet.new (spec.set_shown set sheet.old) }
 {
     sheet.put("[")?;
@@ -59,7 +59,7 @@ pub(crate) fn set_shown(sheet: &mut Sheet<'_>, set: u64) -> Result<(), Stop>
     sheet.put("]")
 }
 
-fn set_read(sheet: &mut Sheet<'_>, bytes: &[u8]) -> Result<(), Stop>
+fn set_read(sheet: &mut Sheet<'_>, bytes: &[u8]) -> Result<(), Needed>
     requires { 8 ≤ length bytes.now }
     ensures { Leaves result sheet.new (spec.set_read bytes.now sheet.old) }
 {
@@ -68,7 +68,7 @@ fn set_read(sheet: &mut Sheet<'_>, bytes: &[u8]) -> Result<(), Stop>
 
 /// A set in memory.
 #[tactic(auto, unfolding(crate::specs::Signals::signal_set))]
-pub fn signal_set(sheet: &mut Sheet<'_>, address: u64) -> Result<(), Stop>
+pub fn signal_set(sheet: &mut Sheet<'_>, address: u64) -> Result<(), Needed>
     ensures { Leaves result sheet.new (spec.signal_set address sheet.old) }
 {
     struct_at!(sheet, address, 8, set_read)
@@ -76,7 +76,7 @@ pub fn signal_set(sheet: &mut Sheet<'_>, address: u64) -> Result<(), Stop>
 
 /// The mask in the signal frame at the stack pointer.
 #[tactic(auto, unfolding(crate::specs::Signals::frame_mask))]
-pub fn frame_mask(sheet: &mut Sheet<'_>, sp: u64) -> Result<(), Stop>
+pub fn frame_mask(sheet: &mut Sheet<'_>, sp: u64) -> Result<(), Needed>
     ensures { Leaves result sheet.new (spec.frame_mask sp sheet.old) }
 {
     sheet.put("{mask=")?;

@@ -10,10 +10,10 @@ use Rattle.lx_model.specs.Kernel.{Script}
 use Rattle.pt_model.specs.Parts.{Options}
 use Rattle.pt_model.specs.Replies.{after, after_all}
 use Rattle.pt_model.specs.Tracer.{Focus, Booting, Waiting, Serving, Asking_outcome, Over, Turns_over, Faulted}
-use Rattle.pt_model.specs.Tracer.{Known, Place, Next, Tracer, Moved, hears, focus_on, took_stop, took_status, next_at, admits_at, takes, faults, next}
+use Rattle.pt_model.specs.Tracer.{Known, Awaiting, Next, Tracer, Moved, hears, focus_on, took_stop, took_status, next_at, admits_at, takes, faults, next}
 
 module _ (o : Options) (script : Script) where
-  on : (p : ℕ) (place : Option Place) → focus_on p place ≡ Booting → ⊥
+  on : (p : ℕ) (place : Option Awaiting) → focus_on p place ≡ Booting → ⊥
   on p None e = cc e
   on p (Some place) e = cc e
 

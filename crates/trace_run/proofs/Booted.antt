@@ -3,7 +3,7 @@ use Rattle.std.proofs.Common.{◌≡◌, ℕ, false, List, [], Option, Some, Res
 use Rattle.std.specs.Prelude.{IfErr}
 use Rattle.lx_abi.specs.declared.outcome.Outcome.{Outcome}
 use Rattle.lx_proc.specs.declared.state.Shared.{Shared}
-use Rattle.lx_proc.specs.declared.state.Body.{Body}
+use Rattle.lx_proc.specs.declared.state.UserState.{UserState}
 use Rattle.lx_turn.specs.Linux.{linux}
 use Rattle.lx_kernel.specs.Outcomes.{outcome_in}
 use Rattle.lx_model.specs.Kernel.{Script}
@@ -34,7 +34,7 @@ use Rattle.trace_run.specs.declared.running.RunFault.{RunFault}
 use Rattle.trace_run.specs.declared.running.RunFault.TheVariants.{Link, Trace, Output}
 
 -- what run_local did, one call after the other
-pub record IsBooted (o : Options) (script : Script) (schedule : Schedule) (s : Shared) (b : Body) (ended : Ended) (trace : List ℕ) (left : Outcome) (turns : List ℕ) : Type 0 where
+pub record IsBooted (o : Options) (script : Script) (schedule : Schedule) (s : Shared) (b : UserState) (ended : Ended) (trace : List ℕ) (left : Outcome) (turns : List ℕ) : Type 0 where
   pub link : LocalLink
   pub link' : LocalLink
   pub first : Writing
@@ -52,7 +52,7 @@ pub record IsBooted (o : Options) (script : Script) (schedule : Schedule) (s : S
   pub outcome : left ≡ outcome_in (host_of link').hosting.running.shared
   pub turned : turns ≡ (host_of link').hosting.turns
 
-pub booted_runs : LocalLinksTell → HostsBeginAlike Shared Body → (o : Options) (script : Script) → IsScript script → (schedule : Schedule) (s : Shared) (b : Body) (ended : Ended) (trace : List ℕ) (left : Outcome) (turns : List ℕ)
+pub booted_runs : LocalLinksTell → HostsBeginAlike Shared UserState → (o : Options) (script : Script) → IsScript script → (schedule : Schedule) (s : Shared) (b : UserState) (ended : Ended) (trace : List ℕ) (left : Outcome) (turns : List ℕ)
     → IsBooted o script schedule s b ended trace left turns → LocalRun next_of_host linux outcome_in o script schedule s b ended trace left turns
 booted_runs tell begin o script is_script schedule s b ended trace left turns x =
     let ran : RunsWhole local_answers (new_state (options_by o) script (first_pen o)) x.link (Some []) x.broken (Ok ended) x.link' (Some x.last.bytes) x.broken' =
@@ -74,7 +74,7 @@ booted_runs tell begin o script is_script schedule s b ended trace left turns x 
     subst (λ (y : List ℕ). LocalRun next_of_host linux outcome_in o script schedule s b ended trace left y) (sym x.turned) by_outcome
 
 -- what trace_local did
-pub record IsTraced (o : Options) (script : Script) (schedule : Schedule) (s : Shared) (b : Body) (result : Result Ended RunFault) (old new : Option (List ℕ)) : Type 0 where
+pub record IsTraced (o : Options) (script : Script) (schedule : Schedule) (s : Shared) (b : UserState) (result : Result Ended RunFault) (old new : Option (List ℕ)) : Type 0 where
   pub link : LocalLink
   pub link' : LocalLink
   pub broken : ℕ
@@ -86,7 +86,7 @@ pub record IsTraced (o : Options) (script : Script) (schedule : Schedule) (s : S
   pub unbroken : faults_of link ≡ 0
   pub by : schedule_of link ≡ schedule
 
-pub booted_traces : LocalLinksTellParts → HostsBeginAlike Shared Body → (o : Options) (script : Script) → IsScript script → (schedule : Schedule) (s : Shared) (b : Body) (result : Result Ended RunFault) (old new : Option (List ℕ))
+pub booted_traces : LocalLinksTellParts → HostsBeginAlike Shared UserState → (o : Options) (script : Script) → IsScript script → (schedule : Schedule) (s : Shared) (b : UserState) (result : Result Ended RunFault) (old new : Option (List ℕ))
     → IsTraced o script schedule s b result old new → TracesTo o script schedule s b result old new
 booted_traces tell begin o script is_script schedule s b result old new x =
     let is_going : IsGoing x.link = record {
@@ -105,7 +105,7 @@ booted_traces tell begin o script is_script schedule s b result old new x =
     }
 
 -- a fault of what trace_local did
-pub booted_fails : LocalLinksFail → HostsBeginAlike Shared Body → (o : Options) (script : Script) → IsScript script → (schedule : Schedule) (s : Shared) (b : Body) (fault : RunFault) (old new : Option (List ℕ))
+pub booted_fails : LocalLinksFail → HostsBeginAlike Shared UserState → (o : Options) (script : Script) → IsScript script → (schedule : Schedule) (s : Shared) (b : UserState) (fault : RunFault) (old new : Option (List ℕ))
     (x : IsTraced o script schedule s b (Err fault) old new) → FailsBy x.broken' fault
 booted_fails fails begin o script is_script schedule s b fault old new x =
     let is_going : IsGoing x.link = record {
@@ -118,7 +118,7 @@ booted_fails fails begin o script is_script schedule s b fault old new x =
     fails o script is_script x.link x.link' old new x.broken x.broken' fault x.ran s b is_going x.hosting
 
 -- the same of any answer
-pub booted_fails_only : LocalLinksFail → HostsBeginAlike Shared Body → (o : Options) (script : Script) → IsScript script → (schedule : Schedule) (s : Shared) (b : Body) (result : Result Ended RunFault) (old new : Option (List ℕ))
+pub booted_fails_only : LocalLinksFail → HostsBeginAlike Shared UserState → (o : Options) (script : Script) → IsScript script → (schedule : Schedule) (s : Shared) (b : UserState) (result : Result Ended RunFault) (old new : Option (List ℕ))
     (x : IsTraced o script schedule s b result old new) → IfErr result (λ fault. FailsBy x.broken' fault)
 booted_fails_only fails begin o script is_script schedule s b (Ok ended) old new x = tt
 booted_fails_only fails begin o script is_script schedule s b (Err fault) old new x = booted_fails fails begin o script is_script schedule s b fault old new x

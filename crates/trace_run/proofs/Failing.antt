@@ -4,7 +4,7 @@ use Rattle.lx_abi.specs.declared.ptrace.Reply.{Reply}
 use Rattle.lx_abi.specs.declared.ptrace.Reply.TheVariants.{Done as Agreed}
 use Rattle.lx_abi.specs.declared.ptrace.Request.{Request}
 use Rattle.lx_proc.specs.declared.state.Shared.{Shared}
-use Rattle.lx_proc.specs.declared.state.Body.{Body}
+use Rattle.lx_proc.specs.declared.state.UserState.{UserState}
 use Rattle.lx_turn.specs.Linux.{linux}
 use Rattle.lx_kernel.specs.Outcomes.{outcome_in}
 use Rattle.pt_model.specs.Calls.{WorldsCall, RunsAppend, OutOfTurnsShowsNothing}
@@ -64,7 +64,7 @@ last_output : {L : Type 0} (answers : Answers L) (s : State) (rs : List Reply) (
 unfolding Last
 last_output answers s rs written a b h = h.1
 
-module _ (serves : LocalLinksServe) (calls : WorldsCall Shared Body) (appends : RunsAppend Shared Body) (nothing : OutOfTurnsShowsNothing) (tells : LocalLinksTellParts) where
+module _ (serves : LocalLinksServe) (calls : WorldsCall Shared UserState) (appends : RunsAppend Shared UserState) (nothing : OutOfTurnsShowsNothing) (tells : LocalLinksTellParts) where
   pub local_links_fail : LocalLinksFail
   local_links_fail o script is_script link link' old new broken broken' (Trace Inadmissible) w s b going first =
       absurd ((tells o script is_script link link' old new broken broken' (Err (Trace Inadmissible)) w s b going first).tells.admitted refl)

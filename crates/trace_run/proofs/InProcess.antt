@@ -4,7 +4,7 @@ use Rattle.std.specs.Prelude.{is_none}
 use Rattle.lx_abi.specs.declared.ptrace.Reply.{Reply}
 use Rattle.lx_abi.specs.declared.ptrace.Request.{Request}
 use Rattle.lx_proc.specs.declared.state.Shared.{Shared}
-use Rattle.lx_proc.specs.declared.state.Body.{Body}
+use Rattle.lx_proc.specs.declared.state.UserState.{UserState}
 use Rattle.lx_turn.specs.Linux.{linux}
 use Rattle.lx_kernel.specs.Outcomes.{outcome_in}
 use Rattle.lx_model.specs.Machine.{IsMachine}
@@ -96,14 +96,14 @@ by_calls called_so a q r b going kept (inr h) = put_call called_so a q r b h.1.1
 pub local_links_serve : HostsAreCalled → LocalLinksServe
 local_links_serve called_so a q r b going h = by_calls called_so a q r b going h.faults h.answered
 
-pub local_links_tell : Cited Schedule Shared Body local_answers → LocalLinksServe → HostsBeginAlike Shared Body → IsMachine linux → IsTold linux → LocalLinksTell
+pub local_links_tell : Cited Schedule Shared UserState local_answers → LocalLinksServe → HostsBeginAlike Shared UserState → IsMachine linux → IsTold linux → LocalLinksTell
 local_links_tell cited serves begin machine told o script is_script link link' trace broken broken' ended w s b going first =
     sound_runs_tell local_answers cited IsGoing o script is_script link link' trace broken broken' ended w in_process next_of_host linux machine told outcome_in s b
     serves going
     (ap host_in first ∙ (begin s b).0)
     (ap (λ (v : Linux_host). v.turns) first)
 
-pub local_links_tell_parts : Cited Schedule Shared Body local_answers → LocalLinksServe → HostsBeginAlike Shared Body → IsMachine linux → IsTold linux → LocalLinksTellParts
+pub local_links_tell_parts : Cited Schedule Shared UserState local_answers → LocalLinksServe → HostsBeginAlike Shared UserState → IsMachine linux → IsTold linux → LocalLinksTellParts
 local_links_tell_parts cited serves begin machine told o script is_script link link' old new broken broken' result w s b going first =
     let x = sound_runs_tell_parts local_answers cited IsGoing o script is_script link link' old new broken broken' result w in_process next_of_host linux machine told outcome_in s b serves going (ap host_in first ∙ (begin s b).0) in
     record { events = x.0; given = x.1.0; tells = x.1.1 }

@@ -11,7 +11,7 @@ use Rattle.lx_turn.specs.Linux.{linux}
 use Rattle.lx_kernel.specs.Outcomes.{outcome_in}
 use Rattle.lx_exec.specs.Programs.{booted}
 use Rattle.lx_proc.specs.declared.state.Shared.{Shared}
-use Rattle.lx_proc.specs.declared.state.Body.{Body}
+use Rattle.lx_proc.specs.declared.state.UserState.{UserState}
 use Rattle.lx_model.specs.Kernel.{Script}
 use Rattle.pt_model.specs.Calls.{TalksOver}
 use Rattle.pt_model.specs.Tracer.{first_tracer}
@@ -39,7 +39,7 @@ RunOf boot schedule script options run =
 
 -- what a run from these parts writes, however it ends: the events are those that the schedule gave, request by request,
 -- and what was written begins the rendering of a view of the untraced kernel's log by then
-pub record TracesTo (o : Options) (script : Script) (schedule : Schedule) (s : Shared) (b : Body)
+pub record TracesTo (o : Options) (script : Script) (schedule : Schedule) (s : Shared) (b : UserState)
     (result : Result Ended RunFault) (old new : Option (List ℕ)) : Type 0 where
   pub events : List Event
   pub exchanges : List (Request × Reply)

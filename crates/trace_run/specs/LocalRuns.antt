@@ -6,7 +6,7 @@ use Rattle.lx_abi.specs.declared.schedule.Event.{Event}
 use Rattle.lx_turn.specs.Linux.{linux}
 use Rattle.lx_kernel.specs.Outcomes.{outcome_in}
 use Rattle.lx_proc.specs.declared.state.Shared.{Shared}
-use Rattle.lx_proc.specs.declared.state.Body.{Body}
+use Rattle.lx_proc.specs.declared.state.UserState.{UserState}
 use Rattle.lx_model.specs.Kernel.{Script}
 use Rattle.pt_model.specs.Calls.{TalksOver}
 use Rattle.pt_model.specs.Headline.{IsScript}
@@ -30,7 +30,7 @@ use Rattle.host_link.specs.declared.fault.LinkFault.TheVariants.{Memory as NoMem
 use Rattle.tr_core.specs.declared.tracing.TraceFault.TheVariants.{Memory as OutOfMemory}
 
 -- its host, as a function of pids, its schedule, and the turns that it gave to the kernel
-abbrev pub in_process : InMemory LocalLink Schedule Shared Body
+abbrev pub in_process : InMemory LocalLink Schedule Shared UserState
 in_process = record {
   host = λ l. host_in (host_of l).hosting;
   schedule = λ l. schedule_of l;
@@ -59,13 +59,13 @@ LocalLinksTell = (o : Options) (script : Script) → IsScript script
     → (link link' : LocalLink) (trace : List ℕ) (broken broken' : ℕ) (ended : Ended)
     (w : RunsWhole local_answers (new_state (options_by o) script (first_pen o)) link (Some []) broken (Ok ended) link'
     (Some trace) broken')
-    (s : Shared) (b : Body) → IsGoing link → (host_of link).hosting ≡ first_hosting s b
+    (s : Shared) (b : UserState) → IsGoing link → (host_of link).hosting ≡ first_hosting s b
     → LocalRun next_of_host linux outcome_in o script (schedule_of link) s b ended trace
     (outcome_in (host_of link').hosting.running.shared) (host_of link').hosting.turns
 
 -- what a run over it writes, to any writer and however it ends: the events are those that the schedule gave, call by
 -- call, and what was written begins the rendering of a view of the untraced kernel's log by then
-pub record LinkTells (o : Options) (script : Script) (s : Shared) (b : Body) (link : LocalLink)
+pub record LinkTells (o : Options) (script : Script) (s : Shared) (b : UserState) (link : LocalLink)
     (exchanges : List (Request × Reply)) (result : Result Ended RunFault) (old new : Option (List ℕ)) : Type 0 where
   pub events : List Event
   pub given : TalksOver next_of_host linux outcome_in (options_by o) script first_tracer (schedule_of link)
@@ -77,7 +77,7 @@ LocalLinksTellParts = (o : Options) (script : Script) → IsScript script
     → (link link' : LocalLink) (old new : Option (List ℕ)) (broken broken' : ℕ) (result : Result Ended RunFault)
     (w : RunsWhole local_answers (new_state (options_by o) script (first_pen o)) link old broken result link' new
     broken')
-    (s : Shared) (b : Body) → IsGoing link → (host_of link).hosting ≡ first_hosting s b
+    (s : Shared) (b : UserState) → IsGoing link → (host_of link).hosting ≡ first_hosting s b
     → LinkTells o script s b link w.runs.exchanges result old new
 
 -- The faults of such a run: memory was refused to the host or to the tracer, or the writer failed. The link refuses
@@ -95,4 +95,4 @@ LocalLinksFail = (o : Options) (script : Script) → IsScript script
     → (link link' : LocalLink) (old new : Option (List ℕ)) (broken broken' : ℕ) (fault : RunFault)
     → RunsWhole local_answers (new_state (options_by o) script (first_pen o)) link old broken (Err fault) link' new
     broken'
-    → (s : Shared) (b : Body) → IsGoing link → (host_of link).hosting ≡ first_hosting s b → FailsBy broken' fault
+    → (s : Shared) (b : UserState) → IsGoing link → (host_of link).hosting ≡ first_hosting s b → FailsBy broken' fault

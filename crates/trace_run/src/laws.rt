@@ -7,7 +7,7 @@ ghost use Rattle.trace_run.specs.Runs.{calls_of};
 ghost use Rattle.trace_run.specs.Tells.{RunsTell, ServedRunsTell};
 
 use host_link::{Link, LocalLink};
-use lx_proc::{Body, Shared};
+use lx_proc::{Shared, UserState};
 use lx_turn::laws::linux_is_a_machine;
 use pt_kernel::Schedule;
 use pt_kernel::laws::{hosts_are_called, linux_is_told};
@@ -59,12 +59,12 @@ pub fn local_links_tell()
     ensures { LocalLinksTell }
 {
     local_links_serve();
-    runs_tell::<Shared, Body, LocalLink>();
-    schedules_are_lists::<Schedule, Shared, Body>();
-    own_replies_tell::<Shared, Body>();
-    worlds_attend::<Shared, Body>();
-    tracing_is_transparent::<Shared, Body>();
-    hosts_run_alike::<Shared, Body>();
+    runs_tell::<Shared, UserState, LocalLink>();
+    schedules_are_lists::<Schedule, Shared, UserState>();
+    own_replies_tell::<Shared, UserState>();
+    worlds_attend::<Shared, UserState>();
+    tracing_is_transparent::<Shared, UserState>();
+    hosts_run_alike::<Shared, UserState>();
     texts_are_whole();
     linux_is_a_machine();
     linux_is_told();
@@ -76,12 +76,12 @@ pub fn local_links_tell_parts()
     ensures { LocalLinksTellParts }
 {
     local_links_serve();
-    runs_tell::<Shared, Body, LocalLink>();
-    schedules_are_lists::<Schedule, Shared, Body>();
-    own_replies_tell::<Shared, Body>();
-    worlds_attend::<Shared, Body>();
-    tracing_is_transparent::<Shared, Body>();
-    hosts_run_alike::<Shared, Body>();
+    runs_tell::<Shared, UserState, LocalLink>();
+    schedules_are_lists::<Schedule, Shared, UserState>();
+    own_replies_tell::<Shared, UserState>();
+    worlds_attend::<Shared, UserState>();
+    tracing_is_transparent::<Shared, UserState>();
+    hosts_run_alike::<Shared, UserState>();
     texts_are_whole();
     linux_is_a_machine();
     linux_is_told();
@@ -94,8 +94,8 @@ pub fn local_links_fail()
 {
     local_links_tell_parts();
     local_links_serve();
-    own_replies_tell::<Shared, Body>();
-    worlds_attend::<Shared, Body>();
+    own_replies_tell::<Shared, UserState>();
+    worlds_attend::<Shared, UserState>();
 }
 
 /// Under the empty script a run tells the untraced kernel's log and outcome, where nobody is killed.

@@ -14,7 +14,7 @@ use host_link::{LinkFault, LocalLink};
 use host_wire::Sink;
 use lx_abi::{Boot, Outcome, Script};
 use lx_boot::BootFault;
-use lx_proc::{Body, Shared};
+use lx_proc::{Shared, UserState};
 use pt_kernel::{Host, Schedule, Turns};
 use pt_model::laws::{every_script_is_one, hosts_run_alike};
 use std::alloc::Global;
@@ -63,7 +63,7 @@ pub fn run_local(
     local_links_tell();
     local_links_fail();
     every_script_is_one();
-    hosts_run_alike::<Shared, Body>();
+    hosts_run_alike::<Shared, UserState>();
     let mut options = options;
     options.follow = boot.follow;
     let host = Host::boot(alloc, boot)?;
@@ -109,7 +109,7 @@ pub fn trace_local<W: Sink>(
     local_links_tell_parts();
     local_links_fail();
     every_script_is_one();
-    hosts_run_alike::<Shared, Body>();
+    hosts_run_alike::<Shared, UserState>();
     let mut options = options;
     options.follow = boot.follow;
     let host = Host::boot(alloc, boot)?;

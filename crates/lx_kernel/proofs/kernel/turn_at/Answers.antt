@@ -3,33 +3,33 @@ use Rattle.std.specs.Prelude.{OnSome}
 use Rattle.std.specs.FinMap as maps
 use Rattle.lx_model.specs.Turn.{turn}
 use Rattle.lx_turn.specs.Linux.{linux}
-use Rattle.lx_turn.specs.Tampering.{choice_of_own}
+use Rattle.lx_turn.specs.Injection.{choice_of_task}
 use Rattle.lx_turn.specs.Turned.{turned}
 use Rattle.lx_kernel.specs.Turns.{without_gone}
 use Rattle.lx_model.specs.Finite.{at, placed}
-use Rattle.lx_model.specs.declared.stage.Own.TheVariants.{Gone}
-use Rattle.lx_turn.specs.Modes.{own_mode}
+use Rattle.lx_model.specs.declared.stage.Task.TheVariants.{Gone}
+use Rattle.lx_turn.specs.Modes.{task_mode}
 use Rattle.lx_kernel.proofs.Placing.{somebody, nobody, placed_by, at_placed}
 use Rattle.lx_kernel.proofs.kernel.turn_at.Goals as goal
 
 pub returns-in-None-clause-turns : goal.returns-in-None-clause-turns
 returns-in-None-clause-turns c =
-    nobody (λ own. turned (turn linux (choice_of_own c.args.tampering.now c.args.pid own) c.args.shared.now c.args.child c.args.pid own)) c.args.owns.now c.get_mut.follows.lender-at-none c.args.pid c.args.item.now c.of_gone.result.done c.args.shared.now
+    nobody (λ task. turned (turn linux (choice_of_task c.args.injection.now c.args.pid task) c.args.shared.now c.args.child c.args.pid task)) c.args.tasks.now c.get_mut.follows.lender-at-none c.args.pid c.args.item.now c.of_gone.result.done c.args.shared.now
     c.in-None.ensures.value refl c.get_mut.follows.holds-at-none c.requires (ap (λ t. t.done) c.of_gone.ensures)
 
 pub returns-clause-turns : goal.returns-clause-turns
 returns-clause-turns c =
-    let w = c.turn_own.new.own in
-    let h = subst (λ r. OnSome r (c.get_mut.follows.lender w ≡ maps.insert c.args.owns.now c.args.pid w)) c.in-Some.is (c.get_mut.follows.holds w) in
-    somebody (λ own. turned (turn linux (choice_of_own c.args.tampering.now c.args.pid own) c.args.shared.now c.args.child c.args.pid own)) c.args.owns.now c.remove_gone.new.owns c.args.pid c.in-Some.own.now w c.turn_own.new.item c.in_ok-transition-in-Some.transition.done c.turn_own.new.shared
+    let w = c.turn_task.new.task in
+    let h = subst (λ r. OnSome r (c.get_mut.follows.lender w ≡ maps.insert c.args.tasks.now c.args.pid w)) c.in-Some.is (c.get_mut.follows.holds w) in
+    somebody (λ task. turned (turn linux (choice_of_task c.args.injection.now c.args.pid task) c.args.shared.now c.args.child c.args.pid task)) c.args.tasks.now c.remove_gone.new.tasks c.args.pid c.in-Some.task.now w c.turn_task.new.item c.in_ok-transition-in-Some.transition.done c.turn_task.new.shared
     c.in-Some.ensures.value c.in_ok-transition-in-Some.ensures.turned
-    (placed_by c.args.owns.now c.args.pid w c.in_ok-transition-in-Some.transition.gone (sym c.in_ok-transition-in-Some.ensures.gone) ∙ ap (λ m. without_gone m c.args.pid c.in_ok-transition-in-Some.transition.gone) (sym h) ∙ sym c.remove_gone.ensures)
+    (placed_by c.args.tasks.now c.args.pid w c.in_ok-transition-in-Some.transition.gone (sym c.in_ok-transition-in-Some.ensures.gone) ∙ ap (λ m. without_gone m c.args.pid c.in_ok-transition-in-Some.transition.gone) (sym h) ∙ sym c.remove_gone.ensures)
 
 pub returns-clause-after : goal.returns-clause-after
 returns-clause-after c =
-    let w = c.turn_own.new.own in
-    let h = subst (λ r. OnSome r (c.get_mut.follows.lender w ≡ maps.insert c.args.owns.now c.args.pid w)) c.in-Some.is (c.get_mut.follows.holds w) in
-    let there : placed c.args.owns.now c.args.pid w ≡ c.remove_gone.new.owns =
-    placed_by c.args.owns.now c.args.pid w c.in_ok-transition-in-Some.transition.gone (sym c.in_ok-transition-in-Some.ensures.gone) ∙ ap (λ m. without_gone m c.args.pid c.in_ok-transition-in-Some.transition.gone) (sym h) ∙ sym c.remove_gone.ensures in
+    let w = c.turn_task.new.task in
+    let h = subst (λ r. OnSome r (c.get_mut.follows.lender w ≡ maps.insert c.args.tasks.now c.args.pid w)) c.in-Some.is (c.get_mut.follows.holds w) in
+    let there : placed c.args.tasks.now c.args.pid w ≡ c.remove_gone.new.tasks =
+    placed_by c.args.tasks.now c.args.pid w c.in_ok-transition-in-Some.transition.gone (sym c.in_ok-transition-in-Some.ensures.gone) ∙ ap (λ m. without_gone m c.args.pid c.in_ok-transition-in-Some.transition.gone) (sym h) ∙ sym c.remove_gone.ensures in
     c.in_ok-transition-in-Some.ensures.after
-    ∙ ap (own_mode (maps.get c.turn_own.new.shared.entries c.args.pid)) (sym (at_placed c.args.owns.now c.args.pid w) ∙ ap (λ m. at Gone m c.args.pid) there)
+    ∙ ap (task_mode (maps.get c.turn_task.new.shared.entries c.args.pid)) (sym (at_placed c.args.tasks.now c.args.pid w) ∙ ap (λ m. at Gone m c.args.pid) there)

@@ -8,7 +8,7 @@ returns-then-can_turn_at g c =
     let up = c.in-Some.ensures.0 in (
       omega (arith, low, up),
       sym c.can_turn_at.ensures ∙ c.if-can_turn_at.true,
-      unable_before c.args.keys.now c.args.shared.now c.args.owns.now c.requires c.args.after c.loop-pid.passed low c.loop-pid.invariant.unable c.in-Some.pid c.in-Some.ensures,
+      unable_before c.args.keys.now c.args.shared.now c.args.tasks.now c.requires c.args.after c.loop-pid.passed low c.loop-pid.invariant.unable c.in-Some.pid c.in-Some.ensures,
     )
 
 pub loop-pid-preserved : goal.loop-pid-preserved
@@ -17,8 +17,8 @@ loop-pid-preserved g c =
     let up = c.in-Some.ensures.0 in
     record {
       low = omega (arith, low, up);
-      unable = unable_upto c.args.keys.now c.args.shared.now c.args.owns.now c.requires c.args.after c.loop-pid.passed low c.loop-pid.invariant.unable c.in-Some.pid c.in-Some.ensures (sym c.can_turn_at.ensures ∙ c.if-can_turn_at.false);
+      unable = unable_upto c.args.keys.now c.args.shared.now c.args.tasks.now c.requires c.args.after c.loop-pid.passed low c.loop-pid.invariant.unable c.in-Some.pid c.in-Some.ensures (sym c.can_turn_at.ensures ∙ c.if-can_turn_at.false);
     }
 
 pub returns : goal.returns
-returns g c = unable_all c.args.keys.now c.args.shared.now c.args.owns.now c.requires c.args.after c.loop-pid.passed c.loop-pid.invariant.low c.loop-pid.invariant.unable c.in_default.ensures
+returns g c = unable_all c.args.keys.now c.args.shared.now c.args.tasks.now c.requires c.args.after c.loop-pid.passed c.loop-pid.invariant.low c.loop-pid.invariant.unable c.in_default.ensures

@@ -7,16 +7,16 @@ use Rattle.lx_kernel.proofs.tracing.join.Goals as goal
 
 pub returns-in-None-clause-part : goal.returns-in-None-clause-part
 returns-in-None-clause-part c =
-    c.get_mut.follows.holds-at-none ∙ ap (with_part_at c.args.owns.now c.args.pid) (nobody_there (with_joined c.args.signal) c.args.owns.now c.args.pid c.in-None.ensures.value)
+    c.get_mut.follows.holds-at-none ∙ ap (with_part_at c.args.tasks.now c.args.pid) (nobody_there (with_joined c.args.signal) c.args.tasks.now c.args.pid c.in-None.ensures.value)
 
 pub returns-in-None-clause-there : goal.returns-in-None-clause-there
-returns-in-None-clause-there c = ap is_some (nobody_there (with_joined c.args.signal) c.args.owns.now c.args.pid c.in-None.ensures.value)
+returns-in-None-clause-there c = ap is_some (nobody_there (with_joined c.args.signal) c.args.tasks.now c.args.pid c.in-None.ensures.value)
 
 pub returns-in-Some-clause-part : goal.returns-in-Some-clause-part
 returns-in-Some-clause-part c =
-    let w = c.join_own.new.own in
-    subst (λ r. OnSome r (c.get_mut.follows.lender w ≡ maps.insert c.args.owns.now c.args.pid w)) c.in-Some.is (c.get_mut.follows.holds w)
-    ∙ part_back (with_joined c.args.signal) (joined_stays c.args.signal) c.args.owns.now c.args.pid c.in-Some.own.now w c.join_own.result c.in-Some.ensures.value c.join_own.ensures
+    let w = c.join_task.new.task in
+    subst (λ r. OnSome r (c.get_mut.follows.lender w ≡ maps.insert c.args.tasks.now c.args.pid w)) c.in-Some.is (c.get_mut.follows.holds w)
+    ∙ part_back (with_joined c.args.signal) (joined_stays c.args.signal) c.args.tasks.now c.args.pid c.in-Some.task.now w c.join_task.result c.in-Some.ensures.value c.join_task.ensures
 
 pub returns-in-Some-clause-there : goal.returns-in-Some-clause-there
-returns-in-Some-clause-there c = changed_there (with_joined c.args.signal) (joined_stays c.args.signal) c.args.owns.now c.args.pid c.in-Some.own.now c.join_own.new.own c.join_own.result c.in-Some.ensures.value c.join_own.ensures
+returns-in-Some-clause-there c = changed_there (with_joined c.args.signal) (joined_stays c.args.signal) c.args.tasks.now c.args.pid c.in-Some.task.now c.join_task.new.task c.join_task.result c.in-Some.ensures.value c.join_task.ensures

@@ -5,5 +5,5 @@ use Rattle.lx_proc.proofs.registers.call.Goals as goal
 
 pub returns : goal.returns
 returns c =
-    let x : (n : ℕ) → n < 31 → get_or c.args.body.now.hart.registers (suc n) 0 ≡ get_or (padded 31 (drop 1 c.args.body.now.hart.registers)) n 0 = λ n h. sym (later_register 31 n c.args.body.now.hart.registers h) in
+    let x : (n : ℕ) → n < 31 → get_or c.args.user.now.hart.registers (suc n) 0 ≡ get_or (padded 31 (drop 1 c.args.user.now.hart.registers)) n 0 = λ n h. sym (later_register 31 n c.args.user.now.hart.registers h) in
     λ i. record { number = x 16 (lit< tt) i; arguments = x 9 (lit< tt) i ∷ x 10 (lit< tt) i ∷ x 11 (lit< tt) i ∷ x 12 (lit< tt) i ∷ x 13 (lit< tt) i ∷ x 14 (lit< tt) i ∷ [] }

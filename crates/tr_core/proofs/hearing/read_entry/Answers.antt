@@ -3,7 +3,7 @@ use Rattle.lx_model.specs.Machine.{call_of, sp_of}
 use Rattle.pt_model.specs.Parts.{At_entry}
 use Rattle.pt_model.specs.Tracer.{Entry_peek}
 use Rattle.tr_args.specs.Reads.{wants_of}
-use Rattle.tr_core.specs.declared.place.Place.TheVariants.{EntryPeek}
+use Rattle.tr_core.specs.declared.place.Awaiting.TheVariants.{EntryPeek}
 use Rattle.tr_core.proofs.Entries.{more_of}
 use Rattle.tr_core.proofs.hearing.read_entry.Goals as goal
 

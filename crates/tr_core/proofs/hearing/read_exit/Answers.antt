@@ -1,7 +1,7 @@
 use Rattle.std.proofs.Common.{◌≡◌, Some, None, ap, sym, ◌∙◌}
 use Rattle.pt_model.specs.Parts.{At_exit}
 use Rattle.tr_args.specs.Reads.{wants_of}
-use Rattle.tr_core.specs.declared.place.Place.TheVariants.{ExitPeek}
+use Rattle.tr_core.specs.declared.place.Awaiting.TheVariants.{ExitPeek}
 use Rattle.tr_core.proofs.Entries.{more}
 use Rattle.tr_core.proofs.hearing.read_exit.Goals as goal
 

@@ -1,5 +1,5 @@
 use Rattle.lx_proc.specs.declared.state.Shared.{Shared}
-use Rattle.lx_proc.specs.declared.state.Body.{Body}
+use Rattle.lx_proc.specs.declared.state.UserState.{UserState}
 use Rattle.pt_schedule.specs.declared.schedule.Schedule.{Schedule}
 use Rattle.trace_run.specs.LocalRuns.{local_answers}
 use Rattle.trace_run.proofs.InProcess.{local_links_tell}
@@ -8,7 +8,7 @@ use Rattle.trace_run.proofs.laws.local_links_tell.Goals as goal
 
 pub returns : goal.returns
 returns c =
-    let cited : Cited Schedule Shared Body local_answers = record {
+    let cited : Cited Schedule Shared UserState local_answers = record {
       tells = c.runs_tell.ensures.own;
       own = c.own_replies_tell.ensures.talks;
       lists = c.schedules_are_lists.ensures;

@@ -8,5 +8,5 @@ use Rattle.lx_kernel.proofs.kernel.Kernel.new.Goals as goal
 pub invariant_of-result : goal.invariant_of-result
 invariant_of-result c = λ e. (
   λ pid number. c.new-2.ensures pid number ∙ sym (ap (entries pid number) c.new.ensures.items),
-  first_watch c.wake.new.self c.args.shared c.args.owns (λ known. c.wake.ensures.awake known ∙ ap (λ (x : Sleepers). maps.insert x.awake 1 tt) c.new-sleepers.ensures) c.requires,
+  first_watch c.wake.new.self c.args.shared c.args.tasks (λ known. c.wake.ensures.awake known ∙ ap (λ (x : Sleepers). maps.insert x.awake 1 tt) c.new-sleepers.ensures) c.requires,
 )

@@ -1,16 +1,16 @@
 use Rattle.std.proofs.Common.{◌≡◌, false, ap, sym, subst, ◌∙◌}
 use Rattle.lx_model.specs.Finite.{at}
-use Rattle.lx_model.specs.declared.stage.Own.TheVariants.{Gone}
+use Rattle.lx_model.specs.declared.stage.Task.TheVariants.{Gone}
 use Rattle.lx_model.specs.Deeds.{deed_of}
 use Rattle.lx_model.specs.Finite.{item_of, Running}
 use Rattle.lx_proc.specs.declared.state.Shared.{Shared}
-use Rattle.lx_proc.specs.declared.state.Body.{Body}
+use Rattle.lx_proc.specs.declared.state.UserState.{UserState}
 use Rattle.lx_abi.specs.Occurrences.{count_of}
 use Rattle.lx_kernel.specs.Runs.{Run, turn_in, after_turn, mode_in}
 use Rattle.lx_turn.proofs.Consoles.{on_err}
 use Rattle.lx_kernel.proofs.Turning.{kernel_item, kernel_deed, kernel_left, kernel_born, kernel_console, kernel_turned}
 use Rattle.lx_kernel.specs.Sleeping.{AreListed, IsWatched, welcomed}
-use Rattle.lx_kernel.specs.Scheduling.{Owns}
+use Rattle.lx_kernel.specs.Scheduling.{Tasks}
 use Rattle.lx_turn.specs.Turned.{event_of}
 use Rattle.lx_kernel.specs.declared.sleepers.Sleepers.{Sleepers}
 use Rattle.lx_kernel.proofs.Watching.{turn_listed, turn_watched, roused_watched}
@@ -19,8 +19,8 @@ use Rattle.lx_kernel.proofs.kernel.Kernel.turn.Goals as goal
 pub place_child-requires : goal.place_child-requires
 place_child-requires c =
     let k = c.self.inside in
-    let v : Running Shared Body = record { shared = k.shared; owns = k.owns; child = k.child; log = k.log.items } in
-    kernel_left v k.script k.follow c.args.pid (λ n. count_of k.occurrences c.args.pid n) (λ n. (c.self.invariant c.if-self.false).0 c.args.pid n) c.turn_at.new.item c.in_ok-transition.transition.done c.turn_at.new.shared c.turn_at.new.owns c.in_ok-transition.ensures.turns
+    let v : Running Shared UserState = record { shared = k.shared; tasks = k.tasks; child = k.child; log = k.log.items } in
+    kernel_left v k.script k.follow c.args.pid (λ n. count_of k.occurrences c.args.pid n) (λ n. (c.self.invariant c.if-self.false).0 c.args.pid n) c.turn_at.new.item c.in_ok-transition.transition.done c.turn_at.new.shared c.turn_at.new.tasks c.in_ok-transition.ensures.turns
 
 pub returns-clause-before : goal.returns-clause-before
 returns-clause-before c = c.in_ok-transition.ensures.before ∙ ap (λ k. mode_in k c.args.pid) c.self.view_is
@@ -28,66 +28,66 @@ returns-clause-before c = c.in_ok-transition.ensures.before ∙ ap (λ k. mode_i
 pub returns-clause-item : goal.returns-clause-item
 returns-clause-item c =
     let k = c.self.inside in
-    let v : Running Shared Body = record { shared = k.shared; owns = k.owns; child = k.child; log = k.log.items } in
-    kernel_item v k.script k.follow c.args.pid (λ n. count_of k.occurrences c.args.pid n) (λ n. (c.self.invariant c.if-self.false).0 c.args.pid n) c.turn_at.new.item c.in_ok-transition.transition.done c.turn_at.new.shared c.turn_at.new.owns c.in_ok-transition.ensures.turns
+    let v : Running Shared UserState = record { shared = k.shared; tasks = k.tasks; child = k.child; log = k.log.items } in
+    kernel_item v k.script k.follow c.args.pid (λ n. count_of k.occurrences c.args.pid n) (λ n. (c.self.invariant c.if-self.false).0 c.args.pid n) c.turn_at.new.item c.in_ok-transition.transition.done c.turn_at.new.shared c.turn_at.new.tasks c.in_ok-transition.ensures.turns
     ∙ ap (λ k. item_of (turn_in k c.args.pid)) c.self.view_is
 
 pub returns-clause-deed : goal.returns-clause-deed
 returns-clause-deed c =
     let k = c.self.inside in
-    let v : Running Shared Body = record { shared = k.shared; owns = k.owns; child = k.child; log = k.log.items } in
+    let v : Running Shared UserState = record { shared = k.shared; tasks = k.tasks; child = k.child; log = k.log.items } in
     c.deed-deed.ensures
-    ∙ kernel_deed v k.script k.follow c.args.pid (λ n. count_of k.occurrences c.args.pid n) (λ n. (c.self.invariant c.if-self.false).0 c.args.pid n) c.turn_at.new.item c.in_ok-transition.transition.done c.turn_at.new.shared c.turn_at.new.owns c.in_ok-transition.ensures.turns
+    ∙ kernel_deed v k.script k.follow c.args.pid (λ n. count_of k.occurrences c.args.pid n) (λ n. (c.self.invariant c.if-self.false).0 c.args.pid n) c.turn_at.new.item c.in_ok-transition.transition.done c.turn_at.new.shared c.turn_at.new.tasks c.in_ok-transition.ensures.turns
     ∙ ap (λ k. deed_of (turn_in k c.args.pid).event) c.self.view_is
 
 pub returns-clause-turned : goal.returns-clause-turned
 returns-clause-turned c =
     let k = c.self.inside in
-    let v : Running Shared Body = record { shared = k.shared; owns = k.owns; child = k.child; log = k.log.items } in
-    let run : Running Shared Body → Run = λ r. record { running = r; script = k.script; follow = k.follow; failed = false } in
-    (λ i. run (record { shared = c.turn_at.new.shared; owns = c.in_ok-place_child.ensures.owns i; child = c.in_ok-place_child.ensures.child i; log = c.in_ok-log_item.ensures.log i }))
-    ∙ ap run (kernel_turned v k.script k.follow c.args.pid (λ n. count_of k.occurrences c.args.pid n) (λ n. (c.self.invariant c.if-self.false).0 c.args.pid n) c.turn_at.new.item c.in_ok-transition.transition.done c.turn_at.new.shared c.turn_at.new.owns c.in_ok-transition.ensures.turns)
+    let v : Running Shared UserState = record { shared = k.shared; tasks = k.tasks; child = k.child; log = k.log.items } in
+    let run : Running Shared UserState → Run = λ r. record { running = r; script = k.script; follow = k.follow; failed = false } in
+    (λ i. run (record { shared = c.turn_at.new.shared; tasks = c.in_ok-place_child.ensures.tasks i; child = c.in_ok-place_child.ensures.child i; log = c.in_ok-log_item.ensures.log i }))
+    ∙ ap run (kernel_turned v k.script k.follow c.args.pid (λ n. count_of k.occurrences c.args.pid n) (λ n. (c.self.invariant c.if-self.false).0 c.args.pid n) c.turn_at.new.item c.in_ok-transition.transition.done c.turn_at.new.shared c.turn_at.new.tasks c.in_ok-transition.ensures.turns)
     ∙ ap (λ b. after_turn (record { running = v; script = k.script; follow = k.follow; failed = b }) c.args.pid) (sym c.if-self.false)
     ∙ ap (λ k. after_turn k c.args.pid) c.self.view_is
 
 pub returns-in_err-place_child-clause-console : goal.returns-in_err-place_child-clause-console
 returns-in_err-place_child-clause-console c =
     let k = c.self.inside in
-    let v : Running Shared Body = record { shared = k.shared; owns = k.owns; child = k.child; log = k.log.items } in
+    let v : Running Shared UserState = record { shared = k.shared; tasks = k.tasks; child = k.child; log = k.log.items } in
     on_err (c.turn_at.new.shared.console ≡ c.args.self.now.running.shared.console) c.from_residual-in_err-place_child.result
-    (kernel_born v k.script k.follow c.args.pid (λ n. count_of k.occurrences c.args.pid n) (λ n. (c.self.invariant c.if-self.false).0 c.args.pid n) c.turn_at.new.item c.in_ok-transition.transition.done c.turn_at.new.shared c.turn_at.new.owns c.in_ok-transition.ensures.turns c.in_err-place_child.ensures.born
+    (kernel_born v k.script k.follow c.args.pid (λ n. count_of k.occurrences c.args.pid n) (λ n. (c.self.invariant c.if-self.false).0 c.args.pid n) c.turn_at.new.item c.in_ok-transition.transition.done c.turn_at.new.shared c.turn_at.new.tasks c.in_ok-transition.ensures.turns c.in_err-place_child.ensures.born
     ∙ ap (λ (r : Run). r.running.shared.console) c.self.view_is)
 
 pub returns-in_err-log_item-clause-console : goal.returns-in_err-log_item-clause-console
 returns-in_err-log_item-clause-console c =
     let k = c.self.inside in
-    let v : Running Shared Body = record { shared = k.shared; owns = k.owns; child = k.child; log = k.log.items } in
+    let v : Running Shared UserState = record { shared = k.shared; tasks = k.tasks; child = k.child; log = k.log.items } in
     on_err (c.turn_at.new.shared.console ≡ c.args.self.now.running.shared.console) c.from_residual-in_err-log_item.result
-    (kernel_console v k.script k.follow c.args.pid (λ n. count_of k.occurrences c.args.pid n) (λ n. (c.self.invariant c.if-self.false).0 c.args.pid n) c.turn_at.new.item c.in_ok-transition.transition.done c.turn_at.new.shared c.turn_at.new.owns c.in_ok-transition.ensures.turns c.in_err-log_item.ensures.some
+    (kernel_console v k.script k.follow c.args.pid (λ n. count_of k.occurrences c.args.pid n) (λ n. (c.self.invariant c.if-self.false).0 c.args.pid n) c.turn_at.new.item c.in_ok-transition.transition.done c.turn_at.new.shared c.turn_at.new.tasks c.in_ok-transition.ensures.turns c.in_err-log_item.ensures.some
     ∙ ap (λ (r : Run). r.running.shared.console) c.self.view_is)
 
 pub rouse-requires : goal.rouse-requires
 rouse-requires c = λ known.
     let k = c.self.inside in
-    let v : Running Shared Body = record { shared = k.shared; owns = k.owns; child = k.child; log = k.log.items } in
+    let v : Running Shared UserState = record { shared = k.shared; tasks = k.tasks; child = k.child; log = k.log.items } in
     let watch = (c.self.invariant c.if-self.false).1 (c.welcome.ensures.known known) in
     let event = event_of c.in_ok-transition.transition.done in
-    subst (λ (sets : Sleepers). AreListed sets c.place_child.new.owns) (sym (c.welcome.ensures.sets known))
-    (subst (λ (owns : Owns). AreListed (welcomed k.sleepers k.child event) owns) (sym c.in_ok-place_child.ensures.owns)
-    (turn_listed v k.script k.follow c.args.pid (λ n. count_of k.occurrences c.args.pid n) c.turn_at.new.item c.in_ok-transition.transition.done c.turn_at.new.shared c.turn_at.new.owns c.in_ok-transition.ensures.turns k.sleepers watch))
+    subst (λ (sets : Sleepers). AreListed sets c.place_child.new.tasks) (sym (c.welcome.ensures.sets known))
+    (subst (λ (tasks : Tasks). AreListed (welcomed k.sleepers k.child event) tasks) (sym c.in_ok-place_child.ensures.tasks)
+    (turn_listed v k.script k.follow c.args.pid (λ n. count_of k.occurrences c.args.pid n) c.turn_at.new.item c.in_ok-transition.transition.done c.turn_at.new.shared c.turn_at.new.tasks c.in_ok-transition.ensures.turns k.sleepers watch))
 
 pub pass-requires-clause-others : goal.pass-requires-clause-others
 pass-requires-clause-others c = λ calm known q up ne.
     let k = c.self.inside in
-    let v : Running Shared Body = record { shared = k.shared; owns = k.owns; child = k.child; log = k.log.items } in
+    let v : Running Shared UserState = record { shared = k.shared; tasks = k.tasks; child = k.child; log = k.log.items } in
     let same = c.rouse.ensures.others known in
     let watch = (c.self.invariant c.if-self.false).1 (c.welcome.ensures.known same.0) in
     let event = event_of c.in_ok-transition.transition.done in
     let roused = c.in_ok-transition.transition.roused in
-    roused_watched c.welcome.new.self c.rouse.new.self c.turn_at.new.shared c.place_child.new.owns c.args.pid roused same (c.rouse.ensures.itself known)
+    roused_watched c.welcome.new.self c.rouse.new.self c.turn_at.new.shared c.place_child.new.tasks c.args.pid roused same (c.rouse.ensures.itself known)
     (λ q up ne still.
-    subst (λ (sets : Sleepers). IsWatched sets c.turn_at.new.shared q (at Gone c.place_child.new.owns q)) (sym (c.welcome.ensures.sets same.0))
-    (subst (λ (owns : Owns). IsWatched (welcomed k.sleepers k.child event) c.turn_at.new.shared q (at Gone owns q)) (sym c.in_ok-place_child.ensures.owns)
-    (turn_watched v k.script k.follow c.args.pid (λ n. count_of k.occurrences c.args.pid n) c.turn_at.new.item c.in_ok-transition.transition.done c.turn_at.new.shared c.turn_at.new.owns c.in_ok-transition.ensures.turns k.sleepers watch
+    subst (λ (sets : Sleepers). IsWatched sets c.turn_at.new.shared q (at Gone c.place_child.new.tasks q)) (sym (c.welcome.ensures.sets same.0))
+    (subst (λ (tasks : Tasks). IsWatched (welcomed k.sleepers k.child event) c.turn_at.new.shared q (at Gone tasks q)) (sym c.in_ok-place_child.ensures.tasks)
+    (turn_watched v k.script k.follow c.args.pid (λ n. count_of k.occurrences c.args.pid n) c.turn_at.new.item c.in_ok-transition.transition.done c.turn_at.new.shared c.turn_at.new.tasks c.in_ok-transition.ensures.turns k.sleepers watch
     roused (c.in_ok-transition.ensures.calm calm) q up ne still)))
     q up ne

@@ -4,4 +4,4 @@ use Rattle.lx_kernel.proofs.sleepers.Sleepers.pass.Goals as goal
 
 pub returns-then-not-hints-2 : goal.returns-then-not-hints-2
 returns-then-not-hints-2 c = λ known.
-    all_awake c.args.self.now c.args.shared.now c.args.owns.now (sym c.len.ensures ∙ c.if-len-eq0.true) (c.requires.listed known)
+    all_awake c.args.self.now c.args.shared.now c.args.tasks.now (sym c.len.ensures ∙ c.if-len-eq0.true) (c.requires.listed known)

@@ -6,7 +6,7 @@ use Rattle.lx_kernel.proofs.sleepers.Sleepers.sort.Goals as goal
 
 pub returns-then-is_absent-clause-itself : goal.returns-then-is_absent-clause-itself
 returns-then-is_absent-clause-itself c = λ known unwatched.
-    let gone = absent_gone (maps.get c.args.owns.now c.args.pid) (sym c.is_absent.ensures ∙ c.if-is_absent.true) in
+    let gone = absent_gone (maps.get c.args.tasks.now c.args.pid) (sym c.is_absent.ensures ∙ c.if-is_absent.true) in
     (gone_rests c.args.shared.now c.args.pid _ gone, λ unslept. gone)
 
 pub returns-then-is_absent-clause-others : goal.returns-then-is_absent-clause-others

@@ -5,12 +5,12 @@ pub loop-pid-preserved : goal.loop-pid-preserved
 loop-pid-preserved c = record {
   listed = λ known.
       let same = c.sort.ensures.others known in
-      listed_but c.loop-pid.self c.sort.new.self c.args.shared.now c.args.owns.now c.in-Some.pid same (c.sort.ensures.itself known) (c.loop-pid.invariant.listed same.0);
+      listed_but c.loop-pid.self c.sort.new.self c.args.shared.now c.args.tasks.now c.in-Some.pid same (c.sort.ensures.itself known) (c.loop-pid.invariant.listed same.0);
   seen = λ known.
       let same = c.sort.ensures.others known in
-      rest_up_to c.loop-pid.self c.args.shared.now c.args.owns.now c.loop-pid.passed (c.loop-pid.invariant.listed same.0) (c.loop-pid.invariant.seen same.0) c.sort.new.self c.in-Some.pid c.in-Some.ensures same (c.sort.ensures.itself known);
+      rest_up_to c.loop-pid.self c.args.shared.now c.args.tasks.now c.loop-pid.passed (c.loop-pid.invariant.listed same.0) (c.loop-pid.invariant.seen same.0) c.sort.new.self c.in-Some.pid c.in-Some.ensures same (c.sort.ensures.itself known);
 }
 
 pub returns : goal.returns
 returns c = λ known.
-    all_watched c.loop-pid.self c.args.shared.now c.args.owns.now c.loop-pid.passed (c.loop-pid.invariant.listed known) (c.loop-pid.invariant.seen known) c.in_default.ensures
+    all_watched c.loop-pid.self c.args.shared.now c.args.tasks.now c.loop-pid.passed (c.loop-pid.invariant.listed known) (c.loop-pid.invariant.seen known) c.in_default.ensures

@@ -5,8 +5,8 @@ use Rattle.lx_kernel.proofs.sleepers.Sleepers.wake_stirred.Given as goal
 
 abbrev pub invariant-loop-pid : goal.invariant-loop-pid
 invariant-loop-pid l = record {
-  listed : l.self.known ≡ true → AreListed l.self l.owns;
-  seen : l.self.known ≡ true → RestUpTo l.self l.shared l.owns l.passed;
+  listed : l.self.known ≡ true → AreListed l.self l.tasks;
+  seen : l.self.known ≡ true → RestUpTo l.self l.shared l.tasks l.passed;
 }
 
 abbrev pub decreases-loop-pid : goal.decreases-loop-pid

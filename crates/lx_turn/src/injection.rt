@@ -1,0 +1,28 @@
+//! What a script does to the calls of a process.
+
+ghost use Rattle.std.specs.Prelude.{◌≡◌};
+ghost use Rattle.lx_turn.specs.Injection.{choice_in};
+
+use lx_abi::{Choice, Occurrences, Script};
+
+/// What a script does, and the entries that it counts.
+#[derive(Clone, Copy)]
+pub struct Injection<'a> {
+    pub script: &'a Script,
+    pub occurrences: &'a Occurrences,
+    pub follow: bool,
+}
+
+impl Injection<'_> {
+    /// What is done to the call that a process has entered.
+    pub fn choice(&self, pid: u32, number: u64) -> Choice
+        ensures { result ≡ choice_in self.now pid number }
+    {
+        if self.follow || pid == 1 {
+            self.script
+                .choose(number, self.occurrences.latest(pid, number))
+        } else {
+            Choice::NOTHING
+        }
+    }
+}
