@@ -136,6 +136,7 @@ pub record CallsOver {X S B : Type 0} (choose : Schedules X S B) (m : Machine S 
   pub host : (called m outcome h q fed).host ≡ g
   pub left : (called m outcome h q fed).left ≡ []
   pub reply : r ≡ reply_or (called m outcome h q fed).reply
+  pub ended : (called m outcome h q fed).reply ≡ None → choose y (record { host = g; pending = Some q }) ≡ None
 
 -- a talk over a schedule, which gave these events in all
 abbrev pub TalksOver : {X S B : Type 0} → Schedules X S B → Machine S B → (S → Outcome) → Options → Script

@@ -1,6 +1,6 @@
 -- A run from its boot on.
 use Rattle.std.proofs.Common.{◌≡◌, ℕ, false, List, [], Option, Some, Result, Ok, Err, refl, sym, ap, subst}
-use Rattle.std.specs.Prelude.{IfErr}
+use Rattle.std.specs.Prelude.{IfErr, OnOk}
 use Rattle.lx_abi.specs.declared.outcome.Outcome.{Outcome}
 use Rattle.lx_proc.specs.declared.state.Shared.{Shared}
 use Rattle.lx_proc.specs.declared.state.UserState.{UserState}
@@ -24,7 +24,7 @@ use Rattle.tr_core.specs.declared.tracing.TraceFault.TheVariants.{Inadmissible, 
 use Rattle.tr_core.specs.Settings.{options_by, first_pen}
 use Rattle.tr_core.specs.States.{new_state}
 use Rattle.tr_core.specs.declared.settings.Options.{Options}
-use Rattle.trace_run.specs.Local.{LocalRun}
+use Rattle.trace_run.specs.Local.{LocalRun, Feeds}
 use Rattle.trace_run.specs.BootedRuns.{TracesTo}
 use Rattle.trace_run.specs.LocalRuns.{IsGoing, local_answers, FailsBy, LocalLinksFail, LocalLinksTell, LocalLinksTellParts}
 use Rattle.trace_run.specs.Runs.{RunsWhole}
@@ -98,9 +98,17 @@ booted_traces tell begin o script is_script schedule s b result old new x =
     } in
     let told = tell o script is_script x.link x.link' old new x.broken x.broken' result x.ran s b is_going x.hosting in
     record {
+      link = x.link;
+      link' = x.link';
+      broken = x.broken;
+      broken' = x.broken';
+      ran = x.ran;
+      going = is_going;
+      begun = x.hosting;
+      by = x.by;
       events = told.events;
-      exchanges = x.ran.runs.exchanges;
       given = subst (λ (y : Schedule). TalksOver next_of_host linux outcome_in (options_by o) script first_tracer y (first_world s b).host told.events x.ran.runs.exchanges) x.by told.given;
+      fed = subst (λ (y : Schedule). OnOk result (Feeds next_of_host linux outcome_in (options_by o) script y (first_world s b) told.events)) x.by told.fed;
       tells = told.tells;
     }
 

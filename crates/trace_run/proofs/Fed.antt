@@ -143,7 +143,7 @@ module _ {L X S B : Type 0} (answers : Answers L) (i : InMemory L X S B) (choose
       let v : World S B = record { host = (called m outcome (i.host a) q c.fed).host; tracer = t.tracer; printed = printed } in
       let stays : met t.options t.script w t.tracer.focus (called m outcome (i.host a) q c.fed).host (called m outcome (i.host a) q c.fed).reply ≡ at_link t mid printed =
       ap₂ (λ g z. met t.options t.script w t.tracer.focus g z) c.call.host e in
-      let over : choose c.left (attends t.options (at_link t mid printed)) ≡ None = ap (λ z. choose c.left (record { host = i.host mid; pending = z })) f ∙ c.ended e in
+      let over : choose c.left (attends t.options (at_link t mid printed)) ≡ None = ap (λ z. choose c.left (record { host = i.host mid; pending = z })) f ∙ c.call.ended e in
       let app = append-nil c.fed in
       record {
         events = c.fed ++ [];

@@ -74,10 +74,15 @@ module _ (called_so : HostsAreCalled) where
         served = record {
           fed = sv.attends.fed;
           left = c.left;
-          call = record { gives = c.gives; host = c.host; left = c.used; reply = said ∙ same_reply x ∙ ap reply_or (sym c.reply) };
+          call = record {
+            gives = c.gives;
+            host = c.host;
+            left = c.used;
+            reply = said ∙ same_reply x ∙ ap reply_or (sym c.reply);
+            ended = λ e. c.ended (sym c.reply ∙ e);
+          };
           turned = c.turned;
           goes_on = λ h. c.goes_on (ap is_there (sym c.reply) ∙ h);
-          ended = λ e. c.ended (sym c.reply ∙ e);
         };
         stays = λ h. record {
           fresh = c.fresh;
@@ -105,5 +110,5 @@ local_links_tell cited serves begin machine told o script is_script link link' t
 
 pub local_links_tell_parts : Cited Schedule Shared UserState local_answers → LocalLinksServe → HostsBeginAlike Shared UserState → IsMachine linux → IsTold linux → LocalLinksTellParts
 local_links_tell_parts cited serves begin machine told o script is_script link link' old new broken broken' result w s b going first =
-    let x = sound_runs_tell_parts local_answers cited IsGoing o script is_script link link' old new broken broken' result w in_process next_of_host linux machine told outcome_in s b serves going (ap host_in first ∙ (begin s b).0) in
-    record { events = x.0; given = x.1.0; tells = x.1.1 }
+    let x = sound_runs_tell_parts local_answers cited IsGoing o script is_script link link' old new broken broken' in_process next_of_host linux machine told outcome_in s b serves going (ap host_in first ∙ (begin s b).0) result w in
+    record { events = x.events; given = x.over; fed = x.fed; tells = x.tells }

@@ -1,5 +1,6 @@
 -- A run over a host in memory, from the events that its schedule gave.
-use Rattle.std.proofs.Common.{◌≡◌, ℕ, ◌≤◌, ◌<◌, Bool, true, List, [], ◌∷◌, ◌++◌, Option, Some, None, Result, Ok, refl, sym, ap, subst, ◌∙◌}
+use Rattle.std.proofs.Common.{◌≡◌, ℕ, ◌≤◌, ◌<◌, Bool, true, List, [], ◌∷◌, ◌++◌, Option, Some, None, Result, Ok, Err, refl, sym, ap, subst, ◌∙◌}
+use Rattle.std.specs.Prelude.{OnOk}
 use Rattle.std.proofs.lemmas.List.{append-nil}
 use Rattle.lx_abi.specs.declared.outcome.Outcome.{Outcome}
 use Rattle.lx_abi.specs.declared.ptrace.Reply.{Reply}
@@ -117,26 +118,58 @@ sound_runs_tell {L} {X} {S} {B} answers cited sound o script is_script link link
       out_of_turns = x.out_of_turns;
     }
 
--- however a run ends, and whatever it writes to
-pub sound_runs_tell_parts : {L X S B : Type 0} (answers : Answers L) → Cited X S B answers → (sound : L → Type 0)
-    (o : Options) (script : Script) → IsScript script → (link link' : L) (old new : Option (List ℕ)) (broken broken' : ℕ) (result : Result Ended RunFault)
-    (w : RunsWhole answers (new_state (options_by o) script (first_pen o)) link old broken result link' new broken')
-    (i : InMemory L X S B) (choose : Schedules X S B) (m : Machine S B) → IsMachine m → IsTold m → (outcome : S → Outcome) (s : S) (b : B)
-    → ((a : L) (q : Request) (r : Reply) (b : L) → sound a → answers a q (Ok r) b → SoundCall sound i choose m outcome a q r b)
-    → sound link → i.host link ≡ (first_world s b).host
-    → (events : List Event) × (TalksOver choose m outcome (options_by o) script first_tracer (i.schedule link) (first_world s b).host events w.runs.exchanges × Tells m outcome o script s b events result old new)
-unfolding heard moved_by
-sound_runs_tell_parts {L} {X} {S} {B} answers cited sound o script is_script link link' old new broken broken' result w i choose m is_m is_told outcome s b serves is_sound first =
-    let po : parts_of.Options = options_by o in
-    let xs : List (Request × Reply) = w.runs.exchanges in
-    let begun : State = heard (new_state po script (first_pen o)) Agreed in
-    let said : Talk answers i choose m outcome sound serves cited.calls cited.appends cited.nothing begun link xs =
-    talk answers i choose m outcome sound serves cited.calls cited.appends cited.nothing xs begun link w.runs.link is_sound w.runs.led w.runs.asked in
-    let over : TalksOver choose m outcome po script first_tracer (i.schedule link) (first_world s b).host said.0 xs =
-    subst (λ (h : Host S B). TalksOver choose m outcome po script first_tracer (i.schedule link) h said.0 xs) first said.1 in
-    let talks : Talks m outcome po script first_tracer (first_world s b).host said.0 xs =
-    cited.lists choose m outcome po script first_tracer (i.schedule link) (first_world s b).host said.0 xs over in
-    (said.0, (over, cited.tells o script is_script link link' old new broken broken' result w m is_m is_told outcome s b said.0 (cited.own m outcome po script s b said.0 xs talks)))
+-- what a run says, however it ends and whatever it writes to
+pub record PartsTold {X S B : Type 0} (choose : Schedules X S B) (m : Machine S B) (outcome : S → Outcome) (o : Options) (script : Script) (x : X) (s : S) (b : B)
+    (exchanges : List (Request × Reply)) (result : Result Ended RunFault) (old new : Option (List ℕ)) : Type 0 where
+  pub events : List Event
+  pub over : TalksOver choose m outcome (options_by o) script first_tracer x (first_world s b).host events exchanges
+  pub fed : OnOk result (Feeds choose m outcome (options_by o) script x (first_world s b) events)
+  pub tells : Tells m outcome o script s b events result old new
+
+module _ {L X S B : Type 0} (answers : Answers L) (cited : Cited X S B answers) (sound : L → Type 0)
+    (o : Options) (script : Script) (is_script : IsScript script) (link link' : L) (old new : Option (List ℕ)) (broken broken' : ℕ)
+    (i : InMemory L X S B) (choose : Schedules X S B) (m : Machine S B) (is_m : IsMachine m) (is_told : IsTold m) (outcome : S → Outcome) (s : S) (b : B)
+    (serves : (a : L) (q : Request) (r : Reply) (b : L) → sound a → answers a q (Ok r) b → SoundCall sound i choose m outcome a q r b)
+    (is_sound : sound link) (first : i.host link ≡ (first_world s b).host) where
+  -- by the events of its talk
+  told_by_talk : (result : Result Ended RunFault) (w : RunsWhole answers (new_state (options_by o) script (first_pen o)) link old broken result link' new broken')
+      (events : List Event) → TalksOver choose m outcome (options_by o) script first_tracer (i.schedule link) (i.host link) events w.runs.exchanges
+      → OnOk result (Feeds choose m outcome (options_by o) script (i.schedule link) (first_world s b) events)
+      → PartsTold choose m outcome o script (i.schedule link) s b w.runs.exchanges result old new
+  told_by_talk result w events talks fed =
+      let po : parts_of.Options = options_by o in
+      let xs : List (Request × Reply) = w.runs.exchanges in
+      let over : TalksOver choose m outcome po script first_tracer (i.schedule link) (first_world s b).host events xs =
+      subst (λ (h : Host S B). TalksOver choose m outcome po script first_tracer (i.schedule link) h events xs) first talks in
+      let own : Talks m outcome po script first_tracer (first_world s b).host events xs =
+      cited.lists choose m outcome po script first_tracer (i.schedule link) (first_world s b).host events xs over in
+      record {
+        events = events;
+        over = over;
+        fed = fed;
+        tells = cited.tells o script is_script link link' old new broken broken' result w m is_m is_told outcome s b events (cited.own m outcome po script s b events xs own);
+      }
+
+  pub sound_runs_tell_parts : (result : Result Ended RunFault) (w : RunsWhole answers (new_state (options_by o) script (first_pen o)) link old broken result link' new broken')
+      → PartsTold choose m outcome o script (i.schedule link) s b w.runs.exchanges result old new
+  unfolding heard moved_by
+  sound_runs_tell_parts (Ok ended) w =
+      let po : parts_of.Options = options_by o in
+      let xs : List (Request × Reply) = w.runs.exchanges in
+      let begun : State = heard (new_state po script (first_pen o)) Agreed in
+      let last : IsLast (new_state po script (first_pen o)) (Agreed ∷ replies_of xs) w.runs.link (record { link = link'; written = new; broken = broken'; state = w.state }) =
+      last_link answers (new_state po script (first_pen o)) (Agreed ∷ replies_of xs) old w.runs.link (record { link = link'; written = new; broken = broken'; state = w.state }) w.runs.last in
+      let fed : IsFed answers i choose m outcome sound serves cited.calls cited.appends cited.nothing begun link w.runs.link [] xs =
+      is_fed answers i choose m outcome sound serves cited.calls cited.appends cited.nothing xs begun link w.runs.link [] is_sound w.runs.led w.runs.asked last.asks_none in
+      let world : record { host = i.host link; tracer = first_tracer; printed = [] } ≡ first_world s b = ap (λ (h : Host S B). record { host = h; tracer = first_tracer; printed = [] }) first in
+      told_by_talk (Ok ended) w fed.events fed.over (subst (λ (v : World S B). Feeds choose m outcome po script (i.schedule link) v fed.events) world fed.given)
+  sound_runs_tell_parts (Err fault) w =
+      let po : parts_of.Options = options_by o in
+      let xs : List (Request × Reply) = w.runs.exchanges in
+      let begun : State = heard (new_state po script (first_pen o)) Agreed in
+      let said : Talk answers i choose m outcome sound serves cited.calls cited.appends cited.nothing begun link xs =
+      talk answers i choose m outcome sound serves cited.calls cited.appends cited.nothing xs begun link w.runs.link is_sound w.runs.led w.runs.asked in
+      told_by_talk (Err fault) w said.0 said.1 tt
 
 pub local_runs_tell : {L X S B : Type 0} (answers : Answers L) → Cited X S B answers → LocalRunsTell X S B answers
 local_runs_tell {L} answers cited o script is_script link link' trace broken broken' ended w i choose m is_m is_told outcome s b serves first no_turns =

@@ -1,8 +1,6 @@
 -- A run from its boot on, in the tracer's own process.
-use Rattle.std.specs.Prelude.{ℕ, Bool, List, Option, Result}
+use Rattle.std.specs.Prelude.{◌≡◌, ℕ, Bool, List, Option, Result, OnOk}
 use Rattle.lx_abi.specs.declared.boot.Boot.{Boot}
-use Rattle.lx_abi.specs.declared.ptrace.Reply.{Reply}
-use Rattle.lx_abi.specs.declared.ptrace.Request.{Request}
 use Rattle.lx_abi.specs.declared.schedule.Event.{Event}
 use Rattle.lx_abi.specs.declared.script.Rule.{Rule}
 use Rattle.lx_abi.specs.Scripts.{choice_of}
@@ -18,9 +16,15 @@ use Rattle.pt_model.specs.Tracer.{first_tracer}
 use Rattle.pt_model.specs.World.{first_world}
 use Rattle.pt_kernel.specs.Seen.{next_of_host}
 use Rattle.pt_schedule.specs.declared.schedule.Schedule.{Schedule}
-use Rattle.tr_core.specs.Settings.{options_by}
+use Rattle.pt_model.specs.Hosting.{first_hosting}
+use Rattle.host_link.specs.LocalLinks.{host_of, schedule_of}
+use Rattle.host_link.specs.declared.local.LocalLink.{LocalLink}
+use Rattle.tr_core.specs.Settings.{options_by, first_pen}
+use Rattle.tr_core.specs.States.{new_state}
 use Rattle.tr_core.specs.declared.settings.Options.{Options}
-use Rattle.trace_run.specs.Local.{LocalRun}
+use Rattle.trace_run.specs.Local.{LocalRun, Feeds}
+use Rattle.trace_run.specs.LocalRuns.{IsGoing, local_answers}
+use Rattle.trace_run.specs.Runs.{RunsWhole}
 use Rattle.trace_run.specs.Tells.{Tells}
 use Rattle.trace_run.specs.declared.local.Run.{Run}
 use Rattle.trace_run.specs.declared.running.Ended.{Ended}
@@ -37,14 +41,24 @@ RunOf boot schedule script options run =
     LocalRun next_of_host linux outcome_in (following options boot.follow) (choice_of script) schedule
     (first_shared boot.files boot.input) (booted boot.argv boot.env) run.ended run.trace run.outcome run.turns
 
--- what a run from these parts writes, however it ends: the events are those that the schedule gave, request by request,
--- and what was written begins the rendering of a view of the untraced kernel's log by then
+-- A run from these parts to any writer, however it ends. It went over a link to a booted host that this schedule feeds;
+-- the events are those that the schedule gave, request by request, all of them where the run didn't fail; and what was
+-- written begins the rendering of a view of the untraced kernel's log by then.
 pub record TracesTo (o : Options) (script : Script) (schedule : Schedule) (s : Shared) (b : UserState)
     (result : Result Ended RunFault) (old new : Option (List ℕ)) : Type 0 where
+  pub link : LocalLink
+  pub link' : LocalLink
+  pub broken : ℕ
+  pub broken' : ℕ
+  pub ran : RunsWhole local_answers (new_state (options_by o) script (first_pen o)) link old broken result link' new
+      broken'
+  pub going : IsGoing link
+  pub begun : (host_of link).hosting ≡ first_hosting s b
+  pub by : schedule_of link ≡ schedule
   pub events : List Event
-  pub exchanges : List (Request × Reply)
   pub given : TalksOver next_of_host linux outcome_in (options_by o) script first_tracer schedule (first_world s b).host
-      events exchanges
+      events ran.runs.exchanges
+  pub fed : OnOk result (Feeds next_of_host linux outcome_in (options_by o) script schedule (first_world s b) events)
   pub tells : Tells linux outcome_in o script s b events result old new
 
 -- from the boot's files, input and words, under the script

@@ -37,8 +37,6 @@ pub record CallServed {L X S B : Type 0} (i : InMemory L X S B) (choose : Schedu
   pub call : CallsOver choose m outcome (i.schedule a) (i.host a) q fed r left (i.host b)
   pub turned : i.turns b ≡ i.turns a ++ (called m outcome (i.host a) q fed).turns
   pub goes_on : is_there (called m outcome (i.host a) q fed).reply ≡ true → i.schedule b ≡ left
-  pub ended : (called m outcome (i.host a) q fed).reply ≡ None
-      → choose left (record { host = i.host b; pending = Some q }) ≡ None
 
 abbrev pub ServesCalls : {L X S B : Type 0} → InMemory L X S B → Schedules X S B → Machine S B → (S → Outcome)
     → Answers L → Type 0

@@ -1,5 +1,5 @@
 -- A run over a host in the tracer's own process, by the untraced kernel.
-use Rattle.std.specs.Prelude.{◌≡◌, ℕ, false, List, [], Option, Some, None, Result, Ok, Err, ⊤}
+use Rattle.std.specs.Prelude.{◌≡◌, ℕ, false, List, [], Option, Some, None, Result, Ok, Err, OnOk, ⊤}
 use Rattle.lx_abi.specs.declared.ptrace.Reply.{Reply}
 use Rattle.lx_abi.specs.declared.ptrace.Request.{Request}
 use Rattle.lx_abi.specs.declared.schedule.Event.{Event}
@@ -20,7 +20,7 @@ use Rattle.host_link.specs.declared.local.LocalLink.{LocalLink}
 use Rattle.tr_core.specs.Settings.{options_by, first_pen}
 use Rattle.tr_core.specs.States.{new_state}
 use Rattle.tr_core.specs.declared.settings.Options.{Options}
-use Rattle.trace_run.specs.Local.{InMemory, SoundCall, LocalRun}
+use Rattle.trace_run.specs.Local.{InMemory, SoundCall, Feeds, LocalRun}
 use Rattle.trace_run.specs.Runs.{Answers, Called, RunsWhole}
 use Rattle.trace_run.specs.Tells.{Tells}
 use Rattle.trace_run.specs.declared.running.Ended.{Ended}
@@ -70,6 +70,9 @@ pub record LinkTells (o : Options) (script : Script) (s : Shared) (b : UserState
   pub events : List Event
   pub given : TalksOver next_of_host linux outcome_in (options_by o) script first_tracer (schedule_of link)
       (first_world s b).host events exchanges
+  -- a run without a fault had all that the schedule gives, until nothing is asked or it has ended
+  pub fed : OnOk result (Feeds next_of_host linux outcome_in (options_by o) script (schedule_of link) (first_world s b)
+      events)
   pub tells : Tells linux outcome_in o script s b events result old new
 
 abbrev pub LocalLinksTellParts : Type 0
