@@ -19,7 +19,7 @@ numbered n false e = None
 unfoldable pub errno_numbered : ℕ → Option Errno
 errno_numbered n = numbered n (is_errno n) refl
 
--- number, name (errno(3)) and text (strerror(3)) of each error
+-- number, name (errno(3)) and text (strerror(3)) of each error; of two names of one number the first is its own
 unfoldable pub errors : List (ℕ × List ℕ × List ℕ)
 errors =
     (1, codes "EPERM", codes "Operation not permitted") ∷
@@ -62,6 +62,101 @@ errors =
     (38, codes "ENOSYS", codes "Function not implemented") ∷
     (39, codes "ENOTEMPTY", codes "Directory not empty") ∷
     (40, codes "ELOOP", codes "Too many levels of symbolic links") ∷
+    (42, codes "ENOMSG", codes "No message of desired type") ∷
+    (43, codes "EIDRM", codes "Identifier removed") ∷
+    (44, codes "ECHRNG", codes "Channel number out of range") ∷
+    (45, codes "EL2NSYNC", codes "Level 2 not synchronized") ∷
+    (46, codes "EL3HLT", codes "Level 3 halted") ∷
+    (47, codes "EL3RST", codes "Level 3 reset") ∷
+    (48, codes "ELNRNG", codes "Link number out of range") ∷
+    (49, codes "EUNATCH", codes "Protocol driver not attached") ∷
+    (50, codes "ENOCSI", codes "No CSI structure available") ∷
+    (51, codes "EL2HLT", codes "Level 2 halted") ∷
+    (52, codes "EBADE", codes "Invalid exchange") ∷
+    (53, codes "EBADR", codes "Invalid request descriptor") ∷
+    (54, codes "EXFULL", codes "Exchange full") ∷
+    (55, codes "ENOANO", codes "No anode") ∷
+    (56, codes "EBADRQC", codes "Invalid request code") ∷
+    (57, codes "EBADSLT", codes "Invalid slot") ∷
+    (59, codes "EBFONT", codes "Bad font file format") ∷
+    (60, codes "ENOSTR", codes "Device not a stream") ∷
+    (61, codes "ENODATA", codes "No data available") ∷
+    (62, codes "ETIME", codes "Timer expired") ∷
+    (63, codes "ENOSR", codes "Out of streams resources") ∷
+    (64, codes "ENONET", codes "Machine is not on the network") ∷
+    (65, codes "ENOPKG", codes "Package not installed") ∷
+    (66, codes "EREMOTE", codes "Object is remote") ∷
+    (67, codes "ENOLINK", codes "Link has been severed") ∷
+    (68, codes "EADV", codes "Advertise error") ∷
+    (69, codes "ESRMNT", codes "Srmount error") ∷
+    (70, codes "ECOMM", codes "Communication error on send") ∷
+    (71, codes "EPROTO", codes "Protocol error") ∷
+    (72, codes "EMULTIHOP", codes "Multihop attempted") ∷
+    (73, codes "EDOTDOT", codes "RFS specific error") ∷
+    (74, codes "EBADMSG", codes "Bad message") ∷
+    (75, codes "EOVERFLOW", codes "Value too large for defined data type") ∷
+    (76, codes "ENOTUNIQ", codes "Name not unique on network") ∷
+    (77, codes "EBADFD", codes "File descriptor in bad state") ∷
+    (78, codes "EREMCHG", codes "Remote address changed") ∷
+    (79, codes "ELIBACC", codes "Can not access a needed shared library") ∷
+    (80, codes "ELIBBAD", codes "Accessing a corrupted shared library") ∷
+    (81, codes "ELIBSCN", codes ".lib section in a.out corrupted") ∷
+    (82, codes "ELIBMAX", codes "Attempting to link in too many shared libraries") ∷
+    (83, codes "ELIBEXEC", codes "Cannot exec a shared library directly") ∷
+    (84, codes "EILSEQ", codes "Invalid or incomplete multibyte or wide character") ∷
+    (85, codes "ERESTART", codes "Interrupted system call should be restarted") ∷
+    (86, codes "ESTRPIPE", codes "Streams pipe error") ∷
+    (87, codes "EUSERS", codes "Too many users") ∷
+    (88, codes "ENOTSOCK", codes "Socket operation on non-socket") ∷
+    (89, codes "EDESTADDRREQ", codes "Destination address required") ∷
+    (90, codes "EMSGSIZE", codes "Message too long") ∷
+    (91, codes "EPROTOTYPE", codes "Protocol wrong type for socket") ∷
+    (92, codes "ENOPROTOOPT", codes "Protocol not available") ∷
+    (93, codes "EPROTONOSUPPORT", codes "Protocol not supported") ∷
+    (94, codes "ESOCKTNOSUPPORT", codes "Socket type not supported") ∷
+    (95, codes "EOPNOTSUPP", codes "Operation not supported") ∷
+    (96, codes "EPFNOSUPPORT", codes "Protocol family not supported") ∷
+    (97, codes "EAFNOSUPPORT", codes "Address family not supported by protocol") ∷
+    (98, codes "EADDRINUSE", codes "Address already in use") ∷
+    (99, codes "EADDRNOTAVAIL", codes "Cannot assign requested address") ∷
+    (100, codes "ENETDOWN", codes "Network is down") ∷
+    (101, codes "ENETUNREACH", codes "Network is unreachable") ∷
+    (102, codes "ENETRESET", codes "Network dropped connection on reset") ∷
+    (103, codes "ECONNABORTED", codes "Software caused connection abort") ∷
+    (104, codes "ECONNRESET", codes "Connection reset by peer") ∷
+    (105, codes "ENOBUFS", codes "No buffer space available") ∷
+    (106, codes "EISCONN", codes "Transport endpoint is already connected") ∷
+    (107, codes "ENOTCONN", codes "Transport endpoint is not connected") ∷
+    (108, codes "ESHUTDOWN", codes "Cannot send after transport endpoint shutdown") ∷
+    (109, codes "ETOOMANYREFS", codes "Too many references: cannot splice") ∷
+    (110, codes "ETIMEDOUT", codes "Connection timed out") ∷
+    (111, codes "ECONNREFUSED", codes "Connection refused") ∷
+    (112, codes "EHOSTDOWN", codes "Host is down") ∷
+    (113, codes "EHOSTUNREACH", codes "No route to host") ∷
+    (114, codes "EALREADY", codes "Operation already in progress") ∷
+    (115, codes "EINPROGRESS", codes "Operation now in progress") ∷
+    (116, codes "ESTALE", codes "Stale file handle") ∷
+    (117, codes "EUCLEAN", codes "Structure needs cleaning") ∷
+    (118, codes "ENOTNAM", codes "Not a XENIX named type file") ∷
+    (119, codes "ENAVAIL", codes "No XENIX semaphores available") ∷
+    (120, codes "EISNAM", codes "Is a named type file") ∷
+    (121, codes "EREMOTEIO", codes "Remote I/O error") ∷
+    (122, codes "EDQUOT", codes "Disk quota exceeded") ∷
+    (123, codes "ENOMEDIUM", codes "No medium found") ∷
+    (124, codes "EMEDIUMTYPE", codes "Wrong medium type") ∷
+    (125, codes "ECANCELED", codes "Operation canceled") ∷
+    (126, codes "ENOKEY", codes "Required key not available") ∷
+    (127, codes "EKEYEXPIRED", codes "Key has expired") ∷
+    (128, codes "EKEYREVOKED", codes "Key has been revoked") ∷
+    (129, codes "EKEYREJECTED", codes "Key was rejected by service") ∷
+    (130, codes "EOWNERDEAD", codes "Owner died") ∷
+    (131, codes "ENOTRECOVERABLE", codes "State not recoverable") ∷
+    (132, codes "ERFKILL", codes "Operation not possible due to RF-kill") ∷
+    (133, codes "EHWPOISON", codes "Memory page has hardware error") ∷
+    -- read, and never printed
+    (11, codes "EWOULDBLOCK", codes "Resource temporarily unavailable") ∷
+    (35, codes "EDEADLOCK", codes "Resource deadlock avoided") ∷
+    (95, codes "ENOTSUP", codes "Operation not supported") ∷
     []
 
 -- the number of the error with this name
