@@ -41,6 +41,9 @@ test:
 	rt ci
 	tests/guests
 	tests/calls
+	tests/runs
+	tests/conversations
+	tests/messages
 	tests/traces
 	tests/c-guests
 	tests/completions
