@@ -5,9 +5,8 @@ use crate::reading::{MOST_INPUT, read_file, read_input};
 use crate::shown::Shown;
 use containers::{Bytes, Seq};
 use lx_abi::{Boot, GuestFile};
-use lx_boot::BootFault;
 use std::alloc::Global;
-use std::io::Read;
+use std::io::{IsTerminal, Read, Write};
 use std::rt::Files;
 
 /// The most bytes of a guest's file.
@@ -21,6 +20,8 @@ const MOST_CONTENTS: u64 = 67_108_864;
 pub struct BootWords<'m, 'a> {
     /// Words GUEST=PATH.
     pub files: &'m [&'a str],
+    /// Words NAME=VALUE.
+    pub environment: &'m [&'a str],
     /// The program and its arguments.
     pub program: &'m [&'a str],
     /// Each process has the script's choices, else the first alone.
@@ -66,26 +67,64 @@ fn argv(alloc: Global, words: &[&str]) -> Result<Seq<Bytes>, Fault> {
     Ok(argv)
 }
 
-/// The boot that the words and the input ask for, with no environment.
-pub fn boot_of<R: Files + AllocGlobal, I: Read>(
+/// The name in a word NAME=VALUE.
+fn name_of(word: &str) -> Option<&str> {
+    match word.split_once('=') {
+        Some((name, _)) if !name.is_empty() => Some(name),
+        _ => None,
+    }
+}
+
+/// One of the words sets this variable.
+fn is_set_by(name: &str, words: &[&str]) -> bool {
+    words.iter().any(|word| name_of(word) == Some(name))
+}
+
+/// The environment. Of words that set one variable the last counts.
+fn environment(alloc: Global, words: &[&str]) -> Result<Seq<Bytes>, Fault> {
+    let mut set = Seq::new(alloc);
+    let mut left = words;
+    while let Some((word, rest)) = left.split_first() {
+        let Some(name) = name_of(word) else {
+            return Err(Fault::usage(format!(in alloc; "-E {}: not NAME=VALUE", Shown(word))));
+        };
+        if !is_set_by(name, rest) {
+            let variable = Bytes::from_slice(alloc, word.as_bytes())?;
+            set.push(variable)?;
+        }
+        left = rest;
+    }
+    Ok(set)
+}
+
+/// Says that the input is read from a terminal, where there is one to say it on.
+fn announce_input<I: IsTerminal, E: Write + IsTerminal>(program: &str, input: &I, err: &mut E) {
+    if input.is_terminal() && err.is_terminal() {
+        // Whether it can be said or not, the input is read.
+        let _said = writeln!(
+            err,
+            "{program}: reading the guest's input from the terminal, to its end (^D); < /dev/null gives it none"
+        );
+    }
+}
+
+/// The boot that the words and the input ask for. Where the input is a terminal, the program says so on `err`.
+pub fn boot_of<R: Files + AllocGlobal, I: Read + IsTerminal, E: Write + IsTerminal>(
     rt: &R,
+    program: &str,
     words: BootWords,
     input: &mut I,
+    err: &mut E,
 ) -> Result<Boot, Fault> {
     let alloc = rt.alloc();
+    let env = environment(alloc, words.environment)?;
+    let files = read_files(rt, words.files)?;
+    announce_input(program, input, err);
     Ok(Boot {
-        files: read_files(rt, words.files)?,
+        files,
         argv: argv(alloc, words.program)?,
-        env: Seq::new(alloc),
+        env,
         input: Bytes::from_vec(read_input(alloc, input, MOST_INPUT)?),
         follow: words.follow,
     })
-}
-
-/// Why a boot is refused.
-pub fn refuse_boot(alloc: Global, fault: BootFault) -> Fault {
-    match fault {
-        BootFault::Memory => Fault::Memory,
-        fault => Fault::usage(format!(in alloc; "boot fault {}: {fault}", fault.number())),
-    }
 }

@@ -1,8 +1,9 @@
-//! What the words after `-e` ask for.
+//! What the words that name calls ask for: those after `-e`, `--trace`, `--inject` and `--fault`.
 
+use clap::ArgMatches;
 use containers::Seq;
 use lx_abi::{Rule, Script, Set};
-use std::alloc::Global;
+use std::alloc::{AllocError, Global};
 use tr_expr::{Expr, ExprFault, parse_expr};
 
 /// The calls that are traced, by the last expression that says so, else all; and the script.
@@ -19,14 +20,59 @@ pub struct RefusedExpression<'a> {
     pub fault: ExprFault,
 }
 
+/// Options of a command, and what an expression of theirs begins with beside the option's value.
+const OPTIONS: [(&str, &str); 4] = [
+    ("expression", ""),
+    ("trace", "trace="),
+    ("inject", "inject="),
+    ("fault", "fault="),
+];
+
+/// An expression, and where it stands among the words.
+#[derive(Drop)]
+struct Placed {
+    place: usize,
+    text: String,
+}
+
+/// An expression as it is read: `t=` is short for `trace=`.
+fn text_of(alloc: Global, start: &str, value: &str) -> Result<String, AllocError> {
+    match (start, value.strip_prefix("t=")) {
+        ("", Some(set)) => format!(in alloc; "trace={set}"),
+        _ => format!(in alloc; "{start}{value}"),
+    }
+}
+
+/// The expressions, in the order of the words.
+pub fn expression_words(alloc: Global, matches: &ArgMatches) -> Result<Vec<String>, AllocError> {
+    let mut placed: Vec<Placed> = Vec::new(alloc);
+    for (option, start) in OPTIONS {
+        let values = matches.get_strs(option).unwrap_or(&[]);
+        let places = matches.indices_of(option).unwrap_or(&[]);
+        for (value, place) in values.iter().zip(places) {
+            placed.push(Placed {
+                place: *place,
+                text: text_of(alloc, start, value)?,
+            })?;
+        }
+    }
+    placed.sort_by_key(|one| one.place)?;
+    let mut texts = Vec::new(alloc);
+    for one in placed {
+        texts.push(one.text)?;
+    }
+    Ok(texts)
+}
+
 /// Parses the expressions in their order.
 pub fn parse_expressions<'a>(
     alloc: Global,
-    words: &[&'a str],
+    words: &'a [String],
 ) -> Result<Expressions, RefusedExpression<'a>> {
     let mut shown = Set::AllBut(Seq::new(alloc));
     let mut rules: Vec<Rule> = Vec::new(alloc);
-    for text in words.iter().copied() {
+    for word in words {
+        let text = word.as_str();
         match parse_expr(alloc, text) {
             Ok(Expr::Trace(set)) => shown = set,
             Ok(Expr::Inject(rule)) => {

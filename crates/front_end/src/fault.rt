@@ -6,8 +6,10 @@ use std::io::{self, ErrorKind};
 
 #[derive(Debug, Drop)]
 pub enum Fault {
-    /// They are at fault in this way, told in one line.
+    /// They are at fault in this way, reported in one line.
     Usage(String),
+    /// This output can't be written.
+    Output(String),
     /// Memory was refused.
     Memory,
 }
@@ -17,6 +19,14 @@ impl Fault {
     pub fn usage(text: Result<String, AllocError>) -> Self {
         match text {
             Ok(text) => Fault::Usage(text),
+            Err(error) => Fault::from(error),
+        }
+    }
+
+    /// An output that can't be written, if there is memory to say which.
+    pub fn output(text: Result<String, AllocError>) -> Self {
+        match text {
+            Ok(text) => Fault::Output(text),
             Err(error) => Fault::from(error),
         }
     }

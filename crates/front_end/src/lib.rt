@@ -3,8 +3,13 @@
 #![tactic(auto)]
 
 mod boot;
+mod boot_faults;
+mod explanation;
 mod expressions;
 mod fault;
+mod leavings;
+mod left_out;
+mod names;
 mod offered;
 mod options;
 mod parser;
@@ -13,10 +18,15 @@ mod shown;
 mod start;
 mod turns;
 
-pub use boot::{BootWords, boot_of, read_files, refuse_boot};
-pub use expressions::{Expressions, RefusedExpression, parse_expressions};
+pub use boot::{BootWords, boot_of, read_files};
+pub use boot_faults::{check_boot, refuse_boot};
+pub use explanation::explain_expression;
+pub use expressions::{Expressions, RefusedExpression, expression_words, parse_expressions};
 pub use fault::Fault;
-pub use offered::{with_expressions, with_files, with_limit, with_program};
+pub use leavings::{Leavings, with_leavings};
+pub use offered::{
+    with_calls, with_environment, with_expressions, with_files, with_limit, with_program,
+};
 pub use options::{limit, number};
 pub use parser::{refusal, shown_words};
 pub use reading::{MOST_INPUT, read_input, read_text};

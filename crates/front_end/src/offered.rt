@@ -3,6 +3,23 @@
 use clap::{Arg, ArgAction, Command};
 use std::alloc::{AllocError, Global};
 
+/// Adds an option that names calls as strace's, any number of times; its id is its name.
+pub fn with_calls<'a>(
+    alloc: Global,
+    command: Command<'a>,
+    name: &'a str,
+    value: &'a str,
+    help: &'a str,
+) -> Result<Command<'a>, AllocError> {
+    command.arg(
+        Arg::new(alloc, name)
+            .long(name)
+            .value_name(value)
+            .action(ArgAction::Append)
+            .help(help),
+    )
+}
+
 /// Adds `-e EXPR`, any number of times.
 pub fn with_expressions<'a>(
     alloc: Global,
@@ -45,6 +62,21 @@ pub fn with_files<'a>(
             .value_name("GUEST=PATH")
             .action(ArgAction::Append)
             .help(help),
+    )
+}
+
+/// Adds `-E NAME=VALUE`, any number of times.
+pub fn with_environment<'a>(
+    alloc: Global,
+    command: Command<'a>,
+) -> Result<Command<'a>, AllocError> {
+    command.arg(
+        Arg::new(alloc, "environment")
+            .short('E')
+            .long("env")
+            .value_name("NAME=VALUE")
+            .action(ArgAction::Append)
+            .help("Sets a variable of the guest's environment, which is empty without it"),
     )
 }
 

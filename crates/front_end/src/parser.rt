@@ -1,6 +1,7 @@
 //! What is wrong with words that can't be parsed.
 
 use crate::fault::Fault;
+use crate::left_out::left_out;
 use crate::shown::Escaped;
 use clap::Error;
 use clap::error::ErrorKind;
@@ -15,7 +16,7 @@ pub fn shown_words(alloc: Global, words: &[String]) -> Result<Vec<String>, Alloc
     Ok(shown)
 }
 
-/// What the parser says of the words, as one line, with its hints and without the usage.
+/// What the parser says of the words, as one line without the usage.
 fn line_of(alloc: Global, error: Error) -> Result<String, AllocError> {
     let text = format!(in alloc; "{error}")?;
     let text = text.as_str();
@@ -26,7 +27,8 @@ fn line_of(alloc: Global, error: Error) -> Result<String, AllocError> {
         if part.starts_with("Usage: ") || part.starts_with("For more information") {
             break;
         }
-        if part.is_empty() {
+        // An option that isn't known is never meant as a value.
+        if part.is_empty() || part.starts_with("tip: to pass ") {
             continue;
         }
         let mark = if line.is_empty() {
@@ -51,7 +53,7 @@ fn lacks_divider(options: &[String]) -> bool {
 fn hint(kind: ErrorKind, options: &[String]) -> &'static str {
     match kind {
         ErrorKind::UnknownArgument | ErrorKind::MissingRequiredArgument if lacks_divider(options) =>
-            { "; the program stands behind --" }
+            { "; put the program after --" }
         _ => "",
     }
 }
@@ -62,8 +64,25 @@ pub fn refusal(alloc: Global, error: Error, options: Option<&[String]>) -> Fault
         return Fault::Memory;
     }
     let hint = options.map_or("", |options| hint(error.kind(), options));
+    let kind = error.kind();
     match line_of(alloc, error) {
-        Ok(line) => Fault::usage(format!(in alloc; "{line}{hint}")),
+        Ok(line) => refuse(alloc, kind, line.as_str(), hint),
         Err(error) => Fault::from(error),
+    }
+}
+
+/// The first word in quotes.
+fn quoted(line: &str) -> &str {
+    line.split('\'').nth(1).unwrap_or("")
+}
+
+/// An option that strace has is told as one that isn't here, all else as the parser says it.
+fn refuse(alloc: Global, kind: ErrorKind, line: &str, hint: &str) -> Fault {
+    let option = quoted(line);
+    match left_out(option) {
+        Some(what) if kind == ErrorKind::UnknownArgument => {
+            Fault::usage(format!(in alloc; "{option} is strace's ({what}) and not here"))
+        }
+        _ => Fault::usage(format!(in alloc; "{line}{hint}")),
     }
 }

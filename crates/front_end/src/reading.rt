@@ -52,12 +52,18 @@ pub fn read_input<I: Read>(alloc: Global, input: &mut I, limit: u64) -> Result<V
     )
 }
 
-/// The text of a file.
-pub fn read_text<R: Files + AllocGlobal>(rt: &R, path: &str) -> Result<String, Fault> {
-    let bytes = read_file(rt, path, MOST_INPUT);
-    let bytes = within(rt.alloc(), Shown(path), bytes, MOST_INPUT)?;
+/// The text of a file with no more bytes than the limit; `option` is written in front of its name in faults.
+pub fn read_text<R: Files + AllocGlobal>(
+    rt: &R,
+    option: &str,
+    path: &str,
+    limit: u64,
+) -> Result<String, Fault> {
+    let alloc = rt.alloc();
+    let what = format!(in alloc; "{option}{}", Shown(path))?;
+    let bytes = within(alloc, what.as_str(), read_file(rt, path, limit), limit)?;
     match String::from_utf8(bytes) {
         Ok(text) => Ok(text),
-        Err(_) => Err(Fault::usage(format!(in rt.alloc(); "{}: not UTF-8", Shown(path)))),
+        Err(_) => Err(Fault::usage(format!(in alloc; "{what}: not UTF-8"))),
     }
 }

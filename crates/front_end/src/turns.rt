@@ -6,13 +6,16 @@ use crate::shown::Shown;
 use lx_abi::{ScheduleFault, Word, parse_words};
 use std::rt::Files;
 
+/// The most bytes of a schedule.
+const MOST_WORDS: u64 = 67_108_864;
+
 /// The words in the file after `--turns`; none where no file is named.
 pub fn read_turns<R: Files + AllocGlobal>(rt: &R, path: Option<&str>) -> Result<Vec<Word>, Fault> {
     let alloc = rt.alloc();
     let Some(path) = path else {
         return Ok(Vec::new(alloc));
     };
-    let text = read_text(rt, path)?;
+    let text = read_text(rt, "--turns ", path, MOST_WORDS)?;
     match parse_words(alloc, text.as_str()) {
         Ok(words) => Ok(words),
         Err(ScheduleFault::Memory) => Err(Fault::Memory),

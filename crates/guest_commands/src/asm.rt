@@ -2,7 +2,7 @@
 
 use crate::fault::Fault;
 use clap::ArgMatches;
-use front_end::{Shown, read_text};
+use front_end::{MOST_INPUT, Shown, read_text};
 use rv_asm::assemble;
 use std::alloc::Global;
 use std::fs;
@@ -30,7 +30,7 @@ fn write_file<R: Files + AllocGlobal>(rt: &R, path: &str, content: &[u8]) -> Res
 
 /// Assembles the file IN and writes the file OUT.
 pub fn run<R: Files + AllocGlobal>(rt: &R, matches: &ArgMatches) -> Result<u8, Fault> {
-    let listing = read_text(rt, matches.get_str("in").unwrap_or(""))?;
+    let listing = read_text(rt, "", matches.get_str("in").unwrap_or(""), MOST_INPUT)?;
     let file = file_of(rt.alloc(), listing.as_str())?;
     write_file(rt, matches.get_str("out").unwrap_or(""), file.as_slice())?;
     Ok(0)

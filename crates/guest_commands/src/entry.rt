@@ -4,12 +4,12 @@ use crate::fault::{Fault, HOST};
 use crate::{asm, plain, serving, words};
 use clap::{ArgMatches, Error};
 use std::alloc::Global;
-use std::io::{Read, Write};
+use std::io::{IsTerminal, Read, Write};
 use std::rt::Files;
 
 /// Does what the words ask for, the program's name first, and gives the exit status. A fault is one
 /// line on `err`.
-pub fn command<R: Files + AllocGlobal, I: Read, O: Write, E: Write>(
+pub fn command<R: Files + AllocGlobal, I: Read + IsTerminal, O: Write, E: Write + IsTerminal>(
     rt: &R,
     words: &[String],
     input: &mut I,
@@ -22,15 +22,15 @@ pub fn command<R: Files + AllocGlobal, I: Read, O: Write, E: Write>(
     }
 }
 
-/// Tells of a fault in one line, and gives its status.
+/// Reports a fault in one line, and gives its status. A tracer's fault has its own, whether it could be reported or not.
 pub fn tell<E: Write>(fault: Fault, err: &mut E) -> u8 {
     match writeln!(err, "{fault}") {
-        Ok(()) => fault.status(),
-        Err(_) => HOST,
+        Err(_) if !fault.is_serving() => HOST,
+        _ => fault.status(),
     }
 }
 
-fn obey<R: Files + AllocGlobal, I: Read, O: Write, E: Write>(
+fn obey<R: Files + AllocGlobal, I: Read + IsTerminal, O: Write, E: Write + IsTerminal>(
     rt: &R,
     words: &[String],
     input: &mut I,
@@ -45,7 +45,7 @@ fn obey<R: Files + AllocGlobal, I: Read, O: Write, E: Write>(
 }
 
 /// Runs the subcommand.
-fn choose<R: Files + AllocGlobal, I: Read, O: Write, E: Write>(
+fn choose<R: Files + AllocGlobal, I: Read + IsTerminal, O: Write, E: Write + IsTerminal>(
     rt: &R,
     matches: &ArgMatches,
     input: &mut I,
@@ -65,6 +65,6 @@ fn print_help<O: Write>(alloc: Global, help: Error, out: &mut O) -> Result<u8, F
     let text = format!(in alloc; "{help}")?;
     match out.write_all(text.as_bytes()) {
         Ok(()) => Ok(0),
-        Err(_) => Err(Fault::Output),
+        Err(error) => Err(Fault::output(format!(in alloc; "standard output: {error}"))),
     }
 }

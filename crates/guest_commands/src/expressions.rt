@@ -1,37 +1,36 @@
-//! The script that the words after `-e` give.
+//! The script that the words which name calls give.
 
 use crate::fault::Fault;
-use front_end::{RefusedExpression, Shown, parse_expressions};
+use clap::ArgMatches;
+use front_end::{
+    RefusedExpression, Shown, explain_expression, expression_words, parse_expressions,
+};
 use lx_abi::Script;
-use std::alloc::Global;
+use std::alloc::{AllocError, Global};
 use tr_expr::ExprFault;
 
 /// The script of the tampering expressions; a trace set has no effect here.
-pub fn script(alloc: Global, words: &[&str]) -> Result<Script, Fault> {
-    match parse_expressions(alloc, words) {
+pub fn script(alloc: Global, matches: &ArgMatches) -> Result<Script, Fault> {
+    let words = expression_words(alloc, matches)?;
+    match parse_expressions(alloc, words.as_slice()) {
         Ok(expressions) => Ok(expressions.script),
         Err(refused) => Err(refusal(alloc, refused)),
     }
 }
 
-/// What expressions can have in strace(1), and not here so far.
-fn absent(fault: ExprFault, text: &str) -> Option<&'static str> {
-    match fault {
-        ExprFault::BadWhen if text.contains("..") => Some("ranges of occurrences (FIRST..LAST)"),
-        _ => None,
+fn refusal(alloc: Global, refused: RefusedExpression<'_>) -> Fault {
+    match refused.fault {
+        ExprFault::Memory => Fault::Memory,
+        _ => Fault::usage(explained(alloc, refused)),
     }
 }
 
-fn refusal(alloc: Global, refused: RefusedExpression) -> Fault {
-    let RefusedExpression { text, fault } = refused;
-    let (shown, number) = (Shown(text), fault.number());
-    match (fault, absent(fault, text)) {
-        (ExprFault::Memory, _) => Fault::Memory,
-        (_, Some(what)) => Fault::usage(format!(in alloc;
-            "-e {shown}: {what} are not supported yet (expression fault {number})"
-        )),
-        (_, None) => Fault::usage(format!(in alloc;
-            "-e {shown}: {fault} (expression fault {number})"
-        )),
-    }
+/// The kind of the fault, and the reason for it.
+fn explained(alloc: Global, refused: RefusedExpression<'_>) -> Result<String, AllocError> {
+    let (fault, number) = (refused.fault, refused.fault.number());
+    let reason = explain_expression(alloc, refused)?;
+    format!(in alloc;
+        "-e {}: {fault} (expression fault {number}): {reason}",
+        Shown(refused.text)
+    )
 }

@@ -23,8 +23,8 @@ pub enum Fault {
     Listing { line: usize, kind: u8 },
     /// A tracer is served no longer.
     Serving(ServeFault),
-    /// An output can't be written.
-    Output,
+    /// This output can't be written.
+    Output(String),
     /// Memory was refused.
     Memory,
 }
@@ -40,12 +40,22 @@ impl Fault {
         Fault::from(front_end::Fault::file(alloc, what, error))
     }
 
+    /// An output that can't be written, if there is memory to say which.
+    pub fn output(text: Result<String, AllocError>) -> Self {
+        Fault::from(front_end::Fault::output(text))
+    }
+
+    /// It is a tracer's that is served.
+    pub fn is_serving(&self) -> bool {
+        matches!(self, Fault::Serving(_))
+    }
+
     /// The exit status.
     pub fn status(&self) -> u8 {
         match self {
             Fault::Usage(_) | Fault::Listing { .. } => USAGE,
             Fault::Serving(_) => SERVING,
-            Fault::Output | Fault::Memory => HOST,
+            Fault::Output(_) | Fault::Memory => HOST,
         }
     }
 }
@@ -58,7 +68,7 @@ impl Display for Fault {
             Fault::Serving(fault) => {
                 write!(f, "guest_host: serve fault {}: {fault}", fault.number())
             }
-            Fault::Output => f.write_str("guest_host: output fault"),
+            Fault::Output(text) => write!(f, "guest_host: output fault: {text}"),
             Fault::Memory => f.write_str("guest_host: out of memory"),
         }
     }
@@ -68,6 +78,7 @@ impl From<front_end::Fault> for Fault {
     fn from(fault: front_end::Fault) -> Self {
         match fault {
             front_end::Fault::Usage(text) => Fault::Usage(text),
+            front_end::Fault::Output(text) => Fault::Output(text),
             front_end::Fault::Memory => Fault::Memory,
         }
     }

@@ -19,6 +19,7 @@ pub struct Log<'w, W> {
     lines: Vec<u8>,
     /// Turns since the last line.
     quiet: u64,
+    alloc: Global,
     out: &'w mut W,
 }
 
@@ -27,6 +28,7 @@ impl<'w, W: Write> Log<'w, W> {
         Ok(Log {
             lines: Vec::with_capacity(alloc, ROOM)?,
             quiet: 0,
+            alloc,
             out,
         })
     }
@@ -70,7 +72,7 @@ impl<'w, W: Write> Log<'w, W> {
         self.lines.clear();
         match written {
             Ok(()) => Ok(()),
-            Err(_) => Err(Fault::Output),
+            Err(error) => Err(Fault::output(format!(in self.alloc; "the log: {error}"))),
         }
     }
 }

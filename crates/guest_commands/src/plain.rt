@@ -4,11 +4,12 @@ use crate::fault::Fault;
 use crate::log::Log;
 use crate::plan::{Plan, read_plan};
 use clap::ArgMatches;
+use front_end::Leavings;
 use lx_abi::{Item, Mode};
 use lx_kernel::Kernel;
 use pt_schedule::Schedule;
 use std::alloc::Global;
-use std::io::{self, Read, Write};
+use std::io::{self, IsTerminal, Read, Write};
 use std::rt::Files;
 
 /// Turns ended with a process alive.
@@ -180,38 +181,57 @@ fn write_flushed<O: Write>(bytes: &[u8], out: &mut O) -> io::Result<()> {
 }
 
 /// Writes the console's bytes.
-fn write_console<O: Write>(kernel: &Kernel, out: &mut O) -> Result<(), Fault> {
+fn write_console<O: Write>(alloc: Global, kernel: &Kernel, out: &mut O) -> Result<(), Fault> {
     match write_flushed(kernel.console(), out) {
         Ok(()) => Ok(()),
-        Err(_) => Err(Fault::Output),
+        Err(error) => Err(Fault::output(format!(in alloc; "the console: {error}"))),
     }
+}
+
+/// Writes what a run that came to its end has left in its files, where the words ask for it.
+fn write_leavings<R: Files + AllocGlobal>(
+    rt: &R,
+    leavings: Leavings<'_>,
+    kernel: &Kernel,
+    status: u8,
+) -> Result<(), Fault> {
+    if status == ALIVE && is_alive(kernel) || !leavings.are_wanted() {
+        return Ok(());
+    }
+    let outcome = kernel.outcome()?;
+    let written = leavings.write(rt, &outcome);
+    drop(outcome);
+    Ok(written?)
 }
 
 /// Runs the kernel by its schedule. The log goes to `err`, and then the console to `out`, both also where the run ends
 /// in a fault.
-fn run_plan<O: Write, E: Write>(
-    alloc: Global,
-    mut plan: Plan,
+fn run_plan<R: Files + AllocGlobal, O: Write, E: Write>(
+    rt: &R,
+    leavings: Leavings<'_>,
+    plan: &mut Plan,
     out: &mut O,
     err: &mut E,
 ) -> Result<u8, Fault> {
-    let ended = log_turns(alloc, &mut plan, err);
-    let shown = write_console(&plan.kernel, out);
-    let status = status(&plan.kernel);
-    drop(plan);
+    let ended = log_turns(rt.alloc(), plan, err);
+    let shown = write_console(rt.alloc(), &plan.kernel, out);
     ended?;
     shown?;
+    let status = status(&plan.kernel);
+    write_leavings(rt, leavings, &plan.kernel, status)?;
     Ok(status)
 }
 
 /// Runs the program that the words name.
-pub fn run<R: Files + AllocGlobal, I: Read, O: Write, E: Write>(
+pub fn run<R: Files + AllocGlobal, I: Read + IsTerminal, O: Write, E: Write + IsTerminal>(
     rt: &R,
     matches: &ArgMatches,
     input: &mut I,
     out: &mut O,
     err: &mut E,
 ) -> Result<u8, Fault> {
-    let plan = read_plan(rt, matches, input)?;
-    run_plan(rt.alloc(), plan, out, err)
+    let mut plan = read_plan(rt, matches, input, err)?;
+    let status = run_plan(rt, Leavings::of(matches), &mut plan, out, err);
+    drop(plan);
+    status
 }

@@ -3,12 +3,12 @@
 use crate::expressions::script;
 use crate::fault::Fault;
 use clap::ArgMatches;
-use front_end::{BootWords, boot_of, read_turns, refuse_boot};
+use front_end::{BootWords, Leavings, boot_of, check_boot, read_turns, refuse_boot};
 use lx_abi::{Boot, Script};
 use lx_kernel::Kernel;
 use pt_schedule::Schedule;
 use std::alloc::Global;
-use std::io::Read;
+use std::io::{IsTerminal, Read, Write};
 use std::rt::Files;
 
 /// A kernel that has had no turn, and the order of its turns.
@@ -29,17 +29,19 @@ fn schedule<R: Files + AllocGlobal>(
 }
 
 /// The boot that the words and the input ask for.
-fn boot<R: Files + AllocGlobal, I: Read>(
+fn boot<R: Files + AllocGlobal, I: Read + IsTerminal, E: Write + IsTerminal>(
     rt: &R,
     matches: &ArgMatches,
     input: &mut I,
+    err: &mut E,
 ) -> Result<Boot, Fault> {
     let words = BootWords {
         files: matches.get_strs("file").unwrap_or(&[]),
+        environment: matches.get_strs("environment").unwrap_or(&[]),
         program: matches.get_strs("program").unwrap_or(&[]),
         follow: true,
     };
-    Ok(boot_of(rt, words, input)?)
+    Ok(boot_of(rt, "guest_host", words, input, err)?)
 }
 
 fn booted(alloc: Global, boot: Boot, script: Script) -> Result<Kernel, Fault> {
@@ -51,15 +53,18 @@ fn booted(alloc: Global, boot: Boot, script: Script) -> Result<Kernel, Fault> {
 
 /// Reads what the words ask for. Faults are looked for in the limit, the expressions, the schedule, the files, the
 /// input and then the boot.
-pub fn read_plan<R: Files + AllocGlobal, I: Read>(
+pub fn read_plan<R: Files + AllocGlobal, I: Read + IsTerminal, E: Write + IsTerminal>(
     rt: &R,
     matches: &ArgMatches,
     input: &mut I,
+    err: &mut E,
 ) -> Result<Plan, Fault> {
     let limit = front_end::limit(rt.alloc(), matches)?;
-    let script = script(rt.alloc(), matches.get_strs("expression").unwrap_or(&[]))?;
+    let script = script(rt.alloc(), matches)?;
     let schedule = schedule(rt, matches, limit)?;
-    let boot = boot(rt, matches, input)?;
+    Leavings::of(matches).check(rt)?;
+    let boot = boot(rt, matches, input, err)?;
+    check_boot(rt.alloc(), &boot)?;
     let kernel = booted(rt.alloc(), boot, script)?;
     Ok(Plan { kernel, schedule })
 }

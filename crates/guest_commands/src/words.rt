@@ -2,12 +2,15 @@
 
 use crate::fault::Fault;
 use clap::{Arg, ArgMatches, Command, Error};
-use front_end::{shown_words, with_expressions, with_files, with_limit, with_program};
+use front_end::{
+    shown_words, with_calls, with_environment, with_expressions, with_files, with_leavings,
+    with_limit, with_program,
+};
 use std::alloc::{AllocError, Global};
 
 /// What is written of faulty listings, kind by kind.
 const KINDS: &str =
-    "A listing that can't be assembled is told by its first faulty line, as 'asm: line L kind K':
+    "A listing that can't be assembled is reported by its first faulty line, as 'asm: line L kind K':
   1  no mnemonic or directive has this name
   2  the operands aren't those of the mnemonic
   3  a number, or the distance to a label, doesn't fit
@@ -16,9 +19,22 @@ const KINDS: &str =
   6  the program would fill more than 65536 bytes
   7  memory ran out";
 
+/// What is written of runs.
+const NOTES: &str = "The log has a line for each step of a call:
+  E pid number a0 .. a5    a call is entered
+  D pid result             it is done; r at the end says that its result was replaced
+  S pid signal             a signal is taken
+  X pid word               a process ends, with its wait word
+
+The status is the program's, or 128 and the signal that ended it; 2 for words, files or a boot at fault, 3 for an
+output or for memory, 4 where the turns ended with a process alive.
+
+Example: make the second write fail
+  guest_host plain -e fault=write:error=EIO:when=2 --file /p=hello -- /p </dev/null";
+
 /// What is written of conversations that can't go on, kind by kind.
 const SERVE_FAULTS: &str =
-    "The status is 0 at the end of input. A conversation that can't go on is told in one line, as
+    "The status is 0 at the end of input. A conversation that can't go on is reported in one line, as
 'guest_host: serve fault N: TEXT', with the status 1:
   1  the requests could not be read
   2  a reply could not be written
@@ -32,26 +48,46 @@ fn with_turns<'a>(alloc: Global, command: Command<'a>) -> Result<Command<'a>, Al
         Arg::new(alloc, "turns")
             .long("turns")
             .value_name("FILE")
-            .help("A schedule by words, as 1 2 1. (the default schedule)"),
+            .help("A schedule by words, as 1 2 1. [default: turns in rounds]"),
     )
 }
 
 fn plain_command<'a>(alloc: Global) -> Result<Command<'a>, AllocError> {
-    let command = Command::new(alloc, "plain").about(
-        "Runs a program on the untraced kernel, and prints its calls on standard error",
-    );
+    let command = Command::new(alloc, "plain")
+        .about("Runs a program on the untraced kernel, and prints its calls on standard error")
+        .after_help(NOTES);
     let command = with_expressions(
         alloc,
         command,
         "A tampering expression, as fault=write:error=EIO",
     )?;
+    let command = with_calls(
+        alloc,
+        command,
+        "inject",
+        "SET:PARTS",
+        "The same as -e inject=SET:PARTS",
+    )?;
+    let command = with_calls(
+        alloc,
+        command,
+        "fault",
+        "SET[:PARTS]",
+        "The same as -e fault=SET[:PARTS]",
+    )?;
     let command = with_turns(alloc, command)?;
-    let command = with_limit(alloc, command, "The most turns that there are (10000000)")?;
+    let command = with_limit(
+        alloc,
+        command,
+        "The most turns that there are [default: 10000000]",
+    )?;
     let command = with_files(
         alloc,
         command,
-        "A file of the guest's, and the file that holds its content",
+        "A file of the guest's, and the file that holds its content; the program too",
     )?;
+    let command = with_environment(alloc, command)?;
+    let command = with_leavings(alloc, command)?;
     with_program(alloc, command)
 }
 

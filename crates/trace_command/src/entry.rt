@@ -2,52 +2,65 @@
 
 use crate::fault::{Fault, HOST};
 use crate::{tracing, words};
-use clap::Error;
+use clap::{ArgMatches, Error};
 use front_end::{refusal, shown_words};
 use std::alloc::Global;
-use std::io::{Read, Write};
+use std::io::{IsTerminal, Read, Write};
 use std::process::Processes;
 use std::rt::Files;
 
 /// Traces the run that the words ask for, the program's name first, and gives the exit status. A fault is one line on
-/// `err`.
-pub fn command<R: Files + Processes + AllocGlobal, I: Read, O: Write, E: Write>(
-    rt: &R,
-    words: &[String],
-    input: &mut I,
-    out: &mut O,
-    err: &mut E,
-) -> u8 {
-    match obey(rt, words, input, out, err) {
-        Ok(status) => status,
-        Err(fault) => tell(fault, err),
+/// `err`; at a terminal, and where the words ask for it, others explain it.
+pub fn command<
+    R: Files + Processes + AllocGlobal,
+    I: Read + IsTerminal,
+    O: Write,
+    E: Write + IsTerminal,
+>(rt: &R, words: &[String], input: &mut I, out: &mut O, err: &mut E) -> u8 {
+    let alloc = rt.alloc();
+    match words::parse(alloc, words) {
+        Ok(matches) => {
+            let explained = matches.get_flag("explain") || err.is_terminal();
+            match run(rt, &matches, explained, input, out, err) {
+                Ok(status) => status,
+                Err(fault) => explain(fault, explained, err),
+            }
+        }
+        Err(error) if error.use_stderr() => tell(refuse(alloc, words), err),
+        Err(help) => match print_help(alloc, help, out) {
+            Ok(status) => status,
+            Err(fault) => tell(fault, err),
+        },
     }
 }
 
-/// Tells of a fault in one line, and gives its status.
+/// Reports a fault in one line, and gives its status.
 pub fn tell<E: Write>(fault: Fault, err: &mut E) -> u8 {
-    match writeln!(err, "{fault}") {
-        Ok(()) => fault.status(),
-        Err(_) => HOST,
+    explain(fault, false, err)
+}
+
+/// Reports a fault in one line, and in another its reason where it is to be explained; gives its status.
+fn explain<E: Write>(fault: Fault, explained: bool, err: &mut E) -> u8 {
+    if writeln!(err, "{fault}").is_err() {
+        return HOST;
+    }
+    match fault.reason() {
+        Some(reason) if explained && writeln!(err, "strace: {reason}").is_err() => HOST,
+        _ => fault.status(),
     }
 }
 
-fn obey<R: Files + Processes + AllocGlobal, I: Read, O: Write, E: Write>(
+fn run<R: Files + Processes + AllocGlobal, I: Read + IsTerminal, O: Write, E: Write + IsTerminal>(
     rt: &R,
-    words: &[String],
+    matches: &ArgMatches,
+    explained: bool,
     input: &mut I,
     out: &mut O,
     err: &mut E,
 ) -> Result<u8, Fault> {
-    let alloc = rt.alloc();
-    match words::parse(alloc, words) {
-        Ok(matches) => {
-            let options = words::trace_options(alloc, &matches)?;
-            tracing::trace(rt, &matches, options, input, out, err)
-        }
-        Err(error) if error.use_stderr() => Err(refuse(alloc, words)),
-        Err(help) => print_help(alloc, help, out),
-    }
+    let mut options = words::trace_options(rt.alloc(), matches)?;
+    options.explain = explained;
+    tracing::trace(rt, matches, options, input, out, err)
 }
 
 /// What is wrong with words that can't be parsed.
@@ -67,6 +80,6 @@ fn print_help<O: Write>(alloc: Global, help: Error, out: &mut O) -> Result<u8, F
     let text = format!(in alloc; "{help}")?;
     match out.write_all(text.as_bytes()) {
         Ok(()) => Ok(0),
-        Err(_) => Err(Fault::Output),
+        Err(error) => Err(Fault::output(format!(in alloc; "standard output: {error}"))),
     }
 }

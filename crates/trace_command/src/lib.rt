@@ -1,10 +1,14 @@
 //! The command that traces a run: its words, where the kernel runs, where the trace and the console go.
 #![tactic(auto)]
 
+mod again;
 mod entry;
 mod fault;
+mod kernel;
 mod lines;
+mod place;
 mod plan;
+mod program;
 mod tracing;
 mod words;
 

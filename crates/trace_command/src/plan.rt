@@ -3,12 +3,16 @@
 use crate::fault::Fault;
 use crate::words::TraceOptions;
 use clap::ArgMatches;
-use front_end::{BootWords, Expressions, boot_of, parse_expressions, read_turns};
+use front_end::{
+    BootWords, Expressions, Leavings, boot_of, check_boot, explain_expression, expression_words,
+    parse_expressions, read_turns,
+};
 use lx_abi::{Boot, Script, Word};
 use std::alloc::Global;
-use std::io::Read;
+use std::io::{IsTerminal, Read, Write};
 use std::rt::Files;
 use tr_core::Options;
+use tr_expr::ExprFault;
 
 #[derive(Drop)]
 pub struct Plan {
@@ -19,10 +23,16 @@ pub struct Plan {
     pub turns: Vec<Word>,
 }
 
-fn expressions(alloc: Global, words: &[&str]) -> Result<Expressions, Fault> {
-    match parse_expressions(alloc, words) {
+/// What the words that name calls ask for.
+pub fn expressions(alloc: Global, matches: &ArgMatches) -> Result<Expressions, Fault> {
+    let words = expression_words(alloc, matches)?;
+    match parse_expressions(alloc, words.as_slice()) {
         Ok(expressions) => Ok(expressions),
-        Err(refused) => Err(Fault::from(refused.fault)),
+        Err(refused) if refused.fault == ExprFault::Memory => Err(Fault::Memory),
+        Err(refused) => Err(Fault::Expression {
+            fault: refused.fault,
+            reason: explain_expression(alloc, refused)?,
+        }),
     }
 }
 
@@ -30,32 +40,36 @@ fn turns<R: Files + AllocGlobal>(rt: &R, path: Option<&str>) -> Result<Vec<Word>
     Ok(read_turns(rt, path)?)
 }
 
-fn boot<R: Files + AllocGlobal, I: Read>(
+fn boot<R: Files + AllocGlobal, I: Read + IsTerminal, E: Write + IsTerminal>(
     rt: &R,
     matches: &ArgMatches,
     follow: bool,
     input: &mut I,
+    err: &mut E,
 ) -> Result<Boot, Fault> {
     let words = BootWords {
         files: matches.get_strs("file").unwrap_or(&[]),
+        environment: matches.get_strs("environment").unwrap_or(&[]),
         program: matches.get_strs("program").unwrap_or(&[]),
         follow,
     };
-    Ok(boot_of(rt, words, input)?)
+    Ok(boot_of(rt, "strace_cli", words, input, err)?)
 }
 
-/// Reads what the words ask for. Faults are looked for in the expressions, the schedule, the files and the
-/// input.
-pub fn read_plan<R: Files + AllocGlobal, I: Read>(
+/// Reads what the words ask for. Faults are looked for in the expressions, the schedule, the files, the
+/// input and the boot.
+pub fn read_plan<R: Files + AllocGlobal, I: Read + IsTerminal, E: Write + IsTerminal>(
     rt: &R,
     matches: &ArgMatches,
     options: TraceOptions,
     input: &mut I,
+    err: &mut E,
 ) -> Result<Plan, Fault> {
-    let words = matches.get_strs("expression").unwrap_or(&[]);
-    let expressions = expressions(rt.alloc(), words)?;
+    let expressions = expressions(rt.alloc(), matches)?;
     let turns = turns(rt, matches.get_str("turns"))?;
-    let boot = boot(rt, matches, options.follow, input)?;
+    Leavings::of(matches).check(rt)?;
+    let boot = boot(rt, matches, options.follow, input, err)?;
+    check_boot(rt.alloc(), &boot)?;
     Ok(Plan {
         boot,
         script: expressions.script,

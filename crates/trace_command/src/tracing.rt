@@ -1,185 +1,89 @@
 //! A traced run.
 
+use crate::again::Again;
 use crate::fault::Fault;
+use crate::kernel::{Kernel, boot_kernel, run_kernel};
 use crate::lines::Lines;
+use crate::place::{Place, open};
 use crate::plan::{Plan, read_plan};
+use crate::program::Program;
 use crate::words::TraceOptions;
 use clap::ArgMatches;
-use containers::Seq;
-use front_end::{Shown, refuse_boot};
-use host_link::{ChildLink, Link, LinkFault};
-use host_wire::{Counted, Sink};
-use lx_abi::{Boot, Outcome, Reply, Request, Script, Word};
-use lx_boot::BootFault;
-use pt_kernel::Schedule;
+use front_end::Leavings;
+use host_link::LinkFault;
+use host_wire::Counted;
+use lx_abi::{Outcome, Script};
 use std::alloc::Global;
-use std::fs;
-use std::io::{Read, Write};
-use std::process::Processes;
+use std::io::{IsTerminal, Read, Write};
+use std::process::{OpenProcess, Processes};
 use std::rt::Files;
-use tr_core::Options;
-use trace_run::{Ended, run, trace_local};
+use tr_core::{Options, TraceFault};
+use trace_run::{Ended, RunFault};
 
-/// Where the kernel runs, and for how many events.
-#[derive(Clone, Copy)]
-struct Kernel<'a> {
-    /// The path of the program that serves it; this process where there is none.
-    host: Option<&'a str>,
-    limit: u64,
+/// The fault of a run whose trace goes to this place.
+fn fault_of(alloc: Global, fault: RunFault, place: Place<'_>) -> Fault {
+    match fault {
+        RunFault::Link(fault) => Fault::from(fault),
+        RunFault::Trace(TraceFault::Inadmissible) => Fault::Host(LinkFault::Inadmissible),
+        RunFault::Trace(TraceFault::Memory) => Fault::Memory,
+        RunFault::Output => place.fault(alloc),
+    }
 }
-
-/// The name of standard output as a file, which this program writes without opening it again.
-const STANDARD_OUTPUT: &str = "/dev/stdout";
 
 /// What a run that ended so leaves.
-fn outcome_of(ended: Ended) -> Result<Outcome, Fault> {
+fn outcome_of(
+    alloc: Global,
+    ended: Result<Ended, RunFault>,
+    place: Place<'_>,
+) -> Result<Outcome, Fault> {
     match ended {
-        Ended::Whole(outcome) => Ok(outcome),
-        Ended::OutOfTurns => Err(Fault::OutOfTurns),
+        Ok(Ended::Whole(outcome)) => Ok(outcome),
+        Ok(Ended::OutOfTurns) => Err(Fault::OutOfTurns(None)),
+        Err(fault) => Err(fault_of(alloc, fault, place)),
     }
 }
 
-/// Runs the tracer over a link whose boot was accepted.
-fn run_over<L: Link, W: Sink>(
-    alloc: Global,
-    link: &mut L,
-    lines: &mut Lines<W>,
+/// Runs the tracer on a kernel, with its trace to a place that is opened now. Where the run ends in a fault, a line that
+/// stands open on `err` is ended.
+fn trace_kernel<R: Files + AllocGlobal, P: OpenProcess + Drop, O: Write, E: Write>(
+    rt: &R,
+    kernel: Kernel<P>,
     script: Script,
     options: Options,
-) -> Result<Outcome, Fault> {
-    match run(alloc, link, lines, script, options) {
-        Ok(ended) => outcome_of(ended),
-        Err(fault) => Err(Fault::from(fault)),
-    }
-}
-
-/// Runs the tracer with the kernel in this process.
-fn run_here<W: Sink>(
-    alloc: Global,
-    plan: Plan,
-    limit: u64,
-    lines: &mut Lines<W>,
-) -> Result<Outcome, Fault> {
-    let schedule = Schedule::words(plan.turns, limit);
-    match trace_local(alloc, plan.boot, schedule, plan.script, plan.options, lines) {
-        Ok(Ok(ended)) => outcome_of(ended),
-        Ok(Err(fault)) => Err(Fault::from(fault)),
-        Err(fault) => Err(Fault::from(refuse_boot(alloc, fault))),
-    }
-}
-
-/// The fault of a boot that a host refuses with this number.
-fn refused_boot(alloc: Global, number: u8) -> Fault {
-    let fault = match number {
-        1 => BootFault::BadPath,
-        2 => BootFault::Duplicate,
-        3 => BootFault::NoProgram,
-        4 => BootFault::TooLarge,
-        5 => BootFault::Memory,
-        _ => return Fault::Host(LinkFault::Inadmissible),
-    };
-    Fault::from(refuse_boot(alloc, fault))
-}
-
-/// Boots the host behind a link, which is to follow a schedule by these words.
-fn boot_over<L: Link>(
-    alloc: Global,
-    link: &mut L,
-    boot: Boot,
-    limit: u64,
-    turns: Vec<Word>,
-) -> Result<(), Fault> {
-    let request = Request::Boot {
-        boot,
-        limit,
-        words: Seq::from_vec(turns),
-    };
-    match link.call(request)? {
-        Reply::Done => Ok(()),
-        Reply::Refused { fault } => Err(refused_boot(alloc, fault)),
-        _ => Err(Fault::Host(LinkFault::Inadmissible)),
-    }
-}
-
-/// Boots the host behind a link, and runs the tracer over it.
-fn boot_and_run<L: Link, W: Sink>(
-    alloc: Global,
-    link: &mut L,
-    plan: Plan,
-    limit: u64,
-    lines: &mut Lines<W>,
-) -> Result<Outcome, Fault> {
-    boot_over(alloc, link, plan.boot, limit, plan.turns)?;
-    run_over(alloc, link, lines, plan.script, plan.options)
-}
-
-/// Runs the tracer with the kernel in a process that the program at this path serves.
-fn run_there<R: Processes + AllocGlobal, W: Sink>(
-    rt: &R,
-    path: &str,
-    plan: Plan,
-    limit: u64,
-    lines: &mut Lines<W>,
-) -> Result<Outcome, Fault> {
-    let mut link = ChildLink::start(rt, path, &[])?;
-    let ended = boot_and_run(rt.alloc(), &mut link, plan, limit, lines);
-    drop(link);
-    ended
-}
-
-fn run_kernel<R: Processes + AllocGlobal, W: Sink>(
-    rt: &R,
-    kernel: Kernel<'_>,
-    plan: Plan,
-    lines: &mut Lines<W>,
-) -> Result<Outcome, Fault> {
-    match kernel.host {
-        None => run_here(rt.alloc(), plan, kernel.limit, lines),
-        Some(path) => run_there(rt, path, plan, kernel.limit, lines),
-    }
-}
-
-/// Runs the tracer, with its trace to a writer.
-fn trace_to<R: Processes + AllocGlobal, W: Write>(
-    rt: &R,
-    kernel: Kernel<'_>,
-    plan: Plan,
-    writer: &mut W,
-) -> Result<Outcome, Fault> {
-    let mut lines = Lines::new(Counted::new(writer));
-    let ended = run_kernel(rt, kernel, plan, &mut lines);
-    drop(lines);
-    ended
-}
-
-/// Writes the trace to `err`. Where the run ends in a fault, a line that stands open is ended.
-fn trace_to_error<R: Processes + AllocGlobal, E: Write>(
-    rt: &R,
-    kernel: Kernel<'_>,
-    plan: Plan,
+    place: Place<'_>,
+    out: &mut O,
     err: &mut E,
 ) -> Result<Outcome, Fault> {
-    let mut lines = Lines::new(Counted::new(&mut *err));
-    let ended = run_kernel(rt, kernel, plan, &mut lines);
-    let cut = ended.is_err() && lines.is_open();
+    let trace = open(rt, place, out, &mut *err)?;
+    let mut lines = Lines::new(Counted::new(trace));
+    let ended = run_kernel(rt.alloc(), kernel, script, options, &mut lines);
+    let is_open = lines.is_open() && place == Place::Error;
     drop(lines);
-    if cut && writeln!(err).is_err() {
-        return Err(Fault::Output);
+    let outcome = outcome_of(rt.alloc(), ended, place);
+    if outcome.is_err() && is_open && writeln!(err).is_err() {
+        return Err(place.fault(rt.alloc()));
     }
-    ended
+    outcome
 }
 
-/// Makes a file for the trace.
-fn trace_to_file<R: Files + Processes + AllocGlobal>(
+/// Boots the kernel and runs the tracer.
+fn run_plan<R: Files + Processes + AllocGlobal, O: Write, E: Write>(
     rt: &R,
-    kernel: Kernel<'_>,
+    matches: &ArgMatches,
     plan: Plan,
-    path: &str,
+    limit: u64,
+    out: &mut O,
+    err: &mut E,
 ) -> Result<Outcome, Fault> {
-    match fs::create(rt, path) {
-        Ok(mut file) => trace_to(rt, kernel, plan, &mut file),
-        Err(error) => Err(Fault::file(rt.alloc(), Shown(path), error)),
-    }
+    let Plan {
+        boot,
+        script,
+        options,
+        turns,
+    } = plan;
+    let kernel = boot_kernel(rt, matches.get_str("host"), boot, turns, limit)?;
+    let place = Place::of(matches.get_str("output"));
+    trace_kernel(rt, kernel, script, options, place, out, err)
 }
 
 /// Process 1's exit code, or 128 and the signal that ended it.
@@ -198,34 +102,75 @@ fn status_of(outcome: &Outcome) -> Option<u8> {
 }
 
 /// Writes the console's bytes, and gives the exit status.
-fn finish<O: Write>(outcome: &Outcome, out: &mut O) -> Result<u8, Fault> {
+fn write_console<O: Write>(alloc: Global, outcome: &Outcome, out: &mut O) -> Result<u8, Fault> {
     let Some(status) = status_of(outcome) else {
         return Err(Fault::Host(LinkFault::Inadmissible));
     };
     if out.write_all(outcome.console.as_slice()).is_err() || out.flush().is_err() {
-        return Err(Fault::Output);
+        return Err(Fault::output(format!(in alloc;
+            "the console could not be written to standard output"
+        )));
     }
     Ok(status)
 }
 
-/// The outcome of a run whose trace goes where this word says, else to `err`.
-fn run_with<R: Files + Processes + AllocGlobal, O: Write, E: Write>(
+/// Writes what a run has left: the console to `out`, and its files where the words ask for them. Gives the exit status.
+fn finish<R: Files + AllocGlobal, O: Write>(
     rt: &R,
-    output: Option<&str>,
-    kernel: Kernel<'_>,
+    matches: &ArgMatches,
+    outcome: &Outcome,
+    out: &mut O,
+) -> Result<u8, Fault> {
+    let status = write_console(rt.alloc(), outcome, out)?;
+    Leavings::of(matches).write(rt, outcome)?;
+    Ok(status)
+}
+
+/// Makes the run, which is explained by nothing.
+fn trace_plainly<R: Files + Processes + AllocGlobal, O: Write, E: Write>(
+    rt: &R,
+    matches: &ArgMatches,
     plan: Plan,
+    limit: u64,
     out: &mut O,
     err: &mut E,
-) -> Result<Outcome, Fault> {
-    match output {
-        None => trace_to_error(rt, kernel, plan, err),
-        Some(STANDARD_OUTPUT) => trace_to(rt, kernel, plan, out),
-        Some(path) => trace_to_file(rt, kernel, plan, path),
+) -> Result<u8, Fault> {
+    let outcome = run_plan(rt, matches, plan, limit, out, err)?;
+    let status = finish(rt, matches, &outcome, out);
+    drop(outcome);
+    status
+}
+
+/// A run that ended so, where its end is explained: a program that couldn't be run on `err`, and the end of the turns
+/// in the fault.
+fn explain<E: Write>(
+    alloc: Global,
+    matches: &ArgMatches,
+    again: Again,
+    program: Program,
+    ended: Result<u8, Fault>,
+    err: &mut E,
+) -> Result<u8, Fault> {
+    match ended {
+        Ok(status) => {
+            if let Some(reason) = program.reason(alloc, status)? {
+                // The run is whole, whether this can be written or not.
+                let _written = writeln!(err, "strace: {reason}");
+            }
+            Ok(status)
+        }
+        Err(Fault::OutOfTurns(_)) => Err(Fault::OutOfTurns(Some(again.waits(alloc, matches)?))),
+        Err(fault) => Err(fault),
     }
 }
 
 /// Makes the run, and gives the exit status. The console goes to `out` once the run is whole.
-pub fn trace<R: Files + Processes + AllocGlobal, I: Read, O: Write, E: Write>(
+pub fn trace<
+    R: Files + Processes + AllocGlobal,
+    I: Read + IsTerminal,
+    O: Write,
+    E: Write + IsTerminal,
+>(
     rt: &R,
     matches: &ArgMatches,
     options: TraceOptions,
@@ -233,13 +178,12 @@ pub fn trace<R: Files + Processes + AllocGlobal, I: Read, O: Write, E: Write>(
     out: &mut O,
     err: &mut E,
 ) -> Result<u8, Fault> {
-    let plan = read_plan(rt, matches, options, input)?;
-    let kernel = Kernel {
-        host: matches.get_str("host"),
-        limit: options.limit,
-    };
-    let outcome = run_with(rt, matches.get_str("output"), kernel, plan, out, err)?;
-    let status = finish(&outcome, out);
-    drop(outcome);
-    status
+    let plan = read_plan(rt, matches, options, input, err)?;
+    if !options.explain {
+        return trace_plainly(rt, matches, plan, options.limit, out, err);
+    }
+    let program = Program::of(rt.alloc(), &plan.boot)?;
+    let again = Again::of(rt.alloc(), &plan, options.limit)?;
+    let ended = trace_plainly(rt, matches, plan, options.limit, out, err);
+    explain(rt.alloc(), matches, again, program, ended, err)
 }

@@ -3,7 +3,10 @@
 ghost use Rattle.std.specs.Prelude.{◌≤◌, IfOk};
 
 use clap::{Arg, ArgAction, ArgMatches, Command, Error};
-use front_end::{Fault, limit, number, with_expressions, with_files, with_limit, with_program};
+use front_end::{
+    Fault, Shown, limit, number, with_calls, with_environment, with_expressions, with_files,
+    with_leavings, with_limit, with_program,
+};
 use std::alloc::{AllocError, Global};
 
 /// The most bytes of a string that may be shown.
@@ -12,8 +15,45 @@ const MOST_STRING: u32 = 4096;
 /// The highest column of results.
 const MOST_COLUMN: u32 = 200;
 
-const EXAMPLE: &str = "Example: let the second write fail, and watch
-  strace_cli -e trace=write -e fault=write:error=EIO:when=2 --file /p=hello -- /p";
+const NOTES: &str = "Expressions, after -e:
+  trace=SET (or t=SET, or SET alone)   which calls are shown; the last one counts
+  inject=SET:PARTS                     what is done to calls, also to those that aren't shown
+  fault=SET[:PARTS]                    makes calls fail, with ENOSYS where no error is named
+  SET    names joined by commas, as write or ?name; %file, %desc, %process, %signal, %memory; /REGEX; all; none;
+         a ! in front takes all others
+  PARTS  joined by colons: error=E (a name, or 1 to 4095), retval=V, signal=S, when=W; fault= takes error and when
+  W      FIRST (that occurrence alone), FIRST+ or FIRST+STEP; the first execve counts
+
+Faults are one line on standard error; at a terminal and with --explain others explain it.
+strace: expression fault N (status 2)
+  1  no call has this name
+  2  no class of calls has this name
+  3  no error has this name
+  4  no signal that can be injected has this name
+  5  a number is malformed or out of range
+  6  the occurrences after when= are malformed or out of range
+  7  error= and retval= exclude each other
+  8  none of error=, retval= and signal= is given
+  9  the regular expression is malformed
+  11 a part isn't one of this expression's
+strace: boot fault N: TEXT (status 2)
+  1  a path of --file is not plain and absolute, or lies under another file
+  2  two files have the same path
+  3  no program is named
+  4  a file, or the words and the environment, are too large
+strace: host fault N (status 3)
+  1  the host did not start, or has ended
+  2  its replies could not be read
+  3  a request could not be written to it
+  4  its reply is malformed
+  5  its reply answers another request
+  6  its reply is of the wrong kind
+  8  there were too many requests
+strace: output fault, strace: out of memory (status 3)
+strace: out of turns (status 4): all processes wait, or the limit was reached
+
+Example: make the second write fail, and watch
+  strace_cli -e trace=write -e fault=write:error=EIO:when=2 --file /p=hello -- /p </dev/null";
 
 /// How a run is traced.
 #[derive(Clone, Copy, Debug)]
@@ -26,20 +66,23 @@ pub struct TraceOptions {
     pub column: u32,
     /// The most events that there are.
     pub limit: u64,
+    /// Faults are explained.
+    pub explain: bool,
 }
 
-/// Adds an option with a letter and a value.
+/// Adds an option with a letter, a name and a value.
 fn with_letter<'a>(
     alloc: Global,
     command: Command<'a>,
-    id: &'a str,
     letter: char,
+    name: &'a str,
     value: &'a str,
     help: &'a str,
 ) -> Result<Command<'a>, AllocError> {
     command.arg(
-        Arg::new(alloc, id)
+        Arg::new(alloc, name)
             .short(letter)
+            .long(name)
             .value_name(value)
             .help(help),
     )
@@ -66,8 +109,21 @@ fn with_follow<'a>(alloc: Global, command: Command<'a>) -> Result<Command<'a>, A
     command.arg(
         Arg::new(alloc, "follow")
             .short('f')
+            .long("follow-forks")
+            .action(ArgAction::Count)
+            .help(
+                "Traces children too, each line with its pid; without it the first process alone",
+            ),
+    )
+}
+
+/// Adds `--explain`.
+fn with_explain<'a>(alloc: Global, command: Command<'a>) -> Result<Command<'a>, AllocError> {
+    command.arg(
+        Arg::new(alloc, "explain")
+            .long("explain")
             .action(ArgAction::SetTrue)
-            .help("Traces children too, each line with its pid (the first process alone)"),
+            .help("Explains faults in further lines, as at a terminal"),
     )
 }
 
@@ -75,35 +131,50 @@ fn with_lines<'a>(alloc: Global, command: Command<'a>) -> Result<Command<'a>, Al
     let command = with_letter(
         alloc,
         command,
-        "output",
         'o',
+        "output",
         "FILE",
-        "Writes the trace to this file (standard error)",
+        "Writes the trace to this file [default: standard error]",
     )?;
     let command = with_letter(
         alloc,
         command,
-        "strings",
         's',
+        "string-limit",
         "N",
-        "The most bytes of a string that are shown, 0 to 4096 (32)",
+        "The most bytes of a string that are shown, 0 to 4096 [default: 32]",
     )?;
     with_letter(
         alloc,
         command,
-        "column",
         'a',
+        "columns",
         "N",
-        "The column of results, 0 to 200 (40)",
+        "The column of results, 0 to 200 [default: 40]",
     )
 }
 
-fn with_calls<'a>(alloc: Global, command: Command<'a>) -> Result<Command<'a>, AllocError> {
-    let command = with_follow(alloc, command)?;
-    with_expressions(
+/// Adds the options that name calls.
+fn with_sets<'a>(alloc: Global, command: Command<'a>) -> Result<Command<'a>, AllocError> {
+    let command = with_expressions(
         alloc,
         command,
-        "Which calls are shown or tampered with, as trace=write or fault=write:error=EIO (trace=all)",
+        "Which calls are shown or tampered with, as trace=write or fault=write:error=EIO [default: trace=all]",
+    )?;
+    let command = with_calls(alloc, command, "trace", "SET", "The same as -e trace=SET")?;
+    let command = with_calls(
+        alloc,
+        command,
+        "inject",
+        "SET:PARTS",
+        "The same as -e inject=SET:PARTS",
+    )?;
+    with_calls(
+        alloc,
+        command,
+        "fault",
+        "SET[:PARTS]",
+        "The same as -e fault=SET[:PARTS]",
     )
 }
 
@@ -113,34 +184,47 @@ fn with_kernel<'a>(alloc: Global, command: Command<'a>) -> Result<Command<'a>, A
         command,
         "host",
         "PATH",
-        "Starts this program, as guest_host, with the word serve to run the kernel (this process runs it)",
+        "Starts this program, as guest_host, with the word serve to run the kernel [default: this process runs it]",
     )?;
     let command = with_name(
         alloc,
         command,
         "turns",
         "FILE",
-        "A schedule by words, as 1 -2 s 1. (the default schedule)",
+        "A schedule by words, as 1 -2 s 1. [default: turns in rounds]",
     )?;
-    let command = with_limit(alloc, command, "The most events that there are (10000000)")?;
+    with_limit(
+        alloc,
+        command,
+        "The most events that there are [default: 10000000]",
+    )
+}
+
+fn with_guest<'a>(alloc: Global, command: Command<'a>) -> Result<Command<'a>, AllocError> {
     let command = with_files(
         alloc,
         command,
-        "A file of the guest's, and the file that holds its content (none)",
+        "A file of the guest's, and the file that holds its content; the program too",
     )?;
+    let command = with_environment(alloc, command)?;
+    let command = with_leavings(alloc, command)?;
     with_program(alloc, command)
 }
 
 fn tracer_command<'a>(alloc: Global) -> Result<Command<'a>, AllocError> {
     let command = Command::new(alloc, "strace_cli")
         .about(
-            "Traces the system calls of a modelled RV64I guest, and lets those fail that you name",
+            "Traces the system calls of a modelled RV64I guest, and makes the calls you name fail",
         )
         .version("0.1.0")
-        .after_help(EXAMPLE);
-    let command = with_calls(alloc, command)?;
+        .args_override_self(true)
+        .after_help(NOTES);
+    let command = with_follow(alloc, command)?;
+    let command = with_sets(alloc, command)?;
     let command = with_lines(alloc, command)?;
-    with_kernel(alloc, command)
+    let command = with_kernel(alloc, command)?;
+    let command = with_explain(alloc, command)?;
+    with_guest(alloc, command)
 }
 
 /// Parses the words, the program's name first.
@@ -162,13 +246,43 @@ fn small_number(
     Ok(u32::try_from(value).unwrap_or(most).min(most))
 }
 
+/// A name of a file, and not of a command or of what is appended to, as strace(1) takes after `-o`.
+fn check_output(alloc: Global, output: Option<&str>) -> Result<(), Fault> {
+    match output {
+        Some(name) if name.starts_with(['|', '!']) => Err(Fault::usage(format!(in alloc;
+            "-o {}: a command, which strace takes and this program doesn't; give a file",
+            Shown(name)
+        ))),
+        _ => Ok(()),
+    }
+}
+
+/// `-f`, once.
+fn follow(alloc: Global, matches: &ArgMatches) -> Result<bool, Fault> {
+    match matches.get_count("follow") {
+        0 => Ok(false),
+        1 => Ok(true),
+        _ => Err(Fault::usage(format!(in alloc;
+            "-ff is strace's (writes a file for each process) and not here"
+        ))),
+    }
+}
+
 /// How the words ask the run to be traced.
 pub fn trace_options(alloc: Global, matches: &ArgMatches) -> Result<TraceOptions, Fault> {
-    let string_limit = small_number(alloc, "-s", matches.get_str("strings"), MOST_STRING, 32)?;
+    check_output(alloc, matches.get_str("output"))?;
+    let string_limit = small_number(
+        alloc,
+        "-s",
+        matches.get_str("string-limit"),
+        MOST_STRING,
+        32,
+    )?;
     Ok(TraceOptions {
-        follow: matches.get_flag("follow"),
+        follow: follow(alloc, matches)?,
         string_limit,
-        column: small_number(alloc, "-a", matches.get_str("column"), MOST_COLUMN, 40)?,
+        column: small_number(alloc, "-a", matches.get_str("columns"), MOST_COLUMN, 40)?,
         limit: limit(alloc, matches)?,
+        explain: matches.get_flag("explain"),
     })
 }

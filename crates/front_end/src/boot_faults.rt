@@ -1,0 +1,131 @@
+//! Why a boot is refused, and for which of its files.
+
+use crate::fault::Fault;
+use crate::shown::Shown;
+use lx_abi::{Boot, GuestFile};
+use lx_boot::{BootFault, boot_fault};
+use std::alloc::{AllocError, Global};
+
+/// The most bytes of a path.
+const LONGEST_PATH: usize = 4095;
+
+/// The most bytes between two slashes of a path.
+const LONGEST_NAME: usize = 255;
+
+/// The most bytes of a file.
+const LARGEST_FILE: usize = 16_777_216;
+
+/// The most bytes of all files.
+const MOST_CONTENTS: usize = 67_108_864;
+
+fn path_of(file: &GuestFile) -> &str {
+    str::from_utf8(file.path.as_slice()).unwrap_or("")
+}
+
+fn is_plain(path: &str) -> bool {
+    match path.strip_prefix('/') {
+        Some(rest) => rest.split('/').all(|part| !matches!(part, "" | "." | "..")),
+        None => false,
+    }
+}
+
+/// The path lies under this file.
+fn lies_under(path: &str, file: &GuestFile) -> bool {
+    match path.strip_prefix(path_of(file)) {
+        Some(rest) => rest.starts_with('/'),
+        None => false,
+    }
+}
+
+fn bad_path(alloc: Global, files: &[GuestFile]) -> Result<String, AllocError> {
+    for file in files {
+        let path = path_of(file);
+        if !is_plain(path) {
+            return format!(in alloc; ": {}", Shown(path));
+        }
+        for other in files {
+            if lies_under(path, other) {
+                return format!(in alloc; ": {}, under {}", Shown(path), Shown(path_of(other)));
+            }
+        }
+    }
+    Ok(String::new(alloc))
+}
+
+fn repeated_path(alloc: Global, files: &[GuestFile]) -> Result<String, AllocError> {
+    let mut left = files;
+    while let Some((file, rest)) = left.split_first() {
+        let path = path_of(file);
+        if rest.iter().any(|other| path_of(other) == path) {
+            return format!(in alloc; ": {}", Shown(path));
+        }
+        left = rest;
+    }
+    Ok(String::new(alloc))
+}
+
+/// What of one file is over a limit.
+fn excess(file: &GuestFile) -> Option<&'static str> {
+    let path = path_of(file);
+    if path.len() > LONGEST_PATH {
+        Some("its path has more than 4095 bytes")
+    } else if path.split('/').any(|name| name.len() > LONGEST_NAME) {
+        Some("a part of its path has more than 255 bytes")
+    } else if file.content.len() > LARGEST_FILE {
+        Some("it has more than 16777216 bytes")
+    } else {
+        None
+    }
+}
+
+/// What is too large. The files are looked at before the words and the environment.
+fn too_large(alloc: Global, files: &[GuestFile]) -> Result<String, AllocError> {
+    let mut size = 0usize;
+    for file in files {
+        if let Some(excess) = excess(file) {
+            return format!(in alloc; ": {}: {excess}", Shown(path_of(file)));
+        }
+        size = size.saturating_add(file.content.len());
+        if size > MOST_CONTENTS {
+            return format!(in alloc;
+                ": {}: with it the files have more than 67108864 bytes",
+                Shown(path_of(file))
+            );
+        }
+    }
+    Ok(String::new(alloc))
+}
+
+/// What the fault is found in, behind its text.
+fn culprit(alloc: Global, fault: BootFault, boot: &Boot) -> Result<String, AllocError> {
+    let files = boot.files.as_slice();
+    match fault {
+        BootFault::BadPath => bad_path(alloc, files),
+        BootFault::Duplicate => repeated_path(alloc, files),
+        BootFault::TooLarge => too_large(alloc, files),
+        BootFault::NoProgram | BootFault::Memory => Ok(String::new(alloc)),
+    }
+}
+
+/// The fault of a boot, which names the file that it is found in.
+pub fn check_boot(alloc: Global, boot: &Boot) -> Result<(), Fault> {
+    match boot_fault(alloc, boot) {
+        None => Ok(()),
+        Some(fault) => {
+            let culprit = culprit(alloc, fault, boot)?;
+            Err(refuse(alloc, fault, culprit.as_str()))
+        }
+    }
+}
+
+fn refuse(alloc: Global, fault: BootFault, culprit: &str) -> Fault {
+    match fault {
+        BootFault::Memory => Fault::Memory,
+        fault => Fault::usage(format!(in alloc; "boot fault {}: {fault}{culprit}", fault.number())),
+    }
+}
+
+/// Why a boot is refused.
+pub fn refuse_boot(alloc: Global, fault: BootFault) -> Fault {
+    refuse(alloc, fault, "")
+}

@@ -1,0 +1,249 @@
+//! Why an expression is refused, in words: which part of it, what the part may be, and the nearest name.
+
+use crate::expressions::RefusedExpression;
+use crate::names::{Names, is_job_control, nearest};
+use crate::shown::Shown;
+use std::alloc::{AllocError, Global};
+use tr_expr::{ExprFault, parse_expr};
+
+/// What strace takes after `-e`, or in a part, and this program doesn't.
+const ABSENT: [&str; 14] = [
+    "signal",
+    "status",
+    "read",
+    "write",
+    "abbrev",
+    "verbose",
+    "raw",
+    "quiet",
+    "decode-fds",
+    "kvm",
+    "decode-pids",
+    "fd",
+    "fds",
+    "namespace",
+];
+
+/// The set's text and the parts' of an expression.
+#[derive(Clone, Copy)]
+struct Pieces<'a> {
+    /// `trace=` or what else it begins with, if anything.
+    start: &'a str,
+    set: &'a str,
+    parts: Option<&'a str>,
+}
+
+fn cut(text: &str) -> Pieces<'_> {
+    if let Some(set) = text.strip_prefix("trace=") {
+        return Pieces {
+            start: "trace=",
+            set,
+            parts: None,
+        };
+    }
+    let (start, rule) = match (text.strip_prefix("inject="), text.strip_prefix("fault=")) {
+        (Some(rule), _) => ("inject=", rule),
+        (None, Some(rule)) => ("fault=", rule),
+        (None, None) => return Pieces {
+            start: "",
+            set: text,
+            parts: None,
+        },
+    };
+    match rule.split_once(':') {
+        Some((set, parts)) => Pieces {
+            start,
+            set,
+            parts: Some(parts),
+        },
+        None => Pieces {
+            start,
+            set: rule,
+            parts: None,
+        },
+    }
+}
+
+/// The first item of the set that is refused so by itself.
+fn faulty_item<'a>(alloc: Global, cut: Pieces<'a>, fault: ExprFault) -> Option<&'a str> {
+    let set = cut.set.strip_prefix('!').unwrap_or(cut.set);
+    set.split(',').find(|item| match parse_expr(alloc, item) {
+        Ok(_) => false,
+        Err(found) => found == fault,
+    })
+}
+
+/// The value of the first part with this key that is refused so by itself.
+fn faulty_part<'a>(alloc: Global, cut: Pieces<'a>, fault: ExprFault) -> Option<&'a str> {
+    let parts = cut.parts?;
+    for part in parts.split(':') {
+        if is_faulty(alloc, cut.start, part, fault) {
+            return Some(part);
+        }
+    }
+    None
+}
+
+/// An expression with this part alone is refused so.
+fn is_faulty(alloc: Global, start: &str, part: &str, fault: ExprFault) -> bool {
+    let Ok(text) = format!(in alloc; "{start}all:{part}") else {
+        return false;
+    };
+    match parse_expr(alloc, text.as_str()) {
+        Ok(_) => false,
+        Err(found) => found == fault,
+    }
+}
+
+/// `; NAME is`, where a name is near.
+fn near(alloc: Global, names: Names, word: &str, start: &str) -> Result<String, AllocError> {
+    match nearest(alloc, names, word)? {
+        Some(name) => format!(in alloc; "; {start}{name} is"),
+        None => Ok(String::new(alloc)),
+    }
+}
+
+/// What strace takes and stands in front of the first `=` of an expression.
+fn absent(text: &str) -> Option<&str> {
+    let (key, _) = text.split_once('=')?;
+    ABSENT.contains(&key).then_some(key)
+}
+
+fn explain_call(alloc: Global, text: &str, item: &str) -> Result<String, AllocError> {
+    if let Some(key) = absent(text) {
+        return format!(in alloc; "-e {key}= is strace's and not here");
+    }
+    if let Some((key, _)) = text.split_once('=') {
+        if !matches!(key, "trace" | "inject" | "fault") {
+            return format!(in alloc;
+                "no expression begins with {}=; trace=, inject= and fault= do",
+                Shown(key)
+            );
+        }
+    }
+    if item.is_empty() {
+        return format!(in alloc; "an item of the set is empty");
+    }
+    if matches!(item.as_bytes().first(), Some(b'0'..=b'9')) {
+        return format!(in alloc; "calls are named, and {} is a number", Shown(item));
+    }
+    if matches!(item, "file" | "desc" | "process" | "signal" | "memory") {
+        return format!(in alloc; "no call is named {item}; %{item} is the class");
+    }
+    let near = near(alloc, Names::Calls, item, "")?;
+    format!(in alloc; "no call is named {}{near}", Shown(item))
+}
+
+fn explain_class(alloc: Global, item: &str) -> Result<String, AllocError> {
+    let name = item.strip_prefix('%').unwrap_or(item);
+    let near = near(alloc, Names::Classes, name, "%")?;
+    format!(in alloc;
+        "no class is named {}{near}; the classes are %file, %desc, %process, %signal and %memory",
+        Shown(item)
+    )
+}
+
+/// What stands after the `=` of a part.
+fn value_of(part: &str) -> &str {
+    part.split_once('=').map_or("", |(_, value)| value)
+}
+
+fn explain_error(alloc: Global, part: &str) -> Result<String, AllocError> {
+    let word = value_of(part);
+    let near = near(alloc, Names::Errors, word, "")?;
+    format!(in alloc; "no error is named {}{near}", Shown(word))
+}
+
+fn explain_signal(alloc: Global, part: &str) -> Result<String, AllocError> {
+    let word = value_of(part);
+    if is_job_control(word) {
+        return format!(in alloc; "{} is job control's, which can't be injected", Shown(word));
+    }
+    let near = near(alloc, Names::Signals, word, "SIG")?;
+    format!(in alloc; "no signal is named {}{near}", Shown(word))
+}
+
+fn explain_number(alloc: Global, part: &str) -> Result<String, AllocError> {
+    let range = match part.split_once('=') {
+        Some(("error", _)) => "a name or a number from 1 to 4095",
+        Some(("signal", _)) => "a name or a number from 1 to 31",
+        _ => "a number from 0 to 2^63-1, decimal or after 0x",
+    };
+    format!(in alloc; "{}: not {range}", Shown(part))
+}
+
+fn explain_when(alloc: Global, part: &str) -> Result<String, AllocError> {
+    let ranges = if part.contains("..") && is_range_absent(alloc) {
+        "; ranges (FIRST..LAST) are not supported yet"
+    } else {
+        ""
+    };
+    format!(in alloc;
+        "{}: not FIRST, FIRST+ or FIRST+STEP, each from 1 to 65535{ranges}",
+        Shown(part)
+    )
+}
+
+/// Ranges of occurrences are refused.
+fn is_range_absent(alloc: Global) -> bool {
+    parse_expr(alloc, "inject=all:error=1:when=1..2").is_err()
+}
+
+fn explain_part(alloc: Global, cut: Pieces<'_>, part: &str) -> Result<String, AllocError> {
+    let key = part.split_once('=').map_or(part, |(key, _)| key);
+    if matches!(
+        key,
+        "delay_enter" | "delay_exit" | "poke_enter" | "poke_exit" | "syscall"
+    ) {
+        return format!(in alloc; "{key}= is strace's and not here");
+    }
+    if cut.start == "fault=" {
+        return format!(in alloc;
+            "fault= takes error= and when=, and not {}; inject= takes retval= and signal= too",
+            Shown(part)
+        );
+    }
+    if matches!(key, "error" | "retval" | "signal" | "when") {
+        return format!(in alloc; "{key} needs a value, as {key}=VALUE");
+    }
+    let near = near(alloc, Names::Parts, key, "")?;
+    format!(in alloc;
+        "no part is named {}{near}; the parts are error=, retval=, signal= and when=",
+        Shown(key)
+    )
+}
+
+/// Why the expression is refused, and where.
+fn reason(alloc: Global, refused: RefusedExpression<'_>) -> Result<String, AllocError> {
+    let RefusedExpression { text, fault } = refused;
+    let cut = cut(text);
+    let item = faulty_item(alloc, cut, fault).unwrap_or(cut.set);
+    let part = faulty_part(alloc, cut, fault).unwrap_or(cut.parts.unwrap_or(""));
+    match fault {
+        ExprFault::UnknownCall => explain_call(alloc, text, item),
+        ExprFault::UnknownClass => explain_class(alloc, item),
+        ExprFault::UnknownErrno => explain_error(alloc, part),
+        ExprFault::UnknownSignal => explain_signal(alloc, part),
+        ExprFault::BadNumber => explain_number(alloc, part),
+        ExprFault::BadWhen => explain_when(alloc, part),
+        ExprFault::UnknownPart => explain_part(alloc, cut, part),
+        ExprFault::BadPattern => format!(in alloc;
+            "{}: not a regular expression; no comma or colon may stand in one",
+            Shown(item)
+        ),
+        ExprFault::BothResults => format!(in alloc; "error= and retval= exclude each other"),
+        ExprFault::NothingToDo => format!(in alloc;
+            "nothing is to be done; inject= needs error=, retval= or signal="
+        ),
+        ExprFault::Memory => format!(in alloc; "{fault}"),
+    }
+}
+
+/// Why an expression is refused, in one line that names it: `in 'TEXT': REASON`.
+pub fn explain_expression(
+    alloc: Global,
+    refused: RefusedExpression<'_>,
+) -> Result<String, AllocError> {
+    let reason = reason(alloc, refused)?;
+    format!(in alloc; "in '{}': {reason}", Shown(refused.text))
+}

@@ -1,0 +1,188 @@
+//! What a run leaves in the guest's files: written to a directory, and listed.
+
+use crate::fault::Fault;
+use crate::shown::Shown;
+use clap::{Arg, ArgMatches, Command};
+use containers::Bytes;
+use lx_abi::{Node, Outcome, OutcomeFile};
+use std::alloc::{AllocError, Global};
+use std::fs;
+use std::io::{self, Read};
+use std::rt::Files;
+
+/// Where the files go, and their list.
+#[derive(Clone, Copy, Debug)]
+pub struct Leavings<'a> {
+    directory: Option<&'a str>,
+    list: Option<&'a str>,
+}
+
+/// Adds `--files-out DIR` and `--files-list FILE`.
+pub fn with_leavings<'a>(alloc: Global, command: Command<'a>) -> Result<Command<'a>, AllocError> {
+    let command = command.arg(
+        Arg::new(alloc, "files-out")
+            .long("files-out")
+            .value_name("DIR")
+            .help("Writes the files that a complete run leaves to this directory, which is empty"),
+    )?;
+    command.arg(
+        Arg::new(alloc, "files-list")
+            .long("files-list")
+            .value_name("FILE")
+            .help("Lists the files that a complete run leaves, each as its length and its path"),
+    )
+}
+
+impl<'a> Leavings<'a> {
+    /// What the words ask for.
+    pub fn of(matches: &ArgMatches<'a>) -> Self {
+        Leavings {
+            directory: matches.get_str("files-out"),
+            list: matches.get_str("files-list"),
+        }
+    }
+
+    /// The words ask for some.
+    pub fn are_wanted(self) -> bool {
+        self.directory.is_some() || self.list.is_some()
+    }
+
+    /// The directory can be read, and is empty.
+    pub fn check<R: Files + AllocGlobal>(self, rt: &R) -> Result<(), Fault> {
+        let Some(directory) = self.directory else {
+            return Ok(());
+        };
+        let shown = Shown(directory);
+        match is_empty(rt, directory) {
+            Ok(true) => Ok(()),
+            Ok(false) => Err(Fault::usage(format!(in rt.alloc();
+                "--files-out {shown}: the directory isn't empty"
+            ))),
+            Err(error) => {
+                let what = format!(in rt.alloc(); "--files-out {shown}")?;
+                Err(Fault::file(rt.alloc(), what, error))
+            }
+        }
+    }
+
+    /// Writes what a run has left.
+    pub fn write<R: Files + AllocGlobal>(self, rt: &R, outcome: &Outcome) -> Result<(), Fault> {
+        let files = outcome.files.as_slice();
+        if let Some(directory) = self.directory {
+            write_files(rt, directory, files)?;
+        }
+        match self.list {
+            Some(path) => write_list(rt, path, files),
+            None => Ok(()),
+        }
+    }
+}
+
+/// A directory has no names but its own and its parent's.
+fn is_empty<R: Files>(rt: &R, directory: &str) -> io::Result<bool> {
+    let mut names = rt.open_dir(directory)?;
+    let mut first = [0u8; 512];
+    Ok(names.read(&mut first)? == 0)
+}
+
+/// A path that leads from a directory to a place below it.
+fn is_below(path: &str) -> bool {
+    match path.strip_prefix('/') {
+        Some(rest) => {
+            !path.contains('\0') && rest.split('/').all(|part| !matches!(part, "" | "." | ".."))
+        }
+        None => false,
+    }
+}
+
+fn make<R: Files>(rt: &R, path: &str, node: &Node) -> io::Result<()> {
+    match node {
+        Node::Directory => fs::create_dir(rt, path),
+        Node::File(content) => fs::write(rt, path, content.as_slice()),
+    }
+}
+
+/// What can't be written, by the option that asks for it.
+fn unwritten(alloc: Global, option: &str, path: &str, error: io::Error) -> Fault {
+    Fault::output(format!(in alloc; "{option} {}: {error}", Shown(path)))
+}
+
+fn write_file<R: Files + AllocGlobal>(
+    rt: &R,
+    directory: &str,
+    file: &OutcomeFile,
+) -> Result<(), Fault> {
+    let alloc = rt.alloc();
+    let path = match str::from_utf8(file.path.as_slice()) {
+        Ok("/") => return Ok(()),
+        Ok(path) if is_below(path) => path,
+        _ => {
+            let escaped = escaped(alloc, &file.path)?;
+            return Err(Fault::output(format!(in alloc;
+                "--files-out {}: the guest's path {escaped} can't be written there",
+                Shown(directory)
+            )));
+        }
+    };
+    let there = format!(in alloc; "{directory}{path}")?;
+    match make(rt, there.as_str(), &file.node) {
+        Ok(()) => Ok(()),
+        Err(error) => Err(unwritten(alloc, "--files-out", there.as_str(), error)),
+    }
+}
+
+/// Makes each file and directory. Paths come in the order of their bytes, so a directory comes before what is in it.
+fn write_files<R: Files + AllocGlobal>(
+    rt: &R,
+    directory: &str,
+    files: &[OutcomeFile],
+) -> Result<(), Fault> {
+    for file in files {
+        write_file(rt, directory, file)?;
+    }
+    Ok(())
+}
+
+/// A path in one line: a byte that isn't a printable character of ASCII, or a backslash, is `\` and three octal digits.
+fn escaped(alloc: Global, path: &Bytes) -> Result<String, AllocError> {
+    let mut line = String::new(alloc);
+    for byte in path.as_slice().iter().copied() {
+        if matches!(byte, b' '..=b'~') && byte != b'\\' {
+            line.push(char::from(byte))?;
+        } else {
+            let digits = format!(in alloc; "\\{byte:03o}")?;
+            line.push_str(digits.as_str())?;
+        }
+    }
+    Ok(line)
+}
+
+/// The line of a file: its length, or `-` for a directory, and its path.
+fn line_of(alloc: Global, file: &OutcomeFile) -> Result<String, AllocError> {
+    let path = escaped(alloc, &file.path)?;
+    match &file.node {
+        Node::File(content) => format!(in alloc; "{} {path}\n", content.len()),
+        Node::Directory => format!(in alloc; "- {path}\n"),
+    }
+}
+
+fn list_of(alloc: Global, files: &[OutcomeFile]) -> Result<String, AllocError> {
+    let mut list = String::new(alloc);
+    for file in files {
+        let line = line_of(alloc, file)?;
+        list.push_str(line.as_str())?;
+    }
+    Ok(list)
+}
+
+fn write_list<R: Files + AllocGlobal>(
+    rt: &R,
+    path: &str,
+    files: &[OutcomeFile],
+) -> Result<(), Fault> {
+    let list = list_of(rt.alloc(), files)?;
+    match fs::write(rt, path, list.as_bytes()) {
+        Ok(()) => Ok(()),
+        Err(error) => Err(unwritten(rt.alloc(), "--files-list", path, error)),
+    }
+}

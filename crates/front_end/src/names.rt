@@ -1,0 +1,118 @@
+//! The names that expressions know, and which of them is nearest to a word.
+
+use lx_abi::calls::rows;
+use lx_abi::{Errno, Signal};
+use std::alloc::{AllocError, Global};
+use strsim::levenshtein;
+
+/// A kind of names.
+#[derive(Clone, Copy, Debug, PartialEq, Eq)]
+pub enum Names {
+    Calls,
+    Classes,
+    Errors,
+    Signals,
+    Parts,
+}
+
+/// The highest number of an error that has a name.
+const LAST_ERROR: u64 = 133;
+
+/// The signals that can't be injected.
+const JOB_CONTROL: [&str; 5] = ["CONT", "STOP", "TSTP", "TTIN", "TTOU"];
+
+/// The most edits between a word and a name that it may stand for: about a third of the word.
+fn most_edits(word: &str) -> usize {
+    word.len().saturating_add(2) / 3
+}
+
+/// The name that is nearest to a word so far.
+#[derive(Drop)]
+struct Search<'w> {
+    word: &'w str,
+    edits: usize,
+    name: Option<&'static str>,
+}
+
+impl Search<'_> {
+    fn look_at(&mut self, alloc: Global, name: &'static str) -> Result<(), AllocError> {
+        let edits = levenshtein(alloc, self.word, name)?;
+        let is_near = match self.name {
+            None => edits <= self.edits,
+            Some(_) => edits < self.edits,
+        };
+        if is_near {
+            self.edits = edits;
+            self.name = Some(name);
+        }
+        Ok(())
+    }
+
+    fn look_at_all(&mut self, alloc: Global, names: &[&'static str]) -> Result<(), AllocError> {
+        for name in names {
+            self.look_at(alloc, name)?;
+        }
+        Ok(())
+    }
+
+    fn look_at_calls(&mut self, alloc: Global) -> Result<(), AllocError> {
+        for row in rows() {
+            self.look_at(alloc, row.1)?;
+        }
+        Ok(())
+    }
+
+    fn look_at_errors(&mut self, alloc: Global) -> Result<(), AllocError> {
+        for number in 1..=LAST_ERROR {
+            if let Some(name) = Errno::from_number(number).and_then(|errno| errno.name()) {
+                self.look_at(alloc, name)?;
+            }
+        }
+        Ok(())
+    }
+
+    fn look_at_signals(&mut self, alloc: Global) -> Result<(), AllocError> {
+        for number in 1..=31 {
+            match Signal::from_number(number) {
+                Some(signal) if !JOB_CONTROL.contains(&signal.name()) => {
+                    self.look_at(alloc, signal.name())?;
+                }
+                _ => (),
+            }
+        }
+        Ok(())
+    }
+}
+
+/// The name of a kind that a word, which is none, may stand for.
+pub fn nearest(
+    alloc: Global,
+    names: Names,
+    word: &str,
+) -> Result<Option<&'static str>, AllocError> {
+    let word = match names {
+        Names::Signals => word.strip_prefix("SIG").unwrap_or(word),
+        _ => word,
+    };
+    let mut search = Search {
+        word,
+        edits: most_edits(word),
+        name: None,
+    };
+    match names {
+        Names::Calls => search.look_at_calls(alloc)?,
+        Names::Classes => {
+            search.look_at_all(alloc, &["file", "desc", "process", "signal", "memory"])?;
+        }
+        Names::Errors => search.look_at_errors(alloc)?,
+        Names::Signals => search.look_at_signals(alloc)?,
+        Names::Parts => search.look_at_all(alloc, &["error", "retval", "signal", "when"])?,
+    }
+    Ok(search.name)
+}
+
+/// A signal that can't be injected, which the word names.
+pub fn is_job_control(word: &str) -> bool {
+    let word = word.strip_prefix("SIG").unwrap_or(word);
+    JOB_CONTROL.contains(&word) || matches!(word, "18" | "19" | "20" | "21" | "22")
+}

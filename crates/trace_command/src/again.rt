@@ -1,0 +1,168 @@
+//! A run made once more, to see where its processes stand when it is out of turns.
+
+use crate::fault::Fault;
+use crate::plan::{Plan, expressions};
+use clap::ArgMatches;
+use containers::{Bytes, Seq};
+use lx_abi::calls::call_name;
+use lx_abi::{Boot, GuestFile, Item, Mode, Word};
+use lx_kernel::Kernel;
+use pt_kernel::{Schedule, TurnRun, Turns};
+use std::alloc::{AllocError, Global};
+use tr_core::Options;
+use trace_run::run_local;
+
+/// What a run is made of, but for what its expressions say.
+#[derive(Drop)]
+pub struct Again {
+    boot: Boot,
+    turns: Vec<Word>,
+    limit: u64,
+}
+
+fn copy_words(alloc: Global, words: &[Bytes]) -> Result<Seq<Bytes>, AllocError> {
+    let mut copy = Seq::new(alloc);
+    for word in words {
+        copy.push(Bytes::from_slice(alloc, word.as_slice())?)?;
+    }
+    Ok(copy)
+}
+
+fn copy_files(alloc: Global, files: &[GuestFile]) -> Result<Seq<GuestFile>, AllocError> {
+    let mut copy = Seq::new(alloc);
+    for file in files {
+        copy.push(GuestFile {
+            path: Bytes::from_slice(alloc, file.path.as_slice())?,
+            content: Bytes::from_slice(alloc, file.content.as_slice())?,
+        })?;
+    }
+    Ok(copy)
+}
+
+fn copy_boot(alloc: Global, boot: &Boot) -> Result<Boot, AllocError> {
+    Ok(Boot {
+        files: copy_files(alloc, boot.files.as_slice())?,
+        argv: copy_words(alloc, boot.argv.as_slice())?,
+        env: copy_words(alloc, boot.env.as_slice())?,
+        input: Bytes::from_slice(alloc, boot.input.as_slice())?,
+        follow: boot.follow,
+    })
+}
+
+fn copy_turns(alloc: Global, turns: &[Word]) -> Result<Vec<Word>, AllocError> {
+    let mut copy = Vec::new(alloc);
+    for word in turns {
+        copy.push(*word)?;
+    }
+    Ok(copy)
+}
+
+/// A process is able to have a turn that does something: the run was cut.
+fn is_cut(kernel: &Kernel) -> bool {
+    (1..kernel.next_pid()).any(|pid| kernel.able(pid))
+}
+
+/// The call that a process is in.
+fn call_of(kernel: &Kernel, of: u32) -> Option<u64> {
+    for item in kernel.log().iter().rev() {
+        if let Item::Enter { pid, call } = item {
+            if *pid == of {
+                return Some(call.number);
+            }
+        }
+    }
+    None
+}
+
+/// Which processes wait, and in which calls.
+fn waiting(alloc: Global, kernel: &Kernel) -> Result<String, AllocError> {
+    let mut text = format!(in alloc; "every process waits:")?;
+    let mut mark = "";
+    for pid in 1..kernel.next_pid() {
+        if kernel.mode(pid) != Some(Mode::Doing) {
+            continue;
+        }
+        let name = call_of(kernel, pid)
+            .and_then(|number| call_name(number))
+            .unwrap_or("a call");
+        let part = format!(in alloc; "{mark} {pid} in {name}")?;
+        text.push_str(part.as_str())?;
+        mark = ",";
+    }
+    Ok(text)
+}
+
+fn has_turns(kernel: &mut Kernel, run: TurnRun) -> Result<(), Fault> {
+    for _ in 0..run.turns {
+        if kernel.turn(run.pid).is_err() {
+            return Err(Fault::Memory);
+        }
+    }
+    Ok(())
+}
+
+/// The kernel after these turns, where what the tracer did is the script's choice.
+fn replayed(mut kernel: Kernel, turns: &Turns) -> Result<Kernel, Fault> {
+    for run in turns.runs() {
+        match has_turns(&mut kernel, *run) {
+            Ok(()) => (),
+            Err(fault) => {
+                drop(kernel);
+                return Err(fault);
+            }
+        }
+    }
+    Ok(kernel)
+}
+
+impl Again {
+    pub fn of(alloc: Global, plan: &Plan, limit: u64) -> Result<Self, AllocError> {
+        Ok(Again {
+            boot: copy_boot(alloc, &plan.boot)?,
+            turns: copy_turns(alloc, plan.turns.as_slice())?,
+            limit,
+        })
+    }
+
+    /// The effective turns of the run.
+    fn turns(&self, alloc: Global, matches: &ArgMatches) -> Result<Turns, Fault> {
+        let expressions = expressions(alloc, matches)?;
+        let options = Options {
+            follow: self.boot.follow,
+            shown: expressions.shown,
+            string_limit: 0,
+            width: 0,
+        };
+        let schedule = Schedule::words(copy_turns(alloc, self.turns.as_slice())?, self.limit);
+        let boot = copy_boot(alloc, &self.boot)?;
+        match run_local(alloc, boot, schedule, expressions.script, options) {
+            Ok(run) => Ok(run.turns),
+            Err(_) => Err(Fault::Memory),
+        }
+    }
+
+    /// The kernel as the run leaves it.
+    fn kernel(&self, alloc: Global, matches: &ArgMatches) -> Result<Kernel, Fault> {
+        let turns = self.turns(alloc, matches)?;
+        let script = expressions(alloc, matches)?.script;
+        match Kernel::boot(alloc, copy_boot(alloc, &self.boot)?, script) {
+            Ok(kernel) => replayed(kernel, &turns),
+            Err(_) => Err(Fault::Memory),
+        }
+    }
+
+    /// Why the run is out of turns.
+    pub fn waits(&self, alloc: Global, matches: &ArgMatches) -> Result<String, Fault> {
+        let kernel = self.kernel(alloc, matches)?;
+        let text = if is_cut(&kernel) {
+            format!(in alloc;
+                "the limit of {} events was reached; --limit N sets another",
+                self.limit
+            )
+        } else {
+            waiting(alloc, &kernel)
+        };
+        drop(kernel);
+        Ok(text?)
+    }
+}

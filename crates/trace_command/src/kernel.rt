@@ -1,0 +1,110 @@
+//! Where the kernel runs.
+
+use crate::fault::Fault;
+use containers::Seq;
+use front_end::refuse_boot;
+use host_link::{ChildLink, Link, LinkFault};
+use host_wire::Sink;
+use lx_abi::{Boot, Reply, Request, Script, Word};
+use lx_boot::BootFault;
+use pt_kernel::Schedule;
+use std::alloc::Global;
+use std::process::{OpenProcess, Processes};
+use tr_core::Options;
+use trace_run::{Ended, RunFault, run, trace_local};
+
+/// A kernel that takes its boot.
+#[derive(Drop)]
+pub enum Kernel<P: OpenProcess + Drop> {
+    /// In this process.
+    Here(Boot, Schedule),
+    /// In a process of its own, where it was booted.
+    There(ChildLink<P>),
+}
+
+/// The fault of a boot that a host refuses with this number.
+fn refused_boot(alloc: Global, number: u8) -> Fault {
+    let fault = match number {
+        1 => BootFault::BadPath,
+        2 => BootFault::Duplicate,
+        3 => BootFault::NoProgram,
+        4 => BootFault::TooLarge,
+        5 => BootFault::Memory,
+        _ => return Fault::Host(LinkFault::Inadmissible),
+    };
+    Fault::from(refuse_boot(alloc, fault))
+}
+
+/// Boots the host behind a link, which is to follow a schedule by these words.
+fn boot_over<L: Link>(
+    alloc: Global,
+    link: &mut L,
+    boot: Boot,
+    limit: u64,
+    turns: Vec<Word>,
+) -> Result<(), Fault> {
+    let request = Request::Boot {
+        boot,
+        limit,
+        words: Seq::from_vec(turns),
+    };
+    match link.call(request)? {
+        Reply::Done => Ok(()),
+        Reply::Refused { fault } => Err(refused_boot(alloc, fault)),
+        _ => Err(Fault::Host(LinkFault::Inadmissible)),
+    }
+}
+
+/// A kernel for a boot that has no fault: in this process, or in one that the program at the path `host` serves.
+pub fn boot_kernel<R: Processes + AllocGlobal>(
+    rt: &R,
+    host: Option<&str>,
+    boot: Boot,
+    turns: Vec<Word>,
+    limit: u64,
+) -> Result<Kernel<R::Started>, Fault> {
+    let Some(path) = host else {
+        return Ok(Kernel::Here(boot, Schedule::words(turns, limit)));
+    };
+    let mut link = ChildLink::start(rt, path, &[])?;
+    match boot_over(rt.alloc(), &mut link, boot, limit, turns) {
+        Ok(()) => Ok(Kernel::There(link)),
+        Err(fault) => {
+            drop(link);
+            Err(fault)
+        }
+    }
+}
+
+/// Runs the tracer with the kernel in this process. A boot without a fault is refused only for memory.
+fn run_here<W: Sink>(
+    alloc: Global,
+    boot: Boot,
+    schedule: Schedule,
+    script: Script,
+    options: Options,
+    lines: &mut W,
+) -> Result<Ended, RunFault> {
+    match trace_local(alloc, boot, schedule, script, options, lines) {
+        Ok(ended) => ended,
+        Err(_) => Err(RunFault::Link(LinkFault::Memory)),
+    }
+}
+
+/// Runs the tracer on a kernel.
+pub fn run_kernel<P: OpenProcess + Drop, W: Sink>(
+    alloc: Global,
+    kernel: Kernel<P>,
+    script: Script,
+    options: Options,
+    lines: &mut W,
+) -> Result<Ended, RunFault> {
+    match kernel {
+        Kernel::Here(boot, schedule) => run_here(alloc, boot, schedule, script, options, lines),
+        Kernel::There(mut link) => {
+            let ended = run(alloc, &mut link, lines, script, options);
+            drop(link);
+            ended
+        }
+    }
+}

@@ -1,0 +1,132 @@
+//! What is known of a guest's program before it runs, for whoever asks why it didn't.
+
+use elf_image::ElfFault;
+use front_end::Shown;
+use lx_abi::{Boot, GuestFile};
+use std::alloc::{AllocError, Global};
+
+/// The status of a process whose first execve failed.
+const NOT_STARTED: u8 = 127;
+
+/// The statuses of a process that SIGILL or SIGBUS ended.
+const ILLEGAL: u8 = 132;
+
+const MISALIGNED: u8 = 135;
+
+/// Where `e_type`, `e_machine` and `e_flags` stand in the header of an ELF file.
+const TYPE: usize = 16;
+
+const MACHINE: usize = 18;
+
+const FLAGS: usize = 48;
+
+/// What the file of a program is.
+#[derive(Clone, Copy, Debug, PartialEq, Eq)]
+enum Kind {
+    /// There is no file of its name.
+    Missing,
+    /// It isn't run, for this reason.
+    Refused(&'static str),
+    /// It has compressed instructions.
+    Compressed,
+    Usual,
+}
+
+/// A guest's program.
+#[derive(Drop)]
+pub struct Program {
+    path: String,
+    kind: Kind,
+}
+
+/// The absolute path of the program, as process 1 finds it in `/`.
+fn path_of(alloc: Global, word: &str) -> Result<String, AllocError> {
+    let word = word.strip_prefix("./").unwrap_or(word);
+    if word.starts_with('/') {
+        format!(in alloc; "{word}")
+    } else {
+        format!(in alloc; "/{word}")
+    }
+}
+
+/// The two bytes at a place, the least first.
+fn half_word(content: &[u8], at: usize) -> u16 {
+    match content.get(at..at.saturating_add(2)) {
+        Some([low, high]) => u16::from(*low) + 256 * u16::from(*high),
+        _ => 0,
+    }
+}
+
+fn machine(content: &[u8]) -> &'static str {
+    match half_word(content, MACHINE) {
+        62 => "is built for x86-64, not for RV64I",
+        3 => "is built for i386, not for RV64I",
+        183 => "is built for AArch64, not for RV64I",
+        40 => "is built for Arm, not for RV64I",
+        _ => "is not a 64-bit RISC-V file",
+    }
+}
+
+fn refused(content: &[u8], fault: ElfFault) -> Kind {
+    match fault {
+        ElfFault::NotElf if content.starts_with(b"#!") => {
+            Kind::Refused("is a script, and scripts aren't run")
+        }
+        ElfFault::NotElf => Kind::Refused("is not an ELF file of 64 bits"),
+        ElfFault::NotRiscv => Kind::Refused(machine(content)),
+        ElfFault::NotExec if half_word(content, TYPE) == 3 => Kind::Refused(
+            "is position-independent or dynamic; link it with -static -no-pie",
+        ),
+        ElfFault::NotExec => Kind::Refused("is not an executable; link it"),
+        ElfFault::Truncated => Kind::Refused("is cut off or malformed"),
+        ElfFault::Overlap => Kind::Refused("has segments that overlap"),
+        ElfFault::TooLarge => Kind::Refused("is too large"),
+        ElfFault::Memory => Kind::Usual,
+    }
+}
+
+fn kind_of(alloc: Global, content: &[u8]) -> Kind {
+    match elf_image::read(alloc, content) {
+        Err(fault) => refused(content, fault),
+        Ok(_) if half_word(content, FLAGS) % 2 == 1 => Kind::Compressed,
+        Ok(_) => Kind::Usual,
+    }
+}
+
+fn file_of<'b>(files: &'b [GuestFile], path: &str) -> Option<&'b GuestFile> {
+    files
+        .iter()
+        .find(|file| file.path.as_slice() == path.as_bytes())
+}
+
+impl Program {
+    /// The program of a boot.
+    pub fn of(alloc: Global, boot: &Boot) -> Result<Self, AllocError> {
+        let word = match boot.argv.as_slice().first() {
+            Some(word) => str::from_utf8(word.as_slice()).unwrap_or(""),
+            None => "",
+        };
+        let path = path_of(alloc, word)?;
+        let kind = match file_of(boot.files.as_slice(), path.as_str()) {
+            Some(file) => kind_of(alloc, file.content.as_slice()),
+            None => Kind::Missing,
+        };
+        Ok(Program { path, kind })
+    }
+
+    /// Why the program ended so, if its file says it.
+    pub fn reason(&self, alloc: Global, status: u8) -> Result<Option<String>, AllocError> {
+        let path = Shown(self.path.as_str());
+        let text = match (self.kind, status) {
+            (Kind::Missing, NOT_STARTED) => {
+                format!(in alloc; "the guest has no file {path}; --file {path}=PATH gives it one")?
+            }
+            (Kind::Refused(what), NOT_STARTED) => format!(in alloc; "{path} {what}")?,
+            (Kind::Compressed, ILLEGAL | MISALIGNED) => format!(in alloc;
+                "{path} has compressed instructions, which aren't run; build it with -march=rv64i -mabi=lp64"
+            )?,
+            _ => return Ok(None),
+        };
+        Ok(Some(text))
+    }
+}
