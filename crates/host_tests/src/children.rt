@@ -2,7 +2,7 @@
 
 use crate::ends::Pieces;
 use crate::frames::{part, stream};
-use host_link::{ChildLink, Link, LinkFault};
+use host_link::{ChildLink, Link};
 use lx_abi::Request;
 use std::alloc::{Allocator, Global};
 use std::cell::Cell;
@@ -134,13 +134,5 @@ fn processes_that_reply_and_end(rt: HostRuntime) -> Result<(), Fail> {
         let replies = part(replies.as_slice(), 0, count);
         assert_eq!(rt; seen(alloc, path, replies), wanted, "{path} {count}");
     }
-    Ok(())
-}
-
-/// Of the system's processes: there is no program at this path.
-#[test]
-fn program_that_is_not_there(rt: HostRuntime) -> Result<(), Fail> {
-    let fault = ChildLink::start(&rt, "/no/such/host", &[]).err();
-    assert_eq!(rt; fault, Some(LinkFault::Ended));
     Ok(())
 }

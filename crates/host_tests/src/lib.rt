@@ -13,8 +13,6 @@ mod ends;
 #[cfg(test)]
 mod frames;
 #[cfg(test)]
-mod requests;
-#[cfg(test)]
 mod schedules;
 #[cfg(test)]
 mod serving;

@@ -5,7 +5,6 @@ use Rattle.std.specs.Option.{option_map}
 use Rattle.std.specs.Ordering.{nat_cmp}
 use Rattle.std.specs.FinMap as maps
 use Rattle.std.specs.FinMap.{FinMap}
-use Rattle.lx_abi.specs.declared.signal.Signal.{Signal}
 use Rattle.lx_model.specs.Machine.{Regs}
 use Rattle.lx_model.specs.Finite.{at}
 use Rattle.lx_model.specs.declared.stage.Stage.{Stage}
@@ -14,7 +13,8 @@ use Rattle.lx_model.specs.declared.stage.Task.TheVariants.{Alive, Dying, Gone}
 use Rattle.lx_proc.specs.declared.state.UserState.{UserState}
 use Rattle.lx_turn.specs.Turned.{is_gone}
 use Rattle.lx_kernel.specs.Runs.{Run}
-use Rattle.lx_kernel.specs.Tracing.{joining, dropping, with_regs, with_joined, with_dropped, with_part, with_part_at, IsPart}
+use Rattle.lx_kernel.specs.Tracing.{changed, with_regs, with_change, with_part, with_part_at, IsPart}
+use Rattle.lx_kernel.specs.declared.tracing.Change.{Change}
 use Rattle.lx_kernel.proofs.Placing.{placed_there}
 use Rattle.lx_turn.proofs.Placed.{put_same}
 
@@ -35,15 +35,10 @@ regs_stay r (Alive b stage) = refl
 regs_stay r (Dying w) = tt
 regs_stay r Gone = tt
 
-pub joined_stays : (s : Option Signal) (task : Task UserState) → Stays (with_joined s task)
-joined_stays s (Alive b stage) = staged b (joining s stage)
-joined_stays s (Dying w) = tt
-joined_stays s Gone = tt
-
-pub dropped_stays : (task : Task UserState) → Stays (with_dropped task)
-dropped_stays (Alive b stage) = staged b (dropping stage)
-dropped_stays (Dying w) = tt
-dropped_stays Gone = tt
+pub changed_stays : (c : Change) (task : Task UserState) → Stays (with_change c task)
+changed_stays c (Alive b stage) = staged b (changed c stage)
+changed_stays c (Dying w) = tt
+changed_stays c Gone = tt
 
 -- where the process stands, its part is put back
 put_back : (tasks : Tasks) (p : ℕ) (task task' : Task UserState) (r : Bool) (x : Option (Task UserState)) → Stays x → IsPart x task task' r → maps.get tasks p ≡ Some task → maps.insert tasks p task' ≡ with_part_at tasks p x

@@ -16,7 +16,7 @@ use Rattle.lx_proc.specs.declared.state.UserState.{UserState}
 use Rattle.lx_kernel.specs.Scheduling.{Tasks}
 use Rattle.lx_turn.specs.Resting.{rests}
 use Rattle.lx_kernel.specs.Sleeping.{IsWatched, AreWatched, AreListed, IsSameBut}
-use Rattle.lx_kernel.specs.declared.sleepers.Sleepers.{Sleepers}
+use Rattle.lx_kernel.specs.declared.run_queue.RunQueue.{RunQueue}
 use Rattle.lx_turn.proofs.Placed.{either, get_put}
 
 none_in : {X : Type 0} (q : ℕ) (es : List (ℕ × X)) → length es ≡ 0 → entry.find nat_cmp q es ≡ None
@@ -35,12 +35,12 @@ gone_rests s p (Dying w) e = absurd (cc e)
 gone_rests s p Gone e = refl
 
 -- where nobody sleeps, all who aren't awake are gone
-pub all_awake : (sets : Sleepers) (s : Shared) (tasks : Tasks) → maps.len sets.asleep ≡ 0 → AreListed sets tasks → AreWatched sets s tasks
+pub all_awake : (sets : RunQueue) (s : Shared) (tasks : Tasks) → maps.len sets.asleep ≡ 0 → AreListed sets tasks → AreWatched sets s tasks
 all_awake sets s tasks none listed = λ q up unwatched.
     let gone = listed q up unwatched (none_in_empty sets.asleep none q) in
     (gone_rests s q (at Gone tasks q) gone, λ e. gone)
 
-module _ (sets sets' : Sleepers) (s : Shared) (tasks : Tasks) (p : ℕ) (same : IsSameBut sets sets' p) (itself : IsWatched sets' s p (at Gone tasks p)) where
+module _ (sets sets' : RunQueue) (s : Shared) (tasks : Tasks) (p : ℕ) (same : IsSameBut sets sets' p) (itself : IsWatched sets' s p (at Gone tasks p)) where
   -- all are watched, where the others were
   pub watched_but : ((q : ℕ) → 0 < q → (q ≡ p → ⊥) → IsWatched sets s q (at Gone tasks q)) → AreWatched sets' s tasks
   watched_but others = λ q up. either q p (IsWatched sets' s q (at Gone tasks q)) (q == p) refl
@@ -65,10 +65,10 @@ pub absent_gone : (o : Option (Task UserState)) → is_none o ≡ true → unwra
 absent_gone None e = refl
 absent_gone (Some task) e = absurd (cc e)
 
--- Over the sleepers in a row.
+-- Over the run_queue in a row.
 
 -- those up to a number rest, unless they are awake
-abbrev pub RestUpTo : Sleepers → Shared → Tasks → ℕ → Type 0
+abbrev pub RestUpTo : RunQueue → Shared → Tasks → ℕ → Type 0
 RestUpTo sets s tasks n = (q : ℕ) → 0 < q → q ≤ n → maps.get sets.awake q ≡ None → rests s q (at Gone tasks q) ≡ true
 
 -- one number is at most another, or above it
@@ -76,12 +76,12 @@ pub below : (q n : ℕ) (P : Type 0) (b : Bool) → nat_le q n ≡ b → (q ≤ 
 below q n P true e low high = low (grind (arith, nat_tests))
 below q n P false e low high = high (grind (arith, nat_tests))
 
-module _ (sets : Sleepers) (s : Shared) (tasks : Tasks) (passed : ℕ) (listed : AreListed sets tasks) (seen : RestUpTo sets s tasks passed) where
+module _ (sets : RunQueue) (s : Shared) (tasks : Tasks) (passed : ℕ) (listed : AreListed sets tasks) (seen : RestUpTo sets s tasks passed) where
   -- who isn't asleep either rests as well
   unlisted : (q : ℕ) → 0 < q → maps.get sets.awake q ≡ None → maps.get sets.asleep q ≡ None → rests s q (at Gone tasks q) ≡ true
   unlisted q up unwatched unslept = gone_rests s q (at Gone tasks q) (listed q up unwatched unslept)
 
-  pub rest_up_to : (sets' : Sleepers) (p : ℕ) → IsNextKey sets.asleep passed (Some p) → IsSameBut sets sets' p → IsWatched sets' s p (at Gone tasks p) → RestUpTo sets' s tasks p
+  pub rest_up_to : (sets' : RunQueue) (p : ℕ) → IsNextKey sets.asleep passed (Some p) → IsSameBut sets sets' p → IsWatched sets' s p (at Gone tasks p) → RestUpTo sets' s tasks p
   rest_up_to sets' p next same itself = λ q up le. either q p (maps.get sets'.awake q ≡ None → rests s q (at Gone tasks q) ≡ true) (q == p) refl
       (λ e. subst (λ n. maps.get sets'.awake n ≡ None → rests s n (at Gone tasks n) ≡ true) (sym e) (λ unwatched. (itself unwatched).0))
       (λ ne unwatched.

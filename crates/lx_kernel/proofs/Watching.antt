@@ -1,13 +1,15 @@
 -- What keeps the sets of processes right.
-use Rattle.std.proofs.Common.{◌≡◌, ◌<◌, ℕ, Bool, true, List, Option, Some, None, inl, inr, refl, ap, sym, subst, ◌∙◌}
-use Rattle.std.specs.Prelude.{◌==◌}
-use Rattle.std.specs.Option.{unwrap_or}
+use Rattle.std.proofs.Common.{◌≡◌, ◌<◌, ℕ, Bool, true, false, cond, List, Option, Some, None, inl, inr, refl, ap, sym, subst, ◌∙◌}
+use Rattle.std.specs.Prelude.{◌==◌, ◌||◌}
+use Rattle.std.specs.Option.{unwrap_or, option_map}
 use Rattle.std.specs.Ordering.{nat_cmp}
 use Rattle.std.specs.FinMap as maps
 use Rattle.lx_abi.specs.declared.log.Item.{Item}
 use Rattle.lx_abi.specs.declared.script.Rule.{Rule}
 use Rattle.lx_abi.specs.declared.signal.Signal.{Signal}
+use Rattle.lx_abi.specs.declared.log.Cause.{Cause}
 use Rattle.lx_abi.specs.Scripts.{choice_of}
+use Rattle.lx_abi.specs.Signals.{may_join, signal_numbered}
 use Rattle.lx_model.specs.Machine.{Regs}
 use Rattle.lx_model.specs.Kernel.{traces, choice_at}
 use Rattle.lx_model.specs.Turn.{Out, Event, Plain, Execed, Forked, turn}
@@ -24,12 +26,14 @@ use Rattle.lx_kernel.specs.Bursts.{TaskContinues}
 use Rattle.lx_kernel.specs.Scheduling.{Tasks}
 use Rattle.lx_turn.specs.Resting.{rests, Calms}
 use Rattle.lx_kernel.specs.Sleeping.{IsKept, IsSameBut, IsWatched, AreWatched, AreListed, Watch, welcomed}
-use Rattle.lx_kernel.specs.Tracing.{with_regs, with_joined, with_dropped, with_part_at}
+use Rattle.lx_kernel.specs.Tracing.{with_regs, with_change, with_part_at}
+use Rattle.lx_kernel.specs.declared.tracing.Change.{Change}
+use Rattle.lx_kernel.specs.declared.tracing.Change.TheVariants.{Join, Skip, Resume}
 use Rattle.lx_turn.specs.Turned.{turned, Turned, event_of, IsBirth}
 use Rattle.lx_kernel.specs.Turns.{tasks_with}
 use Rattle.lx_kernel.specs.Turns.{Turns}
 use Rattle.lx_turn.specs.declared.effects.Effect.{Effect}
-use Rattle.lx_kernel.specs.declared.sleepers.Sleepers.{Sleepers}
+use Rattle.lx_kernel.specs.declared.run_queue.RunQueue.{RunQueue}
 use Rattle.lx_turn.proofs.Placed.{get_put}
 use Rattle.lx_kernel.proofs.Placing.{at_placed}
 use Rattle.lx_turn.proofs.Placed.{either, other_put, other_left}
@@ -39,7 +43,7 @@ kept_same : (s : Shared) (q : ℕ) (task : Task UserState) → IsKept s q task t
 kept_same s q task = (λ e. e, λ e. e)
 
 -- a table whose parts keep
-pub watch_kept : (sets : Sleepers) (s : Shared) (tasks tasks' : Tasks) → ((q : ℕ) → IsKept s q (at Gone tasks q) (at Gone tasks' q)) → Watch sets s tasks → Watch sets s tasks'
+pub watch_kept : (sets : RunQueue) (s : Shared) (tasks tasks' : Tasks) → ((q : ℕ) → IsKept s q (at Gone tasks q) (at Gone tasks' q)) → Watch sets s tasks → Watch sets s tasks'
 watch_kept sets s tasks tasks' kept watch = λ known q up unwatched.
     let h = watch known q up unwatched in
     ((kept q).0 h.0, λ unslept. (kept q).1 (h.1 unslept))
@@ -80,41 +84,59 @@ regs_kept s p r (Alive b at) = (regs_rest s p b r at, λ e. absurd (cc e))
 regs_kept s p r (Dying w) = tt
 regs_kept s p r Gone = tt
 
-joined_at : (s : Shared) (p : ℕ) (signal : Option Signal) (b : UserState) (at : Stage) → PartKept s p (Alive b at) (with_joined signal (Alive b at))
+-- it goes on from where it stands, or not at all
+plain_kept : (s : Shared) (p : ℕ) (b : UserState) (at : Stage) (c : Bool) → PartKept s p (Alive b at) (option_map (λ s. Alive b s) (cond c (Some at) None))
+plain_kept s p b at true = kept_same s p (Alive b at)
+plain_kept s p b at false = tt
+
+-- it goes on from a stage that doesn't rest
+stirs : (s : Shared) (p : ℕ) (b : UserState) (task : Task UserState) (to : Stage) (c : Bool) → (task ≡ Gone → ⊥) → rests s p task ≡ false → PartKept s p task (option_map (λ s. Alive b s) (cond c (Some to) None))
+stirs s p b task to true here awake = (λ e. absurd (cc (e, awake)), λ e. absurd (here e))
+stirs s p b task to false here awake = tt
+
+passed_kept : (s : Shared) (p : ℕ) (b : UserState) (signal : Signal) (cause : Cause) (n : ℕ) (c : Bool) →
+    PartKept s p (Alive b (stage.Taken signal cause)) (option_map (λ s. Alive b s) (cond c (Some (stage.Taken signal cause)) (cond (n == 0) (Some stage.Dropped) None)))
 unfolding rests
-joined_at s p signal b stage.Born = tt
-joined_at s p signal b stage.Run = tt
-joined_at s p signal b (stage.Faulting taken cause) = tt
-joined_at s p signal b (stage.Entered joined) = (λ e. e, λ e. absurd (cc e))
-joined_at s p signal b (stage.Doing call) = tt
-joined_at s p signal b (stage.Replaced call x) = tt
-joined_at s p signal b (stage.Acted call x replaced) = tt
-joined_at s p signal b stage.Finished = tt
-joined_at s p signal b (stage.Taken taken cause) = tt
-joined_at s p signal b stage.Dropped = tt
+passed_kept s p b signal cause n true = kept_same s p (Alive b (stage.Taken signal cause))
+passed_kept s p b signal cause n false = stirs s p b (Alive b (stage.Taken signal cause)) stage.Dropped (n == 0) (λ e. absurd (cc e)) refl
 
-pub joined_kept : (s : Shared) (p : ℕ) (signal : Option Signal) (task : Task UserState) → PartKept s p task (with_joined signal task)
-joined_kept s p signal (Alive b at) = joined_at s p signal b at
-joined_kept s p signal (Dying w) = tt
-joined_kept s p signal Gone = tt
-
-dropped_at : (s : Shared) (p : ℕ) (b : UserState) (at : Stage) → PartKept s p (Alive b at) (with_dropped (Alive b at))
+changed_at : (s : Shared) (p : ℕ) (change : Change) (b : UserState) (at : Stage) → PartKept s p (Alive b at) (with_change change (Alive b at))
 unfolding rests
-dropped_at s p b stage.Born = tt
-dropped_at s p b stage.Run = tt
-dropped_at s p b (stage.Faulting taken cause) = tt
-dropped_at s p b (stage.Entered joined) = tt
-dropped_at s p b (stage.Doing call) = tt
-dropped_at s p b (stage.Replaced call x) = tt
-dropped_at s p b (stage.Acted call x replaced) = tt
-dropped_at s p b stage.Finished = tt
-dropped_at s p b (stage.Taken taken cause) = (λ e. e, λ e. absurd (cc e))
-dropped_at s p b stage.Dropped = tt
+changed_at s p (Join signal) b stage.Born = tt
+changed_at s p (Join signal) b stage.Run = tt
+changed_at s p (Join signal) b (stage.Faulting taken cause) = tt
+changed_at s p (Join signal) b (stage.Entered joined) = (λ e. e, λ e. absurd (cc e))
+changed_at s p (Join signal) b (stage.Doing call) = tt
+changed_at s p (Join signal) b (stage.Replaced call x) = tt
+changed_at s p (Join signal) b (stage.Acted call x replaced) = tt
+changed_at s p (Join signal) b stage.Finished = tt
+changed_at s p (Join signal) b (stage.Taken taken cause) = tt
+changed_at s p (Join signal) b stage.Dropped = tt
+changed_at s p Skip b stage.Born = tt
+changed_at s p Skip b stage.Run = tt
+changed_at s p Skip b (stage.Faulting taken cause) = tt
+changed_at s p Skip b (stage.Entered joined) = tt
+changed_at s p Skip b (stage.Doing call) = tt
+changed_at s p Skip b (stage.Replaced call x) = tt
+changed_at s p Skip b (stage.Acted call x replaced) = tt
+changed_at s p Skip b stage.Finished = tt
+changed_at s p Skip b (stage.Taken taken cause) = (λ e. e, λ e. absurd (cc e))
+changed_at s p Skip b stage.Dropped = tt
+changed_at s p (Resume n) b stage.Born = plain_kept s p b stage.Born (n == 0)
+changed_at s p (Resume n) b stage.Run = plain_kept s p b stage.Run (n == 0)
+changed_at s p (Resume n) b (stage.Faulting taken cause) = plain_kept s p b (stage.Faulting taken cause) (n == 0)
+changed_at s p (Resume n) b (stage.Entered joined) = stirs s p b (Alive b (stage.Entered joined)) (stage.Entered (signal_numbered n)) ((n == 0) || may_join n) (λ e. absurd (cc e)) refl
+changed_at s p (Resume n) b (stage.Doing call) = plain_kept s p b (stage.Doing call) (n == 0)
+changed_at s p (Resume n) b (stage.Replaced call x) = plain_kept s p b (stage.Replaced call x) (n == 0)
+changed_at s p (Resume n) b (stage.Acted call x replaced) = plain_kept s p b (stage.Acted call x replaced) (n == 0)
+changed_at s p (Resume n) b stage.Finished = plain_kept s p b stage.Finished (n == 0)
+changed_at s p (Resume n) b (stage.Taken taken cause) = passed_kept s p b taken cause n (taken.number == n)
+changed_at s p (Resume n) b stage.Dropped = plain_kept s p b stage.Dropped (n == 0)
 
-pub dropped_kept : (s : Shared) (p : ℕ) (task : Task UserState) → PartKept s p task (with_dropped task)
-dropped_kept s p (Alive b at) = dropped_at s p b at
-dropped_kept s p (Dying w) = tt
-dropped_kept s p Gone = tt
+pub changed_kept : (s : Shared) (p : ℕ) (change : Change) (task : Task UserState) → PartKept s p task (with_change change task)
+changed_kept s p change (Alive b at) = changed_at s p change b at
+changed_kept s p change (Dying w) = tt
+changed_kept s p change Gone = tt
 
 -- Turns in a row
 
@@ -137,7 +159,7 @@ put_kept s tasks p task task' there kept q = either q p (IsKept s q (at Gone tas
 
 -- At first
 
-pub first_watch : (sets : Sleepers) (s : Shared) (tasks : Tasks) → (sets.known ≡ true → sets.awake ≡ maps.insert maps.empty 1 tt) → ((q : ℕ) → (q ≡ 1 → ⊥) → at Gone tasks q ≡ Gone) → Watch sets s tasks
+pub first_watch : (sets : RunQueue) (s : Shared) (tasks : Tasks) → (sets.known ≡ true → sets.awake ≡ maps.insert maps.empty 1 tt) → ((q : ℕ) → (q ≡ 1 → ⊥) → at Gone tasks q ≡ Gone) → Watch sets s tasks
 first_watch sets s tasks awake alone = λ known q up unwatched.
     either q 1 ((rests s q (at Gone tasks q) ≡ true) × (maps.get sets.asleep q ≡ None → at Gone tasks q ≡ Gone)) (q == 1) refl
     (λ e. put_there maps.empty sets.awake 1 tt (awake known) (subst (λ n. maps.get sets.awake n ≡ None) e unwatched))
@@ -159,24 +181,24 @@ with_child tasks child q Execed other = refl
 with_child tasks child q (Forked newborn) other = ap (λ o. unwrap_or o Gone) (other_put tasks child q (other tt) (Alive newborn stage.Born))
 
 -- who isn't awake after a birth isn't the child, and wasn't before
-unwelcomed : (sets : Sleepers) (child q : ℕ) (event : Event UserState) → maps.get (welcomed sets child event).awake q ≡ None → (IsBirth event → q ≡ child → ⊥)
+unwelcomed : (sets : RunQueue) (child q : ℕ) (event : Event UserState) → maps.get (welcomed sets child event).awake q ≡ None → (IsBirth event → q ≡ child → ⊥)
 unwelcomed sets child q Plain none = λ birth. absurd birth
 unwelcomed sets child q Execed none = λ birth. absurd birth
 unwelcomed sets child q (Forked newborn) none = λ birth e. put_there sets.awake (maps.insert sets.awake child tt) child tt refl (subst (λ n. maps.get (maps.insert sets.awake child tt) n ≡ None) e none)
 
-unwatched_before : (sets : Sleepers) (child q : ℕ) (event : Event UserState) → (IsBirth event → q ≡ child → ⊥) → maps.get (welcomed sets child event).awake q ≡ None → maps.get sets.awake q ≡ None
+unwatched_before : (sets : RunQueue) (child q : ℕ) (event : Event UserState) → (IsBirth event → q ≡ child → ⊥) → maps.get (welcomed sets child event).awake q ≡ None → maps.get sets.awake q ≡ None
 unwatched_before sets child q Plain other none = none
 unwatched_before sets child q Execed other none = none
 unwatched_before sets child q (Forked newborn) other none = sym (other_put sets.awake child q (other tt) tt) ∙ none
 
-unslept_before : (sets : Sleepers) (child q : ℕ) (event : Event UserState) → (IsBirth event → q ≡ child → ⊥) → maps.get (welcomed sets child event).asleep q ≡ None → maps.get sets.asleep q ≡ None
+unslept_before : (sets : RunQueue) (child q : ℕ) (event : Event UserState) → (IsBirth event → q ≡ child → ⊥) → maps.get (welcomed sets child event).asleep q ≡ None → maps.get sets.asleep q ≡ None
 unslept_before sets child q Plain other none = none
 unslept_before sets child q Execed other none = none
 unslept_before sets child q (Forked newborn) other none = sym (other_left sets.asleep child q (other tt)) ∙ none
 
 module _ (v : Running Shared UserState) (rules : List Rule) (follow : Bool) (p : ℕ) (count : ℕ → ℕ) (item : Option Item) (done : Effect) (s : Shared) (tasks : Tasks)
     (turns : Turns (turned (turn linux (choice_at linux (choice_of rules) (traces follow p) count (at Gone v.tasks p)) v.shared v.child p (at Gone v.tasks p))) v.tasks p item done s tasks)
-    (sets : Sleepers) (watched : AreWatched sets v.shared v.tasks) where
+    (sets : RunQueue) (watched : AreWatched sets v.shared v.tasks) where
   abbrev task : Task UserState
   task = at Gone v.tasks p
 
@@ -216,7 +238,7 @@ module _ (v : Running Shared UserState) (rules : List Rule) (follow : Bool) (p :
       )
 
 -- after one was roused, beside the others
-pub roused_watched : (sets sets' : Sleepers) (s : Shared) (tasks : Tasks) (p roused : ℕ) → IsSameBut sets sets' roused → ((roused ≡ p → ⊥) → IsWatched sets' s roused (at Gone tasks roused))
+pub roused_watched : (sets sets' : RunQueue) (s : Shared) (tasks : Tasks) (p roused : ℕ) → IsSameBut sets sets' roused → ((roused ≡ p → ⊥) → IsWatched sets' s roused (at Gone tasks roused))
     → ((q : ℕ) → 0 < q → (q ≡ p → ⊥) → (q ≡ roused → ⊥) → IsWatched sets s q (at Gone tasks q)) → (q : ℕ) → 0 < q → (q ≡ p → ⊥) → IsWatched sets' s q (at Gone tasks q)
 roused_watched sets sets' s tasks p roused same itself others q up ne = either q roused (IsWatched sets' s q (at Gone tasks q)) (q == roused) refl
     (λ e. subst (λ n. IsWatched sets' s n (at Gone tasks n)) (sym e) (itself (λ is. ne (e ∙ is))))

@@ -8,7 +8,12 @@ use Rattle.lx_kernel.specs.Runs.{Run}
 -- process 1 is alone, and nothing is logged
 abbrev pub first_run : Boot → List Rule → Run
 first_run boot script = record {
-  running = record { shared = first_shared boot.files boot.input; tasks = first_tasks boot.argv boot.env; child = 2; log = [] };
+  running = record {
+    shared = first_shared boot.files boot.input;
+    tasks = first_tasks boot.argv boot.env;
+    child = 2;
+    log = [];
+  };
   script = script;
   follow = boot.follow;
   failed = false;

@@ -20,11 +20,13 @@ use Rattle.lx_proc.specs.WaitWords.{Words}
 
 -- process 1 begins in its first program, and is alone
 abbrev pub BootsAreFirst : Type 0
-BootsAreFirst = (boot : Boot) (script : List Rule) → (first_run boot script).running ≡ first_running (first_shared boot.files boot.input) (booted boot.argv boot.env)
+BootsAreFirst = (boot : Boot) (script : List Rule) →
+    (first_run boot script).running ≡ first_running (first_shared boot.files boot.input) (booted boot.argv boot.env)
 
 -- a turn of the kernel is the definition's
 abbrev pub TurnsAreSteps : Type 0
-TurnsAreSteps = (k : Run) (pid : ℕ) → (after_turn k pid).running ≡ running_turn linux (choice_of k.script) k.follow k.running pid
+TurnsAreSteps = (k : Run) (pid : ℕ) →
+    (after_turn k pid).running ≡ running_turn linux (choice_of k.script) k.follow k.running pid
 
 -- the kernel after turns of these processes
 abbrev pub after_all : Run → List ℕ → Run
@@ -35,7 +37,8 @@ after_all k (pid ∷ pids) = after_all (after_turn k pid) pids
 abbrev pub BootsRunAlike : Type 0
 BootsRunAlike = (boot : Boot) (script : List Rule) (pids : List ℕ) →
     Is (after_all (first_run boot script) pids).running
-    (kernel_run linux (choice_of script) boot.follow (first_kernel (first_shared boot.files boot.input) (booted boot.argv boot.env)) pids)
+    (kernel_run linux (choice_of script) boot.follow
+    (first_kernel (first_shared boot.files boot.input) (booted boot.argv boot.env)) pids)
 
 -- the words by which processes ended, with this item's
 abbrev pub with_end : Words → Item → Words
@@ -52,14 +55,17 @@ HasLoggedWords v = v.shared.ended ≡ logged_words v.log
 
 -- a turn keeps this, under every script
 abbrev pub TurnsLogWords : Type 0
-TurnsLogWords = (script : Script) (follow : Bool) (v : Running Shared UserState) (pid : ℕ) → HasLoggedWords v → HasLoggedWords (running_turn linux script follow v pid)
+TurnsLogWords = (script : Script) (follow : Bool) (v : Running Shared UserState) (pid : ℕ) →
+    HasLoggedWords v → HasLoggedWords (running_turn linux script follow v pid)
 
 -- so it holds after any turns of a boot
 abbrev pub BootsLogWords : Type 0
-BootsLogWords = (boot : Boot) (script : List Rule) (pids : List ℕ) → HasLoggedWords (after_all (first_run boot script) pids).running
+BootsLogWords = (boot : Boot) (script : List Rule) (pids : List ℕ) →
+    HasLoggedWords (after_all (first_run boot script) pids).running
 
 -- and of the untraced kernel of the definitions
 abbrev pub KernelsLogWords : Type 0
 KernelsLogWords = (script : Script) (follow : Bool) (boot : Boot) (pids : List ℕ) →
-    let k : Kernel Shared UserState = kernel_run linux script follow (first_kernel (first_shared boot.files boot.input) (booted boot.argv boot.env)) pids in
+    let k : Kernel Shared UserState = kernel_run linux script follow
+    (first_kernel (first_shared boot.files boot.input) (booted boot.argv boot.env)) pids in
     k.shared.ended ≡ logged_words (items_of k.log)

@@ -11,7 +11,7 @@ use Rattle.lx_proc.specs.declared.state.Shared.{Shared}
 use Rattle.lx_proc.specs.declared.state.UserState.{UserState}
 use Rattle.lx_turn.specs.Resting.{rests}
 use Rattle.lx_kernel.specs.Scheduling.{Tasks}
-use Rattle.lx_kernel.specs.declared.sleepers.Sleepers.{Sleepers}
+use Rattle.lx_kernel.specs.declared.run_queue.RunQueue.{RunQueue}
 
 -- a part that rests, or is gone, is so with another in its place
 abbrev pub IsKept : Shared → ℕ → Task UserState → Task UserState → Type 0
@@ -24,24 +24,24 @@ AllRest keys s tasks = (q : ℕ) → 0 < q → maps.get keys q ≡ None → rest
 -- The sets.
 
 -- a process that isn't awake rests, and where it isn't asleep either it is gone
-abbrev pub IsWatched : Sleepers → Shared → ℕ → Task UserState → Type 0
+abbrev pub IsWatched : RunQueue → Shared → ℕ → Task UserState → Type 0
 IsWatched sets s p task =
     maps.get sets.awake p ≡ None → (rests s p task ≡ true) × (maps.get sets.asleep p ≡ None → task ≡ Gone)
 
-abbrev pub AreWatched : Sleepers → Shared → Tasks → Type 0
+abbrev pub AreWatched : RunQueue → Shared → Tasks → Type 0
 AreWatched sets s tasks = (q : ℕ) → 0 < q → IsWatched sets s q (at Gone tasks q)
 
 -- who is in neither set is gone
-abbrev pub AreListed : Sleepers → Tasks → Type 0
+abbrev pub AreListed : RunQueue → Tasks → Type 0
 AreListed sets tasks =
     (q : ℕ) → 0 < q → maps.get sets.awake q ≡ None → maps.get sets.asleep q ≡ None → at Gone tasks q ≡ Gone
 
 -- as long as memory for them was never refused
-abbrev pub Watch : Sleepers → Shared → Tasks → Type 0
+abbrev pub Watch : RunQueue → Shared → Tasks → Type 0
 Watch sets s tasks = sets.known ≡ true → AreWatched sets s tasks
 
 -- a child that is born is awake
-abbrev pub welcomed : Sleepers → ℕ → Event UserState → Sleepers
+abbrev pub welcomed : RunQueue → ℕ → Event UserState → RunQueue
 welcomed sets child Plain = sets
 welcomed sets child Execed = sets
 welcomed sets child (Forked newborn) = record sets {
@@ -50,7 +50,7 @@ welcomed sets child (Forked newborn) = record sets {
 }
 
 -- the sets differ in one process alone
-abbrev pub IsSameBut : Sleepers → Sleepers → ℕ → Type 0
+abbrev pub IsSameBut : RunQueue → RunQueue → ℕ → Type 0
 IsSameBut sets sets' p =
     (sets.known ≡ true) × ((q : ℕ) → (q ≡ p → ⊥)
     → (maps.get sets'.awake q ≡ maps.get sets.awake q) × (maps.get sets'.asleep q ≡ maps.get sets.asleep q))

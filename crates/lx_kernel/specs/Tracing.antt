@@ -8,13 +8,16 @@ use Rattle.lx_abi.specs.declared.log.Cause.{Cause}
 use Rattle.lx_abi.specs.declared.signal.Signal.{Signal}
 use Rattle.lx_model.specs.Machine.{Regs}
 use Rattle.lx_model.specs.Finite.{at, placed, with_task}
+use Rattle.lx_model.specs.Rows.{row}
 use Rattle.lx_model.specs.declared.stage.Stage.{Stage}
-use Rattle.lx_model.specs.declared.stage.Stage.TheVariants.{Born, Run, Faulting, Entered, Doing, Replaced, Acted, Finished, Taken, Dropped}
+use Rattle.lx_model.specs.declared.stage.Stage.TheVariants.{Entered, Taken, Dropped}
 use Rattle.lx_model.specs.declared.stage.Task.{Task}
 use Rattle.lx_model.specs.declared.stage.Task.TheVariants.{Alive, Dying, Gone}
 use Rattle.lx_proc.specs.declared.state.UserState.{UserState}
 use Rattle.lx_turn.specs.Linux.{linux}
 use Rattle.lx_kernel.specs.Runs.{Run as KernelRun}
+use Rattle.lx_kernel.specs.declared.tracing.Change.{Change}
+use Rattle.lx_kernel.specs.declared.tracing.Change.TheVariants.{Join, Skip, Resume}
 
 -- a process's own part
 abbrev pub task_in : KernelRun → ℕ → Task UserState
@@ -33,21 +36,9 @@ regs_of task = option_map (λ b. linux.regs b) (user_of task)
 abbrev pub peek_of : Task UserState → ℕ → ℕ → Option (List ℕ)
 peek_of task address length = option_map (λ b. linux.peek b address length) (user_of task)
 
-abbrev pub signal_at : Stage → Option (Signal × Cause)
-signal_at Born = None
-signal_at Run = None
-signal_at (Faulting signal cause) = None
-signal_at (Entered joined) = None
-signal_at (Doing call) = None
-signal_at (Replaced call x) = None
-signal_at (Acted call x replaced) = None
-signal_at Finished = None
-signal_at (Taken signal cause) = Some (signal, cause)
-signal_at Dropped = None
-
 -- the signal at a signal stop, and why it came
 abbrev pub signal_of : Task UserState → Option (Signal × Cause)
-signal_of (Alive b stage) = signal_at stage
+signal_of (Alive b stage) = (row stage).info
 signal_of (Dying w) = None
 signal_of Gone = None
 
@@ -55,44 +46,28 @@ signal_of Gone = None
 
 -- at a call, with another signal to be joined to it
 abbrev pub joining : Option Signal → Stage → Option Stage
-joining signal Born = None
-joining signal Run = None
-joining signal (Faulting taken cause) = None
 joining signal (Entered joined) = Some (Entered signal)
-joining signal (Doing call) = None
-joining signal (Replaced call x) = None
-joining signal (Acted call x replaced) = None
-joining signal Finished = None
-joining signal (Taken taken cause) = None
-joining signal Dropped = None
+joining signal _ = None
 
 -- at a signal stop, without the signal
 abbrev pub dropping : Stage → Option Stage
-dropping Born = None
-dropping Run = None
-dropping (Faulting signal cause) = None
-dropping (Entered joined) = None
-dropping (Doing call) = None
-dropping (Replaced call x) = None
-dropping (Acted call x replaced) = None
-dropping Finished = None
 dropping (Taken signal cause) = Some Dropped
-dropping Dropped = None
+dropping _ = None
+
+abbrev pub changed : Change → Stage → Option Stage
+changed (Join signal) stage = joining signal stage
+changed Skip stage = dropping stage
+changed (Resume n) stage = (row stage).resume n
 
 abbrev pub with_regs : Regs → Task UserState → Option (Task UserState)
 with_regs r (Alive b stage) = Some (Alive (linux.with_regs b r) stage)
 with_regs r (Dying w) = None
 with_regs r Gone = None
 
-abbrev pub with_joined : Option Signal → Task UserState → Option (Task UserState)
-with_joined signal (Alive b stage) = option_map (λ s. Alive b s) (joining signal stage)
-with_joined signal (Dying w) = None
-with_joined signal Gone = None
-
-abbrev pub with_dropped : Task UserState → Option (Task UserState)
-with_dropped (Alive b stage) = option_map (λ s. Alive b s) (dropping stage)
-with_dropped (Dying w) = None
-with_dropped Gone = None
+abbrev pub with_change : Change → Task UserState → Option (Task UserState)
+with_change change (Alive b stage) = option_map (λ s. Alive b s) (changed change stage)
+with_change change (Dying w) = None
+with_change change Gone = None
 
 -- the kernel with the process's own part changed so
 abbrev pub with_part : KernelRun → ℕ → Option (Task UserState) → KernelRun

@@ -22,18 +22,19 @@ ghost use Rattle.lx_kernel.specs.Outcomes.{outcome_in};
 ghost use Rattle.lx_kernel.specs.Runs.{turn_in, after_turn, is_able_in, mode_in};
 ghost use Rattle.lx_kernel.specs.Scheduling.{IsNextOf};
 ghost use Rattle.lx_kernel.specs.Tracing.{task_in, regs_of, peek_of, signal_of};
-ghost use Rattle.lx_kernel.specs.Tracing.{with_regs, with_joined, with_dropped, with_part};
+ghost use Rattle.lx_kernel.specs.Tracing.{with_regs, with_change, with_part};
 ghost use Rattle.lx_kernel.specs.Turns.{Turns, without_gone, tasks_with, next_child};
 
 use crate::outcome::outcome;
+use crate::run_queue::{Hints, RunQueue};
 use crate::scheduling::{can_turn_at, next_in_cycle};
-use crate::sleepers::{Hints, Sleepers};
+use crate::tracing::Change;
 use crate::{bursts, tracing};
 use containers::{Bytes, Map};
 use lx_abi::{Cause, Item, Mode, Occurrences, Outcome, RegisterSet, Registers, Script, Signal};
 use lx_model::{Deed, Stage, Task};
 use lx_proc::{Shared, UserState};
-use lx_turn::{Effect, Injection, Transition, is_killed, mode_of_gone, mode_of_stage, turn_task};
+use lx_turn::{Effect, Injection, Transition, is_killed, mode_of_gone, turn_task};
 use rv_hart::DecodedCode;
 use std::alloc::{AllocError, Global};
 use std::marker::Model;
@@ -150,7 +151,7 @@ pub struct Kernel {
     alloc: Global,
     shared: Shared,
     tasks: Map<Task<UserState>>,
-    sleepers: Sleepers,
+    run_queue: RunQueue,
     /// The next pid.
     child: u32,
     log: Vec<Item>,
@@ -176,7 +177,7 @@ impl Model for Kernel {
 
     ghost view = { λ k. record { running = record { shared = k.shared; tasks = k.tasks; child = k.child; log = k.log.items }; script = k.script; follow = k.follow; failed = k.failed } };
 
-    ghost invariant = { λ k. k.failed ≡ false → Agree k.occurrences k.log.items × Watch k.sleepers k.shared k.tasks };
+    ghost invariant = { λ k. k.failed ≡ false → Agree k.occurrences k.log.items × Watch k.run_queue k.shared k.tasks };
 }
 
 /// Where a process stands.
@@ -184,7 +185,7 @@ fn mode_of(shared: &Shared, tasks: &Map<Task<UserState>>, pid: u32) -> Option<Mo
     ensures { result ≡ task_mode_of (maps.get shared.now.entries pid) (at Gone tasks.now pid) }
 {
     match tasks.get(pid) {
-        Some(Task::Alive { stage, .. }) => Some(mode_of_stage(stage)),
+        Some(Task::Alive { stage, .. }) => Some(stage.mode()),
         Some(Task::Dying { .. }) => Some(Mode::Dying),
         Some(Task::Gone) | None => mode_of_gone(shared, pid),
     }
@@ -257,13 +258,13 @@ impl Kernel {
           failed = false;
         } }
     {
-        let mut sleepers = Sleepers::new(alloc);
-        sleepers.wake(1);
+        let mut run_queue = RunQueue::new(alloc);
+        run_queue.wake(1);
         Kernel {
             alloc,
             shared,
             tasks,
-            sleepers,
+            run_queue,
             child: 2,
             log: Vec::new(alloc),
             occurrences: Occurrences::new(alloc),
@@ -320,10 +321,10 @@ impl Kernel {
             may_rest,
         } = transition;
         let deed = done.deed();
-        self.sleepers.welcome(&done, self.child);
+        self.run_queue.welcome(&done, self.child);
         place_child(&mut self.tasks, &mut self.child, done)?;
-        self.sleepers.rouse(&self.shared, &self.tasks, pid, roused);
-        self.sleepers.pass(
+        self.run_queue.rouse(&self.shared, &self.tasks, pid, roused);
+        self.run_queue.pass(
             &self.shared,
             &self.tasks,
             pid,
@@ -372,10 +373,10 @@ impl Kernel {
     pub fn next_able(&self, after: u32) -> Option<u32>
         ensures { IsNextOf self.now after result }
     {
-        if self.failed || !self.sleepers.known {
+        if self.failed || !self.run_queue.known {
             next_in_cycle(&self.shared, &self.tasks, &self.tasks, after)
         } else {
-            next_in_cycle(&self.shared, &self.tasks, &self.sleepers.awake, after)
+            next_in_cycle(&self.shared, &self.tasks, &self.run_queue.awake, after)
         }
     }
 
@@ -429,21 +430,37 @@ impl Kernel {
         tracing::set_regs(&mut self.tasks, pid, registers)
     }
 
+    fn set_stage(&mut self, pid: u32, change: Change) -> bool
+        ensures part { self.new ≡ with_part self.old pid (with_change change (task_in self.old pid)) }
+        ensures there { result ≡ is_some (with_change change (task_in self.old pid)) }
+    {
+        tracing::set_stage(&mut self.tasks, pid, change)
+    }
+
     /// Sets the signal that the next turn joins to the call that the process has entered: false, and nothing is
     /// changed, where it stands elsewhere.
     pub fn join(&mut self, pid: u32, signal: Option<Signal>) -> bool
-        ensures part { self.new ≡ with_part self.old pid (with_joined signal (task_in self.old pid)) }
-        ensures there { result ≡ is_some (with_joined signal (task_in self.old pid)) }
+        ensures part { self.new ≡ with_part self.old pid (with_change (Change.Join signal) (task_in self.old pid)) }
+        ensures there { result ≡ is_some (with_change (Change.Join signal) (task_in self.old pid)) }
     {
-        tracing::join(&mut self.tasks, pid, signal)
+        self.set_stage(pid, Change::Join { signal })
     }
 
     /// Drops the signal that the process has taken: false, and nothing is changed, where it stands elsewhere.
     pub fn skip(&mut self, pid: u32) -> bool
-        ensures part { self.new ≡ with_part self.old pid (with_dropped (task_in self.old pid)) }
-        ensures there { result ≡ is_some (with_dropped (task_in self.old pid)) }
+        ensures part { self.new ≡ with_part self.old pid (with_change Change.Skip (task_in self.old pid)) }
+        ensures there { result ≡ is_some (with_change Change.Skip (task_in self.old pid)) }
     {
-        tracing::skip(&mut self.tasks, pid)
+        self.set_stage(pid, Change::Skip)
+    }
+
+    /// Sets from where the process goes on by PTRACE_SYSCALL with this signal's number, 0 for none: false, and nothing
+    /// is changed, where that is EIO.
+    pub fn resume(&mut self, pid: u32, number: u32) -> bool
+        ensures part { self.new ≡ with_part self.old pid (with_change (Change.Resume number) (task_in self.old pid)) }
+        ensures there { result ≡ is_some (with_change (Change.Resume number) (task_in self.old pid)) }
+    {
+        self.set_stage(pid, Change::Resume { number })
     }
 
     /// What was logged so far.

@@ -6,9 +6,9 @@ mod first;
 pub mod kernel;
 pub mod laws;
 mod outcome;
+mod run_queue;
 mod scheduling;
-mod sleepers;
-mod tracing;
+pub mod tracing;
 
 pub use kernel::{Failed, Kernel, Moved};
 pub use lx_abi::Boot;

@@ -3,8 +3,8 @@
 ghost use Rattle.std.specs.Prelude.{◌≡◌, IfOk, is_some};
 ghost use Rattle.lx_model.specs.Finite.{at};
 ghost use Rattle.lx_model.specs.declared.stage.Task.TheVariants.{Gone};
-ghost use Rattle.lx_kernel.specs.Tracing.{regs_of, peek_of, signal_of, with_regs, with_joined};
-ghost use Rattle.lx_kernel.specs.Tracing.{with_dropped, with_part_at, IsPart, joining, dropping};
+ghost use Rattle.lx_kernel.specs.Tracing.{regs_of, peek_of, signal_of, with_regs, with_change};
+ghost use Rattle.lx_kernel.specs.Tracing.{with_part_at, IsPart, changed};
 
 use containers::{Bytes, Map};
 use lx_abi::{Cause, RegisterSet, Registers, Signal};
@@ -52,13 +52,8 @@ pub fn signal(tasks: &Map<Task<UserState>>, pid: u32) -> Option<(Signal, Cause)>
     ensures { result ≡ signal_of (at Gone tasks.now pid) }
 {
     match tasks.get(pid) {
-        Some(
-            Task::Alive {
-                stage: Stage::Taken { signal, cause },
-                ..
-            },
-        ) => Some((*signal, *cause)),
-        _ => None,
+        Some(Task::Alive { stage, .. }) => stage.info(),
+        Some(Task::Dying { .. } | Task::Gone) | None => None,
     }
 }
 
@@ -85,24 +80,37 @@ pub fn set_regs(tasks: &mut Map<Task<UserState>>, pid: u32, registers: &Register
     }
 }
 
-/// The stage with another signal to be joined.
-fn join_stage(stage: Stage, signal: Option<Signal>) -> Option<Stage>
-    ensures { result ≡ joining signal stage }
+/// How a tracer changes where a process stands.
+#[derive(Clone, Copy, Debug, PartialEq, Eq)]
+pub enum Change {
+    /// Another signal is joined to a call that was entered.
+    Join { signal: Option<Signal> },
+    /// A signal that was taken is dropped.
+    Skip,
+    /// PTRACE_SYSCALL with this signal's number, 0 for none.
+    Resume { number: u32 },
+}
+
+/// The stage so changed; none where it can't be.
+fn change_stage(stage: Stage, change: Change) -> Option<Stage>
+    ensures { result ≡ changed change stage }
 {
-    match stage {
-        Stage::Entered { .. } => Some(Stage::Entered { joined: signal }),
+    match (change, stage) {
+        (Change::Join { signal }, Stage::Entered { .. }) => Some(Stage::Entered { joined: signal }),
+        (Change::Skip, Stage::Taken { .. }) => Some(Stage::Dropped),
+        (Change::Resume { number }, _) => stage.resume(number),
         _ => None,
     }
 }
 
-fn join_task(task: &mut Task<UserState>, signal: Option<Signal>) -> bool
-    ensures { IsPart (with_joined signal task.old) task.old task.new result }
+fn change_task(task: &mut Task<UserState>, change: Change) -> bool
+    ensures { IsPart (with_change change task.old) task.old task.new result }
 {
     match task {
-        Task::Alive { stage, .. } => match join_stage(*stage, signal) {
+        Task::Alive { stage, .. } => match change_stage(*stage, change) {
             None => false,
-            Some(joined) => {
-                *stage = joined;
+            Some(changed) => {
+                *stage = changed;
                 true
             }
         },
@@ -110,49 +118,13 @@ fn join_task(task: &mut Task<UserState>, signal: Option<Signal>) -> bool
     }
 }
 
-/// Sets the signal that is joined to the call that a process is at.
-pub fn join(tasks: &mut Map<Task<UserState>>, pid: u32, signal: Option<Signal>) -> bool
-    ensures part { tasks.new ≡ with_part_at tasks.old pid (with_joined signal (at Gone tasks.old pid)) }
-    ensures there { result ≡ is_some (with_joined signal (at Gone tasks.old pid)) }
+/// Changes where a process stands that lives: false, and nothing is changed, where it can't be so.
+pub fn set_stage(tasks: &mut Map<Task<UserState>>, pid: u32, change: Change) -> bool
+    ensures part { tasks.new ≡ with_part_at tasks.old pid (with_change change (at Gone tasks.old pid)) }
+    ensures there { result ≡ is_some (with_change change (at Gone tasks.old pid)) }
 {
     match tasks.get_mut(pid) {
         None => false,
-        Some(task) => join_task(task, signal),
-    }
-}
-
-/// The stage without the signal that was taken.
-fn drop_stage(stage: Stage) -> Option<Stage>
-    ensures { result ≡ dropping stage }
-{
-    match stage {
-        Stage::Taken { .. } => Some(Stage::Dropped),
-        _ => None,
-    }
-}
-
-fn skip_task(task: &mut Task<UserState>) -> bool
-    ensures { IsPart (with_dropped task.old) task.old task.new result }
-{
-    match task {
-        Task::Alive { stage, .. } => match drop_stage(*stage) {
-            None => false,
-            Some(dropped) => {
-                *stage = dropped;
-                true
-            }
-        },
-        Task::Dying { .. } | Task::Gone => false,
-    }
-}
-
-/// Drops the signal that a process has taken.
-pub fn skip(tasks: &mut Map<Task<UserState>>, pid: u32) -> bool
-    ensures part { tasks.new ≡ with_part_at tasks.old pid (with_dropped (at Gone tasks.old pid)) }
-    ensures there { result ≡ is_some (with_dropped (at Gone tasks.old pid)) }
-{
-    match tasks.get_mut(pid) {
-        None => false,
-        Some(task) => skip_task(task),
+        Some(task) => change_task(task, change),
     }
 }

@@ -51,5 +51,6 @@ abbrev pub ChoicesAreByOccurrence : Type 0 → Type 0 → Type 0
 ChoicesAreByOccurrence S B = (m : Machine S B) (script : Script) (follow : Bool) (k : Kernel S B) (p : ℕ) (b : B)
     (stage : Stage) → k.tasks p ≡ Alive b stage →
     turn_of m script follow k p
-    ≡ turn m (cond (traces follow p) (script (a7_of (m.regs b)) (entries p (a7_of (m.regs b)) (items_of k.log))) no_choice)
+    ≡ turn m
+    (cond (traces follow p) (script (a7_of (m.regs b)) (entries p (a7_of (m.regs b)) (items_of k.log))) no_choice)
     k.shared k.child p (Alive b stage)

@@ -2,7 +2,7 @@
 //! at its end is dropped by name, which is proved in a second where it takes half a minute otherwise.
 
 use crate::boots::boot;
-use lx_abi::{Boot, Cause, Item, Mode, Outcome, Script, Signal};
+use lx_abi::{Boot, Cause, Mode, Outcome, Script, Signal};
 use lx_boot::BootFault;
 use lx_kernel::Kernel;
 use std::alloc::{AllocError, Global};
@@ -72,10 +72,6 @@ pub(crate) fn next_able(kernel: &Kernel, pid: u32) -> Option<u32> {
 /// The pid that the next child gets.
 pub(crate) fn next_pid(kernel: &Kernel) -> u32 {
     kernel.next_pid()
-}
-
-pub(crate) fn logged(kernel: &Kernel, place: usize) -> Option<Item> {
-    kernel.log().get(place).copied()
 }
 
 /// How many items were logged.

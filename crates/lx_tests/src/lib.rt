@@ -10,8 +10,6 @@ mod kernels;
 #[cfg(test)]
 mod limits;
 #[cfg(test)]
-mod long_lists;
-#[cfg(test)]
 mod tracing;
 #[cfg(test)]
 mod turns;

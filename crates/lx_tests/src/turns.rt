@@ -1,7 +1,7 @@
 //! Turns of a boot without files: execve fails, and the first program exits with 127.
 
-use crate::kernels::{after, is_able, length, logged, mode, outcome, run};
-use lx_abi::{Ended, Item, Mode, Outcome};
+use crate::kernels::{after, is_able, length, mode, outcome, run};
+use lx_abi::{Ended, Mode, Outcome};
 use lx_kernel::Kernel;
 use std::alloc::{AllocError, Global};
 use std::test::Fail;
@@ -50,20 +50,6 @@ fn modes_of_a_run(rt: HostRuntime) -> Result<(), Fail> {
     Ok(())
 }
 
-/// The last item of the log, and how many bytes the console has.
-fn left_in(kernel: &Kernel) -> (Option<Item>, usize) {
-    let last = length(kernel).saturating_sub(1);
-    (logged(kernel, last), kernel.console().len())
-}
-
-/// The same after a whole run.
-fn left(alloc: Global) -> Result<(Option<Item>, usize), AllocError> {
-    let kernel = after(alloc, 12)?;
-    let left = left_in(&kernel);
-    drop(kernel);
-    Ok(left)
-}
-
 /// The first process that has ended, with its word.
 fn first_of(ended: &[Ended]) -> Option<(u32, u32)> {
     let first = ended.first()?;
@@ -82,17 +68,6 @@ fn ended(alloc: Global, turns: u32) -> Result<(usize, usize, Option<(u32, u32)>)
     let outcome = outcome(&kernel);
     drop(kernel);
     Ok(ends_of(&outcome?))
-}
-
-#[test]
-fn what_is_left_of_a_run(rt: HostRuntime) -> Result<(), Fail> {
-    let last = Item::Exit {
-        pid: 1,
-        word: 127 * 256,
-        left: Mode::Doing,
-    };
-    assert_eq!(rt; left(rt.alloc())?, (Some(last), 0));
-    Ok(())
 }
 
 /// The word is there with the Exit in the log, and stays once process 1, who has no parent, has left the table.

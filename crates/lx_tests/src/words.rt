@@ -1,4 +1,4 @@
-//! Words of schedules.
+//! Words of schedules. Those that are refused stand in guests/runs.
 
 use lx_abi::{ScheduleFault, Word, parse_words};
 use std::test::Fail;
@@ -57,63 +57,7 @@ fn taken(rt: HostRuntime) -> Result<(), Fail> {
         let words = parse_words(rt.alloc(), text)?;
         assert_eq!(rt; words.as_slice(), wanted, "{text:?}");
     }
-    Ok(())
-}
-
-#[test]
-fn refused(rt: HostRuntime) {
-    for text in [
-        "x",
-        "1x",
-        "x1",
-        "+1",
-        "1..",
-        ".1",
-        ".",
-        "-",
-        "-s",
-        "-.",
-        "-1.",
-        "--1",
-        "1-",
-        "- 1",
-        "1 .",
-        "S",
-        "ss",
-        "s.",
-        "1,2",
-        "0x1",
-        "00000000001",
-        "4294967296",
-        "9999999999",
-        "-4294967296",
-        "00000000001.",
-        "1 2 x 3",
-        "\u{661}",
-        "\u{ff11}",
-        "1\u{200b}2",
-        "\u{feff}1",
-    ] {
-        let fault = parse_words(rt.alloc(), text).err();
-        assert_eq!(rt; fault, Some(ScheduleFault::BadWord), "{text:?}");
-    }
     assert_eq!(rt; ScheduleFault::BadWord.number(), 1);
     assert_eq!(rt; ScheduleFault::Memory.number(), 2);
-}
-
-/// Each character is looked at once.
-#[test]
-fn long(rt: HostRuntime) -> Result<(), Fail> {
-    let mut text = String::new(rt.alloc());
-    for _ in 0..200_000 {
-        text.push_str("-12 ")?;
-    }
-    assert_eq!(rt; parse_words(rt.alloc(), text.as_str())?.len(), 200_000);
-    let mut digits = String::new(rt.alloc());
-    for _ in 0..400_000 {
-        digits.push('1')?;
-    }
-    let fault = parse_words(rt.alloc(), digits.as_str()).err();
-    assert_eq!(rt; fault, Some(ScheduleFault::BadWord));
     Ok(())
 }

@@ -15,7 +15,8 @@ use Rattle.lx_turn.specs.Reactions.{is_killed}
 
 -- the call would wait, and nothing interrupts it
 unfoldable pub would_block : Shared → ℕ → Call → UserState → Bool
-would_block s p call b = (file_would_block s p call b || process_would_block s p call) && not (is_interrupted (maps.get s.entries p))
+would_block s p call b =
+    (file_would_block s p call b || process_would_block s p call) && not (is_interrupted (maps.get s.entries p))
 
 -- a process at this stage does nothing but wait
 abbrev pub waits : Shared → ℕ → UserState → Stage → Bool

@@ -14,5 +14,4 @@ pub use blocking::{can_turn, rests};
 pub use effects::Effect;
 pub use injection::Injection;
 pub use signals::is_killed;
-pub use stages::mode_of_stage;
 pub use turning::{Transition, mode_of_gone, turn_task};

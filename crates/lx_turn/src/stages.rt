@@ -3,7 +3,7 @@
 ghost use Rattle.std.specs.Prelude.{◌≡◌, IfOk, OnOk, OnErr, None, false};
 ghost use Rattle.rv_hart.specs.Faults.{signal_number};
 ghost use Rattle.std.specs.FinMap as maps;
-ghost use Rattle.lx_model.specs.Turn.{stage_mode, joins, chosen, stepped, answered, took, lives, result_word};
+ghost use Rattle.lx_model.specs.Turn.{joins, chosen, stepped, answered, took, lives, result_word};
 ghost use Rattle.lx_model.specs.Machine.{call_of, with_result};
 ghost use Rattle.lx_pcalls.specs.Taking.{takes};
 ghost use Rattle.lx_turn.specs.Linux.{linux};
@@ -19,7 +19,7 @@ use crate::calls::does;
 use crate::effects::Effect;
 use crate::injection::Injection;
 use crate::signals;
-use lx_abi::{Call, Cause, Choice, Item, Mode, Signal};
+use lx_abi::{Call, Cause, Choice, Item, Signal};
 use lx_model::Stage;
 use lx_pcalls::{Reacted, take};
 use lx_proc::{CallReply, Shared, UserState, a0, call, make_again, return_from_call};
@@ -33,22 +33,6 @@ pub enum Went {
     On(Effect),
     /// It ends with this wait word; what is shared is unchanged.
     Ended { word: u32 },
-}
-
-/// Where a stage stands.
-pub fn mode_of_stage(stage: &Stage) -> Mode
-    ensures { result ≡ stage_mode stage.now }
-{
-    match stage {
-        Stage::Born => Mode::Born,
-        Stage::Run => Mode::Run,
-        Stage::Faulting { .. } => Mode::Faulting,
-        Stage::Entered { .. } => Mode::Entered,
-        Stage::Doing { .. } | Stage::Replaced { .. } => Mode::Doing,
-        Stage::Acted { .. } => Mode::Acted,
-        Stage::Finished => Mode::Finished,
-        Stage::Taken { .. } | Stage::Dropped => Mode::Taken,
-    }
 }
 
 /// The signal of a fault.

@@ -14,7 +14,7 @@ use crate::blocking::is_calm;
 use crate::effects::Effect;
 use crate::injection::Injection;
 use crate::signals::is_killed;
-use crate::stages::{Went, go, mode_of_stage};
+use crate::stages::{Went, go};
 use lx_abi::{Item, Mode};
 use lx_model::{Stage, Task};
 use lx_pcalls::{die, release_task};
@@ -154,12 +154,12 @@ pub fn turn_task(
             Ok(Transition::of_gone(Some(Mode::Dying), mode_of_gone(shared, pid), parent))
         }
         Task::Alive { user, stage } => {
-            let left = mode_of_stage(stage);
+            let left = stage.mode();
             let calm = is_calm(*stage);
             match turn_alive(alloc, shared, injection, child, pid, user, stage, item)? {
                 Went::On(done) => Ok(Transition {
                     before: Some(left),
-                    after: Some(mode_of_stage(stage)),
+                    after: Some(stage.mode()),
                     done,
                     gone: false,
                     calm,

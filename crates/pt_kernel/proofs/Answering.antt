@@ -1,36 +1,34 @@
 -- What an answer leaves of a process and of its tracer's part.
 use Rattle.std.proofs.Common.{◌≡◌, ℕ, Bool, true, false, cond, List, Option, Some, None, refl, sym, ap, subst, ◌∙◌, unwrap_or}
-use Rattle.std.specs.Prelude.{◌==◌, ◌||◌}
+use Rattle.std.specs.Prelude.{is_some}
+use Rattle.std.specs.Option.{option_map}
 use Rattle.std.specs.Ordering.{nat_cmp}
 use Rattle.std.specs.FinMap as maps
-use Rattle.lx_abi.specs.declared.log.Cause.{Cause}
 use Rattle.lx_abi.specs.declared.ptrace.Ask.{Ask}
 use Rattle.lx_abi.specs.declared.ptrace.Ask.TheVariants.{Seize, SetOptions, GetRegs, SetRegs, Peek, Syscall, EventMsg, SigInfo}
 use Rattle.lx_abi.specs.declared.ptrace.Reply.{Reply}
 use Rattle.lx_abi.specs.declared.ptrace.Reply.TheVariants.{Done as Agreed}
 use Rattle.lx_abi.specs.declared.ptrace.Request.{Request}
-use Rattle.lx_abi.specs.declared.signal.Signal.{Signal}
-use Rattle.lx_abi.specs.Signals.{may_join, signal_numbered}
 use Rattle.lx_model.specs.declared.stage.Stage.{Stage}
-use Rattle.lx_model.specs.declared.stage.Stage.TheVariants.{Born, Run, Faulting, Entered, Doing, Replaced, Acted, Finished, Taken, Dropped}
 use Rattle.lx_model.specs.declared.stage.Task.{Task}
 use Rattle.lx_model.specs.declared.stage.Task.TheVariants.{Alive, Dying, Gone}
-use Rattle.lx_model.specs.Turn.{stage_mode}
 use Rattle.lx_model.specs.Finite.{at, placed, with_task}
+use Rattle.lx_model.specs.Rows.{row}
 use Rattle.lx_proc.specs.declared.state.Shared.{Shared}
 use Rattle.lx_proc.specs.declared.state.UserState.{UserState}
 use Rattle.lx_turn.specs.Linux.{linux}
 use Rattle.lx_kernel.specs.Runs.{Run as KernelRun}
-use Rattle.lx_kernel.specs.Tracing.{task_in, signal_at}
+use Rattle.lx_kernel.specs.Tracing.{task_in, with_change, with_part}
+use Rattle.lx_kernel.specs.declared.tracing.Change.TheVariants.{Resume}
 use Rattle.lx_turn.proofs.Placed.{put_same}
 use Rattle.lx_kernel.proofs.Placing.{remove_absent}
 use Rattle.pt_model.specs.declared.ptrace.Watch.{Watch}
 use Rattle.pt_model.specs.declared.ptrace.Traced.{Traced}
 use Rattle.pt_model.specs.Ptrace.{Proc, watch_of}
-use Rattle.pt_model.specs.Requests.{esrch, eio, Answered, says, let_go, plainly as goes_plainly, resumed, stopped, seize, unseized}
+use Rattle.pt_model.specs.Requests.{esrch, eio, Answered, says, goes_from, stopped, seize, unseized}
 use Rattle.pt_model.specs.Hosting.{Hosted, as_proc, untraced, with_answer, hosting_to}
 use Rattle.pt_kernel.specs.declared.tracees.Tracees.{Tracees}
-use Rattle.pt_kernel.specs.Stops.{is_alive, is_entered, plainly, resumption, seize_options}
+use Rattle.pt_kernel.specs.Stops.{is_alive, seize_options}
 use Rattle.pt_kernel.specs.Hosts.{Linux_host, hosting_by, made, IsSwept, with_user, with_tracee, IsAnswer, GoesOn}
 
 -- What stands already
@@ -88,69 +86,35 @@ module _ (k : KernelRun) (x : Tracees) (p : ℕ) (t : Traced) (known : maps.get 
 
   -- Syscall
 
-  abbrev by_resumption : UserState → Stage → Option Stage → Answered UserState
-  by_resumption b stage None = says (as_proc (Alive b stage) t) eio
-  by_resumption b stage (Some s) = let_go (as_proc (Alive b stage) t) b s
-
-  by_test : (b : UserState) (stage s : Stage) (c : Bool) → cond c (let_go (as_proc (Alive b stage) t) b s) (says (as_proc (Alive b stage) t) eio) ≡ by_resumption b stage (cond c (Some s) None)
-  by_test b stage s true = refl
-  by_test b stage s false = refl
-
-  by_signal : (b : UserState) (signal : Signal) (cause : Cause) (n : ℕ) (c : Bool) →
-      cond c (let_go (as_proc (Alive b (Taken signal cause)) t) b (Taken signal cause)) (goes_plainly (as_proc (Alive b (Taken signal cause)) t) b Dropped n)
-      ≡ by_resumption b (Taken signal cause) (cond c (Some (Taken signal cause)) (plainly Dropped n))
-  by_signal b signal cause n true = refl
-  by_signal b signal cause n false = by_test b (Taken signal cause) Dropped (n == 0)
-
-  resumed_by : (b : UserState) (stage : Stage) (n : ℕ) → resumed (as_proc (Alive b stage) t) b stage n ≡ by_resumption b stage (resumption stage n)
-  resumed_by b Born n = by_test b Born Born (n == 0)
-  resumed_by b Run n = by_test b Run Run (n == 0)
-  resumed_by b (Faulting signal cause) n = by_test b (Faulting signal cause) (Faulting signal cause) (n == 0)
-  resumed_by b (Entered joined) n = by_test b (Entered joined) (Entered (signal_numbered n)) ((n == 0) || may_join n)
-  resumed_by b (Doing call) n = by_test b (Doing call) (Doing call) (n == 0)
-  resumed_by b (Replaced call r) n = by_test b (Replaced call r) (Replaced call r) (n == 0)
-  resumed_by b (Acted call r replaced) n = by_test b (Acted call r replaced) (Acted call r replaced) (n == 0)
-  resumed_by b Finished n = by_test b Finished Finished (n == 0)
-  resumed_by b (Taken signal cause) n = by_signal b signal cause n (signal.number == n)
-  resumed_by b Dropped n = by_test b Dropped Dropped (n == 0)
-
-  refused_by : (b : UserState) (stage : Stage) → task_in k p ≡ Alive b stage → (y : Option Stage) (goes : Bool) (k' : KernelRun) → GoesOn k p b y goes k' → goes ≡ false → IsAnswer k x p t.message (by_resumption b stage y) eio k' x
+  refused_by : (b : UserState) (stage : Stage) → task_in k p ≡ Alive b stage → (y : Option Stage) (goes : Bool) (k' : KernelRun) → GoesOn k p b y goes k' → goes ≡ false → IsAnswer k x p t.message (goes_from (as_proc (Alive b stage) t) b y) eio k' x
   refused_by b stage e None goes k' g h = subst (λ l. IsAnswer k x p t.message (says (as_proc (Alive b stage) t) eio) eio l x) (sym g.1) (answer_reads b stage e (says (as_proc (Alive b stage) t) eio) eio refl)
   refused_by b stage e (Some s) goes k' g h = absurd (cc (g.0, h))
 
-  pub syscall_refused : (b : UserState) (stage : Stage) (n : ℕ) → task_in k p ≡ Alive b stage → (goes : Bool) (k' : KernelRun) (r : Reply) → GoesOn k p b (resumption stage n) goes k' → goes ≡ false → r ≡ eio → IsAnswer k x p t.message (resumed (as_proc (Alive b stage) t) b stage n) r k' x
-  syscall_refused b stage n e goes k' r g h reply = subst (λ q. IsAnswer k x p t.message (resumed (as_proc (Alive b stage) t) b stage n) q k' x) (sym reply)
-      (subst (λ c. IsAnswer k x p t.message c eio k' x) (sym (resumed_by b stage n)) (refused_by b stage e (resumption stage n) goes k' g h))
+  pub syscall_refused : (b : UserState) (stage : Stage) (n : ℕ) → task_in k p ≡ Alive b stage → (goes : Bool) (k' : KernelRun) (r : Reply) → GoesOn k p b ((row stage).resume n) goes k' → goes ≡ false → r ≡ eio → IsAnswer k x p t.message (goes_from (as_proc (Alive b stage) t) b ((row stage).resume n)) r k' x
+  syscall_refused b stage n e goes k' r g h reply = subst (λ q. IsAnswer k x p t.message (goes_from (as_proc (Alive b stage) t) b ((row stage).resume n)) q k' x) (sym reply)
+      (refused_by b stage e ((row stage).resume n) goes k' g h)
 
   released_by : (b : UserState) (stage : Stage) (y : Option Stage) (goes : Bool) (k' : KernelRun) (x' : Tracees) → GoesOn k p b y goes k' → goes ≡ true →
-      x' ≡ record x { traced = maps.insert x.traced p (record { held = false; watch = t.watch; message = t.message }) } → IsAnswer k x p t.message (by_resumption b stage y) Agreed k' x'
+      x' ≡ record x { traced = maps.insert x.traced p (record { held = false; watch = t.watch; message = t.message }) } → IsAnswer k x p t.message (goes_from (as_proc (Alive b stage) t) b y) Agreed k' x'
   released_by b stage None goes k' x' g h f = absurd (cc (g.0, h))
   released_by b stage (Some s) goes k' x' g h f = record { kernel = g.1; tracees = f; reply = refl }
 
-  pub syscall_done : (b : UserState) (stage : Stage) (n : ℕ) (goes : Bool) (k' : KernelRun) (x' : Tracees) → GoesOn k p b (resumption stage n) goes k' → goes ≡ true →
-      x' ≡ record x { traced = maps.insert x.traced p (record { held = false; watch = t.watch; message = t.message }) } → IsAnswer k x p t.message (resumed (as_proc (Alive b stage) t) b stage n) Agreed k' x'
-  syscall_done b stage n goes k' x' g h f = subst (λ c. IsAnswer k x p t.message c Agreed k' x') (sym (resumed_by b stage n)) (released_by b stage (resumption stage n) goes k' x' g h f)
+  pub syscall_done : (b : UserState) (stage : Stage) (n : ℕ) (goes : Bool) (k' : KernelRun) (x' : Tracees) → GoesOn k p b ((row stage).resume n) goes k' → goes ≡ true →
+      x' ≡ record x { traced = maps.insert x.traced p (record { held = false; watch = t.watch; message = t.message }) } → IsAnswer k x p t.message (goes_from (as_proc (Alive b stage) t) b ((row stage).resume n)) Agreed k' x'
+  syscall_done b stage n goes k' x' g h f = released_by b stage ((row stage).resume n) goes k' x' g h f
 
 -- Where a process goes on
 
-pub signal_passed : (k : KernelRun) (p : ℕ) (b : UserState) (signal : Signal) (cause : Cause) (n : ℕ) → (signal.number == n) ≡ true → task_in k p ≡ Alive b (Taken signal cause) → GoesOn k p b (resumption (Taken signal cause) n) true k
-signal_passed k p b signal cause n h e = subst (λ c. GoesOn k p b (cond c (Some (Taken signal cause)) (plainly Dropped n)) true k) (sym h) (refl, sym (same_user k p b (Taken signal cause) e))
+goes_to : (k : KernelRun) (p : ℕ) (b : UserState) (to : Option Stage) → GoesOn k p b to (is_some (option_map (λ s. Alive b s) to)) (with_part k p (option_map (λ s. Alive b s) to))
+goes_to k p b None = (refl, refl)
+goes_to k p b (Some stage) = (refl, refl)
 
-goes_plain : (k : KernelRun) (p : ℕ) (b : UserState) (stage : Stage) (c : Bool) → task_in k p ≡ Alive b stage → GoesOn k p b (cond c (Some stage) None) c k
-goes_plain k p b stage true e = (refl, sym (same_user k p b stage e))
-goes_plain k p b stage false e = (refl, refl)
-
-pub goes_elsewhere : (k : KernelRun) (p : ℕ) (b : UserState) (stage : Stage) (n : ℕ) → task_in k p ≡ Alive b stage → is_entered (Some (stage_mode stage)) ≡ false → signal_at stage ≡ None → GoesOn k p b (resumption stage n) (n == 0) k
-goes_elsewhere k p b Born n e h g = goes_plain k p b Born (n == 0) e
-goes_elsewhere k p b Run n e h g = goes_plain k p b Run (n == 0) e
-goes_elsewhere k p b (Faulting signal cause) n e h g = goes_plain k p b (Faulting signal cause) (n == 0) e
-goes_elsewhere k p b (Entered joined) n e h g = absurd (cc h)
-goes_elsewhere k p b (Doing call) n e h g = goes_plain k p b (Doing call) (n == 0) e
-goes_elsewhere k p b (Replaced call r) n e h g = goes_plain k p b (Replaced call r) (n == 0) e
-goes_elsewhere k p b (Acted call r replaced) n e h g = goes_plain k p b (Acted call r replaced) (n == 0) e
-goes_elsewhere k p b Finished n e h g = goes_plain k p b Finished (n == 0) e
-goes_elsewhere k p b (Taken signal cause) n e h g = absurd (cc g)
-goes_elsewhere k p b Dropped n e h g = goes_plain k p b Dropped (n == 0) e
+pub goes_on : (k : KernelRun) (p : ℕ) (b : UserState) (stage : Stage) (n : ℕ) → task_in k p ≡ Alive b stage → (goes : Bool) (k' : KernelRun) →
+    goes ≡ is_some (with_change (Resume n) (task_in k p)) → k' ≡ with_part k p (with_change (Resume n) (task_in k p)) → GoesOn k p b ((row stage).resume n) goes k'
+goes_on k p b stage n e goes k' there part =
+    subst (λ c. GoesOn k p b ((row stage).resume n) c k') (sym (there ∙ ap (λ task. is_some (with_change (Resume n) task)) e))
+    (subst (λ l. GoesOn k p b ((row stage).resume n) (is_some (option_map (λ s. Alive b s) ((row stage).resume n))) l) (sym (part ∙ ap (λ task. with_part k p (with_change (Resume n) task)) e))
+    (goes_to k p b ((row stage).resume n)))
 
 -- Before Seize
 

@@ -6,10 +6,6 @@ ghost use Rattle.lx_abi.specs.declared.ptrace.Ask.TheVariants as Asks;
 ghost use Rattle.lx_model.specs.Finite.{at};
 ghost use Rattle.lx_model.specs.declared.stage.Stage.{Stage};
 ghost use Rattle.lx_model.specs.declared.stage.Task.TheVariants as Tasks;
-ghost use Rattle.lx_model.specs.declared.stage.Stage.TheVariants as Stages;
-ghost use Rattle.lx_abi.specs.declared.signal.Signal.{Signal};
-ghost use Rattle.lx_abi.specs.Signals.{may_join};
-ghost use Rattle.lx_abi.specs.declared.log.Cause.{Cause};
 ghost use Rattle.lx_abi.specs.declared.ptrace.Request.{Request};
 ghost use Rattle.lx_kernel.specs.Runs.{Run as KernelRun};
 ghost use Rattle.lx_turn.specs.Linux.{linux};
@@ -18,10 +14,10 @@ ghost use Rattle.lx_kernel.specs.Tracing.{task_in};
 ghost use Rattle.pt_model.specs.Ptrace.{watch_of};
 ghost use Rattle.pt_model.specs.Requests.{seize as seize_by, info_of, info_at, code_of, sender_of, status_of, address_of, may_peek, peeked, unseized};
 ghost use Rattle.pt_model.specs.Hosting.{as_proc, untraced, hosting_to};
-ghost use Rattle.pt_kernel.specs.Stops.{resumption, seize_options};
-ghost use Rattle.pt_kernel.specs.Hosts.{hosting_by, made, IsSwept, IsAnswer, Answers, GoesOn};
+ghost use Rattle.pt_kernel.specs.Stops.{seize_options};
+ghost use Rattle.pt_kernel.specs.Hosts.{hosting_by, made, IsSwept, IsAnswer, Answers};
 
-use crate::stops::{is_alive, is_entered};
+use crate::stops::is_alive;
 use crate::tracees::Tracees;
 use containers::Bytes;
 use lx_abi::{Ask, Cause, Info, Reply, Signal};
@@ -80,13 +76,6 @@ fn info_of(signal: Signal, cause: Cause) -> Info
     }
 }
 
-/// A signal that kill(2) takes.
-fn may_join(number: u32) -> bool
-    ensures { result ≡ may_join number }
-{
-    0 < number && number < 32 && !(18 <= number && number <= 22)
-}
-
 fn get_regs(kernel: &Kernel, pid: u32) -> Result<Reply, AllocError>
     ensures { IfOk result
         (λ r. (b : UserState) (stage : Stage) → task_in kernel.now pid ≡ Tasks.Alive b stage
@@ -133,45 +122,6 @@ fn sig_info(kernel: &Kernel, pid: u32) -> Reply
     }
 }
 
-/// A tracee at the entry of a call goes on, with a signal joined to it.
-fn resume_call(kernel: &mut Kernel, pid: u32, number: u32) -> bool
-    ensures { (b : UserState) (joined : Option Signal) → task_in kernel.old pid ≡ Tasks.Alive b (Stages.Entered joined)
-        → GoesOn kernel.old pid b (resumption (Stages.Entered joined) number) result kernel.new }
-{
-    if number != 0 && !may_join(number) {
-        return false;
-    }
-    kernel.join(pid, Signal::from_number(u64::from(number)))
-}
-
-/// A tracee at a signal that it has taken goes on, with the signal or without it.
-fn resume_signal(kernel: &mut Kernel, pid: u32, taken: Signal, number: u32) -> bool
-    ensures { (b : UserState) (cause : Cause) → task_in kernel.old pid ≡ Tasks.Alive b (Stages.Taken taken cause)
-        → GoesOn kernel.old pid b (resumption (Stages.Taken taken cause) number) result kernel.new }
-{
-    if u32::from(taken.number) == number {
-        return true;
-    }
-    if number != 0 {
-        return false;
-    }
-    kernel.skip(pid)
-}
-
-/// A tracee goes on; false, and nothing is changed, where the signal's number is refused.
-fn resume(kernel: &mut Kernel, pid: u32, number: u32) -> bool
-    ensures { (b : UserState) (stage : Stage) → task_in kernel.old pid ≡ Tasks.Alive b stage
-        → GoesOn kernel.old pid b (resumption stage number) result kernel.new }
-{
-    if is_entered(kernel.mode(pid)) {
-        return resume_call(kernel, pid, number);
-    }
-    match kernel.siginfo(pid) {
-        Some((taken, _)) => resume_signal(kernel, pid, taken, number),
-        None => number == 0,
-    }
-}
-
 fn syscall(
     kernel: &mut Kernel,
     tracees: &mut Tracees,
@@ -183,7 +133,7 @@ fn syscall(
     ensures { IfOk result
         (λ r. Answers kernel.old tracees.old pid traced (Asks.Syscall signal) r kernel.new tracees.new) }
 {
-    if !resume(kernel, pid, signal) {
+    if !kernel.resume(pid, signal) {
         return Ok(refusal(EIO));
     }
     let released = Traced {

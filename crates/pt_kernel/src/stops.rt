@@ -5,7 +5,7 @@ ghost use Rattle.lx_turn.specs.Linux.{linux};
 ghost use Rattle.lx_kernel.specs.Tracing.{task_in};
 ghost use Rattle.pt_model.specs.Ptrace.{is_effective};
 ghost use Rattle.pt_model.specs.Hosting.{as_proc, deed_stop, item_stop, mode_stop};
-ghost use Rattle.pt_kernel.specs.Stops.{stop_after, turn_stop, dies_after, is_alive, lives_in, is_entered};
+ghost use Rattle.pt_kernel.specs.Stops.{stop_after, turn_stop, dies_after, is_alive, lives_in};
 
 use lx_abi::{EventStop, Item, Mode, Stop};
 use lx_kernel::Kernel;
@@ -88,13 +88,6 @@ fn lives_in(mode: Option<Mode>) -> bool
         None | Some(Mode::Dying | Mode::Zombie) => false,
         Some(_) => true,
     }
-}
-
-/// At the entry of a call.
-pub fn is_entered(mode: Option<Mode>) -> bool
-    ensures { result ≡ is_entered mode }
-{
-    matches!(mode, Some(Mode::Entered))
 }
 
 /// The process has not ended.

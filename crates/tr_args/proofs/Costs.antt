@@ -41,7 +41,10 @@ can_peek n most e l h = grind (arith, nat_tests)
 
 pub buffer_w : (most address count : ℕ) → most ≤ 4096 → Within 1 (buffer most address count)
 unfolding buffer
-buffer_w most address count h = either 1 (min count most == 0) _ _ (λ e. wider 0 1 _ (omega arith) (buffer_read_w address count 0 [])) (λ e. null_w 1 address _ (reads_within 0 address (min count most) _ (can_peek (min count most) most e (min-le_right count most) h) (buffer_read_w address count (min count most))))
+buffer_w most address count h =
+    null_w 1 address _ (either 1 (min count most == 0) _ _
+    (λ e. wider 0 1 _ (omega arith) (buffer_read_w address count 0 []))
+    (λ e. reads_within 0 address (min count most) _ (can_peek (min count most) most e (min-le_right count most) h) (buffer_read_w address count (min count most))))
 
 item_read_w : (most address : ℕ) (bs : List ℕ) → Within 0 (item_read most address bs)
 unfolding item_read pointer

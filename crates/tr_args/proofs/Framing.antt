@@ -63,7 +63,9 @@ buffer_read_f address count shown bs = either_f (nat_lt (length bs) shown) (poin
 
 buffer_f : (most address count : ℕ) → Framed (buffer most address count)
 unfolding buffer
-buffer_f most address count = either_f (min count most == 0) (buffer_read address count 0 []) _ (buffer_read_f address count 0 []) (null_f address _ (reads_f address (min count most) _ (buffer_read_f address count (min count most))))
+buffer_f most address count =
+    null_f address _ (either_f (min count most == 0) (buffer_read address count 0 []) _ (buffer_read_f address count 0 [])
+    (reads_f address (min count most) _ (buffer_read_f address count (min count most))))
 
 item_read_f : (most address : ℕ) (bs : List ℕ) → Framed (item_read most address bs)
 unfolding item_read

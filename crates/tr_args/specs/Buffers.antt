@@ -12,7 +12,11 @@ buffer_read address count shown bs s =
     else (if nat_lt shown count then cut bs s else quoted bs s)
 
 -- nothing is read where nothing is to be shown
+abbrev pub buffer_at : ℕ → ℕ → ℕ → Sheet → Shown
+buffer_at address count shown s =
+    if shown == 0 then buffer_read address count 0 [] s
+    else reads address shown (buffer_read address count shown) s
+
+-- null is shown as such, even where nothing is to be shown
 unfoldable pub buffer : ℕ → ℕ → ℕ → Sheet → Shown
-buffer most address count s =
-    if min count most == 0 then buffer_read address count 0 [] s
-    else unless_null address (reads address (min count most) (buffer_read address count (min count most))) s
+buffer most address count s = unless_null address (buffer_at address count (min count most)) s

@@ -36,7 +36,7 @@ fn least(count: u64, most: u32) -> u32
     }
 }
 
-/// A buffer of so many bytes, of which the first are shown.
+/// A buffer of so many bytes, of which the first are shown; a null address is `NULL`.
 #[tactic(auto, unfolding(crate::specs::Buffers::buffer))]
 pub(crate) fn buffer(
     sheet: &mut Sheet<'_>,
@@ -46,12 +46,12 @@ pub(crate) fn buffer(
 ) -> Result<(), Needed>
     ensures { Leaves result sheet.new (spec.buffer most address count sheet.old) }
 {
+    if address == 0 {
+        return sheet.put("NULL");
+    }
     let shown = least(count, most);
     if shown == 0 {
         return buffer_read(sheet, address, count, 0, b"");
-    }
-    if address == 0 {
-        return sheet.put("NULL");
     }
     let bytes = sheet.read(address, shown)?;
     buffer_read(sheet, address, count, shown, bytes)

@@ -4,7 +4,8 @@ ghost use Rattle.std.specs.Prelude.{◌≡◌, ◌≤◌, length, map, IfOk, OnO
 ghost use Rattle.tr_args.specs.Lists as spec;
 ghost use Rattle.tr_values.specs.Numbers.{pointer_text};
 ghost use Rattle.tr_values.specs.Sheets.{Leaves, put};
-ghost use Rattle.tr_args.specs.Progress.{Takes, Goes, Begins, Finds, item_shown, items_left, end_text, list_shown, list_left, opened};
+ghost use Rattle.tr_args.specs.Progress.{Takes, Goes, Begins, Finds, item_shown, items_left, end_text, list_shown};
+ghost use Rattle.tr_args.specs.Progress.{list_left, opened};
 
 use containers::Bytes;
 use std::alloc::{AllocError, Global};

@@ -4,7 +4,8 @@
 ghost use Rattle.std.specs.Prelude.{◌≡◌, ◌≤◌, ◌<◌, ◌+◌, ◌^◌, [], None, IfOk, length, string_bytes};
 ghost use Rattle.tr_args.specs.Arguments.{half, wish_of};
 ghost use Rattle.tr_values.specs.Sheets.{Leaves, put};
-ghost use Rattle.tr_args.specs.Progress.{Goes, Starts, Makes, IsMade, behind, is_left, is_wanted, kinds_of, row_left, stage_left};
+ghost use Rattle.tr_args.specs.Progress.{Goes, Starts, Makes, IsMade, behind, is_left, is_wanted, kinds_of};
+ghost use Rattle.tr_args.specs.Progress.{row_left, stage_left};
 
 use crate::arguments::{are_both, format_of, place};
 use crate::context::Context;

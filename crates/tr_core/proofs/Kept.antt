@@ -37,7 +37,7 @@ put_in m old new pid t k others e = fun_ext (λ q. ap (λ x. known_of x (counts_
 pub record Keeps (pid : ℕ) (t : Tracee) (next : Option Awaiting) (old mid new : Core) : Type 0 where
   pub known : new.known ≡ maps.insert old.known pid t
   pub focus : focus_of new.focus ≡ focus_on pid (option_map place_of next)
-  pub rest : (new.settings ≡ mid.settings) × (new.counts ≡ mid.counts) × (new.living ≡ mid.living) × (new.printer ≡ mid.printer) × (new.taken ≡ mid.taken)
+  pub rest : (new.settings ≡ mid.settings) × (new.counts ≡ mid.counts) × (new.living ≡ mid.living) × (new.printer ≡ mid.printer)
 
 pub kept : (h : Heard) (pid : ℕ) (t : Tracee) (next : Option Awaiting) (bytes : List ℕ) (counts : Occurrences) (pen : Pen) (living : List ℕ) (old new : Core)
     → Comes h (known_of t (counts_at counts pid)) next bytes old.printer pen → LeavesOthers pid old.counts counts
@@ -50,7 +50,6 @@ kept h pid t next bytes counts pen living old new comes others keeps = record {
   text = comes.text;
   pen = keeps.rest.3 ∙ comes.pen;
   settings = keeps.rest.0;
-  taken = keeps.rest.4;
 }
 
 took_stop-is : (o : Options) (known : ℕ → Known) (p : ℕ) (stop : Stop) → took_stop o known p stop ≡ heard known p (stop_heard o p (known p) stop)

@@ -17,7 +17,7 @@ use Rattle.tr_core.specs.Settings.{options_of, script_of}
 use Rattle.tr_core.specs.Known.{known_of, new_tracee, place_of}
 use Rattle.lx_abi.specs.Occurrences.{count_of}
 use Rattle.tr_core.specs.Pens.{wrote, pen_after}
-use Rattle.tr_core.specs.States.{moved, said, heard, is_faulted, is_faulted_at, admitted, act_of, request_of, Hears}
+use Rattle.tr_core.specs.States.{moved, said, heard, is_faulted, is_faulted_at, admitted, act_of, request_of, taken_of, Hears}
 use Rattle.tr_core.specs.Admitted.{told_status, says_childless, says_out, told_outcome, waits_by, serves_by, ends_by, next_by, tracees_by}
 use Rattle.tr_core.specs.Tracers.{Goes, Steps, focus_of, known_in, tracer_in, admits_in, state_in}
 use Rattle.lx_abi.specs.declared.occurrences.Occurrences.{Occurrences}
@@ -67,42 +67,44 @@ fine o script known tracees focus.TurnsOver r e = absurd (cc e)
 fine o script known tracees focus.Faulted r e = absurd (cc e)
 
 -- what a step of the definition is, once the reply is known to be admitted
-took : Core → Reply → Moved
-took c r = record {
+took : ℕ → Core → Reply → Moved
+took taken c r = record {
   tracer = record {
     known = (next_by (options_of c.settings) (script_of c.settings) (known_in c) c.focus r).known;
     tracees = tracees_by c.living c.focus r;
     focus = (next_by (options_of c.settings) (script_of c.settings) (known_in c) c.focus r).focus;
-    taken = suc c.taken;
+    taken = suc taken;
   };
   printed = (next_by (options_of c.settings) (script_of c.settings) (known_in c) c.focus r).printed;
 }
 
-took-is : (c : Core) (r : Reply) → admits_in c r ≡ true → tracer.next (options_of c.settings) (script_of c.settings) (tracer_in c) r ≡ took c r
+took-is : (taken : ℕ) (c : Core) (r : Reply) → admits_in c r ≡ true
+    → tracer.next (options_of c.settings) (script_of c.settings) (tracer_in c taken) r ≡ took taken c r
 unfolding took
-took-is c r e =
+took-is taken c r e =
     let o = options_of c.settings in
     let script = script_of c.settings in
-    let t = tracer_in c in
+    let t = tracer_in c taken in
     ap (λ x. cond x (takes t t.focus r (next_at o script t.known t.focus r)) (faults t)) e
     ∙ (λ i. record {
       tracer = record {
         known = (next-is o script (known_in c) c.living c.focus r e i).known;
         tracees = tracees-is o (known_in c) c.living c.focus r e i;
         focus = (next-is o script (known_in c) c.living c.focus r e i).focus;
-        taken = suc c.taken;
+        taken = suc taken;
       };
       printed = (next-is o script (known_in c) c.living c.focus r e i).printed;
     })
 
-pub stepped : (old new : Core) (r : Reply) (bytes : List ℕ) → admits_in old r ≡ true
-    → Goes (next_by (options_of old.settings) (script_of old.settings) (known_in old) old.focus r) (tracees_by old.living old.focus r) bytes (record old { focus = focus.Faulted }) new
-    → Steps old r (Some bytes) (record new { taken = new.taken + 1 })
+pub stepped : (taken : ℕ) (old new : Core) (r : Reply) (bytes : List ℕ) → admits_in old r ≡ true
+    → Goes (next_by (options_of old.settings) (script_of old.settings) (known_in old) old.focus r)
+    (tracees_by old.living old.focus r) bytes (record old { focus = focus.Faulted }) new
+    → Steps taken old r (Some bytes) new
 unfolding heard said moved admitted is_faulted took
-stepped old new r bytes e g =
-    let m = took-is old r e in
-    let now : tracer_in (record new { taken = new.taken + 1 }) ≡ (took old r).tracer =
-    λ i. record { known = g.known i; tracees = g.living i; focus = g.focus i; taken = (ap (λ n. n + 1) g.taken ∙ add-one old.taken) i } in (
+stepped taken old new r bytes e g =
+    let m = took-is taken old r e in
+    let now : tracer_in new (taken + 1) ≡ (took taken old r).tracer =
+    λ i. record { known = g.known i; tracees = g.living i; focus = g.focus i; taken = add-one taken i } in (
       (λ i. record {
         options = options_of (g.settings i);
         script = script_of (g.settings i);
@@ -111,16 +113,18 @@ stepped old new r bytes e g =
         failed = false;
       }),
       e,
-      ap (λ (t : Tracer). is_faulted_at t.focus) now ∙ fine (options_of old.settings) (script_of old.settings) (known_in old) old.living old.focus r e,
+      ap (λ (t : Tracer). is_faulted_at t.focus) now
+          ∙ fine (options_of old.settings) (script_of old.settings) (known_in old) old.living old.focus r e,
       g.text ∙ ap (λ (x : Moved). wrote old.printer x.printed) (sym m),
     )
 
-pub refused_step : (old : Core) (r : Reply) → admits_in old r ≡ false → Steps old r None (record old { focus = focus.Faulted })
+pub refused_step : (taken : ℕ) (old : Core) (r : Reply) → admits_in old r ≡ false
+    → Steps taken old r None (record old { focus = focus.Faulted })
 unfolding heard said moved admitted pen_after
-refused_step old r e =
+refused_step taken old r e =
     let o = options_of old.settings in
     let script = script_of old.settings in
-    let t = tracer_in old in
+    let t = tracer_in old taken in
     let m : tracer.next o script t r ≡ faults t =
     ap (λ x. cond x (takes t t.focus r (next_at o script t.known t.focus r)) (faults t)) e in (
       (λ i. record {
@@ -140,49 +144,41 @@ pub fresh : (known : maps.FinMap nat_cmp Tracee) (counts : Occurrences) → know
 fresh known counts e h = fun_ext (λ p. ap (λ m. known_of (at new_tracee m p) (counts_at counts p)) e ∙ ap (λ o. known_of (unwrap_or o new_tracee) (counts_at counts p)) (maps.get-empty nat_cmp p) ∙ ap (λ f. known_of new_tracee f) (fun_ext (λ n. h p n)))
 
 -- with the focus taken out
-pub stepped_by : (old new : Core) (r : Reply) (bytes : List ℕ) (f here : Focus) → f ≡ old.focus → here ≡ focus.Faulted → admits_in old r ≡ true
+pub stepped_by : (taken : ℕ) (old new : Core) (r : Reply) (bytes : List ℕ) (f here : Focus) → f ≡ old.focus
+    → here ≡ focus.Faulted → admits_in old r ≡ true
     → Goes (next_by (options_of old.settings) (script_of old.settings) (known_in old) f r) (tracees_by old.living f r) bytes (record old { focus = here }) new
-    → Steps old r (Some bytes) (record new { taken = new.taken + 1 })
-stepped_by old new r bytes f here is none e g =
-    stepped old new r bytes e
+    → Steps taken old r (Some bytes) new
+stepped_by taken old new r bytes f here is none e g =
+    stepped taken old new r bytes e
     (subst (λ x. Goes (next_by (options_of old.settings) (script_of old.settings) (known_in old) old.focus r) (tracees_by old.living old.focus r) bytes (record old { focus = x }) new) none
     (subst (λ x. Goes (next_by (options_of old.settings) (script_of old.settings) (known_in old) x r) (tracees_by old.living x r) bytes (record old { focus = here }) new) is g))
 
--- what an admitted reply says of the tracer
-
-unfaulted_at : (o : Options) (known : ℕ → Known) (tracees : List ℕ) (f : Focus) (r : Reply) → admits_at o known tracees (focus_of f) r ≡ true → is_faulted_at (focus_of f) ≡ false
-unfaulted_at o known tracees focus.Booting r e = refl
-unfaulted_at o known tracees focus.Waiting r e = refl
-unfaulted_at o known tracees (focus.Serving p place) r e = refl
-unfaulted_at o known tracees focus.AskingOutcome r e = refl
-unfaulted_at o known tracees (focus.Over x) r e = refl
-unfaulted_at o known tracees focus.TurnsOver r e = refl
-unfaulted_at o known tracees focus.Faulted r e = absurd (cc e)
-
-pub unfaulted : (c : Core) (r : Reply) → admits_in c r ≡ true → is_faulted (state_in c false) ≡ false
-unfolding is_faulted
-unfaulted c r e = unfaulted_at (options_of c.settings) (known_in c) c.living c.focus r e
-
 -- what a call of next answers
 
-pub hears_ok : (old new : Core) (failed : Bool) (r : Reply) (bytes : List ℕ) (act : Act) → failed ≡ false → Steps old r (Some bytes) new → act ≡ act_of (tracer.request (options_of new.settings) (focus_of new.focus)) bytes
-    → Hears (state_in old failed) r (Ok act) (state_in new failed)
+pub hears_ok : (taken : ℕ) (old new : Core) (failed : Bool) (r : Reply) (bytes : List ℕ) (act : Act) → failed ≡ false
+    → Steps taken old r (Some bytes) new
+    → act ≡ act_of (tracer.request (options_of new.settings) (focus_of new.focus)) bytes
+    → Hears (state_in old taken failed) r (Ok act) (state_in new (taken + 1) failed)
 unfolding Hears request_of
-hears_ok old new failed r bytes act e h is =
-    subst (λ b. Hears (state_in old b) r (Ok act) (state_in new b)) (sym e)
+hears_ok taken old new failed r bytes act e h is =
+    subst (λ b. Hears (state_in old taken b) r (Ok act) (state_in new (taken + 1) b)) (sym e)
     (refl, h.0, h.1, h.2, is ∙ ap (act_of (tracer.request (options_of new.settings) (focus_of new.focus))) h.3)
 
-pub hears_refusal : (old new : Core) (failed : Bool) (r : Reply) → failed ≡ false → Steps old r None new → Hears (state_in old failed) r (Err Inadmissible) (state_in new failed)
+pub hears_refusal : (taken : ℕ) (old new : Core) (failed : Bool) (r : Reply) → failed ≡ false
+    → Steps taken old r None new → Hears (state_in old taken failed) r (Err Inadmissible) (state_in new taken failed)
 unfolding Hears
-hears_refusal old new failed r e h = subst (λ b. Hears (state_in old b) r (Err Inadmissible) (state_in new b)) (sym e) (refl, h.0, h.1)
+hears_refusal taken old new failed r e h =
+    subst (λ b. Hears (state_in old taken b) r (Err Inadmissible) (state_in new taken b)) (sym e) (refl, h.0, h.1)
 
-pub hears_want : (old new : Core) (failed : Bool) (r : Reply) → is_faulted (state_in old false) ≡ false → Hears (state_in old failed) r (Err Memory) (state_in new true)
-unfolding Hears is_faulted
-hears_want old new failed r h = ((λ e. h), refl)
+pub hears_want : (taken : ℕ) (old new : Core) (failed : Bool) (r : Reply) → admits_in old r ≡ true
+    → Hears (state_in old taken failed) r (Err Memory) (state_in new taken true)
+unfolding Hears admitted taken_of
+hears_want taken old new failed r h = ((λ e. h), refl, refl)
 
-pub hears_again : (old : Core) (failed : Bool) (r : Reply) → failed ≡ true → Hears (state_in old failed) r (Err Memory) (state_in old failed)
-unfolding Hears
-hears_again old failed r e = ((λ k. absurd (cc (e, k))), e)
+pub hears_again : (taken : ℕ) (old : Core) (failed : Bool) (r : Reply) → failed ≡ true
+    → Hears (state_in old taken failed) r (Err Memory) (state_in old taken failed)
+unfolding Hears taken_of
+hears_again taken old failed r e = ((λ k. absurd (cc (e, k))), refl, e)
 
 pub on_err : {A E : Type 0} (r : Result A E) (X : Type 0) → X → OnErr r X
 on_err (Ok a) X x = tt

@@ -1,4 +1,4 @@
--- What a tracer is to its callers, and what each reply makes of it. Its meaning is lx_model's tracer.
+-- What a tracer is to its callers, and what each reply makes of it. Its meaning is pt_model's tracer.
 use Rattle.std.specs.Prelude.{◌≡◌, ℕ, Bool, true, false, List, [], ◌∷◌, ◌++◌, Option, Some, None, Result, Ok, Err}
 use Rattle.lx_abi.specs.declared.ptrace.Reply.{Reply}
 use Rattle.lx_abi.specs.declared.ptrace.Request.{Request}
@@ -76,7 +76,7 @@ unfoldable pub Hears : State → Reply → Result Act TraceFault → State → T
 Hears s r (Ok act) t = (s.failed ≡ false) × (t ≡ heard s r) × (admitted s r ≡ true) × (is_faulted t ≡ false)
     × (act ≡ act_of (request_of t) (said s r))
 Hears s r (Err Inadmissible) t = (s.failed ≡ false) × (t ≡ heard s r) × (admitted s r ≡ false)
-Hears s r (Err Memory) t = (s.failed ≡ false → is_faulted s ≡ false) × (t.failed ≡ true)
+Hears s r (Err Memory) t = (s.failed ≡ false → admitted s r ≡ true) × (taken_of t ≡ taken_of s) × (t.failed ≡ true)
 
 -- many replies in a row
 

@@ -1,6 +1,6 @@
 //! The tracer.
 
-ghost use Rattle.std.specs.Prelude.{◌≡◌, ◌≤◌, ◌^◌, ◌&&◌, not, true, false, IfOk, OnOk, OnErr, IsSome, Some};
+ghost use Rattle.std.specs.Prelude.{◌≡◌, ◌&&◌, ℕ, true, IfOk, OnOk, OnErr, Some};
 ghost use Rattle.lx_model.specs.Finite.{at};
 ghost use Rattle.tr_core.specs.Known.{new_tracee};
 ghost use Rattle.std.specs.FinMap as maps;
@@ -9,8 +9,8 @@ ghost use Rattle.pt_model.specs.Tracer.{asks, request, focus_on, told_tracees, t
 ghost use Rattle.tr_core.specs.Hearings.{heard_by, says_done};
 ghost use Rattle.tr_core.specs.Settings.{first_pen, options_by, options_of, script_of};
 ghost use Rattle.tr_core.specs.Known.{place_of};
-ghost use Rattle.tr_core.specs.Tracers.{admits_in, focus_of, known_in, state_in, state_of, Goes, Steps};
-ghost use Rattle.tr_core.specs.States.{new_state, act_of, is_faulted, taken_of};
+ghost use Rattle.tr_core.specs.Tracers.{admits_in, focus_of, known_in, state_of, Goes, Steps};
+ghost use Rattle.tr_core.specs.States.{new_state, act_of};
 ghost use Rattle.tr_core.specs.Outcomes.{outcome_in, outcome_of};
 ghost use Rattle.lx_abi.specs.Scripts.{choice_of};
 ghost use Rattle.tr_core.specs.Admitted.{told_status, says_childless, says_out, told_outcome, waits_by, serves_by};
@@ -39,7 +39,6 @@ struct Core {
     living: Living,
     focus: Focus,
     printer: Printer,
-    taken: u64,
 }
 
 /// What is known of a process, at first nothing.
@@ -93,8 +92,7 @@ fn keep(core: &mut Core, pid: u32, tracee: Tracee, next: Option<Awaiting>) -> Re
     ensures known { OnOk result (core.new.known ≡ maps.insert core.old.known pid tracee) }
     ensures focus { OnOk result (focus_of core.new.focus ≡ focus_on pid (option_map place_of next)) }
     ensures rest { OnOk result ((core.new.settings ≡ core.old.settings) × (core.new.counts ≡ core.old.counts)
-        × (core.new.living ≡ core.old.living) × (core.new.printer ≡ core.old.printer)
-        × (core.new.taken ≡ core.old.taken)) }
+        × (core.new.living ≡ core.old.living) × (core.new.printer ≡ core.old.printer)) }
 {
     core.known.insert(pid, tracee)?;
     core.focus = match next {
@@ -325,10 +323,8 @@ fn go(core: &mut Core, focus: Focus, reply: Reply) -> Result<Bytes, AllocError>
 
 /// A reply: its bytes, or none where it isn't admitted.
 fn step(core: &mut Core, reply: Reply) -> Result<Option<Bytes>, AllocError>
-    requires { core.old.taken ≤ 2 ^ 40 }
-    ensures step { IfOk result (λ b. Steps core.old reply b core.new) }
-    ensures want { OnErr result (is_faulted (state_in core.old false) ≡ false) }
-    ensures admitted { IfOk result (λ b. IsSome b → is_faulted (state_in core.old false) ≡ false) }
+    ensures step { IfOk result (λ b. (taken : ℕ) → Steps taken core.old reply b core.new) }
+    ensures admitted { OnErr result (admits_in core.old reply ≡ true) }
 {
     if !admits(core, &reply) {
         core.focus = Focus::Faulted;
@@ -336,7 +332,6 @@ fn step(core: &mut Core, reply: Reply) -> Result<Option<Bytes>, AllocError>
     }
     let focus = mem::replace(&mut core.focus, Focus::Faulted);
     let bytes = go(core, focus, reply)?;
-    core.taken += 1;
     Ok(Some(bytes))
 }
 
@@ -380,6 +375,8 @@ fn request_in(core: &Core) -> Result<Option<Request>, AllocError>
 #[derive(Drop)]
 pub struct Tracer {
     core: Core,
+    /// How many replies it took without a fault.
+    taken: u64,
     /// Met want of memory.
     failed: bool,
 }
@@ -407,8 +404,8 @@ impl Tracer {
                 living: Living::new(alloc),
                 focus: Focus::Booting,
                 printer,
-                taken: 0,
             },
+            taken: 0,
             failed: false,
         }
     }
@@ -457,7 +454,10 @@ impl Tracing for Tracer {
         }
         match step(&mut self.core, reply) {
             Ok(Some(bytes)) => match act(&self.core, bytes) {
-                Ok(act) => Ok(act),
+                Ok(act) => {
+                    self.taken += 1;
+                    Ok(act)
+                }
                 Err(_) => {
                     self.failed = true;
                     Err(TraceFault::Memory)
@@ -473,6 +473,6 @@ impl Tracing for Tracer {
 
     #[tactic(auto, unfolding(crate::specs::States::taken_of, crate::specs::Tracers::state_of))]
     fn taken(&self) -> u64 {
-        self.core.taken
+        self.taken
     }
 }

@@ -1,8 +1,11 @@
 -- Why an expression is refused, and which of several causes is reported.
-use Rattle.std.specs.Prelude.{ℕ, ◌≤◌, ◌≡◌, List, [], ◌∷◌, Option, Some, None, Result, Ok, Err, Bool, if◌then◌else◌, nat_lt, ◌⊎◌}
+use Rattle.std.specs.Prelude.{ℕ, ◌≤◌, ◌≡◌, List, [], ◌∷◌, Option, Some, None, Result, Ok, Err, Bool, if◌then◌else◌}
+use Rattle.std.specs.Prelude.{nat_lt, ◌⊎◌}
 use Rattle.std.specs.List.{AllByRecursion}
 use Rattle.tr_expr.specs.declared.fault.ExprFault.{ExprFault}
-use Rattle.tr_expr.specs.declared.fault.ExprFault.TheVariants.{UnknownCall, UnknownClass, UnknownErrno, UnknownSignal, BadNumber, BadWhen, BothResults, NothingToDo, BadPattern, Memory, UnknownPart}
+use Rattle.tr_expr.specs.declared.fault.ExprFault.TheVariants.{UnknownCall, UnknownClass, UnknownErrno}
+use Rattle.tr_expr.specs.declared.fault.ExprFault.TheVariants.{UnknownSignal, BadNumber, BadWhen, BothResults}
+use Rattle.tr_expr.specs.declared.fault.ExprFault.TheVariants.{NothingToDo, BadPattern, Memory, UnknownPart}
 
 -- the number of a kind
 abbrev pub number_of : ExprFault → ℕ

@@ -1,5 +1,6 @@
 -- The parts of a tampering expression (strace(1), Tampering).
-use Rattle.std.specs.Prelude.{ℕ, ℤ, pos, neg_ℤ, List, [], ◌∷◌, Option, Some, None, Result, Err, Bool, false, if◌then◌else◌, nat_eq, drop, option_map, codes}
+use Rattle.std.specs.Prelude.{ℕ, ℤ, pos, neg_ℤ, List, [], ◌∷◌, Option, Some, None, Result, Err, Bool, false}
+use Rattle.std.specs.Prelude.{if◌then◌else◌, nat_eq, drop, option_map, codes}
 use Rattle.std.specs.Option.{ok_or, option_or, option_and_then}
 use Rattle.std.specs.Result.{result_ok}
 use Rattle.std.specs.Str.{bytes_eq}
@@ -14,7 +15,8 @@ use Rattle.tr_expr.specs.Faults.{refusal_of}
 use Rattle.tr_expr.specs.declared.rule.InjectParts.{InjectParts}
 use Rattle.tr_expr.specs.declared.rule.InjectParts.TheVariants.{Inject, Fault}
 use Rattle.tr_expr.specs.declared.fault.ExprFault.{ExprFault}
-use Rattle.tr_expr.specs.declared.fault.ExprFault.TheVariants.{UnknownErrno, UnknownSignal, BadNumber, BadWhen, UnknownPart}
+use Rattle.tr_expr.specs.declared.fault.ExprFault.TheVariants.{UnknownErrno, UnknownSignal, BadNumber, BadWhen}
+use Rattle.tr_expr.specs.declared.fault.ExprFault.TheVariants.{UnknownPart}
 
 -- error=, retval=, signal= or when= and a value
 pub data Part : Type 0 where

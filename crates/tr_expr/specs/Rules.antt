@@ -1,5 +1,6 @@
 -- Tampering expressions (strace(1), Tampering): a set and parts, joined by colons.
-use Rattle.std.specs.Prelude.{◌≡◌, ◌⊎◌, ℕ, ℤ, pos, neg_ℤ, List, [], ◌++◌, Option, Some, None, ◌&&◌, if◌then◌else◌, map, is_some, is_none, unwrap_or}
+use Rattle.std.specs.Prelude.{◌≡◌, ◌⊎◌, ℕ, ℤ, pos, neg_ℤ, List, [], ◌++◌, Option, Some, None, ◌&&◌, if◌then◌else◌}
+use Rattle.std.specs.Prelude.{map, is_some, is_none, unwrap_or}
 use Rattle.std.specs.Option.{option_or}
 use Rattle.std.specs.List.{flat_map}
 use Rattle.lx_abi.specs.Scripts.{includes}

@@ -2,9 +2,12 @@
 use Rattle.std.specs.Prelude.{◌≡◌, List, None, option_map}
 use Rattle.std.specs.List.{flat_map}
 use Rattle.tr_expr.specs.declared.part.Part.{Part as Read}
-use Rattle.tr_expr.specs.declared.part.Part.TheVariants.{Error as ReadError, Retval as ReadRetval, Signal as ReadSignal, When as ReadWhen, Unknown as ReadUnknown}
+use Rattle.tr_expr.specs.declared.part.Part.TheVariants.{Error as ReadError, Retval as ReadRetval}
+use Rattle.tr_expr.specs.declared.part.Part.TheVariants.{Signal as ReadSignal, When as ReadWhen}
+use Rattle.tr_expr.specs.declared.part.Part.TheVariants.{Unknown as ReadUnknown}
 use Rattle.tr_expr.specs.declared.said.Said.{Said}
-use Rattle.tr_expr.specs.Parts.{Part, Error, Retval, Signal, When, Unknown, part_causes, error_in, retval_in, signal_in, when_in, last_said}
+use Rattle.tr_expr.specs.Parts.{Part, Error, Retval, Signal, When, Unknown, part_causes, error_in, retval_in}
+use Rattle.tr_expr.specs.Parts.{signal_in, when_in, last_said}
 use Rattle.tr_expr.specs.Whens.{view}
 use Rattle.tr_expr.specs.Faults.{found}
 

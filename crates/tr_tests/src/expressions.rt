@@ -1,171 +1,15 @@
-//! Outside examples: expressions of strace(1), and their meaning worked by hand.
+//! Outside examples: expressions of strace(1), and their meaning worked by hand. Those that are refused stand in
+//! guests/runs, those that name calls in guests/conversations.
 
-use std::alloc::{AllocError, Global};
+use std::alloc::Global;
 use std::test::Fail;
-use tr_expr::{Expr, ExprFault, Rule, Script, parse_expr, parse_fault, parse_inject, parse_trace};
+use tr_expr::{Expr, ExprFault, Rule, Script, parse_expr, parse_inject};
 
 const WRITE: u64 = 64;
 
 const READ: u64 = 63;
 
 const GETPID: u64 = 172;
-
-const UNNAMED: u64 = 9999;
-
-fn fault_of(alloc: Global, text: &str) -> Option<ExprFault> {
-    parse_inject(alloc, text).err()
-}
-
-#[test]
-fn refuses_rules(rt: HostRuntime) {
-    for (text, fault) in [
-        ("write:error=0", ExprFault::BadNumber),
-        ("write:error=4096", ExprFault::BadNumber),
-        ("write:retval=", ExprFault::BadNumber),
-        ("write:retval=0x8000000000000000", ExprFault::BadNumber),
-        ("write:retval=0X10", ExprFault::BadNumber),
-        ("write:error=EIO:retval=1", ExprFault::BothResults),
-        ("write:error=EIO:when=0", ExprFault::BadWhen),
-        ("write:error=EIO:when=5..3", ExprFault::BadWhen),
-        ("write:error=EIO:when=2..5", ExprFault::BadWhen),
-        ("write:error=EIO:when=1..65535", ExprFault::BadWhen),
-        ("write:error=EIO:when=65536", ExprFault::BadWhen),
-        ("write:error=EIO:when=", ExprFault::BadWhen),
-        ("wrote:error=EIO", ExprFault::UnknownCall),
-        ("!:error=EIO", ExprFault::UnknownCall),
-        ("write:error=EWHAT", ExprFault::UnknownErrno),
-        ("write:error=", ExprFault::UnknownErrno),
-        ("write:error=EWHAT:error=EIO", ExprFault::UnknownErrno),
-        ("write:signal=SIGSTOP", ExprFault::UnknownSignal),
-        ("write:when=3", ExprFault::NothingToDo),
-        ("write", ExprFault::NothingToDo),
-        ("write:delay_enter=5", ExprFault::UnknownPart),
-        ("write:error", ExprFault::UnknownPart),
-        ("write::error=EIO", ExprFault::UnknownPart),
-        ("%net,wrote:error=EIO", ExprFault::UnknownCall),
-        ("write:bogus=1:error=EWHAT", ExprFault::UnknownErrno),
-        ("write:when=0", ExprFault::BadWhen),
-    ] {
-        assert_eq!(rt; fault_of(rt.alloc(), text), Some(fault), "{text}");
-    }
-}
-
-fn set_fault_of(alloc: Global, text: &str) -> Option<ExprFault> {
-    parse_trace(alloc, text).err()
-}
-
-#[test]
-fn refuses_sets(rt: HostRuntime) {
-    for (text, fault) in [
-        ("%net", ExprFault::UnknownClass),
-        ("%", ExprFault::UnknownClass),
-        ("%FILE", ExprFault::UnknownClass),
-        ("/(", ExprFault::BadPattern),
-        ("/(,%net", ExprFault::UnknownClass),
-        ("/[", ExprFault::BadPattern),
-        ("", ExprFault::UnknownCall),
-        ("write,", ExprFault::UnknownCall),
-        ("/(,%net,wrote", ExprFault::UnknownCall),
-        ("?write,/a{2,1}", ExprFault::UnknownCall),
-    ] {
-        assert_eq!(rt; set_fault_of(rt.alloc(), text), Some(fault), "{text}");
-    }
-}
-
-fn set_has(alloc: Global, text: &str, call: u64) -> Option<bool> {
-    match parse_trace(alloc, text) {
-        Ok(set) => Some(set.contains(call)),
-        Err(_) => None,
-    }
-}
-
-#[test]
-fn names_calls(rt: HostRuntime) {
-    for (text, call, named) in [
-        ("write", WRITE, true),
-        ("write", READ, false),
-        ("read,write", READ, true),
-        ("!write", WRITE, false),
-        ("!write", READ, true),
-        ("!write", UNNAMED, true),
-        ("all", UNNAMED, true),
-        ("!all", WRITE, false),
-        ("none", WRITE, false),
-        ("none,write", WRITE, true),
-        ("!none", UNNAMED, true),
-        ("?wrote", WRITE, false),
-        ("?wrote,?write", WRITE, true),
-        ("?%file,?all,?/x,?", WRITE, false),
-        ("!%desc", WRITE, false),
-        ("!%desc", GETPID, true),
-        ("!/write", UNNAMED, true),
-        ("/.", UNNAMED, false),
-    ] {
-        assert_eq!(rt;
-            set_has(rt.alloc(), text, call),
-            Some(named),
-            "{text} {call}"
-        );
-    }
-}
-
-#[test]
-fn refuses_patterns_that_nest_deep(rt: HostRuntime) -> Result<(), AllocError> {
-    let mut text = String::new(rt.alloc());
-    text.push('/')?;
-    for _ in 0..5000 {
-        text.push('(')?;
-    }
-    let fault = set_fault_of(rt.alloc(), text.as_str());
-    assert_eq!(rt; fault, Some(ExprFault::BadPattern));
-    Ok(())
-}
-
-/// The calls below 1000 that a set names.
-fn calls_of(alloc: Global, text: &str) -> Option<Vec<u64>> {
-    let set = parse_trace(alloc, text).ok()?;
-    let mut calls = Vec::new(alloc);
-    for call in 0..1000 {
-        if set.contains(call) {
-            calls.push(call).ok()?;
-        }
-    }
-    Some(calls)
-}
-
-#[test]
-fn names_classes_and_patterns(rt: HostRuntime) {
-    let every: &[u64] = &[
-        17, 23, 24, 34, 35, 46, 49, 56, 57, 59, 62, 63, 64, 79, 80, 93, 94, 124, 129, 134, 135,
-        139, 172, 173, 178, 214, 215, 220, 221, 222, 260,
-    ];
-    let cases: [(&str, &[u64]); 14] = [
-        ("%file", &[17, 34, 35, 49, 56, 79, 221]),
-        (
-            "%desc",
-            &[23, 24, 34, 35, 46, 56, 57, 59, 62, 63, 64, 79, 80, 222],
-        ),
-        ("%process", &[93, 94, 220, 221, 260]),
-        ("%signal", &[129, 134, 135, 139]),
-        ("%memory", &[214, 215, 222]),
-        ("%memory,%signal,kill", &[129, 134, 135, 139, 214, 215, 222]),
-        ("/^read$", &[63]),
-        ("/dup", &[23, 24]),
-        ("/^get", &[17, 172, 173, 178]),
-        ("/t$,write", &[34, 35, 56, 64, 79, 80, 93]),
-        ("/[0-9]$", &[24, 59, 260]),
-        ("/READ", &[]),
-        ("/", every),
-        ("/.", every),
-    ];
-    for (text, wanted) in cases {
-        assert_eq!(rt;
-            calls_of(rt.alloc(), text).as_deref(),
-            Some(wanted),
-            "{text}"
-        );
-    }
-}
 
 /// The results at the occurrences 1 to 8 of write.
 fn results_of(rules: Vec<Rule>) -> [Option<i64>; 8] {
@@ -254,22 +98,6 @@ fn reads_words(rt: HostRuntime) {
         ("trace", WRITE, Err(ExprFault::UnknownCall)),
     ] {
         assert_eq!(rt; asked_by(rt.alloc(), word, call), wanted, "{word}");
-    }
-}
-
-fn parts_fault_of(alloc: Global, text: &str) -> Option<ExprFault> {
-    parse_fault(alloc, text).err()
-}
-
-#[test]
-fn refuses_faults(rt: HostRuntime) {
-    for (text, fault) in [
-        ("write:retval=1", ExprFault::UnknownPart),
-        ("write:signal=USR1", ExprFault::UnknownPart),
-        ("write:retval=x:error=0", ExprFault::BadNumber),
-        ("write:when=0", ExprFault::BadWhen),
-    ] {
-        assert_eq!(rt; parts_fault_of(rt.alloc(), text), Some(fault), "{text}");
     }
 }
 

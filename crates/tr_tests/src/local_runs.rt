@@ -62,7 +62,7 @@ fn is_whole(run: &Run) -> bool {
 fn whole_run(rt: HostRuntime) -> Result<(), Fail> {
     let run = traced(rt.alloc(), 1_000_000)?;
     assert_eq!(rt; run.trace.as_slice(), HELLO_TRACE.as_bytes());
-    assert_eq!(rt; run.outcome.console.as_slice(), b"hi\n");
+    assert_eq!(rt; run.outcome.console.as_slice(), b"hi\n".as_slice());
     assert_eq!(rt; word_of(&run.outcome), Some(0));
     assert!(rt; is_whole(&run));
     drop(run);
@@ -101,7 +101,7 @@ fn letters(alloc: Global) -> Result<Run, Fail> {
 fn two_processes(rt: HostRuntime) -> Result<(), Fail> {
     let run = letters(rt.alloc())?;
     assert_eq!(rt; run.trace.as_slice(), LETTERS_TRACE.as_bytes());
-    assert_eq!(rt; run.outcome.console.as_slice(), b"ab");
+    assert_eq!(rt; run.outcome.console.as_slice(), b"ab".as_slice());
     assert_eq!(rt; run.outcome.ended.as_slice().len(), 2);
     assert_eq!(rt; word_of(&run.outcome), Some(0));
     assert!(rt; is_whole(&run));

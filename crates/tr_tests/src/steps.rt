@@ -11,6 +11,8 @@ pub const BEGUN: u32 = 0x80057f;
 /// A syscall stop under TRACESYSGOOD.
 pub const SYSCALL: u32 = 0x857f;
 
+pub const EXECED: u32 = 0x4057f;
+
 /// A signal stop of SIGUSR1.
 pub const BY_USR1: u32 = 0x0a7f;
 

@@ -53,11 +53,11 @@ fn decoder(
     alloc: Global,
     number: u64,
     arguments: [u64; 6],
-    result: Option<u64>,
+    value: Option<u64>,
 ) -> Result<Decoder, AllocError> {
-    match result {
+    match value {
         None => Decoder::start(alloc, number, arguments, 0, 32),
-        Some(value) => Decoder::leave(alloc, number, arguments, value, 32),
+        Some(word) => Decoder::leave(alloc, number, arguments, word, 32),
     }
 }
 
@@ -76,8 +76,8 @@ const TEXTS: &[(u64, [u64; 6], Option<u64>, &str)] = &[
 
 #[test]
 fn entries_and_returns(rt: HostRuntime) -> Result<(), Fail> {
-    for &(number, arguments, result, text) in TEXTS {
-        let decoder = decoder(rt.alloc(), number, arguments, result)?;
+    for &(number, arguments, value, text) in TEXTS {
+        let decoder = decoder(rt.alloc(), number, arguments, value)?;
         assert_eq!(rt; feed(rt.alloc(), decoder)?.as_str(), text);
     }
     Ok(())

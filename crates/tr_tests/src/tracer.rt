@@ -1,6 +1,6 @@
 //! What a tracer asks, reply by reply, with ample memory. Other conversations stand in guests/conversations.
 
-use crate::steps::{BEGUN, BY_USR1, SYSCALL, Step, options, reply};
+use crate::steps::{BEGUN, BY_USR1, EXECED, SYSCALL, Step, options, reply};
 use lx_abi::{Ask, Request, Script};
 use std::alloc::Global;
 use std::test::Fail;
@@ -46,6 +46,19 @@ static TAMPERED: [(Step, Asked); 18] = [
     (Step::Status(1, 10), Asked::Wait),
     (Step::Errno(10), Asked::Outcome),
     (Step::Outcome, Asked::Over),
+];
+
+/// Only replies that fit the tracee's place are admitted; a fault is for good.
+static EXEC_OUTSIDE_EXECVE: [(Step, Asked); 6] = [
+    (Step::Done, Asked::Seize(1, 0x11)),
+    (Step::Done, Asked::Wait),
+    (Step::Status(1, BEGUN), Asked::Syscall(1, 0)),
+    (Step::Done, Asked::Wait),
+    (
+        Step::Status(1, EXECED),
+        Asked::Fault(TraceFault::Inadmissible),
+    ),
+    (Step::Done, Asked::Fault(TraceFault::Inadmissible)),
 ];
 
 fn asked_of(pid: u32, ask: &Ask) -> Asked {
@@ -95,11 +108,16 @@ fn hear(alloc: Global, tracer: &mut Tracer, step: Step) -> Result<Asked, Fail> {
 
 #[test]
 fn requests(rt: HostRuntime) -> Result<(), Fail> {
-    let mut tracer = tracer(rt.alloc(), "getpid:retval=9")?;
-    for (step, wanted) in &TAMPERED {
-        let asked = hear(rt.alloc(), &mut tracer, *step)?;
-        assert_eq!(rt; asked, *wanted);
+    for (steps, inject) in [
+        (TAMPERED.as_slice(), "getpid:retval=9"),
+        (EXEC_OUTSIDE_EXECVE.as_slice(), ""),
+    ] {
+        let mut tracer = tracer(rt.alloc(), inject)?;
+        for (step, wanted) in steps {
+            let asked = hear(rt.alloc(), &mut tracer, *step)?;
+            assert_eq!(rt; asked, *wanted);
+        }
+        drop(tracer);
     }
-    drop(tracer);
     Ok(())
 }

@@ -24,7 +24,7 @@ returns-in_ok-calm-in-Ended-clause-turned c =
     ap (λ o. turned (turn linux (choice_of_task c.args.injection.now c.args.pid o) c.args.shared.now c.args.child c.args.pid o)) c.in-Alive.is
     ∙ c.in_ok-done-in-Alive.ensures.turned
     ∙ ap (λ w. turned_by w c.turn_alive.new.shared c.turn_alive.new.user c.args.pid c.in-Alive.stage c.turn_alive.new.stage c.turn_alive.new.item) c.in-Ended.is
-    ∙ λ i. record { shared = sym c.in_ok-calm-in-Ended.ensures.died i; task = sym c.end.ensures i; item = Some (item.Exit c.args.pid c.in-Ended.word (sym c.mode_of_stage-left.ensures i)); event = Plain }
+    ∙ λ i. record { shared = sym c.in_ok-calm-in-Ended.ensures.died i; task = sym c.end.ensures i; item = Some (item.Exit c.args.pid c.in-Ended.word (sym c.mode-left.ensures i)); event = Plain }
 
 pub returns-in_err-calm-in-Ended-clause-console : goal.returns-in_err-calm-in-Ended-clause-console
 returns-in_err-calm-in-Ended-clause-console c =

@@ -1,10 +1,12 @@
-use Rattle.pt_kernel.proofs.Answering.{syscall_refused, syscall_done}
+use Rattle.pt_kernel.proofs.Answering.{goes_on, syscall_refused, syscall_done}
 use Rattle.pt_kernel.proofs.answers.syscall.Goals as goal
 
 pub returns-then-not-resume : goal.returns-then-not-resume
 returns-then-not-resume c = λ b stage e.
-    syscall_refused c.args.kernel.now c.args.tracees.now c.args.pid c.args.traced c.requires b stage c.args.signal e c.resume.result c.resume.new.kernel c.refusal.result (c.resume.ensures b stage e) c.if-not-resume.true c.refusal.ensures
+    syscall_refused c.args.kernel.now c.args.tracees.now c.args.pid c.args.traced c.requires b stage c.args.signal e c.resume.result c.resume.new.self c.refusal.result
+    (goes_on c.args.kernel.now c.args.pid b stage c.args.signal e c.resume.result c.resume.new.self c.resume.ensures.there c.resume.ensures.part) c.if-not-resume.true c.refusal.ensures
 
 pub returns : goal.returns
 returns c = λ b stage e.
-    syscall_done c.args.kernel.now c.args.tracees.now c.args.pid c.args.traced c.requires b stage c.args.signal c.resume.result c.resume.new.kernel c.set.new.self (c.resume.ensures b stage e) c.if-not-resume.false c.in_ok-set.ensures
+    syscall_done c.args.kernel.now c.args.tracees.now c.args.pid c.args.traced c.requires b stage c.args.signal c.resume.result c.resume.new.self c.set.new.self
+    (goes_on c.args.kernel.now c.args.pid b stage c.args.signal e c.resume.result c.resume.new.self c.resume.ensures.there c.resume.ensures.part) c.if-not-resume.false c.in_ok-set.ensures

@@ -15,4 +15,4 @@ pub invariant_of-self-2 : goal.invariant_of-self-2
 invariant_of-self-2 c = λ e.
     let k = c.self.inside in
     let h = c.self.invariant c.if-self.false in
-    (h.0, watch_kept k.sleepers k.shared k.tasks c.run.new.tasks c.in_ok-ran.ensures.kept h.1)
+    (h.0, watch_kept k.run_queue k.shared k.tasks c.run.new.tasks c.in_ok-ran.ensures.kept h.1)

@@ -27,6 +27,6 @@ invariant_of-self c = λ e.
     let h = c.self.invariant e in
     let x = (with_regs c.args.registers.now (at Gone k.tasks c.args.pid)) in (
       h.0,
-      subst (λ (o : Tasks). Watch k.sleepers k.shared o) (sym c.set_regs.ensures.part)
-          (watch_kept k.sleepers k.shared k.tasks (with_part_at k.tasks c.args.pid x) (part_kept k.shared k.tasks c.args.pid x (regs_kept k.shared c.args.pid c.args.registers.now (at Gone k.tasks c.args.pid))) h.1),
+      subst (λ (o : Tasks). Watch k.run_queue k.shared o) (sym c.set_regs.ensures.part)
+          (watch_kept k.run_queue k.shared k.tasks (with_part_at k.tasks c.args.pid x) (part_kept k.shared k.tasks c.args.pid x (regs_kept k.shared c.args.pid c.args.registers.now (at Gone k.tasks c.args.pid))) h.1),
     )

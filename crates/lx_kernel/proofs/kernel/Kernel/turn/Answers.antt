@@ -12,7 +12,7 @@ use Rattle.lx_kernel.proofs.Turning.{kernel_item, kernel_deed, kernel_left, kern
 use Rattle.lx_kernel.specs.Sleeping.{AreListed, IsWatched, welcomed}
 use Rattle.lx_kernel.specs.Scheduling.{Tasks}
 use Rattle.lx_turn.specs.Turned.{event_of}
-use Rattle.lx_kernel.specs.declared.sleepers.Sleepers.{Sleepers}
+use Rattle.lx_kernel.specs.declared.run_queue.RunQueue.{RunQueue}
 use Rattle.lx_kernel.proofs.Watching.{turn_listed, turn_watched, roused_watched}
 use Rattle.lx_kernel.proofs.kernel.Kernel.turn.Goals as goal
 
@@ -72,9 +72,9 @@ rouse-requires c = λ known.
     let v : Running Shared UserState = record { shared = k.shared; tasks = k.tasks; child = k.child; log = k.log.items } in
     let watch = (c.self.invariant c.if-self.false).1 (c.welcome.ensures.known known) in
     let event = event_of c.in_ok-transition.transition.done in
-    subst (λ (sets : Sleepers). AreListed sets c.place_child.new.tasks) (sym (c.welcome.ensures.sets known))
-    (subst (λ (tasks : Tasks). AreListed (welcomed k.sleepers k.child event) tasks) (sym c.in_ok-place_child.ensures.tasks)
-    (turn_listed v k.script k.follow c.args.pid (λ n. count_of k.occurrences c.args.pid n) c.turn_at.new.item c.in_ok-transition.transition.done c.turn_at.new.shared c.turn_at.new.tasks c.in_ok-transition.ensures.turns k.sleepers watch))
+    subst (λ (sets : RunQueue). AreListed sets c.place_child.new.tasks) (sym (c.welcome.ensures.sets known))
+    (subst (λ (tasks : Tasks). AreListed (welcomed k.run_queue k.child event) tasks) (sym c.in_ok-place_child.ensures.tasks)
+    (turn_listed v k.script k.follow c.args.pid (λ n. count_of k.occurrences c.args.pid n) c.turn_at.new.item c.in_ok-transition.transition.done c.turn_at.new.shared c.turn_at.new.tasks c.in_ok-transition.ensures.turns k.run_queue watch))
 
 pub pass-requires-clause-others : goal.pass-requires-clause-others
 pass-requires-clause-others c = λ calm known q up ne.
@@ -86,8 +86,8 @@ pass-requires-clause-others c = λ calm known q up ne.
     let roused = c.in_ok-transition.transition.roused in
     roused_watched c.welcome.new.self c.rouse.new.self c.turn_at.new.shared c.place_child.new.tasks c.args.pid roused same (c.rouse.ensures.itself known)
     (λ q up ne still.
-    subst (λ (sets : Sleepers). IsWatched sets c.turn_at.new.shared q (at Gone c.place_child.new.tasks q)) (sym (c.welcome.ensures.sets same.0))
-    (subst (λ (tasks : Tasks). IsWatched (welcomed k.sleepers k.child event) c.turn_at.new.shared q (at Gone tasks q)) (sym c.in_ok-place_child.ensures.tasks)
-    (turn_watched v k.script k.follow c.args.pid (λ n. count_of k.occurrences c.args.pid n) c.turn_at.new.item c.in_ok-transition.transition.done c.turn_at.new.shared c.turn_at.new.tasks c.in_ok-transition.ensures.turns k.sleepers watch
+    subst (λ (sets : RunQueue). IsWatched sets c.turn_at.new.shared q (at Gone c.place_child.new.tasks q)) (sym (c.welcome.ensures.sets same.0))
+    (subst (λ (tasks : Tasks). IsWatched (welcomed k.run_queue k.child event) c.turn_at.new.shared q (at Gone tasks q)) (sym c.in_ok-place_child.ensures.tasks)
+    (turn_watched v k.script k.follow c.args.pid (λ n. count_of k.occurrences c.args.pid n) c.turn_at.new.item c.in_ok-transition.transition.done c.turn_at.new.shared c.turn_at.new.tasks c.in_ok-transition.ensures.turns k.run_queue watch
     roused (c.in_ok-transition.ensures.calm calm) q up ne still)))
     q up ne

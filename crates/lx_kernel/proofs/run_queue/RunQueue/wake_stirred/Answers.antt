@@ -1,5 +1,5 @@
 use Rattle.lx_kernel.proofs.Sleeping.{listed_but, rest_up_to, all_watched}
-use Rattle.lx_kernel.proofs.sleepers.Sleepers.wake_stirred.Goals as goal
+use Rattle.lx_kernel.proofs.run_queue.RunQueue.wake_stirred.Goals as goal
 
 pub loop-pid-preserved : goal.loop-pid-preserved
 loop-pid-preserved c = record {

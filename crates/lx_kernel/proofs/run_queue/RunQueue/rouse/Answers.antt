@@ -1,5 +1,5 @@
 use Rattle.lx_kernel.proofs.Sleeping.{listed_but}
-use Rattle.lx_kernel.proofs.sleepers.Sleepers.rouse.Goals as goal
+use Rattle.lx_kernel.proofs.run_queue.RunQueue.rouse.Goals as goal
 
 pub returns-then-roused-pid-clause-listed : goal.returns-then-roused-pid-clause-listed
 returns-then-roused-pid-clause-listed c = λ known.

@@ -16,7 +16,7 @@ use std::alloc::Global;
 
 /// The processes that may be able, and those that wait in a read or a write of a pipe, which a search passes over.
 #[derive(Drop)]
-pub struct Sleepers {
+pub struct RunQueue {
     pub awake: Map<()>,
     pub asleep: Map<()>,
     /// No memory was refused to the sets. Once some was, they say nothing, and a search looks at each process.
@@ -56,12 +56,12 @@ const ANY: Hints = Hints {
     gone: true,
 };
 
-impl Sleepers {
+impl RunQueue {
     /// Both sets are empty.
     pub fn new(alloc: Global) -> Self
         ensures { result ≡ record { awake = maps.empty; asleep = maps.empty; known = true } }
     {
-        Sleepers {
+        RunQueue {
             awake: Map::new(alloc),
             asleep: Map::new(alloc),
             known: true,

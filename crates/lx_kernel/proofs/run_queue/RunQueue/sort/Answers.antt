@@ -2,7 +2,7 @@ use Rattle.std.proofs.Common.{ap, sym, ◌∙◌}
 use Rattle.std.specs.FinMap as maps
 use Rattle.lx_turn.proofs.Placed.{other_put, other_left}
 use Rattle.lx_kernel.proofs.Sleeping.{put_there, absent_gone, gone_rests}
-use Rattle.lx_kernel.proofs.sleepers.Sleepers.sort.Goals as goal
+use Rattle.lx_kernel.proofs.run_queue.RunQueue.sort.Goals as goal
 
 pub returns-then-is_absent-clause-itself : goal.returns-then-is_absent-clause-itself
 returns-then-is_absent-clause-itself c = λ known unwatched.

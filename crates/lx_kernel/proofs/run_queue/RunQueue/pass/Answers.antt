@@ -1,6 +1,6 @@
 use Rattle.std.proofs.Common.{sym, ◌∙◌}
 use Rattle.lx_kernel.proofs.Sleeping.{all_awake}
-use Rattle.lx_kernel.proofs.sleepers.Sleepers.pass.Goals as goal
+use Rattle.lx_kernel.proofs.run_queue.RunQueue.pass.Goals as goal
 
 pub returns-then-not-hints-2 : goal.returns-then-not-hints-2
 returns-then-not-hints-2 c = λ known.

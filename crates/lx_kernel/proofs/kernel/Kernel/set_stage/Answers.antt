@@ -3,30 +3,30 @@ use Rattle.lx_model.specs.Finite.{Running}
 use Rattle.lx_proc.specs.declared.state.Shared.{Shared}
 use Rattle.lx_proc.specs.declared.state.UserState.{UserState}
 use Rattle.lx_kernel.specs.Runs.{Run}
-use Rattle.lx_kernel.specs.Tracing.{task_in, with_joined, with_part, with_part_at}
+use Rattle.lx_kernel.specs.Tracing.{task_in, with_change, with_part, with_part_at}
 use Rattle.lx_kernel.proofs.Reaching.{whole}
 use Rattle.lx_model.specs.Finite.{at}
 use Rattle.lx_model.specs.declared.stage.Task.TheVariants.{Gone}
 use Rattle.lx_kernel.specs.Scheduling.{Tasks}
 use Rattle.lx_kernel.specs.Sleeping.{Watch}
-use Rattle.lx_kernel.proofs.Watching.{watch_kept, part_kept, joined_kept}
-use Rattle.lx_kernel.proofs.kernel.Kernel.join.Goals as goal
+use Rattle.lx_kernel.proofs.Watching.{watch_kept, part_kept, changed_kept}
+use Rattle.lx_kernel.proofs.kernel.Kernel.set_stage.Goals as goal
 
 pub returns-clause-part : goal.returns-clause-part
 returns-clause-part c =
     let k = c.self.inside in
     let v : Running Shared UserState = record { shared = k.shared; tasks = k.tasks; child = k.child; log = k.log.items } in
     let run : Run = record { running = v; script = k.script; follow = k.follow; failed = k.failed } in
-    ap (λ o. record run { running = record v { tasks = o } }) c.join.ensures.part
-    ∙ whole run c.args.pid (with_joined c.args.signal (task_in run c.args.pid))
-    ∙ ap (λ k. with_part k c.args.pid (with_joined c.args.signal (task_in k c.args.pid))) c.self.view_is
+    ap (λ o. record run { running = record v { tasks = o } }) c.set_stage.ensures.part
+    ∙ whole run c.args.pid (with_change c.args.change (task_in run c.args.pid))
+    ∙ ap (λ k. with_part k c.args.pid (with_change c.args.change (task_in k c.args.pid))) c.self.view_is
 
 pub invariant_of-self : goal.invariant_of-self
 invariant_of-self c = λ e.
     let k = c.self.inside in
     let h = c.self.invariant e in
-    let x = (with_joined c.args.signal (at Gone k.tasks c.args.pid)) in (
+    let x = (with_change c.args.change (at Gone k.tasks c.args.pid)) in (
       h.0,
-      subst (λ (o : Tasks). Watch k.sleepers k.shared o) (sym c.join.ensures.part)
-          (watch_kept k.sleepers k.shared k.tasks (with_part_at k.tasks c.args.pid x) (part_kept k.shared k.tasks c.args.pid x (joined_kept k.shared c.args.pid c.args.signal (at Gone k.tasks c.args.pid))) h.1),
+      subst (λ (o : Tasks). Watch k.run_queue k.shared o) (sym c.set_stage.ensures.part)
+          (watch_kept k.run_queue k.shared k.tasks (with_part_at k.tasks c.args.pid x) (part_kept k.shared k.tasks c.args.pid x (changed_kept k.shared c.args.pid c.args.change (at Gone k.tasks c.args.pid))) h.1),
     )

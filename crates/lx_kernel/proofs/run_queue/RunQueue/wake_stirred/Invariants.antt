@@ -1,7 +1,7 @@
 use Rattle.std.proofs.Common.{◌≡◌, ◌-◌, ◌^◌, true}
 use Rattle.lx_kernel.specs.Sleeping.{AreListed}
 use Rattle.lx_kernel.proofs.Sleeping.{RestUpTo}
-use Rattle.lx_kernel.proofs.sleepers.Sleepers.wake_stirred.Given as goal
+use Rattle.lx_kernel.proofs.run_queue.RunQueue.wake_stirred.Given as goal
 
 abbrev pub invariant-loop-pid : goal.invariant-loop-pid
 invariant-loop-pid l = record {
