@@ -80,19 +80,29 @@ fn is_set_by(name: &str, words: &[&str]) -> bool {
     words.iter().any(|word| name_of(word) == Some(name))
 }
 
+/// Adds the variable of a word, if none of the words after it sets the same.
+fn put_variable(
+    alloc: Global,
+    set: &mut Seq<Bytes>,
+    word: &str,
+    later: &[&str],
+) -> Result<(), Fault> {
+    let Some(name) = name_of(word) else {
+        return Err(Fault::usage(format!(in alloc; "-E {}: not NAME=VALUE", Shown(word))));
+    };
+    if !is_set_by(name, later) {
+        let variable = Bytes::from_slice(alloc, word.as_bytes())?;
+        set.push(variable)?;
+    }
+    Ok(())
+}
+
 /// The environment. Of words that set one variable the last counts.
 fn environment(alloc: Global, words: &[&str]) -> Result<Seq<Bytes>, Fault> {
     let mut set = Seq::new(alloc);
-    let mut left = words;
-    while let Some((word, rest)) = left.split_first() {
-        let Some(name) = name_of(word) else {
-            return Err(Fault::usage(format!(in alloc; "-E {}: not NAME=VALUE", Shown(word))));
-        };
-        if !is_set_by(name, rest) {
-            let variable = Bytes::from_slice(alloc, word.as_bytes())?;
-            set.push(variable)?;
-        }
-        left = rest;
+    for (at, word) in words.iter().copied().enumerate() {
+        let later = words.get(at.saturating_add(1)..).unwrap_or(&[]);
+        put_variable(alloc, &mut set, word, later)?;
     }
     Ok(set)
 }
