@@ -46,7 +46,8 @@ pub record Continues (limit n : ℕ) (b c : UserState) : Type 0 where
 -- a process that stands in Run goes on with its body; one that stands elsewhere stays as it is
 abbrev pub TaskContinues : ℕ → ℕ → Task UserState → Task UserState → Type 0
 TaskContinues limit n task task' =
-    ((b : UserState) × (c : UserState) × (task ≡ Alive b stages.Run) × (task' ≡ Alive c stages.Run) × Continues limit n b c)
+    ((b : UserState) × (c : UserState) × (task ≡ Alive b stages.Run) × (task' ≡ Alive c stages.Run)
+    × Continues limit n b c)
     ⊎ ((n ≡ 0) × (task' ≡ task) × ((b : UserState) → task ≢ Alive b stages.Run))
 
 -- the kernel with other parts of its processes' own

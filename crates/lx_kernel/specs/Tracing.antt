@@ -80,6 +80,7 @@ abbrev pub IsPart : Option (Task UserState) → Task UserState → Task UserStat
 IsPart None task task' changed = (task' ≡ task) × (changed ≡ false)
 IsPart (Some other) task task' changed = (task' ≡ other) × (changed ≡ true)
 
-abbrev pub with_part_at : FinMap nat_cmp (Task UserState) → ℕ → Option (Task UserState) → FinMap nat_cmp (Task UserState)
+abbrev pub with_part_at : FinMap nat_cmp (Task UserState) → ℕ → Option (Task UserState)
+    → FinMap nat_cmp (Task UserState)
 with_part_at tasks pid None = tasks
 with_part_at tasks pid (Some task) = placed tasks pid task

@@ -92,9 +92,11 @@ fn turn_at(
         (at Gone tasks.old pid))) tasks.old pid item.new t.done shared.new tasks.new) }
     ensures before { IfOk result (λ t. t.before
         ≡ task_mode_of (maps.get shared.old.entries pid) (at Gone tasks.old pid)) }
-    ensures after { IfOk result (λ t. t.after ≡ task_mode_of (maps.get shared.new.entries pid) (at Gone tasks.new pid)) }
+    ensures after { IfOk result
+        (λ t. t.after ≡ task_mode_of (maps.get shared.new.entries pid) (at Gone tasks.new pid)) }
     ensures calm { IfOk result (λ t. IsTrue t.calm → Calms shared.old shared.new child pid t.roused (event_of t.done)) }
-    ensures absent { at Gone tasks.old pid ≡ Gone → IsOkAnd result (λ t. (item.new ≡ None) × (event_of t.done ≡ Plain)) }
+    ensures absent { at Gone tasks.old pid ≡ Gone
+        → IsOkAnd result (λ t. (item.new ≡ None) × (event_of t.done ≡ Plain)) }
     ensures console { OnErr result (shared.new.console ≡ shared.old.console) }
 {
     let transition = match tasks.get_mut(pid) {

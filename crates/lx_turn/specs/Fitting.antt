@@ -37,4 +37,5 @@ TookFits s (Passes t b) = t.ended ≡ s.ended
 TookFits s (Kills w) = is_signal w ≡ true
 
 abbrev pub TakesFit : Type 0
-TakesFit = (s : Shared) (p : ℕ) (b : UserState) (signal : Signal) (cause : Cause) → TookFits s (takes s p b signal cause)
+TakesFit = (s : Shared) (p : ℕ) (b : UserState) (signal : Signal) (cause : Cause)
+    → TookFits s (takes s p b signal cause)

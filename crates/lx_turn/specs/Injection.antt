@@ -22,4 +22,5 @@ choice_of_call t pid b = choice_in t pid (a7_of (regs b))
 -- the choice of the kernel's turn
 abbrev pub choice_of_task : Injection → ℕ → Task UserState → Choice
 choice_of_task t pid task =
-    choice_at linux (choice_of t.script.now) (traces t.follow pid) (λ number. count_of t.occurrences.now pid number) task
+    choice_at linux (choice_of t.script.now) (traces t.follow pid)
+    (λ number. count_of t.occurrences.now pid number) task

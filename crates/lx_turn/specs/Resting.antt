@@ -61,7 +61,8 @@ is_calm_at Dropped = true
 -- each other process that rested rests, but for one that is roused, and a child that is born
 abbrev pub Calms : Shared → Shared → ℕ → ℕ → ℕ → Event UserState → Type 0
 Calms s s' child p roused event =
-    (q : ℕ) → (q ≡ p → ⊥) → (q ≡ roused → ⊥) → (IsBirth event → q ≡ child → ⊥) → (task : Task UserState) → rests s q task ≡ true
+    (q : ℕ) → (q ≡ p → ⊥) → (q ≡ roused → ⊥) → (IsBirth event → q ≡ child → ⊥) → (task : Task UserState)
+    → rests s q task ≡ true
     → rests s' q task ≡ true
 
 -- who is told of a process's end

@@ -63,7 +63,8 @@ pub record Continues (seen : Readiness) (p : ℕ) : Type 0 where
 
 -- a schedule that tells of turns gives them one by one
 pub record GivesRun (s : Schedule) (r : TurnRun) : Type 0 where
-  pub next : (seen : Readiness) → Continues seen r.pid → next_of s seen ≡ record { event = Some (Turn r.pid); schedule = after_turns s 1 }
+  pub next : (seen : Readiness) → Continues seen r.pid
+      → next_of s seen ≡ record { event = Some (Turn r.pid); schedule = after_turns s 1 }
   pub rest : run_of (after_turns s 1) ≡ Some (record { pid = r.pid; turns = r.turns - 1 })
 
 abbrev pub RunsAreTurns : Type 0

@@ -90,7 +90,8 @@ impl Worded {
     /// A turn by the default schedule.
     fn go_on<S: Schedulable>(&mut self, system: &S) -> Option<Event>
         requires { 0 < self.old.left }
-        ensures { record { event = result; schedule = self.new } ≡ go_on self.old (S.readiness system.now) self.old.row }
+        ensures { record { event = result; schedule = self.new }
+            ≡ go_on self.old (S.readiness system.now) self.old.row }
     {
         match self.row {
             None => self.next_row(next_able(system, 0)),
@@ -134,7 +135,8 @@ impl Worded {
     /// The next word begins.
     fn next_word<S: Schedulable>(&mut self, system: &S) -> Option<Event>
         requires { 0 < self.old.left }
-        ensures { record { event = result; schedule = self.new } ≡ by_word self.old (S.readiness system.now) self.old.words }
+        ensures { record { event = result; schedule = self.new }
+            ≡ by_word self.old (S.readiness system.now) self.old.words }
     {
         match self.words.pop() {
             None => {
@@ -159,7 +161,8 @@ impl Worded {
     /// What comes once requests were served.
     fn after_serves<S: Schedulable>(&mut self, system: &S) -> Option<Event>
         requires { 0 < self.old.left }
-        ensures { record { event = result; schedule = self.new } ≡ after_serves self.old (S.readiness system.now) self.old.returning }
+        ensures { record { event = result; schedule = self.new }
+            ≡ after_serves self.old (S.readiness system.now) self.old.returning }
     {
         match self.returning {
             Some(Returning { pid, finished }) if goes_on(system, pid, finished) => {
