@@ -78,11 +78,27 @@ impl<'a> Leavings<'a> {
     }
 }
 
+/// Names, each ended by a NUL, are those of a directory itself and of its parent alone.
+fn are_own(names: &[u8]) -> bool {
+    names
+        .split(|byte| *byte == 0)
+        .all(|name| matches!(name, b"" | b"." | b".."))
+}
+
 /// A directory has no names but its own and its parent's.
 fn is_empty<R: Files>(rt: &R, directory: &str) -> io::Result<bool> {
     let mut names = rt.open_dir(directory)?;
-    let mut first = [0u8; 512];
-    Ok(names.read(&mut first)? == 0)
+    let mut room = [0u8; 1024];
+    for _ in 0..u64::MAX {
+        let count = names.read(&mut room)?;
+        if count == 0 {
+            return Ok(true);
+        }
+        if !are_own(&room[..count]) {
+            return Ok(false);
+        }
+    }
+    Ok(false)
 }
 
 /// A path that leads from a directory to a place below it.
