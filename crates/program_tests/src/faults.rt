@@ -27,7 +27,11 @@ fn statuses_and_texts(rt: HostRuntime) -> Result<(), Fail> {
             1,
             "guest_host: serve fault 5: memory ran out\n",
         ),
-        (Fault::Output, 3, "guest_host: output fault\n"),
+        (
+            Fault::Output(format!(in alloc; "x: no")?),
+            3,
+            "guest_host: output fault: x: no\n",
+        ),
         (Fault::Memory, 3, "guest_host: out of memory\n"),
         (
             refused(ErrorKind::OutOfMemory),
