@@ -53,13 +53,13 @@ fn bad_path(alloc: Global, files: &[GuestFile]) -> Result<String, AllocError> {
 }
 
 fn repeated_path(alloc: Global, files: &[GuestFile]) -> Result<String, AllocError> {
-    let mut left = files;
-    while let Some((file, rest)) = left.split_first() {
+    let mut seen: Vec<&str> = Vec::new(alloc);
+    for file in files {
         let path = path_of(file);
-        if rest.iter().any(|other| path_of(other) == path) {
+        if seen.iter().any(|other| *other == path) {
             return format!(in alloc; ": {}", Shown(path));
         }
-        left = rest;
+        seen.push(path)?;
     }
     Ok(String::new(alloc))
 }
