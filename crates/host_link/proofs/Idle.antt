@@ -10,7 +10,7 @@ use Rattle.pt_model.specs.Hosting.{with_pending}
 use Rattle.pt_model.specs.Ptrace.{is_there}
 use Rattle.pt_kernel.specs.Attends.{Attended, GoesOn, IsFed}
 use Rattle.pt_kernel.specs.Bursts.{after}
-use Rattle.pt_kernel.specs.Hosts.{HostState, event_of, is_boot, sight_of}
+use Rattle.pt_kernel.specs.Hosts.{HostState, event_of, is_boot, readiness_of}
 use Rattle.pt_schedule.specs.Schedules.{next_of}
 use Rattle.pt_schedule.specs.declared.schedule.Schedule.{Schedule}
 use Rattle.host_link.specs.declared.fault.LinkFault.{LinkFault}
@@ -37,7 +37,7 @@ last_leaves h s es z None again last further g = further g
 fed_leaves : (h : HostState) (s : Schedule) (es : List Event) (z : Attended) (r : Reply) → z.reply ≡ Some r → IsFed h s es z → z.host.hosting.pending ≡ None
 fed_leaves h s [] z r is fed = let none : ◌≡◌ {A = Option Reply} None (Some r) = sym (ap (λ (x : Attended). x.reply) fed.1) ∙ is in absurd (cc none)
 fed_leaves h s (e ∷ es) z r is fed =
-    last_leaves (after h e) (next_of s (sight_of h)).schedule es z (event_of h e).reply (IsFed (after h e) (next_of s (sight_of h)).schedule es z) (event_leaves h e) (fed_leaves (after h e) (next_of s (sight_of h)).schedule es z r is) fed.1
+    last_leaves (after h e) (next_of s (readiness_of h)).schedule es z (event_of h e).reply (IsFed (after h e) (next_of s (readiness_of h)).schedule es z) (event_leaves h e) (fed_leaves (after h e) (next_of s (readiness_of h)).schedule es z r is) fed.1
 
 idle_at : (host : HostState) (x : Option Reply) (over : Bool) → over ≡ is_none x → over ≡ false → ((r : Reply) → x ≡ Some r → host.hosting.pending ≡ None) → is_there host.hosting.pending ≡ false
 idle_at host (Some r) over is goes leaves = ap is_there (leaves r refl)
