@@ -1,6 +1,6 @@
 -- Finding in tables.
-use Rattle.std.proofs.Common.{Bor, length, ℕ, ◌≡◌, ◌≤◌, ◌+◌, ◌-◌, ◌<◌, ◌&&◌, List, [], ◌∷◌, Option, Some, None, Bool, true, false, cond, suc, option_map, map, find, refl, arith, sym, ◌==◌}
-use Rattle.std.specs.List.{slice_get, list_all}
+use Rattle.std.proofs.Common.{Bor, length, ℕ, ◌≡◌, ◌≤◌, ◌+◌, ◌-◌, ◌<◌, ◌&&◌, ◌||◌, List, [], ◌∷◌, Option, Some, None, Bool, true, false, cond, suc, option_map, map, find, refl, arith, sym, ap, ◌==◌}
+use Rattle.std.specs.List.{slice_get, list_all, list_any}
 use Rattle.lx_abi.specs.Tables.{counts_from}
 use Rattle.std.specs.Slice.{IsItemAt}
 use Rattle.std.proofs.lemmas.Bool.Decides.{nat_tests}
@@ -14,6 +14,11 @@ chosen f x false o p e = e
 pub find-map : {A B : Type 0} (f : A → B) (p : B → Bool) (xs : List A) → find p (map f xs) ≡ option_map f (find (λ x. p (f x)) xs)
 find-map f p [] = refl
 find-map f p (x ∷ xs) = chosen f x (p (f x)) (find (λ y. p (f y)) xs) (find p (map f xs)) (find-map f p xs)
+
+-- a test of some image of a list's elements
+pub any-map : {A B : Type 0} (f : A → B) (p : B → Bool) (xs : List A) → list_any p (map f xs) ≡ list_any (λ x. p (f x)) xs
+any-map f p [] = refl
+any-map f p (x ∷ xs) = ap (λ b. p (f x) || b) (any-map f p xs)
 
 found_at : {R : Type 0} (key : R → ℕ) (k n : ℕ) (row : R) (rows : List R) (b : Bool) (o : Option R) → (key row == n) ≡ b → key row ≡ k → k ≤ n → (k + 1 ≤ n → o ≡ slice_get rows (n - (k + 1))) → cond b (Some row) o ≡ slice_get (row ∷ rows) (n - k)
 found_at key k n row rows true o t e l ih = let z : n - k ≡ 0 = grind (arith, nat_tests) in rw z refl

@@ -1,46 +1,58 @@
--- The calls of the profile: numbers (the generic table of Linux), names, classes (strace(1), Filtering)
+-- The calls of the profile: numbers (the generic table of Linux), names, classes (strace(1), Filtering), effects,
 -- and how their arguments are shown.
-use Rattle.std.specs.Prelude.{ℕ, ◌==◌, List, [], ◌∷◌, Option, Some, None, option_map, find, codes, if◌then◌else◌}
+use Rattle.std.specs.Prelude.{ℕ, ◌+◌, ◌==◌, ◌&&◌, Bool, List, [], ◌∷◌, Option, Some, None, option_map, find, codes, if◌then◌else◌}
+use Rattle.std.specs.Int.RustNames.{bit_and}
+use Rattle.std.specs.List.{list_any}
 use Rattle.std.specs.Str.{bytes_eq}
 use Rattle.lx_abi.specs.declared.calls.Class.{Class}
 use Rattle.lx_abi.specs.declared.calls.Class.TheVariants.{File, Descriptor, Process, Signal, Memory}
 use Rattle.lx_abi.specs.declared.calls.Argument.{Argument}
 use Rattle.lx_abi.specs.declared.calls.Argument.TheVariants.{Int, Long, Unsigned, Pointer, Hex, Octal, Path, Bytes, Directory, SignalNumber, OpenFlags, CreationMode, CloseOnExec, StatFlags, Protection, MapFlags, WaitOptions, UnlinkFlags, Whence, MaskChange, Strings, Environment, Action, SignalSet, Stat, DescriptorPair, WaitStatus, FrameMask, ChildStack, CloneFlags}
+use Rattle.lx_abi.specs.Effects.{plain, waits, forks, execs, exits, hex, calm}
+use Rattle.lx_abi.specs.Sys.{sys_getcwd, sys_dup, sys_dup3, sys_mkdirat, sys_unlinkat, sys_ftruncate}
+use Rattle.lx_abi.specs.Sys.{sys_chdir, sys_openat, sys_close, sys_pipe2, sys_lseek, sys_read, sys_write}
+use Rattle.lx_abi.specs.Sys.{sys_newfstatat, sys_fstat, sys_exit, sys_exit_group, sys_sched_yield, sys_kill}
+use Rattle.lx_abi.specs.Sys.{sys_rt_sigaction, sys_rt_sigprocmask, sys_rt_sigreturn, sys_getpid}
+use Rattle.lx_abi.specs.Sys.{sys_getppid, sys_gettid, sys_brk, sys_munmap, sys_clone, sys_execve, sys_mmap}
+use Rattle.lx_abi.specs.Sys.{sys_wait4}
 
--- number, name, classes, the arguments of the entry text, and those shown once the call has returned
-unfoldable pub calls : List (ℕ × List ℕ × List Class × List Argument × List Argument)
+-- number, name, classes, effects, the arguments of the entry text, and those shown once the call has returned
+abbrev pub Row : Type 0
+Row = ℕ × List ℕ × List Class × ℕ × List Argument × List Argument
+
+unfoldable pub calls : List Row
 calls =
-    (17, codes "getcwd", File ∷ [], [], Path ∷ Unsigned ∷ []) ∷
-    (23, codes "dup", Descriptor ∷ [], Int ∷ [], []) ∷
-    (24, codes "dup3", Descriptor ∷ [], Int ∷ Int ∷ CloseOnExec ∷ [], []) ∷
-    (34, codes "mkdirat", File ∷ Descriptor ∷ [], Directory ∷ Path ∷ Octal ∷ [], []) ∷
-    (35, codes "unlinkat", File ∷ Descriptor ∷ [], Directory ∷ Path ∷ UnlinkFlags ∷ [], []) ∷
-    (46, codes "ftruncate", Descriptor ∷ [], Int ∷ Long ∷ [], []) ∷
-    (49, codes "chdir", File ∷ [], Path ∷ [], []) ∷
-    (56, codes "openat", File ∷ Descriptor ∷ [], Directory ∷ Path ∷ OpenFlags ∷ CreationMode ∷ [], []) ∷
-    (57, codes "close", Descriptor ∷ [], Int ∷ [], []) ∷
-    (59, codes "pipe2", Descriptor ∷ [], [], DescriptorPair ∷ CloseOnExec ∷ []) ∷
-    (62, codes "lseek", Descriptor ∷ [], Int ∷ Long ∷ Whence ∷ [], []) ∷
-    (63, codes "read", Descriptor ∷ [], Int ∷ [], Bytes ∷ Unsigned ∷ []) ∷
-    (64, codes "write", Descriptor ∷ [], Int ∷ Bytes ∷ Unsigned ∷ [], []) ∷
-    (79, codes "newfstatat", File ∷ Descriptor ∷ [], Directory ∷ Path ∷ [], Stat ∷ StatFlags ∷ []) ∷
-    (80, codes "fstat", Descriptor ∷ [], Int ∷ [], Stat ∷ []) ∷
-    (93, codes "exit", Process ∷ [], Int ∷ [], []) ∷
-    (94, codes "exit_group", Process ∷ [], Int ∷ [], []) ∷
-    (124, codes "sched_yield", [], [], []) ∷
-    (129, codes "kill", Signal ∷ [], Int ∷ SignalNumber ∷ [], []) ∷
-    (134, codes "rt_sigaction", Signal ∷ [], SignalNumber ∷ Action ∷ [], Action ∷ Unsigned ∷ []) ∷
-    (135, codes "rt_sigprocmask", Signal ∷ [], MaskChange ∷ SignalSet ∷ [], SignalSet ∷ Unsigned ∷ []) ∷
-    (139, codes "rt_sigreturn", Signal ∷ [], FrameMask ∷ [], []) ∷
-    (172, codes "getpid", [], [], []) ∷
-    (173, codes "getppid", [], [], []) ∷
-    (178, codes "gettid", [], [], []) ∷
-    (214, codes "brk", Memory ∷ [], Pointer ∷ [], []) ∷
-    (215, codes "munmap", Memory ∷ [], Pointer ∷ Unsigned ∷ [], []) ∷
-    (220, codes "clone", Process ∷ [], ChildStack ∷ CloneFlags ∷ [], []) ∷
-    (221, codes "execve", File ∷ Process ∷ [], Path ∷ Strings ∷ Environment ∷ [], []) ∷
-    (222, codes "mmap", Descriptor ∷ Memory ∷ [], Pointer ∷ Unsigned ∷ Protection ∷ MapFlags ∷ Int ∷ Hex ∷ [], []) ∷
-    (260, codes "wait4", Process ∷ [], Int ∷ [], WaitStatus ∷ WaitOptions ∷ Pointer ∷ []) ∷
+    (sys_getcwd, codes "getcwd", File ∷ [], plain, [], Path ∷ Unsigned ∷ []) ∷
+    (sys_dup, codes "dup", Descriptor ∷ [], plain, Int ∷ [], []) ∷
+    (sys_dup3, codes "dup3", Descriptor ∷ [], plain, Int ∷ Int ∷ CloseOnExec ∷ [], []) ∷
+    (sys_mkdirat, codes "mkdirat", File ∷ Descriptor ∷ [], plain, Directory ∷ Path ∷ Octal ∷ [], []) ∷
+    (sys_unlinkat, codes "unlinkat", File ∷ Descriptor ∷ [], plain, Directory ∷ Path ∷ UnlinkFlags ∷ [], []) ∷
+    (sys_ftruncate, codes "ftruncate", Descriptor ∷ [], plain, Int ∷ Long ∷ [], []) ∷
+    (sys_chdir, codes "chdir", File ∷ [], plain, Path ∷ [], []) ∷
+    (sys_openat, codes "openat", File ∷ Descriptor ∷ [], plain, Directory ∷ Path ∷ OpenFlags ∷ CreationMode ∷ [], []) ∷
+    (sys_close, codes "close", Descriptor ∷ [], plain, Int ∷ [], []) ∷
+    (sys_pipe2, codes "pipe2", Descriptor ∷ [], plain, [], DescriptorPair ∷ CloseOnExec ∷ []) ∷
+    (sys_lseek, codes "lseek", Descriptor ∷ [], plain, Int ∷ Long ∷ Whence ∷ [], []) ∷
+    (sys_read, codes "read", Descriptor ∷ [], waits, Int ∷ [], Bytes ∷ Unsigned ∷ []) ∷
+    (sys_write, codes "write", Descriptor ∷ [], waits, Int ∷ Bytes ∷ Unsigned ∷ [], []) ∷
+    (sys_newfstatat, codes "newfstatat", File ∷ Descriptor ∷ [], plain, Directory ∷ Path ∷ [], Stat ∷ StatFlags ∷ []) ∷
+    (sys_fstat, codes "fstat", Descriptor ∷ [], plain, Int ∷ [], Stat ∷ []) ∷
+    (sys_exit, codes "exit", Process ∷ [], exits, Int ∷ [], []) ∷
+    (sys_exit_group, codes "exit_group", Process ∷ [], exits, Int ∷ [], []) ∷
+    (sys_sched_yield, codes "sched_yield", [], calm, [], []) ∷
+    (sys_kill, codes "kill", Signal ∷ [], plain, Int ∷ SignalNumber ∷ [], []) ∷
+    (sys_rt_sigaction, codes "rt_sigaction", Signal ∷ [], calm, SignalNumber ∷ Action ∷ [], Action ∷ Unsigned ∷ []) ∷
+    (sys_rt_sigprocmask, codes "rt_sigprocmask", Signal ∷ [], calm, MaskChange ∷ SignalSet ∷ [], SignalSet ∷ Unsigned ∷ []) ∷
+    (sys_rt_sigreturn, codes "rt_sigreturn", Signal ∷ [], calm, FrameMask ∷ [], []) ∷
+    (sys_getpid, codes "getpid", [], calm, [], []) ∷
+    (sys_getppid, codes "getppid", [], calm, [], []) ∷
+    (sys_gettid, codes "gettid", [], calm, [], []) ∷
+    (sys_brk, codes "brk", Memory ∷ [], hex + calm, Pointer ∷ [], []) ∷
+    (sys_munmap, codes "munmap", Memory ∷ [], calm, Pointer ∷ Unsigned ∷ [], []) ∷
+    (sys_clone, codes "clone", Process ∷ [], forks, ChildStack ∷ CloneFlags ∷ [], []) ∷
+    (sys_execve, codes "execve", File ∷ Process ∷ [], execs, Path ∷ Strings ∷ Environment ∷ [], []) ∷
+    (sys_mmap, codes "mmap", Descriptor ∷ Memory ∷ [], hex + calm, Pointer ∷ Unsigned ∷ Protection ∷ MapFlags ∷ Int ∷ Hex ∷ [], []) ∷
+    (sys_wait4, codes "wait4", Process ∷ [], waits + calm, Int ∷ [], WaitStatus ∷ WaitOptions ∷ Pointer ∷ []) ∷
     []
 
 -- the number of the call with this name
@@ -55,9 +67,18 @@ call_name number = option_map (λ row. row.1) (find (λ row. row.0 == number) ca
 unfoldable pub call_classes : ℕ → Option (List Class)
 call_classes number = option_map (λ row. row.2) (find (λ row. row.0 == number) calls)
 
+-- a row of this number has all of these effects
+abbrev pub some_has : List Row → ℕ → ℕ → Bool
+some_has rows number effects =
+    list_any (λ row. (bit_and row.3 effects == effects) && (number == row.0)) rows
+
+-- the call with this number has all of these effects
+unfoldable pub has_effects : ℕ → ℕ → Bool
+has_effects number effects = some_has calls number effects
+
 -- the arguments of the entry text, and those shown after the call, of the call with this number
 unfoldable pub call_format : ℕ → Option (List Argument × List Argument)
-call_format number = option_map (λ row. (row.3, row.4)) (find (λ row. row.0 == number) calls)
+call_format number = option_map (λ row. (row.4, row.5)) (find (λ row. row.0 == number) calls)
 
 -- the class of this name, which stands behind the % (strace(1), Filtering)
 abbrev pub class_named : List ℕ → Option Class

@@ -10,6 +10,9 @@ esrch = 3
 abbrev pub eintr : ℕ
 eintr = 4
 
+abbrev pub eio : ℕ
+eio = 5
+
 abbrev pub e2big : ℕ
 e2big = 7
 

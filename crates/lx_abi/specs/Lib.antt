@@ -1,12 +1,17 @@
 pub mod Calls
+pub mod Effects
 pub mod Errnos
 pub mod Errors
 pub mod Flags
+pub mod Limits
 pub mod Log
 pub mod Modes
 pub mod Occurrences
+pub mod Options
 pub mod Scripts
 pub mod Signals
 pub mod Status
+pub mod Sys
 pub mod Tables
+pub mod Whens
 pub mod Words

@@ -1,6 +1,7 @@
 -- What a script does to each occurrence of a call (strace(1), tampering).
-use Rattle.std.specs.Prelude.{ℕ, ◌-◌, ◌%◌, List, Option, Some, None, Bool, true, ◌&&◌, not, if◌then◌else◌, nat_eq, nat_le, reverse, find}
+use Rattle.std.specs.Prelude.{ℕ, ◌-◌, ◌%◌, List, Option, Some, None, Bool, ◌&&◌, not, if◌then◌else◌, nat_eq, nat_le, reverse, find}
 use Rattle.std.specs.List.{list_any}
+use Rattle.lx_abi.specs.Whens.{up_to}
 use Rattle.lx_abi.specs.declared.script.Set.{Set}
 use Rattle.lx_abi.specs.declared.script.Set.TheVariants.{Only, AllBut}
 use Rattle.lx_abi.specs.declared.when.When.{When}
@@ -15,11 +16,6 @@ among numbers n = list_any (λ m. nat_eq m n) numbers
 abbrev pub includes : Set → ℕ → Bool
 includes (Only numbers) n = among numbers n
 includes (AllBut numbers) n = not (among numbers n)
-
--- no occurrence after the last
-abbrev pub up_to : Option ℕ → ℕ → Bool
-up_to None n = true
-up_to (Some last) n = nat_le n last
 
 -- the nth occurrence is one of those named
 abbrev pub covers : When → ℕ → Bool

@@ -32,6 +32,10 @@ stop_by n =
 abbrev pub end_by : ℕ → Option Stop
 end_by word = cond (is_end word) (Some (Ended word)) None
 
+-- what a shell shows of an end: the exit code (WEXITSTATUS), or 128 and the signal (WTERMSIG)
+abbrev pub shell_status_of : ℕ → ℕ
+shell_status_of word = cond (word % 128 == 0) (word / 256 % 256) (128 + word % 128)
+
 -- what a word reports, where TRACESYSGOOD is set
 unfoldable pub stop_of : ℕ → Option Stop
 stop_of word = cond (word % 256 == 0x7f) (stop_by (word / 256)) (end_by word)

@@ -4,7 +4,12 @@ ghost use Rattle.std.specs.Prelude.{◌≡◌, ◌==◌, option_map, find, map};
 ghost use Rattle.std.specs.Option.{option_copied};
 ghost use Rattle.std.specs.Str.{bytes_eq};
 ghost use Rattle.lx_abi.specs.Calls as spec;
+ghost use Rattle.lx_abi.specs.Effects.{calm, waits};
 ghost use Rattle.lx_abi.specs.Tables.{call_row};
+
+use crate::effects::Effects;
+use crate::sys;
+use bitflags::Flags;
 
 /// A class of calls, as `%file` of strace(1).
 #[derive(Clone, Copy, Debug, PartialEq, Eq)]
@@ -85,22 +90,24 @@ impl Class {
     }
 }
 
-/// Number, name, classes, the arguments of the entry text, and those shown once the call has returned.
+/// Number, name, classes, effects, the arguments of the entry text, and those shown once the call has returned.
 pub type Row = (
     u64,
     &'static str,
     &'static [Class],
+    Effects,
     &'static [Argument],
     &'static [Argument],
 );
 
 /// A row for each line.
 macro_rules! calls {
-    ($($number:literal $name:literal [$($class:ident),*] [$($entry:ident),*] [$($rest:ident),*];)*) => {
+    ($($number:ident $name:literal [$($class:ident),*] [$($effect:ident),*] [$($entry:ident),*] [$($rest:ident),*];)*) => {
         [$((
-            $number,
+            sys::$number,
             $name,
             &[$(Class::$class),*],
+            Effects(0 $(| Effects::$effect.0)*),
             &[$(Argument::$entry),*],
             &[$(Argument::$rest),*],
         )),*]
@@ -108,37 +115,37 @@ macro_rules! calls {
 }
 
 static CALLS: [Row; 31] = calls! {
-    17 "getcwd" [File] [] [Path, Unsigned];
-    23 "dup" [Descriptor] [Int] [];
-    24 "dup3" [Descriptor] [Int, Int, CloseOnExec] [];
-    34 "mkdirat" [File, Descriptor] [Directory, Path, Octal] [];
-    35 "unlinkat" [File, Descriptor] [Directory, Path, UnlinkFlags] [];
-    46 "ftruncate" [Descriptor] [Int, Long] [];
-    49 "chdir" [File] [Path] [];
-    56 "openat" [File, Descriptor] [Directory, Path, OpenFlags, CreationMode] [];
-    57 "close" [Descriptor] [Int] [];
-    59 "pipe2" [Descriptor] [] [DescriptorPair, CloseOnExec];
-    62 "lseek" [Descriptor] [Int, Long, Whence] [];
-    63 "read" [Descriptor] [Int] [Bytes, Unsigned];
-    64 "write" [Descriptor] [Int, Bytes, Unsigned] [];
-    79 "newfstatat" [File, Descriptor] [Directory, Path] [Stat, StatFlags];
-    80 "fstat" [Descriptor] [Int] [Stat];
-    93 "exit" [Process] [Int] [];
-    94 "exit_group" [Process] [Int] [];
-    124 "sched_yield" [] [] [];
-    129 "kill" [Signal] [Int, SignalNumber] [];
-    134 "rt_sigaction" [Signal] [SignalNumber, Action] [Action, Unsigned];
-    135 "rt_sigprocmask" [Signal] [MaskChange, SignalSet] [SignalSet, Unsigned];
-    139 "rt_sigreturn" [Signal] [FrameMask] [];
-    172 "getpid" [] [] [];
-    173 "getppid" [] [] [];
-    178 "gettid" [] [] [];
-    214 "brk" [Memory] [Pointer] [];
-    215 "munmap" [Memory] [Pointer, Unsigned] [];
-    220 "clone" [Process] [ChildStack, CloneFlags] [];
-    221 "execve" [File, Process] [Path, Strings, Environment] [];
-    222 "mmap" [Descriptor, Memory] [Pointer, Unsigned, Protection, MapFlags, Int, Hex] [];
-    260 "wait4" [Process] [Int] [WaitStatus, WaitOptions, Pointer];
+    SYS_GETCWD "getcwd" [File] [] [] [Path, Unsigned];
+    SYS_DUP "dup" [Descriptor] [] [Int] [];
+    SYS_DUP3 "dup3" [Descriptor] [] [Int, Int, CloseOnExec] [];
+    SYS_MKDIRAT "mkdirat" [File, Descriptor] [] [Directory, Path, Octal] [];
+    SYS_UNLINKAT "unlinkat" [File, Descriptor] [] [Directory, Path, UnlinkFlags] [];
+    SYS_FTRUNCATE "ftruncate" [Descriptor] [] [Int, Long] [];
+    SYS_CHDIR "chdir" [File] [] [Path] [];
+    SYS_OPENAT "openat" [File, Descriptor] [] [Directory, Path, OpenFlags, CreationMode] [];
+    SYS_CLOSE "close" [Descriptor] [] [Int] [];
+    SYS_PIPE2 "pipe2" [Descriptor] [] [] [DescriptorPair, CloseOnExec];
+    SYS_LSEEK "lseek" [Descriptor] [] [Int, Long, Whence] [];
+    SYS_READ "read" [Descriptor] [WAITS] [Int] [Bytes, Unsigned];
+    SYS_WRITE "write" [Descriptor] [WAITS] [Int, Bytes, Unsigned] [];
+    SYS_NEWFSTATAT "newfstatat" [File, Descriptor] [] [Directory, Path] [Stat, StatFlags];
+    SYS_FSTAT "fstat" [Descriptor] [] [Int] [Stat];
+    SYS_EXIT "exit" [Process] [EXITS] [Int] [];
+    SYS_EXIT_GROUP "exit_group" [Process] [EXITS] [Int] [];
+    SYS_SCHED_YIELD "sched_yield" [] [CALM] [] [];
+    SYS_KILL "kill" [Signal] [] [Int, SignalNumber] [];
+    SYS_RT_SIGACTION "rt_sigaction" [Signal] [CALM] [SignalNumber, Action] [Action, Unsigned];
+    SYS_RT_SIGPROCMASK "rt_sigprocmask" [Signal] [CALM] [MaskChange, SignalSet] [SignalSet, Unsigned];
+    SYS_RT_SIGRETURN "rt_sigreturn" [Signal] [CALM] [FrameMask] [];
+    SYS_GETPID "getpid" [] [CALM] [] [];
+    SYS_GETPPID "getppid" [] [CALM] [] [];
+    SYS_GETTID "gettid" [] [CALM] [] [];
+    SYS_BRK "brk" [Memory] [HEX, CALM] [Pointer] [];
+    SYS_MUNMAP "munmap" [Memory] [CALM] [Pointer, Unsigned] [];
+    SYS_CLONE "clone" [Process] [FORKS] [ChildStack, CloneFlags] [];
+    SYS_EXECVE "execve" [File, Process] [EXECS] [Path, Strings, Environment] [];
+    SYS_MMAP "mmap" [Descriptor, Memory] [HEX, CALM] [Pointer, Unsigned, Protection, MapFlags, Int, Hex] [];
+    SYS_WAIT4 "wait4" [Process] [WAITS, CALM] [Int] [WaitStatus, WaitOptions, Pointer];
 };
 
 /// Every call, by rising numbers.
@@ -182,9 +189,52 @@ pub fn call_format(number: u64) -> Option<Format>
     ensures { option_map (λ f. (f.entry.now, f.rest.now)) result ≡ spec.call_format number }
 {
     row_numbered(&CALLS, number).map(|row| Format {
-        entry: row.3,
-        rest: row.4,
+        entry: row.4,
+        rest: row.5,
     })
+}
+
+/// The call with this number has all of these effects.
+pub fn has_effects(number: u64, effects: Effects) -> bool
+    ensures { result ≡ spec.has_effects number effects.0 }
+{
+    effects_in(&CALLS, number, effects)
+}
+
+/// [`Effects::CALM`] without a walk through the table, for each turn.
+#[tactic(auto, unfolding(crate::specs::Calls::has_effects, crate::specs::Calls::calls))]
+pub fn is_calm(number: u64) -> bool
+    ensures { result ≡ spec.has_effects number calm }
+{
+    matches!(
+        number,
+        sys::SYS_SCHED_YIELD
+            | sys::SYS_RT_SIGACTION
+            | sys::SYS_RT_SIGPROCMASK
+            | sys::SYS_RT_SIGRETURN
+            | sys::SYS_GETPID
+            | sys::SYS_GETPPID
+            | sys::SYS_GETTID
+            | sys::SYS_BRK
+            | sys::SYS_MUNMAP
+            | sys::SYS_MMAP
+            | sys::SYS_WAIT4
+    )
+}
+
+/// [`Effects::WAITS`] without a walk through the table, for each turn.
+#[tactic(auto, unfolding(crate::specs::Calls::has_effects, crate::specs::Calls::calls))]
+pub fn may_wait(number: u64) -> bool
+    ensures { result ≡ spec.has_effects number waits }
+{
+    matches!(number, sys::SYS_READ | sys::SYS_WRITE | sys::SYS_WAIT4)
+}
+
+fn effects_in(rows: &[Row], number: u64, effects: Effects) -> bool
+    ensures { result ≡ spec.some_has (map call_row rows.now) number effects.0 }
+{
+    rows.iter()
+        .any(|row| row.3.contains(effects) && number == row.0)
 }
 
 fn row_named<'a>(rows: &'a [Row], name: &str) -> Option<&'a Row>

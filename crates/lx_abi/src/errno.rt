@@ -182,6 +182,8 @@ impl Errno {
 
     pub const EINTR: Errno = Errno { number: 4 };
 
+    pub const EIO: Errno = Errno { number: 5 };
+
     pub const E2BIG: Errno = Errno { number: 7 };
 
     pub const ENOEXEC: Errno = Errno { number: 8 };
@@ -225,6 +227,13 @@ impl Errno {
     pub const ENOSYS: Errno = Errno { number: 38 };
 
     pub const ENOTEMPTY: Errno = Errno { number: 39 };
+
+    /// It has this number.
+    pub fn is(self, number: u32) -> bool
+        ensures { result ≡ (number == self.number) }
+    {
+        number == u32::from(self.number)
+    }
 
     /// What a call that fails leaves in a0.
     pub fn word(self) -> u64

@@ -3,8 +3,10 @@
 
 pub mod boot;
 pub mod calls;
+pub mod effects;
 pub mod errno;
 pub mod flags;
+pub mod limits;
 pub mod log;
 pub mod occurrences;
 pub mod outcome;
@@ -14,11 +16,13 @@ pub mod schedule;
 pub mod script;
 pub mod signal;
 pub mod status;
+pub mod sys;
 pub mod when;
 pub mod words;
 
-pub use boot::{Boot, GuestFile};
+pub use boot::{Boot, GuestFile, Limits};
 pub use calls::{Argument, Class, Format};
+pub use effects::Effects;
 pub use errno::Errno;
 pub use log::{Call, Cause, Item, Mode};
 pub use occurrences::Occurrences;

@@ -1,50 +1,72 @@
 //! What a tracer asks of a host and what it is answered, by the names of ptrace(2) and wait(2).
 
+ghost use Rattle.std.specs.Prelude.{◌≡◌, ◌≤◌};
+ghost use Rattle.lx_abi.specs.Options.{bits_where as bits_where_of};
+
 use crate::boot::Boot;
 use crate::outcome::Outcome;
 use crate::register_set::RegisterSet;
 use crate::schedule::Word;
 use crate::status::Status;
-use bitflags::{Flag, Flags, bitflag_items};
 use containers::{Bytes, Seq};
 
 /// pc and x1 to x31 (RISC-V Unprivileged ISA, section 2.1), as PTRACE_GETREGSET has them.
 pub type Registers = [u64; 32];
 
-/// The options of PTRACE_SETOPTIONS; no other bit is taken.
+/// A tracee's options (ptrace(2), PTRACE_SETOPTIONS).
 #[derive(Clone, Copy, Debug, PartialEq, Eq)]
-pub struct TraceOptions(u32);
+pub struct TraceOptions {
+    /// TRACESYSGOOD: a syscall stop can be told from a SIGTRAP.
+    pub good: bool,
+    /// TRACEFORK: a child becomes a tracee.
+    pub forks: bool,
+    /// TRACEEXEC: a successful execve is reported.
+    pub execs: bool,
+}
 
-bitflag_items! {
-    impl TraceOptions: u32 {
-        const TRACESYSGOOD = 1;
-        const TRACEFORK = 2;
-        const TRACEEXEC = 0x10;
+impl TraceOptions {
+    ghost use Rattle.std.specs.Prelude.{◌≡◌};
+    ghost use Rattle.lx_abi.specs.Options.{trace_options, option_bits};
+
+    pub const TRACESYSGOOD: u32 = 1;
+
+    pub const TRACEFORK: u32 = 2;
+
+    pub const TRACEEXEC: u32 = 0x10;
+
+    /// The bits of all options.
+    pub const ALL: u32 = 0x13;
+
+    /// The options of these bits; none where there are other bits.
+    pub fn from_bits(bits: u32) -> Option<TraceOptions>
+        ensures { result ≡ trace_options bits }
+    {
+        if bits & Self::ALL == bits {
+            Some(TraceOptions {
+                good: bits & Self::TRACESYSGOOD == Self::TRACESYSGOOD,
+                forks: bits & Self::TRACEFORK == Self::TRACEFORK,
+                execs: bits & Self::TRACEEXEC == Self::TRACEEXEC,
+            })
+        } else {
+            None
+        }
+    }
+
+    /// Their bits.
+    pub fn bits(self) -> u32
+        ensures { result ≡ option_bits self }
+    {
+        bits_where(self.good, Self::TRACESYSGOOD)
+            + bits_where(self.forks, Self::TRACEFORK)
+            + bits_where(self.execs, Self::TRACEEXEC)
     }
 }
 
-impl Flags for TraceOptions {
-    ghost use Rattle.std.specs.Prelude.{⊤, [], ◌∷◌, codes};
-
-    type Bits = u32;
-
-    ghost exact = { ⊤ };
-
-    ghost table = { (codes "TRACESYSGOOD", 1) ∷ (codes "TRACEFORK", 2) ∷ (codes "TRACEEXEC", 16) ∷ [] };
-
-    ghost set_of = { λ o. o.0 };
-
-    fn flags<'a>() -> &'a [Flag<TraceOptions>] {
-        TraceOptions::FLAGS
-    }
-
-    fn bits(&self) -> u32 {
-        self.0
-    }
-
-    fn from_bits_retain(bits: u32) -> TraceOptions {
-        TraceOptions(bits)
-    }
+fn bits_where(is_set: bool, bits: u32) -> u32
+    ensures value { result ≡ bits_where_of is_set bits }
+    ensures within { result ≤ bits }
+{
+    if is_set { bits } else { 0 }
 }
 
 /// A ptrace(2) request to one process.

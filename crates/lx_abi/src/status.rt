@@ -61,7 +61,7 @@ fn ended_by(word: u32) -> Option<Stop>
 }
 
 impl Status {
-    ghost use Rattle.lx_abi.specs.Status.{stop_of};
+    ghost use Rattle.lx_abi.specs.Status.{stop_of, shell_status_of};
 
     /// What the word reports of a tracee that has PTRACE_O_TRACESYSGOOD; none for a word of no stop and no end.
     #[tactic(auto, unfolding(crate::specs::Status::stop_of))]
@@ -72,6 +72,17 @@ impl Status {
             stopped_by(self.word / 256)
         } else {
             ended_by(self.word)
+        }
+    }
+
+    /// What a shell shows of a process that has ended so: its exit code, or 128 and the signal that ended it.
+    pub fn shell_status(self) -> u8
+        ensures { result ≡ shell_status_of self.word }
+    {
+        if self.word % 128 == 0 {
+            (self.word / 256 % 256) as u8
+        } else {
+            128 + (self.word % 128) as u8
         }
     }
 }

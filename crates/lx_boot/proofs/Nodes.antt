@@ -6,8 +6,9 @@ use Rattle.std.specs.List.{list_any, common_prefix_len}
 use Rattle.std.proofs.lemmas.Bool.Decides.{nat_tests}
 use Rattle.std.proofs.lemmas.List.Sums.{common_prefix_len-le, common_prefix_len-drop_yes, common_prefix_len-drop_no}
 use Rattle.lx_abi.specs.declared.boot.GuestFile.{GuestFile}
+use Rattle.lx_abi.specs.Limits.{most_nodes}
 use Rattle.lx_boot.specs.Paths.{is_under}
-use Rattle.lx_boot.specs.Limits.{is_new_directory, new_directories, nodes, most_nodes}
+use Rattle.lx_boot.specs.Limits.{is_new_directory, new_directories, nodes}
 
 at_slash : (x y n : ℕ) → x ≡ 47 → eqb y 47 ≡ nat_lt 0 (cond (nat_eq x y) (1 + n) 0)
 at_slash x y n h = go (nat_eq x y) refl

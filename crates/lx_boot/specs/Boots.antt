@@ -4,11 +4,12 @@ use Rattle.std.specs.List.{list_any, slice_split}
 use Rattle.std.specs.Str.{bytes_eq}
 use Rattle.lx_abi.specs.declared.boot.Boot.{Boot}
 use Rattle.lx_abi.specs.declared.boot.GuestFile.{GuestFile}
+use Rattle.lx_abi.specs.Limits.{are_limits}
 use Rattle.lx_boot.specs.declared.boots.BootFault.{BootFault}
-use Rattle.lx_boot.specs.declared.boots.BootFault.TheVariants.{BadPath, Duplicate, NoProgram, TooLarge, Memory}
+use Rattle.lx_boot.specs.declared.boots.BootFault.TheVariants.{BadPath, Duplicate, NoProgram, TooLarge, Memory, BadLimit}
 use Rattle.lx_boot.specs.Paths.{is_under}
 use Rattle.lx_boot.specs.Limits.{files_fit}
-use Rattle.lx_proc.specs.Starts.{start_limit}
+use Rattle.lx_abi.specs.Limits.{start_limit}
 use Rattle.lx_exec.specs.Programs.{start_size}
 
 -- the number of a fault, as programs show it
@@ -18,6 +19,7 @@ fault_number Duplicate = 2
 fault_number NoProgram = 3
 fault_number TooLarge = 4
 fault_number Memory = 5
+fault_number BadLimit = 6
 
 -- an empty part of a path, `.` or `..`
 unfoldable pub is_bad_part : List ℕ → Bool
@@ -56,7 +58,8 @@ fits boot = files_fit boot.files && nat_le (start_size boot.argv boot.env) start
 -- the first fault that applies
 abbrev pub fault_of : Boot → Option BootFault
 fault_of boot =
-    if has_bad_path boot.files then Some BadPath
+    if not (are_limits boot.limits) then Some BadLimit
+    else if has_bad_path boot.files then Some BadPath
     else if has_duplicate boot.files then Some Duplicate
     else if has_no_program boot.argv boot.env then Some NoProgram
     else if fits boot then None

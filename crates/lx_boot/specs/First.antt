@@ -4,6 +4,7 @@ use Rattle.std.specs.FinMap as maps
 use Rattle.std.specs.FinMap.{FinMap}
 use Rattle.std.specs.Ordering.{nat_cmp}
 use Rattle.lx_abi.specs.declared.boot.GuestFile.{GuestFile}
+use Rattle.lx_abi.specs.declared.boot.Limits.{Limits}
 use Rattle.lx_model.specs.declared.stage.Task.{Task}
 use Rattle.lx_model.specs.declared.stage.Stage.TheVariants.{Born}
 use Rattle.lx_model.specs.declared.stage.Task.TheVariants as task
@@ -17,6 +18,7 @@ use Rattle.lx_proc.specs.declared.state.Entry.{Entry}
 use Rattle.lx_proc.specs.declared.state.Shared.{Shared}
 use Rattle.lx_proc.specs.declared.state.UserState.{UserState}
 use Rattle.lx_proc.specs.declared.state.Life.TheVariants.{Alive}
+use Rattle.lx_proc.specs.State.{limits_of}
 use Rattle.lx_exec.specs.Programs.{booted}
 use Rattle.lx_files.specs.Boots.{tree_of}
 
@@ -35,8 +37,16 @@ writes object = record { object = object; offset = 0; may_read = false; may_writ
 unfoldable pub first_fds : FdTable
 first_fds = opened (opened (opened no_fds 1 0 (reads Input) false) 1 1 (writes Console) false) 1 2 (writes Console) false
 
-abbrev pub first_shared : List GuestFile → List ℕ → Shared
-first_shared files input = record { tree = tree_of files; fds = first_fds; input = input; console = []; entries = maps.insert maps.empty 1 first_entry; ended = maps.empty }
+abbrev pub first_shared : Limits → List GuestFile → List ℕ → Shared
+first_shared limits files input = record {
+  limits = limits_of limits;
+  tree = tree_of files;
+  fds = first_fds;
+  input = input;
+  console = [];
+  entries = maps.insert maps.empty 1 first_entry;
+  ended = maps.empty;
+}
 
 abbrev pub first_tasks : List (List ℕ) → List (List ℕ) → FinMap nat_cmp (Task UserState)
 first_tasks argv env = maps.insert maps.empty 1 (task.Alive (booted argv env) Born)

@@ -1,29 +1,10 @@
--- Limits of files and of their paths.
+-- Files and their paths are within the limits.
 use Rattle.std.specs.Prelude.{ℕ, zero, suc, ◌+◌, ◌==◌, ◌&&◌, not, nat_le, Bool, List, [], ◌∷◌, take, length, if◌then◌else◌}
 use Rattle.std.specs.List.{list_any, list_all, slice_split, sum_by}
+use Rattle.lx_abi.specs.Limits.{longest_path, longest_name, largest_file, most_contents, most_nodes}
 use Rattle.lx_abi.specs.declared.boot.GuestFile.{GuestFile}
 use Rattle.lx_files.specs.Boots.{ends_directory}
 use Rattle.lx_boot.specs.Paths.{is_under}
-
--- the most bytes of a path (limits.h, PATH_MAX, which counts its NUL too)
-abbrev pub longest_path : ℕ
-longest_path = 4095
-
--- the most bytes between two slashes of a path (limits.h, NAME_MAX)
-abbrev pub longest_name : ℕ
-longest_name = 255
-
--- the most bytes of a file
-abbrev pub largest_file : ℕ
-largest_file = 16777216
-
--- the most bytes of all files and the console
-abbrev pub most_contents : ℕ
-most_contents = 67108864
-
--- the most files and directories, the root among them
-abbrev pub most_nodes : ℕ
-most_nodes = 4096
 
 abbrev pub name_fits : List ℕ → Bool
 name_fits name = nat_le (length name) longest_name

@@ -33,6 +33,9 @@ pub enum BootFault {
     /// Memory ran out.
     #[error("memory ran out")]
     Memory = 5,
+    /// A limit of processes or of pids is out of its range. This is found before all others.
+    #[error("a limit is out of its range")]
+    BadLimit = 6,
 }
 
 impl BootFault {
@@ -168,7 +171,9 @@ pub fn boot_fault(alloc: Global, boot: &Boot) -> Option<BootFault>
 {
     let files = boot.files.as_slice();
     let told = tell(alloc, files);
-    if has_bad_path(files, &told) {
+    if !boot.limits.are_in_range() {
+        Some(BootFault::BadLimit)
+    } else if has_bad_path(files, &told) {
         Some(BootFault::BadPath)
     } else if has_duplicate(files, &told) {
         Some(BootFault::Duplicate)

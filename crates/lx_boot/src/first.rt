@@ -1,17 +1,18 @@
 //! The parts of a kernel's first state.
 
-ghost use Rattle.std.specs.Prelude.{◌≡◌, ◌≤◌, IfOk};
+ghost use Rattle.std.specs.Prelude.{◌≡◌, ◌≤◌, IfOk, IsTrue};
+ghost use Rattle.lx_abi.specs.Limits.{are_limits};
 ghost use Rattle.lx_boot.specs.First.{first_entry as entry_of_first, first_fds as fds_at_first, reads, writes, first_shared as shared_at_first, first_tasks as tasks_at_first};
 ghost use Rattle.lx_exec.specs.Programs.{start_size};
-ghost use Rattle.lx_proc.specs.Starts.{start_limit};
+ghost use Rattle.lx_abi.specs.Limits.{start_limit};
 
 use containers::{Bytes, Map};
-use lx_abi::GuestFile;
+use lx_abi::{GuestFile, Limits};
 use lx_exec::begin_stub;
 use lx_files::plant;
 use lx_model::{Stage, Task};
 use lx_open::{Description, FdTable, Object, PipeBuffer};
-use lx_proc::{Entry, Life, Shared, Table, UserState, WaitWords};
+use lx_proc::{Entry, Life, ProcessLimits, Shared, Table, UserState, WaitWords};
 use lx_sig::Signals;
 use std::alloc::{AllocError, Global};
 
@@ -66,14 +67,21 @@ fn first_fds(alloc: Global) -> Result<FdTable, AllocError>
 }
 
 /// What processes share at first.
-pub fn first_shared(alloc: Global, files: &[GuestFile], input: Bytes) -> Result<Shared, AllocError>
-    ensures { IfOk result (λ s. s ≡ shared_at_first files.now input) }
+pub fn first_shared(
+    alloc: Global,
+    limits: Limits,
+    files: &[GuestFile],
+    input: Bytes,
+) -> Result<Shared, AllocError>
+    requires { IsTrue (are_limits limits) }
+    ensures { IfOk result (λ s. s ≡ shared_at_first limits files.now input) }
 {
     let tree = plant(alloc, files)?;
     let fds = first_fds(alloc)?;
     let mut entries = Table::new(alloc);
     entries.insert(1, first_entry(alloc))?;
     Ok(Shared {
+        limits: ProcessLimits::new(limits),
         tree,
         fds,
         input: PipeBuffer::from_vec(input.into_vec()),

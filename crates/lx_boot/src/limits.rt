@@ -1,25 +1,12 @@
-//! Limits of files and of their paths.
+//! Files and their paths are within the limits.
 
 ghost use Rattle.std.specs.Prelude.{◌≡◌, ◌<◌, ◌≤◌, ◌==◌, ◌&&◌, nat_eq, nat_le, nat_lt, fold, length, max, slice_index};
 ghost use Rattle.std.specs.List.{list_all, slice_split, sum_by, common_prefix_len};
-ghost use Rattle.lx_boot.specs.Limits.{name_fits as name_fits_of, path_fits as path_fits_of, file_fits as file_fits_of, content_size, most_contents, most_nodes, new_directories as new_directories_of, nodes, files_fit as files_fit_of};
+ghost use Rattle.lx_abi.specs.Limits.{most_contents, most_nodes};
+ghost use Rattle.lx_boot.specs.Limits.{name_fits as name_fits_of, path_fits as path_fits_of, file_fits as file_fits_of, content_size, new_directories as new_directories_of, nodes, files_fit as files_fit_of};
 
 use lx_abi::GuestFile;
-
-/// The most bytes of a path.
-const LONGEST_PATH: usize = 4095;
-
-/// The most bytes between two slashes of a path.
-const LONGEST_NAME: usize = 255;
-
-/// The most bytes of a file.
-const LARGEST_FILE: usize = 16_777_216;
-
-/// The most bytes of all files and the console.
-const MOST_CONTENTS: usize = 67_108_864;
-
-/// The most files and directories, the root among them.
-const MOST_NODES: usize = 4096;
+use lx_abi::limits::{LARGEST_FILE, LONGEST_NAME, LONGEST_PATH, MOST_CONTENTS, MOST_NODES};
 
 fn name_fits(name: &[u8]) -> bool
     ensures { result ≡ name_fits_of name.now }
@@ -43,7 +30,7 @@ fn path_fits(path: &[u8]) -> bool
 fn file_fits(file: &GuestFile) -> bool
     ensures { result ≡ file_fits_of file.now }
 {
-    path_fits(file.path.as_slice()) && file.content.len() <= LARGEST_FILE
+    path_fits(file.path.as_slice()) && file.content.len() as u64 <= LARGEST_FILE
 }
 
 /// What all files hold is not too much.
@@ -52,7 +39,7 @@ fn contents_fit(files: &[GuestFile]) -> bool
 {
     let mut left = MOST_CONTENTS;
     for file in files {
-        match left.checked_sub(file.content.len()) {
+        match left.checked_sub(file.content.len() as u64) {
             None => return false,
             Some(less) => left = less,
         }

@@ -3,6 +3,7 @@ use Rattle.std.proofs.Common.{◌≡◌, ℕ, ◌<◌, true, List, Some, refl, a
 use Rattle.std.specs.Prelude.{nat_lt}
 use Rattle.std.specs.List.{sum_by}
 use Rattle.std.proofs.lemmas.Bool.Decides.{nat_tests}
+use Rattle.lx_abi.specs.Limits.{start_limit}
 use Rattle.elf_image.specs.declared.image.Image.{Image}
 use Rattle.lx_abi.specs.Errnos.{e2big}
 use Rattle.lx_model.specs.Machine.{Refused}
@@ -11,7 +12,6 @@ use Rattle.lx_proc.specs.declared.texts.Words.TheVariants as words
 use Rattle.lx_proc.specs.declared.texts.Words.{Words}
 use Rattle.lx_proc.specs.Starts.{cost_of}
 use Rattle.lx_exec.specs.Programs.{start_size}
-use Rattle.lx_proc.specs.Starts.{start_limit}
 use Rattle.lx_proc.specs.Read.{Reads}
 use Rattle.lx_exec.specs.Execve.{begins}
 use Rattle.lx_proc.proofs.Looking.{texts_or_none}

@@ -14,6 +14,7 @@ use Rattle.std.proofs.lemmas.Cmp.{nat_cmp_total, eq_by_cmp_equiv}
 use Rattle.std.proofs.lemmas.List.Sums.{length-filter}
 use Rattle.std.proofs.lemmas.List.Folds.{list_any_at}
 use Rattle.std.proofs.lemmas.Map.Made.{length-le_from_is_member}
+use Rattle.lx_abi.specs.Limits.{start_limit}
 use Rattle.rv_mem.specs.Memory.{Memory, Cell, first_fault, fault_of, written, with_byte, or_memory}
 use Rattle.rv_mem.specs.Mapping.{mapped, mapped_cell, page_count, limit_fault}
 use Rattle.rv_mem.specs.declared.rights.Rights.{Rights}
@@ -29,7 +30,6 @@ use Rattle.elf_image.specs.Layout.{page_count as extents_count}
 use Rattle.std.specs.Int.{w64, to_le_bytes}
 use Rattle.lx_exec.specs.declared.programs.Start.{Start}
 use Rattle.lx_exec.specs.Programs.{with_segment, with_image, bare_memory, stack_top, stack_size, page, read_write, read_execute, return_code, rights_of, doublewords, start_size, IsStart}
-use Rattle.lx_proc.specs.Starts.{start_limit}
 use Rattle.lx_exec.specs.Rooms.{stack_pages, pages_under, program_pages, segment_mapped, IsOn, IsMapped, IsOnStack}
 
 -- what a memory has at an address once addresses are mapped, or bytes written

@@ -3,8 +3,8 @@ use Rattle.std.proofs.Common.{◌≡◌, ℕ, ◌+◌, ◌*◌, ◌-◌, ◌<◌
 use Rattle.std.specs.List.{sum_by}
 use Rattle.std.proofs.lemmas.List.Sums.{sum_by-cons, sum_by-append}
 use Rattle.std.proofs.lemmas.Bool.Decides.{nat_tests}
+use Rattle.lx_abi.specs.Limits.{start_limit}
 use Rattle.lx_exec.specs.Programs.{strings, addresses, vector, strings_start, start_size}
-use Rattle.lx_proc.specs.Starts.{start_limit}
 use Rattle.lx_proc.specs.Starts.{cost_of}
 
 length-strings : (ws : List (List ℕ)) → length (strings ws) + 8 * length ws ≡ sum_by cost_of ws

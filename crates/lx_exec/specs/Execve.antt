@@ -4,12 +4,12 @@ use Rattle.lx_abi.specs.Errnos.{enoent, e2big, enoexec, eacces, efault, enotdir,
 use Rattle.lx_abi.specs.declared.log.Call.{Call}
 use Rattle.lx_abi.specs.declared.outcome.Node.{Node}
 use Rattle.lx_abi.specs.declared.outcome.Node.TheVariants as node
+use Rattle.lx_abi.specs.Limits.{path_limit, start_limit}
 use Rattle.elf_image.specs.declared.image.Image.{Image}
 use Rattle.elf_image.specs.Checks.{fault_of}
 use Rattle.elf_image.specs.Images.{image_of}
 use Rattle.lx_model.specs.Machine.{Refused, Returns, Jumps, Execs, Bears, Blocks, Ends}
 use Rattle.lx_sig.specs.Reactions.{after_exec}
-use Rattle.lx_files.specs.Limits.{path_limit}
 use Rattle.lx_files.specs.Trees.{node_at}
 use Rattle.lx_files.specs.Places.{place, path_of}
 use Rattle.lx_files.specs.declared.places.Place.{Place}
@@ -18,7 +18,6 @@ use Rattle.lx_proc.specs.declared.state.Shared.{Shared}
 use Rattle.lx_proc.specs.declared.state.UserState.{UserState}
 use Rattle.lx_proc.specs.State.{changed, with_entries, with_held, with_signals, directory}
 use Rattle.lx_proc.specs.Answers.{Answers, argument, given, granted}
-use Rattle.lx_proc.specs.Starts.{start_limit}
 use Rattle.lx_proc.specs.Texts.{Text, Whole, TooLong, Unreadable, text_at, list_at}
 use Rattle.lx_exec.specs.Programs.{start_size, started}
 

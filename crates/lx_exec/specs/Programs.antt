@@ -8,6 +8,7 @@ use Rattle.rv_mem.specs.declared.rights.Rights.{Rights}
 use Rattle.elf_image.specs.declared.image.Rights as image_rights
 use Rattle.elf_image.specs.declared.image.Segment.{Segment}
 use Rattle.elf_image.specs.declared.image.Image.{Image}
+use Rattle.lx_abi.specs.Sys.{sys_execve}
 use Rattle.lx_proc.specs.declared.state.Heap.{Heap}
 use Rattle.lx_proc.specs.declared.state.UserState.{UserState}
 use Rattle.lx_exec.specs.Pages.{pages_for}
@@ -136,7 +137,7 @@ stub_image = record { entry = 0x10000; segments = record { address = 0x10000; si
 
 abbrev pub stub_registers : List (List ℕ) → List (List ℕ) → List ℕ
 stub_registers argv env =
-    set (set (set (set (start_registers argv env) 10 (strings_start argv env)) 11 (start_sp argv env + 8)) 12 (start_sp argv env + 16 + 8 * length argv)) 17 221
+    set (set (set (set (start_registers argv env) 10 (strings_start argv env)) 11 (start_sp argv env + 8)) 12 (start_sp argv env + 16 + 8 * length argv)) 17 sys_execve
 
 -- the body of process 1
 abbrev pub booted : List (List ℕ) → List (List ℕ) → UserState

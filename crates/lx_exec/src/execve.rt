@@ -15,6 +15,7 @@ ghost use Rattle.lx_exec.specs.Execve.{runs_at as place_run, runs_path as path_r
 
 use crate::programs::{begin_program, start_fits};
 use elf_image::{ElfFault, Image};
+use lx_abi::limits::PATH_LIMIT;
 use lx_abi::{Call, Errno, Node};
 use lx_files::Place;
 use lx_files::places::{locate, path};
@@ -22,9 +23,6 @@ use lx_open::release::close_on_exec;
 use lx_proc::{CallReply, Shared, Table, Text, UserState, Words, directory, list_at, text_at};
 use lx_sig::reset_for_exec;
 use std::alloc::{AllocError, Global};
-
-/// A path has at most so many bytes, with its NUL.
-const PATH_LIMIT: u64 = 4096;
 
 /// A program takes the place of the caller's, if its words are not too large for its start.
 fn begin(

@@ -3,13 +3,14 @@
 ghost use Rattle.std.specs.List.{sum_by};
 ghost use Rattle.std.specs.Prelude.{◌≡◌, ◌++◌, ◌≤◌, ◌<◌, ◌+◌, ◌*◌, ◌^◌, ◌-◌};
 ghost use Rattle.std.specs.Prelude.{nat_le, SomeIff, OnOk, IfOk, All, length, fold, map};
+ghost use Rattle.lx_abi.specs.Limits.{start_limit};
 ghost use Rattle.rv_mem.specs.Memory.{written};
 ghost use Rattle.rv_mem.specs.Mapping.{mapped as with_pages};
 ghost use Rattle.rv_mem.specs.Mapping.{page_count};
 ghost use Rattle.elf_image.specs.Images.{IsInRange, IsLaidOut, extent_of};
 ghost use Rattle.elf_image.specs.Layout.{page_count as extents_count};
 ghost use Rattle.lx_exec.specs.Rooms.{IsOn, IsMapped, IsOnStack, program_pages, segment_mapped};
-ghost use Rattle.lx_proc.specs.Starts.{start_limit, cost_of};
+ghost use Rattle.lx_proc.specs.Starts.{cost_of};
 ghost use Rattle.lx_exec.specs.Programs.{strings as strings_of, addresses, vector_from, start_size};
 ghost use Rattle.lx_exec.specs.Programs.{doublewords as bytes_of, with_segment, bare_memory, begun, started};
 ghost use Rattle.lx_exec.specs.Programs.{highest_end as highest_end_of, first_heap, stub_image, booted, IsStart};
@@ -17,7 +18,9 @@ ghost use Rattle.lx_exec.specs.Programs.{highest_end as highest_end_of, first_he
 use crate::pages::{PAGE, pages_for};
 use containers::Bytes;
 use elf_image::{Image, Rights as SegmentRights, Segment, Segments};
-use lx_proc::{Heap, START_LIMIT, UserState, WORD_COST};
+use lx_abi::limits::{START_LIMIT, WORD_COST};
+use lx_abi::sys;
+use lx_proc::{Heap, UserState};
 use rv_hart::Hart;
 use rv_mem::{MemFault, Rights, Space};
 use std::alloc::{AllocError, Global};
@@ -336,8 +339,6 @@ const STUB: [u8; 16] = [
     0x73, 0x00, 0x00, 0x00, 0x13, 0x05, 0xF0, 0x07, 0x93, 0x08, 0xE0, 0x05, 0x73, 0x00, 0x00, 0x00,
 ];
 
-const EXECVE: u64 = 221;
-
 /// The image of the first program.
 fn stub(alloc: Global) -> Result<Image, AllocError>
     ensures image { IfOk result (λ i. i ≡ stub_image) }
@@ -374,6 +375,6 @@ pub fn begin_stub(alloc: Global, argv: &[Bytes], env: &[Bytes]) -> Result<UserSt
     user.hart.registers[10] = start.address;
     user.hart.registers[11] = start.sp + 8;
     user.hart.registers[12] = start.sp + 16 + 8 * argv.len() as u64;
-    user.hart.registers[17] = EXECVE;
+    user.hart.registers[17] = sys::SYS_EXECVE;
     Ok(user)
 }

@@ -2,6 +2,7 @@
 use Rattle.std.proofs.Common.{◌≡◌, ℕ, ◌+◌, ◌&&◌, Bool, true, false, cond, List, length, Option, Some, None, refl, ap, ◌∙◌}
 use Rattle.std.specs.Prelude.{◌==◌, not, nat_lt, nat_le, ◌++◌, min, is_none, is_some}
 use Rattle.lx_abi.specs.declared.log.Call.{Call}
+use Rattle.lx_abi.specs.Limits.{largest_file, most_moved, pipe_size}
 use Rattle.rv_mem.specs.Memory.{first_fault, bytes_at, written}
 use Rattle.rv_mem.specs.declared.fault.MemFault.{MemFault}
 use Rattle.rv_mem.specs.declared.rights.Access.TheVariants as access
@@ -11,7 +12,6 @@ use Rattle.lx_open.specs.declared.description.Object.{Object}
 use Rattle.lx_open.specs.declared.description.Object.TheVariants.{Input, Console, ReadEnd, WriteEnd, Opened}
 use Rattle.lx_open.specs.declared.description.Description.{Description}
 use Rattle.lx_open.specs.declared.description.Slot.{Slot}
-use Rattle.lx_files.specs.Limits.{largest_file}
 use Rattle.lx_files.specs.Contents.{overwritten, length_after}
 use Rattle.lx_files.specs.Trees.{content, with_content}
 use Rattle.lx_open.specs.Opens.{with_offset, slot, description, held, has_readers}
@@ -19,7 +19,7 @@ use Rattle.lx_proc.specs.declared.state.Shared.{Shared}
 use Rattle.lx_proc.specs.declared.state.UserState.{UserState}
 use Rattle.lx_proc.specs.State.{with_memory}
 use Rattle.lx_proc.specs.Answers.{Answers, argument, low_argument, unless, given, gives}
-use Rattle.lx_fcalls.specs.Moving.{has_space, most_moved, pipe_size}
+use Rattle.lx_fcalls.specs.Moving.{has_space}
 use Rattle.lx_fcalls.specs.Read.{read, reads_object, waits}
 use Rattle.lx_fcalls.specs.Write.{writes_file, breaks_pipe, write, writes_object, writes_console, writes_at, start_of}
 use Rattle.lx_fcalls.specs.Blocking.{read_waits, reading_waits, read_would_block, write_waits, writing_waits, write_would_block, passes}

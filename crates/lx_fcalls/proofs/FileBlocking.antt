@@ -8,7 +8,7 @@ use Rattle.std.specs.declared.result.Result.TheVariants.{Ok, Err}
 use Rattle.lx_abi.specs.declared.log.Call.{Call}
 use Rattle.containers.specs.Vacant.{vacant}
 use Rattle.lx_abi.specs.Errnos.{enoent, ebadf, ebusy, eexist, eisdir, einval, emfile, efbig, enospc, erange, enotempty}
-use Rattle.lx_files.specs.Limits.{largest_file}
+use Rattle.lx_abi.specs.Limits.{largest_file, most_fds}
 use Rattle.lx_files.specs.Trees.{content, has_room, is_empty}
 use Rattle.lx_files.specs.Places.{path_of, seen}
 use Rattle.lx_files.specs.declared.places.Place.{Place}
@@ -69,7 +69,7 @@ module _ (s : Shared) (p : ℕ) (call : Call) (b : UserState) where
   unfolding dup3
   dup3_never =
       unless_never (is_within (argument call 2) o_cloexec) einval _ (given_never (opens.slot s.fds p (low_argument call 0)) ebadf _ (λ named.
-      unless_never (nat_lt (low_argument call 1) opens.most_fds) ebadf _ (unless_never (not (low_argument call 0 == low_argument call 1)) einval _ refl)))
+      unless_never (nat_lt (low_argument call 1) most_fds) ebadf _ (unless_never (not (low_argument call 0 == low_argument call 1)) einval _ refl)))
 
   pipe2_never : is_blocked (pipe2 s p call b) ≡ false
   unfolding pipe2

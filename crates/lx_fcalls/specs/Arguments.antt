@@ -3,7 +3,7 @@ use Rattle.std.specs.Prelude.{ℕ, ◌==◌, ◌||◌, Bool, List, if◌then◌e
 use Rattle.std.specs.declared.result.Result.{Result}
 use Rattle.std.specs.declared.result.Result.TheVariants.{Ok, Err}
 use Rattle.lx_abi.specs.Errnos.{ebadf, efault, enametoolong}
-use Rattle.lx_files.specs.Limits.{path_limit}
+use Rattle.lx_abi.specs.Limits.{path_limit}
 use Rattle.lx_files.specs.Places.{place, is_absolute, and_then}
 use Rattle.lx_files.specs.declared.places.Place.{Place}
 use Rattle.lx_open.specs.Opens.{slot, description}

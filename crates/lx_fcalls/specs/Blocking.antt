@@ -2,6 +2,8 @@
 use Rattle.std.specs.Prelude.{ℕ, ◌+◌, ◌==◌, ◌&&◌, nat_lt, Bool, false, length, min, Option, Some, None, is_none}
 use Rattle.std.specs.Prelude.{if◌then◌else◌}
 use Rattle.lx_abi.specs.declared.log.Call.{Call}
+use Rattle.lx_abi.specs.Limits.{most_moved, pipe_size}
+use Rattle.lx_abi.specs.Sys.{sys_read, sys_write}
 use Rattle.rv_mem.specs.Memory.{Memory, first_fault}
 use Rattle.rv_mem.specs.declared.rights.Access.TheVariants as access
 use Rattle.lx_open.specs.Opens.{slot, description, held, has_readers}
@@ -12,7 +14,6 @@ use Rattle.lx_open.specs.declared.fd_table.FdTable.{FdTable}
 use Rattle.lx_proc.specs.Answers.{argument, low_argument}
 use Rattle.lx_proc.specs.declared.state.UserState.{UserState}
 use Rattle.lx_proc.specs.declared.state.Shared.{Shared}
-use Rattle.lx_fcalls.specs.Moving.{most_moved, pipe_size}
 use Rattle.lx_fcalls.specs.Read.{waits}
 
 -- there is one, and it passes
@@ -59,6 +60,6 @@ write_would_block s p call b =
 -- no other call on files blocks
 unfoldable pub would_block : Shared → ℕ → Call → UserState → Bool
 would_block s p call b =
-    if call.number == 63 then read_would_block s p call
-    else if call.number == 64 then write_would_block s p call b
+    if call.number == sys_read then read_would_block s p call
+    else if call.number == sys_write then write_would_block s p call b
     else false

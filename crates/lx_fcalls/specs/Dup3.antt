@@ -2,8 +2,9 @@
 use Rattle.std.specs.Prelude.{ℕ, ◌==◌, not, nat_lt, Bool}
 use Rattle.lx_abi.specs.Errnos.{ebadf, einval}
 use Rattle.lx_abi.specs.declared.log.Call.{Call}
+use Rattle.lx_abi.specs.Limits.{most_fds}
 use Rattle.lx_model.specs.Machine.{Returns}
-use Rattle.lx_open.specs.Opens.{description, most_fds, with_slot}
+use Rattle.lx_open.specs.Opens.{description, with_slot}
 use Rattle.lx_open.specs.Releases.{Held, closed}
 use Rattle.lx_open.specs.Opens as opens
 use Rattle.lx_proc.specs.Answers.{Answers, argument, low_argument, unless, given}

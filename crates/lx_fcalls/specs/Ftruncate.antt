@@ -2,9 +2,9 @@
 use Rattle.std.specs.Prelude.{ℕ, ◌^◌, nat_lt, nat_le, length}
 use Rattle.lx_abi.specs.Errnos.{einval, efbig, enospc}
 use Rattle.lx_abi.specs.declared.log.Call.{Call}
+use Rattle.lx_abi.specs.Limits.{largest_file}
 use Rattle.lx_model.specs.Machine.{Refused, Returns}
 use Rattle.lx_files.specs.Contents.{padded_to}
-use Rattle.lx_files.specs.Limits.{largest_file}
 use Rattle.lx_files.specs.Trees.{with_content, content}
 use Rattle.lx_open.specs.declared.description.Object.{Object}
 use Rattle.lx_open.specs.declared.description.Object.TheVariants.{Input, Console, ReadEnd, WriteEnd, Opened}

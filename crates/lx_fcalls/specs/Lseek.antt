@@ -3,8 +3,8 @@ use Rattle.std.specs.Option.{option_and_then}
 use Rattle.std.specs.Prelude.{ℕ, ◌+◌, ◌-◌, ◌^◌, ◌==◌, nat_lt, nat_le, length, Option, Some, None, if◌then◌else◌}
 use Rattle.lx_abi.specs.Errnos.{einval, espipe}
 use Rattle.lx_abi.specs.declared.log.Call.{Call}
+use Rattle.lx_abi.specs.Limits.{largest_file}
 use Rattle.lx_model.specs.Machine.{Refused, Returns}
-use Rattle.lx_files.specs.Limits.{largest_file}
 use Rattle.lx_files.specs.Trees.{content}
 use Rattle.lx_open.specs.Opens.{with_offset}
 use Rattle.lx_open.specs.declared.description.Description.{Description}

@@ -2,6 +2,7 @@
 use Rattle.std.specs.Prelude.{ℕ, ◌+◌, ◌==◌, ◌&&◌, nat_lt, Bool, List, length, take, drop, min, if◌then◌else◌}
 use Rattle.lx_abi.specs.Errnos.{ebadf}
 use Rattle.lx_abi.specs.declared.log.Call.{Call}
+use Rattle.lx_abi.specs.Limits.{most_moved}
 use Rattle.lx_model.specs.Machine.{Refused, Blocks}
 use Rattle.lx_files.specs.Trees.{content}
 use Rattle.lx_open.specs.Opens.{held, has_writers, with_held, with_offset}
@@ -15,7 +16,6 @@ use Rattle.lx_proc.specs.State.{with_fds}
 use Rattle.lx_proc.specs.declared.state.UserState.{UserState}
 use Rattle.lx_proc.specs.declared.state.Shared.{Shared}
 use Rattle.lx_fcalls.specs.Arguments.{opened}
-use Rattle.lx_fcalls.specs.Moving.{most_moved}
 
 abbrev pub reads : Shared → UserState → ℕ → List ℕ → Answers
 reads s b at bytes = gives s b at bytes (length bytes)

@@ -6,24 +6,24 @@ use Rattle.lx_abi.specs.Errors.{error_word}
 use Rattle.lx_abi.specs.declared.log.Call.{Call}
 use Rattle.lx_abi.specs.declared.log.Cause.TheVariants.{Sent}
 use Rattle.lx_abi.specs.declared.signal.Signal.{Signal}
+use Rattle.lx_abi.specs.Limits.{largest_file, most_moved, pipe_size}
 use Rattle.rv_mem.specs.Memory.{first_fault, bytes_at}
 use Rattle.rv_mem.specs.declared.rights.Access.TheVariants as access
 use Rattle.lx_model.specs.Machine.{Refused, Returns, Blocks}
 use Rattle.lx_files.specs.Contents.{overwritten, length_after}
-use Rattle.lx_files.specs.Limits.{largest_file}
 use Rattle.lx_files.specs.Trees.{with_content, content}
 use Rattle.lx_open.specs.Opens.{held, has_readers, with_held, with_offset}
 use Rattle.lx_open.specs.declared.description.Description.{Description}
 use Rattle.lx_open.specs.declared.description.Object.{Object}
 use Rattle.lx_open.specs.declared.description.Object.TheVariants.{Input, Console, ReadEnd, WriteEnd, Opened}
 use Rattle.lx_open.specs.declared.description.Slot.{Slot}
-use Rattle.lx_sig.specs.Pending.{with_pending}
 use Rattle.lx_proc.specs.Answers.{Answers, argument, low_argument, unless}
-use Rattle.lx_proc.specs.State.{Entries, with_fds, with_entries, changed, with_signals}
+use Rattle.lx_proc.specs.State.{with_fds, with_entries}
+use Rattle.lx_proc.specs.Sending.{sent}
 use Rattle.lx_proc.specs.declared.state.UserState.{UserState}
 use Rattle.lx_proc.specs.declared.state.Shared.{Shared}
 use Rattle.lx_fcalls.specs.Arguments.{opened}
-use Rattle.lx_fcalls.specs.Moving.{most_moved, pipe_size, has_space}
+use Rattle.lx_fcalls.specs.Moving.{has_space}
 
 abbrev pub writes_console : Shared → UserState → List ℕ → Answers
 writes_console s b bytes =
@@ -33,13 +33,9 @@ writes_console s b bytes =
 abbrev pub sigpipe : Signal
 sigpipe = record { number = 13; in_range = refl }
 
--- SIGPIPE is pending to the process, by itself
-abbrev pub raised_sigpipe : Entries → ℕ → Entries
-raised_sigpipe entries p = changed entries p (λ e. with_signals e (with_pending e.signals sigpipe (Sent p)))
-
--- SIGPIPE comes beside the error (write(2), EPIPE)
+-- SIGPIPE comes beside the error, from the process itself (write(2), EPIPE)
 abbrev pub breaks_pipe : Shared → ℕ → UserState → Answers
-breaks_pipe s p b = Returns (with_entries s (raised_sigpipe s.entries p)) b (error_word epipe)
+breaks_pipe s p b = Returns (with_entries s (sent s.entries p sigpipe (Sent p))) b (error_word epipe)
 
 -- all bytes or none
 abbrev pub writes_pipe : Shared → ℕ → UserState → ℕ → List ℕ → Answers

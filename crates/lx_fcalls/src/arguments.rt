@@ -1,7 +1,7 @@
 //! What calls on files read first.
 
 ghost use Rattle.std.specs.Prelude.{◌≡◌, IfOk};
-ghost use Rattle.lx_files.specs.Limits.{path_limit};
+ghost use Rattle.lx_abi.specs.Limits.{path_limit};
 ghost use Rattle.lx_files.specs.Places.{numbered};
 ghost use Rattle.lx_proc.specs.Texts.{text_at as text_in};
 ghost use Rattle.lx_fcalls.specs.Arguments.{read_text, may_begin as may_begin_of};
@@ -10,13 +10,11 @@ ghost use Rattle.lx_fcalls.specs.Arguments.{place_from as place_from_of, place_a
 use crate::flags::AT_FDCWD;
 use containers::Bytes;
 use lx_abi::Errno;
+use lx_abi::limits::PATH_LIMIT;
 use lx_files::Place;
 use lx_files::places::locate;
 use lx_proc::{Shared, Text, UserState, directory, text_at};
 use std::alloc::{AllocError, Global};
-
-/// The most bytes of a path, with its NUL.
-const PATH_LIMIT: u64 = 4096;
 
 /// The text of a path argument.
 fn read_path(

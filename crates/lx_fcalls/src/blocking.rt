@@ -1,15 +1,16 @@
 //! Whether a call would block.
 
 ghost use Rattle.std.specs.Prelude.{◌≡◌, ◌≤◌};
+ghost use Rattle.lx_abi.specs.Limits.{most_moved};
 ghost use Rattle.lx_fcalls.specs.Calls.{file_call as file_call_of};
 ghost use Rattle.lx_proc.specs.Answers.{is_blocked};
 ghost use Rattle.lx_fcalls.specs.Blocking.{passes, reading_waits, writing_waits, write_waits as write_waits_of};
 ghost use Rattle.lx_fcalls.specs.Blocking.{read_would_block as read_would_block_of};
 ghost use Rattle.lx_fcalls.specs.Blocking.{write_would_block as write_would_block_of, would_block as would_block_of};
 
-use crate::contents::{MOST_MOVED, PIPE_SIZE};
 use crate::read::waits;
-use lx_abi::Call;
+use lx_abi::limits::{MOST_MOVED, PIPE_SIZE};
+use lx_abi::{Call, sys};
 use lx_open::{Description, FdTable, Object};
 use lx_proc::{Shared, UserState};
 use lx_sig::low_argument;
@@ -32,7 +33,7 @@ fn read_would_block(shared: &Shared, pid: u32, call: &Call) -> bool
     let Some(slot) = shared.fds.slot(pid, low_argument(call, 0)) else {
         return false;
     };
-    let Some(description) = shared.fds.descriptions.get(slot.description) else {
+    let Some(description) = shared.fds.description(slot.description) else {
         return false;
     };
     let count = call.arguments[2].min(MOST_MOVED) as usize;
@@ -40,12 +41,11 @@ fn read_would_block(shared: &Shared, pid: u32, call: &Call) -> bool
 }
 
 fn writing(fds: &FdTable, count: usize, object: Object) -> bool
-    requires { count ≤ 65536 }
+    requires { count ≤ most_moved }
     ensures { result ≡ writing_waits fds.now count object }
 {
     match object {
-        Object::WriteEnd(pipe) => fds.descriptions.has_readers(pipe)
-            && fds.held(pipe).len() > PIPE_SIZE - count,
+        Object::WriteEnd(pipe) => fds.has_readers(pipe) && fds.held(pipe).len() > PIPE_SIZE - count,
         Object::Input | Object::Console | Object::ReadEnd(_) | Object::Opened(_) => false,
     }
 }
@@ -57,7 +57,7 @@ fn write_waits(
     count: usize,
     description: Description,
 ) -> bool
-    requires { count ≤ 65536 }
+    requires { count ≤ most_moved }
     ensures { result ≡ write_waits_of fds.now memory.now at count description }
 {
     description.may_write && memory.can_read(at, count) && writing(fds, count, description.object)
@@ -71,7 +71,7 @@ fn write_would_block(shared: &Shared, pid: u32, call: &Call, user: &UserState) -
     let Some(slot) = shared.fds.slot(pid, low_argument(call, 0)) else {
         return false;
     };
-    let Some(description) = shared.fds.descriptions.get(slot.description) else {
+    let Some(description) = shared.fds.description(slot.description) else {
         return false;
     };
     let count = call.arguments[2].min(MOST_MOVED) as usize;
@@ -90,8 +90,8 @@ pub fn would_block(shared: &Shared, pid: u32, call: &Call, user: &UserState) -> 
     ensures { result ≡ would_block_of shared.now pid call.now user.now }
 {
     match call.number {
-        63 => read_would_block(shared, pid, call),
-        64 => write_would_block(shared, pid, call, user),
+        sys::SYS_READ => read_would_block(shared, pid, call),
+        sys::SYS_WRITE => write_would_block(shared, pid, call, user),
         _ => false,
     }
 }

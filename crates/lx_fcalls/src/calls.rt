@@ -8,7 +8,7 @@ use crate::{
     chdir, close, dup, dup3, fstat, ftruncate, getcwd, lseek, mkdirat, newfstatat, openat, pipe2,
     read, unlinkat, write,
 };
-use lx_abi::Call;
+use lx_abi::{Call, sys};
 use lx_proc::{CallReply, Shared, UserState};
 use std::alloc::{AllocError, Global};
 
@@ -26,21 +26,21 @@ pub fn file_call(
     ensures console { OnErr result (shared.new.console ≡ shared.old.console) }
 {
     match call.number {
-        17 => Ok(Some(getcwd::getcwd(alloc, shared, pid, call, user)?)),
-        23 => Ok(Some(dup::dup(shared, pid, call, user)?)),
-        24 => Ok(Some(dup3::dup3(shared, pid, call, user)?)),
-        34 => Ok(Some(mkdirat::mkdirat(alloc, shared, pid, call, user)?)),
-        35 => Ok(Some(unlinkat::unlinkat(alloc, shared, pid, call, user)?)),
-        46 => Ok(Some(ftruncate::ftruncate(shared, pid, call, user)?)),
-        49 => Ok(Some(chdir::chdir(alloc, shared, pid, call, user)?)),
-        56 => Ok(Some(openat::openat(alloc, shared, pid, call, user)?)),
-        57 => Ok(Some(close::close(shared, pid, call, user))),
-        59 => Ok(Some(pipe2::pipe2(alloc, shared, pid, call, user)?)),
-        62 => Ok(Some(lseek::lseek(shared, pid, call, user))),
-        63 => Ok(Some(read::read(shared, pid, call, user)?)),
-        64 => Ok(Some(write::write(alloc, shared, pid, call, user)?)),
-        79 => Ok(Some(newfstatat::newfstatat(alloc, shared, pid, call, user)?)),
-        80 => Ok(Some(fstat::fstat(alloc, shared, pid, call, user)?)),
+        sys::SYS_GETCWD => Ok(Some(getcwd::getcwd(alloc, shared, pid, call, user)?)),
+        sys::SYS_DUP => Ok(Some(dup::dup(shared, pid, call, user)?)),
+        sys::SYS_DUP3 => Ok(Some(dup3::dup3(shared, pid, call, user)?)),
+        sys::SYS_MKDIRAT => Ok(Some(mkdirat::mkdirat(alloc, shared, pid, call, user)?)),
+        sys::SYS_UNLINKAT => Ok(Some(unlinkat::unlinkat(alloc, shared, pid, call, user)?)),
+        sys::SYS_FTRUNCATE => Ok(Some(ftruncate::ftruncate(shared, pid, call, user)?)),
+        sys::SYS_CHDIR => Ok(Some(chdir::chdir(alloc, shared, pid, call, user)?)),
+        sys::SYS_OPENAT => Ok(Some(openat::openat(alloc, shared, pid, call, user)?)),
+        sys::SYS_CLOSE => Ok(Some(close::close(shared, pid, call, user))),
+        sys::SYS_PIPE2 => Ok(Some(pipe2::pipe2(alloc, shared, pid, call, user)?)),
+        sys::SYS_LSEEK => Ok(Some(lseek::lseek(shared, pid, call, user))),
+        sys::SYS_READ => Ok(Some(read::read(shared, pid, call, user)?)),
+        sys::SYS_WRITE => Ok(Some(write::write(alloc, shared, pid, call, user)?)),
+        sys::SYS_NEWFSTATAT => Ok(Some(newfstatat::newfstatat(alloc, shared, pid, call, user)?)),
+        sys::SYS_FSTAT => Ok(Some(fstat::fstat(alloc, shared, pid, call, user)?)),
         _ => Ok(None),
     }
 }

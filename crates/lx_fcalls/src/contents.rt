@@ -5,20 +5,9 @@ ghost use Rattle.lx_files.specs.Trees.{content as content_of};
 ghost use Rattle.lx_fcalls.specs.Moving.{has_space as has_space_of};
 
 use lx_abi::Node;
+use lx_abi::limits::MOST_CONTENTS;
 use lx_files::Tree;
 use lx_proc::Shared;
-
-/// The most bytes that one read or write moves.
-pub const MOST_MOVED: u64 = 65_536;
-
-/// The most bytes that a pipe holds.
-pub const PIPE_SIZE: usize = 65_536;
-
-/// The most bytes of a file.
-pub const LARGEST_FILE: u64 = 16_777_216;
-
-/// The most bytes of all files and the console.
-const MOST_CONTENTS: u64 = 67_108_864;
 
 /// The bytes of a file.
 pub fn content(tree: &Tree, node: u32) -> &[u8]

@@ -6,7 +6,6 @@ ghost use Rattle.lx_fcalls.specs.Dup.{dup as meaning};
 
 use lx_abi::{Call, Errno};
 use lx_open::Slot;
-use lx_open::fd_table::pair;
 use lx_proc::{CallReply, Shared, UserState};
 use lx_sig::low_argument;
 use std::alloc::AllocError;
@@ -33,6 +32,6 @@ pub fn dup(
         description: slot.description,
         closes_on_exec: false,
     };
-    shared.fds.slots.insert(pair(pid, fd), copy)?;
+    shared.fds.put(pid, fd, copy)?;
     Ok(CallReply::Returned(u64::from(fd)))
 }

@@ -5,9 +5,9 @@ ghost use Rattle.lx_proc.specs.Answers.{answer_of, Kept};
 ghost use Rattle.lx_fcalls.specs.Dup3.{dup3 as meaning};
 
 use crate::flags::{O_CLOEXEC, has};
+use lx_abi::limits::MOST_FDS;
 use lx_abi::{Call, Errno};
 use lx_open::Slot;
-use lx_open::fd_table::{MOST_FDS, pair};
 use lx_proc::{CallReply, Shared, UserState};
 use lx_sig::low_argument;
 use std::alloc::AllocError;
@@ -44,6 +44,6 @@ pub fn dup3(
         description: slot.description,
         closes_on_exec: has(flags, O_CLOEXEC),
     };
-    shared.fds.slots.insert(pair(pid, new), copy)?;
+    shared.fds.put(pid, new, copy)?;
     Ok(CallReply::Returned(u64::from(new)))
 }

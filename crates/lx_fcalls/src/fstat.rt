@@ -49,7 +49,7 @@ pub fn fstat(
     let Some(slot) = shared.fds.slot(pid, low_argument(call, 0)) else {
         return Ok(CallReply::Refused(Errno::EBADF));
     };
-    let Some(description) = shared.fds.descriptions.get(slot.description) else {
+    let Some(description) = shared.fds.description(slot.description) else {
         return Ok(CallReply::Refused(Errno::EBADF));
     };
     tell_object(alloc, shared, user, call.arguments[1], description.object)

@@ -4,7 +4,8 @@ ghost use Rattle.std.specs.Prelude.{◌≡◌, IfOk, OnErr};
 ghost use Rattle.lx_proc.specs.Answers.{answer_of, Kept};
 ghost use Rattle.lx_fcalls.specs.Ftruncate.{ftruncate as meaning, truncates, truncates_node};
 
-use crate::contents::{LARGEST_FILE, content, has_space};
+use crate::contents::{content, has_space};
+use lx_abi::limits::LARGEST_FILE;
 use lx_abi::{Call, Errno};
 use lx_open::Object;
 use lx_proc::{CallReply, Shared, UserState};
@@ -70,7 +71,7 @@ pub fn ftruncate(
     let Some(slot) = shared.fds.slot(pid, low_argument(call, 0)) else {
         return Ok(CallReply::Refused(Errno::EBADF));
     };
-    let Some(description) = shared.fds.descriptions.get(slot.description) else {
+    let Some(description) = shared.fds.description(slot.description) else {
         return Ok(CallReply::Refused(Errno::EBADF));
     };
     if !description.may_write {

@@ -5,7 +5,8 @@ ghost use Rattle.lx_proc.specs.Answers.{answer_of, Kept};
 ghost use Rattle.lx_fcalls.specs.Lseek.{lseek as meaning, landing as landing_of, origin as origin_of};
 ghost use Rattle.lx_fcalls.specs.Lseek.{seeks_node, seeks};
 
-use crate::contents::{LARGEST_FILE, content};
+use crate::contents::content;
+use lx_abi::limits::LARGEST_FILE;
 use lx_abi::{Call, Errno};
 use lx_open::{Description, Object, Slot};
 use lx_proc::{CallReply, Shared, UserState};
@@ -63,7 +64,7 @@ fn seek_node(
     let Some(to) = landing(from, by) else {
         return CallReply::Refused(Errno::EINVAL);
     };
-    shared.fds.descriptions.move_to(slot.description, to);
+    shared.fds.move_to(slot.description, to);
     CallReply::Returned(to)
 }
 
@@ -95,7 +96,7 @@ pub fn lseek(shared: &mut Shared, pid: u32, call: &Call, user: &mut UserState) -
     let Some(slot) = shared.fds.slot(pid, low_argument(call, 0)) else {
         return CallReply::Refused(Errno::EBADF);
     };
-    let Some(description) = shared.fds.descriptions.get(slot.description) else {
+    let Some(description) = shared.fds.description(slot.description) else {
         return CallReply::Refused(Errno::EBADF);
     };
     if call.arguments[2] >= 3 {

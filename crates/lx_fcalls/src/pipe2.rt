@@ -11,7 +11,7 @@ use crate::flags::{O_CLOEXEC, has};
 use crate::giving::give;
 use containers::Bytes;
 use lx_abi::{Call, Errno};
-use lx_open::{Description, FdTable, Object, PipeBuffer};
+use lx_open::{Description, FdTable, Object};
 use lx_proc::{CallReply, Shared, UserState};
 use std::alloc::{AllocError, Global};
 
@@ -52,7 +52,7 @@ fn open_ends(
         (with_end (with_pipe fds.old pipe []) pid first (object_is.ReadEnd pipe) true closes)
         pid second (object_is.WriteEnd pipe) false closes) }
 {
-    fds.pipes.insert(pipe, PipeBuffer::new(alloc))?;
+    fds.add_pipe(alloc, pipe)?;
     fds.open(pid, first, end(Object::ReadEnd(pipe), true), closes)?;
     fds.open(pid, second, end(Object::WriteEnd(pipe), false), closes)?;
     Ok(())
@@ -103,7 +103,7 @@ pub fn pipe2(
     if flags & O_CLOEXEC != flags {
         return Ok(CallReply::Refused(Errno::EINVAL));
     }
-    let pipe = shared.fds.pipes.vacant(0)?;
+    let pipe = shared.fds.vacant_pipe()?;
     make_pipe(
         alloc,
         shared,

@@ -5,8 +5,9 @@ ghost use Rattle.lx_proc.specs.Answers.{answer_of, Kept};
 ghost use Rattle.lx_fcalls.specs.Read.{read as meaning, reads_object, waits as waits_of};
 ghost use Rattle.lx_fcalls.specs.Read.{reads_pipe, reads_file, reads_input};
 
-use crate::contents::{MOST_MOVED, content, part};
+use crate::contents::{content, part};
 use crate::giving::give;
+use lx_abi::limits::MOST_MOVED;
 use lx_abi::{Call, Errno};
 use lx_open::{Description, FdTable, Object, Slot};
 use lx_proc::{CallReply, Shared, UserState};
@@ -52,7 +53,7 @@ fn read_file(
     if !give(&mut user.memory, at, bytes)? {
         return Ok(CallReply::Refused(Errno::EFAULT));
     }
-    shared.fds.descriptions.move_to(slot.description, end);
+    shared.fds.move_to(slot.description, end);
     Ok(CallReply::Returned(n))
 }
 
@@ -60,7 +61,7 @@ fn read_file(
 pub fn waits(fds: &FdTable, pipe: u32, count: usize) -> bool
     ensures { result ≡ waits_of fds.now pipe count }
 {
-    fds.held(pipe).len() == 0 && count > 0 && fds.descriptions.has_writers(pipe)
+    fds.held(pipe).len() == 0 && count > 0 && fds.has_writers(pipe)
 }
 
 fn read_pipe(
@@ -123,7 +124,7 @@ pub fn read(
     let Some(slot) = shared.fds.slot(pid, low_argument(call, 0)) else {
         return Ok(CallReply::Refused(Errno::EBADF));
     };
-    let Some(description) = shared.fds.descriptions.get(slot.description) else {
+    let Some(description) = shared.fds.description(slot.description) else {
         return Ok(CallReply::Refused(Errno::EBADF));
     };
     if !description.may_read {

@@ -1,16 +1,18 @@
 //! write(fd, buf, count)
 
 ghost use Rattle.std.specs.Prelude.{◌≡◌, ◌≤◌, IfOk, length, OnErr};
+ghost use Rattle.lx_abi.specs.Limits.{most_moved};
 ghost use Rattle.lx_proc.specs.Answers.{answer_of, Kept};
 ghost use Rattle.lx_fcalls.specs.Write.{write as meaning, writes_object, writes_pipe, writes_file, writes_at};
-ghost use Rattle.lx_fcalls.specs.Write.{writes_console, raised_sigpipe, breaks_pipe as breaks_pipe_of, start_of};
+ghost use Rattle.lx_fcalls.specs.Write.{writes_console, breaks_pipe as breaks_pipe_of, start_of};
 
-use crate::contents::{LARGEST_FILE, MOST_MOVED, PIPE_SIZE, content, has_space};
+use crate::contents::{content, has_space};
+use lx_abi::limits::{LARGEST_FILE, MOST_MOVED, PIPE_SIZE};
 use lx_abi::{Call, Cause, Errno, Signal};
 use lx_files::nodes::length_after;
 use lx_open::{Description, Object, Slot};
-use lx_proc::{CallReply, Shared, Table, UserState};
-use lx_sig::{low_argument, make_pending};
+use lx_proc::{CallReply, Shared, UserState, send};
+use lx_sig::low_argument;
 use rv_mem::MemFault;
 use std::alloc::{AllocError, Global};
 
@@ -31,23 +33,11 @@ fn write_console(
     Ok(CallReply::Returned(bytes.len() as u64))
 }
 
-/// SIGPIPE is pending to a process, by itself.
-fn raise_sigpipe(entries: &mut Table, pid: u32)
-    ensures { entries.new ≡ raised_sigpipe entries.old pid }
-{
-    let Some(entry) = entries.get(pid) else {
-        return;
-    };
-    let mut signals = entry.signals;
-    make_pending(&mut signals, Signal::PIPE, Cause::Sent { pid });
-    entries.set_signals(pid, signals);
-}
-
 fn break_pipe(shared: &mut Shared, pid: u32, user: &mut UserState) -> CallReply
     ensures answer { answer_of result shared.new user.new ≡ breaks_pipe_of shared.old pid user.old }
     ensures kept { Kept result shared.old user.old shared.new user.new }
 {
-    raise_sigpipe(&mut shared.entries, pid);
+    send(&mut shared.entries, pid, Signal::PIPE, Cause::Sent { pid });
     CallReply::Returned(Errno::EPIPE.word())
 }
 
@@ -59,13 +49,13 @@ fn write_pipe(
     pipe: u32,
     bytes: &[u8],
 ) -> Result<CallReply, AllocError>
-    requires { length bytes.now ≤ 65536 }
+    requires { length bytes.now ≤ most_moved }
     ensures answer { IfOk result (λ r. answer_of r shared.new user.new
         ≡ writes_pipe shared.old pid user.old pipe bytes.now) }
     ensures kept { IfOk result (λ r. Kept r shared.old user.old shared.new user.new) }
     ensures console { OnErr result (shared.new.console ≡ shared.old.console) }
 {
-    if !shared.fds.descriptions.has_readers(pipe) {
+    if !shared.fds.has_readers(pipe) {
         return Ok(break_pipe(shared, pid, user));
     }
     if shared.fds.held(pipe).len() > PIPE_SIZE - bytes.len() {
@@ -83,7 +73,7 @@ fn write_at(
     at: u64,
     bytes: &[u8],
 ) -> Result<CallReply, AllocError>
-    requires { length bytes.now ≤ 65536 }
+    requires { length bytes.now ≤ most_moved }
     ensures answer { IfOk result (λ r. answer_of r shared.new user.new
         ≡ writes_at shared.old user.old slot node at bytes.now) }
     ensures kept { IfOk result (λ r. Kept r shared.old user.old shared.new user.new) }
@@ -99,7 +89,7 @@ fn write_at(
         return Ok(CallReply::Refused(Errno::ENOSPC));
     }
     shared.tree.nodes.overwrite(node, at as usize, bytes)?;
-    shared.fds.descriptions.move_to(slot.description, at + n);
+    shared.fds.move_to(slot.description, at + n);
     Ok(CallReply::Returned(n))
 }
 
@@ -122,7 +112,7 @@ fn write_file(
     node: u32,
     bytes: &[u8],
 ) -> Result<CallReply, AllocError>
-    requires { length bytes.now ≤ 65536 }
+    requires { length bytes.now ≤ most_moved }
     ensures answer { IfOk result (λ r. answer_of r shared.new user.new
         ≡ writes_file shared.old user.old slot description node bytes.now) }
     ensures kept { IfOk result (λ r. Kept r shared.old user.old shared.new user.new) }
@@ -144,7 +134,7 @@ fn write_object(
     description: Description,
     bytes: &[u8],
 ) -> Result<CallReply, AllocError>
-    requires { length bytes.now ≤ 65536 }
+    requires { length bytes.now ≤ most_moved }
     ensures answer { IfOk result (λ r. answer_of r shared.new user.new
         ≡ writes_object shared.old pid user.old slot description bytes.now description.object) }
     ensures kept { IfOk result (λ r. Kept r shared.old user.old shared.new user.new) }
@@ -175,7 +165,7 @@ pub fn write(
     let Some(slot) = shared.fds.slot(pid, low_argument(call, 0)) else {
         return Ok(CallReply::Refused(Errno::EBADF));
     };
-    let Some(description) = shared.fds.descriptions.get(slot.description) else {
+    let Some(description) = shared.fds.description(slot.description) else {
         return Ok(CallReply::Refused(Errno::EBADF));
     };
     if !description.may_write {

@@ -1,6 +1,5 @@
 pub mod Tallies
 pub mod Paths
-pub mod Limits
 pub mod Kinds
 pub mod Trees
 pub mod Places

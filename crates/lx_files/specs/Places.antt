@@ -9,7 +9,7 @@ use Rattle.lx_abi.specs.declared.errno.Errno.{Errno}
 use Rattle.lx_abi.specs.declared.outcome.Node.{Node}
 use Rattle.lx_abi.specs.declared.outcome.Node.TheVariants.{File, Directory}
 use Rattle.lx_abi.specs.Errnos.{enoent, enotdir, enametoolong}
-use Rattle.lx_files.specs.Limits.{longest_name}
+use Rattle.lx_abi.specs.Limits.{longest_name}
 use Rattle.lx_files.specs.Paths.{Path, slash, parent}
 use Rattle.lx_files.specs.Trees.{Tree, node_at}
 pub use Rattle.lx_files.specs.declared.places.Place.{Place}

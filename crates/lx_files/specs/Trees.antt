@@ -5,9 +5,9 @@ use Rattle.std.specs.List.{list_any}
 use Rattle.std.specs.FinMap as maps
 use Rattle.containers.specs.Vacant.{vacant}
 use Rattle.lx_abi.specs.declared.outcome.Node.{Node}
+use Rattle.lx_abi.specs.Limits.{most_nodes}
 use Rattle.lx_files.specs.Tallies.{total, holds}
 use Rattle.lx_files.specs.Paths.{Path, is_under}
-use Rattle.lx_files.specs.Limits.{most_nodes}
 use Rattle.lx_files.specs.Kinds.{is_number, size_of, bytes_of, changed_file}
 pub use Rattle.lx_files.specs.declared.tree.Tree.{Tree}
 

@@ -4,6 +4,7 @@ ghost use Rattle.std.specs.Prelude.{◌≡◌, OnOk, IfOk, length};
 ghost use Rattle.std.specs.Option.{option_copied};
 ghost use Rattle.std.specs.FinMap as maps;
 ghost use Rattle.containers.specs.Vacant.{vacant};
+ghost use Rattle.lx_abi.specs.Limits.{largest_file};
 ghost use Rattle.lx_files.specs.Tallies.{total};
 ghost use Rattle.lx_files.specs.Kinds.{size_of, changed_file, changed_node};
 ghost use Rattle.lx_files.specs.Contents.{padded_to, overwritten as overwritten_of, reaching};
@@ -125,7 +126,7 @@ impl Nodes {
 
     /// Writes bytes to a file from an offset on. A node that is no file is left.
     pub fn overwrite(&mut self, node: u32, at: usize, bytes: &[u8]) -> Result<(), AllocError>
-        requires { at + length bytes.now ≤ 16777216 }
+        requires { at + length bytes.now ≤ largest_file }
         ensures { OnOk result (self.new
             ≡ changed_file self.old node (λ old. overwritten_of old at bytes.now) (maps.get self.old node)) }
     {
@@ -197,7 +198,7 @@ fn reach(content: &mut Bytes, end: usize) -> Result<(), AllocError>
 /// Writes bytes from an offset on, all of them or none.
 #[tactic(auto, unfolding(crate::specs::Contents::overwritten))]
 fn overwrite_bytes(content: &mut Bytes, at: usize, bytes: &[u8]) -> Result<(), AllocError>
-    requires { at + length bytes.now ≤ 16777216 }
+    requires { at + length bytes.now ≤ largest_file }
     ensures ok { OnOk result (content.new ≡ overwritten_of content.old at bytes.now) }
     ensures err { OnErr result (content.new ≡ content.old) }
 {
@@ -210,7 +211,7 @@ fn overwrite_bytes(content: &mut Bytes, at: usize, bytes: &[u8]) -> Result<(), A
 }
 
 fn overwrite_node(node: &mut Node, at: usize, bytes: &[u8]) -> Result<(), AllocError>
-    requires { at + length bytes.now ≤ 16777216 }
+    requires { at + length bytes.now ≤ largest_file }
     ensures ok { OnOk result (node.new ≡ changed_node (λ old. overwritten_of old at bytes.now) node.old) }
     ensures err { OnErr result (node.new ≡ node.old) }
 {
@@ -222,7 +223,7 @@ fn overwrite_node(node: &mut Node, at: usize, bytes: &[u8]) -> Result<(), AllocE
 
 /// How many bytes a node has once these are written.
 fn size_after(node: &Node, at: usize, bytes: &[u8]) -> u64
-    requires { at + length bytes.now ≤ 16777216 }
+    requires { at + length bytes.now ≤ largest_file }
     ensures { result ≡ size_of (changed_node (λ old. overwritten_of old at bytes.now) node.now) }
 {
     match node {
@@ -233,7 +234,7 @@ fn size_after(node: &Node, at: usize, bytes: &[u8]) -> u64
 
 /// How many bytes a file has after a write.
 pub fn length_after(len: usize, at: usize, written: usize) -> usize
-    requires { at + written ≤ 16777216 }
+    requires { at + written ≤ largest_file }
     ensures { result ≡ length_after_of len at written }
 {
     if written == 0 || len > at + written {

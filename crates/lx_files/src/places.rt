@@ -12,6 +12,7 @@ ghost use Rattle.lx_files.specs.Places.{place as place_of, path_of, sight as sig
 
 use crate::tree::Tree;
 use containers::Bytes;
+use lx_abi::limits::LONGEST_NAME;
 use lx_abi::{Errno, Node};
 use std::alloc::{AllocError, Global};
 
@@ -22,9 +23,6 @@ pub struct Place {
     pub last: Bytes,
     pub slashed: bool,
 }
-
-/// The most bytes of a name.
-const LONGEST_NAME: usize = 255;
 
 /// What stands at a place.
 #[derive(Clone, Copy, Debug, PartialEq, Eq)]

@@ -11,6 +11,7 @@ ghost use Rattle.lx_files.specs.Listing.{files_of};
 use crate::names::Names;
 use crate::nodes::Nodes;
 use containers::Seq;
+use lx_abi::limits::MOST_NODES;
 use lx_abi::{Node, OutcomeFile};
 use std::alloc::{AllocError, Global};
 
@@ -20,9 +21,6 @@ pub struct Tree {
     pub names: Names,
     pub nodes: Nodes,
 }
-
-/// The most files and directories, the root among them.
-const MOST_NODES: usize = 4096;
 
 impl Tree {
     pub fn new(alloc: Global) -> Self

@@ -21,7 +21,7 @@ after_all_is k (p ∷ pids) = after_all_is (after_turn k p) pids
 pub boots_run_alike : KernelsBeginAlike Shared UserState → KernelsRunAlike Shared UserState → BootsRunAlike
 boots_run_alike begin run boot script pids =
     let k : Run = first_run boot script in
-    let s : Shared = first_shared boot.files boot.input in
+    let s : Shared = first_shared boot.limits boot.files boot.input in
     let b : UserState = booted boot.argv boot.env in
     let whole = kernel_run linux (choice_of script) boot.follow (first_kernel s b) pids in
     subst (λ v. Is v whole) (sym (after_all_is k pids)) (run linux (choice_of script) boot.follow (first_running s b) (first_kernel s b) (begin s b) pids)

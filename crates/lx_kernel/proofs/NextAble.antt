@@ -60,12 +60,12 @@ module _ (k : Run) where
 
 -- Who rests has no turn
 
-quiet_waits : (killed waits other interrupted : Bool) → (waits && (not killed && not interrupted)) ≡ true → (killed || not ((waits || other) && not interrupted)) ≡ false
-quiet_waits true true other interrupted e = absurd (cc e)
-quiet_waits true false other interrupted e = absurd (cc e)
-quiet_waits false true other true e = absurd (cc e)
-quiet_waits false true other false e = refl
-quiet_waits false false other interrupted e = absurd (cc e)
+quiet_waits : (killed waits interrupted : Bool) → (waits && (not killed && not interrupted)) ≡ true → (killed || not (waits && not interrupted)) ≡ false
+quiet_waits true true interrupted e = absurd (cc e)
+quiet_waits true false interrupted e = absurd (cc e)
+quiet_waits false true true e = absurd (cc e)
+quiet_waits false true false e = refl
+quiet_waits false false interrupted e = absurd (cc e)
 
 rests_unable : (s : Shared) (q : ℕ) (task : Task UserState) → rests s q task ≡ true → can_turn s q task ≡ false
 unfolding rests can_turn would_block
@@ -73,7 +73,7 @@ rests_unable s q (Alive b stage.Born) e = absurd (cc e)
 rests_unable s q (Alive b stage.Run) e = absurd (cc e)
 rests_unable s q (Alive b (stage.Faulting signal cause)) e = absurd (cc e)
 rests_unable s q (Alive b (stage.Entered joined)) e = absurd (cc e)
-rests_unable s q (Alive b (stage.Doing call)) e = quiet_waits (is_killed (maps.get s.entries q)) (file_would_block s q call b) (process_would_block s q call) (is_interrupted (maps.get s.entries q)) e
+rests_unable s q (Alive b (stage.Doing call)) e = quiet_waits (is_killed (maps.get s.entries q)) (file_would_block s q call b || process_would_block s q call) (is_interrupted (maps.get s.entries q)) e
 rests_unable s q (Alive b (stage.Replaced call x)) e = absurd (cc e)
 rests_unable s q (Alive b (stage.Acted call x replaced)) e = absurd (cc e)
 rests_unable s q (Alive b stage.Finished) e = absurd (cc e)

@@ -137,7 +137,7 @@ running_log_words script follow v (p ∷ pids) h = running_log_words script foll
 
 pub kernels_log_words : KernelsBeginAlike Shared UserState → KernelsRunAlike Shared UserState → KernelsLogWords
 kernels_log_words begin run script follow boot pids =
-    let s : Shared = first_shared boot.files boot.input in
+    let s : Shared = first_shared boot.limits boot.files boot.input in
     let b : UserState = booted boot.argv boot.env in
     let is : Is (running linux script follow (first_running s b) pids) (kernel_run linux script follow (first_kernel s b) pids) = run linux script follow (first_running s b) (first_kernel s b) (begin s b) pids in
     ap (λ (s : Shared). s.ended) (sym is.shared)

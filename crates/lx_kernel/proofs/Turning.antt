@@ -53,7 +53,7 @@ module _ (v : Running Shared UserState) (rules : List Rule) (follow : Bool) (p :
       (subst (Births v.shared v.child out.shared) turned_out.event_is
       (turn_fine (choice_at linux (choice_of rules) (traces follow p) (λ n. entries p n v.log) (at Gone v.tasks p)) v.shared v.child p (at Gone v.tasks p)))
 
-  pub kernel_left : IsLeft done v.child
+  pub kernel_left : IsLeft v.shared.limits.last_pid done v.child
   kernel_left = left_by v.shared v.child s done born
 
   pub kernel_born : IsBirth (event_of done) → s.console ≡ v.shared.console

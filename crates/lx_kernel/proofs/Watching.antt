@@ -233,7 +233,7 @@ module _ (v : Running Shared UserState) (rules : List Rule) (follow : Bool) (p :
       let other = unwelcomed sets v.child q event unwatched in
       let h = watched q up (unwatched_before sets v.child q event other unwatched) in
       let same : at Gone (tasks_with tasks v.child event) q ≡ at Gone v.tasks q = with_child tasks v.child q event other ∙ other_is q ne in (
-        ap (rests s q) same ∙ calms q ne still other (at Gone v.tasks q) h.0,
+        ap (rests s q) same ∙ calms q up ne still other (at Gone v.tasks q) h.0,
         λ unslept. same ∙ h.1 (unslept_before sets v.child q event other unslept),
       )
 

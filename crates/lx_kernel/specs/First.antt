@@ -9,7 +9,7 @@ use Rattle.lx_kernel.specs.Runs.{Run}
 abbrev pub first_run : Boot → List Rule → Run
 first_run boot script = record {
   running = record {
-    shared = first_shared boot.files boot.input;
+    shared = first_shared boot.limits boot.files boot.input;
     tasks = first_tasks boot.argv boot.env;
     child = 2;
     log = [];

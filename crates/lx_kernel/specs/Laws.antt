@@ -21,7 +21,7 @@ use Rattle.lx_proc.specs.WaitWords.{Words}
 -- process 1 begins in its first program, and is alone
 abbrev pub BootsAreFirst : Type 0
 BootsAreFirst = (boot : Boot) (script : List Rule) →
-    (first_run boot script).running ≡ first_running (first_shared boot.files boot.input) (booted boot.argv boot.env)
+    (first_run boot script).running ≡ first_running (first_shared boot.limits boot.files boot.input) (booted boot.argv boot.env)
 
 -- a turn of the kernel is the definition's
 abbrev pub TurnsAreSteps : Type 0
@@ -38,7 +38,7 @@ abbrev pub BootsRunAlike : Type 0
 BootsRunAlike = (boot : Boot) (script : List Rule) (pids : List ℕ) →
     Is (after_all (first_run boot script) pids).running
     (kernel_run linux (choice_of script) boot.follow
-    (first_kernel (first_shared boot.files boot.input) (booted boot.argv boot.env)) pids)
+    (first_kernel (first_shared boot.limits boot.files boot.input) (booted boot.argv boot.env)) pids)
 
 -- the words by which processes ended, with this item's
 abbrev pub with_end : Words → Item → Words
@@ -67,5 +67,5 @@ BootsLogWords = (boot : Boot) (script : List Rule) (pids : List ℕ) →
 abbrev pub KernelsLogWords : Type 0
 KernelsLogWords = (script : Script) (follow : Bool) (boot : Boot) (pids : List ℕ) →
     let k : Kernel Shared UserState = kernel_run linux script follow
-    (first_kernel (first_shared boot.files boot.input) (booted boot.argv boot.env)) pids in
+    (first_kernel (first_shared boot.limits boot.files boot.input) (booted boot.argv boot.env)) pids in
     k.shared.ended ≡ logged_words (items_of k.log)

@@ -1,10 +1,11 @@
 //! The first state of a kernel.
 
-ghost use Rattle.std.specs.Prelude.{◌≡◌, ◌≤◌, IfOk, OnOk, IfErr, None, Some};
+ghost use Rattle.std.specs.Prelude.{◌≡◌, ◌≤◌, IfOk, OnOk, IfErr, IsTrue, None, Some};
+ghost use Rattle.lx_abi.specs.Limits.{are_limits};
 ghost use Rattle.lx_boot.specs.Boots.{fault_of as fault_in, Refuses};
 ghost use Rattle.lx_kernel.specs.First.{first_run};
 ghost use Rattle.lx_exec.specs.Programs.{start_size};
-ghost use Rattle.lx_proc.specs.Starts.{start_limit};
+ghost use Rattle.lx_abi.specs.Limits.{start_limit};
 ghost use Rattle.lx_boot.specs.declared.boots.BootFault.{BootFault};
 ghost use Rattle.std.specs.declared.result.Result.TheVariants.{Err};
 
@@ -16,17 +17,19 @@ use std::alloc::{AllocError, Global};
 
 /// The kernel of an accepted boot.
 fn first(alloc: Global, boot: Boot, script: Script) -> Result<Kernel, AllocError>
-    requires { start_size boot.argv boot.env ≤ start_limit }
+    requires in_range { IsTrue (are_limits boot.limits) }
+    requires fits { start_size boot.argv boot.env ≤ start_limit }
     ensures { IfOk result (λ k. k ≡ first_run boot script) }
 {
     let Boot {
+        limits,
         files,
         argv,
         env,
         input,
         follow,
     } = boot;
-    let shared = first_shared(alloc, files.as_slice(), input)?;
+    let shared = first_shared(alloc, limits, files.as_slice(), input)?;
     let tasks = first_tasks(alloc, argv.as_slice(), env.as_slice())?;
     let decoder = DecodedCode::new(alloc)?;
     Ok(Kernel::new(alloc, shared, tasks, decoder, script, follow))

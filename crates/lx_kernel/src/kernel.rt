@@ -33,7 +33,7 @@ use crate::{bursts, tracing};
 use containers::{Bytes, Map};
 use lx_abi::{Cause, Item, Mode, Occurrences, Outcome, RegisterSet, Registers, Script, Signal};
 use lx_model::{Deed, Stage, Task};
-use lx_proc::{Shared, UserState};
+use lx_proc::{ProcessLimits, Shared, UserState};
 use lx_turn::{Effect, Injection, Transition, is_killed, mode_of_gone, turn_task};
 use rv_hart::DecodedCode;
 use std::alloc::{AllocError, Global};
@@ -129,9 +129,10 @@ fn place_user(
 fn place_child(
     tasks: &mut Map<Task<UserState>>,
     child: &mut u32,
+    last_pid: u16,
     done: Effect,
 ) -> Result<(), AllocError>
-    requires { IsLeft done child.old }
+    requires { IsLeft last_pid done child.old }
     ensures tasks { OnOk result (tasks.new ≡ tasks_with tasks.old child.old (event_of done)) }
     ensures child { OnOk result (child.new ≡ next_child child.old (event_of done)) }
     ensures plain { event_of done ≡ Plain → IsOk result }
@@ -141,6 +142,7 @@ fn place_child(
         Effect::Plain | Effect::Execed => Ok(()),
         Effect::Bore(user) => {
             place_user(tasks, *child, user)?;
+            prove!(*child <= u32::from(last_pid));
             *child += 1;
             Ok(())
         }
@@ -303,6 +305,7 @@ impl Kernel {
             occurrences: &self.occurrences,
             follow: self.follow,
         };
+        let last_pid = self.shared.limits.last_pid;
         let mut item = None;
         let transition = turn_at(
             self.alloc,
@@ -324,7 +327,7 @@ impl Kernel {
         } = transition;
         let deed = done.deed();
         self.run_queue.welcome(&done, self.child);
-        place_child(&mut self.tasks, &mut self.child, done)?;
+        place_child(&mut self.tasks, &mut self.child, last_pid, done)?;
         self.run_queue.rouse(&self.shared, &self.tasks, pid, roused);
         self.run_queue.pass(
             &self.shared,
@@ -389,7 +392,14 @@ impl Kernel {
         mode_of(&self.shared, &self.tasks, pid)
     }
 
-    /// The pid that the next child gets.
+    /// How many processes there may be.
+    pub fn limits(&self) -> ProcessLimits
+        ensures { result ≡ self.now.running.shared.limits }
+    {
+        self.shared.limits
+    }
+
+    /// The pid that the next child gets, if one is left.
     pub fn next_pid(&self) -> u32
         ensures { result ≡ self.now.running.child }
     {

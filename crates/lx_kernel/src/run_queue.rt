@@ -1,13 +1,14 @@
 //! Which processes a search for the next turn looks at.
 //!
-//! Two sets of pids: who is awake, and who is blocked, that is, waits in a read or a write of a pipe with no signal
-//! that would end the wait. `next_able` looks at those that are awake alone, so what it costs grows with them, and with
-//! the logarithm of all. A process is put to sleep by its own turn that leaves it blocked, and wakes by another's: each
-//! turn says whether it may have woken others, and after one that may, as a write, a close or a kill, those that sleep
-//! are looked at, each once. What the sets say is proved; that they are kept affects only speed: once memory for them
-//! was refused, a search looks at every process, and answers the same.
+//! Two sets of pids: who is awake, and who is blocked, that is, waits in a read or a write of a pipe, or in wait4, with
+//! no signal that would end the wait. `next_able` looks at those that are awake alone, so what it costs grows with them,
+//! and with the logarithm of all. A process is put to sleep by its own turn that leaves it blocked, and wakes by
+//! another's: each turn says whether it may have woken others, and after one that may, as a write, a close or a kill,
+//! those that sleep are looked at, each once. Where a process ends, its parent is looked at. What the sets say is proved;
+//! that they are kept affects only speed: once memory for them was refused, a search looks at every process, and answers
+//! the same.
 
-ghost use Rattle.std.specs.Prelude.{◌≡◌, ◌<◌, ℕ, None, true, is_none};
+ghost use Rattle.std.specs.Prelude.{◌≡◌, ◌<◌, ℕ, None, true, is_none, is_some};
 ghost use Rattle.std.specs.FinMap as maps;
 ghost use Rattle.lx_model.specs.Finite.{at};
 ghost use Rattle.lx_model.specs.declared.stage.Task.TheVariants.{Gone};
@@ -21,7 +22,7 @@ use lx_proc::{Shared, UserState};
 use lx_turn::{Effect, rests};
 use std::alloc::Global;
 
-/// The processes that may be able, and those that wait in a read or a write of a pipe, which a search passes over.
+/// The processes that may be able, and those that wait in a call, which a search passes over.
 #[derive(Drop)]
 pub struct RunQueue {
     pub awake: Map<()>,
@@ -33,7 +34,7 @@ pub struct RunQueue {
 /// What a turn may have done to the sets, beside what it did to others.
 #[derive(Clone, Copy)]
 pub struct Hints {
-    /// Its process is in a read or a write.
+    /// Its process is in a call that may wait.
     pub may_rest: bool,
     /// Its process is gone.
     pub gone: bool,
@@ -46,7 +47,7 @@ fn is_absent(tasks: &Map<Task<UserState>>, pid: u32) -> bool
     tasks.get(pid).is_none()
 }
 
-/// The process waits in a read or a write of a pipe, or is gone.
+/// The process waits in a call, or is gone.
 #[tactic(auto, unfolding(lx_turn::specs::Resting::rests))]
 fn rests_at(shared: &Shared, tasks: &Map<Task<UserState>>, pid: u32) -> bool
     ensures { result ≡ rests_in shared.now pid (at Gone tasks.now pid) }
@@ -85,6 +86,23 @@ impl RunQueue {
             self.known = false;
         }
         self.asleep.remove(pid);
+    }
+
+    fn is_awake(&self, pid: u32) -> bool
+        ensures { result ≡ is_some (maps.get self.now.awake pid) }
+    {
+        self.awake.get(pid).is_some()
+    }
+
+    /// A process is awake from now on, if it wasn't: the set of those that sleep may be large, and isn't searched for
+    /// one that is awake.
+    fn keep_awake(&mut self, pid: u32)
+        ensures itself { self.new.known ≡ true → maps.get self.new.awake pid ≡ None → ⊥ }
+        ensures others { self.new.known ≡ true → IsSameBut self.old self.new pid }
+    {
+        if !self.is_awake(pid) {
+            self.wake(pid);
+        }
     }
 
     /// A child that is born is awake.
@@ -130,7 +148,7 @@ impl RunQueue {
         } else if hints.may_rest && rests_at(shared, tasks, pid) {
             self.put_to_sleep(pid);
         } else {
-            self.wake(pid);
+            self.keep_awake(pid);
         }
     }
 

@@ -1,5 +1,5 @@
 -- The first slot at or above a key, of slots kept as the entries of a std map.
-use Rattle.std.proofs.Common.{◌≡◌, ℕ, ◌<◌, ◌≤◌, false, List, [], ◌∷◌, Option, Some, None, refl, ap, subst, ◌∙◌, rules, arith}
+use Rattle.std.proofs.Common.{◌≡◌, ℕ, ◌<◌, ◌≤◌, false, List, [], ◌∷◌, Option, Some, None, refl, sym, ap, subst, ◌∙◌, rules, arith}
 use Rattle.std.specs.Prelude.{IsSome, IfSome}
 use Rattle.std.specs.List.{slice_get}
 use Rattle.std.specs.Ordering.{nat_cmp, is_gt}
@@ -38,6 +38,7 @@ module _ (m : BTreeMap ℕ Slot) (n : ℕ) (r : List (ℕ × Slot)) (range : IsR
       let P : Option (ℕ × Slot) → Type 0 = λ o. IfSome o (IsEntryInRange nat_cmp (Included n) Unbounded m) in
       let here : IsEntryInRange nat_cmp (Included n) Unbounded m (key, value) = subst P first range.1 in (
         at_most n key (nat_cmp n key) refl here.0.0,
+        subst IsSome (sym (get-entries key m.entries ∙ here.1)) refl,
         λ q le less. get-entries q m.entries ∙ none_unless (get nat_cmp m q) (λ some.
             let Q : Option (ℕ × Slot) → Type 0 = λ o. IfSome o (λ e. IsLeBy nat_cmp e.0 q) in
             let above : IsLeBy nat_cmp key q = subst Q first (range.2 q (inside n q (nat_cmp n q) refl le, search rules) some) in

@@ -3,8 +3,9 @@ use Rattle.std.proofs.Common.{◌≡◌, ℕ, zero, suc, ◌+◌, ◌-◌, ◌<�
 use Rattle.std.specs.Prelude.{nat_lt}
 use Rattle.std.specs.List.{range_with_len}
 use Rattle.std.specs.FinMap as maps
+use Rattle.lx_abi.specs.Limits.{most_fds}
 use Rattle.lx_open.specs.Kinds.{SlotMap}
-use Rattle.lx_open.specs.Opens.{FdTable, most_fds, pair, slot, inherited_slot, inherited_each}
+use Rattle.lx_open.specs.Opens.{FdTable, pair, slot, inherited_slot, inherited_each}
 use Rattle.lx_open.specs.Releases.{Held, closed, is_meant, closed_if_meant, closed_each}
 use Rattle.lx_open.specs.Nexts.{IsNextOpen}
 
@@ -51,7 +52,7 @@ pub closed_step : (on_exec : Bool) (h : Held) (pid n m : ℕ) → IsNextOpen h.f
     → closed_each on_exec (closed_if_meant on_exec h pid m) pid (from (m + 1)) ≡ closed_each on_exec h pid (from n)
 closed_step on_exec h pid n m is_next =
     let le = is_next.0 in let lt = is_next.1 in
-    closed_next on_exec h pid m lt ∙ closed_skip on_exec h pid (m - n) n m (omega (arith, le)) (omega (arith, lt)) is_next.2
+    closed_next on_exec h pid m lt ∙ closed_skip on_exec h pid (m - n) n m (omega (arith, le)) (omega (arith, lt)) is_next.3
 
 pub closed_end : (on_exec : Bool) (h : Held) (pid n : ℕ) → n ≤ 256 → IsNextOpen h.fds.slots pid n None → h ≡ closed_each on_exec h pid (from n)
 closed_end on_exec h pid n le none = closed_last on_exec h pid 256 (omega arith) ∙ closed_skip on_exec h pid (256 - n) n 256 (omega (arith, le)) (omega arith) none
@@ -79,7 +80,7 @@ pub inherited_step : (slots : SlotMap) (parent child n m : ℕ) → IsNextOpen s
     → inherited_each (inherited_slot slots child m (maps.get slots (pair parent m))) parent child (from (m + 1)) ≡ inherited_each slots parent child (from n)
 inherited_step slots parent child n m is_next =
     let le = is_next.0 in let lt = is_next.1 in
-    inherited_next slots parent child m lt ∙ inherited_skip slots parent child (m - n) n m (omega (arith, le)) (omega (arith, lt)) is_next.2
+    inherited_next slots parent child m lt ∙ inherited_skip slots parent child (m - n) n m (omega (arith, le)) (omega (arith, lt)) is_next.3
 
 pub inherited_end : (slots : SlotMap) (parent child n : ℕ) → n ≤ 256 → IsNextOpen slots parent n None → slots ≡ inherited_each slots parent child (from n)
 inherited_end slots parent child n le none = inherited_last slots parent child 256 (omega arith) ∙ inherited_skip slots parent child (256 - n) n 256 (omega (arith, le)) (omega arith) none

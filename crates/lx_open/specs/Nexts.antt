@@ -1,16 +1,18 @@
 -- The slots of a process in their order.
-use Rattle.std.specs.Prelude.{◌≡◌, ℕ, ◌<◌, ◌≤◌, Option, Some, None}
+use Rattle.std.specs.Prelude.{◌≡◌, ℕ, ◌<◌, ◌≤◌, Option, Some, None, IsSome}
 use Rattle.std.specs.FinMap as maps
+use Rattle.lx_abi.specs.Limits.{most_fds}
 use Rattle.lx_open.specs.Kinds.{SlotMap}
 use Rattle.lx_open.specs.Opens.{pair}
 
--- no slot stands from a key on, up to the one that is told
+-- the key that is told has a slot, and no slot stands before it, from a key on
 abbrev pub IsFirstFrom : SlotMap → ℕ → Option ℕ → Type 0
 IsFirstFrom slots from None = (q : ℕ) → from ≤ q → maps.get slots q ≡ None
-IsFirstFrom slots from (Some key) = (from ≤ key) × ((q : ℕ) → from ≤ q → q < key → maps.get slots q ≡ None)
+IsFirstFrom slots from (Some key) =
+    (from ≤ key) × IsSome (maps.get slots key) × ((q : ℕ) → from ≤ q → q < key → maps.get slots q ≡ None)
 
--- the descriptors of a process from one on, up to the one that is told, name nothing
+-- the descriptor that is told names something, and those of the process before it, from one on, name nothing
 abbrev pub IsNextOpen : SlotMap → ℕ → ℕ → Option ℕ → Type 0
-IsNextOpen slots pid fd None = (q : ℕ) → fd ≤ q → q < 256 → maps.get slots (pair pid q) ≡ None
+IsNextOpen slots pid fd None = (q : ℕ) → fd ≤ q → q < most_fds → maps.get slots (pair pid q) ≡ None
 IsNextOpen slots pid fd (Some n) =
-    (fd ≤ n) × (n < 256) × ((q : ℕ) → fd ≤ q → q < n → maps.get slots (pair pid q) ≡ None)
+    (fd ≤ n) × (n < most_fds) × IsSome (maps.get slots (pair pid n)) × ((q : ℕ) → fd ≤ q → q < n → maps.get slots (pair pid q) ≡ None)

@@ -6,14 +6,11 @@ use Rattle.std.specs.Option.{unwrap_or}
 use Rattle.std.specs.List.{range_with_len}
 use Rattle.std.specs.FinMap as maps
 use Rattle.containers.specs.Vacant.{vacant}
+use Rattle.lx_abi.specs.Limits.{most_fds}
 use Rattle.lx_files.specs.Tallies.{holds}
 use Rattle.lx_open.specs.Kinds.{Description, Slot, SlotMap, names_description, reads_pipe}
 use Rattle.lx_open.specs.Kinds.{writes_pipe, has_node, moved}
 pub use Rattle.lx_open.specs.declared.fd_table.FdTable.{FdTable}
-
--- a process has at most so many descriptors
-abbrev pub most_fds : ℕ
-most_fds = 256
 
 -- the pair as one number
 abbrev pub pair : ℕ → ℕ → ℕ
@@ -28,12 +25,12 @@ description fds n = maps.get fds.descriptions n
 
 -- the lowest free descriptor
 unfoldable pub free : SlotMap → ℕ → Option ℕ
-free slots pid = find (λ fd. is_none (maps.get slots (pair pid fd))) (range_with_len 0 256)
+free slots pid = find (λ fd. is_none (maps.get slots (pair pid fd))) (range_with_len 0 most_fds)
 
 -- the lowest free descriptor but one
 abbrev pub free_but : SlotMap → ℕ → ℕ → Option ℕ
 free_but slots pid first =
-    find (λ fd. not (fd == first) && is_none (maps.get slots (pair pid fd))) (range_with_len 0 256)
+    find (λ fd. not (fd == first) && is_none (maps.get slots (pair pid fd))) (range_with_len 0 most_fds)
 
 -- some descriptor names the description
 abbrev pub is_named : FdTable → ℕ → Bool
@@ -95,7 +92,7 @@ inherited_each slots parent child (fd ∷ fds) =
     inherited_each (inherited_slot slots child fd (maps.get slots (pair parent fd))) parent child fds
 
 unfoldable pub inherited : FdTable → ℕ → ℕ → FdTable
-inherited fds parent child = record fds { slots = inherited_each fds.slots parent child (range_with_len 0 256) }
+inherited fds parent child = record fds { slots = inherited_each fds.slots parent child (range_with_len 0 most_fds) }
 
 -- no descriptor is open
 abbrev pub no_fds : FdTable

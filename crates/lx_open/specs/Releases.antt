@@ -3,6 +3,7 @@
 use Rattle.std.specs.Prelude.{◌≡◌, ℕ, Bool, true, false, ◌||◌, not, List, [], ◌∷◌, Option, Some, None, if◌then◌else◌}
 use Rattle.std.specs.List.{range_with_len}
 use Rattle.std.specs.FinMap as maps
+use Rattle.lx_abi.specs.Limits.{most_fds}
 use Rattle.lx_files.specs.declared.tree.Tree.{Tree}
 use Rattle.lx_files.specs.Trees.{has_path, without_path, without_node}
 use Rattle.lx_files.specs.Paths.{Path}
@@ -76,8 +77,8 @@ closed_each on_exec h pid (fd ∷ fds) = closed_each on_exec (closed_if_meant on
 
 -- a process that ends has no descriptors ("Consequences of Process Termination", POSIX _Exit)
 unfoldable pub all_closed : Tree → FdTable → ℕ → Held
-all_closed tree fds pid = closed_each false (record { tree = tree; fds = fds }) pid (range_with_len 0 256)
+all_closed tree fds pid = closed_each false (record { tree = tree; fds = fds }) pid (range_with_len 0 most_fds)
 
 -- a new program has those without FD_CLOEXEC (POSIX exec)
 unfoldable pub closed_on_exec : Tree → FdTable → ℕ → Held
-closed_on_exec tree fds pid = closed_each true (record { tree = tree; fds = fds }) pid (range_with_len 0 256)
+closed_on_exec tree fds pid = closed_each true (record { tree = tree; fds = fds }) pid (range_with_len 0 most_fds)

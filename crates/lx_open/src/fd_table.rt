@@ -1,8 +1,11 @@
 //! What the descriptors of each process name.
 
-ghost use Rattle.std.specs.Prelude.{◌≡◌, ◌<◌, ◌≤◌, ◌++◌, drop, length, OnOk, IfOk, IfSome};
+ghost use Rattle.std.specs.Prelude.{◌≡◌, ◌<◌, ◌≤◌, ◌++◌, [], drop, length, OnOk, IfOk, IfSome};
+ghost use Rattle.lx_abi.specs.Limits.{most_fds};
 ghost use Rattle.lx_open.specs.Opens.{pair as pair_of, slot as slot_of, free as free_of, opened, held as held_of};
-ghost use Rattle.lx_open.specs.Opens.{with_held};
+ghost use Rattle.lx_open.specs.Opens.{with_held, with_offset, with_pipe, with_slot};
+ghost use Rattle.lx_open.specs.Opens.{description as description_of, has_readers as has_readers_of, has_writers as has_writers_of};
+ghost use Rattle.containers.specs.Vacant.{vacant};
 ghost use Rattle.std.specs.FinMap as maps;
 ghost use Rattle.lx_open.specs.Opens.{free_but, no_fds, inherited_slot, inherited};
 ghost use Rattle.lx_open.specs.Nexts.{IsNextOpen};
@@ -13,43 +16,45 @@ use crate::descriptions::Descriptions;
 use crate::queue::PipeBuffer;
 use crate::slots::Slots;
 use containers::Map;
+use lx_abi::limits::MOST_FDS;
 use std::alloc::{AllocError, Global};
-
-/// A process has at most so many descriptors.
-pub const MOST_FDS: u32 = 256;
 
 /// Slots by process and descriptor, descriptions and pipes by number.
 #[derive(Drop)]
 pub struct FdTable {
-    pub slots: Slots,
-    pub descriptions: Descriptions,
-    pub pipes: Map<PipeBuffer>,
+    pub(crate) slots: Slots,
+    pub(crate) descriptions: Descriptions,
+    pub(crate) pipes: Map<PipeBuffer>,
 }
 
 /// A process and a descriptor as one number.
 pub fn pair(pid: u32, fd: u32) -> u64
-    requires { fd < 256 }
+    requires { fd < most_fds }
     ensures { result ≡ pair_of pid fd }
 {
-    u64::from(pid) * 256 + u64::from(fd)
+    u64::from(pid) * u64::from(MOST_FDS) + u64::from(fd)
 }
 
 /// The lowest free descriptor.
 #[tactic(auto, unfolding(crate::specs::Opens::free))]
 fn free_in(slots: &Slots, pid: u32) -> Option<u32>
     ensures value { result ≡ free_of slots.now pid }
-    ensures small { IfSome result (λ fd. fd < 256) }
+    ensures small { IfSome result (λ fd. fd < most_fds) }
 {
-    (0..256u32).find(|fd| slots.get(u64::from(pid) * 256 + u64::from(*fd)).is_none())
+    (0..MOST_FDS).find(|fd| slots
+        .get(u64::from(pid) * u64::from(MOST_FDS) + u64::from(*fd))
+        .is_none())
 }
 
 /// The lowest free descriptor but one.
 fn free_beside(slots: &Slots, pid: u32, first: u32) -> Option<u32>
     ensures value { result ≡ free_but slots.now pid first }
-    ensures small { IfSome result (λ fd. fd < 256) }
+    ensures small { IfSome result (λ fd. fd < most_fds) }
 {
-    (0..256u32).find(|fd| *fd != first
-        && slots.get(u64::from(pid) * 256 + u64::from(*fd)).is_none())
+    (0..MOST_FDS).find(|fd| *fd != first
+        && slots
+            .get(u64::from(pid) * u64::from(MOST_FDS) + u64::from(*fd))
+            .is_none())
 }
 
 impl FdTable {
@@ -77,14 +82,14 @@ impl FdTable {
 
     /// The lowest open descriptor at or above one.
     pub fn next_open(&self, pid: u32, fd: u32) -> Option<u32>
-        requires { fd ≤ 256 }
+        requires { fd ≤ most_fds }
         ensures { IsNextOpen self.now.slots pid fd result }
     {
-        let first = u64::from(pid) * 256;
+        let first = u64::from(pid) * u64::from(MOST_FDS);
         match self.slots.first_from(first + u64::from(fd)) {
             None => None,
             Some(key) => {
-                if key < first + 256 {
+                if key < first + u64::from(MOST_FDS) {
                     Some((key - first) as u32)
                 } else {
                     None
@@ -96,7 +101,7 @@ impl FdTable {
     /// The lowest free descriptor.
     pub fn free(&self, pid: u32) -> Option<u32>
         ensures value { result ≡ free_of self.now.slots pid }
-        ensures small { IfSome result (λ fd. fd < 256) }
+        ensures small { IfSome result (λ fd. fd < most_fds) }
     {
         free_in(&self.slots, pid)
     }
@@ -104,9 +109,61 @@ impl FdTable {
     /// The lowest free descriptor once another one is taken.
     pub fn free_after(&self, pid: u32, first: u32) -> Option<u32>
         ensures value { (s : Slot) → result ≡ free_of (maps.insert self.now.slots (pair_of pid first) s) pid }
-        ensures small { IfSome result (λ fd. fd < 256) }
+        ensures small { IfSome result (λ fd. fd < most_fds) }
     {
         free_beside(&self.slots, pid, first)
+    }
+
+    /// The description that a slot names by number.
+    pub fn description(&self, number: u32) -> Option<Description>
+        ensures { result ≡ description_of self.now number }
+    {
+        self.descriptions.get(number)
+    }
+
+    /// A descriptor names what a slot says.
+    pub fn put(&mut self, pid: u32, fd: u32, slot: Slot) -> Result<(), AllocError>
+        requires { fd < most_fds }
+        ensures { OnOk result (self.new ≡ with_slot self.old pid fd slot) }
+    {
+        self.slots.insert(pair(pid, fd), slot)?;
+        Ok(())
+    }
+
+    /// The description is at another offset.
+    pub fn move_to(&mut self, number: u32, offset: u64)
+        ensures { self.new ≡ with_offset self.old number offset }
+    {
+        self.descriptions.move_to(number, offset);
+    }
+
+    /// Some description reads from the pipe.
+    pub fn has_readers(&self, pipe: u32) -> bool
+        ensures { result ≡ has_readers_of self.now pipe }
+    {
+        self.descriptions.has_readers(pipe)
+    }
+
+    /// Some description writes to the pipe.
+    pub fn has_writers(&self, pipe: u32) -> bool
+        ensures { result ≡ has_writers_of self.now pipe }
+    {
+        self.descriptions.has_writers(pipe)
+    }
+
+    /// The lowest number that no pipe has.
+    pub fn vacant_pipe(&self) -> Result<u32, AllocError>
+        ensures { IfOk result (λ n. n ≡ vacant self.now.pipes) }
+    {
+        self.pipes.vacant(0)
+    }
+
+    /// An empty pipe by this number.
+    pub fn add_pipe(&mut self, alloc: Global, pipe: u32) -> Result<(), AllocError>
+        ensures { OnOk result (self.new ≡ with_pipe self.old pipe []) }
+    {
+        self.pipes.insert(pipe, PipeBuffer::new(alloc))?;
+        Ok(())
     }
 
     /// A descriptor names a new description.
@@ -117,7 +174,7 @@ impl FdTable {
         description: Description,
         closes_on_exec: bool,
     ) -> Result<(), AllocError>
-        requires { fd < 256 }
+        requires { fd < most_fds }
         ensures { OnOk result (self.new ≡ opened self.old pid fd description closes_on_exec) }
     {
         let number = self.descriptions.vacant()?;
@@ -163,7 +220,7 @@ impl FdTable {
     }
 
     fn inherit_one(&mut self, parent: u32, child: u32, fd: u32) -> Result<(), AllocError>
-        requires { fd < 256 }
+        requires { fd < most_fds }
         ensures { OnOk result (self.new ≡ record self.old {
           slots =
               inherited_slot self.old.slots child fd (maps.get self.old.slots (pair_of parent fd));

@@ -1,6 +1,7 @@
 //! What goes once nothing names it.
 
 ghost use Rattle.std.specs.Prelude.{◌≡◌, IsTrue};
+ghost use Rattle.lx_abi.specs.Limits.{most_fds};
 ghost use Rattle.lx_open.specs.Releases.{node_released, pipe_released, object_released, description_released};
 ghost use Rattle.lx_open.specs.Releases.{closed, unlinked};
 ghost use Rattle.lx_open.specs.Releases.{is_meant as is_meant_of, closed_if_meant, closed_each, all_closed};
@@ -11,6 +12,7 @@ ghost use Rattle.std.specs.List.{range_with_len};
 
 use crate::description::{Object, Slot};
 use crate::fd_table::{FdTable, pair};
+use lx_abi::limits::MOST_FDS;
 use lx_files::Tree;
 
 /// A node goes that neither a path nor a description names.
@@ -68,7 +70,7 @@ fn close_one(tree: &mut Tree, fds: &mut FdTable, pid: u32, fd: u32) -> bool
     let Some(slot) = fds.slot(pid, fd) else {
         return true;
     };
-    if fd < 256 {
+    if fd < MOST_FDS {
         fds.slots.remove(pair(pid, fd));
         return release_description(tree, fds, slot.description);
     }
@@ -115,7 +117,7 @@ fn close_if_meant(tree: &mut Tree, fds: &mut FdTable, on_exec: bool, pid: u32, f
 
 fn close_each(tree: &mut Tree, fds: &mut FdTable, on_exec: bool, pid: u32) -> bool
     ensures held { record { tree = tree.new; fds = fds.new }
-        ≡ closed_each on_exec (record { tree = tree.old; fds = fds.old }) pid (range_with_len 0 256) }
+        ≡ closed_each on_exec (record { tree = tree.old; fds = fds.old }) pid (range_with_len 0 most_fds) }
     ensures kept { IsTrue result → AreEndsKept fds.old fds.new }
 {
     let mut at = 0u32;

@@ -6,6 +6,7 @@ use Rattle.std.specs.declared.result.Result.TheVariants.{Ok, Err}
 use Rattle.std.proofs.lemmas.Bool.Decides.{nat_tests}
 use Rattle.std.specs.Int.{w32, to_le_bytes}
 use Rattle.std.specs.FinMap as maps
+use Rattle.lx_abi.specs.Limits.{path_limit, start_limit}
 use Rattle.elf_image.specs.Checks.{fault_of}
 use Rattle.elf_image.specs.Images.{image_of}
 use Rattle.rv_mem.specs.Memory.{first_fault, written}
@@ -22,13 +23,11 @@ use Rattle.lx_sig.specs.Sigprocmask.{sigprocmask}
 use Rattle.lx_sig.specs.Frames.{return_fault}
 use Rattle.lx_sig.specs.Kill.{aim}
 use Rattle.lx_files.specs.Trees.{node_at}
-use Rattle.lx_files.specs.Limits.{path_limit}
 use Rattle.lx_files.specs.Places.{place, path_of}
 use Rattle.lx_proc.specs.declared.state.Shared.{Shared}
 use Rattle.lx_proc.specs.declared.state.UserState.{UserState}
 use Rattle.lx_proc.specs.State.{with_memory, with_entries, directory}
 use Rattle.lx_proc.specs.Answers.{Answers, is_blocked, argument, low_argument, unless, given, granted, gives}
-use Rattle.lx_proc.specs.Starts.{start_limit}
 use Rattle.lx_proc.specs.Texts.{Text, Whole, TooLong, Unreadable, text_at, list_at}
 use Rattle.lx_exec.specs.Pages.{pages_for, rights_for}
 use Rattle.lx_exec.specs.Programs.{start_size, started}

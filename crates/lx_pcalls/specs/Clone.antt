@@ -11,16 +11,16 @@ use Rattle.lx_proc.specs.declared.state.Shared.{Shared}
 use Rattle.lx_proc.specs.declared.state.Entry.{Entry}
 use Rattle.lx_proc.specs.declared.state.UserState.{UserState}
 use Rattle.lx_proc.specs.declared.state.Life.TheVariants.{Alive}
-use Rattle.lx_proc.specs.State.{most_processes, last_pid, with_hart}
+use Rattle.lx_proc.specs.State.{with_hart}
 use Rattle.lx_proc.specs.Answers.{Answers, argument, unless, at_entry}
 
 -- flags: the signal of its end, SIGCHLD, and nothing shared
 abbrev pub fork_flags : ℕ
 fork_flags = 17
 
--- one process more, with this pid
+-- one process more is within the limits, with this pid
 abbrev pub has_room : Shared → ℕ → Bool
-has_room s child = nat_lt (maps.len s.entries) most_processes && nat_le child last_pid
+has_room s child = nat_lt (maps.len s.entries) s.limits.live && nat_le child s.limits.last_pid
 
 -- its parent's directory, mask and actions, and nothing pending
 abbrev pub child_entry : Entry → ℕ → Entry

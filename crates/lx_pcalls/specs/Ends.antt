@@ -5,13 +5,14 @@ use Rattle.std.specs.FinMap as maps
 use Rattle.lx_abi.specs.declared.log.Cause.{Cause}
 use Rattle.lx_abi.specs.declared.log.Cause.TheVariants.{Exited, Killed}
 use Rattle.lx_abi.specs.declared.signal.Signal.{Signal}
-use Rattle.lx_sig.specs.Pending.{action_of, with_pending}
+use Rattle.lx_sig.specs.Pending.{action_of}
 use Rattle.lx_open.specs.Releases.{all_closed}
 use Rattle.lx_proc.specs.declared.state.Life.{Life}
 use Rattle.lx_proc.specs.declared.state.Entry.{Entry}
 use Rattle.lx_proc.specs.declared.state.Shared.{Shared}
 use Rattle.lx_proc.specs.declared.state.Life.TheVariants.{Dying, Zombie}
-use Rattle.lx_proc.specs.State.{Entries, changed, with_entries, with_held, with_signals}
+use Rattle.lx_proc.specs.State.{Entries, changed, with_entries, with_held}
+use Rattle.lx_proc.specs.Sending.{receives}
 use Rattle.lx_proc.specs.Families.{is_zombie}
 
 abbrev pub with_life : Entry → Life → Entry
@@ -60,7 +61,7 @@ abbrev pub wants_no_news : Entry → Bool
 wants_no_news e = (action_of e.signals 17).handler == 1
 
 abbrev pub told : Entry → ℕ → ℕ → Entry
-told parent p w = with_signals parent (with_pending parent.signals sigchld (cause_of_end p w))
+told parent p w = receives parent sigchld (cause_of_end p w)
 
 abbrev pub retired_by : Entries → ℕ → ℕ → ℕ → Option Entry → Entries
 retired_by entries p w parent None = maps.remove entries p

@@ -6,7 +6,6 @@ use Rattle.lx_abi.specs.declared.log.Call.{Call}
 use Rattle.lx_abi.specs.declared.log.Cause.TheVariants.{Sent}
 use Rattle.lx_abi.specs.declared.signal.Signal.{Signal}
 use Rattle.lx_model.specs.Machine.{Returns}
-use Rattle.lx_sig.specs.Pending.{with_pending}
 use Rattle.lx_sig.specs.Kill.{aim}
 use Rattle.lx_sig.specs.declared.kill.Aim.{Aim}
 use Rattle.lx_proc.specs.declared.state.Shared.{Shared}
@@ -14,12 +13,13 @@ use Rattle.lx_proc.specs.declared.state.Entry.{Entry}
 use Rattle.lx_proc.specs.declared.state.UserState.{UserState}
 use Rattle.lx_proc.specs.declared.state.Life.{Life}
 use Rattle.lx_proc.specs.declared.state.Life.TheVariants.{Alive, Dying, Zombie}
-use Rattle.lx_proc.specs.State.{changed, with_entries, with_signals}
+use Rattle.lx_proc.specs.State.{changed, with_entries}
+use Rattle.lx_proc.specs.Sending.{receives}
 use Rattle.lx_proc.specs.Answers.{Answers, given}
 
 -- what is sent to a process that ends, or has ended, has no effect
 abbrev pub sent_to : Entry → Life → ℕ → Signal → Entry
-sent_to e Alive p signal = with_signals e (with_pending e.signals signal (Sent p))
+sent_to e Alive p signal = receives e signal (Sent p)
 sent_to e (Dying w) p signal = e
 sent_to e (Zombie w) p signal = e
 

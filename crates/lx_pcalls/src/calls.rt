@@ -17,7 +17,7 @@ use crate::rt_sigprocmask::rt_sigprocmask;
 use crate::rt_sigreturn::rt_sigreturn;
 use crate::sched_yield::sched_yield;
 use crate::wait4::{wait4, wait4_would_block};
-use lx_abi::Call;
+use lx_abi::{Call, sys};
 use lx_exec::execve::execve;
 use lx_proc::{CallReply, Shared, UserState};
 use std::alloc::{AllocError, Global};
@@ -38,22 +38,22 @@ pub fn process_call(
     ensures console { OnErr result (shared.new.console ≡ shared.old.console) }
 {
     match call.number {
-        93 => Ok(Some(exit(shared, call, user))),
-        94 => Ok(Some(exit(shared, call, user))),
-        124 => Ok(Some(sched_yield(shared, user))),
-        129 => Ok(Some(kill(shared, pid, call, user))),
-        134 => Ok(Some(rt_sigaction(shared, pid, call, user)?)),
-        135 => Ok(Some(rt_sigprocmask(shared, pid, call, user)?)),
-        139 => Ok(Some(rt_sigreturn(shared, pid, user))),
-        172 => Ok(Some(getpid(shared, pid, user))),
-        173 => Ok(Some(getppid(shared, pid, user))),
-        178 => Ok(Some(getpid(shared, pid, user))),
-        214 => Ok(Some(brk(shared, call, user)?)),
-        215 => Ok(Some(munmap(shared, call, user))),
-        220 => Ok(Some(clone(alloc, shared, child, pid, call, user)?)),
-        221 => Ok(Some(execve(alloc, shared, pid, call, user)?)),
-        222 => Ok(Some(mmap(shared, call, user)?)),
-        260 => Ok(Some(wait4(shared, pid, call, user)?)),
+        sys::SYS_EXIT => Ok(Some(exit(shared, call, user))),
+        sys::SYS_EXIT_GROUP => Ok(Some(exit(shared, call, user))),
+        sys::SYS_SCHED_YIELD => Ok(Some(sched_yield(shared, user))),
+        sys::SYS_KILL => Ok(Some(kill(shared, pid, call, user))),
+        sys::SYS_RT_SIGACTION => Ok(Some(rt_sigaction(shared, pid, call, user)?)),
+        sys::SYS_RT_SIGPROCMASK => Ok(Some(rt_sigprocmask(shared, pid, call, user)?)),
+        sys::SYS_RT_SIGRETURN => Ok(Some(rt_sigreturn(shared, pid, user))),
+        sys::SYS_GETPID => Ok(Some(getpid(shared, pid, user))),
+        sys::SYS_GETPPID => Ok(Some(getppid(shared, pid, user))),
+        sys::SYS_GETTID => Ok(Some(getpid(shared, pid, user))),
+        sys::SYS_BRK => Ok(Some(brk(shared, call, user)?)),
+        sys::SYS_MUNMAP => Ok(Some(munmap(shared, call, user))),
+        sys::SYS_CLONE => Ok(Some(clone(alloc, shared, child, pid, call, user)?)),
+        sys::SYS_EXECVE => Ok(Some(execve(alloc, shared, pid, call, user)?)),
+        sys::SYS_MMAP => Ok(Some(mmap(shared, call, user)?)),
+        sys::SYS_WAIT4 => Ok(Some(wait4(shared, pid, call, user)?)),
         _ => Ok(None),
     }
 }
@@ -63,7 +63,7 @@ pub fn process_call(
 pub fn would_block(shared: &Shared, pid: u32, call: &Call) -> bool
     ensures { result ≡ would_block_of shared.now pid call.now }
 {
-    call.number == 260 && wait4_would_block(shared, pid, call)
+    call.number == sys::SYS_WAIT4 && wait4_would_block(shared, pid, call)
 }
 
 /// Of these calls one blocks where it would, and nowhere else.

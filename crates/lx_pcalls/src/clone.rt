@@ -9,7 +9,7 @@ ghost use Rattle.lx_pcalls.specs.Clone.{has_room as has_room_for};
 
 use containers::Bytes;
 use lx_abi::{Call, Errno};
-use lx_proc::{CallReply, Entry, LAST_PID, Life, MOST_PROCESSES, Shared, UserState};
+use lx_proc::{CallReply, Entry, Life, Shared, UserState};
 use lx_sig::for_child;
 use rv_hart::Hart;
 use std::alloc::{AllocError, Global};
@@ -21,7 +21,8 @@ const FORK_FLAGS: u64 = 17;
 fn has_room(shared: &Shared, child: u32) -> bool
     ensures { result ≡ has_room_for shared.now child }
 {
-    shared.entries.len() < MOST_PROCESSES && child <= LAST_PID
+    let limits = shared.limits;
+    shared.entries.len() < usize::from(limits.live) && child <= u32::from(limits.last_pid)
 }
 
 fn entry_for_child(alloc: Global, entry: &Entry, parent: u32) -> Result<Entry, AllocError>

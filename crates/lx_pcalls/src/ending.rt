@@ -1,16 +1,16 @@
 //! The end of a process (_exit(2), wait(2)).
 
 ghost use Rattle.std.specs.Prelude.{◌≡◌, IfOk, OnOk, OnErr, IsTrue};
-ghost use Rattle.lx_proc.specs.State.{changed, with_held};
+ghost use Rattle.lx_proc.specs.State.{with_held};
 ghost use Rattle.lx_open.specs.Releases.{all_closed, AreEndsKept};
 ghost use Rattle.lx_pcalls.specs.Ends.{with_word, dies, orphaned, cause_of_end};
 ghost use Rattle.lx_pcalls.specs.Ends.{released as released_entries};
-ghost use Rattle.lx_pcalls.specs.Ends.{wants_no_news as wants_no_news_of, told, retired, buried};
+ghost use Rattle.lx_pcalls.specs.Ends.{wants_no_news as wants_no_news_of, retired, buried};
 
 use lx_abi::{Cause, Signal};
 use lx_open::release::close_all;
-use lx_proc::{Entry, Life, Shared, Table};
-use lx_sig::{action, make_pending};
+use lx_proc::{Entry, Life, Shared, Table, send};
+use lx_sig::action;
 use std::alloc::AllocError;
 
 /// SIG_IGN.
@@ -96,25 +96,13 @@ fn wants_no_news(entry: &Entry) -> bool
     action(&entry.signals, 17).handler == IGNORE
 }
 
-/// A parent is told of an end.
-fn tell(entries: &mut Table, parent: u32, pid: u32, word: u32)
-    ensures { entries.new ≡ changed entries.old parent (λ e. told e pid word) }
-{
-    let Some(entry) = entries.get(parent) else {
-        return;
-    };
-    let mut signals = entry.signals;
-    make_pending(&mut signals, Signal::CHLD, cause(pid, word));
-    entries.set_signals(parent, signals);
-}
-
 /// A process waits for its parent as a zombie, or leaves the table where nobody will wait.
 fn become_zombie(entries: &mut Table, pid: u32, word: u32, parent: u32) -> Result<(), AllocError>
     ensures { OnOk result (entries.new ≡ retired entries.old pid word parent) }
 {
     match entries.get(parent) {
         Some(entry) if !wants_no_news(entry) => {
-            tell(entries, parent, pid, word);
+            send(entries, parent, Signal::CHLD, cause(pid, word));
             entries.set_life(pid, Life::Zombie { word })?;
         }
         _ => entries.remove(pid),

@@ -7,22 +7,18 @@ ghost use Rattle.lx_proc.specs.Answers.{answer_of, Kept};
 ghost use Rattle.lx_pcalls.specs.Kill.{kill as meaning, kills, sent_to};
 
 use lx_abi::{Call, Cause, Errno, Signal};
-use lx_proc::{CallReply, Life, Shared, Table, UserState};
-use lx_sig::{Aim, aim_of_kill, make_pending};
+use lx_proc::{CallReply, Life, Shared, Table, UserState, send};
+use lx_sig::{Aim, aim_of_kill};
 
 /// A process that lives has the signal pending, unless it has it already.
-fn send(entries: &mut Table, pid: u32, target: u32, signal: Signal)
+fn send_from(entries: &mut Table, pid: u32, target: u32, signal: Signal)
     ensures { entries.new ≡ changed entries.old target (λ e. sent_to e e.life pid signal) }
 {
     let Some(entry) = entries.get(target) else {
         return;
     };
     match entry.life {
-        Life::Alive => {
-            let mut signals = entry.signals;
-            make_pending(&mut signals, signal, Cause::Sent { pid });
-            entries.set_signals(target, signals);
-        }
+        Life::Alive => send(entries, target, signal, Cause::Sent { pid }),
         Life::Dying { .. } | Life::Zombie { .. } => {}
     }
 }
@@ -35,7 +31,7 @@ fn kill_at(shared: &mut Shared, pid: u32, _user: &UserState, aim: Aim) -> CallRe
         return CallReply::Refused(Errno::ESRCH);
     }
     if let Some(signal) = aim.signal {
-        send(&mut shared.entries, pid, aim.pid, signal);
+        send_from(&mut shared.entries, pid, aim.pid, signal);
     }
     CallReply::Returned(0)
 }

@@ -2,13 +2,13 @@
 use Rattle.std.proofs.Common.{◌≡◌, ℕ, zero, suc, ◌+◌, ◌-◌, ◌<◌, ◌≤◌, Bool, true, false, is_some, List, [], ◌∷◌, ◌++◌, length, Option, Some, None, if◌then◌else◌, refl, ap, sym, subst, ◌∙◌, eqb, arith}
 use Rattle.std.specs.List.{sum_by}
 use Rattle.std.proofs.lemmas.List.Sums.{sum_by-cons, sum_by-append}
+use Rattle.lx_abi.specs.Limits.{start_limit}
 use Rattle.rv_mem.specs.Memory.{Memory, first_fault}
 use Rattle.rv_mem.specs.declared.rights.Access.TheVariants as access
 use Rattle.rv_mem.specs.declared.fault.MemFault.{MemFault}
 use Rattle.lx_proc.specs.declared.texts.Text.TheVariants as answer
 use Rattle.lx_proc.specs.declared.texts.Text.{Text as Answer}
 use Rattle.lx_proc.specs.Starts.{cost_of}
-use Rattle.lx_proc.specs.Starts.{start_limit}
 use Rattle.lx_proc.specs.Read.{text_of, ReadsWithin, Reads, too_large_if}
 use Rattle.lx_proc.specs.Texts.{Text, Whole, TooLong, Unreadable, after, next_address, byte_at, pointer_at, text_on, text_at, any_length, whole, with_first, texts_at}
 use Rattle.lx_proc.proofs.Reading.{texts_before, is_no_nul}

@@ -1,6 +1,7 @@
 pub mod State
 pub mod Answers
 pub mod Registers
+pub mod Sending
 pub mod Starts
 pub mod Texts
 pub mod Read

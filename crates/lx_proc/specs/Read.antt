@@ -1,8 +1,8 @@
 -- What the code reads of a guest's memory, in the definitions' terms.
 use Rattle.std.specs.Prelude.{◌≡◌, ℕ, ◌<◌, ◌≤◌, Bool, true, false, not, is_some, List, length, Option, Some, None}
 use Rattle.std.specs.List.{sum_by}
+use Rattle.lx_abi.specs.Limits.{start_limit}
 use Rattle.lx_proc.specs.Starts.{cost_of}
-use Rattle.lx_proc.specs.Starts.{start_limit}
 use Rattle.rv_mem.specs.Memory.{Memory}
 use Rattle.lx_proc.specs.Texts.{Text, Whole, TooLong, Unreadable, text_at, any_length, whole}
 use Rattle.lx_proc.specs.declared.texts.Text.TheVariants as answer

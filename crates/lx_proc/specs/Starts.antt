@@ -1,10 +1,7 @@
--- How much a program's start may have (execve(2), "Limits on size of arguments and environment").
+-- How much of a program's start a word takes (execve(2), "Limits on size of arguments and environment").
 use Rattle.std.specs.Prelude.{ℕ, ◌+◌, List, length}
+use Rattle.lx_abi.specs.Limits.{word_cost}
 
--- the most bytes that the words, the environment and their vector may have
-abbrev pub start_limit : ℕ
-start_limit = 65536
-
--- what a word takes of them: its bytes, its NUL and its pointer
+-- its bytes, its NUL and its pointer
 abbrev pub cost_of : List ℕ → ℕ
-cost_of word = length word + 9
+cost_of word = length word + word_cost

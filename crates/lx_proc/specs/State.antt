@@ -6,6 +6,7 @@ use Rattle.std.specs.FinMap as maps
 use Rattle.std.specs.FinMap.{FinMap}
 use Rattle.rv_mem.specs.Memory.{Memory}
 use Rattle.rv_hart.specs.declared.hart.Hart.{Hart}
+use Rattle.lx_abi.specs.declared.boot.Limits.{Limits}
 use Rattle.lx_files.specs.declared.tree.Tree.{Tree}
 use Rattle.lx_open.specs.declared.fd_table.FdTable.{FdTable}
 use Rattle.lx_open.specs.Releases.{Held}
@@ -14,19 +15,17 @@ pub use Rattle.lx_sig.specs.declared.state.Interrupted.{Interrupted}
 pub use Rattle.lx_proc.specs.declared.state.Life.{Life}
 pub use Rattle.lx_proc.specs.declared.state.Life.TheVariants.{Alive, Dying, Zombie}
 pub use Rattle.lx_proc.specs.declared.state.Entry.{Entry}
+pub use Rattle.lx_proc.specs.declared.state.ProcessLimits.{ProcessLimits}
 pub use Rattle.lx_proc.specs.declared.state.Shared.{Shared}
 pub use Rattle.lx_proc.specs.declared.state.Heap.{Heap}
 pub use Rattle.lx_proc.specs.declared.state.UserState.{UserState}
 
+-- How many processes there may be, by what a boot asks for.
+
+abbrev pub limits_of : Limits → ProcessLimits
+limits_of limits = record { live = limits.live; last_pid = limits.last_pid }
+
 -- The table of processes.
-
--- at most so many processes are in it, zombies among them
-abbrev pub most_processes : ℕ
-most_processes = 64
-
--- pids are 1 to this one, and none is used again
-abbrev pub last_pid : ℕ
-last_pid = 255
 
 abbrev pub Entries : Type 0
 Entries = FinMap nat_cmp Entry

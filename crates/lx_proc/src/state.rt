@@ -1,19 +1,40 @@
 //! What processes share, and what each has to itself.
 
+ghost use Rattle.std.specs.Prelude.{◌≡◌, IsTrue};
+ghost use Rattle.lx_abi.specs.Limits.{are_limits};
+ghost use Rattle.lx_proc.specs.State.{limits_of};
+
 use crate::table::Table;
 use crate::wait_words::WaitWords;
 use containers::Bytes;
+use lx_abi::Limits;
 use lx_files::Tree;
 use lx_open::{FdTable, PipeBuffer};
 use lx_sig::{Interrupted, Signals};
 use rv_hart::Hart;
 use rv_mem::Space;
 
-/// At most so many processes are in the table, zombies among them.
-pub const MOST_PROCESSES: usize = 64;
+/// How many processes there may be.
+#[derive(Clone, Copy, Debug, PartialEq, Eq)]
+pub struct ProcessLimits {
+    /// At most so many are in the table, zombies among them.
+    pub live: u16,
+    /// Pids are 1 to this one, and none is used again.
+    pub last_pid: u16,
+}
 
-/// Pids are 1 to this one, and none is used again.
-pub const LAST_PID: u32 = 255;
+impl ProcessLimits {
+    /// Those that a boot asks for.
+    pub fn new(limits: Limits) -> Self
+        requires { IsTrue (are_limits limits) }
+        ensures { result ≡ limits_of limits }
+    {
+        ProcessLimits {
+            live: limits.live as u16,
+            last_pid: limits.last_pid as u16,
+        }
+    }
+}
 
 /// Whether a process lives; a wait word of wait(2) says how it ended.
 #[derive(Clone, Copy, Debug, PartialEq, Eq)]
@@ -36,6 +57,7 @@ pub struct Entry {
 /// What all processes share.
 #[derive(Drop)]
 pub struct Shared {
+    pub limits: ProcessLimits,
     pub tree: Tree,
     pub fds: FdTable,
     /// What is left of the input.

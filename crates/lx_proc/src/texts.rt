@@ -6,14 +6,9 @@ ghost use Rattle.lx_proc.specs.Texts.{any_length, whole, text_at as text_in, tex
 ghost use Rattle.lx_proc.specs.Read.{text_of, ReadsWithin, Reads, is_unreadable, too_large_if, is_text as is_text_at, is_no_text, AreTexts};
 
 use containers::Bytes;
+use lx_abi::limits::{START_LIMIT, WORD_COST};
 use rv_mem::Space;
 use std::alloc::{AllocError, Global};
-
-/// The most bytes that the words, the environment and the vector of a program's start may take.
-pub const START_LIMIT: usize = 65_536;
-
-/// What a word takes of a program's start beside its bytes: its NUL and its pointer.
-pub const WORD_COST: usize = 9;
 
 /// As many bytes as an address space has.
 const ANY_LENGTH: u64 = 1 << 38;

@@ -3,7 +3,7 @@
 use crate::kernels;
 use crate::kernels::booted;
 use containers::{Bytes, Seq};
-use lx_abi::{Boot, GuestFile};
+use lx_abi::{Boot, GuestFile, Limits};
 use std::alloc::{AllocError, Global};
 use std::test::Fail;
 
@@ -30,6 +30,7 @@ fn boot(alloc: Global) -> Result<Boot, AllocError> {
     let mut argv = Seq::new(alloc);
     argv.push(Bytes::from_slice(alloc, b"/p")?)?;
     Ok(Boot {
+        limits: Limits::WIDEST,
         files,
         argv,
         env: Seq::new(alloc),

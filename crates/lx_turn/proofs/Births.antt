@@ -17,7 +17,6 @@ use Rattle.lx_model.specs.declared.stage.Task.TheVariants.{Alive, Dying, Gone}
 use Rattle.lx_proc.specs.declared.state.Shared.{Shared}
 use Rattle.lx_proc.specs.declared.state.UserState.{UserState}
 use Rattle.lx_sig.specs.declared.state.Interrupted.{Interrupted}
-use Rattle.lx_proc.specs.State.{last_pid}
 use Rattle.lx_turn.specs.Calls.{does}
 use Rattle.lx_turn.specs.Fitting.{Fits}
 use Rattle.lx_turn.specs.Turned.{event_of, IsLeft, IsBirth}
@@ -31,7 +30,7 @@ use Rattle.lx_turn.proofs.CallsFit.{calls_fit}
 abbrev pub Births : Shared → ℕ → Shared → Event UserState → Type 0
 Births s child t Plain = Unit {0}
 Births s child t Execed = Unit {0}
-Births s child t (Forked newborn) = (t.console ≡ s.console) × (child ≤ last_pid)
+Births s child t (Forked newborn) = (t.console ≡ s.console) × (child ≤ s.limits.last_pid)
 
 abbrev Fine : Shared → ℕ → Out Shared UserState → Type 0
 Fine s child o = Births s child o.shared o.event
@@ -85,7 +84,7 @@ turn_fine c s child p Gone = tt
 
 -- of what the code did beside
 
-pub left_by : (s : Shared) (child : ℕ) (t : Shared) (done : Effect) → Births s child t (event_of done) → IsLeft done child
+pub left_by : (s : Shared) (child : ℕ) (t : Shared) (done : Effect) → Births s child t (event_of done) → IsLeft s.limits.last_pid done child
 left_by s child t effect.Plain h = tt
 left_by s child t effect.Execed h = tt
 left_by s child t (effect.Bore newborn) h = h.1

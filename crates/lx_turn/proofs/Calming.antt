@@ -13,6 +13,8 @@ use Rattle.rv_hart.specs.Steps.{Outcome, stepped as instruction}
 use Rattle.rv_mem.specs.Mapping.{mapped, limit_fault, highest_free}
 use Rattle.rv_mem.specs.Memory.{first_fault, written}
 use Rattle.rv_mem.specs.declared.rights.Access.TheVariants as access
+use Rattle.lx_abi.specs.Calls.{calls, has_effects}
+use Rattle.lx_abi.specs.Effects as effect
 use Rattle.lx_abi.specs.Errnos.{eagain, echild, einval, efault, enomem, enosys, esrch}
 use Rattle.lx_abi.specs.declared.log.Call.{Call}
 use Rattle.lx_abi.specs.declared.log.Cause.{Cause}
@@ -32,11 +34,12 @@ use Rattle.lx_sig.specs.Sigprocmask.{sigprocmask}
 use Rattle.lx_sig.specs.declared.reactions.Reaction.{Reaction}
 use Rattle.lx_sig.specs.declared.reactions.Reaction.TheVariants as reaction
 use Rattle.lx_sig.specs.declared.state.Interrupted.{Interrupted}
+use Rattle.lx_sig.specs.declared.state.Signals.{Signals}
 use Rattle.lx_open.specs.Opens.{inherited}
 use Rattle.lx_proc.specs.declared.state.Entry.{Entry}
 use Rattle.lx_proc.specs.declared.state.Shared.{Shared}
 use Rattle.lx_proc.specs.declared.state.UserState.{UserState}
-use Rattle.lx_proc.specs.State.{changed, with_entries, with_memory}
+use Rattle.lx_proc.specs.State.{changed, with_entries, with_memory, with_signals}
 use Rattle.lx_proc.specs.Answers.{Answers, argument, low_argument, unless, given, gives}
 use Rattle.lx_exec.specs.Pages.{pages_for, rights_for}
 use Rattle.lx_fcalls.specs.Calls.{file_call}
@@ -58,7 +61,7 @@ use Rattle.lx_pcalls.specs.Wait4.{wait4, waits, reaps, may_wait, first_child, wo
 use Rattle.lx_turn.specs.Calls.{does, called}
 use Rattle.lx_turn.specs.Linux.{linux}
 use Rattle.lx_turn.specs.Reactions.{next_of, runs, resumed, ran_by, is_killed}
-use Rattle.lx_turn.specs.Resting.{is_quiet, is_calm_at, is_calm_call, Calms, told_by}
+use Rattle.lx_turn.specs.Resting.{is_quiet, is_calm_at, is_calm_number, Calms, told_by}
 use Rattle.lx_turn.proofs.Placed.{either, other_put, other_left}
 use Rattle.lx_abi.specs.declared.log.Item.{Item}
 use Rattle.lx_files.specs.declared.tree.Tree.{Tree}
@@ -78,7 +81,8 @@ use Rattle.lx_turn.specs.Turned.{Turned, turned, turned_by, event_of}
 use Rattle.lx_turn.specs.declared.effects.Effect.{Effect}
 use Rattle.lx_turn.specs.declared.stages.Went.TheVariants.{On}
 use Rattle.lx_turn.proofs.Placed.{get_put}
-use Rattle.lx_turn.proofs.Resting.{other_pair, rests_on, waits_same, waits_alike, inherited_alike, entry_other, quiet_same, quiet_left}
+use Rattle.lx_turn.proofs.Awaiting.{awaits_on, signalled_spared, twice_spared, died_spared, reaped_spared, born_spared, buried_spared}
+use Rattle.lx_turn.proofs.Resting.{both, other_pair, rests_on, waits_same, waits_alike, inherited_alike, entry_other, quiet_same, quiet_left}
 
 module _ (s : Shared) (child p : ℕ) where
   abbrev Calm : Shared → Event UserState → Type 0
@@ -86,35 +90,45 @@ module _ (s : Shared) (child p : ℕ) where
 
   -- nothing is changed
   same_calm : (event : Event UserState) → Calm s event
-  same_calm event = λ q ne still unborn task h. h
+  same_calm event = λ q up ne still unborn task h. h
 
-  -- the process's own entry is
-  entry_calm : (f : Entry → Entry) (event : Event UserState) → Calm (with_entries s (changed s.entries p f)) event
-  entry_calm f event = λ q ne still unborn task h.
+  -- the signals of the process's own entry are
+  entry_calm : (g : Entry → Signals) (event : Event UserState) → Calm (with_entries s (changed s.entries p (λ e. with_signals e (g e)))) event
+  entry_calm g event = λ q up ne still unborn task h.
+      let f = λ (e : Entry). with_signals e (g e) in
       let t : Shared = with_entries s (changed s.entries p f) in
       rests_on s t q (waits_same s t q refl)
+      (awaits_on s t q (signalled_spared s.entries p q g))
       (quiet_same (maps.get s.entries q) (maps.get t.entries q) (entry_other s.entries p q f (maps.get s.entries p) ne)) task h
 
-  entries_calm : (f g : Entry → Entry) (event : Event UserState) → Calm (with_entries s (changed (changed s.entries p f) p g)) event
-  entries_calm f g event = λ q ne still unborn task h.
-      let t : Shared = with_entries s (changed (changed s.entries p f) p g) in
+  entries_calm : (g i : Entry → Signals) (event : Event UserState)
+      → Calm (with_entries s (changed (changed s.entries p (λ e. with_signals e (g e))) p (λ e. with_signals e (i e)))) event
+  entries_calm g i event = λ q up ne still unborn task h.
+      let f = λ (e : Entry). with_signals e (g e) in
+      let j = λ (e : Entry). with_signals e (i e) in
+      let t : Shared = with_entries s (changed (changed s.entries p f) p j) in
       rests_on s t q (waits_same s t q refl)
+      (awaits_on s t q (twice_spared s.entries p q g i))
       (quiet_same (maps.get s.entries q) (maps.get t.entries q)
-      (entry_other (changed s.entries p f) p q g (maps.get (changed s.entries p f) p) ne ∙ entry_other s.entries p q f (maps.get s.entries p) ne)) task h
+      (entry_other (changed s.entries p f) p q j (maps.get (changed s.entries p f) p) ne ∙ entry_other s.entries p q f (maps.get s.entries p) ne)) task h
 
-  -- an entry leaves the table
-  left_calm : (n : ℕ) (event : Event UserState) → Calm (with_entries s (maps.remove s.entries n)) event
-  left_calm n event = λ q ne still unborn task h.
+  -- a child that has been waited for leaves the table
+  left_calm : (wanted n : ℕ) (event : Event UserState) → first_child s.entries p wanted true ≡ Some n → Calm (with_entries s (maps.remove s.entries n)) event
+  left_calm wanted n event found = λ q up ne still unborn task h.
       let t : Shared = with_entries s (maps.remove s.entries n) in
-      rests_on s t q (waits_same s t q refl) (quiet_left s.entries n q) task h
+      rests_on s t q (waits_same s t q refl)
+      (awaits_on s t q (reaped_spared s.entries p q wanted n ne found))
+      (quiet_left s.entries n q) task h
 
-  -- a child is born
-  born_calm : (e : Entry) (newborn : UserState) → Calm (record s { fds = inherited s.fds p child; entries = maps.insert s.entries child e }) (Forked newborn)
+  -- a child is born under a pid that is free
+  born_calm : (e : Entry) (newborn : UserState) → e.parent ≡ p → maps.get s.entries child ≡ None
+      → Calm (record s { fds = inherited s.fds p child; entries = maps.insert s.entries child e }) (Forked newborn)
   unfolding inherited
-  born_calm e newborn = λ q ne still unborn task h.
+  born_calm e newborn parent free = λ q up ne still unborn task h.
       let t : Shared = record s { fds = inherited s.fds p child; entries = maps.insert s.entries child e } in
       let other = unborn tt in
       rests_on s t q (waits_alike s t q (inherited s.fds p child).slots refl (inherited_alike s.fds p child q other))
+      (awaits_on s t q (born_spared s.entries p child q e ne parent free))
       (quiet_same (maps.get s.entries q) (maps.get t.entries q) (other_put s.entries child q other e)) task h
 
   -- Answers
@@ -176,29 +190,30 @@ module _ (s : Shared) (child p : ℕ) where
         (given_calm (highest_free b.memory pages map_low map_high) enomem (maps_at s b pages rights)
         (λ a. unless_calm (is_none (limit_fault (mapped b.memory a (4096 * pages) rights))) enomem _ (same_calm Plain)))
 
-    clone_calm : IsCalm (clone s child p call b)
+    clone_calm : maps.get s.entries child ≡ None → IsCalm (clone s child p call b)
     unfolding clone
-    clone_calm =
+    clone_calm free =
         unless_calm (argument call 0 == fork_flags) einval _
         (given_calm (maps.get s.entries p) esrch (bears s child p call b)
-        (λ e. unless_calm (has_room s child) eagain _ (born_calm (child_entry e p) (child_user b (argument call 1)))))
+        (λ e. unless_calm (has_room s child) eagain _ (born_calm (child_entry e p) (child_user b (argument call 1)) refl free)))
 
-    reaps_calm : (n word : ℕ) → IsCalm (reaps s b call n word)
-    reaps_calm n word =
+    reaps_calm : (n word : ℕ) → first_child s.entries p (low_argument call 0) true ≡ Some n → IsCalm (reaps s b call n word)
+    reaps_calm n word found =
         let left : Shared = with_entries s (maps.remove s.entries n) in
-        either_calm (argument call 1 == 0) (Returns left b n) (gives left b (argument call 1) (to_le_bytes w32 word) n) (left_calm n Plain)
-        (gives_calm left b (argument call 1) (to_le_bytes w32 word) n (left_calm n Plain))
+        let calm = left_calm (low_argument call 0) n Plain found in
+        either_calm (argument call 1 == 0) (Returns left b n) (gives left b (argument call 1) (to_le_bytes w32 word) n) calm
+        (gives_calm left b (argument call 1) (to_le_bytes w32 word) n calm)
 
-    waits_calm : (o : Option ℕ) → IsCalm (waits s b call o)
-    waits_calm None = either_calm (argument call 2 == 1) (Returns s b 0) Blocks (same_calm Plain) tt
-    waits_calm (Some n) = given_calm (word_in (maps.get s.entries n)) echild (reaps s b call n) (reaps_calm n)
+    waits_calm : (o : Option ℕ) → first_child s.entries p (low_argument call 0) true ≡ o → IsCalm (waits s b call o)
+    waits_calm None found = either_calm (argument call 2 == 1) (Returns s b 0) Blocks (same_calm Plain) tt
+    waits_calm (Some n) found = given_calm (word_in (maps.get s.entries n)) echild (reaps s b call n) (λ word. reaps_calm n word found)
 
     wait4_calm : IsCalm (wait4 s p call b)
     unfolding wait4
     wait4_calm =
         unless_calm (may_wait call) einval _
         (unless_calm (is_some (first_child s.entries p (low_argument call 0) false)) echild _
-        (waits_calm (first_child s.entries p (low_argument call 0) true)))
+        (waits_calm (first_child s.entries p (low_argument call 0) true) refl))
 
     -- by number
 
@@ -267,9 +282,9 @@ module _ (s : Shared) (child p : ℕ) (call : Call) (b : UserState) where
   unfolding file_call process_call
   unmaps h = calm_at s child p call b 215 (munmap s call b) h (rw h refl) (rw h refl) (munmap_calm s child p call b)
 
-  clones : call.number ≡ 220 → CalledCalm
+  clones : call.number ≡ 220 → maps.get s.entries child ≡ None → CalledCalm
   unfolding file_call process_call
-  clones h = calm_at s child p call b 220 (clone s child p call b) h (rw h refl) (rw h refl) (clone_calm s child p call b)
+  clones h free = calm_at s child p call b 220 (clone s child p call b) h (rw h refl) (rw h refl) (clone_calm s child p call b free)
 
   maps_pages : call.number ≡ 222 → CalledCalm
   unfolding file_call process_call
@@ -282,26 +297,48 @@ module _ (s : Shared) (child p : ℕ) (call : Call) (b : UserState) where
   abbrev N : ℕ
   N = call.number
 
-  called_calm : is_calm_call call.number ≡ true → CalledCalm
-  called_calm e = or_else CalledCalm _ (N == 260) e (λ e. or_else CalledCalm _ (N == 222) e (λ e. or_else CalledCalm _ (N == 220) e (λ e. or_else CalledCalm _ (N == 215) e (λ e. or_else CalledCalm _ (N == 214) e (λ e. or_else CalledCalm _ (N == 178) e (λ e. or_else CalledCalm _ (N == 173) e (λ e. or_else CalledCalm _ (N == 172) e (λ e. or_else CalledCalm _ (N == 139) e (λ e. or_else CalledCalm _ (N == 135) e (λ e. or_else CalledCalm _ (N == 134) e (λ e. yields (numbered N 124 e)) (λ h. acts (numbered N 134 h))) (λ h. masks (numbered N 135 h))) (λ h. returns (numbered N 139 h))) (λ h. names_itself (numbered N 172 h))) (λ h. names_parent (numbered N 173 h))) (λ h. names_thread (numbered N 178 h))) (λ h. breaks (numbered N 214 h))) (λ h. unmaps (numbered N 215 h))) (λ h. clones (numbered N 220 h))) (λ h. maps_pages (numbered N 222 h))) (λ h. awaits (numbered N 260 h))
+  numbered_calm : has_effects call.number effect.calm ≡ true → CalledCalm
+  unfolding has_effects calls
+  numbered_calm e =
+      or_else CalledCalm (N == 124) _ e (λ h. yields (numbered N 124 h)) (λ e.
+      or_else CalledCalm (N == 134) _ e (λ h. acts (numbered N 134 h)) (λ e.
+      or_else CalledCalm (N == 135) _ e (λ h. masks (numbered N 135 h)) (λ e.
+      or_else CalledCalm (N == 139) _ e (λ h. returns (numbered N 139 h)) (λ e.
+      or_else CalledCalm (N == 172) _ e (λ h. names_itself (numbered N 172 h)) (λ e.
+      or_else CalledCalm (N == 173) _ e (λ h. names_parent (numbered N 173 h)) (λ e.
+      or_else CalledCalm (N == 178) _ e (λ h. names_thread (numbered N 178 h)) (λ e.
+      or_else CalledCalm (N == 214) _ e (λ h. breaks (numbered N 214 h)) (λ e.
+      or_else CalledCalm (N == 215) _ e (λ h. unmaps (numbered N 215 h)) (λ e.
+      or_else CalledCalm (N == 222) _ e (λ h. maps_pages (numbered N 222 h)) (λ e.
+      or_else CalledCalm (N == 260) _ e (λ h. awaits (numbered N 260 h)) (λ e.
+      absurd (cc e))))))))))))
 
-  does_calm : is_calm_call call.number ≡ true → IsCalm s child p (does s child p call b)
+  nothing_there : (o : Option Entry) → is_none o ≡ true → o ≡ None
+  nothing_there None e = refl
+  nothing_there (Some x) e = absurd (cc e)
+
+  called_calm : is_calm_number s child call.number ≡ true → CalledCalm
+  called_calm e = or_else CalledCalm (has_effects N effect.calm) _ e numbered_calm
+      (λ e. let h = both (N == 220) (is_none (maps.get s.entries child)) e in
+      clones (numbered N 220 h.0) (nothing_there (maps.get s.entries child) h.1))
+
+  does_calm : is_calm_number s child call.number ≡ true → IsCalm s child p (does s child p call b)
   unfolding does
   does_calm e = interrupted_calm s child p b (called s child p call b) (called_calm e)
 
 -- Turns
 
 -- a calm turn between these stands of its process
-abbrev is_calm : Task UserState → Task UserState → Bool
-is_calm (Alive b stage) (Alive c next) = is_calm_at stage
-is_calm (Alive b stage) (Dying w) = false
-is_calm (Alive b stage) Gone = false
-is_calm (Dying w) task = false
-is_calm Gone task = true
+abbrev is_calm : Shared → ℕ → Task UserState → Task UserState → Bool
+is_calm s child (Alive b stage) (Alive c next) = is_calm_at s child stage
+is_calm s child (Alive b stage) (Dying w) = false
+is_calm s child (Alive b stage) Gone = false
+is_calm s child (Dying w) task = false
+is_calm s child Gone task = true
 
 -- an out of a turn from this stand
 abbrev OutCalms : Shared → ℕ → ℕ → Task UserState → Out Shared UserState → Type 0
-OutCalms s child p task o = is_calm task o.task ≡ true → Calms s o.shared child p p o.event
+OutCalms s child p task o = is_calm s child task o.task ≡ true → Calms s o.shared child p p o.event
 
 ran_calm : (s : Shared) (child p : ℕ) (b : UserState) (stage : Stage) (o : Outcome) (st : Step) → OutCalms s child p (Alive b stage) (stepped linux s p b (ran_by b o st))
 ran_calm s child p b stage o step.Ran = λ e. same_calm s child p Plain
@@ -322,7 +359,7 @@ joins_calm s child p (Some signal) None = entry_calm s child p _ Plain
 joins_calm s child p None (Some signal) = entry_calm s child p _ Plain
 joins_calm s child p (Some signal) (Some other) = entries_calm s child p _ _ Plain
 
-answered_calm : (s : Shared) (child p : ℕ) (b : UserState) (call : Call) (a : Answer Shared UserState) → (is_calm_call call.number ≡ true → IsCalm s child p a) → OutCalms s child p (Alive b (Doing call)) (answered linux s child p b call a)
+answered_calm : (s : Shared) (child p : ℕ) (b : UserState) (call : Call) (a : Answer Shared UserState) → (is_calm_number s child call.number ≡ true → IsCalm s child p a) → OutCalms s child p (Alive b (Doing call)) (answered linux s child p b call a)
 answered_calm s child p b call (Refused x) h = λ e. same_calm s child p Plain
 answered_calm s child p b call (Returns t c x) h = λ e. h e
 answered_calm s child p b call (Jumps t c) h = λ e. h e
@@ -371,12 +408,12 @@ turn_calm c s child p (Dying w) = λ e. absurd (cc e)
 turn_calm c s child p Gone = λ e. same_calm s child p Plain
 
 -- a turn of a living process that goes on
-pub on_calm : (c : Choice) (s : Shared) (child p : ℕ) (b : UserState) (stage : Stage) (done : Effect) (t : Shared) (d : UserState) (next : Stage) (item : Option Item) → turned (turn linux c s child p (Alive b stage)) ≡ turned_by (On done) t d p stage next item → is_calm_at stage ≡ true → Calms s t child p p (event_of done)
+pub on_calm : (c : Choice) (s : Shared) (child p : ℕ) (b : UserState) (stage : Stage) (done : Effect) (t : Shared) (d : UserState) (next : Stage) (item : Option Item) → turned (turn linux c s child p (Alive b stage)) ≡ turned_by (On done) t d p stage next item → is_calm_at s child stage ≡ true → Calms s t child p p (event_of done)
 on_calm c s child p b stage done t d next item e calm =
     let o : Out Shared UserState = turn linux c s child p (Alive b stage) in
     subst (λ (x : Shared). Calms s x child p p (event_of done)) (ap (λ (x : Turned). x.shared) e)
     (subst (λ (x : Event UserState). Calms s o.shared child p p x) (ap (λ (x : Turned). x.event) e)
-    (turn_calm c s child p (Alive b stage) (ap (λ (x : Turned). is_calm (Alive b stage) x.task) e ∙ calm)))
+    (turn_calm c s child p (Alive b stage) (ap (λ (x : Turned). is_calm s child (Alive b stage) x.task) e ∙ calm)))
 
 -- and one that has none
 pub gone_calm : (s : Shared) (child p : ℕ) (event : Event UserState) → Calms s s child p p event
@@ -440,10 +477,11 @@ all_other tree fds p q fd ne false e = refl
 
 -- where each description stays, each other process rests on
 pub end_calm : (s : Shared) (child p w : ℕ) → AreEndsKept s.fds (dies s p w).fds → Calms s (dies s p w) child p p Plain
-end_calm s child p w kept = λ q ne still unborn task h.
+end_calm s child p w kept = λ q up ne still unborn task h.
     let t : Shared = dies s p w in
     rests_on s t q
     (waits_alike s t q t.fds.slots (λ i. record { slots = t.fds.slots; descriptions = kept.0 i; pipes = kept.1 i }) (λ fd. all_other s.tree s.fds p q fd ne (nat_lt fd 256) refl))
+    (awaits_on s t q (died_spared s.entries p q w))
     (quiet_same (maps.get s.entries q) (maps.get t.entries q) (entry_other s.entries p q _ (maps.get s.entries p) ne)) task h
 
 -- Burial
@@ -496,9 +534,11 @@ buried_quiet m p w q (Some e) ne other h =
 -- who isn't told of a burial rests on
 pub burial_calm : (s : Shared) (child p w : ℕ) → Calms s (buried s p w) child p (told_by p (maps.get s.entries p)) Plain
 unfolding buried
-burial_calm s child p w = λ q ne other unborn task h.
+burial_calm s child p w = λ q up ne other unborn task h.
     let t : Shared = with_entries s (buried_entry s.entries p w (maps.get s.entries p)) in
-    rests_on s t q (waits_same s t q refl) (buried_quiet s.entries p w q (maps.get s.entries p) ne other) task h
+    rests_on s t q (waits_same s t q refl)
+    (awaits_on s t q (buried_spared p q ne up s.entries w (maps.get s.entries p) refl other))
+    (buried_quiet s.entries p w q (maps.get s.entries p) ne other) task h
 
 pub told_calm : (s t : Shared) (child p w : ℕ) → t ≡ buried s p w → (roused : ℕ) → roused ≡ told_by p (maps.get s.entries p) → Calms s t child p roused Plain
 told_calm s t child p w is roused told =

@@ -4,9 +4,9 @@ use Rattle.std.specs.Prelude.{not, nat_lt, nat_le, ◌==◌, ◌^◌, ◌+◌}
 use Rattle.std.specs.FinMap as maps
 use Rattle.lx_abi.specs.declared.log.Call.{Call}
 use Rattle.containers.specs.Vacant.{vacant}
+use Rattle.lx_abi.specs.Limits.{largest_file, most_moved, pipe_size, most_fds}
 use Rattle.lx_model.specs.Machine.{Refused, Blocks}
 use Rattle.lx_abi.specs.Errnos.{efault, enoent, ebadf, ebusy, eexist, eisdir, einval, emfile, efbig, enospc, erange, enotempty}
-use Rattle.lx_files.specs.Limits.{largest_file}
 use Rattle.lx_files.specs.Trees.{content, has_room, is_empty}
 use Rattle.lx_files.specs.Places.{path_of, seen}
 use Rattle.lx_files.specs.declared.places.Place.{Place}
@@ -33,7 +33,7 @@ use Rattle.lx_fcalls.specs.Pipe2.{pipe2, with_end}
 use Rattle.lx_fcalls.specs.Ftruncate.{ftruncate, truncates}
 use Rattle.lx_fcalls.specs.Lseek.{lseek, seeks, origin, landing}
 use Rattle.lx_files.specs.Contents.{length_after}
-use Rattle.lx_fcalls.specs.Moving.{has_space, most_moved, pipe_size}
+use Rattle.lx_fcalls.specs.Moving.{has_space}
 use Rattle.lx_fcalls.specs.Read.{read, reads_object, waits as reading_waits}
 use Rattle.lx_fcalls.specs.Write.{write, writes_object, start_of}
 use Rattle.lx_fcalls.specs.Chdir.{chdir, goes_to}
@@ -62,7 +62,7 @@ module _ (s : Shared) (p : ℕ) (call : Call) (b : UserState) where
   unfolding dup3
   dup3_plain =
       unless_plain false s (is_within (argument call 2) o_cloexec) einval _ (given_plain false s (opens.slot s.fds p (low_argument call 0)) ebadf _ (λ named.
-      unless_plain false s (nat_lt (low_argument call 1) opens.most_fds) ebadf _ (unless_plain false s (not (low_argument call 0 == low_argument call 1)) einval _ refl)))
+      unless_plain false s (nat_lt (low_argument call 1) most_fds) ebadf _ (unless_plain false s (not (low_argument call 0 == low_argument call 1)) einval _ refl)))
 
   pipe2_plain : Plain false s (pipe2 s p call b)
   unfolding pipe2

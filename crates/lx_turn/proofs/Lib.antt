@@ -1,3 +1,4 @@
+pub mod Awaiting
 pub mod Births
 pub mod Calming
 pub mod CallsFit

@@ -18,6 +18,9 @@ module _ {X : Type 0} (m : FinMap nat_cmp X) (p : ℕ) where
   pub get_put : (x : X) → maps.get (maps.insert m p x) p ≡ Some x
   get_put x = maps.get-insert nat_cmp_total m p x p ∙ ap (λ b. cond b (Some x) (maps.get m p)) ((eq_by_cmp_equiv nat_cmp_total).refl p)
 
+  pub get_left : maps.get (maps.remove m p) p ≡ None
+  get_left = maps.get-remove nat_cmp_total m p p ∙ ap (λ b. cond b None (maps.get m p)) ((eq_by_cmp_equiv nat_cmp_total).refl p)
+
   again : (q : ℕ) (x : X) (b : Bool) → eq_by_cmp nat_cmp q p ≡ b → maps.get m p ≡ Some x → cond b (Some x) (maps.get m q) ≡ maps.get m q
   again q x true e there = sym (ap (maps.get m) (maps.nat_cmp-IsAntisymmetric q p (equal_is (nat_cmp q p) e)) ∙ there)
   again q x false e there = refl
@@ -44,7 +47,7 @@ pub either : (q p : ℕ) (P : Type 0) (b : Bool) → (q == p) ≡ b → (q ≡ p
 either q p P true e same other = same (grind (arith, nat_tests))
 either q p P false e same other = other (λ s. let t : (q == p) ≡ true = grind (arith, nat_tests) in absurd (cc (sym e ∙ t)))
 
-apart : (q p : ℕ) (b : Bool) → eq_by_cmp nat_cmp q p ≡ b → (q ≡ p → ⊥) → b ≡ false
+pub apart : (q p : ℕ) (b : Bool) → eq_by_cmp nat_cmp q p ≡ b → (q ≡ p → ⊥) → b ≡ false
 apart q p true e ne = absurd (ne (maps.nat_cmp-IsAntisymmetric q p (equal_is (nat_cmp q p) e)))
 apart q p false e ne = refl
 

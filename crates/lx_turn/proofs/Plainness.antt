@@ -1,5 +1,5 @@
 -- Answers that leave the words of ended processes, bear no child, begin no program and end nothing.
-use Rattle.std.proofs.Common.{◌≡◌, ℕ, Bool, true, false, cond, List, Option, Some, None, length, refl}
+use Rattle.std.proofs.Common.{◌≡◌, ℕ, Bool, true, false, cond, List, Option, Some, None, length}
 use Rattle.std.specs.Prelude.{is_some}
 use Rattle.std.specs.declared.result.Result.{Result}
 use Rattle.std.specs.declared.result.Result.TheVariants.{Ok, Err}
@@ -11,7 +11,7 @@ use Rattle.lx_model.specs.Machine.{Refused, Returns, Jumps, Execs, Bears, Blocks
 use Rattle.lx_proc.specs.declared.state.Shared.{Shared}
 use Rattle.lx_proc.specs.declared.state.UserState.{UserState}
 use Rattle.lx_proc.specs.State.{with_memory}
-use Rattle.lx_proc.specs.Answers.{Answers, unless, given, granted, gives, is_blocked}
+use Rattle.lx_proc.specs.Answers.{Answers, unless, given, granted, gives}
 use Rattle.lx_turn.specs.Fitting.{Fits}
 
 -- the call may wait where `waits`
@@ -32,16 +32,6 @@ plain_fits waits child s call (Execs t b) h = absurd h
 plain_fits waits child s call (Bears t b newborn) h = absurd h
 plain_fits waits child s call Blocks h = tt
 plain_fits waits child s call (Ends w) h = absurd h
-
--- the words that they leave may be those of any state
-pub plain_never : (s : Shared) (a : Answers) → Plain false s a → is_blocked a ≡ false
-plain_never s (Refused e) h = refl
-plain_never s (Returns t b x) h = refl
-plain_never s (Jumps t b) h = refl
-plain_never s (Execs t b) h = absurd h
-plain_never s (Bears t b newborn) h = absurd h
-plain_never s Blocks h = absurd (cc h)
-plain_never s (Ends w) h = absurd h
 
 module _ (waits : Bool) (s : Shared) where
   abbrev pub IsPlain : Answers → Type 0

@@ -1,14 +1,17 @@
--- The answers of calls on processes, memory and signals fit, and none but wait4 waits.
-use Rattle.std.proofs.Common.{◌≡◌, ℕ, ◌≤◌, Bool, true, false, cond, List, Option, Some, None, refl, ap, sym, ◌∙◌, arith}
+-- The answers of calls on processes, memory and signals fit.
+use Rattle.std.proofs.Common.{◌≡◌, ℕ, ◌≤◌, Bool, true, false, cond, List, Option, Some, None, refl, arith}
 use Rattle.std.specs.Prelude.{◌==◌, ◌&&◌, ◌||◌, ◌*◌, nat_lt, nat_le, not, is_some, is_none}
 use Rattle.std.specs.Int.{w32, to_le_bytes}
 use Rattle.std.specs.FinMap as maps
 use Rattle.std.specs.declared.result.Result.{Result}
 use Rattle.std.specs.declared.result.Result.TheVariants.{Ok, Err}
 use Rattle.std.proofs.lemmas.Bool.Decides.{nat_tests}
+use Rattle.lx_abi.specs.Limits.{path_limit, start_limit}
 use Rattle.rv_mem.specs.Mapping.{mapped, limit_fault, highest_free}
 use Rattle.elf_image.specs.Checks.{fault_of}
 use Rattle.elf_image.specs.Images.{image_of}
+use Rattle.lx_abi.specs.Calls.{calls, has_effects}
+use Rattle.lx_abi.specs.Effects.{forks, execs, exits}
 use Rattle.lx_abi.specs.Errnos.{eagain, echild, einval, enomem, enoexec, e2big, efault, esrch}
 use Rattle.lx_abi.specs.declared.log.Call.{Call}
 use Rattle.lx_abi.specs.declared.outcome.Node.{Node}
@@ -21,19 +24,17 @@ use Rattle.lx_sig.specs.Sigaction.{sigaction}
 use Rattle.lx_sig.specs.Sigprocmask.{sigprocmask}
 use Rattle.lx_sig.specs.declared.kill.Aim.{Aim}
 use Rattle.lx_abi.specs.declared.signal.Signal.{Signal}
-use Rattle.lx_files.specs.Limits.{path_limit}
 use Rattle.lx_files.specs.Places.{place, path_of}
 use Rattle.lx_files.specs.Trees.{node_at}
 use Rattle.lx_files.specs.declared.places.Place.{Place}
 use Rattle.lx_proc.specs.declared.state.Shared.{Shared}
 use Rattle.lx_proc.specs.declared.state.UserState.{UserState}
 use Rattle.lx_proc.specs.declared.state.Entry.{Entry}
-use Rattle.lx_proc.specs.State.{last_pid, with_entries, directory}
-use Rattle.lx_proc.specs.Starts.{start_limit}
+use Rattle.lx_proc.specs.State.{with_entries, directory}
 use Rattle.lx_proc.specs.Texts.{Text, Whole, TooLong, Unreadable, text_at, list_at}
-use Rattle.lx_proc.specs.Answers.{Answers, argument, low_argument, unless, given, granted, gives, is_blocked}
+use Rattle.lx_proc.specs.Answers.{Answers, argument, low_argument, given, granted, gives}
 use Rattle.lx_pcalls.specs.Brk.{brk}
-use Rattle.lx_pcalls.specs.Calls.{process_call, would_block, is_blocked_if}
+use Rattle.lx_pcalls.specs.Calls.{process_call}
 use Rattle.lx_pcalls.specs.Clone.{clone, bears, fork_flags, has_room}
 use Rattle.lx_exec.specs.Execve.{execve, program, with_path, runs_at, runs_node, runs_file, renews}
 use Rattle.lx_pcalls.specs.Exit.{exit}
@@ -49,21 +50,18 @@ use Rattle.lx_pcalls.specs.RtSigprocmask.{rt_sigprocmask}
 use Rattle.lx_pcalls.specs.RtSigreturn.{rt_sigreturn}
 use Rattle.lx_pcalls.specs.SchedYield.{sched_yield}
 use Rattle.lx_pcalls.specs.Signals.{leaves}
-use Rattle.lx_pcalls.specs.Wait4.{wait4, wait4_would_block, waits, reaps, may_wait, first_child, word_in}
+use Rattle.lx_pcalls.specs.Wait4.{wait4, waits, reaps, may_wait, first_child, word_in}
 use Rattle.lx_turn.specs.Fitting.{Fits}
-use Rattle.lx_turn.proofs.Plainness.{Plain, plain_fits, plain_never, either_plain, unless_plain, given_plain, gives_plain}
-
-numbered : (a b : ℕ) → (a == b) ≡ true → a ≡ b
-numbered a b h = grind (arith, nat_tests)
+use Rattle.lx_turn.proofs.Plainness.{Plain, plain_fits, either_plain, unless_plain, given_plain, gives_plain}
 
 leaves_plain : (s : Shared) (p : ℕ) (b : UserState) (o : Outcome) → Plain false s (leaves s p b o)
 leaves_plain s p b (Err e) = tt
 leaves_plain s p b (Ok c) = refl
 
 -- a child's pid is not over the last
-left_by : (child : ℕ) (t : Bool) → (t && nat_le child last_pid) ≡ true → child ≤ last_pid
-left_by child true h = grind (arith, nat_tests)
-left_by child false h = absurd (cc h)
+left_by : (child last_pid : ℕ) (t : Bool) → (t && nat_le child last_pid) ≡ true → child ≤ last_pid
+left_by child last_pid true h = grind (arith, nat_tests)
+left_by child last_pid false h = absurd (cc h)
 
 sent_words : (s : Shared) (p target : ℕ) (signal : Option Signal) → (sends s p target signal).ended ≡ s.ended
 sent_words s p target None = refl
@@ -132,14 +130,14 @@ module _ (s : Shared) (child p : ℕ) (call : Call) (b : UserState) where
   either_fits true x y h g = h refl
   either_fits false x y h g = g
 
-  bears_fit : call.number ≡ 220 → (e : Entry) → Fit (bears s child p call b e)
-  bears_fit is e = either_fits (has_room s child) _ (Refused eagain) (λ room. record { words = refl; console = refl; left = left_by child _ room; number = is }) tt
+  bears_fit : has_effects call.number forks ≡ true → (e : Entry) → Fit (bears s child p call b e)
+  bears_fit is e = either_fits (has_room s child) _ (Refused eagain) (λ room. record { words = refl; console = refl; left = left_by child s.limits.last_pid _ room; call_forks = is }) tt
 
   entry_fits : (o : Option Entry) (f : Entry → Answers) → ((e : Entry) → Fit (f e)) → Fit (given o esrch f)
   entry_fits None f h = tt
   entry_fits (Some e) f h = h e
 
-  clone_fits : call.number ≡ 220 → Fit (clone s child p call b)
+  clone_fits : has_effects call.number forks ≡ true → Fit (clone s child p call b)
   unfolding clone
   clone_fits is = either_fits (argument call 0 == fork_flags) _ (Refused einval) (λ h. entry_fits (maps.get s.entries p) (bears s child p call b) (bears_fit is)) tt
 
@@ -190,7 +188,7 @@ module _ (s : Shared) (child p : ℕ) (call : Call) (b : UserState) where
   unfolding program
   program_is = with_path_program (text_at b.memory path_limit (argument call 0))
 
-  renews_fit : call.number ≡ 221 → (a : Answers) → IsProgram a → Fit (renews p a)
+  renews_fit : has_effects call.number execs ≡ true → (a : Answers) → IsProgram a → Fit (renews p a)
   renews_fit is (Refused e) h = tt
   renews_fit is (Returns t c x) h = absurd h
   renews_fit is (Jumps t c) h = absurd h
@@ -199,13 +197,13 @@ module _ (s : Shared) (child p : ℕ) (call : Call) (b : UserState) where
   renews_fit is Blocks h = absurd h
   renews_fit is (Ends w) h = absurd h
 
-  execve_fits : call.number ≡ 221 → Fit (execve s p call b)
+  execve_fits : has_effects call.number execs ≡ true → Fit (execve s p call b)
   unfolding execve
   execve_fits is = renews_fit is (program s p call b) program_is
 
   -- exit
 
-  ends_fits : (((call.number == 93) || (call.number == 94)) ≡ true) → Fit (exit call)
+  ends_fits : has_effects call.number exits ≡ true → Fit (exit call)
   ends_fits is = (is, refl)
 
   left_is : (x y : Bool) → x ≡ true → (x || y) ≡ true
@@ -215,6 +213,24 @@ module _ (s : Shared) (child p : ℕ) (call : Call) (b : UserState) where
   right_is : (x y : Bool) → y ≡ true → (x || y) ≡ true
   right_is true y h = refl
   right_is false y h = h
+
+  -- by their numbers
+
+  clone_forks : (call.number == 220) ≡ true → has_effects call.number forks ≡ true
+  unfolding has_effects calls
+  clone_forks e = left_is (call.number == 220) false e
+
+  execve_execs : (call.number == 221) ≡ true → has_effects call.number execs ≡ true
+  unfolding has_effects calls
+  execve_execs e = left_is (call.number == 221) false e
+
+  exit_exits : (call.number == 93) ≡ true → has_effects call.number exits ≡ true
+  unfolding has_effects calls
+  exit_exits e = left_is (call.number == 93) ((call.number == 94) || false) e
+
+  exit_group_exits : (call.number == 94) ≡ true → has_effects call.number exits ≡ true
+  unfolding has_effects calls
+  exit_group_exits e = right_is (call.number == 93) ((call.number == 94) || false) (left_is (call.number == 94) false e)
 
   -- all of them
 
@@ -235,8 +251,8 @@ module _ (s : Shared) (child p : ℕ) (call : Call) (b : UserState) where
   pub process_fits : FitIf (process_call s child p call b)
   unfolding process_call
   process_fits =
-      step 93 (exit call) _ (λ e. ends_fits (left_is (call.number == 93) (call.number == 94) e))
-      (step 94 (exit call) _ (λ e. ends_fits (right_is (call.number == 93) (call.number == 94) e))
+      step 93 (exit call) _ (λ e. ends_fits (exit_exits e))
+      (step 94 (exit call) _ (λ e. ends_fits (exit_group_exits e))
       (plain_step 124 false (sched_yield s b) _ refl
       (plain_step 129 false (kill s p call b) _ kill_plain
       (plain_step 134 false (rt_sigaction s p call b) _ rt_sigaction_plain
@@ -247,111 +263,7 @@ module _ (s : Shared) (child p : ℕ) (call : Call) (b : UserState) where
       (plain_step 178 false (getpid s p b) _ refl
       (plain_step 214 false (brk s call b) _ brk_plain
       (plain_step 215 false (munmap s call b) _ munmap_plain
-      (step 220 (clone s child p call b) _ (λ e. clone_fits (numbered call.number 220 e))
-      (step 221 (execve s p call b) _ (λ e. execve_fits (numbered call.number 221 e))
+      (step 220 (clone s child p call b) _ (λ e. clone_fits (clone_forks e))
+      (step 221 (execve s p call b) _ (λ e. execve_fits (execve_execs e))
       (plain_step 222 false (mmap s call b) _ mmap_plain
       (plain_step 260 true (wait4 s p call b) None wait4_plain tt)))))))))))))))
-
-  -- which of them waits
-
-  and_false : (t : Bool) → (t && false) ≡ false
-  and_false true = refl
-  and_false false = refl
-
-  and_true : (t : Bool) → (t && true) ≡ t
-  and_true true = refl
-  and_true false = refl
-
-  reaps_never : (n word : ℕ) → is_blocked (reaps s b call n word) ≡ false
-  reaps_never n word =
-      let left : Shared = with_entries s (maps.remove s.entries n) in
-      plain_never s (reaps s b call n word)
-      (either_plain false s (argument call 1 == 0) (Returns left b n) (gives left b (argument call 1) (to_le_bytes w32 word) n) refl
-      (gives_plain false s left b (argument call 1) (to_le_bytes w32 word) n refl))
-
-  word_never : (n : ℕ) (o : Option ℕ) → is_blocked (given o echild (reaps s b call n)) ≡ false
-  word_never n None = refl
-  word_never n (Some w) = reaps_never n w
-
-  none_by : (now : Bool) → is_blocked (cond now (Returns s b 0) Blocks) ≡ (not now && true)
-  none_by true = refl
-  none_by false = refl
-
-  waits_by : (o : Option ℕ) → is_blocked (waits s b call o) ≡ (not (argument call 2 == 1) && not (is_some o))
-  waits_by None = none_by (argument call 2 == 1)
-  waits_by (Some n) = word_never n (word_in (maps.get s.entries n)) ∙ sym (and_false (not (argument call 2 == 1)))
-
-  wait4_by : (may any now found : Bool) (a : Answers) → is_blocked a ≡ (now && found) → is_blocked (unless may einval (unless any echild a)) ≡ (may && now && any && found)
-  wait4_by false any now found a h = refl
-  wait4_by true false now found a h = ap (λ t. t && found) (sym (and_false now))
-  wait4_by true true now found a h = h ∙ ap (λ t. t && found) (sym (and_true now))
-
-  wait4_waits : is_blocked (wait4 s p call b) ≡ wait4_would_block s p call
-  unfolding wait4 wait4_would_block
-  wait4_waits =
-      wait4_by (may_wait call) (is_some (first_child s.entries p (low_argument call 0) false)) (not (argument call 2 == 1)) (not (is_some (first_child s.entries p (low_argument call 0) true)))
-      (waits s b call (first_child s.entries p (low_argument call 0) true)) (waits_by (first_child s.entries p (low_argument call 0) true))
-
-  execve_by : (a : Answers) → IsProgram a → is_blocked (renews p a) ≡ false
-  execve_by (Refused e) h = refl
-  execve_by (Returns t c x) h = absurd h
-  execve_by (Jumps t c) h = absurd h
-  execve_by (Execs t c) h = refl
-  execve_by (Bears t c newborn) h = absurd h
-  execve_by Blocks h = absurd h
-  execve_by (Ends w) h = absurd h
-
-  execve_never : is_blocked (execve s p call b) ≡ false
-  unfolding execve
-  execve_never = execve_by (program s p call b) program_is
-
-  room_never : (t : Bool) (a : Answers) (e : ℕ) → is_blocked a ≡ false → is_blocked (unless t e a) ≡ false
-  room_never true a e h = h
-  room_never false a e h = refl
-
-  entry_never : (o : Option Entry) → is_blocked (given o esrch (bears s child p call b)) ≡ false
-  entry_never None = refl
-  entry_never (Some e) = room_never (has_room s child) _ eagain refl
-
-  clone_never : is_blocked (clone s child p call b) ≡ false
-  unfolding clone
-  clone_never = room_never (argument call 0 == fork_flags) _ einval (entry_never (maps.get s.entries p))
-
-  not_foretold : (k : ℕ) → (call.number == k) ≡ true → (k == 260) ≡ false → would_block s p call ≡ false
-  unfolding would_block
-  not_foretold k e h = ap (λ c. cond c (wait4_would_block s p call) false) (ap (λ n. n == 260) (numbered call.number k e) ∙ h)
-
-  wait_step : (k : ℕ) → (k == 260) ≡ false → (a : Answers) → is_blocked a ≡ false → (rest : Option Answers) → is_blocked_if rest ≡ would_block s p call → is_blocked_if (cond (call.number == k) (Some a) rest) ≡ would_block s p call
-  wait_step k h a never rest after = go (call.number == k) refl
-    where
-      go : (c : Bool) → (call.number == k) ≡ c → is_blocked_if (cond c (Some a) rest) ≡ would_block s p call
-      go true e = never ∙ sym (not_foretold k e h)
-      go false e = after
-
-  wait_last : (c : Bool) → is_blocked_if (cond c (Some (wait4 s p call b)) None) ≡ cond c (wait4_would_block s p call) false
-  wait_last true = wait4_waits
-  wait_last false = refl
-
-  last_waits : is_blocked_if (cond (call.number == 260) (Some (wait4 s p call b)) None) ≡ would_block s p call
-  unfolding would_block
-  last_waits = wait_last (call.number == 260)
-
-  pub process_waits : is_blocked_if (process_call s child p call b) ≡ would_block s p call
-  unfolding process_call
-  process_waits =
-      wait_step 93 refl (exit call) refl _
-      (wait_step 94 refl (exit call) refl _
-      (wait_step 124 refl (sched_yield s b) refl _
-      (wait_step 129 refl (kill s p call b) (plain_never s _ kill_plain) _
-      (wait_step 134 refl (rt_sigaction s p call b) (plain_never s _ rt_sigaction_plain) _
-      (wait_step 135 refl (rt_sigprocmask s p call b) (plain_never s _ rt_sigprocmask_plain) _
-      (wait_step 139 refl (rt_sigreturn s p b) (plain_never s _ rt_sigreturn_plain) _
-      (wait_step 172 refl (getpid s p b) refl _
-      (wait_step 173 refl (getppid s p b) (plain_never s _ getppid_plain) _
-      (wait_step 178 refl (getpid s p b) refl _
-      (wait_step 214 refl (brk s call b) (plain_never s _ brk_plain) _
-      (wait_step 215 refl (munmap s call b) (plain_never s _ munmap_plain) _
-      (wait_step 220 refl (clone s child p call b) clone_never _
-      (wait_step 221 refl (execve s p call b) execve_never _
-      (wait_step 222 refl (mmap s call b) (plain_never s _ mmap_plain) _
-      last_waits))))))))))))))

@@ -1,11 +1,12 @@
 -- What keeps a process that rests at rest.
 use Rattle.std.proofs.Common.{◌≡◌, ℕ, zero, suc, ◌+◌, ◌<◌, ◌≤◌, Bool, true, false, cond, List, [], ◌∷◌, Option, Some, None, refl, ap, ◌∙◌, arith}
-use Rattle.std.specs.Prelude.{◌==◌, ◌&&◌, nat_lt, min, if◌then◌else◌}
+use Rattle.std.specs.Prelude.{◌==◌, ◌&&◌, ◌||◌, nat_lt, min, if◌then◌else◌}
 use Rattle.std.specs.Ordering.{nat_cmp, eq_by_cmp}
 use Rattle.std.specs.Cmp.{nat_cmp_total}
 use Rattle.std.specs.List.{range_with_len}
 use Rattle.std.specs.FinMap as maps
 use Rattle.lx_abi.specs.declared.log.Call.{Call}
+use Rattle.lx_abi.specs.Limits.{most_moved}
 use Rattle.lx_model.specs.declared.stage.Stage.TheVariants.{Born, Run, Faulting, Entered, Doing, Replaced, Acted, Finished, Taken, Dropped}
 use Rattle.lx_model.specs.declared.stage.Task.{Task}
 use Rattle.lx_model.specs.declared.stage.Task.TheVariants.{Alive, Dying, Gone}
@@ -20,11 +21,11 @@ use Rattle.lx_proc.specs.State.{Entries, changed_entry}
 use Rattle.lx_proc.specs.Answers.{argument, low_argument}
 use Rattle.lx_fcalls.specs.Blocking.{would_block, read_would_block, write_would_block, open_passes, passes, read_waits, write_waits}
 use Rattle.lx_open.specs.Opens.{description}
-use Rattle.lx_fcalls.specs.Moving.{most_moved}
+use Rattle.lx_pcalls.specs.Calls.{would_block as process_would_block}
 use Rattle.lx_turn.specs.Resting.{is_quiet, rests}
 use Rattle.lx_turn.proofs.Placed.{other_put}
 
-both : (a b : Bool) → (a && b) ≡ true → (a ≡ true) × (b ≡ true)
+pub both : (a b : Bool) → (a && b) ≡ true → (a ≡ true) × (b ≡ true)
 both true b e = (refl, e)
 both false b e = absurd (cc e)
 
@@ -32,25 +33,34 @@ join : (a b : Bool) → a ≡ true → b ≡ true → (a && b) ≡ true
 join true b e h = h
 join false b e h = absurd (cc e)
 
+either_kept : (a b a' b' : Bool) → a' ≡ a → (b ≡ true → b' ≡ true) → (a || b) ≡ true → (a' || b') ≡ true
+either_kept true b a' b' is kept e = ap (λ x. x || b') is
+either_kept false b a' b' is kept e = ap (λ x. x || b') is ∙ kept e
+
 -- a process rests on where its call still waits and no signal has come
 pub rests_on : (s s' : Shared) (q : ℕ) → ((call : Call) (b : UserState) → would_block s' q call b ≡ would_block s q call b)
+    → ((call : Call) → process_would_block s q call ≡ true → process_would_block s' q call ≡ true)
     → (is_quiet (maps.get s.entries q) ≡ true → is_quiet (maps.get s'.entries q) ≡ true)
     → (task : Task UserState) → rests s q task ≡ true → rests s' q task ≡ true
 unfolding rests
-rests_on s s' q waits quiet (Alive b Born) e = e
-rests_on s s' q waits quiet (Alive b Run) e = e
-rests_on s s' q waits quiet (Alive b (Faulting signal cause)) e = e
-rests_on s s' q waits quiet (Alive b (Entered joined)) e = e
-rests_on s s' q waits quiet (Alive b (Doing call)) e =
-    let h = both (would_block s q call b) (is_quiet (maps.get s.entries q)) e in
-    join (would_block s' q call b) (is_quiet (maps.get s'.entries q)) (waits call b ∙ h.0) (quiet h.1)
-rests_on s s' q waits quiet (Alive b (Replaced call x)) e = e
-rests_on s s' q waits quiet (Alive b (Acted call x replaced)) e = e
-rests_on s s' q waits quiet (Alive b Finished) e = e
-rests_on s s' q waits quiet (Alive b (Taken signal cause)) e = e
-rests_on s s' q waits quiet (Alive b Dropped) e = e
-rests_on s s' q waits quiet (Dying w) e = e
-rests_on s s' q waits quiet Gone e = e
+rests_on s s' q waits awaits quiet (Alive b Born) e = e
+rests_on s s' q waits awaits quiet (Alive b Run) e = e
+rests_on s s' q waits awaits quiet (Alive b (Faulting signal cause)) e = e
+rests_on s s' q waits awaits quiet (Alive b (Entered joined)) e = e
+rests_on s s' q waits awaits quiet (Alive b (Doing call)) e =
+    let file = would_block s q call b in
+    let file' = would_block s' q call b in
+    let process = process_would_block s q call in
+    let process' = process_would_block s' q call in
+    let h = both (file || process) (is_quiet (maps.get s.entries q)) e in
+    join (file' || process') (is_quiet (maps.get s'.entries q)) (either_kept file process file' process' (waits call b) (awaits call) h.0) (quiet h.1)
+rests_on s s' q waits awaits quiet (Alive b (Replaced call x)) e = e
+rests_on s s' q waits awaits quiet (Alive b (Acted call x replaced)) e = e
+rests_on s s' q waits awaits quiet (Alive b Finished) e = e
+rests_on s s' q waits awaits quiet (Alive b (Taken signal cause)) e = e
+rests_on s s' q waits awaits quiet (Alive b Dropped) e = e
+rests_on s s' q waits awaits quiet (Dying w) e = e
+rests_on s s' q waits awaits quiet Gone e = e
 
 -- Descriptors
 

@@ -13,12 +13,13 @@ use Rattle.lx_abi.specs.declared.log.Cause.TheVariants.{Kernel, Fault}
 use Rattle.lx_abi.specs.declared.signal.Signal.{Signal}
 use Rattle.lx_abi.specs.Signals.{is_signal}
 use Rattle.lx_model.specs.Machine.{Ran, Goes, Calls, Faults, Takes}
-use Rattle.lx_sig.specs.Pending.{next, cause_of, with_pending, without_pending}
+use Rattle.lx_sig.specs.Pending.{next, cause_of, without_pending}
 use Rattle.lx_proc.specs.declared.state.Shared.{Shared}
 use Rattle.lx_proc.specs.declared.state.UserState.{UserState}
 use Rattle.lx_proc.specs.declared.state.Entry.{Entry}
 use Rattle.lx_sig.specs.declared.state.Interrupted.{Interrupted}
 use Rattle.lx_proc.specs.State.{changed, with_entries, with_signals}
+use Rattle.lx_proc.specs.Sending.{sent}
 use Rattle.lx_proc.specs.Registers.{made_again}
 
 -- Run
@@ -71,4 +72,4 @@ is_killed None = false
 is_killed (Some e) = is_some (cause_of e.signals 9)
 
 abbrev pub joined : Shared → ℕ → Signal → Shared
-joined s p signal = with_entries s (changed s.entries p (λ e. with_signals e (with_pending e.signals signal Kernel)))
+joined s p signal = with_entries s (sent s.entries p signal Kernel)

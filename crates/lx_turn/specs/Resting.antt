@@ -1,6 +1,9 @@
--- Which processes rest, that is, wait in a read or a write of a pipe, and which turns of others leave them so.
-use Rattle.std.specs.Prelude.{◌≡◌, ℕ, Bool, true, false, not, ◌&&◌, ◌||◌, ◌==◌, Option, Some, None}
+-- Which processes rest, that is, wait in a call, and which turns of others leave them so.
+use Rattle.std.specs.Prelude.{◌≡◌, ℕ, Bool, true, false, not, ◌&&◌, ◌||◌, ◌==◌, ◌<◌, is_none, Option, Some, None}
 use Rattle.std.specs.FinMap as maps
+use Rattle.lx_abi.specs.Calls.{has_effects}
+use Rattle.lx_abi.specs.Effects.{calm}
+use Rattle.lx_abi.specs.Sys.{sys_clone}
 use Rattle.lx_model.specs.Turn.{Event}
 use Rattle.lx_model.specs.declared.stage.Stage.{Stage}
 use Rattle.lx_model.specs.declared.stage.Stage.TheVariants.{Born, Run, Faulting, Entered, Doing, Replaced, Acted, Finished, Taken, Dropped}
@@ -10,6 +13,7 @@ use Rattle.lx_proc.specs.declared.state.Entry.{Entry}
 use Rattle.lx_proc.specs.declared.state.Shared.{Shared}
 use Rattle.lx_proc.specs.declared.state.UserState.{UserState}
 use Rattle.lx_fcalls.specs.Blocking.{would_block as file_would_block}
+use Rattle.lx_pcalls.specs.Calls.{would_block as process_would_block}
 use Rattle.lx_pcalls.specs.Interruption.{is_interrupted}
 use Rattle.lx_turn.specs.Reactions.{is_killed}
 use Rattle.lx_turn.specs.Turned.{IsBirth}
@@ -18,13 +22,14 @@ use Rattle.lx_turn.specs.Turned.{IsBirth}
 abbrev pub is_quiet : Option Entry → Bool
 is_quiet e = not (is_killed e) && not (is_interrupted e)
 
--- the process waits in a read or a write of a pipe
+-- the process waits in a read or a write of a pipe, or in wait4
 abbrev pub rests_at : Shared → ℕ → UserState → Stage → Bool
 rests_at s p b Born = false
 rests_at s p b Run = false
 rests_at s p b (Faulting signal cause) = false
 rests_at s p b (Entered joined) = false
-rests_at s p b (Doing call) = file_would_block s p call b && is_quiet (maps.get s.entries p)
+rests_at s p b (Doing call) =
+    (file_would_block s p call b || process_would_block s p call) && is_quiet (maps.get s.entries p)
 rests_at s p b (Replaced call x) = false
 rests_at s p b (Acted call x replaced) = false
 rests_at s p b Finished = false
@@ -39,29 +44,27 @@ rests s p Gone = true
 
 -- Turns.
 
--- calls that leave the descriptors and the signals of each other process as they are: sched_yield, rt_sigaction,
--- rt_sigprocmask, rt_sigreturn, getpid, getppid, gettid, brk, munmap, clone, mmap and wait4
-abbrev pub is_calm_call : ℕ → Bool
-is_calm_call n =
-    (n == 124) || (n == 134) || (n == 135) || (n == 139) || (n == 172) || (n == 173) || (n == 178) || (n == 214)
-    || (n == 215) || (n == 220) || (n == 222) || (n == 260)
+-- a call that leaves others as they are, and clone, where the child's pid is free: else its entry takes the place of one
+-- that some process may wait for
+abbrev pub is_calm_number : Shared → ℕ → ℕ → Bool
+is_calm_number s child n = has_effects n calm || ((n == sys_clone) && is_none (maps.get s.entries child))
 
-abbrev pub is_calm_at : Stage → Bool
-is_calm_at Born = true
-is_calm_at Run = true
-is_calm_at (Faulting signal cause) = true
-is_calm_at (Entered joined) = true
-is_calm_at (Doing call) = is_calm_call call.number
-is_calm_at (Replaced call x) = true
-is_calm_at (Acted call x replaced) = true
-is_calm_at Finished = true
-is_calm_at (Taken signal cause) = true
-is_calm_at Dropped = true
+abbrev pub is_calm_at : Shared → ℕ → Stage → Bool
+is_calm_at s child Born = true
+is_calm_at s child Run = true
+is_calm_at s child (Faulting signal cause) = true
+is_calm_at s child (Entered joined) = true
+is_calm_at s child (Doing call) = is_calm_number s child call.number
+is_calm_at s child (Replaced call x) = true
+is_calm_at s child (Acted call x replaced) = true
+is_calm_at s child Finished = true
+is_calm_at s child (Taken signal cause) = true
+is_calm_at s child Dropped = true
 
 -- each other process that rested rests, but for one that is roused, and a child that is born
 abbrev pub Calms : Shared → Shared → ℕ → ℕ → ℕ → Event UserState → Type 0
 Calms s s' child p roused event =
-    (q : ℕ) → (q ≡ p → ⊥) → (q ≡ roused → ⊥) → (IsBirth event → q ≡ child → ⊥) → (task : Task UserState)
+    (q : ℕ) → 0 < q → (q ≡ p → ⊥) → (q ≡ roused → ⊥) → (IsBirth event → q ≡ child → ⊥) → (task : Task UserState)
     → rests s q task ≡ true
     → rests s' q task ≡ true
 

@@ -9,7 +9,6 @@ use Rattle.lx_model.specs.declared.stage.Task.TheVariants.{Alive, Dying, Gone}
 use Rattle.lx_model.specs.Finite.{item_of}
 use Rattle.lx_proc.specs.declared.state.Shared.{Shared}
 use Rattle.lx_proc.specs.declared.state.UserState.{UserState}
-use Rattle.lx_proc.specs.State.{last_pid}
 use Rattle.lx_pcalls.specs.Ends as end
 use Rattle.lx_turn.specs.declared.effects.Effect.{Effect}
 use Rattle.lx_turn.specs.declared.effects.Effect.TheVariants as effect
@@ -65,11 +64,11 @@ is_gone (Alive b stage) = false
 is_gone (Dying w) = false
 is_gone Gone = true
 
--- a child is born under a pid that is left
-abbrev pub IsLeft : Effect → ℕ → Type 0
-IsLeft effect.Plain child = Unit {0}
-IsLeft effect.Execed child = Unit {0}
-IsLeft (effect.Bore newborn) child = child ≤ last_pid
+-- a child is born under a pid that is left, up to the last one
+abbrev pub IsLeft : ℕ → Effect → ℕ → Type 0
+IsLeft last_pid effect.Plain child = Unit {0}
+IsLeft last_pid effect.Execed child = Unit {0}
+IsLeft last_pid (effect.Bore newborn) child = child ≤ last_pid
 
 -- a child was born
 abbrev pub IsBirth : Event UserState → Type 0

@@ -1,16 +1,17 @@
 //! Which calls block, and which processes can take a turn that changes something.
 
-ghost use Rattle.std.specs.Prelude.{◌≡◌, ◌||◌};
+ghost use Rattle.std.specs.Prelude.{◌≡◌, ◌||◌, is_none};
 ghost use Rattle.std.specs.FinMap as maps;
 ghost use Rattle.lx_fcalls.specs.Blocking.{would_block as file_would_block};
 ghost use Rattle.lx_pcalls.specs.Calls.{would_block as process_would_block};
 ghost use Rattle.lx_model.specs.declared.stage.Task.TheVariants.{Alive};
 ghost use Rattle.lx_turn.specs.Blocking.{would_block as would_block_in, can_turn as can_turn_of};
 ghost use Rattle.lx_turn.specs.Resting.{is_quiet as is_quiet_at, rests_at as rests_of, rests as rests_in};
-ghost use Rattle.lx_turn.specs.Resting.{is_calm_call as is_calm_call_of, is_calm_at as is_calm_stage};
+ghost use Rattle.lx_turn.specs.Resting.{is_calm_number as is_calm_number_of};
+ghost use Rattle.lx_turn.specs.Resting.{is_calm_at as is_calm_stage};
 
 use crate::signals::is_killed;
-use lx_abi::Call;
+use lx_abi::{Call, calls, sys};
 use lx_model::{Stage, Task};
 use lx_pcalls::is_interrupted;
 use lx_proc::{Shared, UserState};
@@ -61,19 +62,17 @@ fn is_quiet(shared: &Shared, pid: u32) -> bool
     !is_killed(shared, pid) && !is_interrupted(shared, pid)
 }
 
-/// The living process waits in a read or a write of a pipe.
+/// The living process waits in a read or a write of a pipe, or in wait4.
 fn rests_at(shared: &Shared, pid: u32, user: &UserState, stage: Stage) -> bool
     ensures { result ≡ rests_of shared.now pid user.now stage }
 {
     match stage {
-        Stage::Doing { call } => {
-            lx_fcalls::would_block(shared, pid, &call, user) && is_quiet(shared, pid)
-        }
+        Stage::Doing { call } => waits(shared, pid, &call, user) && is_quiet(shared, pid),
         _ => false,
     }
 }
 
-/// The process waits in a read or a write of a pipe, or is gone.
+/// The process waits in a call, or is gone.
 #[tactic(auto, unfolding(crate::specs::Resting::rests))]
 pub fn rests(shared: &Shared, pid: u32, task: &Task<UserState>) -> bool
     ensures { result ≡ rests_in shared.now pid task.now }
@@ -85,30 +84,27 @@ pub fn rests(shared: &Shared, pid: u32, task: &Task<UserState>) -> bool
     }
 }
 
-/// A call that leaves the descriptors and the signals of each other process as they are.
-fn is_calm_call(number: u64) -> bool
-    ensures { result ≡ is_calm_call_of number }
+/// No process has the pid.
+fn is_free(shared: &Shared, pid: u32) -> bool
+    ensures { result ≡ is_none (maps.get shared.now.entries pid) }
 {
-    number == 124
-        || number == 134
-        || number == 135
-        || number == 139
-        || number == 172
-        || number == 173
-        || number == 178
-        || number == 214
-        || number == 215
-        || number == 220
-        || number == 222
-        || number == 260
+    shared.entries.get(pid).is_none()
+}
+
+/// A call that leaves the descriptors, the signals and the children of each other process as they are, under the next
+/// child's pid.
+fn leaves_others(shared: &Shared, child: u32, number: u64) -> bool
+    ensures { result ≡ is_calm_number_of shared.now child number }
+{
+    calls::is_calm(number) || (number == sys::SYS_CLONE && is_free(shared, child))
 }
 
 /// A turn of a process that stands so, and lives after it, wakes no other.
-pub fn is_calm(stage: Stage) -> bool
-    ensures { result ≡ is_calm_stage stage }
+pub fn is_calm(shared: &Shared, child: u32, stage: Stage) -> bool
+    ensures { result ≡ is_calm_stage shared.now child stage }
 {
     match stage {
-        Stage::Doing { call } => is_calm_call(call.number),
+        Stage::Doing { call } => leaves_others(shared, child, call.number),
         _ => true,
     }
 }

@@ -5,8 +5,8 @@ ghost use Rattle.std.specs.FinMap as maps;
 ghost use Rattle.lx_turn.specs.Reactions.{next_of, cause_in, taken, is_killed as is_killed_at, joined};
 
 use lx_abi::{Cause, Signal};
-use lx_proc::Shared;
-use lx_sig::{is_pending, make_pending};
+use lx_proc::{Shared, send};
+use lx_sig::is_pending;
 
 /// The signal that the process would take.
 pub fn next(shared: &Shared, pid: u32) -> Option<Signal>
@@ -36,12 +36,7 @@ pub fn take(shared: &mut Shared, pid: u32, signal: Signal) -> Cause
 pub fn join(shared: &mut Shared, pid: u32, signal: Signal)
     ensures { shared.new ≡ joined shared.old pid signal }
 {
-    let Some(entry) = shared.entries.get(pid) else {
-        return;
-    };
-    let mut signals = entry.signals;
-    make_pending(&mut signals, signal, Cause::Kernel);
-    shared.entries.set_signals(pid, signals);
+    send(&mut shared.entries, pid, signal, Cause::Kernel);
 }
 
 /// SIGKILL is pending.

@@ -15,7 +15,7 @@ use crate::effects::Effect;
 use crate::injection::Injection;
 use crate::signals::is_killed;
 use crate::stages::{Went, go};
-use lx_abi::{Item, Mode};
+use lx_abi::{Item, Mode, calls};
 use lx_model::{Stage, Task};
 use lx_pcalls::{die, release_task};
 use lx_proc::{Life, Shared, UserState};
@@ -113,10 +113,10 @@ fn told_of(shared: &Shared, pid: u32) -> u32
     }
 }
 
-/// The process is in a call that may wait for a pipe.
-fn reads_or_writes(stage: &Stage) -> bool {
+/// The process is in a call that may wait: a read, a write or a wait4.
+fn may_wait(stage: &Stage) -> bool {
     match stage {
-        Stage::Doing { call } => call.number == 63 || call.number == 64,
+        Stage::Doing { call } => calls::may_wait(call.number),
         _ => false,
     }
 }
@@ -155,7 +155,7 @@ pub fn turn_task(
         }
         Task::Alive { user, stage } => {
             let left = stage.mode();
-            let calm = is_calm(*stage);
+            let calm = is_calm(shared, child, *stage);
             match turn_alive(alloc, shared, injection, child, pid, user, stage, item)? {
                 Went::On(done) => Ok(Transition {
                     before: Some(left),
@@ -164,7 +164,7 @@ pub fn turn_task(
                     gone: false,
                     calm,
                     roused: pid,
-                    may_rest: reads_or_writes(stage),
+                    may_rest: may_wait(stage),
                 }),
                 Went::Ended { word } => {
                     let calm = die(shared, pid, word)?;

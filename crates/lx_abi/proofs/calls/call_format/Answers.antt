@@ -8,5 +8,5 @@ pub returns : goal.returns
 unfolding call_format calls
 returns c =
     let row : option_map call_row (option_copied c.row_numbered.result) ≡ find (λ row. row.0 == c.args.number) calls = c.row_numbered.ensures in
-    let f : option_map (λ f. (f.entry.now, f.rest.now)) c.map.result ≡ option_map (λ row. (row.3, row.4)) (option_map call_row (option_copied c.row_numbered.result)) = search rules in
-    f ∙ ap (λ o. option_map (λ row. (row.3, row.4)) o) row
+    let f : option_map (λ f. (f.entry.now, f.rest.now)) c.map.result ≡ option_map (λ row. (row.4, row.5)) (option_map call_row (option_copied c.row_numbered.result)) = search rules in
+    f ∙ ap (λ o. option_map (λ row. (row.4, row.5)) o) row

@@ -1,6 +1,7 @@
 use Rattle.std.proofs.Common.{◌≡◌, ◌+◌, take}
 use Rattle.std.specs.List.{sum_by}
-use Rattle.lx_boot.specs.Limits.{content_size, most_contents}
+use Rattle.lx_abi.specs.Limits.{most_contents}
+use Rattle.lx_boot.specs.Limits.{content_size}
 use Rattle.lx_boot.proofs.limits.contents_fit.Given as goal
 
 abbrev pub invariant-loop-file : goal.invariant-loop-file

@@ -8,8 +8,8 @@ use Rattle.lx_kernel.proofs.first.first.Goals as goal
 
 pub returns : goal.returns
 returns c =
-    let shared : c.in_ok-shared.shared ≡ first_shared c.args.boot.files c.args.boot.input =
-    c.in_ok-shared.ensures ∙ ap (λ files. first_shared files c.args.boot.input) c.as_slice.ensures in
+    let shared : c.in_ok-shared.shared ≡ first_shared c.args.boot.limits c.args.boot.files c.args.boot.input =
+    c.in_ok-shared.ensures ∙ ap (λ files. first_shared c.args.boot.limits files c.args.boot.input) c.as_slice.ensures in
     let tasks : c.in_ok-tasks.tasks ≡ first_tasks c.args.boot.argv c.args.boot.env =
     c.in_ok-tasks.ensures
     ∙ (ap (λ argv. first_tasks argv c.as_slice-3.result.now) c.as_slice-2.ensures

@@ -1,7 +1,7 @@
 use Rattle.std.proofs.Common.{◌≡◌, ◌+◌, ◌-◌}
 use Rattle.std.specs.List.{sum_by}
+use Rattle.lx_abi.specs.Limits.{start_limit}
 use Rattle.lx_proc.specs.Starts.{cost_of}
-use Rattle.lx_proc.specs.Starts.{start_limit}
 use Rattle.lx_proc.specs.Texts.{any_length, texts_at}
 use Rattle.lx_proc.proofs.Reading.{texts_before}
 use Rattle.lx_proc.proofs.texts.texts_at.Given as goal

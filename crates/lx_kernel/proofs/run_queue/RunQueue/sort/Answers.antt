@@ -32,14 +32,4 @@ returns-then-rests_at-clause-others c = λ known. (
 )
 
 pub returns-else-hints-2-clause-itself : goal.returns-else-hints-2-clause-itself
-returns-else-hints-2-clause-itself c = λ known unwatched.
-    put_there c.args.self.now.awake c.wake.new.self.awake c.args.pid tt (c.wake.ensures.awake known) unwatched
-
-pub returns-else-hints-2-clause-others : goal.returns-else-hints-2-clause-others
-returns-else-hints-2-clause-others c = λ known. (
-  c.wake.ensures.known known,
-  λ q ne. (
-    ap (λ m. maps.get m q) (c.wake.ensures.awake known) ∙ other_put c.args.self.now.awake c.args.pid q ne tt,
-    ap (λ m. maps.get m q) c.wake.ensures.asleep ∙ other_left c.args.self.now.asleep c.args.pid q ne,
-  ),
-)
+returns-else-hints-2-clause-itself c = λ known unwatched. absurd (c.keep_awake.ensures.itself known unwatched)

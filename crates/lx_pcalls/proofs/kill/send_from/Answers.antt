@@ -4,7 +4,7 @@ use Rattle.std.specs.FinMap as maps
 use Rattle.lx_files.proofs.Totals.{insert-remove, insert-back}
 use Rattle.lx_proc.proofs.Tables.{changed_by}
 use Rattle.lx_pcalls.specs.Kill.{sent_to}
-use Rattle.lx_pcalls.proofs.kill.send.Goals as goal
+use Rattle.lx_pcalls.proofs.kill.send_from.Goals as goal
 
 pub returns-in-Dying : goal.returns-in-Dying
 returns-in-Dying c =

@@ -1,0 +1,304 @@
+-- What keeps a process that waits in wait4 waiting.
+use Rattle.std.proofs.Common.{◌≡◌, ℕ, ◌<◌, Bool, true, false, cond, List, [], ◌∷◌, map, Option, Some, None, is_some, refl, ap, sym, subst, ◌∙◌, arith}
+use Rattle.std.specs.Prelude.{◌==◌, ◌&&◌, ◌||◌, not, nat_lt, find, fold, if◌then◌else◌}
+use Rattle.std.specs.List.{filter}
+use Rattle.std.specs.Option.{unwrap_or}
+use Rattle.std.specs.Ordering.{nat_cmp, eq_by_cmp}
+use Rattle.std.specs.Cmp.{nat_cmp_total}
+use Rattle.std.specs.FinMap as maps
+use Rattle.std.specs.FinMap.{FinMap}
+use Rattle.std.specs.FinMap.Entries as entry
+use Rattle.std.proofs.lemmas.Bool.Decides.{nat_tests}
+use Rattle.lx_abi.specs.declared.log.Call.{Call}
+use Rattle.lx_proc.specs.declared.state.Entry.{Entry}
+use Rattle.lx_proc.specs.declared.state.Shared.{Shared}
+use Rattle.lx_proc.specs.declared.state.Life.TheVariants.{Dying, Zombie}
+use Rattle.lx_sig.specs.declared.state.Signals.{Signals}
+use Rattle.lx_proc.specs.State.{Entries, changed, changed_entry, with_signals}
+use Rattle.lx_proc.specs.Answers.{argument, low_argument}
+use Rattle.lx_proc.specs.Families.{is_zombie}
+use Rattle.lx_pcalls.specs.Calls.{would_block}
+use Rattle.lx_pcalls.specs.Ends.{with_life, orphan, orphaned, released, released_entry, buried_entry, retired_by, told, wants_no_news}
+use Rattle.lx_pcalls.specs.Wait4.{any_child, zombie_word, is_meant_by, is_child, first_child, may_wait, wait4_would_block}
+use Rattle.lx_pcalls.proofs.Finding.{skip}
+use Rattle.lx_pcalls.proofs.Children.{child_there, unequal}
+use Rattle.lx_turn.specs.Resting.{told_by}
+use Rattle.lx_turn.proofs.Placed.{either, apart, get_put, get_left, other_put, other_left}
+
+-- The keys that pass a test
+
+module _ (test : ℕ → Bool) where
+  passes_here : (P : Type 0) (k : ℕ) (ks : List ℕ) (b : Bool) → test k ≡ b → is_some (cond b (Some k) (find test ks)) ≡ true
+      → ((n : ℕ) → test n ≡ true → P) → (is_some (find test ks) ≡ true → P) → P
+  passes_here P k ks true holds e so later = so k holds
+  passes_here P k ks false fails e so later = later e
+
+  -- where one is found, one passes
+  one_passes : (P : Type 0) → ((n : ℕ) → test n ≡ true → P) → (ks : List ℕ) → is_some (find test ks) ≡ true → P
+  one_passes P so [] e = absurd (cc e)
+  one_passes P so (k ∷ ks) e = passes_here P k ks (test k) refl e so (λ h. one_passes P so ks h)
+
+  found_here : (n k : ℕ) (ks : List ℕ) (b : Bool) → test k ≡ b → cond b (Some k) (find test ks) ≡ Some n
+      → (find test ks ≡ Some n → test n ≡ true) → test n ≡ true
+  found_here n k ks true holds e later = ap (λ o. test (unwrap_or o k)) (sym e) ∙ holds
+  found_here n k ks false fails e later = later e
+
+  -- that which is found passes
+  found_passes : (n : ℕ) (ks : List ℕ) → find test ks ≡ Some n → test n ≡ true
+  found_passes n [] e = absurd (cc e)
+  found_passes n (k ∷ ks) e = found_here n k ks (test k) refl e (λ h. found_passes n ks h)
+
+module _ (test : ℕ → Bool) (n : ℕ) (holds : test n ≡ true) where
+  unlike : (k : ℕ) → test k ≡ false → eq_by_cmp nat_cmp n k ≡ false
+  unlike k fails = apart n k (eq_by_cmp nat_cmp n k) refl (λ e. let h : true ≡ false = sym holds ∙ ap test e ∙ fails in absurd (cc h))
+
+  module _ {X : Type 0} where
+    passes_step : (e : ℕ × X) (es : List (ℕ × X)) (b : Bool) → test e.0 ≡ b → is_some (entry.find nat_cmp n (e ∷ es)) ≡ true
+        → (is_some (entry.find nat_cmp n es) ≡ true → is_some (find test (map (λ e. e.0) es)) ≡ true)
+        → is_some (cond b (Some e.0) (find test (map (λ e. e.0) es))) ≡ true
+    passes_step e es true passes there later = refl
+    passes_step e es false fails there later = later (ap is_some (sym (skip n e es (unlike e.0 fails))) ∙ there)
+
+    some_passes : (es : List (ℕ × X)) → is_some (entry.find nat_cmp n es) ≡ true → is_some (find test (map (λ e. e.0) es)) ≡ true
+    some_passes [] there = absurd (cc there)
+    some_passes (e ∷ es) there = passes_step e es (test e.0) refl there (λ h. some_passes es h)
+
+    -- where a key passes, one is found
+    some_key : (m : FinMap nat_cmp X) → is_some (maps.get m n) ≡ true → is_some (find test (maps.keys m)) ≡ true
+    some_key m there = some_passes (maps.entries m) (ap is_some (sym (maps.get-entries m n)) ∙ there)
+
+-- Changes of one entry
+
+-- a child that q waits for stays one, and becomes no zombie
+abbrev pub IsSpared : ℕ → ℕ → Option Entry → Option Entry → Type 0
+IsSpared q n o o' =
+    (wanted : ℕ) → (is_meant_by o q wanted false n ≡ true → is_meant_by o' q wanted false n ≡ true)
+    × (is_meant_by o' q wanted true n ≡ true → is_meant_by o q wanted true n ≡ true)
+
+-- it is no child of q
+abbrev pub IsOthers : ℕ → Option Entry → Type 0
+IsOthers q None = Unit {0}
+IsOthers q (Some e) = e.parent ≡ q → ⊥
+
+spared_same : (q n : ℕ) (o o' : Option Entry) → o' ≡ o → IsSpared q n o o'
+spared_same q n o o' e = λ wanted. (
+  λ h. ap (λ x. is_meant_by x q wanted false n) e ∙ h,
+  λ h. ap (λ x. is_meant_by x q wanted true n) (sym e) ∙ h,
+)
+
+signals_spared : (q n : ℕ) (e : Entry) (signals : Signals) → IsSpared q n (Some e) (Some (with_signals e signals))
+signals_spared q n e signals = λ wanted. (λ h. h, λ h. h)
+
+no_zombie : (a b : Bool) → (a && b && false) ≡ true → ⊥
+no_zombie true true h = absurd (cc h)
+no_zombie true false h = absurd (cc h)
+no_zombie false b h = absurd (cc h)
+
+-- one that dies is none yet
+dying_spared : (q n w : ℕ) (e : Entry) → IsSpared q n (Some e) (Some (with_life e (Dying w)))
+dying_spared q n w e = λ wanted. (λ h. h, λ h. absurd (no_zombie (e.parent == q) (wanted == any_child || wanted == n) h))
+
+others_meant : (q : ℕ) (o : Option Entry) → IsOthers q o → (wanted : ℕ) (zombies : Bool) (n : ℕ) → is_meant_by o q wanted zombies n ≡ false
+others_meant q None h wanted zombies n = refl
+others_meant q (Some e) h wanted zombies n =
+    ap (λ b. b && (wanted == any_child || wanted == n) && (not zombies || is_some (zombie_word e.life))) (unequal e.parent q h)
+
+never : {P : Type 0} (b : Bool) → b ≡ true → b ≡ false → P
+never true h e = absurd (cc e)
+never false h e = absurd (cc h)
+
+others_spared : (q n : ℕ) (o o' : Option Entry) → IsOthers q o → IsOthers q o' → IsSpared q n o o'
+others_spared q n o o' before after = λ wanted. (
+  λ h. never (is_meant_by o q wanted false n) h (others_meant q o before wanted false n),
+  λ h. never (is_meant_by o' q wanted true n) h (others_meant q o' after wanted true n),
+)
+
+numbered : (a b : ℕ) → (a == b) ≡ true → a ≡ b
+numbered a b h = grind (arith, nat_tests)
+
+first_of : (a b c : Bool) → (a && b && c) ≡ true → a ≡ true
+first_of true b c h = refl
+first_of false b c h = h
+
+-- a child of one is no other's
+meant_others : (p q wanted : ℕ) (zombies : Bool) (n : ℕ) (o : Option Entry) → (q ≡ p → ⊥) → is_meant_by o p wanted zombies n ≡ true → IsOthers q o
+meant_others p q wanted zombies n None ne h = tt
+meant_others p q wanted zombies n (Some e) ne h = λ is.
+    ne (sym is ∙ numbered e.parent p (first_of (e.parent == p) (wanted == any_child || wanted == n) (not zombies || is_some (zombie_word e.life)) h))
+
+-- Changes of the table
+
+abbrev pub AreSpared : Entries → Entries → ℕ → Type 0
+AreSpared m m' q = (n : ℕ) → IsSpared q n (maps.get m n) (maps.get m' n)
+
+pub all_same : (m : Entries) (q : ℕ) → AreSpared m m q
+all_same m q = λ n wanted. (λ h. h, λ h. h)
+
+spared_then : (m m' m'' : Entries) (q : ℕ) → AreSpared m m' q → AreSpared m' m'' q → AreSpared m m'' q
+spared_then m m' m'' q h g = λ n wanted. (λ e. (g n wanted).0 ((h n wanted).0 e), λ e. (h n wanted).1 ((g n wanted).1 e))
+
+put_spared : (m : Entries) (p q : ℕ) (e : Entry) → IsSpared q p (maps.get m p) (Some e) → AreSpared m (maps.insert m p e) q
+put_spared m p q e h = λ n. either n p (IsSpared q n (maps.get m n) (maps.get (maps.insert m p e) n)) (n == p) refl
+    (λ is. subst (λ k. IsSpared q k (maps.get m k) (maps.get (maps.insert m p e) k)) (sym is) (subst (λ o. IsSpared q p (maps.get m p) o) (sym (get_put m p e)) h))
+    (λ ne. spared_same q n (maps.get m n) (maps.get (maps.insert m p e) n) (other_put m p n ne e))
+
+left_spared : (m : Entries) (p q : ℕ) → IsOthers q (maps.get m p) → AreSpared m (maps.remove m p) q
+left_spared m p q others = λ n. either n p (IsSpared q n (maps.get m n) (maps.get (maps.remove m p) n)) (n == p) refl
+    (λ is. subst (λ k. IsSpared q k (maps.get m k) (maps.get (maps.remove m p) k)) (sym is)
+    (subst (λ o. IsSpared q p (maps.get m p) o) (sym (get_left m p)) (others_spared q p (maps.get m p) None others tt)))
+    (λ ne. spared_same q n (maps.get m n) (maps.get (maps.remove m p) n) (other_left m p n ne))
+
+changed_spared : (m : Entries) (p q : ℕ) (f : Entry → Entry) (o : Option Entry) → maps.get m p ≡ o
+    → ((e : Entry) → maps.get m p ≡ Some e → IsSpared q p (Some e) (Some (f e))) → AreSpared m (changed_entry m p f o) q
+changed_spared m p q f None there h = all_same m q
+changed_spared m p q f (Some e) there h = put_spared m p q (f e) (subst (λ o. IsSpared q p o (Some (f e))) (sym there) (h e there))
+
+-- signals of an entry end no wait for it
+pub signalled_spared : (m : Entries) (p q : ℕ) (g : Entry → Signals) → AreSpared m (changed m p (λ e. with_signals e (g e))) q
+signalled_spared m p q g = changed_spared m p q (λ e. with_signals e (g e)) (maps.get m p) refl (λ e there. signals_spared q p e (g e))
+
+pub twice_spared : (m : Entries) (p q : ℕ) (g h : Entry → Signals)
+    → AreSpared m (changed (changed m p (λ e. with_signals e (g e))) p (λ e. with_signals e (h e))) q
+twice_spared m p q g h =
+    let first : Entries = changed m p (λ e. with_signals e (g e)) in
+    spared_then m first (changed first p (λ e. with_signals e (h e))) q (signalled_spared m p q g) (signalled_spared first p q h)
+
+-- nor that its process is dying
+pub died_spared : (m : Entries) (p q w : ℕ) → AreSpared m (changed m p (λ e. with_life e (Dying w))) q
+died_spared m p q w = changed_spared m p q (λ e. with_life e (Dying w)) (maps.get m p) refl (λ e there. dying_spared q p w e)
+
+-- a child that one has waited for was no other's
+pub reaped_spared : (m : Entries) (p q wanted n : ℕ) → (q ≡ p → ⊥) → first_child m p wanted true ≡ Some n → AreSpared m (maps.remove m n) q
+unfolding first_child is_child
+reaped_spared m p q wanted n ne found =
+    left_spared m n q (meant_others p q wanted true n (maps.get m n) ne (found_passes (is_child m p wanted true) n (maps.keys m) found))
+
+-- nor is one that is born
+pub born_spared : (m : Entries) (p child q : ℕ) (e : Entry) → (q ≡ p → ⊥) → e.parent ≡ p → maps.get m child ≡ None → AreSpared m (maps.insert m child e) q
+born_spared m p child q e ne parent vacant =
+    put_spared m child q e (subst (λ o. IsSpared q child o (Some e)) (sym vacant) (others_spared q child None (Some e) tt (λ is. ne (sym is ∙ parent))))
+
+-- Burial
+
+-- a process in an entry's place
+others_put : (m : Entries) (n p q : ℕ) (e : Entry) → (p ≡ n → IsOthers q (Some e)) → IsOthers q (maps.get m p) → IsOthers q (maps.get (maps.insert m n e) p)
+others_put m n p q e here h = either p n (IsOthers q (maps.get (maps.insert m n e) p)) (p == n) refl
+    (λ is. subst (λ k. IsOthers q (maps.get (maps.insert m n e) k)) (sym is) (subst (IsOthers q) (sym (get_put m n e)) (here is)))
+    (λ ne. subst (IsOthers q) (sym (other_put m n p ne e)) h)
+
+none_others : (q : ℕ) (b : Bool) (o : Option Entry) → IsOthers q o → IsOthers q (cond b None o)
+none_others q true o h = tt
+none_others q false o h = h
+
+others_left : (m : Entries) (n p q : ℕ) → IsOthers q (maps.get m p) → IsOthers q (maps.get (maps.remove m n) p)
+others_left m n p q h = subst (IsOthers q) (sym (maps.get-remove nat_cmp_total m n p)) (none_others q (eq_by_cmp nat_cmp p n) (maps.get m p) h)
+
+others_told : (m : Entries) (n p q w : ℕ) (o : Option Entry) → maps.get m n ≡ o → IsOthers q (maps.get m p) → IsOthers q (maps.get (changed_entry m n (λ e. told e p w) o) p)
+others_told m n p q w None there h = h
+others_told m n p q w (Some e) there h = others_put m n p q (told e p w) (λ is. subst (IsOthers q) (ap (maps.get m) is ∙ there) h) h
+
+module _ (p q : ℕ) (ne : q ≡ p → ⊥) (up : 0 < q) where
+  nobodys : (e : Entry) → IsOthers q (Some (record e { parent = 0 }))
+  nobodys e = λ is. absurd (omega (arith, is, up))
+
+  -- p's child gets parent 0, or leaves the table
+  abbrev Leaves : Entries → Entries → Type 0
+  Leaves m m' = AreSpared m m' q × (IsOthers q (maps.get m p) → IsOthers q (maps.get m' p))
+
+  orphan_leaves : (m : Entries) (n : ℕ) (e : Entry) (b : Bool) → IsOthers q (maps.get m n) → Leaves m (orphan m n e b)
+  orphan_leaves m n e true others = (left_spared m n q others, others_left m n p q)
+  orphan_leaves m n e false others = (
+    put_spared m n q (record e { parent = 0 }) (others_spared q n (maps.get m n) (Some (record e { parent = 0 })) others (nobodys e)),
+    others_put m n p q (record e { parent = 0 }) (λ is. nobodys e),
+  )
+
+  mine_leaves : (m : Entries) (n : ℕ) (e : Entry) (b : Bool) → (e.parent == p) ≡ b → maps.get m n ≡ Some e → Leaves m (if b then orphan m n e (is_zombie e.life) else m)
+  mine_leaves m n e true mine there =
+      orphan_leaves m n e (is_zombie e.life) (subst (IsOthers q) (sym there) (λ is. ne (sym is ∙ numbered e.parent p mine)))
+  mine_leaves m n e false other there = (all_same m q, λ h. h)
+
+  entry_leaves : (m : Entries) (n : ℕ) (o : Option Entry) → maps.get m n ≡ o → Leaves m (released_entry m p n o)
+  entry_leaves m n None there = (all_same m q, λ h. h)
+  entry_leaves m n (Some e) there = mine_leaves m n e (e.parent == p) refl there
+
+  released_leaves : (m : Entries) (n : ℕ) → Leaves m (released p m n)
+  unfolding released
+  released_leaves m n = entry_leaves m n (maps.get m n) refl
+
+  each_leaves : (m : Entries) (ns : List ℕ) → Leaves m (fold (released p) m ns)
+  each_leaves m [] = (all_same m q, λ h. h)
+  each_leaves m (n ∷ ns) =
+      let one = released_leaves m n in
+      let more = each_leaves (released p m n) ns in
+      (spared_then m (released p m n) (fold (released p) (released p m n) ns) q one.0 more.0, λ h. more.1 (one.1 h))
+
+  orphaned_leaves : (m : Entries) → Leaves m (orphaned m p)
+  unfolding orphaned
+  orphaned_leaves m = each_leaves m (filter (nat_lt 0) (maps.keys m))
+
+  zombie_spared : (m : Entries) (w : ℕ) (o : Option Entry) → maps.get m p ≡ o → IsOthers q (maps.get m p) → AreSpared m (changed_entry m p (λ e. with_life e (Zombie w)) o) q
+  zombie_spared m w o there h = changed_spared m p q (λ e. with_life e (Zombie w)) o there
+      (λ e is. let mine = subst (IsOthers q) is h in others_spared q p (Some e) (Some (with_life e (Zombie w))) mine mine)
+
+  told_spared : (m : Entries) (w parent : ℕ) (b : Bool) → IsOthers q (maps.get m p)
+      → AreSpared m (if b then maps.remove m p else changed (changed m parent (λ e. told e p w)) p (λ e. with_life e (Zombie w))) q
+  told_spared m w parent true h = left_spared m p q h
+  told_spared m w parent false h =
+      let news : Entries = changed m parent (λ e. told e p w) in
+      spared_then m news (changed news p (λ e. with_life e (Zombie w))) q
+      (changed_spared m parent q (λ e. told e p w) (maps.get m parent) refl (λ e there. signals_spared q parent e (told e p w).signals))
+      (zombie_spared news w (maps.get news p) refl (others_told m parent p q w (maps.get m parent) refl h))
+
+  retired_spared : (m : Entries) (w parent : ℕ) (o : Option Entry) → IsOthers q (maps.get m p) → AreSpared m (retired_by m p w parent o) q
+  retired_spared m w parent None h = left_spared m p q h
+  retired_spared m w parent (Some e) h = told_spared m w parent (wants_no_news e) h
+
+  -- a burial ends a wait of the parent alone
+  pub buried_spared : (m : Entries) (w : ℕ) (o : Option Entry) → maps.get m p ≡ o → (q ≡ told_by p o → ⊥) → AreSpared m (buried_entry m p w o) q
+  buried_spared m w None there other = all_same m q
+  buried_spared m w (Some e) there other =
+      let left = orphaned_leaves m in
+      spared_then m (orphaned m p) (buried_entry m p w (Some e)) q left.0
+      (retired_spared (orphaned m p) w e.parent (maps.get (orphaned m p) e.parent) (left.1 (subst (IsOthers q) (sym there) (λ is. other (sym is)))))
+
+-- Waits
+
+not_kept : (a b : Bool) → (b ≡ true → a ≡ true) → not a ≡ true → not b ≡ true
+not_kept true b h e = absurd (cc e)
+not_kept false true h e = absurd (cc (h refl))
+not_kept false false h e = refl
+
+join : (a b : Bool) → a ≡ true → b ≡ true → (a && b) ≡ true
+join true b e h = h
+join false b e h = absurd (cc e)
+
+waits_kept : (may hangs has none has' none' : Bool) → (has ≡ true → has' ≡ true) → (none' ≡ true → none ≡ true)
+    → (may && hangs && has && not none) ≡ true → (may && hangs && has' && not none') ≡ true
+waits_kept false hangs has none has' none' h g e = absurd (cc e)
+waits_kept true false has none has' none' h g e = absurd (cc e)
+waits_kept true true false none has' none' h g e = absurd (cc e)
+waits_kept true true true none has' none' h g e = join has' (not none') (h refl) (not_kept none none' g e)
+
+if_kept : (b x y : Bool) → (x ≡ true → y ≡ true) → (if b then x else false) ≡ true → (if b then y else false) ≡ true
+if_kept true x y h e = h e
+if_kept false x y h e = e
+
+module _ (m m' : Entries) (q wanted : ℕ) (zombies : Bool) (kept : (n : ℕ) → is_meant_by (maps.get m n) q wanted zombies n ≡ true → is_meant_by (maps.get m' n) q wanted zombies n ≡ true) where
+  -- a child that is found stays one
+  child_kept : is_some (first_child m q wanted zombies) ≡ true → is_some (first_child m' q wanted zombies) ≡ true
+  unfolding first_child is_child
+  child_kept e = one_passes (is_child m q wanted zombies) (is_some (first_child m' q wanted zombies) ≡ true)
+      (λ n h. some_key (is_child m' q wanted zombies) n (kept n h) m' (child_there m' q wanted zombies n (kept n h)))
+      (maps.keys m) e
+
+-- who waits in wait4 waits on where its children are spared
+pub awaits_on : (s s' : Shared) (q : ℕ) → AreSpared s.entries s'.entries q → (call : Call) → would_block s q call ≡ true → would_block s' q call ≡ true
+unfolding would_block wait4_would_block
+awaits_on s s' q spared call =
+    let wanted = low_argument call 0 in
+    let has = λ (t : Shared). is_some (first_child t.entries q wanted false) in
+    let none = λ (t : Shared). is_some (first_child t.entries q wanted true) in
+    if_kept (call.number == 260) (wait4_would_block s q call) (wait4_would_block s' q call)
+    (waits_kept (may_wait call) (not (argument call 2 == 1)) (has s) (none s) (has s') (none s')
+    (child_kept s.entries s'.entries q wanted false (λ n h. (spared n wanted).0 h))
+    (child_kept s'.entries s.entries q wanted true (λ n h. (spared n wanted).1 h)))
