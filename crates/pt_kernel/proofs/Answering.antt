@@ -22,9 +22,10 @@ use Rattle.lx_kernel.specs.Tracing.{task_in, with_change, with_part}
 use Rattle.lx_kernel.specs.declared.tracing.Change.TheVariants.{Resume}
 use Rattle.lx_turn.proofs.Placed.{put_same}
 use Rattle.lx_kernel.proofs.Placing.{remove_absent}
-use Rattle.pt_model.specs.declared.ptrace.Watch.{Watch}
+use Rattle.lx_abi.specs.declared.ptrace.TraceOptions.{TraceOptions}
 use Rattle.pt_model.specs.declared.ptrace.Traced.{Traced}
-use Rattle.pt_model.specs.Ptrace.{Proc, watch_of}
+use Rattle.lx_abi.specs.Options.{trace_options}
+use Rattle.pt_model.specs.Ptrace.{Proc}
 use Rattle.pt_model.specs.Requests.{esrch, eio, Answered, says, goes_from, stopped, seize, unseized}
 use Rattle.pt_model.specs.Hosting.{Hosted, as_proc, untraced, with_answer, hosting_to}
 use Rattle.pt_kernel.specs.declared.tracees.Tracees.{Tracees}
@@ -66,8 +67,8 @@ module _ (k : KernelRun) (x : Tracees) (p : ℕ) (t : Traced) (known : maps.get 
   answer_reads b stage e a r h = subst (λ c. IsAnswer k x p t.message c r k x) (sym h)
       (record { kernel = sym (same_user k p b stage e); tracees = sym (same_tracee x p t known); reply = refl })
 
-  pub answer_sets : (b : UserState) (stage : Stage) → task_in k p ≡ Alive b stage → (a : Answered UserState) (r : Reply) (held : Bool) (w : Option Watch) (x' : Tracees) →
-      a ≡ says (record { task = Alive b stage; held = held; watch = w }) r → x' ≡ record x { traced = maps.insert x.traced p (record { held = held; watch = w; message = t.message }) } →
+  pub answer_sets : (b : UserState) (stage : Stage) → task_in k p ≡ Alive b stage → (a : Answered UserState) (r : Reply) (held : Bool) (w : Option TraceOptions) (x' : Tracees) →
+      a ≡ says (record { task = Alive b stage; held = held; options = w }) r → x' ≡ record x { traced = maps.insert x.traced p (record { held = held; options = w; message = t.message }) } →
       IsAnswer k x p t.message a r k x'
   answer_sets b stage e a r held w x' h g = subst (λ c. IsAnswer k x p t.message c r k x') (sym h)
       (record { kernel = sym (same_user k p b stage e); tracees = g; reply = refl })
@@ -80,7 +81,7 @@ module _ (k : KernelRun) (x : Tracees) (p : ℕ) (t : Traced) (known : maps.get 
   unseized_reads swept a r h = subst (λ c. IsAnswer k x p t.message c r k x) (sym h)
       (record { kernel = sym (task_kept k p swept); tracees = sym (same_tracee x p t known); reply = refl })
 
-  pub unseized_seizes : IsSwept k.running → (a : Answered UserState) (w : Watch) (x' : Tracees) → a ≡ seize (as_proc (task_in k p) t) (Some w) → x' ≡ with_tracee x p t.message (seize (as_proc (task_in k p) t) (Some w)) → IsAnswer k x p t.message a Agreed k x'
+  pub unseized_seizes : IsSwept k.running → (a : Answered UserState) (w : TraceOptions) (x' : Tracees) → a ≡ seize (as_proc (task_in k p) t) (Some w) → x' ≡ with_tracee x p t.message (seize (as_proc (task_in k p) t) (Some w)) → IsAnswer k x p t.message a Agreed k x'
   unseized_seizes swept a w x' h g = subst (λ c. IsAnswer k x p t.message c Agreed k x') (sym h)
       (record { kernel = sym (task_kept k p swept); tracees = g; reply = refl })
 
@@ -95,12 +96,12 @@ module _ (k : KernelRun) (x : Tracees) (p : ℕ) (t : Traced) (known : maps.get 
       (refused_by b stage e ((row stage).resume n) goes k' g h)
 
   released_by : (b : UserState) (stage : Stage) (y : Option Stage) (goes : Bool) (k' : KernelRun) (x' : Tracees) → GoesOn k p b y goes k' → goes ≡ true →
-      x' ≡ record x { traced = maps.insert x.traced p (record { held = false; watch = t.watch; message = t.message }) } → IsAnswer k x p t.message (goes_from (as_proc (Alive b stage) t) b y) Agreed k' x'
+      x' ≡ record x { traced = maps.insert x.traced p (record { held = false; options = t.options; message = t.message }) } → IsAnswer k x p t.message (goes_from (as_proc (Alive b stage) t) b y) Agreed k' x'
   released_by b stage None goes k' x' g h f = absurd (cc (g.0, h))
   released_by b stage (Some s) goes k' x' g h f = record { kernel = g.1; tracees = f; reply = refl }
 
   pub syscall_done : (b : UserState) (stage : Stage) (n : ℕ) (goes : Bool) (k' : KernelRun) (x' : Tracees) → GoesOn k p b ((row stage).resume n) goes k' → goes ≡ true →
-      x' ≡ record x { traced = maps.insert x.traced p (record { held = false; watch = t.watch; message = t.message }) } → IsAnswer k x p t.message (goes_from (as_proc (Alive b stage) t) b ((row stage).resume n)) Agreed k' x'
+      x' ≡ record x { traced = maps.insert x.traced p (record { held = false; options = t.options; message = t.message }) } → IsAnswer k x p t.message (goes_from (as_proc (Alive b stage) t) b ((row stage).resume n)) Agreed k' x'
   syscall_done b stage n goes k' x' g h f = released_by b stage ((row stage).resume n) goes k' x' g h f
 
 -- Where a process goes on
@@ -131,8 +132,8 @@ not_seized t SigInfo e = refl
 options_of : (o options : ℕ) → Some o ≡ Some options → o ≡ options
 options_of o options e = cc
 
-pub is_seized : (t : Proc UserState) (q : Ask) (options : ℕ) → seize_options q ≡ Some options → unseized t q ≡ seize t (watch_of options)
-is_seized t (Seize o) options e = ap (λ n. seize t (watch_of n)) (options_of o options e)
+pub is_seized : (t : Proc UserState) (q : Ask) (options : ℕ) → seize_options q ≡ Some options → unseized t q ≡ seize t (trace_options options)
+is_seized t (Seize o) options e = ap (λ n. seize t (trace_options n)) (options_of o options e)
 is_seized t (SetOptions o) options e = absurd (cc e)
 is_seized t GetRegs options e = absurd (cc e)
 is_seized t (SetRegs r) options e = absurd (cc e)
@@ -152,38 +153,38 @@ module _ (k : KernelRun) (x : Tracees) (p : ℕ) (t : Traced) (known : t ≡ at 
   abbrev v : Linux_host
   v = hosting_by k.running x turns pending
 
-  abbrev to : Task UserState → Bool → Option Watch → Hosted Shared UserState
+  abbrev to : Task UserState → Bool → Option TraceOptions → Hosted Shared UserState
   to task held w = hosting_to linux v p t.message (as_proc task t) held w task q
 
   pub answered_is : (a : Answered UserState) (r : Reply) (k' : KernelRun) (x' : Tracees) → IsAnswer k x p t.message a r k' x' → made (hosting_by k'.running x' turns pending) (Some r) ≡ with_answer v p t.message a
   answered_is a r k' x' h = ap (λ l. made (hosting_by l.running x' turns pending) (Some r)) h.kernel ∙ ap (λ y. made (hosting_by (with_task k.running p a.proc.task) y turns pending) (Some r)) h.tracees ∙ ap (λ s. made (hosting_by (with_task k.running p a.proc.task) (with_tracee x p t.message a) turns pending) (Some s)) h.reply
 
   abbrev to_at : Traced → Hosted Shared UserState
-  to_at u = hosting_to linux v p u.message (as_proc (task_in k p) u) u.held u.watch (task_in k p) q
+  to_at u = hosting_to linux v p u.message (as_proc (task_in k p) u) u.held u.options (task_in k p) q
 
-  pub to_stopped : (b : UserState) (stage : Stage) (w : Watch) (r : Reply) (k' : KernelRun) (x' : Tracees) → t.held ≡ true → t.watch ≡ Some w → task_in k p ≡ Alive b stage →
+  pub to_stopped : (b : UserState) (stage : Stage) (w : TraceOptions) (r : Reply) (k' : KernelRun) (x' : Tracees) → t.held ≡ true → t.options ≡ Some w → task_in k p ≡ Alive b stage →
       IsAnswer k x p t.message (stopped linux (as_proc (Alive b stage) t) b stage t.message q) r k' x' → made (hosting_by k'.running x' turns pending) (Some r) ≡ to_at (at untraced x.traced p)
-  to_stopped b stage w r k' x' held watch e h =
+  to_stopped b stage w r k' x' held options e h =
       answered_is (stopped linux (as_proc (Alive b stage) t) b stage t.message q) r k' x' h
-      ∙ ap (λ task. to task true (Some w)) (sym e) ∙ ap (λ c. to (task_in k p) c (Some w)) (sym held) ∙ ap (λ y. to (task_in k p) t.held y) (sym watch)
+      ∙ ap (λ task. to task true (Some w)) (sym e) ∙ ap (λ c. to (task_in k p) c (Some w)) (sym held) ∙ ap (λ y. to (task_in k p) t.held y) (sym options)
       ∙ ap to_at known
 
-  pub to_unseized : (r : Reply) (x' : Tracees) → t.held ≡ true → t.watch ≡ None → IsAnswer k x p t.message (unseized (as_proc (task_in k p) t) q) r k x' → made (hosting_by k.running x' turns pending) (Some r) ≡ to_at (at untraced x.traced p)
-  to_unseized r x' held watch h =
+  pub to_unseized : (r : Reply) (x' : Tracees) → t.held ≡ true → t.options ≡ None → IsAnswer k x p t.message (unseized (as_proc (task_in k p) t) q) r k x' → made (hosting_by k.running x' turns pending) (Some r) ≡ to_at (at untraced x.traced p)
+  to_unseized r x' held options h =
       answered_is (unseized (as_proc (task_in k p) t) q) r k x' h
-      ∙ ap (λ c. to (task_in k p) c None) (sym held) ∙ ap (λ y. to (task_in k p) t.held y) (sym watch)
+      ∙ ap (λ c. to (task_in k p) c None) (sym held) ∙ ap (λ y. to (task_in k p) t.held y) (sym options)
       ∙ ap to_at known
 
-  ended : (task : Task UserState) (w : Watch) → is_alive task ≡ false → made v (Some esrch) ≡ to task true (Some w)
+  ended : (task : Task UserState) (w : TraceOptions) → is_alive task ≡ false → made v (Some esrch) ≡ to task true (Some w)
   ended (Alive b stage) w h = absurd (cc h)
   ended (Dying word) w h = refl
   ended Gone w h = refl
 
-  pub to_ended : (w : Watch) (r : Reply) → t.held ≡ true → t.watch ≡ Some w → is_alive (task_in k p) ≡ false → r ≡ esrch → made v (Some r) ≡ to_at (at untraced x.traced p)
-  to_ended w r held watch h reply =
+  pub to_ended : (w : TraceOptions) (r : Reply) → t.held ≡ true → t.options ≡ Some w → is_alive (task_in k p) ≡ false → r ≡ esrch → made v (Some r) ≡ to_at (at untraced x.traced p)
+  to_ended w r held options h reply =
       ap (λ s. made v (Some s)) reply ∙ ended (task_in k p) w h
-      ∙ ap (λ c. to (task_in k p) c (Some w)) (sym held) ∙ ap (λ y. to (task_in k p) t.held y) (sym watch)
+      ∙ ap (λ c. to (task_in k p) c (Some w)) (sym held) ∙ ap (λ y. to (task_in k p) t.held y) (sym options)
       ∙ ap to_at known
 
   pub to_free : (r : Reply) → t.held ≡ false → r ≡ esrch → made v (Some r) ≡ to_at (at untraced x.traced p)
-  to_free r held reply = ap (λ s. made v (Some s)) reply ∙ ap (λ c. to (task_in k p) c t.watch) (sym held) ∙ ap to_at known
+  to_free r held reply = ap (λ s. made v (Some s)) reply ∙ ap (λ c. to (task_in k p) c t.options) (sym held) ∙ ap to_at known

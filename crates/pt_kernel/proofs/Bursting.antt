@@ -28,7 +28,7 @@ use Rattle.lx_turn.specs.Modes.{life_mode, task_mode as kernel_mode}
 use Rattle.lx_kernel.specs.Tracing.{task_in}
 use Rattle.lx_turn.proofs.Placed.{put_same}
 use Rattle.pt_model.specs.declared.ptrace.Traced.{Traced}
-use Rattle.pt_model.specs.declared.ptrace.Watch.{Watch}
+use Rattle.lx_abi.specs.declared.ptrace.TraceOptions.{TraceOptions}
 use Rattle.pt_model.specs.Ptrace.{may_die, reports_of, stop_at}
 use Rattle.pt_model.specs.Hosting.{no_script, untraced, traced_at, traced_after, hosted, hosting_turn}
 use Rattle.pt_model.proofs.Hosts.{empty_script_is_none}
@@ -115,19 +115,19 @@ with_run v r turns = record { running = r; traced = v.traced; queue = v.queue; t
 
 -- nothing changes of who isn't held
 module _ (v : Linux_host) (p child : ℕ) (c : UserState) where
-  kept_by : (o : Option Traced) → maps.get v.traced p ≡ o → (unwrap_or o untraced).held ≡ false → traced_after v.traced p child (unwrap_or o untraced).message (unwrap_or o untraced).watch (Alive c Run) Plain ≡ v.traced
+  kept_by : (o : Option Traced) → maps.get v.traced p ≡ o → (unwrap_or o untraced).held ≡ false → traced_after v.traced p child (unwrap_or o untraced).message (unwrap_or o untraced).options (Alive c Run) Plain ≡ v.traced
   kept_by None e h = refl
-  kept_by (Some t) e h = of_watch t.watch refl
+  kept_by (Some t) e h = of_options t.options refl
     where
-      of_watch : (w : Option Watch) → t.watch ≡ w → traced_after v.traced p child t.message w (Alive c Run) Plain ≡ v.traced
-      of_watch None f = refl
-      of_watch (Some w) f = put_same v.traced p (record { held = false; watch = Some w; message = t.message })
-          (e ∙ ap₂ (λ held watch. Some (record { held = held; watch = watch; message = t.message })) h f)
+      of_options : (w : Option TraceOptions) → t.options ≡ w → traced_after v.traced p child t.message w (Alive c Run) Plain ≡ v.traced
+      of_options None f = refl
+      of_options (Some w) f = put_same v.traced p (record { held = false; options = Some w; message = t.message })
+          (e ∙ ap₂ (λ held options. Some (record { held = held; options = options; message = t.message })) h f)
 
-  kept : (traced_at v p).held ≡ false → traced_after v.traced p child (traced_at v p).message (traced_at v p).watch (Alive c Run) Plain ≡ v.traced
+  kept : (traced_at v p).held ≡ false → traced_after v.traced p child (traced_at v p).message (traced_at v p).options (Alive c Run) Plain ≡ v.traced
   kept h = kept_by (maps.get v.traced p) refl h
 
-no_reports : (v : Linux_host) (p : ℕ) (w : Option Watch) (c : UserState) → v.queue ++ reports_of p (stop_at {B = UserState} w (Alive c Run) Plain) ≡ v.queue
+no_reports : (v : Linux_host) (p : ℕ) (w : Option TraceOptions) (c : UserState) → v.queue ++ reports_of p (stop_at {B = UserState} w (Alive c Run) Plain) ≡ v.queue
 no_reports v p None c = append-nil v.queue
 no_reports v p (Some w) c = append-nil v.queue
 
@@ -140,7 +140,7 @@ hosted_by v p o = hosted v p (traced_at v p) o
 hosted_stays : (v : Linux_host) (p : ℕ) (c : UserState) → (traced_at v p).held ≡ false → hosted_by v p (gives v.running.shared (Alive c Run)) ≡ with_run v (ran v.running p (gives v.running.shared (Alive c Run))) (v.turns ++ p ∷ [])
 hosted_stays v p c h =
     ap₂ (λ traced queue. record { running = ran v.running p (gives v.running.shared (Alive c Run)); traced = traced; queue = queue; tracees = v.tracees; turns = v.turns ++ p ∷ []; pending = v.pending })
-    (kept v p v.running.child c h) (no_reports v p (traced_at v p).watch c)
+    (kept v p v.running.child c h) (no_reports v p (traced_at v p).options c)
 
 -- one turn
 one_turn : (v : Linux_host) (follow failed : Bool) (p : ℕ) → (traced_at v p).held ≡ false → StaysInRun (kernel_by v follow failed) p →
@@ -149,7 +149,7 @@ one_turn v follow failed p free on =
     let k : KernelRun = kernel_by v follow failed in
     let it : (c : UserState) × (turn_in k p ≡ gives v.running.shared (Alive c Run)) = stays k p on in
     let same : turn_out linux no_script follow v.running p ≡ turn_in k p = ap (λ script. turn_out linux script follow v.running p) (sym empty_script_is_none) in
-    ap (λ held. cond (cond held (may_die linux v.running.shared p (traced_at v p).watch (at Gone v.running.tasks p)) true) (hosted_by v p (turn_out linux no_script follow v.running p)) v) free
+    ap (λ held. cond (cond held (may_die linux v.running.shared p (traced_at v p).options (at Gone v.running.tasks p)) true) (hosted_by v p (turn_out linux no_script follow v.running p)) v) free
     ∙ ap (hosted_by v p) (same ∙ it.1)
     ∙ hosted_stays v p it.0 free
     ∙ ap (λ (o : Out Shared UserState). with_run v (bore (ran v.running p o) o.event) (v.turns ++ p ∷ [])) (sym it.1)

@@ -49,12 +49,12 @@ able_is h whole p =
     ap (λ b. not b && able_in v h.follow p) whole
     ∙ ap (λ (o : Out Shared UserState). is_effective linux v.running.shared p (proc_in v p) && moves (task_mode (at Gone v.running.tasks p)) (task_mode o.task)) (out_is linux h.follow v p)
 
-abbrev readiness_by : Bool → (ℕ → Bool) → (ℕ → Bool) → Readiness
-readiness_by ready able finished = record { ready = ready; able = able; finished = finished }
+abbrev readiness_by : Bool → (ℕ → Bool) → ℕ → (ℕ → Bool) → Readiness
+readiness_by ready able last_pid finished = record { ready = ready; able = able; last_pid = last_pid; finished = finished }
 
 pub readiness_is : HostsAreReady Shared UserState → (h : HostState) → h.failed ≡ false → readiness_of h ≡ sees (attending_in h.hosting)
 readiness_is ready h whole =
-    ap₂ (λ r a. readiness_by r a (λ p. is_finished (task_mode (at Gone h.hosting.running.tasks p)))) (ready linux outcome_in h.hosting) (fun_ext (able_is h whole))
+    ap₂ (λ r a. readiness_by r a h.hosting.running.shared.limits.last_pid (λ p. is_finished (task_mode (at Gone h.hosting.running.tasks p)))) (ready linux outcome_in h.hosting) (fun_ext (able_is h whole))
 
 -- An event
 

@@ -20,7 +20,7 @@ use Rattle.pt_kernel.specs.Left.{traced_boot, plain_boot, BootsLeaveAsPlain}
 
 pub boots_leave : HeadlineAt linux → ((rules : List Rule) → IsScript (choice_of rules)) → KernelsLogWords → BootsLeaveAsPlain
 boots_leave headline scripts logged boot o texts script events =
-    let s : Shared = first_shared boot.files boot.input in
+    let s : Shared = first_shared boot.limits boot.files boot.input in
     let b : UserState = booted boot.argv boot.env in
     let k : Kernel Shared UserState = plain_boot boot o (choice_of script) events in
     let h : Headline outcome_in o (traced_boot boot o (choice_of script) events) k = headline outcome_in o texts (choice_of script) (scripts script) s b events in

@@ -6,7 +6,9 @@ use Rattle.lx_abi.specs.declared.log.Call.{Call}
 use Rattle.lx_abi.specs.Signals.{is_signal}
 use Rattle.rv_mem.specs.Memory.{Memory, Cell, mapped_prefix}
 use Rattle.lx_model.specs.Machine.{Answer, Refused, Returns, Jumps, Execs, Bears, Blocks, Ends, Took, Passes, Kills}
-use Rattle.pt_model.specs.Admissible.{clone_number, execve_number, is_exit_number, is_exit_word}
+use Rattle.lx_abi.specs.Calls.{has_effects}
+use Rattle.lx_abi.specs.Effects.{forks, execs, exits}
+use Rattle.pt_model.specs.Admissible.{is_exit_word}
 use Rattle.pt_model.specs.Headline.{IsTold}
 use Rattle.lx_proc.specs.declared.state.Shared.{Shared}
 use Rattle.lx_proc.specs.declared.state.UserState.{UserState}
@@ -23,17 +25,17 @@ abbrev Tells : Call → Answer Shared UserState → Type 0
 Tells c (Refused e) = Unit {0}
 Tells c (Returns s b x) = Unit {0}
 Tells c (Jumps s b) = Unit {0}
-Tells c (Execs s b) = c.number ≡ execve_number
-Tells c (Bears s b born) = c.number ≡ clone_number
+Tells c (Execs s b) = has_effects c.number execs ≡ true
+Tells c (Bears s b born) = has_effects c.number forks ≡ true
 Tells c Blocks = Unit {0}
-Tells c (Ends w) = (is_exit_number c.number ≡ true) × (is_exit_word w ≡ true)
+Tells c (Ends w) = (has_effects c.number exits ≡ true) × (is_exit_word w ≡ true)
 
 tells : (s : Shared) (child : ℕ) (c : Call) (a : Answer Shared UserState) → Fits child s c a → Tells c a
 tells s child c (Refused e) h = tt
 tells s child c (Returns t b x) h = tt
 tells s child c (Jumps t b) h = tt
 tells s child c (Execs t b) h = h.1
-tells s child c (Bears t b born) h = h.number
+tells s child c (Bears t b born) h = h.call_forks
 tells s child c Blocks h = tt
 tells s child c (Ends w) h = (h.0, exit_word (argument c 0) w h.1)
 

@@ -28,7 +28,7 @@ use Rattle.lx_proc.specs.declared.state.Life.TheVariants as life
 use Rattle.lx_turn.specs.Linux.{linux}
 use Rattle.lx_turn.specs.Modes.{life_mode, task_mode as kernel_mode}
 use Rattle.pt_model.specs.declared.ptrace.Report.{Report}
-use Rattle.pt_model.specs.declared.ptrace.Watch.{Watch}
+use Rattle.lx_abi.specs.declared.ptrace.TraceOptions.{TraceOptions}
 use Rattle.pt_model.specs.Ptrace.{Proc, is_effective}
 use Rattle.pt_model.specs.Requests.{stopped, unseized}
 use Rattle.pt_model.specs.Hosting.{proc_in, traced_at, no_script, hosting_to, took_report, hosting_wait, hosting_serve, hosting_pending, hosting_event}
@@ -72,7 +72,7 @@ swept_either : (b : Bool) (r s : Running Shared UserState) → IsSwept r → IsS
 swept_either true r s h g = h
 swept_either false r s h g = g
 
-swept_to : (v : Linux_host) (p message : ℕ) (t : Proc UserState) (held : Bool) (w : Option Watch) (task : Task UserState) (q : Ask) → IsSwept v.running → IsSwept (hosting_to linux v p message t held w task q).hosting.running
+swept_to : (v : Linux_host) (p message : ℕ) (t : Proc UserState) (held : Bool) (w : Option TraceOptions) (task : Task UserState) (q : Ask) → IsSwept v.running → IsSwept (hosting_to linux v p message t held w task q).hosting.running
 swept_to v p message t true (Some w) (Alive b stage) q h = swept_placed v.running.tasks p (stopped linux t b stage message q).proc.task h
 swept_to v p message t true (Some w) (Dying word) q h = h
 swept_to v p message t true (Some w) Gone q h = h
@@ -93,7 +93,7 @@ swept_wait v (r ∷ rest) qs h = swept_took v rest r.pid r.stop h
 swept_serve : (outcome : Shared → Outcome) (v : Linux_host) (q : Request) → IsSwept v.running → IsSwept (hosting_serve linux outcome v q).hosting.running
 swept_serve outcome v (Boot_with boot limit words) h = h
 swept_serve outcome v Wait h = swept_wait v v.queue v.tracees h
-swept_serve outcome v (To p q) h = swept_to v p (traced_at v p).message (proc_in v p) (traced_at v p).held (traced_at v p).watch (at Gone v.running.tasks p) q h
+swept_serve outcome v (To p q) h = swept_to v p (traced_at v p).message (proc_in v p) (traced_at v p).held (traced_at v p).options (at Gone v.running.tasks p) q h
 swept_serve outcome v Ask_outcome h = h
 
 swept_pending : (outcome : Shared → Outcome) (v : Linux_host) (x : Option Request) → IsSwept v.running → IsSwept (hosting_pending linux outcome v x).hosting.running

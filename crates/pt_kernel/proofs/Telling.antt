@@ -31,7 +31,7 @@ use Rattle.lx_turn.specs.Linux.{linux}
 use Rattle.lx_kernel.specs.Runs.{Run as KernelRun, turn_in, after_turn, mode_in}
 use Rattle.lx_turn.specs.Modes.{life_mode, task_mode as kernel_mode}
 use Rattle.lx_kernel.specs.Tracing.{task_in}
-use Rattle.pt_model.specs.declared.ptrace.Watch.{Watch}
+use Rattle.lx_abi.specs.declared.ptrace.TraceOptions.{TraceOptions}
 use Rattle.pt_model.specs.Ptrace.{tracee_stop, stop_at, is_dying}
 use Rattle.pt_model.specs.Hosting.{told_stop, ends_dying}
 use Rattle.pt_model.proofs.Hosts.{turns_tell}
@@ -86,16 +86,16 @@ module _ {S B : Type 0} (m : Machine S B) where
 
 -- a zombie and who is gone have no stop
 
-buried_stop : (w : Watch) (e : Entry) (l : Life) (i : Option Item) (d : Deed) → told_stop w (life_mode (Some (record e { life = l }))) i d ≡ None
+buried_stop : (w : TraceOptions) (e : Entry) (l : Life) (i : Option Item) (d : Deed) → told_stop w (life_mode (Some (record e { life = l }))) i d ≡ None
 buried_stop w e life.Alive i d = refl
 buried_stop w e (life.Dying x) i d = refl
 buried_stop w e (life.Zombie x) i d = refl
 
-gone_stop : (w : Watch) (x : Option Entry) (i : Option Item) (d : Deed) → told_stop w (life_mode x) i d ≡ None
+gone_stop : (w : TraceOptions) (x : Option Entry) (i : Option Item) (d : Deed) → told_stop w (life_mode x) i d ≡ None
 gone_stop w None i d = refl
 gone_stop w (Some e) i d = buried_stop w e e.life i d
 
-same_stop : (w : Watch) (x : Option Entry) (task : Task UserState) (i : Option Item) (d : Deed) → told_stop w (kernel_mode x task) i d ≡ told_stop w (task_mode task) i d
+same_stop : (w : TraceOptions) (x : Option Entry) (task : Task UserState) (i : Option Item) (d : Deed) → told_stop w (kernel_mode x task) i d ≡ told_stop w (task_mode task) i d
 same_stop w x (Alive b stage) i d = refl
 same_stop w x (Dying v) i d = refl
 same_stop w x Gone i d = gone_stop w x i d
@@ -120,7 +120,7 @@ pub left_at : (v : Running Shared UserState) (p : ℕ) (o : Out Shared UserState
 left_at v p o = ap (λ (f : ℕ → Task UserState). f p) (at-placed v.tasks p o.task) ∙ put_here (at Gone v.tasks) p o.task
 
 module _ (v : Running Shared UserState) (p : ℕ) (o : Out Shared UserState) where
-  stop_of : (w : Watch) (e : Event UserState) → told_stop w (task_mode o.task) (item_of o) (deed_of e) ≡ tracee_stop w o.task e → (deed_of e ≡ deed.Bore → task_mode o.task ≡ Some mode.Acted) →
+  stop_of : (w : TraceOptions) (e : Event UserState) → told_stop w (task_mode o.task) (item_of o) (deed_of e) ≡ tracee_stop w o.task e → (deed_of e ≡ deed.Bore → task_mode o.task ≡ Some mode.Acted) →
       turn_stop w (stands (bore (ran v p o) e) p) (item_of o) (deed_of e) ≡ tracee_stop w o.task e
   stop_of w Plain told bears = ap (λ task. told_stop w (kernel_mode (maps.get o.shared.entries p) task) (item_of o) deed.Plain) (left_at v p o) ∙ same_stop w (maps.get o.shared.entries p) o.task (item_of o) deed.Plain ∙ told
   stop_of w Execed told bears = ap (λ task. told_stop w (kernel_mode (maps.get o.shared.entries p) task) (item_of o) deed.Execed) (left_at v p o) ∙ same_stop w (maps.get o.shared.entries p) o.task (item_of o) deed.Execed ∙ told
@@ -135,7 +135,7 @@ module _ (k : KernelRun) (p : ℕ) where
   abbrev chosen_in : Choice
   chosen_in = choice_at linux (choice_of k.script) (traces k.follow p) (λ n. entries p n k.running.log) (task_in k p)
 
-  pub stop_after_turn : (w : Option Watch) → stop_after w (mode_in (after_turn k p) p) (item_of (turn_in k p)) (deed_of (turn_in k p).event) ≡ stop_at w (turn_in k p).task (turn_in k p).event
+  pub stop_after_turn : (w : Option TraceOptions) → stop_after w (mode_in (after_turn k p) p) (item_of (turn_in k p)) (deed_of (turn_in k p).event) ≡ stop_at w (turn_in k p).task (turn_in k p).event
   stop_after_turn None = refl
   stop_after_turn (Some w) = stop_of k.running p (turn_in k p) w (turn_in k p).event
       (turns_tell linux chosen_in k.running.shared k.running.child p (task_in k p) w).0

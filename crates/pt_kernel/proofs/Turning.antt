@@ -14,7 +14,7 @@ use Rattle.lx_proc.specs.declared.state.UserState.{UserState}
 use Rattle.lx_turn.specs.Linux.{linux}
 use Rattle.lx_kernel.specs.Runs.{Run as KernelRun, turn_in, after_turn, mode_in}
 use Rattle.lx_kernel.specs.Tracing.{task_in}
-use Rattle.pt_model.specs.declared.ptrace.Watch.{Watch}
+use Rattle.lx_abi.specs.declared.ptrace.TraceOptions.{TraceOptions}
 use Rattle.pt_model.specs.declared.ptrace.Traced.{Traced}
 use Rattle.pt_model.specs.Ptrace.{stop_at, is_dying, is_effective, reports_of, without, inherits}
 use Rattle.pt_model.specs.Hosting.{as_proc, untraced, no_script, hosted, hosting_turn, with_newborn}
@@ -26,17 +26,17 @@ use Rattle.pt_kernel.specs.Tracees.{stopped_at, with_child, after_turn as tracee
 use Rattle.pt_kernel.specs.Hosts.{Linux_host, hosting_by}
 use Rattle.pt_kernel.proofs.Telling.{stop_after_turn, dies_after_turn}
 
-abbrev turned_by : Option Watch → Out Shared UserState → Event UserState → ℕ → Turned
+abbrev turned_by : Option TraceOptions → Out Shared UserState → Event UserState → ℕ → Turned
 turned_by w o e child = record { stop = stop_at w o.task e; dying = is_dying o.task; deed = deed_of e; child = child }
 
 module _ (r : Running Shared UserState) (x : Tracees) (turns : List ℕ) (pending : Option Request) where
-  child_is : (s : Running Shared UserState) (y : Tracees) (ts : List ℕ) (child : ℕ) (w : Option Watch) → with_newborn (hosting_by s y ts pending) child w ≡ hosting_by s (with_child y child w) ts pending
+  child_is : (s : Running Shared UserState) (y : Tracees) (ts : List ℕ) (child : ℕ) (w : Option TraceOptions) → with_newborn (hosting_by s y ts pending) child w ≡ hosting_by s (with_child y child w) ts pending
   child_is s y ts child None = refl
   child_is s y ts child (Some w) = refl
 
-  hosted_at : (p : ℕ) (t : Traced) (o : Out Shared UserState) (w : Option Watch) (e : Event UserState) →
-      hosted (hosting_by r x turns pending) p (record t { watch = w }) (record o { event = e })
-      ≡ hosting_by (bore (ran r p (record o { event = e })) e) (tracees_after x p (record t { watch = w }) (turned_by w o e r.child)) (turns ++ p ∷ []) pending
+  hosted_at : (p : ℕ) (t : Traced) (o : Out Shared UserState) (w : Option TraceOptions) (e : Event UserState) →
+      hosted (hosting_by r x turns pending) p (record t { options = w }) (record o { event = e })
+      ≡ hosting_by (bore (ran r p (record o { event = e })) e) (tracees_after x p (record t { options = w }) (turned_by w o e r.child)) (turns ++ p ∷ []) pending
   hosted_at p t o None Plain = refl
   hosted_at p t o None Execed = refl
   hosted_at p t o None (Forked b) = refl
@@ -61,11 +61,11 @@ module _ (k : KernelRun) (x : Tracees) (turns : List ℕ) (pending : Option Requ
   told stop dying d = record { stop = stop; dying = dying; deed = d; child = k.running.child }
 
   pub turn_done : k.script ≡ [] → is_effective linux k.running.shared p (as_proc (task_in k p) t) ≡ true →
-      hosting_by (after_turn k p).running (tracees_after x p t (told (stop_after t.watch (mode_in (after_turn k p) p) (item_of (turn_in k p)) (deed_of (turn_in k p).event)) (dies_after (mode_in (after_turn k p) p) (deed_of (turn_in k p).event)) (deed_of (turn_in k p).event))) (turns ++ p ∷ []) pending
+      hosting_by (after_turn k p).running (tracees_after x p t (told (stop_after t.options (mode_in (after_turn k p) p) (item_of (turn_in k p)) (deed_of (turn_in k p).event)) (dies_after (mode_in (after_turn k p) p) (deed_of (turn_in k p).event)) (deed_of (turn_in k p).event))) (turns ++ p ∷ []) pending
       ≡ hosting_turn linux k.follow v p
   turn_done empty effective =
-      ap₂ (λ stop dying. hosting_by (after_turn k p).running (tracees_after x p t (told stop dying (deed_of (turn_in k p).event))) (turns ++ p ∷ []) pending) (stop_after_turn k p t.watch) (dies_after_turn k p)
-      ∙ sym (hosted_at k.running x turns pending p t (turn_in k p) t.watch (turn_in k p).event)
+      ap₂ (λ stop dying. hosting_by (after_turn k p).running (tracees_after x p t (told stop dying (deed_of (turn_in k p).event))) (turns ++ p ∷ []) pending) (stop_after_turn k p t.options) (dies_after_turn k p)
+      ∙ sym (hosted_at k.running x turns pending p t (turn_in k p) t.options (turn_in k p).event)
       ∙ ap (λ o. hosted v p t o) (turn_is k.running x turns pending k p refl empty)
       ∙ ap (λ u. hosted v p u (turn_out linux no_script k.follow k.running p)) known
       ∙ ap (λ b. cond b (hosted v p (at untraced x.traced p) (turn_out linux no_script k.follow k.running p)) v) (sym (ap (λ u. is_effective linux k.running.shared p (as_proc (task_in k p) u)) (sym known) ∙ effective))
@@ -77,17 +77,17 @@ module _ (k : KernelRun) (x : Tracees) (turns : List ℕ) (pending : Option Requ
   module _ (k' : KernelRun) (x' : Tracees) (turns' : List ℕ) (stop : Option Stop) (dying : Bool) (d : Deed) (after : Option Mode) (item : Option Item) (child : ℕ) where
     pub turn_made : k.script ≡ [] → is_effective linux k.running.shared p (as_proc (task_in k p) t) ≡ true → k' ≡ after_turn k p →
         after ≡ mode_in k' p → item ≡ item_of (turn_in k p) → d ≡ deed_of (turn_in k p).event →
-        stop ≡ stop_after t.watch after item d → dying ≡ dies_after after d → child ≡ k.running.child →
+        stop ≡ stop_after t.options after item d → dying ≡ dies_after after d → child ≡ k.running.child →
         x' ≡ tracees_after x p t (record { stop = stop; dying = dying; deed = d; child = child }) → turns' ≡ turns ++ p ∷ [] →
         hosting_by k'.running x' turns' pending ≡ hosting_turn linux k.follow v p
     turn_made empty effective e_k e_after e_item e_d e_stop e_dying e_child e_x e_turns =
         let a : after ≡ mode_in (after_turn k p) p = e_after ∙ ap (λ l. mode_in l p) e_k in
-        let s : stop ≡ stop_after t.watch (mode_in (after_turn k p) p) (item_of (turn_in k p)) (deed_of (turn_in k p).event) =
-        e_stop ∙ ap (λ y. stop_after t.watch y item d) a ∙ ap (λ i. stop_after t.watch (mode_in (after_turn k p) p) i d) e_item ∙ ap (λ y. stop_after t.watch (mode_in (after_turn k p) p) (item_of (turn_in k p)) y) e_d in
+        let s : stop ≡ stop_after t.options (mode_in (after_turn k p) p) (item_of (turn_in k p)) (deed_of (turn_in k p).event) =
+        e_stop ∙ ap (λ y. stop_after t.options y item d) a ∙ ap (λ i. stop_after t.options (mode_in (after_turn k p) p) i d) e_item ∙ ap (λ y. stop_after t.options (mode_in (after_turn k p) p) (item_of (turn_in k p)) y) e_d in
         let g : dying ≡ dies_after (mode_in (after_turn k p) p) (deed_of (turn_in k p).event) =
         e_dying ∙ ap (λ y. dies_after y d) a ∙ ap (dies_after (mode_in (after_turn k p) p)) e_d in
-        let b : turned stop dying d child ≡ told (stop_after t.watch (mode_in (after_turn k p) p) (item_of (turn_in k p)) (deed_of (turn_in k p).event)) (dies_after (mode_in (after_turn k p) p) (deed_of (turn_in k p).event)) (deed_of (turn_in k p).event) =
-        ap (λ c. turned stop dying d c) e_child ∙ ap₂ (λ y z. told y z d) s g ∙ ap (λ y. told (stop_after t.watch (mode_in (after_turn k p) p) (item_of (turn_in k p)) (deed_of (turn_in k p).event)) (dies_after (mode_in (after_turn k p) p) (deed_of (turn_in k p).event)) y) e_d in
+        let b : turned stop dying d child ≡ told (stop_after t.options (mode_in (after_turn k p) p) (item_of (turn_in k p)) (deed_of (turn_in k p).event)) (dies_after (mode_in (after_turn k p) p) (deed_of (turn_in k p).event)) (deed_of (turn_in k p).event) =
+        ap (λ c. turned stop dying d c) e_child ∙ ap₂ (λ y z. told y z d) s g ∙ ap (λ y. told (stop_after t.options (mode_in (after_turn k p) p) (item_of (turn_in k p)) (deed_of (turn_in k p).event)) (dies_after (mode_in (after_turn k p) p) (deed_of (turn_in k p).event)) y) e_d in
         ap (λ (l : KernelRun). hosting_by l.running x' turns' pending) e_k
         ∙ ap₂ (λ y ts. hosting_by (after_turn k p).running y ts pending) (e_x ∙ ap (tracees_after x p t) b) e_turns
         ∙ turn_done empty effective

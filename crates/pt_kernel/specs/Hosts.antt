@@ -54,7 +54,7 @@ with_user k p task = record k { running = with_task k.running p task }
 
 abbrev pub with_tracee : Tracees → ℕ → ℕ → Answered UserState → Tracees
 with_tracee x p message a = record {
-  traced = maps.insert x.traced p (record { held = a.proc.held; watch = a.proc.watch; message = message });
+  traced = maps.insert x.traced p (record { held = a.proc.held; options = a.proc.options; message = message });
   queue = cond a.seized (x.queue ++ record { pid = p; stop = Event_stop At_start } ∷ []) x.queue;
   pids = cond a.seized (x.pids ++ p ∷ []) x.pids;
 }
@@ -115,6 +115,7 @@ abbrev pub readiness_of : HostState → Readiness
 readiness_of h = record {
   ready = ready_in h.hosting.pending h.hosting.queue h.hosting.tracees;
   able = λ p. not h.failed && able_in h.hosting h.follow p;
+  last_pid = h.hosting.running.shared.limits.last_pid;
   finished = λ p. is_finished (task_mode (at Gone h.hosting.running.tasks p));
 }
 

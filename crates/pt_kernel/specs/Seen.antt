@@ -27,6 +27,7 @@ abbrev pub sees : Attending Shared UserState → Readiness
 sees a = record {
   ready = is_ready linux outcome_in a;
   able = is_able linux a.host;
+  last_pid = a.host.shared.limits.last_pid;
   finished = λ p. is_finished (task_mode (a.host.procs p).task);
 }
 

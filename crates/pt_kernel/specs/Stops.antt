@@ -10,16 +10,16 @@ use Rattle.lx_model.specs.declared.stage.Deed.{Deed}
 use Rattle.lx_model.specs.declared.stage.Deed.TheVariants as deed
 use Rattle.lx_model.specs.declared.stage.Task.{Task}
 use Rattle.lx_model.specs.declared.stage.Task.TheVariants.{Alive, Dying, Gone}
-use Rattle.pt_model.specs.declared.ptrace.Watch.{Watch}
+use Rattle.lx_abi.specs.declared.ptrace.TraceOptions.{TraceOptions}
 use Rattle.pt_model.specs.Hosting.{deed_stop, told_stop, ends_dying}
 
 -- the stop of a tracee whose turn told this: one that bore a child stands at its call
-abbrev pub turn_stop : Watch → Option Mode → Option Item → Deed → Option Stop
+abbrev pub turn_stop : TraceOptions → Option Mode → Option Item → Deed → Option Stop
 turn_stop w after item deed.Plain = told_stop w after item deed.Plain
 turn_stop w after item deed.Execed = told_stop w after item deed.Execed
 turn_stop w after item deed.Bore = deed_stop w deed.Bore
 
-abbrev pub stop_after : Option Watch → Option Mode → Option Item → Deed → Option Stop
+abbrev pub stop_after : Option TraceOptions → Option Mode → Option Item → Deed → Option Stop
 stop_after None after item d = None
 stop_after (Some w) after item d = turn_stop w after item d
 

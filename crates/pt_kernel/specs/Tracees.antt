@@ -6,7 +6,7 @@ use Rattle.lx_abi.specs.declared.ptrace.Reply.{Reply}
 use Rattle.lx_abi.specs.declared.status.EventStop.TheVariants.{Stop as At_start}
 use Rattle.lx_abi.specs.declared.status.Stop.{Stop}
 use Rattle.lx_abi.specs.declared.status.Stop.TheVariants.{Syscall as Syscall_stop, Signal as Signal_stop, Event as Event_stop, Ended}
-use Rattle.pt_model.specs.declared.ptrace.Watch.{Watch}
+use Rattle.lx_abi.specs.declared.ptrace.TraceOptions.{TraceOptions}
 use Rattle.pt_model.specs.declared.ptrace.Report.{Report}
 use Rattle.pt_model.specs.declared.ptrace.Traced.{Traced}
 use Rattle.lx_model.specs.declared.stage.Deed.{Deed}
@@ -20,14 +20,14 @@ use Rattle.pt_kernel.specs.declared.tracees.Turned.{Turned}
 -- A turn
 
 -- the options of a child that was born, where it is a tracee
-abbrev pub heir : Option Watch → Deed → Option Watch
+abbrev pub heir : Option TraceOptions → Deed → Option TraceOptions
 heir None d = None
 heir (Some w) deed.Plain = None
 heir (Some w) deed.Execed = None
 heir (Some w) deed.Bore = cond w.forks (Some w) None
 
 -- what EventMsg answers from then on
-abbrev pub message_after : ℕ → ℕ → ℕ → Watch → Deed → ℕ
+abbrev pub message_after : ℕ → ℕ → ℕ → TraceOptions → Deed → ℕ
 message_after message p child w deed.Plain = message
 message_after message p child w deed.Execed = cond w.execs p message
 message_after message p child w deed.Bore = cond w.forks child message
@@ -36,11 +36,11 @@ abbrev pub Traceds : Type 0
 Traceds = maps.FinMap nat_cmp Traced
 
 -- a tracee that has come to a stop is held; of who is none nothing is kept
-abbrev pub stopped_at : Traceds → ℕ → ℕ → Option Watch → Turned → Traceds
+abbrev pub stopped_at : Traceds → ℕ → ℕ → Option TraceOptions → Turned → Traceds
 stopped_at traced p message None t = traced
 stopped_at traced p message (Some w) t = maps.insert traced p (record {
   held = is_there t.stop;
-  watch = Some w;
+  options = Some w;
   message = message_after message p t.child w t.deed;
 })
 
@@ -53,17 +53,17 @@ attached x p traced = record {
 }
 
 -- a child that is a tracee is held
-abbrev pub with_child : Tracees → ℕ → Option Watch → Tracees
+abbrev pub with_child : Tracees → ℕ → Option TraceOptions → Tracees
 with_child x child None = x
-with_child x child (Some w) = attached x child (record { held = true; watch = Some w; message = 0 })
+with_child x child (Some w) = attached x child (record { held = true; options = Some w; message = 0 })
 
 -- the stop is reported last; a process that is dying has no earlier report
 abbrev pub after_turn : Tracees → ℕ → Traced → Turned → Tracees
 after_turn x p traced t = with_child (record {
-  traced = stopped_at x.traced p traced.message traced.watch t;
+  traced = stopped_at x.traced p traced.message traced.options t;
   queue = cond t.dying (without p x.queue) x.queue ++ reports_of p t.stop;
   pids = x.pids;
-}) t.child (heir traced.watch t.deed)
+}) t.child (heir traced.options t.deed)
 
 -- Wait
 
@@ -91,5 +91,5 @@ waited x (r ∷ rest) qs = record { tracees = took x rest r.pid r.stop; reply = 
 
 -- Seize of process 1
 
-abbrev pub seized : Tracees → ℕ → Traced → Watch → Tracees
-seized x p traced w = attached x p (record { held = traced.held; watch = Some w; message = traced.message })
+abbrev pub seized : Tracees → ℕ → Traced → TraceOptions → Tracees
+seized x p traced w = attached x p (record { held = traced.held; options = Some w; message = traced.message })

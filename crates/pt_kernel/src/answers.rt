@@ -2,6 +2,8 @@
 
 ghost use Rattle.std.specs.Prelude.{◌≡◌, ◌&&◌, ◌||◌, ◌==◌, true, false, cond, Some, None, IfOk, OnOk, ℕ, List, Option, is_some};
 ghost use Rattle.std.specs.FinMap as maps;
+ghost use Rattle.lx_abi.specs.Errnos.{einval};
+ghost use Rattle.lx_abi.specs.Options.{trace_options};
 ghost use Rattle.lx_abi.specs.declared.ptrace.Ask.TheVariants as Asks;
 ghost use Rattle.lx_model.specs.Finite.{at};
 ghost use Rattle.lx_model.specs.declared.stage.Stage.{Stage};
@@ -11,7 +13,6 @@ ghost use Rattle.lx_kernel.specs.Runs.{Run as KernelRun};
 ghost use Rattle.lx_turn.specs.Linux.{linux};
 ghost use Rattle.lx_proc.specs.declared.state.UserState.{UserState};
 ghost use Rattle.lx_kernel.specs.Tracing.{task_in};
-ghost use Rattle.pt_model.specs.Ptrace.{watch_of};
 ghost use Rattle.pt_model.specs.Requests.{seize as seize_by, info_of, info_at, code_of, sender_of, status_of, address_of, may_peek, peeked, unseized};
 ghost use Rattle.pt_model.specs.Hosting.{as_proc, untraced, hosting_to};
 ghost use Rattle.pt_kernel.specs.Stops.{seize_options};
@@ -20,39 +21,20 @@ ghost use Rattle.pt_kernel.specs.Hosts.{hosting_by, made, IsSwept, IsAnswer, Ans
 use crate::stops::is_alive;
 use crate::tracees::Tracees;
 use containers::Bytes;
-use lx_abi::{Ask, Cause, Info, Reply, Signal};
+use lx_abi::limits::MOST_PEEKED;
+use lx_abi::{Ask, Cause, Errno, Info, Reply, Signal, TraceOptions};
 use lx_kernel::Kernel;
-use pt_model::{Traced, Watch};
+use pt_model::Traced;
 use std::alloc::AllocError;
-
-/// No such process (errno(3)); it comes before any other refusal.
-const ESRCH: u32 = 3;
-
-const EIO: u32 = 5;
-
-const EINVAL: u32 = 22;
 
 /// si_code of a signal that the kernel sends (sigaction(2)).
 const SI_KERNEL: u32 = 0x80;
 
-fn refusal(number: u32) -> Reply
-    ensures { result ≡ Reply.Errno number }
+fn refusal(errno: Errno) -> Reply
+    ensures { result ≡ Reply.Errno errno.number }
 {
-    Reply::Errno { number }
-}
-
-/// The options of these bits; none where there are other bits.
-fn watch_of(options: u32) -> Option<Watch>
-    ensures { result ≡ watch_of options }
-{
-    if options & 0x13 == options {
-        Some(Watch {
-            good: options & 1 == 1,
-            forks: options & 2 == 2,
-            execs: options & 0x10 == 0x10,
-        })
-    } else {
-        None
+    Reply::Errno {
+        number: u32::from(errno.number),
     }
 }
 
@@ -83,7 +65,7 @@ fn get_regs(kernel: &Kernel, pid: u32) -> Result<Reply, AllocError>
 {
     match kernel.regs(pid)? {
         Some(registers) => Ok(Reply::Registers { registers }),
-        None => Ok(refusal(ESRCH)),
+        None => Ok(refusal(Errno::ESRCH)),
     }
 }
 
@@ -91,7 +73,7 @@ fn peeked(bytes: Bytes) -> Reply
     ensures { result ≡ peeked bytes }
 {
     if bytes.is_empty() {
-        refusal(EIO)
+        refusal(Errno::EIO)
     } else {
         Reply::Bytes { bytes }
     }
@@ -100,14 +82,14 @@ fn peeked(bytes: Bytes) -> Reply
 fn peek(kernel: &Kernel, pid: u32, address: u64, length: u32) -> Result<Reply, AllocError>
     ensures { IfOk result
         (λ r. (b : UserState) (stage : Stage) → task_in kernel.now pid ≡ Tasks.Alive b stage
-        → r ≡ cond (may_peek length) (peeked (linux.peek b address length)) (Reply.Errno 22)) }
+        → r ≡ cond (may_peek length) (peeked (linux.peek b address length)) (Reply.Errno einval)) }
 {
-    if length < 1 || length > 4096 {
-        return Ok(refusal(EINVAL));
+    if length < 1 || length > MOST_PEEKED {
+        return Ok(refusal(Errno::EINVAL));
     }
     match kernel.peek(pid, address, length as usize)? {
         Some(bytes) => Ok(peeked(bytes)),
-        None => Ok(refusal(ESRCH)),
+        None => Ok(refusal(Errno::ESRCH)),
     }
 }
 
@@ -118,7 +100,7 @@ fn sig_info(kernel: &Kernel, pid: u32) -> Reply
         Some((signal, cause)) => Reply::Info {
             info: info_of(signal, cause),
         },
-        None => refusal(EINVAL),
+        None => refusal(Errno::EINVAL),
     }
 }
 
@@ -134,11 +116,11 @@ fn syscall(
         (λ r. Answers kernel.old tracees.old pid traced (Asks.Syscall signal) r kernel.new tracees.new) }
 {
     if !kernel.resume(pid, signal) {
-        return Ok(refusal(EIO));
+        return Ok(refusal(Errno::EIO));
     }
     let released = Traced {
         held: false,
-        watch: traced.watch,
+        options: traced.options,
         message: traced.message,
     };
     tracees.set(pid, released)?;
@@ -150,21 +132,21 @@ fn set_options(
     tracees: &mut Tracees,
     pid: u32,
     traced: Traced,
-    options: u32,
+    bits: u32,
 ) -> Result<Reply, AllocError>
     requires { maps.get tracees.old.traced pid ≡ Some traced }
     ensures { IfOk result
-        (λ r. Answers kernel.now tracees.old pid traced (Asks.SetOptions options) r kernel.now tracees.new) }
+        (λ r. Answers kernel.now tracees.old pid traced (Asks.SetOptions bits) r kernel.now tracees.new) }
 {
-    match watch_of(options) {
-        None => Ok(refusal(EINVAL)),
-        Some(watch) => {
-            let watched = Traced {
+    match TraceOptions::from_bits(bits) {
+        None => Ok(refusal(Errno::EINVAL)),
+        Some(options) => {
+            let changed = Traced {
                 held: traced.held,
-                watch: Some(watch),
+                options: Some(options),
                 message: traced.message,
             };
-            tracees.set(pid, watched)?;
+            tracees.set(pid, changed)?;
             Ok(Reply::Done)
         }
     }
@@ -182,7 +164,7 @@ fn answer_stopped(
     ensures { IfOk result (λ r. Answers kernel.old tracees.old pid traced ask.now r kernel.new tracees.new) }
 {
     match ask {
-        Ask::Seize { .. } => Ok(refusal(ESRCH)),
+        Ask::Seize { .. } => Ok(refusal(Errno::ESRCH)),
         Ask::SetOptions { options } => {
             let reply = set_options(kernel, tracees, pid, traced, *options)?;
             Ok(reply)
@@ -220,17 +202,17 @@ fn seize_options(ask: &Ask) -> Option<u32>
 }
 
 /// Process 1 becomes a tracee.
-fn seize(tracees: &mut Tracees, pid: u32, traced: Traced, options: u32) -> Result<Reply, AllocError>
+fn seize(tracees: &mut Tracees, pid: u32, traced: Traced, bits: u32) -> Result<Reply, AllocError>
     requires { maps.get tracees.old.traced pid ≡ Some traced }
     ensures { IfOk result
         (λ r. (k : KernelRun) → IsSwept k.running
         → IsAnswer k tracees.old pid traced.message
-        (seize_by (as_proc (task_in k pid) traced) (watch_of options)) r k tracees.new) }
+        (seize_by (as_proc (task_in k pid) traced) (trace_options bits)) r k tracees.new) }
 {
-    match watch_of(options) {
-        None => Ok(refusal(EINVAL)),
-        Some(watch) => {
-            tracees.seize(pid, traced, watch)?;
+    match TraceOptions::from_bits(bits) {
+        None => Ok(refusal(Errno::EINVAL)),
+        Some(options) => {
+            tracees.seize(pid, traced, options)?;
             Ok(Reply::Done)
         }
     }
@@ -250,7 +232,7 @@ fn answer_unseized(
         (unseized (as_proc (task_in k pid) traced) ask.now) r k tracees.new) }
 {
     match seize_options(ask) {
-        None => Ok(refusal(ESRCH)),
+        None => Ok(refusal(Errno::ESRCH)),
         Some(options) => {
             let reply = seize(tracees, pid, traced, options)?;
             Ok(reply)
@@ -258,7 +240,7 @@ fn answer_unseized(
     }
 }
 
-/// A request to a process is answered.
+/// A request to a process is answered. ESRCH comes before any other refusal.
 pub fn answer(
     kernel: &mut Kernel,
     tracees: &mut Tracees,
@@ -272,22 +254,22 @@ pub fn answer(
         ≡ hosting_to linux (hosting_by kernel.old.running tracees.old turns pending) pid
         (at untraced tracees.old.traced pid).message
         (as_proc (task_in kernel.old pid) (at untraced tracees.old.traced pid))
-        (at untraced tracees.old.traced pid).held (at untraced tracees.old.traced pid).watch
+        (at untraced tracees.old.traced pid).held (at untraced tracees.old.traced pid).options
         (task_in kernel.old pid) ask.now) }
     ensures script { OnOk result ((kernel.new.script ≡ kernel.old.script) × (kernel.new.follow ≡ kernel.old.follow)) }
 {
     let traced = tracees.traced(pid);
     if !traced.held {
-        return Ok(refusal(ESRCH));
+        return Ok(refusal(Errno::ESRCH));
     }
-    match traced.watch {
+    match traced.options {
         None => {
             let reply = answer_unseized(tracees, pid, traced, ask)?;
             Ok(reply)
         }
         Some(_) => {
             if !is_alive(kernel, pid) {
-                return Ok(refusal(ESRCH));
+                return Ok(refusal(Errno::ESRCH));
             }
             let reply = answer_stopped(kernel, tracees, pid, traced, ask)?;
             Ok(reply)

@@ -52,7 +52,7 @@ impl Host {
     pub fn boot(alloc: Global, boot: Boot) -> Result<Self, BootFault>
         ensures first { IfOk result
             (λ h. h ≡ record {
-              hosting = first_hosting (first_shared boot.files boot.input) (booted boot.argv boot.env);
+              hosting = first_hosting (first_shared boot.limits boot.files boot.input) (booted boot.argv boot.env);
               follow = boot.follow;
               failed = false;
             }) }
@@ -186,6 +186,10 @@ impl Schedulable for Host {
             return None;
         }
         self.kernel.next_after(pid)
+    }
+
+    fn last_pid(&self) -> u16 {
+        self.kernel.last_pid()
     }
 
     fn has_finished(&self, pid: u32) -> bool {

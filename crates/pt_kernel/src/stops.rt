@@ -7,19 +7,19 @@ ghost use Rattle.pt_model.specs.Ptrace.{is_effective};
 ghost use Rattle.pt_model.specs.Hosting.{as_proc, deed_stop, item_stop, mode_stop};
 ghost use Rattle.pt_kernel.specs.Stops.{stop_after, turn_stop, dies_after, is_alive, lives_in};
 
-use lx_abi::{EventStop, Item, Mode, Stop};
+use lx_abi::{EventStop, Item, Mode, Stop, TraceOptions};
 use lx_kernel::Kernel;
 use lx_model::Deed;
-use pt_model::{Traced, Watch};
+use pt_model::Traced;
 
-fn deed_stop(watch: Watch, deed: Deed) -> Option<Stop>
-    ensures { result ≡ deed_stop watch deed }
+fn deed_stop(options: TraceOptions, deed: Deed) -> Option<Stop>
+    ensures { result ≡ deed_stop options deed }
 {
     match deed {
-        Deed::Execed if watch.execs => Some(Stop::Event {
+        Deed::Execed if options.execs => Some(Stop::Event {
             event: EventStop::Exec,
         }),
-        Deed::Bore if watch.forks => Some(Stop::Event {
+        Deed::Bore if options.forks => Some(Stop::Event {
             event: EventStop::Fork,
         }),
         Deed::Plain | Deed::Execed | Deed::Bore => None,
@@ -38,37 +38,42 @@ fn item_stop(item: Option<Item>) -> Option<Stop>
 }
 
 /// The stop of a tracee that has come to a mode.
-fn mode_stop(watch: Watch, mode: Mode, item: Option<Item>, deed: Deed) -> Option<Stop>
-    ensures { result ≡ mode_stop watch mode item deed }
+fn mode_stop(options: TraceOptions, mode: Mode, item: Option<Item>, deed: Deed) -> Option<Stop>
+    ensures { result ≡ mode_stop options mode item deed }
 {
     match mode {
-        Mode::Entered | Mode::Finished => Some(Stop::Syscall { good: watch.good }),
-        Mode::Acted => deed_stop(watch, deed),
+        Mode::Entered | Mode::Finished => Some(Stop::Syscall { good: options.good }),
+        Mode::Acted => deed_stop(options, deed),
         Mode::Taken | Mode::Dying => item_stop(item),
         Mode::Born | Mode::Run | Mode::Faulting | Mode::Doing | Mode::Zombie => None,
     }
 }
 
 /// The stop of a tracee whose turn told this: one that bore a child stands at its call.
-fn turn_stop(watch: Watch, after: Option<Mode>, item: Option<Item>, deed: Deed) -> Option<Stop>
-    ensures { result ≡ turn_stop watch after item deed }
+fn turn_stop(
+    options: TraceOptions,
+    after: Option<Mode>,
+    item: Option<Item>,
+    deed: Deed,
+) -> Option<Stop>
+    ensures { result ≡ turn_stop options after item deed }
 {
     match deed {
-        Deed::Bore => deed_stop(watch, deed),
-        Deed::Plain | Deed::Execed => mode_stop(watch, after?, item, deed),
+        Deed::Bore => deed_stop(options, deed),
+        Deed::Plain | Deed::Execed => mode_stop(options, after?, item, deed),
     }
 }
 
 /// The stop that a turn has come to; a process that is no tracee has none.
 pub fn stop_after(
-    watch: Option<Watch>,
+    options: Option<TraceOptions>,
     after: Option<Mode>,
     item: Option<Item>,
     deed: Deed,
 ) -> Option<Stop>
-    ensures { result ≡ stop_after watch after item deed }
+    ensures { result ≡ stop_after options after item deed }
 {
-    turn_stop(watch?, after, item, deed)
+    turn_stop(options?, after, item, deed)
 }
 
 /// The turn has come to the process's end.
@@ -104,7 +109,7 @@ pub fn is_effective(kernel: &Kernel, pid: u32, traced: Traced) -> bool
     if !traced.held {
         return true;
     }
-    match traced.watch {
+    match traced.options {
         None => false,
         Some(_) => is_alive(kernel, pid) && kernel.is_killed(pid),
     }

@@ -49,7 +49,7 @@ impl TracedKernel {
         let child = self.kernel.next_pid();
         let moved = self.kernel.turn(pid)?;
         let turned = Turned {
-            stop: stop_after(traced.watch, moved.after, moved.item, moved.deed),
+            stop: stop_after(traced.options, moved.after, moved.item, moved.deed),
             dying: dies_after(moved.after, moved.deed),
             deed: moved.deed,
             child,
@@ -176,6 +176,13 @@ impl TracedKernel {
             Some(Request::Wait) => self.tracees.can_wait(),
             Some(Request::To { .. } | Request::Outcome) => true,
         }
+    }
+
+    /// Pids are 1 to this one.
+    pub fn last_pid(&self) -> u16
+        ensures { result ≡ self.now.kernel.running.shared.limits.last_pid }
+    {
+        self.kernel.limits().last_pid
     }
 
     /// The process stands where its call is finished.

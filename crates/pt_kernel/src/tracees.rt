@@ -10,13 +10,10 @@ ghost use Rattle.pt_kernel.specs.Tracees.{heir, message_after, stopped_at, with_
 
 use crate::queue::ReportQueue;
 use containers::Map;
-use lx_abi::{EventStop, Reply, Stop};
+use lx_abi::{Errno, EventStop, Reply, Stop, TraceOptions};
 use lx_model::Deed;
-use pt_model::{Report, Traced, Watch};
+use pt_model::{Report, Traced};
 use std::alloc::{AllocError, Global};
-
-/// No child (errno(3), ECHILD).
-const ECHILD: u32 = 10;
 
 /// Process 1 and the tracees, and what Wait has to tell of them.
 #[derive(Drop)]
@@ -40,23 +37,23 @@ pub struct Turned {
 }
 
 /// The options of a child that was born, where it is a tracee.
-fn heir(watch: Option<Watch>, deed: Deed) -> Option<Watch>
-    ensures { result ≡ heir watch deed }
+fn heir(options: Option<TraceOptions>, deed: Deed) -> Option<TraceOptions>
+    ensures { result ≡ heir options deed }
 {
-    let watch = watch?;
+    let options = options?;
     match deed {
-        Deed::Bore if watch.forks => Some(watch),
+        Deed::Bore if options.forks => Some(options),
         Deed::Plain | Deed::Execed | Deed::Bore => None,
     }
 }
 
-fn message_after(message: u32, pid: u32, child: u32, watch: Watch, deed: Deed) -> u32
-    ensures { result ≡ message_after message pid child watch deed }
+fn message_after(message: u32, pid: u32, child: u32, options: TraceOptions, deed: Deed) -> u32
+    ensures { result ≡ message_after message pid child options deed }
 {
     match deed {
         Deed::Plain => message,
-        Deed::Execed => { if watch.execs { pid } else { message } }
-        Deed::Bore => { if watch.forks { child } else { message } }
+        Deed::Execed => { if options.execs { pid } else { message } }
+        Deed::Bore => { if options.forks { child } else { message } }
     }
 }
 
@@ -65,7 +62,7 @@ impl Tracees {
     pub fn new(alloc: Global) -> Result<Self, AllocError>
         ensures { IfOk result
             (λ x. x ≡ record {
-              traced = maps.insert maps.empty 1 (record { held = true; watch = None; message = 0 });
+              traced = maps.insert maps.empty 1 (record { held = true; options = None; message = 0 });
               queue = [];
               pids = [];
             }) }
@@ -75,7 +72,7 @@ impl Tracees {
             1,
             Traced {
                 held: true,
-                watch: None,
+                options: None,
                 message: 0,
             },
         )?;
@@ -94,7 +91,7 @@ impl Tracees {
             Some(traced) => *traced,
             None => Traced {
                 held: false,
-                watch: None,
+                options: None,
                 message: 0,
             },
         }
@@ -111,16 +108,16 @@ impl Tracees {
     fn stop(&mut self, pid: u32, traced: Traced, turned: Turned) -> Result<(), AllocError>
         ensures { OnOk result
             (self.new ≡ record self.old {
-              traced = stopped_at self.old.traced pid traced.message traced.watch turned;
+              traced = stopped_at self.old.traced pid traced.message traced.options turned;
             }) }
     {
-        match traced.watch {
+        match traced.options {
             None => Ok(()),
-            Some(watch) => {
+            Some(options) => {
                 let stopped = Traced {
                     held: turned.stop.is_some(),
-                    watch: Some(watch),
-                    message: message_after(traced.message, pid, turned.child, watch, turned.deed),
+                    options: Some(options),
+                    message: message_after(traced.message, pid, turned.child, options, turned.deed),
                 };
                 self.traced.insert(pid, stopped)?;
                 Ok(())
@@ -160,15 +157,15 @@ impl Tracees {
         Ok(())
     }
 
-    fn bear(&mut self, child: u32, watch: Option<Watch>) -> Result<(), AllocError>
-        ensures { OnOk result (self.new ≡ with_child self.old child watch) }
+    fn bear(&mut self, child: u32, options: Option<TraceOptions>) -> Result<(), AllocError>
+        ensures { OnOk result (self.new ≡ with_child self.old child options) }
     {
-        match watch {
+        match options {
             None => Ok(()),
-            Some(watch) => {
+            Some(options) => {
                 let traced = Traced {
                     held: true,
-                    watch: Some(watch),
+                    options: Some(options),
                     message: 0,
                 };
                 self.attach(child, traced)?;
@@ -183,16 +180,21 @@ impl Tracees {
     {
         self.stop(pid, traced, turned)?;
         self.report(pid, turned.stop, turned.dying)?;
-        self.bear(turned.child, heir(traced.watch, turned.deed))?;
+        self.bear(turned.child, heir(traced.options, turned.deed))?;
         Ok(())
     }
 
-    pub fn seize(&mut self, pid: u32, traced: Traced, watch: Watch) -> Result<(), AllocError>
-        ensures { OnOk result (self.new ≡ seized self.old pid traced watch) }
+    pub fn seize(
+        &mut self,
+        pid: u32,
+        traced: Traced,
+        options: TraceOptions,
+    ) -> Result<(), AllocError>
+        ensures { OnOk result (self.new ≡ seized self.old pid traced options) }
     {
         let traced = Traced {
             held: traced.held,
-            watch: Some(watch),
+            options: Some(options),
             message: traced.message,
         };
         self.attach(pid, traced)?;
@@ -213,7 +215,7 @@ impl Tracees {
             Some(traced) => {
                 let released = Traced {
                     held: false,
-                    watch: traced.watch,
+                    options: traced.options,
                     message: traced.message,
                 };
                 self.traced.insert(pid, released)?;
@@ -243,7 +245,9 @@ impl Tracees {
         match self.queue.pop() {
             None => {
                 if self.pids.is_empty() {
-                    Ok(Some(Reply::Errno { number: ECHILD }))
+                    Ok(Some(Reply::Errno {
+                        number: u32::from(Errno::ECHILD.number),
+                    }))
                 } else {
                     Ok(None)
                 }

@@ -19,7 +19,8 @@ use Rattle.lx_model.specs.declared.stage.Stage.TheVariants.{Born, Run, Faulting,
 use Rattle.lx_model.specs.declared.stage.Task.{Task}
 use Rattle.lx_model.specs.declared.stage.Task.TheVariants.{Alive, Dying, Gone}
 use Rattle.lx_model.specs.Kernel.{Script, put, Kernel, after_turn, with_child, turn_of, kernel_turn, kernel_run, first_kernel}
-use Rattle.pt_model.specs.Ptrace.{Watch, Proc, Report, Host, without, tracee_stop, stop_at, is_dying, is_there, reports_of, may_die, is_effective, proc_after, moved, newborn, inherits, bears, host_turn_of}
+use Rattle.lx_abi.specs.declared.ptrace.TraceOptions.{TraceOptions}
+use Rattle.pt_model.specs.Ptrace.{Proc, Report, Host, without, tracee_stop, stop_at, is_dying, is_there, reports_of, may_die, is_effective, proc_after, moved, newborn, inherits, bears, host_turn_of}
 use Rattle.pt_model.specs.Requests.{take_report}
 use Rattle.pt_model.specs.View.{has_exit}
 use Rattle.pt_model.specs.Laws.{is_alive, reports_for, one_if, KernelTurnsApart, HostTurnsApart, TheDeadHaveEnded, TheHeldAreStill, TheHeldCanBeKilled, FirstReportIsTold, ForkIsToldFirst, OneReportAStop, NoOtherReport}
@@ -36,24 +37,24 @@ child_apart k (Forked b) q d = put_apart k.tasks k.child (Alive b Born) q d
 pub kernel_turns_apart : {S B : Type 0} → KernelTurnsApart S B
 kernel_turns_apart m script follow k p q d c = child_apart (after_turn k p (turn_of m script follow k p)) (turn_of m script follow k p).event q c ∙ put_apart k.tasks p (turn_of m script follow k p).task q d
 
-newborn_apart : {S B : Type 0} (h : Host S B) (b : B) (w : Option Watch) (q : ℕ) → h.child ≢ q → (newborn h b w).procs q ≡ h.procs q
+newborn_apart : {S B : Type 0} (h : Host S B) (b : B) (w : Option TraceOptions) (q : ℕ) → h.child ≢ q → (newborn h b w).procs q ≡ h.procs q
 newborn_apart h b None q d = put_apart h.procs h.child _ q d
 newborn_apart h b (Some w) q d = put_apart h.procs h.child _ q d
 
-bears_apart : {S B : Type 0} (h : Host S B) (w : Option Watch) (e : Event B) (q : ℕ) → h.child ≢ q → (bears h w e).procs q ≡ h.procs q
+bears_apart : {S B : Type 0} (h : Host S B) (w : Option TraceOptions) (e : Event B) (q : ℕ) → h.child ≢ q → (bears h w e).procs q ≡ h.procs q
 bears_apart h w Plain q d = refl
 bears_apart h w Execed q d = refl
 bears_apart h w (Forked b) q d = newborn_apart h b (inherits w) q d
 
 -- what a turn of p leaves, where it reaches the kernel
 abbrev pub turned_host : {S B : Type 0} → Machine S B → Host S B → ℕ → Host S B
-turned_host m h p = bears (moved h p (h.procs p).watch (host_turn_of m h p)) (h.procs p).watch (host_turn_of m h p).event
+turned_host m h p = bears (moved h p (h.procs p).options (host_turn_of m h p)) (h.procs p).options (host_turn_of m h p).event
 
 pub host_turns_apart : {S B : Type 0} → HostTurnsApart S B
 host_turns_apart {S} {B} m h p q d c = go (is_effective m h.shared p (h.procs p))
   where
     go : (b : Bool) → (cond b (turned_host m h p) h).procs q ≡ h.procs q
-    go true = bears_apart (moved h p (h.procs p).watch (host_turn_of m h p)) (h.procs p).watch (host_turn_of m h p).event q c ∙ put_apart h.procs p _ q d
+    go true = bears_apart (moved h p (h.procs p).options (host_turn_of m h p)) (h.procs p).options (host_turn_of m h p).event q c ∙ put_apart h.procs p _ q d
     go false = refl
 
 -- Ends
@@ -157,14 +158,14 @@ the_dead_have_ended m script follow s b pids q = (run_ended m script follow pids
 
 -- Held processes
 
-no_kill : {S B : Type 0} (m : Machine S B) (s : S) (p : ℕ) (w : Option Watch) (task : Task B) → m.killed s p ≡ false → may_die m s p w task ≡ false
+no_kill : {S B : Type 0} (m : Machine S B) (s : S) (p : ℕ) (w : Option TraceOptions) (task : Task B) → m.killed s p ≡ false → may_die m s p w task ≡ false
 no_kill m s p (Some w) (Alive b stage) h = h
 no_kill m s p (Some w) (Dying v) h = refl
 no_kill m s p (Some w) Gone h = refl
 no_kill m s p None task h = refl
 
 pub the_held_are_still : {S B : Type 0} → TheHeldAreStill S B
-the_held_are_still m h p held alive = rw (held, no_kill m h.shared p (h.procs p).watch (h.procs p).task alive) refl
+the_held_are_still m h p held alive = rw (held, no_kill m h.shared p (h.procs p).options (h.procs p).task alive) refl
 
 pub the_held_can_be_killed : {S B : Type 0} → TheHeldCanBeKilled S B
 the_held_can_be_killed m h p b stage w e killed = rw (e, killed) (put_here h.procs p _)
@@ -180,7 +181,7 @@ take_queue h rest p (Ended w) = refl
 pub first_report_is_told : {S B : Type 0} → FirstReportIsTold S B
 first_report_is_told m outcome h r rest e = rw e (refl, take_queue h rest r.pid r.stop)
 
-module _ {S B : Type 0} (m : Machine S B) (w : Watch) (s : S) (child p : ℕ) where
+module _ {S B : Type 0} (m : Machine S B) (w : TraceOptions) (s : S) (child p : ℕ) where
   -- a turn that bears a child leaves its process at the clone that did
   abbrev Clones : Out S B → Type 0
   Clones o = (born : B) → o.event ≡ Forked born → (is_dying o.task ≡ false) × (tracee_stop w o.task (Forked born) ≡ cond w.forks (Some (Event_stop At_fork)) None)
@@ -225,7 +226,7 @@ module _ {S B : Type 0} (m : Machine S B) (w : Watch) (s : S) (child p : ℕ) wh
   turn_clones c (Dying v) born h = absurd (cc h)
   turn_clones c Gone born h = absurd (cc h)
 
-fork_queue : {S B : Type 0} (h : Host S B) (p : ℕ) (w : Watch) (o : Out S B) (born : B) → w.forks ≡ true → o.event ≡ Forked born → is_dying o.task ≡ false → tracee_stop w o.task (Forked born) ≡ cond w.forks (Some (Event_stop At_fork)) None →
+fork_queue : {S B : Type 0} (h : Host S B) (p : ℕ) (w : TraceOptions) (o : Out S B) (born : B) → w.forks ≡ true → o.event ≡ Forked born → is_dying o.task ≡ false → tracee_stop w o.task (Forked born) ≡ cond w.forks (Some (Event_stop At_fork)) None →
     (bears (moved h p (Some w) o) (Some w) o.event).queue ≡ h.queue ++ record { pid = p; stop = Event_stop At_fork } ∷ record { pid = h.child; stop = Event_stop At_start } ∷ []
 fork_queue h p w o born f x dying stop = rw (x, dying, stop, f) (append_assoc h.queue (record { pid = p; stop = Event_stop At_fork } ∷ []) (record { pid = h.child; stop = Event_stop At_start } ∷ []))
 
@@ -265,11 +266,11 @@ reports_for_other : (p q : ℕ) → p ≢ q → (stop : Option Stop) → reports
 reports_for_other p q d (Some s) = rw (is_not_same q p (λ e. d (sym e))) refl
 reports_for_other p q d None = refl
 
-born_report : {S B : Type 0} (h : Host S B) (b : B) (w : Option Watch) (q : ℕ) → h.child ≢ q → reports_for q (newborn h b w).queue ≡ reports_for q h.queue
+born_report : {S B : Type 0} (h : Host S B) (b : B) (w : Option TraceOptions) (q : ℕ) → h.child ≢ q → reports_for q (newborn h b w).queue ≡ reports_for q h.queue
 born_report h b None q d = refl
 born_report h b (Some w) q d = reports_for-append q h.queue _ ∙ ap (λ x. reports_for q h.queue + x) (reports_for_other h.child q d (Some (Event_stop At_start))) ∙ add-zero (reports_for q h.queue)
 
-bears_report : {S B : Type 0} (h : Host S B) (w : Option Watch) (e : Event B) (q : ℕ) → h.child ≢ q → reports_for q (bears h w e).queue ≡ reports_for q h.queue
+bears_report : {S B : Type 0} (h : Host S B) (w : Option TraceOptions) (e : Event B) (q : ℕ) → h.child ≢ q → reports_for q (bears h w e).queue ≡ reports_for q h.queue
 bears_report h w Plain q d = refl
 bears_report h w Execed q d = refl
 bears_report h w (Forked b) q d = born_report h b (inherits w) q d
@@ -284,7 +285,7 @@ other_reports p q d queue false stop = reports_for-append q queue (reports_of p 
 
 pub one_report_a_stop : {S B : Type 0} → OneReportAStop S B
 one_report_a_stop {S} {B} m h p d g =
-    let w : Option Watch = (h.procs p).watch in
+    let w : Option TraceOptions = (h.procs p).options in
     let o : Out S B = host_turn_of m h p in
     let c : h.child ≢ p = λ e. d (sym e) in
     let left : (turned_host m h p).procs p ≡ proc_after w o.task o.event = bears_apart (moved h p w o) w o.event p c ∙ put_here h.procs p (proc_after w o.task o.event) in
@@ -295,5 +296,5 @@ pub no_other_report : {S B : Type 0} → NoOtherReport S B
 no_other_report {S} {B} m h p q d c = go (is_effective m h.shared p (h.procs p))
   where
     go : (b : Bool) → reports_for q (cond b (turned_host m h p) h).queue ≡ reports_for q h.queue
-    go true = bears_report (moved h p (h.procs p).watch (host_turn_of m h p)) (h.procs p).watch (host_turn_of m h p).event q c ∙ other_reports p q d h.queue (is_dying (host_turn_of m h p).task) (stop_at (h.procs p).watch (host_turn_of m h p).task (host_turn_of m h p).event)
+    go true = bears_report (moved h p (h.procs p).options (host_turn_of m h p)) (h.procs p).options (host_turn_of m h p).event q c ∙ other_reports p q d h.queue (is_dying (host_turn_of m h p).task) (stop_at (h.procs p).options (host_turn_of m h p).task (host_turn_of m h p).event)
     go false = refl

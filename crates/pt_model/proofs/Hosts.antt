@@ -31,7 +31,8 @@ use Rattle.lx_model.specs.declared.stage.Task.{Task}
 use Rattle.lx_model.specs.declared.stage.Task.TheVariants.{Alive, Dying, Gone}
 use Rattle.lx_model.specs.Kernel.{put, traces, choice_at, born}
 use Rattle.lx_model.specs.Finite.{at, item_of, ran, bore, turn_out, running_turn, task_mode}
-use Rattle.pt_model.specs.Ptrace.{Watch, Proc, Report, Host, tracee_stop, stop_at, is_dying, is_there, reports_of, without, may_die, is_effective, proc_after, messages_after, moved, inherits, newborn, bears, host_turn_of}
+use Rattle.lx_abi.specs.declared.ptrace.TraceOptions.{TraceOptions}
+use Rattle.pt_model.specs.Ptrace.{Proc, Report, Host, tracee_stop, stop_at, is_dying, is_there, reports_of, without, may_die, is_effective, proc_after, messages_after, moved, inherits, newborn, bears, host_turn_of}
 use Rattle.pt_model.specs.Requests.{esrch, says, Answered, stopped, unseized, answer_at, answered, serve_wait, take_report, serve}
 use Rattle.pt_model.specs.Attending.{Attending, would_answer, left_pending, serve_pending, event}
 use Rattle.pt_model.specs.Hosting.{Traced, untraced, Hosting, traced_at, as_proc, proc_in, host_in, attending_in, IsFresh, no_script, message_after, traced_after, deed_of, told_stop, ends_dying, wait_ready, ready_in, with_newborn, with_birth, hosted, Hosted, refuses, with_answer, hosting_to, released, took_report, hosting_wait, hosting_serve, hosting_pending, first_hosting}
@@ -84,7 +85,7 @@ is_kept : (x : Option Traced) → (unwrap_or x untraced).held ≡ true → is_th
 is_kept None h = absurd (cc h)
 is_kept (Some t) h = refl
 
-is_watched : (x : Option Traced) (w : Watch) → (unwrap_or x untraced).watch ≡ Some w → is_there x ≡ true
+is_watched : (x : Option Traced) (w : TraceOptions) → (unwrap_or x untraced).options ≡ Some w → is_there x ≡ true
 is_watched None w h = absurd (cc h)
 is_watched (Some t) w h = refl
 
@@ -124,7 +125,7 @@ same_host s f g queue tracees k l child e h = ap₂ (λ a b. host_by s a queue t
 
 module _ {S B : Type 0} (m : Machine S B) where
   -- who takes a turn and is no tracee is not held
-  idle : (s : S) (p : ℕ) (held : Bool) (w : Option Watch) (task : Task B) → cond held (may_die m s p w task) true ≡ true → w ≡ None → held ≡ false
+  idle : (s : S) (p : ℕ) (held : Bool) (w : Option TraceOptions) (task : Task B) → cond held (may_die m s p w task) true ≡ true → w ≡ None → held ≡ false
   idle s p true None task e h = absurd (cc e)
   idle s p true (Some w) task e h = absurd (cc h)
   idle s p false w task e h = refl
@@ -133,14 +134,14 @@ module _ {S B : Type 0} (m : Machine S B) where
   abbrev unborn : Hosting S B → ℕ → Traced → Out S B → Hosting S B
   unborn v p t o = record {
     running = ran v.running p o;
-    traced = traced_after v.traced p v.running.child t.message t.watch o.task o.event;
-    queue = cond (is_dying o.task) (without p v.queue) v.queue ++ reports_of p (stop_at t.watch o.task o.event);
+    traced = traced_after v.traced p v.running.child t.message t.options o.task o.event;
+    queue = cond (is_dying o.task) (without p v.queue) v.queue ++ reports_of p (stop_at t.options o.task o.event);
     tracees = v.tracees;
     turns = v.turns ++ p ∷ [];
     pending = v.pending;
   }
 
-  message_put : (messages : ℕ → ℕ) (p child : ℕ) (w : Watch) (e : Event B) → put messages p (message_after (messages p) p child w e) ≡ messages_after messages p child (Some w) e
+  message_put : (messages : ℕ → ℕ) (p child : ℕ) (w : TraceOptions) (e : Event B) → put messages p (message_after (messages p) p child w e) ≡ messages_after messages p child (Some w) e
   message_put messages p child w Plain = put_same messages p
   message_put messages p child w Execed = go w.execs
     where
@@ -153,21 +154,21 @@ module _ {S B : Type 0} (m : Machine S B) where
       go true = refl
       go false = put_same messages p
 
-  after_is : (v : Hosting S B) (p : ℕ) (o : Out S B) (w : Option Watch) → (traced_at v p).watch ≡ w → (w ≡ None → (traced_at v p).held ≡ false) →
+  after_is : (v : Hosting S B) (p : ℕ) (o : Out S B) (w : Option TraceOptions) → (traced_at v p).options ≡ w → (w ≡ None → (traced_at v p).held ≡ false) →
       host_in (record { running = ran v.running p o; traced = traced_after v.traced p v.running.child (traced_at v p).message w o.task o.event; queue = cond (is_dying o.task) (without p v.queue) v.queue ++ reports_of p (stop_at w o.task o.event); tracees = v.tracees; turns = v.turns ++ p ∷ []; pending = v.pending })
       ≡ moved (host_in v) p w o
   after_is v p o None e h = same_host o.shared _ _ _ v.tracees _ _ v.running.child
       (procs_put (at Gone v.running.tasks) _ (traced_at v) (traced_at v) p o.task (traced_at v p) (at-placed v.running.tasks p o.task) (sym (put_same (traced_at v) p)) ∙ ap (put (proc_in v) p) (unwatched (traced_at v p) e (h refl)))
       refl
     where
-      unwatched : (t : Traced) → t.watch ≡ None → t.held ≡ false → as_proc o.task t ≡ proc_after None o.task o.event
+      unwatched : (t : Traced) → t.options ≡ None → t.held ≡ false → as_proc o.task t ≡ proc_after None o.task o.event
       unwatched t f g = rw (f, g) refl
   after_is v p o (Some w) e h = same_host o.shared _ _ _ v.tracees _ _ v.running.child
       (procs_put (at Gone v.running.tasks) _ (traced_at v) _ p o.task x (at-placed v.running.tasks p o.task) (at-insert untraced v.traced p x))
       (messages_put (traced_at v) _ p x (at-insert untraced v.traced p x) ∙ message_put (λ q. (traced_at v q).message) p v.running.child w o.event)
     where
       x : Traced
-      x = record { held = is_there (tracee_stop w o.task o.event); watch = Some w; message = message_after (traced_at v p).message p v.running.child w o.event }
+      x = record { held = is_there (tracee_stop w o.task o.event); options = Some w; message = message_after (traced_at v p).message p v.running.child w o.event }
 
   -- a child
   abbrev with_user : Hosting S B → Event B → Hosting S B
@@ -176,7 +177,7 @@ module _ {S B : Type 0} (m : Machine S B) where
   unknown : (v : Hosting S B) → IsFresh v → traced_at v v.running.child ≡ untraced
   unknown v fresh = rw (fresh v.running.child (omega arith)) refl
 
-  child_is : (v : Hosting S B) (b : B) (w : Option Watch) → IsFresh v → host_in (with_newborn (with_user v (Forked b)) v.running.child w) ≡ newborn (host_in v) b w
+  child_is : (v : Hosting S B) (b : B) (w : Option TraceOptions) → IsFresh v → host_in (with_newborn (with_user v (Forked b)) v.running.child w) ≡ newborn (host_in v) b w
   child_is v b None fresh =
       let c : ℕ = v.running.child in
       same_host v.running.shared _ _ v.queue v.tracees _ _ (suc c)
@@ -184,41 +185,41 @@ module _ {S B : Type 0} (m : Machine S B) where
       refl
   child_is v b (Some w) fresh =
       let c : ℕ = v.running.child in
-      let x : Traced = record { held = true; watch = Some w; message = 0 } in
+      let x : Traced = record { held = true; options = Some w; message = 0 } in
       same_host v.running.shared _ _ (v.queue ++ record { pid = c; stop = Event_stop At_start } ∷ []) (v.tracees ++ c ∷ []) _ _ (suc c)
       (procs_put (at Gone v.running.tasks) _ (traced_at v) _ c (Alive b Born) x (at-insert Gone v.running.tasks c (Alive b Born)) (at-insert untraced v.traced c x))
       (messages_put (traced_at v) _ c x (at-insert untraced v.traced c x) ∙ ap (put (λ q. (traced_at v q).message) c) (sym (ap (λ (t : Traced). t.message) (unknown v fresh))) ∙ put_same (λ q. (traced_at v q).message) c)
 
-  birth_is : (v : Hosting S B) (w : Option Watch) (e : Event B) → IsFresh v → host_in (with_birth (with_user v e) v.running.child w e) ≡ bears (host_in v) w e
+  birth_is : (v : Hosting S B) (w : Option TraceOptions) (e : Event B) → IsFresh v → host_in (with_birth (with_user v e) v.running.child w e) ≡ bears (host_in v) w e
   birth_is v w Plain fresh = refl
   birth_is v w Execed fresh = refl
   birth_is v w (Forked b) fresh = child_is v b (inherits w) fresh
 
-  after_fresh : (child : ℕ) (traced : maps.FinMap nat_cmp Traced) (p message : ℕ) (w : Option Watch) (task : Task B) (e : Event B) → (at untraced traced p).watch ≡ w → Fresh child traced → Fresh child (traced_after traced p child message w task e)
+  after_fresh : (child : ℕ) (traced : maps.FinMap nat_cmp Traced) (p message : ℕ) (w : Option TraceOptions) (task : Task B) (e : Event B) → (at untraced traced p).options ≡ w → Fresh child traced → Fresh child (traced_after traced p child message w task e)
   after_fresh child traced p message None task e h f = f
   after_fresh child traced p message (Some w) task e h f = fresh_insert child traced p _ f (is_watched (maps.get traced p) w h)
 
-  birth_fresh : (v : Hosting S B) (w : Option Watch) (e : Event B) → IsFresh v → IsFresh (with_birth (with_user v e) v.running.child w e)
+  birth_fresh : (v : Hosting S B) (w : Option TraceOptions) (e : Event B) → IsFresh v → IsFresh (with_birth (with_user v e) v.running.child w e)
   birth_fresh v w Plain f = f
   birth_fresh v w Execed f = f
   birth_fresh v w (Forked b) f = go (inherits w)
     where
-      go : (x : Option Watch) → IsFresh (with_newborn (with_user v (Forked b)) v.running.child x)
+      go : (x : Option TraceOptions) → IsFresh (with_newborn (with_user v (Forked b)) v.running.child x)
       go None = λ q l. f q (omega (arith, l))
       go (Some x) = fresh_child v.running.child v.traced _ f
 
   turn_is : (v : Hosting S B) (p : ℕ) (o : Out S B) → IsFresh v → is_effective m v.running.shared p (proc_in v p) ≡ true →
-      (host_in (hosted v p (traced_at v p) o) ≡ bears (moved (host_in v) p (traced_at v p).watch o) (traced_at v p).watch o.event) × IsFresh (hosted v p (traced_at v p) o)
+      (host_in (hosted v p (traced_at v p) o) ≡ bears (moved (host_in v) p (traced_at v p).options o) (traced_at v p).options o.event) × IsFresh (hosted v p (traced_at v p) o)
   turn_is v p o fresh eff =
       let u : Hosting S B = unborn v p (traced_at v p) o in
-      let f : IsFresh u = after_fresh v.running.child v.traced p (traced_at v p).message (traced_at v p).watch o.task o.event refl fresh in
-      (birth_is u (traced_at v p).watch o.event f ∙ ap (λ h. bears h (traced_at v p).watch o.event) (after_is v p o (traced_at v p).watch refl (idle v.running.shared p (traced_at v p).held (traced_at v p).watch (at Gone v.running.tasks p) eff)), birth_fresh u (traced_at v p).watch o.event f)
+      let f : IsFresh u = after_fresh v.running.child v.traced p (traced_at v p).message (traced_at v p).options o.task o.event refl fresh in
+      (birth_is u (traced_at v p).options o.event f ∙ ap (λ h. bears h (traced_at v p).options o.event) (after_is v p o (traced_at v p).options refl (idle v.running.shared p (traced_at v p).held (traced_at v p).options (at Gone v.running.tasks p) eff)), birth_fresh u (traced_at v p).options o.event f)
 
   out_is : (follow : Bool) (v : Hosting S B) (p : ℕ) → turn_out m no_script follow v.running p ≡ host_turn_of m (host_in v) p
   out_is follow v p = ap (λ c. turn m c v.running.shared v.running.child p (at Gone v.running.tasks p)) (no_chosen m (traces follow p) (λ n. entries p n v.running.log) (at Gone v.running.tasks p))
 
   turned_is : (follow : Bool) (v : Hosting S B) (p : ℕ) → IsFresh v → (b : Bool) → is_effective m v.running.shared p (proc_in v p) ≡ b →
-      (host_in (cond b (hosted v p (traced_at v p) (turn_out m no_script follow v.running p)) v) ≡ cond b (bears (moved (host_in v) p (traced_at v p).watch (host_turn_of m (host_in v) p)) (traced_at v p).watch (host_turn_of m (host_in v) p).event) (host_in v))
+      (host_in (cond b (hosted v p (traced_at v p) (turn_out m no_script follow v.running p)) v) ≡ cond b (bears (moved (host_in v) p (traced_at v p).options (host_turn_of m (host_in v) p)) (traced_at v p).options (host_turn_of m (host_in v) p).event) (host_in v))
       × IsFresh (cond b (hosted v p (traced_at v p) (turn_out m no_script follow v.running p)) v)
   turned_is follow v p fresh false e = (refl, fresh)
   turned_is follow v p fresh true e = rw (out_is follow v p) (turn_is v p (host_turn_of m (host_in v) p) fresh e)
@@ -245,9 +246,9 @@ module _ {S B : Type 0} (m : Machine S B) where
   )
     where
       x : Traced
-      x = record { held = a.proc.held; watch = a.proc.watch; message = (traced_at v p).message }
+      x = record { held = a.proc.held; options = a.proc.options; message = (traced_at v p).message }
 
-  to_is : (v : Hosting S B) (p : ℕ) (q : Ask) → IsFresh v → (held : Bool) (w : Option Watch) (task : Task B) → (held ≡ true → is_there (maps.get v.traced p) ≡ true) →
+  to_is : (v : Hosting S B) (p : ℕ) (q : Ask) → IsFresh v → (held : Bool) (w : Option TraceOptions) (task : Task B) → (held ≡ true → is_there (maps.get v.traced p) ≡ true) →
       Alike (answered (host_in v) p (answer_at m (traced_at v p).message (proc_in v p) held w task q)) (Some (answer_at m (traced_at v p).message (proc_in v p) held w task q).reply) (hosting_to m v p (traced_at v p).message (proc_in v p) held w task q)
   to_is v p q fresh true (Some w) (Alive b stage) kept = answer_is v p (stopped m (proc_in v p) b stage (traced_at v p).message q) fresh (kept refl)
   to_is v p q fresh true (Some w) (Dying word) kept = refuses_is v p fresh
@@ -257,7 +258,7 @@ module _ {S B : Type 0} (m : Machine S B) where
 
   -- who is waited for
   abbrev let_go : Traced → Traced
-  let_go t = record { held = false; watch = t.watch; message = t.message }
+  let_go t = record { held = false; options = t.options; message = t.message }
 
   calm : (t : Traced) → t ≡ untraced → t ≡ let_go t
   calm t e = subst (λ x. x ≡ let_go x) (sym e) refl
@@ -292,7 +293,7 @@ module _ {S B : Type 0} (m : Machine S B) where
 pub hosts_serve_alike : {S B : Type 0} → HostsServeAlike S B
 hosts_serve_alike m outcome v (Boot_with boot limit words) fresh = (refl, refl, fresh)
 hosts_serve_alike m outcome v Wait fresh = wait_is m v v.queue v.tracees fresh
-hosts_serve_alike m outcome v (To p q) fresh = to_is m v p q fresh (traced_at v p).held (traced_at v p).watch (at Gone v.running.tasks p) (is_kept (maps.get v.traced p))
+hosts_serve_alike m outcome v (To p q) fresh = to_is m v p q fresh (traced_at v p).held (traced_at v p).options (at Gone v.running.tasks p) (is_kept (maps.get v.traced p))
 hosts_serve_alike m outcome v Ask_outcome fresh = (refl, refl, fresh)
 
 -- Events
@@ -301,11 +302,11 @@ abbrev attending_by : {S B : Type 0} → Host S B → Option Request → Attendi
 attending_by h q = record { host = h; pending = q }
 
 module _ {S B : Type 0} (m : Machine S B) where
-  newborn_keeps : (v : Hosting S B) (c : ℕ) (w : Option Watch) → ((with_newborn v c w).running ≡ v.running) × ((with_newborn v c w).turns ≡ v.turns) × ((with_newborn v c w).pending ≡ v.pending)
+  newborn_keeps : (v : Hosting S B) (c : ℕ) (w : Option TraceOptions) → ((with_newborn v c w).running ≡ v.running) × ((with_newborn v c w).turns ≡ v.turns) × ((with_newborn v c w).pending ≡ v.pending)
   newborn_keeps v c None = (refl, refl, refl)
   newborn_keeps v c (Some w) = (refl, refl, refl)
 
-  birth_keeps : (v : Hosting S B) (c : ℕ) (w : Option Watch) (e : Event B) → ((with_birth v c w e).running ≡ v.running) × ((with_birth v c w e).turns ≡ v.turns) × ((with_birth v c w e).pending ≡ v.pending)
+  birth_keeps : (v : Hosting S B) (c : ℕ) (w : Option TraceOptions) (e : Event B) → ((with_birth v c w e).running ≡ v.running) × ((with_birth v c w e).turns ≡ v.turns) × ((with_birth v c w e).pending ≡ v.pending)
   birth_keeps v c w Plain = (refl, refl, refl)
   birth_keeps v c w Execed = (refl, refl, refl)
   birth_keeps v c w (Forked b) = newborn_keeps v c (inherits w)
@@ -314,13 +315,13 @@ module _ {S B : Type 0} (m : Machine S B) where
       ((cond b (hosted v p (traced_at v p) (turn_out m no_script follow v.running p)) v).running ≡ cond b (running_turn m no_script follow v.running p) v.running)
       × ((cond b (hosted v p (traced_at v p) (turn_out m no_script follow v.running p)) v).turns ≡ v.turns ++ cond b (p ∷ []) [])
       × ((cond b (hosted v p (traced_at v p) (turn_out m no_script follow v.running p)) v).pending ≡ v.pending)
-  turn_keeps follow v p true = birth_keeps (with_user v p (turn_out m no_script follow v.running p)) v.running.child (traced_at v p).watch (turn_out m no_script follow v.running p).event
+  turn_keeps follow v p true = birth_keeps (with_user v p (turn_out m no_script follow v.running p)) v.running.child (traced_at v p).options (turn_out m no_script follow v.running p).event
     where
       with_user : Hosting S B → ℕ → Out S B → Hosting S B
-      with_user v p o = record { running = bore (ran v.running p o) o.event; traced = traced_after v.traced p v.running.child (traced_at v p).message (traced_at v p).watch o.task o.event; queue = cond (is_dying o.task) (without p v.queue) v.queue ++ reports_of p (stop_at (traced_at v p).watch o.task o.event); tracees = v.tracees; turns = v.turns ++ p ∷ []; pending = v.pending }
+      with_user v p o = record { running = bore (ran v.running p o) o.event; traced = traced_after v.traced p v.running.child (traced_at v p).message (traced_at v p).options o.task o.event; queue = cond (is_dying o.task) (without p v.queue) v.queue ++ reports_of p (stop_at (traced_at v p).options o.task o.event); tracees = v.tracees; turns = v.turns ++ p ∷ []; pending = v.pending }
   turn_keeps follow v p false = (refl, sym (append-nil v.turns), refl)
 
-  answer_turns : (v : Hosting S B) (p message : ℕ) (t : Proc B) (held : Bool) (w : Option Watch) (task : Task B) (q : Ask) → (hosting_to m v p message t held w task q).hosting.turns ≡ v.turns
+  answer_turns : (v : Hosting S B) (p message : ℕ) (t : Proc B) (held : Bool) (w : Option TraceOptions) (task : Task B) (q : Ask) → (hosting_to m v p message t held w task q).hosting.turns ≡ v.turns
   answer_turns v p message t true (Some w) (Alive b stage) q = refl
   answer_turns v p message t true (Some w) (Dying word) q = refl
   answer_turns v p message t true (Some w) Gone q = refl
@@ -341,7 +342,7 @@ module _ {S B : Type 0} (m : Machine S B) where
   serve_turns : (outcome : S → Outcome) (v : Hosting S B) (q : Request) → (hosting_serve m outcome v q).hosting.turns ≡ v.turns
   serve_turns outcome v (Boot_with boot limit words) = refl
   serve_turns outcome v Wait = wait_turns v v.queue v.tracees
-  serve_turns outcome v (To p q) = answer_turns v p (traced_at v p).message (proc_in v p) (traced_at v p).held (traced_at v p).watch (at Gone v.running.tasks p) q
+  serve_turns outcome v (To p q) = answer_turns v p (traced_at v p).message (proc_in v p) (traced_at v p).held (traced_at v p).options (at Gone v.running.tasks p) q
   serve_turns outcome v Ask_outcome = refl
 
   pending_is : (outcome : S → Outcome) (v : Hosting S B) → IsFresh v → (x : Option Request) → v.pending ≡ x →
@@ -366,10 +367,10 @@ hosts_run_the_kernel m follow v p = (turn_keeps m follow v p (is_effective m v.r
 
 -- The beginning
 
-traced_first : at untraced (maps.insert maps.empty 1 (record { held = true; watch = None; message = 0 })) ≡ (λ q. record { held = q == 1; watch = None; message = 0 })
-traced_first = at-insert untraced maps.empty 1 (record { held = true; watch = None; message = 0 }) ∙ fun_ext (λ q. rw (one_first q, maps.get-empty nat_cmp q) (go (q == 1)))
+traced_first : at untraced (maps.insert maps.empty 1 (record { held = true; options = None; message = 0 })) ≡ (λ q. record { held = q == 1; options = None; message = 0 })
+traced_first = at-insert untraced maps.empty 1 (record { held = true; options = None; message = 0 }) ∙ fun_ext (λ q. rw (one_first q, maps.get-empty nat_cmp q) (go (q == 1)))
   where
-    go : (c : Bool) → cond c (record { held = true; watch = None; message = 0 }) untraced ≡ record { held = c; watch = None; message = 0 }
+    go : (c : Bool) → cond c (record { held = true; options = None; message = 0 }) untraced ≡ record { held = c; options = None; message = 0 }
     go true = refl
     go false = refl
 
@@ -380,12 +381,12 @@ hosts_begin_alike {S} {B} s b =
     fresh : (q : ℕ) → 2 ≤ q → maps.get (first_hosting s b).traced q ≡ None
     fresh q l =
         let d : (1 == q) ≡ false = grind (arith, nat_tests) in
-        let x : Traced = record { held = true; watch = None; message = 0 } in
+        let x : Traced = record { held = true; options = None; message = 0 } in
         rw (maps.get-insert nat_cmp_total maps.empty 1 x q, same_key q 1, d) (maps.get-empty nat_cmp q)
 
 -- What a turn tells
 
-module _ {S B : Type 0} (m : Machine S B) (w : Watch) where
+module _ {S B : Type 0} (m : Machine S B) (w : TraceOptions) where
   abbrev Tells : Out S B → Type 0
   Tells o = (told_stop w (task_mode o.task) (item_of o) (deed_of o.event) ≡ tracee_stop w o.task o.event) × (ends_dying (task_mode o.task) ≡ is_dying o.task)
 

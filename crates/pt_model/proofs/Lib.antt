@@ -18,6 +18,7 @@ pub mod Called
 pub mod Owned
 pub mod Asking
 pub mod Hands
+pub mod Resumed
 pub mod Counting
 pub mod Admission
 pub mod Scripts

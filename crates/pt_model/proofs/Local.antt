@@ -32,13 +32,15 @@ use Rattle.lx_model.specs.Kernel.{Script, put, choice_at}
 use Rattle.pt_model.specs.Ptrace.{is_there, proc_after, is_dying, is_effective, reports_of, stop_at}
 use Rattle.pt_model.specs.Requests.{Answered, says, answer, esrch, peeked}
 use Rattle.pt_model.specs.Parts.{Half, At_entry, At_exit, Options, enter_part, done_part}
-use Rattle.pt_model.specs.Admissible.{Standing, Unmet, Between, After_signal, Unread, Read, After_event, was_read, clone_number, execve_number, is_exit_number, is_exit_word, end_fits}
-use Rattle.pt_model.specs.Tracer.{Known, Awaiting, Seizing, Entry_regs, Entry_peek, Entry_set, Exit_regs, Exit_set, Exit_peek, Signal_info, Resuming, asks, options_word, signal_word, Heard, hears, entry_with, look_entry, read_entry, exit, look_exit, read_exit, exit_with, peeked_entry, peeked_exit, bytes_of}
+use Rattle.lx_abi.specs.Calls.{has_effects}
+use Rattle.lx_abi.specs.Effects.{forks, execs, exits}
+use Rattle.pt_model.specs.Admissible.{Standing, Unmet, Between, After_signal, Unread, Read, After_event, was_read, is_exit_word, end_fits}
+use Rattle.pt_model.specs.Tracer.{Known, Awaiting, Seizing, Entry_regs, Entry_peek, Entry_set, Exit_regs, Exit_set, Exit_peek, Signal_info, Resuming, asks, asked_options, options_word, signal_word, Heard, hears, entry_with, look_entry, read_entry, exit, look_exit, read_exit, exit_with, peeked_entry, peeked_exit, bytes_of}
 use Rattle.pt_model.specs.View.{may_lose, reads, read_on, most_reads, part, parts, Due, Logged, Unlogged, items_in, report_of}
 use Rattle.pt_model.specs.Headline.{IsTold, IsTexts, IsScript}
 use Rattle.pt_model.proofs.Words.{signal_back}
 use Rattle.pt_model.proofs.Registers.{hidden_number, result_back, restored}
-use Rattle.pt_model.proofs.Phases.{Phase, Running, Enter_due, Enter_asked, Enter_peeking, Enter_setting, Enter_resuming, Enter_free, In_call, In_replaced, Has_acted, Exit_due, Exit_asked, Exit_setting, Exit_peeking, Exit_resuming, Exit_free, Fault_free, Sig_due, Sig_asked, Sig_resuming, Sig_free, Dead_due, Dead, Nobody, Unborn, Boot_held, Born_due, Born_resuming, Born_free, Event_due, Event_resuming, Loose, DuesOf, watch, free, held, masked, left, left_masked, call_in, result_in, acted_masked, task_of, proc_of, due_in, hand_in, stage_of, enter_of, done_of, rest_of, signal_of, exit_of, is_other, is_between, Outside, Passing, Entering, Calling, fits_end, Chosen, Reading, Knows, AllOf, more, some, dead, reaped, is_unborn, is_traced, Fate, Goes_on, Says_nothing, Owes_nothing, Loses}
+use Rattle.pt_model.proofs.Phases.{Phase, Running, Enter_due, Enter_asked, Enter_peeking, Enter_setting, Enter_resuming, Enter_free, In_call, In_replaced, Has_acted, Exit_due, Exit_asked, Exit_setting, Exit_peeking, Exit_resuming, Exit_free, Fault_free, Sig_due, Sig_asked, Sig_resuming, Sig_free, Dead_due, Dead, Nobody, Unborn, Boot_held, Born_due, Born_resuming, Born_free, Event_due, Event_resuming, Loose, DuesOf, free, held, masked, left, left_masked, call_in, result_in, acted_masked, task_of, proc_of, due_in, hand_in, stage_of, enter_of, done_of, rest_of, signal_of, exit_of, is_other, is_between, Outside, Passing, Entering, Calling, fits_end, Chosen, Reading, Knows, AllOf, more, some, dead, reaped, is_unborn, is_traced, Fate, Goes_on, Says_nothing, Owes_nothing, Loses}
 
 pub same_pid : (p : ℕ) → (p == p) ≡ true
 same_pid p = grind (arith, nat_tests)
@@ -64,18 +66,18 @@ no_items false = refl
 -- a child that a turn bears
 pub data Birth {S B : Type 0} (m : Machine S B) (f : Bool) (ph : Phase B) (e : Event B) : Type 0 where
   No_birth : e ≡ Plain → Birth m f ph e
-  Loose_birth : (proc_of m f ph).watch ≡ None → is_traced ph ≡ false → Birth m f ph e
-  Traced_birth : (proc_of m f ph).watch ≡ Some (watch f) → reaped ph ≡ false → Birth m f ph e
+  Loose_birth : (proc_of m f ph).options ≡ None → is_traced ph ≡ false → Birth m f ph e
+  Traced_birth : (proc_of m f ph).options ≡ Some (asked_options f) → reaped ph ≡ false → Birth m f ph e
 
 -- what is asked of an answer to a call
 abbrev pub Fits : {S B : Type 0} → Call → Answer S B → Type 0
 Fits c (Refused e) = Unit {0}
 Fits c (Returns s b x) = Unit {0}
 Fits c (Jumps s b) = Unit {0}
-Fits c (Execs s b) = c.number ≡ execve_number
-Fits c (Bears s b born) = c.number ≡ clone_number
+Fits c (Execs s b) = has_effects c.number execs ≡ true
+Fits c (Bears s b born) = has_effects c.number forks ≡ true
 Fits c Blocks = Unit {0}
-Fits c (Ends w) = (is_exit_number c.number ≡ true) × (is_exit_word w ≡ true)
+Fits c (Ends w) = (has_effects c.number exits ≡ true) × (is_exit_word w ≡ true)
 
 call_fits : {S B : Type 0} (m : Machine S B) → IsTold m → (s : S) (child p : ℕ) (c : Call) (b : B) (a : Answer S B) → m.call s child p c b ≡ a → Fits c a
 call_fits m told s child p c b (Refused e) h = tt
@@ -105,7 +107,7 @@ pub record Turned {S B : Type 0} (m : Machine S B) (f : Bool) (o : Options) (scr
   pub next : Phase B
   pub shared : host.shared ≡ kernel.shared
   pub event : host.event ≡ kernel.event
-  pub proc : proc_after (proc_of m f ph).watch host.task host.event ≡ proc_of m f next
+  pub proc : proc_after (proc_of m f ph).options host.task host.event ≡ proc_of m f next
   pub task : kernel.task ≡ task_of m next
   pub knows : Knows m o script next k (more p (option_to_list kernel.item) e)
   pub stage : stage_of m next ≡ stage_of m ph
@@ -114,7 +116,7 @@ pub record Turned {S B : Type 0} (m : Machine S B) (f : Bool) (o : Options) (scr
   pub logged : items_in dues ≡ cond (is_traced ph) (option_to_list kernel.item) []
   pub tasks : DuesOf p dues
   pub hand : hand_in m p next ≡ cond (is_dying host.task) [] (hand_in m p ph)
-  pub reports : map report_of dues ≡ reports_of p (stop_at (proc_of m f ph).watch host.task host.event)
+  pub reports : map report_of dues ≡ reports_of p (stop_at (proc_of m f ph).options host.task host.event)
   pub whole : AllOf p (option_to_list kernel.item)
   pub fate : Fate m p ph next (is_dying host.task) (cond (is_traced ph) (option_to_list kernel.item) [])
   pub listed : reaped next ≡ false → reaped ph ≡ false
@@ -174,7 +176,7 @@ module _ {S B : Type 0} (m : Machine S B) (laws : IsMachine m) (words : IsTold m
 
   -- a tracee that has not ended
   abbrev pub Real : Bool → Phase B → Type 0
-  Real f ph = (reaped ph ≡ false) × (is_unborn ph ≡ false) × (is_traced ph ≡ true) × ((proc_of m f ph).watch ≡ Some (watch f))
+  Real f ph = (reaped ph ≡ false) × (is_unborn ph ≡ false) × (is_traced ph ≡ true) × ((proc_of m f ph).options ≡ Some (asked_options f))
 
   -- SIGKILL from any phase before Dying
   other_place : (ph : Phase B) → dead ph ≡ false → reaped ph ≡ false → is_other (stage_of m ph) ≡ true
@@ -269,8 +271,8 @@ module _ {S B : Type 0} (m : Machine S B) (laws : IsMachine m) (words : IsTold m
   entered_once n b = rw (same_pid p) (one_or_none (n == a7_of (m.regs b)) (enter_of m p b).item)
 
   -- an exit in its own call, which is not replaced
-  exit_fits : (c : Call) (w : ℕ) → k.saved ≡ None → k.called ≡ c → k.standing ≡ Read → is_exit_number c.number ≡ true → is_exit_word w ≡ true → fits_end k w ≡ true
-  exit_fits c w saved called read number word = rw (saved, called, read) (or_right (w == 9) (is_exit_number c.number && is_exit_word w) (ap₂ (λ x y. x && y) number word))
+  exit_fits : (c : Call) (w : ℕ) → k.saved ≡ None → k.called ≡ c → k.standing ≡ Read → has_effects c.number exits ≡ true → is_exit_word w ≡ true → fits_end k w ≡ true
+  exit_fits c w saved called read number word = rw (saved, called, read) (or_right (w == 9) (has_effects c.number exits && is_exit_word w) (ap₂ (λ x y. x && y) number word))
 
   passed : Passing k e → Outside k e
   passed h = record { outside = h.outside; between = ap is_between h.passing; same = h.same }
@@ -281,8 +283,8 @@ module _ {S B : Type 0} (m : Machine S B) (laws : IsMachine m) (words : IsTold m
   stepped_turned f b h (Faults n cause) = record { next = Fault_free b n cause; shared = refl; event = refl; proc = refl; task = refl; knows = keep (Fault_free b n cause) h; stage = refl; dues = []; due = refl; logged = refl; tasks = tt; hand = refl; reports = refl; whole = tt; fate = Goes_on refl refl refl; listed = λ _. refl; unborn = refl; sort = refl; birth = Traced_birth refl refl }
   stepped_turned f b h (Takes t n cause) = record { next = Sig_due b n cause; shared = refl; event = refl; proc = refl; task = refl; knows = keep (Sig_due b n cause) h; stage = refl; dues = Logged (signal_of m p b n cause) ∷ []; due = refl; logged = refl; tasks = (refl, tt); hand = refl; reports = refl; whole = (refl, tt); fate = Goes_on refl refl refl; listed = λ _. refl; unborn = refl; sort = refl; birth = Traced_birth refl refl }
 
-  forks_turned : (f : Bool) (b : B) (c : Call) → f ≡ o.follow → Calling true None c k e × (k.standing ≡ Read) → c.number ≡ clone_number → (t : S) (d born : B) → Turned m f o script p (In_call b c) k e (answered m s child p b c (Bears t d born)) (answered m s child p b c (Bears t d born))
-  forks_turned true b c same h number t d born = record { next = Event_due At_fork (with_result m d child) c; shared = refl; event = refl; proc = ap (λ y. held true (Alive (with_result m d child) (Acted c y false))) (sym (result_back m laws d child)); task = ap (λ y. Alive (with_result m d child) (Acted c y false)) (sym (result_back m laws d child)); knows = keep (Event_due At_fork (with_result m d child) c) (h.0, h.1, ap₂ (λ x y. x && (y == clone_number)) (sym same) number); stage = refl; dues = Unlogged p At_fork ∷ []; due = refl; logged = refl; tasks = (refl, tt); hand = refl; reports = refl; whole = tt; fate = Goes_on refl refl refl; listed = λ _. refl; unborn = refl; sort = refl; birth = Traced_birth refl refl }
+  forks_turned : (f : Bool) (b : B) (c : Call) → f ≡ o.follow → Calling true None c k e × (k.standing ≡ Read) → has_effects c.number forks ≡ true → (t : S) (d born : B) → Turned m f o script p (In_call b c) k e (answered m s child p b c (Bears t d born)) (answered m s child p b c (Bears t d born))
+  forks_turned true b c same h number t d born = record { next = Event_due At_fork (with_result m d child) c; shared = refl; event = refl; proc = ap (λ y. held true (Alive (with_result m d child) (Acted c y false))) (sym (result_back m laws d child)); task = ap (λ y. Alive (with_result m d child) (Acted c y false)) (sym (result_back m laws d child)); knows = keep (Event_due At_fork (with_result m d child) c) (h.0, h.1, ap₂ (λ x y. x && y) (sym same) number); stage = refl; dues = Unlogged p At_fork ∷ []; due = refl; logged = refl; tasks = (refl, tt); hand = refl; reports = refl; whole = tt; fate = Goes_on refl refl refl; listed = λ _. refl; unborn = refl; sort = refl; birth = Traced_birth refl refl }
   forks_turned false b c same h number t d born = record { next = Has_acted (with_result m d child) c None; shared = refl; event = refl; proc = ap (λ y. free false (Alive (with_result m d child) (Acted c y false))) (sym (result_back m laws d child)); task = ap (λ y. Alive (with_result m d child) (Acted c y false)) (sym (result_back m laws d child)); knows = keep (Has_acted (with_result m d child) c None) h.0; stage = refl; dues = []; due = refl; logged = refl; tasks = tt; hand = refl; reports = refl; whole = tt; fate = Goes_on refl refl refl; listed = λ _. refl; unborn = refl; sort = refl; birth = Traced_birth refl refl }
 
   answered_turned : (f : Bool) (b : B) (c : Call) → f ≡ o.follow → Calling true None c k e × (k.standing ≡ Read) → (d : Answer S B) → Fits c d → Turned m f o script p (In_call b c) k e (answered m s child p b c d) (answered m s child p b c d)
@@ -290,7 +292,7 @@ module _ {S B : Type 0} (m : Machine S B) (laws : IsMachine m) (words : IsTold m
   answered_turned f b c same h (Refused r) ends = record { next = Has_acted (with_result m b (error_word r)) c None; shared = refl; event = refl; proc = ap (λ y. free f (Alive (with_result m b (error_word r)) (Acted c y false))) (sym (result_back m laws b (error_word r))); task = ap (λ y. Alive (with_result m b (error_word r)) (Acted c y false)) (sym (result_back m laws b (error_word r))); knows = keep (Has_acted (with_result m b (error_word r)) c None) h.0; stage = refl; dues = []; due = refl; logged = refl; tasks = tt; hand = refl; reports = refl; whole = tt; fate = Goes_on refl refl refl; listed = λ _. refl; unborn = refl; sort = refl; birth = Traced_birth refl refl }
   answered_turned f b c same h (Returns t d x) ends = record { next = Has_acted (with_result m d x) c None; shared = refl; event = refl; proc = ap (λ y. free f (Alive (with_result m d x) (Acted c y false))) (sym (result_back m laws d x)); task = ap (λ y. Alive (with_result m d x) (Acted c y false)) (sym (result_back m laws d x)); knows = keep (Has_acted (with_result m d x) c None) h.0; stage = refl; dues = []; due = refl; logged = refl; tasks = tt; hand = refl; reports = refl; whole = tt; fate = Goes_on refl refl refl; listed = λ _. refl; unborn = refl; sort = refl; birth = Traced_birth refl refl }
   answered_turned f b c same h (Jumps t d) ends = record { next = Has_acted d c None; shared = refl; event = refl; proc = refl; task = refl; knows = keep (Has_acted d c None) h.0; stage = refl; dues = []; due = refl; logged = refl; tasks = tt; hand = refl; reports = refl; whole = tt; fate = Goes_on refl refl refl; listed = λ _. refl; unborn = refl; sort = refl; birth = Traced_birth refl refl }
-  answered_turned f b c same h (Execs t d) ends = record { next = Event_due At_exec d c; shared = refl; event = refl; proc = refl; task = refl; knows = keep (Event_due At_exec d c) (h.0, h.1, ap (λ x. x == execve_number) ends); stage = refl; dues = Unlogged p At_exec ∷ []; due = refl; logged = refl; tasks = (refl, tt); hand = refl; reports = refl; whole = tt; fate = Goes_on refl refl refl; listed = λ _. refl; unborn = refl; sort = refl; birth = Traced_birth refl refl }
+  answered_turned f b c same h (Execs t d) ends = record { next = Event_due At_exec d c; shared = refl; event = refl; proc = refl; task = refl; knows = keep (Event_due At_exec d c) (h.0, h.1, ends); stage = refl; dues = Unlogged p At_exec ∷ []; due = refl; logged = refl; tasks = (refl, tt); hand = refl; reports = refl; whole = tt; fate = Goes_on refl refl refl; listed = λ _. refl; unborn = refl; sort = refl; birth = Traced_birth refl refl }
   answered_turned f b c same h (Bears t d born) ends = forks_turned f b c same h ends t d born
   answered_turned f b c same h (Ends w) ends = record { next = Dead_due w mode.Doing None; shared = refl; event = refl; proc = refl; task = refl; knows = (exit_is_end w ends.1, exit_fits c w h.0.saved_is h.0.called_is h.1 ends.0 ends.1, refl); stage = refl; dues = Logged (exit_of p w mode.Doing) ∷ []; due = refl; logged = refl; tasks = (refl, tt); hand = refl; reports = refl; whole = (refl, tt); fate = Owes_nothing refl refl refl refl; listed = λ _. refl; unborn = refl; sort = refl; birth = Traced_birth refl refl }
 

@@ -17,10 +17,10 @@ use Rattle.lx_model.specs.declared.stage.Stage.TheVariants.{Born, Run, Faulting,
 use Rattle.lx_model.specs.declared.stage.Task.{Task}
 use Rattle.lx_model.specs.declared.stage.Task.TheVariants.{Alive, Dying, Gone}
 use Rattle.lx_model.specs.Kernel.{Script}
-use Rattle.pt_model.specs.Ptrace.{Watch, Proc, is_there}
+use Rattle.pt_model.specs.Ptrace.{Proc, is_there}
 use Rattle.pt_model.specs.Parts.{Half, At_entry, At_exit, Options}
 use Rattle.pt_model.specs.Admissible.{Standing, Unmet, Between, After_signal, Unread, Read, was_read, event_fits, end_fits}
-use Rattle.pt_model.specs.Tracer.{Known, Awaiting, Seizing, Entry_regs, Entry_peek, Entry_set, Exit_regs, Exit_set, Exit_peek, Signal_info, Resuming, signal_word}
+use Rattle.pt_model.specs.Tracer.{Known, Awaiting, Seizing, Entry_regs, Entry_peek, Entry_set, Exit_regs, Exit_set, Exit_peek, Signal_info, Resuming, asked_options, signal_word}
 use Rattle.pt_model.specs.View.{has_exit, may_lose, reads, most_reads, Due, Logged, Unlogged, due_pid, items_in}
 use Rattle.pt_model.proofs.Registers.{no_such_result}
 
@@ -72,15 +72,11 @@ abbrev pub some : {X : Type 0} → Option X → Bool
 some (Some x) = true
 some None = false
 
--- a tracee's options
-abbrev pub watch : Bool → Watch
-watch follow = record { good = true; forks = follow; execs = true }
-
 abbrev pub free : {B : Type 0} → Bool → Task B → Proc B
-free follow h = record { task = h; held = false; watch = Some (watch follow) }
+free follow h = record { task = h; held = false; options = Some (asked_options follow) }
 
 abbrev pub held : {B : Type 0} → Bool → Task B → Proc B
-held follow h = record { task = h; held = true; watch = Some (watch follow) }
+held follow h = record { task = h; held = true; options = Some (asked_options follow) }
 
 module _ {S B : Type 0} (m : Machine S B) where
   -- the traced process where its call is replaced
@@ -169,14 +165,14 @@ module _ {S B : Type 0} (m : Machine S B) where
   proc_of f (Dead_due w mode s) = held f (Dying w)
   proc_of f (Dead w) = free f (Dying w)
   proc_of f Nobody = free f Gone
-  proc_of f (Unborn t) = record { task = Gone; held = false; watch = None }
-  proc_of f (Boot_held b) = record { task = Alive b Born; held = true; watch = None }
+  proc_of f (Unborn t) = record { task = Gone; held = false; options = None }
+  proc_of f (Boot_held b) = record { task = Alive b Born; held = true; options = None }
   proc_of f (Born_due b) = held f (Alive b Born)
   proc_of f (Born_resuming b) = held f (Alive b Born)
   proc_of f (Born_free b) = free f (Alive b Born)
   proc_of f (Event_due n b c) = held f (Alive b (Acted c (a0_of (m.regs b)) false))
   proc_of f (Event_resuming b c) = held f (Alive b (Acted c (a0_of (m.regs b)) false))
-  proc_of f (Loose h) = record { task = h; held = false; watch = None }
+  proc_of f (Loose h) = record { task = h; held = false; options = None }
 
   abbrev pub enter_of : ℕ → B → Noted
   enter_of p b = record { item = Enter p (call_of (m.regs b)); note = note_of m b }

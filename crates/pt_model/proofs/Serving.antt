@@ -23,7 +23,9 @@ use Rattle.lx_model.specs.Machine.{Machine, IsMachine}
 use Rattle.lx_model.specs.declared.stage.Task.{Task}
 use Rattle.lx_model.specs.declared.stage.Task.TheVariants.{Alive, Dying, Gone}
 use Rattle.lx_model.specs.Kernel.{Script, put, traces, Kernel}
-use Rattle.pt_model.specs.Ptrace.{watch_of, Watch, Proc, Report, Host, is_there}
+use Rattle.lx_abi.specs.declared.ptrace.TraceOptions.{TraceOptions}
+use Rattle.lx_abi.specs.Options.{trace_options}
+use Rattle.pt_model.specs.Ptrace.{Proc, Report, Host, is_there}
 use Rattle.pt_model.specs.Requests.{Answered, answer_at, answer, answered, seize, echild, take_report, serve_wait, serve}
 use Rattle.pt_model.specs.Admissible.{Standing, Unmet, Between, After_signal, Unread, Read, After_event, was_read, stop_fits, event_fits, admits_answer}
 use Rattle.pt_model.specs.Parts.{Options, Part}
@@ -173,19 +175,19 @@ module _ {S B : Type 0} (m : Machine S B) (o : Options) (script : Script) (w : W
   abbrev SeizesIt : Answered B → Type 0
   SeizesIt a = a.reply ≡ Agreed → a.seized ≡ true
 
-  seize_made : (t : Proc B) (x : Option Watch) → SeizesIt (seize t x)
+  seize_made : (t : Proc B) (x : Option TraceOptions) → SeizesIt (seize t x)
   seize_made t None h = absurd (cc h)
   seize_made t (Some x) h = refl
 
-  seize_at : (message : ℕ) (t : Proc B) (is_held : Bool) (x : Option Watch) (task : Task B) (options : ℕ) → SeizesIt (answer_at m message t is_held x task (Seize options))
+  seize_at : (message : ℕ) (t : Proc B) (is_held : Bool) (x : Option TraceOptions) (task : Task B) (options : ℕ) → SeizesIt (answer_at m message t is_held x task (Seize options))
   seize_at message t true (Some x) (Alive b stage) options h = absurd (cc h)
   seize_at message t true (Some x) (Dying v) options h = absurd (cc h)
   seize_at message t true (Some x) Gone options h = absurd (cc h)
-  seize_at message t true None task options h = seize_made t (watch_of options) h
+  seize_at message t true None task options h = seize_made t (trace_options options) h
   seize_at message t false x task options h = absurd (cc h)
 
   seizes_at : (message : ℕ) (t : Proc B) (st : Awaiting) → st ≡ Seizing → SeizesIt (answer m message t (asks o st))
-  seizes_at message t st e = subst (λ x. SeizesIt (answer m message t (asks o x))) (sym e) (seize_at message t t.held t.watch t.task (options_word o.follow))
+  seizes_at message t st e = subst (λ x. SeizesIt (answer m message t (asks o x))) (sym e) (seize_at message t t.held t.options t.task (options_word o.follow))
 
   abbrev met_with : Host S B → Moved → World S B
   met_with h x = record { host = h; tracer = x.tracer; printed = w.printed ++ x.printed }

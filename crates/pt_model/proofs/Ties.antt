@@ -17,17 +17,17 @@ use Rattle.lx_model.specs.declared.stage.Task.TheVariants.{Alive}
 use Rattle.lx_model.specs.Kernel.{Script, put, traces, Kernel, after_turn, with_child, turn_of}
 use Rattle.pt_model.specs.Ptrace.{Proc, Report, Host, without, stop_at, is_dying, reports_of, is_effective, proc_after, moved, newborn, inherits, bears, host_turn_of}
 use Rattle.pt_model.specs.Parts.{Options}
-use Rattle.pt_model.specs.Tracer.{Awaiting, Focus, Booting, Waiting, Serving, Asking_outcome, Over, Turns_over, Faulted, is_among}
+use Rattle.pt_model.specs.Tracer.{asked_options, Awaiting, Focus, Booting, Waiting, Serving, Asking_outcome, Over, Turns_over, Faulted, is_among}
 use Rattle.pt_model.specs.World.{World}
 use Rattle.pt_model.specs.View.{has_exit, view, traced, parts, Due, Unlogged, items_in, report_of}
 use Rattle.pt_model.specs.Headline.{IsTold}
-use Rattle.pt_model.proofs.Phases.{Phase, Enter_asked, Enter_peeking, Exit_asked, Exit_setting, Exit_peeking, Sig_asked, Unborn, Born_due, Loose, dues_of, DuesOf, watch, is_unborn, is_traced, exit_of, task_of, proc_of, due_in, stage_of, Knows, hand_in, dead, reaped, Fate, Goes_on, Says_nothing, Owes_nothing, Loses, noted_of, AllOf}
+use Rattle.pt_model.proofs.Phases.{Phase, Enter_asked, Enter_peeking, Exit_asked, Exit_setting, Exit_peeking, Sig_asked, Unborn, Born_due, Loose, dues_of, DuesOf, is_unborn, is_traced, exit_of, task_of, proc_of, due_in, stage_of, Knows, hand_in, dead, reaped, Fate, Goes_on, Says_nothing, Owes_nothing, Loses, noted_of, AllOf}
 use Rattle.pt_model.proofs.Local.{Turned, turned, Birth, No_birth, Loose_birth, Traced_birth}
 use Rattle.pt_model.proofs.Maps.{among_new, among_old, same_or_not, is_same, is_not_same, put_here, put_apart, items_without, without-map, noted_of-append, items_in-append, items_in-without, items_in-of, dues_without, dues_of-append, dues_of_same-without, dues_of_other-without, dues_of_task, dues_of_other, noted_of_task, noted_of_other, no_entry, entries-append, traced_task, traced-append}
 use Rattle.pt_model.proofs.Views.{view-append, view_killed, drop_last_behind, without_none, has_exit-append, no_exit_other}
 
 abbrev pub released : {B : Type 0} → Proc B → Task B → Proc B
-released t h = record { task = h; held = false; watch = t.watch }
+released t h = record { task = h; held = false; options = t.options }
 
 abbrev pub stage_at : ℕ → Focus → Option Awaiting
 stage_at q (Serving p st) = cond (p == q) (Some st) None
@@ -234,7 +234,7 @@ module _ {S B : Type 0} (m : Machine S B) (o : Options) (script : Script) (w : W
   seen_after : (p : ℕ) (ph : Phase B) (items : List Noted) → traces o.follow p ≡ is_traced ph → AllOf p items → traced o.follow (kernel.log ++ items) ≡ traced o.follow kernel.log ++ cond (is_traced ph) items []
   seen_after p ph items e task = traced-append o.follow kernel.log items ∙ ap (λ x. traced o.follow kernel.log ++ x) (traced_task o.follow p (is_traced ph) e items task)
 
-  pub moved_tied : (t : Tied m o script w kernel) (p : ℕ) (by host : Out S B) → Turned m o.follow o script p (t.phases p) (w.tracer.known p) (λ n. entries p n (items_of kernel.log)) by host → Tied m o script (record { host = moved w.host p (proc_of m o.follow (t.phases p)).watch host; tracer = w.tracer; printed = w.printed }) (after_turn kernel p by)
+  pub moved_tied : (t : Tied m o script w kernel) (p : ℕ) (by host : Out S B) → Turned m o.follow o script p (t.phases p) (w.tracer.known p) (λ n. entries p n (items_of kernel.log)) by host → Tied m o script (record { host = moved w.host p (proc_of m o.follow (t.phases p)).options host; tracer = w.tracer; printed = w.printed }) (after_turn kernel p by)
   moved_tied t p by host u =
       let items : List Noted = cond (is_traced (t.phases p)) (option_to_list by.item) [] in
       let task : AllOf p items = some_task (is_traced (t.phases p)) p (option_to_list by.item) u.whole in
@@ -245,10 +245,10 @@ module _ {S B : Type 0} (m : Machine S B) (o : Options) (script : Script) (w : W
         rest = cond (is_dying host.task) (dues_without p t.rest) t.rest ++ u.dues;
         lost = lost_after p t.lost u.fate;
         shared = u.shared;
-        queue = queue_after (is_dying host.task) p t.rest u.dues w.host.queue (reports_of p (stop_at (proc_of m o.follow (t.phases p)).watch host.task host.event)) t.queue u.reports;
-        each = changed t.lost (lost_after p t.lost u.fate) t.rest (cond (is_dying host.task) (dues_without p t.rest) t.rest ++ u.dues) t.phases t.each (record { host = moved w.host p (proc_of m o.follow (t.phases p)).watch host; tracer = w.tracer; printed = w.printed }) (after_turn kernel p by) p u.next
+        queue = queue_after (is_dying host.task) p t.rest u.dues w.host.queue (reports_of p (stop_at (proc_of m o.follow (t.phases p)).options host.task host.event)) t.queue u.reports;
+        each = changed t.lost (lost_after p t.lost u.fate) t.rest (cond (is_dying host.task) (dues_without p t.rest) t.rest ++ u.dues) t.phases t.each (record { host = moved w.host p (proc_of m o.follow (t.phases p)).options host; tracer = w.tracer; printed = w.printed }) (after_turn kernel p by) p u.next
             (record {
-              proc = put_here w.host.procs p (proc_after (proc_of m o.follow (t.phases p)).watch host.task host.event) ∙ u.proc;
+              proc = put_here w.host.procs p (proc_after (proc_of m o.follow (t.phases p)).options host.task host.event) ∙ u.proc;
               task = put_here kernel.tasks p by.task ∙ u.task;
               knows = subst (λ f. Knows m o script u.next (w.tracer.known p) f) (sym (fun_ext (λ n. entries-append p n kernel.log (option_to_list by.item)))) u.knows;
               stage = u.stage ∙ (t.each p).stage;
@@ -258,7 +258,7 @@ module _ {S B : Type 0} (m : Machine S B) (o : Options) (script : Script) (w : W
               sort = (t.each p).sort ∙ sym u.sort;
             })
             (λ q d ph tie. record {
-              proc = put_apart w.host.procs p (proc_after (proc_of m o.follow (t.phases p)).watch host.task host.event) q d ∙ tie.proc;
+              proc = put_apart w.host.procs p (proc_after (proc_of m o.follow (t.phases p)).options host.task host.event) q d ∙ tie.proc;
               task = put_apart kernel.tasks p by.task q d ∙ tie.task;
               knows = subst (λ f. Knows m o script ph (w.tracer.known q) f) (sym (fun_ext (λ n. entries-append q n kernel.log (option_to_list by.item) ∙ ap (λ x. entries q n (items_of kernel.log) + x) (no_entry p q n (option_to_list by.item) d u.whole) ∙ add-zero (entries q n (items_of kernel.log))))) tie.knows;
               stage = tie.stage;
@@ -298,7 +298,7 @@ module _ {S B : Type 0} (m : Machine S B) (o : Options) (script : Script) (w : W
   abbrev kernel_born : B → Kernel S B
   kernel_born b = record { shared = kernel.shared; tasks = put kernel.tasks w.host.child (Alive b Born); child = suc w.host.child; log = kernel.log }
 
-  child_tied : (t : Tied m o script w kernel) (b : B) → (is_past w.tracer.focus ≡ true → ⊥) → o.follow ≡ true → Tied m o script (with_host (newborn w.host b (Some (watch o.follow)))) (kernel_born b)
+  child_tied : (t : Tied m o script w kernel) (b : B) → (is_past w.tracer.focus ≡ true → ⊥) → o.follow ≡ true → Tied m o script (with_host (newborn w.host b (Some (asked_options o.follow)))) (kernel_born b)
   child_tied t b going follows =
       let c : ℕ = w.host.child in
       let was : (x : Bool) × (t.phases c ≡ Unborn x) = unborn_is (t.phases c) (t.fresh c (omega arith)) in
@@ -310,7 +310,7 @@ module _ {S B : Type 0} (m : Machine S B) (o : Options) (script : Script) (w : W
         lost = t.lost;
         shared = t.shared;
         queue = ap (λ x. x ++ record { pid = c; stop = Event_stop At_start } ∷ []) t.queue ∙ sym (map-append report_of t.rest (Unlogged c At_start ∷ []));
-        each = changed t.lost t.lost t.rest (t.rest ++ Unlogged c At_start ∷ []) t.phases t.each (with_host (newborn w.host b (Some (watch o.follow)))) (kernel_born b) c (Born_due b)
+        each = changed t.lost t.lost t.rest (t.rest ++ Unlogged c At_start ∷ []) t.phases t.each (with_host (newborn w.host b (Some (asked_options o.follow)))) (kernel_born b) c (Born_due b)
             (record {
               proc = put_here w.host.procs c _;
               task = put_here kernel.tasks c _;
@@ -392,7 +392,7 @@ module _ {S B : Type 0} (m : Machine S B) (o : Options) (script : Script) (w : W
   at_kernel : (t : Tied m o script w kernel) (b : B) (h : Host S B) → Tied m o script (with_host h) (kernel_born b) → Tied m o script (with_host h) (with_child kernel (Forked b))
   at_kernel t b h u = subst (λ c. Tied m o script (with_host h) (record { shared = kernel.shared; tasks = put kernel.tasks c (Alive b Born); child = suc c; log = kernel.log })) t.child u
 
-  watched_child : (t : Tied m o script w kernel) (b : B) → (is_past w.tracer.focus ≡ true → ⊥) → (f : Bool) → o.follow ≡ f → Tied m o script (with_host (newborn w.host b (cond f (Some (watch o.follow)) None))) (kernel_born b)
+  watched_child : (t : Tied m o script w kernel) (b : B) → (is_past w.tracer.focus ≡ true → ⊥) → (f : Bool) → o.follow ≡ f → Tied m o script (with_host (newborn w.host b (cond f (Some (asked_options o.follow)) None))) (kernel_born b)
   watched_child t b going true e = child_tied t b going e
   watched_child t b going false e = loose_child_tied t b e
 
@@ -400,9 +400,9 @@ module _ {S B : Type 0} (m : Machine S B) (o : Options) (script : Script) (w : W
   none_traced true p h = h
   none_traced false p h = refl
 
-  pub born_tied : (t : Tied m o script w kernel) (p : ℕ) (ph : Phase B) (e : Event B) → traces o.follow p ≡ is_traced ph → (reaped ph ≡ false → is_past w.tracer.focus ≡ true → ⊥) → Birth m o.follow ph e → Tied m o script (with_host (bears w.host (proc_of m o.follow ph).watch e)) (with_child kernel e)
+  pub born_tied : (t : Tied m o script w kernel) (p : ℕ) (ph : Phase B) (e : Event B) → traces o.follow p ≡ is_traced ph → (reaped ph ≡ false → is_past w.tracer.focus ≡ true → ⊥) → Birth m o.follow ph e → Tied m o script (with_host (bears w.host (proc_of m o.follow ph).options e)) (with_child kernel e)
   born_tied t p ph Plain sort going birth = t
   born_tied t p ph Execed sort going birth = t
   born_tied t p ph (Forked b) sort going (No_birth x) = absurd (cc x)
-  born_tied t p ph (Forked b) sort going (Loose_birth x y) = at_kernel t b (newborn w.host b (inherits (proc_of m o.follow ph).watch)) (subst (λ x. Tied m o script (with_host (newborn w.host b (inherits x))) (kernel_born b)) (sym x) (loose_child_tied t b (none_traced o.follow p (sort ∙ y))))
-  born_tied t p ph (Forked b) sort going (Traced_birth x y) = at_kernel t b (newborn w.host b (inherits (proc_of m o.follow ph).watch)) (subst (λ x. Tied m o script (with_host (newborn w.host b (inherits x))) (kernel_born b)) (sym x) (watched_child t b (going y) o.follow refl))
+  born_tied t p ph (Forked b) sort going (Loose_birth x y) = at_kernel t b (newborn w.host b (inherits (proc_of m o.follow ph).options)) (subst (λ x. Tied m o script (with_host (newborn w.host b (inherits x))) (kernel_born b)) (sym x) (loose_child_tied t b (none_traced o.follow p (sort ∙ y))))
+  born_tied t p ph (Forked b) sort going (Traced_birth x y) = at_kernel t b (newborn w.host b (inherits (proc_of m o.follow ph).options)) (subst (λ x. Tied m o script (with_host (newborn w.host b (inherits x))) (kernel_born b)) (sym x) (watched_child t b (going y) o.follow refl))

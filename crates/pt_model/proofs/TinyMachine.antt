@@ -9,11 +9,13 @@ use Rattle.lx_abi.specs.Signals.{is_signal, may_join, signal_numbered}
 use Rattle.lx_abi.specs.Status.{stop_of}
 use Rattle.lx_model.specs.Machine.{IsMachine, Answer, Execs, Bears, Ends, Took, Passes, Kills}
 use Rattle.pt_model.specs.Requests.{may_peek}
-use Rattle.pt_model.specs.Admissible.{clone_number, execve_number, is_exit_number, is_exit_word}
+use Rattle.lx_abi.specs.Calls.{calls, has_effects}
+use Rattle.lx_abi.specs.Effects.{forks, execs, exits}
+use Rattle.pt_model.specs.Admissible.{is_exit_word}
 use Rattle.pt_model.specs.Parts.{Half}
 use Rattle.pt_model.specs.Headline.{IsTold, IsTexts, IsScript}
 use Rattle.pt_model.proofs.Maps.{equal_if}
-use Rattle.pt_model.specs.Tiny.{padded, tiny, Shares, UserState, calls, first_argument, usr1}
+use Rattle.pt_model.specs.Tiny.{padded, tiny, Shares, UserState, calls as tiny_calls, first_argument, usr1}
 use Rattle.pt_model.specs.TinyRuns.{RunsOfTiny, options, script, reads_once}
 
 pub padded_length : (n : ℕ) (r : List ℕ) → length (padded n r) ≡ n
@@ -67,9 +69,9 @@ script_is call n s h = joined_well ((call == 64) && (n == 2)) (call == 172) s h
 
 -- an answer fits the call's number
 abbrev fits : Call → Answer Shares UserState → Bool
-fits c (Execs s b) = c.number == execve_number
-fits c (Bears s b born) = c.number == clone_number
-fits c (Ends w) = is_exit_number c.number && is_exit_word w
+fits c (Execs s b) = has_effects c.number execs
+fits c (Bears s b born) = has_effects c.number forks
+fits c (Ends w) = has_effects c.number exits && is_exit_word w
 fits _ _ = true
 
 abbrev end_fits : Took Shares UserState → Bool
@@ -78,6 +80,10 @@ end_fits (Kills w) = is_signal w
 
 exit_word : (n : ℕ) → is_exit_word (n % 256 * 256) ≡ true
 exit_word n = grind (arith, nat_tests)
+
+or_left : (a b : Bool) → a ≡ true → (a || b) ≡ true
+or_left true b h = refl
+or_left false b h = absurd (cc h)
 
 or_right : (a b : Bool) → b ≡ true → (a || b) ≡ true
 or_right true b h = refl
@@ -95,15 +101,16 @@ either : (c : Call) (b : Bool) (x y : Answer Shares UserState) → (b ≡ true �
 either c true x y h g = h refl
 either c false x y h g = g
 
-calls_fit : (s : Shares) (child p : ℕ) (c : Call) (b : UserState) → fits c (calls s child p c b) ≡ true
+calls_fit : (s : Shares) (child p : ℕ) (c : Call) (b : UserState) → fits c (tiny_calls s child p c b) ≡ true
+unfolding has_effects calls
 calls_fit s child p c b =
     either c (c.number == 63) _ _ (λ h. refl)
     (either c (c.number == 64) _ _ (λ h. refl)
     (either c (c.number == 172) _ _ (λ h. refl)
-    (either c (c.number == 94) _ _ (λ h. ap₂ (λ x y. x && y) (or_right (c.number == 93) (c.number == 94) h) (exit_word (first_argument c)))
+    (either c (c.number == 94) _ _ (λ h. ap₂ (λ x y. x && y) (or_right (c.number == 93) ((c.number == 94) || false) (or_left (c.number == 94) false h)) (exit_word (first_argument c)))
     (either c (c.number == 129) _ _ (λ h. refl)
-    (either c (c.number == 220) _ _ (λ h. h)
-    (either c (c.number == 221) _ _ (λ h. h) refl))))))
+    (either c (c.number == 220) _ _ (λ h. or_left (c.number == 220) false h)
+    (either c (c.number == 221) _ _ (λ h. or_left (c.number == 221) false h) refl))))))
 
 takes_fit : (s : Shares) (b : UserState) (signal : Signal) (q : Bool) → end_fits (cond q (Passes s b) (Kills signal.number)) ≡ true
 takes_fit s b signal true = refl
@@ -111,15 +118,15 @@ takes_fit s b signal false = signal.in_range
 
 pub tiny_told : IsTold tiny
 tiny_told = record {
-  by_clone = λ s t child p c b d born e. sym (equal_if clone_number c.number (sym (ap (fits c) e) ∙ calls_fit s child p c b));
-  by_execve = λ s t child p c b d e. sym (equal_if execve_number c.number (sym (ap (fits c) e) ∙ calls_fit s child p c b));
-  by_exit = λ s child p c b word e. let h : (is_exit_number c.number && is_exit_word word) ≡ true = sym (ap (fits c) e) ∙ calls_fit s child p c b in (and_left _ _ h, and_right (is_exit_number c.number) _ h);
+  by_clone = λ s t child p c b d born e. sym (ap (fits c) e) ∙ calls_fit s child p c b;
+  by_execve = λ s t child p c b d e. sym (ap (fits c) e) ∙ calls_fit s child p c b;
+  by_exit = λ s child p c b word e. let h : (has_effects c.number exits && is_exit_word word) ≡ true = sym (ap (fits c) e) ∙ calls_fit s child p c b in (and_left _ _ h, and_right (has_effects c.number exits) _ h);
   by_signal = λ s p signal cause b word e. sym (ap end_fits e) ∙ takes_fit s b signal (signal.number == 17);
   peeks = λ b a n. omega (arith, length-take n (cond (a == 0) [] (a ∷ [])));
 }
 
 pub runs_of_tiny : RunsOfTiny
-unfolding signal_numbered stop_of
+unfolding signal_numbered stop_of has_effects calls
 runs_of_tiny = record {
   replaced_write = refl;
   replaced_outcome = refl;

@@ -7,7 +7,8 @@ use Rattle.lx_abi.specs.declared.schedule.Event.TheVariants.{Turn, Serve}
 use Rattle.lx_abi.specs.Log.{items_of, entries}
 use Rattle.lx_model.specs.Machine.{Machine, IsMachine}
 use Rattle.lx_model.specs.Kernel.{Script, traces, Kernel, after_turn, with_child, turn_of, kernel_turn, kernel_run}
-use Rattle.pt_model.specs.Ptrace.{Watch, Proc, Host, is_effective, moved, bears, host_turn_of}
+use Rattle.lx_abi.specs.declared.ptrace.TraceOptions.{TraceOptions}
+use Rattle.pt_model.specs.Ptrace.{Proc, Host, is_effective, moved, bears, host_turn_of}
 use Rattle.pt_model.specs.Parts.{Options}
 use Rattle.pt_model.specs.Tracer.{Focus, Booting, Waiting, Serving, Asking_outcome, Over, Turns_over, Faulted, request, is_among}
 use Rattle.pt_model.specs.World.{World, happens_asked, happens, world_run, turns_of, effective}
@@ -21,15 +22,15 @@ use Rattle.pt_model.proofs.Ties.{stage_at, hand_at, is_past, Tied, moved_tied, t
 use Rattle.pt_model.proofs.Serving.{serve_tied}
 
 module _ {S B : Type 0} (m : Machine S B) (o : Options) (script : Script) (w : World S B) (kernel : Kernel S B) where
-  abbrev host_after : ℕ → Option Watch → Host S B
+  abbrev host_after : ℕ → Option TraceOptions → Host S B
   host_after p x = bears (moved w.host p x (host_turn_of m w.host p)) x (host_turn_of m w.host p).event
 
-  turn_tied : IsMachine m → IsTold m → (t : Tied m o script w kernel) (p : ℕ) (effective : Bool) → is_effective m w.host.shared p (w.host.procs p) ≡ effective → Tied m o script (record { host = cond effective (host_after p (w.host.procs p).watch) w.host; tracer = w.tracer; printed = w.printed }) (kernel_run m script o.follow kernel (cond effective (p ∷ []) []))
+  turn_tied : IsMachine m → IsTold m → (t : Tied m o script w kernel) (p : ℕ) (effective : Bool) → is_effective m w.host.shared p (w.host.procs p) ≡ effective → Tied m o script (record { host = cond effective (host_after p (w.host.procs p).options) w.host; tracer = w.tracer; printed = w.printed }) (kernel_run m script o.follow kernel (cond effective (p ∷ []) []))
   turn_tied laws words t p true f =
       let u : Turned m o.follow o script p (t.phases p) (w.tracer.known p) (λ n. entries p n (items_of kernel.log)) (turn_of m script o.follow kernel p) (host_turn_of m w.host p) = turn_here m o script w kernel laws words t p f in
-      let x : Option Watch = (proc_of m o.follow (t.phases p)).watch in
+      let x : Option TraceOptions = (proc_of m o.follow (t.phases p)).options in
       let v : World S B = record { host = moved w.host p x (host_turn_of m w.host p); tracer = w.tracer; printed = w.printed } in
-      subst (λ y. Tied m o script (record { host = host_after p y; tracer = w.tracer; printed = w.printed }) (with_child (after_turn kernel p (turn_of m script o.follow kernel p)) (turn_of m script o.follow kernel p).event)) (sym (ap (λ (t : Proc B). t.watch) (t.each p).proc))
+      subst (λ y. Tied m o script (record { host = host_after p y; tracer = w.tracer; printed = w.printed }) (with_child (after_turn kernel p (turn_of m script o.follow kernel p)) (turn_of m script o.follow kernel p).event)) (sym (ap (λ (t : Proc B). t.options) (t.each p).proc))
       (subst (λ e. Tied m o script (record { host = host_after p x; tracer = w.tracer; printed = w.printed }) (with_child (after_turn kernel p (turn_of m script o.follow kernel p)) e)) u.event
       (born_tied m o script v (after_turn kernel p (turn_of m script o.follow kernel p)) (moved_tied m o script w kernel t p (turn_of m script o.follow kernel p) (host_turn_of m w.host p) u) p (t.phases p) (host_turn_of m w.host p).event (t.each p).sort
       (λ r past. cc ((t.each p).listed r, ap (is_among p) (t.over past))) u.birth))

@@ -11,6 +11,9 @@ use Rattle.lx_abi.specs.declared.status.EventStop.{EventStop}
 use Rattle.lx_abi.specs.declared.status.EventStop.TheVariants.{Fork as At_fork, Exec as At_exec, Stop as At_start}
 use Rattle.lx_abi.specs.declared.status.Stop.{Stop}
 use Rattle.lx_abi.specs.declared.status.Stop.TheVariants.{Syscall as Syscall_stop, Signal as Signal_stop, Event as Event_stop, Ended}
+use Rattle.lx_abi.specs.Calls.{has_effects}
+use Rattle.lx_abi.specs.Effects.{forks, execs, exits}
+use Rattle.lx_abi.specs.Errnos.{esrch, eio}
 use Rattle.lx_abi.specs.Signals.{is_signal}
 pub use Rattle.pt_model.specs.declared.standing.Standing.{Standing}
 pub use Rattle.pt_model.specs.declared.standing.Standing.TheVariants.{Unmet, Between, AfterSignal as After_signal, Unread, Read, AfterEvent as After_event, AtEnd as At_end}
@@ -47,13 +50,13 @@ answers q r = false
 -- ESRCH, by SIGKILL, at every place but Seize; EIO where nothing is mapped at Peek's address
 abbrev pub admits_errno : Ask → ℕ → Bool
 admits_errno (Seize options) n = false
-admits_errno (SetOptions options) n = n == 3
-admits_errno GetRegs n = n == 3
-admits_errno (SetRegs r) n = n == 3
-admits_errno (Peek address length) n = (n == 3) || (n == 5)
-admits_errno (Syscall signal) n = n == 3
-admits_errno EventMsg n = n == 3
-admits_errno SigInfo n = n == 3
+admits_errno (SetOptions options) n = n == esrch
+admits_errno GetRegs n = n == esrch
+admits_errno (SetRegs r) n = n == esrch
+admits_errno (Peek address length) n = (n == esrch) || (n == eio)
+admits_errno (Syscall signal) n = n == esrch
+admits_errno EventMsg n = n == esrch
+admits_errno SigInfo n = n == esrch
 
 -- Bytes are at least one, and at most as many as were asked for
 abbrev pub admits_answer : Ask → Reply → Bool
@@ -77,24 +80,14 @@ was_read Read = true
 was_read After_event = true
 was_read _ = false
 
-abbrev pub clone_number : ℕ
-clone_number = 220
-
-abbrev pub execve_number : ℕ
-execve_number = 221
-
--- exit and exit_group
-abbrev pub is_exit_number : ℕ → Bool
-is_exit_number n = (n == 93) || (n == 94)
-
 -- WIFEXITED of wait(2)
 abbrev pub is_exit_word : ℕ → Bool
 is_exit_word word = (word % 256 == 0) && nat_lt word 65536
 
 -- the event stop that a call of this number may come to
 abbrev pub event_fits : Bool → ℕ → EventStop → Bool
-event_fits follow number At_fork = follow && (number == clone_number)
-event_fits follow number At_exec = number == execve_number
+event_fits follow number At_fork = follow && has_effects number forks
+event_fits follow number At_exec = has_effects number execs
 event_fits follow number At_start = false
 
 -- SIGKILL ends a tracee everywhere, an exit only in its own call, unless that is replaced
@@ -104,7 +97,7 @@ end_fits number replaced Between word = word == 9
 end_fits number replaced After_signal word = is_signal word
 end_fits number replaced Unread word = word == 9
 end_fits number true Read word = word == 9
-end_fits number false Read word = (word == 9) || (is_exit_number number && is_exit_word word)
+end_fits number false Read word = (word == 9) || (has_effects number exits && is_exit_word word)
 end_fits number replaced After_event word = word == 9
 end_fits number replaced At_end word = false
 

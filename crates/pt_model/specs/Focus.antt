@@ -12,6 +12,7 @@ use Rattle.lx_abi.specs.declared.status.EventStop.TheVariants.{Fork as At_fork, 
 use Rattle.lx_abi.specs.declared.status.Stop.{Stop}
 use Rattle.lx_abi.specs.declared.status.Stop.TheVariants.{Syscall as Syscall_stop, Signal as Signal_stop}
 use Rattle.lx_abi.specs.declared.status.Stop.TheVariants.{Event as Event_stop, Ended}
+use Rattle.lx_abi.specs.Errnos.{echild}
 use Rattle.lx_abi.specs.Status.{stop_of}
 use Rattle.lx_model.specs.Kernel.{Script, put}
 use Rattle.pt_model.specs.Admissible.{Standing, Between, After_signal, After_event, At_end, was_read}
@@ -103,7 +104,7 @@ took_status o known p (Some stop) = took_stop o known p stop
 abbrev pub next_at : Options → Script → (ℕ → Known) → Focus → Reply → Next
 next_at o script known Booting reply = stays known (Serving 1 Seizing)
 next_at o script known Waiting (Status_is p status) = took_status o known p (stop_of status.word)
-next_at o script known Waiting (Errno_is n) = stays known (cond (n == 10) Asking_outcome Waiting)
+next_at o script known Waiting (Errno_is n) = stays known (cond (n == echild) Asking_outcome Waiting)
 next_at o script known (Serving p place) Out_of_turns = stays known Turns_over
 next_at o script known (Serving p place) reply = heard known p (hears o script p (known p) place reply)
 next_at o script known Asking_outcome (Outcome_is x) = stays known (Over x)

@@ -5,28 +5,30 @@ use Rattle.lx_abi.specs.declared.log.Cause.{Cause}
 use Rattle.lx_abi.specs.declared.outcome.Outcome.{Outcome}
 use Rattle.lx_abi.specs.declared.schedule.Event.{Event}
 use Rattle.lx_abi.specs.declared.signal.Signal.{Signal}
+use Rattle.lx_abi.specs.Calls.{has_effects}
+use Rattle.lx_abi.specs.Effects.{forks, execs, exits}
 use Rattle.lx_abi.specs.Log.{Noted}
 use Rattle.lx_abi.specs.Signals.{is_signal, may_join}
 use Rattle.lx_model.specs.Machine.{Machine, IsMachine, Execs, Bears, Ends, Kills}
 use Rattle.lx_model.specs.Kernel.{Script, traces, Kernel, kernel_run, first_kernel}
 use Rattle.pt_model.specs.Ptrace.{Report}
 use Rattle.pt_model.specs.Requests.{may_peek}
-use Rattle.pt_model.specs.Admissible.{clone_number, execve_number, is_exit_number, is_exit_word}
+use Rattle.pt_model.specs.Admissible.{is_exit_word}
 use Rattle.pt_model.specs.Parts.{Half, Texts, Options, Part}
 use Rattle.pt_model.specs.Tracer.{Focus, Booting, Waiting, Serving, Asking_outcome, Over, Turns_over, Faulted}
 use Rattle.pt_model.specs.World.{World, world_run, effective, first_world}
 use Rattle.pt_model.specs.View.{has_exit, view, traced, most_reads, parts, Due, report_of, items_in}
 
--- what a tracer is told of calls fits their numbers (wait(2), ptrace(2)): children come of clone, new
--- programs of execve, exit codes of exit and exit_group, and other ends of a signal; no read of a memory
--- gives more bytes than were asked for
+-- what a tracer is told of calls fits their numbers (wait(2), ptrace(2)): children come of a call that forks (clone),
+-- new programs of one that executes a program (execve), exit codes of one that ends its process (exit, exit_group), and
+-- other ends of a signal; no read of a memory gives more bytes than were asked for
 pub record IsTold {S B : Type 0} (m : Machine S B) : Type 0 where
   pub by_clone : (s t : S) (child p : ℕ) (c : Call) (b d born : B) →
-      m.call s child p c b ≡ Bears t d born → c.number ≡ clone_number
+      m.call s child p c b ≡ Bears t d born → has_effects c.number forks ≡ true
   pub by_execve : (s t : S) (child p : ℕ) (c : Call) (b d : B) →
-      m.call s child p c b ≡ Execs t d → c.number ≡ execve_number
+      m.call s child p c b ≡ Execs t d → has_effects c.number execs ≡ true
   pub by_exit : (s : S) (child p : ℕ) (c : Call) (b : B) (word : ℕ) → m.call s child p c b ≡ Ends word →
-      (is_exit_number c.number ≡ true) × (is_exit_word word ≡ true)
+      (has_effects c.number exits ≡ true) × (is_exit_word word ≡ true)
   pub by_signal : (s : S) (p : ℕ) (signal : Signal) (cause : Cause) (b : B) (word : ℕ) →
       m.take s p signal cause b ≡ Kills word → is_signal word ≡ true
   pub peeks : (b : B) (address most : ℕ) → length (m.peek b address most) ≤ most

@@ -7,8 +7,11 @@ use Rattle.lx_abi.specs.declared.ptrace.Info.{Info}
 use Rattle.lx_abi.specs.declared.ptrace.Reply.{Reply}
 use Rattle.lx_abi.specs.declared.ptrace.Reply.TheVariants.{Done as Agreed, Registers as Registers_are}
 use Rattle.lx_abi.specs.declared.ptrace.Reply.TheVariants.{Bytes as Bytes_are, Info as Info_is, Errno as Errno_is}
+use Rattle.lx_abi.specs.declared.ptrace.TraceOptions.{TraceOptions}
 use Rattle.lx_abi.specs.declared.script.Choice.{Choice}
 use Rattle.lx_abi.specs.declared.signal.Signal.{Signal}
+use Rattle.lx_abi.specs.Errnos.{eio}
+use Rattle.lx_abi.specs.Options.{option_bits}
 use Rattle.lx_model.specs.Machine.{Regs, call_of, a0_of, a7_of, sp_of, with_a0, with_a7, no_call}
 use Rattle.lx_model.specs.Turn.{result_word}
 use Rattle.lx_model.specs.Kernel.{Script}
@@ -33,9 +36,12 @@ pub data Awaiting : Type 0 where
   -- with a signal, 0 for none
   Resuming : ℕ → Awaiting
 
--- TRACESYSGOOD, TRACEEXEC and with follow TRACEFORK
+-- the options of each tracee
+abbrev pub asked_options : Bool → TraceOptions
+asked_options follow = record { good = true; forks = follow; execs = true }
+
 abbrev pub options_word : Bool → ℕ
-options_word follow = cond follow 0x13 0x11
+options_word follow = option_bits (asked_options follow)
 
 abbrev pub asks : Options → Awaiting → Ask
 asks o Seizing = Seize (options_word o.follow)
@@ -126,7 +132,7 @@ regs_in _ = None
 -- what Peek read: EIO says that nothing is mapped there
 abbrev pub bytes_of : Reply → Option (List ℕ)
 bytes_of (Bytes_are bytes) = Some bytes
-bytes_of (Errno_is n) = cond (n == 5) (Some []) None
+bytes_of (Errno_is n) = cond (n == eio) (Some []) None
 bytes_of _ = None
 
 abbrev pub told_info : Reply → Option Info

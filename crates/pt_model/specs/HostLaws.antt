@@ -9,7 +9,8 @@ use Rattle.lx_model.specs.Machine.{Machine}
 use Rattle.lx_model.specs.Turn.{Out, turn}
 use Rattle.lx_model.specs.declared.stage.Task.{Task}
 use Rattle.lx_model.specs.Finite.{item_of, running_turn, task_mode, IsAble}
-use Rattle.pt_model.specs.Ptrace.{Watch, tracee_stop, is_dying, is_effective, host_turn}
+use Rattle.lx_abi.specs.declared.ptrace.TraceOptions.{TraceOptions}
+use Rattle.pt_model.specs.Ptrace.{tracee_stop, is_dying, is_effective, host_turn}
 use Rattle.pt_model.specs.Requests.{serve}
 use Rattle.pt_model.specs.World.{first_world}
 use Rattle.pt_model.specs.Attending.{is_ready, IsHostAble, event, turned}
@@ -50,7 +51,7 @@ EmptyScriptIsNone = choice_of [] ≡ no_script
 
 -- a turn's mode, item and deed tell its process's stop
 abbrev pub TurnsTell : Type 0 → Type 0 → Type 0
-TurnsTell S B = (m : Machine S B) (c : Choice) (s : S) (child p : ℕ) (task : Task B) (w : Watch) →
+TurnsTell S B = (m : Machine S B) (c : Choice) (s : S) (child p : ℕ) (task : Task B) (w : TraceOptions) →
     let o : Out S B = turn m c s child p task in
     (told_stop w (task_mode o.task) (item_of o) (deed_of o.event) ≡ tracee_stop w o.task o.event)
     × (ends_dying (task_mode o.task) ≡ is_dying o.task)

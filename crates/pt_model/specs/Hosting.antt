@@ -25,7 +25,8 @@ use Rattle.lx_model.specs.declared.stage.Task.{Task}
 use Rattle.lx_model.specs.declared.stage.Task.TheVariants.{Alive, Dying, Gone}
 use Rattle.lx_model.specs.Kernel.{Script}
 use Rattle.lx_model.specs.Finite.{at, Running, ran, bore, turn_out, first_running, with_task}
-use Rattle.pt_model.specs.Ptrace.{Watch, Proc, Report, Host, tracee_stop, stop_at, is_dying, is_there, reports_of, without, is_effective, inherits}
+use Rattle.lx_abi.specs.declared.ptrace.TraceOptions.{TraceOptions}
+use Rattle.pt_model.specs.Ptrace.{Proc, Report, Host, tracee_stop, stop_at, is_dying, is_there, reports_of, without, is_effective, inherits}
 use Rattle.pt_model.specs.Requests.{esrch, echild, Answered, stopped, unseized, told}
 use Rattle.pt_model.specs.Attending.{Attending, left_pending}
 pub use Rattle.pt_model.specs.declared.ptrace.Traced.{Traced}
@@ -35,7 +36,7 @@ pub use Rattle.lx_model.specs.declared.stage.Deed.TheVariants as deed
 pub use Rattle.lx_model.specs.Deeds.{deed_of}
 
 abbrev pub untraced : Traced
-untraced = record { held = false; watch = None; message = 0 }
+untraced = record { held = false; options = None; message = 0 }
 
 pub record Hosting (S B : Type 0) : Type 0 where
   -- the kernel; its log is no part of the ptrace machine
@@ -54,7 +55,7 @@ abbrev pub traced_at : {S B : Type 0} → Hosting S B → ℕ → Traced
 traced_at v = at untraced v.traced
 
 abbrev pub as_proc : {B : Type 0} → Task B → Traced → Proc B
-as_proc task t = record { task = task; held = t.held; watch = t.watch }
+as_proc task t = record { task = task; held = t.held; options = t.options }
 
 abbrev pub proc_in : {S B : Type 0} → Hosting S B → ℕ → Proc B
 proc_in v p = as_proc (at Gone v.running.tasks p) (traced_at v p)
@@ -81,34 +82,34 @@ IsFresh v = (q : ℕ) → v.running.child ≤ q → maps.get v.traced q ≡ None
 abbrev pub no_script : Script
 no_script call n = no_choice
 
-abbrev pub message_after : {B : Type 0} → ℕ → ℕ → ℕ → Watch → Event B → ℕ
+abbrev pub message_after : {B : Type 0} → ℕ → ℕ → ℕ → TraceOptions → Event B → ℕ
 message_after message p child w Plain = message
 message_after message p child w Execed = cond w.execs p message
 message_after message p child w (Forked b) = cond w.forks child message
 
 -- what is kept of a tracee after its turn; of who is none nothing is
 abbrev pub traced_after : {B : Type 0} → maps.FinMap nat_cmp Traced → ℕ → ℕ → ℕ
-    → Option Watch → Task B → Event B → maps.FinMap nat_cmp Traced
+    → Option TraceOptions → Task B → Event B → maps.FinMap nat_cmp Traced
 traced_after traced p child message None task e = traced
 traced_after traced p child message (Some w) task e = maps.insert traced p (record {
   held = is_there (tracee_stop w task e);
-  watch = Some w;
+  options = Some w;
   message = message_after message p child w e;
 })
 
 -- a child that is a tracee is held, and its EVENT_STOP reported
-abbrev pub with_newborn : {S B : Type 0} → Hosting S B → ℕ → Option Watch → Hosting S B
+abbrev pub with_newborn : {S B : Type 0} → Hosting S B → ℕ → Option TraceOptions → Hosting S B
 with_newborn v child None = v
 with_newborn v child (Some w) = record {
   running = v.running;
-  traced = maps.insert v.traced child (record { held = true; watch = Some w; message = 0 });
+  traced = maps.insert v.traced child (record { held = true; options = Some w; message = 0 });
   queue = v.queue ++ record { pid = child; stop = Event_stop At_start } ∷ [];
   tracees = v.tracees ++ child ∷ [];
   turns = v.turns;
   pending = v.pending;
 }
 
-abbrev pub with_birth : {S B : Type 0} → Hosting S B → ℕ → Option Watch → Event B → Hosting S B
+abbrev pub with_birth : {S B : Type 0} → Hosting S B → ℕ → Option TraceOptions → Event B → Hosting S B
 with_birth v child w Plain = v
 with_birth v child w Execed = v
 with_birth v child w (Forked b) = with_newborn v child (inherits w)
@@ -117,12 +118,12 @@ with_birth v child w (Forked b) = with_newborn v child (inherits w)
 abbrev pub hosted : {S B : Type 0} → Hosting S B → ℕ → Traced → Out S B → Hosting S B
 hosted v p t o = with_birth (record {
   running = bore (ran v.running p o) o.event;
-  traced = traced_after v.traced p v.running.child t.message t.watch o.task o.event;
-  queue = cond (is_dying o.task) (without p v.queue) v.queue ++ reports_of p (stop_at t.watch o.task o.event);
+  traced = traced_after v.traced p v.running.child t.message t.options o.task o.event;
+  queue = cond (is_dying o.task) (without p v.queue) v.queue ++ reports_of p (stop_at t.options o.task o.event);
   tracees = v.tracees;
   turns = v.turns ++ p ∷ [];
   pending = v.pending;
-}) v.running.child t.watch o.event
+}) v.running.child t.options o.event
 
 -- a turn that is effective is the kernel's own, under the empty script
 abbrev pub hosting_turn : {S B : Type 0} → Machine S B → Bool → Hosting S B → ℕ → Hosting S B
@@ -132,7 +133,7 @@ hosting_turn m follow v p =
 
 -- What a turn tells: its mode and item, and what it did beside
 
-abbrev pub deed_stop : Watch → Deed → Option Stop
+abbrev pub deed_stop : TraceOptions → Deed → Option Stop
 deed_stop w deed.Plain = None
 deed_stop w deed.Execed = cond w.execs (Some (Event_stop At_exec)) None
 deed_stop w deed.Bore = cond w.forks (Some (Event_stop At_fork)) None
@@ -144,7 +145,7 @@ item_stop (Some (Exit p word left)) = Some (Ended word)
 item_stop _ = None
 
 -- the stop of a tracee that has come to this mode
-abbrev pub mode_stop : Watch → Mode → Option Item → Deed → Option Stop
+abbrev pub mode_stop : TraceOptions → Mode → Option Item → Deed → Option Stop
 mode_stop w mode.Entered item deed = Some (Syscall_stop w.good)
 mode_stop w mode.Acted item deed = deed_stop w deed
 mode_stop w mode.Finished item deed = Some (Syscall_stop w.good)
@@ -152,7 +153,7 @@ mode_stop w mode.Taken item deed = item_stop item
 mode_stop w mode.Dying item deed = item_stop item
 mode_stop _ _ _ _ = None
 
-abbrev pub told_stop : Watch → Option Mode → Option Item → Deed → Option Stop
+abbrev pub told_stop : TraceOptions → Option Mode → Option Item → Deed → Option Stop
 told_stop w None item deed = None
 told_stop w (Some mode) item deed = mode_stop w mode item deed
 
@@ -170,7 +171,7 @@ abbrev pub with_answer : {S B : Type 0} → Hosting S B → ℕ → ℕ → Answ
 with_answer v p message a = record {
   hosting = record {
     running = with_task v.running p a.proc.task;
-    traced = maps.insert v.traced p (record { held = a.proc.held; watch = a.proc.watch; message = message });
+    traced = maps.insert v.traced p (record { held = a.proc.held; options = a.proc.options; message = message });
     queue = cond a.seized (v.queue ++ record { pid = p; stop = Event_stop At_start } ∷ []) v.queue;
     tracees = cond a.seized (v.tracees ++ p ∷ []) v.tracees;
     turns = v.turns;
@@ -181,7 +182,7 @@ with_answer v p message a = record {
 
 -- a request to a process that is not held, or is ending, changes nothing
 abbrev pub hosting_to : {S B : Type 0} → Machine S B → Hosting S B
-    → ℕ → ℕ → Proc B → Bool → Option Watch → Task B → Ask → Hosted S B
+    → ℕ → ℕ → Proc B → Bool → Option TraceOptions → Task B → Ask → Hosted S B
 hosting_to m v p message t true (Some w) (Alive b stage) q = with_answer v p message (stopped m t b stage message q)
 hosting_to m v p message t true (Some w) (Dying word) q = refuses v
 hosting_to m v p message t true (Some w) Gone q = refuses v
@@ -191,7 +192,7 @@ hosting_to m v p message t false w task q = refuses v
 -- who is waited for is held no more
 abbrev pub released : maps.FinMap nat_cmp Traced → ℕ → Option Traced → maps.FinMap nat_cmp Traced
 released traced p None = traced
-released traced p (Some t) = maps.insert traced p (record { held = false; watch = t.watch; message = t.message })
+released traced p (Some t) = maps.insert traced p (record { held = false; options = t.options; message = t.message })
 
 abbrev pub with_queue : {S B : Type 0} → Hosting S B → List Report → Hosting S B
 with_queue v queue = record {
@@ -225,7 +226,7 @@ abbrev pub hosting_serve : {S B : Type 0} → Machine S B → (S → Outcome) �
 hosting_serve m outcome v (Boot_with boot limit words) = record { hosting = v; reply = None }
 hosting_serve m outcome v Wait = hosting_wait v v.queue v.tracees
 hosting_serve m outcome v (To p q) =
-    hosting_to m v p (traced_at v p).message (proc_in v p) (traced_at v p).held (traced_at v p).watch
+    hosting_to m v p (traced_at v p).message (proc_in v p) (traced_at v p).held (traced_at v p).options
     (at Gone v.running.tasks p) q
 hosting_serve m outcome v Ask_outcome = record { hosting = v; reply = Some (Outcome_is (outcome v.running.shared)) }
 
@@ -274,7 +275,7 @@ ready_in (Some Ask_outcome) queue tracees = true
 abbrev pub first_hosting : {S B : Type 0} → S → B → Hosting S B
 first_hosting s b = record {
   running = first_running s b;
-  traced = maps.insert maps.empty 1 (record { held = true; watch = None; message = 0 });
+  traced = maps.insert maps.empty 1 (record { held = true; options = None; message = 0 });
   queue = [];
   tracees = [];
   turns = [];

@@ -13,7 +13,8 @@ use Rattle.lx_model.specs.declared.stage.Stage.{Stage}
 use Rattle.lx_model.specs.declared.stage.Task.{Task}
 use Rattle.lx_model.specs.declared.stage.Task.TheVariants.{Alive, Dying, Gone}
 use Rattle.lx_model.specs.Kernel.{Script, Kernel, kernel_turn, kernel_run, first_kernel}
-use Rattle.pt_model.specs.Ptrace.{Watch, Host, Report, is_dying, is_effective, host_turn, host_turn_of}
+use Rattle.lx_abi.specs.declared.ptrace.TraceOptions.{TraceOptions}
+use Rattle.pt_model.specs.Ptrace.{Host, Report, is_dying, is_effective, host_turn, host_turn_of}
 use Rattle.pt_model.specs.Requests.{told, serve}
 use Rattle.pt_model.specs.Headline.{IsScript}
 use Rattle.pt_model.specs.View.{view, has_exit, has_kill}
@@ -47,9 +48,9 @@ TheHeldAreStill S B = (m : Machine S B) (h : Host S B) (p : ℕ) →
 -- but for SIGKILL, by which a held tracee that lives is dying
 abbrev pub TheHeldCanBeKilled : Type 0 → Type 0 → Type 0
 TheHeldCanBeKilled S B =
-    (m : Machine S B) (h : Host S B) (p : ℕ) (b : B) (stage : Stage) (w : Watch) →
-    h.procs p ≡ record { task = Alive b stage; held = true; watch = Some w } → m.killed h.shared p ≡ true →
-    (host_turn m h p).procs p ≡ record { task = Dying kill_word; held = true; watch = Some w }
+    (m : Machine S B) (h : Host S B) (p : ℕ) (b : B) (stage : Stage) (w : TraceOptions) →
+    h.procs p ≡ record { task = Alive b stage; held = true; options = Some w } → m.killed h.shared p ≡ true →
+    (host_turn m h p).procs p ≡ record { task = Dying kill_word; held = true; options = Some w }
 
 -- Wait tells the first report, and takes it
 abbrev pub FirstReportIsTold : Type 0 → Type 0 → Type 0
@@ -61,8 +62,8 @@ FirstReportIsTold S B =
 -- under TRACEFORK the parent's EVENT_FORK comes before the child's EVENT_STOP, and both come last
 abbrev pub ForkIsToldFirst : Type 0 → Type 0 → Type 0
 ForkIsToldFirst S B =
-    (m : Machine S B) (h : Host S B) (p : ℕ) (w : Watch) (born : B) →
-    (h.procs p).watch ≡ Some w → w.forks ≡ true →
+    (m : Machine S B) (h : Host S B) (p : ℕ) (w : TraceOptions) (born : B) →
+    (h.procs p).options ≡ Some w → w.forks ≡ true →
     is_effective m h.shared p (h.procs p) ≡ true → (host_turn_of m h p).event ≡ Forked born →
     (host_turn m h p).queue
     ≡ h.queue ++ record { pid = p; stop = Event_stop At_fork }

@@ -1,6 +1,7 @@
 -- The ptrace machine: the kernel under the empty script, with tracees and the stops that they report
 -- (ptrace(2), "Stopped states").
-use Rattle.std.specs.Prelude.{ℕ, suc, ◌==◌, Bool, true, false, cond, not, List, [], ◌∷◌, ◌++◌, Option, Some, None, filter, bit_and}
+use Rattle.std.specs.Prelude.{ℕ, suc, ◌==◌, Bool, true, false, cond, not, List, [], ◌∷◌, ◌++◌, Option, Some, None, filter}
+use Rattle.lx_abi.specs.declared.ptrace.TraceOptions.{TraceOptions}
 use Rattle.lx_abi.specs.declared.status.EventStop.TheVariants.{Fork as At_fork, Exec as At_exec, Stop as At_start}
 use Rattle.lx_abi.specs.declared.status.Stop.{Stop}
 use Rattle.lx_abi.specs.declared.status.Stop.TheVariants.{Event as Event_stop, Ended}
@@ -13,13 +14,6 @@ use Rattle.lx_model.specs.declared.stage.Task.TheVariants.{Alive, Dying, Gone}
 use Rattle.lx_model.specs.Kernel.{put}
 use Rattle.lx_model.specs.Rows.{row}
 pub use Rattle.pt_model.specs.declared.ptrace.Report.{Report}
-pub use Rattle.pt_model.specs.declared.ptrace.Watch.{Watch}
-
--- other bits are refused
-abbrev pub watch_of : ℕ → Option Watch
-watch_of o =
-    cond (bit_and o 0x13 == o)
-    (Some (record { good = bit_and o 1 == 1; forks = bit_and o 2 == 2; execs = bit_and o 0x10 == 0x10 })) None
 
 -- a process as a tracer meets it
 pub record Proc (B : Type 0) : Type 0 where
@@ -27,7 +21,7 @@ pub record Proc (B : Type 0) : Type 0 where
   -- in a stop, and not resumed
   pub held : Bool
   -- its options, where it is a tracee
-  pub watch : Option Watch
+  pub options : Option TraceOptions
 
 pub record Host (S B : Type 0) : Type 0 where
   pub shared : S
@@ -43,19 +37,19 @@ pub record Host (S B : Type 0) : Type 0 where
 
 -- What a turn has come to
 
-abbrev pub event_stop : {B : Type 0} → Watch → Event B → Option Stop
+abbrev pub event_stop : {B : Type 0} → TraceOptions → Event B → Option Stop
 event_stop w Plain = None
 event_stop w Execed = cond w.execs (Some (Event_stop At_exec)) None
 event_stop w (Forked b) = cond w.forks (Some (Event_stop At_fork)) None
 
 -- the stop of a tracee after its turn, from where it stands and what its call did
-abbrev pub tracee_stop : {B : Type 0} → Watch → Task B → Event B → Option Stop
+abbrev pub tracee_stop : {B : Type 0} → TraceOptions → Task B → Event B → Option Stop
 tracee_stop w (Alive b stage) e = (row stage).stop w.good (event_stop w e)
 tracee_stop w (Dying word) e = Some (Ended word)
 tracee_stop w Gone e = None
 
 -- a process that is no tracee has no stops
-abbrev pub stop_at : {B : Type 0} → Option Watch → Task B → Event B → Option Stop
+abbrev pub stop_at : {B : Type 0} → Option TraceOptions → Task B → Event B → Option Stop
 stop_at (Some w) task e = tracee_stop w task e
 stop_at None task e = None
 
@@ -78,19 +72,19 @@ without p reports = filter (λ r. not (p == r.pid)) reports
 -- Which turns reach the kernel
 
 -- SIGKILL is pending for a tracee before Dying
-abbrev pub may_die : {S B : Type 0} → Machine S B → S → ℕ → Option Watch → Task B → Bool
+abbrev pub may_die : {S B : Type 0} → Machine S B → S → ℕ → Option TraceOptions → Task B → Bool
 may_die m s p (Some w) (Alive b stage) = m.killed s p
 may_die _ _ _ _ _ = false
 
 -- a held process takes no turn but to Dying, by SIGKILL (ptrace(2), "Death under ptrace"); process 1
 -- before Seize is alone, and nobody can kill it
 abbrev pub is_effective : {S B : Type 0} → Machine S B → S → ℕ → Proc B → Bool
-is_effective m s p t = cond t.held (may_die m s p t.watch t.task) true
+is_effective m s p t = cond t.held (may_die m s p t.options t.task) true
 
-abbrev pub proc_after : {B : Type 0} → Option Watch → Task B → Event B → Proc B
-proc_after w task e = record { task = task; held = is_there (stop_at w task e); watch = w }
+abbrev pub proc_after : {B : Type 0} → Option TraceOptions → Task B → Event B → Proc B
+proc_after w task e = record { task = task; held = is_there (stop_at w task e); options = w }
 
-abbrev pub messages_after : {B : Type 0} → (ℕ → ℕ) → ℕ → ℕ → Option Watch → Event B → ℕ → ℕ
+abbrev pub messages_after : {B : Type 0} → (ℕ → ℕ) → ℕ → ℕ → Option TraceOptions → Event B → ℕ → ℕ
 messages_after messages p child None e = messages
 messages_after messages p child (Some w) Plain = messages
 messages_after messages p child (Some w) Execed = cond w.execs (put messages p p) messages
@@ -98,7 +92,7 @@ messages_after messages p child (Some w) (Forked b) = cond w.forks (put messages
 
 -- what a turn of p leaves, before a child is born: its stop is reported last, and where it is dying
 -- no stop that was not told of is reported any more
-abbrev pub moved : {S B : Type 0} → Host S B → ℕ → Option Watch → Out S B → Host S B
+abbrev pub moved : {S B : Type 0} → Host S B → ℕ → Option TraceOptions → Out S B → Host S B
 moved h p w o = record {
   shared = o.shared;
   procs = put h.procs p (proc_after w o.task o.event);
@@ -111,15 +105,15 @@ moved h p w o = record {
 -- Children
 
 -- a child's options, where TRACEFORK makes it a tracee
-abbrev pub inherits : Option Watch → Option Watch
+abbrev pub inherits : Option TraceOptions → Option TraceOptions
 inherits None = None
 inherits (Some w) = cond w.forks (Some w) None
 
 -- a child that is a tracee is held, and its EVENT_STOP reported
-abbrev pub newborn : {S B : Type 0} → Host S B → B → Option Watch → Host S B
+abbrev pub newborn : {S B : Type 0} → Host S B → B → Option TraceOptions → Host S B
 newborn h b None = record {
   shared = h.shared;
-  procs = put h.procs h.child (record { task = Alive b Born; held = false; watch = None });
+  procs = put h.procs h.child (record { task = Alive b Born; held = false; options = None });
   queue = h.queue;
   tracees = h.tracees;
   messages = h.messages;
@@ -127,14 +121,14 @@ newborn h b None = record {
 }
 newborn h b (Some w) = record {
   shared = h.shared;
-  procs = put h.procs h.child (record { task = Alive b Born; held = true; watch = Some w });
+  procs = put h.procs h.child (record { task = Alive b Born; held = true; options = Some w });
   queue = h.queue ++ record { pid = h.child; stop = Event_stop At_start } ∷ [];
   tracees = h.tracees ++ h.child ∷ [];
   messages = h.messages;
   child = suc h.child;
 }
 
-abbrev pub bears : {S B : Type 0} → Host S B → Option Watch → Event B → Host S B
+abbrev pub bears : {S B : Type 0} → Host S B → Option TraceOptions → Event B → Host S B
 bears h w Plain = h
 bears h w Execed = h
 bears h w (Forked b) = newborn h b (inherits w)
@@ -148,13 +142,13 @@ host_turn_of m h p = turn m no_choice h.shared h.child p (h.procs p).task
 abbrev pub host_turn : {S B : Type 0} → Machine S B → Host S B → ℕ → Host S B
 host_turn m h p =
     cond (is_effective m h.shared p (h.procs p))
-    (bears (moved h p (h.procs p).watch (host_turn_of m h p)) (h.procs p).watch (host_turn_of m h p).event) h
+    (bears (moved h p (h.procs p).options (host_turn_of m h p)) (h.procs p).options (host_turn_of m h p).event) h
 
 -- process 1 is held from the boot, and no tracee yet
 abbrev pub first_host : {S B : Type 0} → S → (ℕ → Task B) → Host S B
 first_host s tasks = record {
   shared = s;
-  procs = λ p. record { task = tasks p; held = p == 1; watch = None };
+  procs = λ p. record { task = tasks p; held = p == 1; options = None };
   queue = [];
   tracees = [];
   messages = λ p. 0;

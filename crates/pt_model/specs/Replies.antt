@@ -185,6 +185,24 @@ abbrev pub EachIsLetGo : Type 0
 EachIsLetGo = (o : Options) (script : Script) (x : Moved) (p : ℕ) (place : Awaiting) (rs : List Reply) →
     x.tracer.focus ≡ Serving p place → (after_all o script x rs).tracer.focus ≡ Waiting → LetGo o script x p rs
 
+-- these replies resume the tracee in hand by Syscall, or one of them is ESRCH
+pub record Resumed (o : Options) (script : Script) (x : Moved) (p : ℕ) (rs : List Reply) : Type 0 where
+  pub before : List Reply
+  pub place : Awaiting
+  pub reply : Reply
+  pub more : List Reply
+  pub split : rs ≡ before ++ reply ∷ more
+  pub asked : (after_all o script x before).tracer.focus ≡ Serving p place
+  pub how : (((signal : ℕ) × (place ≡ Resuming signal)) × (reply ≡ Agreed)) ⊎ (reply ≡ esrch)
+
+-- so whoever came to hand by a status was resumed, and not seized, before the next Wait
+abbrev pub EachIsResumed : Type 0
+EachIsResumed = (o : Options) (script : Script) (x : Moved) (p : ℕ) (status : Status) (rs : List Reply) →
+    x.tracer.focus ≡ Waiting → admits o x.tracer (Status_is p status) ≡ true →
+    comes_to_hand p (stop_of status.word) ≡ Some p →
+    (after_all o script x (Status_is p status ∷ rs)).tracer.focus ≡ Waiting →
+    Resumed o script (after o script x (Status_is p status)) p rs
+
 -- a tracer is whole by the reply to Outcome alone, and out of turns by OutOfTurns alone
 abbrev pub WholeIsTold : Type 0
 WholeIsTold = (o : Options) (script : Script) (t : Tracer) (r : Reply) (x : Outcome) →

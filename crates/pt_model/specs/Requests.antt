@@ -10,10 +10,14 @@ use Rattle.lx_abi.specs.declared.ptrace.Reply.{Reply}
 use Rattle.lx_abi.specs.declared.ptrace.Reply.TheVariants.{Done as Agreed, Status as Status_is, Registers as Registers_are, Bytes as Bytes_are, Message as Message_is, Info as Info_is, Outcome as Outcome_is, Errno as Errno_is}
 use Rattle.lx_abi.specs.declared.ptrace.Request.{Request}
 use Rattle.lx_abi.specs.declared.ptrace.Request.TheVariants.{Boot as Boot_with, Wait, To, Outcome as Ask_outcome}
+use Rattle.lx_abi.specs.declared.ptrace.TraceOptions.{TraceOptions}
 use Rattle.lx_abi.specs.declared.signal.Signal.{Signal}
 use Rattle.lx_abi.specs.declared.status.EventStop.TheVariants.{Stop as At_start}
 use Rattle.lx_abi.specs.declared.status.Stop.{Stop}
 use Rattle.lx_abi.specs.declared.status.Stop.TheVariants.{Syscall as Syscall_stop, Signal as Signal_stop, Event as Event_stop, Ended}
+use Rattle.lx_abi.specs.Errnos as errnos
+use Rattle.lx_abi.specs.Limits.{most_peeked}
+use Rattle.lx_abi.specs.Options.{trace_options}
 use Rattle.lx_abi.specs.Status.{word_of}
 use Rattle.lx_model.specs.Machine.{Machine}
 use Rattle.lx_model.specs.declared.stage.Stage.{Stage}
@@ -21,21 +25,21 @@ use Rattle.lx_model.specs.declared.stage.Task.{Task}
 use Rattle.lx_model.specs.declared.stage.Task.TheVariants.{Alive, Dying, Gone}
 use Rattle.lx_model.specs.Kernel.{put}
 use Rattle.lx_model.specs.Rows.{row}
-use Rattle.pt_model.specs.Ptrace.{Watch, watch_of, Proc, Report, Host}
+use Rattle.pt_model.specs.Ptrace.{Proc, Report, Host}
 
 -- The errors of errno(3) that requests have
 
 abbrev pub esrch : Reply
-esrch = Errno_is 3
+esrch = Errno_is errnos.esrch
 
 abbrev pub eio : Reply
-eio = Errno_is 5
+eio = Errno_is errnos.eio
 
 abbrev pub echild : Reply
-echild = Errno_is 10
+echild = Errno_is errnos.echild
 
 abbrev pub einval : Reply
-einval = Errno_is 22
+einval = Errno_is errnos.einval
 
 -- SigInfo: the siginfo_t of a taken signal (sigaction(2))
 
@@ -96,7 +100,7 @@ says t r = record { proc = t; reply = r; seized = false }
 
 -- it is let go, from this stage
 abbrev pub let_go : {B : Type 0} → Proc B → B → Stage → Answered B
-let_go t b stage = says (record { task = Alive b stage; held = false; watch = t.watch }) Agreed
+let_go t b stage = says (record { task = Alive b stage; held = false; options = t.options }) Agreed
 
 -- Syscall: where it may not be let go, EIO
 abbrev pub goes_from : {B : Type 0} → Proc B → B → Option Stage → Answered B
@@ -104,40 +108,40 @@ goes_from t b None = says t eio
 goes_from t b (Some stage) = let_go t b stage
 
 abbrev pub may_peek : ℕ → Bool
-may_peek n = nat_le 1 n && nat_le n 4096
+may_peek n = nat_le 1 n && nat_le n most_peeked
 
 abbrev pub peeked : List ℕ → Reply
 peeked [] = eio
 peeked (x ∷ bytes) = Bytes_are (x ∷ bytes)
 
-abbrev pub set_options : {B : Type 0} → Proc B → Option Watch → Answered B
+abbrev pub set_options : {B : Type 0} → Proc B → Option TraceOptions → Answered B
 set_options t None = says t einval
-set_options t (Some w) = says (record { task = t.task; held = t.held; watch = Some w }) Agreed
+set_options t (Some w) = says (record { task = t.task; held = t.held; options = Some w }) Agreed
 
 -- a held tracee that lives; its message is EventMsg's
 abbrev pub stopped : {S B : Type 0} → Machine S B → Proc B → B → Stage → ℕ → Ask → Answered B
 stopped m t b stage message (Seize options) = says t esrch
-stopped m t b stage message (SetOptions options) = set_options t (watch_of options)
+stopped m t b stage message (SetOptions options) = set_options t (trace_options options)
 stopped m t b stage message GetRegs = says t (Registers_are (m.regs b))
 stopped m t b stage message (SetRegs r) =
-    says (record { task = Alive (m.with_regs b r) stage; held = t.held; watch = t.watch }) Agreed
+    says (record { task = Alive (m.with_regs b r) stage; held = t.held; options = t.options }) Agreed
 stopped m t b stage message (Peek address length) =
     says t (cond (may_peek length) (peeked (m.peek b address length)) einval)
 stopped m t b stage message (Syscall n) = goes_from t b ((row stage).resume n)
 stopped m t b stage message EventMsg = says t (Message_is message)
 stopped m t b stage message SigInfo = says t (info_at stage)
 
-abbrev pub seize : {B : Type 0} → Proc B → Option Watch → Answered B
+abbrev pub seize : {B : Type 0} → Proc B → Option TraceOptions → Answered B
 seize t None = says t einval
 seize t (Some w) = record {
-  proc = record { task = t.task; held = t.held; watch = Some w };
+  proc = record { task = t.task; held = t.held; options = Some w };
   reply = Agreed;
   seized = true;
 }
 
 -- held, and no tracee: process 1 before Seize, the one process that can be seized
 abbrev pub unseized : {B : Type 0} → Proc B → Ask → Answered B
-unseized t (Seize options) = seize t (watch_of options)
+unseized t (Seize options) = seize t (trace_options options)
 unseized t (SetOptions options) = says t esrch
 unseized t GetRegs = says t esrch
 unseized t (SetRegs r) = says t esrch
@@ -147,7 +151,7 @@ unseized t EventMsg = says t esrch
 unseized t SigInfo = says t esrch
 
 -- ESRCH comes before any other refusal: the process is not held, not a tracee, or ending
-abbrev pub answer_at : {S B : Type 0} → Machine S B → ℕ → Proc B → Bool → Option Watch → Task B → Ask → Answered B
+abbrev pub answer_at : {S B : Type 0} → Machine S B → ℕ → Proc B → Bool → Option TraceOptions → Task B → Ask → Answered B
 answer_at m message t true (Some w) (Alive b stage) q = stopped m t b stage message q
 answer_at m message t true (Some w) (Dying word) q = says t esrch
 answer_at m message t true (Some w) Gone q = says t esrch
@@ -155,7 +159,7 @@ answer_at m message t true None task q = unseized t q
 answer_at m message t false w task q = says t esrch
 
 abbrev pub answer : {S B : Type 0} → Machine S B → ℕ → Proc B → Ask → Answered B
-answer m message t q = answer_at m message t t.held t.watch t.task q
+answer m message t q = answer_at m message t t.held t.options t.task q
 
 abbrev pub answered : {S B : Type 0} → Host S B → ℕ → Answered B → Host S B
 answered h p a = record {
@@ -186,7 +190,7 @@ take_report h rest p (Signal_stop signal) = with_queue h rest
 take_report h rest p (Event_stop event) = with_queue h rest
 take_report h rest p (Ended word) = record {
   shared = h.shared;
-  procs = put h.procs p (record { task = (h.procs p).task; held = false; watch = (h.procs p).watch });
+  procs = put h.procs p (record { task = (h.procs p).task; held = false; options = (h.procs p).options });
   queue = rest;
   tracees = filter (λ q. not (p == q)) h.tracees;
   messages = h.messages;

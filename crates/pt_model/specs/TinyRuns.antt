@@ -3,6 +3,7 @@ use Rattle.std.specs.Prelude.{◌≡◌, ℕ, zero, suc, ◌==◌, ◌&&◌, Boo
 use Rattle.lx_abi.specs.declared.schedule.Event.{Event}
 use Rattle.lx_abi.specs.declared.schedule.Event.TheVariants.{Turn, Serve}
 use Rattle.lx_abi.specs.Scripts.{no_choice}
+use Rattle.lx_abi.specs.Sys.{sys_getpid, sys_write}
 use Rattle.lx_model.specs.Kernel.{Script}
 use Rattle.pt_model.specs.Parts.{Half, Options, Part, Part_enter, Part_done, Part_signal, Part_exit}
 use Rattle.pt_model.specs.World.{World, End, Whole, Events_used_up, end_of}
@@ -23,15 +24,15 @@ first_read half (x ∷ xs) = x
 abbrev pub options : Bool → Options
 options follow = record {
   follow = follow;
-  shows = λ n. not (n == 172);
+  shows = λ n. not (n == sys_getpid);
   texts = record { wants = reads_once; text = first_read };
 }
 
 -- the second write fails with 5, and a getpid is replaced by 9 and joined by SIGUSR1
 abbrev pub script : Script
 script call n =
-    cond ((call == 64) && (n == 2)) (record { result = Some (pos 5); signal = None })
-    (cond (call == 172) (record { result = Some (pos 9); signal = Some usr1 }) no_choice)
+    cond ((call == sys_write) && (n == 2)) (record { result = Some (pos 5); signal = None })
+    (cond (call == sys_getpid) (record { result = Some (pos 9); signal = Some usr1 }) no_choice)
 
 -- what is asked of machines, texts and scripts can be met
 pub record PremisesOfTiny : Type 0 where

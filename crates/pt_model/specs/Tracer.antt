@@ -6,6 +6,7 @@ use Rattle.lx_abi.specs.declared.ptrace.Reply.TheVariants.{Errno as Errno_is, Ou
 use Rattle.lx_abi.specs.declared.status.Stop.{Stop}
 use Rattle.lx_abi.specs.declared.status.Stop.TheVariants.{Syscall as Syscall_stop, Signal as Signal_stop}
 use Rattle.lx_abi.specs.declared.status.Stop.TheVariants.{Event as Event_stop, Ended}
+use Rattle.lx_abi.specs.Errnos.{echild}
 use Rattle.lx_abi.specs.Status.{stop_of}
 use Rattle.lx_model.specs.Kernel.{Script, traces}
 use Rattle.pt_model.specs.Admissible.{stop_fits, admits_answer}
@@ -13,7 +14,7 @@ use Rattle.pt_model.specs.Parts.{Options, Part}
 use Rattle.pt_model.specs.Ptrace.{is_there}
 pub use Rattle.pt_model.specs.Known.{Known, opened, closed, stands_at, turned_over, new_known}
 pub use Rattle.pt_model.specs.Hearing.{Awaiting, Seizing, Entry_regs, Entry_peek, Entry_set, Exit_regs, Exit_set, Exit_peek}
-pub use Rattle.pt_model.specs.Hearing.{Signal_info, Resuming, options_word, asks, Heard, nothing, moves, signal_word}
+pub use Rattle.pt_model.specs.Hearing.{Signal_info, Resuming, asked_options, options_word, asks, Heard, nothing, moves, signal_word}
 pub use Rattle.pt_model.specs.Hearing.{entry_with, entry_by, entry, look_entry, read_entry}
 pub use Rattle.pt_model.specs.Hearing.{exit, look_exit, read_exit, exit_with, regs_in, bytes_of, told_info, says_done}
 pub use Rattle.pt_model.specs.Hearing.{at_entry_regs, peeked_entry, at_entry_set, at_exit_regs, at_exit_set}
@@ -37,7 +38,7 @@ abbrev pub admits_at : Options → (ℕ → Known) → List ℕ → Focus → Re
 admits_at o known tracees Booting Agreed = true
 admits_at o known tracees Booting reply = false
 admits_at o known tracees Waiting (Status_is p status) = admits_stop o p (known p) (stop_of status.word)
-admits_at o known tracees Waiting (Errno_is n) = (n == 10) && is_empty tracees
+admits_at o known tracees Waiting (Errno_is n) = (n == echild) && is_empty tracees
 admits_at o known tracees Waiting Out_of_turns = true
 admits_at o known tracees Waiting reply = false
 admits_at o known tracees (Serving p place) reply = admits_answer (asks o place) reply

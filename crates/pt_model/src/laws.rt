@@ -3,7 +3,7 @@
 ghost use Rattle.pt_model.specs.Headline.{IsTransparent};
 ghost use Rattle.pt_model.specs.Replies.{RepliesTellAll, BootComesFirst, TracesGrow, FaultsAreForGood, TakenIsCounted};
 ghost use Rattle.pt_model.specs.Replies.{AdmittedRepliesAnswer, FewRequests, NobodyIsLeftHeld, WholeIsTold, OutOfTurnsIsTold};
-ghost use Rattle.pt_model.specs.Replies.{StatusesComeToHand, TheHandStays, EachIsLetGo, UnreadCallsHaveNoExit};
+ghost use Rattle.pt_model.specs.Replies.{StatusesComeToHand, TheHandStays, EachIsLetGo, EachIsResumed, UnreadCallsHaveNoExit};
 ghost use Rattle.pt_model.specs.Calls.{WorldsAttend, WorldsCall, RunsAppend, OverIsForGood, EventsOfReplies};
 ghost use Rattle.pt_model.specs.Calls.{ListsGiveThemselves, TalksAreAnswers, TalksAreOwn, OutOfTurnsShowsNothing};
 ghost use Rattle.pt_model.specs.Calls.{OwnRepliesTell, FailuresLeaveAPrefix, FaultsLeaveAPrefix, SchedulesAreLists};
@@ -119,12 +119,13 @@ pub fn faults_leave_a_prefix<S, B>()
 {}
 
 /// A status that is no end puts its tracee in hand, and nobody else comes to hand before it is let go or has met
-/// ESRCH; only then is Wait asked again.
+/// ESRCH; only then is Wait asked again. Syscall lets it go; Seize does so only for process 1, once.
 pub fn nobody_is_left_held()
     ensures taken { StatusesComeToHand }
     ensures stays { TheHandStays }
     ensures free { NobodyIsLeftHeld }
     ensures each { EachIsLetGo }
+    ensures resumed { EachIsResumed }
 {}
 
 /// Nothing is shown at an exit whose entry was never read.

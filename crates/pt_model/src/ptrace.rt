@@ -1,18 +1,7 @@
 //! What a tracer has to do with a process.
 
-use lx_abi::Stop;
+use lx_abi::{Stop, TraceOptions};
 pub use lx_model::Deed;
-
-/// A tracee's options (ptrace(2), PTRACE_SETOPTIONS).
-#[derive(Clone, Copy, Debug, PartialEq, Eq)]
-pub struct Watch {
-    /// TRACESYSGOOD 1: a syscall stop can be told from a SIGTRAP.
-    pub good: bool,
-    /// TRACEFORK 2: a child becomes a tracee.
-    pub forks: bool,
-    /// TRACEEXEC 0x10: a successful execve is reported.
-    pub execs: bool,
-}
 
 /// A stop, until Wait has told of it.
 #[derive(Clone, Copy, Debug, PartialEq, Eq)]
@@ -27,7 +16,7 @@ pub struct Traced {
     /// In a stop, and not resumed.
     pub held: bool,
     /// Its options, where it is a tracee.
-    pub watch: Option<Watch>,
+    pub options: Option<TraceOptions>,
     /// What EventMsg answers: the child, or after an execve the pid itself; 0 at first.
     pub message: u32,
 }

@@ -41,8 +41,8 @@ pick_few n true x y f g = f refl
 pick_few n false x y f g = g refl
 
 go_few : (w : Worded) (seen : Readiness) (row : Option Row) → 0 < w.left → Few w.left (go_on w seen row)
-go_few w seen None lt = row_few w (next_able seen.able 0) lt
-go_few w seen (Some r) lt = pick_few w.left (seen.able r.pid && nat_lt 0 r.left) _ _ (λ e. turn_few w r.pid (r.left - 1) lt) (λ e. row_few w (next_able seen.able r.pid) lt)
+go_few w seen None lt = row_few w (next_able seen.able seen.last_pid 0) lt
+go_few w seen (Some r) lt = pick_few w.left (seen.able r.pid && nat_lt 0 r.left) _ _ (λ e. turn_few w r.pid (r.left - 1) lt) (λ e. row_few w (next_able seen.able seen.last_pid r.pid) lt)
 
 default_few : (w : Worded) (seen : Readiness) → 0 < w.left → Few w.left (by_default w seen)
 default_few w seen lt = pick_few w.left seen.ready _ _ (λ e. serve_few w lt) (λ e. go_few w seen w.row lt)

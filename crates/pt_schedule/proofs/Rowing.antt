@@ -49,7 +49,7 @@ abbrev at_row : Row → ℕ → Worded
 at_row r left = worded_by [] true None (Some r) left
 
 row_given : (r : Row) (left : ℕ) (seen : Readiness) (z ready able more : Bool) → z ≡ false → ready ≡ false → able ≡ true → more ≡ true →
-    cond z (end_of (at_row r left)) (cond (true && ready) (serve_of (at_row r left)) (cond ready (serve_of (at_row r left)) (cond (able && more) (turn_with (at_row r left) r.pid (r.left - 1)) (next_row (at_row r left) (next_able seen.able r.pid)))))
+    cond z (end_of (at_row r left)) (cond (true && ready) (serve_of (at_row r left)) (cond ready (serve_of (at_row r left)) (cond (able && more) (turn_with (at_row r left) r.pid (r.left - 1)) (next_row (at_row r left) (next_able seen.able seen.last_pid r.pid)))))
     ≡ gives (at_row r left) r.pid
 row_given r left seen true ready able more e f g k = absurd (cc e)
 row_given r left seen false true able more e f g k = absurd (cc f)

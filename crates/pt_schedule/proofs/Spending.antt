@@ -27,8 +27,8 @@ either n true f g h k = h
 either n false f g h k = k
 
 go_spends : (w : Worded) (seen : Readiness) (r : Option Row) → Spends w.left (go_on w seen r)
-go_spends w seen None = row_spends w (next_able seen.able 0)
-go_spends w seen (Some r) = either w.left (seen.able r.pid && nat_lt 0 r.left) (turn_with w r.pid (r.left - 1)) (next_row w (next_able seen.able r.pid)) (λ e h. refl) (row_spends w (next_able seen.able r.pid))
+go_spends w seen None = row_spends w (next_able seen.able seen.last_pid 0)
+go_spends w seen (Some r) = either w.left (seen.able r.pid && nat_lt 0 r.left) (turn_with w r.pid (r.left - 1)) (next_row w (next_able seen.able seen.last_pid r.pid)) (λ e h. refl) (row_spends w (next_able seen.able seen.last_pid r.pid))
 
 default_spends : (w : Worded) (seen : Readiness) → Spends w.left (by_default w seen)
 default_spends w seen = either w.left seen.ready (serve_of w) (go_on w seen w.row) (λ e h. refl) (go_spends w seen w.row)

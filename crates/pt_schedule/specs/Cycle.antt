@@ -1,6 +1,5 @@
 -- The next able process in the cycle of pids.
 use Rattle.std.specs.Prelude.{◌≡◌, ℕ, zero, suc, ◌+◌, ◌-◌, ◌<◌, min, Bool, false, cond, Option, Some, None}
-use Rattle.lx_proc.specs.State.{last_pid}
 
 -- the first of n pids from p on that is able
 abbrev pub first_able : (ℕ → Bool) → ℕ → ℕ → Option ℕ
@@ -11,9 +10,9 @@ abbrev pub found_or : Option ℕ → Option ℕ → Option ℕ
 found_or (Some p) q = Some p
 found_or None q = q
 
--- those above the last one, then those up to it
-unfoldable pub next_able : (ℕ → Bool) → ℕ → Option ℕ
-next_able able last = found_or (first_able able (min last last_pid + 1) (last_pid - min last last_pid)) (first_able able 1 (min last last_pid))
+-- those above the last one up to the last pid, then those up to it
+unfoldable pub next_able : (ℕ → Bool) → ℕ → ℕ → Option ℕ
+next_able able last_pid last = found_or (first_able able (min last last_pid + 1) (last_pid - min last last_pid)) (first_able able 1 (min last last_pid))
 
 -- a place where a search goes on above a pid: none before it is able, and none at all where there is no such place
 abbrev pub IsNextPlace : (ℕ → Bool) → ℕ → Option ℕ → Type 0

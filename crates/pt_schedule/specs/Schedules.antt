@@ -21,6 +21,8 @@ pub record Readiness : Type 0 where
   pub ready : Bool
   -- a turn of the process would run an instruction or change its mode
   pub able : ℕ → Bool
+  -- pids are 1 to this one
+  pub last_pid : ℕ
   -- the process stands where its call is finished
   pub finished : ℕ → Bool
 
@@ -78,8 +80,8 @@ next_row w (Some p) = turn_with w p (most_in_a_row - 1)
 
 -- the row goes on where its process is able and had fewer turns than a row may have
 abbrev pub go_on : Worded → Readiness → Option Row → Given Worded
-go_on w seen None = next_row w (next_able seen.able 0)
-go_on w seen (Some r) = cond (seen.able r.pid && nat_lt 0 r.left) (turn_with w r.pid (r.left - 1)) (next_row w (next_able seen.able r.pid))
+go_on w seen None = next_row w (next_able seen.able seen.last_pid 0)
+go_on w seen (Some r) = cond (seen.able r.pid && nat_lt 0 r.left) (turn_with w r.pid (r.left - 1)) (next_row w (next_able seen.able seen.last_pid r.pid))
 
 abbrev pub by_default : Worded → Readiness → Given Worded
 by_default w seen = cond seen.ready (serve_of w) (go_on w seen w.row)

@@ -10,5 +10,6 @@ abbrev pub readiness_of : Run → Readiness
 readiness_of k = record {
   ready = false;
   able = λ p. moves (task_mode (at Gone k.running.tasks p)) (task_mode (turn_in k p).task);
+  last_pid = k.running.shared.limits.last_pid;
   finished = λ p. is_finished (task_mode (at Gone k.running.tasks p));
 }

@@ -21,6 +21,10 @@ pub trait Schedulable {
     fn next_after(&self, pid: u32) -> Option<u32>
         ensures { IsNextPlace (readiness self.now).able pid result };
 
+    /// Pids are 1 to this one.
+    fn last_pid(&self) -> u16
+        ensures { result ≡ (readiness self.now).last_pid };
+
     /// The process stands where its call is finished.
     fn has_finished(&self, pid: u32) -> bool
         ensures { result ≡ (readiness self.now).finished pid };

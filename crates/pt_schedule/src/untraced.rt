@@ -34,6 +34,10 @@ impl Schedulable for Kernel {
         }
     }
 
+    fn last_pid(&self) -> u16 {
+        self.limits().last_pid
+    }
+
     fn has_finished(&self, pid: u32) -> bool {
         is_finished(self.mode(pid))
     }

@@ -11,10 +11,10 @@ pub returns-in-None : goal.returns-in-None
 returns-in-None c = λ b stage e.
     let t = as_proc {B = UserState} (Alive b stage) c.args.traced in
     answer_reads c.args.kernel.now c.args.tracees.now c.args.pid c.args.traced c.requires b stage e _ c.refusal.result
-    (ap (set_options t) (sym c.watch_of.ensures ∙ c.in-None.is) ∙ ap (says t) (sym c.refusal.ensures))
+    (ap (set_options t) (sym c.from_bits.ensures ∙ c.in-None.is) ∙ ap (says t) (sym c.refusal.ensures))
 
 pub returns-in_ok-set-in-Some : goal.returns-in_ok-set-in-Some
 returns-in_ok-set-in-Some c = λ b stage e.
     let t = as_proc {B = UserState} (Alive b stage) c.args.traced in
-    answer_sets c.args.kernel.now c.args.tracees.now c.args.pid c.args.traced c.requires b stage e _ Agreed c.args.traced.held (Some c.in-Some.watch) c.set.new.self
-    (ap (set_options t) (sym c.watch_of.ensures ∙ c.in-Some.is)) c.in_ok-set-in-Some.ensures
+    answer_sets c.args.kernel.now c.args.tracees.now c.args.pid c.args.traced c.requires b stage e _ Agreed c.args.traced.held (Some c.in-Some.options) c.set.new.self
+    (ap (set_options t) (sym c.from_bits.ensures ∙ c.in-Some.is)) c.in_ok-set-in-Some.ensures

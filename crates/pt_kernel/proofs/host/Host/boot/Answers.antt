@@ -12,7 +12,7 @@ use Rattle.pt_kernel.proofs.host.Host.boot.Goals as goal
 pub invariant_of-result : goal.invariant_of-result
 invariant_of-result c = λ e.
     let first = c.in_ok-kernel.ensures.first in
-    let s = first_shared c.args.boot.files c.args.boot.input in
+    let s = first_shared c.args.boot.limits c.args.boot.files c.args.boot.input in
     let b = booted c.args.boot.argv c.args.boot.env in
     record {
       empty = ap (λ (k : KernelRun). k.script) first ∙ c.empty.ensures;
