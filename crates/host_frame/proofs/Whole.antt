@@ -1,5 +1,5 @@
 -- What is read is spelled so, and what is spelled so is read: frames.
-use Rattle.std.proofs.Common.{◌≡◌, ℕ, ◌+◌, ◌%◌, ◌<◌, ◌≤◌, List, [], ◌∷◌, ◌++◌, length, get_or, take, drop, Option, Some, refl, sym, ap, subst, ◌∙◌, append_assoc, arith}
+use Rattle.std.proofs.Common.{◌≡◌, ℕ, ◌+◌, ◌%◌, ◌<◌, ◌≤◌, List, [], ◌∷◌, ◌++◌, length, get_or, take, drop, Option, Some, refl, sym, ap, subst, ◌∙◌, append_assoc, arith, inl, inr}
 use Rattle.std.proofs.lemmas.List.{drop_at, drop-drop, drop_more, get_or-drop, length-append, length-drop, take-append-drop}
 use Rattle.byteorder.specs.Endian.{big_number}
 use Rattle.byteorder.specs.Numbers.{big_from-lt, big_number-reads_back, length-bytes_high_first}
@@ -13,7 +13,7 @@ use Rattle.host_frame.specs.declared.frame.Payload.{Payload}
 use Rattle.host_frame.specs.declared.frame.Payload.TheVariants.{Request as Of_request, Reply as Of_reply}
 use Rattle.host_frame.specs.declared.frame.Frame.{Frame}
 use Rattle.host_frame.specs.Reading.{body_at, frame_at, told_length}
-use Rattle.host_frame.specs.Spelling.{message, content, spelled, FitsFrame}
+use Rattle.host_frame.specs.Spelling.{message, boot_without_limits, numbered, framed, content, spelled, Spells, FitsFrame}
 use Rattle.host_frame.proofs.Messages.{body_takes, body_again}
 
 abbrev frame_is : ℕ → Payload → Frame
@@ -67,7 +67,22 @@ frame_again f fits =
 byte_is : (n : ℕ) → n < 256 → byte n ≡ n ∷ []
 byte_is n lt = let e : n % 256 ≡ n = omega (arith, lt) in ap (λ (x : ℕ). x ∷ []) e
 
-pub frame_takes : (bytes : List ℕ) (f : Frame) → IsBytes bytes → 13 ≤ length bytes → length bytes ≡ 4 + told_length bytes → frame_at bytes ≡ Some f → (bytes ≡ spelled f) × FitsFrame f
+-- bytes with this number, kind and body are the frame of these
+framed_is : (bytes : List ℕ) (m : ℕ × List ℕ) → IsBytes bytes → 13 ≤ length bytes → length bytes ≡ 4 + told_length bytes → m.0 ≡ get_or bytes 12 0 → drop 13 bytes ≡ m.1 → framed (big_number 8 (drop 4 bytes)) m ≡ bytes
+framed_is bytes m all long size kind_is body_is =
+    let n : ℕ = big_number 8 (drop 4 bytes) in
+    let k : ℕ = get_or bytes 12 0 in
+    let front : double n ≡ take 8 (drop 4 bytes) = back8 (drop 4 bytes) (omega (arith, length-drop 4 bytes, long)) (IsBytes-drop 4 bytes all) in
+    let kind : byte m.0 ≡ k ∷ [] = ap byte kind_is ∙ byte_is k (all 12) in
+    let behind : drop 8 (drop 4 bytes) ≡ k ∷ drop 13 bytes = drop-drop 8 4 bytes ∙ drop_more bytes 12 0 (omega (arith, long)) in
+    let inside : numbered n m ≡ drop 4 bytes =
+    ap (λ (x : List ℕ). (x ++ byte m.0) ++ m.1) front ∙ ap (λ (x : List ℕ). (take 8 (drop 4 bytes) ++ x) ++ m.1) kind ∙ ap (λ (x : List ℕ). (take 8 (drop 4 bytes) ++ k ∷ []) ++ x) (sym body_is)
+    ∙ append_assoc (take 8 (drop 4 bytes)) (k ∷ []) (drop 13 bytes) ∙ ap (λ (x : List ℕ). take 8 (drop 4 bytes) ++ x) (sym behind) ∙ take-append-drop 8 (drop 4 bytes) in
+    let told : length (numbered n m) ≡ told_length bytes = omega (arith, ap length inside, length-drop 4 bytes, size) in
+    let head : word (length (numbered n m)) ≡ take 4 bytes = ap word told ∙ back4 bytes (omega (arith, long)) all in
+    ap (λ (x : List ℕ). x ++ numbered n m) head ∙ ap (λ (x : List ℕ). take 4 bytes ++ x) inside ∙ take-append-drop 4 bytes
+
+pub frame_takes : (bytes : List ℕ) (f : Frame) → IsBytes bytes → 13 ≤ length bytes → length bytes ≡ 4 + told_length bytes → frame_at bytes ≡ Some f → Spells bytes f × FitsFrame f
 unfolding frame_at spelled
 frame_takes bytes f all long size e =
     let n : ℕ = big_number 8 (drop 4 bytes) in
@@ -75,14 +90,11 @@ frame_takes bytes f all long size e =
     let s = bind_some (body_at k (drop 13 bytes)) (λ y. Some (frame_is n y)) f e in
     let y : Payload = s.0 in
     let t = body_takes k (drop 13 bytes) y (IsBytes-drop 13 bytes all) s.1 in
-    let front : double n ≡ take 8 (drop 4 bytes) = back8 (drop 4 bytes) (omega (arith, length-drop 4 bytes, long)) (IsBytes-drop 4 bytes all) in
-    let kind : byte (message y).0 ≡ k ∷ [] = ap byte t.0 ∙ byte_is k (all 12) in
-    let behind : drop 8 (drop 4 bytes) ≡ k ∷ drop 13 bytes = drop-drop 8 4 bytes ∙ drop_more bytes 12 0 (omega (arith, long)) in
-    let inside : content (frame_is n y) ≡ drop 4 bytes =
-    ap (λ (x : List ℕ). (x ++ byte (message y).0) ++ (message y).1) front ∙ ap (λ (x : List ℕ). (take 8 (drop 4 bytes) ++ x) ++ (message y).1) kind ∙ ap (λ (x : List ℕ). (take 8 (drop 4 bytes) ++ k ∷ []) ++ x) (sym t.1.0)
-    ∙ append_assoc (take 8 (drop 4 bytes)) (k ∷ []) (drop 13 bytes) ∙ ap (λ (x : List ℕ). take 8 (drop 4 bytes) ++ x) (sym behind) ∙ take-append-drop 8 (drop 4 bytes) in
-    let told : length (content (frame_is n y)) ≡ told_length bytes = omega (arith, ap length inside, length-drop 4 bytes, size) in
-    let head : word (length (content (frame_is n y))) ≡ take 4 bytes = ap word told ∙ back4 bytes (omega (arith, long)) all in
-    let whole : spelled (frame_is n y) ≡ bytes = ap (λ (x : List ℕ). x ++ content (frame_is n y)) head ∙ ap (λ (x : List ℕ). take 4 bytes ++ x) inside ∙ take-append-drop 4 bytes in
     let is : frame_is n y ≡ f = some_is (frame_is n y) f s.2 in
-    subst (λ (g : Frame). (bytes ≡ spelled g) × FitsFrame g) is (sym whole, (big_from-lt 0 8 (drop 4 bytes) (IsBytes-drop 4 bytes all), t.1.1))
+    let spells : Spells bytes (frame_is n y) = elim t.1.0 [
+      | inl same ↦ inl (sym (framed_is bytes (message y) all long size t.0 same))
+      | inr u ↦
+          let one : 1 ≡ k = sym (ap (λ (b : Payload). (message b).0) u.3) ∙ t.0 in
+          inr (record { booted = u.0; limit = u.1; words = u.2; is = u.3; unsaid = u.4; spelling = sym (framed_is bytes (0x01, boot_without_limits u.0 u.1 u.2) all long size one u.5) })
+    ] in
+    subst (λ (g : Frame). Spells bytes g × FitsFrame g) is (spells, (big_from-lt 0 8 (drop 4 bytes) (IsBytes-drop 4 bytes all), t.1.1))

@@ -2,6 +2,7 @@
 use Rattle.std.specs.Prelude.{◌≡◌, ℕ, List, length, drop, slice_index, Option, Some, None, Result, Ok, Err, Bool, ◌&&◌, nat_lt, ◌==◌, if◌then◌else◌}
 use Rattle.byteorder.specs.Endian.{big_number}
 use Rattle.lx_abi.specs.declared.boot.Boot.{Boot}
+use Rattle.lx_abi.specs.declared.boot.Limits.{Limits}
 use Rattle.lx_abi.specs.declared.ptrace.Ask.{Ask}
 use Rattle.lx_abi.specs.declared.ptrace.Ask.TheVariants.{Seize, SetOptions, GetRegs, SetRegs, Peek, Syscall, EventMsg, SigInfo}
 use Rattle.lx_abi.specs.declared.ptrace.Request.{Request}
@@ -17,32 +18,51 @@ use Rattle.host_frame.specs.declared.fault.WireFault.TheVariants as fault
 
 -- ---- a boot and an outcome
 
--- version 1, and whether every process is a tracee
-abbrev pub flag_of : ℕ → ℕ → Option Bool
-flag_of version follow = if (version == 1) && nat_lt follow 2 then Some (follow == 1) else None
-
+-- whether every process is a tracee
 unfoldable pub follow_at : List ℕ → Option (Bool × List ℕ)
 follow_at bytes = do
-  version ← number_at 1 bytes
-  follow ← number_at 1 version.1
-  flag ← flag_of version.0 follow.0
-  Some (flag, follow.1)
+  follow ← number_at 1 bytes
+  if nat_lt follow.0 2 then Some (follow.0 == 1, follow.1) else None
 
-unfoldable pub parts_at : Bool → List ℕ → Option (Boot × List ℕ)
-parts_at follow bytes = do
+unfoldable pub limits_at : List ℕ → Option (Limits × List ℕ)
+limits_at bytes = do
+  live ← number_at 4 bytes
+  last_pid ← number_at 4 live.1
+  Some (record { live = live.0; last_pid = last_pid.0 }, last_pid.1)
+
+-- those of a boot that doesn't say its limits
+abbrev pub unsaid_limits : Limits
+unsaid_limits = record { live = 64; last_pid = 255 }
+
+-- version 1 doesn't say them, version 2 does
+abbrev pub limits_by : ℕ → List ℕ → Option (Limits × List ℕ)
+limits_by version bytes =
+    if version == 1 then Some (unsaid_limits, bytes)
+    else (if version == 2 then limits_at bytes
+    else None)
+
+unfoldable pub parts_at : Bool → Limits → List ℕ → Option (Boot × List ℕ)
+parts_at follow limits bytes = do
   input ← text_at bytes
   argv ← items_at text_at input.1
   env ← items_at text_at argv.1
   files ← items_at guest_file_at env.1
-  Some (record { files = files.0; argv = argv.0; env = env.0; input = input.0; follow = follow }, files.1)
+  Some (record { limits = limits; files = files.0; argv = argv.0; env = env.0; input = input.0; follow = follow }, files.1)
+
+-- what stands behind a boot's version
+unfoldable pub boot_by : ℕ → List ℕ → Option (Request × List ℕ)
+boot_by version bytes = do
+  follow ← follow_at bytes
+  limit ← number_at 8 follow.1
+  limits ← limits_by version limit.1
+  boot ← parts_at follow.0 limits.0 limits.1
+  words ← items_at schedule_word_at boot.1
+  Some (Boot_with boot.0 limit.0 words.0, words.1)
 
 unfoldable pub boot_at : List ℕ → Option (Request × List ℕ)
 boot_at bytes = do
-  follow ← follow_at bytes
-  limit ← number_at 8 follow.1
-  boot ← parts_at follow.0 limit.1
-  words ← items_at schedule_word_at boot.1
-  Some (Boot_with boot.0 limit.0 words.0, words.1)
+  version ← number_at 1 bytes
+  boot_by version.0 version.1
 
 unfoldable pub outcome_at : List ℕ → Option (Reply × List ℕ)
 outcome_at bytes = do

@@ -1,6 +1,7 @@
 -- The one spelling of each frame: a length, a number, a kind, a body.
-use Rattle.std.specs.Prelude.{◌≡◌, ℕ, ◌^◌, ◌<◌, ◌≤◌, Bool, List, [], ◌++◌, length, cond, None, true, ◌&&◌}
+use Rattle.std.specs.Prelude.{◌≡◌, ℕ, ◌^◌, ◌<◌, ◌≤◌, ◌⊎◌, Bool, List, [], ◌++◌, length, cond, None, true, ◌&&◌}
 use Rattle.lx_abi.specs.declared.boot.Boot.{Boot}
+use Rattle.lx_abi.specs.declared.boot.Limits.{Limits}
 use Rattle.lx_abi.specs.declared.outcome.Outcome.{Outcome}
 use Rattle.lx_abi.specs.declared.ptrace.Info.{Info}
 use Rattle.lx_abi.specs.declared.schedule.Word.{Word}
@@ -17,6 +18,7 @@ use Rattle.host_frame.specs.declared.fault.WireFault.TheVariants.{Length, Kind, 
 use Rattle.host_frame.specs.declared.frame.Payload.{Payload}
 use Rattle.host_frame.specs.declared.frame.Payload.TheVariants.{Request as Of_request, Reply as Of_reply}
 use Rattle.host_frame.specs.declared.frame.Frame.{Frame}
+use Rattle.host_frame.specs.Reading.{unsaid_limits}
 
 -- ---- parts of a boot
 
@@ -25,13 +27,21 @@ flag b = cond b 1 0
 
 -- a version, follow, a limit
 unfoldable pub head : Bool → ℕ → List ℕ
-head follow limit = byte 1 ++ byte (flag follow) ++ double limit
+head follow limit = byte 2 ++ byte (flag follow) ++ double limit
+
+abbrev pub limits : Limits → List ℕ
+limits l = word l.live ++ word l.last_pid
 
 unfoldable pub parts : Boot → List ℕ
 parts b = text b.input ++ items text b.argv ++ items text b.env ++ items guest_file b.files
 
 abbrev pub boot : Boot → ℕ → List Word → List ℕ
-boot b limit words = head b.follow limit ++ parts b ++ items schedule_word words
+boot b limit words = head b.follow limit ++ limits b.limits ++ parts b ++ items schedule_word words
+
+-- as version 1 spelled it, which had no limits of processes: it is read, and not written
+abbrev pub boot_without_limits : Boot → ℕ → List Word → List ℕ
+boot_without_limits b limit words =
+    byte 1 ++ byte (flag b.follow) ++ double limit ++ parts b ++ items schedule_word words
 
 -- ---- a line a kind: the kind and the body
 
@@ -80,8 +90,14 @@ FitsAsk (Syscall signal) = signal < 256 ^ 4
 FitsAsk EventMsg = Unit {0}
 FitsAsk SigInfo = Unit {0}
 
+abbrev pub FitsLimits : Limits → Type 0
+FitsLimits l = (l.live < 256 ^ 4) × (l.last_pid < 256 ^ 4)
+
+abbrev pub FitsParts : Boot → Type 0
+FitsParts b = FitsText b.input × (FitItems FitsText b.argv × (FitItems FitsText b.env × FitItems FitsGuestFile b.files))
+
 abbrev pub FitsBoot : Boot → Type 0
-FitsBoot b = FitsText b.input × (FitItems FitsText b.argv × (FitItems FitsText b.env × FitItems FitsGuestFile b.files))
+FitsBoot b = FitsLimits b.limits × FitsParts b
 
 abbrev pub FitsRequest : Request → Type 0
 FitsRequest (Boot_with b limit words) = (limit < 256 ^ 8) × (FitsBoot b × FitItems FitsWord words)
@@ -120,12 +136,31 @@ FitsFrame f = (f.number < 256 ^ 8) × FitsMessage f.body
 
 -- ---- frames
 
--- what stands behind the length
+-- what stands behind the length: a number, and a message's kind and body
+abbrev pub numbered : ℕ → ℕ × List ℕ → List ℕ
+numbered number m = double number ++ byte m.0 ++ m.1
+
+abbrev pub framed : ℕ → ℕ × List ℕ → List ℕ
+framed number m = word (length (numbered number m)) ++ numbered number m
+
 abbrev pub content : Frame → List ℕ
-content f = double f.number ++ byte (message f.body).0 ++ (message f.body).1
+content f = numbered f.number (message f.body)
 
 unfoldable pub spelled : Frame → List ℕ
-spelled f = word (length (content f)) ++ content f
+spelled f = framed f.number (message f.body)
+
+-- the bytes are those of a boot's frame without limits, and the boot has the limits that this means
+pub record SpellsUnsaid (bytes : List ℕ) (f : Frame) : Type 0 where
+  pub booted : Boot
+  pub limit : ℕ
+  pub words : List Word
+  pub is : f.body ≡ Of_request (Boot_with booted limit words)
+  pub unsaid : booted.limits ≡ unsaid_limits
+  pub spelling : bytes ≡ framed f.number (0x01, boot_without_limits booted limit words)
+
+-- the frame's own spelling, or a second one
+abbrev pub Spells : List ℕ → Frame → Type 0
+Spells bytes f = (bytes ≡ spelled f) ⊎ SpellsUnsaid bytes f
 
 -- the length is in range
 abbrev pub IsShort : Frame → Type 0

@@ -11,8 +11,14 @@ use byteorder::{BigEndian, ByteOrder};
 use host_values::{
     Bad, byte_at, double_at, list_of, paths_rise, pids_rise, registers_of, text_of, word_at,
 };
-use lx_abi::{Ask, Boot, Info, Outcome, Reply, Request, Status};
+use lx_abi::{Ask, Boot, Info, Limits, Outcome, Reply, Request, Status};
 use std::alloc::Global;
+
+/// Those of a boot that doesn't say its limits.
+const UNSAID_LIMITS: Limits = Limits {
+    live: 64,
+    last_pid: 255,
+};
 
 #[tactic(auto, unfolding(crate::specs::Reading::seize_at))]
 fn seize(bytes: &[u8]) -> Result<(Ask, &[u8]), Bad>
@@ -159,23 +165,43 @@ fn refused(bytes: &[u8]) -> Result<(Reply, &[u8]), Bad>
 fn follow(bytes: &[u8]) -> Result<(bool, &[u8]), Bad>
     ensures { Gives (λ x. (x.0, x.1.now)) result (spec.follow_at bytes.now) }
 {
-    let (version, rest) = byte_at(bytes)?;
-    let (follow, rest) = byte_at(rest)?;
-    if version != 1 || follow >= 2 {
+    let (follow, rest) = byte_at(bytes)?;
+    if follow >= 2 {
         return Err(Bad::Payload);
     }
     Ok((follow == 1, rest))
 }
 
+#[tactic(auto, unfolding(crate::specs::Reading::limits_at))]
+fn limits(bytes: &[u8]) -> Result<(Limits, &[u8]), Bad>
+    ensures { Gives (λ x. (x.0, x.1.now)) result (spec.limits_at bytes.now) }
+{
+    let (live, rest) = word_at(bytes)?;
+    let (last_pid, rest) = word_at(rest)?;
+    Ok((Limits { live, last_pid }, rest))
+}
+
+/// The limits of a boot of this version.
+fn limits_by(version: u8, bytes: &[u8]) -> Result<(Limits, &[u8]), Bad>
+    ensures { Gives (λ x. (x.0, x.1.now)) result (spec.limits_by version bytes.now) }
+{
+    match version {
+        1 => Ok((UNSAID_LIMITS, bytes)),
+        2 => limits(bytes),
+        _ => Err(Bad::Payload),
+    }
+}
+
 #[tactic(auto, unfolding(crate::specs::Reading::parts_at))]
-fn parts(alloc: Global, follow: bool, bytes: &[u8]) -> Result<(Boot, &[u8]), Bad>
-    ensures { Gives (λ x. (x.0, x.1.now)) result (spec.parts_at follow bytes.now) }
+fn parts(alloc: Global, follow: bool, limits: Limits, bytes: &[u8]) -> Result<(Boot, &[u8]), Bad>
+    ensures { Gives (λ x. (x.0, x.1.now)) result (spec.parts_at follow limits bytes.now) }
 {
     let (input, rest) = text_of(alloc, bytes)?;
     let (argv, rest) = list_of(alloc, rest)?;
     let (env, rest) = list_of(alloc, rest)?;
     let (files, rest) = list_of(alloc, rest)?;
     let boot = Boot {
+        limits,
         files,
         argv,
         env,
@@ -185,15 +211,25 @@ fn parts(alloc: Global, follow: bool, bytes: &[u8]) -> Result<(Boot, &[u8]), Bad
     Ok((boot, rest))
 }
 
+/// What stands behind a boot's version.
+#[tactic(auto, unfolding(crate::specs::Reading::boot_by))]
+fn boot_by(alloc: Global, version: u8, bytes: &[u8]) -> Result<(Request, &[u8]), Bad>
+    ensures { Gives (λ x. (x.0, x.1.now)) result (spec.boot_by version bytes.now) }
+{
+    let (follow, rest) = follow(bytes)?;
+    let (limit, rest) = double_at(rest)?;
+    let (limits, rest) = limits_by(version, rest)?;
+    let (boot, rest) = parts(alloc, follow, limits, rest)?;
+    let (words, rest) = list_of(alloc, rest)?;
+    Ok((Request::Boot { boot, limit, words }, rest))
+}
+
 #[tactic(auto, unfolding(crate::specs::Reading::boot_at))]
 fn boot(alloc: Global, bytes: &[u8]) -> Result<(Request, &[u8]), Bad>
     ensures { Gives (λ x. (x.0, x.1.now)) result (spec.boot_at bytes.now) }
 {
-    let (follow, rest) = follow(bytes)?;
-    let (limit, rest) = double_at(rest)?;
-    let (boot, rest) = parts(alloc, follow, rest)?;
-    let (words, rest) = list_of(alloc, rest)?;
-    Ok((Request::Boot { boot, limit, words }, rest))
+    let (version, rest) = byte_at(bytes)?;
+    boot_by(alloc, version, rest)
 }
 
 #[tactic(auto, unfolding(crate::specs::Reading::outcome_at))]

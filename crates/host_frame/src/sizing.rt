@@ -29,7 +29,7 @@ fn ask_size(ask: &Ask) -> usize
 fn spend_boot(budget: usize, boot: &Boot, limit: u64, words: &[Word]) -> Option<usize>
     ensures { Spends result budget (length (spec.boot boot.now limit words.now)) }
 {
-    let budget = budget.checked_sub(10)?;
+    let budget = budget.checked_sub(18)?;
     let budget = spend_text(budget, boot.input.as_slice())?;
     let budget = spend_list(budget, boot.argv.as_slice())?;
     let budget = spend_list(budget, boot.env.as_slice())?;

@@ -8,7 +8,7 @@ use crate::fault::WireFault;
 use crate::frame::{Frame, Payload};
 use crate::sizing::content_size;
 use host_values::{put_byte, put_double, put_length, put_list, put_registers, put_text, put_word};
-use lx_abi::{Ask, Boot, Info, Outcome, Reply, Request, Word};
+use lx_abi::{Ask, Boot, Info, Limits, Outcome, Reply, Request, Word};
 use std::alloc::{AllocError, Global};
 
 fn ask_kind(ask: &Ask) -> u8
@@ -96,15 +96,23 @@ fn put_parts(out: &mut Vec<u8>, boot: &Boot) -> Result<(), AllocError>
 fn put_head(out: &mut Vec<u8>, follow: bool, limit: u64) -> Result<(), AllocError>
     ensures { OnOk result (out.new.items ≡ out.old.items ++ spec.head follow limit) }
 {
-    put_byte(out, 1)?;
+    put_byte(out, 2)?;
     put_byte(out, if follow { 1 } else { 0 })?;
     put_double(out, limit)
+}
+
+fn put_limits(out: &mut Vec<u8>, limits: Limits) -> Result<(), AllocError>
+    ensures { OnOk result (out.new.items ≡ out.old.items ++ spec.limits limits) }
+{
+    put_word(out, limits.live)?;
+    put_word(out, limits.last_pid)
 }
 
 fn put_boot(out: &mut Vec<u8>, boot: &Boot, limit: u64, words: &[Word]) -> Result<(), AllocError>
     ensures { OnOk result (out.new.items ≡ out.old.items ++ spec.boot boot.now limit words.now) }
 {
     put_head(out, boot.follow, limit)?;
+    put_limits(out, boot.limits)?;
     put_parts(out, boot)?;
     put_list(out, words)
 }
