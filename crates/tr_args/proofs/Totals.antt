@@ -4,8 +4,7 @@ use Rattle.std.specs.List.{list_all}
 use Rattle.std.proofs.lemmas.Bool.Decides.{nat_tests}
 use Rattle.lx_abi.specs.declared.calls.Argument.{Argument}
 use Rattle.lx_abi.specs.declared.calls.Argument.TheVariants as kind
-use Rattle.lx_abi.specs.declared.calls.Class.{Class}
-use Rattle.lx_abi.specs.Calls.{calls, call_format}
+use Rattle.lx_abi.specs.Calls.{Row, calls, call_format}
 use Rattle.pt_model.specs.Requests.{may_peek}
 use Rattle.pt_model.specs.Parts.{Half, At_entry, At_exit}
 use Rattle.pt_model.specs.Headline.{IsTexts}
@@ -142,17 +141,14 @@ arguments_w c some i [] h = λ s. omega arith
 arguments_w c some i (a ∷ more) h = after (cost a) (costs more) (next_argument some a (place c i)) (arguments c true (i + 1) more) (next_w some a (place c i) h) (arguments_w c true (i + 1) more h)
 
 -- the table
-abbrev Row : Type 0
-Row = ℕ × List ℕ × List Class × List Argument × List Argument
-
 abbrev cheap_in : Row → Bool
-cheap_in row = nat_le (costs row.3) 96 && nat_le (costs row.4) 96
+cheap_in row = nat_le (costs row.4) 96 && nat_le (costs row.5) 96
 
 all_cheap : list_all cheap_in calls ≡ true
 unfolding calls
 all_cheap = refl
 
-cheap_by : (n : ℕ) (o : Option Row) → find (λ row. row.0 == n) calls ≡ o → (costs (format_by (option_map (λ row. (row.3, row.4)) o)).0 ≤ 96) × (costs (format_by (option_map (λ row. (row.3, row.4)) o)).1 ≤ 96)
+cheap_by : (n : ℕ) (o : Option Row) → find (λ row. row.0 == n) calls ≡ o → (costs (format_by (option_map (λ row. (row.4, row.5)) o)).0 ≤ 96) × (costs (format_by (option_map (λ row. (row.4, row.5)) o)).1 ≤ 96)
 cheap_by n None e = (lit≤ tt, lit≤ tt)
 cheap_by n (Some row) e = let k : cheap_in row ≡ true = find_keeps (λ row. row.0 == n) cheap_in row calls e all_cheap in (grind (arith, nat_tests, k), grind (arith, nat_tests, k))
 

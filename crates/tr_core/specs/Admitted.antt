@@ -8,6 +8,7 @@ use Rattle.lx_abi.specs.declared.ptrace.Reply.TheVariants.{Message as Message_is
 use Rattle.lx_abi.specs.declared.ptrace.Reply.TheVariants.{Outcome as Outcome_is, Errno as Errno_is}
 use Rattle.lx_abi.specs.declared.ptrace.Reply.TheVariants.{OutOfTurns as Out_of_turns, Refused as Boot_refused}
 use Rattle.lx_abi.specs.declared.status.Stop.{Stop}
+use Rattle.lx_abi.specs.Errnos.{echild}
 use Rattle.lx_abi.specs.Status.{stop_of}
 use Rattle.lx_model.specs.Kernel.{Script}
 use Rattle.pt_model.specs.Parts.{Options}
@@ -39,7 +40,7 @@ says_childless (Bytes_are bytes) = false
 says_childless (Message_is q) = false
 says_childless (Info_is i) = false
 says_childless (Outcome_is x) = false
-says_childless (Errno_is n) = n == 10
+says_childless (Errno_is n) = n == echild
 says_childless Out_of_turns = false
 says_childless (Boot_refused fault) = false
 

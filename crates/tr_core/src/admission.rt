@@ -3,18 +3,14 @@
 ghost use Rattle.std.specs.Prelude.{◌≡◌};
 ghost use Rattle.pt_model.specs.Admissible.{admits_answer as admits_answer_of, event_fits as fits_event};
 ghost use Rattle.pt_model.specs.Admissible.{end_fits as fits_end, stop_fits as fits_stop};
-ghost use Rattle.pt_model.specs.Admissible.{is_exit_number as exit_number, is_exit_word as exit_word};
 ghost use Rattle.pt_model.specs.Parts.{Options};
 ghost use Rattle.pt_model.specs.Tracer.{asks};
 ghost use Rattle.tr_core.specs.Known.{place_of};
 
 use crate::place::Awaiting;
-use lx_abi::{EventStop, Reply, Stop};
+use lx_abi::calls::has_effects;
+use lx_abi::{Effects, Errno, EventStop, Reply, Stop};
 use pt_model::Standing;
-
-const CLONE: u64 = 220;
-
-const EXECVE: u64 = 221;
 
 /// A reply to what is asked of the tracee in hand.
 pub fn admits_answer(place: &Awaiting, reply: &Reply) -> bool
@@ -37,9 +33,9 @@ pub fn admits_answer(place: &Awaiting, reply: &Reply) -> bool
         ) => 1 <= bytes.len() && bytes.len() as u64 <= u64::from(want.1),
         (Awaiting::Seizing, Reply::Errno { .. }) => false,
         (Awaiting::EntryPeek { .. } | Awaiting::ExitPeek { .. }, Reply::Errno { number }) => {
-            *number == 3 || *number == 5
+            Errno::ESRCH.is(*number) || Errno::EIO.is(*number)
         }
-        (_, Reply::Errno { number }) => *number == 3,
+        (_, Reply::Errno { number }) => Errno::ESRCH.is(*number),
         _ => false,
     }
 }
@@ -48,16 +44,10 @@ fn event_fits(follow: bool, number: u64, event: EventStop) -> bool
     ensures { result ≡ fits_event follow number event }
 {
     match event {
-        EventStop::Fork => follow && number == CLONE,
-        EventStop::Exec => number == EXECVE,
+        EventStop::Fork => follow && has_effects(number, Effects::FORKS),
+        EventStop::Exec => has_effects(number, Effects::EXECS),
         EventStop::Stop => false,
     }
-}
-
-fn is_exit_number(number: u64) -> bool
-    ensures { result ≡ exit_number number }
-{
-    number == 93 || number == 94
 }
 
 fn end_fits(number: u64, replaced: bool, standing: Standing, word: u32) -> bool
@@ -67,7 +57,11 @@ fn end_fits(number: u64, replaced: bool, standing: Standing, word: u32) -> bool
         Standing::Unmet | Standing::Between | Standing::Unread | Standing::AfterEvent => word == 9,
         Standing::AfterSignal => 0 < word && word < 32,
         Standing::Read => {
-            word == 9 || (!replaced && is_exit_number(number) && word % 256 == 0 && word < 65536)
+            word == 9
+                || (!replaced
+                    && has_effects(number, Effects::EXITS)
+                    && word % 256 == 0
+                    && word < 65536)
         }
         Standing::AtEnd => false,
     }

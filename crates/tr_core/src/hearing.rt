@@ -20,7 +20,9 @@ use crate::place::{Awaiting, Tracee};
 use crate::printer;
 use crate::settings::Settings;
 use containers::Bytes;
-use lx_abi::{Call, Choice, EventStop, Info, Occurrences, RegisterSet, Registers, Reply, Stop};
+use lx_abi::{
+    Call, Choice, Errno, EventStop, Info, Occurrences, RegisterSet, Registers, Reply, Stop,
+};
 use pt_model::Standing;
 use std::alloc::{AllocError, Global};
 use tr_args::{Half, Reading};
@@ -436,7 +438,7 @@ fn read_by(settings: &Settings, reply: Reply) -> Option<Bytes>
 {
     match reply {
         Reply::Bytes { bytes } => Some(bytes),
-        Reply::Errno { number: 5 } => Some(Bytes::new(settings.alloc)),
+        Reply::Errno { number } if Errno::EIO.is(number) => Some(Bytes::new(settings.alloc)),
         _ => None,
     }
 }

@@ -5,7 +5,7 @@ ghost use Rattle.lx_model.specs.Finite.{at};
 ghost use Rattle.tr_core.specs.Known.{new_tracee};
 ghost use Rattle.std.specs.FinMap as maps;
 ghost use Rattle.std.specs.Option.{option_map};
-ghost use Rattle.pt_model.specs.Tracer.{asks, request, focus_on, told_tracees, took_stop, heard, stays};
+ghost use Rattle.pt_model.specs.Tracer.{asked_options as options_asked, asks, request, focus_on, told_tracees, took_stop, heard, stays};
 ghost use Rattle.tr_core.specs.Hearings.{heard_by, says_done};
 ghost use Rattle.tr_core.specs.Settings.{first_pen, options_by, options_of, script_of};
 ghost use Rattle.tr_core.specs.Known.{place_of};
@@ -24,7 +24,9 @@ use crate::place::{Awaiting, Focus, Tracee};
 use crate::settings::{Options, Settings};
 use crate::tracing::{Act, TraceFault, Tracing};
 use containers::{Bytes, Map};
-use lx_abi::{Ask, Call, Occurrences, Outcome, RegisterSet, Reply, Request, Script, Stop};
+use lx_abi::{
+    Ask, Call, Errno, Occurrences, Outcome, RegisterSet, Reply, Request, Script, Stop, TraceOptions,
+};
 use pt_model::Standing;
 use std::alloc::{AllocError, Global};
 use std::mem;
@@ -79,7 +81,8 @@ fn admits(core: &Core, reply: &Reply) -> bool
                     )
             }
         },
-        (Focus::Waiting, Reply::Errno { number }) => *number == 10 && core.living.is_empty(),
+        (Focus::Waiting, Reply::Errno { number }) => Errno::ECHILD.is(*number)
+            && core.living.is_empty(),
         (Focus::Serving { place, .. }, reply) => admits_answer(place, reply),
         (Focus::Waiting | Focus::AskingOutcome, Reply::OutOfTurns)
         | (Focus::AskingOutcome, Reply::Outcome { .. }) => true,
@@ -170,7 +173,7 @@ fn is_childless(reply: &Reply) -> bool
     ensures { result ≡ says_childless reply.now }
 {
     match reply {
-        Reply::Errno { number } => *number == 10,
+        Reply::Errno { number } => Errno::ECHILD.is(*number),
         _ => false,
     }
 }
@@ -335,12 +338,23 @@ fn step(core: &mut Core, reply: Reply) -> Result<Option<Bytes>, AllocError>
     Ok(Some(bytes))
 }
 
+/// The options of each tracee.
+fn asked_options(follow: bool) -> TraceOptions
+    ensures { result ≡ options_asked follow }
+{
+    TraceOptions {
+        good: true,
+        forks: follow,
+        execs: true,
+    }
+}
+
 fn ask_of(settings: &Settings, place: &Awaiting) -> Result<Ask, AllocError>
     ensures { IfOk result (λ ask. ask ≡ asks (options_of settings.now) (place_of place.now)) }
 {
     let ask = match place {
         Awaiting::Seizing => Ask::Seize {
-            options: if settings.options.follow { 0x13 } else { 0x11 },
+            options: asked_options(settings.options.follow).bits(),
         },
         Awaiting::EntryRegs | Awaiting::ExitRegs => Ask::GetRegs,
         Awaiting::EntryPeek { want, .. } | Awaiting::ExitPeek { want, .. } => Ask::Peek {

@@ -3,18 +3,20 @@ use Rattle.std.proofs.Common.{ℕ, suc, ◌≡◌, ◌+◌, ◌<◌, ◌≤◌, 
 use Rattle.std.proofs.Math.Seq.{take-suc}
 use Rattle.std.proofs.lemmas.List.{take_all}
 use Rattle.lx_abi.specs.Scripts.{among}
+use Rattle.lx_abi.specs.Calls.{Row}
 use Rattle.lx_abi.specs.Tables.{call_row}
 use Rattle.lx_abi.specs.declared.calls.Argument.{Argument}
 use Rattle.lx_abi.specs.declared.calls.Class.{Class}
-use Rattle.tr_expr.specs.Items.{Row, some_row}
+use Rattle.lx_abi.specs.declared.effects.Effects.{Effects}
+use Rattle.tr_expr.specs.Items.{some_row}
 use Rattle.tr_expr.proofs.Runs.{map_push, any_push}
 
 abbrev pub Entry : Type 0
-Entry = ℕ × Bor (List ℕ) × Bor (List Class) × Bor (List Argument) × Bor (List Argument)
+Entry = ℕ × Bor (List ℕ) × Bor (List Class) × Effects × Bor (List Argument) × Bor (List Argument)
 
 -- what is read past the end
 abbrev pub no_entry : Entry
-no_entry = (0, record { ref_ptr = (0, 0); now = [] }, record { ref_ptr = (0, 0); now = [] }, record { ref_ptr = (0, 0); now = [] }, record { ref_ptr = (0, 0); now = [] })
+no_entry = (0, record { ref_ptr = (0, 0); now = [] }, record { ref_ptr = (0, 0); now = [] }, record { 0 = 0 }, record { ref_ptr = (0, 0); now = [] }, record { ref_ptr = (0, 0); now = [] })
 
 abbrev pub entry_at : List Entry → ℕ → Entry
 entry_at rows i = get_or rows i no_entry

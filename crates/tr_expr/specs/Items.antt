@@ -3,8 +3,7 @@ use Rattle.std.specs.Prelude.{◌≡◌, ℕ, ◌==◌, ◌&&◌, List, [], ◌�
 use Rattle.std.specs.Prelude.{if◌then◌else◌, is_some, codes}
 use Rattle.std.specs.Str.{bytes_eq}
 use Rattle.std.specs.List.{list_any}
-use Rattle.lx_abi.specs.Calls.{calls, call_number, class_named}
-use Rattle.lx_abi.specs.declared.calls.Argument.{Argument}
+use Rattle.lx_abi.specs.Calls.{Row, calls, call_number, class_named}
 use Rattle.lx_abi.specs.declared.calls.Class as abi
 use Rattle.regex.specs.Failures.{IsRightKind}
 use Rattle.regex.specs.Patterns.{Re, default_config, find_str}
@@ -106,9 +105,6 @@ is_among class classes = list_any (λ c. class_rank c == class_rank class) class
 -- the pattern is found in the name
 abbrev pub is_found : Re → List ℕ → Bool
 is_found re name = is_some (find_str re name 0)
-
-abbrev pub Row : Type 0
-Row = ℕ × List ℕ × List abi.Class × List Argument × List Argument
 
 -- call n stands in the rows, and passes the test
 abbrev pub some_row : (Row → Bool) → List Row → ℕ → Bool

@@ -8,12 +8,12 @@
 //! part   error=E (a name, or 1 to 4095), retval=V (decimal, or hexadecimal behind 0x), signal=S
 //!        or when=W; fault= takes error and when alone, and fails with ENOSYS by itself
 //! S      a name, with or without SIG, or 1 to 31, of a signal that isn't job control's (CONT, STOP, TSTP, TTIN, TTOU)
-//! W      FIRST, FIRST+ or FIRST+STEP, each 1 to 65535
+//! W      FIRST, FIRST+, FIRST+STEP, FIRST..LAST, FIRST..LAST+ or FIRST..LAST+STEP: a first and a step from 1 to
+//!        65535, a last from 1 to 65534 that isn't before the first
 //! ```
 //!
 //! The classes are file, desc, process, signal and memory; a regular expression is one of the crate `regex`, without
-//! commas or colons. Ranges (`2..5`) are refused for now. A refusal is the first kind of [`ExprFault`] that
-//! has a cause anywhere in the text.
+//! commas or colons. A refusal is the first kind of [`ExprFault`] that has a cause anywhere in the text.
 #![tactic(auto)]
 
 pub mod expr;

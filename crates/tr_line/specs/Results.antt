@@ -1,7 +1,9 @@
 -- The result of a call, as strace(1) shows it.
-use Rattle.std.specs.Prelude.{ℕ, ◌-◌, ◌%◌, ◌^◌, ◌==◌, ◌&&◌, ◌||◌, not, Bool, Option, Some, None}
+use Rattle.std.specs.Prelude.{ℕ, ◌-◌, ◌%◌, ◌^◌, ◌==◌, ◌&&◌, not, Bool, Option, Some, None}
 use Rattle.std.specs.Prelude.{List, [], ◌++◌, codes, decimal, if◌then◌else◌}
 use Rattle.lx_abi.specs.declared.errno.Errno.{Errno}
+use Rattle.lx_abi.specs.Calls.{has_effects}
+use Rattle.lx_abi.specs.Effects.{hex}
 use Rattle.lx_abi.specs.Errors.{errno_name, errno_text, errno_numbered}
 use Rattle.tr_values.specs.Numbers.{hex_text, signed_text}
 
@@ -13,12 +15,8 @@ error_text e _ _ = codes "-1 (errno " ++ (decimal e ++ codes ")")
 unfoldable pub errno_shown : ℕ → List ℕ
 errno_shown e = error_text e (errno_name e) (errno_text e)
 
--- the result is an address (brk(2), mmap(2))
-abbrev pub is_address : ℕ → Bool
-is_address number = (number == 214) || (number == 222)
-
 abbrev pub value_text : ℕ → ℕ → List ℕ
-value_text number x = if is_address number then hex_text x else signed_text 64 x
+value_text number x = if has_effects number hex then hex_text x else signed_text 64 x
 
 -- an interrupted call has the result -512
 abbrev pub is_restart : ℕ → Bool → Bool
