@@ -17,11 +17,11 @@ use Rattle.tr_line.specs.Lines.{rendering}
 use Rattle.trace_run.specs.declared.running.Ended.{Ended}
 use Rattle.trace_run.specs.declared.running.RunFault.{RunFault}
 use Rattle.trace_run.specs.Runs.{Answers}
-use Rattle.trace_run.specs.Tells.{view_text, Tells, RunsTell}
-use Rattle.trace_run.specs.Claims.{log_text, by_log, PlainTracing, ReplacedCalls, JoinedSignals, UnderKills}
+use Rattle.trace_run.specs.Tells.{view_text, Tells, RunsTell, RefusedTells, RefusedRunsTell}
+use Rattle.trace_run.specs.Claims.{log_text, by_log, RefusedByLog, PlainTracing, ReplacedCalls, JoinedSignals, UnderKills}
 
 -- what is told by a view is told by the log, where nobody is killed
-told_by_log : {S B : Type 0} (m : Machine S B) (outcome : S → Outcome) (o : Options) (script : Script) (s : S) (b : B) (events : List Event) (result : Result Ended RunFault) (old new : Option (List ℕ)) → NoKillNoLoss → Tells m outcome o script s b events result old new → by_log m outcome o script s b events result old new
+pub told_by_log : {S B : Type 0} (m : Machine S B) (outcome : S → Outcome) (o : Options) (script : Script) (s : S) (b : B) (events : List Event) (result : Result Ended RunFault) (old new : Option (List ℕ)) → NoKillNoLoss → Tells m outcome o script s b events result old new → by_log m outcome o script s b events result old new
 told_by_log m outcome o script s b events result old new no_loss t alive =
     let log : List Noted = traced o.follow (plain_run m outcome (options_by o) script s b events).log in
     let same : (lost : ℕ → Bool) → view_text m outcome o script s b events lost ≡ log_text m outcome o script s b events =
@@ -29,7 +29,14 @@ told_by_log m outcome o script s b events result old new no_loss t alive =
     record {
       begins = subst (AppendsPart old new) (same t.lost) t.begins;
       whole = λ x e. ((t.whole x e).same_outcome, subst (Appends old new) (same (t.whole x e).lost) (t.whole x e).all);
+      tells = t;
     }
+
+pub refused_by_log : {L S B : Type 0} (answers : Answers L) → NoKillNoLoss → RefusedRunsTell S B answers → RefusedByLog S B answers
+refused_by_log answers no_loss tells o script is_script link link' old new broken broken' w m is_m is_told outcome s b events u alive =
+    let t : RefusedTells m outcome o script s b events u.own old new = tells o script is_script link link' old new broken broken' w m is_m is_told outcome s b events u in
+    subst (AppendsPart old new)
+    (ap (λ (items : List Noted). rendering (layout_by o) (parts (options_by o) items)) (no_loss t.lost (traced o.follow (plain_run m outcome (options_by o) script s b events).log) alive)) t.begins
 
 pub under_kills : {L S B : Type 0} (answers : Answers L) → RunsTell S B answers → UnderKills S B answers
 under_kills answers tells o script is_script link link' old new broken broken' result w m is_m is_told outcome s b events own =

@@ -5,6 +5,8 @@ pub mod Failing
 pub mod Fed
 pub mod InProcess
 pub mod Locals
+pub mod Refused
+pub mod Resulting
 pub mod Rounds
 pub mod Talks
 pub mod Telling

@@ -14,7 +14,7 @@ use Rattle.pt_model.specs.Attending.{Schedules}
 use Rattle.pt_model.specs.Headline.{IsTold, IsScript, traced_run, plain_run, IsTransparent}
 use Rattle.pt_model.specs.Parts as parts_of
 use Rattle.pt_model.specs.Ptrace.{Host, is_there}
-use Rattle.pt_model.specs.Tracer.{first_tracer, request}
+use Rattle.pt_model.specs.Tracer.{Over, first_tracer, request}
 use Rattle.pt_model.specs.View.{has_exit}
 use Rattle.pt_model.specs.World.{World, world_run, effective, first_world}
 use Rattle.tr_core.specs.Settings.{options_by, first_pen}
@@ -25,7 +25,7 @@ use Rattle.trace_run.specs.declared.running.Ended.{Ended}
 use Rattle.trace_run.specs.declared.running.Ended.TheVariants.{Whole, OutOfTurns}
 use Rattle.trace_run.specs.declared.running.RunFault.{RunFault}
 use Rattle.trace_run.specs.Runs.{Answers, Ends, Last, RunsWhole, replies_of}
-use Rattle.trace_run.specs.Tells.{view_text, Tells, RunsTell}
+use Rattle.trace_run.specs.Tells.{view_text, shown_text, Tells, RunsTell}
 use Rattle.trace_run.specs.Local.{InMemory, SoundCall, Feeds, LocalRun, LocalRunsTell}
 use Rattle.trace_run.proofs.Fed.{IsFed, is_fed, Talk, talk}
 
@@ -47,6 +47,8 @@ module _ {S B : Type 0} (m : Machine S B) (outcome : S → Outcome) (o : Options
     pub lost : ℕ → Bool
     pub later : List ℕ
     pub begins : trace ++ later ≡ view_text m outcome o script s b events lost
+    pub all : trace ≡ shown_text m outcome o script s b events
+    pub told : (y : Outcome) → ended ≡ Whole y → (traced_run m outcome (options_by o) script s b events).tracer.focus ≡ Over y
     pub whole : (y : Outcome) → ended ≡ Whole y → (y ≡ left) × (later ≡ []) × ((q : ℕ) → 1 ≤ q → q < plain.child → traces o.follow q ≡ true → has_exit q plain.log ≡ true)
     pub out_of_turns : ended ≡ OutOfTurns → is_there (request (options_by o) (traced_run m outcome (options_by o) script s b events).tracer.focus) ≡ true
 
@@ -57,6 +59,8 @@ module _ {S B : Type 0} (m : Machine S B) (outcome : S → Outcome) (o : Options
         lost = k.lost;
         later = [];
         begins = append-nil trace ∙ k.all;
+        all = t.shown;
+        told = λ y e. k.told ∙ ap (λ z. Over z) (cc e);
         whole = λ y e. (cc e ∙ k.same_outcome ∙ sym same, refl, k.all_ended);
         out_of_turns = λ e. absurd (cc e);
       }
@@ -64,6 +68,8 @@ module _ {S B : Type 0} (m : Machine S B) (outcome : S → Outcome) (o : Options
     lost = t.lost;
     later = t.begins.1.0;
     begins = ap (λ l. l ++ t.begins.1.0) t.begins.1.1.1 ∙ t.begins.1.1.0;
+    all = t.shown;
+    told = λ y e. absurd (cc e);
     whole = λ y e. absurd (cc e);
     out_of_turns = λ e. t.out_of_turns refl;
   }
@@ -114,7 +120,9 @@ sound_runs_tell {L} {X} {S} {B} answers cited sound o script is_script link link
       lost = x.lost;
       later = x.later;
       begins = x.begins;
+      shown = x.all;
       whole = x.whole;
+      told = x.told;
       out_of_turns = x.out_of_turns;
     }
 

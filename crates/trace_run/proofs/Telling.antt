@@ -1,6 +1,6 @@
 -- What a run writes, by the untraced kernel.
-use Rattle.std.proofs.Common.{◌≡◌, ℕ, ◌≤◌, ◌<◌, true, List, [], ◌∷◌, ◌++◌, Option, Some, None, Result, Ok, Err, refl, sym, ap, subst, ◌∙◌, append_assoc}
-use Rattle.std.specs.Prelude.{⊤}
+use Rattle.std.proofs.Common.{◌≡◌, ℕ, ◌≤◌, ◌<◌, true, false, List, [], ◌∷◌, ◌++◌, Option, Some, None, Result, Ok, Err, refl, sym, ap, subst, ◌∙◌, append_assoc}
+use Rattle.std.specs.Prelude.{⊤, OnOk}
 use Rattle.std.proofs.lemmas.List.{append-nil}
 use Rattle.std.specs.Io.KnownBytes.{Appends}
 use Rattle.lx_abi.specs.declared.outcome.Outcome.{Outcome}
@@ -11,13 +11,13 @@ use Rattle.lx_abi.specs.declared.ptrace.Request.{Request}
 use Rattle.pt_model.specs.Ptrace.{Host, is_there}
 use Rattle.pt_model.specs.World.{World, first_world}
 use Rattle.pt_model.specs.Attending.{called}
-use Rattle.pt_model.specs.Calls.{IsOwn, Talks, TalksAreOwn, OwnRun, FailuresLeaveAPrefix, OwnRepliesTell}
+use Rattle.pt_model.specs.Calls.{IsOwn, Talks, TalksAreOwn, OwnRun, FailuresLeaveAPrefix, FaultsLeaveAPrefix, OwnRepliesTell}
 use Rattle.pt_model.specs.Headline.{IsTexts, IsPast, plain_run}
 use Rattle.lx_model.specs.Kernel.{Script, traces, Kernel, kernel_run, first_kernel}
 use Rattle.lx_model.specs.Machine.{Machine}
 use Rattle.pt_model.specs.Parts as parts_of
 use Rattle.pt_model.specs.Parts.{Part}
-use Rattle.pt_model.specs.Replies.{told_by}
+use Rattle.pt_model.specs.Replies.{told_by, admits, FaultsAreForGood}
 use Rattle.pt_model.specs.Tracer.{Focus, Booting, Waiting, Serving, Asking_outcome, Over, Turns_over, Faulted, Tracer, Moved, request, new_tracer}
 use Rattle.pt_model.specs.View.{view, has_exit, traced, parts}
 use Rattle.host_wire.specs.Ends.{AppendsPart}
@@ -34,8 +34,9 @@ use Rattle.trace_run.specs.declared.running.Ended.TheVariants.{Whole, OutOfTurns
 use Rattle.trace_run.specs.declared.running.RunFault.{RunFault}
 use Rattle.trace_run.specs.declared.running.RunFault.TheVariants.{Link, Trace, Output}
 use Rattle.trace_run.proofs.Begun.{begun}
+use Rattle.trace_run.proofs.Refused.{last_is_refused}
 use Rattle.trace_run.specs.Runs.{Answers, Asked, Ends, EndsAs, Last, replies_of, forgets}
-use Rattle.trace_run.specs.Tells.{view_text, RunsTell, Served, ServedRunsTell}
+use Rattle.trace_run.specs.Tells.{view_text, RunsTell, OwnUntil, RefusedRunsTell, Served, ServedRunsTell}
 
 part_more : (a b : Option (List ℕ)) (xs ys zs : List ℕ) → xs ++ ys ≡ zs → AppendsPart a b xs → AppendsPart a b zs
 part_more a b xs ys zs e k = (k.0, (k.1.0 ++ ys, (sym (append_assoc k.0 k.1.0 ys) ∙ ap (λ l. l ++ ys) k.1.1.0 ∙ e, k.1.1.1)))
@@ -75,6 +76,20 @@ last_out : {L : Type 0} (answers : Answers L) (s : State) (rs : List Reply) (wri
 unfolding Last
 last_out answers s rs written a (Ok y) b e h = record { state = h.0; asks_none = h.3 }
 last_out answers s rs written a (Err f) b e h = absurd (cc e)
+
+-- a run that didn't fail asks nothing more, and wrote all of the text
+record IsEnded {L : Type 0} (s : State) (rs : List Reply) (written : Option (List ℕ)) (b : Ends L) : Type 0 where
+  pub asks_none : request_of (told s rs) ≡ None
+  pub written_all : Appends written b.written (text s rs)
+
+last_ended : {L : Type 0} (answers : Answers L) (s : State) (rs : List Reply) (written : Option (List ℕ)) (a : L) (r : Result Ended RunFault) (b : Ends L) → Last answers s rs written a (forgets r) b → OnOk r (IsEnded s rs written b)
+unfolding Last
+last_ended answers s rs written a (Ok y) b h = record { asks_none = h.3; written_all = h.1 }
+last_ended answers s rs written a (Err f) b h = tt
+
+on_ok : {A B : Type 0} (r : Result Ended RunFault) → (A → B) → OnOk r A → OnOk r B
+on_ok (Ok y) f h = f h
+on_ok (Err e) f h = tt
 
 out_at : (o : parts_of.Options) (f : Focus) → request o f ≡ None → outcome_at f ≡ None → (f ≡ Booting → ⊥) → (f ≡ Faulted → ⊥) → f ≡ Turns_over
 out_at o Booting q x b k = absurd (b refl)
@@ -145,6 +160,12 @@ runs_tell {L} {S} {B} answers fails own states whole writes grows o script is_sc
           part_more old new (text first (Agreed ∷ rs)) grown.later (view_text m outcome o script s b events prefix.0)
           (ap (λ l. l ++ grown.later) bytes ∙ grown.whole ∙ ap (rendering (layout_by o)) prefix.1.1)
           (last_part answers first (Agreed ∷ rs) old w.runs.link (forgets result) end w.runs.last);
+      shown =
+          on_ok result
+          (λ (ended : IsEnded first (Agreed ∷ rs) old end).
+          let done = run.done (ap (λ (t : Tracer). request po t.focus) (sym tracer) ∙ none_in first rs ended.asks_none) in
+          subst (Appends old new) (bytes ∙ ap (rendering (layout_by o)) (run.shown ∙ ap (λ (v : World S B). v.printed) done.0)) ended.written_all)
+          (last_ended answers first (Agreed ∷ rs) old w.runs.link result end w.runs.last);
       whole = λ x e.
           let ended : IsWhole first (Agreed ∷ rs) old end = last_whole answers first (Agreed ∷ rs) old w.runs.link result x end e w.runs.last in
           let over : moved.tracer.focus ≡ Over x =
@@ -155,6 +176,7 @@ runs_tell {L} {S} {B} answers fails own states whole writes grows o script is_sc
           let all = run.shown ∙ run.headline.tells.whole (subst IsPast (sym over_there) tt) in
           record {
             same_outcome = run.headline.replied x over_there ∙ ap (λ (k : Kernel S B). outcome k.shared) plain;
+            told = ap (λ (v : World S B). v.tracer.focus) (sym done.0) ∙ over_there;
             lost = run.headline.lost;
             all = subst (Appends old new) (bytes ∙ ap (rendering (layout_by o)) (all ∙ ap (λ (k : Kernel S B). parts po (view run.headline.lost (traced o.follow k.log))) plain)) ended.written_all;
             all_ended = subst (λ (k : Kernel S B). (q : ℕ) → 1 ≤ q → q < k.child → traces o.follow q ≡ true → has_exit q k.log ≡ true) plain (run.headline.all_ended (subst IsPast (sym over_there) tt));
@@ -172,6 +194,40 @@ runs_tell {L} {S} {B} answers fails own states whole writes grows o script is_sc
           ap (λ (v : World S B). is_there (request po v.tracer.focus)) (sym done.0) ∙ used.1;
       admitted = λ e.
           run.admitted (ap (λ (t : Tracer). t.focus) (sym tracer) ∙ fault_in (told first (Agreed ∷ rs)) (last_fault answers first (Agreed ∷ rs) old w.runs.link result end e w.runs.last));
+    }
+
+last_refused : {L : Type 0} (answers : Answers L) (s : State) (rs : List Reply) (written : Option (List ℕ)) (a : L) (b : Ends L) → Last answers s rs written a (Err (Trace Inadmissible)) b → Appends written b.written (text s rs)
+unfolding Last
+last_refused answers s rs written a b h = h.1
+
+pub refused_runs_tell : {L S B : Type 0} (answers : Answers L) → FaultsLeaveAPrefix S B → FaultsAreForGood → StatesAreTracers → TextsAreWhole → TracersWriteRenderings → RenderingGrows → RefusedRunsTell S B answers
+refused_runs_tell {L} {S} {B} answers fails for_good states whole writes grows o script is_script link link' old new broken broken' w m is_m is_told outcome s b events u =
+    let po : parts_of.Options = options_by o in
+    let rs : List Reply = replies_of w.runs.exchanges in
+    let first : State = new_state po script (first_pen o) in
+    let moved : Moved = told_by po script (Agreed ∷ rs) in
+    let split : Moved = told_by po script (Agreed ∷ (u.own ++ u.last ∷ [])) in
+    let before : Moved = told_by po script (Agreed ∷ u.own) in
+    let same : moved ≡ split = ap (λ l. told_by po script (Agreed ∷ l)) u.split in
+    let tracer : (told first (Agreed ∷ rs)).tracer ≡ moved.tracer = (states po script (first_pen o) (Agreed ∷ rs)).0 in
+    let bytes : text first (Agreed ∷ rs) ≡ rendering (layout_by o) moved.printed = writes po script (layout_by o) (Agreed ∷ rs) in
+    let end : Ends L = record { link = link'; written = new; broken = broken'; state = w.state } in
+    let faulted : moved.tracer.focus ≡ Faulted =
+    ap (λ (t : Tracer). t.focus) (sym tracer) ∙ fault_in (told first (Agreed ∷ rs)) (last_fault answers first (Agreed ∷ rs) old w.runs.link (Err (Trace Inadmissible)) end refl w.runs.last) in
+    let refused : admits po before.tracer u.last ≡ false =
+    last_is_refused po script (record { tracer = new_tracer; printed = [] }) (Agreed ∷ u.own) u.last (ap (λ (x : Moved). x.tracer.focus) (sym same) ∙ faulted) in
+    let prefix = fails m is_m is_told outcome po (whole o.string_limit o.limit_in_range) script is_script s b events u.own [] u.last u.is_own refused in
+    let kept : split.printed ≡ before.printed = (for_good po script (Agreed ∷ u.own) [] u.last refused).0 in
+    let grown = grows (layout_by o) moved.printed prefix.1.0 in
+    record {
+      lost = prefix.0;
+      begins =
+          part_more old new (text first (Agreed ∷ rs)) grown.later (view_text m outcome o script s b events prefix.0)
+          (ap (λ l. l ++ grown.later) bytes ∙ grown.whole ∙ ap (rendering (layout_by o)) (ap (λ (x : Moved). x.printed ++ prefix.1.0) same ∙ prefix.1.1))
+          (last_part answers first (Agreed ∷ rs) old w.runs.link (Err (Trace Inadmissible)) end w.runs.last);
+      shown =
+          subst (Appends old new) (bytes ∙ ap (rendering (layout_by o)) (ap (λ (x : Moved). x.printed) same ∙ kept))
+          (last_refused answers first (Agreed ∷ rs) old w.runs.link end w.runs.last);
     }
 
 -- the tracer's requests and the host's answers are a talk

@@ -1,5 +1,5 @@
 -- A run from its boot on, in the tracer's own process.
-use Rattle.std.specs.Prelude.{◌≡◌, ℕ, Bool, List, Option, Result, OnOk}
+use Rattle.std.specs.Prelude.{◌≡◌, ℕ, Bool, List, Option, Result, Err, OnOk}
 use Rattle.lx_abi.specs.declared.boot.Boot.{Boot}
 use Rattle.lx_abi.specs.declared.schedule.Event.{Event}
 use Rattle.lx_abi.specs.declared.script.Rule.{Rule}
@@ -11,7 +11,7 @@ use Rattle.lx_exec.specs.Programs.{booted}
 use Rattle.lx_proc.specs.declared.state.Shared.{Shared}
 use Rattle.lx_proc.specs.declared.state.UserState.{UserState}
 use Rattle.lx_model.specs.Kernel.{Script}
-use Rattle.pt_model.specs.Calls.{TalksOver}
+use Rattle.pt_model.specs.Calls.{TalksOver, IsOwn}
 use Rattle.pt_model.specs.Tracer.{first_tracer}
 use Rattle.pt_model.specs.World.{first_world}
 use Rattle.pt_kernel.specs.Seen.{next_of_host}
@@ -24,11 +24,13 @@ use Rattle.tr_core.specs.States.{new_state}
 use Rattle.tr_core.specs.declared.settings.Options.{Options}
 use Rattle.trace_run.specs.Local.{LocalRun, Feeds}
 use Rattle.trace_run.specs.LocalRuns.{IsGoing, local_answers}
-use Rattle.trace_run.specs.Runs.{RunsWhole}
-use Rattle.trace_run.specs.Tells.{Tells}
+use Rattle.trace_run.specs.Runs.{Answers, RunsWhole, replies_of}
+use Rattle.trace_run.specs.Tells.{Tells, OwnUntil, RefusedTells}
 use Rattle.trace_run.specs.declared.local.Run.{Run}
 use Rattle.trace_run.specs.declared.running.Ended.{Ended}
 use Rattle.trace_run.specs.declared.running.RunFault.{RunFault}
+use Rattle.trace_run.specs.declared.running.RunFault.TheVariants.{Trace}
+use Rattle.tr_core.specs.declared.tracing.TraceFault.TheVariants.{Inadmissible}
 
 -- who is traced is settled by the boot
 abbrev pub following : Options → Bool → Options
@@ -39,7 +41,8 @@ following o follow = record o { follow = follow }
 abbrev pub RunOf : Boot → Schedule → List Rule → Options → Run → Type 0
 RunOf boot schedule script options run =
     LocalRun next_of_host linux outcome_in (following options boot.follow) (choice_of script) schedule
-    (first_shared boot.files boot.input) (booted boot.argv boot.env) run.ended run.trace run.outcome run.turns
+    (first_shared boot.limits boot.files boot.input) (booted boot.argv boot.env) run.ended run.trace run.outcome
+    run.turns
 
 -- A run from these parts to any writer, however it ends. It went over a link to a booted host that this schedule feeds;
 -- the events are those that the schedule gave, request by request, all of them where the run didn't fail; and what was
@@ -65,5 +68,32 @@ pub record TracesTo (o : Options) (script : Script) (schedule : Schedule) (s : S
 abbrev pub TraceOf : Boot → Schedule → List Rule → Options → Result Ended RunFault → Option (List ℕ) → Option (List ℕ)
     → Type 0
 TraceOf boot schedule script options result old new =
-    TracesTo (following options boot.follow) (choice_of script) schedule (first_shared boot.files boot.input)
-    (booted boot.argv boot.env) result old new
+    TracesTo (following options boot.follow) (choice_of script) schedule
+    (first_shared boot.limits boot.files boot.input) (booted boot.argv boot.env) result old new
+
+-- Over any link
+
+-- The replies are those of a host that this boot began, by these events. A host doesn't look at the boot's follow: who
+-- is traced is settled by the tracer's options, for the log too.
+abbrev pub LinuxRunsTell : {L : Type 0} → Answers L → Type 0
+LinuxRunsTell {L} answers = (boot : Boot) (script : List Rule) (o : Options)
+    (link link' : L) (old new : Option (List ℕ)) (broken broken' : ℕ) (result : Result Ended RunFault)
+    (w : RunsWhole answers (new_state (options_by o) (choice_of script) (first_pen o)) link old broken result link' new
+    broken')
+    (events : List Event)
+    → IsOwn linux outcome_in (options_by o) (choice_of script) (first_shared boot.limits boot.files boot.input)
+    (booted boot.argv boot.env) events (replies_of w.runs.exchanges)
+    → Tells linux outcome_in o (choice_of script) (first_shared boot.limits boot.files boot.input)
+    (booted boot.argv boot.env) events result old new
+
+-- and where it fails by a reply that isn't admitted, those before it are
+abbrev pub LinuxRefusedRunsTell : {L : Type 0} → Answers L → Type 0
+LinuxRefusedRunsTell {L} answers = (boot : Boot) (script : List Rule) (o : Options)
+    (link link' : L) (old new : Option (List ℕ)) (broken broken' : ℕ)
+    (w : RunsWhole answers (new_state (options_by o) (choice_of script) (first_pen o)) link old broken
+    (Err (Trace Inadmissible)) link' new broken')
+    (events : List Event)
+    (u : OwnUntil linux outcome_in (options_by o) (choice_of script) (first_shared boot.limits boot.files boot.input)
+    (booted boot.argv boot.env) events (replies_of w.runs.exchanges))
+    → RefusedTells linux outcome_in o (choice_of script) (first_shared boot.limits boot.files boot.input)
+    (booted boot.argv boot.env) events u.own old new

@@ -1,6 +1,6 @@
 -- Transparency in four claims: of plain tracing, of replaced calls, of joined signals, and under kills. Without an end
 -- by SIGKILL the trace is told by the untraced kernel's log itself.
-use Rattle.std.specs.Prelude.{◌≡◌, ℕ, false, List, [], Option, None, Result, Ok}
+use Rattle.std.specs.Prelude.{◌≡◌, ℕ, false, List, [], Option, None, Result, Ok, Err}
 use Rattle.std.specs.Io.KnownBytes.{Appends}
 use Rattle.lx_abi.specs.declared.outcome.Outcome.{Outcome}
 use Rattle.lx_abi.specs.declared.schedule.Event.{Event}
@@ -18,8 +18,10 @@ use Rattle.tr_line.specs.Lines.{rendering}
 use Rattle.trace_run.specs.declared.running.Ended.{Ended}
 use Rattle.trace_run.specs.declared.running.Ended.TheVariants.{Whole}
 use Rattle.trace_run.specs.declared.running.RunFault.{RunFault}
+use Rattle.trace_run.specs.declared.running.RunFault.TheVariants.{Trace}
+use Rattle.tr_core.specs.declared.tracing.TraceFault.TheVariants.{Inadmissible}
 use Rattle.trace_run.specs.Runs.{Answers, RunsWhole, replies_of}
-use Rattle.trace_run.specs.Tells.{Tells}
+use Rattle.trace_run.specs.Tells.{Tells, OwnUntil}
 
 -- the bytes of the untraced kernel's log
 abbrev pub log_text : {S B : Type 0} → Machine S B → (S → Outcome) → Options → Script → S → B → List Event → List ℕ
@@ -39,6 +41,8 @@ pub record TellsLog {S B : Type 0} (m : Machine S B) (outcome : S → Outcome) (
   pub whole : (x : Outcome) → result ≡ Ok (Whole x)
       → (x ≡ outcome (plain_run m outcome (options_by o) script s b events).shared)
       × Appends old new (log_text m outcome o script s b events)
+  -- and it says all that it says of a view
+  pub tells : Tells m outcome o script s b events result old new
 
 -- what a run over a link, whose replies are a host's own for these events, is said to tell under this script
 abbrev pub Claim : {L S B : Type 0} → Answers L
@@ -57,6 +61,17 @@ abbrev pub by_log : {S B : Type 0} (m : Machine S B) → (S → Outcome) → Opt
     → Result Ended RunFault → Option (List ℕ) → Option (List ℕ) → Type 0
 by_log m outcome o script s b events result old new =
     HasNoKill m outcome o script s b events → TellsLog m outcome o script s b events result old new
+
+-- where it fails by a reply that isn't admitted, what it wrote begins the rendering of that log
+abbrev pub RefusedByLog : {L : Type 0} → (S B : Type 0) → Answers L → Type 0
+RefusedByLog {L} S B answers = (o : Options) (script : Script) → IsScript script
+    → (link link' : L) (old new : Option (List ℕ)) (broken broken' : ℕ)
+    (w : RunsWhole answers (new_state (options_by o) script (first_pen o)) link old broken (Err (Trace Inadmissible))
+    link' new broken')
+    (m : Machine S B) → IsMachine m → IsTold m → (outcome : S → Outcome) (s : S) (b : B) (events : List Event)
+    → OwnUntil m outcome (options_by o) script s b events (replies_of w.runs.exchanges)
+    → HasNoKill m outcome o script s b events
+    → AppendsPart old new (log_text m outcome o script s b events)
 
 -- no call is joined by a signal
 abbrev pub JoinsNothing : Script → Type 0

@@ -11,7 +11,7 @@ use Rattle.pt_model.specs.Calls.{CallsOver, attends}
 use Rattle.pt_model.specs.Headline.{IsTold, IsScript, traced_run, plain_run}
 use Rattle.pt_model.specs.Parts as parts
 use Rattle.pt_model.specs.Ptrace.{Host, is_there}
-use Rattle.pt_model.specs.Tracer.{request}
+use Rattle.pt_model.specs.Tracer.{Over, request}
 use Rattle.pt_model.specs.View.{has_exit}
 use Rattle.pt_model.specs.World.{World, happens, effective, first_world}
 use Rattle.tr_core.specs.Settings.{options_by, first_pen}
@@ -20,7 +20,7 @@ use Rattle.tr_core.specs.declared.settings.Options.{Options}
 use Rattle.trace_run.specs.declared.running.Ended.{Ended}
 use Rattle.trace_run.specs.declared.running.Ended.TheVariants.{Whole, OutOfTurns}
 use Rattle.trace_run.specs.Runs.{Answers, RunsWhole}
-use Rattle.trace_run.specs.Tells.{view_text}
+use Rattle.trace_run.specs.Tells.{view_text, shown_text}
 
 -- What a link in memory is: a host, a schedule that feeds it, and the turns that it gave to the kernel
 pub record InMemory (L X S B : Type 0) : Type 0 where
@@ -72,10 +72,15 @@ pub record LocalRun {X S B : Type 0} (choose : Schedules X S B) (m : Machine S B
   pub lost : ℕ → Bool
   pub later : List ℕ
   pub begins : trace ++ later ≡ view_text m outcome o script s b events lost
+  -- nothing is kept back, out of turns too: it is all that the world has shown
+  pub shown : trace ≡ shown_text m outcome o script s b events
   -- whole: the trace is all of it, and every tracee has logged its end
   pub whole : (y : Outcome) → ended ≡ Whole y → (y ≡ left) × (later ≡ [])
       × ((q : ℕ) → 1 ≤ q → q < (plain_run m outcome (options_by o) script s b events).child
       → traces o.follow q ≡ true → has_exit q (plain_run m outcome (options_by o) script s b events).log ≡ true)
+  -- with what the host replied to Outcome
+  pub told : (y : Outcome) → ended ≡ Whole y
+      → (traced_run m outcome (options_by o) script s b events).tracer.focus ≡ Over y
   -- out of turns: the schedule ended before the outcome was answered
   pub out_of_turns : ended ≡ OutOfTurns
       → is_there (request (options_by o) (traced_run m outcome (options_by o) script s b events).tracer.focus) ≡ true

@@ -1,10 +1,13 @@
 //! What a run writes, as the contract of a function with an empty body: call it to cite it.
 
-ghost use Rattle.trace_run.specs.Claims.{PlainTracing, ReplacedCalls, JoinedSignals, UnderKills};
+ghost use Rattle.trace_run.specs.BootedRuns.{LinuxRefusedRunsTell, LinuxRunsTell};
+ghost use Rattle.trace_run.specs.Claims.{PlainTracing, RefusedByLog, ReplacedCalls, JoinedSignals, UnderKills};
 ghost use Rattle.trace_run.specs.Local.{LocalRunsTell};
 ghost use Rattle.trace_run.specs.LocalRuns.{LocalLinksFail, LocalLinksServe, LocalLinksTell, LocalLinksTellParts};
+ghost use Rattle.trace_run.specs.Results.{JoinedRuns, KilledRuns, PlainRuns, ReplacedRuns};
+ghost use Rattle.trace_run.specs.Results.{RunsAreOne, TracesAreRuns, TracesTellLog};
 ghost use Rattle.trace_run.specs.Runs.{calls_of};
-ghost use Rattle.trace_run.specs.Tells.{RunsTell, ServedRunsTell};
+ghost use Rattle.trace_run.specs.Tells.{RefusedRunsTell, RunsTell, ServedRunsTell};
 
 use host_link::{Link, LocalLink};
 use lx_proc::{Shared, UserState};
@@ -12,8 +15,9 @@ use lx_turn::laws::linux_is_a_machine;
 use pt_kernel::Schedule;
 use pt_kernel::laws::{hosts_are_called, linux_is_told};
 use pt_model::laws::{
-    every_script_is_one, failures_leave_a_prefix, hosts_run_alike, no_kill_no_loss,
-    own_replies_tell, schedules_are_lists, tracing_is_transparent, worlds_attend,
+    every_script_is_one, failures_leave_a_prefix, faults_leave_a_prefix, hosts_run_alike,
+    no_kill_no_loss, own_replies_tell, schedules_are_lists, traces_grow_until_a_fault,
+    tracing_is_transparent, worlds_attend,
 };
 use tr_core::laws::{states_are_tracers, texts_are_whole, tracers_write_renderings};
 use tr_line::renderings_grow;
@@ -30,6 +34,33 @@ pub fn runs_tell<S, B, L: Link>()
     texts_are_whole();
     tracers_write_renderings();
     renderings_grow();
+}
+
+/// So it does where the run fails by a reply that isn't admitted, after replies that are a host's own: what those
+/// brought is written, and begins the rendering of such a view; and of the log itself where nobody is killed.
+pub fn refused_runs_tell<S, B, L: Link>()
+    ensures view { RefusedRunsTell S B (calls_of L.answers L.given L.broken) }
+    ensures log { RefusedByLog S B (calls_of L.answers L.given L.broken) }
+{
+    no_kill_no_loss();
+    faults_leave_a_prefix::<S, B>();
+    traces_grow_until_a_fault();
+    states_are_tracers();
+    texts_are_whole();
+    tracers_write_renderings();
+    renderings_grow();
+}
+
+/// At Linux: where the replies, or those before one that isn't admitted, are those of a host that a boot began.
+pub fn linux_runs_tell<L: Link>()
+    ensures own { LinuxRunsTell (calls_of L.answers L.given L.broken) }
+    ensures refused { LinuxRefusedRunsTell (calls_of L.answers L.given L.broken) }
+{
+    runs_tell::<Shared, UserState, L>();
+    refused_runs_tell::<Shared, UserState, L>();
+    every_script_is_one();
+    linux_is_a_machine();
+    linux_is_told();
 }
 
 /// A run that ends without a fault over a host in memory, which a schedule feeds, has the outcome of the untraced
@@ -127,4 +158,30 @@ pub fn tracing_is_transparent_under_kills<S, B, L: Link>()
     ensures { UnderKills S B (calls_of L.answers L.given L.broken) }
 {
     runs_tell::<S, B, L>();
+}
+
+/// The four claims of `run_local`: its outcome is that of the untraced kernel by its effective turns, and its trace is
+/// told by that kernel's log where nobody is killed: plainly, with results replaced, and with signals joined; and
+/// whoever is killed it is told by a view of the log.
+pub fn local_tracing_is_transparent()
+    ensures plain { PlainRuns }
+    ensures replaced { ReplacedRuns }
+    ensures joined { JoinedRuns }
+    ensures killed { KilledRuns }
+{
+    no_kill_no_loss();
+}
+
+/// Boot, schedule, script and options settle what `run_local` returns: trace, end, outcome and effective turns. Where
+/// `trace_local` doesn't fail it writes that trace, and ends so.
+pub fn local_runs_are_one()
+    ensures runs { RunsAreOne }
+    ensures traces { TracesAreRuns }
+{}
+
+/// What `trace_local` writes is told by the log itself where nobody is killed, however the run ended.
+pub fn traces_tell_the_log()
+    ensures { TracesTellLog }
+{
+    no_kill_no_loss();
 }

@@ -11,7 +11,7 @@ use Rattle.trace_run.proofs.local.run_local.Goals as goal
 pub returns-clause-run : goal.returns-clause-run
 returns-clause-run c =
     booted_runs c.local_links_tell.ensures c.hosts_run_alike.ensures.begin (following c.args.options c.args.boot.follow) (choice_of c.args.script) (c.every_script_is_one.ensures c.args.script) c.args.schedule
-    (first_shared c.args.boot.files c.args.boot.input) (booted c.args.boot.argv c.args.boot.env) c.in-Ok.ended c.into_bytes.result c.in-Ok-outcome.outcome c.into_turns.result
+    (first_shared c.args.boot.limits c.args.boot.files c.args.boot.input) (booted c.args.boot.argv c.args.boot.env) c.in-Ok.ended c.into_bytes.result c.in-Ok-outcome.outcome c.into_turns.result
     (record {
       link = c.new-link.result;
       link' = c.run.new.link;
@@ -35,7 +35,7 @@ pub refusal-requires : goal.refusal-requires
 refusal-requires c =
     by_memory _ c.in-Err.fault
     (booted_fails c.local_links_fail.ensures c.hosts_run_alike.ensures.begin (following c.args.options c.args.boot.follow) (choice_of c.args.script) (c.every_script_is_one.ensures c.args.script) c.args.schedule
-    (first_shared c.args.boot.files c.args.boot.input) (booted c.args.boot.argv c.args.boot.env) c.in-Err.fault _ _
+    (first_shared c.args.boot.limits c.args.boot.files c.args.boot.input) (booted c.args.boot.argv c.args.boot.env) c.in-Err.fault _ _
     (record {
       link = c.new-link.result;
       link' = c.run.new.link;

@@ -10,7 +10,7 @@ use Rattle.trace_run.proofs.local.trace_local.Goals as goal
 pub returns-clause-trace : goal.returns-clause-trace
 returns-clause-trace g c =
     booted_traces c.local_links_tell_parts.ensures c.hosts_run_alike.ensures.begin (following c.args.options c.args.boot.follow) (choice_of c.args.script) (c.every_script_is_one.ensures c.args.script) c.args.schedule
-    (first_shared c.args.boot.files c.args.boot.input) (booted c.args.boot.argv c.args.boot.env) c.run-ended.result _ _
+    (first_shared c.args.boot.limits c.args.boot.files c.args.boot.input) (booted c.args.boot.argv c.args.boot.env) c.run-ended.result _ _
     (record {
       link = c.new-local.result;
       link' = c.run-ended.new.link;
@@ -27,7 +27,7 @@ returns-clause-trace g c =
 pub returns-clause-fails : goal.returns-clause-fails
 returns-clause-fails g c =
     booted_fails_only c.local_links_fail.ensures c.hosts_run_alike.ensures.begin (following c.args.options c.args.boot.follow) (choice_of c.args.script) (c.every_script_is_one.ensures c.args.script) c.args.schedule
-    (first_shared c.args.boot.files c.args.boot.input) (booted c.args.boot.argv c.args.boot.env) c.run-ended.result _ _
+    (first_shared c.args.boot.limits c.args.boot.files c.args.boot.input) (booted c.args.boot.argv c.args.boot.env) c.run-ended.result _ _
     (record {
       link = c.new-local.result;
       link' = c.run-ended.new.link;
