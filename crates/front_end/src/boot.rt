@@ -4,16 +4,11 @@ use crate::fault::Fault;
 use crate::reading::{MOST_INPUT, read_file, read_input};
 use crate::shown::Shown;
 use containers::{Bytes, Seq};
-use lx_abi::{Boot, GuestFile};
+use lx_abi::limits::{LARGEST_FILE, MOST_CONTENTS};
+use lx_abi::{Boot, GuestFile, Limits};
 use std::alloc::Global;
 use std::io::{IsTerminal, Read, Write};
 use std::rt::Files;
-
-/// The most bytes of a guest's file.
-const LARGEST_FILE: u64 = 16_777_216;
-
-/// The most bytes of a guest's files together.
-const MOST_CONTENTS: u64 = 67_108_864;
 
 /// The words that say what a run begins with.
 #[derive(Clone, Copy)]
@@ -131,6 +126,7 @@ pub fn boot_of<R: Files + AllocGlobal, I: Read + IsTerminal, E: Write + IsTermin
     let files = read_files(rt, words.files)?;
     announce_input(program, input, err);
     Ok(Boot {
+        limits: Limits::WIDEST,
         files,
         argv: argv(alloc, words.program)?,
         env,

@@ -1,22 +1,11 @@
-//! Why a boot is refused, and for which of its files.
+//! Why a boot is refused, and for which of its files or limits.
 
 use crate::fault::Fault;
 use crate::shown::Shown;
-use lx_abi::{Boot, GuestFile};
+use lx_abi::limits::{LARGEST_FILE, LONGEST_NAME, LONGEST_PATH, MOST_CONTENTS};
+use lx_abi::{Boot, GuestFile, Limits};
 use lx_boot::{BootFault, boot_fault};
 use std::alloc::{AllocError, Global};
-
-/// The most bytes of a path.
-const LONGEST_PATH: usize = 4095;
-
-/// The most bytes between two slashes of a path.
-const LONGEST_NAME: usize = 255;
-
-/// The most bytes of a file.
-const LARGEST_FILE: usize = 16_777_216;
-
-/// The most bytes of all files.
-const MOST_CONTENTS: usize = 67_108_864;
 
 fn path_of(file: &GuestFile) -> &str {
     str::from_utf8(file.path.as_slice()).unwrap_or("")
@@ -71,7 +60,7 @@ fn excess(file: &GuestFile) -> Option<&'static str> {
         Some("its path has more than 4095 bytes")
     } else if path.split('/').any(|name| name.len() > LONGEST_NAME) {
         Some("a part of its path has more than 255 bytes")
-    } else if file.content.len() > LARGEST_FILE {
+    } else if file.content.len() as u64 > LARGEST_FILE {
         Some("it has more than 16777216 bytes")
     } else {
         None
@@ -80,12 +69,12 @@ fn excess(file: &GuestFile) -> Option<&'static str> {
 
 /// What is too large. The files are looked at before the words and the environment.
 fn too_large(alloc: Global, files: &[GuestFile]) -> Result<String, AllocError> {
-    let mut size = 0usize;
+    let mut size = 0u64;
     for file in files {
         if let Some(excess) = excess(file) {
             return format!(in alloc; ": {}: {excess}", Shown(path_of(file)));
         }
-        size = size.saturating_add(file.content.len());
+        size = size.saturating_add(file.content.len() as u64);
         if size > MOST_CONTENTS {
             return format!(in alloc;
                 ": {}: with it the files have more than 67108864 bytes",
@@ -96,6 +85,17 @@ fn too_large(alloc: Global, files: &[GuestFile]) -> Result<String, AllocError> {
     Ok(String::new(alloc))
 }
 
+/// Which limit is out of its range.
+fn bad_limit(alloc: Global, limits: Limits) -> Result<String, AllocError> {
+    let most = Limits::WIDEST;
+    let (name, value, most) = if (1..=most.live).contains(&limits.live) {
+        ("last_pid", limits.last_pid, most.last_pid)
+    } else {
+        ("live", limits.live, most.live)
+    };
+    format!(in alloc; ": {name} is {value}: it may be 1 to {most}")
+}
+
 /// What the fault is found in, behind its text.
 fn culprit(alloc: Global, fault: BootFault, boot: &Boot) -> Result<String, AllocError> {
     let files = boot.files.as_slice();
@@ -103,11 +103,12 @@ fn culprit(alloc: Global, fault: BootFault, boot: &Boot) -> Result<String, Alloc
         BootFault::BadPath => bad_path(alloc, files),
         BootFault::Duplicate => repeated_path(alloc, files),
         BootFault::TooLarge => too_large(alloc, files),
+        BootFault::BadLimit => bad_limit(alloc, boot.limits),
         BootFault::NoProgram | BootFault::Memory => Ok(String::new(alloc)),
     }
 }
 
-/// The fault of a boot, which names the file that it is found in.
+/// The fault of a boot, which names the file or the limit that it is found in.
 pub fn check_boot(alloc: Global, boot: &Boot) -> Result<(), Fault> {
     match boot_fault(alloc, boot) {
         None => Ok(()),

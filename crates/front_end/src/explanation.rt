@@ -2,7 +2,7 @@
 
 use crate::expressions::RefusedExpression;
 use crate::names::{Names, is_job_control, nearest};
-use crate::shown::Shown;
+use crate::shown::{Escaped, Shown};
 use std::alloc::{AllocError, Global};
 use tr_expr::{ExprFault, parse_expr};
 
@@ -23,6 +23,10 @@ const ABSENT: [&str; 14] = [
     "fds",
     "namespace",
 ];
+
+/// What may stand after `when=`.
+const WHEN: &str = "FIRST or FIRST..LAST, alone or with + or +STEP after it; \
+FIRST and STEP are from 1 to 65535, LAST from 1 to 65534";
 
 /// The set's text and the parts' of an expression.
 #[derive(Clone, Copy)]
@@ -103,7 +107,7 @@ fn near(alloc: Global, names: Names, word: &str, start: &str) -> Result<String, 
     }
 }
 
-/// What strace takes and stands in front of the first `=` of an expression.
+/// What strace takes before the first `=` of an expression.
 fn absent(text: &str) -> Option<&str> {
     let (key, _) = text.split_once('=')?;
     ABSENT.contains(&key).then_some(key)
@@ -143,7 +147,7 @@ fn explain_class(alloc: Global, item: &str) -> Result<String, AllocError> {
     )
 }
 
-/// What stands after the `=` of a part.
+/// The text after the `=` of a part.
 fn value_of(part: &str) -> &str {
     part.split_once('=').map_or("", |(_, value)| value)
 }
@@ -172,21 +176,29 @@ fn explain_number(alloc: Global, part: &str) -> Result<String, AllocError> {
     format!(in alloc; "{}: not {range}", Shown(part))
 }
 
-fn explain_when(alloc: Global, part: &str) -> Result<String, AllocError> {
-    let ranges = if part.contains("..") && is_range_absent(alloc) {
-        "; ranges (FIRST..LAST) are not supported yet"
-    } else {
-        ""
+/// The first and the last of a range.
+fn ends_of(range: &str) -> Option<(u64, u64)> {
+    let (first, rest) = range.split_once("..")?;
+    let last = match rest.split_once('+') {
+        Some((last, _)) => last,
+        None => rest,
     };
-    format!(in alloc;
-        "{}: not FIRST, FIRST+ or FIRST+STEP, each from 1 to 65535{ranges}",
-        Shown(part)
-    )
+    match (first.parse(), last.parse()) {
+        (Ok(first), Ok(last)) => Some((first, last)),
+        _ => None,
+    }
 }
 
-/// Ranges of occurrences are refused.
-fn is_range_absent(alloc: Global) -> bool {
-    parse_expr(alloc, "inject=all:error=1:when=1..2").is_err()
+fn explain_when(alloc: Global, part: &str) -> Result<String, AllocError> {
+    let part_shown = Shown(part);
+    match ends_of(value_of(part)) {
+        Some((first, last)) if last < first => {
+            format!(in alloc;
+                "{part_shown}: no occurrence is in it, since {last} is before {first}"
+            )
+        }
+        _ => format!(in alloc; "{part_shown}: not {WHEN}"),
+    }
 }
 
 fn explain_part(alloc: Global, cut: Pieces<'_>, part: &str) -> Result<String, AllocError> {
@@ -245,5 +257,5 @@ pub fn explain_expression(
     refused: RefusedExpression<'_>,
 ) -> Result<String, AllocError> {
     let reason = reason(alloc, refused)?;
-    format!(in alloc; "in '{}': {reason}", Shown(refused.text))
+    format!(in alloc; "in '{}': {reason}", Escaped(refused.text))
 }

@@ -1,5 +1,7 @@
 //! What the words that name calls ask for: those after `-e`, `--trace`, `--inject` and `--fault`.
 
+use crate::explanation::explain_expression;
+use crate::fault::Fault;
 use clap::ArgMatches;
 use containers::Seq;
 use lx_abi::{Rule, Script, Set};
@@ -28,7 +30,7 @@ const OPTIONS: [(&str, &str); 4] = [
     ("fault", "fault="),
 ];
 
-/// An expression, and where it stands among the words.
+/// An expression, and its place among the words.
 #[derive(Drop)]
 struct Placed {
     place: usize,
@@ -44,7 +46,7 @@ fn text_of(alloc: Global, start: &str, value: &str) -> Result<String, AllocError
 }
 
 /// The expressions, in the order of the words.
-pub fn expression_words(alloc: Global, matches: &ArgMatches) -> Result<Vec<String>, AllocError> {
+fn expression_words(alloc: Global, matches: &ArgMatches) -> Result<Vec<String>, AllocError> {
     let mut placed: Vec<Placed> = Vec::new(alloc);
     for (option, start) in OPTIONS {
         let values = matches.get_strs(option).unwrap_or(&[]);
@@ -65,7 +67,7 @@ pub fn expression_words(alloc: Global, matches: &ArgMatches) -> Result<Vec<Strin
 }
 
 /// Parses the expressions in their order.
-pub fn parse_expressions<'a>(
+fn parse_expressions<'a>(
     alloc: Global,
     words: &'a [String],
 ) -> Result<Expressions, RefusedExpression<'a>> {
@@ -90,4 +92,20 @@ pub fn parse_expressions<'a>(
         shown,
         script: Script::new(rules),
     })
+}
+
+fn refusal(alloc: Global, refused: RefusedExpression<'_>) -> Fault {
+    match (refused.fault, explain_expression(alloc, refused)) {
+        (ExprFault::Memory, _) | (_, Err(_)) => Fault::Memory,
+        (fault, Ok(reason)) => Fault::Expression { fault, reason },
+    }
+}
+
+/// What the words that name calls ask for.
+pub fn read_expressions(alloc: Global, matches: &ArgMatches) -> Result<Expressions, Fault> {
+    let words = expression_words(alloc, matches)?;
+    match parse_expressions(alloc, words.as_slice()) {
+        Ok(expressions) => Ok(expressions),
+        Err(refused) => Err(refusal(alloc, refused)),
+    }
 }

@@ -1,13 +1,32 @@
-//! Why words, files or input can't be used.
+//! Why a command isn't carried out, or not wholly.
 
 use std::alloc::{AllocError, AllocFailed, Global};
 use std::fmt::Display;
 use std::io::{self, ErrorKind};
+use tr_expr::ExprFault;
 
+/// The status where the words, an expression, the schedule, a file, the input or the boot is at fault.
+const USAGE: u8 = 2;
+
+/// The status where the host, memory or an output fails.
+pub const HOST: u8 = 3;
+
+/// The status of a run that is out of turns.
+const OUT_OF_TURNS: u8 = 4;
+
+/// A fault. It is reported in one line, and explained in another.
 #[derive(Debug, Drop)]
 pub enum Fault {
-    /// They are at fault in this way, reported in one line.
+    /// The words, the schedule, a file, the input or the boot, in this way.
     Usage(String),
+    /// An expression, for this reason.
+    Expression { fault: ExprFault, reason: String },
+    /// The listing's first faulty line, and the number of the kind of fault.
+    Listing { line: usize, kind: u8 },
+    /// The kernel's host, by the number of its fault, for this reason.
+    Host { number: u8, reason: &'static str },
+    /// The schedule ended before the run, as this says where it is to be explained.
+    OutOfTurns(Option<String>),
     /// This output can't be written.
     Output(String),
     /// Memory was refused.
@@ -37,6 +56,26 @@ impl Fault {
             return Fault::Memory;
         }
         Fault::usage(format!(in alloc; "{what}: {error}"))
+    }
+
+    /// The exit status.
+    pub fn status(&self) -> u8 {
+        match self {
+            Fault::Usage(_) | Fault::Expression { .. } | Fault::Listing { .. } => USAGE,
+            Fault::Host { .. } | Fault::Output(_) | Fault::Memory => HOST,
+            Fault::OutOfTurns(_) => OUT_OF_TURNS,
+        }
+    }
+
+    /// What explains it, where its line doesn't say it.
+    pub fn reason(&self) -> Option<&str> {
+        match self {
+            Fault::Expression { reason, .. } => Some(reason.as_str()),
+            Fault::Host { reason, .. } => Some(*reason),
+            Fault::OutOfTurns(reason) => reason.as_ref().map(|text| text.as_str()),
+            Fault::Output(output) => Some(output.as_str()),
+            Fault::Usage(_) | Fault::Listing { .. } | Fault::Memory => None,
+        }
     }
 }
 

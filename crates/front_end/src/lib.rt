@@ -1,5 +1,5 @@
 //! What the command lines of both programs share: their words, the guest's files and input, expressions, and how faults
-//! are shown.
+//! are reported and explained.
 #![tactic(auto)]
 
 mod boot;
@@ -13,23 +13,29 @@ mod names;
 mod offered;
 mod options;
 mod parser;
+mod program;
 mod reading;
+mod reporting;
 mod shown;
 mod start;
 mod turns;
+mod waits;
 
 pub use boot::{BootWords, boot_of, read_files};
 pub use boot_faults::{check_boot, refuse_boot};
-pub use explanation::explain_expression;
-pub use expressions::{Expressions, RefusedExpression, expression_words, parse_expressions};
+pub use expressions::{Expressions, read_expressions};
 pub use fault::Fault;
 pub use leavings::{Leavings, with_leavings};
 pub use offered::{
-    with_calls, with_environment, with_expressions, with_files, with_limit, with_program,
+    with_calls, with_environment, with_explain, with_expressions, with_files, with_limit,
+    with_program,
 };
 pub use options::{limit, number};
 pub use parser::{refusal, shown_words};
+pub use program::Program;
 pub use reading::{MOST_INPUT, read_input, read_text};
-pub use shown::{Escaped, Shown};
+pub use reporting::{print_help, report};
+pub use shown::Shown;
 pub use start::arguments;
 pub use turns::read_turns;
+pub use waits::{explain_limit, explain_waits};

@@ -36,6 +36,16 @@ pub fn with_expressions<'a>(
     )
 }
 
+/// Adds `--explain`.
+pub fn with_explain<'a>(alloc: Global, command: Command<'a>) -> Result<Command<'a>, AllocError> {
+    command.arg(
+        Arg::new(alloc, "explain")
+            .long("explain")
+            .action(ArgAction::SetTrue)
+            .help("Explains faults in further lines, as at a terminal"),
+    )
+}
+
 /// Adds `--limit N`.
 pub fn with_limit<'a>(
     alloc: Global,
@@ -80,7 +90,7 @@ pub fn with_environment<'a>(
     )
 }
 
-/// Adds the words behind `--`.
+/// Adds the words after `--`.
 pub fn with_program<'a>(alloc: Global, command: Command<'a>) -> Result<Command<'a>, AllocError> {
     command.arg(
         Arg::new(alloc, "program")

@@ -49,7 +49,7 @@ fn lacks_divider(options: &[String]) -> bool {
     !options.iter().any(|word| word.as_str() == "--")
 }
 
-/// The hint for a fault of the words, behind what the parser says.
+/// The hint for a fault of the words, after what the parser says.
 fn hint(kind: ErrorKind, options: &[String]) -> &'static str {
     match kind {
         ErrorKind::UnknownArgument | ErrorKind::MissingRequiredArgument if lacks_divider(options) =>
@@ -58,7 +58,7 @@ fn hint(kind: ErrorKind, options: &[String]) -> &'static str {
     }
 }
 
-/// What the parser refused; `options` are the words of a command that takes a program behind `--`, else none.
+/// What the parser refused; `options` are the words of a command that takes a program after `--`, else none.
 pub fn refusal(alloc: Global, error: Error, options: Option<&[String]>) -> Fault {
     if error.kind() == ErrorKind::OutOfMemory {
         return Fault::Memory;
@@ -76,7 +76,7 @@ fn quoted(line: &str) -> &str {
     line.split('\'').nth(1).unwrap_or("")
 }
 
-/// An option that strace has is told as one that isn't here, all else as the parser says it.
+/// An option that strace has is reported as one that isn't here, all else as the parser says it.
 fn refuse(alloc: Global, kind: ErrorKind, line: &str, hint: &str) -> Fault {
     let option = quoted(line);
     match left_out(option) {

@@ -11,7 +11,7 @@ const LONGEST: usize = 200;
 #[derive(Clone, Copy)]
 pub struct Shown<'a>(pub &'a str);
 
-/// Writes the start of a text that fits into so many bytes, escaped; what is left of them, if all was written.
+/// Writes a text escaped; one that takes more than the most bytes is cut and ends in `...`.
 fn write_escaped<W: fmt::Write>(f: &mut Formatter<W>, text: &str) -> fmt::Result {
     let mut left = LONGEST;
     for c in text.chars() {

@@ -1,8 +1,7 @@
 //! A listing assembled into an ELF file.
 
-use crate::fault::Fault;
 use clap::ArgMatches;
-use front_end::{MOST_INPUT, Shown, read_text};
+use front_end::{Fault, MOST_INPUT, Shown, read_text};
 use rv_asm::assemble;
 use std::alloc::Global;
 use std::fs;

@@ -1,14 +1,18 @@
 //! The program as a function of its words, its input and its outputs.
 
-use crate::fault::{Fault, HOST};
+use crate::drill_words::read_drills;
 use crate::{asm, plain, serving, words};
-use clap::{ArgMatches, Error};
+use clap::ArgMatches;
+use front_end::{Fault, print_help, report};
 use std::alloc::Global;
 use std::io::{IsTerminal, Read, Write};
 use std::rt::Files;
 
-/// Does what the words ask for, the program's name first, and gives the exit status. A fault is one
-/// line on `err`.
+/// The program in its messages.
+const NAME: &str = "guest_host";
+
+/// Does what the words ask for, the program's name first, and gives the exit status. A fault is one line on `err`; at a
+/// terminal, and where the words ask for it, others explain it.
 pub fn command<R: Files + AllocGlobal, I: Read + IsTerminal, O: Write, E: Write + IsTerminal>(
     rt: &R,
     words: &[String],
@@ -16,31 +20,53 @@ pub fn command<R: Files + AllocGlobal, I: Read + IsTerminal, O: Write, E: Write 
     out: &mut O,
     err: &mut E,
 ) -> u8 {
-    match obey(rt, words, input, out, err) {
+    match words::parse(rt.alloc(), words) {
+        Ok(matches) => choose(rt, &matches, input, out, err),
+        Err(error) if error.use_stderr() => tell(words::refusal(rt.alloc(), words), err),
+        Err(help) => ended(print_help(rt.alloc(), help, out), err),
+    }
+}
+
+/// Reports a fault in one line, and gives its status.
+pub fn tell<E: Write + IsTerminal>(fault: Fault, err: &mut E) -> u8 {
+    let explained = err.is_terminal();
+    report(NAME, &fault, explained, err)
+}
+
+/// The status of a command that ended so.
+fn ended<E: Write + IsTerminal>(status: Result<u8, Fault>, err: &mut E) -> u8 {
+    match status {
         Ok(status) => status,
         Err(fault) => tell(fault, err),
     }
 }
 
-/// Reports a fault in one line, and gives its status. A tracer's fault has its own, whether it could be reported or not.
-pub fn tell<E: Write>(fault: Fault, err: &mut E) -> u8 {
-    match writeln!(err, "{fault}") {
-        Err(_) if !fault.is_serving() => HOST,
-        _ => fault.status(),
-    }
-}
-
-fn obey<R: Files + AllocGlobal, I: Read + IsTerminal, O: Write, E: Write + IsTerminal>(
+/// Runs a program, with faults explained where the words ask for it.
+fn run_plain<R: Files + AllocGlobal, I: Read + IsTerminal, O: Write, E: Write + IsTerminal>(
     rt: &R,
-    words: &[String],
+    matches: &ArgMatches,
     input: &mut I,
     out: &mut O,
     err: &mut E,
-) -> Result<u8, Fault> {
-    match words::parse(rt.alloc(), words) {
-        Ok(matches) => choose(rt, &matches, input, out, err),
-        Err(error) if error.use_stderr() => Err(words::refusal(rt.alloc(), words)),
-        Err(help) => print_help(rt.alloc(), help, out),
+) -> u8 {
+    let explained = matches.get_flag("explain") || err.is_terminal();
+    match plain::run(rt, matches, explained, input, out, err) {
+        Ok(status) => status,
+        Err(fault) => report(NAME, &fault, explained, err),
+    }
+}
+
+/// Serves a tracer, by the drills that the words ask for.
+fn run_serve<I: Read, O: Write, E: Write + IsTerminal>(
+    alloc: Global,
+    matches: &ArgMatches,
+    input: &mut I,
+    out: &mut O,
+    err: &mut E,
+) -> u8 {
+    match read_drills(alloc, matches.get_strs("drill").unwrap_or(&[])) {
+        Ok(drills) => serving::run(alloc, drills, input, out, err),
+        Err(fault) => tell(fault, err),
     }
 }
 
@@ -51,20 +77,11 @@ fn choose<R: Files + AllocGlobal, I: Read + IsTerminal, O: Write, E: Write + IsT
     input: &mut I,
     out: &mut O,
     err: &mut E,
-) -> Result<u8, Fault> {
+) -> u8 {
     match matches.subcommand() {
-        Some(("plain", matches)) => plain::run(rt, matches, input, out, err),
-        Some(("asm", matches)) => asm::run(rt, matches),
-        Some(("serve", _)) => serving::run(rt.alloc(), input, out),
-        _ => Err(Fault::usage(format!(in rt.alloc(); "no such command"))),
-    }
-}
-
-/// Writes the help, or the version.
-fn print_help<O: Write>(alloc: Global, help: Error, out: &mut O) -> Result<u8, Fault> {
-    let text = format!(in alloc; "{help}")?;
-    match out.write_all(text.as_bytes()) {
-        Ok(()) => Ok(0),
-        Err(error) => Err(Fault::output(format!(in alloc; "standard output: {error}"))),
+        Some(("plain", matches)) => run_plain(rt, matches, input, out, err),
+        Some(("asm", matches)) => ended(asm::run(rt, matches), err),
+        Some(("serve", matches)) => run_serve(rt.alloc(), matches, input, out, err),
+        _ => tell(Fault::usage(format!(in rt.alloc(); "no such command")), err),
     }
 }

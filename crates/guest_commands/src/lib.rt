@@ -2,9 +2,9 @@
 #![tactic(auto)]
 
 mod asm;
+mod drill_words;
+mod drills;
 mod entry;
-mod expressions;
-mod fault;
 mod line;
 mod log;
 mod plain;
@@ -13,6 +13,5 @@ mod serving;
 mod words;
 
 pub use entry::{command, tell};
-pub use fault::Fault;
 pub use log::Log;
 pub use plain::status_of;

@@ -1,7 +1,7 @@
 //! The log of calls as it is printed: a line an item.
 
-use crate::fault::Fault;
 use crate::line::{LONGEST_LINE, Line};
+use front_end::Fault;
 use lx_abi::Item;
 use std::alloc::{AllocError, Global};
 use std::io::Write;
@@ -33,7 +33,7 @@ impl<'w, W: Write> Log<'w, W> {
         })
     }
 
-    /// How many turns may go by before it is told of them.
+    /// How many turns may pass before [`Log::wait`] is called.
     pub fn patience(&self) -> u64 {
         if self.lines.is_empty() {
             u64::MAX

@@ -1,14 +1,13 @@
 //! A run on the untraced kernel.
 
-use crate::fault::Fault;
 use crate::log::Log;
 use crate::plan::{Plan, read_plan};
 use clap::ArgMatches;
-use front_end::Leavings;
-use lx_abi::{Item, Mode};
+use front_end::{Fault, Leavings, explain_limit, explain_waits};
+use lx_abi::{Item, Mode, Status};
 use lx_kernel::Kernel;
 use pt_schedule::Schedule;
-use std::alloc::Global;
+use std::alloc::{AllocError, Global};
 use std::io::{self, IsTerminal, Read, Write};
 use std::rt::Files;
 
@@ -29,11 +28,7 @@ fn is_alive(kernel: &Kernel) -> bool {
 pub fn status_of(log: &[Item]) -> u8 {
     for item in log.iter().rev() {
         if let Item::Exit { pid: 1, word, .. } = item {
-            return if word % 128 == 0 {
-                (word / 256 % 256) as u8
-            } else {
-                128 + (word % 128) as u8
-            };
+            return Status { word: *word }.shell_status();
         }
     }
     ALIVE
@@ -48,14 +43,14 @@ fn status(kernel: &Kernel) -> u8 {
     }
 }
 
-/// How many turns a process had, and where it stands after them.
+/// How many turns a process had, and its mode after them.
 #[derive(Clone, Copy, Debug, PartialEq, Eq)]
 struct Passed {
     turns: u64,
     after: Option<Mode>,
 }
 
-/// One turn of a process, whose item is printed: where it stands after it.
+/// One turn of a process, whose item is printed: its mode after it.
 fn turn<E: Write>(kernel: &mut Kernel, pid: u32, log: &mut Log<E>) -> Result<Option<Mode>, Fault> {
     let turned = kernel.turn(pid);
     let Ok(moved) = &turned else {
@@ -68,7 +63,7 @@ fn turn<E: Write>(kernel: &mut Kernel, pid: u32, log: &mut Log<E>) -> Result<Opt
     Ok(moved.after)
 }
 
-/// Turns of a process that run instructions, at most so many: how many there were.
+/// Turns of a process that run instructions, `most` at most: how many there were.
 fn run_instructions<E: Write>(
     kernel: &mut Kernel,
     pid: u32,
@@ -82,7 +77,7 @@ fn run_instructions<E: Write>(
     Ok(ran)
 }
 
-/// The next turns of a process, at most so many: those that run instructions are made at once, with the one that ends
+/// The next turns of a process, `most` at most: those that run instructions are made at once, with the one that ends
 /// them.
 fn turns_from<E: Write>(
     kernel: &mut Kernel,
@@ -108,7 +103,7 @@ fn turns_from<E: Write>(
     })
 }
 
-/// A process that stands so can have the next turn of its row: it is able, and no call of it is finished. Only a call
+/// A process in this mode can have the next turn of its row: it is able, and no call of it is finished. Only a call
 /// can wait.
 fn goes_on(kernel: &Kernel, pid: u32, mode: Option<Mode>) -> bool {
     match mode {
@@ -118,7 +113,7 @@ fn goes_on(kernel: &Kernel, pid: u32, mode: Option<Mode>) -> bool {
     }
 }
 
-/// The turn that a process has next, and those of its row behind it as long as nothing comes between them.
+/// The turn that a process has next, and those of its row after it as long as nothing comes between them.
 fn turns_of<E: Write>(
     kernel: &mut Kernel,
     schedule: &mut Schedule,
@@ -222,16 +217,60 @@ fn run_plan<R: Files + AllocGlobal, O: Write, E: Write>(
     Ok(status)
 }
 
-/// Runs the program that the words name.
+/// The processes that wait in a call.
+fn waiting(alloc: Global, kernel: &Kernel) -> Result<Vec<u32>, AllocError> {
+    let mut pids = Vec::new(alloc);
+    for pid in 1..kernel.next_pid() {
+        if kernel.mode(pid) == Some(Mode::Doing) {
+            pids.push(pid)?;
+        }
+    }
+    Ok(pids)
+}
+
+/// Why turns ended with a process alive.
+fn explain_turns(alloc: Global, kernel: &Kernel, limit: u64) -> Result<String, AllocError> {
+    if (1..kernel.next_pid()).any(|pid| kernel.able(pid)) {
+        return explain_limit(alloc, limit, "turns");
+    }
+    let pids = waiting(alloc, kernel)?;
+    explain_waits(alloc, pids.as_slice(), kernel.log())
+}
+
+/// Why a run ended so, if its turns or its program say it.
+fn reason(alloc: Global, plan: &Plan, status: u8) -> Result<Option<String>, AllocError> {
+    if status == ALIVE && is_alive(&plan.kernel) {
+        return Ok(Some(explain_turns(alloc, &plan.kernel, plan.limit)?));
+    }
+    match &plan.program {
+        Some(program) => program.reason(alloc, status),
+        None => Ok(None),
+    }
+}
+
+/// Explains the end of a run on `err`, if there is something to explain.
+fn explain<E: Write>(alloc: Global, plan: &Plan, status: u8, err: &mut E) -> Result<u8, Fault> {
+    if let Some(reason) = reason(alloc, plan, status)? {
+        // The run has ended, whether this can be written or not.
+        let _written = writeln!(err, "guest_host: {reason}");
+    }
+    Ok(status)
+}
+
+/// Runs the program that the words name, and explains its end where that is asked.
 pub fn run<R: Files + AllocGlobal, I: Read + IsTerminal, O: Write, E: Write + IsTerminal>(
     rt: &R,
     matches: &ArgMatches,
+    explained: bool,
     input: &mut I,
     out: &mut O,
     err: &mut E,
 ) -> Result<u8, Fault> {
-    let mut plan = read_plan(rt, matches, input, err)?;
-    let status = run_plan(rt, Leavings::of(matches), &mut plan, out, err);
+    let mut plan = read_plan(rt, matches, explained, input, err)?;
+    let status = match run_plan(rt, Leavings::of(matches), &mut plan, out, err) {
+        Ok(status) if explained => explain(rt.alloc(), &plan, status, err),
+        ended => ended,
+    };
     drop(plan);
     status
 }

@@ -1,9 +1,10 @@
 //! What a run is made of.
 
-use crate::expressions::script;
-use crate::fault::Fault;
 use clap::ArgMatches;
-use front_end::{BootWords, Leavings, boot_of, check_boot, read_turns, refuse_boot};
+use front_end::{
+    BootWords, Fault, Leavings, Program, boot_of, check_boot, read_expressions, read_turns,
+    refuse_boot,
+};
 use lx_abi::{Boot, Script};
 use lx_kernel::Kernel;
 use pt_schedule::Schedule;
@@ -16,9 +17,13 @@ use std::rt::Files;
 pub struct Plan {
     pub kernel: Kernel,
     pub schedule: Schedule,
+    /// The most turns.
+    pub limit: u64,
+    /// The program, where the end of the run is to be explained.
+    pub program: Option<Program>,
 }
 
-/// The order of turns that the words ask for, so many at most.
+/// The order of turns that the words ask for, `limit` at most.
 fn schedule<R: Files + AllocGlobal>(
     rt: &R,
     matches: &ArgMatches,
@@ -41,30 +46,45 @@ fn boot<R: Files + AllocGlobal, I: Read + IsTerminal, E: Write + IsTerminal>(
         program: matches.get_strs("program").unwrap_or(&[]),
         follow: true,
     };
-    Ok(boot_of(rt, "guest_host", words, input, err)?)
+    boot_of(rt, "guest_host", words, input, err)
 }
 
 fn booted(alloc: Global, boot: Boot, script: Script) -> Result<Kernel, Fault> {
     match Kernel::boot(alloc, boot, script) {
         Ok(kernel) => Ok(kernel),
-        Err(fault) => Err(Fault::from(refuse_boot(alloc, fault))),
+        Err(fault) => Err(refuse_boot(alloc, fault)),
     }
 }
 
-/// Reads what the words ask for. Faults are looked for in the limit, the expressions, the schedule, the files, the
+fn program(alloc: Global, explained: bool, boot: &Boot) -> Result<Option<Program>, Fault> {
+    if explained {
+        Ok(Some(Program::of(alloc, boot)?))
+    } else {
+        Ok(None)
+    }
+}
+
+/// Reads what the words ask for; a trace set has no effect. Faults are looked for in the limit, the expressions, the schedule, the files, the
 /// input and then the boot.
 pub fn read_plan<R: Files + AllocGlobal, I: Read + IsTerminal, E: Write + IsTerminal>(
     rt: &R,
     matches: &ArgMatches,
+    explained: bool,
     input: &mut I,
     err: &mut E,
 ) -> Result<Plan, Fault> {
     let limit = front_end::limit(rt.alloc(), matches)?;
-    let script = script(rt.alloc(), matches)?;
+    let script = read_expressions(rt.alloc(), matches)?.script;
     let schedule = schedule(rt, matches, limit)?;
     Leavings::of(matches).check(rt)?;
     let boot = boot(rt, matches, input, err)?;
     check_boot(rt.alloc(), &boot)?;
+    let program = program(rt.alloc(), explained, &boot)?;
     let kernel = booted(rt.alloc(), boot, script)?;
-    Ok(Plan { kernel, schedule })
+    Ok(Plan {
+        kernel,
+        schedule,
+        limit,
+        program,
+    })
 }

@@ -1,10 +1,9 @@
 //! What the command line asks for.
 
-use crate::fault::Fault;
-use clap::{Arg, ArgMatches, Command, Error};
+use clap::{Arg, ArgAction, ArgMatches, Command, Error};
 use front_end::{
-    shown_words, with_calls, with_environment, with_expressions, with_files, with_leavings,
-    with_limit, with_program,
+    Fault, shown_words, with_calls, with_environment, with_explain, with_expressions, with_files,
+    with_leavings, with_limit, with_program,
 };
 use std::alloc::{AllocError, Global};
 
@@ -26,15 +25,22 @@ const NOTES: &str = "The log has a line for each step of a call:
   S pid signal             a signal is taken
   X pid word               a process ends, with its wait word
 
+Faults are one line on standard error, with the numbers that strace_cli --help lists; at a terminal and with --explain
+another explains it.
+
 The status is the program's, or 128 and the signal that ended it; 2 for words, files or a boot at fault, 3 for an
 output or for memory, 4 where the turns ended with a process alive.
 
 Example: make the second write fail
   guest_host plain -e fault=write:error=EIO:when=2 --file /p=hello -- /p </dev/null";
 
-/// What is written of conversations that can't go on, kind by kind.
-const SERVE_FAULTS: &str =
-    "The status is 0 at the end of input. A conversation that can't go on is reported in one line, as
+/// What is written of drills, and of conversations that can't go on, kind by kind.
+const SERVE_NOTES: &str = "A drill spoils the reply of one number; Boot's is the first:
+  cut:N:BYTES        writes the first BYTES of reply N, and ends with status 1
+  renumber:N:NUMBER  gives reply N this number
+  replace:N:HEX      writes these bytes for reply N
+
+The status is 0 at the end of input. A conversation that can't go on is reported in one line, as
 'guest_host: serve fault N: TEXT', with the status 1:
   1  the requests could not be read
   2  a reply could not be written
@@ -79,7 +85,7 @@ fn plain_command<'a>(alloc: Global) -> Result<Command<'a>, AllocError> {
     let command = with_limit(
         alloc,
         command,
-        "The most turns that there are [default: 10000000]",
+        "Ends the run after N turns [default: 10000000]",
     )?;
     let command = with_files(
         alloc,
@@ -87,6 +93,7 @@ fn plain_command<'a>(alloc: Global) -> Result<Command<'a>, AllocError> {
         "A file of the guest's, and the file that holds its content; the program too",
     )?;
     let command = with_environment(alloc, command)?;
+    let command = with_explain(alloc, command)?;
     let command = with_leavings(alloc, command)?;
     with_program(alloc, command)
 }
@@ -121,12 +128,19 @@ fn asm_command<'a>(alloc: Global) -> Result<Command<'a>, AllocError> {
     )
 }
 
-fn serve_command<'a>(alloc: Global) -> Command<'a> {
+fn serve_command<'a>(alloc: Global) -> Result<Command<'a>, AllocError> {
     Command::new(alloc, "serve")
         .about(
             "Answers a tracer's requests, which are frames on standard input, by frames on standard output",
         )
-        .after_help(SERVE_FAULTS)
+        .after_help(SERVE_NOTES)
+        .arg(
+            Arg::new(alloc, "drill")
+                .value_name("DRILL")
+                .num_args(1..)
+                .action(ArgAction::Append)
+                .help("Spoils a reply, to try a tracer by"),
+        )
 }
 
 /// Adds a subcommand.
@@ -143,7 +157,7 @@ fn host_command<'a>(alloc: Global) -> Result<Command<'a>, AllocError> {
         .version("0.1.0")
         .subcommand_required(true);
     let command = with_subcommand(command, plain_command(alloc)?)?;
-    let command = with_subcommand(command, serve_command(alloc))?;
+    let command = with_subcommand(command, serve_command(alloc)?)?;
     with_subcommand(command, asm_command(alloc)?)
 }
 
@@ -168,6 +182,6 @@ pub fn refusal(alloc: Global, words: &[String]) -> Fault {
     };
     match parse(alloc, shown.as_slice()) {
         Ok(_) => Fault::usage(format!(in alloc; "a word is malformed")),
-        Err(error) => Fault::from(front_end::refusal(alloc, error, words_of_plain(words))),
+        Err(error) => front_end::refusal(alloc, error, words_of_plain(words)),
     }
 }

@@ -1,7 +1,7 @@
 //! The host of guests: runs a program on the plain kernel, serves a tracer, or assembles a program.
 #![tactic(auto)]
 
-use guest_commands::{Fault, command, tell};
+use guest_commands::{command, tell};
 use std::process::ExitCode;
 
 fn main(rt: HostRuntime) -> ExitCode {
@@ -10,7 +10,7 @@ fn main(rt: HostRuntime) -> ExitCode {
     let mut err = rt.stderr();
     let status = match front_end::arguments(&rt) {
         Ok(words) => command(&rt, words.as_slice(), &mut input, &mut out, &mut err),
-        Err(fault) => tell(Fault::from(fault), &mut err),
+        Err(fault) => tell(fault, &mut err),
     };
     ExitCode::from(status)
 }

@@ -1,8 +1,8 @@
-//! strace(1) for modelled guests: prints the system calls of a program, and lets those fail that the user names.
+//! strace(1) for modelled guests: prints the system calls of a program, and makes those fail that the user names.
 #![tactic(auto)]
 
 use std::process::ExitCode;
-use trace_command::{Fault, command, tell};
+use trace_command::{command, tell};
 
 fn main(rt: HostRuntime) -> ExitCode {
     let mut input = rt.stdin();
@@ -10,7 +10,7 @@ fn main(rt: HostRuntime) -> ExitCode {
     let mut err = rt.stderr();
     let status = match front_end::arguments(&rt) {
         Ok(words) => command(&rt, words.as_slice(), &mut input, &mut out, &mut err),
-        Err(fault) => tell(Fault::from(fault), &mut err),
+        Err(fault) => tell(fault, &mut err),
     };
     ExitCode::from(status)
 }

@@ -1,11 +1,10 @@
 //! A run made once more, to see where its processes stand when it is out of turns.
 
-use crate::fault::Fault;
-use crate::plan::{Plan, expressions};
+use crate::plan::Plan;
 use clap::ArgMatches;
 use containers::{Bytes, Seq};
-use lx_abi::calls::call_name;
-use lx_abi::{Boot, GuestFile, Item, Mode, Word};
+use front_end::{Fault, explain_limit, explain_waits, read_expressions};
+use lx_abi::{Boot, GuestFile, Mode, Word};
 use lx_kernel::Kernel;
 use pt_kernel::{Schedule, TurnRun, Turns};
 use std::alloc::{AllocError, Global};
@@ -41,6 +40,7 @@ fn copy_files(alloc: Global, files: &[GuestFile]) -> Result<Seq<GuestFile>, Allo
 
 fn copy_boot(alloc: Global, boot: &Boot) -> Result<Boot, AllocError> {
     Ok(Boot {
+        limits: boot.limits,
         files: copy_files(alloc, boot.files.as_slice())?,
         argv: copy_words(alloc, boot.argv.as_slice())?,
         env: copy_words(alloc, boot.env.as_slice())?,
@@ -62,34 +62,24 @@ fn is_cut(kernel: &Kernel) -> bool {
     (1..kernel.next_pid()).any(|pid| kernel.able(pid))
 }
 
-/// The call that a process is in.
-fn call_of(kernel: &Kernel, of: u32) -> Option<u64> {
-    for item in kernel.log().iter().rev() {
-        if let Item::Enter { pid, call } = item {
-            if *pid == of {
-                return Some(call.number);
-            }
+/// The processes that wait in a call.
+fn waiting(alloc: Global, kernel: &Kernel) -> Result<Vec<u32>, AllocError> {
+    let mut pids = Vec::new(alloc);
+    for pid in 1..kernel.next_pid() {
+        if kernel.mode(pid) == Some(Mode::Doing) {
+            pids.push(pid)?;
         }
     }
-    None
+    Ok(pids)
 }
 
-/// Which processes wait, and in which calls.
-fn waiting(alloc: Global, kernel: &Kernel) -> Result<String, AllocError> {
-    let mut text = format!(in alloc; "every process waits:")?;
-    let mut mark = "";
-    for pid in 1..kernel.next_pid() {
-        if kernel.mode(pid) != Some(Mode::Doing) {
-            continue;
-        }
-        let name = call_of(kernel, pid)
-            .and_then(|number| call_name(number))
-            .unwrap_or("a call");
-        let part = format!(in alloc; "{mark} {pid} in {name}")?;
-        text.push_str(part.as_str())?;
-        mark = ",";
+/// Why a run that left this kernel is out of turns.
+fn explain(alloc: Global, kernel: &Kernel, limit: u64) -> Result<String, AllocError> {
+    if is_cut(kernel) {
+        return explain_limit(alloc, limit, "events");
     }
-    Ok(text)
+    let pids = waiting(alloc, kernel)?;
+    explain_waits(alloc, pids.as_slice(), kernel.log())
 }
 
 fn has_turns(kernel: &mut Kernel, run: TurnRun) -> Result<(), Fault> {
@@ -126,7 +116,7 @@ impl Again {
 
     /// The effective turns of the run.
     fn turns(&self, alloc: Global, matches: &ArgMatches) -> Result<Turns, Fault> {
-        let expressions = expressions(alloc, matches)?;
+        let expressions = read_expressions(alloc, matches)?;
         let options = Options {
             follow: self.boot.follow,
             shown: expressions.shown,
@@ -144,7 +134,7 @@ impl Again {
     /// The kernel as the run leaves it.
     fn kernel(&self, alloc: Global, matches: &ArgMatches) -> Result<Kernel, Fault> {
         let turns = self.turns(alloc, matches)?;
-        let script = expressions(alloc, matches)?.script;
+        let script = read_expressions(alloc, matches)?.script;
         match Kernel::boot(alloc, copy_boot(alloc, &self.boot)?, script) {
             Ok(kernel) => replayed(kernel, &turns),
             Err(_) => Err(Fault::Memory),
@@ -154,14 +144,7 @@ impl Again {
     /// Why the run is out of turns.
     pub fn waits(&self, alloc: Global, matches: &ArgMatches) -> Result<String, Fault> {
         let kernel = self.kernel(alloc, matches)?;
-        let text = if is_cut(&kernel) {
-            format!(in alloc;
-                "the limit of {} events was reached; --limit N sets another",
-                self.limit
-            )
-        } else {
-            waiting(alloc, &kernel)
-        };
+        let text = explain(alloc, &kernel, self.limit);
         drop(kernel);
         Ok(text?)
     }

@@ -1,13 +1,15 @@
 //! The program as a function of its words, its input and its outputs.
 
-use crate::fault::{Fault, HOST};
 use crate::{tracing, words};
-use clap::{ArgMatches, Error};
-use front_end::{refusal, shown_words};
+use clap::ArgMatches;
+use front_end::{Fault, print_help, refusal, report, shown_words};
 use std::alloc::Global;
 use std::io::{IsTerminal, Read, Write};
 use std::process::Processes;
 use std::rt::Files;
+
+/// The program in its messages.
+const NAME: &str = "strace";
 
 /// Traces the run that the words ask for, the program's name first, and gives the exit status. A fault is one line on
 /// `err`; at a terminal, and where the words ask for it, others explain it.
@@ -23,7 +25,7 @@ pub fn command<
             let explained = matches.get_flag("explain") || err.is_terminal();
             match run(rt, &matches, explained, input, out, err) {
                 Ok(status) => status,
-                Err(fault) => explain(fault, explained, err),
+                Err(fault) => report(NAME, &fault, explained, err),
             }
         }
         Err(error) if error.use_stderr() => tell(refuse(alloc, words), err),
@@ -36,18 +38,7 @@ pub fn command<
 
 /// Reports a fault in one line, and gives its status.
 pub fn tell<E: Write>(fault: Fault, err: &mut E) -> u8 {
-    explain(fault, false, err)
-}
-
-/// Reports a fault in one line, and in another its reason where it is to be explained; gives its status.
-fn explain<E: Write>(fault: Fault, explained: bool, err: &mut E) -> u8 {
-    if writeln!(err, "{fault}").is_err() {
-        return HOST;
-    }
-    match fault.reason() {
-        Some(reason) if explained && writeln!(err, "strace: {reason}").is_err() => HOST,
-        _ => fault.status(),
-    }
+    report(NAME, &fault, false, err)
 }
 
 fn run<R: Files + Processes + AllocGlobal, I: Read + IsTerminal, O: Write, E: Write + IsTerminal>(
@@ -71,15 +62,6 @@ fn refuse(alloc: Global, words: &[String]) -> Fault {
     };
     match words::parse(alloc, shown.as_slice()) {
         Ok(_) => Fault::usage(format!(in alloc; "a word is malformed")),
-        Err(error) => Fault::from(refusal(alloc, error, Some(words))),
-    }
-}
-
-/// Writes the help, or the version.
-fn print_help<O: Write>(alloc: Global, help: Error, out: &mut O) -> Result<u8, Fault> {
-    let text = format!(in alloc; "{help}")?;
-    match out.write_all(text.as_bytes()) {
-        Ok(()) => Ok(0),
-        Err(error) => Err(Fault::output(format!(in alloc; "standard output: {error}"))),
+        Err(error) => refusal(alloc, error, Some(words)),
     }
 }

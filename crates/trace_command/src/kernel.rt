@@ -1,8 +1,8 @@
 //! Where the kernel runs.
 
-use crate::fault::Fault;
+use crate::fault::host_fault;
 use containers::Seq;
-use front_end::refuse_boot;
+use front_end::{Fault, refuse_boot};
 use host_link::{ChildLink, Link, LinkFault};
 use host_wire::Sink;
 use lx_abi::{Boot, Reply, Request, Script, Word};
@@ -30,12 +30,13 @@ fn refused_boot(alloc: Global, number: u8) -> Fault {
         3 => BootFault::NoProgram,
         4 => BootFault::TooLarge,
         5 => BootFault::Memory,
-        _ => return Fault::Host(LinkFault::Inadmissible),
+        6 => BootFault::BadLimit,
+        _ => return host_fault(LinkFault::Inadmissible),
     };
-    Fault::from(refuse_boot(alloc, fault))
+    refuse_boot(alloc, fault)
 }
 
-/// Boots the host behind a link, which is to follow a schedule by these words.
+/// Boots the host at the other end of a link, which is to follow a schedule by these words.
 fn boot_over<L: Link>(
     alloc: Global,
     link: &mut L,
@@ -48,17 +49,20 @@ fn boot_over<L: Link>(
         limit,
         words: Seq::from_vec(turns),
     };
-    match link.call(request)? {
-        Reply::Done => Ok(()),
-        Reply::Refused { fault } => Err(refused_boot(alloc, fault)),
-        _ => Err(Fault::Host(LinkFault::Inadmissible)),
+    match link.call(request) {
+        Ok(Reply::Done) => Ok(()),
+        Ok(Reply::Refused { fault }) => Err(refused_boot(alloc, fault)),
+        Ok(_) => Err(host_fault(LinkFault::Inadmissible)),
+        Err(fault) => Err(host_fault(fault)),
     }
 }
 
-/// A kernel for a boot that has no fault: in this process, or in one that the program at the path `host` serves.
+/// A kernel for a boot that has no fault: in this process, or in one that the program at the path `host` serves, with
+/// these words after `serve`.
 pub fn boot_kernel<R: Processes + AllocGlobal>(
     rt: &R,
     host: Option<&str>,
+    words: &[&str],
     boot: Boot,
     turns: Vec<Word>,
     limit: u64,
@@ -66,7 +70,10 @@ pub fn boot_kernel<R: Processes + AllocGlobal>(
     let Some(path) = host else {
         return Ok(Kernel::Here(boot, Schedule::words(turns, limit)));
     };
-    let mut link = ChildLink::start(rt, path, &[])?;
+    let mut link = match ChildLink::start(rt, path, words) {
+        Ok(link) => link,
+        Err(fault) => return Err(host_fault(fault)),
+    };
     match boot_over(rt.alloc(), &mut link, boot, limit, turns) {
         Ok(()) => Ok(Kernel::There(link)),
         Err(fault) => {

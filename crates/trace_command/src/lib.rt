@@ -8,9 +8,7 @@ mod kernel;
 mod lines;
 mod place;
 mod plan;
-mod program;
 mod tracing;
 mod words;
 
 pub use entry::{command, tell};
-pub use fault::Fault;

@@ -1,7 +1,6 @@
 //! The place that the trace goes to.
 
-use crate::fault::Fault;
-use front_end::Shown;
+use front_end::{Fault, Shown};
 use std::alloc::Global;
 use std::fs;
 use std::io::{self, Write};

@@ -1,18 +1,13 @@
 //! What a run is made of.
 
-use crate::fault::Fault;
 use crate::words::TraceOptions;
 use clap::ArgMatches;
-use front_end::{
-    BootWords, Expressions, Leavings, boot_of, check_boot, explain_expression, expression_words,
-    parse_expressions, read_turns,
-};
+use front_end::{BootWords, Fault, Leavings, boot_of, check_boot, read_expressions, read_turns};
 use lx_abi::{Boot, Script, Word};
 use std::alloc::Global;
 use std::io::{IsTerminal, Read, Write};
 use std::rt::Files;
 use tr_core::Options;
-use tr_expr::ExprFault;
 
 #[derive(Drop)]
 pub struct Plan {
@@ -21,23 +16,6 @@ pub struct Plan {
     pub options: Options,
     /// The words of the schedule.
     pub turns: Vec<Word>,
-}
-
-/// What the words that name calls ask for.
-pub fn expressions(alloc: Global, matches: &ArgMatches) -> Result<Expressions, Fault> {
-    let words = expression_words(alloc, matches)?;
-    match parse_expressions(alloc, words.as_slice()) {
-        Ok(expressions) => Ok(expressions),
-        Err(refused) if refused.fault == ExprFault::Memory => Err(Fault::Memory),
-        Err(refused) => Err(Fault::Expression {
-            fault: refused.fault,
-            reason: explain_expression(alloc, refused)?,
-        }),
-    }
-}
-
-fn turns<R: Files + AllocGlobal>(rt: &R, path: Option<&str>) -> Result<Vec<Word>, Fault> {
-    Ok(read_turns(rt, path)?)
 }
 
 fn boot<R: Files + AllocGlobal, I: Read + IsTerminal, E: Write + IsTerminal>(
@@ -53,7 +31,7 @@ fn boot<R: Files + AllocGlobal, I: Read + IsTerminal, E: Write + IsTerminal>(
         program: matches.get_strs("program").unwrap_or(&[]),
         follow,
     };
-    Ok(boot_of(rt, "strace_cli", words, input, err)?)
+    boot_of(rt, "strace_cli", words, input, err)
 }
 
 /// Reads what the words ask for. Faults are looked for in the expressions, the schedule, the files, the
@@ -65,8 +43,8 @@ pub fn read_plan<R: Files + AllocGlobal, I: Read + IsTerminal, E: Write + IsTerm
     input: &mut I,
     err: &mut E,
 ) -> Result<Plan, Fault> {
-    let expressions = expressions(rt.alloc(), matches)?;
-    let turns = turns(rt, matches.get_str("turns"))?;
+    let expressions = read_expressions(rt.alloc(), matches)?;
+    let turns = read_turns(rt, matches.get_str("turns"))?;
     Leavings::of(matches).check(rt)?;
     let boot = boot(rt, matches, options.follow, input, err)?;
     check_boot(rt.alloc(), &boot)?;

@@ -1,18 +1,17 @@
 //! A traced run.
 
 use crate::again::Again;
-use crate::fault::Fault;
+use crate::fault::host_fault;
 use crate::kernel::{Kernel, boot_kernel, run_kernel};
 use crate::lines::Lines;
 use crate::place::{Place, open};
 use crate::plan::{Plan, read_plan};
-use crate::program::Program;
 use crate::words::TraceOptions;
 use clap::ArgMatches;
-use front_end::Leavings;
+use front_end::{Fault, Leavings, Program};
 use host_link::LinkFault;
 use host_wire::Counted;
-use lx_abi::{Outcome, Script};
+use lx_abi::{Outcome, Script, Status};
 use std::alloc::Global;
 use std::io::{IsTerminal, Read, Write};
 use std::process::{OpenProcess, Processes};
@@ -23,8 +22,8 @@ use trace_run::{Ended, RunFault};
 /// The fault of a run whose trace goes to this place.
 fn fault_of(alloc: Global, fault: RunFault, place: Place<'_>) -> Fault {
     match fault {
-        RunFault::Link(fault) => Fault::from(fault),
-        RunFault::Trace(TraceFault::Inadmissible) => Fault::Host(LinkFault::Inadmissible),
+        RunFault::Link(fault) => host_fault(fault),
+        RunFault::Trace(TraceFault::Inadmissible) => host_fault(LinkFault::Inadmissible),
         RunFault::Trace(TraceFault::Memory) => Fault::Memory,
         RunFault::Output => place.fault(alloc),
     }
@@ -81,7 +80,14 @@ fn run_plan<R: Files + Processes + AllocGlobal, O: Write, E: Write>(
         options,
         turns,
     } = plan;
-    let kernel = boot_kernel(rt, matches.get_str("host"), boot, turns, limit)?;
+    let kernel = boot_kernel(
+        rt,
+        matches.get_str("host"),
+        matches.get_strs("host-arg").unwrap_or(&[]),
+        boot,
+        turns,
+        limit,
+    )?;
     let place = Place::of(matches.get_str("output"));
     trace_kernel(rt, kernel, script, options, place, out, err)
 }
@@ -93,18 +99,13 @@ fn status_of(outcome: &Outcome) -> Option<u8> {
         .as_slice()
         .iter()
         .find(|ended| ended.pid == 1)?;
-    let signal = ended.word % 128;
-    Some(if signal == 0 {
-        (ended.word / 256 % 256) as u8
-    } else {
-        128 + signal as u8
-    })
+    Some(Status { word: ended.word }.shell_status())
 }
 
 /// Writes the console's bytes, and gives the exit status.
 fn write_console<O: Write>(alloc: Global, outcome: &Outcome, out: &mut O) -> Result<u8, Fault> {
     let Some(status) = status_of(outcome) else {
-        return Err(Fault::Host(LinkFault::Inadmissible));
+        return Err(host_fault(LinkFault::Inadmissible));
     };
     if out.write_all(outcome.console.as_slice()).is_err() || out.flush().is_err() {
         return Err(Fault::output(format!(in alloc;

@@ -4,8 +4,8 @@ ghost use Rattle.std.specs.Prelude.{◌≤◌, IfOk};
 
 use clap::{Arg, ArgAction, ArgMatches, Command, Error};
 use front_end::{
-    Fault, Shown, limit, number, with_calls, with_environment, with_expressions, with_files,
-    with_leavings, with_limit, with_program,
+    Fault, Shown, limit, number, with_calls, with_environment, with_explain, with_expressions,
+    with_files, with_leavings, with_limit, with_program,
 };
 use std::alloc::{AllocError, Global};
 
@@ -22,7 +22,8 @@ const NOTES: &str = "Expressions, after -e:
   SET    names joined by commas, as write or ?name; %file, %desc, %process, %signal, %memory; /REGEX; all; none;
          a ! in front takes all others
   PARTS  joined by colons: error=E (a name, or 1 to 4095), retval=V, signal=S, when=W; fault= takes error and when
-  W      FIRST (that occurrence alone), FIRST+ or FIRST+STEP; the first execve counts
+  W      FIRST (that occurrence alone), FIRST+ (and all later ones) or FIRST+STEP; FIRST..LAST or FIRST..LAST+STEP;
+         the first execve counts
 
 Faults are one line on standard error; at a terminal and with --explain others explain it.
 strace: expression fault N (status 2)
@@ -41,6 +42,7 @@ strace: boot fault N: TEXT (status 2)
   2  two files have the same path
   3  no program is named
   4  a file, or the words and the environment, are too large
+  6  how many processes there may be, or the last pid, is out of its range
 strace: host fault N (status 3)
   1  the host did not start, or has ended
   2  its replies could not be read
@@ -64,7 +66,7 @@ pub struct TraceOptions {
     pub ghost limit_in_range: { string_limit ≤ 4096 },
     /// The column of results.
     pub column: u32,
-    /// The most events that there are.
+    /// The most events.
     pub limit: u64,
     /// Faults are explained.
     pub explain: bool,
@@ -114,16 +116,6 @@ fn with_follow<'a>(alloc: Global, command: Command<'a>) -> Result<Command<'a>, A
             .help(
                 "Traces children too, each line with its pid; without it the first process alone",
             ),
-    )
-}
-
-/// Adds `--explain`.
-fn with_explain<'a>(alloc: Global, command: Command<'a>) -> Result<Command<'a>, AllocError> {
-    command.arg(
-        Arg::new(alloc, "explain")
-            .long("explain")
-            .action(ArgAction::SetTrue)
-            .help("Explains faults in further lines, as at a terminal"),
     )
 }
 
@@ -186,6 +178,13 @@ fn with_kernel<'a>(alloc: Global, command: Command<'a>) -> Result<Command<'a>, A
         "PATH",
         "Starts this program, as guest_host, with the word serve to run the kernel [default: this process runs it]",
     )?;
+    let command = with_calls(
+        alloc,
+        command,
+        "host-arg",
+        "WORD",
+        "Hands this word to the host after serve, any number of times",
+    )?;
     let command = with_name(
         alloc,
         command,
@@ -196,7 +195,7 @@ fn with_kernel<'a>(alloc: Global, command: Command<'a>) -> Result<Command<'a>, A
     with_limit(
         alloc,
         command,
-        "The most events that there are [default: 10000000]",
+        "Ends the run after N events, turns and requests [default: 10000000]",
     )
 }
 
@@ -246,6 +245,16 @@ fn small_number(
     Ok(u32::try_from(value).unwrap_or(most).min(most))
 }
 
+/// Words for a host only where there is one.
+fn check_host(alloc: Global, matches: &ArgMatches) -> Result<(), Fault> {
+    match (matches.get_str("host"), matches.get_strs("host-arg")) {
+        (None, Some(words)) if !words.is_empty() => Err(Fault::usage(format!(in alloc;
+            "--host-arg: without --host there is no host to hand words to"
+        ))),
+        _ => Ok(()),
+    }
+}
+
 /// A name of a file, and not of a command or of what is appended to, as strace(1) takes after `-o`.
 fn check_output(alloc: Global, output: Option<&str>) -> Result<(), Fault> {
     match output {
@@ -271,6 +280,7 @@ fn follow(alloc: Global, matches: &ArgMatches) -> Result<bool, Fault> {
 /// How the words ask the run to be traced.
 pub fn trace_options(alloc: Global, matches: &ArgMatches) -> Result<TraceOptions, Fault> {
     check_output(alloc, matches.get_str("output"))?;
+    check_host(alloc, matches)?;
     let string_limit = small_number(
         alloc,
         "-s",

@@ -1,24 +1,36 @@
 //! What is known of a guest's program before it runs, for whoever asks why it didn't.
 
+use crate::shown::Shown;
 use elf_image::ElfFault;
-use front_end::Shown;
 use lx_abi::{Boot, GuestFile};
 use std::alloc::{AllocError, Global};
 
 /// The status of a process whose first execve failed.
 const NOT_STARTED: u8 = 127;
 
-/// The statuses of a process that SIGILL or SIGBUS ended.
+/// The statuses of a process that SIGILL, SIGBUS or SIGSEGV ended.
 const ILLEGAL: u8 = 132;
 
 const MISALIGNED: u8 = 135;
 
-/// Where `e_type`, `e_machine` and `e_flags` stand in the header of an ELF file.
+const BAD_ADDRESS: u8 = 139;
+
+/// Where `e_type`, `e_machine`, `e_phoff`, `e_flags` and `e_phnum` stand in the header of an ELF file.
 const TYPE: usize = 16;
 
 const MACHINE: usize = 18;
 
+const HEADERS: usize = 32;
+
 const FLAGS: usize = 48;
+
+const HEADER_COUNT: usize = 56;
+
+/// The bytes of a program header, which begins with its type.
+const HEADER_SIZE: usize = 56;
+
+/// The type of the program header that names a loader, PT_INTERP.
+const LOADER: u32 = 3;
 
 /// What the file of a program is.
 #[derive(Clone, Copy, Debug, PartialEq, Eq)]
@@ -27,6 +39,8 @@ enum Kind {
     Missing,
     /// It isn't run, for this reason.
     Refused(&'static str),
+    /// It wants a loader, which isn't run.
+    Dynamic,
     /// It has compressed instructions.
     Compressed,
     Usual,
@@ -57,6 +71,22 @@ fn half_word(content: &[u8], at: usize) -> u16 {
     }
 }
 
+/// The four bytes at a place, the least first.
+fn word(content: &[u8], at: usize) -> u32 {
+    let high = half_word(content, at.saturating_add(2));
+    u32::from(half_word(content, at)) + 65_536 * u32::from(high)
+}
+
+/// A program header names a loader.
+fn wants_loader(content: &[u8]) -> bool {
+    let table = word(content, HEADERS) as usize;
+    let count = usize::from(half_word(content, HEADER_COUNT));
+    (0..count).any(|header| {
+        let at = table.saturating_add(header.saturating_mul(HEADER_SIZE));
+        word(content, at) == LOADER
+    })
+}
+
 fn machine(content: &[u8]) -> &'static str {
     match half_word(content, MACHINE) {
         62 => "is built for x86-64, not for RV64I",
@@ -72,14 +102,19 @@ fn refused(content: &[u8], fault: ElfFault) -> Kind {
         ElfFault::NotElf if content.starts_with(b"#!") => {
             Kind::Refused("is a script, and scripts aren't run")
         }
-        ElfFault::NotElf => Kind::Refused("is not an ELF file of 64 bits"),
+        ElfFault::NotElf => Kind::Refused("is not an ELF file"),
         ElfFault::NotRiscv => Kind::Refused(machine(content)),
-        ElfFault::NotExec if half_word(content, TYPE) == 3 => Kind::Refused(
-            "is position-independent or dynamic; link it with -static -no-pie",
-        ),
+        ElfFault::NotExec if half_word(content, TYPE) == 3 && wants_loader(content) => {
+            Kind::Refused("is dynamic and position-independent; link it with -static -no-pie")
+        }
+        ElfFault::NotExec if half_word(content, TYPE) == 3 => {
+            Kind::Refused("is position-independent; link it with -static -no-pie")
+        }
         ElfFault::NotExec => Kind::Refused("is not an executable; link it"),
         ElfFault::Truncated => Kind::Refused("is cut off or malformed"),
-        ElfFault::Overlap => Kind::Refused("has segments that overlap"),
+        ElfFault::Overlap => Kind::Refused(
+            "has segments that overlap, or that hold more than their size",
+        ),
         ElfFault::TooLarge => Kind::Refused("is too large"),
         ElfFault::Memory => Kind::Usual,
     }
@@ -88,6 +123,7 @@ fn refused(content: &[u8], fault: ElfFault) -> Kind {
 fn kind_of(alloc: Global, content: &[u8]) -> Kind {
     match elf_image::read(alloc, content) {
         Err(fault) => refused(content, fault),
+        Ok(_) if wants_loader(content) => Kind::Dynamic,
         Ok(_) if half_word(content, FLAGS) % 2 == 1 => Kind::Compressed,
         Ok(_) => Kind::Usual,
     }
@@ -122,6 +158,9 @@ impl Program {
                 format!(in alloc; "the guest has no file {path}; --file {path}=PATH gives it one")?
             }
             (Kind::Refused(what), NOT_STARTED) => format!(in alloc; "{path} {what}")?,
+            (Kind::Dynamic, ILLEGAL | MISALIGNED | BAD_ADDRESS) => format!(in alloc;
+                "{path} is dynamic, and its loader isn't run; link it with -static"
+            )?,
             (Kind::Compressed, ILLEGAL | MISALIGNED) => format!(in alloc;
                 "{path} has compressed instructions, which aren't run; build it with -march=rv64i -mabi=lp64"
             )?,

@@ -1,0 +1,34 @@
+-- What a host that fails on purpose writes for its replies, which are counted from 1.
+use Rattle.std.specs.Prelude.{ℕ, ◌==◌, Bool, true, false, List, ◌++◌, Option, find, take, drop, cond}
+use Rattle.byteorder.specs.Endian.{big_bytes}
+use Rattle.guest_commands.specs.declared.drills.Drill.{Drill}
+use Rattle.guest_commands.specs.declared.drills.Drill.TheVariants.{Cut, Renumber, Replace}
+use Rattle.guest_commands.specs.declared.drills.Drilled.{Drilled}
+
+-- the reply that a drill is about
+abbrev pub reply_of : Drill → ℕ
+reply_of (Cut reply length) = reply
+reply_of (Renumber reply number) = reply
+reply_of (Replace reply frame) = reply
+
+-- the first drill about the nth reply
+abbrev pub drill_of : List Drill → ℕ → Option Drill
+drill_of drills n = find (λ d. reply_of d == n) drills
+
+-- a frame's number stands behind the four bytes of its length
+abbrev pub renumbered : List ℕ → ℕ → List ℕ
+renumbered frame number = take 4 frame ++ (big_bytes 8 number ++ drop 12 frame)
+
+-- what is written for a reply
+abbrev pub spoiled : Drill → List ℕ → List ℕ
+spoiled (Cut reply length) frame = take length frame
+spoiled (Renumber reply number) frame = renumbered frame number
+spoiled (Replace reply other) frame = other.items
+
+-- the host ends after the reply
+abbrev pub is_last : Drill → Bool
+is_last (Cut reply length) = true
+is_last _ = false
+
+abbrev pub faults_of : {S : Type 0} → Drilled S → ℕ
+faults_of d = cond d.is_stopped 1 0
