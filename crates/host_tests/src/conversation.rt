@@ -13,7 +13,8 @@ use std::test::Fail;
 
 /// A boot of `/p`, a program that writes `hi` and a line feed and exits with 0, by at most 10,000,000 events.
 pub const BOOT: &str = "\
-    010100000000000098968000000000\
+    010200000000000098968000000400\
+    00007fff00000000\
     00000001000000022f70\
     00000000\
     00000001000000022f700000009f\

@@ -1,5 +1,5 @@
-//! Tests of what the programs' runs can't show: want of memory, statuses of logs, how much of a file is read. What runs
-//! can show stands in guests/runs.
+//! Tests of what the programs' runs can't show: running out of memory, statuses of logs, how much of a file is read.
+//! What runs can show is in guests/runs.
 #![tactic(auto)]
 
 #[cfg(test)]

@@ -1,17 +1,16 @@
 //! What is read of files and input.
 
 use crate::streams::{Recorder, Starved};
-use front_end::{read_files, read_input};
-use guest_commands::{Fault, tell};
+use front_end::{read_files, read_input, report};
 use std::test::Fail;
 
-/// Want of memory isn't a fault of the input.
+/// Running out of memory isn't a fault of the input.
 #[test]
 fn input_without_memory(rt: HostRuntime) -> Result<(), Fail> {
     let mut err = Recorder::new(rt.alloc());
     let status = match read_input(rt.alloc(), &mut Starved, 100) {
         Ok(_) => 0,
-        Err(fault) => tell(Fault::from(fault), &mut err),
+        Err(fault) => report("guest_host", &fault, false, &mut err),
     };
     assert_eq!(rt; status, 3);
     assert_eq!(rt; err.text(), "guest_host: out of memory\n");

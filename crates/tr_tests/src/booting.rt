@@ -1,7 +1,7 @@
 //! What the tests of whole runs begin with.
 
 use containers::{Bytes, Seq};
-use lx_abi::{Boot, GuestFile, Script};
+use lx_abi::{Boot, GuestFile, Limits, Script};
 use lx_boot::BootFault;
 use pt_kernel::Schedule;
 use rv_asm::assemble;
@@ -22,6 +22,7 @@ pub(crate) fn boot(alloc: Global, path: &str, listing: &str, follow: bool) -> Re
     let mut argv = Seq::new(alloc);
     argv.push(Bytes::from_slice(alloc, b"/p")?)?;
     Ok(Boot {
+        limits: Limits::WIDEST,
         files,
         argv,
         env: Seq::new(alloc),

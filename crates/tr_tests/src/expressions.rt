@@ -53,6 +53,23 @@ fn chooses_occurrences(rt: HostRuntime) {
             ["read:retval=7", "write:retval=1:when=7+"],
             [NO, NO, NO, NO, NO, NO, one, one],
         ),
+        (
+            ["read:retval=7", "write:retval=1:when=2..5"],
+            [NO, one, one, one, one, NO, NO, NO],
+        ),
+        (
+            ["read:retval=7", "write:retval=1:when=2..7+3"],
+            [NO, one, NO, NO, one, NO, NO, NO],
+        ),
+        (
+            ["read:retval=7", "write:retval=1:when=2..9+3"],
+            [NO, one, NO, NO, one, NO, NO, one],
+        ),
+        (
+            ["read:retval=7", "write:retval=1:when=3..3+"],
+            [NO, NO, one, NO, NO, NO, NO, NO],
+        ),
+        (["read:retval=7", "write:retval=1:when=1..65534"], [one; 8]),
         (["read:retval=7", "!read:error=EPERM:error=5"], every),
         (
             ["read:retval=7", "write:retval=1:when=02:when=3"],
