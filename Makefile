@@ -51,6 +51,7 @@ test:
 	tests/cuts
 	tests/faults
 	tests/served
+	tests/limits
 
 # Proves what an edit changed.
 check:
