@@ -21,14 +21,10 @@ fn results_of(rules: Vec<Rule>) -> [Option<i64>; 8] {
     results
 }
 
-fn rules_of(alloc: Global, texts: &[&str]) -> Option<Vec<Rule>> {
+fn rules_of(alloc: Global, first: &str, second: &str) -> Option<Vec<Rule>> {
     let mut rules = Vec::new(alloc);
-    for text in texts {
-        let Ok(rule) = parse_inject(alloc, text) else {
-            return None;
-        };
-        rules.push(rule).ok()?;
-    }
+    rules.push(parse_inject(alloc, first).ok()?).ok()?;
+    rules.push(parse_inject(alloc, second).ok()?).ok()?;
     Some(rules)
 }
 
@@ -37,7 +33,7 @@ fn chooses_occurrences(rt: HostRuntime) {
     const NO: Option<i64> = None;
     let every = [Some(-5); 8];
     let one = Some(1);
-    for (texts, wanted) in [
+    for ([first, second], wanted) in [
         (
             ["read:retval=7", "write:retval=1:when=2+3"],
             [NO, one, NO, NO, one, NO, NO, one],
@@ -82,8 +78,8 @@ fn chooses_occurrences(rt: HostRuntime) {
             [Some(i64::MAX); 8],
         ),
     ] {
-        let results = rules_of(rt.alloc(), &texts).map(results_of);
-        assert_eq!(rt; results, Some(wanted), "{} {}", texts[0], texts[1]);
+        let results = rules_of(rt.alloc(), first, second).map(results_of);
+        assert_eq!(rt; results, Some(wanted), "{first} {second}");
     }
 }
 
