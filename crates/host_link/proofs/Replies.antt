@@ -23,11 +23,11 @@ at_number P ok late other true (Of_request q) (Of_reply r) = at_answer P ok othe
 at_number P ok late other true (Of_request q) (Of_request p) = other
 at_number P ok late other true (Of_reply s) y = other
 
-came_whole : (left left' : Option (List ℕ)) (came : List ℕ) (sent f : Frame) (broken : ℕ) → Consumes left left' came → stream_of came ≡ Going (f ∷ []) [] → Came left (reply_in sent f) sent left' broken
-came_whole left left' came sent f broken consumed whole = record {
+came_whole : (most : ℕ) (left left' : Option (List ℕ)) (came : List ℕ) (sent f : Frame) (broken : ℕ) → Consumes left left' came → stream_of came ≡ Going (f ∷ []) [] → Came most left (reply_in sent f) sent left' broken
+came_whole most left left' came sent f broken consumed whole = record {
   came = came;
   consumed = consumed;
-  so = at_number (λ result. reply_in sent f ≡ result → CameAs result sent came (stream_of came) left' broken) (λ r e. (f, (whole, e))) (λ e. (f, (whole, e))) (λ e. (f, (whole, e))) (eqb f.number sent.number) sent.body f.body refl;
+  so = at_number (λ result. reply_in sent f ≡ result → CameAs most result sent came (stream_of came) left' broken) (λ r e. (f, (whole, e))) (λ e. (f, (whole, e))) (λ e. (f, (whole, e))) (eqb f.number sent.number) sent.body f.body refl;
 }
 
 -- nothing is left of what was fed behind the one frame
@@ -39,10 +39,10 @@ pub where_ok : {P : Type 0} (result : Result Reply LinkFault) → P → OnOk res
 where_ok (Ok r) p = p
 where_ok (Err fault) p = search
 
-pub reply_received : {left left' : Option (List ℕ)} {old new : Feeding} {o : Option Frame} {broken : ℕ} (f sent : Frame) → old ≡ nothing_fed → o ≡ Some f → Received left old (Ok o) left' new broken → (old.ready ≡ [] → IsSome o → new ≡ nothing_fed)
-    → Came left (reply_in sent f) sent left' broken
-reply_received {left} {left'} {old} {new} {o} {broken} f sent fresh is received alone =
-    let some : Received left old (Ok (Some f)) left' new broken = subst (λ (x : Option Frame). Received left old (Ok x) left' new broken) is received in
-    let first : Received left nothing_fed (Ok (Some f)) left' new broken = subst (λ (x : Feeding). Received left x (Ok (Some f)) left' new broken) fresh some in
+pub reply_received : {most : ℕ} {left left' : Option (List ℕ)} {old new : Feeding} {o : Option Frame} {broken : ℕ} (f sent : Frame) → old ≡ nothing_fed → o ≡ Some f → Received most left old (Ok o) left' new broken → (old.ready ≡ [] → IsSome o → new ≡ nothing_fed)
+    → Came most left (reply_in sent f) sent left' broken
+reply_received {most} {left} {left'} {old} {new} {o} {broken} f sent fresh is received alone =
+    let some : Received most left old (Ok (Some f)) left' new broken = subst (λ (x : Option Frame). Received most left old (Ok x) left' new broken) is received in
+    let first : Received most left nothing_fed (Ok (Some f)) left' new broken = subst (λ (x : Feeding). Received most left x (Ok (Some f)) left' new broken) fresh some in
     let none : new ≡ nothing_fed = nothing_left fresh is alone in
-    came_whole left left' first.came sent f broken first.consumed (first.so ∙ ap (λ (n : Feeding). Going (f ∷ n.ready) n.under_way) none)
+    came_whole most left left' first.came sent f broken first.consumed (first.so ∙ ap (λ (n : Feeding). Going (f ∷ n.ready) n.under_way) none)

@@ -13,6 +13,10 @@ reader_of l = l.reader
 abbrev pub writer_of : {R W : Type 0} → PipeLink R W → W
 writer_of l = l.writer
 
+-- how often the reader may give without a whole frame
+abbrev pub most_of : {R W : Type 0} → PipeLink R W → ℕ
+most_of l = l.most
+
 abbrev pub given_of : {R W : Type 0} → PipeLink R W → ℕ
 given_of l = l.given
 
@@ -27,4 +31,4 @@ abbrev pub Asks : {R W : Type 0} → (R → Option (List ℕ)) → (R → ℕ) �
 Asks remaining broken contents broken_writer a q result b =
     ((a.is_broken ≡ true) × ((result ≡ Err Ended) × ((b.reader ≡ a.reader) × (b.writer ≡ a.writer))))
     ⊎ (((a.given ≡ 2 ^ 40) × ((result ≡ Err TooMany) × ((b.reader ≡ a.reader) × (b.writer ≡ a.writer))))
-    ⊎ Exchanged (request_frame (a.given + 1) q) (remaining a.reader) (remaining b.reader) (contents a.writer) (contents b.writer) result (broken b.reader) (broken_writer b.writer))
+    ⊎ ((b.most ≡ a.most) × Exchanged a.most (request_frame (a.given + 1) q) (remaining a.reader) (remaining b.reader) (contents a.writer) (contents b.writer) result (broken b.reader) (broken_writer b.writer)))

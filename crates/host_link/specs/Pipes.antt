@@ -1,5 +1,5 @@
 -- A link over a reader and a writer: a request is a frame that is written, its reply the next frame that is read.
-use Rattle.std.specs.Prelude.{◌≡◌, ◌⊎◌, ℕ, ◌<◌, ◌≤◌, ◌^◌, ◌==◌, if◌then◌else◌, Bool, false, List, [], ◌∷◌, length, Option, Result, Ok, Err, ⊤}
+use Rattle.std.specs.Prelude.{◌≡◌, ◌⊎◌, ℕ, ◌<◌, ◌==◌, if◌then◌else◌, Bool, false, List, [], ◌∷◌, length, Option, Result, Ok, Err, ⊤}
 use Rattle.std.specs.Io.KnownBytes.{Appends, Consumes, IsAtEnd}
 use Rattle.lx_abi.specs.declared.ptrace.Reply.{Reply}
 use Rattle.lx_abi.specs.declared.ptrace.Request.{Request}
@@ -11,6 +11,7 @@ use Rattle.host_frame.specs.declared.fault.WireFault.TheVariants.{Length, Kind, 
 use Rattle.host_wire.specs.declared.receiving.ReceiveFault.{ReceiveFault}
 use Rattle.host_wire.specs.declared.receiving.ReceiveFault.TheVariants as receiving
 use Rattle.host_wire.specs.Ends.{AppendsPart}
+use Rattle.host_wire.specs.Receiving.{IsCutOff}
 use Rattle.host_frame.specs.Spelling.{content, spelled}
 use Rattle.host_wire.specs.Streams.{Stream, Going, Failed, stream_of}
 use Rattle.host_link.specs.declared.fault.LinkFault.{LinkFault}
@@ -56,21 +57,21 @@ IsFaulty stream = (stream ≡ Failed Length) ⊎ ((stream ≡ Failed Kind) ⊎ (
 abbrev pub CameWhole : Frame → Stream → Result Reply LinkFault → Type 0
 CameWhole sent stream result = (f : Frame) × ((stream ≡ Going (f ∷ []) []) × (reply_in sent f ≡ result))
 
-abbrev pub CameAs : Result Reply LinkFault → Frame → List ℕ → Stream → Option (List ℕ) → ℕ → Type 0
-CameAs (Ok r) sent came stream left broken = CameWhole sent stream (Ok r)
-CameAs (Err Ended) sent came stream left broken = (tail : List ℕ) × ((stream ≡ Going [] tail) × IsAtEnd left)
-CameAs (Err Read) sent came stream left broken = (broken ≡ 1) ⊎ (2 ^ 32 ≤ length came)
-CameAs (Err Malformed) sent came stream left broken = IsFaulty stream
-CameAs (Err Sequence) sent came stream left broken = CameWhole sent stream (Err Sequence)
-CameAs (Err Inadmissible) sent came stream left broken = CameWhole sent stream (Err Inadmissible)
-CameAs (Err Memory) sent came stream left broken = Unit {0}
-CameAs (Err Write) sent came stream left broken = ⊥
-CameAs (Err TooMany) sent came stream left broken = ⊥
+abbrev pub CameAs : ℕ → Result Reply LinkFault → Frame → List ℕ → Stream → Option (List ℕ) → ℕ → Type 0
+CameAs most (Ok r) sent came stream left broken = CameWhole sent stream (Ok r)
+CameAs most (Err Ended) sent came stream left broken = (tail : List ℕ) × ((stream ≡ Going [] tail) × IsAtEnd left)
+CameAs most (Err Read) sent came stream left broken = IsCutOff most came broken
+CameAs most (Err Malformed) sent came stream left broken = IsFaulty stream
+CameAs most (Err Sequence) sent came stream left broken = CameWhole sent stream (Err Sequence)
+CameAs most (Err Inadmissible) sent came stream left broken = CameWhole sent stream (Err Inadmissible)
+CameAs most (Err Memory) sent came stream left broken = Unit {0}
+CameAs most (Err Write) sent came stream left broken = ⊥
+CameAs most (Err TooMany) sent came stream left broken = ⊥
 
-pub record Came (left : Option (List ℕ)) (result : Result Reply LinkFault) (sent : Frame) (left' : Option (List ℕ)) (broken : ℕ) : Type 0 where
+pub record Came (most : ℕ) (left : Option (List ℕ)) (result : Result Reply LinkFault) (sent : Frame) (left' : Option (List ℕ)) (broken : ℕ) : Type 0 where
   pub came : List ℕ
   pub consumed : Consumes left left' came
-  pub so : CameAs result sent came (stream_of came) left' broken
+  pub so : CameAs most result sent came (stream_of came) left' broken
 
 -- the cause of a fault, as a link tells it
 abbrev pub fault_of : ReceiveFault → LinkFault
@@ -83,7 +84,7 @@ fault_of (receiving.Wire Body_fault) = Malformed
 -- ---- a request and its reply
 
 -- nothing came, as the request was not sent; or all of it was, and this came
-abbrev pub Exchanged : Frame → Option (List ℕ) → Option (List ℕ) → Option (List ℕ) → Option (List ℕ) → Result Reply LinkFault → ℕ → ℕ → Type 0
-Exchanged sent left left' old new result broken broken_writer =
-    (Appends old new (spelled sent) × Came left result sent left' broken)
+abbrev pub Exchanged : ℕ → Frame → Option (List ℕ) → Option (List ℕ) → Option (List ℕ) → Option (List ℕ) → Result Reply LinkFault → ℕ → ℕ → Type 0
+Exchanged most sent left left' old new result broken broken_writer =
+    (Appends old new (spelled sent) × Came most left result sent left' broken)
     ⊎ ((fault : LinkFault) × ((result ≡ Err fault) × (SentAs (Err fault) sent old new broken_writer × (left' ≡ left))))

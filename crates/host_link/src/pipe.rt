@@ -9,7 +9,8 @@ use crate::fault::LinkFault;
 use crate::fits::answers;
 use crate::link::{Link, MOST_REPLIES};
 use host_wire::{
-    Broken, Feed, Frame, Payload, ReceiveFault, Sink, Source, WireFault, encode, receive,
+    Broken, Feed, Frame, MOST_READS, Payload, ReceiveFault, Sink, Source, WireFault, encode,
+    receive,
 };
 use lx_abi::{Reply, Request};
 use std::alloc::{AllocError, Global};
@@ -67,19 +68,20 @@ fn reply_in(sent: &Frame, frame: Frame) -> Result<Reply, LinkFault>
     reply_of(&sent.body, frame.body)
 }
 
-/// Reads the next frame, no byte behind it, for the reply to what was sent.
+/// Reads the next frame, by so many reads at most and no byte behind it, for the reply to what was sent.
 fn receive_reply<R: Source>(
     reader: &mut R,
     feed: &mut Feed,
     room: &mut [u8],
+    most: u64,
     sent: &Frame,
 ) -> Result<Reply, LinkFault>
     requires room { 0 < length room.old }
     requires fresh { feed.old ≡ nothing_fed }
-    ensures came { Came (R.remaining reader.old) result sent.now (R.remaining reader.new) (R.broken reader.new) }
+    ensures came { Came most (R.remaining reader.old) result sent.now (R.remaining reader.new) (R.broken reader.new) }
     ensures no_further { OnOk result (feed.new ≡ nothing_fed) }
 {
-    let frame = match receive(reader, feed, room) {
+    let frame = match receive(reader, feed, room, most) {
         Ok(Some(frame)) => frame,
         Ok(None) => return Err(LinkFault::Ended),
         Err(fault) => return Err(fault_of(fault)),
@@ -94,16 +96,17 @@ pub(crate) fn exchange<R: Source, W: Sink>(
     writer: &mut W,
     feed: &mut Feed,
     room: &mut [u8],
+    most: u64,
     sent: &Frame,
 ) -> Result<Reply, LinkFault>
     requires room { 0 < length room.old }
     requires fresh { feed.old ≡ nothing_fed }
-    ensures exchanged { Exchanged sent.now (R.remaining reader.old) (R.remaining reader.new) (W.contents writer.old)
+    ensures exchanged { Exchanged most sent.now (R.remaining reader.old) (R.remaining reader.new) (W.contents writer.old)
         (W.contents writer.new) result (R.broken reader.new) (W.broken writer.new) }
     ensures no_further { OnOk result (feed.new ≡ nothing_fed) }
 {
     match send(alloc, writer, sent) {
-        Ok(()) => receive_reply(reader, feed, room, sent),
+        Ok(()) => receive_reply(reader, feed, room, most, sent),
         Err(fault) => Err(fault),
     }
 }
@@ -119,6 +122,8 @@ pub struct PipeLink<R, W> {
     writer: W,
     feed: Feed,
     room: Vec<u8>,
+    /// How often the reader may give without a whole frame.
+    most: u64,
     given: u64,
     is_broken: bool,
     ghost fresh: { is_broken ≡ false → feed ≡ nothing_fed },
@@ -127,14 +132,32 @@ pub struct PipeLink<R, W> {
 }
 
 impl<R: Source, W: Sink> PipeLink<R, W> {
-    ghost use Rattle.host_link.specs.PipeLinks.{reader_of, writer_of, given_of, is_broken_of};
+    ghost use Rattle.host_link.specs.PipeLinks.{reader_of, writer_of, most_of, given_of, is_broken_of};
 
+    /// A link that gives a reader up which gives 2^32 times without a whole frame.
     pub fn new(alloc: Global, reader: R, writer: W) -> Result<Self, AllocError>
     where
         R: Drop,
         W: Drop,
         ensures reader { IfOk result (λ link. reader_of link ≡ reader) }
         ensures writer { IfOk result (λ link. writer_of link ≡ writer) }
+        ensures most { IfOk result (λ link. most_of link ≡ 2 ^ 32) }
+        ensures given { IfOk result (λ link. given_of link ≡ 0) }
+        ensures whole { IfOk result (λ link. is_broken_of link ≡ false) }
+    {
+        Self::bounded(alloc, reader, writer, MOST_READS)
+    }
+
+    /// A link that gives a reader up which gives so often, from 1 to 2^32 times, without a whole frame.
+    pub fn bounded(alloc: Global, reader: R, writer: W, most: u64) -> Result<Self, AllocError>
+    where
+        R: Drop,
+        W: Drop,
+        requires some { 1 ≤ most }
+        requires few { most ≤ 2 ^ 32 }
+        ensures reader { IfOk result (λ link. reader_of link ≡ reader) }
+        ensures writer { IfOk result (λ link. writer_of link ≡ writer) }
+        ensures most { IfOk result (λ link. most_of link ≡ most) }
         ensures given { IfOk result (λ link. given_of link ≡ 0) }
         ensures whole { IfOk result (λ link. is_broken_of link ≡ false) }
     {
@@ -145,6 +168,7 @@ impl<R: Source, W: Sink> PipeLink<R, W> {
             writer,
             feed: Feed::new(alloc),
             room,
+            most,
             given: 0,
             is_broken: false,
         })
@@ -180,6 +204,7 @@ impl<R: Source, W: Sink> Link for PipeLink<R, W> {
             &mut self.writer,
             &mut self.feed,
             self.room.as_mut_slice(),
+            self.most,
             &sent,
         )?;
         self.given += 1;

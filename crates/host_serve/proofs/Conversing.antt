@@ -21,8 +21,8 @@ part_behind : (a b c : Option (List ℕ)) (xs ys : List ℕ) → Appends a b xs 
 part_behind a b c xs ys whole part =
     (xs ++ part.0, (part.1.0, (append_assoc xs part.0 part.1.0 ∙ ap (λ (t : List ℕ). xs ++ t) part.1.1.0, Appends-trans a b c xs part.0 whole part.1.1.1)))
 
-pub next_is : {b c : Option (List ℕ)} {number broken : ℕ} {o p : Option Request} → o ≡ p → Next b (Ok o) number c broken → Next b (Ok p) number c broken
-next_is {b} {c} {number} {broken} is n = subst (λ (x : Option Request). Next b (Ok x) number c broken) is n
+pub next_is : {b c : Option (List ℕ)} {most number broken : ℕ} {o p : Option Request} → o ≡ p → Next most b (Ok o) number c broken → Next most b (Ok p) number c broken
+next_is {b} {c} {most} {number} {broken} is n = subst (λ (x : Option Request). Next most b (Ok x) number c broken) is n
 
 -- the request of a number up to 2^40 is one that a session can answer
 pub can_answer : {S : Type 0} {number : ℕ} (ready : S → Type 0) (given : S → ℕ) (phase : Phase S) → IsDue ready given phase number → number ≤ 2 ^ 40 → CanAnswer ready given phase
@@ -35,13 +35,14 @@ module _ {S : Type 0} {boots : Boots S} {answers : Answers S} where
   unfolding goes_on
   starts bytes old = record { exchanges = []; came = []; consumed = Consumes-nil bytes; led = refl; asked = refl; written = Appends-nil old; counted = refl }
 
+module _ {S : Type 0} {most : ℕ} {boots : Boots S} {answers : Answers S} where
   -- nothing was read or written
-  pub fails_first : {left : S → Outcome} (bytes old : Option (List ℕ)) (broken broken_writer : ℕ) → Served boots answers left bytes bytes old old (Err Failed) broken broken_writer
+  pub fails_first : {left : S → Outcome} (bytes old : Option (List ℕ)) (broken broken_writer : ℕ) → Served most boots answers left bytes bytes old old (Err Failed) broken broken_writer
   unfolding goes_on
   fails_first bytes old broken broken_writer = record { exchanges = []; phase = Waiting; came = []; rest = []; consumed = Consumes-nil bytes; led = refl; asked = refl; ended = tt; written = Appends-nil old }
 
   pub goes_further : {a b c d e f : Option (List ℕ)} {phase : Phase S} {number broken : ℕ} (next : Phase S) (q : Request) (r : Reply)
-      → Serves boots answers a b d e phase number → Next b (Ok (Some q)) number c broken → Answered boots answers phase q r next → Appends e f (spelled (reply_frame number r)) → Serves boots answers a c d f next (number + 1)
+      → Serves boots answers a b d e phase number → Next most b (Ok (Some q)) number c broken → Answered boots answers phase q r next → Appends e f (spelled (reply_frame number r)) → Serves boots answers a c d f next (number + 1)
   goes_further {a} {b} {c} {d} {e} {f} {phase = phase} {number = number} next q r s n answered sent = record {
     exchanges = (q, r) ∷ s.exchanges;
     came = s.came ++ n.came;
@@ -53,7 +54,7 @@ module _ {S : Type 0} {boots : Boots S} {answers : Answers S} where
   }
 
   pub ends_well : {left : S → Outcome} {a b c d e : Option (List ℕ)} {phase : Phase S} {number broken broken_writer : ℕ} (outcome : Outcome)
-      → Serves boots answers a b d e phase number → Next b (Ok None) number c broken → outcome ≡ outcome_at left phase → Served boots answers left a c d e (Ok outcome) broken broken_writer
+      → Serves boots answers a b d e phase number → Next most b (Ok None) number c broken → outcome ≡ outcome_at left phase → Served most boots answers left a c d e (Ok outcome) broken broken_writer
   ends_well {a = a} {b = b} {c = c} {phase = phase} outcome s n is = record {
     exchanges = s.exchanges;
     phase = phase;
@@ -67,7 +68,7 @@ module _ {S : Type 0} {boots : Boots S} {answers : Answers S} where
   }
 
   pub ends_failed : {left : S → Outcome} {a b c d e : Option (List ℕ)} {phase : Phase S} {number broken broken_writer : ℕ} {next : Option Request}
-      → Serves boots answers a b d e phase number → Next b (Ok next) number c broken → Served boots answers left a c d e (Err Failed) broken broken_writer
+      → Serves boots answers a b d e phase number → Next most b (Ok next) number c broken → Served most boots answers left a c d e (Err Failed) broken broken_writer
   ends_failed {a = a} {b = b} {c = c} {phase = phase} s n = record {
     exchanges = s.exchanges;
     phase = phase;
@@ -81,7 +82,7 @@ module _ {S : Type 0} {boots : Boots S} {answers : Answers S} where
   }
 
   pub ends_reading : {left : S → Outcome} {a b c d e : Option (List ℕ)} {phase : Phase S} {number broken broken_writer : ℕ} (fault : ServeFault)
-      → Serves boots answers a b d e phase number → Next b (Err fault) number c broken → Served boots answers left a c d e (Err fault) broken broken_writer
+      → Serves boots answers a b d e phase number → Next most b (Err fault) number c broken → Served most boots answers left a c d e (Err fault) broken broken_writer
   ends_reading {a = a} {b = b} {c = c} {phase = phase} Read s n = record {
     exchanges = s.exchanges;
     phase = phase;
@@ -90,7 +91,7 @@ module _ {S : Type 0} {boots : Boots S} {answers : Answers S} where
     consumed = Consumes-trans a b c s.came n.came s.consumed n.consumed;
     led = s.led;
     asked = s.asked;
-    ended = elim n.so [ inl h ↦ inl h | inr h ↦ inr (inl h) ];
+    ended = inl n.so;
     written = s.written;
   }
   ends_reading {a = a} {b = b} {c = c} {phase = phase} Wire s n = record {
@@ -129,7 +130,7 @@ module _ {S : Type 0} {boots : Boots S} {answers : Answers S} where
   }
 
   pub ends_asked : {left : S → Outcome} {a b c d e : Option (List ℕ)} {phase : Phase S} {number broken broken_writer : ℕ} (fails : Fails S) (q : Request) (fault : ServeFault) (next : Phase S)
-      → Serves boots answers a b d e phase number → Next b (Ok (Some q)) number c broken → Responds boots answers fails phase q (Err fault) next → Served boots answers left a c d e (Err fault) broken broken_writer
+      → Serves boots answers a b d e phase number → Next most b (Ok (Some q)) number c broken → Responds boots answers fails phase q (Err fault) next → Served most boots answers left a c d e (Err fault) broken broken_writer
   ends_asked fails q Read next s n h = absurd h
   ends_asked fails q Write next s n h = absurd h
   ends_asked fails q Wire next s n h = absurd h
@@ -147,7 +148,7 @@ module _ {S : Type 0} {boots : Boots S} {answers : Answers S} where
   ends_asked fails q Failed next s n h = ends_failed s n
 
   pub ends_sending : {left : S → Outcome} {a b c d e f : Option (List ℕ)} {phase : Phase S} {number broken broken_writer : ℕ} (next : Phase S) (q : Request) (r : Reply) (fault : ServeFault)
-      → Serves boots answers a b d e phase number → Next b (Ok (Some q)) number c broken → Answered boots answers phase q r next → SentAs (Err fault) number r e f broken_writer → Served boots answers left a c d f (Err fault) broken broken_writer
+      → Serves boots answers a b d e phase number → Next most b (Ok (Some q)) number c broken → Answered boots answers phase q r next → SentAs (Err fault) number r e f broken_writer → Served most boots answers left a c d f (Err fault) broken broken_writer
   ends_sending next q r Read s n answered sent = absurd sent
   ends_sending next q r Order s n answered sent = absurd sent
   ends_sending {a = a} {b = b} {c = c} {d = d} {e = e} {f = f} {phase = phase} {number = number} next q r Write s n answered sent = record {
@@ -187,7 +188,7 @@ module _ {S : Type 0} {boots : Boots S} {answers : Answers S} where
   }
 
   pub ends_finished : {left : S → Outcome} {a b c d e : Option (List ℕ)} {phase : Phase S} {number broken broken_writer : ℕ} (result : Result Outcome ServeFault)
-      → Serves boots answers a b d e phase number → Next b (Ok None) number c broken → Finishes result (outcome_at left phase) → Served boots answers left a c d e result broken broken_writer
+      → Serves boots answers a b d e phase number → Next most b (Ok None) number c broken → Finishes result (outcome_at left phase) → Served most boots answers left a c d e result broken broken_writer
   ends_finished (Ok outcome) s n is = ends_well outcome s n is
   ends_finished (Err Failed) s n is = ends_failed s n
   ends_finished (Err Read) s n is = absurd is
@@ -196,7 +197,7 @@ module _ {S : Type 0} {boots : Boots S} {answers : Answers S} where
   ends_finished (Err Order) s n is = absurd is
 
   -- there were too many frames
-  pub ends_late : {left : S → Outcome} {a b d e : Option (List ℕ)} {phase : Phase S} {number broken broken_writer : ℕ} → number ≡ 2 ^ 40 + 1 → Serves boots answers a b d e phase number → Served boots answers left a b d e (Err Read) broken broken_writer
+  pub ends_late : {left : S → Outcome} {a b d e : Option (List ℕ)} {phase : Phase S} {number broken broken_writer : ℕ} → number ≡ 2 ^ 40 + 1 → Serves boots answers a b d e phase number → Served most boots answers left a b d e (Err Read) broken broken_writer
   ends_late {a = a} {b = b} {phase = phase} last s = record {
     exchanges = s.exchanges;
     phase = phase;
@@ -205,6 +206,6 @@ module _ {S : Type 0} {boots : Boots S} {answers : Answers S} where
     consumed = subst (Consumes a b) (sym (append-nil s.came)) s.consumed;
     led = s.led;
     asked = s.asked;
-    ended = inr (inr (sym s.counted ∙ last));
+    ended = inr (sym s.counted ∙ last);
     written = s.written;
   }

@@ -61,6 +61,6 @@ IsReady l = (faults_of l ≡ 0) × IsIdle l
 abbrev pub left_by : LocalLink → Outcome
 left_by l = outcome_in (host_of l).hosting.running.shared
 
--- a whole run of the host: the bytes that are written are the frames of Done and of the link's replies
-unfoldable pub Served_host : Option (List ℕ) → Option (List ℕ) → Option (List ℕ) → Option (List ℕ) → Result Outcome ServeFault → ℕ → ℕ → Type 0
-Served_host bytes bytes' old new result broken broken_writer = Served Boots_by Answers_by left_by bytes bytes' old new result broken broken_writer
+-- a whole run of the host, whose reader may give so often without a whole frame: the bytes that are written are the frames of Done and of the link's replies
+unfoldable pub Served_host : ℕ → Option (List ℕ) → Option (List ℕ) → Option (List ℕ) → Option (List ℕ) → Result Outcome ServeFault → ℕ → ℕ → Type 0
+Served_host most bytes bytes' old new result broken broken_writer = Served most Boots_by Answers_by left_by bytes bytes' old new result broken broken_writer

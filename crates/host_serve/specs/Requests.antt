@@ -1,5 +1,5 @@
 -- The frame that is due next: a request of the next number.
-use Rattle.std.specs.Prelude.{◌≡◌, ◌⊎◌, ◌≤◌, ◌^◌, ℕ, ◌==◌, if◌then◌else◌, List, [], ◌∷◌, length, Option, Some, None, Result, Ok, Err}
+use Rattle.std.specs.Prelude.{◌≡◌, ◌⊎◌, ℕ, ◌==◌, if◌then◌else◌, List, [], ◌∷◌, Option, Some, None, Result, Ok, Err}
 use Rattle.std.specs.Io.KnownBytes.{Consumes, IsAtEnd}
 use Rattle.lx_abi.specs.declared.ptrace.Request.{Request}
 use Rattle.host_frame.specs.declared.frame.Payload.{Payload as Message}
@@ -8,6 +8,7 @@ use Rattle.host_frame.specs.declared.frame.Frame.{Frame}
 use Rattle.host_frame.specs.declared.fault.WireFault.TheVariants.{Length, Kind, Payload, Memory}
 use Rattle.host_wire.specs.declared.receiving.ReceiveFault.{ReceiveFault}
 use Rattle.host_wire.specs.declared.receiving.ReceiveFault.TheVariants as receiving
+use Rattle.host_wire.specs.Receiving.{IsCutOff}
 use Rattle.host_wire.specs.Streams.{Stream, Going, Failed as Failed_by, stream_of}
 use Rattle.host_serve.specs.declared.fault.ServeFault.{ServeFault}
 use Rattle.host_serve.specs.declared.fault.ServeFault.TheVariants.{Read, Write, Wire, Order, Failed}
@@ -23,19 +24,19 @@ abbrev pub IsFaulty : Stream → Type 0
 IsFaulty stream = (stream ≡ Failed_by Length) ⊎ ((stream ≡ Failed_by Kind) ⊎ (stream ≡ Failed_by Payload))
 
 -- what came is the next request, the end of input within a frame or before it, or the cause of a fault
-abbrev pub NextAs : Result (Option Request) ServeFault → ℕ → List ℕ → Stream → Option (List ℕ) → ℕ → Type 0
-NextAs (Ok (Some q)) number came stream left broken = stream ≡ Going (request_frame number q ∷ []) []
-NextAs (Ok None) number came stream left broken = (tail : List ℕ) × ((stream ≡ Going [] tail) × IsAtEnd left)
-NextAs (Err Read) number came stream left broken = (broken ≡ 1) ⊎ (2 ^ 32 ≤ length came)
-NextAs (Err Wire) number came stream left broken = IsFaulty stream
-NextAs (Err Order) number came stream left broken = (f : Frame) × ((stream ≡ Going (f ∷ []) []) × IsOther f number)
-NextAs (Err Write) number came stream left broken = ⊥
-NextAs (Err Failed) number came stream left broken = Unit {0}
+abbrev pub NextAs : ℕ → Result (Option Request) ServeFault → ℕ → List ℕ → Stream → Option (List ℕ) → ℕ → Type 0
+NextAs most (Ok (Some q)) number came stream left broken = stream ≡ Going (request_frame number q ∷ []) []
+NextAs most (Ok None) number came stream left broken = (tail : List ℕ) × ((stream ≡ Going [] tail) × IsAtEnd left)
+NextAs most (Err Read) number came stream left broken = IsCutOff most came broken
+NextAs most (Err Wire) number came stream left broken = IsFaulty stream
+NextAs most (Err Order) number came stream left broken = (f : Frame) × ((stream ≡ Going (f ∷ []) []) × IsOther f number)
+NextAs most (Err Write) number came stream left broken = ⊥
+NextAs most (Err Failed) number came stream left broken = Unit {0}
 
-pub record Next (left : Option (List ℕ)) (result : Result (Option Request) ServeFault) (number : ℕ) (left' : Option (List ℕ)) (broken : ℕ) : Type 0 where
+pub record Next (most : ℕ) (left : Option (List ℕ)) (result : Result (Option Request) ServeFault) (number : ℕ) (left' : Option (List ℕ)) (broken : ℕ) : Type 0 where
   pub came : List ℕ
   pub consumed : Consumes left left' came
-  pub so : NextAs result number came (stream_of came) left' broken
+  pub so : NextAs most result number came (stream_of came) left' broken
 
 -- the cause of a fault, as serving tells it
 abbrev pub fault_of : ReceiveFault → ServeFault

@@ -11,6 +11,7 @@ use Rattle.lx_abi.specs.declared.ptrace.Request.TheVariants.{Boot as Boot_with}
 use Rattle.host_frame.specs.declared.frame.Frame.{Frame}
 use Rattle.host_wire.specs.Ends.{AppendsPart}
 use Rattle.host_frame.specs.Spelling.{content, spelled, reply_frame}
+use Rattle.host_wire.specs.Receiving.{IsCutOff}
 use Rattle.host_wire.specs.Streams.{Going, stream_of}
 use Rattle.host_serve.specs.declared.fault.ServeFault.{ServeFault}
 use Rattle.host_serve.specs.declared.fault.ServeFault.TheVariants.{Read, Write, Wire, Order, Failed}
@@ -127,16 +128,16 @@ Finishes (Err Write) wanted = ⊥
 Finishes (Err Wire) wanted = ⊥
 Finishes (Err Order) wanted = ⊥
 
--- what ended it: `rest` is what was read behind the requests that were answered
-abbrev pub EndsBy : {S : Type 0} → Boots S → Answers S → (S → Outcome) → Phase S → ℕ → Result Outcome ServeFault → List ℕ → Option (List ℕ) → ℕ → ℕ → Type 0
-EndsBy boots answers left phase number (Ok outcome) rest after broken broken_writer = (tail : List ℕ) × ((stream_of rest ≡ Going [] tail) × IsAtEnd after × (outcome ≡ outcome_at left phase))
-EndsBy boots answers left phase number (Err Read) rest after broken broken_writer = (broken ≡ 1) ⊎ ((2 ^ 32 ≤ length rest) ⊎ (number ≡ 2 ^ 40 + 1))
-EndsBy {S} boots answers left phase number (Err Wire) rest after broken broken_writer =
+-- what ended it: `rest` is what was read after the requests that were answered, by so many reads at most
+abbrev pub EndsBy : {S : Type 0} → ℕ → Boots S → Answers S → (S → Outcome) → Phase S → ℕ → Result Outcome ServeFault → List ℕ → Option (List ℕ) → ℕ → ℕ → Type 0
+EndsBy most boots answers left phase number (Ok outcome) rest after broken broken_writer = (tail : List ℕ) × ((stream_of rest ≡ Going [] tail) × IsAtEnd after × (outcome ≡ outcome_at left phase))
+EndsBy most boots answers left phase number (Err Read) rest after broken broken_writer = IsCutOff most rest broken ⊎ (number ≡ 2 ^ 40 + 1)
+EndsBy {S} most boots answers left phase number (Err Wire) rest after broken broken_writer =
     IsFaulty (stream_of rest) ⊎ ((q : Request) × ((r : Reply) × ((next : Phase S) × (Answered boots answers phase q r next × IsTooLong number r))))
-EndsBy boots answers left phase number (Err Order) rest after broken broken_writer =
+EndsBy most boots answers left phase number (Err Order) rest after broken broken_writer =
     (f : Frame) × ((stream_of rest ≡ Going (f ∷ []) []) × (IsOther f number ⊎ ((q : Request) × ((f ≡ request_frame number q) × IsUndue phase q))))
-EndsBy boots answers left phase number (Err Write) rest after broken broken_writer = broken_writer ≡ 1
-EndsBy boots answers left phase number (Err Failed) rest after broken broken_writer = Unit {0}
+EndsBy most boots answers left phase number (Err Write) rest after broken broken_writer = broken_writer ≡ 1
+EndsBy most boots answers left phase number (Err Failed) rest after broken broken_writer = Unit {0}
 
 -- the replies are written whole; a write that failed wrote a first part of the next
 abbrev pub WritesAs : {S : Type 0} → Boots S → Answers S → Phase S → Exchanges → Result Outcome ServeFault → Option (List ℕ) → Option (List ℕ) → Type 0
@@ -148,7 +149,7 @@ WritesAs boots answers phase xs (Err Failed) old new = Appends old new (replies_
 WritesAs {S} boots answers phase xs (Err Write) old new =
     (q : Request) × ((r : Reply) × ((next : Phase S) × (Answered boots answers phase q r next × AppendsPart old new (replies_of ((q, r) ∷ xs)))))
 
-pub record Served {S : Type 0} (boots : Boots S) (answers : Answers S) (left : S → Outcome) (bytes bytes' old new : Option (List ℕ)) (result : Result Outcome ServeFault) (broken broken_writer : ℕ) : Type 0 where
+pub record Served {S : Type 0} (most : ℕ) (boots : Boots S) (answers : Answers S) (left : S → Outcome) (bytes bytes' old new : Option (List ℕ)) (result : Result Outcome ServeFault) (broken broken_writer : ℕ) : Type 0 where
   pub exchanges : Exchanges
   pub phase : Phase S
   pub came : List ℕ
@@ -156,7 +157,7 @@ pub record Served {S : Type 0} (boots : Boots S) (answers : Answers S) (left : S
   pub consumed : Consumes bytes bytes' (came ++ rest)
   pub led : Leads boots answers exchanges phase
   pub asked : stream_of came ≡ Going (requests_of exchanges) []
-  pub ended : EndsBy boots answers left phase (length exchanges + 1) result rest bytes' broken broken_writer
+  pub ended : EndsBy most boots answers left phase (length exchanges + 1) result rest bytes' broken broken_writer
   pub written : WritesAs boots answers phase exchanges result old new
 
 -- so far, with this many exchanges

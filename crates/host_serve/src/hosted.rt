@@ -1,6 +1,6 @@
 //! The traced kernel, served.
 
-ghost use Rattle.std.specs.Prelude.{◌≡◌, IfOk};
+ghost use Rattle.std.specs.Prelude.{◌≡◌, ◌≤◌, ◌^◌, IfOk};
 ghost use Rattle.host_serve.specs.Hosted.{BootsAs, Served_host};
 
 use crate::fault::ServeFault;
@@ -9,7 +9,7 @@ use crate::session::Session;
 use containers::Seq;
 use host_link::laws::{idle_links_fail_for_memory, replies_leave_links_idle};
 use host_link::{Link, LocalLink};
-use host_wire::{Sink, Source};
+use host_wire::{MOST_READS, Sink, Source};
 use lx_abi::{Boot, Outcome, Reply, Request, Word};
 use lx_boot::BootFault;
 use lx_kernel::Failed;
@@ -80,13 +80,29 @@ impl Session for LocalLink {
 ///
 /// However the input is cut, what is written is the frames of the replies that a [`LocalLink`] of that boot gives to the
 /// requests after it.
-#[tactic(auto, unfolding(crate::specs::Hosted::Served_host))]
 pub fn serve<R: Source, W: Sink>(
     alloc: Global,
     reader: &mut R,
     writer: &mut W,
 ) -> Result<Outcome, ServeFault>
-    ensures { Served_host (R.remaining reader.old) (R.remaining reader.new) (W.contents writer.old) (W.contents writer.new) result (R.broken reader.new) (W.broken writer.new) }
+    ensures { Served_host (2 ^ 32) (R.remaining reader.old) (R.remaining reader.new) (W.contents writer.old)
+        (W.contents writer.new) result (R.broken reader.new) (W.broken writer.new) }
 {
-    serve_session::<LocalLink, R, W>(alloc, reader, writer)
+    serve_bounded(alloc, reader, writer, MOST_READS)
+}
+
+/// The same, where a reader is given up that gives so often, from 1 to 2^32 times, without a whole frame.
+#[tactic(auto, unfolding(crate::specs::Hosted::Served_host))]
+pub fn serve_bounded<R: Source, W: Sink>(
+    alloc: Global,
+    reader: &mut R,
+    writer: &mut W,
+    most: u64,
+) -> Result<Outcome, ServeFault>
+    requires some { 1 ≤ most }
+    requires few { most ≤ 2 ^ 32 }
+    ensures { Served_host most (R.remaining reader.old) (R.remaining reader.new) (W.contents writer.old)
+        (W.contents writer.new) result (R.broken reader.new) (W.broken writer.new) }
+{
+    serve_session::<LocalLink, R, W>(alloc, reader, writer, most)
 }

@@ -9,6 +9,6 @@ pub mod serving;
 pub mod session;
 
 pub use fault::ServeFault;
-pub use hosted::serve;
+pub use hosted::{serve, serve_bounded};
 pub use serving::serve_session;
 pub use session::{Phase, Session};

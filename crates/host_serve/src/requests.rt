@@ -43,19 +43,21 @@ fn request_in(frame: Frame, number: u64) -> Option<Request>
     }
 }
 
-/// The next request, which has this number; none at the end of input. No byte behind it is read.
+/// The next request, which has this number, by so many reads at most; none at the end of input. No byte behind it is
+/// read.
 pub(crate) fn next_request<R: Source>(
     reader: &mut R,
     feed: &mut Feed,
     room: &mut [u8],
+    most: u64,
     number: u64,
 ) -> Result<Option<Request>, ServeFault>
     requires room { 0 < length room.old }
     requires fresh { feed.old ≡ nothing_fed }
-    ensures next { Next (R.remaining reader.old) result number (R.remaining reader.new) (R.broken reader.new) }
+    ensures next { Next most (R.remaining reader.old) result number (R.remaining reader.new) (R.broken reader.new) }
     ensures no_further { IfOk result (λ request. IsSome request → feed.new ≡ nothing_fed) }
 {
-    let frame = match receive(reader, feed, room) {
+    let frame = match receive(reader, feed, room, most) {
         Ok(Some(frame)) => frame,
         Ok(None) => return Ok(None),
         Err(fault) => return Err(fault_of(fault)),

@@ -96,13 +96,15 @@ fn outcome_of<S: Session + Drop>(alloc: Global, phase: &Phase<S>) -> Result<Outc
     }
 }
 
-/// Serves until the end of input, within a frame too, and gives what is left of the run then.
+/// Serves until the end of input, within a frame too, and gives what is left of the run then. The reader may give `most`
+/// times without a whole frame.
 pub fn serve_session<S: Session + Drop, R: Source, W: Sink>(
     alloc: Global,
     reader: &mut R,
     writer: &mut W,
+    most: u64,
 ) -> Result<Outcome, ServeFault>
-    ensures { Served S.boots S.answers S.left (R.remaining reader.old) (R.remaining reader.new) (W.contents writer.old) (W.contents writer.new) result (R.broken reader.new) (W.broken writer.new) }
+    ensures { Served most S.boots S.answers S.left (R.remaining reader.old) (R.remaining reader.new) (W.contents writer.old) (W.contents writer.new) result (R.broken reader.new) (W.broken writer.new) }
 {
     let Ok(mut room) = Vec::from_elem(alloc, 0u8, ROOM) else {
         return Err(ServeFault::Failed);
@@ -110,7 +112,7 @@ pub fn serve_session<S: Session + Drop, R: Source, W: Sink>(
     let mut feed = Feed::new(alloc);
     let mut phase: Phase<S> = Phase::Waiting;
     for number in 1..MOST_FRAMES + 1 {
-        let request = match next_request(reader, &mut feed, room.as_mut_slice(), number) {
+        let request = match next_request(reader, &mut feed, room.as_mut_slice(), most, number) {
             Ok(Some(request)) => request,
             Ok(None) => return outcome_of(alloc, &phase),
             Err(fault) => return Err(fault),

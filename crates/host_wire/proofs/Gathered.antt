@@ -64,7 +64,7 @@ nothing_read left f g none ready under_way = record {
 }
 
 -- a frame that waited
-pub waited : (left : Option (List ℕ)) (f g : Feeding) (frame : Frame) (broken : ℕ) → f.ready ≡ option_to_list (Some frame) ++ g.ready → g.under_way ≡ f.under_way → Received left f (Ok (Some frame)) left g broken
+pub waited : {most : ℕ} (left : Option (List ℕ)) (f g : Feeding) (frame : Frame) (broken : ℕ) → f.ready ≡ option_to_list (Some frame) ++ g.ready → g.under_way ≡ f.under_way → Received most left f (Ok (Some frame)) left g broken
 unfolding goes_on
 waited left f g frame broken ready under_way = record {
   came = [];
@@ -72,7 +72,7 @@ waited left f g frame broken ready under_way = record {
   so = ap (λ (fs : List Frame). Going fs f.under_way) ready ∙ ap (Going (frame ∷ g.ready)) (sym under_way);
 }
 
-pub read_failed : {a b c : Option (List ℕ)} {f g h : Feeding} {n broken : ℕ} (fault : ReceiveFault) → ReadSoFar a b f g n → ReadOnce b g (Err fault) c h broken → Received a f (Err fault) c h broken
+pub read_failed : {most : ℕ} {a b c : Option (List ℕ)} {f g h : Feeding} {n broken : ℕ} (fault : ReceiveFault) → ReadSoFar a b f g n → ReadOnce b g (Err fault) c h broken → Received most a f (Err fault) c h broken
 read_failed {a} {b} {c} {f} {g} {h} Read s r = record {
   came = s.came ++ r.came;
   consumed = Consumes-trans a b c s.came r.came s.consumed r.consumed;
@@ -84,7 +84,7 @@ read_failed {a} {b} {c} {f} {g} {h} (Wire fault) s r = record {
   so = subst (FailsAs Failed fault) (sym (fed-append f g s.came r.came s.so)) r.so;
 }
 
-pub read_ended : {a b c : Option (List ℕ)} {f g h : Feeding} {n broken : ℕ} (more : Bool) → more ≡ false → ReadSoFar a b f g n → ReadOnce b g (Ok more) c h broken → Received a f (Ok None) c h broken
+pub read_ended : {most : ℕ} {a b c : Option (List ℕ)} {f g h : Feeding} {n broken : ℕ} (more : Bool) → more ≡ false → ReadSoFar a b f g n → ReadOnce b g (Ok more) c h broken → Received most a f (Ok None) c h broken
 read_ended true e s r = absurd cc
 read_ended {a} {b} {c} {f} {g} {h} false e s r = record {
   came = s.came ++ r.came;
@@ -92,8 +92,8 @@ read_ended {a} {b} {c} {f} {g} {h} false e s r = record {
   so = (fed-append f g s.came r.came s.so ∙ r.so.0, nothing_came g h r.came r.so.1 r.so.0 s.none, r.so.2);
 }
 
-pub read_frame : {a b c : Option (List ℕ)} {f g h k : Feeding} {n broken : ℕ} (more : Bool) (frame : Frame) → more ≡ true → ReadSoFar a b f g n → ReadOnce b g (Ok more) c h broken
-    → h.ready ≡ option_to_list (Some frame) ++ k.ready → k.under_way ≡ h.under_way → Received a f (Ok (Some frame)) c k broken
+pub read_frame : {most : ℕ} {a b c : Option (List ℕ)} {f g h k : Feeding} {n broken : ℕ} (more : Bool) (frame : Frame) → more ≡ true → ReadSoFar a b f g n → ReadOnce b g (Ok more) c h broken
+    → h.ready ≡ option_to_list (Some frame) ++ k.ready → k.under_way ≡ h.under_way → Received most a f (Ok (Some frame)) c k broken
 read_frame false frame e s r ready under_way = absurd cc
 read_frame {a} {b} {c} {f} {g} {h} {k} true frame e s r ready under_way = record {
   came = s.came ++ r.came;

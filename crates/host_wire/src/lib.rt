@@ -12,4 +12,4 @@ pub use counted::Counted;
 pub use ends::{Broken, Sink, Source};
 pub use feed::Feed;
 pub use host_frame::{Frame, Payload, WireFault, encode};
-pub use receiving::{ReceiveFault, receive};
+pub use receiving::{MOST_READS, ReceiveFault, receive};

@@ -12,30 +12,31 @@ use thiserror::Error;
 /// Why no frame was received.
 #[derive(Clone, Copy, Debug, PartialEq, Eq, Error)]
 pub enum ReceiveFault {
-    /// The reader failed, or has given 2^32 times without a whole frame.
+    /// The reader failed, or has given too often without a whole frame.
     #[error("a frame could not be read")]
     Read,
     #[error("{0}")]
     Wire(WireFault),
 }
 
-/// How often a reader may give without a whole frame.
-const MOST_READS: u64 = 1 << 32;
+/// How often a reader may give without a whole frame, where nothing else is said.
+pub const MOST_READS: u64 = 1 << 32;
 
-/// Reads until a frame is whole, no byte past it; none at the end of input.
+/// Reads until a frame is whole, `most` times at most and no byte past it; none at the end of input.
 pub fn receive<R: Source>(
     source: &mut R,
     feed: &mut Feed,
     room: &mut [u8],
+    most: u64,
 ) -> Result<Option<Frame>, ReceiveFault>
     requires { 0 < length room.old }
-    ensures received { Received (R.remaining source.old) feed.old result (R.remaining source.new) feed.new (R.broken source.new) }
+    ensures received { Received most (R.remaining source.old) feed.old result (R.remaining source.new) feed.new (R.broken source.new) }
     ensures no_further { feed.old.ready ≡ [] → IfOk result (λ frame. IsSome frame → feed.new ≡ nothing_fed) }
 {
     if let Some(frame) = feed.take() {
         return Ok(Some(frame));
     }
-    for _ in 0..MOST_READS {
+    for _ in 0..most {
         if !read_some(source, feed, room)? {
             return Ok(None);
         }
