@@ -52,11 +52,11 @@ reply_leaves_idle a b q r (inr c) goes =
 
 pub idle_fails_for_memory : (a b : LocalLink) (q : Request) (f : LinkFault) → faults_of a ≡ 0 → given_of a < 2 ^ 40 → IsIdle a → is_boot q ≡ false → Calls a q (Err f) b → f ≡ Memory
 unfolding Calls
-idle_fails_for_memory a b q Ended whole few idle request (inl broken) = absurd (omega (arith, whole, ap {B = ℕ} (λ (x : Bool). cond x 1 0) broken))
-idle_fails_for_memory a b q Ended whole few idle request (inr boot) = absurd (cc (sym request ∙ boot))
-idle_fails_for_memory a b q TooMany whole few idle request full = absurd (omega (arith, few, full))
+idle_fails_for_memory a b q Ended whole few idle request (same, inl broken) = absurd (omega (arith, whole, ap {B = ℕ} (λ (x : Bool). cond x 1 0) broken))
+idle_fails_for_memory a b q Ended whole few idle request (same, inr boot) = absurd (cc (sym request ∙ boot))
+idle_fails_for_memory a b q TooMany whole few idle request full = absurd (omega (arith, few, full.1))
 idle_fails_for_memory a b q Memory whole few idle request failed = refl
-idle_fails_for_memory a b q Sequence whole few idle request busy = absurd (cc (sym (idle busy.0) ∙ busy.1))
+idle_fails_for_memory a b q Sequence whole few idle request busy = absurd (cc (sym (idle busy.1) ∙ busy.2))
 idle_fails_for_memory a b q Read whole few idle request never = absurd never
 idle_fails_for_memory a b q Write whole few idle request never = absurd never
 idle_fails_for_memory a b q Malformed whole few idle request never = absurd never

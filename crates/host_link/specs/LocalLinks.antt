@@ -30,12 +30,16 @@ is_over l = l.over
 abbrev pub IsIdle : LocalLink → Type 0
 IsIdle l = is_over l ≡ false → is_there (host_of l).hosting.pending ≡ false
 
+-- the host and its schedule are as they were
+abbrev pub IsUntouched : LocalLink → LocalLink → Type 0
+IsUntouched a b = (b.host ≡ a.host) × (b.schedule ≡ a.schedule)
+
 unfoldable pub Calls : LocalLink → Request → Result Reply LinkFault → LocalLink → Type 0
 Calls a q (Ok r) b =
     ((a.over ≡ true) × ((r ≡ Out_of_turns) × ((b.host ≡ a.host) × ((b.schedule ≡ a.schedule) × (b.over ≡ true)))))
     ⊎ ((a.over ≡ false) × ((is_boot q ≡ false) × ((x : Option Reply) × (Serves a.host a.schedule q (record { host = b.host; schedule = b.schedule; reply = x }) × ((r ≡ reply_or_over x) × (b.over ≡ is_none x))))))
-Calls a q (Err Ended) b = (a.is_broken ≡ true) ⊎ (is_boot q ≡ true)
-Calls a q (Err TooMany) b = a.given ≡ 2 ^ 40
+Calls a q (Err Ended) b = IsUntouched a b × ((a.is_broken ≡ true) ⊎ (is_boot q ≡ true))
+Calls a q (Err TooMany) b = IsUntouched a b × (a.given ≡ 2 ^ 40)
 Calls a q (Err Memory) b = b.host.failed ≡ true
-Calls a q (Err Sequence) b = (a.over ≡ false) × (is_there a.host.hosting.pending ≡ true)
+Calls a q (Err Sequence) b = IsUntouched a b × (a.over ≡ false) × (is_there a.host.hosting.pending ≡ true)
 Calls a q (Err f) b = ⊥

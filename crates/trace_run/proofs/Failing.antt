@@ -48,9 +48,9 @@ call_fails : (f : LinkFault) (broken : ℕ) (a : LocalLink) (q : Request) (b : L
 unfolding Calls
 call_fails cause.Memory broken a q b going not_boot h = tt
 call_fails cause.TooMany broken a q b going not_boot h = tt
-call_fails cause.Ended broken a q b going not_boot (inl e) = absurd (cc (sym (ap (λ x. cond x 1 0) e) ∙ going.unbroken))
-call_fails cause.Ended broken a q b going not_boot (inr e) = absurd (cc (sym not_boot ∙ e))
-call_fails cause.Sequence broken a q b going not_boot h = absurd (cc (sym (ap is_there going.idle) ∙ h.1))
+call_fails cause.Ended broken a q b going not_boot (same, inl e) = absurd (cc (sym (ap (λ x. cond x 1 0) e) ∙ going.unbroken))
+call_fails cause.Ended broken a q b going not_boot (same, inr e) = absurd (cc (sym not_boot ∙ e))
+call_fails cause.Sequence broken a q b going not_boot h = absurd (cc (sym (ap is_there going.idle) ∙ h.2))
 call_fails cause.Read broken a q b going not_boot h = h
 call_fails cause.Write broken a q b going not_boot h = h
 call_fails cause.Malformed broken a q b going not_boot h = h
