@@ -6,13 +6,11 @@ use Rattle.lx_model.specs.Kernel.{Script}
 use Rattle.pt_model.specs.Parts.{Options}
 use Rattle.pt_model.specs.Tracer.{Known, Next, Awaiting, Seizing, heard, hears, next_at, tracees_after, with_tracee, admits_at}
 use Rattle.pt_model.specs.Tracer as tracer
-use Rattle.tr_core.specs.Hearings.{says_done}
 use Rattle.tr_core.specs.Known.{place_of}
 use Rattle.tr_core.specs.Tracers.{focus_of}
 use Rattle.tr_core.specs.Admitted.{told_status, says_childless, says_out, told_outcome, waits_by, serves_by, is_seizing, tracees_by_reply, tracees_by_status, ends_by, next_by, tracees_by}
 use Rattle.tr_core.specs.declared.place.Focus.{Focus}
 use Rattle.tr_core.specs.declared.place.Focus.TheVariants as focus
-use Rattle.tr_core.proofs.Placing.{hears-is}
 
 asking : (o : Options) (known : ℕ → Known) (b : Bool) → tracer.stays known (cond b tracer.Asking_outcome tracer.Waiting) ≡ waits_by o known None b false
 asking o known true = refl
@@ -31,16 +29,16 @@ waits-is o script known Out_of_turns = refl
 waits-is o script known (Boot_refused fault) = refl
 
 serves-is : (o : Options) (script : Script) (known : ℕ → Known) (p : ℕ) (place : Awaiting) (r : Reply) → next_at o script known (tracer.Serving p place) r ≡ serves_by o script known p place r (says_out r)
-serves-is o script known p place Agreed = ap (heard known p) (hears-is o script p (known p) place Agreed)
-serves-is o script known p place (Status_is q status) = ap (heard known p) (hears-is o script p (known p) place (Status_is q status))
-serves-is o script known p place (Registers_are regs) = ap (heard known p) (hears-is o script p (known p) place (Registers_are regs))
-serves-is o script known p place (Bytes_are bytes) = ap (heard known p) (hears-is o script p (known p) place (Bytes_are bytes))
-serves-is o script known p place (Message_is q) = ap (heard known p) (hears-is o script p (known p) place (Message_is q))
-serves-is o script known p place (Info_is i) = ap (heard known p) (hears-is o script p (known p) place (Info_is i))
-serves-is o script known p place (Outcome_is x) = ap (heard known p) (hears-is o script p (known p) place (Outcome_is x))
-serves-is o script known p place (Errno_is n) = ap (heard known p) (hears-is o script p (known p) place (Errno_is n))
+serves-is o script known p place Agreed = refl
+serves-is o script known p place (Status_is q status) = refl
+serves-is o script known p place (Registers_are regs) = refl
+serves-is o script known p place (Bytes_are bytes) = refl
+serves-is o script known p place (Message_is q) = refl
+serves-is o script known p place (Info_is i) = refl
+serves-is o script known p place (Outcome_is x) = refl
+serves-is o script known p place (Errno_is n) = refl
 serves-is o script known p place Out_of_turns = refl
-serves-is o script known p place (Boot_refused fault) = ap (heard known p) (hears-is o script p (known p) place (Boot_refused fault))
+serves-is o script known p place (Boot_refused fault) = refl
 
 ends-is : (o : Options) (script : Script) (known : ℕ → Known) (r : Reply) → next_at o script known tracer.Asking_outcome r ≡ ends_by known (told_outcome r) (says_out r)
 ends-is o script known Agreed = refl
@@ -65,86 +63,14 @@ seizes-is tracees p Seizing (Outcome_is x) = refl
 seizes-is tracees p Seizing (Errno_is n) = refl
 seizes-is tracees p Seizing Out_of_turns = refl
 seizes-is tracees p Seizing (Boot_refused fault) = refl
-seizes-is tracees p tracer.Entry_regs Agreed = refl
-seizes-is tracees p tracer.Entry_regs (Status_is q status) = refl
-seizes-is tracees p tracer.Entry_regs (Registers_are regs) = refl
-seizes-is tracees p tracer.Entry_regs (Bytes_are bytes) = refl
-seizes-is tracees p tracer.Entry_regs (Message_is q) = refl
-seizes-is tracees p tracer.Entry_regs (Info_is i) = refl
-seizes-is tracees p tracer.Entry_regs (Outcome_is x) = refl
-seizes-is tracees p tracer.Entry_regs (Errno_is n) = refl
-seizes-is tracees p tracer.Entry_regs Out_of_turns = refl
-seizes-is tracees p tracer.Entry_regs (Boot_refused fault) = refl
-seizes-is tracees p (tracer.Entry_peek r got w) Agreed = refl
-seizes-is tracees p (tracer.Entry_peek r got w) (Status_is q status) = refl
-seizes-is tracees p (tracer.Entry_peek r got w) (Registers_are regs) = refl
-seizes-is tracees p (tracer.Entry_peek r got w) (Bytes_are bytes) = refl
-seizes-is tracees p (tracer.Entry_peek r got w) (Message_is q) = refl
-seizes-is tracees p (tracer.Entry_peek r got w) (Info_is i) = refl
-seizes-is tracees p (tracer.Entry_peek r got w) (Outcome_is x) = refl
-seizes-is tracees p (tracer.Entry_peek r got w) (Errno_is n) = refl
-seizes-is tracees p (tracer.Entry_peek r got w) Out_of_turns = refl
-seizes-is tracees p (tracer.Entry_peek r got w) (Boot_refused fault) = refl
-seizes-is tracees p (tracer.Entry_set r m) Agreed = refl
-seizes-is tracees p (tracer.Entry_set r m) (Status_is q status) = refl
-seizes-is tracees p (tracer.Entry_set r m) (Registers_are regs) = refl
-seizes-is tracees p (tracer.Entry_set r m) (Bytes_are bytes) = refl
-seizes-is tracees p (tracer.Entry_set r m) (Message_is q) = refl
-seizes-is tracees p (tracer.Entry_set r m) (Info_is i) = refl
-seizes-is tracees p (tracer.Entry_set r m) (Outcome_is x) = refl
-seizes-is tracees p (tracer.Entry_set r m) (Errno_is n) = refl
-seizes-is tracees p (tracer.Entry_set r m) Out_of_turns = refl
-seizes-is tracees p (tracer.Entry_set r m) (Boot_refused fault) = refl
-seizes-is tracees p tracer.Exit_regs Agreed = refl
-seizes-is tracees p tracer.Exit_regs (Status_is q status) = refl
-seizes-is tracees p tracer.Exit_regs (Registers_are regs) = refl
-seizes-is tracees p tracer.Exit_regs (Bytes_are bytes) = refl
-seizes-is tracees p tracer.Exit_regs (Message_is q) = refl
-seizes-is tracees p tracer.Exit_regs (Info_is i) = refl
-seizes-is tracees p tracer.Exit_regs (Outcome_is x) = refl
-seizes-is tracees p tracer.Exit_regs (Errno_is n) = refl
-seizes-is tracees p tracer.Exit_regs Out_of_turns = refl
-seizes-is tracees p tracer.Exit_regs (Boot_refused fault) = refl
-seizes-is tracees p (tracer.Exit_set r y) Agreed = refl
-seizes-is tracees p (tracer.Exit_set r y) (Status_is q status) = refl
-seizes-is tracees p (tracer.Exit_set r y) (Registers_are regs) = refl
-seizes-is tracees p (tracer.Exit_set r y) (Bytes_are bytes) = refl
-seizes-is tracees p (tracer.Exit_set r y) (Message_is q) = refl
-seizes-is tracees p (tracer.Exit_set r y) (Info_is i) = refl
-seizes-is tracees p (tracer.Exit_set r y) (Outcome_is x) = refl
-seizes-is tracees p (tracer.Exit_set r y) (Errno_is n) = refl
-seizes-is tracees p (tracer.Exit_set r y) Out_of_turns = refl
-seizes-is tracees p (tracer.Exit_set r y) (Boot_refused fault) = refl
-seizes-is tracees p (tracer.Exit_peek y replaced got w) Agreed = refl
-seizes-is tracees p (tracer.Exit_peek y replaced got w) (Status_is q status) = refl
-seizes-is tracees p (tracer.Exit_peek y replaced got w) (Registers_are regs) = refl
-seizes-is tracees p (tracer.Exit_peek y replaced got w) (Bytes_are bytes) = refl
-seizes-is tracees p (tracer.Exit_peek y replaced got w) (Message_is q) = refl
-seizes-is tracees p (tracer.Exit_peek y replaced got w) (Info_is i) = refl
-seizes-is tracees p (tracer.Exit_peek y replaced got w) (Outcome_is x) = refl
-seizes-is tracees p (tracer.Exit_peek y replaced got w) (Errno_is n) = refl
-seizes-is tracees p (tracer.Exit_peek y replaced got w) Out_of_turns = refl
-seizes-is tracees p (tracer.Exit_peek y replaced got w) (Boot_refused fault) = refl
-seizes-is tracees p (tracer.Signal_info m) Agreed = refl
-seizes-is tracees p (tracer.Signal_info m) (Status_is q status) = refl
-seizes-is tracees p (tracer.Signal_info m) (Registers_are regs) = refl
-seizes-is tracees p (tracer.Signal_info m) (Bytes_are bytes) = refl
-seizes-is tracees p (tracer.Signal_info m) (Message_is q) = refl
-seizes-is tracees p (tracer.Signal_info m) (Info_is i) = refl
-seizes-is tracees p (tracer.Signal_info m) (Outcome_is x) = refl
-seizes-is tracees p (tracer.Signal_info m) (Errno_is n) = refl
-seizes-is tracees p (tracer.Signal_info m) Out_of_turns = refl
-seizes-is tracees p (tracer.Signal_info m) (Boot_refused fault) = refl
-seizes-is tracees p (tracer.Resuming m) Agreed = refl
-seizes-is tracees p (tracer.Resuming m) (Status_is q status) = refl
-seizes-is tracees p (tracer.Resuming m) (Registers_are regs) = refl
-seizes-is tracees p (tracer.Resuming m) (Bytes_are bytes) = refl
-seizes-is tracees p (tracer.Resuming m) (Message_is q) = refl
-seizes-is tracees p (tracer.Resuming m) (Info_is i) = refl
-seizes-is tracees p (tracer.Resuming m) (Outcome_is x) = refl
-seizes-is tracees p (tracer.Resuming m) (Errno_is n) = refl
-seizes-is tracees p (tracer.Resuming m) Out_of_turns = refl
-seizes-is tracees p (tracer.Resuming m) (Boot_refused fault) = refl
+seizes-is tracees p tracer.Entry_regs reply = refl
+seizes-is tracees p (tracer.Entry_peek r got w) reply = refl
+seizes-is tracees p (tracer.Entry_set r m) reply = refl
+seizes-is tracees p tracer.Exit_regs reply = refl
+seizes-is tracees p (tracer.Exit_set r y) reply = refl
+seizes-is tracees p (tracer.Exit_peek y replaced got w) reply = refl
+seizes-is tracees p (tracer.Signal_info m) reply = refl
+seizes-is tracees p (tracer.Resuming m) reply = refl
 
 tells-is : (tracees : List ℕ) (r : Reply) → tracees_after tracees tracer.Waiting r ≡ tracees_by_status tracees (told_status r)
 tells-is tracees Agreed = refl

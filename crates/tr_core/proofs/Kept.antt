@@ -12,9 +12,9 @@ use Rattle.lx_abi.specs.declared.status.Stop.TheVariants.{Syscall as Syscall_sto
 use Rattle.lx_model.specs.Kernel.{Script, put}
 use Rattle.pt_model.specs.Parts.{Options}
 use Rattle.lx_model.specs.Finite.{at}
-use Rattle.pt_model.specs.Tracer.{Known, Heard, focus_on, heard, took_stop, told_tracees}
+use Rattle.pt_model.specs.Tracer.{Known, Heard, focus_on, heard, hears, took_stop, told_tracees}
 use Rattle.lx_model.proofs.Bridge.{at-insert}
-use Rattle.tr_core.specs.Hearings.{Comes, LeavesOthers, counts_at, stop_heard, heard_by}
+use Rattle.tr_core.specs.Hearings.{Comes, LeavesOthers, counts_at, stop_heard}
 use Rattle.tr_core.specs.Known.{known_of, new_tracee, place_of}
 use Rattle.tr_core.specs.Pens.{Pen}
 use Rattle.tr_core.specs.Tracers.{Goes, focus_of, known_in}
@@ -72,10 +72,10 @@ status_kept o pid stop was t next bytes pen living old new is comes lives keeps 
 
 pub reply_kept : (o : Options) (script : Script) (pid : ℕ) (place : Awaiting) (reply : Reply) (was t : Tracee) (next : Option Awaiting) (bytes : List ℕ) (counts : Occurrences) (pen : Pen) (old new : Core)
     → was ≡ at new_tracee old.known pid
-    → Comes (heard_by o script pid (known_of was (counts_at old.counts pid)) (place_of place) reply) (known_of t (counts_at counts pid)) next bytes old.printer pen
+    → Comes (hears o script pid (known_of was (counts_at old.counts pid)) (place_of place) reply) (known_of t (counts_at counts pid)) next bytes old.printer pen
     → LeavesOthers pid old.counts counts
     → Keeps pid t next old (record old { counts = counts; printer = pen }) new
-    → Goes (heard (known_in old) pid (heard_by o script pid (known_in old pid) (place_of place) reply)) old.living bytes old new
+    → Goes (heard (known_in old) pid (hears o script pid (known_in old pid) (place_of place) reply)) old.living bytes old new
 reply_kept o script pid place reply was t next bytes counts pen old new is comes others keeps =
-    let c = subst (λ w. Comes (heard_by o script pid (known_of w (counts_at old.counts pid)) (place_of place) reply) (known_of t (counts_at counts pid)) next bytes old.printer pen) is comes in
-    kept (heard_by o script pid (known_in old pid) (place_of place) reply) pid t next bytes counts pen old.living old new c others keeps
+    let c = subst (λ w. Comes (hears o script pid (known_of w (counts_at old.counts pid)) (place_of place) reply) (known_of t (counts_at counts pid)) next bytes old.printer pen) is comes in
+    kept (hears o script pid (known_in old pid) (place_of place) reply) pid t next bytes counts pen old.living old new c others keeps

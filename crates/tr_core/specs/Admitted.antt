@@ -2,71 +2,35 @@
 use Rattle.std.specs.Prelude.{ℕ, ◌==◌, Bool, true, false, cond, ◌&&◌, List, Option, Some, None}
 use Rattle.lx_abi.specs.declared.outcome.Outcome.{Outcome}
 use Rattle.lx_abi.specs.declared.ptrace.Reply.{Reply}
-use Rattle.lx_abi.specs.declared.ptrace.Reply.TheVariants.{Done as Agreed, Status as Status_is}
-use Rattle.lx_abi.specs.declared.ptrace.Reply.TheVariants.{Registers as Registers_are, Bytes as Bytes_are}
-use Rattle.lx_abi.specs.declared.ptrace.Reply.TheVariants.{Message as Message_is, Info as Info_is}
-use Rattle.lx_abi.specs.declared.ptrace.Reply.TheVariants.{Outcome as Outcome_is, Errno as Errno_is}
-use Rattle.lx_abi.specs.declared.ptrace.Reply.TheVariants.{OutOfTurns as Out_of_turns, Refused as Boot_refused}
+use Rattle.lx_abi.specs.declared.ptrace.Reply.TheVariants.{Status as Status_is, Outcome as Outcome_is}
+use Rattle.lx_abi.specs.declared.ptrace.Reply.TheVariants.{Errno as Errno_is, OutOfTurns as Out_of_turns}
 use Rattle.lx_abi.specs.declared.status.Stop.{Stop}
 use Rattle.lx_abi.specs.Errnos.{echild}
 use Rattle.lx_abi.specs.Status.{stop_of}
 use Rattle.lx_model.specs.Kernel.{Script}
 use Rattle.pt_model.specs.Parts.{Options}
 use Rattle.pt_model.specs.Tracer.{Known, Next, Awaiting, Seizing, Waiting, Asking_outcome, Over, Turns_over, stays}
-use Rattle.pt_model.specs.Tracer.{heard, took_status, told_tracees, with_tracee}
+use Rattle.pt_model.specs.Tracer.{heard, hears, says_done, took_status, told_tracees, with_tracee}
 use Rattle.pt_model.specs.Tracer as tracer
-use Rattle.tr_core.specs.Hearings.{heard_by, says_done}
 use Rattle.tr_core.specs.Known.{place_of}
 use Rattle.tr_core.specs.declared.place.Focus.{Focus}
 use Rattle.tr_core.specs.declared.place.Focus.TheVariants as focus
 
 abbrev pub told_status : Reply → Option (ℕ × Option Stop)
-told_status Agreed = None
 told_status (Status_is q status) = Some (q, stop_of status.word)
-told_status (Registers_are regs) = None
-told_status (Bytes_are bytes) = None
-told_status (Message_is q) = None
-told_status (Info_is i) = None
-told_status (Outcome_is x) = None
-told_status (Errno_is n) = None
-told_status Out_of_turns = None
-told_status (Boot_refused fault) = None
+told_status _ = None
 
 abbrev pub says_childless : Reply → Bool
-says_childless Agreed = false
-says_childless (Status_is q status) = false
-says_childless (Registers_are regs) = false
-says_childless (Bytes_are bytes) = false
-says_childless (Message_is q) = false
-says_childless (Info_is i) = false
-says_childless (Outcome_is x) = false
 says_childless (Errno_is n) = n == echild
-says_childless Out_of_turns = false
-says_childless (Boot_refused fault) = false
+says_childless _ = false
 
 abbrev pub says_out : Reply → Bool
-says_out Agreed = false
-says_out (Status_is q status) = false
-says_out (Registers_are regs) = false
-says_out (Bytes_are bytes) = false
-says_out (Message_is q) = false
-says_out (Info_is i) = false
-says_out (Outcome_is x) = false
-says_out (Errno_is n) = false
 says_out Out_of_turns = true
-says_out (Boot_refused fault) = false
+says_out _ = false
 
 abbrev pub told_outcome : Reply → Option Outcome
-told_outcome Agreed = None
-told_outcome (Status_is q status) = None
-told_outcome (Registers_are regs) = None
-told_outcome (Bytes_are bytes) = None
-told_outcome (Message_is q) = None
-told_outcome (Info_is i) = None
 told_outcome (Outcome_is x) = Some x
-told_outcome (Errno_is n) = None
-told_outcome Out_of_turns = None
-told_outcome (Boot_refused fault) = None
+told_outcome _ = None
 
 abbrev pub waits_by : Options → (ℕ → Known) → Option (ℕ × Option Stop) → Bool → Bool → Next
 waits_by o known (Some told) childless out = took_status o known told.0 told.1
@@ -80,18 +44,11 @@ tracees_by_status tracees None = tracees
 
 abbrev pub serves_by : Options → Script → (ℕ → Known) → ℕ → Awaiting → Reply → Bool → Next
 serves_by o script known p place reply true = stays known Turns_over
-serves_by o script known p place reply false = heard known p (heard_by o script p (known p) place reply)
+serves_by o script known p place reply false = heard known p (hears o script p (known p) place reply)
 
 abbrev pub is_seizing : Awaiting → Bool
 is_seizing Seizing = true
-is_seizing tracer.Entry_regs = false
-is_seizing (tracer.Entry_peek r got w) = false
-is_seizing (tracer.Entry_set r n) = false
-is_seizing tracer.Exit_regs = false
-is_seizing (tracer.Exit_set r x) = false
-is_seizing (tracer.Exit_peek x replaced got w) = false
-is_seizing (tracer.Signal_info n) = false
-is_seizing (tracer.Resuming n) = false
+is_seizing _ = false
 
 abbrev pub tracees_by_reply : List ℕ → ℕ → Bool → List ℕ
 tracees_by_reply tracees p seized = cond seized (with_tracee tracees p) tracees

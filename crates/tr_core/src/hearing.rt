@@ -12,8 +12,9 @@ ghost use Rattle.tr_core.specs.Settings.{options_of, script_of};
 ghost use Rattle.tr_core.specs.Known.{known_of, place_of};
 ghost use Rattle.lx_abi.specs.Occurrences.{count_of};
 ghost use Rattle.tr_core.specs.Pens.{Pen, wrote, pen_after};
-ghost use Rattle.tr_core.specs.Hearings.{Comes, LeavesOthers, counts_at, going_on, regs_in, told_info, says_done};
-ghost use Rattle.tr_core.specs.Hearings.{at_entry_regs, at_exit_regs, at_exit_set, at_entry_set, at_info, heard_by};
+ghost use Rattle.tr_core.specs.Hearings.{Comes, LeavesOthers, counts_at, going_on};
+ghost use Rattle.pt_model.specs.Tracer.{regs_in, told_info, says_done, hears};
+ghost use Rattle.pt_model.specs.Tracer.{at_entry_regs, at_exit_regs, at_exit_set, at_entry_set, at_info};
 ghost use Rattle.tr_core.specs.Hearings.{stop_heard};
 
 use crate::place::{Awaiting, Tracee};
@@ -616,7 +617,7 @@ pub(crate) fn hear(
 ) -> Result<Heard, AllocError>
     ensures heard { IfOk result
         (λ h. Comes
-        (heard_by (options_of settings.now) (script_of settings.now) pid
+        (hears (options_of settings.now) (script_of settings.now) pid
         (known_of tracee.old (counts_at counts.old pid)) (place_of place) reply)
         (known_of tracee.new (counts_at counts.new pid)) h.next h.bytes printer.old printer.new) }
     ensures others { OnOk result (LeavesOthers pid counts.old counts.new) }

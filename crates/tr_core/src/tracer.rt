@@ -5,8 +5,8 @@ ghost use Rattle.lx_model.specs.Finite.{at};
 ghost use Rattle.tr_core.specs.Known.{new_tracee};
 ghost use Rattle.std.specs.FinMap as maps;
 ghost use Rattle.std.specs.Option.{option_map};
-ghost use Rattle.pt_model.specs.Tracer.{asked_options as options_asked, asks, request, focus_on, told_tracees, took_stop, heard, stays};
-ghost use Rattle.tr_core.specs.Hearings.{heard_by, says_done};
+ghost use Rattle.pt_model.specs.Tracer.{asked_options as options_asked, asks, request, focus_on, told_tracees};
+ghost use Rattle.pt_model.specs.Tracer.{took_stop, heard, hears, says_done, stays};
 ghost use Rattle.tr_core.specs.Settings.{first_pen, options_by, options_of, script_of};
 ghost use Rattle.tr_core.specs.Known.{place_of};
 ghost use Rattle.tr_core.specs.Tracers.{admits_in, focus_of, known_in, state_of, Goes, Steps};
@@ -134,7 +134,7 @@ fn hear_reply(core: &mut Core, pid: u32, place: Awaiting, reply: Reply) -> Resul
     ensures { IfOk result
         (λ b. Goes
         (heard (known_in core.old) pid
-        (heard_by (options_of core.old.settings) (script_of core.old.settings) pid (known_in core.old pid)
+        (hears (options_of core.old.settings) (script_of core.old.settings) pid (known_in core.old pid)
         (place_of place) reply)) core.old.living b core.old core.new) }
 {
     let mut tracee = tracee_at(&core.known, pid);
