@@ -1,10 +1,10 @@
 -- What is looked at first is the definition.
-use Rattle.std.proofs.Common.{◌≡◌, ℕ, Bool, true, false, cond, ◌&&◌, List, None, refl, ap}
+use Rattle.std.proofs.Common.{◌≡◌, ℕ, Bool, true, false, cond, ◌&&◌, List, None, refl}
 use Rattle.lx_abi.specs.declared.ptrace.Reply.{Reply}
 use Rattle.lx_abi.specs.declared.ptrace.Reply.TheVariants.{Done as Agreed, Status as Status_is, Registers as Registers_are, Bytes as Bytes_are, Message as Message_is, Info as Info_is, Outcome as Outcome_is, Errno as Errno_is, OutOfTurns as Out_of_turns, Refused as Boot_refused}
 use Rattle.lx_model.specs.Kernel.{Script}
 use Rattle.pt_model.specs.Parts.{Options}
-use Rattle.pt_model.specs.Tracer.{Known, Next, Awaiting, Seizing, heard, hears, next_at, tracees_after, with_tracee, admits_at}
+use Rattle.pt_model.specs.Tracer.{Known, Next, Awaiting, Seizing, heard, says_done, next_at, tracees_after, admits_at}
 use Rattle.pt_model.specs.Tracer as tracer
 use Rattle.tr_core.specs.Known.{place_of}
 use Rattle.tr_core.specs.Tracers.{focus_of}

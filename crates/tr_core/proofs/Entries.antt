@@ -1,5 +1,5 @@
 -- A call that is entered.
-use Rattle.std.proofs.Common.{◌≡◌, ℕ, ◌+◌, Bool, true, false, cond, ◌&&◌, List, [], Option, Some, None, refl, sym, ap, ap₂, subst, ◌∙◌, arith}
+use Rattle.std.proofs.Common.{◌≡◌, ℕ, ◌+◌, Bool, true, false, cond, ◌&&◌, List, Option, Some, None, refl, sym, ap, ap₂, subst, ◌∙◌, arith}
 use Rattle.std.specs.Prelude.{◌==◌, if◌then◌else◌}
 use Rattle.std.proofs.lemmas.Bool.Decides.{nat_tests}
 use mathlib.Core.Path.{fun_ext}
@@ -13,10 +13,14 @@ use Rattle.pt_model.specs.declared.standing.Standing.TheVariants.{Read}
 use Rattle.pt_model.specs.Tracer.{Known, Heard, opened, entry, entry_with, signal_word, moves, stands_at}
 use Rattle.pt_model.specs.Tracer as tracer
 use Rattle.lx_model.specs.Turn.{result_word}
-use Rattle.tr_core.specs.Hearings.{Comes, going_on}
+use Rattle.lx_abi.specs.Occurrences.{count_of}
+use Rattle.tr_core.specs.Hearings.{Comes, counts_at, going_on, known_at}
 use Rattle.tr_core.specs.Known.{known_of, place_of}
-use Rattle.tr_core.specs.Pens.{Pen, wrote as wrote_of, pen_after}
+use Rattle.tr_core.specs.Pens.{wrote as wrote_of, pen_after}
+use Rattle.tr_core.specs.declared.heard.Heard.{Heard as CodeHeard}
 use Rattle.tr_core.specs.declared.place.Awaiting.{Awaiting}
+use Rattle.tr_core.specs.declared.session.InHand.{InHand}
+use Rattle.tr_core.specs.declared.session.Session.{Session}
 use Rattle.tr_core.specs.declared.place.Tracee.{Tracee}
 
 abbrev heard_at : Options → ℕ → Regs → List (List ℕ) → Known → ℕ → Option ℕ → Heard
@@ -41,47 +45,62 @@ counted f g pid number h = fun_ext (λ n. go n (pid == pid) (grind (arith, nat_t
         let here : f number ≡ f n = ap f same in
         omega (arith, k, here)
 
+-- what is counted of others stays
+pub others_stay : (pid number q n a b : ℕ) → (pid == q) ≡ false → a ≡ (if (q == pid) && (n == number) then 1 else 0) + b → a ≡ b
+others_stay pid number q n a b e h = go (q == pid) (n == number) (grind (arith, nat_tests, e)) h
+  where
+    go : (x y : Bool) → x ≡ false → a ≡ (if x && y then 1 else 0) + b → a ≡ b
+    go true y i k = absurd (cc i)
+    go false y i k = omega (arith, k)
+
 -- the code's step is the definition's
-pub entered : (o : Options) (script : Script) (p : ℕ) (r : Regs) (got : List (List ℕ)) (t : Tracee) (f g : ℕ → ℕ) (call : Call) (choice : Choice) (saved : Option ℕ) (signal : ℕ) (next : Awaiting) (bytes : List ℕ) (old new : Pen)
+pub entered : (o : Options) (script : Script) (r : Regs) (got : List (List ℕ)) (s s' : Session) (t : InHand) (call : Call) (choice : Choice) (saved : Option ℕ) (signal : ℕ) (next : Awaiting) (bytes : List ℕ)
     → call ≡ call_of r
-    → choice ≡ script call.number (f call.number + 1)
+    → choice ≡ script call.number (count_of s.counts t.pid call.number + 1)
     → saved ≡ result_word choice
     → signal ≡ signal_word choice.signal
     → place_of next ≡ going_on r signal saved
-    → ((n : ℕ) → g n ≡ (if (p == p) && (n == call.number) then 1 else 0) + f n)
-    → bytes ≡ wrote_of old (enter_part o p call (sp_of r) got)
-    → new ≡ pen_after old (enter_part o p call (sp_of r) got)
-    → Comes (entry o script p r got (known_of t f)) (known_of (record { inside = t.inside; called = call; saved = saved; standing = Read }) g) (Some next) bytes old new
-entered o script p r got t f g call choice saved signal next bytes old new is chosen saves joins goes counts wrote pen =
-    let k : Known = known_of t f in
+    → ((q n : ℕ) → count_of s'.counts q n ≡ (if (q == t.pid) && (n == call.number) then 1 else 0) + count_of s.counts q n)
+    → bytes ≡ wrote_of s.printer (enter_part o t.pid call (sp_of r) got)
+    → s'.printer ≡ pen_after s.printer (enter_part o t.pid call (sp_of r) got)
+    → s'.settings ≡ s.settings
+    → Comes (entry o script t.pid r got (known_at s t)) (record { next = Some next; bytes = bytes }) s s' t
+    (record { pid = t.pid; tracee = record { inside = t.tracee.inside; called = call; saved = saved; standing = Read } })
+entered o script r got s s' t call choice saved signal next bytes is chosen saves joins goes counts wrote pen same =
+    let p = t.pid in
+    let k : Known = known_at s t in
+    let f : ℕ → ℕ = counts_at s.counts p in
+    let g : ℕ → ℕ = counts_at s'.counts p in
     let c : Choice = script (a7_of r) (f (a7_of r) + 1) in
     let chosen' : choice ≡ c = chosen ∙ ap (λ x. script x.number (f x.number + 1)) is in
     let all : entry o script p r got k ≡ heard_at o p r got k signal saved =
     ap₂ (λ s x. entry_with o p r got k s x) (ap (λ x. signal_word x.signal) (sym chosen') ∙ sym joins) (ap (λ x. result_word x) (sym chosen') ∙ sym saves)
     ∙ entry_with-is o p r got k signal saved in
-    let counts' : put f (a7_of r) (f (a7_of r) + 1) ≡ g = counted f g p (a7_of r) (λ n. counts n ∙ ap (λ x. (if (p == p) && (n == x.number) then 1 else 0) + f n) is) in
-    subst (λ h. Comes h (known_of (record { inside = t.inside; called = call; saved = saved; standing = Read }) g) (Some next) bytes old new) (sym all)
+    let counts' : put f (a7_of r) (f (a7_of r) + 1) ≡ g = counted f g p (a7_of r) (λ n. counts p n ∙ ap (λ x. (if (p == p) && (n == x.number) then 1 else 0) + f n) is) in
+    let after : Tracee = record { inside = t.tracee.inside; called = call; saved = saved; standing = Read } in
+    subst (λ h. Comes h (record { next = Some next; bytes = bytes }) s s' t (record { pid = p; tracee = after })) (sym all)
     (record {
-      known = λ i. record { inside = t.inside; called = sym is i; saved = saved; counts = counts' i; standing = Read };
+      known = λ i. record { inside = t.tracee.inside; called = sym is i; saved = saved; counts = counts' i; standing = Read };
       place = ap (λ x. Some x) (sym goes);
-      text = wrote ∙ ap (λ x. wrote_of old (enter_part o p x (sp_of r) got)) is;
-      pen = pen ∙ ap (λ x. pen_after old (enter_part o p x (sp_of r) got)) is;
+      text = wrote ∙ ap (λ x. wrote_of s.printer (enter_part o p x (sp_of r) got)) is;
+      pen = pen ∙ ap (λ x. pen_after s.printer (enter_part o p x (sp_of r) got)) is;
+      others = λ q n e. others_stay p call.number q n _ _ e (counts q n);
+      settings = same;
+      pid = refl;
     })
 
--- more is read
-pub more : (k : Known) (place : Awaiting) (bytes : List ℕ) (pen : Pen) → bytes ≡ [] → Comes (moves k (place_of place)) k (Some place) bytes pen pen
-unfolding wrote_of pen_after
-more k place bytes pen e = record { known = refl; place = refl; text = e; pen = refl }
-
--- the same where the place is known by what it stands for
-pub more_of : (k : Known) (place : Awaiting) (asked : tracer.Awaiting) (bytes : List ℕ) (pen : Pen) → place_of place ≡ asked → bytes ≡ []
-    → Comes (moves k asked) k (Some place) bytes pen pen
-unfolding wrote_of pen_after
-more_of k place asked bytes pen p e = record { known = refl; place = ap (λ l. Some l) (sym p); text = e; pen = refl }
-
 -- the same at what the code knows
-pub stops : (k m : Known) (pl ql : tracer.Awaiting) (next : Option Awaiting) (bytes : List ℕ) (pen : Pen) → m ≡ k → ql ≡ pl → Comes (moves m ql) m next bytes pen pen → Comes (moves k pl) m next bytes pen pen
-stops k m pl ql next bytes pen e f h = subst (λ p. Comes (moves k p) m next bytes pen pen) f (subst (λ l. Comes (moves l ql) m next bytes pen pen) e h)
+pub stops : (k m : Known) (pl ql : tracer.Awaiting) (told : CodeHeard) (s : Session) (was is : InHand) → m ≡ k → ql ≡ pl
+    → is.pid ≡ was.pid → Comes (moves m ql) told s s is is → Comes (moves k pl) told s s was is
+stops k m pl ql told s was is e f same h = record {
+  known = sym e ∙ h.known ∙ ap (λ p. known_of is.tracee (counts_at s.counts p)) same;
+  place = ap (λ l. Some l) (sym f) ∙ h.place;
+  text = h.text;
+  pen = h.pen;
+  others = λ q n x. refl;
+  settings = refl;
+  pid = same;
+}
 
 pub stands : (t : Tracee) (s : Standing) (m : Standing) (counts : ℕ → ℕ) → s ≡ m → known_of (record { inside = t.inside; called = t.called; saved = t.saved; standing = s }) counts ≡ stands_at (known_of t counts) m
 stands t s m counts e = ap (λ x. stands_at (known_of t counts) x) e

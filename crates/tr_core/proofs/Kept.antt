@@ -16,9 +16,11 @@ use Rattle.pt_model.specs.Tracer.{Known, Heard, focus_on, heard, hears, took_sto
 use Rattle.lx_model.proofs.Bridge.{at-insert}
 use Rattle.tr_core.specs.Hearings.{Comes, LeavesOthers, counts_at, stop_heard}
 use Rattle.tr_core.specs.Known.{known_of, new_tracee, place_of}
-use Rattle.tr_core.specs.Pens.{Pen}
 use Rattle.tr_core.specs.Tracers.{Goes, focus_of, known_in}
 use Rattle.lx_abi.specs.declared.occurrences.Occurrences.{Occurrences}
+use Rattle.tr_core.specs.declared.heard.Heard.{Heard as CodeHeard}
+use Rattle.tr_core.specs.declared.session.InHand.{InHand}
+use Rattle.tr_core.specs.declared.session.Session.{Session}
 use Rattle.tr_core.specs.declared.place.Awaiting.{Awaiting}
 use Rattle.tr_core.specs.declared.place.Tracee.{Tracee}
 use Rattle.tr_core.specs.declared.tracer.Core.{Core}
@@ -34,22 +36,23 @@ put_in m old new pid t k others e = fun_ext (λ q. ap (λ x. known_of x (counts_
     go q false i = ap (λ c. known_of (at new_tracee m q) c) (fun_ext (λ n. others q n i))
 
 -- a core whose tracee was kept
-pub record Keeps (pid : ℕ) (t : Tracee) (next : Option Awaiting) (old mid new : Core) : Type 0 where
-  pub known : new.known ≡ maps.insert old.known pid t
-  pub focus : focus_of new.focus ≡ focus_on pid (option_map place_of next)
-  pub rest : (new.settings ≡ mid.settings) × (new.counts ≡ mid.counts) × (new.living ≡ mid.living) × (new.printer ≡ mid.printer)
+pub record Keeps (hand : InHand) (next : Option Awaiting) (old mid new : Core) : Type 0 where
+  pub known : new.known ≡ maps.insert old.known hand.pid hand.tracee
+  pub focus : focus_of new.focus ≡ focus_on hand.pid (option_map place_of next)
+  pub rest : (new.session ≡ mid.session) × (new.living ≡ mid.living)
 
-pub kept : (h : Heard) (pid : ℕ) (t : Tracee) (next : Option Awaiting) (bytes : List ℕ) (counts : Occurrences) (pen : Pen) (living : List ℕ) (old new : Core)
-    → Comes h (known_of t (counts_at counts pid)) next bytes old.printer pen → LeavesOthers pid old.counts counts
-    → Keeps pid t next old (record old { counts = counts; printer = pen; living = living }) new
-    → Goes (heard (known_in old) pid h) living bytes old new
-kept h pid t next bytes counts pen living old new comes others keeps = record {
-  known = ap₂ (λ m c. λ q. known_of (at new_tracee m q) (counts_at c q)) keeps.known keeps.rest.1 ∙ put_in old.known old.counts counts pid t h.known others comes.known;
-  focus = keeps.focus ∙ ap (focus_on pid) (sym comes.place);
-  living = keeps.rest.2;
+pub kept : (h : Heard) (was is : InHand) (told : CodeHeard) (session : Session) (living : List ℕ) (old new : Core)
+    → Comes h told old.session session was is
+    → Keeps is told.next old (record old { session = session; living = living }) new
+    → Goes (heard (known_in old) was.pid h) living told.bytes old new
+kept h was is told session living old new comes keeps = record {
+  known = ap₂ (λ m (s : Session). λ q. known_of (at new_tracee m q) (counts_at s.counts q)) (keeps.known ∙ ap (λ p. maps.insert old.known p is.tracee) comes.pid) keeps.rest.0
+      ∙ put_in old.known old.session.counts session.counts was.pid is.tracee h.known comes.others comes.known;
+  focus = keeps.focus ∙ ap₂ focus_on comes.pid (sym comes.place);
+  living = keeps.rest.1;
   text = comes.text;
-  pen = keeps.rest.3 ∙ comes.pen;
-  settings = keeps.rest.0;
+  pen = ap (λ (s : Session). s.printer) keeps.rest.0 ∙ comes.pen;
+  settings = ap (λ (s : Session). s.settings) keeps.rest.0 ∙ comes.settings;
 }
 
 took_stop-is : (o : Options) (known : ℕ → Known) (p : ℕ) (stop : Stop) → took_stop o known p stop ≡ heard known p (stop_heard o p (known p) stop)
@@ -58,24 +61,25 @@ took_stop-is o known p (Signal_stop signal) = refl
 took_stop-is o known p (Event_stop event) = refl
 took_stop-is o known p (Ended word) = refl
 
-pub status_kept : (o : Options) (pid : ℕ) (stop : Stop) (was t : Tracee) (next : Option Awaiting) (bytes : List ℕ) (pen : Pen) (living : List ℕ) (old new : Core)
+pub status_kept : (o : Options) (pid : ℕ) (stop : Stop) (was : Tracee) (is : InHand) (told : CodeHeard) (session : Session) (living : List ℕ) (old new : Core)
     → was ≡ at new_tracee old.known pid
-    → ((counts : ℕ → ℕ) → Comes (stop_heard o pid (known_of was counts) stop) (known_of t counts) next bytes old.printer pen)
+    → Comes (stop_heard o pid (known_of was (counts_at old.session.counts pid)) stop) told old.session session (record { pid = pid; tracee = was }) is
     → living ≡ told_tracees old.living pid (Some stop)
-    → Keeps pid t next old (record old { printer = pen; living = living }) new
-    → Goes (took_stop o (known_in old) pid stop) (told_tracees old.living pid (Some stop)) bytes old new
-status_kept o pid stop was t next bytes pen living old new is comes lives keeps =
-    let c = subst (λ w. Comes (stop_heard o pid (known_of w (counts_at old.counts pid)) stop) (known_of t (counts_at old.counts pid)) next bytes old.printer pen) is (comes (counts_at old.counts pid)) in
-    subst (λ n. Goes n (told_tracees old.living pid (Some stop)) bytes old new) (sym (took_stop-is o (known_in old) pid stop))
-    (subst (λ l. Goes (heard (known_in old) pid (stop_heard o pid (known_in old pid) stop)) l bytes old new) lives
-    (kept (stop_heard o pid (known_in old pid) stop) pid t next bytes old.counts pen living old new c (λ q n e. refl) keeps))
+    → Keeps is told.next old (record old { session = session; living = living }) new
+    → Goes (took_stop o (known_in old) pid stop) (told_tracees old.living pid (Some stop)) told.bytes old new
+status_kept o pid stop was is told session living old new e comes lives keeps =
+    let there = at new_tracee old.known pid in
+    let c = subst (λ w. Comes (stop_heard o pid (known_of w (counts_at old.session.counts pid)) stop) told old.session session (record { pid = pid; tracee = w }) is) e comes in
+    subst (λ n. Goes n (told_tracees old.living pid (Some stop)) told.bytes old new) (sym (took_stop-is o (known_in old) pid stop))
+    (subst (λ l. Goes (heard (known_in old) pid (stop_heard o pid (known_in old pid) stop)) l told.bytes old new) lives
+    (kept (stop_heard o pid (known_in old pid) stop) (record { pid = pid; tracee = there }) is told session living old new c keeps))
 
-pub reply_kept : (o : Options) (script : Script) (pid : ℕ) (place : Awaiting) (reply : Reply) (was t : Tracee) (next : Option Awaiting) (bytes : List ℕ) (counts : Occurrences) (pen : Pen) (old new : Core)
+pub reply_kept : (o : Options) (script : Script) (pid : ℕ) (place : Awaiting) (reply : Reply) (was : Tracee) (is : InHand) (told : CodeHeard) (session : Session) (old new : Core)
     → was ≡ at new_tracee old.known pid
-    → Comes (hears o script pid (known_of was (counts_at old.counts pid)) (place_of place) reply) (known_of t (counts_at counts pid)) next bytes old.printer pen
-    → LeavesOthers pid old.counts counts
-    → Keeps pid t next old (record old { counts = counts; printer = pen }) new
-    → Goes (heard (known_in old) pid (hears o script pid (known_in old pid) (place_of place) reply)) old.living bytes old new
-reply_kept o script pid place reply was t next bytes counts pen old new is comes others keeps =
-    let c = subst (λ w. Comes (hears o script pid (known_of w (counts_at old.counts pid)) (place_of place) reply) (known_of t (counts_at counts pid)) next bytes old.printer pen) is comes in
-    kept (hears o script pid (known_in old pid) (place_of place) reply) pid t next bytes counts pen old.living old new c others keeps
+    → Comes (hears o script pid (known_of was (counts_at old.session.counts pid)) (place_of place) reply) told old.session session (record { pid = pid; tracee = was }) is
+    → Keeps is told.next old (record old { session = session }) new
+    → Goes (heard (known_in old) pid (hears o script pid (known_in old pid) (place_of place) reply)) old.living told.bytes old new
+reply_kept o script pid place reply was is told session old new e comes keeps =
+    let there = at new_tracee old.known pid in
+    let c = subst (λ w. Comes (hears o script pid (known_of w (counts_at old.session.counts pid)) (place_of place) reply) told old.session session (record { pid = pid; tracee = w }) is) e comes in
+    kept (hears o script pid (known_in old pid) (place_of place) reply) (record { pid = pid; tracee = there }) is told session old.living old new c keeps

@@ -70,20 +70,20 @@ fine o script known tracees focus.Faulted r e = absurd (cc e)
 took : ℕ → Core → Reply → Moved
 took taken c r = record {
   tracer = record {
-    known = (next_by (options_of c.settings) (script_of c.settings) (known_in c) c.focus r).known;
+    known = (next_by (options_of c.session.settings) (script_of c.session.settings) (known_in c) c.focus r).known;
     tracees = tracees_by c.living c.focus r;
-    focus = (next_by (options_of c.settings) (script_of c.settings) (known_in c) c.focus r).focus;
+    focus = (next_by (options_of c.session.settings) (script_of c.session.settings) (known_in c) c.focus r).focus;
     taken = suc taken;
   };
-  printed = (next_by (options_of c.settings) (script_of c.settings) (known_in c) c.focus r).printed;
+  printed = (next_by (options_of c.session.settings) (script_of c.session.settings) (known_in c) c.focus r).printed;
 }
 
 took-is : (taken : ℕ) (c : Core) (r : Reply) → admits_in c r ≡ true
-    → tracer.next (options_of c.settings) (script_of c.settings) (tracer_in c taken) r ≡ took taken c r
+    → tracer.next (options_of c.session.settings) (script_of c.session.settings) (tracer_in c taken) r ≡ took taken c r
 unfolding took
 took-is taken c r e =
-    let o = options_of c.settings in
-    let script = script_of c.settings in
+    let o = options_of c.session.settings in
+    let script = script_of c.session.settings in
     let t = tracer_in c taken in
     ap (λ x. cond x (takes t t.focus r (next_at o script t.known t.focus r)) (faults t)) e
     ∙ (λ i. record {
@@ -97,7 +97,7 @@ took-is taken c r e =
     })
 
 pub stepped : (taken : ℕ) (old new : Core) (r : Reply) (bytes : List ℕ) → admits_in old r ≡ true
-    → Goes (next_by (options_of old.settings) (script_of old.settings) (known_in old) old.focus r)
+    → Goes (next_by (options_of old.session.settings) (script_of old.session.settings) (known_in old) old.focus r)
     (tracees_by old.living old.focus r) bytes (record old { focus = focus.Faulted }) new
     → Steps taken old r (Some bytes) new
 unfolding heard said moved admitted is_faulted took
@@ -109,21 +109,21 @@ stepped taken old new r bytes e g =
         options = options_of (g.settings i);
         script = script_of (g.settings i);
         tracer = (now ∙ ap (λ (x : Moved). x.tracer) (sym m)) i;
-        pen = (g.pen ∙ ap (λ (x : Moved). pen_after old.printer x.printed) (sym m)) i;
+        pen = (g.pen ∙ ap (λ (x : Moved). pen_after old.session.printer x.printed) (sym m)) i;
         failed = false;
       }),
       e,
       ap (λ (t : Tracer). is_faulted_at t.focus) now
-          ∙ fine (options_of old.settings) (script_of old.settings) (known_in old) old.living old.focus r e,
-      g.text ∙ ap (λ (x : Moved). wrote old.printer x.printed) (sym m),
+          ∙ fine (options_of old.session.settings) (script_of old.session.settings) (known_in old) old.living old.focus r e,
+      g.text ∙ ap (λ (x : Moved). wrote old.session.printer x.printed) (sym m),
     )
 
 pub refused_step : (taken : ℕ) (old : Core) (r : Reply) → admits_in old r ≡ false
     → Steps taken old r None (record old { focus = focus.Faulted })
 unfolding heard said moved admitted pen_after
 refused_step taken old r e =
-    let o = options_of old.settings in
-    let script = script_of old.settings in
+    let o = options_of old.session.settings in
+    let script = script_of old.session.settings in
     let t = tracer_in old taken in
     let m : tracer.next o script t r ≡ faults t =
     ap (λ x. cond x (takes t t.focus r (next_at o script t.known t.focus r)) (faults t)) e in (
@@ -131,7 +131,7 @@ refused_step taken old r e =
         options = o;
         script = script;
         tracer = ap (λ (x : Moved). x.tracer) (sym m) i;
-        pen = ap (λ (x : Moved). pen_after old.printer x.printed) (sym m) i;
+        pen = ap (λ (x : Moved). pen_after old.session.printer x.printed) (sym m) i;
         failed = false;
       }),
       e,
@@ -146,23 +146,23 @@ fresh known counts e h = fun_ext (λ p. ap (λ m. known_of (at new_tracee m p) (
 -- with the focus taken out
 pub stepped_by : (taken : ℕ) (old new : Core) (r : Reply) (bytes : List ℕ) (f here : Focus) → f ≡ old.focus
     → here ≡ focus.Faulted → admits_in old r ≡ true
-    → Goes (next_by (options_of old.settings) (script_of old.settings) (known_in old) f r) (tracees_by old.living f r) bytes (record old { focus = here }) new
+    → Goes (next_by (options_of old.session.settings) (script_of old.session.settings) (known_in old) f r) (tracees_by old.living f r) bytes (record old { focus = here }) new
     → Steps taken old r (Some bytes) new
 stepped_by taken old new r bytes f here is none e g =
     stepped taken old new r bytes e
-    (subst (λ x. Goes (next_by (options_of old.settings) (script_of old.settings) (known_in old) old.focus r) (tracees_by old.living old.focus r) bytes (record old { focus = x }) new) none
-    (subst (λ x. Goes (next_by (options_of old.settings) (script_of old.settings) (known_in old) x r) (tracees_by old.living x r) bytes (record old { focus = here }) new) is g))
+    (subst (λ x. Goes (next_by (options_of old.session.settings) (script_of old.session.settings) (known_in old) old.focus r) (tracees_by old.living old.focus r) bytes (record old { focus = x }) new) none
+    (subst (λ x. Goes (next_by (options_of old.session.settings) (script_of old.session.settings) (known_in old) x r) (tracees_by old.living x r) bytes (record old { focus = here }) new) is g))
 
 -- what a call of next answers
 
 pub hears_ok : (taken : ℕ) (old new : Core) (failed : Bool) (r : Reply) (bytes : List ℕ) (act : Act) → failed ≡ false
     → Steps taken old r (Some bytes) new
-    → act ≡ act_of (tracer.request (options_of new.settings) (focus_of new.focus)) bytes
+    → act ≡ act_of (tracer.request (options_of new.session.settings) (focus_of new.focus)) bytes
     → Hears (state_in old taken failed) r (Ok act) (state_in new (taken + 1) failed)
 unfolding Hears request_of
 hears_ok taken old new failed r bytes act e h is =
     subst (λ b. Hears (state_in old taken b) r (Ok act) (state_in new (taken + 1) b)) (sym e)
-    (refl, h.0, h.1, h.2, is ∙ ap (act_of (tracer.request (options_of new.settings) (focus_of new.focus))) h.3)
+    (refl, h.0, h.1, h.2, is ∙ ap (act_of (tracer.request (options_of new.session.settings) (focus_of new.focus))) h.3)
 
 pub hears_refusal : (taken : ℕ) (old new : Core) (failed : Bool) (r : Reply) → failed ≡ false
     → Steps taken old r None new → Hears (state_in old taken failed) r (Err Inadmissible) (state_in new taken failed)

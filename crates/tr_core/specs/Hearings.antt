@@ -1,5 +1,5 @@
 -- What the code makes of a reply, as the definitions have it.
-use Rattle.std.specs.Prelude.{◌≡◌, ◌==◌, ℕ, false, List, [], ◌∷◌, Option, Some, None}
+use Rattle.std.specs.Prelude.{◌≡◌, ◌==◌, ℕ, false, [], ◌∷◌, Option, Some, None}
 use Rattle.std.specs.Option.{option_map}
 use Rattle.lx_model.specs.Machine.{Regs, with_a7, no_call}
 use Rattle.pt_model.specs.Parts.{Options, Part_exit}
@@ -10,11 +10,13 @@ use Rattle.lx_abi.specs.declared.status.Stop.TheVariants.{Syscall as Syscall_sto
 use Rattle.lx_abi.specs.declared.status.Stop.TheVariants.{Event as Event_stop, Ended}
 use Rattle.pt_model.specs.declared.standing.Standing.TheVariants.{AfterSignal as After_signal, AtEnd as At_end}
 use Rattle.pt_model.specs.Tracer as tracer
-use Rattle.tr_core.specs.declared.place.Awaiting.{Awaiting}
-use Rattle.tr_core.specs.Known.{place_of}
+use Rattle.tr_core.specs.declared.heard.Heard.{Heard as CodeHeard}
+use Rattle.tr_core.specs.declared.session.InHand.{InHand}
+use Rattle.tr_core.specs.declared.session.Session.{Session}
+use Rattle.tr_core.specs.Known.{known_of, place_of}
 use Rattle.lx_abi.specs.Occurrences.{count_of}
 use Rattle.lx_abi.specs.declared.occurrences.Occurrences.{Occurrences}
-use Rattle.tr_core.specs.Pens.{Pen, wrote, pen_after}
+use Rattle.tr_core.specs.Pens.{wrote, pen_after}
 
 -- how often a process has entered each call
 abbrev pub counts_at : Occurrences → ℕ → ℕ → ℕ
@@ -24,12 +26,19 @@ counts_at o pid n = count_of o pid n
 abbrev pub LeavesOthers : ℕ → Occurrences → Occurrences → Type 0
 LeavesOthers pid old new = (q n : ℕ) → (pid == q) ≡ false → count_of new q n ≡ count_of old q n
 
--- this is known, asked next and printed
-pub record Comes (m : Heard) (k : Known) (next : Option Awaiting) (bytes : List ℕ) (old new : Pen) : Type 0 where
-  pub known : m.known ≡ k
-  pub place : m.next ≡ option_map place_of next
-  pub text : bytes ≡ wrote old m.printed
-  pub pen : new ≡ pen_after old m.printed
+-- what is known of the tracee in hand
+abbrev pub known_at : Session → InHand → Known
+known_at s t = known_of t.tracee (counts_at s.counts t.pid)
+
+-- this is known of it, asked next and printed, and nothing else has changed
+pub record Comes (m : Heard) (told : CodeHeard) (old new : Session) (was is : InHand) : Type 0 where
+  pub known : m.known ≡ known_of is.tracee (counts_at new.counts was.pid)
+  pub place : m.next ≡ option_map place_of told.next
+  pub text : told.bytes ≡ wrote old.printer m.printed
+  pub pen : new.printer ≡ pen_after old.printer m.printed
+  pub others : LeavesOthers was.pid old.counts new.counts
+  pub settings : new.settings ≡ old.settings
+  pub pid : is.pid ≡ was.pid
 
 -- from an entry stop
 abbrev pub going_on : Regs → ℕ → Option ℕ → tracer.Awaiting

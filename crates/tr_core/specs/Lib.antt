@@ -2,6 +2,7 @@ pub mod Known
 pub mod Faults
 pub mod Settings
 pub mod Hearings
+pub mod Crossings
 pub mod Pens
 pub mod States
 pub mod Outcomes

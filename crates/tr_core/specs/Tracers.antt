@@ -17,7 +17,7 @@ use Rattle.tr_core.specs.declared.place.Focus.TheVariants.{TurnsOver, Faulted}
 
 -- what is known of each process
 abbrev pub known_in : Core → ℕ → Known
-known_in c q = known_of (at new_tracee c.known q) (counts_at c.counts q)
+known_in c q = known_of (at new_tracee c.known q) (counts_at c.session.counts q)
 
 abbrev pub focus_of : Focus → tracer.Focus
 focus_of Booting = tracer.Booting
@@ -36,10 +36,10 @@ tracer_in c taken = record { known = known_in c; tracees = c.living; focus = foc
 abbrev pub state_in : Core → ℕ → Bool → State
 state_in c taken failed =
     record {
-      options = options_of c.settings;
-      script = script_of c.settings;
+      options = options_of c.session.settings;
+      script = script_of c.session.settings;
       tracer = tracer_in c taken;
-      pen = c.printer;
+      pen = c.session.printer;
       failed = failed;
     }
 
@@ -48,16 +48,16 @@ unfoldable pub state_of : CodeTracer → State
 state_of t = state_in t.core t.taken t.failed
 
 abbrev pub admits_in : Core → Reply → Bool
-admits_in c r = admits_at (options_of c.settings) (known_in c) c.living (focus_of c.focus) r
+admits_in c r = admits_at (options_of c.session.settings) (known_in c) c.living (focus_of c.focus) r
 
 -- A step of the code is the definition's.
 pub record Goes (n : Next) (tracees : List ℕ) (bytes : List ℕ) (old new : Core) : Type 0 where
   pub known : known_in new ≡ n.known
   pub focus : focus_of new.focus ≡ n.focus
   pub living : new.living ≡ tracees
-  pub text : bytes ≡ wrote old.printer n.printed
-  pub pen : new.printer ≡ pen_after old.printer n.printed
-  pub settings : new.settings ≡ old.settings
+  pub text : bytes ≡ wrote old.session.printer n.printed
+  pub pen : new.session.printer ≡ pen_after old.session.printer n.printed
+  pub settings : new.session.settings ≡ old.session.settings
 
 -- a whole step, of a tracer that took so many replies: of one that is admitted the bytes, of any other none
 abbrev pub Steps : ℕ → Core → Reply → Option (List ℕ) → Core → Type 0

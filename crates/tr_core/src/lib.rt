@@ -2,12 +2,18 @@
 #![tactic(auto)]
 
 mod admission;
+mod crossing;
+mod heard;
 mod hearing;
 pub mod laws;
 mod living;
 mod place;
-mod printer;
+mod printing;
+mod registers;
+mod replies;
+mod session;
 pub mod settings;
+mod stops;
 pub mod tracer;
 pub mod tracing;
 

@@ -11,17 +11,20 @@ ghost use Rattle.tr_core.specs.Settings.{first_pen, options_by, options_of, scri
 ghost use Rattle.tr_core.specs.Known.{place_of};
 ghost use Rattle.tr_core.specs.Tracers.{admits_in, focus_of, known_in, state_of, Goes, Steps};
 ghost use Rattle.tr_core.specs.States.{new_state, act_of};
-ghost use Rattle.tr_core.specs.Outcomes.{outcome_in, outcome_of};
+ghost use Rattle.tr_core.specs.Outcomes.{outcome_in as outcome_kept, outcome_of};
 ghost use Rattle.lx_abi.specs.Scripts.{choice_of};
-ghost use Rattle.tr_core.specs.Admitted.{told_status, says_childless, says_out, told_outcome, waits_by, serves_by};
+ghost use Rattle.tr_core.specs.Admitted.{says_out, waits_by, serves_by};
 ghost use Rattle.tr_core.specs.Admitted.{ends_by, tracees_by_status, tracees_by_reply, is_seizing as seizes};
 ghost use Rattle.tr_core.specs.Admitted.{next_by, tracees_by};
 
 use crate::admission::{admits_answer, stop_fits};
-use crate::hearing::{hear, is_done, take_stop};
+use crate::hearing::hear;
 use crate::living::Living;
 use crate::place::{Awaiting, Focus, Tracee};
+use crate::replies::{is_childless, is_done, is_out, outcome_in, status_in};
+use crate::session::{InHand, Session};
 use crate::settings::{Options, Settings};
+use crate::stops::take_stop;
 use crate::tracing::{Act, TraceFault, Tracing};
 use containers::{Bytes, Map};
 use lx_abi::{
@@ -35,12 +38,10 @@ use tr_line::{Layout, Printer};
 /// What a tracer keeps beside the flag for want of memory.
 #[derive(Drop)]
 struct Core {
-    settings: Settings,
+    session: Session,
     known: Map<Tracee>,
-    counts: Occurrences,
     living: Living,
     focus: Focus,
-    printer: Printer,
 }
 
 /// What is known of a process, at first nothing.
@@ -71,9 +72,9 @@ fn admits(core: &Core, reply: &Reply) -> bool
             None => false,
             Some(stop) => {
                 let tracee = tracee_at(&core.known, *pid);
-                (core.settings.options.follow || *pid == 1)
+                (core.session.settings.options.follow || *pid == 1)
                     && stop_fits(
-                        core.settings.options.follow,
+                        core.session.settings.options.follow,
                         tracee.called.number,
                         tracee.saved.is_some(),
                         tracee.standing,
@@ -90,13 +91,13 @@ fn admits(core: &Core, reply: &Reply) -> bool
     }
 }
 
-/// What was heard of a tracee is kept, and asked next.
-fn keep(core: &mut Core, pid: u32, tracee: Tracee, next: Option<Awaiting>) -> Result<(), AllocError>
-    ensures known { OnOk result (core.new.known ≡ maps.insert core.old.known pid tracee) }
-    ensures focus { OnOk result (focus_of core.new.focus ≡ focus_on pid (option_map place_of next)) }
-    ensures rest { OnOk result ((core.new.settings ≡ core.old.settings) × (core.new.counts ≡ core.old.counts)
-        × (core.new.living ≡ core.old.living) × (core.new.printer ≡ core.old.printer)) }
+/// What was heard of the tracee in hand is kept, and asked next.
+fn keep(core: &mut Core, hand: InHand, next: Option<Awaiting>) -> Result<(), AllocError>
+    ensures known { OnOk result (core.new.known ≡ maps.insert core.old.known hand.pid hand.tracee) }
+    ensures focus { OnOk result (focus_of core.new.focus ≡ focus_on hand.pid (option_map place_of next)) }
+    ensures rest { OnOk result ((core.new.session ≡ core.old.session) × (core.new.living ≡ core.old.living)) }
 {
+    let InHand { pid, tracee } = hand;
     core.known.insert(pid, tracee)?;
     core.focus = match next {
         Some(place) => Focus::Serving { pid, place },
@@ -119,13 +120,14 @@ fn attend(living: &mut Living, pid: u32, stop: Stop) -> Result<(), AllocError>
 /// A status that is admitted.
 fn hear_status(core: &mut Core, pid: u32, stop: Stop) -> Result<Bytes, AllocError>
     ensures { IfOk result
-        (λ b. Goes (took_stop (options_of core.old.settings) (known_in core.old) pid stop)
+        (λ b. Goes (took_stop (options_of core.old.session.settings) (known_in core.old) pid stop)
         (told_tracees core.old.living pid (Some stop)) b core.old core.new) }
 {
-    let mut tracee = tracee_at(&core.known, pid);
-    let heard = take_stop(&core.settings, &mut core.printer, pid, &mut tracee, stop)?;
+    let tracee = tracee_at(&core.known, pid);
+    let mut hand = InHand { pid, tracee };
+    let heard = take_stop(&mut core.session, &mut hand, stop)?;
     attend(&mut core.living, pid, stop)?;
-    keep(core, pid, tracee, heard.next)?;
+    keep(core, hand, heard.next)?;
     Ok(heard.bytes)
 }
 
@@ -134,20 +136,13 @@ fn hear_reply(core: &mut Core, pid: u32, place: Awaiting, reply: Reply) -> Resul
     ensures { IfOk result
         (λ b. Goes
         (heard (known_in core.old) pid
-        (hears (options_of core.old.settings) (script_of core.old.settings) pid (known_in core.old pid)
+        (hears (options_of core.old.session.settings) (script_of core.old.session.settings) pid (known_in core.old pid)
         (place_of place) reply)) core.old.living b core.old core.new) }
 {
-    let mut tracee = tracee_at(&core.known, pid);
-    let heard = hear(
-        &core.settings,
-        &mut core.counts,
-        &mut core.printer,
-        pid,
-        &mut tracee,
-        place,
-        reply,
-    )?;
-    keep(core, pid, tracee, heard.next)?;
+    let tracee = tracee_at(&core.known, pid);
+    let mut hand = InHand { pid, tracee };
+    let heard = hear(&mut core.session, &mut hand, place, reply)?;
+    keep(core, hand, heard.next)?;
     Ok(heard.bytes)
 }
 
@@ -157,40 +152,7 @@ fn stay(core: &mut Core, focus: Focus) -> Bytes
     ensures { Goes (stays (known_in core.old) (focus_of focus)) core.old.living result core.old core.new }
 {
     core.focus = focus;
-    Bytes::new(core.settings.alloc)
-}
-
-fn status_in(reply: &Reply) -> Option<(u32, Option<Stop>)>
-    ensures { result ≡ told_status reply.now }
-{
-    match reply {
-        Reply::Status { pid, status } => Some((*pid, status.stop())),
-        _ => None,
-    }
-}
-
-fn is_childless(reply: &Reply) -> bool
-    ensures { result ≡ says_childless reply.now }
-{
-    match reply {
-        Reply::Errno { number } => Errno::ECHILD.is(*number),
-        _ => false,
-    }
-}
-
-fn is_out(reply: &Reply) -> bool
-    ensures { result ≡ says_out reply.now }
-{
-    matches!(reply, Reply::OutOfTurns)
-}
-
-fn outcome_in(reply: Reply) -> Option<Outcome>
-    ensures { result ≡ told_outcome reply }
-{
-    match reply {
-        Reply::Outcome { outcome } => Some(outcome),
-        _ => None,
-    }
+    Bytes::new(core.session.settings.alloc)
 }
 
 /// A reply to Wait.
@@ -201,7 +163,7 @@ fn hear_wait(
     out: bool,
 ) -> Result<Bytes, AllocError>
     ensures { IfOk result
-        (λ b. Goes (waits_by (options_of core.old.settings) (known_in core.old) told childless out)
+        (λ b. Goes (waits_by (options_of core.old.session.settings) (known_in core.old) told childless out)
         (tracees_by_status core.old.living told) b core.old core.new) }
 {
     match told {
@@ -229,7 +191,7 @@ fn hear_served(
 ) -> Result<Bytes, AllocError>
     ensures { IfOk result
         (λ b. Goes
-        (serves_by (options_of core.old.settings) (script_of core.old.settings) (known_in core.old) pid
+        (serves_by (options_of core.old.session.settings) (script_of core.old.session.settings) (known_in core.old) pid
         (place_of place) reply out) core.old.living b core.old core.new) }
 {
     if out {
@@ -280,7 +242,7 @@ fn hear_serving(
 ) -> Result<Bytes, AllocError>
     ensures { IfOk result
         (λ b. Goes
-        (serves_by (options_of core.old.settings) (script_of core.old.settings) (known_in core.old) pid
+        (serves_by (options_of core.old.session.settings) (script_of core.old.session.settings) (known_in core.old) pid
         (place_of place) reply (says_out reply))
         (tracees_by_reply core.old.living pid (seizes (place_of place) && says_done reply)) b core.old core.new) }
 {
@@ -295,7 +257,8 @@ fn hear_serving(
 fn go(core: &mut Core, focus: Focus, reply: Reply) -> Result<Bytes, AllocError>
     ensures { IfOk result
         (λ b. Goes
-        (next_by (options_of core.old.settings) (script_of core.old.settings) (known_in core.old) focus reply)
+        (next_by (options_of core.old.session.settings) (script_of core.old.session.settings) (known_in core.old) focus
+        reply)
         (tracees_by core.old.living focus reply) b core.old core.new) }
 {
     match focus {
@@ -372,12 +335,12 @@ fn ask_of(settings: &Settings, place: &Awaiting) -> Result<Ask, AllocError>
 
 /// What is asked next, none at the end.
 fn request_in(core: &Core) -> Result<Option<Request>, AllocError>
-    ensures { IfOk result (λ q. q ≡ request (options_of core.now.settings) (focus_of core.now.focus)) }
+    ensures { IfOk result (λ q. q ≡ request (options_of core.now.session.settings) (focus_of core.now.focus)) }
 {
     match &core.focus {
         Focus::Waiting => Ok(Some(Request::Wait)),
         Focus::Serving { pid, place } => {
-            let ask = ask_of(&core.settings, place)?;
+            let ask = ask_of(&core.session.settings, place)?;
             Ok(Some(Request::To { pid: *pid, ask }))
         }
         Focus::AskingOutcome => Ok(Some(Request::Outcome)),
@@ -408,16 +371,18 @@ impl Tracer {
         let printer = Printer::new(alloc, layout);
         Tracer {
             core: Core {
-                settings: Settings {
-                    alloc,
-                    options,
-                    script,
+                session: Session {
+                    settings: Settings {
+                        alloc,
+                        options,
+                        script,
+                    },
+                    counts: Occurrences::new(alloc),
+                    printer,
                 },
                 known: Map::new(alloc),
-                counts: Occurrences::new(alloc),
                 living: Living::new(alloc),
                 focus: Focus::Booting,
-                printer,
             },
             taken: 0,
             failed: false,
@@ -426,7 +391,7 @@ impl Tracer {
 }
 
 fn outcome(focus: Focus) -> Option<Outcome>
-    ensures { result ≡ outcome_in focus }
+    ensures { result ≡ outcome_kept focus }
 {
     match focus {
         Focus::Over(outcome) => Some(outcome),
@@ -448,7 +413,7 @@ impl Tracer {
 
 fn act(core: &Core, bytes: Bytes) -> Result<Act, AllocError>
     ensures { IfOk result
-        (λ act. act ≡ act_of (request (options_of core.now.settings) (focus_of core.now.focus)) bytes) }
+        (λ act. act ≡ act_of (request (options_of core.now.session.settings) (focus_of core.now.focus)) bytes) }
 {
     match request_in(core)? {
         Some(request) => Ok(Act::Ask { bytes, request }),

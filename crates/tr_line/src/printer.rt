@@ -1,13 +1,13 @@
 //! The printer: the bytes of each part of a trace, one after the other.
 
-ghost use Rattle.std.specs.Prelude.{◌≡◌, IfOk, OnOk, OnErr, IsSome, is_some, Some, string_bytes, option_map};
+ghost use Rattle.std.specs.Prelude.{◌≡◌, IfOk, OnOk, OnErr, is_some};
 ghost use Rattle.std.specs.FinMap as maps;
 ghost use Rattle.tr_line.specs.Printing as spec;
 
 use crate::layout::{Layout, Open};
 use crate::lines::{done_text, end_text, enter_text, signal_text};
 use crate::text::Text;
-use containers::Map;
+use containers::{Bytes, Map};
 use lx_abi::Info;
 use std::alloc::{AllocError, Global};
 use std::marker::Model;
@@ -47,8 +47,8 @@ impl Printer {
     }
 
     /// The entry text of a call.
-    pub fn enter(&mut self, pid: u32, number: u64, text: &str) -> Result<String, AllocError>
-        ensures bytes { IfOk result (λ t. string_bytes t
+    pub fn enter(&mut self, pid: u32, number: u64, text: &str) -> Result<Bytes, AllocError>
+        ensures bytes { IfOk result (λ b. b
             ≡ spec.enter_text self.old.layout self.old.line pid text.now) }
         ensures ok { OnOk result (self.new ≡ spec.entered self.old pid number text.now) }
         ensures err { OnErr result (self.new ≡ self.old) }
@@ -57,45 +57,26 @@ impl Printer {
         let column = enter_text(&mut out, self.layout, self.line, pid, text)?;
         self.calls.insert(pid, number)?;
         self.line = Some(Open { pid, column });
-        Ok(out.into_string())
+        Ok(out.into_bytes())
     }
 
-    /// The process has an open call.
+    /// The process has an open call. It is for callers that keep no calls of their own; the tracer does.
     pub fn is_open(&self, pid: u32) -> bool
         ensures { result ≡ is_some (maps.get self.now.calls pid) }
     {
         self.calls.get(pid).is_some()
     }
 
-    /// The rest of the text of the process's open call, and its result.
-    pub fn leave(
-        &mut self,
-        pid: u32,
-        text: &str,
-        value: u64,
-        replaced: bool,
-    ) -> Result<String, AllocError>
-        requires { IsSome (maps.get self.old.calls pid) }
-        ensures bytes { IfOk result (λ t. Some (string_bytes t) ≡ option_map (λ number.
-            spec.done_text self.old.layout self.old.line pid number value replaced text.now)
-            (maps.get self.old.calls pid)) }
-        ensures ok { OnOk result (self.new ≡ spec.closed self.old pid) }
-        ensures err { OnErr result (self.new ≡ self.old) }
-    {
-        let number = self.calls.get(pid).copied().unwrap_or(0);
-        self.leave_call(pid, number, text, value, replaced)
-    }
-
     /// The rest of the text of this call of the process, and its result.
-    pub fn leave_call(
+    pub fn leave(
         &mut self,
         pid: u32,
         number: u64,
         text: &str,
         value: u64,
         replaced: bool,
-    ) -> Result<String, AllocError>
-        ensures bytes { IfOk result (λ t. string_bytes t
+    ) -> Result<Bytes, AllocError>
+        ensures bytes { IfOk result (λ b. b
             ≡ spec.done_text self.old.layout self.old.line pid number value replaced text.now) }
         ensures ok { OnOk result (self.new ≡ spec.closed self.old pid) }
         ensures err { OnErr result (self.new ≡ self.old) }
@@ -113,12 +94,12 @@ impl Printer {
         )?;
         self.calls.remove(pid);
         self.line = None;
-        Ok(out.into_string())
+        Ok(out.into_bytes())
     }
 
     /// The line of a signal.
-    pub fn signal(&mut self, pid: u32, info: &Info) -> Result<String, AllocError>
-        ensures bytes { IfOk result (λ t. string_bytes t
+    pub fn signal(&mut self, pid: u32, info: &Info) -> Result<Bytes, AllocError>
+        ensures bytes { IfOk result (λ b. b
             ≡ spec.signal_text self.old.layout self.old.line pid info.now) }
         ensures ok { OnOk result (self.new ≡ spec.broken self.old) }
         ensures err { OnErr result (self.new ≡ self.old) }
@@ -126,12 +107,12 @@ impl Printer {
         let mut out = Text::new(self.alloc);
         signal_text(&mut out, self.layout, self.line, pid, info)?;
         self.line = None;
-        Ok(out.into_string())
+        Ok(out.into_bytes())
     }
 
     /// The end of a process, with its open call if it has one.
-    pub fn end(&mut self, pid: u32, word: u32) -> Result<String, AllocError>
-        ensures bytes { IfOk result (λ t. string_bytes t
+    pub fn end(&mut self, pid: u32, word: u32) -> Result<Bytes, AllocError>
+        ensures bytes { IfOk result (λ b. b
             ≡ spec.end_text self.old.layout self.old.line (maps.get self.old.calls pid) pid word) }
         ensures ok { OnOk result (self.new ≡ spec.closed self.old pid) }
         ensures err { OnErr result (self.new ≡ self.old) }
@@ -141,6 +122,6 @@ impl Printer {
         end_text(&mut out, self.layout, self.line, call, pid, word)?;
         self.calls.remove(pid);
         self.line = None;
-        Ok(out.into_string())
+        Ok(out.into_bytes())
     }
 }

@@ -1,8 +1,9 @@
 //! Text under way.
 
-ghost use Rattle.std.specs.Prelude.{◌≡◌, ◌++◌, [], OnOk, length, decimal, codes, string_bytes, replicate, false};
+ghost use Rattle.std.specs.Prelude.{◌≡◌, ◌++◌, [], OnOk, length, decimal, codes, replicate, false};
 ghost use Rattle.std.specs.Fmt.{digits};
 
+use containers::Bytes;
 use std::alloc::{AllocError, Global};
 use std::marker::Model;
 
@@ -29,10 +30,10 @@ impl Text {
         }
     }
 
-    pub(crate) fn into_string(self) -> String
-        ensures { string_bytes result ≡ self }
+    pub(crate) fn into_bytes(self) -> Bytes
+        ensures { result ≡ self }
     {
-        self.text
+        Bytes::from_vec(self.text.into_bytes())
     }
 
     pub(crate) fn put(&mut self, text: &str) -> Result<(), AllocError>

@@ -1,6 +1,7 @@
 //! Lines of traces, worked out by hand, part by part, as a printer gives them with ample memory; some that no tracee
 //! makes. Results, columns, signals and ends stand in guests/conversations.
 
+use containers::Bytes;
 use lx_abi::Info;
 use std::alloc::{AllocError, Global};
 use std::test::Fail;
@@ -11,8 +12,8 @@ use tr_line::{Layout, Printer};
 enum Part {
     /// Pid, call number, text.
     Enter(u32, u64, &'static str),
-    /// Pid, text, result, whether it was replaced.
-    Done(u32, &'static str, u64, bool),
+    /// Pid, call number, text, result, whether it was replaced.
+    Done(u32, u64, &'static str, u64, bool),
     /// Pid, and then signal, code, pid, status.
     Signal(u32, u32, u32, u32, u32),
     /// Pid, signal, code, address.
@@ -33,15 +34,11 @@ const FOLLOW: Layout = Layout {
 
 const MINUS_10: u64 = 0xffff_ffff_ffff_fff6;
 
-fn printed(printer: &mut Printer, part: Part) -> Result<String, AllocError> {
+fn printed(printer: &mut Printer, part: Part) -> Result<Bytes, AllocError> {
     match part {
         Part::Enter(pid, number, text) => printer.enter(pid, number, text),
-        Part::Done(pid, text, value, replaced) => {
-            if printer.is_open(pid) {
-                printer.leave(pid, text, value, replaced)
-            } else {
-                printer.leave_call(pid, 0, text, value, replaced)
-            }
+        Part::Done(pid, number, text, value, replaced) => {
+            printer.leave(pid, number, text, value, replaced)
         }
         Part::Signal(pid, signal, code, sender, status) => printer.signal(
             pid,
@@ -67,12 +64,12 @@ fn printed(printer: &mut Printer, part: Part) -> Result<String, AllocError> {
     }
 }
 
-fn trace(alloc: Global, layout: Layout, parts: &[Part]) -> Result<String, AllocError> {
+fn trace(alloc: Global, layout: Layout, parts: &[Part]) -> Result<Bytes, AllocError> {
     let mut printer = Printer::new(alloc, layout);
-    let mut out = String::new(alloc);
+    let mut out = Bytes::new(alloc);
     for part in parts {
-        let text = printed(&mut printer, *part)?;
-        out.push_str(text.as_str())?;
+        let bytes = printed(&mut printer, *part)?;
+        out.extend(bytes.as_slice())?;
     }
     drop(printer);
     Ok(out)
@@ -87,9 +84,9 @@ const WHOLE_TRACES: &[Row] = &[
         FOLLOW,
         &[
             Part::Enter(1, 220, "clone(child_stack=NULL, flags=SIGCHLD"),
-            Part::Done(1, "", 7, true),
+            Part::Done(1, 220, "", 7, true),
             Part::Enter(1, 260, "wait4(7, "),
-            Part::Done(1, "NULL, 0, NULL", MINUS_10, false),
+            Part::Done(1, 260, "NULL, 0, NULL", MINUS_10, false),
             Part::Exit(1, 0x700),
         ],
         "\
@@ -104,13 +101,14 @@ const WHOLE_TRACES: &[Row] = &[
         &[
             Part::Enter(1, 63, "read(3, "),
             Part::Enter(2, 64, "write(4, \"hi\", 2"),
-            Part::Done(2, "", 2, false),
+            Part::Done(2, 64, "", 2, false),
             Part::Exit(2, 0x300),
-            Part::Done(1, "\"hi\", 16", 2, false),
+            Part::Done(1, 63, "\"hi\", 16", 2, false),
             Part::Signal(1, 17, 1, 2, 3),
             Part::Enter(1, 260, "wait4(-1, "),
             Part::Done(
                 1,
+                260,
                 "[{WIFEXITED(s) && WEXITSTATUS(s) == 3}], 0, NULL",
                 2,
                 false,
@@ -169,7 +167,10 @@ exit_group(127 <unfinished ...>
 #[test]
 fn whole_traces(rt: HostRuntime) -> Result<(), Fail> {
     for &(layout, parts, text) in WHOLE_TRACES {
-        assert_eq!(rt; trace(rt.alloc(), layout, parts)?.as_str(), text);
+        assert_eq!(rt;
+            trace(rt.alloc(), layout, parts)?.as_slice(),
+            text.as_bytes()
+        );
     }
     Ok(())
 }

@@ -3,6 +3,7 @@ use Rattle.tr_core.proofs.Kept.{status_kept}
 use Rattle.tr_core.proofs.tracer.hear_status.Goals as goal
 
 pub returns : goal.returns
-returns c = status_kept (options_of c.args.core.now.settings) c.args.pid c.args.stop c.tracee_at-tracee.result c.take_stop.new.tracee c.in_ok-heard.heard.next c.in_ok-heard.heard.bytes c.take_stop.new.printer c.attend.new.living c.args.core.now c.keep.new.core
+returns c = status_kept (options_of c.args.core.now.session.settings) c.args.pid c.args.stop c.tracee_at-tracee.result c.take_stop.new.hand
+    c.in_ok-heard.heard c.take_stop.new.session c.attend.new.living c.args.core.now c.keep.new.core
     c.tracee_at-tracee.ensures c.in_ok-heard.ensures c.in_ok-attend.ensures
     (record { known = c.in_ok-keep.ensures.known; focus = c.in_ok-keep.ensures.focus; rest = c.in_ok-keep.ensures.rest })

@@ -11,7 +11,7 @@ unfolding state_of
 returns c = λ i. record {
   options = options_by c.args.options;
   script = choice_of c.args.script;
-  tracer = record { known = fresh c.new.result c.new-2.result c.new.ensures c.new-2.ensures i; tracees = c.new-3.ensures i; focus = tracer.Booting; taken = 0 };
+  tracer = record { known = fresh c.new-2.result c.new.result c.new-2.ensures c.new.ensures i; tracees = c.new-3.ensures i; focus = tracer.Booting; taken = 0 };
   pen = c.new-printer.ensures i;
   failed = false;
 }

@@ -1,4 +1,4 @@
-use Rattle.std.proofs.Common.{◌≡◌, ℕ, false, refl, subst}
+use Rattle.std.proofs.Common.{subst}
 use Rattle.tr_core.specs.States.{admitted}
 use Rattle.tr_core.specs.Tracers.{Steps, state_of}
 use Rattle.tr_core.proofs.Steps.{hears_ok, hears_refusal, hears_want, hears_again}

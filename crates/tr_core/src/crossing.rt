@@ -1,0 +1,259 @@
+//! A call's entry and its exit: each is read where the call is shown, and then told.
+
+ghost use Rattle.std.specs.Prelude.{◌≡◌, IfOk, [], true};
+ghost use Rattle.lx_model.specs.Turn.{result_word};
+ghost use Rattle.pt_model.specs.Tracer as tracer;
+ghost use Rattle.tr_args.specs.Reads.{half_of};
+ghost use Rattle.tr_core.specs.Crossings.{half_at, peek_at, peeked_at, reads_at, told_at};
+ghost use Rattle.tr_core.specs.Hearings.{Comes, going_on, known_at};
+ghost use Rattle.tr_core.specs.Known.{place_of};
+ghost use Rattle.tr_core.specs.Settings.{options_of, script_of};
+
+use crate::heard::{Heard, asks, nothing};
+use crate::place::Awaiting;
+use crate::printing::{print_entry, print_exit};
+use crate::registers::{NO_CALL, call, set_number, stack_pointer};
+use crate::session::{InHand, Session};
+use containers::Bytes;
+use lx_abi::{Call, Choice, RegisterSet};
+use pt_model::Standing;
+use std::alloc::AllocError;
+use tr_args::{Half, Reading};
+
+/// A call is entered, or left with a result, which may be in the place of its own.
+#[derive(Drop)]
+pub enum Crossing {
+    Entering { registers: RegisterSet },
+    Exiting { result: u64, replaced: bool },
+}
+
+/// The half of the call's text that is told there.
+fn half(crossing: &Crossing, called: Call) -> Half
+    ensures { half_of result ≡ half_at called crossing.now }
+{
+    match crossing {
+        Crossing::Entering { registers } => Half::Entry {
+            call: call(registers),
+            stack: stack_pointer(registers),
+        },
+        Crossing::Exiting { result: value, .. } => Half::Exit {
+            call: called,
+            result: *value,
+        },
+    }
+}
+
+/// What is asked while more is read for the text.
+fn peeking(crossing: Crossing, got: Reading, want: (u64, u32)) -> Awaiting
+    ensures { place_of result ≡ peek_at crossing got want }
+{
+    match crossing {
+        Crossing::Entering { registers } => Awaiting::EntryPeek {
+            registers,
+            got,
+            want,
+        },
+        Crossing::Exiting {
+            result: value,
+            replaced,
+        } => Awaiting::ExitPeek {
+            result: value,
+            replaced,
+            got,
+            want,
+        },
+    }
+}
+
+/// How a tracee goes on from its entry stop.
+fn go_on(registers: RegisterSet, signal: u32, saved: Option<u64>) -> Awaiting
+    ensures { place_of result ≡ going_on registers signal saved }
+{
+    match saved {
+        None => Awaiting::Resuming { signal },
+        Some(_) => {
+            let mut registers = registers;
+            set_number(&mut registers, NO_CALL);
+            Awaiting::EntrySet { registers, signal }
+        }
+    }
+}
+
+/// The signal that is joined, 0 for none.
+fn joined(choice: Choice) -> u32
+    ensures { result ≡ tracer.signal_word choice.signal }
+{
+    match choice.signal {
+        None => 0,
+        Some(signal) => u32::from(signal.number),
+    }
+}
+
+/// The result that is given, as a word.
+fn given(choice: Choice) -> Option<u64>
+    ensures { result ≡ result_word choice }
+{
+    match choice.result {
+        None => None,
+        Some(value) => Some(value.cast_unsigned()),
+    }
+}
+
+/// The entry is shown and counted, and the script's choice for its occurrence made.
+fn enter(
+    session: &mut Session,
+    hand: &mut InHand,
+    registers: RegisterSet,
+    got: &Reading,
+) -> Result<Heard, AllocError>
+    ensures { IfOk result
+        (λ h. Comes
+        (tracer.entry (options_of session.old.settings) (script_of session.old.settings) hand.old.pid registers
+        got.now (known_at session.old hand.old)) h session.old session.new hand.old hand.new) }
+{
+    let called = call(&registers);
+    let stack = stack_pointer(&registers);
+    let Some(occurrence) = session
+        .counts
+        .latest(hand.pid, called.number)
+        .checked_add(1)
+    else {
+        return Err(AllocError);
+    };
+    let choice = session.settings.script.choose(called.number, occurrence);
+    let saved = given(choice);
+    let bytes = print_entry(
+        &session.settings,
+        &mut session.printer,
+        hand.pid,
+        called,
+        stack,
+        got,
+    )?;
+    session.counts.count(hand.pid, called.number)?;
+    hand.tracee.called = called;
+    hand.tracee.saved = saved;
+    hand.tracee.standing = Standing::Read;
+    Ok(Heard {
+        next: Some(go_on(registers, joined(choice), saved)),
+        bytes,
+    })
+}
+
+/// The call has returned: the rest of its text is shown.
+fn leave(
+    session: &mut Session,
+    hand: &mut InHand,
+    value: u64,
+    replaced: bool,
+    got: &Reading,
+) -> Result<Heard, AllocError>
+    ensures { IfOk result
+        (λ h. Comes
+        (tracer.exit (options_of session.old.settings) hand.old.pid value replaced got.now
+        (known_at session.old hand.old)) h session.old session.new hand.old hand.new) }
+{
+    let bytes = print_exit(
+        &session.settings,
+        &mut session.printer,
+        hand.pid,
+        hand.tracee.called,
+        value,
+        replaced,
+        got,
+    )?;
+    hand.tracee.saved = None;
+    Ok(Heard {
+        next: Some(Awaiting::Resuming { signal: 0 }),
+        bytes,
+    })
+}
+
+/// All that was wanted was read.
+fn tell(
+    session: &mut Session,
+    hand: &mut InHand,
+    crossing: Crossing,
+    got: &Reading,
+) -> Result<Heard, AllocError>
+    ensures { IfOk result
+        (λ h. Comes
+        (told_at (options_of session.old.settings) (script_of session.old.settings) hand.old.pid crossing got.now
+        (known_at session.old hand.old)) h session.old session.new hand.old hand.new) }
+{
+    match crossing {
+        Crossing::Entering { registers } => enter(session, hand, registers, got),
+        Crossing::Exiting {
+            result: value,
+            replaced,
+        } => leave(session, hand, value, replaced, got),
+    }
+}
+
+/// What is still wanted for the text is read; then it is told.
+fn read(
+    session: &mut Session,
+    hand: &mut InHand,
+    crossing: Crossing,
+    got: Reading,
+) -> Result<Heard, AllocError>
+    ensures { IfOk result
+        (λ h. Comes
+        (reads_at (options_of session.old.settings) (script_of session.old.settings) hand.old.pid crossing got
+        (known_at session.old hand.old) true) h session.old session.new hand.old hand.new) }
+{
+    let half = half(&crossing, hand.tracee.called);
+    let alloc = session.settings.alloc;
+    let limit = session.settings.options.string_limit;
+    let got = got.begun(alloc, limit, half)?;
+    let wish = got.wants(alloc, limit, half)?;
+    match wish {
+        None => tell(session, hand, crossing, &got),
+        Some(want) => Ok(asks(alloc, peeking(crossing, got, want))),
+    }
+}
+
+/// A call is entered or left, whose text is read where it is shown.
+pub fn cross(
+    session: &mut Session,
+    hand: &mut InHand,
+    crossing: Crossing,
+    shown: bool,
+) -> Result<Heard, AllocError>
+    ensures { IfOk result
+        (λ h. Comes
+        (reads_at (options_of session.old.settings) (script_of session.old.settings) hand.old.pid crossing []
+        (known_at session.old hand.old) shown) h session.old session.new hand.old hand.new) }
+{
+    if shown {
+        read(session, hand, crossing, Reading::new())
+    } else {
+        let nothing = Reading::new();
+        tell(session, hand, crossing, &nothing)
+    }
+}
+
+/// A string of a text came, or not.
+pub fn hear_bytes(
+    session: &mut Session,
+    hand: &mut InHand,
+    crossing: Crossing,
+    got: Reading,
+    came: Option<Bytes>,
+) -> Result<Heard, AllocError>
+    ensures { IfOk result
+        (λ h. Comes
+        (peeked_at (options_of session.old.settings) (script_of session.old.settings) hand.old.pid crossing got
+        (known_at session.old hand.old) came) h session.old session.new hand.old hand.new) }
+{
+    let alloc = session.settings.alloc;
+    match came {
+        None => Ok(nothing(alloc)),
+        Some(bytes) => {
+            let half = half(&crossing, hand.tracee.called);
+            let limit = session.settings.options.string_limit;
+            let got = got.with(alloc, limit, half, bytes)?;
+            read(session, hand, crossing, got)
+        }
+    }
+}

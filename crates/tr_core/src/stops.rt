@@ -1,0 +1,93 @@
+//! A stop of a tracee, from which it is in hand.
+
+ghost use Rattle.std.specs.Prelude.{◌≡◌, ℕ, IfOk};
+ghost use Rattle.pt_model.specs.Admissible.{was_read as entry_was_read};
+ghost use Rattle.pt_model.specs.Tracer as tracer;
+ghost use Rattle.tr_core.specs.Hearings.{Comes, known_at, stop_heard};
+ghost use Rattle.tr_core.specs.Known.{known_of, place_of};
+ghost use Rattle.tr_core.specs.Settings.{options_of};
+
+use crate::heard::{Heard, asks};
+use crate::place::{Awaiting, Tracee};
+use crate::session::{InHand, Session};
+use crate::settings::Settings;
+use lx_abi::{EventStop, Stop};
+use pt_model::Standing;
+use std::alloc::AllocError;
+
+/// The registers at its call's entry were read.
+fn was_read(standing: Standing) -> bool
+    ensures { result ≡ entry_was_read standing }
+{
+    matches!(standing, Standing::Read | Standing::AfterEvent)
+}
+
+/// Where a call begins or ends: at an exit the registers are wanted where its entry was read, and the call is
+/// shown or replaced.
+fn first_place(settings: &Settings, tracee: &Tracee) -> Awaiting
+    ensures { (counts : ℕ → ℕ)
+        → place_of result ≡ tracer.first_place (options_of settings.now) (known_of tracee.now counts)
+        tracee.now.inside }
+{
+    if !tracee.inside {
+        Awaiting::EntryRegs
+    } else if was_read(tracee.standing)
+        && (settings.options.shown.contains(tracee.called.number) || tracee.saved.is_some())
+    {
+        Awaiting::ExitRegs
+    } else {
+        Awaiting::Resuming { signal: 0 }
+    }
+}
+
+/// A syscall stop.
+fn turn_over(tracee: &mut Tracee)
+    ensures { (counts : ℕ → ℕ) → known_of tracee.new counts ≡ tracer.turned_over (known_of tracee.old counts) }
+{
+    tracee.standing = if tracee.inside {
+        Standing::Between
+    } else {
+        Standing::Unread
+    };
+    tracee.inside = !tracee.inside;
+}
+
+fn event_standing(event: EventStop) -> Standing
+    ensures { result ≡ tracer.event_standing event }
+{
+    match event {
+        EventStop::Fork | EventStop::Exec => Standing::AfterEvent,
+        EventStop::Stop => Standing::Between,
+    }
+}
+
+/// A status that is admitted was taken.
+#[tactic(auto, unfolding(crate::specs::Pens::wrote, crate::specs::Pens::pen_after))]
+pub fn take_stop(session: &mut Session, hand: &mut InHand, stop: Stop) -> Result<Heard, AllocError>
+    ensures { IfOk result
+        (λ h. Comes (stop_heard (options_of session.old.settings) hand.old.pid (known_at session.old hand.old) stop)
+        h session.old session.new hand.old hand.new) }
+{
+    let alloc = session.settings.alloc;
+    match stop {
+        Stop::Syscall { .. } => {
+            let place = first_place(&session.settings, &hand.tracee);
+            turn_over(&mut hand.tracee);
+            Ok(asks(alloc, place))
+        }
+        Stop::Signal { signal } => {
+            hand.tracee.standing = Standing::AfterSignal;
+            let signal = u32::from(signal.number);
+            Ok(asks(alloc, Awaiting::SignalInfo { signal }))
+        }
+        Stop::Event { event } => {
+            hand.tracee.standing = event_standing(event);
+            Ok(asks(alloc, Awaiting::Resuming { signal: 0 }))
+        }
+        Stop::Ended { word } => {
+            hand.tracee.standing = Standing::AtEnd;
+            let bytes = session.printer.end(hand.pid, word)?;
+            Ok(Heard { next: None, bytes })
+        }
+    }
+}
