@@ -14,7 +14,9 @@ use Rattle.lx_abi.specs.declared.log.Cause.{Cause}
 use Rattle.lx_abi.specs.declared.script.Choice.{Choice}
 use Rattle.lx_abi.specs.declared.signal.Signal.{Signal}
 use Rattle.lx_model.specs.Machine.{Answer, Refused, Returns, Jumps, Execs, Bears, Blocks, Ends, Took, Passes, Kills}
-use Rattle.lx_model.specs.Turn.{Out, Event, Plain, Execed, Forked, turn, killed_or, lives, joins, stepped, answered, took}
+use Rattle.lx_model.specs.declared.event.PtraceEvent.{PtraceEvent}
+use Rattle.lx_model.specs.declared.event.PtraceEvent.TheVariants.{Plain, Execed, Forked}
+use Rattle.lx_model.specs.Turn.{Out, turn, killed_or, lives, joins, stepped, answered, took}
 use Rattle.lx_model.specs.Kernel.{Script, traces, choice_at, first_kernel, kernel_run}
 use Rattle.lx_model.specs.Finite.{Is, at, item_of, Running, ran, bore, turn_out, running_turn, running, first_running}
 use Rattle.lx_model.specs.Laws.{KernelsBeginAlike, KernelsRunAlike}
@@ -103,12 +105,12 @@ turn_records c s child p Gone = refl
 
 -- A run.
 
-bore_words : (v : Running Shared UserState) (e : Event UserState) → (bore v e).shared.ended ≡ v.shared.ended
+bore_words : (v : Running Shared UserState) (e : PtraceEvent UserState) → (bore v e).shared.ended ≡ v.shared.ended
 bore_words v Plain = refl
 bore_words v Execed = refl
 bore_words v (Forked b) = refl
 
-bore_log : (v : Running Shared UserState) (e : Event UserState) → (bore v e).log ≡ v.log
+bore_log : (v : Running Shared UserState) (e : PtraceEvent UserState) → (bore v e).log ≡ v.log
 bore_log v Plain = refl
 bore_log v Execed = refl
 bore_log v (Forked b) = refl

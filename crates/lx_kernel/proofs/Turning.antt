@@ -10,7 +10,9 @@ use Rattle.lx_abi.specs.declared.script.Rule.{Rule}
 use Rattle.lx_abi.specs.Scripts.{choice_of}
 use Rattle.lx_abi.specs.Log.{entries}
 use Rattle.lx_model.specs.Deeds.{deed_of}
-use Rattle.lx_model.specs.Turn.{turn, Out, Event, Plain, Execed, Forked}
+use Rattle.lx_model.specs.declared.event.PtraceEvent.{PtraceEvent}
+use Rattle.lx_model.specs.declared.event.PtraceEvent.TheVariants.{Plain, Execed, Forked}
+use Rattle.lx_model.specs.Turn.{turn, Out}
 use Rattle.lx_model.specs.declared.stage.Task.{Task}
 use Rattle.lx_model.specs.declared.stage.Task.TheVariants.{Gone}
 use Rattle.lx_model.specs.Kernel.{traces, choice_at}
@@ -26,7 +28,7 @@ use Rattle.lx_turn.proofs.Births.{Births, turn_fine, left_by, console_by}
 use Rattle.lx_turn.proofs.Consoles.{turn_keeps}
 
 -- a kernel after an effect
-with_effect : (s : Shared) (tasks : FinMap nat_cmp (Task UserState)) (child : ℕ) (log : List Item) (e : Event UserState)
+with_effect : (s : Shared) (tasks : FinMap nat_cmp (Task UserState)) (child : ℕ) (log : List Item) (e : PtraceEvent UserState)
     → bore (record { shared = s; tasks = tasks; child = child; log = log }) e ≡ record { shared = s; tasks = tasks_with tasks child e; child = next_child child e; log = log }
 with_effect s tasks child log Plain = refl
 with_effect s tasks child log Execed = refl

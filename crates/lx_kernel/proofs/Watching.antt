@@ -12,7 +12,9 @@ use Rattle.lx_abi.specs.Scripts.{choice_of}
 use Rattle.lx_abi.specs.Signals.{may_join, signal_numbered}
 use Rattle.lx_model.specs.Machine.{Regs}
 use Rattle.lx_model.specs.Kernel.{traces, choice_at}
-use Rattle.lx_model.specs.Turn.{Out, Event, Plain, Execed, Forked, turn}
+use Rattle.lx_model.specs.declared.event.PtraceEvent.{PtraceEvent}
+use Rattle.lx_model.specs.declared.event.PtraceEvent.TheVariants.{Plain, Execed, Forked}
+use Rattle.lx_model.specs.Turn.{Out, turn}
 use Rattle.lx_model.specs.Finite.{at, placed, Running}
 use Rattle.lx_model.specs.declared.stage.Stage.{Stage}
 use Rattle.lx_model.specs.declared.stage.Stage.TheVariants as stage
@@ -175,23 +177,23 @@ gone_turn : (c : Task UserState → Turned) (task : Task UserState) → task ≡
 gone_turn c task e h = ap (λ o. (c o).task) e ∙ h
 
 -- the table with a child, at another pid
-with_child : (tasks : Tasks) (child q : ℕ) (event : Event UserState) → (IsBirth event → q ≡ child → ⊥) → at Gone (tasks_with tasks child event) q ≡ at Gone tasks q
+with_child : (tasks : Tasks) (child q : ℕ) (event : PtraceEvent UserState) → (IsBirth event → q ≡ child → ⊥) → at Gone (tasks_with tasks child event) q ≡ at Gone tasks q
 with_child tasks child q Plain other = refl
 with_child tasks child q Execed other = refl
 with_child tasks child q (Forked newborn) other = ap (λ o. unwrap_or o Gone) (other_put tasks child q (other tt) (Alive newborn stage.Born))
 
 -- who isn't awake after a birth isn't the child, and wasn't before
-unwelcomed : (sets : RunQueue) (child q : ℕ) (event : Event UserState) → maps.get (welcomed sets child event).awake q ≡ None → (IsBirth event → q ≡ child → ⊥)
+unwelcomed : (sets : RunQueue) (child q : ℕ) (event : PtraceEvent UserState) → maps.get (welcomed sets child event).awake q ≡ None → (IsBirth event → q ≡ child → ⊥)
 unwelcomed sets child q Plain none = λ birth. absurd birth
 unwelcomed sets child q Execed none = λ birth. absurd birth
 unwelcomed sets child q (Forked newborn) none = λ birth e. put_there sets.awake (maps.insert sets.awake child tt) child tt refl (subst (λ n. maps.get (maps.insert sets.awake child tt) n ≡ None) e none)
 
-unwatched_before : (sets : RunQueue) (child q : ℕ) (event : Event UserState) → (IsBirth event → q ≡ child → ⊥) → maps.get (welcomed sets child event).awake q ≡ None → maps.get sets.awake q ≡ None
+unwatched_before : (sets : RunQueue) (child q : ℕ) (event : PtraceEvent UserState) → (IsBirth event → q ≡ child → ⊥) → maps.get (welcomed sets child event).awake q ≡ None → maps.get sets.awake q ≡ None
 unwatched_before sets child q Plain other none = none
 unwatched_before sets child q Execed other none = none
 unwatched_before sets child q (Forked newborn) other none = sym (other_put sets.awake child q (other tt) tt) ∙ none
 
-unslept_before : (sets : RunQueue) (child q : ℕ) (event : Event UserState) → (IsBirth event → q ≡ child → ⊥) → maps.get (welcomed sets child event).asleep q ≡ None → maps.get sets.asleep q ≡ None
+unslept_before : (sets : RunQueue) (child q : ℕ) (event : PtraceEvent UserState) → (IsBirth event → q ≡ child → ⊥) → maps.get (welcomed sets child event).asleep q ≡ None → maps.get sets.asleep q ≡ None
 unslept_before sets child q Plain other none = none
 unslept_before sets child q Execed other none = none
 unslept_before sets child q (Forked newborn) other none = sym (other_left sets.asleep child q (other tt)) ∙ none
@@ -205,7 +207,7 @@ module _ (v : Running Shared UserState) (rules : List Rule) (follow : Bool) (p :
   abbrev out : Task UserState → Out Shared UserState
   out o = turn linux (choice_at linux (choice_of rules) (traces follow p) count o) v.shared v.child p o
 
-  abbrev event : Event UserState
+  abbrev event : PtraceEvent UserState
   event = event_of done
 
   task_is : at Gone tasks p ≡ (out task).task

@@ -3,7 +3,8 @@ use Rattle.std.specs.Prelude.{◌≡◌, ◌<◌, ℕ, true, None}
 use Rattle.std.specs.Ordering.{nat_cmp}
 use Rattle.std.specs.FinMap as maps
 use Rattle.std.specs.FinMap.{FinMap}
-use Rattle.lx_model.specs.Turn.{Event, Plain, Execed, Forked}
+use Rattle.lx_model.specs.declared.event.PtraceEvent.{PtraceEvent}
+use Rattle.lx_model.specs.declared.event.PtraceEvent.TheVariants.{Plain, Execed, Forked}
 use Rattle.lx_model.specs.Finite.{at}
 use Rattle.lx_model.specs.declared.stage.Task.{Task}
 use Rattle.lx_model.specs.declared.stage.Task.TheVariants.{Gone}
@@ -41,7 +42,7 @@ abbrev pub Watch : RunQueue → Shared → Tasks → Type 0
 Watch sets s tasks = sets.known ≡ true → AreWatched sets s tasks
 
 -- a child that is born is awake
-abbrev pub welcomed : RunQueue → ℕ → Event UserState → RunQueue
+abbrev pub welcomed : RunQueue → ℕ → PtraceEvent UserState → RunQueue
 welcomed sets child Plain = sets
 welcomed sets child Execed = sets
 welcomed sets child (Forked newborn) = record sets {

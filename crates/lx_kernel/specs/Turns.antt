@@ -4,7 +4,8 @@ use Rattle.std.specs.Ordering.{nat_cmp}
 use Rattle.std.specs.FinMap as maps
 use Rattle.std.specs.FinMap.{FinMap}
 use Rattle.lx_abi.specs.declared.log.Item.{Item}
-use Rattle.lx_model.specs.Turn.{Event, Plain, Execed, Forked}
+use Rattle.lx_model.specs.declared.event.PtraceEvent.{PtraceEvent}
+use Rattle.lx_model.specs.declared.event.PtraceEvent.TheVariants.{Plain, Execed, Forked}
 use Rattle.lx_model.specs.declared.stage.Stage.TheVariants.{Born}
 use Rattle.lx_model.specs.declared.stage.Task.{Task}
 use Rattle.lx_model.specs.declared.stage.Task.TheVariants.{Alive}
@@ -29,12 +30,12 @@ without_gone tasks p gone = cond gone (maps.remove tasks p) tasks
 
 -- The table after an effect, and the next pid.
 
-abbrev pub tasks_with : FinMap nat_cmp (Task UserState) → ℕ → Event UserState → FinMap nat_cmp (Task UserState)
+abbrev pub tasks_with : FinMap nat_cmp (Task UserState) → ℕ → PtraceEvent UserState → FinMap nat_cmp (Task UserState)
 tasks_with tasks child Plain = tasks
 tasks_with tasks child Execed = tasks
 tasks_with tasks child (Forked newborn) = maps.insert tasks child (Alive newborn Born)
 
-abbrev pub next_child : ℕ → Event UserState → ℕ
+abbrev pub next_child : ℕ → PtraceEvent UserState → ℕ
 next_child child Plain = child
 next_child child Execed = child
 next_child child (Forked newborn) = suc child

@@ -10,7 +10,7 @@ use Rattle.std.specs.FinMap as maps
 use mathlib.Core.Path.{fun_ext}
 use Rattle.lx_abi.specs.Log.{Noted, items_of}
 use Rattle.lx_model.specs.Machine.{Machine}
-use Rattle.lx_model.specs.Turn.{Task, Alive, Dying, Born, Gone, Event, Plain, Execed, Forked, Out}
+use Rattle.lx_model.specs.Turn.{Task, Alive, Dying, Born, Gone, PtraceEvent, Plain, Execed, Forked, Out}
 use Rattle.lx_model.specs.Kernel.{Script, put, born, Kernel, after_turn, with_child, turn_of, kernel_turn, kernel_run}
 use Rattle.lx_model.specs.Finite.{at, item_of, placed, Running, ran, bore, turn_out, running_turn, running, Is}
 use Rattle.lx_model.specs.Laws.{KernelsBeginAlike}
@@ -56,7 +56,7 @@ module _ {S B : Type 0} (m : Machine S B) (script : Script) (follow : Bool) wher
     log = ap (λ l. l ++ option_to_list (item_of x)) e.log ∙ ap (λ l. items_of k.log ++ l) (one_item x.item) ∙ sym (map-append (λ (n : Noted). n.item) k.log (option_to_list x.item));
   }
 
-  bore_is : (v : Running S B) (k : Kernel S B) → Is v k → (x : Event B) → Is (bore v x) (with_child k x)
+  bore_is : (v : Running S B) (k : Kernel S B) → Is v k → (x : PtraceEvent B) → Is (bore v x) (with_child k x)
   bore_is v k e Plain = e
   bore_is v k e Execed = e
   bore_is v k e (Forked b) = record {

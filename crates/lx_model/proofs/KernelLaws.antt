@@ -14,7 +14,7 @@ use Rattle.lx_abi.specs.declared.script.Choice.{Choice}
 use Rattle.lx_abi.specs.declared.signal.Signal.{Signal}
 use Rattle.lx_abi.specs.Log.{Noted, pid_of, is_entry, items_of, entries}
 use Rattle.lx_model.specs.Machine.{Machine, Ran, Goes, Calls, Faults, Takes, Answer, Refused, Returns, Jumps, Execs, Bears, Blocks, Ends, Took, Passes, Kills}
-use Rattle.lx_model.specs.Turn.{Stage, Born, Run, Faulting, Entered, Doing, Replaced, Acted, Finished, Taken, Dropped, Task, Alive, Dying, Gone, Event, Plain, Execed, Forked, Out, turn, killed_or, lives, stepped, answered, took}
+use Rattle.lx_model.specs.Turn.{Stage, Born, Run, Faulting, Entered, Doing, Replaced, Acted, Finished, Taken, Dropped, Task, Alive, Dying, Gone, PtraceEvent, Plain, Execed, Forked, Out, turn, killed_or, lives, stepped, answered, took}
 use Rattle.lx_model.specs.Kernel.{Script, put, traces, choice_at, Kernel, after_turn, with_child, turn_of, kernel_turn, kernel_run, first_kernel, born}
 use Rattle.lx_model.specs.KernelLaws.{NobodyTakesNoTurn, IsFresh, FirstIsFresh, RunsStayFresh, IsGiven, PidsAreGivenOnce, PidsRise, OthersCountNothing, ChoicesAreByOccurrence}
 
@@ -89,7 +89,7 @@ none_of : (p q call : ℕ) (i : Option Noted) → IsOf p i → q ≢ p → filte
 none_of p q call None is ne = refl
 none_of p q call (Some n) is ne = rw (no_entry q call n.item (λ e. ne (e ∙ is))) refl
 
-with_child_log : {S B : Type 0} (k : Kernel S B) (e : Event B) → (with_child k e).log ≡ k.log
+with_child_log : {S B : Type 0} (k : Kernel S B) (e : PtraceEvent B) → (with_child k e).log ≡ k.log
 with_child_log k Plain = refl
 with_child_log k Execed = refl
 with_child_log k (Forked b) = refl
@@ -141,7 +141,7 @@ module _ {S B : Type 0} (m : Machine S B) (script : Script) (follow : Bool) (k :
 below : (c q : ℕ) → suc c ≤ q → c ≤ q
 below c q l = grind (arith)
 
-fresh_born : {S B : Type 0} (k : Kernel S B) (e : Event B) → IsFresh k → IsFresh (with_child k e)
+fresh_born : {S B : Type 0} (k : Kernel S B) (e : PtraceEvent B) → IsFresh k → IsFresh (with_child k e)
 fresh_born k Plain fresh = fresh
 fresh_born k Execed fresh = fresh
 fresh_born k (Forked b) fresh = λ q l. rw (other k.child q l) (fresh q (below k.child q l))
@@ -160,7 +160,7 @@ alone q l = grind (arith, nat_tests)
 pub first_is_fresh : {S B : Type 0} → FirstIsFresh S B
 first_is_fresh s b = λ q l. ap (λ c. born c b) (alone q l)
 
-given : {S B : Type 0} (k before : Kernel S B) (e : Event B) (b : B) → before.tasks before.child ≡ Gone → k.child ≡ before.child → e ≡ Forked b → IsGiven before (with_child k e) b
+given : {S B : Type 0} (k before : Kernel S B) (e : PtraceEvent B) (b : B) → before.tasks before.child ≡ Gone → k.child ≡ before.child → e ≡ Forked b → IsGiven before (with_child k e) b
 given k before e b free same is = subst (λ x. IsGiven before (with_child k x) b) (sym is) (record {
   free = free;
   taken = ap (λ q. put k.tasks k.child (Alive b Born) q) (sym same) ∙ rw (itself k.child) refl;
@@ -174,7 +174,7 @@ pub pids_are_given_once : {S B : Type 0} → PidsAreGivenOnce S B
 pids_are_given_once m script follow k p b fresh is =
     given (after_turn k p (turn_of m script follow k p)) k (turn_of m script follow k p).event b (fresh k.child (same_pid k.child)) refl is
 
-rises : {S B : Type 0} (k : Kernel S B) (e : Event B) → k.child ≤ (with_child k e).child
+rises : {S B : Type 0} (k : Kernel S B) (e : PtraceEvent B) → k.child ≤ (with_child k e).child
 rises k Plain = same_pid k.child
 rises k Execed = same_pid k.child
 rises k (Forked b) = below k.child (suc k.child) (same_pid (suc k.child))

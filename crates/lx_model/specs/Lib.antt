@@ -3,6 +3,6 @@ pub mod Rows
 pub mod Turn
 pub mod Kernel
 pub mod Finite
-pub mod Deeds
+pub mod Events
 pub mod Laws
 pub mod KernelLaws

@@ -2,7 +2,9 @@
 //! public functions with empty bodies.
 #![tactic(auto)]
 
+pub mod event;
 pub mod laws;
 pub mod stage;
 
-pub use stage::{Deed, Stage, Task};
+pub use event::PtraceEvent;
+pub use stage::{Stage, Task};

@@ -9,7 +9,9 @@ use Rattle.lx_abi.specs.declared.log.Cause.{Cause}
 use Rattle.lx_abi.specs.declared.signal.Signal.{Signal}
 use Rattle.lx_abi.specs.declared.script.Choice.{Choice}
 use Rattle.lx_model.specs.Machine.{Answer, Refused, Returns, Jumps, Execs, Bears, Blocks, Ends, Took, Passes, Kills}
-use Rattle.lx_model.specs.Turn.{Out, Event, Plain, Execed, Forked, turn, killed_or, lives, stepped, answered, took}
+use Rattle.lx_model.specs.declared.event.PtraceEvent.{PtraceEvent}
+use Rattle.lx_model.specs.declared.event.PtraceEvent.TheVariants.{Plain, Execed, Forked}
+use Rattle.lx_model.specs.Turn.{Out, turn, killed_or, lives, stepped, answered, took}
 use Rattle.lx_model.specs.declared.stage.Stage.{Stage}
 use Rattle.lx_model.specs.declared.stage.Stage.TheVariants.{Born, Run, Faulting, Entered, Doing, Replaced, Acted, Finished, Taken, Dropped}
 use Rattle.lx_model.specs.declared.stage.Task.{Task}
@@ -27,7 +29,7 @@ use Rattle.lx_turn.specs.Linux.{linux}
 use Rattle.lx_turn.specs.Reactions.{next_of, runs, resumed, ran_by, is_killed}
 use Rattle.lx_turn.proofs.CallsFit.{calls_fit}
 
-abbrev pub Births : Shared → ℕ → Shared → Event UserState → Type 0
+abbrev pub Births : Shared → ℕ → Shared → PtraceEvent UserState → Type 0
 Births s child t Plain = Unit {0}
 Births s child t Execed = Unit {0}
 Births s child t (Forked newborn) = (t.console ≡ s.console) × (child ≤ s.limits.last_pid)
@@ -89,7 +91,7 @@ left_by s child t effect.Plain h = tt
 left_by s child t effect.Execed h = tt
 left_by s child t (effect.Bore newborn) h = h.1
 
-pub console_by : (s : Shared) (child : ℕ) (t : Shared) (e : Event UserState) → Births s child t e → IsBirth e → t.console ≡ s.console
+pub console_by : (s : Shared) (child : ℕ) (t : Shared) (e : PtraceEvent UserState) → Births s child t e → IsBirth e → t.console ≡ s.console
 console_by s child t Plain h birth = absurd birth
 console_by s child t Execed h birth = absurd birth
 console_by s child t (Forked newborn) h birth = h.0

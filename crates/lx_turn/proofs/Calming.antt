@@ -21,7 +21,9 @@ use Rattle.lx_abi.specs.declared.log.Cause.{Cause}
 use Rattle.lx_abi.specs.declared.signal.Signal.{Signal}
 use Rattle.lx_abi.specs.declared.script.Choice.{Choice}
 use Rattle.lx_model.specs.Machine.{Answer, Refused, Returns, Jumps, Execs, Bears, Blocks, Ends, Took}
-use Rattle.lx_model.specs.Turn.{Out, Event, Plain, Forked, turn, killed_or, lives, stepped, answered, took, joins}
+use Rattle.lx_model.specs.declared.event.PtraceEvent.{PtraceEvent}
+use Rattle.lx_model.specs.declared.event.PtraceEvent.TheVariants.{Plain, Forked}
+use Rattle.lx_model.specs.Turn.{Out, turn, killed_or, lives, stepped, answered, took, joins}
 use Rattle.lx_model.specs.declared.stage.Stage.{Stage}
 use Rattle.lx_model.specs.declared.stage.Stage.TheVariants.{Born, Run, Faulting, Entered, Doing, Replaced, Acted, Finished, Taken, Dropped}
 use Rattle.lx_model.specs.declared.stage.Task.{Task}
@@ -85,15 +87,15 @@ use Rattle.lx_turn.proofs.Awaiting.{awaits_on, signalled_spared, twice_spared, d
 use Rattle.lx_turn.proofs.Resting.{both, other_pair, rests_on, waits_same, waits_alike, inherited_alike, entry_other, quiet_same, quiet_left}
 
 module _ (s : Shared) (child p : ℕ) where
-  abbrev Calm : Shared → Event UserState → Type 0
+  abbrev Calm : Shared → PtraceEvent UserState → Type 0
   Calm t event = Calms s t child p p event
 
   -- nothing is changed
-  same_calm : (event : Event UserState) → Calm s event
+  same_calm : (event : PtraceEvent UserState) → Calm s event
   same_calm event = λ q up ne still unborn task h. h
 
   -- the signals of the process's own entry are
-  entry_calm : (g : Entry → Signals) (event : Event UserState) → Calm (with_entries s (changed s.entries p (λ e. with_signals e (g e)))) event
+  entry_calm : (g : Entry → Signals) (event : PtraceEvent UserState) → Calm (with_entries s (changed s.entries p (λ e. with_signals e (g e)))) event
   entry_calm g event = λ q up ne still unborn task h.
       let f = λ (e : Entry). with_signals e (g e) in
       let t : Shared = with_entries s (changed s.entries p f) in
@@ -101,7 +103,7 @@ module _ (s : Shared) (child p : ℕ) where
       (awaits_on s t q (signalled_spared s.entries p q g))
       (quiet_same (maps.get s.entries q) (maps.get t.entries q) (entry_other s.entries p q f (maps.get s.entries p) ne)) task h
 
-  entries_calm : (g i : Entry → Signals) (event : Event UserState)
+  entries_calm : (g i : Entry → Signals) (event : PtraceEvent UserState)
       → Calm (with_entries s (changed (changed s.entries p (λ e. with_signals e (g e))) p (λ e. with_signals e (i e)))) event
   entries_calm g i event = λ q up ne still unborn task h.
       let f = λ (e : Entry). with_signals e (g e) in
@@ -113,7 +115,7 @@ module _ (s : Shared) (child p : ℕ) where
       (entry_other (changed s.entries p f) p q j (maps.get (changed s.entries p f) p) ne ∙ entry_other s.entries p q f (maps.get s.entries p) ne)) task h
 
   -- a child that has been waited for leaves the table
-  left_calm : (wanted n : ℕ) (event : Event UserState) → first_child s.entries p wanted true ≡ Some n → Calm (with_entries s (maps.remove s.entries n)) event
+  left_calm : (wanted n : ℕ) (event : PtraceEvent UserState) → first_child s.entries p wanted true ≡ Some n → Calm (with_entries s (maps.remove s.entries n)) event
   left_calm wanted n event found = λ q up ne still unborn task h.
       let t : Shared = with_entries s (maps.remove s.entries n) in
       rests_on s t q (waits_same s t q refl)
@@ -412,11 +414,11 @@ pub on_calm : (c : Choice) (s : Shared) (child p : ℕ) (b : UserState) (stage :
 on_calm c s child p b stage done t d next item e calm =
     let o : Out Shared UserState = turn linux c s child p (Alive b stage) in
     subst (λ (x : Shared). Calms s x child p p (event_of done)) (ap (λ (x : Turned). x.shared) e)
-    (subst (λ (x : Event UserState). Calms s o.shared child p p x) (ap (λ (x : Turned). x.event) e)
+    (subst (λ (x : PtraceEvent UserState). Calms s o.shared child p p x) (ap (λ (x : Turned). x.event) e)
     (turn_calm c s child p (Alive b stage) (ap (λ (x : Turned). is_calm s child (Alive b stage) x.task) e ∙ calm)))
 
 -- and one that has none
-pub gone_calm : (s : Shared) (child p : ℕ) (event : Event UserState) → Calms s s child p p event
+pub gone_calm : (s : Shared) (child p : ℕ) (event : PtraceEvent UserState) → Calms s s child p p event
 gone_calm s child p event = same_calm s child p event
 
 -- The end of a process

@@ -4,7 +4,7 @@ use Rattle.std.specs.FinMap as maps
 use Rattle.lx_abi.specs.Calls.{has_effects}
 use Rattle.lx_abi.specs.Effects.{calm}
 use Rattle.lx_abi.specs.Sys.{sys_clone}
-use Rattle.lx_model.specs.Turn.{Event}
+use Rattle.lx_model.specs.declared.event.PtraceEvent.{PtraceEvent}
 use Rattle.lx_model.specs.declared.stage.Stage.{Stage}
 use Rattle.lx_model.specs.declared.stage.Stage.TheVariants.{Born, Run, Faulting, Entered, Doing, Replaced, Acted, Finished, Taken, Dropped}
 use Rattle.lx_model.specs.declared.stage.Task.{Task}
@@ -62,7 +62,7 @@ is_calm_at s child (Taken signal cause) = true
 is_calm_at s child Dropped = true
 
 -- each other process that rested rests, but for one that is roused, and a child that is born
-abbrev pub Calms : Shared → Shared → ℕ → ℕ → ℕ → Event UserState → Type 0
+abbrev pub Calms : Shared → Shared → ℕ → ℕ → ℕ → PtraceEvent UserState → Type 0
 Calms s s' child p roused event =
     (q : ℕ) → 0 < q → (q ≡ p → ⊥) → (q ≡ roused → ⊥) → (IsBirth event → q ≡ child → ⊥) → (task : Task UserState)
     → rests s q task ≡ true

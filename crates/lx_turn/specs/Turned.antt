@@ -2,7 +2,9 @@
 use Rattle.std.specs.Prelude.{◌≡◌, ℕ, ◌≤◌, Bool, true, false, Option, Some}
 use Rattle.lx_abi.specs.declared.log.Item.{Item}
 use Rattle.lx_abi.specs.declared.log.Item.TheVariants as item
-use Rattle.lx_model.specs.Turn.{stage_mode, Out, Event, Plain, Execed, Forked}
+use Rattle.lx_model.specs.declared.event.PtraceEvent.{PtraceEvent}
+use Rattle.lx_model.specs.declared.event.PtraceEvent.TheVariants.{Plain, Execed, Forked}
+use Rattle.lx_model.specs.Turn.{stage_mode, Out}
 use Rattle.lx_model.specs.declared.stage.Stage.{Stage}
 use Rattle.lx_model.specs.declared.stage.Task.{Task}
 use Rattle.lx_model.specs.declared.stage.Task.TheVariants.{Alive, Dying, Gone}
@@ -21,12 +23,12 @@ pub record Turned : Type 0 where
   pub shared : Shared
   pub task : Task UserState
   pub item : Option Item
-  pub event : Event UserState
+  pub event : PtraceEvent UserState
 
 abbrev pub turned : Out Shared UserState → Turned
 turned o = record { shared = o.shared; task = o.task; item = item_of o; event = o.event }
 
-abbrev pub event_of : Effect → Event UserState
+abbrev pub event_of : Effect → PtraceEvent UserState
 event_of effect.Plain = Plain
 event_of effect.Execed = Execed
 event_of (effect.Bore newborn) = Forked newborn.value
@@ -71,7 +73,7 @@ IsLeft last_pid effect.Execed child = Unit {0}
 IsLeft last_pid (effect.Bore newborn) child = child ≤ last_pid
 
 -- a child was born
-abbrev pub IsBirth : Event UserState → Type 0
+abbrev pub IsBirth : PtraceEvent UserState → Type 0
 IsBirth Plain = ⊥
 IsBirth Execed = ⊥
 IsBirth (Forked newborn) = Unit {0}

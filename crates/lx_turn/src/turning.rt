@@ -2,7 +2,8 @@
 
 ghost use Rattle.std.specs.Prelude.{◌≡◌, IfOk, OnErr, IsOkAnd, IsTrue, None, false, true};
 ghost use Rattle.std.specs.FinMap as maps;
-ghost use Rattle.lx_model.specs.Turn.{turn, Plain};
+ghost use Rattle.lx_model.specs.declared.event.PtraceEvent.TheVariants.{Plain};
+ghost use Rattle.lx_model.specs.Turn.{turn};
 ghost use Rattle.lx_model.specs.declared.stage.Task.TheVariants.{Alive, Dying, Gone};
 ghost use Rattle.lx_turn.specs.Linux.{linux};
 ghost use Rattle.lx_turn.specs.Modes.{task_mode as task_mode_of, life_mode};

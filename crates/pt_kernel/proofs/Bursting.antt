@@ -13,7 +13,8 @@ use Rattle.lx_model.specs.declared.stage.Stage.TheVariants.{Born, Run, Faulting,
 use Rattle.lx_model.specs.declared.stage.Task.{Task}
 use Rattle.lx_model.specs.declared.stage.Task.TheVariants.{Alive, Dying, Gone}
 use Rattle.lx_model.specs.Machine.{Ran, Goes, Calls, Faults, Takes}
-use Rattle.lx_model.specs.Turn.{Plain, Out, gives, stepped, killed_or, turn, stage_mode}
+use Rattle.lx_model.specs.declared.event.PtraceEvent.TheVariants.{Plain}
+use Rattle.lx_model.specs.Turn.{Out, gives, stepped, killed_or, turn, stage_mode}
 use Rattle.lx_model.specs.Kernel.{choice_at, traces}
 use Rattle.lx_model.specs.Finite.{at, task_mode, Running, ran, bore, turn_out, running_turn}
 use Rattle.lx_proc.specs.declared.state.Shared.{Shared}

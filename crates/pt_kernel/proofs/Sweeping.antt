@@ -18,7 +18,8 @@ use Rattle.lx_abi.specs.declared.status.Stop.TheVariants.{Syscall as Syscall_sto
 use Rattle.lx_model.specs.declared.stage.Task.{Task}
 use Rattle.lx_model.specs.declared.stage.Task.TheVariants.{Alive, Dying, Gone}
 use Rattle.lx_model.specs.declared.stage.Stage.TheVariants.{Born}
-use Rattle.lx_model.specs.Turn.{Event as Effect, Plain, Execed, Forked}
+use Rattle.lx_model.specs.declared.event.PtraceEvent.{PtraceEvent}
+use Rattle.lx_model.specs.declared.event.PtraceEvent.TheVariants.{Plain, Execed, Forked}
 use Rattle.lx_model.specs.Finite.{at, placed, Running, ran, bore, turn_out, running_turn, task_mode, first_running}
 use Rattle.lx_proc.specs.declared.state.Shared.{Shared}
 use Rattle.lx_proc.specs.declared.state.UserState.{UserState}
@@ -60,7 +61,7 @@ swept_placed tasks p (Alive b stage) h q e = inserted tasks p q (Alive b stage) 
 swept_placed tasks p (Dying w) h q e = inserted tasks p q (Dying w) (λ f. cc f) h e
 swept_placed tasks p Gone h q e = removed tasks p q h e
 
-swept_bore : (r : Running Shared UserState) (e : Effect UserState) → IsSwept r → IsSwept (bore r e)
+swept_bore : (r : Running Shared UserState) (e : PtraceEvent UserState) → IsSwept r → IsSwept (bore r e)
 swept_bore r Plain h = h
 swept_bore r Execed h = h
 swept_bore r (Forked b) h = λ q e. inserted r.tasks r.child q (Alive b Born) (λ f. cc f) h e

@@ -15,7 +15,9 @@ use Rattle.lx_model.specs.declared.stage.Stage.TheVariants.{Born, Run, Faulting,
 use Rattle.lx_model.specs.declared.stage.Task.{Task}
 use Rattle.lx_model.specs.declared.stage.Task.TheVariants.{Alive, Dying, Gone}
 use Rattle.lx_model.specs.Machine.{Machine, Ran, Goes, Calls, Faults, Takes, Answer, Refused, Returns, Jumps, Execs, Bears, Blocks, Ends, Took, Passes, Kills}
-use Rattle.lx_model.specs.Turn.{Event, Plain, Execed, Forked, Out, stepped, answered, took, lives, killed_or, turn}
+use Rattle.lx_model.specs.declared.event.PtraceEvent.{PtraceEvent}
+use Rattle.lx_model.specs.declared.event.PtraceEvent.TheVariants.{Plain, Execed, Forked}
+use Rattle.lx_model.specs.Turn.{Out, stepped, answered, took, lives, killed_or, turn}
 use Rattle.lx_model.specs.Deeds.{deed_of}
 use Rattle.lx_model.specs.Kernel.{choice_at, traces}
 use Rattle.lx_model.specs.Finite.{at, item_of, Running, ran, bore, task_mode}
@@ -120,13 +122,13 @@ pub left_at : (v : Running Shared UserState) (p : ℕ) (o : Out Shared UserState
 left_at v p o = ap (λ (f : ℕ → Task UserState). f p) (at-placed v.tasks p o.task) ∙ put_here (at Gone v.tasks) p o.task
 
 module _ (v : Running Shared UserState) (p : ℕ) (o : Out Shared UserState) where
-  stop_of : (w : TraceOptions) (e : Event UserState) → told_stop w (task_mode o.task) (item_of o) (deed_of e) ≡ tracee_stop w o.task e → (deed_of e ≡ deed.Bore → task_mode o.task ≡ Some mode.Acted) →
+  stop_of : (w : TraceOptions) (e : PtraceEvent UserState) → told_stop w (task_mode o.task) (item_of o) (deed_of e) ≡ tracee_stop w o.task e → (deed_of e ≡ deed.Bore → task_mode o.task ≡ Some mode.Acted) →
       turn_stop w (stands (bore (ran v p o) e) p) (item_of o) (deed_of e) ≡ tracee_stop w o.task e
   stop_of w Plain told bears = ap (λ task. told_stop w (kernel_mode (maps.get o.shared.entries p) task) (item_of o) deed.Plain) (left_at v p o) ∙ same_stop w (maps.get o.shared.entries p) o.task (item_of o) deed.Plain ∙ told
   stop_of w Execed told bears = ap (λ task. told_stop w (kernel_mode (maps.get o.shared.entries p) task) (item_of o) deed.Execed) (left_at v p o) ∙ same_stop w (maps.get o.shared.entries p) o.task (item_of o) deed.Execed ∙ told
   stop_of w (Forked b) told bears = sym (ap (λ x. told_stop w x (item_of o) deed.Bore) (bears refl)) ∙ told
 
-  end_of : (e : Event UserState) → ends_dying (task_mode o.task) ≡ is_dying o.task → (deed_of e ≡ deed.Bore → task_mode o.task ≡ Some mode.Acted) → dies_after (stands (bore (ran v p o) e) p) (deed_of e) ≡ is_dying o.task
+  end_of : (e : PtraceEvent UserState) → ends_dying (task_mode o.task) ≡ is_dying o.task → (deed_of e ≡ deed.Bore → task_mode o.task ≡ Some mode.Acted) → dies_after (stands (bore (ran v p o) e) p) (deed_of e) ≡ is_dying o.task
   end_of Plain told bears = ap (λ task. ends_dying (kernel_mode (maps.get o.shared.entries p) task)) (left_at v p o) ∙ same_end (maps.get o.shared.entries p) o.task ∙ told
   end_of Execed told bears = ap (λ task. ends_dying (kernel_mode (maps.get o.shared.entries p) task)) (left_at v p o) ∙ same_end (maps.get o.shared.entries p) o.task ∙ told
   end_of (Forked b) told bears = sym (ap ends_dying (bears refl)) ∙ told

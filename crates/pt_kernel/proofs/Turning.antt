@@ -6,7 +6,9 @@ use Rattle.lx_abi.specs.declared.ptrace.Request.{Request}
 use Rattle.lx_abi.specs.declared.status.Stop.{Stop}
 use Rattle.lx_abi.specs.Scripts.{choice_of}
 use Rattle.lx_model.specs.declared.stage.Deed.{Deed}
-use Rattle.lx_model.specs.Turn.{Event, Plain, Execed, Forked, Out}
+use Rattle.lx_model.specs.declared.event.PtraceEvent.{PtraceEvent}
+use Rattle.lx_model.specs.declared.event.PtraceEvent.TheVariants.{Plain, Execed, Forked}
+use Rattle.lx_model.specs.Turn.{Out}
 use Rattle.lx_model.specs.Deeds.{deed_of}
 use Rattle.lx_model.specs.Finite.{at, item_of, Running, ran, bore, turn_out}
 use Rattle.lx_proc.specs.declared.state.Shared.{Shared}
@@ -26,7 +28,7 @@ use Rattle.pt_kernel.specs.Tracees.{stopped_at, with_child, after_turn as tracee
 use Rattle.pt_kernel.specs.Hosts.{Linux_host, hosting_by}
 use Rattle.pt_kernel.proofs.Telling.{stop_after_turn, dies_after_turn}
 
-abbrev turned_by : Option TraceOptions → Out Shared UserState → Event UserState → ℕ → Turned
+abbrev turned_by : Option TraceOptions → Out Shared UserState → PtraceEvent UserState → ℕ → Turned
 turned_by w o e child = record { stop = stop_at w o.task e; dying = is_dying o.task; deed = deed_of e; child = child }
 
 module _ (r : Running Shared UserState) (x : Tracees) (turns : List ℕ) (pending : Option Request) where
@@ -34,7 +36,7 @@ module _ (r : Running Shared UserState) (x : Tracees) (turns : List ℕ) (pendin
   child_is s y ts child None = refl
   child_is s y ts child (Some w) = refl
 
-  hosted_at : (p : ℕ) (t : Traced) (o : Out Shared UserState) (w : Option TraceOptions) (e : Event UserState) →
+  hosted_at : (p : ℕ) (t : Traced) (o : Out Shared UserState) (w : Option TraceOptions) (e : PtraceEvent UserState) →
       hosted (hosting_by r x turns pending) p (record t { options = w }) (record o { event = e })
       ≡ hosting_by (bore (ran r p (record o { event = e })) e) (tracees_after x p (record t { options = w }) (turned_by w o e r.child)) (turns ++ p ∷ []) pending
   hosted_at p t o None Plain = refl

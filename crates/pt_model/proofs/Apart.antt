@@ -13,7 +13,9 @@ use Rattle.lx_abi.specs.declared.status.Stop.{Stop}
 use Rattle.lx_abi.specs.declared.status.Stop.TheVariants.{Syscall as Syscall_stop, Signal as Signal_stop, Event as Event_stop, Ended}
 use Rattle.lx_abi.specs.Scripts.{no_choice}
 use Rattle.lx_model.specs.Machine.{Machine, Ran, Goes, Calls, Faults, Takes, Answer, Refused, Returns, Jumps, Execs, Bears, Blocks, Ends, Took, Passes, Kills}
-use Rattle.lx_model.specs.Turn.{Event, Plain, Execed, Forked, Out, stepped, answered, took, lives, killed_or, turn}
+use Rattle.lx_model.specs.declared.event.PtraceEvent.{PtraceEvent}
+use Rattle.lx_model.specs.declared.event.PtraceEvent.TheVariants.{Plain, Execed, Forked}
+use Rattle.lx_model.specs.Turn.{Out, stepped, answered, took, lives, killed_or, turn}
 use Rattle.lx_model.specs.declared.stage.Stage.{Stage}
 use Rattle.lx_model.specs.declared.stage.Stage.TheVariants.{Born, Run, Faulting, Entered, Doing, Replaced, Acted, Finished, Taken, Dropped}
 use Rattle.lx_model.specs.declared.stage.Task.{Task}
@@ -29,7 +31,7 @@ use Rattle.pt_model.proofs.Views.{has_exit-append}
 
 -- Others
 
-child_apart : {S B : Type 0} (k : Kernel S B) (e : Event B) (q : ℕ) → k.child ≢ q → (with_child k e).tasks q ≡ k.tasks q
+child_apart : {S B : Type 0} (k : Kernel S B) (e : PtraceEvent B) (q : ℕ) → k.child ≢ q → (with_child k e).tasks q ≡ k.tasks q
 child_apart k Plain q d = refl
 child_apart k Execed q d = refl
 child_apart k (Forked b) q d = put_apart k.tasks k.child (Alive b Born) q d
@@ -41,7 +43,7 @@ newborn_apart : {S B : Type 0} (h : Host S B) (b : B) (w : Option TraceOptions) 
 newborn_apart h b None q d = put_apart h.procs h.child _ q d
 newborn_apart h b (Some w) q d = put_apart h.procs h.child _ q d
 
-bears_apart : {S B : Type 0} (h : Host S B) (w : Option TraceOptions) (e : Event B) (q : ℕ) → h.child ≢ q → (bears h w e).procs q ≡ h.procs q
+bears_apart : {S B : Type 0} (h : Host S B) (w : Option TraceOptions) (e : PtraceEvent B) (q : ℕ) → h.child ≢ q → (bears h w e).procs q ≡ h.procs q
 bears_apart h w Plain q d = refl
 bears_apart h w Execed q d = refl
 bears_apart h w (Forked b) q d = newborn_apart h b (inherits w) q d
@@ -133,7 +135,7 @@ module _ {S B : Type 0} (m : Machine S B) (script : Script) (follow : Bool) (k :
         (same_or_not p q);
   }
 
-born_ended : {S B : Type 0} (k : Kernel S B) (e : Event B) → Ended_all k → Ended_all (with_child k e)
+born_ended : {S B : Type 0} (k : Kernel S B) (e : PtraceEvent B) → Ended_all k → Ended_all (with_child k e)
 born_ended k Plain t = t
 born_ended k Execed t = t
 born_ended k (Forked b) t = record {
@@ -270,7 +272,7 @@ born_report : {S B : Type 0} (h : Host S B) (b : B) (w : Option TraceOptions) (q
 born_report h b None q d = refl
 born_report h b (Some w) q d = reports_for-append q h.queue _ ∙ ap (λ x. reports_for q h.queue + x) (reports_for_other h.child q d (Some (Event_stop At_start))) ∙ add-zero (reports_for q h.queue)
 
-bears_report : {S B : Type 0} (h : Host S B) (w : Option TraceOptions) (e : Event B) (q : ℕ) → h.child ≢ q → reports_for q (bears h w e).queue ≡ reports_for q h.queue
+bears_report : {S B : Type 0} (h : Host S B) (w : Option TraceOptions) (e : PtraceEvent B) (q : ℕ) → h.child ≢ q → reports_for q (bears h w e).queue ≡ reports_for q h.queue
 bears_report h w Plain q d = refl
 bears_report h w Execed q d = refl
 bears_report h w (Forked b) q d = born_report h b (inherits w) q d

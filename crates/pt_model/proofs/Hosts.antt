@@ -24,7 +24,9 @@ use Rattle.lx_abi.specs.Scripts.{no_choice, choice_of}
 use Rattle.lx_abi.specs.Log.{entries}
 use Rattle.lx_model.specs.Machine.{Machine}
 use Rattle.lx_model.specs.Machine.{call_of, Ran, Goes, Calls, Faults, Takes, Answer, Refused, Returns, Jumps, Execs, Bears, Blocks, Ends, Took, Passes, Kills}
-use Rattle.lx_model.specs.Turn.{Event, Plain, Execed, Forked, Out, gives, joins, stepped, chosen, result_word, answered as answered_call, took, lives, killed_or, turn}
+use Rattle.lx_model.specs.declared.event.PtraceEvent.{PtraceEvent}
+use Rattle.lx_model.specs.declared.event.PtraceEvent.TheVariants.{Plain, Execed, Forked}
+use Rattle.lx_model.specs.Turn.{Out, gives, joins, stepped, chosen, result_word, answered as answered_call, took, lives, killed_or, turn}
 use Rattle.lx_model.specs.declared.stage.Stage.{Stage}
 use Rattle.lx_model.specs.declared.stage.Stage.TheVariants.{Born, Run, Faulting, Entered, Doing, Replaced, Acted, Finished, Taken, Dropped}
 use Rattle.lx_model.specs.declared.stage.Task.{Task}
@@ -141,7 +143,7 @@ module _ {S B : Type 0} (m : Machine S B) where
     pending = v.pending;
   }
 
-  message_put : (messages : ℕ → ℕ) (p child : ℕ) (w : TraceOptions) (e : Event B) → put messages p (message_after (messages p) p child w e) ≡ messages_after messages p child (Some w) e
+  message_put : (messages : ℕ → ℕ) (p child : ℕ) (w : TraceOptions) (e : PtraceEvent B) → put messages p (message_after (messages p) p child w e) ≡ messages_after messages p child (Some w) e
   message_put messages p child w Plain = put_same messages p
   message_put messages p child w Execed = go w.execs
     where
@@ -171,7 +173,7 @@ module _ {S B : Type 0} (m : Machine S B) where
       x = record { held = is_there (tracee_stop w o.task o.event); options = Some w; message = message_after (traced_at v p).message p v.running.child w o.event }
 
   -- a child
-  abbrev with_user : Hosting S B → Event B → Hosting S B
+  abbrev with_user : Hosting S B → PtraceEvent B → Hosting S B
   with_user v e = record { running = bore v.running e; traced = v.traced; queue = v.queue; tracees = v.tracees; turns = v.turns; pending = v.pending }
 
   unknown : (v : Hosting S B) → IsFresh v → traced_at v v.running.child ≡ untraced
@@ -190,16 +192,16 @@ module _ {S B : Type 0} (m : Machine S B) where
       (procs_put (at Gone v.running.tasks) _ (traced_at v) _ c (Alive b Born) x (at-insert Gone v.running.tasks c (Alive b Born)) (at-insert untraced v.traced c x))
       (messages_put (traced_at v) _ c x (at-insert untraced v.traced c x) ∙ ap (put (λ q. (traced_at v q).message) c) (sym (ap (λ (t : Traced). t.message) (unknown v fresh))) ∙ put_same (λ q. (traced_at v q).message) c)
 
-  birth_is : (v : Hosting S B) (w : Option TraceOptions) (e : Event B) → IsFresh v → host_in (with_birth (with_user v e) v.running.child w e) ≡ bears (host_in v) w e
+  birth_is : (v : Hosting S B) (w : Option TraceOptions) (e : PtraceEvent B) → IsFresh v → host_in (with_birth (with_user v e) v.running.child w e) ≡ bears (host_in v) w e
   birth_is v w Plain fresh = refl
   birth_is v w Execed fresh = refl
   birth_is v w (Forked b) fresh = child_is v b (inherits w) fresh
 
-  after_fresh : (child : ℕ) (traced : maps.FinMap nat_cmp Traced) (p message : ℕ) (w : Option TraceOptions) (task : Task B) (e : Event B) → (at untraced traced p).options ≡ w → Fresh child traced → Fresh child (traced_after traced p child message w task e)
+  after_fresh : (child : ℕ) (traced : maps.FinMap nat_cmp Traced) (p message : ℕ) (w : Option TraceOptions) (task : Task B) (e : PtraceEvent B) → (at untraced traced p).options ≡ w → Fresh child traced → Fresh child (traced_after traced p child message w task e)
   after_fresh child traced p message None task e h f = f
   after_fresh child traced p message (Some w) task e h f = fresh_insert child traced p _ f (is_watched (maps.get traced p) w h)
 
-  birth_fresh : (v : Hosting S B) (w : Option TraceOptions) (e : Event B) → IsFresh v → IsFresh (with_birth (with_user v e) v.running.child w e)
+  birth_fresh : (v : Hosting S B) (w : Option TraceOptions) (e : PtraceEvent B) → IsFresh v → IsFresh (with_birth (with_user v e) v.running.child w e)
   birth_fresh v w Plain f = f
   birth_fresh v w Execed f = f
   birth_fresh v w (Forked b) f = go (inherits w)
@@ -306,7 +308,7 @@ module _ {S B : Type 0} (m : Machine S B) where
   newborn_keeps v c None = (refl, refl, refl)
   newborn_keeps v c (Some w) = (refl, refl, refl)
 
-  birth_keeps : (v : Hosting S B) (c : ℕ) (w : Option TraceOptions) (e : Event B) → ((with_birth v c w e).running ≡ v.running) × ((with_birth v c w e).turns ≡ v.turns) × ((with_birth v c w e).pending ≡ v.pending)
+  birth_keeps : (v : Hosting S B) (c : ℕ) (w : Option TraceOptions) (e : PtraceEvent B) → ((with_birth v c w e).running ≡ v.running) × ((with_birth v c w e).turns ≡ v.turns) × ((with_birth v c w e).pending ≡ v.pending)
   birth_keeps v c w Plain = (refl, refl, refl)
   birth_keeps v c w Execed = (refl, refl, refl)
   birth_keeps v c w (Forked b) = newborn_keeps v c (inherits w)

@@ -23,7 +23,9 @@ use Rattle.lx_abi.specs.Errors.{error_word}
 use Rattle.lx_abi.specs.Signals.{is_signal, may_join, signal_numbered}
 use Rattle.lx_abi.specs.Status.{is_end}
 use Rattle.lx_model.specs.Machine.{call_of, a0_of, a7_of, sp_of, with_a0, with_a7, Machine, IsMachine, with_result, Ran, Goes, Calls, Faults, Takes, Answer, Refused, Returns, Jumps, Execs, Bears, Blocks, Ends, Took, Passes, Kills}
-use Rattle.lx_model.specs.Turn.{stage_mode, Event, Plain, Out, gives, dies, stepped, joins, chosen, result_word, answered, took, lives, killed_or, turn}
+use Rattle.lx_model.specs.declared.event.PtraceEvent.{PtraceEvent}
+use Rattle.lx_model.specs.declared.event.PtraceEvent.TheVariants.{Plain}
+use Rattle.lx_model.specs.Turn.{stage_mode, Out, gives, dies, stepped, joins, chosen, result_word, answered, took, lives, killed_or, turn}
 use Rattle.lx_model.specs.declared.stage.Stage.{Stage}
 use Rattle.lx_model.specs.declared.stage.Stage.TheVariants.{Born, Run, Faulting, Entered, Doing, Replaced, Acted, Finished, Taken, Dropped}
 use Rattle.lx_model.specs.declared.stage.Task.{Task}
@@ -64,7 +66,7 @@ no_items true = refl
 no_items false = refl
 
 -- a child that a turn bears
-pub data Birth {S B : Type 0} (m : Machine S B) (f : Bool) (ph : Phase B) (e : Event B) : Type 0 where
+pub data Birth {S B : Type 0} (m : Machine S B) (f : Bool) (ph : Phase B) (e : PtraceEvent B) : Type 0 where
   No_birth : e ≡ Plain → Birth m f ph e
   Loose_birth : (proc_of m f ph).options ≡ None → is_traced ph ≡ false → Birth m f ph e
   Traced_birth : (proc_of m f ph).options ≡ Some (asked_options f) → reaped ph ≡ false → Birth m f ph e

@@ -10,7 +10,9 @@ use Rattle.lx_abi.specs.declared.status.EventStop.TheVariants.{Stop as At_start}
 use Rattle.lx_abi.specs.declared.status.Stop.TheVariants.{Event as Event_stop}
 use Rattle.lx_abi.specs.Log.{Noted, pid_of, items_of, entries}
 use Rattle.lx_model.specs.Machine.{Machine, IsMachine}
-use Rattle.lx_model.specs.Turn.{Event, Plain, Execed, Forked, Out}
+use Rattle.lx_model.specs.declared.event.PtraceEvent.{PtraceEvent}
+use Rattle.lx_model.specs.declared.event.PtraceEvent.TheVariants.{Plain, Execed, Forked}
+use Rattle.lx_model.specs.Turn.{Out}
 use Rattle.lx_model.specs.declared.stage.Stage.TheVariants.{Born}
 use Rattle.lx_model.specs.declared.stage.Task.{Task}
 use Rattle.lx_model.specs.declared.stage.Task.TheVariants.{Alive}
@@ -400,7 +402,7 @@ module _ {S B : Type 0} (m : Machine S B) (o : Options) (script : Script) (w : W
   none_traced true p h = h
   none_traced false p h = refl
 
-  pub born_tied : (t : Tied m o script w kernel) (p : ℕ) (ph : Phase B) (e : Event B) → traces o.follow p ≡ is_traced ph → (reaped ph ≡ false → is_past w.tracer.focus ≡ true → ⊥) → Birth m o.follow ph e → Tied m o script (with_host (bears w.host (proc_of m o.follow ph).options e)) (with_child kernel e)
+  pub born_tied : (t : Tied m o script w kernel) (p : ℕ) (ph : Phase B) (e : PtraceEvent B) → traces o.follow p ≡ is_traced ph → (reaped ph ≡ false → is_past w.tracer.focus ≡ true → ⊥) → Birth m o.follow ph e → Tied m o script (with_host (bears w.host (proc_of m o.follow ph).options e)) (with_child kernel e)
   born_tied t p ph Plain sort going birth = t
   born_tied t p ph Execed sort going birth = t
   born_tied t p ph (Forked b) sort going (No_birth x) = absurd (cc x)

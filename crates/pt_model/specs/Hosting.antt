@@ -20,7 +20,9 @@ use Rattle.lx_abi.specs.declared.status.Stop.{Stop}
 use Rattle.lx_abi.specs.declared.status.Stop.TheVariants.{Syscall as Syscall_stop, Signal as Signal_stop, Event as Event_stop, Ended}
 use Rattle.lx_abi.specs.Scripts.{no_choice}
 use Rattle.lx_model.specs.Machine.{Machine}
-use Rattle.lx_model.specs.Turn.{Event, Plain, Execed, Forked, Out}
+use Rattle.lx_model.specs.declared.event.PtraceEvent.{PtraceEvent}
+use Rattle.lx_model.specs.declared.event.PtraceEvent.TheVariants.{Plain, Execed, Forked}
+use Rattle.lx_model.specs.Turn.{Out}
 use Rattle.lx_model.specs.declared.stage.Task.{Task}
 use Rattle.lx_model.specs.declared.stage.Task.TheVariants.{Alive, Dying, Gone}
 use Rattle.lx_model.specs.Kernel.{Script}
@@ -82,14 +84,14 @@ IsFresh v = (q : ℕ) → v.running.child ≤ q → maps.get v.traced q ≡ None
 abbrev pub no_script : Script
 no_script call n = no_choice
 
-abbrev pub message_after : {B : Type 0} → ℕ → ℕ → ℕ → TraceOptions → Event B → ℕ
+abbrev pub message_after : {B : Type 0} → ℕ → ℕ → ℕ → TraceOptions → PtraceEvent B → ℕ
 message_after message p child w Plain = message
 message_after message p child w Execed = cond w.execs p message
 message_after message p child w (Forked b) = cond w.forks child message
 
 -- what is kept of a tracee after its turn; of who is none nothing is
 abbrev pub traced_after : {B : Type 0} → maps.FinMap nat_cmp Traced → ℕ → ℕ → ℕ
-    → Option TraceOptions → Task B → Event B → maps.FinMap nat_cmp Traced
+    → Option TraceOptions → Task B → PtraceEvent B → maps.FinMap nat_cmp Traced
 traced_after traced p child message None task e = traced
 traced_after traced p child message (Some w) task e = maps.insert traced p (record {
   held = is_there (tracee_stop w task e);
@@ -109,7 +111,7 @@ with_newborn v child (Some w) = record {
   pending = v.pending;
 }
 
-abbrev pub with_birth : {S B : Type 0} → Hosting S B → ℕ → Option TraceOptions → Event B → Hosting S B
+abbrev pub with_birth : {S B : Type 0} → Hosting S B → ℕ → Option TraceOptions → PtraceEvent B → Hosting S B
 with_birth v child w Plain = v
 with_birth v child w Execed = v
 with_birth v child w (Forked b) = with_newborn v child (inherits w)

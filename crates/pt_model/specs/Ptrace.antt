@@ -7,7 +7,9 @@ use Rattle.lx_abi.specs.declared.status.Stop.{Stop}
 use Rattle.lx_abi.specs.declared.status.Stop.TheVariants.{Event as Event_stop, Ended}
 use Rattle.lx_abi.specs.Scripts.{no_choice}
 use Rattle.lx_model.specs.Machine.{Machine}
-use Rattle.lx_model.specs.Turn.{Event, Plain, Execed, Forked, Out, turn}
+use Rattle.lx_model.specs.declared.event.PtraceEvent.{PtraceEvent}
+use Rattle.lx_model.specs.declared.event.PtraceEvent.TheVariants.{Plain, Execed, Forked}
+use Rattle.lx_model.specs.Turn.{Out, turn}
 use Rattle.lx_model.specs.declared.stage.Stage.TheVariants.{Born}
 use Rattle.lx_model.specs.declared.stage.Task.{Task}
 use Rattle.lx_model.specs.declared.stage.Task.TheVariants.{Alive, Dying, Gone}
@@ -37,19 +39,19 @@ pub record Host (S B : Type 0) : Type 0 where
 
 -- What a turn has come to
 
-abbrev pub event_stop : {B : Type 0} → TraceOptions → Event B → Option Stop
+abbrev pub event_stop : {B : Type 0} → TraceOptions → PtraceEvent B → Option Stop
 event_stop w Plain = None
 event_stop w Execed = cond w.execs (Some (Event_stop At_exec)) None
 event_stop w (Forked b) = cond w.forks (Some (Event_stop At_fork)) None
 
 -- the stop of a tracee after its turn, from where it stands and what its call did
-abbrev pub tracee_stop : {B : Type 0} → TraceOptions → Task B → Event B → Option Stop
+abbrev pub tracee_stop : {B : Type 0} → TraceOptions → Task B → PtraceEvent B → Option Stop
 tracee_stop w (Alive b stage) e = (row stage).stop w.good (event_stop w e)
 tracee_stop w (Dying word) e = Some (Ended word)
 tracee_stop w Gone e = None
 
 -- a process that is no tracee has no stops
-abbrev pub stop_at : {B : Type 0} → Option TraceOptions → Task B → Event B → Option Stop
+abbrev pub stop_at : {B : Type 0} → Option TraceOptions → Task B → PtraceEvent B → Option Stop
 stop_at (Some w) task e = tracee_stop w task e
 stop_at None task e = None
 
@@ -81,10 +83,10 @@ may_die _ _ _ _ _ = false
 abbrev pub is_effective : {S B : Type 0} → Machine S B → S → ℕ → Proc B → Bool
 is_effective m s p t = cond t.held (may_die m s p t.options t.task) true
 
-abbrev pub proc_after : {B : Type 0} → Option TraceOptions → Task B → Event B → Proc B
+abbrev pub proc_after : {B : Type 0} → Option TraceOptions → Task B → PtraceEvent B → Proc B
 proc_after w task e = record { task = task; held = is_there (stop_at w task e); options = w }
 
-abbrev pub messages_after : {B : Type 0} → (ℕ → ℕ) → ℕ → ℕ → Option TraceOptions → Event B → ℕ → ℕ
+abbrev pub messages_after : {B : Type 0} → (ℕ → ℕ) → ℕ → ℕ → Option TraceOptions → PtraceEvent B → ℕ → ℕ
 messages_after messages p child None e = messages
 messages_after messages p child (Some w) Plain = messages
 messages_after messages p child (Some w) Execed = cond w.execs (put messages p p) messages
@@ -128,7 +130,7 @@ newborn h b (Some w) = record {
   child = suc h.child;
 }
 
-abbrev pub bears : {S B : Type 0} → Host S B → Option TraceOptions → Event B → Host S B
+abbrev pub bears : {S B : Type 0} → Host S B → Option TraceOptions → PtraceEvent B → Host S B
 bears h w Plain = h
 bears h w Execed = h
 bears h w (Forked b) = newborn h b (inherits w)

@@ -1,6 +1,7 @@
 use Rattle.std.proofs.Common.{◌≡◌, Some, ap, sym, subst, ◌∙◌}
 use Rattle.lx_abi.specs.declared.log.Item.TheVariants as item
-use Rattle.lx_model.specs.Turn.{turn, Plain}
+use Rattle.lx_model.specs.declared.event.PtraceEvent.TheVariants.{Plain}
+use Rattle.lx_model.specs.Turn.{turn}
 use Rattle.lx_model.specs.declared.stage.Task.TheVariants.{Alive}
 use Rattle.lx_turn.specs.Linux.{linux}
 use Rattle.lx_turn.specs.Injection.{choice_of_call, choice_of_task}
