@@ -6,17 +6,18 @@ use Rattle.std.specs.Cmp.{eq_by_cmp_equiv}
 use Rattle.lx_turn.proofs.Placed.{equal_is, get_put}
 use Rattle.std.specs.FinMap as maps
 use Rattle.std.specs.FinMap.{FinMap}
+use Rattle.std.specs.Global.{Box}
 use Rattle.lx_abi.specs.declared.log.Item.{Item}
 use Rattle.lx_model.specs.declared.stage.Task.{Task}
 use Rattle.lx_model.specs.declared.stage.Task.TheVariants.{Alive, Dying, Gone}
 use Rattle.lx_model.specs.Finite.{at, placed}
 use Rattle.lx_proc.specs.declared.state.Shared.{Shared}
 use Rattle.lx_proc.specs.declared.state.UserState.{UserState}
-use Rattle.lx_turn.specs.Turned.{Turned, is_gone, event_of}
+use Rattle.lx_turn.specs.Turned.{Turned, is_gone, unboxed}
 use Rattle.lx_kernel.specs.Turns.{without_gone}
 use Rattle.lx_kernel.specs.Turns.{Turns}
-use Rattle.lx_turn.specs.declared.effects.Effect.{Effect}
-use Rattle.lx_turn.specs.declared.effects.Effect.TheVariants as effect
+use Rattle.lx_model.specs.declared.event.PtraceEvent.{PtraceEvent}
+use Rattle.lx_model.specs.declared.event.PtraceEvent.TheVariants.{Plain}
 
 module _ {X : Type 0} (m : FinMap nat_cmp X) (p : ℕ) where
   same : (b : Bool) (x : X) (y : Option X) → cond b None (cond b (Some x) y) ≡ cond b None y
@@ -63,18 +64,18 @@ placed_by m p task true e = placed_gone m p task e
 placed_by m p task false e = placed_there m p task e
 
 -- the turn of a process with a part of its own
-pub somebody : (g : Task UserState → Turned) (tasks tasks' : Tasks) (p : ℕ) (task task' : Task UserState) (item : Option Item) (done : Effect) (s : Shared)
-    → Some task ≡ maps.get tasks p → g task ≡ record { shared = s; task = task'; item = item; event = event_of done } → placed tasks p task' ≡ tasks' → Turns (g (at Gone tasks p)) tasks p item done s tasks'
+pub somebody : (g : Task UserState → Turned) (tasks tasks' : Tasks) (p : ℕ) (task task' : Task UserState) (item : Option Item) (done : PtraceEvent (Box UserState)) (s : Shared)
+    → Some task ≡ maps.get tasks p → g task ≡ record { shared = s; task = task'; item = item; event = unboxed done } → placed tasks p task' ≡ tasks' → Turns (g (at Gone tasks p)) tasks p item done s tasks'
 somebody g tasks tasks' p task task' item done s there is placed_is =
     let at_is : at Gone tasks p ≡ task = ap (λ o. unwrap_or o Gone) (sym there) in
     subst (λ t. Turns t tasks p item done s tasks') (sym (ap g at_is ∙ is)) (record { shared_is = refl; tasks_is = placed_is; item_is = refl; event_is = refl })
 
 -- and of one without
-pub nobody : (g : Task UserState → Turned) (tasks tasks' : Tasks) (p : ℕ) (item : Option Item) (done : Effect) (s : Shared)
-    → None ≡ maps.get tasks p → g Gone ≡ record { shared = s; task = Gone; item = None; event = event_of effect.Plain } → tasks' ≡ tasks → item ≡ None → done ≡ effect.Plain → Turns (g (at Gone tasks p)) tasks p item done s tasks'
+pub nobody : (g : Task UserState → Turned) (tasks tasks' : Tasks) (p : ℕ) (item : Option Item) (done : PtraceEvent (Box UserState)) (s : Shared)
+    → None ≡ maps.get tasks p → g Gone ≡ record { shared = s; task = Gone; item = None; event = unboxed Plain } → tasks' ≡ tasks → item ≡ None → done ≡ Plain → Turns (g (at Gone tasks p)) tasks p item done s tasks'
 nobody g tasks tasks' p item done s none is same no_item plain =
     let at_is : at Gone tasks p ≡ Gone = ap (λ o. unwrap_or o Gone) (sym none) in
-    subst (λ t. Turns t tasks p item done s tasks') (sym (ap g at_is ∙ is)) (record { shared_is = refl; tasks_is = remove_absent tasks p (sym none) ∙ sym same; item_is = sym no_item; event_is = ap event_of (sym plain) })
+    subst (λ t. Turns t tasks p item done s tasks') (sym (ap g at_is ∙ is)) (record { shared_is = refl; tasks_is = remove_absent tasks p (sym none) ∙ sym same; item_is = sym no_item; event_is = ap unboxed (sym plain) })
 
 -- what a table has at a part that was put in its place
 pub at_placed : (m : Tasks) (p : ℕ) (task : Task UserState) → at Gone (placed m p task) p ≡ task

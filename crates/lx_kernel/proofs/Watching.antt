@@ -31,10 +31,10 @@ use Rattle.lx_kernel.specs.Sleeping.{IsKept, IsSameBut, IsWatched, AreWatched, A
 use Rattle.lx_kernel.specs.Tracing.{with_regs, with_change, with_part_at}
 use Rattle.lx_kernel.specs.declared.tracing.Change.{Change}
 use Rattle.lx_kernel.specs.declared.tracing.Change.TheVariants.{Join, Skip, Resume}
-use Rattle.lx_turn.specs.Turned.{turned, Turned, event_of, IsBirth}
+use Rattle.lx_turn.specs.Turned.{turned, Turned, unboxed, IsBirth}
 use Rattle.lx_kernel.specs.Turns.{tasks_with}
 use Rattle.lx_kernel.specs.Turns.{Turns}
-use Rattle.lx_turn.specs.declared.effects.Effect.{Effect}
+use Rattle.std.specs.Global.{Box}
 use Rattle.lx_kernel.specs.declared.run_queue.RunQueue.{RunQueue}
 use Rattle.lx_turn.proofs.Placed.{get_put}
 use Rattle.lx_kernel.proofs.Placing.{at_placed}
@@ -198,7 +198,7 @@ unslept_before sets child q Plain other none = none
 unslept_before sets child q Execed other none = none
 unslept_before sets child q (Forked newborn) other none = sym (other_left sets.asleep child q (other tt)) ∙ none
 
-module _ (v : Running Shared UserState) (rules : List Rule) (follow : Bool) (p : ℕ) (count : ℕ → ℕ) (item : Option Item) (done : Effect) (s : Shared) (tasks : Tasks)
+module _ (v : Running Shared UserState) (rules : List Rule) (follow : Bool) (p : ℕ) (count : ℕ → ℕ) (item : Option Item) (done : PtraceEvent (Box UserState)) (s : Shared) (tasks : Tasks)
     (turns : Turns (turned (turn linux (choice_at linux (choice_of rules) (traces follow p) count (at Gone v.tasks p)) v.shared v.child p (at Gone v.tasks p))) v.tasks p item done s tasks)
     (sets : RunQueue) (watched : AreWatched sets v.shared v.tasks) where
   abbrev task : Task UserState
@@ -208,7 +208,7 @@ module _ (v : Running Shared UserState) (rules : List Rule) (follow : Bool) (p :
   out o = turn linux (choice_at linux (choice_of rules) (traces follow p) count o) v.shared v.child p o
 
   abbrev event : PtraceEvent UserState
-  event = event_of done
+  event = unboxed done
 
   task_is : at Gone tasks p ≡ (out task).task
   task_is = ap (λ (m : Tasks). at Gone m p) (sym turns.tasks_is) ∙ at_placed v.tasks p (out task).task

@@ -7,7 +7,7 @@ ghost use Rattle.std.specs.Option.{option_to_list};
 ghost use Rattle.lx_abi.specs.Log.{is_entry};
 ghost use Rattle.lx_abi.specs.Occurrences.{count_of};
 ghost use Rattle.lx_model.specs.Finite.{at, item_of};
-ghost use Rattle.lx_model.specs.Deeds.{deed_of};
+ghost use Rattle.lx_model.specs.Events.{by_pid};
 ghost use Rattle.lx_model.specs.declared.event.PtraceEvent.TheVariants.{Plain};
 ghost use Rattle.lx_model.specs.Turn.{turn};
 ghost use Rattle.lx_model.specs.declared.stage.Task.TheVariants.{Alive, Gone};
@@ -16,7 +16,7 @@ ghost use Rattle.lx_turn.specs.Linux.{linux};
 ghost use Rattle.lx_turn.specs.Modes.{task_mode as task_mode_of};
 ghost use Rattle.lx_turn.specs.Resting.{Calms};
 ghost use Rattle.lx_turn.specs.Injection.{choice_of_task};
-ghost use Rattle.lx_turn.specs.Turned.{turned, event_of, IsLeft, IsBirth};
+ghost use Rattle.lx_turn.specs.Turned.{turned, unboxed, IsLeft, IsBirth};
 ghost use Rattle.lx_kernel.specs.Bursts.{Burst};
 ghost use Rattle.lx_kernel.specs.Occurrences.{Agree};
 ghost use Rattle.lx_kernel.specs.Outcomes.{outcome_in};
@@ -33,9 +33,9 @@ use crate::tracing::Change;
 use crate::{bursts, tracing};
 use containers::{Bytes, Map};
 use lx_abi::{Cause, Item, Mode, Occurrences, Outcome, RegisterSet, Registers, Script, Signal};
-use lx_model::{Deed, Stage, Task};
+use lx_model::{PtraceEvent, Stage, Task};
 use lx_proc::{ProcessLimits, Shared, UserState};
-use lx_turn::{Effect, Injection, Transition, is_killed, mode_of_gone, turn_task};
+use lx_turn::{Injection, Transition, is_killed, mode_of_gone, turn_task};
 use rv_hart::DecodedCode;
 use std::alloc::{AllocError, Global};
 use std::marker::Model;
@@ -50,14 +50,14 @@ impl From<AllocError> for Failed {
     }
 }
 
-/// A process's mode before a turn and after it, what was logged, and what its call did beside; no mode where it isn't
-/// in the table.
+/// A process's mode before a turn and after it, what was logged, and what its call did beside, a child by its pid; no
+/// mode where it isn't in the table.
 #[derive(Clone, Copy, Debug, PartialEq, Eq)]
 pub struct Moved {
     pub before: Option<Mode>,
     pub after: Option<Mode>,
     pub item: Option<Item>,
-    pub deed: Deed,
+    pub event: PtraceEvent<u32>,
 }
 
 /// A process leaves the table.
@@ -95,9 +95,9 @@ fn turn_at(
         ≡ task_mode_of (maps.get shared.old.entries pid) (at Gone tasks.old pid)) }
     ensures after { IfOk result
         (λ t. t.after ≡ task_mode_of (maps.get shared.new.entries pid) (at Gone tasks.new pid)) }
-    ensures calm { IfOk result (λ t. IsTrue t.calm → Calms shared.old shared.new child pid t.roused (event_of t.done)) }
+    ensures calm { IfOk result (λ t. IsTrue t.calm → Calms shared.old shared.new child pid t.roused (unboxed t.done)) }
     ensures absent { at Gone tasks.old pid ≡ Gone
-        → IsOkAnd result (λ t. (item.new ≡ None) × (event_of t.done ≡ Plain)) }
+        → IsOkAnd result (λ t. (item.new ≡ None) × (unboxed t.done ≡ Plain)) }
     ensures console { OnErr result (shared.new.console ≡ shared.old.console) }
 {
     let transition = match tasks.get_mut(pid) {
@@ -131,17 +131,17 @@ fn place_child(
     tasks: &mut Map<Task<UserState>>,
     child: &mut u32,
     last_pid: u16,
-    done: Effect,
+    done: PtraceEvent<Box<UserState>>,
 ) -> Result<(), AllocError>
     requires { IsLeft last_pid done child.old }
-    ensures tasks { OnOk result (tasks.new ≡ tasks_with tasks.old child.old (event_of done)) }
-    ensures child { OnOk result (child.new ≡ next_child child.old (event_of done)) }
-    ensures plain { event_of done ≡ Plain → IsOk result }
-    ensures born { OnErr result (IsBirth (event_of done)) }
+    ensures tasks { OnOk result (tasks.new ≡ tasks_with tasks.old child.old (unboxed done)) }
+    ensures child { OnOk result (child.new ≡ next_child child.old (unboxed done)) }
+    ensures plain { unboxed done ≡ Plain → IsOk result }
+    ensures born { OnErr result (IsBirth (unboxed done)) }
 {
     match done {
-        Effect::Plain | Effect::Execed => Ok(()),
-        Effect::Bore(user) => {
+        PtraceEvent::Plain | PtraceEvent::Execed => Ok(()),
+        PtraceEvent::Forked(user) => {
             place_user(tasks, *child, user)?;
             prove!(*child <= u32::from(last_pid));
             *child += 1;
@@ -201,15 +201,15 @@ fn mode_after(
     shared: &Shared,
     tasks: &Map<Task<UserState>>,
     pid: u32,
-    deed: Deed,
+    event: PtraceEvent<u32>,
     mode: Option<Mode>,
 ) -> Option<Mode>
-    requires { (deed ≡ Deed.Bore → ⊥) → mode ≡ task_mode_of (maps.get shared.now.entries pid) (at Gone tasks.now pid) }
+    requires { (IsBirth event → ⊥) → mode ≡ task_mode_of (maps.get shared.now.entries pid) (at Gone tasks.now pid) }
     ensures { result ≡ task_mode_of (maps.get shared.now.entries pid) (at Gone tasks.now pid) }
 {
-    match deed {
-        Deed::Bore => mode_of(shared, tasks, pid),
-        Deed::Plain | Deed::Execed => mode,
+    match event {
+        PtraceEvent::Forked(_) => mode_of(shared, tasks, pid),
+        PtraceEvent::Plain | PtraceEvent::Execed => mode,
     }
 }
 
@@ -285,7 +285,7 @@ impl Kernel {
         ensures before { IfOk result (λ m. m.before ≡ mode_in self.old pid) }
         ensures after { IfOk result (λ m. m.after ≡ mode_in self.new pid) }
         ensures item { IfOk result (λ m. m.item ≡ item_of (turn_in self.old pid)) }
-        ensures deed { IfOk result (λ m. m.deed ≡ deed_of (turn_in self.old pid).event) }
+        ensures event { IfOk result (λ m. m.event ≡ by_pid self.old.running.child (turn_in self.old pid).event) }
         ensures turned { OnOk result (self.new ≡ after_turn self.old pid) }
 
         // Once want of memory was met, every turn answers so; the log and the console stay as they were.
@@ -326,7 +326,7 @@ impl Kernel {
             roused,
             may_rest,
         } = transition;
-        let deed = done.deed();
+        let event = done.by_pid(self.child);
         self.run_queue.welcome(&done, self.child);
         place_child(&mut self.tasks, &mut self.child, last_pid, done)?;
         self.run_queue.rouse(&self.shared, &self.tasks, pid, roused);
@@ -338,13 +338,13 @@ impl Kernel {
             Hints { may_rest, gone },
         );
         log_item(&mut self.log, &mut self.occurrences, &item)?;
-        let after = mode_after(&self.shared, &self.tasks, pid, deed, after);
+        let after = mode_after(&self.shared, &self.tasks, pid, event, after);
         self.failed = false;
         Ok(Moved {
             before,
             after,
             item,
-            deed,
+            event,
         })
     }
 

@@ -13,13 +13,13 @@ ghost use Rattle.std.specs.FinMap as maps;
 ghost use Rattle.lx_model.specs.Finite.{at};
 ghost use Rattle.lx_model.specs.declared.stage.Task.TheVariants.{Gone};
 ghost use Rattle.lx_turn.specs.Resting.{rests as rests_in};
-ghost use Rattle.lx_turn.specs.Turned.{event_of};
+ghost use Rattle.lx_turn.specs.Turned.{unboxed};
 ghost use Rattle.lx_kernel.specs.Sleeping.{IsWatched, IsSameBut, AreListed, Watch, welcomed};
 
 use containers::Map;
-use lx_model::Task;
+use lx_model::{PtraceEvent, Task};
 use lx_proc::{Shared, UserState};
-use lx_turn::{Effect, rests};
+use lx_turn::rests;
 use std::alloc::Global;
 
 /// The processes that may be able, and those that wait in a call, which a search passes over.
@@ -106,13 +106,13 @@ impl RunQueue {
     }
 
     /// A child that is born is awake.
-    pub fn welcome(&mut self, done: &Effect, child: u32)
-        ensures sets { self.new.known ≡ true → self.new ≡ welcomed self.old child (event_of done.now) }
+    pub fn welcome(&mut self, done: &PtraceEvent<Box<UserState>>, child: u32)
+        ensures sets { self.new.known ≡ true → self.new ≡ welcomed self.old child (unboxed done.now) }
         ensures known { self.new.known ≡ true → self.old.known ≡ true }
     {
         match done {
-            Effect::Bore(_) => self.wake(child),
-            Effect::Plain | Effect::Execed => {}
+            PtraceEvent::Forked(_) => self.wake(child),
+            PtraceEvent::Plain | PtraceEvent::Execed => {}
         }
     }
 

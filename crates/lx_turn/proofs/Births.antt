@@ -1,6 +1,7 @@
 -- A child is born under a pid that is left, in a turn that leaves the console.
 use Rattle.std.proofs.Common.{◌≡◌, ℕ, ◌≤◌, Bool, true, false, Option, Some, None}
 use Rattle.std.specs.FinMap as maps
+use Rattle.std.specs.Global.{Box}
 use Rattle.rv_hart.specs.declared.outcome.Step.{Step}
 use Rattle.rv_hart.specs.declared.outcome.Step.TheVariants as step
 use Rattle.rv_hart.specs.Steps.{Outcome, stepped as instruction}
@@ -21,9 +22,7 @@ use Rattle.lx_proc.specs.declared.state.UserState.{UserState}
 use Rattle.lx_sig.specs.declared.state.Interrupted.{Interrupted}
 use Rattle.lx_turn.specs.Calls.{does}
 use Rattle.lx_turn.specs.Fitting.{Fits}
-use Rattle.lx_turn.specs.Turned.{event_of, IsLeft, IsBirth}
-use Rattle.lx_turn.specs.declared.effects.Effect.{Effect}
-use Rattle.lx_turn.specs.declared.effects.Effect.TheVariants as effect
+use Rattle.lx_turn.specs.Turned.{unboxed, IsLeft, IsBirth}
 use Rattle.lx_pcalls.specs.Taking.{takes}
 use Rattle.lx_turn.specs.Linux.{linux}
 use Rattle.lx_turn.specs.Reactions.{next_of, runs, resumed, ran_by, is_killed}
@@ -86,10 +85,10 @@ turn_fine c s child p Gone = tt
 
 -- of what the code did beside
 
-pub left_by : (s : Shared) (child : ℕ) (t : Shared) (done : Effect) → Births s child t (event_of done) → IsLeft s.limits.last_pid done child
-left_by s child t effect.Plain h = tt
-left_by s child t effect.Execed h = tt
-left_by s child t (effect.Bore newborn) h = h.1
+pub left_by : (s : Shared) (child : ℕ) (t : Shared) (done : PtraceEvent (Box UserState)) → Births s child t (unboxed done) → IsLeft s.limits.last_pid done child
+left_by s child t Plain h = tt
+left_by s child t Execed h = tt
+left_by s child t (Forked newborn) h = h.1
 
 pub console_by : (s : Shared) (child : ℕ) (t : Shared) (e : PtraceEvent UserState) → Births s child t e → IsBirth e → t.console ≡ s.console
 console_by s child t Plain h birth = absurd birth

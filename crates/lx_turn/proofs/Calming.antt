@@ -4,6 +4,7 @@ use Rattle.std.specs.Prelude.{◌==◌, ◌||◌, ◌*◌, ◌<◌, nat_lt, fold
 use Rattle.std.specs.List.{filter, range_with_len}
 use Rattle.std.specs.Option.{unwrap_or}
 use Rattle.std.specs.FinMap as maps
+use Rattle.std.specs.Global.{Box}
 use Rattle.std.specs.Int.{w32, to_le_bytes}
 use Rattle.std.specs.declared.result.Result.TheVariants.{Ok, Err}
 use Rattle.std.proofs.lemmas.Bool.Decides.{nat_tests}
@@ -79,8 +80,7 @@ use Rattle.lx_proc.specs.State.{Entries}
 use Rattle.lx_proc.specs.declared.state.Life.TheVariants.{Zombie}
 use Rattle.lx_pcalls.specs.Ends.{dies, buried, buried_entry, orphan, orphaned, released, released_entry, retired_by, told, wants_no_news, with_life}
 use Rattle.lx_proc.specs.Families.{is_zombie}
-use Rattle.lx_turn.specs.Turned.{Turned, turned, turned_by, event_of}
-use Rattle.lx_turn.specs.declared.effects.Effect.{Effect}
+use Rattle.lx_turn.specs.Turned.{Turned, turned, turned_by, unboxed}
 use Rattle.lx_turn.specs.declared.stages.Went.TheVariants.{On}
 use Rattle.lx_turn.proofs.Placed.{get_put}
 use Rattle.lx_turn.proofs.Awaiting.{awaits_on, signalled_spared, twice_spared, died_spared, reaped_spared, born_spared, buried_spared}
@@ -410,10 +410,10 @@ turn_calm c s child p (Dying w) = λ e. absurd (cc e)
 turn_calm c s child p Gone = λ e. same_calm s child p Plain
 
 -- a turn of a living process that goes on
-pub on_calm : (c : Choice) (s : Shared) (child p : ℕ) (b : UserState) (stage : Stage) (done : Effect) (t : Shared) (d : UserState) (next : Stage) (item : Option Item) → turned (turn linux c s child p (Alive b stage)) ≡ turned_by (On done) t d p stage next item → is_calm_at s child stage ≡ true → Calms s t child p p (event_of done)
+pub on_calm : (c : Choice) (s : Shared) (child p : ℕ) (b : UserState) (stage : Stage) (done : PtraceEvent (Box UserState)) (t : Shared) (d : UserState) (next : Stage) (item : Option Item) → turned (turn linux c s child p (Alive b stage)) ≡ turned_by (On done) t d p stage next item → is_calm_at s child stage ≡ true → Calms s t child p p (unboxed done)
 on_calm c s child p b stage done t d next item e calm =
     let o : Out Shared UserState = turn linux c s child p (Alive b stage) in
-    subst (λ (x : Shared). Calms s x child p p (event_of done)) (ap (λ (x : Turned). x.shared) e)
+    subst (λ (x : Shared). Calms s x child p p (unboxed done)) (ap (λ (x : Turned). x.shared) e)
     (subst (λ (x : PtraceEvent UserState). Calms s o.shared child p p x) (ap (λ (x : Turned). x.event) e)
     (turn_calm c s child p (Alive b stage) (ap (λ (x : Turned). is_calm s child (Alive b stage) x.task) e ∙ calm)))
 

@@ -1,7 +1,9 @@
 -- What the parts of a turn answer, beside what they leave in the parts that they are lent.
 use Rattle.std.specs.Prelude.{◌≡◌, ℕ, ◌≤◌, Bool, true, false, Option, Some}
+use Rattle.std.specs.Global.{Box}
 use Rattle.lx_abi.specs.declared.log.Item.{Item}
 use Rattle.lx_abi.specs.declared.log.Item.TheVariants as item
+use Rattle.lx_model.specs.Events.{event_map}
 use Rattle.lx_model.specs.declared.event.PtraceEvent.{PtraceEvent}
 use Rattle.lx_model.specs.declared.event.PtraceEvent.TheVariants.{Plain, Execed, Forked}
 use Rattle.lx_model.specs.Turn.{stage_mode, Out}
@@ -12,8 +14,6 @@ use Rattle.lx_model.specs.Finite.{item_of}
 use Rattle.lx_proc.specs.declared.state.Shared.{Shared}
 use Rattle.lx_proc.specs.declared.state.UserState.{UserState}
 use Rattle.lx_pcalls.specs.Ends as end
-use Rattle.lx_turn.specs.declared.effects.Effect.{Effect}
-use Rattle.lx_turn.specs.declared.effects.Effect.TheVariants as effect
 use Rattle.lx_turn.specs.declared.stages.Went.{Went}
 use Rattle.lx_turn.specs.declared.stages.Went.TheVariants.{On, Ended}
 
@@ -28,10 +28,9 @@ pub record Turned : Type 0 where
 abbrev pub turned : Out Shared UserState → Turned
 turned o = record { shared = o.shared; task = o.task; item = item_of o; event = o.event }
 
-abbrev pub event_of : Effect → PtraceEvent UserState
-event_of effect.Plain = Plain
-event_of effect.Execed = Execed
-event_of (effect.Bore newborn) = Forked newborn.value
+-- a child's body as the code holds it
+abbrev pub unboxed : PtraceEvent (Box UserState) → PtraceEvent UserState
+unboxed e = event_map (λ b. b.value) e
 
 -- the end of a process that leaves a stage
 abbrev pub ended : Shared → ℕ → ℕ → Stage → Turned
@@ -52,7 +51,7 @@ turned_by (On done) s b p stage next item = record {
   shared = s;
   task = Alive b next;
   item = item;
-  event = event_of done;
+  event = unboxed done;
 }
 turned_by (Ended w) s b p stage next item = ended s p w stage
 
@@ -67,13 +66,13 @@ is_gone (Dying w) = false
 is_gone Gone = true
 
 -- a child is born under a pid that is left, up to the last one
-abbrev pub IsLeft : ℕ → Effect → ℕ → Type 0
-IsLeft last_pid effect.Plain child = Unit {0}
-IsLeft last_pid effect.Execed child = Unit {0}
-IsLeft last_pid (effect.Bore newborn) child = child ≤ last_pid
+abbrev pub IsLeft : {B : Type 0} → ℕ → PtraceEvent B → ℕ → Type 0
+IsLeft last_pid Plain child = Unit {0}
+IsLeft last_pid Execed child = Unit {0}
+IsLeft last_pid (Forked newborn) child = child ≤ last_pid
 
 -- a child was born
-abbrev pub IsBirth : PtraceEvent UserState → Type 0
+abbrev pub IsBirth : {B : Type 0} → PtraceEvent B → Type 0
 IsBirth Plain = ⊥
 IsBirth Execed = ⊥
 IsBirth (Forked newborn) = Unit {0}

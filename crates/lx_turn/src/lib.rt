@@ -3,7 +3,6 @@
 
 mod blocking;
 mod calls;
-pub mod effects;
 pub mod injection;
 pub mod laws;
 mod signals;
@@ -11,7 +10,6 @@ pub mod stages;
 pub mod turning;
 
 pub use blocking::{can_turn, rests};
-pub use effects::Effect;
 pub use injection::Injection;
 pub use signals::is_killed;
 pub use turning::{Transition, mode_of_gone, turn_task};

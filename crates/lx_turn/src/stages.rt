@@ -16,11 +16,10 @@ ghost use Rattle.lx_model.specs.declared.stage.Stage.TheVariants as stages;
 ghost use Rattle.lx_proc.specs.declared.state.Shared.{Shared};
 
 use crate::calls::does;
-use crate::effects::Effect;
 use crate::injection::Injection;
 use crate::signals;
 use lx_abi::{Call, Cause, Choice, Item, Signal};
-use lx_model::Stage;
+use lx_model::{PtraceEvent, Stage};
 use lx_pcalls::{Reacted, take};
 use lx_proc::{CallReply, Shared, UserState, a0, call, make_again, return_from_call};
 use rv_hart::{FaultKind, Step, step};
@@ -30,7 +29,7 @@ use std::alloc::{AllocError, Global};
 #[derive(Drop)]
 pub enum Went {
     /// It goes on, and this was done beside.
-    On(Effect),
+    On(PtraceEvent<Box<UserState>>),
     /// It ends with this wait word; what is shared is unchanged.
     Ended { word: u32 },
 }
@@ -149,7 +148,7 @@ fn chosen_stage(call: Call, choice: Choice) -> Stage
 }
 
 /// The call was done with this result, and this beside it.
-fn acted(stage: &mut Stage, call: Call, value: u64, done: Effect) -> Went
+fn acted(stage: &mut Stage, call: Call, value: u64, done: PtraceEvent<Box<UserState>>) -> Went
     ensures stage { stage.new ≡ stages.Acted call value false }
     ensures went { result ≡ Went.On done }
 {
@@ -167,7 +166,7 @@ fn return_with(
     stage: &mut Stage,
     call: Call,
     value: u64,
-    done: Effect,
+    done: PtraceEvent<Box<UserState>>,
 ) -> Went
     ensures user { user.new ≡ with_result linux user.old value }
     ensures stage { stage.new ≡ stages.Acted call value false }
@@ -201,15 +200,27 @@ fn do_call(
             stage,
             call,
             error.word(),
-            Effect::Plain,
+            PtraceEvent::Plain,
         )),
-        CallReply::Returned(result) => Ok(return_with(user, stage, call, result, Effect::Plain)),
-        CallReply::Jumped => Ok(acted(stage, call, a0(user), Effect::Plain)),
-        CallReply::Execed => Ok(acted(stage, call, a0(user), Effect::Execed)),
+        CallReply::Returned(result) => Ok(return_with(
+            user,
+            stage,
+            call,
+            result,
+            PtraceEvent::Plain,
+        )),
+        CallReply::Jumped => Ok(acted(stage, call, a0(user), PtraceEvent::Plain)),
+        CallReply::Execed => Ok(acted(stage, call, a0(user), PtraceEvent::Execed)),
         CallReply::Bore(newborn) => {
-            Ok(return_with(user, stage, call, u64::from(child), Effect::Bore(newborn)))
+            Ok(return_with(
+                user,
+                stage,
+                call,
+                u64::from(child),
+                PtraceEvent::Forked(newborn),
+            ))
         }
-        CallReply::Blocked => Ok(Went::On(Effect::Plain)),
+        CallReply::Blocked => Ok(Went::On(PtraceEvent::Plain)),
         CallReply::Ended(word) => Ok(Went::Ended { word }),
     }
 }
@@ -233,7 +244,7 @@ fn react(
     match take(shared, pid, user, signal, cause)? {
         Reacted::Passed => {
             *stage = Stage::Run;
-            Ok(Went::On(Effect::Plain))
+            Ok(Went::On(PtraceEvent::Plain))
         }
         Reacted::Killed(word) => Ok(Went::Ended { word }),
     }
@@ -260,16 +271,16 @@ pub fn go(
     match *stage {
         Stage::Born | Stage::Finished | Stage::Dropped => {
             *stage = Stage::Run;
-            Ok(Went::On(Effect::Plain))
+            Ok(Went::On(PtraceEvent::Plain))
         }
         Stage::Run => {
             run(shared, pid, user, stage, item)?;
-            Ok(Went::On(Effect::Plain))
+            Ok(Went::On(PtraceEvent::Plain))
         }
         Stage::Faulting { signal, cause } => {
             *stage = Stage::Taken { signal, cause };
             *item = Some(Item::Taken { pid, signal, cause });
-            Ok(Went::On(Effect::Plain))
+            Ok(Went::On(PtraceEvent::Plain))
         }
         Stage::Entered { joined } => {
             let call = call(user);
@@ -277,7 +288,7 @@ pub fn go(
             join(shared, pid, joined);
             join(shared, pid, choice.signal);
             *stage = chosen_stage(call, choice);
-            Ok(Went::On(Effect::Plain))
+            Ok(Went::On(PtraceEvent::Plain))
         }
         Stage::Doing { call } => do_call(alloc, shared, child, pid, user, stage, call),
         Stage::Replaced { call, result } => {
@@ -287,7 +298,7 @@ pub fn go(
                 result,
                 replaced: true,
             };
-            Ok(Went::On(Effect::Plain))
+            Ok(Went::On(PtraceEvent::Plain))
         }
         Stage::Acted {
             call,
@@ -301,7 +312,7 @@ pub fn go(
                 result,
                 replaced,
             });
-            Ok(Went::On(Effect::Plain))
+            Ok(Went::On(PtraceEvent::Plain))
         }
         Stage::Taken { signal, cause } => react(shared, pid, user, stage, signal, cause),
     }

@@ -9,15 +9,14 @@ ghost use Rattle.lx_turn.specs.Linux.{linux};
 ghost use Rattle.lx_turn.specs.Modes.{task_mode as task_mode_of, life_mode};
 ghost use Rattle.lx_turn.specs.Resting.{Calms, told_by};
 ghost use Rattle.lx_turn.specs.Injection.{choice_of_call, choice_of_task};
-ghost use Rattle.lx_turn.specs.Turned.{turned, turned_by, event_of, is_gone, EndsSame};
+ghost use Rattle.lx_turn.specs.Turned.{turned, turned_by, unboxed, is_gone, EndsSame};
 
 use crate::blocking::is_calm;
-use crate::effects::Effect;
 use crate::injection::Injection;
 use crate::signals::is_killed;
 use crate::stages::{Went, go};
 use lx_abi::{Item, Mode, calls};
-use lx_model::{Stage, Task};
+use lx_model::{PtraceEvent, Stage, Task};
 use lx_pcalls::{die, release_task};
 use lx_proc::{Life, Shared, UserState};
 use std::alloc::{AllocError, Global};
@@ -31,7 +30,7 @@ const KILL_WORD: u32 = 9;
 pub struct Transition {
     pub before: Option<Mode>,
     pub after: Option<Mode>,
-    pub done: Effect,
+    pub done: PtraceEvent<Box<UserState>>,
     pub gone: bool,
     pub calm: bool,
     pub roused: u32,
@@ -44,7 +43,7 @@ impl Transition {
         ensures { result ≡ record {
           before = before;
           after = after;
-          done = Effect.Plain;
+          done = PtraceEvent.Plain;
           gone = true;
           calm = true;
           roused = roused;
@@ -54,7 +53,7 @@ impl Transition {
         Transition {
             before,
             after,
-            done: Effect::Plain,
+            done: PtraceEvent::Plain,
             gone: true,
             calm: true,
             roused,
@@ -135,12 +134,12 @@ pub fn turn_task(
     requires { item.old ≡ None }
     ensures turned { IfOk result (λ t. turned (turn linux
         (choice_of_task injection.now pid task.old) shared.old child pid task.old) ≡
-        record { shared = shared.new; task = task.new; item = item.new; event = event_of t.done }) }
+        record { shared = shared.new; task = task.new; item = item.new; event = unboxed t.done }) }
     ensures before { IfOk result (λ t. t.before ≡ task_mode_of (maps.get shared.old.entries pid) task.old) }
     ensures after { IfOk result (λ t. t.after ≡ task_mode_of (maps.get shared.new.entries pid) task.new) }
     ensures gone { IfOk result (λ t. t.gone ≡ is_gone task.new) }
-    ensures calm { IfOk result (λ t. IsTrue t.calm → Calms shared.old shared.new child pid t.roused (event_of t.done)) }
-    ensures absent { task.old ≡ Gone → IsOkAnd result (λ t. (item.new ≡ None) × (event_of t.done ≡ Plain)) }
+    ensures calm { IfOk result (λ t. IsTrue t.calm → Calms shared.old shared.new child pid t.roused (unboxed t.done)) }
+    ensures absent { task.old ≡ Gone → IsOkAnd result (λ t. (item.new ≡ None) × (unboxed t.done ≡ Plain)) }
     ensures console { OnErr result (shared.new.console ≡ shared.old.console) }
 {
     match task {
@@ -174,7 +173,7 @@ pub fn turn_task(
                     Ok(Transition {
                         before: Some(left),
                         after: Some(Mode::Dying),
-                        done: Effect::Plain,
+                        done: PtraceEvent::Plain,
                         gone: false,
                         calm,
                         roused: pid,

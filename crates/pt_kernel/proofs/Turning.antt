@@ -5,11 +5,10 @@ use Rattle.lx_abi.specs.declared.log.Mode.{Mode}
 use Rattle.lx_abi.specs.declared.ptrace.Request.{Request}
 use Rattle.lx_abi.specs.declared.status.Stop.{Stop}
 use Rattle.lx_abi.specs.Scripts.{choice_of}
-use Rattle.lx_model.specs.declared.stage.Deed.{Deed}
 use Rattle.lx_model.specs.declared.event.PtraceEvent.{PtraceEvent}
 use Rattle.lx_model.specs.declared.event.PtraceEvent.TheVariants.{Plain, Execed, Forked}
 use Rattle.lx_model.specs.Turn.{Out}
-use Rattle.lx_model.specs.Deeds.{deed_of}
+use Rattle.lx_model.specs.Events.{by_pid}
 use Rattle.lx_model.specs.Finite.{at, item_of, Running, ran, bore, turn_out}
 use Rattle.lx_proc.specs.declared.state.Shared.{Shared}
 use Rattle.lx_proc.specs.declared.state.UserState.{UserState}
@@ -24,15 +23,15 @@ use Rattle.pt_model.proofs.Hosts.{empty_script_is_none}
 use Rattle.pt_kernel.specs.declared.tracees.Tracees.{Tracees}
 use Rattle.pt_kernel.specs.declared.tracees.Turned.{Turned}
 use Rattle.pt_kernel.specs.Stops.{stop_after, dies_after}
-use Rattle.pt_kernel.specs.Tracees.{stopped_at, with_child, after_turn as tracees_after}
+use Rattle.pt_kernel.specs.Tracees.{stopped_at, with_newborn as tracees_with, after_turn as tracees_after}
 use Rattle.pt_kernel.specs.Hosts.{Linux_host, hosting_by}
 use Rattle.pt_kernel.proofs.Telling.{stop_after_turn, dies_after_turn}
 
 abbrev turned_by : Option TraceOptions → Out Shared UserState → PtraceEvent UserState → ℕ → Turned
-turned_by w o e child = record { stop = stop_at w o.task e; dying = is_dying o.task; deed = deed_of e; child = child }
+turned_by w o e child = record { stop = stop_at w o.task e; dying = is_dying o.task; event = by_pid child e }
 
 module _ (r : Running Shared UserState) (x : Tracees) (turns : List ℕ) (pending : Option Request) where
-  child_is : (s : Running Shared UserState) (y : Tracees) (ts : List ℕ) (child : ℕ) (w : Option TraceOptions) → with_newborn (hosting_by s y ts pending) child w ≡ hosting_by s (with_child y child w) ts pending
+  child_is : (s : Running Shared UserState) (y : Tracees) (ts : List ℕ) (child : ℕ) (w : Option TraceOptions) → with_newborn (hosting_by s y ts pending) child w ≡ hosting_by s (tracees_with y child w) ts pending
   child_is s y ts child None = refl
   child_is s y ts child (Some w) = refl
 
@@ -56,17 +55,14 @@ module _ (k : KernelRun) (x : Tracees) (turns : List ℕ) (pending : Option Requ
   abbrev v : Linux_host
   v = hosting_by k.running x turns pending
 
-  abbrev turned : Option Stop → Bool → Deed → ℕ → Turned
-  turned stop dying d child = record { stop = stop; dying = dying; deed = d; child = child }
-
-  abbrev told : Option Stop → Bool → Deed → Turned
-  told stop dying d = record { stop = stop; dying = dying; deed = d; child = k.running.child }
+  abbrev told : Option Stop → Bool → PtraceEvent ℕ → Turned
+  told stop dying e = record { stop = stop; dying = dying; event = e }
 
   pub turn_done : k.script ≡ [] → is_effective linux k.running.shared p (as_proc (task_in k p) t) ≡ true →
-      hosting_by (after_turn k p).running (tracees_after x p t (told (stop_after t.options (mode_in (after_turn k p) p) (item_of (turn_in k p)) (deed_of (turn_in k p).event)) (dies_after (mode_in (after_turn k p) p) (deed_of (turn_in k p).event)) (deed_of (turn_in k p).event))) (turns ++ p ∷ []) pending
+      hosting_by (after_turn k p).running (tracees_after x p t (told (stop_after t.options (mode_in (after_turn k p) p) (item_of (turn_in k p)) (by_pid k.running.child (turn_in k p).event)) (dies_after (mode_in (after_turn k p) p) (by_pid k.running.child (turn_in k p).event)) (by_pid k.running.child (turn_in k p).event))) (turns ++ p ∷ []) pending
       ≡ hosting_turn linux k.follow v p
   turn_done empty effective =
-      ap₂ (λ stop dying. hosting_by (after_turn k p).running (tracees_after x p t (told stop dying (deed_of (turn_in k p).event))) (turns ++ p ∷ []) pending) (stop_after_turn k p t.options) (dies_after_turn k p)
+      ap₂ (λ stop dying. hosting_by (after_turn k p).running (tracees_after x p t (told stop dying (by_pid k.running.child (turn_in k p).event))) (turns ++ p ∷ []) pending) (stop_after_turn k p t.options) (dies_after_turn k p)
       ∙ sym (hosted_at k.running x turns pending p t (turn_in k p) t.options (turn_in k p).event)
       ∙ ap (λ o. hosted v p t o) (turn_is k.running x turns pending k p refl empty)
       ∙ ap (λ u. hosted v p u (turn_out linux no_script k.follow k.running p)) known
@@ -76,20 +72,20 @@ module _ (k : KernelRun) (x : Tracees) (turns : List ℕ) (pending : Option Requ
   no_turn held = ap (λ b. cond b (hosted v p (at untraced x.traced p) (turn_out linux no_script k.follow k.running p)) v) (sym (ap (λ u. is_effective linux k.running.shared p (as_proc (task_in k p) u)) (sym known) ∙ held))
 
   -- by the parts of the host that the turn left
-  module _ (k' : KernelRun) (x' : Tracees) (turns' : List ℕ) (stop : Option Stop) (dying : Bool) (d : Deed) (after : Option Mode) (item : Option Item) (child : ℕ) where
+  module _ (k' : KernelRun) (x' : Tracees) (turns' : List ℕ) (stop : Option Stop) (dying : Bool) (e : PtraceEvent ℕ) (after : Option Mode) (item : Option Item) where
     pub turn_made : k.script ≡ [] → is_effective linux k.running.shared p (as_proc (task_in k p) t) ≡ true → k' ≡ after_turn k p →
-        after ≡ mode_in k' p → item ≡ item_of (turn_in k p) → d ≡ deed_of (turn_in k p).event →
-        stop ≡ stop_after t.options after item d → dying ≡ dies_after after d → child ≡ k.running.child →
-        x' ≡ tracees_after x p t (record { stop = stop; dying = dying; deed = d; child = child }) → turns' ≡ turns ++ p ∷ [] →
+        after ≡ mode_in k' p → item ≡ item_of (turn_in k p) → e ≡ by_pid k.running.child (turn_in k p).event →
+        stop ≡ stop_after t.options after item e → dying ≡ dies_after after e →
+        x' ≡ tracees_after x p t (record { stop = stop; dying = dying; event = e }) → turns' ≡ turns ++ p ∷ [] →
         hosting_by k'.running x' turns' pending ≡ hosting_turn linux k.follow v p
-    turn_made empty effective e_k e_after e_item e_d e_stop e_dying e_child e_x e_turns =
+    turn_made empty effective e_k e_after e_item e_e e_stop e_dying e_x e_turns =
         let a : after ≡ mode_in (after_turn k p) p = e_after ∙ ap (λ l. mode_in l p) e_k in
-        let s : stop ≡ stop_after t.options (mode_in (after_turn k p) p) (item_of (turn_in k p)) (deed_of (turn_in k p).event) =
-        e_stop ∙ ap (λ y. stop_after t.options y item d) a ∙ ap (λ i. stop_after t.options (mode_in (after_turn k p) p) i d) e_item ∙ ap (λ y. stop_after t.options (mode_in (after_turn k p) p) (item_of (turn_in k p)) y) e_d in
-        let g : dying ≡ dies_after (mode_in (after_turn k p) p) (deed_of (turn_in k p).event) =
-        e_dying ∙ ap (λ y. dies_after y d) a ∙ ap (dies_after (mode_in (after_turn k p) p)) e_d in
-        let b : turned stop dying d child ≡ told (stop_after t.options (mode_in (after_turn k p) p) (item_of (turn_in k p)) (deed_of (turn_in k p).event)) (dies_after (mode_in (after_turn k p) p) (deed_of (turn_in k p).event)) (deed_of (turn_in k p).event) =
-        ap (λ c. turned stop dying d c) e_child ∙ ap₂ (λ y z. told y z d) s g ∙ ap (λ y. told (stop_after t.options (mode_in (after_turn k p) p) (item_of (turn_in k p)) (deed_of (turn_in k p).event)) (dies_after (mode_in (after_turn k p) p) (deed_of (turn_in k p).event)) y) e_d in
+        let s : stop ≡ stop_after t.options (mode_in (after_turn k p) p) (item_of (turn_in k p)) (by_pid k.running.child (turn_in k p).event) =
+        e_stop ∙ ap (λ y. stop_after t.options y item e) a ∙ ap (λ i. stop_after t.options (mode_in (after_turn k p) p) i e) e_item ∙ ap (λ y. stop_after t.options (mode_in (after_turn k p) p) (item_of (turn_in k p)) y) e_e in
+        let g : dying ≡ dies_after (mode_in (after_turn k p) p) (by_pid k.running.child (turn_in k p).event) =
+        e_dying ∙ ap (λ y. dies_after y e) a ∙ ap (dies_after (mode_in (after_turn k p) p)) e_e in
+        let b : told stop dying e ≡ told (stop_after t.options (mode_in (after_turn k p) p) (item_of (turn_in k p)) (by_pid k.running.child (turn_in k p).event)) (dies_after (mode_in (after_turn k p) p) (by_pid k.running.child (turn_in k p).event)) (by_pid k.running.child (turn_in k p).event) =
+        ap₂ (λ y z. told y z e) s g ∙ ap (λ y. told (stop_after t.options (mode_in (after_turn k p) p) (item_of (turn_in k p)) (by_pid k.running.child (turn_in k p).event)) (dies_after (mode_in (after_turn k p) p) (by_pid k.running.child (turn_in k p).event)) y) e_e in
         ap (λ (l : KernelRun). hosting_by l.running x' turns' pending) e_k
         ∙ ap₂ (λ y ts. hosting_by (after_turn k p).running y ts pending) (e_x ∙ ap (tracees_after x p t) b) e_turns
         ∙ turn_done empty effective

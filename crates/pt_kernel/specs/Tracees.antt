@@ -9,28 +9,15 @@ use Rattle.lx_abi.specs.declared.status.Stop.TheVariants.{Syscall as Syscall_sto
 use Rattle.lx_abi.specs.declared.ptrace.TraceOptions.{TraceOptions}
 use Rattle.pt_model.specs.declared.ptrace.Report.{Report}
 use Rattle.pt_model.specs.declared.ptrace.Traced.{Traced}
-use Rattle.lx_model.specs.declared.stage.Deed.{Deed}
-use Rattle.pt_model.specs.Ptrace.{is_there, reports_of, without}
+use Rattle.lx_model.specs.declared.event.PtraceEvent.{PtraceEvent}
+use Rattle.lx_model.specs.declared.event.PtraceEvent.TheVariants.{Plain, Execed, Forked}
+use Rattle.pt_model.specs.Ptrace.{inherits, is_there, reports_of, without}
 use Rattle.pt_model.specs.Requests.{echild, told}
-use Rattle.pt_model.specs.Hosting.{released}
-use Rattle.lx_model.specs.declared.stage.Deed.TheVariants as deed
+use Rattle.pt_model.specs.Hosting.{message_after, released}
 use Rattle.pt_kernel.specs.declared.tracees.Tracees.{Tracees}
 use Rattle.pt_kernel.specs.declared.tracees.Turned.{Turned}
 
 -- A turn
-
--- the options of a child that was born, where it is a tracee
-abbrev pub heir : Option TraceOptions → Deed → Option TraceOptions
-heir None d = None
-heir (Some w) deed.Plain = None
-heir (Some w) deed.Execed = None
-heir (Some w) deed.Bore = cond w.forks (Some w) None
-
--- what EventMsg answers from then on
-abbrev pub message_after : ℕ → ℕ → ℕ → TraceOptions → Deed → ℕ
-message_after message p child w deed.Plain = message
-message_after message p child w deed.Execed = cond w.execs p message
-message_after message p child w deed.Bore = cond w.forks child message
 
 abbrev pub Traceds : Type 0
 Traceds = maps.FinMap nat_cmp Traced
@@ -41,7 +28,7 @@ stopped_at traced p message None t = traced
 stopped_at traced p message (Some w) t = maps.insert traced p (record {
   held = is_there t.stop;
   options = Some w;
-  message = message_after message p t.child w t.deed;
+  message = message_after message p w t.event;
 })
 
 -- a process becomes a tracee, and its EVENT_STOP is reported
@@ -53,17 +40,22 @@ attached x p traced = record {
 }
 
 -- a child that is a tracee is held
-abbrev pub with_child : Tracees → ℕ → Option TraceOptions → Tracees
-with_child x child None = x
-with_child x child (Some w) = attached x child (record { held = true; options = Some w; message = 0 })
+abbrev pub with_newborn : Tracees → ℕ → Option TraceOptions → Tracees
+with_newborn x child None = x
+with_newborn x child (Some w) = attached x child (record { held = true; options = Some w; message = 0 })
+
+abbrev pub with_birth : Tracees → Option TraceOptions → PtraceEvent ℕ → Tracees
+with_birth x w Plain = x
+with_birth x w Execed = x
+with_birth x w (Forked child) = with_newborn x child (inherits w)
 
 -- the stop is reported last; a process that is dying has no earlier report
 abbrev pub after_turn : Tracees → ℕ → Traced → Turned → Tracees
-after_turn x p traced t = with_child (record {
+after_turn x p traced t = with_birth (record {
   traced = stopped_at x.traced p traced.message traced.options t;
   queue = cond t.dying (without p x.queue) x.queue ++ reports_of p t.stop;
   pids = x.pids;
-}) t.child (heir traced.options t.deed)
+}) traced.options t.event
 
 -- Wait
 

@@ -3,26 +3,26 @@
 ghost use Rattle.std.specs.Prelude.{◌≡◌};
 ghost use Rattle.lx_turn.specs.Linux.{linux};
 ghost use Rattle.lx_kernel.specs.Tracing.{task_in};
-ghost use Rattle.pt_model.specs.Ptrace.{is_effective};
-ghost use Rattle.pt_model.specs.Hosting.{as_proc, deed_stop, item_stop, mode_stop};
+ghost use Rattle.pt_model.specs.Ptrace.{event_stop, is_effective};
+ghost use Rattle.pt_model.specs.Hosting.{as_proc, item_stop, mode_stop};
 ghost use Rattle.pt_kernel.specs.Stops.{stop_after, turn_stop, dies_after, is_alive, lives_in};
 
 use lx_abi::{EventStop, Item, Mode, Stop, TraceOptions};
 use lx_kernel::Kernel;
-use lx_model::Deed;
+use lx_model::PtraceEvent;
 use pt_model::Traced;
 
-fn deed_stop(options: TraceOptions, deed: Deed) -> Option<Stop>
-    ensures { result ≡ deed_stop options deed }
+fn event_stop(options: TraceOptions, event: PtraceEvent<u32>) -> Option<Stop>
+    ensures { result ≡ event_stop options event }
 {
-    match deed {
-        Deed::Execed if options.execs => Some(Stop::Event {
+    match event {
+        PtraceEvent::Execed if options.execs => Some(Stop::Event {
             event: EventStop::Exec,
         }),
-        Deed::Bore if options.forks => Some(Stop::Event {
+        PtraceEvent::Forked(_) if options.forks => Some(Stop::Event {
             event: EventStop::Fork,
         }),
-        Deed::Plain | Deed::Execed | Deed::Bore => None,
+        PtraceEvent::Plain | PtraceEvent::Execed | PtraceEvent::Forked(_) => None,
     }
 }
 
@@ -38,12 +38,17 @@ fn item_stop(item: Option<Item>) -> Option<Stop>
 }
 
 /// The stop of a tracee that has come to a mode.
-fn mode_stop(options: TraceOptions, mode: Mode, item: Option<Item>, deed: Deed) -> Option<Stop>
-    ensures { result ≡ mode_stop options mode item deed }
+fn mode_stop(
+    options: TraceOptions,
+    mode: Mode,
+    item: Option<Item>,
+    event: PtraceEvent<u32>,
+) -> Option<Stop>
+    ensures { result ≡ mode_stop options mode item event }
 {
     match mode {
         Mode::Entered | Mode::Finished => Some(Stop::Syscall { good: options.good }),
-        Mode::Acted => deed_stop(options, deed),
+        Mode::Acted => event_stop(options, event),
         Mode::Taken | Mode::Dying => item_stop(item),
         Mode::Born | Mode::Run | Mode::Faulting | Mode::Doing | Mode::Zombie => None,
     }
@@ -54,13 +59,13 @@ fn turn_stop(
     options: TraceOptions,
     after: Option<Mode>,
     item: Option<Item>,
-    deed: Deed,
+    event: PtraceEvent<u32>,
 ) -> Option<Stop>
-    ensures { result ≡ turn_stop options after item deed }
+    ensures { result ≡ turn_stop options after item event }
 {
-    match deed {
-        Deed::Bore => deed_stop(options, deed),
-        Deed::Plain | Deed::Execed => mode_stop(options, after?, item, deed),
+    match event {
+        PtraceEvent::Forked(_) => event_stop(options, event),
+        PtraceEvent::Plain | PtraceEvent::Execed => mode_stop(options, after?, item, event),
     }
 }
 
@@ -69,20 +74,20 @@ pub fn stop_after(
     options: Option<TraceOptions>,
     after: Option<Mode>,
     item: Option<Item>,
-    deed: Deed,
+    event: PtraceEvent<u32>,
 ) -> Option<Stop>
-    ensures { result ≡ stop_after options after item deed }
+    ensures { result ≡ stop_after options after item event }
 {
-    turn_stop(options?, after, item, deed)
+    turn_stop(options?, after, item, event)
 }
 
 /// The turn has come to the process's end.
-pub fn dies_after(after: Option<Mode>, deed: Deed) -> bool
-    ensures { result ≡ dies_after after deed }
+pub fn dies_after(after: Option<Mode>, event: PtraceEvent<u32>) -> bool
+    ensures { result ≡ dies_after after event }
 {
-    match deed {
-        Deed::Bore => false,
-        Deed::Plain | Deed::Execed => matches!(after, Some(Mode::Dying)),
+    match event {
+        PtraceEvent::Forked(_) => false,
+        PtraceEvent::Plain | PtraceEvent::Execed => matches!(after, Some(Mode::Dying)),
     }
 }
 

@@ -46,13 +46,11 @@ impl TracedKernel {
         if !is_effective(&self.kernel, pid, traced) {
             return Ok(());
         }
-        let child = self.kernel.next_pid();
         let moved = self.kernel.turn(pid)?;
         let turned = Turned {
-            stop: stop_after(traced.options, moved.after, moved.item, moved.deed),
-            dying: dies_after(moved.after, moved.deed),
-            deed: moved.deed,
-            child,
+            stop: stop_after(traced.options, moved.after, moved.item, moved.event),
+            dying: dies_after(moved.after, moved.event),
+            event: moved.event,
         };
         self.tracees.turn(pid, traced, turned)?;
         self.turns.push(pid)?;

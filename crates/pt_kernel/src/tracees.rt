@@ -3,15 +3,15 @@
 ghost use Rattle.std.specs.Prelude.{◌≡◌, ◌++◌, ◌==◌, [], true, not, cond, Some, None, IfOk, OnOk, filter};
 ghost use Rattle.std.specs.FinMap as maps;
 ghost use Rattle.lx_model.specs.Finite.{at};
-ghost use Rattle.pt_model.specs.Ptrace.{is_there, reports_of, without};
-ghost use Rattle.pt_model.specs.Hosting.{untraced, released, wait_ready};
+ghost use Rattle.pt_model.specs.Ptrace.{inherits, is_there, reports_of, without};
+ghost use Rattle.pt_model.specs.Hosting.{message_after, untraced, released, wait_ready};
 ghost use Rattle.pt_model.specs.Requests.{told};
-ghost use Rattle.pt_kernel.specs.Tracees.{heir, message_after, stopped_at, with_child, attached, after_turn, waited, tells, took, seized};
+ghost use Rattle.pt_kernel.specs.Tracees.{stopped_at, with_newborn, with_birth, attached, after_turn, waited, tells, took, seized};
 
 use crate::queue::ReportQueue;
 use containers::Map;
 use lx_abi::{Errno, EventStop, Reply, Stop, TraceOptions};
-use lx_model::Deed;
+use lx_model::PtraceEvent;
 use pt_model::{Report, Traced};
 use std::alloc::{AllocError, Global};
 
@@ -31,29 +31,24 @@ pub struct Tracees {
 pub struct Turned {
     pub stop: Option<Stop>,
     pub dying: bool,
-    pub deed: Deed,
-    /// The pid that a child got, if one was born.
-    pub child: u32,
+    pub event: PtraceEvent<u32>,
 }
 
-/// The options of a child that was born, where it is a tracee.
-fn heir(options: Option<TraceOptions>, deed: Deed) -> Option<TraceOptions>
-    ensures { result ≡ heir options deed }
+/// The options of a child, where it is a tracee.
+fn inherits(options: Option<TraceOptions>) -> Option<TraceOptions>
+    ensures { result ≡ inherits options }
 {
     let options = options?;
-    match deed {
-        Deed::Bore if options.forks => Some(options),
-        Deed::Plain | Deed::Execed | Deed::Bore => None,
-    }
+    if options.forks { Some(options) } else { None }
 }
 
-fn message_after(message: u32, pid: u32, child: u32, options: TraceOptions, deed: Deed) -> u32
-    ensures { result ≡ message_after message pid child options deed }
+fn message_after(message: u32, pid: u32, options: TraceOptions, event: PtraceEvent<u32>) -> u32
+    ensures { result ≡ message_after message pid options event }
 {
-    match deed {
-        Deed::Plain => message,
-        Deed::Execed => { if options.execs { pid } else { message } }
-        Deed::Bore => { if options.forks { child } else { message } }
+    match event {
+        PtraceEvent::Plain => message,
+        PtraceEvent::Execed => { if options.execs { pid } else { message } }
+        PtraceEvent::Forked(child) => { if options.forks { child } else { message } }
     }
 }
 
@@ -117,7 +112,7 @@ impl Tracees {
                 let stopped = Traced {
                     held: turned.stop.is_some(),
                     options: Some(options),
-                    message: message_after(traced.message, pid, turned.child, options, turned.deed),
+                    message: message_after(traced.message, pid, options, turned.event),
                 };
                 self.traced.insert(pid, stopped)?;
                 Ok(())
@@ -157,8 +152,8 @@ impl Tracees {
         Ok(())
     }
 
-    fn bear(&mut self, child: u32, options: Option<TraceOptions>) -> Result<(), AllocError>
-        ensures { OnOk result (self.new ≡ with_child self.old child options) }
+    fn adopt(&mut self, child: u32, options: Option<TraceOptions>) -> Result<(), AllocError>
+        ensures { OnOk result (self.new ≡ with_newborn self.old child options) }
     {
         match options {
             None => Ok(()),
@@ -174,13 +169,30 @@ impl Tracees {
         }
     }
 
+    /// A child that is a tracee is held.
+    fn bear(
+        &mut self,
+        options: Option<TraceOptions>,
+        event: PtraceEvent<u32>,
+    ) -> Result<(), AllocError>
+        ensures { OnOk result (self.new ≡ with_birth self.old options event) }
+    {
+        match event {
+            PtraceEvent::Plain | PtraceEvent::Execed => Ok(()),
+            PtraceEvent::Forked(child) => {
+                self.adopt(child, inherits(options))?;
+                Ok(())
+            }
+        }
+    }
+
     /// What a turn of a process leaves.
     pub fn turn(&mut self, pid: u32, traced: Traced, turned: Turned) -> Result<(), AllocError>
         ensures { OnOk result (self.new ≡ after_turn self.old pid traced turned) }
     {
         self.stop(pid, traced, turned)?;
         self.report(pid, turned.stop, turned.dying)?;
-        self.bear(turned.child, heir(traced.options, turned.deed))?;
+        self.bear(traced.options, turned.event)?;
         Ok(())
     }
 

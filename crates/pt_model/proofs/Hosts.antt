@@ -24,6 +24,7 @@ use Rattle.lx_abi.specs.Scripts.{no_choice, choice_of}
 use Rattle.lx_abi.specs.Log.{entries}
 use Rattle.lx_model.specs.Machine.{Machine}
 use Rattle.lx_model.specs.Machine.{call_of, Ran, Goes, Calls, Faults, Takes, Answer, Refused, Returns, Jumps, Execs, Bears, Blocks, Ends, Took, Passes, Kills}
+use Rattle.lx_model.specs.Events.{by_pid}
 use Rattle.lx_model.specs.declared.event.PtraceEvent.{PtraceEvent}
 use Rattle.lx_model.specs.declared.event.PtraceEvent.TheVariants.{Plain, Execed, Forked}
 use Rattle.lx_model.specs.Turn.{Out, gives, joins, stepped, chosen, result_word, answered as answered_call, took, lives, killed_or, turn}
@@ -37,7 +38,7 @@ use Rattle.lx_abi.specs.declared.ptrace.TraceOptions.{TraceOptions}
 use Rattle.pt_model.specs.Ptrace.{Proc, Report, Host, tracee_stop, stop_at, is_dying, is_there, reports_of, without, may_die, is_effective, proc_after, messages_after, moved, inherits, newborn, bears, host_turn_of}
 use Rattle.pt_model.specs.Requests.{esrch, says, Answered, stopped, unseized, answer_at, answered, serve_wait, take_report, serve}
 use Rattle.pt_model.specs.Attending.{Attending, would_answer, left_pending, serve_pending, event}
-use Rattle.pt_model.specs.Hosting.{Traced, untraced, Hosting, traced_at, as_proc, proc_in, host_in, attending_in, IsFresh, no_script, message_after, traced_after, deed_of, told_stop, ends_dying, wait_ready, ready_in, with_newborn, with_birth, hosted, Hosted, refuses, with_answer, hosting_to, released, took_report, hosting_wait, hosting_serve, hosting_pending, first_hosting}
+use Rattle.pt_model.specs.Hosting.{Traced, untraced, Hosting, traced_at, as_proc, proc_in, host_in, attending_in, IsFresh, no_script, message_after, traced_after, told_stop, ends_dying, wait_ready, ready_in, with_newborn, with_birth, hosted, Hosted, refuses, with_answer, hosting_to, released, took_report, hosting_wait, hosting_serve, hosting_pending, first_hosting}
 use Rattle.pt_model.specs.HostLaws.{HostsTurnAlike, HostsServeAlike, HostsAttendAlike, HostsBeginAlike, HostsRunTheKernel, EmptyScriptIsNone, TurnsTell, HostsAreReady, HostsAreAble}
 use Rattle.lx_model.proofs.Bridge.{same_key, at-insert, at-placed, one_first, tasks_first}
 
@@ -143,7 +144,7 @@ module _ {S B : Type 0} (m : Machine S B) where
     pending = v.pending;
   }
 
-  message_put : (messages : ℕ → ℕ) (p child : ℕ) (w : TraceOptions) (e : PtraceEvent B) → put messages p (message_after (messages p) p child w e) ≡ messages_after messages p child (Some w) e
+  message_put : (messages : ℕ → ℕ) (p child : ℕ) (w : TraceOptions) (e : PtraceEvent B) → put messages p (message_after (messages p) p w (by_pid child e)) ≡ messages_after messages p child (Some w) e
   message_put messages p child w Plain = put_same messages p
   message_put messages p child w Execed = go w.execs
     where
@@ -170,7 +171,7 @@ module _ {S B : Type 0} (m : Machine S B) where
       (messages_put (traced_at v) _ p x (at-insert untraced v.traced p x) ∙ message_put (λ q. (traced_at v q).message) p v.running.child w o.event)
     where
       x : Traced
-      x = record { held = is_there (tracee_stop w o.task o.event); options = Some w; message = message_after (traced_at v p).message p v.running.child w o.event }
+      x = record { held = is_there (tracee_stop w o.task o.event); options = Some w; message = message_after (traced_at v p).message p w (by_pid v.running.child o.event) }
 
   -- a child
   abbrev with_user : Hosting S B → PtraceEvent B → Hosting S B
@@ -388,9 +389,9 @@ hosts_begin_alike {S} {B} s b =
 
 -- What a turn tells
 
-module _ {S B : Type 0} (m : Machine S B) (w : TraceOptions) where
+module _ {S B : Type 0} (m : Machine S B) (w : TraceOptions) (child : ℕ) where
   abbrev Tells : Out S B → Type 0
-  Tells o = (told_stop w (task_mode o.task) (item_of o) (deed_of o.event) ≡ tracee_stop w o.task o.event) × (ends_dying (task_mode o.task) ≡ is_dying o.task)
+  Tells o = (told_stop w (task_mode o.task) (item_of o) (by_pid child o.event) ≡ tracee_stop w o.task o.event) × (ends_dying (task_mode o.task) ≡ is_dying o.task)
 
   stepped_tells : (s : S) (p : ℕ) (b : B) (r : Ran S B) → Tells (stepped m s p b r)
   stepped_tells s p b (Goes c) = (refl, refl)
@@ -402,37 +403,37 @@ module _ {S B : Type 0} (m : Machine S B) (w : TraceOptions) where
   chosen_tells s b call None = (refl, refl)
   chosen_tells s b call (Some x) = (refl, refl)
 
-  answer_tells : (s : S) (child p : ℕ) (b : B) (call : Call) (a : Answer S B) → Tells (answered_call m s child p b call a)
-  answer_tells s child p b call (Refused e) = (refl, refl)
-  answer_tells s child p b call (Returns t c x) = (refl, refl)
-  answer_tells s child p b call (Jumps t c) = (refl, refl)
-  answer_tells s child p b call (Execs t c) = (refl, refl)
-  answer_tells s child p b call (Bears t c born) = (refl, refl)
-  answer_tells s child p b call Blocks = (refl, refl)
-  answer_tells s child p b call (Ends v) = (refl, refl)
+  answer_tells : (s : S) (p : ℕ) (b : B) (call : Call) (a : Answer S B) → Tells (answered_call m s child p b call a)
+  answer_tells s p b call (Refused e) = (refl, refl)
+  answer_tells s p b call (Returns t c x) = (refl, refl)
+  answer_tells s p b call (Jumps t c) = (refl, refl)
+  answer_tells s p b call (Execs t c) = (refl, refl)
+  answer_tells s p b call (Bears t c born) = (refl, refl)
+  answer_tells s p b call Blocks = (refl, refl)
+  answer_tells s p b call (Ends v) = (refl, refl)
 
   took_tells : (s : S) (p : ℕ) (signal : Signal) (cause : Cause) (t : Took S B) → Tells (took m s p signal cause t)
   took_tells s p signal cause (Passes t c) = (refl, refl)
   took_tells s p signal cause (Kills v) = (refl, refl)
 
-  lives_tells : (c : Choice) (s : S) (child p : ℕ) (b : B) (stage : Stage) → Tells (lives m c s child p b stage)
-  lives_tells c s child p b Born = (refl, refl)
-  lives_tells c s child p b Run = stepped_tells s p b (m.step s p b)
-  lives_tells c s child p b (Faulting signal cause) = (refl, refl)
-  lives_tells c s child p b (Entered joined) = chosen_tells (joins m (joins m s p joined) p c.signal) b (call_of (m.regs b)) (result_word c)
-  lives_tells c s child p b (Doing call) = answer_tells s child p b call (m.call s child p call b)
-  lives_tells c s child p b (Replaced call x) = (refl, refl)
-  lives_tells c s child p b (Acted call x replaced) = (refl, refl)
-  lives_tells c s child p b Finished = (refl, refl)
-  lives_tells c s child p b (Taken signal cause) = took_tells s p signal cause (m.take s p signal cause b)
-  lives_tells c s child p b Dropped = (refl, refl)
+  lives_tells : (c : Choice) (s : S) (p : ℕ) (b : B) (stage : Stage) → Tells (lives m c s child p b stage)
+  lives_tells c s p b Born = (refl, refl)
+  lives_tells c s p b Run = stepped_tells s p b (m.step s p b)
+  lives_tells c s p b (Faulting signal cause) = (refl, refl)
+  lives_tells c s p b (Entered joined) = chosen_tells (joins m (joins m s p joined) p c.signal) b (call_of (m.regs b)) (result_word c)
+  lives_tells c s p b (Doing call) = answer_tells s p b call (m.call s child p call b)
+  lives_tells c s p b (Replaced call x) = (refl, refl)
+  lives_tells c s p b (Acted call x replaced) = (refl, refl)
+  lives_tells c s p b Finished = (refl, refl)
+  lives_tells c s p b (Taken signal cause) = took_tells s p signal cause (m.take s p signal cause b)
+  lives_tells c s p b Dropped = (refl, refl)
 
-  killed_tells : (killed : Bool) (c : Choice) (s : S) (child p : ℕ) (b : B) (stage : Stage) → Tells (killed_or killed m c s child p b stage)
-  killed_tells true c s child p b stage = (refl, refl)
-  killed_tells false c s child p b stage = lives_tells c s child p b stage
+  killed_tells : (killed : Bool) (c : Choice) (s : S) (p : ℕ) (b : B) (stage : Stage) → Tells (killed_or killed m c s child p b stage)
+  killed_tells true c s p b stage = (refl, refl)
+  killed_tells false c s p b stage = lives_tells c s p b stage
 
 pub turns_tell : {S B : Type 0} → TurnsTell S B
-turns_tell m c s child p (Alive b stage) w = killed_tells m w (m.killed s p) c s child p b stage
+turns_tell m c s child p (Alive b stage) w = killed_tells m w child (m.killed s p) c s p b stage
 turns_tell m c s child p (Dying v) w = (refl, refl)
 turns_tell m c s child p Gone w = (refl, refl)
 

@@ -5,6 +5,7 @@ use Rattle.lx_abi.specs.declared.ptrace.Request.{Request}
 use Rattle.lx_abi.specs.declared.schedule.Event.{Event}
 use Rattle.lx_abi.specs.declared.script.Choice.{Choice}
 use Rattle.lx_abi.specs.Scripts.{choice_of}
+use Rattle.lx_model.specs.Events.{by_pid}
 use Rattle.lx_model.specs.Machine.{Machine}
 use Rattle.lx_model.specs.Turn.{Out, turn}
 use Rattle.lx_model.specs.declared.stage.Task.{Task}
@@ -14,7 +15,7 @@ use Rattle.pt_model.specs.Ptrace.{tracee_stop, is_dying, is_effective, host_turn
 use Rattle.pt_model.specs.Requests.{serve}
 use Rattle.pt_model.specs.World.{first_world}
 use Rattle.pt_model.specs.Attending.{is_ready, IsHostAble, event, turned}
-use Rattle.pt_model.specs.Hosting.{Hosting, proc_in, host_in, attending_in, IsFresh, no_script, deed_of, told_stop, ends_dying, ready_in, hosting_turn, hosting_serve, hosting_event, first_hosting}
+use Rattle.pt_model.specs.Hosting.{Hosting, proc_in, host_in, attending_in, IsFresh, no_script, told_stop, ends_dying, ready_in, hosting_turn, hosting_serve, hosting_event, first_hosting}
 
 abbrev pub HostsTurnAlike : Type 0 → Type 0 → Type 0
 HostsTurnAlike S B = (m : Machine S B) (follow : Bool) (v : Hosting S B) (p : ℕ) → IsFresh v →
@@ -49,11 +50,11 @@ HostsRunTheKernel S B = (m : Machine S B) (follow : Bool) (v : Hosting S B) (p :
 abbrev pub EmptyScriptIsNone : Type 0
 EmptyScriptIsNone = choice_of [] ≡ no_script
 
--- a turn's mode, item and deed tell its process's stop
+-- a turn's mode, item and event tell its process's stop
 abbrev pub TurnsTell : Type 0 → Type 0 → Type 0
 TurnsTell S B = (m : Machine S B) (c : Choice) (s : S) (child p : ℕ) (task : Task B) (w : TraceOptions) →
     let o : Out S B = turn m c s child p task in
-    (told_stop w (task_mode o.task) (item_of o) (deed_of o.event) ≡ tracee_stop w o.task o.event)
+    (told_stop w (task_mode o.task) (item_of o) (by_pid child o.event) ≡ tracee_stop w o.task o.event)
     × (ends_dying (task_mode o.task) ≡ is_dying o.task)
 
 -- whether a host is ready, its queue and its tracees tell

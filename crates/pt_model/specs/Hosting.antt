@@ -15,10 +15,11 @@ use Rattle.lx_abi.specs.declared.ptrace.Request.{Request}
 use Rattle.lx_abi.specs.declared.ptrace.Request.TheVariants.{Boot as Boot_with, Wait, To, Outcome as Ask_outcome}
 use Rattle.lx_abi.specs.declared.schedule.Event.{Event as Step}
 use Rattle.lx_abi.specs.declared.schedule.Event.TheVariants.{Turn, Serve}
-use Rattle.lx_abi.specs.declared.status.EventStop.TheVariants.{Fork as At_fork, Exec as At_exec, Stop as At_start}
+use Rattle.lx_abi.specs.declared.status.EventStop.TheVariants.{Stop as At_start}
 use Rattle.lx_abi.specs.declared.status.Stop.{Stop}
 use Rattle.lx_abi.specs.declared.status.Stop.TheVariants.{Syscall as Syscall_stop, Signal as Signal_stop, Event as Event_stop, Ended}
 use Rattle.lx_abi.specs.Scripts.{no_choice}
+use Rattle.lx_model.specs.Events.{by_pid}
 use Rattle.lx_model.specs.Machine.{Machine}
 use Rattle.lx_model.specs.declared.event.PtraceEvent.{PtraceEvent}
 use Rattle.lx_model.specs.declared.event.PtraceEvent.TheVariants.{Plain, Execed, Forked}
@@ -28,14 +29,11 @@ use Rattle.lx_model.specs.declared.stage.Task.TheVariants.{Alive, Dying, Gone}
 use Rattle.lx_model.specs.Kernel.{Script}
 use Rattle.lx_model.specs.Finite.{at, Running, ran, bore, turn_out, first_running, with_task}
 use Rattle.lx_abi.specs.declared.ptrace.TraceOptions.{TraceOptions}
-use Rattle.pt_model.specs.Ptrace.{Proc, Report, Host, tracee_stop, stop_at, is_dying, is_there, reports_of, without, is_effective, inherits}
+use Rattle.pt_model.specs.Ptrace.{Proc, Report, Host, event_stop, tracee_stop, stop_at, is_dying, is_there, reports_of, without, is_effective, inherits}
 use Rattle.pt_model.specs.Requests.{esrch, echild, Answered, stopped, unseized, told}
 use Rattle.pt_model.specs.Attending.{Attending, left_pending}
 pub use Rattle.pt_model.specs.declared.ptrace.Traced.{Traced}
 pub use Rattle.lx_abi.specs.Modes.{ends_dying}
-pub use Rattle.lx_model.specs.declared.stage.Deed.{Deed}
-pub use Rattle.lx_model.specs.declared.stage.Deed.TheVariants as deed
-pub use Rattle.lx_model.specs.Deeds.{deed_of}
 
 abbrev pub untraced : Traced
 untraced = record { held = false; options = None; message = 0 }
@@ -84,10 +82,11 @@ IsFresh v = (q : ℕ) → v.running.child ≤ q → maps.get v.traced q ≡ None
 abbrev pub no_script : Script
 no_script call n = no_choice
 
-abbrev pub message_after : {B : Type 0} → ℕ → ℕ → ℕ → TraceOptions → PtraceEvent B → ℕ
-message_after message p child w Plain = message
-message_after message p child w Execed = cond w.execs p message
-message_after message p child w (Forked b) = cond w.forks child message
+-- what EventMsg answers from then on
+abbrev pub message_after : ℕ → ℕ → TraceOptions → PtraceEvent ℕ → ℕ
+message_after message p w Plain = message
+message_after message p w Execed = cond w.execs p message
+message_after message p w (Forked child) = cond w.forks child message
 
 -- what is kept of a tracee after its turn; of who is none nothing is
 abbrev pub traced_after : {B : Type 0} → maps.FinMap nat_cmp Traced → ℕ → ℕ → ℕ
@@ -96,7 +95,7 @@ traced_after traced p child message None task e = traced
 traced_after traced p child message (Some w) task e = maps.insert traced p (record {
   held = is_there (tracee_stop w task e);
   options = Some w;
-  message = message_after message p child w e;
+  message = message_after message p w (by_pid child e);
 })
 
 -- a child that is a tracee is held, and its EVENT_STOP reported
@@ -135,11 +134,6 @@ hosting_turn m follow v p =
 
 -- What a turn tells: its mode and item, and what it did beside
 
-abbrev pub deed_stop : TraceOptions → Deed → Option Stop
-deed_stop w deed.Plain = None
-deed_stop w deed.Execed = cond w.execs (Some (Event_stop At_exec)) None
-deed_stop w deed.Bore = cond w.forks (Some (Event_stop At_fork)) None
-
 -- a signal that was taken, or an end, is that of the item
 abbrev pub item_stop : Option Item → Option Stop
 item_stop (Some (Signalled p signal cause)) = Some (Signal_stop signal)
@@ -147,17 +141,17 @@ item_stop (Some (Exit p word left)) = Some (Ended word)
 item_stop _ = None
 
 -- the stop of a tracee that has come to this mode
-abbrev pub mode_stop : TraceOptions → Mode → Option Item → Deed → Option Stop
-mode_stop w mode.Entered item deed = Some (Syscall_stop w.good)
-mode_stop w mode.Acted item deed = deed_stop w deed
-mode_stop w mode.Finished item deed = Some (Syscall_stop w.good)
-mode_stop w mode.Taken item deed = item_stop item
-mode_stop w mode.Dying item deed = item_stop item
+abbrev pub mode_stop : TraceOptions → Mode → Option Item → PtraceEvent ℕ → Option Stop
+mode_stop w mode.Entered item e = Some (Syscall_stop w.good)
+mode_stop w mode.Acted item e = event_stop w e
+mode_stop w mode.Finished item e = Some (Syscall_stop w.good)
+mode_stop w mode.Taken item e = item_stop item
+mode_stop w mode.Dying item e = item_stop item
 mode_stop _ _ _ _ = None
 
-abbrev pub told_stop : TraceOptions → Option Mode → Option Item → Deed → Option Stop
-told_stop w None item deed = None
-told_stop w (Some mode) item deed = mode_stop w mode item deed
+abbrev pub told_stop : TraceOptions → Option Mode → Option Item → PtraceEvent ℕ → Option Stop
+told_stop w None item e = None
+told_stop w (Some mode) item e = mode_stop w mode item e
 
 -- Requests
 

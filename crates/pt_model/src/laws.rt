@@ -28,7 +28,7 @@ pub fn hosts_run_alike<S, B>()
     ensures none { EmptyScriptIsNone }
 {}
 
-/// What a turn must tell its host: mode, item and deed; and what a host tells without a turn.
+/// What a turn must tell its host: mode, item and event; and what a host tells without a turn.
 pub fn turns_tell<S, B>()
     ensures stop { TurnsTell S B }
     ensures ready { HostsAreReady S B }

@@ -7,5 +7,5 @@ pub mod ptrace;
 pub mod rows;
 pub mod standing;
 
-pub use ptrace::{Deed, Report, Traced};
+pub use ptrace::{Report, Traced};
 pub use standing::Standing;

@@ -1,7 +1,6 @@
 //! What a tracer has to do with a process.
 
 use lx_abi::{Stop, TraceOptions};
-pub use lx_model::Deed;
 
 /// A stop, until Wait has told of it.
 #[derive(Clone, Copy, Debug, PartialEq, Eq)]

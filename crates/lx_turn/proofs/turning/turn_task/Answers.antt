@@ -7,7 +7,7 @@ use Rattle.lx_turn.specs.Linux.{linux}
 use Rattle.lx_turn.specs.Injection.{choice_of_call, choice_of_task}
 use Rattle.lx_turn.specs.Turned.{turned, turned_by}
 use Rattle.lx_turn.specs.Resting.{Calms}
-use Rattle.lx_turn.specs.Turned.{EndsSame, event_of}
+use Rattle.lx_turn.specs.Turned.{EndsSame, unboxed}
 use Rattle.lx_turn.specs.declared.turning.Transition.{Transition}
 use Rattle.lx_turn.proofs.Calming.{on_calm, told_calm, ended_calm}
 use Rattle.lx_turn.proofs.Consoles.{end_keeps}
@@ -48,5 +48,5 @@ returns-in_ok-calm-in-Ended-clause-calm c = λ e.
 
 pub returns-in_ok-release_task-in-Dying-clause-calm : goal.returns-in_ok-release_task-in-Dying-clause-calm
 returns-in_ok-release_task-in-Dying-clause-calm c = λ e.
-    subst (λ (x : Transition). Calms c.args.shared.now c.release_task.new.shared c.args.child c.args.pid x.roused (event_of x.done)) (sym c.of_gone-in-Dying.ensures)
+    subst (λ (x : Transition). Calms c.args.shared.now c.release_task.new.shared c.args.child c.args.pid x.roused (unboxed x.done)) (sym c.of_gone-in-Dying.ensures)
     (told_calm c.args.shared.now c.release_task.new.shared c.args.child c.args.pid c.in-Dying.word c.in_ok-release_task-in-Dying.ensures.buried c.told_of-parent.result c.told_of-parent.ensures)

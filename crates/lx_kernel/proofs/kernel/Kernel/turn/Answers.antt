@@ -1,17 +1,17 @@
 use Rattle.std.proofs.Common.{◌≡◌, false, ap, sym, subst, ◌∙◌}
 use Rattle.lx_model.specs.Finite.{at}
 use Rattle.lx_model.specs.declared.stage.Task.TheVariants.{Gone}
-use Rattle.lx_model.specs.Deeds.{deed_of}
+use Rattle.lx_model.specs.Events.{by_pid}
 use Rattle.lx_model.specs.Finite.{item_of, Running}
 use Rattle.lx_proc.specs.declared.state.Shared.{Shared}
 use Rattle.lx_proc.specs.declared.state.UserState.{UserState}
 use Rattle.lx_abi.specs.Occurrences.{count_of}
 use Rattle.lx_kernel.specs.Runs.{Run, turn_in, after_turn, mode_in}
 use Rattle.lx_turn.proofs.Consoles.{on_err}
-use Rattle.lx_kernel.proofs.Turning.{kernel_item, kernel_deed, kernel_left, kernel_born, kernel_console, kernel_turned}
+use Rattle.lx_kernel.proofs.Turning.{kernel_item, kernel_event, kernel_left, kernel_born, kernel_console, kernel_turned}
 use Rattle.lx_kernel.specs.Sleeping.{AreListed, IsWatched, welcomed}
 use Rattle.lx_kernel.specs.Scheduling.{Tasks}
-use Rattle.lx_turn.specs.Turned.{event_of}
+use Rattle.lx_turn.specs.Turned.{unboxed}
 use Rattle.lx_kernel.specs.declared.run_queue.RunQueue.{RunQueue}
 use Rattle.lx_kernel.proofs.Watching.{turn_listed, turn_watched, roused_watched}
 use Rattle.lx_kernel.proofs.kernel.Kernel.turn.Goals as goal
@@ -32,13 +32,13 @@ returns-clause-item c =
     kernel_item v k.script k.follow c.args.pid (λ n. count_of k.occurrences c.args.pid n) (λ n. (c.self.invariant c.if-self.false).0 c.args.pid n) c.turn_at.new.item c.in_ok-transition.transition.done c.turn_at.new.shared c.turn_at.new.tasks c.in_ok-transition.ensures.turns
     ∙ ap (λ k. item_of (turn_in k c.args.pid)) c.self.view_is
 
-pub returns-clause-deed : goal.returns-clause-deed
-returns-clause-deed c =
+pub returns-clause-event : goal.returns-clause-event
+returns-clause-event c =
     let k = c.self.inside in
     let v : Running Shared UserState = record { shared = k.shared; tasks = k.tasks; child = k.child; log = k.log.items } in
-    c.deed-deed.ensures
-    ∙ kernel_deed v k.script k.follow c.args.pid (λ n. count_of k.occurrences c.args.pid n) (λ n. (c.self.invariant c.if-self.false).0 c.args.pid n) c.turn_at.new.item c.in_ok-transition.transition.done c.turn_at.new.shared c.turn_at.new.tasks c.in_ok-transition.ensures.turns
-    ∙ ap (λ k. deed_of (turn_in k c.args.pid).event) c.self.view_is
+    c.by_pid-event.ensures
+    ∙ kernel_event v k.script k.follow c.args.pid (λ n. count_of k.occurrences c.args.pid n) (λ n. (c.self.invariant c.if-self.false).0 c.args.pid n) c.turn_at.new.item c.in_ok-transition.transition.done c.turn_at.new.shared c.turn_at.new.tasks c.in_ok-transition.ensures.turns
+    ∙ ap (λ k. by_pid k.running.child (turn_in k c.args.pid).event) c.self.view_is
 
 pub returns-clause-turned : goal.returns-clause-turned
 returns-clause-turned c =
@@ -71,7 +71,7 @@ rouse-requires c = λ known.
     let k = c.self.inside in
     let v : Running Shared UserState = record { shared = k.shared; tasks = k.tasks; child = k.child; log = k.log.items } in
     let watch = (c.self.invariant c.if-self.false).1 (c.welcome.ensures.known known) in
-    let event = event_of c.in_ok-transition.transition.done in
+    let event = unboxed c.in_ok-transition.transition.done in
     subst (λ (sets : RunQueue). AreListed sets c.place_child.new.tasks) (sym (c.welcome.ensures.sets known))
     (subst (λ (tasks : Tasks). AreListed (welcomed k.run_queue k.child event) tasks) (sym c.in_ok-place_child.ensures.tasks)
     (turn_listed v k.script k.follow c.args.pid (λ n. count_of k.occurrences c.args.pid n) c.turn_at.new.item c.in_ok-transition.transition.done c.turn_at.new.shared c.turn_at.new.tasks c.in_ok-transition.ensures.turns k.run_queue watch))
@@ -82,7 +82,7 @@ pass-requires-clause-others c = λ calm known q up ne.
     let v : Running Shared UserState = record { shared = k.shared; tasks = k.tasks; child = k.child; log = k.log.items } in
     let same = c.rouse.ensures.others known in
     let watch = (c.self.invariant c.if-self.false).1 (c.welcome.ensures.known same.0) in
-    let event = event_of c.in_ok-transition.transition.done in
+    let event = unboxed c.in_ok-transition.transition.done in
     let roused = c.in_ok-transition.transition.roused in
     roused_watched c.welcome.new.self c.rouse.new.self c.turn_at.new.shared c.place_child.new.tasks c.args.pid roused same (c.rouse.ensures.itself known)
     (λ q up ne still.
