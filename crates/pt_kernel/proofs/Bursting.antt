@@ -1,10 +1,8 @@
 -- Turns of the kernel that stay in Run are turns of the host.
-use Rattle.std.proofs.Common.{◌≡◌, ℕ, zero, suc, ◌<◌, ◌≤◌, Bool, true, false, cond, List, [], ◌∷◌, ◌++◌, replicate, Option, Some, None, unwrap_or, refl, sym, ap, ap₂, subst, ◌∙◌, append-nil, append_assoc, arith}
+use Rattle.std.proofs.Common.{◌≡◌, ℕ, zero, suc, ◌<◌, Bool, true, false, cond, List, [], ◌∷◌, ◌++◌, replicate, Option, Some, None, unwrap_or, refl, sym, ap, ap₂, subst, ◌∙◌, append-nil, append_assoc, arith}
 use Rattle.std.specs.Prelude.{◌&&◌}
 use Rattle.std.specs.FinMap as maps
-use Rattle.lx_abi.specs.declared.log.Cause.{Cause}
 use Rattle.lx_abi.specs.declared.log.Mode.TheVariants as mode
-use Rattle.lx_abi.specs.declared.signal.Signal.{Signal}
 use Rattle.lx_abi.specs.Log.{entries}
 use Rattle.lx_abi.specs.Scripts.{choice_of}
 use Rattle.lx_abi.specs.declared.script.Choice.{Choice}
@@ -16,7 +14,7 @@ use Rattle.lx_model.specs.Machine.{Ran, Goes, Calls, Faults, Takes}
 use Rattle.lx_model.specs.declared.event.PtraceEvent.TheVariants.{Plain}
 use Rattle.lx_model.specs.Turn.{Out, gives, stepped, killed_or, turn, stage_mode}
 use Rattle.lx_model.specs.Kernel.{choice_at, traces}
-use Rattle.lx_model.specs.Finite.{at, task_mode, Running, ran, bore, turn_out, running_turn}
+use Rattle.lx_model.specs.Finite.{at, task_mode, Running, ran, bore, turn_out}
 use Rattle.lx_proc.specs.declared.state.Shared.{Shared}
 use Rattle.lx_proc.specs.declared.state.UserState.{UserState}
 use Rattle.lx_proc.specs.declared.state.Entry.{Entry}
@@ -24,7 +22,7 @@ use Rattle.lx_proc.specs.declared.state.Life.{Life}
 use Rattle.lx_proc.specs.declared.state.Life.TheVariants as life
 use Rattle.lx_kernel.specs.Bursts.{StaysInRun, after_turns as kernel_after_turns, Burst as KernelBurst}
 use Rattle.lx_turn.specs.Linux.{linux}
-use Rattle.lx_kernel.specs.Runs.{Run as KernelRun, turn_in, after_turn, mode_in}
+use Rattle.lx_kernel.specs.Runs.{Run as KernelRun, turn_in, after_turn}
 use Rattle.lx_turn.specs.Modes.{life_mode, task_mode as kernel_mode}
 use Rattle.lx_kernel.specs.Tracing.{task_in}
 use Rattle.lx_turn.proofs.Placed.{put_same}
@@ -40,8 +38,7 @@ use Rattle.pt_model.proofs.Hosts.{hosts_attend_alike}
 use Rattle.pt_schedule.specs.Cycle.{IsNextPlace}
 use Rattle.pt_schedule.specs.Modes.{moves}
 use Rattle.pt_schedule.specs.Untraced.{readiness_of as plain_readiness}
-use Rattle.pt_kernel.specs.declared.traced_kernel.TracedKernel.{TracedKernel}
-use Rattle.pt_kernel.specs.Hosts.{Linux_host, HostState, IsSwept, IsSound, able_in, hosting_of, state_of, readiness_of}
+use Rattle.pt_kernel.specs.Hosts.{Linux_host, HostState, IsSwept, IsSound, able_in, readiness_of}
 use Rattle.pt_kernel.specs.Bursts.{after, after_turns, RunsOn, Burst}
 use Rattle.pt_kernel.proofs.Telling.{left_at}
 use Rattle.pt_kernel.proofs.Sweeping.{swept_event}
@@ -214,14 +211,14 @@ pub none_held : (h : HostState) (p limit : ℕ) → h.failed ≡ false → (trac
 none_held h p limit whole held = none_by h p limit whole (λ on. not_both _ held on.free)
 
 -- by the parts of the host
-pub burst_made : (c c' : TracedKernel) (p limit n : ℕ) (k' : KernelRun) (turns' : List ℕ) → c.kernel.script ≡ [] → (traced_at (hosting_of c) p).held ≡ false → (readiness_of (state_of c false)).ready ≡ false →
-    KernelBurst c.kernel p limit n k' → turns' ≡ c.turns ++ replicate n p → c' ≡ record c { kernel = k'; turns = turns' } → Burst (state_of c false) p limit n (state_of c' false)
-burst_made c c' p limit n k' turns' empty free waits b e f =
-    let same : c.kernel ≡ kernel_by (hosting_of c) c.kernel.follow c.kernel.failed = ap (λ script. record { running = c.kernel.running; script = script; follow = c.kernel.follow; failed = c.kernel.failed }) empty in
-    let kept : k'.follow ≡ c.kernel.follow = (kept_by_burst c.kernel k' p limit n b).1 in
-    subst (λ h. Burst (state_of c false) p limit n h)
-    (sym (ap (λ x. state_of x false) f ∙ ap₂ (λ follow turns. state (with_run (hosting_of c) k'.running turns) follow) kept e))
-    (bursts (hosting_of c) c.kernel.follow c.kernel.failed p limit n free waits k' (subst (λ x. KernelBurst x p limit n k') same b))
+pub burst_made : (k k' : KernelRun) (v : Linux_host) (p limit n : ℕ) (turns' : List ℕ) → v.running ≡ k.running → k.script ≡ [] → (traced_at v p).held ≡ false → (readiness_of (state v k.follow)).ready ≡ false →
+    KernelBurst k p limit n k' → turns' ≡ v.turns ++ replicate n p → Burst (state v k.follow) p limit n (state (with_run v k'.running turns') k'.follow)
+burst_made k k' v p limit n turns' running empty free waits b e =
+    let same : k ≡ kernel_by v k.follow k.failed = ap₂ (λ r script. record { running = r; script = script; follow = k.follow; failed = k.failed }) (sym running) empty in
+    let kept : k'.follow ≡ k.follow = (kept_by_burst k k' p limit n b).1 in
+    subst (λ h. Burst (state v k.follow) p limit n h)
+    (sym (ap₂ (λ follow turns. state (with_run v k'.running turns) follow) kept e))
+    (bursts v k.follow k.failed p limit n free waits k' (subst (λ x. KernelBurst x p limit n k') same b))
 
 -- a host that hasn't failed stays one that is sound
 
@@ -230,13 +227,15 @@ unfolding after_turns
 sound_turns zero h p swept fresh = (swept, fresh)
 sound_turns (suc n) h p swept fresh = sound_turns n (after h (Turn p)) p (swept_event outcome_in h.follow h.hosting (Turn p) swept) (hosts_attend_alike linux outcome_in h.follow h.hosting (Turn p) fresh).3
 
-pub sound_burst : (c c' : TracedKernel) (p limit n : ℕ) → IsSound c → c'.kernel.script ≡ c.kernel.script → Burst (state_of c false) p limit n (state_of c' false) → IsSound c'
-sound_burst c c' p limit n sound same b =
-    let it = sound_turns n (state_of c false) p sound.swept sound.fresh in
+pub sound_burst : (k k' : KernelRun) (v : Linux_host) (p limit n : ℕ) (turns' : List ℕ) → v.running ≡ k.running → IsSound k v → (traced_at v p).held ≡ false → (readiness_of (state v k.follow)).ready ≡ false →
+    KernelBurst k p limit n k' → turns' ≡ v.turns ++ replicate n p → IsSound k' (with_run v k'.running turns')
+sound_burst k k' v p limit n turns' running sound free waits b e =
+    let made : Burst (state v k.follow) p limit n (state (with_run v k'.running turns') k'.follow) = burst_made k k' v p limit n turns' running sound.empty free waits b e in
+    let it = sound_turns n (state v k.follow) p sound.swept sound.fresh in
     record {
-      empty = same ∙ sound.empty;
-      swept = subst (λ (h : HostState). IsSwept h.hosting.running) (sym b.turned) it.0;
-      fresh = subst (λ (h : HostState). IsFresh h.hosting) (sym b.turned) it.1;
+      empty = (kept_by_burst k k' p limit n b).0 ∙ sound.empty;
+      swept = subst (λ (h : HostState). IsSwept h.hosting.running) (sym made.turned) it.0;
+      fresh = subst (λ (h : HostState). IsFresh h.hosting) (sym made.turned) it.1;
     }
 
 -- Who may be able: a process whose turn of the kernel moves nothing is none of them
@@ -245,11 +244,11 @@ and_false : (b x : Bool) → x ≡ false → (b && x) ≡ false
 and_false true x e = e
 and_false false x e = refl
 
-module _ (c : TracedKernel) (empty : c.kernel.script ≡ []) where
-  unable : (n : ℕ) → (plain_readiness c.kernel).able n ≡ false → able_in (hosting_of c) c.kernel.follow n ≡ false
+module _ (k : KernelRun) (v : Linux_host) (running : v.running ≡ k.running) (empty : k.script ≡ []) where
+  unable : (n : ℕ) → (plain_readiness k).able n ≡ false → able_in v k.follow n ≡ false
   unable n e = and_false _ _
-      (ap (λ script. moves (task_mode (at Gone c.kernel.running.tasks n)) (task_mode (turn_out linux script c.kernel.follow c.kernel.running n).task)) (sym (ap choice_of empty ∙ empty_script_is_none)) ∙ e)
+      (ap₂ (λ script (r : Running Shared UserState). moves (task_mode (at Gone r.tasks n)) (task_mode (turn_out linux script k.follow r n).task)) (sym (ap choice_of empty ∙ empty_script_is_none)) running ∙ e)
 
-  pub place_in : (p : ℕ) (r : Option ℕ) → IsNextPlace (plain_readiness c.kernel).able p r → IsNextPlace (able_in (hosting_of c) c.kernel.follow) p r
+  pub place_in : (p : ℕ) (r : Option ℕ) → IsNextPlace (plain_readiness k).able p r → IsNextPlace (able_in v k.follow) p r
   place_in p None h = λ n l. unable n (h n l)
   place_in p (Some q) h = (h.0, λ n l m. unable n (h.1 n l m))

@@ -25,7 +25,6 @@ use Rattle.pt_model.specs.Hosting.{Hosting, Hosted, as_proc, proc_in, no_script,
 use Rattle.pt_schedule.specs.Modes.{is_finished, moves}
 use Rattle.pt_schedule.specs.Schedules.{Readiness}
 use Rattle.pt_kernel.specs.declared.tracees.Tracees.{Tracees}
-use Rattle.pt_kernel.specs.declared.traced_kernel.TracedKernel.{TracedKernel}
 
 abbrev pub Linux_host : Type 0
 Linux_host = Hosting Shared UserState
@@ -39,9 +38,6 @@ hosting_by running x turns pending = record {
   turns = turns;
   pending = pending;
 }
-
-abbrev pub hosting_of : TracedKernel → Linux_host
-hosting_of c = hosting_by c.kernel.running c.tracees c.turns c.pending
 
 -- no process that is gone keeps a place in the table
 abbrev pub IsSwept : Running Shared UserState → Type 0
@@ -89,13 +85,17 @@ pub record HostState : Type 0 where
   pub failed : Bool
 
 -- what a host that hasn't failed keeps
-pub record IsSound (k : TracedKernel) : Type 0 where
-  pub empty : k.kernel.script ≡ []
-  pub swept : IsSwept k.kernel.running
-  pub fresh : IsFresh (hosting_of k)
+pub record IsSound (k : KernelRun) (v : Linux_host) : Type 0 where
+  pub empty : k.script ≡ []
+  pub swept : IsSwept v.running
+  pub fresh : IsFresh v
 
-abbrev pub state_of : TracedKernel → Bool → HostState
-state_of k failed = record { hosting = hosting_of k; follow = k.kernel.follow; failed = failed }
+abbrev pub state_by : KernelRun → Tracees → List ℕ → Option Request → Bool → HostState
+state_by k x turns pending failed = record {
+  hosting = hosting_by k.running x turns pending;
+  follow = k.follow;
+  failed = failed;
+}
 
 -- a host is booted before it is asked anything
 abbrev pub is_boot : Request → Bool

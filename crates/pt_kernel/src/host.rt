@@ -1,23 +1,23 @@
 //! The host: the ptrace machine around Linux.
 
-ghost use Rattle.std.specs.Prelude.{◌≡◌, ◌↔◌, [], Some, None, true, false, Err, IfOk, IfErr, OnOk, OnErr, IsErr, IsTrue, IsSome};
+ghost use Rattle.std.specs.Prelude.{◌≡◌, [], Some, None, true, false, Err, IfOk, IfErr, OnOk, OnErr, IsErr, IsTrue, IsSome};
 ghost use Rattle.lx_boot.specs.Boots.{fault_of, Refuses};
 ghost use Rattle.lx_boot.specs.declared.boots.BootFault.{BootFault};
 ghost use Rattle.lx_boot.specs.First.{first_shared};
 ghost use Rattle.lx_kernel.specs.Outcomes.{outcome_in};
 ghost use Rattle.lx_exec.specs.Programs.{booted};
-ghost use Rattle.pt_model.specs.Hosting.{first_hosting, hosting_asked};
-ghost use Rattle.pt_schedule.specs.Cycle.{IsNextPlace};
-ghost use Rattle.pt_kernel.specs.Hosts.{readiness_of, event_of, is_boot};
-ghost use Rattle.pt_kernel.specs.Bursts.{Burst};
+ghost use Rattle.pt_model.specs.Hosting.{first_hosting, hosting_asked, ready_in};
+ghost use Rattle.pt_kernel.specs.Hosts.{able_in, event_of, hosting_by, is_boot, readiness_of};
+ghost use Rattle.pt_kernel.specs.Bursts.{after, Burst};
 
-use crate::traced_kernel::TracedKernel;
-use crate::tracees::Tracees;
+use crate::serving::serve;
+use crate::stops::{dies_after, is_effective, stop_after};
+use crate::tracees::{Tracees, Turned};
 use crate::turns::Turns;
 use lx_abi::{Boot, Event, Outcome, Reply, Request, Script};
 use lx_boot::BootFault;
 use lx_kernel::{Failed, Kernel};
-use pt_schedule::Schedulable;
+use pt_schedule::{Schedulable, TurnRun};
 use std::alloc::{AllocError, Global};
 use std::marker::Model;
 
@@ -25,10 +25,13 @@ use std::marker::Model;
 #[derive(Clone, Copy, Debug, PartialEq, Eq)]
 pub struct Busy;
 
-/// The kernel under the empty script, with a tracer's stops and at most one pending request.
+/// The kernel under the empty script, its tracees, the effective turns so far, and at most one pending request.
 #[derive(Drop)]
 pub struct Host {
-    kernel: TracedKernel,
+    kernel: Kernel,
+    tracees: Tracees,
+    turns: Turns,
+    pending: Option<Request>,
     failed: bool,
 }
 
@@ -36,15 +39,35 @@ impl Model for Host {
     ghost use Rattle.std.specs.Prelude.{◌≡◌, false};
     ghost use Rattle.std.specs.Coded.{codes};
     ghost use Rattle.std.specs.FinMap as maps;
-    ghost use Rattle.pt_kernel.specs.Hosts.{HostState, state_of, IsSound};
+    ghost use Rattle.pt_kernel.specs.Hosts.{HostState, state_by, hosting_by, IsSound};
 
     ghost Value = { HostState };
 
     ghost coded = { Prim.hlevel (codes, maps.code) };
 
-    ghost view = { λ h. state_of h.kernel h.failed };
+    ghost view = { λ h. state_by h.kernel h.tracees h.turns h.pending h.failed };
 
-    ghost invariant = { λ h. h.failed ≡ false → IsSound h.kernel };
+    ghost invariant = { λ h. h.failed ≡ false
+        → IsSound h.kernel (hosting_by h.kernel.running h.tracees h.turns h.pending) };
+}
+
+/// A turn of the process would run an instruction or change its mode.
+fn is_able(kernel: &Kernel, tracees: &Tracees, pid: u32) -> bool
+    requires { kernel.now.script ≡ [] }
+    ensures { result ≡ able_in (hosting_by kernel.now.running tracees.now [] None) kernel.now.follow pid }
+{
+    is_effective(kernel, pid, tracees.traced(pid)) && kernel.able(pid)
+}
+
+/// A request is pending, and would be answered.
+fn is_ready(pending: &Option<Request>, tracees: &Tracees) -> bool
+    ensures { result ≡ ready_in pending.now tracees.now.queue tracees.now.pids }
+{
+    match pending {
+        None | Some(Request::Boot { .. }) => false,
+        Some(Request::Wait) => tracees.can_wait(),
+        Some(Request::To { .. } | Request::Outcome) => true,
+    }
 }
 
 impl Host {
@@ -65,12 +88,10 @@ impl Host {
         let kernel = Kernel::boot(alloc, boot, Script::empty(alloc))?;
         let tracees = Tracees::new(alloc)?;
         Ok(Host {
-            kernel: TracedKernel {
-                kernel,
-                tracees,
-                turns: Turns::new(alloc),
-                pending: None,
-            },
+            kernel,
+            tracees,
+            turns: Turns::new(alloc),
+            pending: None,
             failed: false,
         })
     }
@@ -85,11 +106,53 @@ impl Host {
         ensures busy { OnErr result (IsSome self.old.hosting.pending) }
         ensures unchanged { OnErr result (self.new ≡ self.old) }
     {
-        if self.kernel.pending.is_some() {
+        if self.pending.is_some() {
             return Err(Busy);
         }
-        self.kernel.pending = Some(request);
+        self.pending = Some(request);
         Ok(())
+    }
+
+    /// One turn of a process, if its tracer doesn't hold it.
+    fn turn(&mut self, pid: u32) -> Result<(), Failed>
+        ensures after { OnOk result (self.new ≡ after self.old (Event.Turn pid)) }
+        ensures failed { OnErr result (IsTrue self.new.failed) }
+        ensures failed_before { IsTrue self.old.failed → IsErr result }
+    {
+        if self.failed {
+            return Err(Failed);
+        }
+        let traced = self.tracees.traced(pid);
+        if !is_effective(&self.kernel, pid, traced) {
+            return Ok(());
+        }
+        self.failed = true;
+        let moved = self.kernel.turn(pid)?;
+        let turned = Turned {
+            stop: stop_after(traced.options, moved.after, moved.item, moved.event),
+            dying: dies_after(moved.after, moved.event),
+            event: moved.event,
+        };
+        self.tracees.turn(pid, traced, turned)?;
+        self.turns.push(pid)?;
+        self.failed = false;
+        Ok(())
+    }
+
+    /// The pending request is served whole.
+    fn serve(&mut self) -> Result<Option<Reply>, Failed>
+        ensures after { OnOk result (self.new ≡ after self.old Event.Serve) }
+        ensures reply { IfOk result (λ r. r ≡ (event_of self.old Event.Serve).reply) }
+        ensures failed { OnErr result (IsTrue self.new.failed) }
+        ensures failed_before { IsTrue self.old.failed → IsErr result }
+    {
+        if self.failed {
+            return Err(Failed);
+        }
+        self.failed = true;
+        let reply = serve(&mut self.kernel, &mut self.tracees, &mut self.pending)?;
+        self.failed = false;
+        Ok(reply)
     }
 
     /// One event: a turn of a process, or the pending request served whole.
@@ -106,16 +169,20 @@ impl Host {
         ensures failed { OnErr result (IsTrue self.new.failed) }
         ensures failed_before { IsTrue self.old.failed → IsErr result }
     {
-        if self.failed {
-            return Err(Failed);
+        match event {
+            Event::Turn { pid } => {
+                self.turn(pid)?;
+                Ok(None)
+            }
+            Event::Serve => {
+                let reply = self.serve()?;
+                Ok(reply)
+            }
         }
-        self.failed = true;
-        let reply = self.kernel.event(event)?;
-        self.failed = false;
-        Ok(reply)
     }
 
-    /// Turns of a process while each runs an instruction and no request is ready, at most so many: how many there were.
+    /// Turns of a process while each runs an instruction, at most so many: how many there were. None where a request is
+    /// ready, or the tracer holds the process.
     ///
     /// They are the events of so many turns, for one look at the tables.
     pub fn run(&mut self, pid: u32, limit: u64) -> Result<u64, Failed>
@@ -126,8 +193,15 @@ impl Host {
         if self.failed {
             return Err(Failed);
         }
+        if self.ready() {
+            return Ok(0);
+        }
+        if self.tracees.traced(pid).held {
+            return Ok(0);
+        }
         self.failed = true;
         let ran = self.kernel.run(pid, limit)?;
+        self.turns.extend(TurnRun { pid, turns: ran })?;
         self.failed = false;
         Ok(ran)
     }
@@ -136,35 +210,35 @@ impl Host {
     pub fn ready(&self) -> bool
         ensures { result ≡ (readiness_of self.now).ready }
     {
-        self.kernel.ready()
+        is_ready(&self.pending, &self.tracees)
     }
 
     /// A turn of the process would run an instruction or change its mode; none would in a host that failed.
     pub fn able(&self, pid: u32) -> bool
         ensures { result ≡ (readiness_of self.now).able pid }
     {
-        !self.failed && self.kernel.able(pid)
+        !self.failed && is_able(&self.kernel, &self.tracees, pid)
     }
 
     /// The effective turns so far.
     pub fn turns(&self) -> &Turns
         ensures { result.now ≡ self.now.hosting.turns }
     {
-        &self.kernel.turns
+        &self.turns
     }
 
     /// The same, where the host is used no more.
     pub fn into_turns(self) -> Turns
         ensures { result ≡ self.hosting.turns }
     {
-        self.kernel.turns
+        self.turns
     }
 
     /// What is left of the run so far.
     pub fn outcome(&self) -> Result<Outcome, AllocError>
         ensures { IfOk result (λ o. o ≡ outcome_in self.now.hosting.running.shared) }
     {
-        self.kernel.kernel.outcome()
+        self.kernel.outcome()
     }
 }
 
@@ -189,7 +263,7 @@ impl Schedulable for Host {
     }
 
     fn last_pid(&self) -> u16 {
-        self.kernel.last_pid()
+        self.kernel.limits().last_pid
     }
 
     fn has_finished(&self, pid: u32) -> bool {

@@ -6,8 +6,8 @@ pub mod attending;
 pub mod host;
 pub mod laws;
 pub mod queue;
+pub mod serving;
 pub mod stops;
-pub mod traced_kernel;
 pub mod tracees;
 pub mod turns;
 

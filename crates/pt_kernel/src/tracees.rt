@@ -3,7 +3,7 @@
 ghost use Rattle.std.specs.Prelude.{◌≡◌, ◌++◌, ◌==◌, [], true, not, cond, Some, None, IfOk, OnOk, filter};
 ghost use Rattle.std.specs.FinMap as maps;
 ghost use Rattle.lx_model.specs.Finite.{at};
-ghost use Rattle.pt_model.specs.Ptrace.{inherits, is_there, reports_of, without};
+ghost use Rattle.pt_model.specs.Ptrace.{inherits, reports_of, without};
 ghost use Rattle.pt_model.specs.Hosting.{message_after, untraced, released, wait_ready};
 ghost use Rattle.pt_model.specs.Requests.{told};
 ghost use Rattle.pt_kernel.specs.Tracees.{stopped_at, with_newborn, with_birth, attached, after_turn, waited, tells, took, seized};

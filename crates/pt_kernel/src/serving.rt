@@ -1,0 +1,71 @@
+//! How the pending request is served.
+
+ghost use Rattle.std.specs.Prelude.{◌≡◌, OnOk, IfOk, ℕ, List, Option};
+ghost use Rattle.lx_abi.specs.declared.ptrace.Request.{Request};
+ghost use Rattle.lx_turn.specs.Linux.{linux};
+ghost use Rattle.lx_kernel.specs.Outcomes.{outcome_in};
+ghost use Rattle.pt_model.specs.Hosting.{hosting_serve, hosting_pending};
+ghost use Rattle.pt_kernel.specs.Hosts.{hosting_by, IsSwept, made};
+
+use crate::answers::answer;
+use crate::tracees::Tracees;
+use lx_abi::{Reply, Request};
+use lx_kernel::{Failed, Kernel};
+
+/// A request is answered; none where Wait stays pending.
+fn answer_request(
+    kernel: &mut Kernel,
+    tracees: &mut Tracees,
+    request: &Request,
+) -> Result<Option<Reply>, Failed>
+    requires { IsSwept kernel.old.running }
+    ensures answer { IfOk result
+        (λ r. (turns : List ℕ) (pending : Option Request)
+        → made (hosting_by kernel.new.running tracees.new turns pending) r
+        ≡ hosting_serve linux outcome_in
+        (hosting_by kernel.old.running tracees.old turns pending) request.now) }
+    ensures script { OnOk result ((kernel.new.script ≡ kernel.old.script) × (kernel.new.follow ≡ kernel.old.follow)) }
+{
+    match request {
+        Request::Boot { .. } => Ok(None),
+        Request::Wait => {
+            let reply = tracees.wait()?;
+            Ok(reply)
+        }
+        Request::To { pid, ask } => {
+            let reply = answer(kernel, tracees, *pid, ask)?;
+            Ok(Some(reply))
+        }
+        Request::Outcome => {
+            let outcome = kernel.outcome()?;
+            Ok(Some(Reply::Outcome { outcome }))
+        }
+    }
+}
+
+/// The pending request is served whole. Apart, since a function pays at its entry for the size of its locals.
+#[inline(never)]
+pub fn serve(
+    kernel: &mut Kernel,
+    tracees: &mut Tracees,
+    pending: &mut Option<Request>,
+) -> Result<Option<Reply>, Failed>
+    requires { IsSwept kernel.old.running }
+    ensures served { IfOk result
+        (λ r. (turns : List ℕ)
+        → made (hosting_by kernel.new.running tracees.new turns pending.new) r
+        ≡ hosting_pending linux outcome_in
+        (hosting_by kernel.old.running tracees.old turns pending.old) pending.old) }
+    ensures script { OnOk result ((kernel.new.script ≡ kernel.old.script) × (kernel.new.follow ≡ kernel.old.follow)) }
+{
+    match pending.take() {
+        None => Ok(None),
+        Some(request) => {
+            let reply = answer_request(kernel, tracees, &request)?;
+            if reply.is_none() {
+                *pending = Some(request);
+            }
+            Ok(reply)
+        }
+    }
+}
