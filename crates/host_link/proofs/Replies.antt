@@ -1,8 +1,9 @@
 -- The reply in the one frame that came.
-use Rattle.std.proofs.Common.{◌≡◌, ℕ, Bool, true, false, cond, eqb, List, [], ◌∷◌, Option, Some, Result, Ok, Err, refl, sym, ap, subst, ◌∙◌}
+use Rattle.std.proofs.Common.{◌≡◌, ℕ, ◌<◌, ◌^◌, Bool, true, false, cond, eqb, List, [], ◌∷◌, length, Option, Some, Result, Ok, Err, refl, sym, ap, subst, ◌∙◌, arith, inl, inr}
 use Rattle.std.specs.Prelude.{IsSome, OnOk}
 use Rattle.std.specs.Io.KnownBytes.{Consumes}
 use Rattle.lx_abi.specs.declared.ptrace.Reply.{Reply}
+use Rattle.lx_abi.specs.declared.ptrace.Request.{Request}
 use Rattle.pt_model.specs.Admissible.{answers}
 use Rattle.host_frame.specs.declared.frame.Payload.{Payload}
 use Rattle.host_frame.specs.declared.frame.Payload.TheVariants.{Request as Of_request, Reply as Of_reply}
@@ -10,8 +11,8 @@ use Rattle.host_frame.specs.declared.frame.Frame.{Frame}
 use Rattle.host_wire.specs.Receiving.{Received}
 use Rattle.host_wire.specs.Streams.{Going, Feeding, nothing_fed, stream_of}
 use Rattle.host_link.specs.declared.fault.LinkFault.{LinkFault}
-use Rattle.host_link.specs.declared.fault.LinkFault.TheVariants.{Sequence, Inadmissible}
-use Rattle.host_link.specs.Pipes.{Came, CameAs, reply_in, reply_of}
+use Rattle.host_link.specs.declared.fault.LinkFault.TheVariants.{Ended, Read, Write, Malformed, Sequence, Inadmissible, Memory, TooMany}
+use Rattle.host_link.specs.Pipes.{Came, CameAs, Exchanged, SentAs, request_frame, reply_in, reply_of}
 
 at_answer : (P : Result Reply LinkFault → Type 0) → ((r : Reply) → P (Ok r)) → P (Err Inadmissible) → (b : Bool) (r : Reply) → P (cond b (Ok r) (Err Inadmissible))
 at_answer P ok other true r = ok r
@@ -46,3 +47,46 @@ reply_received {most} {left} {left'} {old} {new} {o} {broken} f sent fresh is re
     let first : Received most left nothing_fed (Ok (Some f)) left' new broken = subst (λ (x : Feeding). Received most left x (Ok (Some f)) left' new broken) fresh some in
     let none : new ≡ nothing_fed = nothing_left fresh is alone in
     came_whole most left left' first.came sent f broken first.consumed (first.so ∙ ap (λ (n : Feeding). Going (f ∷ n.ready) n.under_way) none)
+
+-- ---- what holds where nothing is known of the bytes
+
+fitting : (b : Bool) (r s : Reply) → cond b (Ok s) (Err Inadmissible) ≡ Ok r → (b ≡ true) × (s ≡ r)
+fitting true r s e = (refl, cc)
+fitting false r s e = absurd cc
+
+reply_fits : (q : Request) (r : Reply) (body : Payload) → reply_of (Of_request q) body ≡ Ok r → answers q r ≡ true
+reply_fits q r (Of_reply s) e = let f = fitting (answers q s) r s e in ap (answers q) (sym f.1) ∙ f.0
+reply_fits q r (Of_request p) e = absurd cc
+
+numbered : (b : Bool) (x : Result Reply LinkFault) (r : Reply) → cond b x (Err Sequence) ≡ Ok r → x ≡ Ok r
+numbered true x r e = e
+numbered false x r e = absurd cc
+
+pub exchanged_fits : (most number : ℕ) (q : Request) (r : Reply) (left left' old new : Option (List ℕ)) (broken broken_writer : ℕ)
+    → Exchanged most (request_frame number q) left left' old new (Ok r) broken broken_writer → answers q r ≡ true
+exchanged_fits most number q r left left' old new broken broken_writer (inl x) =
+    let f = x.1.so.0 in
+    reply_fits q r f.body (numbered (eqb f.number number) (reply_of (Of_request q) f.body) r x.1.so.1.1)
+exchanged_fits most number q r left left' old new broken broken_writer (inr x) = absurd cc
+
+not_sent : (sent : Frame) (fault : LinkFault) (old new : Option (List ℕ)) (broken : ℕ) → Read ≡ fault → SentAs (Err fault) sent old new broken → ⊥
+not_sent sent Read old new broken e s = s
+not_sent sent Ended old new broken e s = absurd cc
+not_sent sent Write old new broken e s = absurd cc
+not_sent sent Malformed old new broken e s = absurd cc
+not_sent sent Sequence old new broken e s = absurd cc
+not_sent sent Inadmissible old new broken e s = absurd cc
+not_sent sent Memory old new broken e s = absurd cc
+not_sent sent TooMany old new broken e s = absurd cc
+
+abbrev fault_in : Result Reply LinkFault → LinkFault
+fault_in (Ok r) = Ended
+fault_in (Err fault) = fault
+
+pub unread : ((bytes tail : List ℕ) → stream_of bytes ≡ Going [] tail → length bytes < 134217732)
+    → (sent : Frame) (left left' old new : Option (List ℕ)) (broken broken_writer : ℕ) → Exchanged (2 ^ 32) sent left left' old new (Err Read) broken broken_writer → broken ≡ 1
+unread few sent left left' old new broken broken_writer (inl x) = elim x.1.so [
+  | inl is ↦ is
+  | inr long ↦ absurd (omega (arith, long.0, few x.1.came long.1.0 long.1.1))
+]
+unread few sent left left' old new broken broken_writer (inr x) = absurd (not_sent sent x.0 old new broken_writer (ap fault_in x.1.0) x.1.1.0)

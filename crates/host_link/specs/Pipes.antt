@@ -1,5 +1,5 @@
 -- A link over a reader and a writer: a request is a frame that is written, its reply the next frame that is read.
-use Rattle.std.specs.Prelude.{◌≡◌, ◌⊎◌, ℕ, ◌<◌, ◌==◌, if◌then◌else◌, Bool, false, List, [], ◌∷◌, length, Option, Result, Ok, Err, ⊤}
+use Rattle.std.specs.Prelude.{◌≡◌, ◌⊎◌, ℕ, ◌<◌, ◌≤◌, ◌==◌, if◌then◌else◌, Bool, false, List, [], ◌∷◌, length, Option, Result, Ok, Err, ⊤}
 use Rattle.std.specs.Io.KnownBytes.{Appends, Consumes, IsAtEnd}
 use Rattle.lx_abi.specs.declared.ptrace.Reply.{Reply}
 use Rattle.lx_abi.specs.declared.ptrace.Request.{Request}
@@ -11,7 +11,6 @@ use Rattle.host_frame.specs.declared.fault.WireFault.TheVariants.{Length, Kind, 
 use Rattle.host_wire.specs.declared.receiving.ReceiveFault.{ReceiveFault}
 use Rattle.host_wire.specs.declared.receiving.ReceiveFault.TheVariants as receiving
 use Rattle.host_wire.specs.Ends.{AppendsPart}
-use Rattle.host_wire.specs.Receiving.{IsCutOff}
 use Rattle.host_frame.specs.Spelling.{content, spelled}
 use Rattle.host_wire.specs.Streams.{Stream, Going, Failed, stream_of}
 use Rattle.host_link.specs.declared.fault.LinkFault.{LinkFault}
@@ -60,7 +59,7 @@ CameWhole sent stream result = (f : Frame) × ((stream ≡ Going (f ∷ []) []) 
 abbrev pub CameAs : ℕ → Result Reply LinkFault → Frame → List ℕ → Stream → Option (List ℕ) → ℕ → Type 0
 CameAs most (Ok r) sent came stream left broken = CameWhole sent stream (Ok r)
 CameAs most (Err Ended) sent came stream left broken = (tail : List ℕ) × ((stream ≡ Going [] tail) × IsAtEnd left)
-CameAs most (Err Read) sent came stream left broken = IsCutOff most came broken
+CameAs most (Err Read) sent came stream left broken = (broken ≡ 1) ⊎ ((most ≤ length came) × ((tail : List ℕ) × (stream ≡ Going [] tail)))
 CameAs most (Err Malformed) sent came stream left broken = IsFaulty stream
 CameAs most (Err Sequence) sent came stream left broken = CameWhole sent stream (Err Sequence)
 CameAs most (Err Inadmissible) sent came stream left broken = CameWhole sent stream (Err Inadmissible)

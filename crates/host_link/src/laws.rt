@@ -1,13 +1,18 @@
-//! Laws of links in memory.
+//! Laws of links.
 
-ghost use Rattle.std.specs.Prelude.{◌≡◌, ◌<◌, ◌^◌, false, Ok, Err};
+ghost use Rattle.std.specs.Prelude.{◌≡◌, ◌<◌, ◌^◌, true, false, Ok, Err, Option, List, ℕ};
 ghost use Rattle.lx_abi.specs.declared.ptrace.Reply.{Reply};
 ghost use Rattle.lx_abi.specs.declared.ptrace.Request.{Request};
 ghost use Rattle.pt_kernel.specs.Hosts.{is_boot};
+ghost use Rattle.pt_model.specs.Admissible.{answers};
+ghost use Rattle.host_frame.specs.declared.frame.Frame.{Frame};
 ghost use Rattle.host_link.specs.LocalLinks.{Calls, IsIdle, faults_of, given_of};
 ghost use Rattle.host_link.specs.declared.fault.LinkFault.{LinkFault};
-ghost use Rattle.host_link.specs.declared.fault.LinkFault.TheVariants.{Memory};
+ghost use Rattle.host_link.specs.declared.fault.LinkFault.TheVariants.{Memory, Read};
 ghost use Rattle.host_link.specs.declared.local.LocalLink.{LocalLink};
+ghost use Rattle.host_link.specs.Pipes.{Exchanged, request_frame};
+
+use host_wire::laws::bytes_without_a_frame_are_few;
 
 /// Behind a reply no request is pending.
 pub fn replies_leave_links_idle()
@@ -19,3 +24,18 @@ pub fn idle_links_fail_for_memory()
     ensures { (a b : LocalLink) (q : Request) (f : LinkFault) → faults_of a ≡ 0 → given_of a < 2 ^ 40 → IsIdle a →
         is_boot q ≡ false → Calls a q (Err f) b → f ≡ Memory }
 {}
+
+/// Over pipes a reply is of a kind that answers its request, even where nothing is known of the bytes.
+pub fn replies_over_pipes_fit()
+    ensures { (most number : ℕ) (q : Request) (r : Reply) (left left' old new : Option (List ℕ)) (broken broken_writer : ℕ) →
+        Exchanged most (request_frame number q) left left' old new (Ok r) broken broken_writer → answers q r ≡ true }
+{}
+
+/// Over pipes that are given up after 2^32 reads a reply can't be read only where the reader has failed, even where
+/// nothing is known of the bytes.
+pub fn unread_replies_are_of_failed_readers()
+    ensures { (sent : Frame) (left left' old new : Option (List ℕ)) (broken broken_writer : ℕ) →
+        Exchanged (2 ^ 32) sent left left' old new (Err Read) broken broken_writer → broken ≡ 1 }
+{
+    bytes_without_a_frame_are_few();
+}

@@ -294,6 +294,39 @@ lacks bytes h le = elim (cases_lt (length bytes) (4 + told_length bytes)) [
   ])
 ]
 
+-- ---- how long a frame under way may be
+
+unfinished_told : (bytes : List ℕ) → IsUnfinished bytes → 4 ≤ length bytes → is_length (told_length bytes) ≡ true
+unfolding front_of
+unfinished_told bytes h le = elim (cases_Bool (is_length (told_length bytes))) [
+  | inl told ↦ told
+  | inr short ↦ absurd (bad_length _ (le-ltb _ _ le) (ap not short) h)
+]
+
+told_most : (n : ℕ) → is_length n ≡ true → n ≤ 134217728
+told_most n e = leb-true n 134217728 (and_parts _ _ e).1
+
+unfinished_short : (bytes : List ℕ) → IsUnfinished bytes → length bytes < 134217732
+unfinished_short bytes h = elim (cases_lt (length bytes) 4) [
+  | inl lt ↦ omega (arith, lt)
+  | inr ge ↦ omega (arith, lacks bytes h ge, told_most (told_length bytes) (unfinished_told bytes h ge))
+]
+
+frames_stay : (f : Frame) (s : Stream) (tail : List ℕ) → prepended (f ∷ []) s ≡ Going [] tail → ⊥
+frames_stay f (Failed fault) tail e = absurd cc
+frames_stay f (Going fs r) tail e = absurd cc
+
+no_frame_front : (bytes tail : List ℕ) (front : Front) → front_of bytes ≡ front → after [] bytes front ≡ Going [] tail → IsUnfinished bytes
+no_frame_front bytes tail More is e = is
+no_frame_front bytes tail (Bad fault) is e = absurd cc
+no_frame_front bytes tail (Whole f n) is e =
+    absurd (frames_stay f (goes_on (Going [] []) (drop n bytes)) tail (sym (goes_on_prepended (f ∷ []) (Going [] []) (drop n bytes)) ∙ e))
+
+-- bytes without a whole frame or a fault
+pub no_frame_short : (bytes tail : List ℕ) → stream_of bytes ≡ Going [] tail → length bytes < 134217732
+no_frame_short bytes tail e =
+    unfinished_short bytes (no_frame_front bytes tail (front_of bytes) refl (sym (by_front [] bytes) ∙ e))
+
 -- ---- a piece that the frame under way lacks
 
 whole_sizes : (a b c d e : Bool) (o : Option Frame) (m n : ℕ) (f : Frame) → cond a More (cond b (Bad Length) (cond c More (cond d (Bad Kind) (cond e More (whole o m))))) ≡ Whole f n → (c ≡ false) × (m ≡ n)
