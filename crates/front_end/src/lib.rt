@@ -33,7 +33,7 @@ pub use offered::{
 pub use options::{limit, number};
 pub use parser::{refusal, shown_words};
 pub use program::Program;
-pub use reading::{MOST_INPUT, read_input, read_text};
+pub use reading::{read_input, read_text};
 pub use reporting::{print_help, report};
 pub use shown::Shown;
 pub use start::arguments;

@@ -8,7 +8,7 @@ use std::fs;
 use std::io::{self, Read};
 use std::rt::Files;
 
-/// The most bytes of input, and of a listing.
+/// The most bytes of input.
 pub const MOST_INPUT: u64 = 134_217_728;
 
 /// Reads to the end, but at most one byte more than the limit.
