@@ -52,6 +52,7 @@ test:
 	tests/faults
 	tests/served
 	tests/limits
+	tests/hostile
 
 # Proves what an edit changed.
 check:
