@@ -58,7 +58,7 @@ pub fn made(
 
 impl Decoder {
     /// Begins the text of a half.
-    pub fn begin(alloc: Global, context: Context) -> Result<Decoder, AllocError>
+    fn begin(alloc: Global, context: Context) -> Result<Decoder, AllocError>
         requires { context.most ≤ 4096 }
         ensures { IfOk result (λ d. d ≡ spec.started context) }
     {

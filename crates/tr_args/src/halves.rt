@@ -2,6 +2,7 @@
 
 ghost use Rattle.std.specs.Prelude.{◌≡◌, ◌≤◌, ◌++◌, ◌∷◌, [], IfOk, string_bytes};
 ghost use Rattle.tr_args.specs.Arguments.{wish_of, text_of as shown_text, half as shown_half};
+ghost use Rattle.tr_args.specs.Decoders.{started};
 ghost use Rattle.tr_args.specs.Texts.{context_of};
 ghost use Rattle.tr_args.specs.Reads.{half_of, wants_of, text_of};
 
@@ -46,6 +47,22 @@ fn context(limit: u32, half: Half) -> Context
                 most: limit,
             }
         }
+    }
+}
+
+/// Begins the text of this half.
+fn begun(alloc: Global, limit: u32, half: Half) -> Result<Decoder, AllocError>
+    requires { limit ≤ 4096 }
+    ensures { IfOk result (λ d. d ≡ started (context_of limit (half_of half))) }
+{
+    match half {
+        Half::Entry { call, stack } => {
+            Decoder::start(alloc, call.number, call.arguments, stack, limit)
+        }
+        Half::Exit {
+            call,
+            result: value,
+        } => Decoder::leave(alloc, call.number, call.arguments, value, limit),
     }
 }
 
@@ -111,7 +128,7 @@ impl Reading {
                 decoder: Some(decoder),
             }),
             None => {
-                let decoder = Decoder::begin(alloc, context(limit, half))?;
+                let decoder = begun(alloc, limit, half)?;
                 Ok(Reading {
                     decoder: Some(Box::new(alloc, decoder)?),
                 })
@@ -132,7 +149,7 @@ impl Reading {
     {
         let mut decoder = match self.decoder {
             Some(decoder) => decoder,
-            None => Box::new(alloc, Decoder::begin(alloc, context(limit, half))?)?,
+            None => Box::new(alloc, begun(alloc, limit, half)?)?,
         };
         decoder.give(bytes)?;
         Ok(Reading {
