@@ -1,7 +1,7 @@
 //! A link to a host that runs as a process of its own.
 
-ghost use Rattle.std.specs.Prelude.{◌≡◌, ◌⊎◌, Err, IfOk, IfErr};
-ghost use Rattle.host_link.specs.PipeLinks.{faults_of, given_of};
+ghost use Rattle.std.specs.Prelude.{◌≡◌, ◌⊎◌, ◌^◌, Err, IfOk, IfErr};
+ghost use Rattle.host_link.specs.PipeLinks.{faults_of, given_of, most_of};
 
 use crate::fault::LinkFault;
 use crate::link::Link;
@@ -49,6 +49,7 @@ fn link_over<O: Read + Drop, I: Write + Drop>(
 ) -> Result<PipeLink<Counted<BufReader<O>>, Counted<I>>, LinkFault>
     ensures given { IfOk result (λ link. given_of link ≡ 0) }
     ensures whole { IfOk result (λ link. faults_of link ≡ 0) }
+    ensures most { IfOk result (λ link. most_of link ≡ 2 ^ 32) }
     ensures fault { IfErr result (λ fault. fault ≡ LinkFault.Memory) }
 {
     let Ok(replies) = BufReader::new(alloc, replies) else {
@@ -81,6 +82,7 @@ impl<P: OpenProcess + Drop> ChildLink<P> {
     ) -> Result<Self, LinkFault>
         ensures given { IfOk result (λ link. given_of (pipe_of link) ≡ 0) }
         ensures whole { IfOk result (λ link. faults_of (pipe_of link) ≡ 0) }
+        ensures most { IfOk result (λ link. most_of (pipe_of link) ≡ 2 ^ 32) }
         ensures fault { IfErr result (λ fault. (fault ≡ Ended) ⊎ (fault ≡ Memory)) }
     {
         let mut child = match spawn(rt, path, words) {
