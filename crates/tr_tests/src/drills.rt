@@ -228,8 +228,8 @@ const SPOILS: [Spoil; 4] = [
     Spoil::NumberBehind,
 ];
 
-/// How a run ends by it, where the reply is one to a request of this kind. Done is the honest reply to Boot, to Seize, to
-/// SetRegs and to Syscall; Wait alone may be answered by a status, but not by one of a process that wasn't born.
+/// How a run ends by it, where the reply is one to a request of this kind. Done is the honest reply to Boot, to Seize,
+/// to SetRegs and to Syscall; Wait alone may be answered by a status, but not by one of a process that wasn't born.
 fn end_by(spoil: Spoil, kind: u8) -> End {
     match (spoil, kind) {
         (Spoil::Done, 0x01 | 0x02 | 0x06 | 0x08) => End::Whole,
