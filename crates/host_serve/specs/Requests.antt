@@ -1,5 +1,5 @@
 -- The frame that is due next: a request of the next number.
-use Rattle.std.specs.Prelude.{◌≡◌, ◌⊎◌, ℕ, ◌==◌, if◌then◌else◌, List, [], ◌∷◌, Option, Some, None, Result, Ok, Err}
+use Rattle.std.specs.Prelude.{◌≡◌, ◌⊎◌, ◌≤◌, ℕ, ◌==◌, if◌then◌else◌, List, [], ◌∷◌, length, Option, Some, None, Result, Ok, Err}
 use Rattle.std.specs.Io.KnownBytes.{Consumes, IsAtEnd}
 use Rattle.lx_abi.specs.declared.ptrace.Request.{Request}
 use Rattle.host_frame.specs.declared.frame.Payload.{Payload as Message}
@@ -8,7 +8,6 @@ use Rattle.host_frame.specs.declared.frame.Frame.{Frame}
 use Rattle.host_frame.specs.declared.fault.WireFault.TheVariants.{Length, Kind, Payload, Memory}
 use Rattle.host_wire.specs.declared.receiving.ReceiveFault.{ReceiveFault}
 use Rattle.host_wire.specs.declared.receiving.ReceiveFault.TheVariants as receiving
-use Rattle.host_wire.specs.Receiving.{IsCutOff}
 use Rattle.host_wire.specs.Streams.{Stream, Going, Failed as Failed_by, stream_of}
 use Rattle.host_serve.specs.declared.fault.ServeFault.{ServeFault}
 use Rattle.host_serve.specs.declared.fault.ServeFault.TheVariants.{Read, Write, Wire, Order, Failed}
@@ -27,7 +26,7 @@ IsFaulty stream = (stream ≡ Failed_by Length) ⊎ ((stream ≡ Failed_by Kind)
 abbrev pub NextAs : ℕ → Result (Option Request) ServeFault → ℕ → List ℕ → Stream → Option (List ℕ) → ℕ → Type 0
 NextAs most (Ok (Some q)) number came stream left broken = stream ≡ Going (request_frame number q ∷ []) []
 NextAs most (Ok None) number came stream left broken = (tail : List ℕ) × ((stream ≡ Going [] tail) × IsAtEnd left)
-NextAs most (Err Read) number came stream left broken = IsCutOff most came broken
+NextAs most (Err Read) number came stream left broken = (broken ≡ 1) ⊎ ((most ≤ length came) × ((tail : List ℕ) × (stream ≡ Going [] tail)))
 NextAs most (Err Wire) number came stream left broken = IsFaulty stream
 NextAs most (Err Order) number came stream left broken = (f : Frame) × ((stream ≡ Going (f ∷ []) []) × IsOther f number)
 NextAs most (Err Write) number came stream left broken = ⊥

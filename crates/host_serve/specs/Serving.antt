@@ -11,7 +11,6 @@ use Rattle.lx_abi.specs.declared.ptrace.Request.TheVariants.{Boot as Boot_with}
 use Rattle.host_frame.specs.declared.frame.Frame.{Frame}
 use Rattle.host_wire.specs.Ends.{AppendsPart}
 use Rattle.host_frame.specs.Spelling.{content, spelled, reply_frame}
-use Rattle.host_wire.specs.Receiving.{IsCutOff}
 use Rattle.host_wire.specs.Streams.{Going, stream_of}
 use Rattle.host_serve.specs.declared.fault.ServeFault.{ServeFault}
 use Rattle.host_serve.specs.declared.fault.ServeFault.TheVariants.{Read, Write, Wire, Order, Failed}
@@ -131,7 +130,8 @@ Finishes (Err Order) wanted = ⊥
 -- what ended it: `rest` is what was read after the requests that were answered, by so many reads at most
 abbrev pub EndsBy : {S : Type 0} → ℕ → Boots S → Answers S → (S → Outcome) → Phase S → ℕ → Result Outcome ServeFault → List ℕ → Option (List ℕ) → ℕ → ℕ → Type 0
 EndsBy most boots answers left phase number (Ok outcome) rest after broken broken_writer = (tail : List ℕ) × ((stream_of rest ≡ Going [] tail) × IsAtEnd after × (outcome ≡ outcome_at left phase))
-EndsBy most boots answers left phase number (Err Read) rest after broken broken_writer = IsCutOff most rest broken ⊎ (number ≡ 2 ^ 40 + 1)
+EndsBy most boots answers left phase number (Err Read) rest after broken broken_writer =
+    ((broken ≡ 1) ⊎ ((most ≤ length rest) × ((tail : List ℕ) × (stream_of rest ≡ Going [] tail)))) ⊎ (number ≡ 2 ^ 40 + 1)
 EndsBy {S} most boots answers left phase number (Err Wire) rest after broken broken_writer =
     IsFaulty (stream_of rest) ⊎ ((q : Request) × ((r : Reply) × ((next : Phase S) × (Answered boots answers phase q r next × IsTooLong number r))))
 EndsBy most boots answers left phase number (Err Order) rest after broken broken_writer =
