@@ -38,4 +38,4 @@ pub use reporting::{print_help, report};
 pub use shown::Shown;
 pub use start::arguments;
 pub use turns::read_turns;
-pub use waits::{explain_limit, explain_waits};
+pub use waits::explain_turns;

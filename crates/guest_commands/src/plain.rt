@@ -3,7 +3,7 @@
 use crate::log::Log;
 use crate::plan::{Plan, read_plan};
 use clap::ArgMatches;
-use front_end::{Fault, Leavings, explain_limit, explain_waits};
+use front_end::{Fault, Leavings, explain_turns};
 use lx_abi::{Item, Mode, Status};
 use lx_kernel::Kernel;
 use pt_schedule::Schedule;
@@ -217,30 +217,10 @@ fn run_plan<R: Files + AllocGlobal, O: Write, E: Write>(
     Ok(status)
 }
 
-/// The processes that wait in a call.
-fn waiting(alloc: Global, kernel: &Kernel) -> Result<Vec<u32>, AllocError> {
-    let mut pids = Vec::new(alloc);
-    for pid in 1..kernel.next_pid() {
-        if kernel.mode(pid) == Some(Mode::Doing) {
-            pids.push(pid)?;
-        }
-    }
-    Ok(pids)
-}
-
-/// Why turns ended with a process alive.
-fn explain_turns(alloc: Global, kernel: &Kernel, limit: u64) -> Result<String, AllocError> {
-    if (1..kernel.next_pid()).any(|pid| kernel.able(pid)) {
-        return explain_limit(alloc, limit, "turns");
-    }
-    let pids = waiting(alloc, kernel)?;
-    explain_waits(alloc, pids.as_slice(), kernel.log())
-}
-
 /// Why a run ended so, if its turns or its program say it.
 fn reason(alloc: Global, plan: &Plan, status: u8) -> Result<Option<String>, AllocError> {
     if status == ALIVE && is_alive(&plan.kernel) {
-        return Ok(Some(explain_turns(alloc, &plan.kernel, plan.limit)?));
+        return Ok(Some(explain_turns(alloc, &plan.kernel, plan.limit, "turns")?));
     }
     match &plan.program {
         Some(program) => program.reason(alloc, status),

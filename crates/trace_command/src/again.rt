@@ -3,8 +3,8 @@
 use crate::plan::Plan;
 use clap::ArgMatches;
 use containers::{Bytes, Seq};
-use front_end::{Fault, explain_limit, explain_waits, read_expressions};
-use lx_abi::{Boot, GuestFile, Mode, Word};
+use front_end::{Fault, explain_turns, read_expressions};
+use lx_abi::{Boot, GuestFile, Word};
 use lx_kernel::Kernel;
 use pt_kernel::{Schedule, TurnRun, Turns};
 use std::alloc::{AllocError, Global};
@@ -55,31 +55,6 @@ fn copy_turns(alloc: Global, turns: &[Word]) -> Result<Vec<Word>, AllocError> {
         copy.push(*word)?;
     }
     Ok(copy)
-}
-
-/// A process is able to have a turn that does something: the run was cut.
-fn is_cut(kernel: &Kernel) -> bool {
-    (1..kernel.next_pid()).any(|pid| kernel.able(pid))
-}
-
-/// The processes that wait in a call.
-fn waiting(alloc: Global, kernel: &Kernel) -> Result<Vec<u32>, AllocError> {
-    let mut pids = Vec::new(alloc);
-    for pid in 1..kernel.next_pid() {
-        if kernel.mode(pid) == Some(Mode::Doing) {
-            pids.push(pid)?;
-        }
-    }
-    Ok(pids)
-}
-
-/// Why a run that left this kernel is out of turns.
-fn explain(alloc: Global, kernel: &Kernel, limit: u64) -> Result<String, AllocError> {
-    if is_cut(kernel) {
-        return explain_limit(alloc, limit, "events");
-    }
-    let pids = waiting(alloc, kernel)?;
-    explain_waits(alloc, pids.as_slice(), kernel.log())
 }
 
 fn has_turns(kernel: &mut Kernel, run: TurnRun) -> Result<(), Fault> {
@@ -144,7 +119,7 @@ impl Again {
     /// Why the run is out of turns.
     pub fn waits(&self, alloc: Global, matches: &ArgMatches) -> Result<String, Fault> {
         let kernel = self.kernel(alloc, matches)?;
-        let text = explain(alloc, &kernel, self.limit);
+        let text = explain_turns(alloc, &kernel, self.limit, "events");
         drop(kernel);
         Ok(text?)
     }
