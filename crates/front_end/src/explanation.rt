@@ -68,35 +68,43 @@ fn cut(text: &str) -> Pieces<'_> {
     }
 }
 
-/// The first item of the set that is refused so by itself.
-fn faulty_item<'a>(alloc: Global, cut: Pieces<'a>, fault: ExprFault) -> Option<&'a str> {
-    let set = cut.set.strip_prefix('!').unwrap_or(cut.set);
-    set.split(',').find(|item| match parse_expr(alloc, item) {
-        Ok(_) => false,
-        Err(found) => found == fault,
-    })
+/// An expression is refused so.
+fn is_refused(alloc: Global, text: &str, fault: ExprFault) -> Result<bool, AllocError> {
+    match parse_expr(alloc, text) {
+        Ok(_) => Ok(false),
+        Err(ExprFault::Memory) => Err(AllocError),
+        Err(found) => Ok(found == fault),
+    }
 }
 
-/// The value of the first part with this key that is refused so by itself.
-fn faulty_part<'a>(alloc: Global, cut: Pieces<'a>, fault: ExprFault) -> Option<&'a str> {
-    let parts = cut.parts?;
-    for part in parts.split(':') {
-        if is_faulty(alloc, cut.start, part, fault) {
-            return Some(part);
+/// The first item of the set that is refused so by itself.
+fn faulty_item<'a>(
+    alloc: Global,
+    cut: Pieces<'a>,
+    fault: ExprFault,
+) -> Result<Option<&'a str>, AllocError> {
+    let set = cut.set.strip_prefix('!').unwrap_or(cut.set);
+    for item in set.split(',') {
+        if is_refused(alloc, item, fault)? {
+            return Ok(Some(item));
         }
     }
-    None
+    Ok(None)
 }
 
-/// An expression with this part alone is refused so.
-fn is_faulty(alloc: Global, start: &str, part: &str, fault: ExprFault) -> bool {
-    let Ok(text) = format!(in alloc; "{start}all:{part}") else {
-        return false;
-    };
-    match parse_expr(alloc, text.as_str()) {
-        Ok(_) => false,
-        Err(found) => found == fault,
+/// The first part that is refused so in an expression with no other.
+fn faulty_part<'a>(
+    alloc: Global,
+    cut: Pieces<'a>,
+    fault: ExprFault,
+) -> Result<Option<&'a str>, AllocError> {
+    for part in cut.parts.unwrap_or("").split(':') {
+        let text = format!(in alloc; "{}all:{part}", cut.start)?;
+        if is_refused(alloc, text.as_str(), fault)? {
+            return Ok(Some(part));
+        }
     }
+    Ok(None)
 }
 
 /// `; NAME is`, where a name is near.
@@ -229,8 +237,8 @@ fn explain_part(alloc: Global, cut: Pieces<'_>, part: &str) -> Result<String, Al
 fn reason(alloc: Global, refused: RefusedExpression<'_>) -> Result<String, AllocError> {
     let RefusedExpression { text, fault } = refused;
     let cut = cut(text);
-    let item = faulty_item(alloc, cut, fault).unwrap_or(cut.set);
-    let part = faulty_part(alloc, cut, fault).unwrap_or(cut.parts.unwrap_or(""));
+    let item = faulty_item(alloc, cut, fault)?.unwrap_or(cut.set);
+    let part = faulty_part(alloc, cut, fault)?.unwrap_or(cut.parts.unwrap_or(""));
     match fault {
         ExprFault::UnknownCall => explain_call(alloc, text, item),
         ExprFault::UnknownClass => explain_class(alloc, item),

@@ -7,7 +7,7 @@ use containers::Bytes;
 use lx_abi::{Node, Outcome, OutcomeFile};
 use std::alloc::{AllocError, Global};
 use std::fs;
-use std::io::{self, Read};
+use std::io::{self, ErrorKind, Read};
 use std::rt::Files;
 
 /// Where the files go, and their list.
@@ -120,6 +120,9 @@ fn make<R: Files>(rt: &R, path: &str, node: &Node) -> io::Result<()> {
 
 /// What can't be written, by the option that asks for it.
 fn unwritten(alloc: Global, option: &str, path: &str, error: io::Error) -> Fault {
+    if error.kind() == ErrorKind::OutOfMemory {
+        return Fault::Memory;
+    }
     Fault::output(format!(in alloc; "{option} {}: {error}", Shown(path)))
 }
 

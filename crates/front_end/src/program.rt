@@ -97,36 +97,33 @@ fn machine(content: &[u8]) -> &'static str {
     }
 }
 
-fn refused(content: &[u8], fault: ElfFault) -> Kind {
-    match fault {
-        ElfFault::NotElf if content.starts_with(b"#!") => {
-            Kind::Refused("is a script, and scripts aren't run")
-        }
-        ElfFault::NotElf => Kind::Refused("is not an ELF file"),
-        ElfFault::NotRiscv => Kind::Refused(machine(content)),
+/// Why a file isn't run, behind its path.
+fn refusal_of(content: &[u8], fault: ElfFault) -> Result<&'static str, AllocError> {
+    Ok(match fault {
+        ElfFault::NotElf if content.starts_with(b"#!") => "is a script, and scripts aren't run",
+        ElfFault::NotElf => "is not an ELF file",
+        ElfFault::NotRiscv => machine(content),
         ElfFault::NotExec if half_word(content, TYPE) == 3 && wants_loader(content) => {
-            Kind::Refused("is dynamic and position-independent; link it with -static -no-pie")
+            "is dynamic and position-independent; link it with -static -no-pie"
         }
         ElfFault::NotExec if half_word(content, TYPE) == 3 => {
-            Kind::Refused("is position-independent; link it with -static -no-pie")
+            "is position-independent; link it with -static -no-pie"
         }
-        ElfFault::NotExec => Kind::Refused("is not an executable; link it"),
-        ElfFault::Truncated => Kind::Refused("is cut off or malformed"),
-        ElfFault::Overlap => Kind::Refused(
-            "has segments that overlap, or that hold more than their size",
-        ),
-        ElfFault::TooLarge => Kind::Refused("is too large"),
-        ElfFault::Memory => Kind::Usual,
-    }
+        ElfFault::NotExec => "is not an executable; link it",
+        ElfFault::Truncated => "is cut off or malformed",
+        ElfFault::Overlap => "has segments that overlap, or that hold more than their size",
+        ElfFault::TooLarge => "is too large",
+        ElfFault::Memory => return Err(AllocError),
+    })
 }
 
-fn kind_of(alloc: Global, content: &[u8]) -> Kind {
-    match elf_image::read(alloc, content) {
-        Err(fault) => refused(content, fault),
+fn kind_of(alloc: Global, content: &[u8]) -> Result<Kind, AllocError> {
+    Ok(match elf_image::read(alloc, content) {
+        Err(fault) => Kind::Refused(refusal_of(content, fault)?),
         Ok(_) if wants_loader(content) => Kind::Dynamic,
         Ok(_) if half_word(content, FLAGS) % 2 == 1 => Kind::Compressed,
         Ok(_) => Kind::Usual,
-    }
+    })
 }
 
 fn file_of<'b>(files: &'b [GuestFile], path: &str) -> Option<&'b GuestFile> {
@@ -144,7 +141,7 @@ impl Program {
         };
         let path = path_of(alloc, word)?;
         let kind = match file_of(boot.files.as_slice(), path.as_str()) {
-            Some(file) => kind_of(alloc, file.content.as_slice()),
+            Some(file) => kind_of(alloc, file.content.as_slice())?,
             None => Kind::Missing,
         };
         Ok(Program { path, kind })

@@ -22,7 +22,9 @@ pub fn command<R: Files + AllocGlobal, I: Read + IsTerminal, O: Write, E: Write 
 ) -> u8 {
     match words::parse(rt.alloc(), words) {
         Ok(matches) => choose(rt, &matches, input, out, err),
-        Err(error) if error.use_stderr() => tell(words::refusal(rt.alloc(), words), err),
+        Err(error) if error.use_stderr() => {
+            tell(words::refusal(rt.alloc(), error.kind(), words), err)
+        }
         Err(help) => ended(print_help(rt.alloc(), help, out), err),
     }
 }

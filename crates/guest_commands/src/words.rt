@@ -1,5 +1,6 @@
 //! What the command line asks for.
 
+use clap::error::ErrorKind;
 use clap::{Arg, ArgAction, ArgMatches, Command, Error};
 use front_end::{
     Fault, shown_words, with_calls, with_environment, with_explain, with_expressions, with_files,
@@ -174,8 +175,11 @@ fn words_of_plain(words: &[String]) -> Option<&[String]> {
     }
 }
 
-/// What is wrong with words that can't be parsed.
-pub fn refusal(alloc: Global, words: &[String]) -> Fault {
+/// What is wrong with words that the parser refuses for a fault of this kind.
+pub fn refusal(alloc: Global, kind: ErrorKind, words: &[String]) -> Fault {
+    if kind == ErrorKind::OutOfMemory {
+        return Fault::Memory;
+    }
     let shown = match shown_words(alloc, words) {
         Ok(shown) => shown,
         Err(error) => return Fault::from(error),

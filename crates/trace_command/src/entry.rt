@@ -2,6 +2,7 @@
 
 use crate::{tracing, words};
 use clap::ArgMatches;
+use clap::error::ErrorKind;
 use front_end::{Fault, print_help, refusal, report, shown_words};
 use std::alloc::Global;
 use std::io::{IsTerminal, Read, Write};
@@ -28,7 +29,7 @@ pub fn command<
                 Err(fault) => report(NAME, &fault, explained, err),
             }
         }
-        Err(error) if error.use_stderr() => tell(refuse(alloc, words), err),
+        Err(error) if error.use_stderr() => tell(refuse(alloc, error.kind(), words), err),
         Err(help) => match print_help(alloc, help, out) {
             Ok(status) => status,
             Err(fault) => tell(fault, err),
@@ -54,8 +55,11 @@ fn run<R: Files + Processes + AllocGlobal, I: Read + IsTerminal, O: Write, E: Wr
     tracing::trace(rt, matches, options, input, out, err)
 }
 
-/// What is wrong with words that can't be parsed.
-fn refuse(alloc: Global, words: &[String]) -> Fault {
+/// What is wrong with words that the parser refuses for a fault of this kind.
+fn refuse(alloc: Global, kind: ErrorKind, words: &[String]) -> Fault {
+    if kind == ErrorKind::OutOfMemory {
+        return Fault::Memory;
+    }
     let shown = match shown_words(alloc, words) {
         Ok(shown) => shown,
         Err(error) => return Fault::from(error),
