@@ -64,8 +64,8 @@ fn program(alloc: Global, explained: bool, boot: &Boot) -> Result<Option<Program
     }
 }
 
-/// Reads what the words ask for; a trace set has no effect. Faults are looked for in the limit, the expressions, the schedule, the files, the
-/// input and then the boot.
+/// Reads what the words ask for; a trace set has no effect. Faults are looked for in the limit, the expressions, the
+/// schedule, the files, the input and then the boot.
 pub fn read_plan<R: Files + AllocGlobal, I: Read + IsTerminal, E: Write + IsTerminal>(
     rt: &R,
     matches: &ArgMatches,

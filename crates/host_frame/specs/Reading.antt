@@ -47,7 +47,10 @@ parts_at follow limits bytes = do
   argv ← items_at text_at input.1
   env ← items_at text_at argv.1
   files ← items_at guest_file_at env.1
-  Some (record { limits = limits; files = files.0; argv = argv.0; env = env.0; input = input.0; follow = follow }, files.1)
+  Some (
+    record { limits = limits; files = files.0; argv = argv.0; env = env.0; input = input.0; follow = follow },
+    files.1,
+  )
 
 -- what stands behind a boot's version
 unfoldable pub boot_by : ℕ → List ℕ → Option (Request × List ℕ)
@@ -156,7 +159,10 @@ info_at bytes = do
   pid ← number_at 4 code.1
   status ← number_at 4 pid.1
   address ← number_at 8 status.1
-  Some (Info_is (record { signal = signal.0; code = code.0; pid = pid.0; status = status.0; address = address.0 }), address.1)
+  Some (
+    Info_is (record { signal = signal.0; code = code.0; pid = pid.0; status = status.0; address = address.0 }),
+    address.1,
+  )
 
 unfoldable pub errno_at : List ℕ → Option (Reply × List ℕ)
 errno_at bytes = do

@@ -113,7 +113,8 @@ abbrev pub FitsOutcome : Outcome → Type 0
 FitsOutcome o = FitsText o.console × (FitItems FitsOutcomeFile o.files × (FitItems FitsEnded o.ended × IsInOrder o))
 
 abbrev pub FitsInfo : Info → Type 0
-FitsInfo i = (i.signal < 256 ^ 4) × ((i.code < 256 ^ 4) × ((i.pid < 256 ^ 4) × ((i.status < 256 ^ 4) × (i.address < 256 ^ 8))))
+FitsInfo i = (i.signal < 256 ^ 4) × ((i.code < 256 ^ 4) × ((i.pid < 256 ^ 4)
+    × ((i.status < 256 ^ 4) × (i.address < 256 ^ 8))))
 
 abbrev pub FitsReply : Reply → Type 0
 FitsReply Done = Unit {0}

@@ -35,7 +35,8 @@ writes object = record { object = object; offset = 0; may_read = false; may_writ
 
 -- descriptor 0 is the input, 1 and 2 are the console
 unfoldable pub first_fds : FdTable
-first_fds = opened (opened (opened no_fds 1 0 (reads Input) false) 1 1 (writes Console) false) 1 2 (writes Console) false
+first_fds =
+    opened (opened (opened no_fds 1 0 (reads Input) false) 1 1 (writes Console) false) 1 2 (writes Console) false
 
 abbrev pub first_shared : Limits → List GuestFile → List ℕ → Shared
 first_shared limits files input = record {

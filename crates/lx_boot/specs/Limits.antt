@@ -35,4 +35,5 @@ nodes (f ∷ files) = 1 + new_directories files f.path (length f.path) + nodes f
 
 -- each file, what all of them hold, and how many nodes they make
 abbrev pub files_fit : List GuestFile → Bool
-files_fit files = list_all file_fits files && nat_le (sum_by content_size files) most_contents && nat_le (nodes files) most_nodes
+files_fit files =
+    list_all file_fits files && nat_le (sum_by content_size files) most_contents && nat_le (nodes files) most_nodes

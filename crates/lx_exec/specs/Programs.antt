@@ -36,7 +36,9 @@ return_code = 0x93 ∷ 0x08 ∷ 0xB0 ∷ 0x08 ∷ 0x73 ∷ 0x00 ∷ 0x00 ∷ 0x0
 
 -- the stack and the return page
 abbrev pub bare_memory : Memory
-bare_memory = written (mapped (written (mapped maps.empty (stack_top - stack_size) stack_size read_write) stack_top []) stack_top page read_execute) stack_top return_code
+bare_memory =
+    written (mapped (written (mapped maps.empty (stack_top - stack_size) stack_size read_write) stack_top [])
+      stack_top page read_execute) stack_top return_code
 
 abbrev pub rights_of : image_rights.Rights → Rights
 rights_of r = record { read = r.read; write = r.write; execute = r.execute }
@@ -46,7 +48,9 @@ page_of a = a / page
 
 -- the pages that a segment touches are mapped with its rights, and its bytes written
 unfoldable pub with_segment : Memory → Segment → Memory
-with_segment m s = written (mapped m (page * page_of s.address) (page * (page_of (s.address + s.size - 1) + 1 - page_of s.address)) (rights_of s.rights)) s.address s.bytes
+with_segment m s =
+    written (mapped m (page * page_of s.address)
+      (page * (page_of (s.address + s.size - 1) + 1 - page_of s.address)) (rights_of s.rights)) s.address s.bytes
 
 abbrev pub with_image : Memory → Image → Memory
 with_image m image = fold with_segment m image.segments
@@ -68,7 +72,8 @@ strings_start argv env = stack_top - length (strings (argv ++ env))
 -- argc, argv, a null pointer, env, a null pointer, and the auxiliary vector: AT_PAGESZ and AT_NULL; the
 -- words begin at an address
 abbrev pub vector_from : ℕ → List (List ℕ) → List (List ℕ) → List ℕ
-vector_from a argv env = length argv ∷ addresses a argv ++ 0 ∷ addresses (a + length (strings argv)) env ++ 0 ∷ 6 ∷ page ∷ 0 ∷ 0 ∷ []
+vector_from a argv env =
+    length argv ∷ addresses a argv ++ 0 ∷ addresses (a + length (strings argv)) env ++ 0 ∷ 6 ∷ page ∷ 0 ∷ 0 ∷ []
 
 abbrev pub vector : List (List ℕ) → List (List ℕ) → List ℕ
 vector argv env = vector_from (strings_start argv env) argv env
@@ -87,7 +92,8 @@ start_sp argv env = (strings_start argv env - 8 * length (vector argv env)) / 16
 
 unfoldable pub start_memory : Image → List (List ℕ) → List (List ℕ) → Memory
 start_memory image argv env =
-    written (written (with_image bare_memory image) (strings_start argv env) (strings (argv ++ env))) (start_sp argv env) (doublewords (vector argv env))
+    written (written (with_image bare_memory image) (strings_start argv env) (strings (argv ++ env)))
+      (start_sp argv env) (doublewords (vector argv env))
 
 abbrev pub start_registers : List (List ℕ) → List (List ℕ) → List ℕ
 start_registers argv env = set (replicate 32 0) 2 (start_sp argv env)
@@ -130,15 +136,26 @@ begun image s = record {
 
 -- The first program of process 1: execve(argv[0], argv, env), and exit_group(127) where that fails.
 abbrev pub stub_code : List ℕ
-stub_code = 0x73 ∷ 0x00 ∷ 0x00 ∷ 0x00 ∷ 0x13 ∷ 0x05 ∷ 0xF0 ∷ 0x07 ∷ 0x93 ∷ 0x08 ∷ 0xE0 ∷ 0x05 ∷ 0x73 ∷ 0x00 ∷ 0x00 ∷ 0x00 ∷ []
+stub_code =
+    0x73 ∷ 0x00 ∷ 0x00 ∷ 0x00 ∷ 0x13 ∷ 0x05 ∷ 0xF0 ∷ 0x07 ∷ 0x93 ∷ 0x08 ∷ 0xE0 ∷ 0x05 ∷ 0x73 ∷ 0x00 ∷ 0x00 ∷ 0x00 ∷ []
 
 abbrev pub stub_image : Image
-stub_image = record { entry = 0x10000; segments = record { address = 0x10000; size = 16; rights = record { read = true; write = false; execute = true }; bytes = stub_code } ∷ [] }
+stub_image = record {
+  entry = 0x10000;
+  segments = record {
+    address = 0x10000;
+    size = 16;
+    rights = record { read = true; write = false; execute = true };
+    bytes = stub_code
+  } ∷ []
+}
 
 abbrev pub stub_registers : List (List ℕ) → List (List ℕ) → List ℕ
 stub_registers argv env =
-    set (set (set (set (start_registers argv env) 10 (strings_start argv env)) 11 (start_sp argv env + 8)) 12 (start_sp argv env + 16 + 8 * length argv)) 17 sys_execve
+    set (set (set (set (start_registers argv env) 10 (strings_start argv env)) 11 (start_sp argv env + 8))
+      12 (start_sp argv env + 16 + 8 * length argv)) 17 sys_execve
 
 -- the body of process 1
 abbrev pub booted : List (List ℕ) → List (List ℕ) → UserState
-booted argv env = record (started stub_image argv env) { hart = record { pc = 0x10000; registers = stub_registers argv env } }
+booted argv env =
+    record (started stub_image argv env) { hart = record { pc = 0x10000; registers = stub_registers argv env } }

@@ -1,4 +1,5 @@
--- What keeps the start of a program within what a memory may have, so that nothing but room of its own is refused to it.
+-- What keeps the start of a program within what a memory may have, so that nothing but room of its own is refused to
+-- it.
 use Rattle.std.specs.Prelude.{◌≡◌, ℕ, ◌+◌, ◌-◌, ◌*◌, ◌/◌, ◌<◌, ◌≤◌, true, not, is_some, List, [], ◌∷◌, ◌++◌, length, map}
 use Rattle.std.specs.Ordering.{nat_cmp, eq_by_cmp}
 use Rattle.std.specs.FinMap.{get}
@@ -28,7 +29,9 @@ program_pages segments = stack_pages ++ pages_under (map extent_of segments)
 
 -- the pages that a segment touches are mapped
 abbrev pub segment_mapped : Memory → Segment → Memory
-segment_mapped m s = mapped m (4096 * (s.address / 4096)) (4096 * ((s.address + s.size - 1) / 4096 + 1 - s.address / 4096)) (rights_of s.rights)
+segment_mapped m s =
+    mapped m (4096 * (s.address / 4096)) (4096 * ((s.address + s.size - 1) / 4096 + 1 - s.address / 4096))
+      (rights_of s.rights)
 
 -- what is mapped lies on these pages
 pub record IsOn (pages : List ℕ) (m : Memory) : Type 0 where

@@ -50,7 +50,8 @@ fn interrupt_blocked(shared: &Shared, pid: u32, user: &mut UserState) -> CallRep
 pub fn interrupt(shared: &Shared, pid: u32, user: &mut UserState, reply: CallReply) -> CallReply
     ensures answer { answer_of result shared.now user.new
         ≡ interruptible shared.now pid user.old (answer_of reply shared.now user.old) }
-    ensures kept { (s : Shared) (b : UserState) → Kept reply s b shared.now user.old → Kept result s b shared.now user.new }
+    ensures kept { (s : Shared) (b : UserState)
+        → Kept reply s b shared.now user.old → Kept result s b shared.now user.new }
 {
     match reply {
         CallReply::Blocked => interrupt_blocked(shared, pid, user),

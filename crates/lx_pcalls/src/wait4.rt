@@ -144,8 +144,8 @@ fn wait(
     reap(shared, call, user, pid, word)
 }
 
-/// wait4(pid, wstatus, options, rusage). EINVAL for a pid that is neither -1 nor above 0, other options than WNOHANG, or
-/// a rusage; ECHILD without such a child; EFAULT where the word can't be written, and then the child isn't lost.
+/// wait4(pid, wstatus, options, rusage). EINVAL for a pid that is neither -1 nor above 0, other options than WNOHANG,
+/// or a rusage; ECHILD without such a child; EFAULT where the word can't be written, and then the child isn't lost.
 #[tactic(auto, unfolding(crate::specs::Wait4::wait4))]
 pub fn wait4(
     shared: &mut Shared,

@@ -1,5 +1,5 @@
--- What is said of every call's answer: the words of ended processes stay; a program begins, a child is born and a process
--- ends by a call that has that effect alone, a child under a pid that is left, and a process with its status.
+-- What is said of every call's answer: the words of ended processes stay; a program begins, a child is born and a
+-- process ends by a call that has that effect alone, a child under a pid that is left, and a process with its status.
 use Rattle.std.specs.Prelude.{◌≡◌, ℕ, ◌≤◌, ◌*◌, ◌%◌, true}
 use Rattle.lx_abi.specs.declared.log.Call.{Call}
 use Rattle.lx_abi.specs.declared.log.Cause.{Cause}

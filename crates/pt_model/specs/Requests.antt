@@ -151,7 +151,8 @@ unseized t EventMsg = says t esrch
 unseized t SigInfo = says t esrch
 
 -- ESRCH comes before any other refusal: the process is not held, not a tracee, or ending
-abbrev pub answer_at : {S B : Type 0} → Machine S B → ℕ → Proc B → Bool → Option TraceOptions → Task B → Ask → Answered B
+abbrev pub answer_at :
+    {S B : Type 0} → Machine S B → ℕ → Proc B → Bool → Option TraceOptions → Task B → Ask → Answered B
 answer_at m message t true (Some w) (Alive b stage) q = stopped m t b stage message q
 answer_at m message t true (Some w) (Dying word) q = says t esrch
 answer_at m message t true (Some w) Gone q = says t esrch

@@ -5,7 +5,9 @@ use Rattle.rv_syntax.specs.declared.numbers.Number.{Number}
 
 -- the value of a digit, or 16
 abbrev pub digit : ℕ → ℕ
-digit b = if is_between 48 57 b then b - 48 else (if is_between 97 102 b then b - 87 else (if is_between 65 70 b then b - 55 else 16))
+digit b =
+    if is_between 48 57 b then b - 48 else (if is_between 97 102 b then b - 87 else
+    (if is_between 65 70 b then b - 55 else 16))
 
 -- no operand has room for 2 ^ 64, so the numbers from there on are alike
 abbrev pub more : ℕ → ℕ → ℕ → ℕ

@@ -10,8 +10,8 @@ use Rattle.rv_syntax.specs.declared.strings.Step.TheVariants.{Close, Refuse, Go,
 -- the byte of an escape
 abbrev pub escape : ℕ → Option ℕ
 escape b =
-    if b == 110 then Some 10 else (if b == 116 then Some 9 else (if b == 114 then Some 13 else (if b == 48 then Some 0 else
-    (if b == 92 then Some 92 else (if b == 34 then Some 34 else None)))))
+    if b == 110 then Some 10 else (if b == 116 then Some 9 else (if b == 114 then Some 13 else
+    (if b == 48 then Some 0 else (if b == 92 then Some 92 else (if b == 34 then Some 34 else None)))))
 
 abbrev pub put_or_refuse : Option ℕ → Step
 put_or_refuse (Some b) = Put b

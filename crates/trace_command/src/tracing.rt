@@ -42,8 +42,8 @@ fn outcome_of(
     }
 }
 
-/// Runs the tracer on a kernel, with its trace to a place that is opened now. Where the run ends in a fault, a line that
-/// stands open on `err` is ended.
+/// Runs the tracer on a kernel, with its trace to a place that is opened now. Where the run ends in a fault, a line
+/// that stands open on `err` is ended.
 fn trace_kernel<R: Files + AllocGlobal, P: OpenProcess + Drop, O: Write, E: Write>(
     rt: &R,
     kernel: Kernel<P>,
