@@ -16,7 +16,7 @@ use Rattle.lx_files.specs.Paths.{path_cmp}
 pub path_cmp-IsAntisymmetric : maps.IsAntisymmetric path_cmp
 path_cmp-IsAntisymmetric = maps.slice_cmp-IsAntisymmetric maps.nat_cmp-IsAntisymmetric
 
-equal_is : (a b : List ℕ) → eq_by_cmp path_cmp a b ≡ true → a ≡ b
+pub equal_is : (a b : List ℕ) → eq_by_cmp path_cmp a b ≡ true → a ≡ b
 equal_is a b e = go (path_cmp a b) refl e
   where
     go : (o : Ordering) → path_cmp a b ≡ o → is_eq o ≡ true → a ≡ b

@@ -1,11 +1,11 @@
 use Rattle.std.proofs.Common.{ap, ◌∙◌}
 use Rattle.lx_files.specs.Trees.{Tree}
 use Rattle.lx_files.specs.Boots.{with_directory_at}
-use Rattle.lx_files.proofs.Planting.{no_directories, one_more_place}
+use Rattle.lx_files.proofs.Planting.{known_stand, one_more_place}
 use Rattle.lx_files.proofs.boots.add_directories.Goals as goal
 
 pub loop-i-init : goal.loop-i-init
-loop-i-init c = no_directories c.args.tree.now c.args.path.now
+loop-i-init c = known_stand c.args.tree.now c.args.path.now c.known_part-known.result c.requires c.known_part-known.ensures.there
 
 pub loop-i-preserved : goal.loop-i-preserved
 loop-i-preserved c =
