@@ -145,7 +145,8 @@ pub record IsMade (c : Context) (got : List (List ℕ)) (m : Made) : Type 0 wher
       → half c (take m.used got ++ more) ≡ stage_left c m.stage (sheet (string_bytes m.text) more)
 
 -- what is made of a sheet, and what is read next
-pub record Makes (c : Context) (f : Sheet → Shown) (s : Sheet) (count : ℕ) (m : Made) (wish : Option (ℕ × ℕ)) : Type 0 where
+pub record Makes (c : Context) (f : Sheet → Shown) (s : Sheet) (count : ℕ) (m : Made) (wish : Option (ℕ × ℕ))
+    : Type 0 where
   pub left : List (List ℕ)
   pub moves : Moves f s (stage_left c m.stage) (sheet (string_bytes m.text) left)
   pub used : m.used + length left ≡ count

@@ -161,7 +161,8 @@ fn made_with(
     requires most { context.now.most ≤ 4096 }
     requires few { row.number + length row.kinds.now < 2 ^ 32 }
     requires count { length sheet.left ≤ count }
-    ensures { IfOk result (λ r. Makes context.now (stage_left context.now (Stage.Under row)) sheet.entry count r.0 r.1) }
+    ensures { IfOk result
+        (λ r. Makes context.now (stage_left context.now (Stage.Under row)) sheet.entry count r.0 r.1) }
 {
     let mut sheet = sheet;
     let mut row = row;

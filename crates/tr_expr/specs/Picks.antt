@@ -39,7 +39,8 @@ abbrev pub picked : Bool → List ℕ → ℕ → Bool
 picked every numbers n = every || among numbers n
 
 -- what one item adds to what was read before
-pub record Adds (text : List ℕ) (fault fault' : Option ExprFault) (every every' : Bool) (numbers numbers' : List ℕ) : Type 0 where
+pub record Adds (text : List ℕ) (fault fault' : Option ExprFault) (every every' : Bool) (numbers numbers' : List ℕ)
+    : Type 0 where
   pub reading : Reading
   pub is_read : IsReadAs (item_of text) reading
   pub found : fault' ≡ found fault (reading_causes reading)

@@ -41,7 +41,9 @@ range front rest = option_and_then (λ first. option_and_then (between first) (l
 
 -- first, or a range
 unfoldable pub span : List ℕ → Option Occurrences
-span text = if has_mark 46 text then range (before_mark 46 text) (after_mark 46 text) else option_map onward (count text)
+span text = if has_mark 46 text
+    then range (before_mark 46 text) (after_mark 46 text)
+    else option_map onward (count text)
 
 -- what a span without + names: the first alone, or all of the range
 abbrev pub alone : Occurrences → Occurrences
@@ -55,5 +57,7 @@ step text = if length text == 0 then Some 1 else count text
 -- a span, span+ or span+step
 unfoldable pub when_value : List ℕ → Option Occurrences
 when_value text = if has_mark 43 text
-    then option_and_then (λ span. option_map (λ by. (span.0, span.1, by)) (step (after_mark 43 text))) (span (before_mark 43 text))
+    then option_and_then
+    (λ span. option_map (λ by. (span.0, span.1, by)) (step (after_mark 43 text)))
+    (span (before_mark 43 text))
     else option_map alone (span text)

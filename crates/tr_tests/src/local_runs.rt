@@ -74,7 +74,8 @@ const LETTERS_TRACE: &str = "1     write(1, \"a\", 1)                  = 1\n\
     1     write(1, \"a\", 1)                  = 1 (INJECTED)\n\
     2     write(1, \"b\", 1)                  = 1 (INJECTED)\n\
     2     +++ exited with 0 +++\n\
-    1     --- SIGCHLD {si_signo=SIGCHLD, si_code=CLD_EXITED, si_pid=2, si_uid=0, si_status=0, si_utime=0, si_stime=0} ---\n\
+    1     --- SIGCHLD {si_signo=SIGCHLD, si_code=CLD_EXITED, si_pid=2, si_uid=0, si_status=0, \
+    si_utime=0, si_stime=0} ---\n\
     1     +++ exited with 0 +++\n";
 
 /// The run of two processes by words, with a script. The options' own follow is not that of the boot.

@@ -1,5 +1,5 @@
-//! Whole runs over replies that were kept, with ample memory: the trace, and how the run ended. Other conversations stand
-//! in guests/conversations.
+//! Whole runs over replies that were kept, with ample memory: the trace, and how the run ended. Other conversations
+//! stand in guests/conversations.
 
 use crate::steps::{BEGUN, BY_USR1, SYSCALL, Step, options, reply};
 use containers::Bytes;
