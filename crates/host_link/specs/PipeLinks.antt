@@ -2,6 +2,7 @@
 use Rattle.std.specs.Prelude.{◌≡◌, ◌⊎◌, ℕ, ◌+◌, ◌^◌, Bool, true, cond, List, Option, Result, Err}
 use Rattle.lx_abi.specs.declared.ptrace.Reply.{Reply}
 use Rattle.lx_abi.specs.declared.ptrace.Request.{Request}
+use Rattle.host_wire.specs.Ends.{Input}
 use Rattle.host_link.specs.declared.fault.LinkFault.{LinkFault}
 use Rattle.host_link.specs.declared.fault.LinkFault.TheVariants.{Ended, TooMany}
 use Rattle.host_link.specs.declared.pipe.PipeLink.{PipeLink}
@@ -27,8 +28,8 @@ abbrev pub faults_of : {R W : Type 0} → PipeLink R W → ℕ
 faults_of l = cond l.is_broken 1 0
 
 -- after a fault, and after 2^40 replies, nothing is sent or read; else the request goes out with the next number
-abbrev pub Asks : {R W : Type 0} → (R → Option (List ℕ)) → (R → ℕ) → (W → Option (List ℕ)) → (W → ℕ) → PipeLink R W → Request → Result Reply LinkFault → PipeLink R W → Type 0
-Asks remaining broken contents broken_writer a q result b =
+abbrev pub Asks : {R W : Type 0} → (R → Input) → (W → Option (List ℕ)) → (W → ℕ) → PipeLink R W → Request → Result Reply LinkFault → PipeLink R W → Type 0
+Asks input contents broken_writer a q result b =
     ((a.is_broken ≡ true) × ((result ≡ Err Ended) × ((b.reader ≡ a.reader) × (b.writer ≡ a.writer))))
     ⊎ (((a.given ≡ 2 ^ 40) × ((result ≡ Err TooMany) × ((b.reader ≡ a.reader) × (b.writer ≡ a.writer))))
-    ⊎ ((b.most ≡ a.most) × Exchanged a.most (request_frame (a.given + 1) q) (remaining a.reader) (remaining b.reader) (contents a.writer) (contents b.writer) result (broken b.reader) (broken_writer b.writer)))
+    ⊎ ((b.most ≡ a.most) × Exchanged a.most (request_frame (a.given + 1) q) (input a.reader) (input b.reader) (contents a.writer) (contents b.writer) result (broken_writer b.writer)))

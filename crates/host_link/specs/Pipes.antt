@@ -1,6 +1,6 @@
 -- A link over a reader and a writer: a request is a frame that is written, its reply the next frame that is read.
-use Rattle.std.specs.Prelude.{◌≡◌, ◌⊎◌, ℕ, ◌<◌, ◌≤◌, ◌==◌, if◌then◌else◌, Bool, false, List, [], ◌∷◌, length, Option, Result, Ok, Err, ⊤}
-use Rattle.std.specs.Io.KnownBytes.{Appends, Consumes, IsAtEnd}
+use Rattle.std.specs.Prelude.{◌≡◌, ◌⊎◌, ℕ, ◌<◌, ◌==◌, if◌then◌else◌, Bool, false, List, [], ◌∷◌, length, Option, Result, Ok, Err, ⊤}
+use Rattle.std.specs.Io.KnownBytes.{Appends, IsAtEnd}
 use Rattle.lx_abi.specs.declared.ptrace.Reply.{Reply}
 use Rattle.lx_abi.specs.declared.ptrace.Request.{Request}
 use Rattle.pt_model.specs.Admissible.{answers}
@@ -10,7 +10,8 @@ use Rattle.host_frame.specs.declared.frame.Frame.{Frame}
 use Rattle.host_frame.specs.declared.fault.WireFault.TheVariants.{Length, Kind, Payload as Body_fault, Memory as No_memory}
 use Rattle.host_wire.specs.declared.receiving.ReceiveFault.{ReceiveFault}
 use Rattle.host_wire.specs.declared.receiving.ReceiveFault.TheVariants as receiving
-use Rattle.host_wire.specs.Ends.{AppendsPart}
+use Rattle.host_wire.specs.Ends.{AppendsPart, Input}
+use Rattle.host_wire.specs.Receiving.{IsCutOff, Receiving}
 use Rattle.host_frame.specs.Spelling.{content, spelled}
 use Rattle.host_wire.specs.Streams.{Stream, Going, Failed, stream_of}
 use Rattle.host_link.specs.declared.fault.LinkFault.{LinkFault}
@@ -56,21 +57,22 @@ IsFaulty stream = (stream ≡ Failed Length) ⊎ ((stream ≡ Failed Kind) ⊎ (
 abbrev pub CameWhole : Frame → Stream → Result Reply LinkFault → Type 0
 CameWhole sent stream result = (f : Frame) × ((stream ≡ Going (f ∷ []) []) × (reply_in sent f ≡ result))
 
-abbrev pub CameAs : ℕ → Result Reply LinkFault → Frame → List ℕ → Stream → Option (List ℕ) → ℕ → Type 0
-CameAs most (Ok r) sent came stream left broken = CameWhole sent stream (Ok r)
-CameAs most (Err Ended) sent came stream left broken = (tail : List ℕ) × ((stream ≡ Going [] tail) × IsAtEnd left)
-CameAs most (Err Read) sent came stream left broken = (broken ≡ 1) ⊎ ((most ≤ length came) × ((tail : List ℕ) × (stream ≡ Going [] tail)))
-CameAs most (Err Malformed) sent came stream left broken = IsFaulty stream
-CameAs most (Err Sequence) sent came stream left broken = CameWhole sent stream (Err Sequence)
-CameAs most (Err Inadmissible) sent came stream left broken = CameWhole sent stream (Err Inadmissible)
-CameAs most (Err Memory) sent came stream left broken = Unit {0}
-CameAs most (Err Write) sent came stream left broken = ⊥
-CameAs most (Err TooMany) sent came stream left broken = ⊥
+-- the reader after, and how many bytes each of its reads gave
+abbrev pub CameAs : ℕ → Result Reply LinkFault → Frame → List ℕ → Stream → Input → Type 0
+CameAs most (Ok r) sent reads stream b = CameWhole sent stream (Ok r)
+CameAs most (Err Ended) sent reads stream b = (tail : List ℕ) × ((stream ≡ Going [] tail) × IsAtEnd b.remaining)
+CameAs most (Err Read) sent reads stream b = (tail : List ℕ) × ((stream ≡ Going [] tail) × IsCutOff most reads b)
+CameAs most (Err Malformed) sent reads stream b = IsFaulty stream
+CameAs most (Err Sequence) sent reads stream b = CameWhole sent stream (Err Sequence)
+CameAs most (Err Inadmissible) sent reads stream b = CameWhole sent stream (Err Inadmissible)
+CameAs most (Err Memory) sent reads stream b = Unit {0}
+CameAs most (Err Write) sent reads stream b = ⊥
+CameAs most (Err TooMany) sent reads stream b = ⊥
 
-pub record Came (most : ℕ) (left : Option (List ℕ)) (result : Result Reply LinkFault) (sent : Frame) (left' : Option (List ℕ)) (broken : ℕ) : Type 0 where
+pub record Came (most : ℕ) (a : Input) (result : Result Reply LinkFault) (sent : Frame) (b : Input) : Type 0 where
   pub came : List ℕ
-  pub consumed : Consumes left left' came
-  pub so : CameAs most result sent came (stream_of came) left' broken
+  pub received : Receiving most a b came
+  pub so : CameAs most result sent received.reads (stream_of came) b
 
 -- the cause of a fault, as a link tells it
 abbrev pub fault_of : ReceiveFault → LinkFault
@@ -82,8 +84,8 @@ fault_of (receiving.Wire Body_fault) = Malformed
 
 -- ---- a request and its reply
 
--- nothing came, as the request was not sent; or all of it was, and this came
-abbrev pub Exchanged : ℕ → Frame → Option (List ℕ) → Option (List ℕ) → Option (List ℕ) → Option (List ℕ) → Result Reply LinkFault → ℕ → ℕ → Type 0
-Exchanged most sent left left' old new result broken broken_writer =
-    (Appends old new (spelled sent) × Came most left result sent left' broken)
-    ⊎ ((fault : LinkFault) × ((result ≡ Err fault) × (SentAs (Err fault) sent old new broken_writer × (left' ≡ left))))
+-- nothing was read, as the request was not sent; or all of it was, and this came
+abbrev pub Exchanged : ℕ → Frame → Input → Input → Option (List ℕ) → Option (List ℕ) → Result Reply LinkFault → ℕ → Type 0
+Exchanged most sent a b old new result broken_writer =
+    (Appends old new (spelled sent) × Came most a result sent b)
+    ⊎ ((fault : LinkFault) × ((result ≡ Err fault) × (SentAs (Err fault) sent old new broken_writer × (b ≡ a))))

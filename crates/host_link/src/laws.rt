@@ -6,6 +6,7 @@ ghost use Rattle.lx_abi.specs.declared.ptrace.Request.{Request};
 ghost use Rattle.pt_kernel.specs.Hosts.{is_boot};
 ghost use Rattle.pt_model.specs.Admissible.{answers};
 ghost use Rattle.host_frame.specs.declared.frame.Frame.{Frame};
+ghost use Rattle.host_wire.specs.Ends.{Input};
 ghost use Rattle.host_link.specs.LocalLinks.{Calls, IsIdle, faults_of, given_of};
 ghost use Rattle.host_link.specs.declared.fault.LinkFault.{LinkFault};
 ghost use Rattle.host_link.specs.declared.fault.LinkFault.TheVariants.{Memory, Read};
@@ -27,15 +28,15 @@ pub fn idle_links_fail_for_memory()
 
 /// Over pipes a reply is of a kind that answers its request, even where nothing is known of the bytes.
 pub fn replies_over_pipes_fit()
-    ensures { (most number : ℕ) (q : Request) (r : Reply) (left left' old new : Option (List ℕ)) (broken broken_writer : ℕ) →
-        Exchanged most (request_frame number q) left left' old new (Ok r) broken broken_writer → answers q r ≡ true }
+    ensures { (most number : ℕ) (q : Request) (r : Reply) (a b : Input) (old new : Option (List ℕ)) (broken_writer : ℕ) →
+        Exchanged most (request_frame number q) a b old new (Ok r) broken_writer → answers q r ≡ true }
 {}
 
 /// Over pipes that are given up after 2^32 reads a reply can't be read only where the reader has failed, even where
 /// nothing is known of the bytes.
 pub fn unread_replies_are_of_failed_readers()
-    ensures { (sent : Frame) (left left' old new : Option (List ℕ)) (broken broken_writer : ℕ) →
-        Exchanged (2 ^ 32) sent left left' old new (Err Read) broken broken_writer → broken ≡ 1 }
+    ensures { (sent : Frame) (a b : Input) (old new : Option (List ℕ)) (broken_writer : ℕ) →
+        Exchanged (2 ^ 32) sent a b old new (Err Read) broken_writer → b.broken ≡ 1 }
 {
     bytes_without_a_frame_are_few();
 }

@@ -78,7 +78,7 @@ fn receive_reply<R: Source>(
 ) -> Result<Reply, LinkFault>
     requires room { 0 < length room.old }
     requires fresh { feed.old ≡ nothing_fed }
-    ensures came { Came most (R.remaining reader.old) result sent.now (R.remaining reader.new) (R.broken reader.new) }
+    ensures came { Came most (R.input reader.old) result sent.now (R.input reader.new) }
     ensures no_further { OnOk result (feed.new ≡ nothing_fed) }
 {
     let frame = match receive(reader, feed, room, most) {
@@ -101,8 +101,8 @@ pub(crate) fn exchange<R: Source, W: Sink>(
 ) -> Result<Reply, LinkFault>
     requires room { 0 < length room.old }
     requires fresh { feed.old ≡ nothing_fed }
-    ensures exchanged { Exchanged most sent.now (R.remaining reader.old) (R.remaining reader.new) (W.contents writer.old)
-        (W.contents writer.new) result (R.broken reader.new) (W.broken writer.new) }
+    ensures exchanged { Exchanged most sent.now (R.input reader.old) (R.input reader.new) (W.contents writer.old)
+        (W.contents writer.new) result (W.broken writer.new) }
     ensures no_further { OnOk result (feed.new ≡ nothing_fed) }
 {
     match send(alloc, writer, sent) {
@@ -178,7 +178,7 @@ impl<R: Source, W: Sink> PipeLink<R, W> {
 impl<R: Source, W: Sink> Link for PipeLink<R, W> {
     ghost use Rattle.host_link.specs.PipeLinks.{Asks, given_of, faults_of};
 
-    ghost answers = { λ a q r b. Asks R.remaining R.broken W.contents W.broken a q r b };
+    ghost answers = { λ a q r b. Asks R.input W.contents W.broken a q r b };
 
     ghost given = { λ l. given_of l };
 

@@ -5,9 +5,10 @@ use Rattle.std.proofs.KnownBytes.{Appends-nil, Appends-trans, Consumes-nil, Cons
 use Rattle.lx_abi.specs.declared.outcome.Outcome.{Outcome}
 use Rattle.lx_abi.specs.declared.ptrace.Reply.{Reply}
 use Rattle.lx_abi.specs.declared.ptrace.Request.{Request}
-use Rattle.host_wire.specs.Ends.{AppendsPart}
+use Rattle.host_wire.specs.Ends.{AppendsPart, Input}
 use Rattle.host_frame.specs.Spelling.{spelled, reply_frame}
 use Rattle.host_wire.specs.Streams.{Going, goes_on}
+use Rattle.host_wire.proofs.Gathered.{unread}
 use Rattle.host_wire.proofs.Streams.{frames_join}
 use Rattle.host_serve.specs.declared.fault.ServeFault.{ServeFault}
 use Rattle.host_serve.specs.declared.fault.ServeFault.TheVariants.{Read, Write, Wire, Order, Failed}
@@ -21,8 +22,8 @@ part_behind : (a b c : Option (List ℕ)) (xs ys : List ℕ) → Appends a b xs 
 part_behind a b c xs ys whole part =
     (xs ++ part.0, (part.1.0, (append_assoc xs part.0 part.1.0 ∙ ap (λ (t : List ℕ). xs ++ t) part.1.1.0, Appends-trans a b c xs part.0 whole part.1.1.1)))
 
-pub next_is : {b c : Option (List ℕ)} {most number broken : ℕ} {o p : Option Request} → o ≡ p → Next most b (Ok o) number c broken → Next most b (Ok p) number c broken
-next_is {b} {c} {most} {number} {broken} is n = subst (λ (x : Option Request). Next most b (Ok x) number c broken) is n
+pub next_is : {b c : Input} {most number : ℕ} {o p : Option Request} → o ≡ p → Next most b (Ok o) number c → Next most b (Ok p) number c
+next_is {b} {c} {most} {number} is n = subst (λ (x : Option Request). Next most b (Ok x) number c) is n
 
 -- the request of a number up to 2^40 is one that a session can answer
 pub can_answer : {S : Type 0} {number : ℕ} (ready : S → Type 0) (given : S → ℕ) (phase : Phase S) → IsDue ready given phase number → number ≤ 2 ^ 40 → CanAnswer ready given phase
@@ -30,89 +31,117 @@ can_answer ready given Waiting due few = tt
 can_answer ready given Refusing due few = tt
 can_answer ready given (Serving s) due few = (due.0, omega (arith, due.1, few))
 
-module _ {S : Type 0} {boots : Boots S} {answers : Answers S} where
-  pub starts : (bytes old : Option (List ℕ)) → Serves boots answers bytes bytes old old Waiting 1
-  unfolding goes_on
-  starts bytes old = record { exchanges = []; came = []; consumed = Consumes-nil bytes; led = refl; asked = refl; written = Appends-nil old; counted = refl }
-
 module _ {S : Type 0} {most : ℕ} {boots : Boots S} {answers : Answers S} where
-  -- nothing was read or written
-  pub fails_first : {left : S → Outcome} (bytes old : Option (List ℕ)) (broken broken_writer : ℕ) → Served most boots answers left bytes bytes old old (Err Failed) broken broken_writer
+  pub starts : (a : Input) (old : Option (List ℕ)) → Serves most boots answers a a old old Waiting 1
   unfolding goes_on
-  fails_first bytes old broken broken_writer = record { exchanges = []; phase = Waiting; came = []; rest = []; consumed = Consumes-nil bytes; led = refl; asked = refl; ended = tt; written = Appends-nil old }
+  starts a old = record { exchanges = []; came = []; consumed = Consumes-nil a.remaining; led = refl; asked = refl; taken = (refl, refl); written = Appends-nil old; counted = refl }
 
-  pub goes_further : {a b c d e f : Option (List ℕ)} {phase : Phase S} {number broken : ℕ} (next : Phase S) (q : Request) (r : Reply)
-      → Serves boots answers a b d e phase number → Next most b (Ok (Some q)) number c broken → Answered boots answers phase q r next → Appends e f (spelled (reply_frame number r)) → Serves boots answers a c d f next (number + 1)
+  -- nothing was read or written
+  pub fails_first : {left : S → Outcome} (a : Input) (old : Option (List ℕ)) (broken_writer : ℕ) → Served most boots answers left a a old old (Err Failed) broken_writer
+  unfolding goes_on
+  fails_first a old broken_writer = record {
+    exchanges = [];
+    phase = Waiting;
+    middle = a;
+    came = [];
+    rest = [];
+    consumed = Consumes-nil a.remaining;
+    led = refl;
+    asked = refl;
+    taken = (refl, refl);
+    last = unread a;
+    ended = tt;
+    written = Appends-nil old;
+  }
+
+  pub goes_further : {a b c : Input} {d e f : Option (List ℕ)} {phase : Phase S} {number : ℕ} (next : Phase S) (q : Request) (r : Reply)
+      → Serves most boots answers a b d e phase number → Next most b (Ok (Some q)) number c → Answered boots answers phase q r next → Appends e f (spelled (reply_frame number r)) → Serves most boots answers a c d f next (number + 1)
   goes_further {a} {b} {c} {d} {e} {f} {phase = phase} {number = number} next q r s n answered sent = record {
     exchanges = (q, r) ∷ s.exchanges;
     came = s.came ++ n.came;
-    consumed = Consumes-trans a b c s.came n.came s.consumed n.consumed;
+    consumed = Consumes-trans a.remaining b.remaining c.remaining s.came n.came s.consumed n.received.consumed;
     led = (phase, (s.led, answered));
+    taken = (b, (s.came, (n.came, (refl, (s.taken, (n.received, n.so ∙ ap (λ (k : ℕ). Going (request_frame k q ∷ []) []) s.counted))))));
     asked = frames_join _ s.came n.came _ s.asked (n.so ∙ ap (λ (k : ℕ). Going (request_frame k q ∷ []) []) s.counted);
     written = Appends-trans d e f _ _ s.written (subst (λ (k : ℕ). Appends e f (spelled (reply_frame k r))) s.counted sent);
     counted = omega (arith, s.counted);
   }
 
-  pub ends_well : {left : S → Outcome} {a b c d e : Option (List ℕ)} {phase : Phase S} {number broken broken_writer : ℕ} (outcome : Outcome)
-      → Serves boots answers a b d e phase number → Next most b (Ok None) number c broken → outcome ≡ outcome_at left phase → Served most boots answers left a c d e (Ok outcome) broken broken_writer
+  pub ends_well : {left : S → Outcome} {a b c : Input} {d e : Option (List ℕ)} {phase : Phase S} {number broken_writer : ℕ} (outcome : Outcome)
+      → Serves most boots answers a b d e phase number → Next most b (Ok None) number c → outcome ≡ outcome_at left phase → Served most boots answers left a c d e (Ok outcome) broken_writer
   ends_well {a = a} {b = b} {c = c} {phase = phase} outcome s n is = record {
     exchanges = s.exchanges;
     phase = phase;
+    middle = b;
     came = s.came;
     rest = n.came;
-    consumed = Consumes-trans a b c s.came n.came s.consumed n.consumed;
+    consumed = Consumes-trans a.remaining b.remaining c.remaining s.came n.came s.consumed n.received.consumed;
     led = s.led;
     asked = s.asked;
+    taken = s.taken;
+    last = n.received;
     ended = (n.so.0, (n.so.1.0, n.so.1.1, is));
     written = s.written;
   }
 
-  pub ends_failed : {left : S → Outcome} {a b c d e : Option (List ℕ)} {phase : Phase S} {number broken broken_writer : ℕ} {next : Option Request}
-      → Serves boots answers a b d e phase number → Next most b (Ok next) number c broken → Served most boots answers left a c d e (Err Failed) broken broken_writer
+  pub ends_failed : {left : S → Outcome} {a b c : Input} {d e : Option (List ℕ)} {phase : Phase S} {number broken_writer : ℕ} {next : Option Request}
+      → Serves most boots answers a b d e phase number → Next most b (Ok next) number c → Served most boots answers left a c d e (Err Failed) broken_writer
   ends_failed {a = a} {b = b} {c = c} {phase = phase} s n = record {
     exchanges = s.exchanges;
     phase = phase;
+    middle = b;
     came = s.came;
     rest = n.came;
-    consumed = Consumes-trans a b c s.came n.came s.consumed n.consumed;
+    consumed = Consumes-trans a.remaining b.remaining c.remaining s.came n.came s.consumed n.received.consumed;
     led = s.led;
     asked = s.asked;
+    taken = s.taken;
+    last = n.received;
     ended = tt;
     written = s.written;
   }
 
-  pub ends_reading : {left : S → Outcome} {a b c d e : Option (List ℕ)} {phase : Phase S} {number broken broken_writer : ℕ} (fault : ServeFault)
-      → Serves boots answers a b d e phase number → Next most b (Err fault) number c broken → Served most boots answers left a c d e (Err fault) broken broken_writer
+  pub ends_reading : {left : S → Outcome} {a b c : Input} {d e : Option (List ℕ)} {phase : Phase S} {number broken_writer : ℕ} (fault : ServeFault)
+      → Serves most boots answers a b d e phase number → Next most b (Err fault) number c → Served most boots answers left a c d e (Err fault) broken_writer
   ends_reading {a = a} {b = b} {c = c} {phase = phase} Read s n = record {
     exchanges = s.exchanges;
     phase = phase;
+    middle = b;
     came = s.came;
     rest = n.came;
-    consumed = Consumes-trans a b c s.came n.came s.consumed n.consumed;
+    consumed = Consumes-trans a.remaining b.remaining c.remaining s.came n.came s.consumed n.received.consumed;
     led = s.led;
     asked = s.asked;
+    taken = s.taken;
+    last = n.received;
     ended = inl n.so;
     written = s.written;
   }
   ends_reading {a = a} {b = b} {c = c} {phase = phase} Wire s n = record {
     exchanges = s.exchanges;
     phase = phase;
+    middle = b;
     came = s.came;
     rest = n.came;
-    consumed = Consumes-trans a b c s.came n.came s.consumed n.consumed;
+    consumed = Consumes-trans a.remaining b.remaining c.remaining s.came n.came s.consumed n.received.consumed;
     led = s.led;
     asked = s.asked;
+    taken = s.taken;
+    last = n.received;
     ended = inl n.so;
     written = s.written;
   }
   ends_reading {a = a} {b = b} {c = c} {phase = phase} Order s n = record {
     exchanges = s.exchanges;
     phase = phase;
+    middle = b;
     came = s.came;
     rest = n.came;
-    consumed = Consumes-trans a b c s.came n.came s.consumed n.consumed;
+    consumed = Consumes-trans a.remaining b.remaining c.remaining s.came n.came s.consumed n.received.consumed;
     led = s.led;
     asked = s.asked;
+    taken = s.taken;
+    last = n.received;
     ended = (n.so.0, (n.so.1.0, inl (subst (λ (k : ℕ). IsOther n.so.0 k) s.counted n.so.1.1)));
     written = s.written;
   }
@@ -120,45 +149,54 @@ module _ {S : Type 0} {most : ℕ} {boots : Boots S} {answers : Answers S} where
   ends_reading {a = a} {b = b} {c = c} {phase = phase} Failed s n = record {
     exchanges = s.exchanges;
     phase = phase;
+    middle = b;
     came = s.came;
     rest = n.came;
-    consumed = Consumes-trans a b c s.came n.came s.consumed n.consumed;
+    consumed = Consumes-trans a.remaining b.remaining c.remaining s.came n.came s.consumed n.received.consumed;
     led = s.led;
     asked = s.asked;
+    taken = s.taken;
+    last = n.received;
     ended = tt;
     written = s.written;
   }
 
-  pub ends_asked : {left : S → Outcome} {a b c d e : Option (List ℕ)} {phase : Phase S} {number broken broken_writer : ℕ} (fails : Fails S) (q : Request) (fault : ServeFault) (next : Phase S)
-      → Serves boots answers a b d e phase number → Next most b (Ok (Some q)) number c broken → Responds boots answers fails phase q (Err fault) next → Served most boots answers left a c d e (Err fault) broken broken_writer
+  pub ends_asked : {left : S → Outcome} {a b c : Input} {d e : Option (List ℕ)} {phase : Phase S} {number broken_writer : ℕ} (fails : Fails S) (q : Request) (fault : ServeFault) (next : Phase S)
+      → Serves most boots answers a b d e phase number → Next most b (Ok (Some q)) number c → Responds boots answers fails phase q (Err fault) next → Served most boots answers left a c d e (Err fault) broken_writer
   ends_asked fails q Read next s n h = absurd h
   ends_asked fails q Write next s n h = absurd h
   ends_asked fails q Wire next s n h = absurd h
   ends_asked {a = a} {b = b} {c = c} {phase = phase} fails q Order next s n h = record {
     exchanges = s.exchanges;
     phase = phase;
+    middle = b;
     came = s.came;
     rest = n.came;
-    consumed = Consumes-trans a b c s.came n.came s.consumed n.consumed;
+    consumed = Consumes-trans a.remaining b.remaining c.remaining s.came n.came s.consumed n.received.consumed;
     led = s.led;
     asked = s.asked;
+    taken = s.taken;
+    last = n.received;
     ended = (request_frame _ q, (n.so, inr (q, (ap (λ (k : ℕ). request_frame k q) s.counted, h))));
     written = s.written;
   }
   ends_asked fails q Failed next s n h = ends_failed s n
 
-  pub ends_sending : {left : S → Outcome} {a b c d e f : Option (List ℕ)} {phase : Phase S} {number broken broken_writer : ℕ} (next : Phase S) (q : Request) (r : Reply) (fault : ServeFault)
-      → Serves boots answers a b d e phase number → Next most b (Ok (Some q)) number c broken → Answered boots answers phase q r next → SentAs (Err fault) number r e f broken_writer → Served most boots answers left a c d f (Err fault) broken broken_writer
+  pub ends_sending : {left : S → Outcome} {a b c : Input} {d e f : Option (List ℕ)} {phase : Phase S} {number broken_writer : ℕ} (next : Phase S) (q : Request) (r : Reply) (fault : ServeFault)
+      → Serves most boots answers a b d e phase number → Next most b (Ok (Some q)) number c → Answered boots answers phase q r next → SentAs (Err fault) number r e f broken_writer → Served most boots answers left a c d f (Err fault) broken_writer
   ends_sending next q r Read s n answered sent = absurd sent
   ends_sending next q r Order s n answered sent = absurd sent
   ends_sending {a = a} {b = b} {c = c} {d = d} {e = e} {f = f} {phase = phase} {number = number} next q r Write s n answered sent = record {
     exchanges = s.exchanges;
     phase = phase;
+    middle = b;
     came = s.came;
     rest = n.came;
-    consumed = Consumes-trans a b c s.came n.came s.consumed n.consumed;
+    consumed = Consumes-trans a.remaining b.remaining c.remaining s.came n.came s.consumed n.received.consumed;
     led = s.led;
     asked = s.asked;
+    taken = s.taken;
+    last = n.received;
     ended = sent.1;
     written =
         let part : AppendsPart e f (spelled (reply_frame number r)) = sent.0 in
@@ -167,28 +205,34 @@ module _ {S : Type 0} {most : ℕ} {boots : Boots S} {answers : Answers S} where
   ends_sending {a = a} {b = b} {c = c} {d = d} {e = e} {f = f} {phase = phase} next q r Wire s n answered sent = record {
     exchanges = s.exchanges;
     phase = phase;
+    middle = b;
     came = s.came;
     rest = n.came;
-    consumed = Consumes-trans a b c s.came n.came s.consumed n.consumed;
+    consumed = Consumes-trans a.remaining b.remaining c.remaining s.came n.came s.consumed n.received.consumed;
     led = s.led;
     asked = s.asked;
+    taken = s.taken;
+    last = n.received;
     ended = inr (q, (r, (next, (answered, subst (λ (k : ℕ). IsTooLong k r) s.counted sent.1))));
     written = subst (λ (o : Option (List ℕ)). Appends d o (replies_of s.exchanges)) (sym sent.0) s.written;
   }
   ends_sending {a = a} {b = b} {c = c} {d = d} {e = e} {f = f} {phase = phase} next q r Failed s n answered sent = record {
     exchanges = s.exchanges;
     phase = phase;
+    middle = b;
     came = s.came;
     rest = n.came;
-    consumed = Consumes-trans a b c s.came n.came s.consumed n.consumed;
+    consumed = Consumes-trans a.remaining b.remaining c.remaining s.came n.came s.consumed n.received.consumed;
     led = s.led;
     asked = s.asked;
+    taken = s.taken;
+    last = n.received;
     ended = tt;
     written = subst (λ (o : Option (List ℕ)). Appends d o (replies_of s.exchanges)) (sym sent) s.written;
   }
 
-  pub ends_finished : {left : S → Outcome} {a b c d e : Option (List ℕ)} {phase : Phase S} {number broken broken_writer : ℕ} (result : Result Outcome ServeFault)
-      → Serves boots answers a b d e phase number → Next most b (Ok None) number c broken → Finishes result (outcome_at left phase) → Served most boots answers left a c d e result broken broken_writer
+  pub ends_finished : {left : S → Outcome} {a b c : Input} {d e : Option (List ℕ)} {phase : Phase S} {number broken_writer : ℕ} (result : Result Outcome ServeFault)
+      → Serves most boots answers a b d e phase number → Next most b (Ok None) number c → Finishes result (outcome_at left phase) → Served most boots answers left a c d e result broken_writer
   ends_finished (Ok outcome) s n is = ends_well outcome s n is
   ends_finished (Err Failed) s n is = ends_failed s n
   ends_finished (Err Read) s n is = absurd is
@@ -197,15 +241,18 @@ module _ {S : Type 0} {most : ℕ} {boots : Boots S} {answers : Answers S} where
   ends_finished (Err Order) s n is = absurd is
 
   -- there were too many frames
-  pub ends_late : {left : S → Outcome} {a b d e : Option (List ℕ)} {phase : Phase S} {number broken broken_writer : ℕ} → number ≡ 2 ^ 40 + 1 → Serves boots answers a b d e phase number → Served most boots answers left a b d e (Err Read) broken broken_writer
+  pub ends_late : {left : S → Outcome} {a b : Input} {d e : Option (List ℕ)} {phase : Phase S} {number broken_writer : ℕ} → number ≡ 2 ^ 40 + 1 → Serves most boots answers a b d e phase number → Served most boots answers left a b d e (Err Read) broken_writer
   ends_late {a = a} {b = b} {phase = phase} last s = record {
     exchanges = s.exchanges;
     phase = phase;
+    middle = b;
     came = s.came;
     rest = [];
-    consumed = subst (Consumes a b) (sym (append-nil s.came)) s.consumed;
+    consumed = subst (Consumes a.remaining b.remaining) (sym (append-nil s.came)) s.consumed;
     led = s.led;
     asked = s.asked;
+    taken = s.taken;
+    last = unread b;
     ended = inr (sym s.counted ∙ last);
     written = s.written;
   }

@@ -13,6 +13,7 @@ use Rattle.lx_boot.specs.declared.boots.BootFault.{BootFault}
 use Rattle.pt_model.specs.Hosting.{first_hosting}
 use Rattle.pt_kernel.specs.Hosts.{HostState}
 use Rattle.pt_schedule.specs.Schedules.{worded}
+use Rattle.host_wire.specs.Ends.{Input}
 use Rattle.host_link.specs.LocalLinks.{Calls, IsIdle, faults_of, given_of, host_of, is_over, schedule_of}
 use Rattle.host_link.specs.declared.fault.LinkFault.TheVariants.{Memory}
 use Rattle.host_link.specs.declared.local.LocalLink.{LocalLink}
@@ -61,6 +62,6 @@ IsReady l = (faults_of l ≡ 0) × IsIdle l
 abbrev pub left_by : LocalLink → Outcome
 left_by l = outcome_in (host_of l).hosting.running.shared
 
--- a whole run of the host, whose reader may give so often without a whole frame: the bytes that are written are the frames of Done and of the link's replies
-unfoldable pub Served_host : ℕ → Option (List ℕ) → Option (List ℕ) → Option (List ℕ) → Option (List ℕ) → Result Outcome ServeFault → ℕ → ℕ → Type 0
-Served_host most bytes bytes' old new result broken broken_writer = Served most Boots_by Answers_by left_by bytes bytes' old new result broken broken_writer
+-- a whole run of the host, by so many reads a frame at most: the bytes that are written are the frames of Done and of the link's replies
+unfoldable pub Served_host : ℕ → Input → Input → Option (List ℕ) → Option (List ℕ) → Result Outcome ServeFault → ℕ → Type 0
+Served_host most input input' old new result broken_writer = Served most Boots_by Answers_by left_by input input' old new result broken_writer

@@ -1,11 +1,13 @@
 -- The frame that is due next: a request of the next number.
-use Rattle.std.specs.Prelude.{◌≡◌, ◌⊎◌, ◌≤◌, ℕ, ◌==◌, if◌then◌else◌, List, [], ◌∷◌, length, Option, Some, None, Result, Ok, Err}
-use Rattle.std.specs.Io.KnownBytes.{Consumes, IsAtEnd}
+use Rattle.std.specs.Prelude.{◌≡◌, ◌⊎◌, ℕ, ◌==◌, if◌then◌else◌, List, [], ◌∷◌, Option, Some, None, Result, Ok, Err}
+use Rattle.std.specs.Io.KnownBytes.{IsAtEnd}
 use Rattle.lx_abi.specs.declared.ptrace.Request.{Request}
 use Rattle.host_frame.specs.declared.frame.Payload.{Payload as Message}
 use Rattle.host_frame.specs.declared.frame.Payload.TheVariants.{Request as Of_request, Reply as Of_reply}
 use Rattle.host_frame.specs.declared.frame.Frame.{Frame}
 use Rattle.host_frame.specs.declared.fault.WireFault.TheVariants.{Length, Kind, Payload, Memory}
+use Rattle.host_wire.specs.Ends.{Input}
+use Rattle.host_wire.specs.Receiving.{IsCutOff, Receiving}
 use Rattle.host_wire.specs.declared.receiving.ReceiveFault.{ReceiveFault}
 use Rattle.host_wire.specs.declared.receiving.ReceiveFault.TheVariants as receiving
 use Rattle.host_wire.specs.Streams.{Stream, Going, Failed as Failed_by, stream_of}
@@ -23,19 +25,19 @@ abbrev pub IsFaulty : Stream → Type 0
 IsFaulty stream = (stream ≡ Failed_by Length) ⊎ ((stream ≡ Failed_by Kind) ⊎ (stream ≡ Failed_by Payload))
 
 -- what came is the next request, the end of input within a frame or before it, or the cause of a fault
-abbrev pub NextAs : ℕ → Result (Option Request) ServeFault → ℕ → List ℕ → Stream → Option (List ℕ) → ℕ → Type 0
-NextAs most (Ok (Some q)) number came stream left broken = stream ≡ Going (request_frame number q ∷ []) []
-NextAs most (Ok None) number came stream left broken = (tail : List ℕ) × ((stream ≡ Going [] tail) × IsAtEnd left)
-NextAs most (Err Read) number came stream left broken = (broken ≡ 1) ⊎ ((most ≤ length came) × ((tail : List ℕ) × (stream ≡ Going [] tail)))
-NextAs most (Err Wire) number came stream left broken = IsFaulty stream
-NextAs most (Err Order) number came stream left broken = (f : Frame) × ((stream ≡ Going (f ∷ []) []) × IsOther f number)
-NextAs most (Err Write) number came stream left broken = ⊥
-NextAs most (Err Failed) number came stream left broken = Unit {0}
+abbrev pub NextAs : ℕ → Result (Option Request) ServeFault → ℕ → List ℕ → Stream → Input → Type 0
+NextAs most (Ok (Some q)) number reads stream b = stream ≡ Going (request_frame number q ∷ []) []
+NextAs most (Ok None) number reads stream b = (tail : List ℕ) × ((stream ≡ Going [] tail) × IsAtEnd b.remaining)
+NextAs most (Err Read) number reads stream b = (tail : List ℕ) × ((stream ≡ Going [] tail) × IsCutOff most reads b)
+NextAs most (Err Wire) number reads stream b = IsFaulty stream
+NextAs most (Err Order) number reads stream b = (f : Frame) × ((stream ≡ Going (f ∷ []) []) × IsOther f number)
+NextAs most (Err Write) number reads stream b = ⊥
+NextAs most (Err Failed) number reads stream b = Unit {0}
 
-pub record Next (most : ℕ) (left : Option (List ℕ)) (result : Result (Option Request) ServeFault) (number : ℕ) (left' : Option (List ℕ)) (broken : ℕ) : Type 0 where
+pub record Next (most : ℕ) (a : Input) (result : Result (Option Request) ServeFault) (number : ℕ) (b : Input) : Type 0 where
   pub came : List ℕ
-  pub consumed : Consumes left left' came
-  pub so : NextAs most result number came (stream_of came) left' broken
+  pub received : Receiving most a b came
+  pub so : NextAs most result number received.reads (stream_of came) b
 
 -- the cause of a fault, as serving tells it
 abbrev pub fault_of : ReceiveFault → ServeFault

@@ -1,5 +1,5 @@
 -- A conversation: a boot, and requests that a session answers one by one.
-use Rattle.std.specs.Prelude.{◌≡◌, ◌⊎◌, ℕ, ◌+◌, ◌<◌, ◌≤◌, ◌^◌, List, [], ◌∷◌, ◌++◌, length, Option, true, false, Result, Ok, Err, ⊤}
+use Rattle.std.specs.Prelude.{◌≡◌, ◌⊎◌, ℕ, ◌+◌, ◌<◌, ◌^◌, List, [], ◌∷◌, ◌++◌, length, Option, true, false, Result, Ok, Err, ⊤}
 use Rattle.std.specs.Io.KnownBytes.{Appends, Consumes, IsAtEnd}
 use Rattle.lx_abi.specs.declared.boot.Boot.{Boot}
 use Rattle.lx_abi.specs.declared.schedule.Word.{Word}
@@ -9,7 +9,8 @@ use Rattle.lx_abi.specs.declared.ptrace.Reply.TheVariants.{Done, Refused}
 use Rattle.lx_abi.specs.declared.ptrace.Request.{Request}
 use Rattle.lx_abi.specs.declared.ptrace.Request.TheVariants.{Boot as Boot_with}
 use Rattle.host_frame.specs.declared.frame.Frame.{Frame}
-use Rattle.host_wire.specs.Ends.{AppendsPart}
+use Rattle.host_wire.specs.Ends.{AppendsPart, Input}
+use Rattle.host_wire.specs.Receiving.{IsCutOff, Receiving}
 use Rattle.host_frame.specs.Spelling.{content, spelled, reply_frame}
 use Rattle.host_wire.specs.Streams.{Going, stream_of}
 use Rattle.host_serve.specs.declared.fault.ServeFault.{ServeFault}
@@ -111,6 +112,12 @@ abbrev pub replies_of : Exchanges → List ℕ
 replies_of [] = []
 replies_of (x ∷ xs) = replies_of xs ++ spelled (reply_frame (length xs + 1) x.1)
 
+-- the bytes of the requests, each of which came by so many reads at most
+abbrev pub Taken : ℕ → Input → Exchanges → Input → List ℕ → Type 0
+Taken most a [] b came = (b ≡ a) × (came ≡ [])
+Taken most a (x ∷ xs) b came = (mid : Input) × ((before : List ℕ) × ((own : List ℕ) × ((came ≡ before ++ own)
+    × (Taken most a xs mid before × (Receiving most mid b own × (stream_of own ≡ Going (request_frame (length xs + 1) x.0 ∷ []) []))))))
+
 -- ---- a whole run of a host
 
 -- the empty outcome before a boot was accepted
@@ -127,17 +134,17 @@ Finishes (Err Write) wanted = ⊥
 Finishes (Err Wire) wanted = ⊥
 Finishes (Err Order) wanted = ⊥
 
--- what ended it: `rest` is what was read after the requests that were answered, by so many reads at most
-abbrev pub EndsBy : {S : Type 0} → ℕ → Boots S → Answers S → (S → Outcome) → Phase S → ℕ → Result Outcome ServeFault → List ℕ → Option (List ℕ) → ℕ → ℕ → Type 0
-EndsBy most boots answers left phase number (Ok outcome) rest after broken broken_writer = (tail : List ℕ) × ((stream_of rest ≡ Going [] tail) × IsAtEnd after × (outcome ≡ outcome_at left phase))
-EndsBy most boots answers left phase number (Err Read) rest after broken broken_writer =
-    ((broken ≡ 1) ⊎ ((most ≤ length rest) × ((tail : List ℕ) × (stream_of rest ≡ Going [] tail)))) ⊎ (number ≡ 2 ^ 40 + 1)
-EndsBy {S} most boots answers left phase number (Err Wire) rest after broken broken_writer =
+-- what ended it: `rest` is what was read after the requests that were answered, and `reads` how much each read of it gave
+abbrev pub EndsBy : {S : Type 0} → ℕ → Boots S → Answers S → (S → Outcome) → Phase S → ℕ → Result Outcome ServeFault → List ℕ → List ℕ → Input → ℕ → Type 0
+EndsBy most boots answers left phase number (Ok outcome) rest reads b broken_writer = (tail : List ℕ) × ((stream_of rest ≡ Going [] tail) × IsAtEnd b.remaining × (outcome ≡ outcome_at left phase))
+EndsBy most boots answers left phase number (Err Read) rest reads b broken_writer =
+    ((tail : List ℕ) × ((stream_of rest ≡ Going [] tail) × IsCutOff most reads b)) ⊎ (number ≡ 2 ^ 40 + 1)
+EndsBy {S} most boots answers left phase number (Err Wire) rest reads b broken_writer =
     IsFaulty (stream_of rest) ⊎ ((q : Request) × ((r : Reply) × ((next : Phase S) × (Answered boots answers phase q r next × IsTooLong number r))))
-EndsBy most boots answers left phase number (Err Order) rest after broken broken_writer =
+EndsBy most boots answers left phase number (Err Order) rest reads b broken_writer =
     (f : Frame) × ((stream_of rest ≡ Going (f ∷ []) []) × (IsOther f number ⊎ ((q : Request) × ((f ≡ request_frame number q) × IsUndue phase q))))
-EndsBy most boots answers left phase number (Err Write) rest after broken broken_writer = broken_writer ≡ 1
-EndsBy most boots answers left phase number (Err Failed) rest after broken broken_writer = Unit {0}
+EndsBy most boots answers left phase number (Err Write) rest reads b broken_writer = broken_writer ≡ 1
+EndsBy most boots answers left phase number (Err Failed) rest reads b broken_writer = Unit {0}
 
 -- the replies are written whole; a write that failed wrote a first part of the next
 abbrev pub WritesAs : {S : Type 0} → Boots S → Answers S → Phase S → Exchanges → Result Outcome ServeFault → Option (List ℕ) → Option (List ℕ) → Type 0
@@ -149,23 +156,28 @@ WritesAs boots answers phase xs (Err Failed) old new = Appends old new (replies_
 WritesAs {S} boots answers phase xs (Err Write) old new =
     (q : Request) × ((r : Reply) × ((next : Phase S) × (Answered boots answers phase q r next × AppendsPart old new (replies_of ((q, r) ∷ xs)))))
 
-pub record Served {S : Type 0} (most : ℕ) (boots : Boots S) (answers : Answers S) (left : S → Outcome) (bytes bytes' old new : Option (List ℕ)) (result : Result Outcome ServeFault) (broken broken_writer : ℕ) : Type 0 where
+pub record Served {S : Type 0} (most : ℕ) (boots : Boots S) (answers : Answers S) (left : S → Outcome) (input input' : Input) (old new : Option (List ℕ)) (result : Result Outcome ServeFault) (broken_writer : ℕ) : Type 0 where
   pub exchanges : Exchanges
   pub phase : Phase S
+  -- the reader behind the last request that was answered
+  pub middle : Input
   pub came : List ℕ
   pub rest : List ℕ
-  pub consumed : Consumes bytes bytes' (came ++ rest)
+  pub consumed : Consumes input.remaining input'.remaining (came ++ rest)
   pub led : Leads boots answers exchanges phase
   pub asked : stream_of came ≡ Going (requests_of exchanges) []
-  pub ended : EndsBy most boots answers left phase (length exchanges + 1) result rest bytes' broken broken_writer
+  pub taken : Taken most input exchanges middle came
+  pub last : Receiving most middle input' rest
+  pub ended : EndsBy most boots answers left phase (length exchanges + 1) result rest last.reads input' broken_writer
   pub written : WritesAs boots answers phase exchanges result old new
 
 -- so far, with this many exchanges
-pub record Serves {S : Type 0} (boots : Boots S) (answers : Answers S) (bytes bytes' old new : Option (List ℕ)) (phase : Phase S) (number : ℕ) : Type 0 where
+pub record Serves {S : Type 0} (most : ℕ) (boots : Boots S) (answers : Answers S) (input input' : Input) (old new : Option (List ℕ)) (phase : Phase S) (number : ℕ) : Type 0 where
   pub exchanges : Exchanges
   pub came : List ℕ
-  pub consumed : Consumes bytes bytes' came
+  pub consumed : Consumes input.remaining input'.remaining came
   pub led : Leads boots answers exchanges phase
   pub asked : stream_of came ≡ Going (requests_of exchanges) []
+  pub taken : Taken most input exchanges input' came
   pub written : Appends old new (replies_of exchanges)
   pub counted : number ≡ length exchanges + 1

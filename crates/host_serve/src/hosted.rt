@@ -85,13 +85,13 @@ pub fn serve<R: Source, W: Sink>(
     reader: &mut R,
     writer: &mut W,
 ) -> Result<Outcome, ServeFault>
-    ensures { Served_host (2 ^ 32) (R.remaining reader.old) (R.remaining reader.new) (W.contents writer.old)
-        (W.contents writer.new) result (R.broken reader.new) (W.broken writer.new) }
+    ensures { Served_host (2 ^ 32) (R.input reader.old) (R.input reader.new) (W.contents writer.old)
+        (W.contents writer.new) result (W.broken writer.new) }
 {
     serve_bounded(alloc, reader, writer, MOST_READS)
 }
 
-/// The same, where a reader is given up that gives so often, from 1 to 2^32 times, without a whole frame.
+/// The same, where a reader is given up after so many reads, from 1 to 2^32, without a whole frame.
 #[tactic(auto, unfolding(crate::specs::Hosted::Served_host))]
 pub fn serve_bounded<R: Source, W: Sink>(
     alloc: Global,
@@ -101,8 +101,8 @@ pub fn serve_bounded<R: Source, W: Sink>(
 ) -> Result<Outcome, ServeFault>
     requires some { 1 ≤ most }
     requires few { most ≤ 2 ^ 32 }
-    ensures { Served_host most (R.remaining reader.old) (R.remaining reader.new) (W.contents writer.old)
-        (W.contents writer.new) result (R.broken reader.new) (W.broken writer.new) }
+    ensures { Served_host most (R.input reader.old) (R.input reader.new) (W.contents writer.old)
+        (W.contents writer.new) result (W.broken writer.new) }
 {
     serve_session::<LocalLink, R, W>(alloc, reader, writer, most)
 }

@@ -54,7 +54,7 @@ pub(crate) fn next_request<R: Source>(
 ) -> Result<Option<Request>, ServeFault>
     requires room { 0 < length room.old }
     requires fresh { feed.old ≡ nothing_fed }
-    ensures next { Next most (R.remaining reader.old) result number (R.remaining reader.new) (R.broken reader.new) }
+    ensures next { Next most (R.input reader.old) result number (R.input reader.new) }
     ensures no_further { IfOk result (λ request. IsSome request → feed.new ≡ nothing_fed) }
 {
     let frame = match receive(reader, feed, room, most) {

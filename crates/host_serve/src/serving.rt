@@ -96,15 +96,16 @@ fn outcome_of<S: Session + Drop>(alloc: Global, phase: &Phase<S>) -> Result<Outc
     }
 }
 
-/// Serves until the end of input, within a frame too, and gives what is left of the run then. The reader may give `most`
-/// times without a whole frame.
+/// Serves until the end of input, within a frame too, and gives what is left of the run then. The reader is given up
+/// after `most` reads without a whole frame.
 pub fn serve_session<S: Session + Drop, R: Source, W: Sink>(
     alloc: Global,
     reader: &mut R,
     writer: &mut W,
     most: u64,
 ) -> Result<Outcome, ServeFault>
-    ensures { Served most S.boots S.answers S.left (R.remaining reader.old) (R.remaining reader.new) (W.contents writer.old) (W.contents writer.new) result (R.broken reader.new) (W.broken writer.new) }
+    ensures { Served most S.boots S.answers S.left (R.input reader.old) (R.input reader.new) (W.contents writer.old)
+        (W.contents writer.new) result (W.broken writer.new) }
 {
     let Ok(mut room) = Vec::from_elem(alloc, 0u8, ROOM) else {
         return Err(ServeFault::Failed);

@@ -1,4 +1,5 @@
 pub mod Gathered
 pub mod Streams
+mod Structs
 pub mod Written
 pub mod Spelled

@@ -1,10 +1,11 @@
 //! Readers and writers of std as ends of a stream.
 
-ghost use Rattle.std.specs.Prelude.{◌≡◌, OnOk, OnErr};
+ghost use Rattle.std.specs.Prelude.{◌≡◌, [], OnOk, OnErr};
 ghost use Rattle.std.specs.Io.KnownBytes.{Appends};
 ghost use Rattle.host_wire.specs.Ends.{AppendsPart};
 
 use crate::ends::{Broken, Sink, Source};
+use crate::history::History;
 use std::io::{ErrorKind, Read, Write};
 
 /// A reader or writer of std that counts its failure, and fails for good once it has.
@@ -12,18 +13,22 @@ use std::io::{ErrorKind, Read, Write};
 pub struct Counted<T> {
     inner: T,
     broken: bool,
+    /// How many bytes each call read.
+    calls: History<usize>,
 }
 
 impl<T> Counted<T> {
-    ghost use Rattle.host_wire.specs.Counting.{faults_of, inner_of};
+    ghost use Rattle.host_wire.specs.Counting.{calls_of, faults_of, inner_of};
 
     pub fn new(inner: T) -> Self
         ensures inner { inner_of result ≡ inner }
         ensures whole { faults_of result ≡ 0 }
+        ensures unread { calls_of result ≡ [] }
     {
         Counted {
             inner,
             broken: false,
+            calls: History::new(),
         }
     }
 
@@ -35,20 +40,23 @@ impl<T> Counted<T> {
 }
 
 impl<R: Read> Source for Counted<R> {
-    ghost use Rattle.host_wire.specs.Counting.{faults_of, inner_of};
+    ghost use Rattle.host_wire.specs.Counting.{input_of};
 
-    ghost remaining = { λ c. R.remaining (inner_of c) };
-
-    ghost broken = { λ c. faults_of c };
+    ghost input = { λ c. input_of R.remaining c };
 
     fn read(&mut self, into: &mut [u8]) -> Result<usize, Broken> {
         if self.broken {
+            self.calls = self.calls.and(&0);
             return Err(Broken);
         }
         match self.inner.read(into) {
-            Ok(count) => Ok(count),
+            Ok(count) => {
+                self.calls = self.calls.and(&count);
+                Ok(count)
+            }
             Err(_) => {
                 self.broken = true;
+                self.calls = self.calls.and(&0);
                 Err(Broken)
             }
         }

@@ -1,29 +1,27 @@
 //! Where bytes come from, and where they go.
 
-ghost use Rattle.std.specs.Prelude.{◌≡◌, ◌≤◌, ℕ, List, Option, length, IfOk, OnOk, OnErr, IsErr, is_ok, if◌then◌else◌};
+ghost use Rattle.std.specs.Prelude.{◌≡◌, ◌≤◌, ℕ, List, [], ◌∷◌, ◌++◌, Option, length, IfOk, OnOk, OnErr, IsErr, is_ok, if◌then◌else◌};
 ghost use Rattle.std.specs.Io.KnownBytes.{Appends, ReadConsumes};
-ghost use Rattle.host_wire.specs.Ends.{AppendsPart};
+ghost use Rattle.host_wire.specs.Ends.{AppendsPart, Input, count_of};
 
 /// The reader or writer failed; every call after that fails too.
 #[derive(Clone, Copy, Debug, PartialEq, Eq)]
 pub struct Broken;
 
-/// A reader, by the bytes that it has left where these are known.
+/// A reader, by the bytes that it has left where these are known, and by how many bytes each read gave.
 pub trait Source {
-    ghost remaining: { Self → Option (List ℕ) };
-
-    /// 1 once it has failed.
-    ghost broken: { Self → ℕ };
+    ghost input: { Self → Input };
 
     /// Reads some bytes to the front of `into`: none only at the end of input, or where `into` is empty.
     fn read(&mut self, into: &mut [u8]) -> Result<usize, Broken>
         ensures within { IfOk result (λ n. n ≤ length into.old) }
-        ensures bytes { ReadConsumes (remaining self.old) (remaining self.new) result into.new }
-        ensures faults { broken self.new ≡ (if is_ok result then broken self.old else 1) }
-        ensures for_good { broken self.old ≡ 1 → IsErr result };
+        ensures bytes { ReadConsumes (input self.old).remaining (input self.new).remaining result into.new }
+        ensures counted { (input self.new).reads ≡ (input self.old).reads ++ count_of result ∷ [] }
+        ensures faults { (input self.new).broken ≡ (if is_ok result then (input self.old).broken else 1) }
+        ensures for_good { (input self.old).broken ≡ 1 → IsErr result };
 
     fn faults(&self) -> u64
-        ensures { result ≡ broken self.now };
+        ensures { result ≡ (input self.now).broken };
 }
 
 /// A writer, by the bytes that it holds where these are known.

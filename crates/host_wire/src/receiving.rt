@@ -30,7 +30,7 @@ pub fn receive<R: Source>(
     most: u64,
 ) -> Result<Option<Frame>, ReceiveFault>
     requires { 0 < length room.old }
-    ensures received { Received most (R.remaining source.old) feed.old result (R.remaining source.new) feed.new (R.broken source.new) }
+    ensures received { Received most (R.input source.old) feed.old result (R.input source.new) feed.new }
     ensures no_further { feed.old.ready ≡ [] → IfOk result (λ frame. IsSome frame → feed.new ≡ nothing_fed) }
 {
     if let Some(frame) = feed.take() {
@@ -54,7 +54,7 @@ fn read_some<R: Source>(
     room: &mut [u8],
 ) -> Result<bool, ReceiveFault>
     requires { 0 < length room.old }
-    ensures { ReadOnce (R.remaining source.old) feed.old result (R.remaining source.new) feed.new (R.broken source.new) }
+    ensures { ReadOnce (R.input source.old) feed.old result (R.input source.new) feed.new }
 {
     let end = feed.missing().min(room.len());
     let into = &mut room[..end];

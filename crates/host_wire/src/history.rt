@@ -1,0 +1,32 @@
+//! What happened, for proofs alone.
+
+ghost use Rattle.std.specs.Prelude.{◌≡◌, List, [], ◌∷◌, ◌++◌};
+ghost use Rattle.std.specs.Borrow.{ftrue};
+
+use std::marker::{Model, PhantomData};
+
+/// A list that only proofs read, as `items`. It takes no memory, and its functions do nothing when they run.
+#[derive(Drop)]
+pub struct History<T> {
+    of: PhantomData<T>,
+    pub ghost items: { List T },
+}
+
+impl<T> Model for History<T> {
+    ghost also_owns = { λ _. ftrue };
+}
+
+impl<T> History<T> {
+    pub fn new() -> History<T>
+        ensures { result.items ≡ [] }
+    {
+        History { of: PhantomData }
+    }
+
+    /// The same, and one more.
+    pub fn and(&self, item: &T) -> History<T>
+        ensures { result.items ≡ self.now.items ++ item.now ∷ [] }
+    {
+        History { of: PhantomData }
+    }
+}
