@@ -32,3 +32,6 @@ is_last _ = false
 
 abbrev pub faults_of : {S : Type 0} → Drilled S → ℕ
 faults_of d = cond d.is_stopped 1 0
+
+abbrev pub puts_of : {S : Type 0} → Drilled S → List ℕ
+puts_of d = d.puts.items

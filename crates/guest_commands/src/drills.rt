@@ -5,7 +5,7 @@ ghost use Rattle.std.specs.Option.{option_copied};
 ghost use Rattle.std.specs.Io.KnownBytes.{Appends};
 ghost use Rattle.guest_commands.specs.Drills as spec;
 
-use host_wire::{Broken, Sink};
+use host_wire::{Broken, History, Sink};
 use std::alloc::{AllocError, Global};
 
 /// What is done to the reply of a number, the first being 1.
@@ -101,6 +101,8 @@ pub struct Drilled<S> {
     drills: Vec<Drill>,
     replies: u64,
     is_stopped: bool,
+    /// How many bytes each put was of.
+    puts: History<usize>,
 }
 
 impl<S> Drilled<S> {
@@ -111,19 +113,23 @@ impl<S> Drilled<S> {
             drills,
             replies: 0,
             is_stopped: false,
+            puts: History::new(),
         }
     }
 }
 
 impl<S: Sink> Sink for Drilled<S> {
     ghost use Rattle.std.specs.Prelude.{None};
-    ghost use Rattle.guest_commands.specs.Drills.{faults_of};
+    ghost use Rattle.guest_commands.specs.Drills.{faults_of, puts_of};
 
     ghost contents = { λ d. None };
+
+    ghost puts = { λ d. puts_of d };
 
     ghost broken = { λ d. faults_of d };
 
     fn put(&mut self, bytes: &[u8]) -> Result<(), Broken> {
+        self.puts = self.puts.and(&bytes.len());
         if self.is_stopped {
             return Err(Broken);
         }

@@ -85,7 +85,8 @@ fault_of (receiving.Wire Body_fault) = Malformed
 -- ---- a request and its reply
 
 -- nothing was read, as the request was not sent; or all of it was, and this came
-abbrev pub Exchanged : ℕ → Frame → Input → Input → Option (List ℕ) → Option (List ℕ) → Result Reply LinkFault → ℕ → Type 0
+abbrev pub Exchanged : ℕ → Frame → Input → Input → Option (List ℕ) → Option (List ℕ) → Result Reply LinkFault → ℕ
+    → Type 0
 Exchanged most sent a b old new result broken_writer =
     (Appends old new (spelled sent) × Came most a result sent b)
     ⊎ ((fault : LinkFault) × ((result ≡ Err fault) × (SentAs (Err fault) sent old new broken_writer × (b ≡ a))))

@@ -126,7 +126,8 @@ impl<P: OpenProcess + Drop> Link for ChildLink<P> {
     ghost use Rattle.host_link.specs.Children.{pipe_of};
     ghost use Rattle.host_link.specs.PipeLinks.{Asks};
 
-    ghost answers = { λ a q r b. Asks (λ e. input_of (λ r. reader_remaining P.Stdout.remaining r) e) (λ e. P.Stdin.contents (inner_of e)) (λ e. faults_of_end e) (pipe_of a) q r (pipe_of b) };
+    ghost answers = { λ a q r b. Asks (λ e. input_of (λ out. reader_remaining P.Stdout.remaining out) e)
+        (λ e. P.Stdin.contents (inner_of e)) (λ e. faults_of_end e) (pipe_of a) q r (pipe_of b) };
 
     ghost given = { λ l. given_of (pipe_of l) };
 

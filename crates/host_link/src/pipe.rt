@@ -122,7 +122,7 @@ pub struct PipeLink<R, W> {
     writer: W,
     feed: Feed,
     room: Vec<u8>,
-    /// How often the reader may give without a whole frame.
+    /// How many reads a frame may take.
     most: u64,
     given: u64,
     is_broken: bool,
@@ -134,7 +134,7 @@ pub struct PipeLink<R, W> {
 impl<R: Source, W: Sink> PipeLink<R, W> {
     ghost use Rattle.host_link.specs.PipeLinks.{reader_of, writer_of, most_of, given_of, is_broken_of};
 
-    /// A link that gives a reader up which gives 2^32 times without a whole frame.
+    /// A link that gives its reader up after 2^32 reads without a whole frame.
     pub fn new(alloc: Global, reader: R, writer: W) -> Result<Self, AllocError>
     where
         R: Drop,
@@ -148,7 +148,7 @@ impl<R: Source, W: Sink> PipeLink<R, W> {
         Self::bounded(alloc, reader, writer, MOST_READS)
     }
 
-    /// A link that gives a reader up which gives so often, from 1 to 2^32 times, without a whole frame.
+    /// A link that gives its reader up after so many reads, from 1 to 2^32, without a whole frame.
     pub fn bounded(alloc: Global, reader: R, writer: W, most: u64) -> Result<Self, AllocError>
     where
         R: Drop,

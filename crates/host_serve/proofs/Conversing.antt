@@ -5,7 +5,7 @@ use Rattle.std.proofs.KnownBytes.{Appends-nil, Appends-trans, Consumes-nil, Cons
 use Rattle.lx_abi.specs.declared.outcome.Outcome.{Outcome}
 use Rattle.lx_abi.specs.declared.ptrace.Reply.{Reply}
 use Rattle.lx_abi.specs.declared.ptrace.Request.{Request}
-use Rattle.host_wire.specs.Ends.{AppendsPart, Input}
+use Rattle.host_wire.specs.Ends.{AppendsPart, Input, IsPut}
 use Rattle.host_frame.specs.Spelling.{spelled, reply_frame}
 use Rattle.host_wire.specs.Streams.{Going, goes_on}
 use Rattle.host_wire.proofs.Gathered.{unread}
@@ -22,6 +22,10 @@ part_behind : (a b c : Option (List ℕ)) (xs ys : List ℕ) → Appends a b xs 
 part_behind a b c xs ys whole part =
     (xs ++ part.0, (part.1.0, (append_assoc xs part.0 part.1.0 ∙ ap (λ (t : List ℕ). xs ++ t) part.1.1.0, Appends-trans a b c xs part.0 whole part.1.1.1)))
 
+-- one put more
+put_more : {a b c sizes : List ℕ} {n : ℕ} → b ≡ a ++ sizes → c ≡ b ++ n ∷ [] → c ≡ a ++ (sizes ++ n ∷ [])
+put_more {a = a} {sizes = sizes} {n = n} so_far more = more ∙ ap (λ (xs : List ℕ). xs ++ n ∷ []) so_far ∙ append_assoc a sizes (n ∷ [])
+
 pub next_is : {b c : Input} {most number : ℕ} {o p : Option Request} → o ≡ p → Next most b (Ok o) number c → Next most b (Ok p) number c
 next_is {b} {c} {most} {number} is n = subst (λ (x : Option Request). Next most b (Ok x) number c) is n
 
@@ -32,14 +36,14 @@ can_answer ready given Refusing due few = tt
 can_answer ready given (Serving s) due few = (due.0, omega (arith, due.1, few))
 
 module _ {S : Type 0} {most : ℕ} {boots : Boots S} {answers : Answers S} where
-  pub starts : (a : Input) (old : Option (List ℕ)) → Serves most boots answers a a old old Waiting 1
+  pub starts : (a : Input) (old : Option (List ℕ)) (puts : List ℕ) → Serves most boots answers a a old old puts puts Waiting 1
   unfolding goes_on
-  starts a old = record { exchanges = []; came = []; consumed = Consumes-nil a.remaining; led = refl; asked = refl; taken = (refl, refl); written = Appends-nil old; counted = refl }
+  starts a old puts = record { exchanges = []; came = []; consumed = Consumes-nil a.remaining; led = refl; asked = refl; taken = (refl, refl); written = (Appends-nil old, sym (append-nil puts)); counted = refl }
 
   -- nothing was read or written
-  pub fails_first : {left : S → Outcome} (a : Input) (old : Option (List ℕ)) (broken_writer : ℕ) → Served most boots answers left a a old old (Err Failed) broken_writer
+  pub fails_first : {left : S → Outcome} (a : Input) (old : Option (List ℕ)) (puts : List ℕ) (broken_writer : ℕ) → Served most boots answers left a a old old puts puts (Err Failed) broken_writer
   unfolding goes_on
-  fails_first a old broken_writer = record {
+  fails_first a old puts broken_writer = record {
     exchanges = [];
     phase = Waiting;
     middle = a;
@@ -51,24 +55,27 @@ module _ {S : Type 0} {most : ℕ} {boots : Boots S} {answers : Answers S} where
     taken = (refl, refl);
     last = unread a;
     ended = tt;
-    written = Appends-nil old;
+    written = (Appends-nil old, sym (append-nil puts));
   }
 
-  pub goes_further : {a b c : Input} {d e f : Option (List ℕ)} {phase : Phase S} {number : ℕ} (next : Phase S) (q : Request) (r : Reply)
-      → Serves most boots answers a b d e phase number → Next most b (Ok (Some q)) number c → Answered boots answers phase q r next → Appends e f (spelled (reply_frame number r)) → Serves most boots answers a c d f next (number + 1)
-  goes_further {a} {b} {c} {d} {e} {f} {phase = phase} {number = number} next q r s n answered sent = record {
+  pub goes_further : {a b c : Input} {d e f : Option (List ℕ)} {u v w : List ℕ} {phase : Phase S} {number broken : ℕ} (next : Phase S) (q : Request) (r : Reply)
+      → Serves most boots answers a b d e u v phase number → Next most b (Ok (Some q)) number c → Answered boots answers phase q r next → SentAs (Ok tt) number r e f v w broken → Serves most boots answers a c d f u w next (number + 1)
+  goes_further {a} {b} {c} {d} {e} {f} {v = v} {w = w} {phase = phase} {number = number} next q r s n answered sent = record {
     exchanges = (q, r) ∷ s.exchanges;
     came = s.came ++ n.came;
     consumed = Consumes-trans a.remaining b.remaining c.remaining s.came n.came s.consumed n.received.consumed;
     led = (phase, (s.led, answered));
     taken = (b, (s.came, (n.came, (refl, (s.taken, (n.received, n.so ∙ ap (λ (k : ℕ). Going (request_frame k q ∷ []) []) s.counted))))));
     asked = frames_join _ s.came n.came _ s.asked (n.so ∙ ap (λ (k : ℕ). Going (request_frame k q ∷ []) []) s.counted);
-    written = Appends-trans d e f _ _ s.written (subst (λ (k : ℕ). Appends e f (spelled (reply_frame k r))) s.counted sent);
+    written = (
+      Appends-trans d e f _ _ s.written.0 (subst (λ (k : ℕ). Appends e f (spelled (reply_frame k r))) s.counted sent.0),
+      put_more s.written.1 (subst (λ (k : ℕ). IsPut v w (spelled (reply_frame k r))) s.counted sent.1),
+    );
     counted = omega (arith, s.counted);
   }
 
-  pub ends_well : {left : S → Outcome} {a b c : Input} {d e : Option (List ℕ)} {phase : Phase S} {number broken_writer : ℕ} (outcome : Outcome)
-      → Serves most boots answers a b d e phase number → Next most b (Ok None) number c → outcome ≡ outcome_at left phase → Served most boots answers left a c d e (Ok outcome) broken_writer
+  pub ends_well : {left : S → Outcome} {a b c : Input} {d e : Option (List ℕ)} {u v : List ℕ} {phase : Phase S} {number broken_writer : ℕ} (outcome : Outcome)
+      → Serves most boots answers a b d e u v phase number → Next most b (Ok None) number c → outcome ≡ outcome_at left phase → Served most boots answers left a c d e u v (Ok outcome) broken_writer
   ends_well {a = a} {b = b} {c = c} {phase = phase} outcome s n is = record {
     exchanges = s.exchanges;
     phase = phase;
@@ -84,8 +91,8 @@ module _ {S : Type 0} {most : ℕ} {boots : Boots S} {answers : Answers S} where
     written = s.written;
   }
 
-  pub ends_failed : {left : S → Outcome} {a b c : Input} {d e : Option (List ℕ)} {phase : Phase S} {number broken_writer : ℕ} {next : Option Request}
-      → Serves most boots answers a b d e phase number → Next most b (Ok next) number c → Served most boots answers left a c d e (Err Failed) broken_writer
+  pub ends_failed : {left : S → Outcome} {a b c : Input} {d e : Option (List ℕ)} {u v : List ℕ} {phase : Phase S} {number broken_writer : ℕ} {next : Option Request}
+      → Serves most boots answers a b d e u v phase number → Next most b (Ok next) number c → Served most boots answers left a c d e u v (Err Failed) broken_writer
   ends_failed {a = a} {b = b} {c = c} {phase = phase} s n = record {
     exchanges = s.exchanges;
     phase = phase;
@@ -101,8 +108,8 @@ module _ {S : Type 0} {most : ℕ} {boots : Boots S} {answers : Answers S} where
     written = s.written;
   }
 
-  pub ends_reading : {left : S → Outcome} {a b c : Input} {d e : Option (List ℕ)} {phase : Phase S} {number broken_writer : ℕ} (fault : ServeFault)
-      → Serves most boots answers a b d e phase number → Next most b (Err fault) number c → Served most boots answers left a c d e (Err fault) broken_writer
+  pub ends_reading : {left : S → Outcome} {a b c : Input} {d e : Option (List ℕ)} {u v : List ℕ} {phase : Phase S} {number broken_writer : ℕ} (fault : ServeFault)
+      → Serves most boots answers a b d e u v phase number → Next most b (Err fault) number c → Served most boots answers left a c d e u v (Err fault) broken_writer
   ends_reading {a = a} {b = b} {c = c} {phase = phase} Read s n = record {
     exchanges = s.exchanges;
     phase = phase;
@@ -161,8 +168,8 @@ module _ {S : Type 0} {most : ℕ} {boots : Boots S} {answers : Answers S} where
     written = s.written;
   }
 
-  pub ends_asked : {left : S → Outcome} {a b c : Input} {d e : Option (List ℕ)} {phase : Phase S} {number broken_writer : ℕ} (fails : Fails S) (q : Request) (fault : ServeFault) (next : Phase S)
-      → Serves most boots answers a b d e phase number → Next most b (Ok (Some q)) number c → Responds boots answers fails phase q (Err fault) next → Served most boots answers left a c d e (Err fault) broken_writer
+  pub ends_asked : {left : S → Outcome} {a b c : Input} {d e : Option (List ℕ)} {u v : List ℕ} {phase : Phase S} {number broken_writer : ℕ} (fails : Fails S) (q : Request) (fault : ServeFault) (next : Phase S)
+      → Serves most boots answers a b d e u v phase number → Next most b (Ok (Some q)) number c → Responds boots answers fails phase q (Err fault) next → Served most boots answers left a c d e u v (Err fault) broken_writer
   ends_asked fails q Read next s n h = absurd h
   ends_asked fails q Write next s n h = absurd h
   ends_asked fails q Wire next s n h = absurd h
@@ -182,11 +189,11 @@ module _ {S : Type 0} {most : ℕ} {boots : Boots S} {answers : Answers S} where
   }
   ends_asked fails q Failed next s n h = ends_failed s n
 
-  pub ends_sending : {left : S → Outcome} {a b c : Input} {d e f : Option (List ℕ)} {phase : Phase S} {number broken_writer : ℕ} (next : Phase S) (q : Request) (r : Reply) (fault : ServeFault)
-      → Serves most boots answers a b d e phase number → Next most b (Ok (Some q)) number c → Answered boots answers phase q r next → SentAs (Err fault) number r e f broken_writer → Served most boots answers left a c d f (Err fault) broken_writer
+  pub ends_sending : {left : S → Outcome} {a b c : Input} {d e f : Option (List ℕ)} {u v w : List ℕ} {phase : Phase S} {number broken_writer : ℕ} (next : Phase S) (q : Request) (r : Reply) (fault : ServeFault)
+      → Serves most boots answers a b d e u v phase number → Next most b (Ok (Some q)) number c → Answered boots answers phase q r next → SentAs (Err fault) number r e f v w broken_writer → Served most boots answers left a c d f u w (Err fault) broken_writer
   ends_sending next q r Read s n answered sent = absurd sent
   ends_sending next q r Order s n answered sent = absurd sent
-  ends_sending {a = a} {b = b} {c = c} {d = d} {e = e} {f = f} {phase = phase} {number = number} next q r Write s n answered sent = record {
+  ends_sending {a = a} {b = b} {c = c} {d = d} {e = e} {f = f} {v = v} {w = w} {phase = phase} {number = number} next q r Write s n answered sent = record {
     exchanges = s.exchanges;
     phase = phase;
     middle = b;
@@ -197,10 +204,12 @@ module _ {S : Type 0} {most : ℕ} {boots : Boots S} {answers : Answers S} where
     asked = s.asked;
     taken = s.taken;
     last = n.received;
-    ended = sent.1;
+    ended = sent.1.1;
     written =
         let part : AppendsPart e f (spelled (reply_frame number r)) = sent.0 in
-        (q, (r, (next, (answered, subst (λ (k : ℕ). AppendsPart d f (replies_of s.exchanges ++ spelled (reply_frame k r))) s.counted (part_behind d e f (replies_of s.exchanges) (spelled (reply_frame number r)) s.written part)))));
+        let all = subst (λ (k : ℕ). AppendsPart d f (replies_of s.exchanges ++ spelled (reply_frame k r))) s.counted (part_behind d e f (replies_of s.exchanges) (spelled (reply_frame number r)) s.written.0 part) in
+        let put = put_more s.written.1 (subst (λ (k : ℕ). IsPut v w (spelled (reply_frame k r))) s.counted sent.1.0) in
+        (q, (r, (next, (answered, (all, put)))));
   }
   ends_sending {a = a} {b = b} {c = c} {d = d} {e = e} {f = f} {phase = phase} next q r Wire s n answered sent = record {
     exchanges = s.exchanges;
@@ -213,8 +222,8 @@ module _ {S : Type 0} {most : ℕ} {boots : Boots S} {answers : Answers S} where
     asked = s.asked;
     taken = s.taken;
     last = n.received;
-    ended = inr (q, (r, (next, (answered, subst (λ (k : ℕ). IsTooLong k r) s.counted sent.1))));
-    written = subst (λ (o : Option (List ℕ)). Appends d o (replies_of s.exchanges)) (sym sent.0) s.written;
+    ended = inr (q, (r, (next, (answered, subst (λ (k : ℕ). IsTooLong k r) s.counted sent.1.1))));
+    written = (subst (λ (o : Option (List ℕ)). Appends d o (replies_of s.exchanges)) (sym sent.0) s.written.0, sent.1.0 ∙ s.written.1);
   }
   ends_sending {a = a} {b = b} {c = c} {d = d} {e = e} {f = f} {phase = phase} next q r Failed s n answered sent = record {
     exchanges = s.exchanges;
@@ -228,11 +237,11 @@ module _ {S : Type 0} {most : ℕ} {boots : Boots S} {answers : Answers S} where
     taken = s.taken;
     last = n.received;
     ended = tt;
-    written = subst (λ (o : Option (List ℕ)). Appends d o (replies_of s.exchanges)) (sym sent) s.written;
+    written = (subst (λ (o : Option (List ℕ)). Appends d o (replies_of s.exchanges)) (sym sent.0) s.written.0, sent.1 ∙ s.written.1);
   }
 
-  pub ends_finished : {left : S → Outcome} {a b c : Input} {d e : Option (List ℕ)} {phase : Phase S} {number broken_writer : ℕ} (result : Result Outcome ServeFault)
-      → Serves most boots answers a b d e phase number → Next most b (Ok None) number c → Finishes result (outcome_at left phase) → Served most boots answers left a c d e result broken_writer
+  pub ends_finished : {left : S → Outcome} {a b c : Input} {d e : Option (List ℕ)} {u v : List ℕ} {phase : Phase S} {number broken_writer : ℕ} (result : Result Outcome ServeFault)
+      → Serves most boots answers a b d e u v phase number → Next most b (Ok None) number c → Finishes result (outcome_at left phase) → Served most boots answers left a c d e u v result broken_writer
   ends_finished (Ok outcome) s n is = ends_well outcome s n is
   ends_finished (Err Failed) s n is = ends_failed s n
   ends_finished (Err Read) s n is = absurd is
@@ -241,7 +250,7 @@ module _ {S : Type 0} {most : ℕ} {boots : Boots S} {answers : Answers S} where
   ends_finished (Err Order) s n is = absurd is
 
   -- there were too many frames
-  pub ends_late : {left : S → Outcome} {a b : Input} {d e : Option (List ℕ)} {phase : Phase S} {number broken_writer : ℕ} → number ≡ 2 ^ 40 + 1 → Serves most boots answers a b d e phase number → Served most boots answers left a b d e (Err Read) broken_writer
+  pub ends_late : {left : S → Outcome} {a b : Input} {d e : Option (List ℕ)} {u v : List ℕ} {phase : Phase S} {number broken_writer : ℕ} → number ≡ 2 ^ 40 + 1 → Serves most boots answers a b d e u v phase number → Served most boots answers left a b d e u v (Err Read) broken_writer
   ends_late {a = a} {b = b} {phase = phase} last s = record {
     exchanges = s.exchanges;
     phase = phase;

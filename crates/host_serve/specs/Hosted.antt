@@ -62,6 +62,9 @@ IsReady l = (faults_of l ≡ 0) × IsIdle l
 abbrev pub left_by : LocalLink → Outcome
 left_by l = outcome_in (host_of l).hosting.running.shared
 
--- a whole run of the host, by so many reads a frame at most: the bytes that are written are the frames of Done and of the link's replies
-unfoldable pub Served_host : ℕ → Input → Input → Option (List ℕ) → Option (List ℕ) → Result Outcome ServeFault → ℕ → Type 0
-Served_host most input input' old new result broken_writer = Served most Boots_by Answers_by left_by input input' old new result broken_writer
+-- a whole run of the host, by so many reads a frame at most: the bytes that are written are the frames of Done and
+-- of the link's replies
+unfoldable pub Served_host : ℕ → Input → Input → Option (List ℕ) → Option (List ℕ) → List ℕ → List ℕ
+    → Result Outcome ServeFault → ℕ → Type 0
+Served_host most input input' old new puts puts' result broken_writer =
+    Served most Boots_by Answers_by left_by input input' old new puts puts' result broken_writer

@@ -34,7 +34,8 @@ NextAs most (Err Order) number reads stream b = (f : Frame) × ((stream ≡ Goin
 NextAs most (Err Write) number reads stream b = ⊥
 NextAs most (Err Failed) number reads stream b = Unit {0}
 
-pub record Next (most : ℕ) (a : Input) (result : Result (Option Request) ServeFault) (number : ℕ) (b : Input) : Type 0 where
+pub record Next (most : ℕ) (a : Input) (result : Result (Option Request) ServeFault) (number : ℕ) (b : Input) :
+    Type 0 where
   pub came : List ℕ
   pub received : Receiving most a b came
   pub so : NextAs most result number received.reads (stream_of came) b

@@ -9,7 +9,7 @@ use Rattle.lx_abi.specs.declared.ptrace.Reply.TheVariants.{Done, Refused}
 use Rattle.lx_abi.specs.declared.ptrace.Request.{Request}
 use Rattle.lx_abi.specs.declared.ptrace.Request.TheVariants.{Boot as Boot_with}
 use Rattle.host_frame.specs.declared.frame.Frame.{Frame}
-use Rattle.host_wire.specs.Ends.{AppendsPart, Input}
+use Rattle.host_wire.specs.Ends.{AppendsPart, Input, IsPut}
 use Rattle.host_wire.specs.Receiving.{IsCutOff, Receiving}
 use Rattle.host_frame.specs.Spelling.{content, spelled, reply_frame}
 use Rattle.host_wire.specs.Streams.{Going, stream_of}
@@ -35,14 +35,18 @@ Fails S = S → Request → S → Type 0
 abbrev pub IsTooLong : ℕ → Reply → Type 0
 IsTooLong number r = 134217728 < length (content (reply_frame number r))
 
--- the reply's frame is written; or its first part, or nothing, at a fault
-abbrev pub SentAs : Result ⊤ ServeFault → ℕ → Reply → Option (List ℕ) → Option (List ℕ) → ℕ → Type 0
-SentAs (Ok u) number r old new broken = Appends old new (spelled (reply_frame number r))
-SentAs (Err Write) number r old new broken = AppendsPart old new (spelled (reply_frame number r)) × (broken ≡ 1)
-SentAs (Err Wire) number r old new broken = (new ≡ old) × IsTooLong number r
-SentAs (Err Failed) number r old new broken = new ≡ old
-SentAs (Err Read) number r old new broken = ⊥
-SentAs (Err Order) number r old new broken = ⊥
+-- the reply's frame is written by one put, which may fail within it; or nothing is
+abbrev pub SentAs : Result ⊤ ServeFault → ℕ → Reply → Option (List ℕ) → Option (List ℕ) → List ℕ → List ℕ → ℕ
+    → Type 0
+SentAs (Ok u) number r old new puts puts' broken =
+    Appends old new (spelled (reply_frame number r)) × IsPut puts puts' (spelled (reply_frame number r))
+SentAs (Err Write) number r old new puts puts' broken =
+    AppendsPart old new (spelled (reply_frame number r))
+    × (IsPut puts puts' (spelled (reply_frame number r)) × (broken ≡ 1))
+SentAs (Err Wire) number r old new puts puts' broken = (new ≡ old) × ((puts' ≡ puts) × IsTooLong number r)
+SentAs (Err Failed) number r old new puts puts' broken = (new ≡ old) × (puts' ≡ puts)
+SentAs (Err Read) number r old new puts puts' broken = ⊥
+SentAs (Err Order) number r old new puts puts' broken = ⊥
 
 -- ---- a conversation
 
@@ -112,11 +116,17 @@ abbrev pub replies_of : Exchanges → List ℕ
 replies_of [] = []
 replies_of (x ∷ xs) = replies_of xs ++ spelled (reply_frame (length xs + 1) x.1)
 
+-- how many bytes each of these frames has
+abbrev pub sizes_of : Exchanges → List ℕ
+sizes_of [] = []
+sizes_of (x ∷ xs) = sizes_of xs ++ length (spelled (reply_frame (length xs + 1) x.1)) ∷ []
+
 -- the bytes of the requests, each of which came by so many reads at most
 abbrev pub Taken : ℕ → Input → Exchanges → Input → List ℕ → Type 0
 Taken most a [] b came = (b ≡ a) × (came ≡ [])
 Taken most a (x ∷ xs) b came = (mid : Input) × ((before : List ℕ) × ((own : List ℕ) × ((came ≡ before ++ own)
-    × (Taken most a xs mid before × (Receiving most mid b own × (stream_of own ≡ Going (request_frame (length xs + 1) x.0 ∷ []) []))))))
+    × (Taken most a xs mid before × (Receiving most mid b own
+    × (stream_of own ≡ Going (request_frame (length xs + 1) x.0 ∷ []) []))))))
 
 -- ---- a whole run of a host
 
@@ -134,9 +144,11 @@ Finishes (Err Write) wanted = ⊥
 Finishes (Err Wire) wanted = ⊥
 Finishes (Err Order) wanted = ⊥
 
--- what ended it: `rest` is what was read after the requests that were answered, and `reads` how much each read of it gave
-abbrev pub EndsBy : {S : Type 0} → ℕ → Boots S → Answers S → (S → Outcome) → Phase S → ℕ → Result Outcome ServeFault → List ℕ → List ℕ → Input → ℕ → Type 0
-EndsBy most boots answers left phase number (Ok outcome) rest reads b broken_writer = (tail : List ℕ) × ((stream_of rest ≡ Going [] tail) × IsAtEnd b.remaining × (outcome ≡ outcome_at left phase))
+-- what ended it: `rest` is what was read after the requests that were answered, `reads` how much each read of it gave
+abbrev pub EndsBy : {S : Type 0} → ℕ → Boots S → Answers S → (S → Outcome) → Phase S → ℕ → Result Outcome ServeFault
+    → List ℕ → List ℕ → Input → ℕ → Type 0
+EndsBy most boots answers left phase number (Ok outcome) rest reads b broken_writer =
+    (tail : List ℕ) × ((stream_of rest ≡ Going [] tail) × IsAtEnd b.remaining × (outcome ≡ outcome_at left phase))
 EndsBy most boots answers left phase number (Err Read) rest reads b broken_writer =
     ((tail : List ℕ) × ((stream_of rest ≡ Going [] tail) × IsCutOff most reads b)) ⊎ (number ≡ 2 ^ 40 + 1)
 EndsBy {S} most boots answers left phase number (Err Wire) rest reads b broken_writer =
@@ -146,17 +158,25 @@ EndsBy most boots answers left phase number (Err Order) rest reads b broken_writ
 EndsBy most boots answers left phase number (Err Write) rest reads b broken_writer = broken_writer ≡ 1
 EndsBy most boots answers left phase number (Err Failed) rest reads b broken_writer = Unit {0}
 
--- the replies are written whole; a write that failed wrote a first part of the next
-abbrev pub WritesAs : {S : Type 0} → Boots S → Answers S → Phase S → Exchanges → Result Outcome ServeFault → Option (List ℕ) → Option (List ℕ) → Type 0
-WritesAs boots answers phase xs (Ok outcome) old new = Appends old new (replies_of xs)
-WritesAs boots answers phase xs (Err Read) old new = Appends old new (replies_of xs)
-WritesAs boots answers phase xs (Err Wire) old new = Appends old new (replies_of xs)
-WritesAs boots answers phase xs (Err Order) old new = Appends old new (replies_of xs)
-WritesAs boots answers phase xs (Err Failed) old new = Appends old new (replies_of xs)
-WritesAs {S} boots answers phase xs (Err Write) old new =
-    (q : Request) × ((r : Reply) × ((next : Phase S) × (Answered boots answers phase q r next × AppendsPart old new (replies_of ((q, r) ∷ xs)))))
+-- these replies were written, each by one put
+abbrev pub AreWritten : Exchanges → Option (List ℕ) → Option (List ℕ) → List ℕ → List ℕ → Type 0
+AreWritten xs old new puts puts' = Appends old new (replies_of xs) × (puts' ≡ puts ++ sizes_of xs)
 
-pub record Served {S : Type 0} (most : ℕ) (boots : Boots S) (answers : Answers S) (left : S → Outcome) (input input' : Input) (old new : Option (List ℕ)) (result : Result Outcome ServeFault) (broken_writer : ℕ) : Type 0 where
+-- the replies are written whole; a put that failed wrote a first part of the next
+abbrev pub WritesAs : {S : Type 0} → Boots S → Answers S → Phase S → Exchanges → Result Outcome ServeFault
+    → Option (List ℕ) → Option (List ℕ) → List ℕ → List ℕ → Type 0
+WritesAs boots answers phase xs (Ok outcome) old new puts puts' = AreWritten xs old new puts puts'
+WritesAs boots answers phase xs (Err Read) old new puts puts' = AreWritten xs old new puts puts'
+WritesAs boots answers phase xs (Err Wire) old new puts puts' = AreWritten xs old new puts puts'
+WritesAs boots answers phase xs (Err Order) old new puts puts' = AreWritten xs old new puts puts'
+WritesAs boots answers phase xs (Err Failed) old new puts puts' = AreWritten xs old new puts puts'
+WritesAs {S} boots answers phase xs (Err Write) old new puts puts' =
+    (q : Request) × ((r : Reply) × ((next : Phase S) × (Answered boots answers phase q r next
+    × (AppendsPart old new (replies_of ((q, r) ∷ xs)) × (puts' ≡ puts ++ sizes_of ((q, r) ∷ xs))))))
+
+pub record Served {S : Type 0} (most : ℕ) (boots : Boots S) (answers : Answers S) (left : S → Outcome)
+    (input input' : Input) (old new : Option (List ℕ)) (puts puts' : List ℕ) (result : Result Outcome ServeFault)
+    (broken_writer : ℕ) : Type 0 where
   pub exchanges : Exchanges
   pub phase : Phase S
   -- the reader behind the last request that was answered
@@ -169,15 +189,16 @@ pub record Served {S : Type 0} (most : ℕ) (boots : Boots S) (answers : Answers
   pub taken : Taken most input exchanges middle came
   pub last : Receiving most middle input' rest
   pub ended : EndsBy most boots answers left phase (length exchanges + 1) result rest last.reads input' broken_writer
-  pub written : WritesAs boots answers phase exchanges result old new
+  pub written : WritesAs boots answers phase exchanges result old new puts puts'
 
 -- so far, with this many exchanges
-pub record Serves {S : Type 0} (most : ℕ) (boots : Boots S) (answers : Answers S) (input input' : Input) (old new : Option (List ℕ)) (phase : Phase S) (number : ℕ) : Type 0 where
+pub record Serves {S : Type 0} (most : ℕ) (boots : Boots S) (answers : Answers S) (input input' : Input)
+    (old new : Option (List ℕ)) (puts puts' : List ℕ) (phase : Phase S) (number : ℕ) : Type 0 where
   pub exchanges : Exchanges
   pub came : List ℕ
   pub consumed : Consumes input.remaining input'.remaining came
   pub led : Leads boots answers exchanges phase
   pub asked : stream_of came ≡ Going (requests_of exchanges) []
   pub taken : Taken most input exchanges input' came
-  pub written : Appends old new (replies_of exchanges)
+  pub written : AreWritten exchanges old new puts puts'
   pub counted : number ≡ length exchanges + 1

@@ -1,4 +1,4 @@
-//! Replies to a writer, each in one write.
+//! Replies to a writer, each by one put.
 
 ghost use Rattle.std.specs.Prelude.{◌≡◌};
 ghost use Rattle.host_serve.specs.Serving.{SentAs};
@@ -15,7 +15,8 @@ pub(crate) fn send<W: Sink>(
     number: u64,
     reply: Reply,
 ) -> Result<(), ServeFault>
-    ensures { SentAs result number reply (W.contents writer.old) (W.contents writer.new) (W.broken writer.new) }
+    ensures { SentAs result number reply (W.contents writer.old) (W.contents writer.new) (W.puts writer.old)
+        (W.puts writer.new) (W.broken writer.new) }
 {
     let frame = Frame {
         number,

@@ -86,7 +86,7 @@ pub fn serve<R: Source, W: Sink>(
     writer: &mut W,
 ) -> Result<Outcome, ServeFault>
     ensures { Served_host (2 ^ 32) (R.input reader.old) (R.input reader.new) (W.contents writer.old)
-        (W.contents writer.new) result (W.broken writer.new) }
+        (W.contents writer.new) (W.puts writer.old) (W.puts writer.new) result (W.broken writer.new) }
 {
     serve_bounded(alloc, reader, writer, MOST_READS)
 }
@@ -102,7 +102,7 @@ pub fn serve_bounded<R: Source, W: Sink>(
     requires some { 1 ≤ most }
     requires few { most ≤ 2 ^ 32 }
     ensures { Served_host most (R.input reader.old) (R.input reader.new) (W.contents writer.old)
-        (W.contents writer.new) result (W.broken writer.new) }
+        (W.contents writer.new) (W.puts writer.old) (W.puts writer.new) result (W.broken writer.new) }
 {
     serve_session::<LocalLink, R, W>(alloc, reader, writer, most)
 }

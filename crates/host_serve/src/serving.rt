@@ -105,7 +105,7 @@ pub fn serve_session<S: Session + Drop, R: Source, W: Sink>(
     most: u64,
 ) -> Result<Outcome, ServeFault>
     ensures { Served most S.boots S.answers S.left (R.input reader.old) (R.input reader.new) (W.contents writer.old)
-        (W.contents writer.new) result (W.broken writer.new) }
+        (W.contents writer.new) (W.puts writer.old) (W.puts writer.new) result (W.broken writer.new) }
 {
     let Ok(mut room) = Vec::from_elem(alloc, 0u8, ROOM) else {
         return Err(ServeFault::Failed);

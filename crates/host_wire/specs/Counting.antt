@@ -9,7 +9,7 @@ inner_of c = c.inner
 abbrev pub faults_of : {T : Type 0} → Counted T → ℕ
 faults_of c = cond c.broken 1 0
 
--- how many bytes each call read
+-- how many bytes each read gave, or each put was of
 abbrev pub calls_of : {T : Type 0} → Counted T → List ℕ
 calls_of c = c.calls.items
 

@@ -26,7 +26,8 @@ IsCutOff most reads b = (b.broken ≡ 1) ⊎ ((length reads ≡ most) × All (λ
 abbrev pub ReceivedAs : ℕ → Result (Option Frame) ReceiveFault → List ℕ → Stream → Feeding → Input → Type 0
 ReceivedAs most (Ok (Some f)) reads stream after b = stream ≡ Going (f ∷ after.ready) after.under_way
 ReceivedAs most (Ok None) reads stream after b = (stream ≡ as_stream after) × (after.ready ≡ []) × IsAtEnd b.remaining
-ReceivedAs most (Err Read) reads stream after b = (stream ≡ as_stream after) × (after.ready ≡ []) × IsCutOff most reads b
+ReceivedAs most (Err Read) reads stream after b = (stream ≡ as_stream after) × (after.ready ≡ [])
+    × IsCutOff most reads b
 ReceivedAs most (Err (Wire fault)) reads stream after b = FailsAs Failed fault stream
 
 -- one read of bytes that were fed; false at the end of input
@@ -37,14 +38,16 @@ ReadAs (Err Read) came stream after b = (stream ≡ as_stream after) × (came �
 ReadAs (Err (Wire fault)) came stream after b = FailsAs Failed fault stream
 
 -- one read, no byte past the frame under way
-pub record ReadOnce (a : Input) (before : Feeding) (result : Result Bool ReceiveFault) (b : Input) (after : Feeding) : Type 0 where
+pub record ReadOnce (a : Input) (before : Feeding) (result : Result Bool ReceiveFault) (b : Input)
+    (after : Feeding) : Type 0 where
   pub came : List ℕ
   pub consumed : Consumes a.remaining b.remaining came
   pub counted : b.reads ≡ a.reads ++ length came ∷ []
   pub few : before.ready ≡ [] → OnOk result (HasOne after)
   pub so : ReadAs result came (fed before came) after b
 
-pub record Received (most : ℕ) (a : Input) (before : Feeding) (result : Result (Option Frame) ReceiveFault) (b : Input) (after : Feeding) : Type 0 where
+pub record Received (most : ℕ) (a : Input) (before : Feeding) (result : Result (Option Frame) ReceiveFault)
+    (b : Input) (after : Feeding) : Type 0 where
   pub came : List ℕ
   pub received : Receiving most a b came
   pub so : ReceivedAs most result received.reads (fed before came) after b

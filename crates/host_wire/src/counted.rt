@@ -13,7 +13,7 @@ use std::io::{ErrorKind, Read, Write};
 pub struct Counted<T> {
     inner: T,
     broken: bool,
-    /// How many bytes each call read.
+    /// How many bytes each read gave, or each put was of.
     calls: History<usize>,
 }
 
@@ -105,13 +105,16 @@ fn write_out<W: Write>(writer: &mut W, bytes: &[u8]) -> Result<(), Broken>
 }
 
 impl<W: Write> Sink for Counted<W> {
-    ghost use Rattle.host_wire.specs.Counting.{faults_of, inner_of};
+    ghost use Rattle.host_wire.specs.Counting.{calls_of, faults_of, inner_of};
 
     ghost contents = { λ c. W.contents (inner_of c) };
+
+    ghost puts = { λ c. calls_of c };
 
     ghost broken = { λ c. faults_of c };
 
     fn put(&mut self, bytes: &[u8]) -> Result<(), Broken> {
+        self.calls = self.calls.and(&bytes.len());
         if self.broken {
             return Err(Broken);
         }

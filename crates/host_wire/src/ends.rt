@@ -2,7 +2,7 @@
 
 ghost use Rattle.std.specs.Prelude.{◌≡◌, ◌≤◌, ℕ, List, [], ◌∷◌, ◌++◌, Option, length, IfOk, OnOk, OnErr, IsErr, is_ok, if◌then◌else◌};
 ghost use Rattle.std.specs.Io.KnownBytes.{Appends, ReadConsumes};
-ghost use Rattle.host_wire.specs.Ends.{AppendsPart, Input, count_of};
+ghost use Rattle.host_wire.specs.Ends.{AppendsPart, Input, IsPut, count_of};
 
 /// The reader or writer failed; every call after that fails too.
 #[derive(Clone, Copy, Debug, PartialEq, Eq)]
@@ -24,9 +24,12 @@ pub trait Source {
         ensures { result ≡ (input self.now).broken };
 }
 
-/// A writer, by the bytes that it holds where these are known.
+/// A writer, by the bytes that it holds where these are known, and by how many bytes each put was of.
 pub trait Sink {
     ghost contents: { Self → Option (List ℕ) };
+
+    /// How many bytes each put was of, one that failed too.
+    ghost puts: { Self → List ℕ };
 
     /// 1 once it has failed.
     ghost broken: { Self → ℕ };
@@ -35,6 +38,7 @@ pub trait Sink {
     fn put(&mut self, bytes: &[u8]) -> Result<(), Broken>
         ensures whole { OnOk result (Appends (contents self.old) (contents self.new) bytes.now) }
         ensures part { OnErr result (AppendsPart (contents self.old) (contents self.new) bytes.now) }
+        ensures counted { IsPut (puts self.old) (puts self.new) bytes.now }
         ensures faults { broken self.new ≡ (if is_ok result then broken self.old else 1) }
         ensures for_good { broken self.old ≡ 1 → IsErr result };
 

@@ -12,14 +12,14 @@ use thiserror::Error;
 /// Why no frame was received.
 #[derive(Clone, Copy, Debug, PartialEq, Eq, Error)]
 pub enum ReceiveFault {
-    /// The reader failed, or has given too often without a whole frame.
+    /// The reader failed, or was read too often without a whole frame.
     #[error("a frame could not be read")]
     Read,
     #[error("{0}")]
     Wire(WireFault),
 }
 
-/// How often a reader may give without a whole frame, where nothing else is said.
+/// How many reads a frame may take, where nothing else is said.
 pub const MOST_READS: u64 = 1 << 32;
 
 /// Reads until a frame is whole, `most` times at most and no byte past it; none at the end of input.

@@ -25,6 +25,8 @@ impl<S> Lines<S> {
 impl<S: Sink> Sink for Lines<S> {
     ghost contents = { λ l. S.contents l.sink };
 
+    ghost puts = { λ l. S.puts l.sink };
+
     ghost broken = { λ l. S.broken l.sink };
 
     fn put(&mut self, bytes: &[u8]) -> Result<(), Broken> {

@@ -4,7 +4,7 @@ ghost use Rattle.std.specs.Prelude.{◌≡◌, []};
 ghost use Rattle.trace_run.specs.Writings.{writing};
 
 use containers::Bytes;
-use host_wire::{Broken, Sink};
+use host_wire::{Broken, History, Sink};
 use std::alloc::Global;
 use std::marker::Model;
 
@@ -13,6 +13,8 @@ use std::marker::Model;
 pub struct Written {
     bytes: Bytes,
     broken: bool,
+    /// How many bytes each put was of.
+    puts: History<usize>,
 }
 
 impl Model for Written {
@@ -20,7 +22,7 @@ impl Model for Written {
 
     ghost Value = { Writing };
 
-    ghost view = { λ w. record { bytes = w.bytes; is_broken = w.broken } };
+    ghost view = { λ w. record { bytes = w.bytes; is_broken = w.broken; puts = w.puts.items } };
 }
 
 impl Written {
@@ -30,6 +32,7 @@ impl Written {
         Written {
             bytes: Bytes::new(alloc),
             broken: false,
+            puts: History::new(),
         }
     }
 
@@ -46,9 +49,12 @@ impl Sink for Written {
 
     ghost contents = { λ w. Some w.bytes };
 
+    ghost puts = { λ w. w.puts };
+
     ghost broken = { λ w. faults_of w.is_broken };
 
     fn put(&mut self, bytes: &[u8]) -> Result<(), Broken> {
+        self.puts = self.puts.and(&bytes.len());
         if self.broken {
             return Err(Broken);
         }

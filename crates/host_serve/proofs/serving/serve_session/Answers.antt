@@ -3,10 +3,10 @@ use Rattle.host_serve.proofs.Conversing.{can_answer, fails_first, starts, goes_f
 use Rattle.host_serve.proofs.serving.serve_session.Goals as goal
 
 pub returns-in_default : goal.returns-in_default
-returns-in_default g c = fails_first _ _ _
+returns-in_default g c = fails_first _ _ _ _
 
 pub loop-number-init : goal.loop-number-init
-loop-number-init g c = record { serves = starts _ _; due = refl; fresh = c.new-feed.ensures; room = omega (arith, c.in-Ok.ensures.len) }
+loop-number-init g c = record { serves = starts _ _ _; due = refl; fresh = c.new-feed.ensures; room = omega (arith, c.in-Ok.ensures.len) }
 
 pub returns-in-Err : goal.returns-in-Err
 returns-in-Err g c = ends_reading c.in-Err.fault c.loop-number.invariant.serves c.in-Err.ensures.next
