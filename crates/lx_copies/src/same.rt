@@ -1,0 +1,39 @@
+//! Whether two values are the same.
+
+ghost use Rattle.std.specs.Prelude.{◌≡◌, true};
+
+use containers::Bytes;
+
+/// Values that can be compared.
+pub trait Same {
+    /// True exactly where both are the same value.
+    fn same(&self, other: &Self) -> bool
+        ensures found { result ≡ true → self.now ≡ other.now }
+        ensures equal { self.now ≡ other.now → result ≡ true };
+}
+
+impl Same for Bytes {
+    fn same(&self, other: &Bytes) -> bool {
+        self.as_slice() == other.as_slice()
+    }
+}
+
+/// As many values, each the same.
+pub fn same_list<T: Same>(one: &[T], other: &[T]) -> bool
+    ensures found { result ≡ true → one.now ≡ other.now }
+    ensures equal { one.now ≡ other.now → result ≡ true }
+{
+    let mut rest = other;
+    for x in one {
+        match rest.split_first() {
+            None => return false,
+            Some((y, after)) => {
+                if !x.same(y) {
+                    return false;
+                }
+                rest = after;
+            }
+        }
+    }
+    rest.is_empty()
+}
