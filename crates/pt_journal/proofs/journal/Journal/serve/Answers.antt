@@ -1,0 +1,14 @@
+use Rattle.std.proofs.Common.{◌++◌, [], ◌∷◌, Some, ap, ◌∙◌}
+use Rattle.lx_abi.specs.declared.schedule.Event.TheVariants as event
+use Rattle.pt_journal.specs.Rows.{entries_of}
+use Rattle.pt_journal.specs.declared.entry.Entry.TheVariants as entry
+use Rattle.pt_journal.specs.declared.row.Row.TheVariants as row
+use Rattle.pt_journal.proofs.Growing.{entries_of-append}
+use Rattle.pt_journal.proofs.journal.Journal.serve.Goals as goal
+
+pub returns-clause-ok : goal.returns-clause-ok
+returns-clause-ok c =
+    ap entries_of c.in_ok-push.ensures.items
+    ∙ entries_of-append c.self.inside.rows.items (row.Served c.in_ok-place.place)
+    ∙ ap (λ t. t ++ entry.Did event.Serve (Some c.in_ok-place.place.value) ∷ []) c.self.view_is
+    ∙ ap (λ r. c.args.self.now ++ entry.Did event.Serve (Some r) ∷ []) c.in_ok-place.ensures.ok

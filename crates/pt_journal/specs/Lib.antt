@@ -1,0 +1,4 @@
+pub mod Journals
+pub mod Told
+pub mod Telling
+pub mod Rows
