@@ -2,9 +2,9 @@
 
 use crate::plan::Plan;
 use clap::ArgMatches;
-use containers::{Bytes, Seq};
 use front_end::{Fault, explain_turns, read_expressions};
-use lx_abi::{Boot, GuestFile, Word};
+use lx_abi::{Boot, Word};
+use lx_copies::Copied;
 use lx_kernel::Kernel;
 use pt_kernel::{Schedule, TurnRun, Turns};
 use std::alloc::{AllocError, Global};
@@ -17,36 +17,6 @@ pub struct Again {
     boot: Boot,
     turns: Vec<Word>,
     limit: u64,
-}
-
-fn copy_words(alloc: Global, words: &[Bytes]) -> Result<Seq<Bytes>, AllocError> {
-    let mut copy = Seq::new(alloc);
-    for word in words {
-        copy.push(Bytes::from_slice(alloc, word.as_slice())?)?;
-    }
-    Ok(copy)
-}
-
-fn copy_files(alloc: Global, files: &[GuestFile]) -> Result<Seq<GuestFile>, AllocError> {
-    let mut copy = Seq::new(alloc);
-    for file in files {
-        copy.push(GuestFile {
-            path: Bytes::from_slice(alloc, file.path.as_slice())?,
-            content: Bytes::from_slice(alloc, file.content.as_slice())?,
-        })?;
-    }
-    Ok(copy)
-}
-
-fn copy_boot(alloc: Global, boot: &Boot) -> Result<Boot, AllocError> {
-    Ok(Boot {
-        limits: boot.limits,
-        files: copy_files(alloc, boot.files.as_slice())?,
-        argv: copy_words(alloc, boot.argv.as_slice())?,
-        env: copy_words(alloc, boot.env.as_slice())?,
-        input: Bytes::from_slice(alloc, boot.input.as_slice())?,
-        follow: boot.follow,
-    })
 }
 
 fn copy_turns(alloc: Global, turns: &[Word]) -> Result<Vec<Word>, AllocError> {
@@ -83,7 +53,7 @@ fn replayed(mut kernel: Kernel, turns: &Turns) -> Result<Kernel, Fault> {
 impl Again {
     pub fn of(alloc: Global, plan: &Plan, limit: u64) -> Result<Self, AllocError> {
         Ok(Again {
-            boot: copy_boot(alloc, &plan.boot)?,
+            boot: plan.boot.copy(alloc)?,
             turns: copy_turns(alloc, plan.turns.as_slice())?,
             limit,
         })
@@ -99,7 +69,7 @@ impl Again {
             width: 0,
         };
         let schedule = Schedule::words(copy_turns(alloc, self.turns.as_slice())?, self.limit);
-        let boot = copy_boot(alloc, &self.boot)?;
+        let boot = self.boot.copy(alloc)?;
         match run_local(alloc, boot, schedule, expressions.script, options) {
             Ok(run) => Ok(run.turns),
             Err(_) => Err(Fault::Memory),
@@ -110,7 +80,7 @@ impl Again {
     fn kernel(&self, alloc: Global, matches: &ArgMatches) -> Result<Kernel, Fault> {
         let turns = self.turns(alloc, matches)?;
         let script = read_expressions(alloc, matches)?.script;
-        match Kernel::boot(alloc, copy_boot(alloc, &self.boot)?, script) {
+        match Kernel::boot(alloc, self.boot.copy(alloc)?, script) {
             Ok(kernel) => replayed(kernel, &turns),
             Err(_) => Err(Fault::Memory),
         }
