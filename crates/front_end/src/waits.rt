@@ -52,8 +52,8 @@ fn waiting(alloc: Global, kernel: &Kernel) -> Result<Vec<u32>, AllocError> {
     Ok(pids)
 }
 
-/// Why a run that left this kernel is out of turns: its limit on what is counted, events or turns, or the calls that its
-/// processes wait in.
+/// Why a run that left this kernel is out of turns: its limit on what is counted, events or turns, or the calls that
+/// its processes wait in.
 pub fn explain_turns(
     alloc: Global,
     kernel: &Kernel,

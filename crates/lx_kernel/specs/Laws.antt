@@ -21,7 +21,8 @@ use Rattle.lx_proc.specs.WaitWords.{Words}
 -- process 1 begins in its first program, and is alone
 abbrev pub BootsAreFirst : Type 0
 BootsAreFirst = (boot : Boot) (script : List Rule) →
-    (first_run boot script).running ≡ first_running (first_shared boot.limits boot.files boot.input) (booted boot.argv boot.env)
+    (first_run boot script).running
+    ≡ first_running (first_shared boot.limits boot.files boot.input) (booted boot.argv boot.env)
 
 -- a turn of the kernel is the definition's
 abbrev pub TurnsAreSteps : Type 0

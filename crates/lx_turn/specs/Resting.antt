@@ -44,8 +44,8 @@ rests s p Gone = true
 
 -- Turns.
 
--- a call that leaves others as they are, and clone, where the child's pid is free: else its entry takes the place of one
--- that some process may wait for
+-- a call that leaves others as they are, and clone, where the child's pid is free: else its entry takes the place of
+-- one that some process may wait for
 abbrev pub is_calm_number : Shared → ℕ → ℕ → Bool
 is_calm_number s child n = has_effects n calm || ((n == sys_clone) && is_none (maps.get s.entries child))
 

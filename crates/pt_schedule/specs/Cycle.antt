@@ -12,7 +12,9 @@ found_or None q = q
 
 -- those above the last one up to the last pid, then those up to it
 unfoldable pub next_able : (ℕ → Bool) → ℕ → ℕ → Option ℕ
-next_able able last_pid last = found_or (first_able able (min last last_pid + 1) (last_pid - min last last_pid)) (first_able able 1 (min last last_pid))
+next_able able last_pid last =
+    found_or (first_able able (min last last_pid + 1) (last_pid - min last last_pid))
+    (first_able able 1 (min last last_pid))
 
 -- a place where a search goes on above a pid: none before it is able, and none at all where there is no such place
 abbrev pub IsNextPlace : (ℕ → Bool) → ℕ → Option ℕ → Type 0

@@ -41,7 +41,15 @@ abbrev pub listed : List Event → Schedule
 listed events = record { order = order.Listed (record { events = events; left = most_events }) }
 
 abbrev pub worded : List Word → ℕ → Schedule
-worded words limit = record { order = order.Worded (record { words = words; serving = true; returning = None; row = None; left = min limit most_events }) }
+worded words limit = record {
+  order = order.Worded (record {
+    words = words;
+    serving = true;
+    returning = None;
+    row = None;
+    left = min limit most_events;
+  });
+}
 
 -- by the words of a text
 abbrev pub scheduled : List ℕ → ℕ → Option Schedule
@@ -61,7 +69,10 @@ left_in_row p None = most_in_a_row - 1
 left_in_row p (Some r) = cond (r.pid == p) (r.left - 1) (most_in_a_row - 1)
 
 abbrev pub turn_with : Worded → ℕ → ℕ → Given Worded
-turn_with w p left = record { event = Some (Turn p); schedule = record w { row = Some (record { pid = p; left = left }); left = w.left - 1 } }
+turn_with w p left = record {
+  event = Some (Turn p);
+  schedule = record w { row = Some (record { pid = p; left = left }); left = w.left - 1 };
+}
 
 abbrev pub turn_of : Worded → ℕ → Given Worded
 turn_of w p = turn_with w p (left_in_row p w.row)
@@ -81,7 +92,9 @@ next_row w (Some p) = turn_with w p (most_in_a_row - 1)
 -- the row goes on where its process is able and had fewer turns than a row may have
 abbrev pub go_on : Worded → Readiness → Option Row → Given Worded
 go_on w seen None = next_row w (next_able seen.able seen.last_pid 0)
-go_on w seen (Some r) = cond (seen.able r.pid && nat_lt 0 r.left) (turn_with w r.pid (r.left - 1)) (next_row w (next_able seen.able seen.last_pid r.pid))
+go_on w seen (Some r) =
+    cond (seen.able r.pid && nat_lt 0 r.left) (turn_with w r.pid (r.left - 1))
+    (next_row w (next_able seen.able seen.last_pid r.pid))
 
 abbrev pub by_default : Worded → Readiness → Given Worded
 by_default w seen = cond seen.ready (serve_of w) (go_on w seen w.row)
@@ -93,7 +106,12 @@ by_word w seen [] = by_default (record w { serving = true; returning = None }) s
 by_word w seen (word.Turn p ∷ ws) = turn_of (record w { words = ws; serving = true; returning = None }) p
 by_word w seen (word.TurnAlone p ∷ ws) = turn_of (record w { words = ws; serving = false; returning = None }) p
 by_word w seen (word.Serve ∷ ws) = serve_of (record w { words = ws; serving = false; returning = None })
-by_word w seen (word.UntilReturn p ∷ ws) = turn_of (record w { words = ws; serving = true; returning = Some (record { pid = p; finished = seen.finished p }) }) p
+by_word w seen (word.UntilReturn p ∷ ws) =
+    turn_of (record w {
+      words = ws;
+      serving = true;
+      returning = Some (record { pid = p; finished = seen.finished p });
+    }) p
 
 -- `p.` goes on: p is able, and its last turn has not left Finished
 abbrev pub goes_on : Readiness → Returning → Bool
@@ -101,10 +119,15 @@ goes_on seen r = seen.able r.pid && not (r.finished && not (seen.finished r.pid)
 
 abbrev pub after_serves : Worded → Readiness → Option Returning → Given Worded
 after_serves w seen None = by_word w seen w.words
-after_serves w seen (Some r) = cond (goes_on seen r) (turn_of (record w { returning = Some (record r { finished = seen.finished r.pid }) }) r.pid) (by_word w seen w.words)
+after_serves w seen (Some r) =
+    cond (goes_on seen r)
+    (turn_of (record w { returning = Some (record r { finished = seen.finished r.pid }) }) r.pid)
+    (by_word w seen w.words)
 
 abbrev pub next_worded : Worded → Readiness → Given Worded
-next_worded w seen = cond (w.left == 0) (end_of w) (cond (w.serving && seen.ready) (serve_of w) (after_serves w seen w.returning))
+next_worded w seen =
+    cond (w.left == 0) (end_of w)
+    (cond (w.serving && seen.ready) (serve_of w) (after_serves w seen w.returning))
 
 -- A list of events gives these
 

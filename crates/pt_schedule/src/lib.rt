@@ -1,7 +1,7 @@
 //! Schedules: which event of a traced host, or turn of an untraced kernel, comes next.
 #![tactic(auto)]
 
-mod cycle;
+pub mod cycle;
 pub mod laws;
 pub mod queue;
 pub mod schedule;
@@ -9,6 +9,7 @@ pub mod system;
 mod untraced;
 mod worded;
 
+pub use cycle::next_able;
 pub use queue::TurnQueue;
 pub use schedule::{Schedule, TurnRun};
 pub use system::Schedulable;

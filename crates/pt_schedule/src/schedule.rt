@@ -100,7 +100,8 @@ impl Schedule {
 
     /// As `words` by those of a text; a text is refused as `parse_words` refuses it.
     pub fn parse(alloc: Global, text: &str, limit: u64) -> Result<Self, ScheduleFault>
-        ensures { MatchResult result (λ schedule. Some schedule ≡ scheduled text.now limit) (λ fault. IsRefusal fault (words_of text.now)) }
+        ensures { MatchResult result (λ schedule. Some schedule ≡ scheduled text.now limit)
+            (λ fault. IsRefusal fault (words_of text.now)) }
     {
         match parse_words(alloc, text) {
             Ok(words) => Ok(Schedule::words(words, limit)),

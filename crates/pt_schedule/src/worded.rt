@@ -124,7 +124,8 @@ impl Worded {
         returning: Option<Returning>,
     ) -> Option<Event>
         requires { 0 < self.old.left }
-        ensures { record { event = result; schedule = self.new } ≡ turn_of (record self.old { serving = serving; returning = returning }) pid }
+        ensures { record { event = result; schedule = self.new }
+            ≡ turn_of (record self.old { serving = serving; returning = returning }) pid }
     {
         self.serving = serving;
         self.returning = returning;
