@@ -52,6 +52,7 @@ test:
 	tests/faults
 	tests/served
 	tests/limits
+	tests/refused
 	tests/hostile
 
 # Proves what an edit changed.
