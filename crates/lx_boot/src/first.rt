@@ -6,7 +6,7 @@ ghost use Rattle.lx_boot.specs.First.{first_entry as entry_of_first, first_fds a
 ghost use Rattle.lx_exec.specs.Programs.{start_size};
 ghost use Rattle.lx_abi.specs.Limits.{start_limit};
 
-use containers::{Bytes, Map};
+use containers::Bytes;
 use lx_abi::{GuestFile, Limits};
 use lx_exec::begin_stub;
 use lx_files::plant;
@@ -14,6 +14,7 @@ use lx_model::{Stage, Task};
 use lx_open::{Description, FdTable, Object, PipeBuffer};
 use lx_proc::{Entry, Life, ProcessLimits, Shared, Table, UserState, WaitWords};
 use lx_sig::Signals;
+use shelves::Shelf;
 use std::alloc::{AllocError, Global};
 
 /// Process 1 has no parent, is in the root, and nothing is pending.
@@ -96,12 +97,12 @@ pub fn first_tasks(
     alloc: Global,
     argv: &[Bytes],
     env: &[Bytes],
-) -> Result<Map<Task<UserState>>, AllocError>
+) -> Result<Shelf<Task<UserState>>, AllocError>
     requires { start_size argv.now env.now ≤ start_limit }
     ensures { IfOk result (λ o. o ≡ tasks_at_first argv.now env.now) }
 {
     let user = begin_stub(alloc, argv, env)?;
-    let mut tasks = Map::new(alloc);
+    let mut tasks = Shelf::new(alloc);
     tasks.insert(
         1,
         Task::Alive {

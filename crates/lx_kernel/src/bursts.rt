@@ -10,11 +10,11 @@ ghost use Rattle.lx_model.specs.Finite.{at};
 ghost use Rattle.lx_model.specs.declared.stage.Task.TheVariants as Task;
 ghost use Rattle.lx_model.specs.declared.stage.Task.TheVariants.{Gone};
 
-use containers::Map;
 use lx_model::{Stage, Task};
 use lx_proc::{Shared, UserState, make_again};
 use lx_sig::{is_pending, next};
 use rv_hart::DecodedCode;
+use shelves::Shelf;
 use std::alloc::AllocError;
 
 /// Runs instructions, at most so many: how many ran.
@@ -94,7 +94,7 @@ fn is_undisturbed(shared: &Shared, pid: u32) -> bool
 /// Turns of a process while each begins and ends in Run, at most so many: how many there were.
 pub fn run(
     shared: &Shared,
-    tasks: &mut Map<Task<UserState>>,
+    tasks: &mut Shelf<Task<UserState>>,
     decoder: &mut DecodedCode,
     pid: u32,
     limit: u64,

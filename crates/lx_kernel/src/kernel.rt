@@ -31,12 +31,13 @@ use crate::run_queue::{Hints, RunQueue};
 use crate::scheduling::{can_turn_at, next_in_cycle};
 use crate::tracing::Change;
 use crate::{bursts, tracing};
-use containers::{Bytes, Map};
+use containers::Bytes;
 use lx_abi::{Cause, Item, Mode, Occurrences, Outcome, RegisterSet, Registers, Script, Signal};
 use lx_model::{PtraceEvent, Stage, Task};
 use lx_proc::{ProcessLimits, Shared, UserState};
 use lx_turn::{Injection, Transition, is_killed, mode_of_gone, turn_task};
 use rv_hart::DecodedCode;
+use shelves::Shelf;
 use std::alloc::{AllocError, Global};
 use std::marker::Model;
 
@@ -62,14 +63,14 @@ pub struct Moved {
 
 /// A process leaves the table.
 #[inline(never)]
-fn remove(tasks: &mut Map<Task<UserState>>, pid: u32)
+fn remove(tasks: &mut Shelf<Task<UserState>>, pid: u32)
     ensures { tasks.new ≡ maps.remove tasks.old pid }
 {
     tasks.remove(pid);
 }
 
 /// Who is gone leaves the table.
-fn remove_gone(tasks: &mut Map<Task<UserState>>, pid: u32, gone: bool)
+fn remove_gone(tasks: &mut Shelf<Task<UserState>>, pid: u32, gone: bool)
     ensures { tasks.new ≡ without_gone tasks.old pid gone }
 {
     if gone {
@@ -81,7 +82,7 @@ fn remove_gone(tasks: &mut Map<Task<UserState>>, pid: u32, gone: bool)
 fn turn_at(
     alloc: Global,
     shared: &mut Shared,
-    tasks: &mut Map<Task<UserState>>,
+    tasks: &mut Shelf<Task<UserState>>,
     injection: &Injection,
     child: u32,
     pid: u32,
@@ -114,7 +115,7 @@ fn turn_at(
 /// A child's body stands under its pid.
 #[inline(never)]
 fn place_user(
-    tasks: &mut Map<Task<UserState>>,
+    tasks: &mut Shelf<Task<UserState>>,
     child: u32,
     user: Box<UserState>,
 ) -> Result<(), AllocError>
@@ -128,7 +129,7 @@ fn place_user(
 
 /// A child that is born has a part of its own, under the next pid.
 fn place_child(
-    tasks: &mut Map<Task<UserState>>,
+    tasks: &mut Shelf<Task<UserState>>,
     child: &mut u32,
     last_pid: u16,
     done: PtraceEvent<Box<UserState>>,
@@ -155,7 +156,7 @@ fn place_child(
 pub struct Kernel {
     alloc: Global,
     shared: Shared,
-    tasks: Map<Task<UserState>>,
+    tasks: Shelf<Task<UserState>>,
     run_queue: RunQueue,
     /// The next pid.
     child: u32,
@@ -186,7 +187,7 @@ impl Model for Kernel {
 }
 
 /// Where a process stands.
-fn mode_of(shared: &Shared, tasks: &Map<Task<UserState>>, pid: u32) -> Option<Mode>
+fn mode_of(shared: &Shared, tasks: &Shelf<Task<UserState>>, pid: u32) -> Option<Mode>
     ensures { result ≡ task_mode_of (maps.get shared.now.entries pid) (at Gone tasks.now pid) }
 {
     match tasks.get(pid) {
@@ -199,7 +200,7 @@ fn mode_of(shared: &Shared, tasks: &Map<Task<UserState>>, pid: u32) -> Option<Mo
 /// Where a process stands after a turn that did this, where it stood so before a child was placed.
 fn mode_after(
     shared: &Shared,
-    tasks: &Map<Task<UserState>>,
+    tasks: &Shelf<Task<UserState>>,
     pid: u32,
     event: PtraceEvent<u32>,
     mode: Option<Mode>,
@@ -249,7 +250,7 @@ impl Kernel {
     pub(crate) fn new(
         alloc: Global,
         shared: Shared,
-        tasks: Map<Task<UserState>>,
+        tasks: Shelf<Task<UserState>>,
         decoder: DecodedCode,
         script: Script,
         follow: bool,

@@ -16,17 +16,17 @@ ghost use Rattle.lx_turn.specs.Resting.{rests as rests_in};
 ghost use Rattle.lx_turn.specs.Turned.{unboxed};
 ghost use Rattle.lx_kernel.specs.Sleeping.{IsWatched, IsSameBut, AreListed, Watch, welcomed};
 
-use containers::Map;
 use lx_model::{PtraceEvent, Task};
 use lx_proc::{Shared, UserState};
 use lx_turn::rests;
+use shelves::Shelf;
 use std::alloc::Global;
 
 /// The processes that may be able, and those that wait in a call, which a search passes over.
 #[derive(Drop)]
 pub struct RunQueue {
-    pub awake: Map<()>,
-    pub asleep: Map<()>,
+    pub awake: Shelf<()>,
+    pub asleep: Shelf<()>,
     /// No memory was refused to the sets. Once some was, they say nothing, and a search looks at each process.
     pub known: bool,
 }
@@ -41,7 +41,7 @@ pub struct Hints {
 }
 
 /// The process has no part of its own.
-fn is_absent(tasks: &Map<Task<UserState>>, pid: u32) -> bool
+fn is_absent(tasks: &Shelf<Task<UserState>>, pid: u32) -> bool
     ensures { result ≡ is_none (maps.get tasks.now pid) }
 {
     tasks.get(pid).is_none()
@@ -49,7 +49,7 @@ fn is_absent(tasks: &Map<Task<UserState>>, pid: u32) -> bool
 
 /// The process waits in a call, or is gone.
 #[tactic(auto, unfolding(lx_turn::specs::Resting::rests))]
-fn rests_at(shared: &Shared, tasks: &Map<Task<UserState>>, pid: u32) -> bool
+fn rests_at(shared: &Shared, tasks: &Shelf<Task<UserState>>, pid: u32) -> bool
     ensures { result ≡ rests_in shared.now pid (at Gone tasks.now pid) }
 {
     match tasks.get(pid) {
@@ -70,8 +70,8 @@ impl RunQueue {
         ensures { result ≡ record { awake = maps.empty; asleep = maps.empty; known = true } }
     {
         RunQueue {
-            awake: Map::new(alloc),
-            asleep: Map::new(alloc),
+            awake: Shelf::new(alloc),
+            asleep: Shelf::new(alloc),
             known: true,
         }
     }
@@ -139,7 +139,7 @@ impl RunQueue {
     }
 
     /// The process is put into its set.
-    fn sort(&mut self, shared: &Shared, tasks: &Map<Task<UserState>>, pid: u32, hints: Hints)
+    fn sort(&mut self, shared: &Shared, tasks: &Shelf<Task<UserState>>, pid: u32, hints: Hints)
         ensures itself { self.new.known ≡ true → IsWatched self.new shared.now pid (at Gone tasks.now pid) }
         ensures others { self.new.known ≡ true → IsSameBut self.old self.new pid }
     {
@@ -153,7 +153,7 @@ impl RunQueue {
     }
 
     /// Those wake who no longer rest.
-    fn wake_stirred(&mut self, shared: &Shared, tasks: &Map<Task<UserState>>)
+    fn wake_stirred(&mut self, shared: &Shared, tasks: &Shelf<Task<UserState>>)
         requires { self.old.known ≡ true → AreListed self.old tasks.now }
         ensures { Watch self.new shared.now tasks.now }
     {
@@ -165,7 +165,7 @@ impl RunQueue {
     }
 
     /// A process that another's turn may have roused is put into its set.
-    pub fn rouse(&mut self, shared: &Shared, tasks: &Map<Task<UserState>>, pid: u32, roused: u32)
+    pub fn rouse(&mut self, shared: &Shared, tasks: &Shelf<Task<UserState>>, pid: u32, roused: u32)
         requires { self.old.known ≡ true → AreListed self.old tasks.now }
         ensures listed { self.new.known ≡ true → AreListed self.new tasks.now }
         ensures itself { self.new.known ≡ true → (roused ≡ pid → ⊥)
@@ -181,7 +181,7 @@ impl RunQueue {
     pub fn pass(
         &mut self,
         shared: &Shared,
-        tasks: &Map<Task<UserState>>,
+        tasks: &Shelf<Task<UserState>>,
         pid: u32,
         calm: bool,
         hints: Hints,

@@ -4,14 +4,14 @@ ghost use Rattle.std.specs.Prelude.{◌≡◌, ◌+◌};
 ghost use Rattle.lx_kernel.specs.Scheduling.{IsFirstFrom, IsNextIn, can_turn_in};
 ghost use Rattle.lx_kernel.specs.Sleeping.{AllRest};
 
-use containers::Map;
 use lx_model::Task;
 use lx_proc::{Shared, UserState};
 use lx_turn::can_turn;
+use shelves::Shelf;
 
 /// A turn of the process does something.
 #[tactic(auto, unfolding(lx_turn::specs::Blocking::can_turn))]
-pub fn can_turn_at(shared: &Shared, tasks: &Map<Task<UserState>>, pid: u32) -> bool
+pub fn can_turn_at(shared: &Shared, tasks: &Shelf<Task<UserState>>, pid: u32) -> bool
     ensures { result ≡ can_turn_in shared.now tasks.now pid }
 {
     match tasks.get(pid) {
@@ -23,8 +23,8 @@ pub fn can_turn_at(shared: &Shared, tasks: &Map<Task<UserState>>, pid: u32) -> b
 /// The first process above a pid that can take a turn. Each that rests may be left out of the keys.
 fn next_able<V>(
     shared: &Shared,
-    tasks: &Map<Task<UserState>>,
-    keys: &Map<V>,
+    tasks: &Shelf<Task<UserState>>,
+    keys: &Shelf<V>,
     after: u32,
 ) -> Option<u32>
     requires { AllRest keys.now shared.now tasks.now }
@@ -41,7 +41,7 @@ fn next_able<V>(
 }
 
 /// The first process that can take a turn.
-fn first_able<V>(shared: &Shared, tasks: &Map<Task<UserState>>, keys: &Map<V>) -> Option<u32>
+fn first_able<V>(shared: &Shared, tasks: &Shelf<Task<UserState>>, keys: &Shelf<V>) -> Option<u32>
     requires { AllRest keys.now shared.now tasks.now }
     ensures { IsFirstFrom shared.now tasks.now 0 result }
 {
@@ -55,8 +55,8 @@ fn first_able<V>(shared: &Shared, tasks: &Map<Task<UserState>>, keys: &Map<V>) -
 /// The first process above a pid that can take a turn, or else the first of all.
 pub fn next_in_cycle<V>(
     shared: &Shared,
-    tasks: &Map<Task<UserState>>,
-    keys: &Map<V>,
+    tasks: &Shelf<Task<UserState>>,
+    keys: &Shelf<V>,
     after: u32,
 ) -> Option<u32>
     requires { AllRest keys.now shared.now tasks.now }

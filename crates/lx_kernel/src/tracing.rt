@@ -6,16 +6,17 @@ ghost use Rattle.lx_model.specs.declared.stage.Task.TheVariants.{Gone};
 ghost use Rattle.lx_kernel.specs.Tracing.{regs_of, peek_of, signal_of, with_regs, with_change};
 ghost use Rattle.lx_kernel.specs.Tracing.{with_part_at, IsPart, changed};
 
-use containers::{Bytes, Map};
+use containers::Bytes;
 use lx_abi::{Cause, RegisterSet, Registers, Signal};
 use lx_model::{Stage, Task};
 use lx_proc::{UserState, registers_of, set_registers};
+use shelves::Shelf;
 use std::alloc::{AllocError, Global};
 
 /// pc and x1 to x31 of a process that lives.
 pub fn regs(
     alloc: Global,
-    tasks: &Map<Task<UserState>>,
+    tasks: &Shelf<Task<UserState>>,
     pid: u32,
 ) -> Result<Option<RegisterSet>, AllocError>
     ensures { IfOk result (λ registers. registers ≡ regs_of (at Gone tasks.now pid)) }
@@ -31,7 +32,7 @@ pub fn regs(
 
 /// The bytes from an address on, up to the first that is not mapped.
 pub fn peek(
-    tasks: &Map<Task<UserState>>,
+    tasks: &Shelf<Task<UserState>>,
     pid: u32,
     address: u64,
     length: usize,
@@ -48,7 +49,7 @@ pub fn peek(
 }
 
 /// The signal that a process has taken, and why it came.
-pub fn signal(tasks: &Map<Task<UserState>>, pid: u32) -> Option<(Signal, Cause)>
+pub fn signal(tasks: &Shelf<Task<UserState>>, pid: u32) -> Option<(Signal, Cause)>
     ensures { result ≡ signal_of (at Gone tasks.now pid) }
 {
     match tasks.get(pid) {
@@ -70,7 +71,7 @@ fn set_task_regs(task: &mut Task<UserState>, registers: &Registers) -> bool
 }
 
 /// Sets pc and x1 to x31 of a process that lives.
-pub fn set_regs(tasks: &mut Map<Task<UserState>>, pid: u32, registers: &Registers) -> bool
+pub fn set_regs(tasks: &mut Shelf<Task<UserState>>, pid: u32, registers: &Registers) -> bool
     ensures part { tasks.new ≡ with_part_at tasks.old pid (with_regs registers.now (at Gone tasks.old pid)) }
     ensures there { result ≡ is_some (with_regs registers.now (at Gone tasks.old pid)) }
 {
@@ -119,7 +120,7 @@ fn change_task(task: &mut Task<UserState>, change: Change) -> bool
 }
 
 /// Changes where a process stands that lives: false, and nothing is changed, where it can't be so.
-pub fn set_stage(tasks: &mut Map<Task<UserState>>, pid: u32, change: Change) -> bool
+pub fn set_stage(tasks: &mut Shelf<Task<UserState>>, pid: u32, change: Change) -> bool
     ensures part { tasks.new ≡ with_part_at tasks.old pid (with_change change (at Gone tasks.old pid)) }
     ensures there { result ≡ is_some (with_change change (at Gone tasks.old pid)) }
 {

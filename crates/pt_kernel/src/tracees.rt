@@ -9,17 +9,17 @@ ghost use Rattle.pt_model.specs.Requests.{told};
 ghost use Rattle.pt_kernel.specs.Tracees.{stopped_at, with_newborn, with_birth, attached, after_turn, waited, tells, took, seized};
 
 use crate::queue::ReportQueue;
-use containers::Map;
 use lx_abi::{Errno, EventStop, Reply, Stop, TraceOptions};
 use lx_model::PtraceEvent;
 use pt_model::{Report, Traced};
+use shelves::Shelf;
 use std::alloc::{AllocError, Global};
 
 /// Process 1 and the tracees, and what Wait has to tell of them.
 #[derive(Drop)]
 pub struct Tracees {
     /// Process 1, and the tracees; those that have ended stay.
-    pub traced: Map<Traced>,
+    pub traced: Shelf<Traced>,
     /// The stops that Wait hasn't told of, in the order in which they arose.
     pub queue: ReportQueue<Report>,
     /// The tracees whose end wasn't waited for, in the order in which they came.
@@ -62,7 +62,7 @@ impl Tracees {
               pids = [];
             }) }
     {
-        let mut traced = Map::new(alloc);
+        let mut traced = Shelf::new(alloc);
         traced.insert(
             1,
             Traced {
