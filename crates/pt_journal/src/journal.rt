@@ -1,6 +1,7 @@
 //! A journal that grows.
 
-ghost use Rattle.std.specs.Prelude.{◌≡◌, ◌++◌, [], ◌∷◌, Some, None, true, OnOk, OnErr, IfSome, MatchOption, if◌then◌else◌};
+ghost use Rattle.std.specs.Prelude.{◌≡◌, ◌++◌, [], ◌∷◌, Some, None, true};
+ghost use Rattle.std.specs.Prelude.{OnOk, OnErr, IfSome, MatchOption, if◌then◌else◌};
 ghost use Rattle.lx_abi.specs.declared.schedule.Event.TheVariants as event;
 ghost use Rattle.pt_journal.specs.declared.entry.Entry.TheVariants as entry;
 ghost use Rattle.pt_journal.specs.Rows.{entries_of, with_turn, Passes, Belies};
