@@ -1,2 +1,3 @@
 pub mod Conversing
+mod Nexts
 mod Ready

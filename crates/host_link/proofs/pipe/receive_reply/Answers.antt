@@ -1,5 +1,8 @@
-use Rattle.host_link.proofs.Replies.{nothing_left, reply_received, where_ok}
+use Rattle.host_link.proofs.Replies.{nothing_left, reply_failed, reply_received, where_ok}
 use Rattle.host_link.proofs.pipe.receive_reply.Goals as goal
+
+pub returns-in-Err-clause-came : goal.returns-in-Err-clause-came
+returns-in-Err-clause-came g c = rw c.fault_of.ensures (reply_failed c.in-Err.fault c.args.sent.now c.requires.fresh c.in-Err.ensures.received)
 
 pub returns-clause-came : goal.returns-clause-came
 returns-clause-came g c =
