@@ -23,8 +23,8 @@ part_behind a b c xs ys whole part =
     (xs ++ part.0, (part.1.0, (append_assoc xs part.0 part.1.0 ∙ ap (λ (t : List ℕ). xs ++ t) part.1.1.0, Appends-trans a b c xs part.0 whole part.1.1.1)))
 
 -- one put more
-put_more : {a b c sizes : List ℕ} {n : ℕ} → b ≡ a ++ sizes → c ≡ b ++ n ∷ [] → c ≡ a ++ (sizes ++ n ∷ [])
-put_more {a = a} {sizes = sizes} {n = n} so_far more = more ∙ ap (λ (xs : List ℕ). xs ++ n ∷ []) so_far ∙ append_assoc a sizes (n ∷ [])
+put_more : (a sizes : List ℕ) (n : ℕ) {b c : List ℕ} → b ≡ a ++ sizes → c ≡ b ++ n ∷ [] → c ≡ a ++ (sizes ++ n ∷ [])
+put_more a sizes n so_far more = more ∙ ap (λ (xs : List ℕ). xs ++ n ∷ []) so_far ∙ append_assoc a sizes (n ∷ [])
 
 pub next_is : {b c : Input} {most number : ℕ} {o p : Option Request} → o ≡ p → Next most b (Ok o) number c → Next most b (Ok p) number c
 next_is {b} {c} {most} {number} is n = subst (λ (x : Option Request). Next most b (Ok x) number c) is n
@@ -58,8 +58,8 @@ module _ {S : Type 0} {most : ℕ} {boots : Boots S} {answers : Answers S} where
     written = (Appends-nil old, sym (append-nil puts));
   }
 
-  pub goes_further : {a b c : Input} {d e f : Option (List ℕ)} {u v w : List ℕ} {phase : Phase S} {number broken : ℕ} (next : Phase S) (q : Request) (r : Reply)
-      → Serves most boots answers a b d e u v phase number → Next most b (Ok (Some q)) number c → Answered boots answers phase q r next → SentAs (Ok tt) number r e f v w broken → Serves most boots answers a c d f u w next (number + 1)
+  pub goes_further : {a b c : Input} {d e f : Option (List ℕ)} {u v w : List ℕ} {phase : Phase S} {number : ℕ} (next : Phase S) (q : Request) (r : Reply)
+      → Serves most boots answers a b d e u v phase number → Next most b (Ok (Some q)) number c → Answered boots answers phase q r next → SentAs (Ok tt) number r e f v w 0 → Serves most boots answers a c d f u w next (number + 1)
   goes_further {a} {b} {c} {d} {e} {f} {v = v} {w = w} {phase = phase} {number = number} next q r s n answered sent = record {
     exchanges = (q, r) ∷ s.exchanges;
     came = s.came ++ n.came;
@@ -69,7 +69,7 @@ module _ {S : Type 0} {most : ℕ} {boots : Boots S} {answers : Answers S} where
     asked = frames_join _ s.came n.came _ s.asked (n.so ∙ ap (λ (k : ℕ). Going (request_frame k q ∷ []) []) s.counted);
     written = (
       Appends-trans d e f _ _ s.written.0 (subst (λ (k : ℕ). Appends e f (spelled (reply_frame k r))) s.counted sent.0),
-      put_more s.written.1 (subst (λ (k : ℕ). IsPut v w (spelled (reply_frame k r))) s.counted sent.1),
+      put_more _ _ _ s.written.1 (subst (λ (k : ℕ). IsPut v w (spelled (reply_frame k r))) s.counted sent.1),
     );
     counted = omega (arith, s.counted);
   }
@@ -208,7 +208,7 @@ module _ {S : Type 0} {most : ℕ} {boots : Boots S} {answers : Answers S} where
     written =
         let part : AppendsPart e f (spelled (reply_frame number r)) = sent.0 in
         let all = subst (λ (k : ℕ). AppendsPart d f (replies_of s.exchanges ++ spelled (reply_frame k r))) s.counted (part_behind d e f (replies_of s.exchanges) (spelled (reply_frame number r)) s.written.0 part) in
-        let put = put_more s.written.1 (subst (λ (k : ℕ). IsPut v w (spelled (reply_frame k r))) s.counted sent.1.0) in
+        let put = put_more _ _ _ s.written.1 (subst (λ (k : ℕ). IsPut v w (spelled (reply_frame k r))) s.counted sent.1.0) in
         (q, (r, (next, (answered, (all, put)))));
   }
   ends_sending {a = a} {b = b} {c = c} {d = d} {e = e} {f = f} {phase = phase} next q r Wire s n answered sent = record {
