@@ -1,0 +1,84 @@
+//! Journals: what is put into them, as rows, and which requests and replies they tell.
+
+use lx_abi::{Reply, Request, Status};
+use pt_journal::{Journal, Row};
+use std::alloc::{AllocError, Global};
+use std::test::Fail;
+
+const STOP: Reply = Reply::Status {
+    pid: 1,
+    status: Status { word: 0x857f },
+};
+
+/// The journal of a Wait that was answered after turns of process 1 and one of 2, and of Outcome, which wasn't.
+fn journal(alloc: Global) -> Result<Journal, AllocError> {
+    let mut journal = Journal::new(alloc);
+    journal.ask(Request::Wait)?;
+    for _ in 0..1000 {
+        journal.turn(1)?;
+    }
+    journal.turn(2)?;
+    journal.serve(STOP)?;
+    journal.ask(Request::Outcome)?;
+    Ok(journal)
+}
+
+/// A letter for a row.
+fn letter(row: &Row) -> char {
+    match row {
+        Row::Asked(_) => 'a',
+        Row::Turned(_) => 't',
+        Row::Served(_) => 's',
+    }
+}
+
+/// Turns of a process in a row are one row, however many.
+#[test]
+fn turns_in_a_row_are_one(rt: HostRuntime) -> Result<(), Fail> {
+    let journal = journal(rt.alloc())?;
+    let mut shown = String::new(rt.alloc());
+    for row in journal.rows() {
+        shown.push(letter(row))?;
+    }
+    assert_eq!(rt; shown.as_str(), "attsa");
+    let turns = match journal.rows().get(1) {
+        Some(Row::Turned(row)) => row.turns,
+        _ => 0,
+    };
+    assert_eq!(rt; turns, 1000);
+    Ok(())
+}
+
+/// Requests and replies, by a letter for each pair.
+fn given(alloc: Global, letters: &str) -> Result<Vec<(Request, Reply)>, AllocError> {
+    let mut given = Vec::new(alloc);
+    for letter in letters.chars() {
+        given.push(match letter {
+            's' => (Request::Wait, STOP),
+            'd' => (Request::Wait, Reply::Done),
+            'w' => (Request::Wait, Reply::OutOfTurns),
+            'o' => (Request::Outcome, Reply::OutOfTurns),
+            _ => (Request::Outcome, Reply::Done),
+        })?;
+    }
+    Ok(given)
+}
+
+#[test]
+fn what_was_asked_is_told(rt: HostRuntime) -> Result<(), Fail> {
+    let journal = journal(rt.alloc())?;
+    for (letters, told) in [
+        ("so", true),
+        ("s", false),
+        ("", false),
+        ("sO", false),
+        ("do", false),
+        ("sw", false),
+        ("soo", false),
+        ("wo", false),
+    ] {
+        let given = given(rt.alloc(), letters)?;
+        assert_eq!(rt; journal.tells(given.as_slice()), told);
+    }
+    Ok(())
+}
