@@ -1,2 +1,4 @@
 pub mod Nodes
 pub mod Ordered
+pub mod Shuffled
+pub mod Nearest

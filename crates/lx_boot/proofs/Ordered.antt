@@ -1,6 +1,6 @@
 -- Neighbours in order tell of all.
 use Rattle.std.proofs.Common.{◌≡◌, ℕ, Bool, true, false, Option, Some, None, List, [], ◌∷◌, length, take, get_or, refl, sym, ap, ◌∙◌, eqb, arith, if◌then◌else◌, bytes_eq, ⊎_elim, ◌⊎◌, inl, inr, subst}
-use Rattle.std.specs.Prelude.{IfSome, ◌&&◌, ◌||◌, ◌==◌, not, nat_lt}
+use Rattle.std.specs.Prelude.{IfSome, ◌&&◌, ◌||◌, ◌==◌, not, nat_le, nat_lt}
 use Rattle.std.specs.List.{list_any, IsDistinct, AllByRecursion}
 use Rattle.std.specs.Cmp.Lexicographic.{pointwise}
 use Rattle.std.specs.List.Sorted.{IsPermutation}
@@ -12,7 +12,10 @@ use Rattle.lx_abi.specs.declared.boot.GuestFile.{GuestFile}
 use Rattle.lx_boot.specs.declared.neighbours.Told.{Told}
 use Rattle.lx_boot.specs.Boots.{is_bad_path, is_misplaced, has_bad_path, has_duplicate}
 use Rattle.lx_boot.specs.Paths.{is_under}
-use Rattle.lx_boot.specs.Neighbours.{rank, precedes, under_next, twice_next, has_under, IsTold}
+use Rattle.lx_abi.specs.Limits.{most_nodes}
+use Rattle.lx_boot.specs.Limits.{nodes}
+use Rattle.lx_boot.proofs.Shuffled.{nodes_again}
+use Rattle.lx_boot.specs.Neighbours.{rank, precedes, AreOrdered, under_next, twice_next, has_under, IsTold}
 
 -- paths in order
 
@@ -72,10 +75,6 @@ not_same (a ∷ x) [] h = refl
 not_same (a ∷ x) (b ∷ y) h = differ a b (precedes false x y) (bytes_eq x y) (not_same x y) h
 
 -- files in order: each path precedes those behind it
-
-pub AreOrdered : Bool → List GuestFile → Type 0
-AreOrdered t [] = Unit
-AreOrdered t (f ∷ files) = AllByRecursion (λ g. precedes t f.path g.path ≡ true) files × AreOrdered t files
 
 behind : (t : Bool) (f g : GuestFile) (files : List GuestFile) → precedes t f.path g.path ≡ true → AllByRecursion (λ h. precedes t g.path h.path ≡ true) files → AllByRecursion (λ h. precedes t f.path h.path ≡ true) files
 behind t f g [] p all = tt
@@ -231,14 +230,20 @@ pub told_again : (xs ys : List GuestFile) (told : Told) → IsPermutation xs ys 
 told_again xs ys told h k = record {
   under = subst (λ b. IfSome told.under (λ x. x ≡ b)) (sym (under_again xs ys h)) k.under;
   twice = subst (λ b. IfSome told.twice (λ x. x ≡ b)) (sym (twice_again xs ys h)) k.twice;
+  few = subst (λ n. IfSome told.few (λ x. x ≡ nat_le n most_nodes)) (nodes_again xs ys h) k.few;
 }
 
-pub told_of : (all : List GuestFile) (f : GuestFile) (files : List GuestFile) (u t : Option Bool) → all ≡ f ∷ files → u ≡ under_next f files → t ≡ twice_next f files → IsTold all (record { under = u; twice = t })
-told_of all f files u t e p q =
-    subst (λ (l : List GuestFile). IsTold l (record { under = u; twice = t })) (sym e) (record {
-      under = subst (λ (r : Option Bool). IfSome r (λ b. b ≡ has_under (f ∷ files))) (sym p) (under_told f files);
-      twice = subst (λ (r : Option Bool). IfSome r (λ b. b ≡ has_duplicate (f ∷ files))) (sym q) (twice_told f files);
-    })
+pub told_of : (all : List GuestFile) (f : GuestFile) (files : List GuestFile) (u t w : Option Bool) → all ≡ f ∷ files → u ≡ under_next f files → t ≡ twice_next f files
+    → IfSome w (λ b. b ≡ nat_le (nodes all) most_nodes) → IsTold all (record { under = u; twice = t; few = w })
+told_of all f files u t w e p q r = record {
+  under = subst (λ (l : List GuestFile). IfSome u (λ b. b ≡ has_under l)) (sym e) (subst (λ (r : Option Bool). IfSome r (λ b. b ≡ has_under (f ∷ files))) (sym p) (under_told f files));
+  twice = subst (λ (l : List GuestFile). IfSome t (λ b. b ≡ has_duplicate l)) (sym e) (subst (λ (r : Option Bool). IfSome r (λ b. b ≡ has_duplicate (f ∷ files))) (sym q) (twice_told f files));
+  few = r;
+}
+
+-- where none lies under the one before it, the files are in order
+pub in_order_where : (all : List GuestFile) (f : GuestFile) (files : List GuestFile) (u : Option Bool) → all ≡ f ∷ files → u ≡ under_next f files → u ≡ Some false → AreOrdered true all
+in_order_where all f files u e p h = subst (AreOrdered true) (sym e) (next_in_order f files (sym p ∙ h))
 
 -- bad paths apart from those under others
 

@@ -1,9 +1,11 @@
 -- What neighbours tell of files, in an order of their paths in which a path stands before those under it.
-use Rattle.std.specs.Prelude.{◌≡◌, ℕ, ◌+◌, Bool, true, false, not, ◌==◌, nat_lt, if◌then◌else◌, List, [], ◌∷◌, Option, Some, None, IfSome}
-use Rattle.std.specs.List.{list_any}
+use Rattle.std.specs.Prelude.{◌≡◌, ℕ, ◌+◌, Bool, true, false, not, ◌==◌, nat_le, nat_lt, if◌then◌else◌, List, [], ◌∷◌, length, take, Option, Some, None, IfSome}
+use Rattle.std.specs.List.{list_any, AllByRecursion}
 use Rattle.std.specs.Str.{bytes_eq}
 use Rattle.lx_abi.specs.declared.boot.GuestFile.{GuestFile}
 use Rattle.lx_boot.specs.Boots.{has_duplicate}
+use Rattle.lx_abi.specs.Limits.{most_nodes}
+use Rattle.lx_boot.specs.Limits.{new_directories, nodes}
 use Rattle.lx_boot.specs.Paths.{is_under}
 use Rattle.lx_boot.specs.declared.neighbours.Told.{Told}
 
@@ -17,6 +19,16 @@ precedes twice [] [] = twice
 precedes twice [] (b ∷ other) = not (b == 47)
 precedes twice (a ∷ path) [] = false
 precedes twice (a ∷ path) (b ∷ other) = if a == b then precedes twice path other else nat_lt (rank a) (rank b)
+
+-- each file's path comes before those of all files behind it
+unfoldable pub AreOrdered : Bool → List GuestFile → Type 0
+AreOrdered twice [] = Unit
+AreOrdered twice (f ∷ files) = AllByRecursion (λ g. precedes twice f.path g.path ≡ true) files × AreOrdered twice files
+
+-- how many nodes the first file makes: itself, and the directories above it in which the next doesn't lie
+unfoldable pub first_nodes : List GuestFile → ℕ
+first_nodes [] = 0
+first_nodes (f ∷ files) = 1 + new_directories (take 1 files) f.path (length f.path)
 
 -- a file lies under the one before it, unless two neighbours are out of order: then nothing is told
 unfoldable pub under_next : GuestFile → List GuestFile → Option Bool
@@ -36,3 +48,4 @@ has_under files = list_any (λ f. list_any (λ g. is_under f.path g.path) files)
 pub record IsTold (files : List GuestFile) (told : Told) : Type 0 where
   pub under : IfSome told.under (λ b. b ≡ has_under files)
   pub twice : IfSome told.twice (λ b. b ≡ has_duplicate files)
+  pub few : IfSome told.few (λ b. b ≡ nat_le (nodes files) most_nodes)

@@ -158,10 +158,12 @@ fn has_no_program(argv: &[Bytes], env: &[Bytes]) -> bool
 }
 
 /// The files are within their limits, and the words and the environment within those of a program's start.
-fn fits(boot: &Boot) -> bool
+fn fits(boot: &Boot, told: &Told) -> bool
+    requires { IsTold boot.now.files told.now }
     ensures { result ≡ fits_of boot.now }
 {
-    files_fit(boot.files.as_slice()) && start_fits(boot.argv.as_slice(), boot.env.as_slice())
+    files_fit(boot.files.as_slice(), told.few)
+        && start_fits(boot.argv.as_slice(), boot.env.as_slice())
 }
 
 /// Why a boot is refused, if it is. The answer is the same whatever the memory; the time goes with the square of the
@@ -179,7 +181,7 @@ pub fn boot_fault(alloc: Global, boot: &Boot) -> Option<BootFault>
         Some(BootFault::Duplicate)
     } else if has_no_program(boot.argv.as_slice(), boot.env.as_slice()) {
         Some(BootFault::NoProgram)
-    } else if fits(boot) {
+    } else if fits(boot, &told) {
         None
     } else {
         Some(BootFault::TooLarge)

@@ -1,12 +1,15 @@
 //! Whether files lie under one another or have one path, told by neighbours in an order of their paths.
 
-ghost use Rattle.std.specs.Prelude.{◌≡◌, map, Some, IfOk, IfSome};
+ghost use Rattle.std.specs.Prelude.{◌≡◌, true, false, nat_le, map, Some, IfOk, IfSome};
 ghost use Rattle.std.specs.List.{list_any};
 ghost use Rattle.std.specs.List.Sorted.{IsPermutation};
+ghost use Rattle.lx_abi.specs.Limits.{most_nodes};
 ghost use Rattle.lx_boot.specs.Boots.{has_duplicate};
+ghost use Rattle.lx_boot.specs.Limits.{nodes};
 ghost use Rattle.lx_boot.specs.Paths.{is_under as is_under_path};
-ghost use Rattle.lx_boot.specs.Neighbours.{rank as rank_of, precedes as precedes_path, under_next as under_next_of, twice_next as twice_next_of, has_under, IsTold};
+ghost use Rattle.lx_boot.specs.Neighbours.{rank as rank_of, precedes as precedes_path, under_next as under_next_of, twice_next as twice_next_of, has_under, AreOrdered, IsTold};
 
+use crate::limits::ordered_nodes_fit;
 use lx_abi::GuestFile;
 use std::alloc::{AllocError, Global};
 use std::cmp::Ordering;
@@ -18,6 +21,8 @@ pub struct Told {
     pub under: Option<bool>,
     /// Two files have one path.
     pub twice: Option<bool>,
+    /// The files and their directories are no more than there may be; `None` too where a file lies under another.
+    pub few: Option<bool>,
 }
 
 /// The path goes on, behind the other, with a slash.
@@ -109,6 +114,17 @@ fn twice_next(first: &GuestFile, files: &[&GuestFile]) -> Option<bool>
     Some(false)
 }
 
+/// The files and their directories are no more than there may be: told where none lies under the one before it.
+fn few_where(under: Option<bool>, files: &[&GuestFile]) -> Option<bool>
+    requires { under ≡ Some false → AreOrdered true (map (λ f. f.now) files.now) }
+    ensures { IfSome result (λ b. b ≡ nat_le (nodes (map (λ f. f.now) files.now)) most_nodes) }
+{
+    match under {
+        Some(false) => Some(ordered_nodes_fit(files)),
+        _ => None,
+    }
+}
+
 /// What neighbours tell of files.
 fn told_by(files: &[&GuestFile]) -> Told
     ensures { IsTold (map (λ f. f.now) files.now) result }
@@ -117,11 +133,16 @@ fn told_by(files: &[&GuestFile]) -> Told
         None => Told {
             under: Some(false),
             twice: Some(false),
+            few: Some(true),
         },
-        Some((first, rest)) => Told {
-            under: under_next(first, rest),
-            twice: twice_next(first, rest),
-        },
+        Some((first, rest)) => {
+            let under = under_next(first, rest);
+            Told {
+                under,
+                twice: twice_next(first, rest),
+                few: few_where(under, files),
+            }
+        }
     }
 }
 
@@ -133,6 +154,7 @@ pub fn tell(alloc: Global, files: &[GuestFile]) -> Told
         Err(_) => Told {
             under: None,
             twice: None,
+            few: None,
         },
         Ok(order) => told_by(order.as_slice()),
     }
