@@ -5,3 +5,4 @@ pub mod Transfers
 pub mod Runs
 pub mod Steps
 pub mod Mnemonics
+pub mod Near
