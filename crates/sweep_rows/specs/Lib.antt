@@ -1,0 +1,4 @@
+pub mod Entries
+pub mod Counts
+pub mod Kinds
+pub mod Failures

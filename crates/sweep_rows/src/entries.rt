@@ -1,0 +1,91 @@
+//! The occurrences of calls that a log has.
+
+ghost use Rattle.std.specs.Prelude.{◌≡◌, ◌&&◌, IfOk, OnOk, List};
+ghost use Rattle.lx_abi.specs.Occurrences.{count_of};
+ghost use Rattle.lx_abi.specs.Scripts.{includes};
+ghost use Rattle.lx_abi.specs.declared.log.Item.{Item as LogItem};
+ghost use Rattle.lx_model.specs.Kernel.{traces};
+ghost use Rattle.sweep_rows.specs.Entries.{rows_of};
+ghost use Rattle.sweep_rows.specs.Counts.{Counted, IsTold, IsAdded};
+
+use lx_abi::{Call, Item, Occurrences, Set};
+use std::alloc::{AllocError, Global};
+
+/// The nth entry of a process into a call, counted from 1.
+#[derive(Clone, Copy, Debug, PartialEq, Eq)]
+pub struct Occurrence {
+    /// The first process that has entered the call so often.
+    pub pid: u32,
+    pub call: Call,
+    pub n: u64,
+}
+
+/// Occurrences so far, and what they are counted by.
+#[derive(Drop)]
+pub(crate) struct Rows {
+    found: Vec<Occurrence>,
+    /// How often each process has entered each call.
+    entered: Occurrences,
+    /// How many occurrences of each call are among those found, under the pid 0.
+    told: Occurrences,
+}
+
+/// A rule for this set is for such a call of the process.
+fn is_meant(set: &Set, follow: bool, pid: u32, number: u64) -> bool
+    ensures { result ≡ (includes set.now number && traces follow pid) }
+{
+    set.contains(number) && (follow || pid == 1)
+}
+
+impl Rows {
+    /// The latest entry of a process into a call is found, if no process has entered the call so often before.
+    fn tell(&mut self, pid: u32, call: Call) -> Result<(), AllocError>
+        ensures { OnOk result (IsTold self.old pid call self.new) }
+    {
+        let n = self.entered.latest(pid, call.number);
+        if n <= self.told.latest(0, call.number) {
+            return Ok(());
+        }
+        self.told.count(0, call.number)?;
+        self.found.push(Occurrence { pid, call, n })?;
+        Ok(())
+    }
+
+    /// One item more of the log.
+    fn add(&mut self, set: &Set, follow: bool, item: &Item) -> Result<(), AllocError>
+        ensures { OnOk result ((past : List LogItem) → Counted set.now follow past self.old
+            → IsAdded set.now follow past item.now self.old self.new) }
+    {
+        let Item::Enter { pid, call } = item else {
+            return Ok(());
+        };
+        self.entered.count(*pid, call.number)?;
+        if is_meant(set, follow, *pid, call.number) {
+            self.tell(*pid, *call)?;
+        }
+        Ok(())
+    }
+}
+
+/// The occurrences of the calls of a set that a rule can name, in the order in which the log has them first: those of
+/// each process with `follow`, else of process 1.
+pub fn occurrences(
+    alloc: Global,
+    log: &[Item],
+    set: &Set,
+    follow: bool,
+) -> Result<Vec<Occurrence>, AllocError>
+    ensures { IfOk result (λ rows. rows.items ≡ rows_of set.now follow log.now) }
+{
+    let mut rows = Rows {
+        found: Vec::new(alloc),
+        entered: Occurrences::new(alloc),
+        told: Occurrences::new(alloc),
+    };
+    let mut left = log;
+    while let Some((item, rest)) = left.split_first() {
+        rows.add(set, follow, item)?;
+        left = rest;
+    }
+    Ok(rows.found)
+}
