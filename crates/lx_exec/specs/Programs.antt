@@ -38,7 +38,7 @@ return_code = 0x93 ∷ 0x08 ∷ 0xB0 ∷ 0x08 ∷ 0x73 ∷ 0x00 ∷ 0x00 ∷ 0x0
 abbrev pub bare_memory : Memory
 bare_memory =
     written (mapped (written (mapped maps.empty (stack_top - stack_size) stack_size read_write) stack_top [])
-      stack_top page read_execute) stack_top return_code
+    stack_top page read_execute) stack_top return_code
 
 abbrev pub rights_of : image_rights.Rights → Rights
 rights_of r = record { read = r.read; write = r.write; execute = r.execute }
@@ -50,7 +50,7 @@ page_of a = a / page
 unfoldable pub with_segment : Memory → Segment → Memory
 with_segment m s =
     written (mapped m (page * page_of s.address)
-      (page * (page_of (s.address + s.size - 1) + 1 - page_of s.address)) (rights_of s.rights)) s.address s.bytes
+    (page * (page_of (s.address + s.size - 1) + 1 - page_of s.address)) (rights_of s.rights)) s.address s.bytes
 
 abbrev pub with_image : Memory → Image → Memory
 with_image m image = fold with_segment m image.segments
@@ -93,7 +93,7 @@ start_sp argv env = (strings_start argv env - 8 * length (vector argv env)) / 16
 unfoldable pub start_memory : Image → List (List ℕ) → List (List ℕ) → Memory
 start_memory image argv env =
     written (written (with_image bare_memory image) (strings_start argv env) (strings (argv ++ env)))
-      (start_sp argv env) (doublewords (vector argv env))
+    (start_sp argv env) (doublewords (vector argv env))
 
 abbrev pub start_registers : List (List ℕ) → List (List ℕ) → List ℕ
 start_registers argv env = set (replicate 32 0) 2 (start_sp argv env)
@@ -146,14 +146,14 @@ stub_image = record {
     address = 0x10000;
     size = 16;
     rights = record { read = true; write = false; execute = true };
-    bytes = stub_code
-  } ∷ []
+    bytes = stub_code;
+  } ∷ [];
 }
 
 abbrev pub stub_registers : List (List ℕ) → List (List ℕ) → List ℕ
 stub_registers argv env =
     set (set (set (set (start_registers argv env) 10 (strings_start argv env)) 11 (start_sp argv env + 8))
-      12 (start_sp argv env + 16 + 8 * length argv)) 17 sys_execve
+    12 (start_sp argv env + 16 + 8 * length argv)) 17 sys_execve
 
 -- the body of process 1
 abbrev pub booted : List (List ℕ) → List (List ℕ) → UserState

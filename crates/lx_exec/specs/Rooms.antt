@@ -31,7 +31,7 @@ program_pages segments = stack_pages ++ pages_under (map extent_of segments)
 abbrev pub segment_mapped : Memory → Segment → Memory
 segment_mapped m s =
     mapped m (4096 * (s.address / 4096)) (4096 * ((s.address + s.size - 1) / 4096 + 1 - s.address / 4096))
-      (rights_of s.rights)
+    (rights_of s.rights)
 
 -- what is mapped lies on these pages
 pub record IsOn (pages : List ℕ) (m : Memory) : Type 0 where

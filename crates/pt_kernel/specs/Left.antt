@@ -25,13 +25,13 @@ use Rattle.pt_model.specs.World.{World}
 abbrev pub traced_boot : Boot → Options → Script → List Event → World Shared UserState
 traced_boot boot o script events =
     traced_run linux outcome_in o script
-      (first_shared boot.limits boot.files boot.input) (booted boot.argv boot.env) events
+    (first_shared boot.limits boot.files boot.input) (booted boot.argv boot.env) events
 
 -- and the untraced kernel under the script, by their effective turns
 abbrev pub plain_boot : Boot → Options → Script → List Event → Kernel Shared UserState
 plain_boot boot o script events =
     plain_run linux outcome_in o script
-      (first_shared boot.limits boot.files boot.input) (booted boot.argv boot.env) events
+    (first_shared boot.limits boot.files boot.input) (booted boot.argv boot.env) events
 
 -- the console, the files, and the wait words of the ends in the log
 abbrev pub left_by : Kernel Shared UserState → Outcome

@@ -37,7 +37,7 @@ abbrev pub IsHostAble : {S B : Type 0} → Machine S B → Host S B → ℕ → 
 IsHostAble m h p =
     (is_effective m h.shared p (h.procs p) ≡ true)
     × ((task_mode (h.procs p).task ≡ Some mode.Run)
-      ⊎ (task_mode (host_turn_of m h p).task ≢ task_mode (h.procs p).task))
+    ⊎ (task_mode (host_turn_of m h p).task ≢ task_mode (h.procs p).task))
 
 -- Events
 
