@@ -37,7 +37,11 @@ IsUntouched a b = (b.host ≡ a.host) × (b.schedule ≡ a.schedule)
 unfoldable pub Calls : LocalLink → Request → Result Reply LinkFault → LocalLink → Type 0
 Calls a q (Ok r) b =
     ((a.over ≡ true) × ((r ≡ Out_of_turns) × ((b.host ≡ a.host) × ((b.schedule ≡ a.schedule) × (b.over ≡ true)))))
-    ⊎ ((a.over ≡ false) × ((is_boot q ≡ false) × ((x : Option Reply) × (Serves a.host a.schedule q (record { host = b.host; schedule = b.schedule; reply = x }) × ((r ≡ reply_or_over x) × (b.over ≡ is_none x))))))
+    ⊎ ((a.over ≡ false)
+    × ((is_boot q ≡ false)
+    × ((x : Option Reply)
+    × (Serves a.host a.schedule q (record { host = b.host; schedule = b.schedule; reply = x })
+    × ((r ≡ reply_or_over x) × (b.over ≡ is_none x))))))
 Calls a q (Err Ended) b = IsUntouched a b × ((a.is_broken ≡ true) ⊎ (is_boot q ≡ true))
 Calls a q (Err TooMany) b = IsUntouched a b × (a.given ≡ 2 ^ 40)
 Calls a q (Err Memory) b = b.host.failed ≡ true

@@ -63,8 +63,8 @@ fn link_over<O: Read + Drop, I: Write + Drop>(
 
 /// A link to a host that runs as a process of its own.
 ///
-/// Where it is dropped the pipes are closed and the process's end is waited for. A process that gave cause for a fault is
-/// killed before.
+/// Where it is dropped the pipes are closed and the process's end is waited for. A process that gave cause for a
+/// fault is killed before.
 pub struct ChildLink<P: OpenProcess + Drop> {
     pipe: PipeLink<Counted<BufReader<P::Stdout>>, Counted<P::Stdin>>,
     child: Child<P>,

@@ -34,7 +34,8 @@ fn serve(
     request: Request,
 ) -> Result<Option<Reply>, Unserved>
     requires { is_boot request ≡ false }
-    ensures served { IfOk result (λ x. Serves host.old schedule.old request (record { host = host.new; schedule = schedule.new; reply = x })) }
+    ensures served { IfOk result (λ x. Serves host.old schedule.old request
+        (record { host = host.new; schedule = schedule.new; reply = x })) }
     ensures busy { result ≡ Err Unserved.Busy → is_there host.old.hosting.pending ≡ true }
     ensures untouched { result ≡ Err Unserved.Busy → (host.new ≡ host.old) × (schedule.new ≡ schedule.old) }
     ensures failed { result ≡ Err Unserved.Failed → host.new.failed ≡ true }

@@ -22,7 +22,12 @@ use Rattle.host_serve.specs.declared.fault.ServeFault.{ServeFault}
 
 -- the host that a boot begins with
 abbrev pub first_host : Boot → HostState
-first_host boot = record { hosting = first_hosting (first_shared boot.limits boot.files boot.input) (booted boot.argv boot.env); follow = boot.follow; failed = false }
+first_host boot =
+    record {
+      hosting = first_hosting (first_shared boot.limits boot.files boot.input) (booted boot.argv boot.env);
+      follow = boot.follow;
+      failed = false;
+    }
 
 -- a link to that host, under these words of a schedule, which nothing was asked yet
 pub record IsFirst (boot : Boot) (limit : ℕ) (words : List Word) (l : LocalLink) : Type 0 where

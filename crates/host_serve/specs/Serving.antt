@@ -62,7 +62,11 @@ SessionAnswered answers s q r Refusing = ⊥
 SessionAnswered answers s q r (Serving t) = (is_boot q ≡ false) × answers s q r t
 
 abbrev pub Answered : {S : Type 0} → Boots S → Answers S → Phase S → Request → Reply → Phase S → Type 0
-Answered boots answers Waiting q r next = (boot : Boot) × ((limit : ℕ) × ((words : List Word) × ((q ≡ Boot_with boot limit words) × BootAnswered boots boot limit words r next)))
+Answered boots answers Waiting q r next =
+    (boot : Boot)
+    × ((limit : ℕ)
+    × ((words : List Word)
+    × ((q ≡ Boot_with boot limit words) × BootAnswered boots boot limit words r next)))
 Answered boots answers Refusing q r next = ⊥
 Answered boots answers (Serving s) q r next = SessionAnswered answers s q r next
 
@@ -79,7 +83,8 @@ FailsAt fails Refusing q = ⊥
 FailsAt {S} fails (Serving s) q = (t : S) × fails s q t
 
 -- what a function returned for a request, and where the conversation then stands
-abbrev pub Responds : {S : Type 0} → Boots S → Answers S → Fails S → Phase S → Request → Result Reply ServeFault → Phase S → Type 0
+abbrev pub Responds :
+    {S : Type 0} → Boots S → Answers S → Fails S → Phase S → Request → Result Reply ServeFault → Phase S → Type 0
 Responds boots answers fails phase q (Ok r) next = Answered boots answers phase q r next
 Responds boots answers fails phase q (Err Order) next = IsUndue phase q
 Responds boots answers fails phase q (Err Failed) next = FailsAt fails phase q
@@ -105,7 +110,8 @@ Exchanges = List (Request × Reply)
 -- the exchanges lead from one phase to another, the last first
 abbrev pub Leads : {S : Type 0} → Boots S → Answers S → Exchanges → Phase S → Type 0
 Leads boots answers [] phase = phase ≡ Waiting
-Leads {S} boots answers (x ∷ xs) phase = (before : Phase S) × (Leads boots answers xs before × Answered boots answers before x.0 x.1 phase)
+Leads {S} boots answers (x ∷ xs) phase =
+    (before : Phase S) × (Leads boots answers xs before × Answered boots answers before x.0 x.1 phase)
 
 -- the frames of requests and the bytes of replies, numbered from 1 in the order in which they came
 abbrev pub requests_of : Exchanges → List Frame
@@ -152,9 +158,13 @@ EndsBy most boots answers left phase number (Ok outcome) rest reads b broken_wri
 EndsBy most boots answers left phase number (Err Read) rest reads b broken_writer =
     ((tail : List ℕ) × ((stream_of rest ≡ Going [] tail) × IsCutOff most reads b)) ⊎ (number ≡ 2 ^ 40 + 1)
 EndsBy {S} most boots answers left phase number (Err Wire) rest reads b broken_writer =
-    IsFaulty (stream_of rest) ⊎ ((q : Request) × ((r : Reply) × ((next : Phase S) × (Answered boots answers phase q r next × IsTooLong number r))))
+    IsFaulty (stream_of rest)
+    ⊎ ((q : Request)
+    × ((r : Reply) × ((next : Phase S) × (Answered boots answers phase q r next × IsTooLong number r))))
 EndsBy most boots answers left phase number (Err Order) rest reads b broken_writer =
-    (f : Frame) × ((stream_of rest ≡ Going (f ∷ []) []) × (IsOther f number ⊎ ((q : Request) × ((f ≡ request_frame number q) × IsUndue phase q))))
+    (f : Frame)
+    × ((stream_of rest ≡ Going (f ∷ []) [])
+    × (IsOther f number ⊎ ((q : Request) × ((f ≡ request_frame number q) × IsUndue phase q))))
 EndsBy most boots answers left phase number (Err Write) rest reads b broken_writer = broken_writer ≡ 1
 EndsBy most boots answers left phase number (Err Failed) rest reads b broken_writer = Unit {0}
 

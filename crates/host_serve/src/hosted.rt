@@ -78,8 +78,8 @@ impl Session for LocalLink {
 /// Serves the traced kernel until the end of input, within a frame too, and gives the outcome of the run so far, the
 /// empty one before a boot was accepted.
 ///
-/// However the input is cut, what is written is the frames of the replies that a [`LocalLink`] of that boot gives to the
-/// requests after it.
+/// However the input is cut, what is written is the frames of the replies that a [`LocalLink`] of that boot gives to
+/// the requests after it.
 pub fn serve<R: Source, W: Sink>(
     alloc: Global,
     reader: &mut R,

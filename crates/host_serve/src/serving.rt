@@ -49,7 +49,8 @@ fn boot<S: Session + Drop>(
 /// What a session replies, which is where it stands.
 fn answer<S: Session>(session: &mut S, request: Request) -> Result<Reply, ServeFault>
     requires { CanAnswer S.ready S.given (Phase.Serving session.old) }
-    ensures responds { Responds S.boots S.answers S.fails (Phase.Serving session.old) request result (Phase.Serving session.new) }
+    ensures responds { Responds S.boots S.answers S.fails (Phase.Serving session.old) request result
+        (Phase.Serving session.new) }
     ensures due { (number : ℕ) → OnOk result (IsDue S.ready S.given (Phase.Serving session.old) number
         → IsDue S.ready S.given (Phase.Serving session.new) (number + 1)) }
 {

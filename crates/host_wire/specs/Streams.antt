@@ -21,7 +21,7 @@ abbrev pub closed : List Frame → Option Frame → Stream
 closed frames None = Failed Payload
 closed frames (Some f) = Going (frames ++ f ∷ []) []
 
--- what the newest byte of the frame under way decides: the fourth its length, the thirteenth its kind, the last its body
+-- what the newest byte of the frame under way decides: the fourth its length, the 13th its kind, the last its body
 unfoldable pub settled : List Frame → List ℕ → Stream
 settled frames bytes =
     if (length bytes == 4) && not (is_length (told_length bytes)) then Failed Length

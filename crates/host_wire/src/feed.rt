@@ -80,7 +80,8 @@ impl Feed {
         ensures ok { OnOk result (spec.fed self.old piece.now ≡ spec.as_stream self.new) }
         ensures fault { IfErr result (λ fault. FailsAs Failed fault (spec.fed self.old piece.now)) }
         ensures err { OnErr result (self.new ≡ self.old) }
-        ensures few { OnOk result (self.old.ready ≡ [] → length piece.now ≤ spec.missing_of self.old.under_way → HasOne self.new) }
+        ensures few { OnOk result (self.old.ready ≡ [] → length piece.now ≤ spec.missing_of self.old.under_way
+            → HasOne self.new) }
     {
         let before = self.under_way.len();
         self.under_way.extend_from_slice(piece)?;

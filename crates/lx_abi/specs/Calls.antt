@@ -20,6 +20,14 @@ use Rattle.lx_abi.specs.Sys.{sys_wait4}
 abbrev pub Row : Type 0
 Row = ℕ × List ℕ × List Class × ℕ × List Argument × List Argument
 
+-- a set of signals by its address, and its size
+abbrev pub sized_set : List Argument
+sized_set = SignalSet ∷ Unsigned ∷ []
+
+-- all six words of mmap
+abbrev pub mapping : List Argument
+mapping = Pointer ∷ Unsigned ∷ Protection ∷ MapFlags ∷ Int ∷ Hex ∷ []
+
 unfoldable pub calls : List Row
 calls =
     (sys_getcwd, codes "getcwd", File ∷ [], plain, [], Path ∷ Unsigned ∷ []) ∷
@@ -42,7 +50,7 @@ calls =
     (sys_sched_yield, codes "sched_yield", [], calm, [], []) ∷
     (sys_kill, codes "kill", Signal ∷ [], plain, Int ∷ SignalNumber ∷ [], []) ∷
     (sys_rt_sigaction, codes "rt_sigaction", Signal ∷ [], calm, SignalNumber ∷ Action ∷ [], Action ∷ Unsigned ∷ []) ∷
-    (sys_rt_sigprocmask, codes "rt_sigprocmask", Signal ∷ [], calm, MaskChange ∷ SignalSet ∷ [], SignalSet ∷ Unsigned ∷ []) ∷
+    (sys_rt_sigprocmask, codes "rt_sigprocmask", Signal ∷ [], calm, MaskChange ∷ SignalSet ∷ [], sized_set) ∷
     (sys_rt_sigreturn, codes "rt_sigreturn", Signal ∷ [], calm, FrameMask ∷ [], []) ∷
     (sys_getpid, codes "getpid", [], calm, [], []) ∷
     (sys_getppid, codes "getppid", [], calm, [], []) ∷
@@ -51,7 +59,7 @@ calls =
     (sys_munmap, codes "munmap", Memory ∷ [], calm, Pointer ∷ Unsigned ∷ [], []) ∷
     (sys_clone, codes "clone", Process ∷ [], forks, ChildStack ∷ CloneFlags ∷ [], []) ∷
     (sys_execve, codes "execve", File ∷ Process ∷ [], execs, Path ∷ Strings ∷ Environment ∷ [], []) ∷
-    (sys_mmap, codes "mmap", Descriptor ∷ Memory ∷ [], hex + calm, Pointer ∷ Unsigned ∷ Protection ∷ MapFlags ∷ Int ∷ Hex ∷ [], []) ∷
+    (sys_mmap, codes "mmap", Descriptor ∷ Memory ∷ [], hex + calm, mapping, []) ∷
     (sys_wait4, codes "wait4", Process ∷ [], waits + calm, Int ∷ [], WaitStatus ∷ WaitOptions ∷ Pointer ∷ []) ∷
     []
 

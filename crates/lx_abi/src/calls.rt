@@ -102,7 +102,9 @@ pub type Row = (
 
 /// A row for each line.
 macro_rules! calls {
-    ($($number:ident $name:literal [$($class:ident),*] [$($effect:ident),*] [$($entry:ident),*] [$($rest:ident),*];)*) => {
+    ($(
+        $number:ident $name:literal [$($class:ident),*] [$($effect:ident),*] [$($entry:ident),*] [$($rest:ident),*];
+    )*) => {
         [$((
             sys::$number,
             $name,

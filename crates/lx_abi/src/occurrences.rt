@@ -30,7 +30,8 @@ impl Occurrences {
 
     /// Counts an entry.
     pub fn count(&mut self, pid: u32, number: u64) -> Result<(), AllocError>
-        ensures { OnOk result ((p n : ℕ) → count_of self.new p n ≡ (if (p == pid) && (n == number) then 1 else 0) + count_of self.old p n) }
+        ensures { OnOk result ((p n : ℕ)
+            → count_of self.new p n ≡ (if (p == pid) && (n == number) then 1 else 0) + count_of self.old p n) }
     {
         // More entries than 64 bits count are more than any memory holds in the log.
         let Some(next) = self.latest(pid, number).checked_add(1) else {

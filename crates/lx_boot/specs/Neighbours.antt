@@ -13,7 +13,8 @@ use Rattle.lx_boot.specs.declared.neighbours.Told.{Told}
 abbrev pub rank : ℕ → ℕ
 rank b = if b == 47 then 0 else b + 1
 
--- the path comes before the other by its bytes' ranks, and the other isn't under it; one path twice is in order where `twice`
+-- the path comes before the other by its bytes' ranks, and the other isn't under it; one path twice is in order
+-- where `twice`
 unfoldable pub precedes : Bool → List ℕ → List ℕ → Bool
 precedes twice [] [] = twice
 precedes twice [] (b ∷ other) = not (b == 47)
@@ -33,12 +34,18 @@ first_nodes (f ∷ files) = 1 + new_directories (take 1 files) f.path (length f.
 -- a file lies under the one before it, unless two neighbours are out of order: then nothing is told
 unfoldable pub under_next : GuestFile → List GuestFile → Option Bool
 under_next f [] = Some false
-under_next f (g ∷ files) = if is_under g.path f.path then Some true else if precedes true f.path g.path then under_next g files else None
+under_next f (g ∷ files) =
+    if is_under g.path f.path then Some true
+    else if precedes true f.path g.path then under_next g files
+    else None
 
 -- a file has the path of the one before it, unless two neighbours are out of order
 unfoldable pub twice_next : GuestFile → List GuestFile → Option Bool
 twice_next f [] = Some false
-twice_next f (g ∷ files) = if bytes_eq f.path g.path then Some true else if precedes false f.path g.path then twice_next g files else None
+twice_next f (g ∷ files) =
+    if bytes_eq f.path g.path then Some true
+    else if precedes false f.path g.path then twice_next g files
+    else None
 
 -- one of the files lies under another
 abbrev pub has_under : List GuestFile → Bool

@@ -21,7 +21,9 @@ is_there tree path = is_some (maps.get tree.names path)
 
 -- the directories above what stands at any path stand too
 unfoldable pub HasParents : Tree → Type 0
-HasParents tree = (path : Path) (i : ℕ) → is_there tree path ≡ true → ends_directory path i ≡ true → is_there tree (take i path) ≡ true
+HasParents tree =
+    (path : Path) (i : ℕ) → is_there tree path ≡ true → ends_directory path i ≡ true
+    → is_there tree (take i path) ≡ true
 
 -- a directory stands at the path, if nothing does
 abbrev pub with_directory : Tree → Path → Tree

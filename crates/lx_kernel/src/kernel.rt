@@ -181,7 +181,12 @@ impl Model for Kernel {
 
     ghost coded = { Prim.hlevel (codes, maps.code) };
 
-    ghost view = { λ k. record { running = record { shared = k.shared; tasks = k.tasks; child = k.child; log = k.log.items }; script = k.script; follow = k.follow; failed = k.failed } };
+    ghost view = { λ k. record {
+      running = record { shared = k.shared; tasks = k.tasks; child = k.child; log = k.log.items };
+      script = k.script;
+      follow = k.follow;
+      failed = k.failed;
+    } };
 
     ghost invariant = { λ k. k.failed ≡ false → Agree k.occurrences k.log.items × Watch k.run_queue k.shared k.tasks };
 }

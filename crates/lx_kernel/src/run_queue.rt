@@ -1,12 +1,12 @@
 //! Which processes a search for the next turn looks at.
 //!
 //! Two sets of pids: who is awake, and who is blocked, that is, waits in a read or a write of a pipe, or in wait4, with
-//! no signal that would end the wait. `next_able` looks at those that are awake alone, so what it costs grows with them,
-//! and with the logarithm of all. A process is put to sleep by its own turn that leaves it blocked, and wakes by
+//! no signal that would end the wait. `next_able` looks at those that are awake alone, so what it costs grows with
+//! them, and with the logarithm of all. A process is put to sleep by its own turn that leaves it blocked, and wakes by
 //! another's: each turn says whether it may have woken others, and after one that may, as a write, a close or a kill,
-//! those that sleep are looked at, each once. Where a process ends, its parent is looked at. What the sets say is proved;
-//! that they are kept affects only speed: once memory for them was refused, a search looks at every process, and answers
-//! the same.
+//! those that sleep are looked at, each once. Where a process ends, its parent is looked at. What the sets say is
+//! proved; that they are kept affects only speed: once memory for them was refused, a search looks at every process,
+//! and answers the same.
 
 ghost use Rattle.std.specs.Prelude.{◌≡◌, ◌<◌, ℕ, None, true, is_none, is_some};
 ghost use Rattle.std.specs.FinMap as maps;

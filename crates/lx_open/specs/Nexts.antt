@@ -15,4 +15,7 @@ IsFirstFrom slots from (Some key) =
 abbrev pub IsNextOpen : SlotMap → ℕ → ℕ → Option ℕ → Type 0
 IsNextOpen slots pid fd None = (q : ℕ) → fd ≤ q → q < most_fds → maps.get slots (pair pid q) ≡ None
 IsNextOpen slots pid fd (Some n) =
-    (fd ≤ n) × (n < most_fds) × IsSome (maps.get slots (pair pid n)) × ((q : ℕ) → fd ≤ q → q < n → maps.get slots (pair pid q) ≡ None)
+    (fd ≤ n)
+    × (n < most_fds)
+    × IsSome (maps.get slots (pair pid n))
+    × ((q : ℕ) → fd ≤ q → q < n → maps.get slots (pair pid q) ≡ None)

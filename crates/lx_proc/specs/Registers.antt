@@ -22,4 +22,5 @@ with_returned b x = with_regs b (returned (regs b) x)
 
 -- the interrupted call is made again: pc and a0 are as at its ecall (signal(7), "Interruption of system calls")
 abbrev pub made_again : UserState → Interrupted → UserState
-made_again b at = record b { hart = record { pc = at.pc; registers = set b.hart.registers 10 at.a0 }; interrupted = None }
+made_again b at =
+    record b { hart = record { pc = at.pc; registers = set b.hart.registers 10 at.a0 }; interrupted = None }

@@ -60,7 +60,9 @@ texts_on None pointer first rest = if pointer == 0 then Some [] else with_first 
 -- or a text can't be read
 unfoldable pub texts_at : Memory → ℕ → ℕ → Option (List (List ℕ))
 texts_at m zero a = None
-texts_at m (suc n) a = texts_on (first_fault access.Read m a 8) (pointer_at m a) (whole (text_at m any_length (pointer_at m a))) (texts_at m n (next_address a 8))
+texts_at m (suc n) a =
+    texts_on (first_fault access.Read m a 8) (pointer_at m a) (whole (text_at m any_length (pointer_at m a)))
+    (texts_at m n (next_address a 8))
 
 -- a list of texts; none at address 0
 abbrev pub list_at : Memory → ℕ → Option (List (List ℕ))

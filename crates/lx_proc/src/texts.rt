@@ -157,7 +157,8 @@ fn pointers_at(
     limit: u64,
 ) -> Result<Option<Vec<u64>>, AllocError>
     ensures none { IfOk result (λ p. IfNone p (is_some (texts_in memory.old limit address) ≡ false)) }
-    ensures some { IfOk result (λ p. IfSome p (λ v. is_some (texts_in memory.old limit address) ≡ not (list_any (is_no_text memory.old) v.items))) }
+    ensures some { IfOk result (λ p. IfSome p (λ v.
+        is_some (texts_in memory.old limit address) ≡ not (list_any (is_no_text memory.old) v.items))) }
     ensures kept { memory.new ≡ memory.old }
 {
     let mut pointers = Vec::new(alloc);

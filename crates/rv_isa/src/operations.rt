@@ -384,7 +384,8 @@ impl WordOperation {
 
     pub(crate) fn from_fields(funct3: u32, funct7: u32) -> Option<Self>
         ensures found { IfSome result (λ x. (word_operation_funct3 x ≡ funct3) × (word_operation_funct7 x ≡ funct7)) }
-        ensures none { IfNone result ((x : WordOperation) → word_operation_funct3 x ≡ funct3 → word_operation_funct7 x ≢ funct7) }
+        ensures none { IfNone result ((x : WordOperation)
+            → word_operation_funct3 x ≡ funct3 → word_operation_funct7 x ≢ funct7) }
     {
         Some(match (funct3, funct7) {
             (0, 0) => WordOperation::Add,

@@ -119,7 +119,8 @@ impl Places {
         self.ordered.values(alloc)
     }
 
-    /// The least number without a place, where each number below `from` has one. Err where no number of 32 bits is left.
+    /// The least number without a place, where each number below `from` has one. Err where no number of 32 bits is
+    /// left.
     pub fn vacant(&self, from: u32) -> Result<u32, AllocError>
         requires { IsFullBelow self.now from }
         ensures { IfOk result (λ n. n ≡ vacant self.now) }

@@ -22,7 +22,9 @@ has rows number n = list_any (is_nth number n) rows
 -- adds its occurrence, unless that stands there by an entry of another
 abbrev pub more : Set → Bool → List Item → List Occurrence → Item → List Occurrence
 more set follow past rows (Enter pid call) =
-    cond ((includes set call.number && traces follow pid) && not (has rows call.number (suc (entries pid call.number past))))
+    cond
+    ((includes set call.number && traces follow pid)
+    && not (has rows call.number (suc (entries pid call.number past))))
     (record { pid = pid; call = call; n = suc (entries pid call.number past) } ∷ []) []
 more set follow past rows (Done pid call result replaced) = []
 more set follow past rows (Taken pid signal cause) = []

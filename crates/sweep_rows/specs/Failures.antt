@@ -12,7 +12,8 @@ failed_by f = record { result = Some (neg_ℤ (pos f.error.number)); signal = No
 
 -- the script's choice is this result for the nth occurrence of the call, and nothing for any other of any call
 abbrev pub FailsAlone : Failure → List Rule → Type 0
-FailsAlone f rules = (call n : ℕ) → choice_of rules call n ≡ cond ((call == f.call) && (n == f.n)) (failed_by f) no_choice
+FailsAlone f rules =
+    (call n : ℕ) → choice_of rules call n ≡ cond ((call == f.call) && (n == f.n)) (failed_by f) no_choice
 
 -- the parts of its rule
 pub record IsFor (f : Failure) (rule : Rule) : Type 0 where

@@ -1,5 +1,5 @@
-//! What a sweep is made of, beside its runs: which occurrences of calls a log has, the script by which one of them fails,
-//! and what came of a run beside another.
+//! What a sweep is made of, beside its runs: which occurrences of calls a log has, the script by which one of them
+//! fails, and what came of a run beside another.
 #![tactic(auto)]
 
 pub mod entries;
