@@ -1,3 +1,5 @@
 mod Agreement
 mod Idle
+mod LinkLists
 mod Replies
+mod RequestLists

@@ -1,8 +1,10 @@
 pub mod Children
 pub mod Faults
 pub mod Kinds
+pub mod LinkLists
 pub mod LocalLinks
 pub mod Locals
 pub mod PipeLinks
 pub mod Pipes
 pub mod Recordings
+pub mod RequestLists

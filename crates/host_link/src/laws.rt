@@ -11,9 +11,13 @@ ghost use Rattle.host_link.specs.LocalLinks.{Calls, IsIdle, faults_of, given_of}
 ghost use Rattle.host_link.specs.declared.fault.LinkFault.{LinkFault};
 ghost use Rattle.host_link.specs.declared.fault.LinkFault.TheVariants.{Memory, Read};
 ghost use Rattle.host_link.specs.declared.local.LocalLink.{LocalLink};
+ghost use Rattle.host_link.specs.LinkLists.{FirstLinksServe, LinksServeLists, ListsFailForMemory, ListsHaveOneAnswer};
 ghost use Rattle.host_link.specs.Pipes.{Exchanged, request_frame};
 
 use host_wire::laws::bytes_without_a_frame_are_few;
+use lx_proc::{Shared, UserState};
+use pt_kernel::laws::hosts_are_called;
+use pt_model::laws::hosts_run_alike;
 
 /// Behind a reply no request is pending.
 pub fn replies_leave_links_idle()
@@ -40,4 +44,17 @@ pub fn unread_replies_are_of_failed_readers()
         Exchanged (2 ^ 32) sent a b old new (Err Read) broken_writer → b.broken ≡ 1 }
 {
     bytes_without_a_frame_are_few();
+}
+
+/// A link in memory answers a list of requests as the ptrace machine does with this list in the place of a tracer's:
+/// by all the events that its schedule gives to them, and OutOfTurns once the schedule has ended; and in no other way.
+/// Behind fewer than 2^40 replies only memory fails it.
+pub fn local_links_serve_lists()
+    ensures first { FirstLinksServe }
+    ensures lists { LinksServeLists }
+    ensures one { ListsHaveOneAnswer }
+    ensures faults { ListsFailForMemory }
+{
+    hosts_are_called();
+    hosts_run_alike::<Shared, UserState>();
 }
