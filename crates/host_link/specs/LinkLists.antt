@@ -48,6 +48,12 @@ abbrev pub LinksServeLists : Type 0
 LinksServeLists = (a b : LocalLink) (xs : List (Request × Reply)) → IsServing a → AnswersAll a xs b →
     ServesList a (map (λ x. x.0) xs) (map (λ x. x.1) xs) b
 
+-- and in this way alone
+abbrev pub ListsHaveOneAnswer : Type 0
+ListsHaveOneAnswer = (a : LocalLink) (qs : List Request) (rs ss : List Reply) (b c : LocalLink) →
+    ServesList a qs rs b → ServesList a qs ss c →
+    (rs ≡ ss) × (host_in (host_of b).hosting ≡ host_in (host_of c).hosting)
+
 -- a link over a host that was booted, whose schedule has not ended, is such a one
 abbrev pub FirstLinksServe : Type 0
 FirstLinksServe = (a : LocalLink) (s : Shared) (b : UserState) → (host_of a).hosting ≡ first_hosting s b →
@@ -58,9 +64,3 @@ abbrev pub ListsFailForMemory : Type 0
 ListsFailForMemory = (a b c : LocalLink) (xs : List (Request × Reply)) (q : Request) (f : LinkFault) →
     IsIdle a → faults_of a ≡ 0 → given_of a + length xs < 2 ^ 40 → is_boot q ≡ false →
     CountsAll a xs b → Calls b q (Err f) c → f ≡ Memory
-
--- and in this way alone
-abbrev pub ListsHaveOneAnswer : Type 0
-ListsHaveOneAnswer = (a : LocalLink) (qs : List Request) (rs ss : List Reply) (b c : LocalLink) →
-    ServesList a qs rs b → ServesList a qs ss c →
-    (rs ≡ ss) × (host_in (host_of b).hosting ≡ host_in (host_of c).hosting)

@@ -27,11 +27,12 @@ is_broken_of l = l.is_broken
 abbrev pub faults_of : {R W : Type 0} → PipeLink R W → ℕ
 faults_of l = cond l.is_broken 1 0
 
--- after a fault, and after 2^40 replies, nothing is sent or read; else the request goes out with the next number
-abbrev pub Asks : {R W : Type 0} → (R → Input) → (W → Option (List ℕ)) → (W → ℕ) → PipeLink R W → Request
-    → Result Reply LinkFault → PipeLink R W → Type 0
-Asks input contents broken_writer a q result b =
+-- after a fault, and after 2^40 replies, nothing is sent or read; else the request goes out with the next
+-- number, by one put
+abbrev pub Asks : {R W : Type 0} → (R → Input) → (W → Option (List ℕ)) → (W → List ℕ) → (W → ℕ) → PipeLink R W
+    → Request → Result Reply LinkFault → PipeLink R W → Type 0
+Asks input contents puts broken_writer a q result b =
     ((a.is_broken ≡ true) × ((result ≡ Err Ended) × ((b.reader ≡ a.reader) × (b.writer ≡ a.writer))))
     ⊎ (((a.given ≡ 2 ^ 40) × ((result ≡ Err TooMany) × ((b.reader ≡ a.reader) × (b.writer ≡ a.writer))))
     ⊎ ((b.most ≡ a.most) × Exchanged a.most (request_frame (a.given + 1) q) (input a.reader) (input b.reader)
-    (contents a.writer) (contents b.writer) result (broken_writer b.writer)))
+    (contents a.writer) (contents b.writer) (puts a.writer) (puts b.writer) result (broken_writer b.writer)))

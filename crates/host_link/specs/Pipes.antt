@@ -10,7 +10,7 @@ use Rattle.host_frame.specs.declared.frame.Frame.{Frame}
 use Rattle.host_frame.specs.declared.fault.WireFault.TheVariants.{Length, Kind, Payload as Body_fault, Memory as No_memory}
 use Rattle.host_wire.specs.declared.receiving.ReceiveFault.{ReceiveFault}
 use Rattle.host_wire.specs.declared.receiving.ReceiveFault.TheVariants as receiving
-use Rattle.host_wire.specs.Ends.{AppendsPart, Input}
+use Rattle.host_wire.specs.Ends.{AppendsPart, Input, IsPut}
 use Rattle.host_wire.specs.Receiving.{IsCutOff, Receiving}
 use Rattle.host_frame.specs.Spelling.{content, spelled}
 use Rattle.host_wire.specs.Streams.{Stream, Going, Failed, stream_of}
@@ -22,16 +22,23 @@ request_frame number request = record { number = number; body = Of_request reque
 
 -- ---- a frame that is sent
 
-abbrev pub SentAs : Result ⊤ LinkFault → Frame → Option (List ℕ) → Option (List ℕ) → ℕ → Type 0
-SentAs (Ok u) f old new broken = Appends old new (spelled f)
-SentAs (Err Write) f old new broken = AppendsPart old new (spelled f) × (broken ≡ 1)
-SentAs (Err Malformed) f old new broken = (new ≡ old) × (134217728 < length (content f))
-SentAs (Err Memory) f old new broken = new ≡ old
-SentAs (Err Ended) f old new broken = ⊥
-SentAs (Err Read) f old new broken = ⊥
-SentAs (Err Sequence) f old new broken = ⊥
-SentAs (Err Inadmissible) f old new broken = ⊥
-SentAs (Err TooMany) f old new broken = ⊥
+-- its bytes are written by one put
+abbrev pub IsSent : Frame → Option (List ℕ) → Option (List ℕ) → List ℕ → List ℕ → Type 0
+IsSent f old new puts puts' = Appends old new (spelled f) × IsPut puts puts' (spelled f)
+
+-- so they are, by one put too that may fail within them; or nothing is written, and none is made
+abbrev pub SentAs : Result ⊤ LinkFault → Frame → Option (List ℕ) → Option (List ℕ) → List ℕ → List ℕ → ℕ → Type 0
+SentAs (Ok u) f old new puts puts' broken = IsSent f old new puts puts'
+SentAs (Err Write) f old new puts puts' broken =
+    AppendsPart old new (spelled f) × (IsPut puts puts' (spelled f) × (broken ≡ 1))
+SentAs (Err Malformed) f old new puts puts' broken =
+    (new ≡ old) × ((puts' ≡ puts) × (134217728 < length (content f)))
+SentAs (Err Memory) f old new puts puts' broken = (new ≡ old) × (puts' ≡ puts)
+SentAs (Err Ended) f old new puts puts' broken = ⊥
+SentAs (Err Read) f old new puts puts' broken = ⊥
+SentAs (Err Sequence) f old new puts puts' broken = ⊥
+SentAs (Err Inadmissible) f old new puts puts' broken = ⊥
+SentAs (Err TooMany) f old new puts puts' broken = ⊥
 
 -- ---- the next frame
 
@@ -85,8 +92,9 @@ fault_of (receiving.Wire Body_fault) = Malformed
 -- ---- a request and its reply
 
 -- nothing was read, as the request was not sent; or all of it was, and this came
-abbrev pub Exchanged : ℕ → Frame → Input → Input → Option (List ℕ) → Option (List ℕ) → Result Reply LinkFault → ℕ
-    → Type 0
-Exchanged most sent a b old new result broken_writer =
-    (Appends old new (spelled sent) × Came most a result sent b)
-    ⊎ ((fault : LinkFault) × ((result ≡ Err fault) × (SentAs (Err fault) sent old new broken_writer × (b ≡ a))))
+abbrev pub Exchanged : ℕ → Frame → Input → Input → Option (List ℕ) → Option (List ℕ) → List ℕ → List ℕ
+    → Result Reply LinkFault → ℕ → Type 0
+Exchanged most sent a b old new puts puts' result broken_writer =
+    (IsSent sent old new puts puts' × Came most a result sent b)
+    ⊎ ((fault : LinkFault)
+    × ((result ≡ Err fault) × (SentAs (Err fault) sent old new puts puts' broken_writer × (b ≡ a))))

@@ -122,12 +122,12 @@ impl<P: OpenProcess + Drop> Drop for ChildLink<P> {
 
 impl<P: OpenProcess + Drop> Link for ChildLink<P> {
     ghost use Rattle.std.specs.Io.Buffered.{reader_remaining};
-    ghost use Rattle.host_wire.specs.Counting.{faults_of as faults_of_end, input_of, inner_of};
+    ghost use Rattle.host_wire.specs.Counting.{calls_of, faults_of as faults_of_end, input_of, inner_of};
     ghost use Rattle.host_link.specs.Children.{pipe_of};
     ghost use Rattle.host_link.specs.PipeLinks.{Asks};
 
     ghost answers = { λ a q r b. Asks (λ e. input_of (λ out. reader_remaining P.Stdout.remaining out) e)
-        (λ e. P.Stdin.contents (inner_of e)) (λ e. faults_of_end e) (pipe_of a) q r (pipe_of b) };
+        (λ e. P.Stdin.contents (inner_of e)) (λ e. calls_of e) (λ e. faults_of_end e) (pipe_of a) q r (pipe_of b) };
 
     ghost given = { λ l. given_of (pipe_of l) };
 

@@ -27,7 +27,8 @@ fn fault_of(fault: ReceiveFault) -> LinkFault
 }
 
 fn send<W: Sink>(alloc: Global, writer: &mut W, frame: &Frame) -> Result<(), LinkFault>
-    ensures { SentAs result frame.now (W.contents writer.old) (W.contents writer.new) (W.broken writer.new) }
+    ensures { SentAs result frame.now (W.contents writer.old) (W.contents writer.new) (W.puts writer.old)
+        (W.puts writer.new) (W.broken writer.new) }
 {
     let bytes = match encode(alloc, frame) {
         Ok(bytes) => bytes,
@@ -102,7 +103,7 @@ pub(crate) fn exchange<R: Source, W: Sink>(
     requires room { 0 < length room.old }
     requires fresh { feed.old ≡ nothing_fed }
     ensures exchanged { Exchanged most sent.now (R.input reader.old) (R.input reader.new) (W.contents writer.old)
-        (W.contents writer.new) result (W.broken writer.new) }
+        (W.contents writer.new) (W.puts writer.old) (W.puts writer.new) result (W.broken writer.new) }
     ensures no_further { OnOk result (feed.new ≡ nothing_fed) }
 {
     match send(alloc, writer, sent) {
@@ -178,7 +179,7 @@ impl<R: Source, W: Sink> PipeLink<R, W> {
 impl<R: Source, W: Sink> Link for PipeLink<R, W> {
     ghost use Rattle.host_link.specs.PipeLinks.{Asks, given_of, faults_of};
 
-    ghost answers = { λ a q r b. Asks R.input W.contents W.broken a q r b };
+    ghost answers = { λ a q r b. Asks R.input W.contents W.puts W.broken a q r b };
 
     ghost given = { λ l. given_of l };
 
