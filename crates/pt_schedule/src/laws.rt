@@ -2,6 +2,7 @@
 
 ghost use Rattle.pt_schedule.specs.Rows.{RunsAreTurns};
 ghost use Rattle.pt_schedule.specs.Few.{EventsAreFew, FirstLeft, ListsGiveTheirEvents};
+ghost use Rattle.pt_schedule.specs.Said.{WordsAreSaid};
 
 /// A schedule that tells of turns to come gives them one by one, as long as their process can have them and no request
 /// is ready.
@@ -14,4 +15,9 @@ pub fn events_are_few()
     ensures few { EventsAreFew }
     ensures first { FirstLeft }
     ensures lists { ListsGiveTheirEvents }
+{}
+
+/// Whatever is seen before each event, a schedule by words gives what its words say, up to its limit.
+pub fn words_are_said()
+    ensures { WordsAreSaid }
 {}
