@@ -1,13 +1,14 @@
 -- Numbers below which every number is a key.
-use Rattle.std.proofs.Common.{◌≡◌, ℕ, ◌+◌, ◌≤◌, Bool, true, false, cond, Some, None, refl, sym, subst, ◌∙◌, rules, arith}
+use Rattle.std.proofs.Common.{◌≡◌, ℕ, ◌+◌, ◌≤◌, Bool, true, false, cond, Some, None, refl, ap, sym, subst, ◌∙◌, rules, arith}
 use Rattle.std.proofs.lemmas.Bool.Decides.{nat_tests}
 use Rattle.std.specs.Prelude.{◌==◌, min, IsSome}
 use Rattle.std.specs.Ordering.{nat_cmp, eq_by_cmp}
 use Rattle.std.specs.Cmp.{nat_cmp_total}
 use Rattle.std.specs.FinMap as maps
 use Rattle.std.specs.FinMap.{FinMap}
-use Rattle.containers.specs.Vacant.{IsFullBelow}
-use Rattle.lx_files.proofs.Totals.{remove-none}
+use Rattle.containers.specs.Vacant.{vacant, IsFullBelow}
+use Rattle.containers.proofs.Vacant.{vacant_is_least}
+use Rattle.lx_files.proofs.Totals.{remove-none, remove-insert}
 
 same : (q k : ℕ) → eq_by_cmp nat_cmp q k ≡ (k == q)
 same q k = grind (arith, nat_tests)
@@ -47,3 +48,9 @@ module _ {X : Type 0} where
   pub full_more : (m n : FinMap nat_cmp X) (k below r : ℕ) (v : X) → IsFullBelow m below → below ≡ k → r ≤ k + 1 → n ≡ maps.insert m k v → IsFullBelow n r
   full_more m n k below r v full is le e q lt =
       subst (λ t. IsSome (maps.get t q)) (sym e) (full_next m k v (subst (IsFullBelow m) is full) q (omega (arith, le, lt)))
+
+  -- what was put in at the least vacant number is taken out again
+  pub taken_back : (m n r : FinMap nat_cmp X) (k : ℕ) (v : X) → k ≡ vacant m → n ≡ maps.insert m k v → r ≡ maps.remove n k → r ≡ m
+  taken_back m n r k v is put taken =
+      taken ∙ ap (λ t. maps.remove t k) put
+      ∙ remove-insert nat_cmp_total maps.nat_cmp-IsAntisymmetric (λ x. 0) m k v (ap (maps.get m) is ∙ (vacant_is_least m).0)

@@ -8,12 +8,7 @@ use Rattle.std.specs.FinMap as maps
 use Rattle.std.specs.FinMap.{FinMap}
 use Rattle.std.specs.FinMap.Entries.{find, put, below_all, is_sorted}
 use Rattle.lx_files.specs.declared.counts.Counts.{Counts}
-use Rattle.lx_files.specs.Tallies.{sum_of, total, one_if, how_many, count_of, Agree}
-
--- what a value that may be there weighs
-abbrev pub weight : {X : Type 0} → (X → ℕ) → Option X → ℕ
-weight f None = 0
-weight f (Some x) = f x
+use Rattle.lx_files.specs.Tallies.{sum_of, total, weight, one_if, how_many, count_of, Agree, Forgets}
 
 first : (a b : Bool) → T (a && b) → T a
 first true b h = tt
@@ -94,6 +89,18 @@ module _ {K X : Type 0} {R : K → K → Ordering} (o : IsTotalOrder R) (same : 
       go true x y = refl
       go false x y = refl
 
+  -- what stands is put in again
+  pub insert-same : (m : FinMap R X) (k : K) (v : X) → maps.get m k ≡ Some v → maps.insert m k v ≡ m
+  insert-same m k v some = sym (insert-remove m k v) ∙ insert-back m k v some
+
+  -- what is new is taken out again
+  pub remove-insert : (m : FinMap R X) (k : K) (v : X) → maps.get m k ≡ None → maps.remove (maps.insert m k v) k ≡ m
+  remove-insert m k v none = maps.same_map o same _ _ (λ q. maps.get-remove o (maps.insert m k v) k q ∙ ap (cond (eq_by_cmp R q k) None) (maps.get-insert o m k v q) ∙ go q (eq_by_cmp R q k) refl)
+    where
+      go : (q : K) (b : Bool) → eq_by_cmp R q k ≡ b → cond b None (cond b (Some v) (maps.get m q)) ≡ maps.get m q
+      go q true e = sym (ap (maps.get m) (same_at q k e) ∙ none)
+      go q false e = refl
+
   pub get-removed : (m : FinMap R X) (k : K) → maps.get (maps.remove m k) k ≡ None
   get-removed m k = maps.get-remove o m k k ∙ ap (λ b. cond b None (maps.get m k)) (tied k)
 
@@ -151,6 +158,14 @@ module _ {K X : Type 0} {R : K → K → Ordering} (o : IsTotalOrder R) (same : 
       let there = ap (total f) e in
       omega (arith, one, it, there, is, sized, le)
 
+  -- a value takes the place of what was there
+  pub kept_put : (m n : FinMap R X) (k : K) (v : X) (sum before size more : ℕ) → sum ≡ total f m → before ≡ weight f (maps.get m k) → size ≡ f v → more ≡ sum - before + size → n ≡ maps.insert m k v → more ≡ total f n
+  kept_put m n k v sum before size more is was sized mo e =
+      let put_in = total-insert o f m k v in
+      let out = total-remove o same f m k in
+      let there = ap (total f) e in
+      omega (arith, put_in, out, there, is, was, sized, mo)
+
   pub kept_more : (m0 m n : FinMap R X) (k : K) (v : X) (sum size more : ℕ) → m ≡ maps.remove m0 k → sum ≡ total f m → size ≡ f v → more ≡ sum + size → n ≡ maps.insert m k v → more ≡ total f n
   kept_more m0 m n k v sum size more gone is sized mo e =
       let one = total-insert o f m k v in
@@ -189,6 +204,21 @@ module _ {K X : Type 0} {R : K → K → Ordering} (o : IsTotalOrder R) (same : 
   pub agree_more : (c d : Counts) (m0 m n : FinMap R X) (k : K) (v : X) → m ≡ maps.remove m0 k → Agree c p m → n ≡ maps.insert m k v → ((i : ℕ) → count_of d i ≡ one_if (p i v) + count_of c i) → Agree d p n
   agree_more c d m0 m n k v gone agree e more i =
       agree-insert o same p c d m k v (ap (λ t. maps.get t k) gone ∙ get-removed o same (λ x. 0) m0 k) agree more i ∙ ap (how_many (p i)) (sym e)
+
+  -- a value takes the place of what was there
+  pub agree_put : (c d e : Counts) (m n : FinMap R X) (k : K) (v : X) → Agree c p m → n ≡ maps.insert m k v → ((i : ℕ) → count_of d i ≡ one_if (p i v) + count_of c i) → Forgets p (maps.get m k) d e → Agree e p n
+  agree_put c d e m n k v agree is more less i =
+      let put_in = total-insert o (λ x. one_if (p i x)) m k v in
+      let there = ap (how_many (p i)) is in
+      let a = agree i in let b = more i in let l = less i in
+      omega (arith, put_in, there, a, b, l)
+
+  -- one more, and one less again
+  pub agree_back : (c d e : Counts) (m n : FinMap R X) (v : X) → Agree c p m → n ≡ m → ((i : ℕ) → count_of d i ≡ one_if (p i v) + count_of c i) → ((i : ℕ) → count_of e i ≡ count_of d i - one_if (p i v)) → Agree e p n
+  agree_back c d e m n v agree is more less i =
+      let there = ap (how_many (p i)) is in
+      let a = agree i in let b = more i in let l = less i in
+      omega (arith, there, a, b, l)
 
   pub agree_new : (c : Counts) (m : FinMap R X) → m ≡ maps.empty → ((i : ℕ) → count_of c i ≡ 0) → Agree c p m
   agree_new c m e zero i = zero i ∙ sym (ap (how_many (p i)) e ∙ total-empty R (λ x. one_if (p i x)))

@@ -1,11 +1,11 @@
 //! The nodes that paths name.
 
-ghost use Rattle.std.specs.Prelude.{◌≡◌, OnOk};
+ghost use Rattle.std.specs.Prelude.{◌≡◌, OnOk, OnErr};
 ghost use Rattle.std.specs.FinMap as maps;
 ghost use Rattle.std.specs.Prelude.{nat_eq, IfOk, map};
 ghost use Rattle.std.specs.List.{list_any, starts_with, filter};
 ghost use Rattle.lx_files.specs.Listing.{is_named, file_of};
-ghost use Rattle.lx_files.specs.Tallies.{holds};
+ghost use Rattle.lx_files.specs.Tallies.{holds, Forgets};
 ghost use Rattle.lx_files.specs.Kinds.{is_number};
 
 use crate::counts::Counts;
@@ -36,6 +36,15 @@ impl Model for Names {
     ghost view = { λ n. n.map };
 
     ghost invariant = { λ n. Agree n.counts is_number n.map };
+}
+
+/// One less of the node that a path named before.
+fn forget(counts: &mut Counts, was: Option<u32>)
+    ensures { Forgets is_number was counts.old counts.new }
+{
+    if let Some(node) = was {
+        counts.subtract(node);
+    }
 }
 
 impl Names {
@@ -92,13 +101,17 @@ impl Names {
 
     /// The path names the node, and nothing else.
     pub fn insert(&mut self, alloc: Global, path: &[u8], node: u32) -> Result<(), AllocError>
-        ensures { OnOk result (self.new ≡ maps.insert self.old path.now node) }
+        ensures ok { OnOk result (self.new ≡ maps.insert self.old path.now node) }
+        ensures err { OnErr result (self.new ≡ self.old) }
     {
         let key = path.to_vec(alloc)?;
-        self.remove(path);
+        let was = self.map.get(path);
         self.counts.add(node)?;
         match self.map.insert(key, node) {
-            Ok(()) => Ok(()),
+            Ok(()) => {
+                forget(&mut self.counts, was);
+                Ok(())
+            }
             Err(error) => {
                 self.counts.subtract(node);
                 Err(error)

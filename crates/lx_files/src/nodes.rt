@@ -5,7 +5,7 @@ ghost use Rattle.std.specs.Option.{option_copied};
 ghost use Rattle.std.specs.FinMap as maps;
 ghost use Rattle.containers.specs.Vacant.{vacant};
 ghost use Rattle.lx_abi.specs.Limits.{largest_file};
-ghost use Rattle.lx_files.specs.Tallies.{total};
+ghost use Rattle.lx_files.specs.Tallies.{total, weight};
 ghost use Rattle.lx_files.specs.Kinds.{size_of, changed_file, changed_node};
 ghost use Rattle.lx_files.specs.Contents.{padded_to, overwritten as overwritten_of, reaching};
 ghost use Rattle.lx_files.specs.Contents.{length_after as length_after_of};
@@ -44,6 +44,16 @@ fn size(node: &Node) -> u64
     match node {
         Node::File(bytes) => bytes.len() as u64,
         Node::Directory => 0,
+    }
+}
+
+/// How many bytes stand at a number.
+fn size_at(map: &Map<Node>, node: u32) -> u64
+    ensures { result ≡ weight size_of (maps.get map.now node) }
+{
+    match map.get(node) {
+        None => 0,
+        Some(value) => size(value),
     }
 }
 
@@ -97,11 +107,16 @@ impl Nodes {
     }
 
     pub fn insert(&mut self, node: u32, value: Node) -> Result<(), AllocError>
-        ensures { OnOk result (self.new ≡ maps.insert self.old node value) }
+        ensures ok { OnOk result (self.new ≡ maps.insert self.old node value) }
+        ensures err { OnErr result (self.new ≡ self.old) }
     {
-        self.remove(node);
+        let before = size_at(&self.map, node);
         // More than 64 bits count are more than any memory holds.
-        let Some(contents) = self.contents.checked_add(size(&value)) else {
+        let Some(contents) = self
+            .contents
+            .saturating_sub(before)
+            .checked_add(size(&value))
+        else {
             return Err(AllocError);
         };
         self.map.insert(node, value)?;
@@ -127,8 +142,9 @@ impl Nodes {
     /// Writes bytes to a file from an offset on. A node that is no file is left.
     pub fn overwrite(&mut self, node: u32, at: usize, bytes: &[u8]) -> Result<(), AllocError>
         requires { at + length bytes.now ≤ largest_file }
-        ensures { OnOk result (self.new
+        ensures ok { OnOk result (self.new
             ≡ changed_file self.old node (λ old. overwritten_of old at bytes.now) (maps.get self.old node)) }
+        ensures err { OnErr result (self.new ≡ self.old) }
     {
         let Some(value) = self.map.get_mut(node) else {
             return Ok(());
@@ -146,7 +162,8 @@ impl Nodes {
 
     /// A file has so many bytes from now on, zeros among them where some were missing. A node that is no file is left.
     pub fn resize(&mut self, node: u32, len: usize) -> Result<(), AllocError>
-        ensures { OnOk result (self.new ≡ changed_file self.old node (padded_to len) (maps.get self.old node)) }
+        ensures ok { OnOk result (self.new ≡ changed_file self.old node (padded_to len) (maps.get self.old node)) }
+        ensures err { OnErr result (self.new ≡ self.old) }
     {
         let Some(value) = self.map.get_mut(node) else {
             return Ok(());

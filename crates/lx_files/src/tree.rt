@@ -1,6 +1,6 @@
 //! The file tree.
 
-ghost use Rattle.std.specs.Prelude.{◌≡◌, OnOk, IfOk};
+ghost use Rattle.std.specs.Prelude.{◌≡◌, OnOk, OnErr, IfOk};
 ghost use Rattle.std.specs.Option.{option_copied};
 ghost use Rattle.std.specs.FinMap as maps;
 ghost use Rattle.containers.specs.Vacant.{vacant};
@@ -74,11 +74,17 @@ impl Tree {
     pub fn create(&mut self, alloc: Global, path: &[u8], node: Node) -> Result<u32, AllocError>
         ensures number { IfOk result (λ n. n ≡ vacant self.old.nodes) }
         ensures tree { OnOk result (self.new ≡ created self.old path.now node) }
+        ensures err { OnErr result (self.new ≡ self.old) }
     {
         let number = self.nodes.vacant()?;
-        self.names.insert(alloc, path, number)?;
         self.nodes.insert(number, node)?;
-        Ok(number)
+        match self.names.insert(alloc, path, number) {
+            Ok(()) => Ok(number),
+            Err(error) => {
+                self.nodes.remove(number);
+                Err(error)
+            }
+        }
     }
 
     /// The path names nothing from now on; its node stays, whose number is answered.
