@@ -1,6 +1,6 @@
 //! What the descriptors of each process name.
 
-ghost use Rattle.std.specs.Prelude.{◌≡◌, ◌<◌, ◌≤◌, ◌++◌, [], drop, length, OnOk, IfOk, IfSome};
+ghost use Rattle.std.specs.Prelude.{◌≡◌, ◌<◌, ◌≤◌, ◌++◌, [], drop, length, OnOk, OnErr, IfOk, IfSome};
 ghost use Rattle.lx_abi.specs.Limits.{most_fds};
 ghost use Rattle.lx_open.specs.Opens.{pair as pair_of, slot as slot_of, free as free_of, opened, held as held_of};
 ghost use Rattle.lx_open.specs.Opens.{with_held, with_offset, with_pipe, with_slot};
@@ -124,7 +124,8 @@ impl FdTable {
     /// A descriptor names what a slot says.
     pub fn put(&mut self, pid: u32, fd: u32, slot: Slot) -> Result<(), AllocError>
         requires { fd < most_fds }
-        ensures { OnOk result (self.new ≡ with_slot self.old pid fd slot) }
+        ensures ok { OnOk result (self.new ≡ with_slot self.old pid fd slot) }
+        ensures err { OnErr result (self.new ≡ self.old) }
     {
         self.slots.insert(pair(pid, fd), slot)?;
         Ok(())
@@ -160,7 +161,8 @@ impl FdTable {
 
     /// An empty pipe by this number.
     pub fn add_pipe(&mut self, alloc: Global, pipe: u32) -> Result<(), AllocError>
-        ensures { OnOk result (self.new ≡ with_pipe self.old pipe []) }
+        ensures ok { OnOk result (self.new ≡ with_pipe self.old pipe []) }
+        ensures err { OnErr result (self.new ≡ self.old) }
     {
         self.pipes.insert(pipe, PipeBuffer::new(alloc))?;
         Ok(())
@@ -175,7 +177,8 @@ impl FdTable {
         closes_on_exec: bool,
     ) -> Result<(), AllocError>
         requires { fd < most_fds }
-        ensures { OnOk result (self.new ≡ opened self.old pid fd description closes_on_exec) }
+        ensures ok { OnOk result (self.new ≡ opened self.old pid fd description closes_on_exec) }
+        ensures err { OnErr result (self.new ≡ self.old) }
     {
         let number = self.descriptions.vacant()?;
         self.descriptions.insert(number, description)?;
@@ -183,8 +186,13 @@ impl FdTable {
             description: number,
             closes_on_exec,
         };
-        self.slots.insert(pair(pid, fd), slot)?;
-        Ok(())
+        match self.slots.insert(pair(pid, fd), slot) {
+            Ok(()) => Ok(()),
+            Err(error) => {
+                self.descriptions.remove(number);
+                Err(error)
+            }
+        }
     }
 
     /// What was written to a pipe and not read.
@@ -210,7 +218,8 @@ impl FdTable {
 
     /// Puts bytes in a pipe.
     pub fn put_in_pipe(&mut self, alloc: Global, pipe: u32, bytes: &[u8]) -> Result<(), AllocError>
-        ensures { OnOk result (self.new ≡ with_held self.old pipe (λ q. q ++ bytes.now)) }
+        ensures ok { OnOk result (self.new ≡ with_held self.old pipe (λ q. q ++ bytes.now)) }
+        ensures err { OnErr result (self.new ≡ self.old) }
     {
         let Some(queue) = self.pipes.get_mut(pipe) else {
             return Ok(());

@@ -1,8 +1,8 @@
 //! Slots, and how many name each description.
 
-ghost use Rattle.std.specs.Prelude.{◌≡◌, OnOk};
+ghost use Rattle.std.specs.Prelude.{◌≡◌, OnOk, OnErr};
 ghost use Rattle.std.specs.FinMap as maps;
-ghost use Rattle.lx_files.specs.Tallies.{holds};
+ghost use Rattle.lx_files.specs.Tallies.{holds, Forgets};
 ghost use Rattle.lx_open.specs.Kinds.{names_description};
 ghost use Rattle.lx_open.specs.Nexts.{IsFirstFrom};
 
@@ -31,6 +31,15 @@ impl Model for Slots {
     ghost view = { λ s. s.map };
 
     ghost invariant = { λ s. Agree s.counts names_description s.map };
+}
+
+/// One less of the description that a slot named before.
+fn forget(counts: &mut Counts, was: Option<Slot>)
+    ensures { Forgets names_description was counts.old counts.new }
+{
+    if let Some(slot) = was {
+        counts.subtract(slot.description);
+    }
 }
 
 impl Slots {
@@ -77,12 +86,16 @@ impl Slots {
     }
 
     pub fn insert(&mut self, pair: u64, slot: Slot) -> Result<(), AllocError>
-        ensures { OnOk result (self.new ≡ maps.insert self.old pair slot) }
+        ensures ok { OnOk result (self.new ≡ maps.insert self.old pair slot) }
+        ensures err { OnErr result (self.new ≡ self.old) }
     {
-        self.remove(pair);
+        let was = self.map.get(pair);
         self.counts.add(slot.description)?;
         match self.map.insert(pair, slot) {
-            Ok(()) => Ok(()),
+            Ok(()) => {
+                forget(&mut self.counts, was);
+                Ok(())
+            }
             Err(error) => {
                 self.counts.subtract(slot.description);
                 Err(error)
