@@ -25,15 +25,23 @@ fn ask_size(ask: &Ask) -> usize
     }
 }
 
-#[tactic(auto, using(host_values::proofs::Sizes::sizes), unfolding(crate::specs::Spelling::head, crate::specs::Spelling::parts))]
+/// What is written in a boot, and its files.
+#[tactic(auto, using(host_values::proofs::Sizes::sizes), unfolding(crate::specs::Spelling::parts))]
+fn spend_parts(budget: usize, boot: &Boot) -> Option<usize>
+    ensures { Spends result budget (length (spec.parts boot.now)) }
+{
+    let budget = spend_text(budget, boot.input.as_slice())?;
+    let budget = spend_list(budget, boot.argv.as_slice())?;
+    let budget = spend_list(budget, boot.env.as_slice())?;
+    spend_list(budget, boot.files.as_slice())
+}
+
+#[tactic(auto, using(host_values::proofs::Sizes::sizes), unfolding(crate::specs::Spelling::head))]
 fn spend_boot(budget: usize, boot: &Boot, limit: u64, words: &[Word]) -> Option<usize>
     ensures { Spends result budget (length (spec.boot boot.now limit words.now)) }
 {
     let budget = budget.checked_sub(18)?;
-    let budget = spend_text(budget, boot.input.as_slice())?;
-    let budget = spend_list(budget, boot.argv.as_slice())?;
-    let budget = spend_list(budget, boot.env.as_slice())?;
-    let budget = spend_list(budget, boot.files.as_slice())?;
+    let budget = spend_parts(budget, boot)?;
     spend_list(budget, words)
 }
 
