@@ -1,0 +1,217 @@
+-- Processes that end, and that are born, keep a state sound.
+use Rattle.std.proofs.Common.{◌≡◌, ℕ, suc, ◌≤◌, ◌⊎◌, ⊎_elim, Bool, true, false, cond, List, [], ◌∷◌, Option, Some, None, refl, ap, sym, subst, ◌∙◌, arith}
+use Rattle.std.proofs.lemmas.Bool.Decides.{nat_tests}
+use Rattle.std.specs.Prelude.{◌==◌, nat_lt, fold}
+use Rattle.std.specs.List.{filter}
+use Rattle.std.specs.Cmp.{nat_cmp_total}
+use Rattle.std.specs.FinMap as maps
+use Rattle.lx_model.specs.Kernel.{put}
+use Rattle.lx_model.specs.declared.stage.Stage.{Stage}
+use Rattle.lx_model.specs.declared.stage.Stage.TheVariants.{Born}
+use Rattle.lx_model.specs.declared.stage.Task.{Task}
+use Rattle.lx_model.specs.declared.stage.Task.TheVariants as task
+use Rattle.lx_open.specs.Releases.{all_closed}
+use Rattle.lx_proc.specs.declared.state.Entry.{Entry}
+use Rattle.lx_proc.specs.declared.state.Life.{Life}
+use Rattle.lx_proc.specs.declared.state.Life.TheVariants.{Alive, Dying, Zombie}
+use Rattle.lx_proc.specs.declared.state.Shared.{Shared}
+use Rattle.lx_proc.specs.declared.state.UserState.{UserState}
+use Rattle.lx_proc.specs.State.{Entries, changed, changed_entry, with_entries, with_held}
+use Rattle.lx_proc.specs.Families.{is_zombie}
+use Rattle.lx_proc.specs.WaitWords.{Words}
+use Rattle.lx_pcalls.specs.Clone.{with_child, child_entry}
+use Rattle.lx_pcalls.specs.Ends.{with_life, dies, orphan, released_entry, released, orphaned, told, wants_no_news, retired_by, buried_entry, buried}
+use Rattle.lx_sound.specs.Sound.{Agree, HasWord, Sound}
+use Rattle.lx_sound.proofs.Maps.{inserted, there_now, removed, inserted_other, removed_other}
+use Rattle.lx_sound.proofs.Together.{inherited_together, all_closed_together}
+use Rattle.lx_sound.proofs.Keeping.{SameEntry, SameEntries, entries_stay, entries_then, put_same, taken_same, gone, changed_same, kept_sound, entries_keep}
+
+abbrev Tasks : Type 0
+Tasks = ℕ → Task UserState
+
+has_same : (words words' : Words) (q : ℕ) (l : Life) → maps.get words' q ≡ maps.get words q → HasWord words q l → HasWord words' q l
+has_same words words' q Alive same h = tt
+has_same words words' q (Dying w) same h = same ∙ h
+has_same words words' q (Zombie w) same h = same ∙ h
+
+turned_about : (p q : ℕ) → (p == q) ≡ false → (q == p) ≡ false
+turned_about p q h = grind (arith, nat_tests, h)
+
+-- A living process stands at another stage.
+
+alive_agrees : (o : Option Entry) (b c : UserState) (stage next : Stage) → Agree o (task.Alive b stage) → Agree o (task.Alive c next)
+alive_agrees None b c stage next h = h
+alive_agrees (Some e) b c stage next h = h
+
+pub stands : (s : Shared) (tasks : Tasks) (child p : ℕ) (b c : UserState) (stage next : Stage) → tasks p ≡ task.Alive b stage → Sound s tasks child → Sound s (put tasks p (task.Alive c next)) child
+stands s tasks child p b c stage next is h = record { files = h.files; agree = λ q. go q (p == q) refl; words = h.words; pids = h.pids }
+  where
+    go : (q : ℕ) (t : Bool) → (p == q) ≡ t → Agree (maps.get s.entries q) (cond t (task.Alive c next) (tasks q))
+    go q false other = h.agree q
+    go q true eq =
+        let same : p ≡ q = grind (arith, nat_tests, eq) in
+        subst (λ i. Agree (maps.get s.entries i) (task.Alive c next)) same (alive_agrees (maps.get s.entries p) b c stage next (subst (Agree (maps.get s.entries p)) is (h.agree p)))
+
+pub stays_gone : (s : Shared) (tasks : Tasks) (child p : ℕ) → tasks p ≡ task.Gone → Sound s tasks child → Sound s (put tasks p task.Gone) child
+stays_gone s tasks child p is h = record { files = h.files; agree = λ q. go q (p == q) refl; words = h.words; pids = h.pids }
+  where
+    go : (q : ℕ) (t : Bool) → (p == q) ≡ t → Agree (maps.get s.entries q) (cond t task.Gone (tasks q))
+    go q false other = h.agree q
+    go q true eq =
+        let same : p ≡ q = grind (arith, nat_tests, eq) in
+        subst (λ i. Agree (maps.get s.entries i) task.Gone) same (subst (Agree (maps.get s.entries p)) is (h.agree p))
+
+-- A process has an entry of another life, and stands elsewhere.
+
+module _ (s : Shared) (tasks : Tasks) (child p : ℕ) (h : Sound s tasks child) (old x : Entry) (next : Task UserState) where
+  pub relived : maps.get s.entries p ≡ Some old → Agree (Some x) next → (words : Words) → ((q : ℕ) → (q == p) ≡ false → maps.get words q ≡ maps.get s.ended q) → HasWord words p x.life
+      → (t : Shared) → t.entries ≡ maps.insert s.entries p x → t.ended ≡ words → t.tree ≡ s.tree → t.fds ≡ s.fds → Sound t (put tasks p next) child
+  relived is agrees words others has t es ws ts fs = record {
+    files = rw (ts, fs) h.files;
+    agree = λ q. subst (λ (m : Entries). Agree (maps.get m q) (put tasks p next q)) (sym es) (agree_at q (p == q) refl);
+    words = λ q e e_is. subst (λ (w : Words). HasWord w q e.life) (sym ws) (words_at q e (q == p) refl (ap (λ (m : Entries). maps.get m q) (sym es) ∙ e_is));
+    pids = λ q le. ap (λ (m : Entries). maps.get m q) es ∙ pids_at q (q == p) refl le;
+  }
+    where
+      agree_at : (q : ℕ) (t : Bool) → (p == q) ≡ t → Agree (maps.get (maps.insert s.entries p x) q) (cond t next (tasks q))
+      agree_at q false other = subst (λ o. Agree o (tasks q)) (sym (inserted_other s.entries p x q (turned_about p q other))) (h.agree q)
+      agree_at q true eq =
+          let same : p ≡ q = grind (arith, nat_tests, eq) in
+          subst (λ i. Agree (maps.get (maps.insert s.entries p x) i) next) same (subst (λ o. Agree o next) (sym (there_now nat_cmp_total s.entries p x)) agrees)
+
+      words_at : (q : ℕ) (e : Entry) (t : Bool) → (q == p) ≡ t → maps.get (maps.insert s.entries p x) q ≡ Some e → HasWord words q e.life
+      words_at q e false other e_is = has_same s.ended words q e.life (others q other) (h.words q e (sym (inserted_other s.entries p x q other) ∙ e_is))
+      words_at q e true eq e_is =
+          let same : p ≡ q = grind (arith, nat_tests, eq) in
+          let there : maps.get (maps.insert s.entries p x) q ≡ Some x = subst (λ i. maps.get (maps.insert s.entries p x) i ≡ Some x) same (there_now nat_cmp_total s.entries p x) in
+          let it : x ≡ e = cc (there, e_is) in
+          subst (λ (y : Entry). HasWord words q y.life) it (subst (λ i. HasWord words i x.life) same has)
+
+      pids_at : (q : ℕ) (t : Bool) → (q == p) ≡ t → child ≤ q → maps.get (maps.insert s.entries p x) q ≡ None
+      pids_at q false other le = inserted_other s.entries p x q other ∙ h.pids q le
+      pids_at q true eq le =
+          let same : q ≡ p = grind (arith, nat_tests, eq) in
+          let none : maps.get s.entries p ≡ None = subst (λ i. maps.get s.entries i ≡ None) same (h.pids q le) in
+          absurd (cc (none, is))
+
+-- A process that enters Dying.
+
+abbrev closed : Shared → ℕ → Shared
+closed s p = with_held s (all_closed s.tree s.fds p)
+
+pub dies_sound : (s : Shared) (tasks : Tasks) (child p w : ℕ) (b : UserState) (stage : Stage) → tasks p ≡ task.Alive b stage → Sound s tasks child → Sound (dies s p w) (put tasks p (task.Dying w)) child
+dies_sound s tasks child p w b stage is h = go (maps.get s.entries p) refl (subst (Agree (maps.get s.entries p)) is (h.agree p))
+  where
+    shut : Sound (closed s p) tasks child
+    shut = record { files = all_closed_together s.tree s.fds h.files p; agree = h.agree; words = h.words; pids = h.pids }
+
+    go : (o : Option Entry) → maps.get s.entries p ≡ o → Agree o (task.Alive b stage) → Sound (dies s p w) (put tasks p (task.Dying w)) child
+    go None none agrees = absurd agrees
+    go (Some e) there agrees =
+        relived (closed s p) tasks child p shut e (with_life e (Dying w)) (task.Dying w) there refl (maps.insert s.ended p w) (λ q other. inserted_other s.ended p w q other) (there_now nat_cmp_total s.ended p w)
+        (dies s p w) (ap (changed_entry s.entries p (λ x. with_life x (Dying w))) there) refl refl refl
+
+-- A process that leaves Dying.
+
+zombie_is : (l : Life) → is_zombie l ≡ true → (w : ℕ) × (l ≡ Zombie w)
+zombie_is Alive e = absurd (cc e)
+zombie_is (Dying w) e = absurd (cc e)
+zombie_is (Zombie w) e = (w, refl)
+
+orphan_same : (m : Entries) (c : ℕ) (e : Entry) → maps.get m c ≡ Some e → (z : Bool) → is_zombie e.life ≡ z → SameEntries m (orphan m c e z)
+orphan_same m c e is true z = taken_same m c (subst (λ o. SameEntry o None) (sym is) (zombie_is e.life z))
+orphan_same m c e is false z = put_same m c (record e { parent = 0 }) (subst (λ o. SameEntry o (Some (record e { parent = 0 }))) (sym is) refl)
+
+either_same : (m x y : Entries) (t : Bool) → SameEntries m x → SameEntries m y → SameEntries m (cond t x y)
+either_same m x y true h g = h
+either_same m x y false h g = g
+
+released_same : (p : ℕ) (m : Entries) (c : ℕ) → SameEntries m (released p m c)
+unfolding released
+released_same p m c = go (maps.get m c) refl
+  where
+    go : (o : Option Entry) → maps.get m c ≡ o → SameEntries m (released_entry m p c o)
+    go None is = entries_stay m
+    go (Some e) is = either_same m (orphan m c e (is_zombie e.life)) m (e.parent == p) (orphan_same m c e is (is_zombie e.life) refl) (entries_stay m)
+
+each_same : (p : ℕ) (m : Entries) (cs : List ℕ) → SameEntries m (fold (released p) m cs)
+each_same p m [] = entries_stay m
+each_same p m (c ∷ cs) = entries_then m (released p m c) (fold (released p) (released p m c) cs) (released_same p m c) (each_same p (released p m c) cs)
+
+orphaned_same : (m : Entries) (p : ℕ) → SameEntries m (orphaned m p)
+unfolding orphaned
+orphaned_same m p = each_same p m (filter (nat_lt 0) (maps.keys m))
+
+-- it leaves the table
+leaves_sound : (s : Shared) (tasks : Tasks) (child p : ℕ) → Sound s tasks child → Sound (with_entries s (maps.remove s.entries p)) (put tasks p task.Gone) child
+leaves_sound s tasks child p h = record {
+  files = h.files;
+  agree = λ q. agree_at q (p == q) refl;
+  words = λ q e is. h.words q e (removed nat_cmp_total s.entries p q e is);
+  pids = λ q le. pids_at q (q == p) refl le;
+}
+  where
+    gone_at : (q : ℕ) → (q == p) ≡ true → maps.get (maps.remove s.entries p) q ≡ None
+    gone_at q eq = let same : p ≡ q = grind (arith, nat_tests, eq) in subst (λ i. maps.get (maps.remove s.entries p) i ≡ None) same (gone s.entries p)
+
+    agree_at : (q : ℕ) (t : Bool) → (p == q) ≡ t → Agree (maps.get (maps.remove s.entries p) q) (cond t task.Gone (tasks q))
+    agree_at q false other = subst (λ o. Agree o (tasks q)) (sym (removed_other s.entries p q (turned_about p q other))) (h.agree q)
+    agree_at q true eq = subst (λ o. Agree o task.Gone) (sym (gone_at q (grind (arith, nat_tests, eq)))) tt
+
+    pids_at : (q : ℕ) (t : Bool) → (q == p) ≡ t → child ≤ q → maps.get (maps.remove s.entries p) q ≡ None
+    pids_at q true eq le = gone_at q eq
+    pids_at q false other le = removed_other s.entries p q other ∙ h.pids q le
+
+-- or waits there as a zombie
+waits_sound : (s : Shared) (tasks : Tasks) (child p w : ℕ) → tasks p ≡ task.Dying w → Sound s tasks child → Sound (with_entries s (changed s.entries p (λ e. with_life e (Zombie w)))) (put tasks p task.Gone) child
+waits_sound s tasks child p w is h = go (maps.get s.entries p) refl (subst (Agree (maps.get s.entries p)) is (h.agree p))
+  where
+    go : (o : Option Entry) → maps.get s.entries p ≡ o → Agree o (task.Dying w) → Sound (with_entries s (changed s.entries p (λ e. with_life e (Zombie w)))) (put tasks p task.Gone) child
+    go None none agrees = absurd agrees
+    go (Some e) there agrees =
+        relived s tasks child p h e (with_life e (Zombie w)) task.Gone there (w, refl) s.ended (λ q other. refl) (subst (HasWord s.ended p) agrees (h.words p e there))
+        (with_entries s (changed s.entries p (λ e. with_life e (Zombie w)))) (ap (changed_entry s.entries p (λ x. with_life x (Zombie w))) there) refl refl refl
+
+abbrev told_in : Shared → ℕ → ℕ → ℕ → Shared
+told_in s p w parent = with_entries s (changed s.entries parent (λ x. told x p w))
+
+retired_sound : (s : Shared) (tasks : Tasks) (child p w parent : ℕ) (o : Option Entry) → tasks p ≡ task.Dying w → Sound s tasks child → Sound (with_entries s (retired_by s.entries p w parent o)) (put tasks p task.Gone) child
+retired_sound s tasks child p w parent None is h = leaves_sound s tasks child p h
+retired_sound s tasks child p w parent (Some e) is h = go (wants_no_news e)
+  where
+    go : (t : Bool) → Sound (with_entries s (cond t (maps.remove s.entries p) (changed (changed s.entries parent (λ x. told x p w)) p (λ x. with_life x (Zombie w))))) (put tasks p task.Gone) child
+    go true = leaves_sound s tasks child p h
+    go false =
+        waits_sound (told_in s p w parent) tasks child p w is
+        (kept_sound s (told_in s p w parent) tasks child (entries_keep s (changed s.entries parent (λ x. told x p w)) (changed_same s.entries parent (λ x. told x p w) (λ x. refl))) h)
+
+pub buried_sound : (s : Shared) (tasks : Tasks) (child p w : ℕ) → tasks p ≡ task.Dying w → Sound s tasks child → Sound (buried s p w) (put tasks p task.Gone) child
+unfolding buried
+buried_sound s tasks child p w is h = go (maps.get s.entries p) (subst (Agree (maps.get s.entries p)) is (h.agree p))
+  where
+    go : (o : Option Entry) → Agree o (task.Dying w) → Sound (with_entries s (buried_entry s.entries p w o)) (put tasks p task.Gone) child
+    go None agrees = absurd agrees
+    go (Some e) agrees =
+        let m : Entries = orphaned s.entries p in
+        retired_sound (with_entries s m) tasks child p w e.parent (maps.get m e.parent) is
+        (kept_sound s (with_entries s m) tasks child (entries_keep s m (orphaned_same s.entries p)) h)
+
+-- A process that is born.
+
+pub bears_sound : (s : Shared) (tasks : Tasks) (child p : ℕ) (e : Entry) (newborn : UserState) → Sound s tasks child → Sound (with_child s child p (child_entry e p)) (put tasks child (task.Alive newborn Born)) (suc child)
+bears_sound s tasks child p e newborn h = record {
+  files = inherited_together s.tree s.fds h.files p child;
+  agree = λ q. agree_at q (child == q) refl;
+  words = λ q x is. words_at q x (inserted nat_cmp_total s.entries child (child_entry e p) q x is);
+  pids = λ q le. inserted_other s.entries child (child_entry e p) q (let above = le in grind (arith, nat_tests, above)) ∙ h.pids q (omega (arith, le));
+}
+  where
+    agree_at : (q : ℕ) (t : Bool) → (child == q) ≡ t → Agree (maps.get (maps.insert s.entries child (child_entry e p)) q) (cond t (task.Alive newborn Born) (tasks q))
+    agree_at q false other = subst (λ o. Agree o (tasks q)) (sym (inserted_other s.entries child (child_entry e p) q (turned_about child q other))) (h.agree q)
+    agree_at q true eq =
+        let same : child ≡ q = grind (arith, nat_tests, eq) in
+        subst (λ i. Agree (maps.get (maps.insert s.entries child (child_entry e p)) i) (task.Alive newborn Born)) same
+        (subst (λ o. Agree o (task.Alive newborn Born)) (sym (there_now nat_cmp_total s.entries child (child_entry e p))) refl)
+
+    words_at : (q : ℕ) (x : Entry) → (child_entry e p ≡ x) ⊎ (maps.get s.entries q ≡ Some x) → HasWord s.ended q x.life
+    words_at q x either = ⊎_elim (λ is. subst (λ (y : Entry). HasWord s.ended q y.life) is tt) (λ old. h.words q x old) either

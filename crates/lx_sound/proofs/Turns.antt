@@ -1,0 +1,264 @@
+-- A turn keeps a state sound, and a boot begins in one.
+use Rattle.std.proofs.Common.{◌≡◌, ℕ, zero, suc, ⊎_elim, Bool, true, false, cond, List, [], ◌∷◌, length, Option, Some, None, is_some, refl, ap, sym, subst, ◌∙◌, arith}
+use Rattle.std.proofs.lemmas.Bool.Decides.{nat_tests}
+use Rattle.std.specs.Prelude.{◌==◌, fold, take}
+use Rattle.std.specs.Option.{unwrap_or}
+use Rattle.std.specs.Ordering.{nat_cmp, eq_by_cmp}
+use Rattle.std.specs.Cmp.{nat_cmp_total}
+use Rattle.std.specs.FinMap as maps
+use Rattle.rv_hart.specs.declared.outcome.Step.{Step}
+use Rattle.rv_hart.specs.declared.outcome.Step.TheVariants as step
+use Rattle.rv_hart.specs.Steps.{Outcome, stepped as instruction}
+use Rattle.lx_abi.specs.Errnos.{enosys}
+use Rattle.lx_abi.specs.Log.{entries, items_of}
+use Rattle.lx_abi.specs.declared.boot.Boot.{Boot}
+use Rattle.lx_abi.specs.declared.boot.GuestFile.{GuestFile}
+use Rattle.lx_abi.specs.declared.log.Call.{Call}
+use Rattle.lx_abi.specs.declared.log.Cause.{Cause}
+use Rattle.lx_abi.specs.declared.outcome.Node.TheVariants.{File, Directory}
+use Rattle.lx_abi.specs.declared.script.Choice.{Choice}
+use Rattle.lx_abi.specs.declared.signal.Signal.{Signal}
+use Rattle.lx_files.specs.Boots.{rooted, ends_directory, is_there, with_directory_at, with_directories, with_file, tree_of}
+use Rattle.lx_files.specs.Trees.{created}
+use Rattle.lx_files.specs.declared.tree.Tree.{Tree}
+use Rattle.lx_open.specs.Opens.{no_fds, opened}
+use Rattle.lx_open.specs.declared.description.Object.TheVariants.{Input, Console}
+use Rattle.lx_open.specs.declared.fd_table.FdTable.{FdTable}
+use Rattle.lx_model.specs.Machine.{with_result, Refused, Returns, Jumps, Execs, Bears, Blocks, Ends, Took, Passes, Kills}
+use Rattle.lx_model.specs.Turn.{Out, turn, killed_or, lives, joins, stepped, answered, took}
+use Rattle.lx_model.specs.Kernel.{Script, Kernel, traces, choice_at, put, after_turn, with_child, first_kernel, kernel_turn, kernel_run, born}
+use Rattle.lx_model.specs.Finite.{Is, Running, at}
+use Rattle.lx_model.specs.declared.stage.Stage.{Stage}
+use Rattle.lx_model.specs.declared.stage.Stage.TheVariants.{Born, Run, Faulting, Entered, Doing, Replaced, Acted, Finished, Taken, Dropped}
+use Rattle.lx_model.specs.declared.stage.Task.{Task}
+use Rattle.lx_model.specs.declared.stage.Task.TheVariants as task
+use Rattle.lx_sig.specs.Frames.{frame_fault}
+use Rattle.lx_sig.specs.Pending.{without_pending}
+use Rattle.lx_sig.specs.Reactions.{reaction as reaction_to}
+use Rattle.lx_sig.specs.declared.reactions.Reaction.{Reaction}
+use Rattle.lx_sig.specs.declared.reactions.Reaction.TheVariants as reaction
+use Rattle.lx_sig.specs.declared.state.Interrupted.{Interrupted}
+use Rattle.lx_proc.specs.declared.state.Entry.{Entry}
+use Rattle.lx_proc.specs.declared.state.Shared.{Shared}
+use Rattle.lx_proc.specs.declared.state.UserState.{UserState}
+use Rattle.lx_proc.specs.State.{with_signals}
+use Rattle.lx_proc.specs.Answers.{Answers}
+use Rattle.lx_boot.specs.First.{first_entry, first_fds, first_shared, reads, writes}
+use Rattle.lx_exec.specs.Programs.{booted}
+use Rattle.lx_fcalls.specs.Calls.{file_call}
+use Rattle.lx_pcalls.specs.Calls.{process_call}
+use Rattle.lx_pcalls.specs.Interruption.{is_interrupted, interruptible, blocks_or_returns}
+use Rattle.lx_pcalls.specs.Taking.{takes, takes_at, reacts}
+use Rattle.lx_turn.specs.Calls.{does, called}
+use Rattle.lx_turn.specs.Linux.{linux}
+use Rattle.lx_turn.specs.Reactions.{next_of, runs, resumed, ran_by, is_killed}
+use Rattle.lx_sound.specs.Together.{HoldTogether}
+use Rattle.lx_sound.specs.Sound.{Agree, HasWord, Sound, IsSound, TurnsStaySound, KernelsAreSound}
+use Rattle.lx_sound.proofs.Maps.{inserted, inserted_other}
+use Rattle.lx_sound.proofs.Together.{opened_together, created_together}
+use Rattle.lx_sound.proofs.Keeping.{Keeps, keeps_all, keeps_then, changed_keeps, kept_sound, DoesKeep}
+use Rattle.lx_sound.proofs.Files as files
+use Rattle.lx_sound.proofs.Processes as processes
+use Rattle.lx_sound.proofs.Ends.{stands, stays_gone, dies_sound, buried_sound, bears_sound}
+
+-- Calls and signals.
+
+interrupted_kept : (child : ℕ) (s : Shared) (p : ℕ) (b : UserState) (t : Bool) → DoesKeep child s p (blocks_or_returns s b t)
+interrupted_kept child s p b true = keeps_all s
+interrupted_kept child s p b false = tt
+
+interruptible_kept : (child : ℕ) (s : Shared) (p : ℕ) (b : UserState) (a : Answers) → DoesKeep child s p a → DoesKeep child s p (interruptible s p b a)
+interruptible_kept child s p b (Refused e) h = h
+interruptible_kept child s p b (Returns t c x) h = h
+interruptible_kept child s p b (Jumps t c) h = h
+interruptible_kept child s p b (Execs t c) h = h
+interruptible_kept child s p b (Bears t c newborn) h = h
+interruptible_kept child s p b Blocks h = interrupted_kept child s p b (is_interrupted (maps.get s.entries p))
+interruptible_kept child s p b (Ends w) h = h
+
+process_kept : (child : ℕ) (s : Shared) (p : ℕ) (call : Call) (b : UserState) (o : Option Answers) → processes.KeptIf child s p call b o → DoesKeep child s p (unwrap_or o (Refused enosys))
+process_kept child s p call b None h = tt
+process_kept child s p call b (Some a) h = h
+
+file_kept : (child : ℕ) (s : Shared) (p : ℕ) (call : Call) (b : UserState) (o : Option Answers) (other : Answers) → files.KeptIf child s p call b o → DoesKeep child s p other → DoesKeep child s p (unwrap_or o other)
+file_kept child s p call b None other h g = g
+file_kept child s p call b (Some a) other h g = h
+
+does_kept : (child : ℕ) (s : Shared) (p : ℕ) (call : Call) (b : UserState) → DoesKeep child s p (does s child p call b)
+unfolding does
+does_kept child s p call b =
+    interruptible_kept child s p b (called s child p call b)
+    (file_kept child s p call b (file_call s p call b) _ (files.files_kept child s p call b)
+    (process_kept child s p call b (process_call s child p call b) (processes.processes_kept child s p call b)))
+
+abbrev TookKeeps : Shared → Took Shared UserState → Type 0
+TookKeeps s (Passes t c) = Keeps s t
+TookKeeps s (Kills w) = Unit {0}
+
+took_either : (s : Shared) (t : Bool) (x y : Took Shared UserState) → TookKeeps s x → TookKeeps s y → TookKeeps s (cond t x y)
+took_either s true x y h g = h
+took_either s false x y h g = g
+
+reacts_kept : (s : Shared) (p : ℕ) (e : Entry) (b : UserState) (signal : Signal) (r : Reaction) → TookKeeps s (reacts s p e b signal r)
+reacts_kept s p e b signal reaction.Passes = keeps_all s
+reacts_kept s p e b signal reaction.Ends = tt
+reacts_kept s p e b signal (reaction.Handles a) = took_either s (is_some (frame_fault b.memory b.hart)) _ _ tt (changed_keeps s p _ (λ x. refl))
+
+takes_at_kept : (s : Shared) (p : ℕ) (b : UserState) (signal : Signal) (cause : Cause) (o : Option Entry) → TookKeeps s (takes_at o s p b signal cause)
+takes_at_kept s p b signal cause None = keeps_all s
+takes_at_kept s p b signal cause (Some e) = reacts_kept s p e b signal (reaction_to e.signals signal cause)
+
+takes_kept : (s : Shared) (p : ℕ) (b : UserState) (signal : Signal) (cause : Cause) → TookKeeps s (takes s p b signal cause)
+unfolding takes
+takes_kept s p b signal cause = takes_at_kept s p b signal cause (maps.get s.entries p)
+
+join_kept : (s : Shared) (p : ℕ) (x : Option Signal) → Keeps s (joins linux s p x)
+join_kept s p None = keeps_all s
+join_kept s p (Some signal) = changed_keeps s p _ (λ e. refl)
+
+joins_kept : (s : Shared) (p : ℕ) (x y : Option Signal) → Keeps s (joins linux (joins linux s p x) p y)
+joins_kept s p x y = keeps_then s (joins linux s p x) (joins linux (joins linux s p x) p y) (join_kept s p x) (join_kept (joins linux s p x) p y)
+
+-- A turn.
+
+abbrev next : Kernel Shared UserState → ℕ → Out Shared UserState → Kernel Shared UserState
+next k p o = with_child (after_turn k p o) o.event
+
+module _ (k : Kernel Shared UserState) (p : ℕ) (b : UserState) (stage : Stage) (is : k.tasks p ≡ task.Alive b stage) (h : IsSound k) where
+  abbrev Goes : Out Shared UserState → Type 0
+  Goes o = IsSound (next k p o)
+
+  -- it lives on, and what is shared is kept
+  on : (t : Shared) (c : UserState) (to : Stage) → Keeps k.shared t → Sound t (put k.tasks p (task.Alive c to)) k.child
+  on t c to keeps = stands t k.tasks k.child p b c stage to is (kept_sound k.shared t k.tasks k.child keeps h)
+
+  here : (c : UserState) (to : Stage) → Sound k.shared (put k.tasks p (task.Alive c to)) k.child
+  here c to = on k.shared c to (keeps_all k.shared)
+
+  ran_sound : (o : Outcome) (st : Step) → Goes (stepped linux k.shared p b (ran_by b o st))
+  ran_sound o step.Ran = here _ Run
+  ran_sound o step.Call = here b (Entered None)
+  ran_sound o (step.Fault kind address) = here b _
+
+  resumed_sound : (x : Option Interrupted) → Goes (stepped linux k.shared p b (resumed b x))
+  resumed_sound (Some x) = here _ Run
+  resumed_sound None = ran_sound (instruction b.hart b.memory) (instruction b.hart b.memory).step
+
+  runs_sound : (signal : Option Signal) → Goes (stepped linux k.shared p b (runs k.shared p b signal))
+  runs_sound (Some signal) = on _ b _ (changed_keeps k.shared p (λ e. with_signals e (without_pending e.signals signal)) (λ e. refl))
+  runs_sound None = resumed_sound b.interrupted
+
+  ends : (w : ℕ) → Sound (linux.die k.shared p w) (put k.tasks p (task.Dying w)) k.child
+  ends w = dies_sound k.shared k.tasks k.child p w b stage is h
+
+  answered_sound : (call : Call) (a : Answers) → DoesKeep k.child k.shared p a → Goes (answered linux k.shared k.child p b call a)
+  answered_sound call (Refused e) g = here _ _
+  answered_sound call (Returns t c x) g = on t _ _ g
+  answered_sound call (Jumps t c) g = on t c _ g
+  answered_sound call (Execs t c) g = on t c _ g
+  answered_sound call (Bears t c newborn) g =
+      let to : Stage = Acted call k.child false in
+      let parent : UserState = with_result linux c k.child in
+      subst (λ (u : Shared). Sound u (put (put k.tasks p (task.Alive parent to)) k.child (task.Alive newborn Born)) (suc k.child)) (sym g.1)
+      (bears_sound k.shared (put k.tasks p (task.Alive parent to)) k.child p g.0 newborn (here parent to))
+  answered_sound call Blocks g = here b (Doing call)
+  answered_sound call (Ends w) g = ends w
+
+  took_sound : (signal : Signal) (cause : Cause) (t : Took Shared UserState) → TookKeeps k.shared t → Goes (took linux k.shared p signal cause t)
+  took_sound signal cause (Passes t c) g = on t c Run g
+  took_sound signal cause (Kills w) g = ends w
+
+lives_sound : (c : Choice) (k : Kernel Shared UserState) (p : ℕ) (b : UserState) (stage : Stage) → k.tasks p ≡ task.Alive b stage → IsSound k → IsSound (next k p (lives linux c k.shared k.child p b stage))
+lives_sound c k p b Born is h = here k p b Born is h b Run
+lives_sound c k p b Run is h = runs_sound k p b Run is h (next_of (maps.get k.shared.entries p))
+lives_sound c k p b (Faulting signal cause) is h = here k p b (Faulting signal cause) is h b _
+lives_sound c k p b (Entered x) is h = on k p b (Entered x) is h _ b _ (joins_kept k.shared p x c.signal)
+lives_sound c k p b (Doing call) is h = answered_sound k p b (Doing call) is h call (does k.shared k.child p call b) (does_kept k.child k.shared p call b)
+lives_sound c k p b (Replaced call x) is h = here k p b (Replaced call x) is h _ _
+lives_sound c k p b (Acted call x replaced) is h = here k p b (Acted call x replaced) is h b Finished
+lives_sound c k p b Finished is h = here k p b Finished is h b Run
+lives_sound c k p b (Taken signal cause) is h = took_sound k p b (Taken signal cause) is h signal cause (takes k.shared p b signal cause) (takes_kept k.shared p b signal cause)
+lives_sound c k p b Dropped is h = here k p b Dropped is h b Run
+
+killed_sound : (killed : Bool) (c : Choice) (k : Kernel Shared UserState) (p : ℕ) (b : UserState) (stage : Stage) → k.tasks p ≡ task.Alive b stage → IsSound k → IsSound (next k p (killed_or killed linux c k.shared k.child p b stage))
+killed_sound true c k p b stage is h = ends k p b stage is h 9
+killed_sound false c k p b stage is h = lives_sound c k p b stage is h
+
+turn_sound : (c : Choice) (k : Kernel Shared UserState) (p : ℕ) (x : Task UserState) → k.tasks p ≡ x → IsSound k → IsSound (next k p (turn linux c k.shared k.child p x))
+turn_sound c k p (task.Alive b stage) is h = killed_sound (is_killed (maps.get k.shared.entries p)) c k p b stage is h
+turn_sound c k p (task.Dying w) is h = buried_sound k.shared k.tasks k.child p w is h
+turn_sound c k p task.Gone is h = stays_gone k.shared k.tasks k.child p is h
+
+pub turns_stay_sound : TurnsStaySound
+turns_stay_sound script follow k p h = turn_sound (choice_at linux script (traces follow p) (λ n. entries p n (items_of k.log)) (k.tasks p)) k p (k.tasks p) refl h
+
+-- A boot.
+
+none_there : {X : Type 0} (q : ℕ) (x : X) → maps.get (maps.empty {X = X} {R = nat_cmp}) q ≡ Some x → ⊥
+none_there q x e = cc (sym (maps.get-empty nat_cmp q) ∙ e)
+
+bare : HoldTogether (record { names = maps.empty; nodes = maps.empty }) no_fds
+bare = record {
+  slots = λ key named e. absurd (none_there key named e);
+  objects = λ n d e. absurd (none_there n d e);
+  pipes = λ n bytes e. absurd (none_there n bytes e);
+  names = λ path n e. absurd (cc (sym (maps.get-empty _ path) ∙ e));
+}
+
+either_directory : (tree : Tree) (path : List ℕ) (t : Bool) → HoldTogether tree no_fds → HoldTogether (cond t tree (created tree path Directory)) no_fds
+either_directory tree path true h = h
+either_directory tree path false h = created_together tree no_fds h path Directory
+
+directory_at : (tree : Tree) (path : List ℕ) (i : ℕ) (t : Bool) → HoldTogether tree no_fds → HoldTogether (with_directory_at tree path i) no_fds
+directory_at tree path i t h = go (ends_directory path i)
+  where
+    go : (c : Bool) → HoldTogether (cond c (cond (is_there tree (take i path)) tree (created tree (take i path) Directory)) tree) no_fds
+    go true = either_directory tree (take i path) (is_there tree (take i path)) h
+    go false = h
+
+directories : (tree : Tree) (path : List ℕ) (n : ℕ) → HoldTogether tree no_fds → HoldTogether (with_directories tree path n) no_fds
+unfolding with_directories
+directories tree path zero h = h
+directories tree path (suc n) h = directory_at (with_directories tree path n) path n true (directories tree path n h)
+
+planted : (tree : Tree) (gs : List GuestFile) → HoldTogether tree no_fds → HoldTogether (fold with_file tree gs) no_fds
+planted tree [] h = h
+planted tree (f ∷ gs) h = planted (with_file tree f) gs (created_together (with_directories tree f.path (length f.path)) no_fds (directories tree f.path (length f.path) h) f.path (File f.content))
+
+first_together : (gs : List GuestFile) → HoldTogether (tree_of gs) first_fds
+unfolding first_fds
+first_together gs =
+    let tree : Tree = tree_of gs in
+    let h : HoldTogether tree no_fds = planted rooted gs (created_together (record { names = maps.empty; nodes = maps.empty }) no_fds bare [] Directory) in
+    let zero : FdTable = opened no_fds 1 0 (reads Input) false in
+    let one : FdTable = opened zero 1 1 (writes Console) false in
+    opened_together tree one (opened_together tree zero (opened_together tree no_fds h 1 0 (reads Input) false refl) 1 1 (writes Console) false refl) 1 2 (writes Console) false refl
+
+first_sound : (boot : Boot) → IsSound (first_kernel (first_shared boot.limits boot.files boot.input) (booted boot.argv boot.env))
+first_sound boot =
+    let b : UserState = booted boot.argv boot.env in record {
+      files = first_together boot.files;
+      agree = λ p. subst (λ o. Agree o (born (p == 1) b)) (sym (looked p)) (alone b (p == 1));
+      words = λ p e is. ⊎_elim (λ same. subst (λ (y : Entry). HasWord maps.empty p y.life) same tt) (λ old. absurd (none_there p e old)) (inserted nat_cmp_total maps.empty 1 first_entry p e is);
+      pids = λ p le. inserted_other maps.empty 1 first_entry p (let above = le in grind (arith, nat_tests, above)) ∙ maps.get-empty nat_cmp p;
+    }
+  where
+    same : (p : ℕ) → eq_by_cmp nat_cmp p 1 ≡ (p == 1)
+    same p = grind (arith, nat_tests)
+
+    looked : (p : ℕ) → maps.get (maps.insert (maps.empty {X = Entry} {R = nat_cmp}) 1 first_entry) p ≡ cond (p == 1) (Some first_entry) None
+    looked p = maps.get-insert nat_cmp_total maps.empty 1 first_entry p ∙ ap (λ t. cond t (Some first_entry) (maps.get (maps.empty {X = Entry} {R = nat_cmp}) p)) (same p) ∙ ap (cond (p == 1) (Some first_entry)) (maps.get-empty nat_cmp p)
+
+    alone : (b : UserState) (t : Bool) → Agree (cond t (Some first_entry) None) (born t b)
+    alone b true = refl
+    alone b false = tt
+
+runs_sound_from : (script : Script) (follow : Bool) (k : Kernel Shared UserState) (pids : List ℕ) → IsSound k → IsSound (kernel_run linux script follow k pids)
+runs_sound_from script follow k [] h = h
+runs_sound_from script follow k (p ∷ pids) h = runs_sound_from script follow (kernel_turn linux script follow k p) pids (turns_stay_sound script follow k p h)
+
+pub kernels_are_sound : KernelsAreSound
+kernels_are_sound script follow boot pids = runs_sound_from script follow (first_kernel (first_shared boot.limits boot.files boot.input) (booted boot.argv boot.env)) pids (first_sound boot)
+
+pub as_code_has_it : (v : Running Shared UserState) (k : Kernel Shared UserState) → Is v k → IsSound k → Sound v.shared (at task.Gone v.tasks) v.child
+as_code_has_it v k is h = rw (is.shared, is.tasks, is.child) h

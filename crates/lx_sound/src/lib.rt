@@ -1,0 +1,4 @@
+//! Laws of all reachable states.
+#![tactic(auto)]
+
+pub mod laws;
