@@ -1,6 +1,6 @@
 //! brk (brk(2)).
 
-ghost use Rattle.std.specs.Prelude.{◌≡◌, ◌≤◌, IfOk};
+ghost use Rattle.std.specs.Prelude.{◌≡◌, ◌≤◌, IfOk, OnErr};
 ghost use Rattle.lx_proc.specs.Answers.{answer_of, Kept};
 ghost use Rattle.lx_exec.specs.Pages.{address_end};
 ghost use Rattle.lx_pcalls.specs.Brk.{brk as meaning, may_end as may_end_of, grows, resizes};
@@ -28,7 +28,8 @@ fn may_end(heap: Heap, address: u64) -> bool
 fn grow(user: &mut UserState, address: u64) -> Result<(), AllocError>
     requires low { user.old.heap.end ≤ address }
     requires high { address ≤ address_end }
-    ensures { IfOk result (λ u. user.new ≡ grows user.old address) }
+    ensures ok { IfOk result (λ u. user.new ≡ grows user.old address) }
+    ensures err { OnErr result (user.new ≡ user.old) }
 {
     let first = pages_for(user.heap.end);
     let pages = pages_for(address) - first;
@@ -57,7 +58,8 @@ fn shrink(user: &mut UserState, address: u64)
 fn resize(user: &mut UserState, address: u64) -> Result<(), AllocError>
     requires new { address ≤ address_end }
     requires old { user.old.heap.end ≤ address_end }
-    ensures { IfOk result (λ u. user.new ≡ resizes user.old address) }
+    ensures ok { IfOk result (λ u. user.new ≡ resizes user.old address) }
+    ensures err { OnErr result (user.new ≡ user.old) }
 {
     if user.heap.end < address {
         return grow(user, address);
@@ -68,7 +70,8 @@ fn resize(user: &mut UserState, address: u64) -> Result<(), AllocError>
 
 /// The heap ends at the address, where it may.
 fn move_end(user: &mut UserState, address: u64) -> Result<(), AllocError>
-    ensures { IfOk result (λ u. user.new ≡ with_end user.old address) }
+    ensures ok { IfOk result (λ u. user.new ≡ with_end user.old address) }
+    ensures err { OnErr result (user.new ≡ user.old) }
 {
     if may_end(user.heap, address) {
         return resize(user, address);
@@ -81,6 +84,7 @@ fn move_end(user: &mut UserState, address: u64) -> Result<(), AllocError>
 pub fn brk(_shared: &Shared, call: &Call, user: &mut UserState) -> Result<CallReply, AllocError>
     ensures answer { IfOk result (λ r. answer_of r _shared.now user.new ≡ meaning _shared.now call.now user.old) }
     ensures kept { IfOk result (λ r. Kept r _shared.now user.old _shared.now user.new) }
+    ensures kept_own { OnErr result (user.new ≡ user.old) }
 {
     move_end(user, call.arguments[0])?;
     Ok(CallReply::Returned(user.heap.end))

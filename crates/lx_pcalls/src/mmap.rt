@@ -1,6 +1,6 @@
 //! mmap of private anonymous pages (mmap(2)).
 
-ghost use Rattle.std.specs.Prelude.{◌≡◌, IfOk};
+ghost use Rattle.std.specs.Prelude.{◌≡◌, IfOk, OnErr};
 ghost use Rattle.lx_proc.specs.Answers.{answer_of, Kept};
 ghost use Rattle.lx_pcalls.specs.Mmap.{mmap as meaning, may_map as may_map_of, maps};
 
@@ -36,6 +36,7 @@ fn map(
 ) -> Result<CallReply, AllocError>
     ensures answer { IfOk result (λ r. answer_of r _shared.now user.new ≡ maps _shared.now user.old pages rights) }
     ensures kept { IfOk result (λ r. Kept r _shared.now user.old _shared.now user.new) }
+    ensures kept_own { OnErr result (user.new ≡ user.old) }
 {
     let Some(address) = user.memory.highest_free(pages, LOW, HIGH) else {
         return Ok(CallReply::Refused(Errno::ENOMEM));
@@ -53,6 +54,7 @@ fn map(
 pub fn mmap(_shared: &Shared, call: &Call, user: &mut UserState) -> Result<CallReply, AllocError>
     ensures answer { IfOk result (λ r. answer_of r _shared.now user.new ≡ meaning _shared.now call.now user.old) }
     ensures kept { IfOk result (λ r. Kept r _shared.now user.old _shared.now user.new) }
+    ensures kept_own { OnErr result (user.new ≡ user.old) }
 {
     if !may_map(call) {
         return Ok(CallReply::Refused(Errno::EINVAL));
