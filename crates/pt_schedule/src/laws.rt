@@ -17,7 +17,8 @@ pub fn events_are_few()
     ensures lists { ListsGiveTheirEvents }
 {}
 
-/// Whatever is seen before each event, a schedule by words gives what its words say, up to its limit.
+/// Whatever is seen before each event, a schedule by words gives what its words and then the default schedule say, up
+/// to its limit.
 pub fn words_are_said()
     ensures { WordsAreSaid }
 {}
