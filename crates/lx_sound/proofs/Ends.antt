@@ -1,7 +1,8 @@
 -- Processes that end, and that are born, keep a state sound.
-use Rattle.std.proofs.Common.{◌≡◌, ℕ, suc, ◌≤◌, ◌⊎◌, ⊎_elim, Bool, true, false, cond, List, [], ◌∷◌, Option, Some, None, refl, ap, sym, subst, ◌∙◌, arith}
+use Rattle.std.proofs.Common.{◌≡◌, ℕ, suc, ◌+◌, ◌≤◌, ◌&&◌, ◌⊎◌, ⊎_elim, Bool, true, false, cond, List, [], ◌∷◌, Option, Some, None, refl, ap, sym, subst, ◌∙◌, arith}
 use Rattle.std.proofs.lemmas.Bool.Decides.{nat_tests}
-use Rattle.std.specs.Prelude.{◌==◌, nat_lt, fold}
+use Rattle.std.specs.Prelude.{◌==◌, nat_lt, nat_le, fold, max, is_some}
+use Rattle.std.proofs.Math.Nat.{le-max_right}
 use Rattle.std.specs.List.{filter}
 use Rattle.std.specs.Cmp.{nat_cmp_total}
 use Rattle.std.specs.FinMap as maps
@@ -19,12 +20,12 @@ use Rattle.lx_proc.specs.declared.state.UserState.{UserState}
 use Rattle.lx_proc.specs.State.{Entries, changed, changed_entry, with_entries, with_held}
 use Rattle.lx_proc.specs.Families.{is_zombie}
 use Rattle.lx_proc.specs.WaitWords.{Words}
-use Rattle.lx_pcalls.specs.Clone.{with_child, child_entry}
+use Rattle.lx_pcalls.specs.Clone.{has_room, with_child, child_entry}
 use Rattle.lx_pcalls.specs.Ends.{with_life, dies, orphan, released_entry, released, orphaned, told, wants_no_news, retired_by, buried_entry, buried}
 use Rattle.lx_sound.specs.Sound.{Agree, HasWord, Sound}
 use Rattle.lx_sound.proofs.Maps.{inserted, there_now, removed, inserted_other, removed_other}
 use Rattle.lx_sound.proofs.Together.{inherited_together, all_closed_together}
-use Rattle.lx_sound.proofs.Keeping.{SameEntry, SameEntries, entries_stay, entries_then, put_same, taken_same, gone, changed_same, kept_sound, entries_keep}
+use Rattle.lx_sound.proofs.Keeping.{SameEntry, SameEntries, put_len, take_len, entries_stay, entries_then, put_same, taken_same, gone, changed_same, kept_sound, entries_keep}
 
 abbrev Tasks : Type 0
 Tasks = ℕ → Task UserState
@@ -44,7 +45,7 @@ alive_agrees None b c stage next h = h
 alive_agrees (Some e) b c stage next h = h
 
 pub stands : (s : Shared) (tasks : Tasks) (child p : ℕ) (b c : UserState) (stage next : Stage) → tasks p ≡ task.Alive b stage → Sound s tasks child → Sound s (put tasks p (task.Alive c next)) child
-stands s tasks child p b c stage next is h = record { files = h.files; agree = λ q. go q (p == q) refl; words = h.words; pids = h.pids }
+stands s tasks child p b c stage next is h = record { files = h.files; agree = λ q. go q (p == q) refl; words = h.words; pids = h.pids; live = h.live; last = h.last }
   where
     go : (q : ℕ) (t : Bool) → (p == q) ≡ t → Agree (maps.get s.entries q) (cond t (task.Alive c next) (tasks q))
     go q false other = h.agree q
@@ -53,7 +54,7 @@ stands s tasks child p b c stage next is h = record { files = h.files; agree = �
         subst (λ i. Agree (maps.get s.entries i) (task.Alive c next)) same (alive_agrees (maps.get s.entries p) b c stage next (subst (Agree (maps.get s.entries p)) is (h.agree p)))
 
 pub stays_gone : (s : Shared) (tasks : Tasks) (child p : ℕ) → tasks p ≡ task.Gone → Sound s tasks child → Sound s (put tasks p task.Gone) child
-stays_gone s tasks child p is h = record { files = h.files; agree = λ q. go q (p == q) refl; words = h.words; pids = h.pids }
+stays_gone s tasks child p is h = record { files = h.files; agree = λ q. go q (p == q) refl; words = h.words; pids = h.pids; live = h.live; last = h.last }
   where
     go : (q : ℕ) (t : Bool) → (p == q) ≡ t → Agree (maps.get s.entries q) (cond t task.Gone (tasks q))
     go q false other = h.agree q
@@ -65,12 +66,14 @@ stays_gone s tasks child p is h = record { files = h.files; agree = λ q. go q (
 
 module _ (s : Shared) (tasks : Tasks) (child p : ℕ) (h : Sound s tasks child) (old x : Entry) (next : Task UserState) where
   pub relived : maps.get s.entries p ≡ Some old → Agree (Some x) next → (words : Words) → ((q : ℕ) → (q == p) ≡ false → maps.get words q ≡ maps.get s.ended q) → HasWord words p x.life
-      → (t : Shared) → t.entries ≡ maps.insert s.entries p x → t.ended ≡ words → t.tree ≡ s.tree → t.fds ≡ s.fds → Sound t (put tasks p next) child
-  relived is agrees words others has t es ws ts fs = record {
+      → (t : Shared) → t.entries ≡ maps.insert s.entries p x → t.ended ≡ words → t.tree ≡ s.tree → t.fds ≡ s.fds → t.limits ≡ s.limits → Sound t (put tasks p next) child
+  relived is agrees words others has t es ws ts fs ls = record {
     files = rw (ts, fs) h.files;
     agree = λ q. subst (λ (m : Entries). Agree (maps.get m q) (put tasks p next q)) (sym es) (agree_at q (p == q) refl);
     words = λ q e e_is. subst (λ (w : Words). HasWord w q e.life) (sym ws) (words_at q e (q == p) refl (ap (λ (m : Entries). maps.get m q) (sym es) ∙ e_is));
     pids = λ q le. ap (λ (m : Entries). maps.get m q) es ∙ pids_at q (q == p) refl le;
+    live = rw (es, ls) (subst (λ n. n ≤ max 1 s.limits.live) (sym (put_len s.entries p x (ap is_some is))) h.live);
+    last = rw ls h.last;
   }
     where
       agree_at : (q : ℕ) (t : Bool) → (p == q) ≡ t → Agree (maps.get (maps.insert s.entries p x) q) (cond t next (tasks q))
@@ -103,13 +106,13 @@ pub dies_sound : (s : Shared) (tasks : Tasks) (child p w : ℕ) (b : UserState) 
 dies_sound s tasks child p w b stage is h = go (maps.get s.entries p) refl (subst (Agree (maps.get s.entries p)) is (h.agree p))
   where
     shut : Sound (closed s p) tasks child
-    shut = record { files = all_closed_together s.tree s.fds h.files p; agree = h.agree; words = h.words; pids = h.pids }
+    shut = record { files = all_closed_together s.tree s.fds h.files p; agree = h.agree; words = h.words; pids = h.pids; live = h.live; last = h.last }
 
     go : (o : Option Entry) → maps.get s.entries p ≡ o → Agree o (task.Alive b stage) → Sound (dies s p w) (put tasks p (task.Dying w)) child
     go None none agrees = absurd agrees
     go (Some e) there agrees =
         relived (closed s p) tasks child p shut e (with_life e (Dying w)) (task.Dying w) there refl (maps.insert s.ended p w) (λ q other. inserted_other s.ended p w q other) (there_now nat_cmp_total s.ended p w)
-        (dies s p w) (ap (changed_entry s.entries p (λ x. with_life x (Dying w))) there) refl refl refl
+        (dies s p w) (ap (changed_entry s.entries p (λ x. with_life x (Dying w))) there) refl refl refl refl
 
 -- A process that leaves Dying.
 
@@ -149,6 +152,8 @@ leaves_sound s tasks child p h = record {
   agree = λ q. agree_at q (p == q) refl;
   words = λ q e is. h.words q e (removed nat_cmp_total s.entries p q e is);
   pids = λ q le. pids_at q (q == p) refl le;
+  live = let fewer = take_len s.entries p in let live = h.live in omega (arith, fewer, live);
+  last = h.last;
 }
   where
     gone_at : (q : ℕ) → (q == p) ≡ true → maps.get (maps.remove s.entries p) q ≡ None
@@ -170,7 +175,7 @@ waits_sound s tasks child p w is h = go (maps.get s.entries p) refl (subst (Agre
     go None none agrees = absurd agrees
     go (Some e) there agrees =
         relived s tasks child p h e (with_life e (Zombie w)) task.Gone there (w, refl) s.ended (λ q other. refl) (subst (HasWord s.ended p) agrees (h.words p e there))
-        (with_entries s (changed s.entries p (λ e. with_life e (Zombie w)))) (ap (changed_entry s.entries p (λ x. with_life x (Zombie w))) there) refl refl refl
+        (with_entries s (changed s.entries p (λ e. with_life e (Zombie w)))) (ap (changed_entry s.entries p (λ x. with_life x (Zombie w))) there) refl refl refl refl
 
 abbrev told_in : Shared → ℕ → ℕ → ℕ → Shared
 told_in s p w parent = with_entries s (changed s.entries parent (λ x. told x p w))
@@ -198,12 +203,37 @@ buried_sound s tasks child p w is h = go (maps.get s.entries p) (subst (Agree (m
 
 -- A process that is born.
 
-pub bears_sound : (s : Shared) (tasks : Tasks) (child p : ℕ) (e : Entry) (newborn : UserState) → Sound s tasks child → Sound (with_child s child p (child_entry e p)) (put tasks child (task.Alive newborn Born)) (suc child)
-bears_sound s tasks child p e newborn h = record {
+both : (x y : Bool) → (x && y) ≡ true → (x ≡ true) × (y ≡ true)
+both true y h = (refl, h)
+both false y h = absurd (cc h)
+
+most_1 : (n : ℕ) → n ≤ max 1 n
+most_1 n = le-max_right 1 n
+
+born_live : (s : Shared) (child : ℕ) (x : Entry) → has_room s child ≡ true → maps.len (maps.insert s.entries child x) ≤ max 1 s.limits.live
+born_live s child x room =
+    let less : nat_lt (maps.len s.entries) s.limits.live ≡ true = (both _ _ room).0 in
+    let most = most_1 s.limits.live in
+    subst (λ n. n ≤ max 1 s.limits.live) (sym (maps.len-insert nat_cmp_total s.entries child x)) (go (maps.contains_key s.entries child) (grind (arith, nat_tests, less, most)))
+  where
+    go : (b : Bool) → maps.len s.entries + 1 ≤ max 1 s.limits.live → cond b (maps.len s.entries) (maps.len s.entries + 1) ≤ max 1 s.limits.live
+    go true le = omega (arith, le)
+    go false le = le
+
+born_last : (s : Shared) (child : ℕ) → has_room s child ≡ true → suc child ≤ suc (max 1 s.limits.last_pid)
+born_last s child room =
+    let le : nat_le child s.limits.last_pid ≡ true = (both (nat_lt (maps.len s.entries) s.limits.live) _ room).1 in
+    let most = most_1 s.limits.last_pid in
+    grind (arith, nat_tests, le, most)
+
+pub bears_sound : (s : Shared) (tasks : Tasks) (child p : ℕ) (e : Entry) (newborn : UserState) → has_room s child ≡ true → Sound s tasks child → Sound (with_child s child p (child_entry e p)) (put tasks child (task.Alive newborn Born)) (suc child)
+bears_sound s tasks child p e newborn room h = record {
   files = inherited_together s.tree s.fds h.files p child;
   agree = λ q. agree_at q (child == q) refl;
   words = λ q x is. words_at q x (inserted nat_cmp_total s.entries child (child_entry e p) q x is);
   pids = λ q le. inserted_other s.entries child (child_entry e p) q (let above = le in grind (arith, nat_tests, above)) ∙ h.pids q (omega (arith, le));
+  live = born_live s child (child_entry e p) room;
+  last = born_last s child room;
 }
   where
     agree_at : (q : ℕ) (t : Bool) → (child == q) ≡ t → Agree (maps.get (maps.insert s.entries child (child_entry e p)) q) (cond t (task.Alive newborn Born) (tasks q))

@@ -85,7 +85,7 @@ module _ (child : ℕ) (s : Shared) (p : ℕ) (call : Call) (b : UserState) wher
 
   -- the tree and the descriptors alone change
   files_keep : (tree : Tree) (fds : FdTable) → (HoldTogether s.tree s.fds → HoldTogether tree fds) → Keeps s (record s { tree = tree; fds = fds })
-  files_keep tree fds files = record { files = files; entries = entries_stay s.entries; words = refl }
+  files_keep tree fds files = record { files = files; entries = entries_stay s.entries; words = refl; limits = refl }
 
   close_kept : Kept (close s p call b)
   unfolding close
@@ -292,7 +292,7 @@ module _ (child : ℕ) (s : Shared) (p : ℕ) (call : Call) (b : UserState) wher
       held_together s.tree s.fds h pipe (drop n) (λ bytes is. let le = h.pipes pipe bytes is in let less = drop_shorter n bytes in omega (arith, le, less)))
 
   input_keeps : (n : ℕ) → Keeps s (record s { input = drop n s.input })
-  input_keeps n = record { files = λ h. h; entries = entries_stay s.entries; words = refl }
+  input_keeps n = record { files = λ h. h; entries = entries_stay s.entries; words = refl; limits = refl }
 
   read_object_kept : (named : Slot) (d : Description) (at n : ℕ) (o : Object) → Kept (reads_object s b named d at n o)
   read_object_kept named d at n Input = gives_kept child s p (record s { input = drop n s.input }) b _ _ _ (input_keeps n)
@@ -327,7 +327,7 @@ module _ (child : ℕ) (s : Shared) (p : ℕ) (call : Call) (b : UserState) wher
 
   write_object_kept : (named : Slot) (d : Description) (bytes : List ℕ) (o : Object) → Kept (writes_object s p b named d bytes o)
   write_object_kept named d bytes Input = tt
-  write_object_kept named d bytes Console = unless_kept child s p (has_space s 0 (length bytes)) enospc _ (λ e. record { files = λ h. h; entries = entries_stay s.entries; words = refl })
+  write_object_kept named d bytes Console = unless_kept child s p (has_space s 0 (length bytes)) enospc _ (λ e. record { files = λ h. h; entries = entries_stay s.entries; words = refl; limits = refl })
   write_object_kept named d bytes (ReadEnd pipe) = tt
   write_object_kept named d bytes (WriteEnd pipe) =
       either_kept child s p (not (opens.has_readers s.fds pipe)) _ _ (changed_keeps s p _ (λ e. refl)) (λ e0.

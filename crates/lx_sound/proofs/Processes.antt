@@ -84,6 +84,7 @@ renewed_keeps s p =
       files = λ x. exec_together s.tree s.fds x p;
       entries = changed_same s.entries p (λ e. with_signals e (after_exec e.signals)) (λ e. refl);
       words = refl;
+      limits = refl;
     }
 
 module _ (child : ℕ) (s : Shared) (p : ℕ) (call : Call) (b : UserState) where
@@ -147,7 +148,7 @@ module _ (child : ℕ) (s : Shared) (p : ℕ) (call : Call) (b : UserState) wher
 
   clone_kept : Kept (clone s child p call b)
   unfolding clone
-  clone_kept = unless_kept child s p (argument call 0 == fork_flags) einval _ (λ e0. given_kept child s p (maps.get s.entries p) esrch (bears s child p call b) (λ e is. unless_kept child s p (has_room s child) eagain _ (λ e1. (e, refl))))
+  clone_kept = unless_kept child s p (argument call 0 == fork_flags) einval _ (λ e0. given_kept child s p (maps.get s.entries p) esrch (bears s child p call b) (λ e is. unless_kept child s p (has_room s child) eagain _ (λ room. (e, room, refl))))
 
   -- it is refused, or a program begins over what is shared
   abbrev IsProgram : Answers → Type 0

@@ -1,7 +1,8 @@
 -- A turn keeps a state sound, and a boot begins in one.
-use Rattle.std.proofs.Common.{◌≡◌, ℕ, zero, suc, ⊎_elim, Bool, true, false, cond, List, [], ◌∷◌, length, Option, Some, None, is_some, refl, ap, sym, subst, ◌∙◌, arith}
+use Rattle.std.proofs.Common.{◌≡◌, ℕ, zero, suc, ◌+◌, ◌≤◌, ⊎_elim, Bool, true, false, cond, List, [], ◌∷◌, length, Option, Some, None, is_some, refl, ap, sym, subst, ◌∙◌, arith}
 use Rattle.std.proofs.lemmas.Bool.Decides.{nat_tests}
-use Rattle.std.specs.Prelude.{◌==◌, fold, take}
+use Rattle.std.proofs.Math.Nat.{le-max_left}
+use Rattle.std.specs.Prelude.{max, ◌==◌, fold, take}
 use Rattle.std.specs.Option.{unwrap_or}
 use Rattle.std.specs.Ordering.{nat_cmp, eq_by_cmp}
 use Rattle.std.specs.Cmp.{nat_cmp_total}
@@ -159,8 +160,8 @@ module _ (k : Kernel Shared UserState) (p : ℕ) (b : UserState) (stage : Stage)
   answered_sound call (Bears t c newborn) g =
       let to : Stage = Acted call k.child false in
       let parent : UserState = with_result linux c k.child in
-      subst (λ (u : Shared). Sound u (put (put k.tasks p (task.Alive parent to)) k.child (task.Alive newborn Born)) (suc k.child)) (sym g.1)
-      (bears_sound k.shared (put k.tasks p (task.Alive parent to)) k.child p g.0 newborn (here parent to))
+      subst (λ (u : Shared). Sound u (put (put k.tasks p (task.Alive parent to)) k.child (task.Alive newborn Born)) (suc k.child)) (sym g.2)
+      (bears_sound k.shared (put k.tasks p (task.Alive parent to)) k.child p g.0 newborn g.1 (here parent to))
   answered_sound call Blocks g = here b (Doing call)
   answered_sound call (Ends w) g = ends w
 
@@ -234,6 +235,20 @@ first_together gs =
     let one : FdTable = opened zero 1 1 (writes Console) false in
     opened_together tree one (opened_together tree zero (opened_together tree no_fds h 1 0 (reads Input) false refl) 1 1 (writes Console) false refl) 1 2 (writes Console) false refl
 
+one_lives : (n : ℕ) → maps.len (maps.insert (maps.empty {X = Entry} {R = nat_cmp}) 1 first_entry) ≤ max 1 n
+one_lives n =
+    let first = maps.len-insert nat_cmp_total (maps.empty {X = Entry} {R = nat_cmp}) 1 first_entry in
+    let none = maps.len-empty nat_cmp Entry in
+    let most = le-max_left 1 n in
+    subst (λ k. k ≤ max 1 n) (sym first) (go (maps.contains_key (maps.empty {X = Entry} {R = nat_cmp}) 1) none most)
+  where
+    go : (b : Bool) → maps.len (maps.empty {X = Entry} {R = nat_cmp}) ≡ 0 → 1 ≤ max 1 n → cond b (maps.len (maps.empty {X = Entry} {R = nat_cmp})) (maps.len (maps.empty {X = Entry} {R = nat_cmp}) + 1) ≤ max 1 n
+    go true none le = omega (arith, none, le)
+    go false none le = omega (arith, none, le)
+
+two_next : (n : ℕ) → 2 ≤ suc (max 1 n)
+two_next n = let most = le-max_left 1 n in omega (arith, most)
+
 first_sound : (boot : Boot) → IsSound (first_kernel (first_shared boot.limits boot.files boot.input) (booted boot.argv boot.env))
 first_sound boot =
     let b : UserState = booted boot.argv boot.env in record {
@@ -241,6 +256,8 @@ first_sound boot =
       agree = λ p. subst (λ o. Agree o (born (p == 1) b)) (sym (looked p)) (alone b (p == 1));
       words = λ p e is. ⊎_elim (λ same. subst (λ (y : Entry). HasWord maps.empty p y.life) same tt) (λ old. absurd (none_there p e old)) (inserted nat_cmp_total maps.empty 1 first_entry p e is);
       pids = λ p le. inserted_other maps.empty 1 first_entry p (let above = le in grind (arith, nat_tests, above)) ∙ maps.get-empty nat_cmp p;
+      live = one_lives boot.limits.live;
+      last = two_next boot.limits.last_pid;
     }
   where
     same : (p : ℕ) → eq_by_cmp nat_cmp p 1 ≡ (p == 1)

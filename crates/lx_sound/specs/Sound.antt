@@ -1,5 +1,5 @@
 -- What holds in every state that a boot reaches.
-use Rattle.std.specs.Prelude.{◌≡◌, ℕ, ◌≤◌, Bool, List, Option, Some, None}
+use Rattle.std.specs.Prelude.{◌≡◌, ℕ, suc, ◌≤◌, max, Bool, List, Option, Some, None}
 use Rattle.std.specs.FinMap as maps
 use Rattle.lx_abi.specs.declared.boot.Boot.{Boot}
 use Rattle.lx_abi.specs.declared.script.Rule.{Rule}
@@ -41,6 +41,9 @@ pub record Sound (s : Shared) (tasks : ℕ → Task UserState) (child : ℕ) : T
   pub words : (p : ℕ) (e : Entry) → maps.get s.entries p ≡ Some e → HasWord s.ended p e.life
   -- no process is under the next pid, nor under any above it
   pub pids : (p : ℕ) → child ≤ p → maps.get s.entries p ≡ None
+  -- there are no more processes than the boot allows, zombies among them, and no higher pids; process 1 there always is
+  pub live : maps.len s.entries ≤ max 1 s.limits.live
+  pub last : child ≤ suc (max 1 s.limits.last_pid)
 
 -- of the untraced kernel of the definitions, and of the kernel that code has
 abbrev pub IsSound : Kernel Shared UserState → Type 0
