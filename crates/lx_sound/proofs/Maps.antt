@@ -7,8 +7,8 @@ use Rattle.std.specs.Ordering.{nat_cmp, eq_by_cmp, is_eq}
 use Rattle.std.specs.Cmp.{IsTotalOrder, tied_itself, nat_cmp_total}
 use Rattle.std.specs.FinMap as maps
 use Rattle.std.specs.FinMap.{FinMap}
-use Rattle.lx_files.specs.Tallies.{total, one_if, holds}
-use Rattle.lx_files.proofs.Totals.{weight, total-remove}
+use Rattle.lx_files.specs.Tallies.{total, one_if, holds, weight}
+use Rattle.lx_files.proofs.Totals.{total-remove}
 
 some_is : {X : Type 0} (x y : X) → Some x ≡ Some y → x ≡ y
 some_is x y e = cc e
