@@ -1,0 +1,8 @@
+use Rattle.plain_run.proofs.Turning.{ends_settled, runs_turns}
+use Rattle.plain_run.proofs.laws.ends_are_settled.Goals as goal
+
+pub returns-clause-settled : goal.returns-clause-settled
+returns-clause-settled c = ends_settled
+
+pub returns-clause-turns : goal.returns-clause-turns
+returns-clause-turns c = runs_turns

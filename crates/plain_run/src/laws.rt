@@ -1,0 +1,9 @@
+//! Laws of runs.
+
+ghost use Rattle.plain_run.specs.Runs.{EndsAreSettled, RunsAreTurns};
+
+/// Where a run ends is settled by where it begins and by its schedule, and is where the turns of some processes lead.
+pub fn ends_are_settled()
+    ensures settled { EndsAreSettled }
+    ensures turns { RunsAreTurns }
+{}
