@@ -1,0 +1,31 @@
+-- Which failures a sweep tries: each occurrence of each call that is wanted, with each error that is wanted of it.
+use Rattle.std.specs.Prelude.{Bool, cond, List, [], map}
+use Rattle.std.specs.List.{flat_map}
+use Rattle.lx_abi.specs.declared.errno.Errno.{Errno}
+use Rattle.lx_abi.specs.declared.log.Item.{Item}
+use Rattle.lx_abi.specs.declared.script.Set.{Set}
+use Rattle.lx_abi.specs.declared.script.Set.TheVariants.{AllBut}
+use Rattle.lx_abi.specs.Scripts.{includes}
+use Rattle.sweep_rows.specs.Entries.{rows_of}
+use Rattle.sweep_rows.specs.declared.entries.Occurrence.{Occurrence}
+use Rattle.sweep_runs.specs.declared.chosen.Case.{Case}
+use Rattle.sweep_runs.specs.declared.chosen.Wanted.{Wanted}
+
+abbrev pub case_of : Occurrence → Errno → Case
+case_of o e = record { occurrence = o; error = e }
+
+abbrev pub cases_at : Occurrence → List Errno → List Case
+cases_at o errors = map (case_of o) errors
+
+abbrev pub wanted_at : Occurrence → Wanted → List Case
+wanted_at o w = cond (includes w.calls o.call.number) (cases_at o w.errors.items) []
+
+abbrev pub all_at : List Wanted → Occurrence → List Case
+all_at wanted o = flat_map (wanted_at o) wanted
+
+abbrev pub every_call : Set
+every_call = AllBut []
+
+-- in the order in which a log has the occurrences first, and of one in the order in which they are wanted
+unfoldable pub cases_of : List Wanted → Bool → List Item → List Case
+cases_of wanted follow log = flat_map (all_at wanted) (rows_of every_call follow log)

@@ -1,0 +1,30 @@
+-- The runs of a sweep.
+use Rattle.std.specs.Prelude.{◌≡◌, ℕ, ◌-◌, Bool, List}
+use Rattle.std.specs.List.{list_any, range_with_len}
+use Rattle.lx_abi.specs.Modes.{lives_in}
+use Rattle.lx_abi.specs.declared.script.Rule.{Rule}
+use Rattle.lx_kernel.specs.First.{first_run}
+use Rattle.lx_kernel.specs.Outcomes.{outcome_in}
+use Rattle.lx_kernel.specs.Runs.{Run, mode_in}
+use Rattle.pt_schedule.specs.Schedules.{worded}
+use Rattle.plain_run.specs.Runs.{RunsTo}
+use Rattle.sweep_rows.specs.declared.kinds.Ending.{Ending}
+use Rattle.sweep_runs.specs.declared.runs.Reference.{Reference}
+use Rattle.sweep_runs.specs.declared.runs.Setup.{Setup}
+
+-- some process has not ended
+unfoldable pub is_alive : Run → Bool
+is_alive k = list_any (λ p. lives_in (mode_in k p)) (range_with_len 1 (k.running.child - 1))
+
+-- what a kernel has left
+abbrev pub ending_of : Run → Ending
+ending_of k = record { outcome = outcome_in k.running.shared; alive = is_alive k }
+
+-- a run under a script, from its boot to the end of its schedule
+abbrev pub ComesTo : Setup → List Rule → Run → Type 0
+ComesTo setup script k = RunsTo (first_run setup.boot script) (worded setup.turns.items setup.limit) k
+
+-- what a run left and logged
+pub record IsReference (k : Run) (r : Reference) : Type 0 where
+  pub ending : r.ending ≡ ending_of k
+  pub log : r.log.items ≡ k.running.log

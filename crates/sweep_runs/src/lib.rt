@@ -1,0 +1,12 @@
+//! The runs of a sweep: the one without a failure, and one for each failure of an occurrence of a call.
+#![tactic(auto)]
+
+pub mod chosen;
+pub mod ends;
+pub mod runs;
+pub mod sweeping;
+
+pub use chosen::{Case, Wanted, cases};
+pub use ends::ending;
+pub use runs::{Reference, Setup, SweepFault, refer, run_under};
+pub use sweeping::{Report, Row, sweep};
