@@ -1,5 +1,5 @@
 -- What a sweep tells: of each case what came of its run, beside the run without a failure.
-use Rattle.std.specs.Prelude.{◌≡◌, Bool, List, [], map, All}
+use Rattle.std.specs.Prelude.{◌≡◌, List, [], map, All}
 use Rattle.lx_abi.specs.declared.script.Rule.{Rule}
 use Rattle.lx_kernel.specs.Runs.{Run}
 use Rattle.sweep_rows.specs.Failures.{FailsAlone}

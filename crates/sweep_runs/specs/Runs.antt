@@ -1,5 +1,5 @@
 -- The runs of a sweep.
-use Rattle.std.specs.Prelude.{◌≡◌, ℕ, ◌-◌, Bool, List}
+use Rattle.std.specs.Prelude.{◌≡◌, ◌-◌, Bool, List}
 use Rattle.std.specs.List.{list_any, range_with_len}
 use Rattle.lx_abi.specs.Modes.{lives_in}
 use Rattle.lx_abi.specs.declared.script.Rule.{Rule}
