@@ -1,0 +1,121 @@
+//! Sweeps of small programs, with ample memory: which runs they have, and what came of each.
+
+use containers::{Bytes, Seq};
+use lx_abi::{Boot, Errno, GuestFile, Limits};
+use rv_asm::assemble;
+use std::alloc::Global;
+use std::test::Fail;
+use sweep_rows::Kind;
+use sweep_runs::{Report, Setup, SweepFault, Wanted, sweep};
+use tr_expr::parse_trace;
+
+/// Writes twice whatever comes of it, and exits.
+const HEEDLESS: &str =
+    "_start: la a1, text\nli a2, 3\nli a7, 64\nli a0, 1\necall\nli a0, 1\necall\n\
+    li a0, 0\nli a7, 94\necall\ntext: .ascii \"hi\\n\"\n";
+
+/// Exits with 1 where the write fails.
+const CAREFUL: &str = "_start: la a1, text\nli a2, 3\nli a7, 64\nli a0, 1\necall\nslti a0, a0, 0\n\
+    li a7, 94\necall\ntext: .ascii \"hi\\n\"\n";
+
+/// Writes until it succeeds.
+const PATIENT: &str =
+    "_start: la a1, text\nli a2, 3\nli a7, 64\nagain: li a0, 1\necall\nblt a0, x0, again\n\
+    li a0, 0\nli a7, 94\necall\ntext: .ascii \"hi\\n\"\n";
+
+/// Waits for ever where the write fails.
+const STUBBORN: &str =
+    "_start: la a1, text\nli a2, 3\nli a7, 64\nli a0, 1\necall\nspin: blt a0, x0, spin\n\
+    li a0, 0\nli a7, 94\necall\ntext: .ascii \"hi\\n\"\n";
+
+/// Jumps to nowhere where the write fails.
+const FRAGILE: &str =
+    "_start: la a1, text\nli a2, 3\nli a7, 64\nli a0, 1\necall\nblt a0, x0, lost\n\
+    li a0, 0\nli a7, 94\necall\nlost: jalr x0, 0(x0)\ntext: .ascii \"hi\\n\"\n";
+
+/// The run of a listing's program, 1,000 turns at most.
+fn setup(alloc: Global, listing: &str) -> Result<Setup, Fail> {
+    let image = assemble(alloc, listing)?;
+    let mut files = Seq::new(alloc);
+    files.push(GuestFile {
+        path: Bytes::from_slice(alloc, b"/p")?,
+        content: Bytes::from_vec(elf_image::write(alloc, &image)?),
+    })?;
+    let mut argv = Seq::new(alloc);
+    argv.push(Bytes::from_slice(alloc, b"/p")?)?;
+    let boot = Boot {
+        limits: Limits::WIDEST,
+        files,
+        argv,
+        env: Seq::new(alloc),
+        input: Bytes::new(alloc),
+        follow: false,
+    };
+    Ok(Setup {
+        boot,
+        turns: Vec::new(alloc),
+        limit: 1000,
+    })
+}
+
+/// These calls, each failing with EIO and with ENOSPC.
+fn wanted(alloc: Global, calls: &str) -> Result<Vec<Wanted>, Fail> {
+    let mut errors = Vec::new(alloc);
+    errors.push(Errno::EIO)?;
+    errors.push(Errno::ENOSPC)?;
+    let mut wanted = Vec::new(alloc);
+    wanted.push(Wanted {
+        calls: parse_trace(alloc, calls)?,
+        errors,
+    })?;
+    Ok(wanted)
+}
+
+/// The sweep, without clauses.
+fn swept(alloc: Global, setup: &Setup, wanted: &[Wanted]) -> Result<Report, SweepFault> {
+    sweep(alloc, setup, wanted)
+}
+
+fn letter(kind: Kind) -> char {
+    match kind {
+        Kind::Same => 's',
+        Kind::Reported => 'r',
+        Kind::Lost => 'l',
+        Kind::Killed => 'k',
+        Kind::Hung => 'h',
+    }
+}
+
+/// A letter for each row; a question mark where there is no sweep.
+fn letters(alloc: Global, listing: &str, calls: &str) -> Result<String, Fail> {
+    let setup = setup(alloc, listing)?;
+    let wanted = wanted(alloc, calls)?;
+    let mut letters = String::new(alloc);
+    match swept(alloc, &setup, wanted.as_slice()) {
+        Ok(report) => {
+            for row in report.rows.as_slice() {
+                letters.push(letter(row.kind))?;
+            }
+        }
+        Err(_) => letters.push('?')?,
+    }
+    Ok(letters)
+}
+
+/// Two errors for each occurrence of a call that is wanted, in their order, and what came of each.
+#[test]
+fn sweeps_tell_what_came(rt: HostRuntime) -> Result<(), Fail> {
+    let rows = [
+        (HEEDLESS, "write", "llll"),
+        (CAREFUL, "write", "rr"),
+        (PATIENT, "write", "ss"),
+        (STUBBORN, "write", "hh"),
+        (FRAGILE, "write", "kk"),
+        (CAREFUL, "read", ""),
+    ];
+    for (listing, calls, expected) in rows {
+        let letters = letters(rt.alloc(), listing, calls)?;
+        assert_eq!(rt; letters.as_str(), expected);
+    }
+    Ok(())
+}
