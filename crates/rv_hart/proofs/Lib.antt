@@ -1,2 +1,4 @@
+mod Apart
+mod InPage
 mod Prefixes
 mod Refusals

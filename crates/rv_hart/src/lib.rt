@@ -7,6 +7,7 @@
 mod control;
 mod decoded;
 mod decoder;
+mod did;
 mod execute;
 mod fields;
 mod hart;
@@ -16,6 +17,7 @@ mod operate;
 mod outcome;
 mod perform;
 mod running;
+mod straight;
 #[cfg(test)]
 mod tests;
 mod transfer;
