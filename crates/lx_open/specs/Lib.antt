@@ -3,3 +3,4 @@ pub mod Ends
 pub mod Opens
 pub mod Releases
 pub mod Nexts
+pub mod Counted

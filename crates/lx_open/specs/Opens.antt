@@ -1,6 +1,6 @@
 -- Descriptors: a map from (pid, descriptor) to description, a map from description to what it is of, and the bytes of
 -- each pipe.
-use Rattle.std.specs.Prelude.{ℕ, ◌+◌, ◌*◌, ◌==◌, ◌&&◌, not, nat_lt, Bool, List, [], ◌∷◌, Option}
+use Rattle.std.specs.Prelude.{◌≡◌, ℕ, ◌+◌, ◌*◌, ◌==◌, ◌&&◌, not, nat_lt, Bool, List, [], ◌∷◌, Option}
 use Rattle.std.specs.Prelude.{Some, None, is_none, find, if◌then◌else◌}
 use Rattle.std.specs.Option.{unwrap_or}
 use Rattle.std.specs.List.{range_with_len}
@@ -19,6 +19,10 @@ pair pid fd = pid * most_fds + fd
 -- what a descriptor names
 abbrev pub slot : FdTable → ℕ → ℕ → Option Slot
 slot fds pid fd = if nat_lt fd most_fds then maps.get fds.slots (pair pid fd) else None
+
+-- the descriptor names nothing
+abbrev pub IsFree : FdTable → ℕ → ℕ → Type 0
+IsFree fds pid fd = maps.get fds.slots (pair pid fd) ≡ None
 
 abbrev pub description : FdTable → ℕ → Option Description
 description fds n = maps.get fds.descriptions n

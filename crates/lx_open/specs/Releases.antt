@@ -7,8 +7,10 @@ use Rattle.lx_abi.specs.Limits.{most_fds}
 use Rattle.lx_files.specs.declared.tree.Tree.{Tree}
 use Rattle.lx_files.specs.Trees.{has_path, without_path, without_node}
 use Rattle.lx_files.specs.Paths.{Path}
-use Rattle.lx_open.specs.Kinds.{Object, Input, Console, ReadEnd, WriteEnd, Opened, Description, Slot}
+use Rattle.lx_files.specs.Tallies.{holds}
+use Rattle.lx_open.specs.Kinds.{Object, Input, Console, ReadEnd, WriteEnd, Opened, Description, Slot, names_description}
 use Rattle.lx_open.specs.Opens.{FdTable, pair, slot, description, is_named, has_readers, has_writers, is_open_node}
+use Rattle.lx_open.specs.Opens.{with_slot}
 
 -- the tree and the descriptors
 pub record Held : Type 0 where
@@ -52,6 +54,17 @@ AreEndsKept fds fds' = (fds'.descriptions ≡ fds.descriptions) × (fds'.pipes �
 -- a descriptor names nothing from now on
 unfoldable pub closed : Tree → FdTable → ℕ → ℕ → Held
 closed tree fds pid fd = slot_closed tree fds (pair pid fd) (slot fds pid fd)
+
+-- some other descriptor names the description
+abbrev pub IsNamedBeside : FdTable → ℕ → ℕ → ℕ → Type 0
+IsNamedBeside fds pid fd n = holds (names_description n) (maps.remove fds.slots (pair pid fd)) ≡ true
+
+-- a descriptor names another description, once what it named is closed
+abbrev pub renamed : Held → ℕ → ℕ → Slot → Held
+renamed h pid fd s = record h { fds = with_slot h.fds pid fd s }
+
+unfoldable pub replaced : Tree → FdTable → ℕ → ℕ → Slot → Held
+replaced tree fds pid fd s = renamed (closed tree fds pid fd) pid fd s
 
 abbrev pub unlinked_node : Tree → FdTable → Option ℕ → Tree
 unlinked_node tree fds None = tree

@@ -1,15 +1,17 @@
 //! What the descriptors of each process name.
 
-ghost use Rattle.std.specs.Prelude.{◌≡◌, ◌<◌, ◌≤◌, ◌++◌, [], drop, length, OnOk, OnErr, IfOk, IfSome};
+ghost use Rattle.std.specs.Prelude.{◌≡◌, ◌<◌, ◌≤◌, ◌++◌, [], drop, length, Bool, OnOk, OnErr, IfOk, IfSome, None, ◌==◌, false};
 ghost use Rattle.lx_abi.specs.Limits.{most_fds};
 ghost use Rattle.lx_open.specs.Opens.{pair as pair_of, slot as slot_of, free as free_of, opened, held as held_of};
 ghost use Rattle.lx_open.specs.Opens.{with_held, with_offset, with_pipe, with_slot};
 ghost use Rattle.lx_open.specs.Opens.{description as description_of, has_readers as has_readers_of, has_writers as has_writers_of};
 ghost use Rattle.containers.specs.Vacant.{vacant};
 ghost use Rattle.std.specs.FinMap as maps;
-ghost use Rattle.lx_open.specs.Opens.{free_but, no_fds, inherited_slot, inherited};
+ghost use Rattle.lx_open.specs.Opens.{free_but, no_fds, inherited, IsFree};
 ghost use Rattle.lx_open.specs.Nexts.{IsNextOpen};
 ghost use Rattle.lx_open.specs.declared.description.Slot.{Slot};
+ghost use Rattle.lx_open.specs.declared.description.Description.{Description};
+ghost use Rattle.lx_open.specs.declared.fd_table.FdTable.{FdTable};
 
 use crate::description::{Description, Slot};
 use crate::descriptions::Descriptions;
@@ -40,6 +42,7 @@ pub fn pair(pid: u32, fd: u32) -> u64
 fn free_in(slots: &Slots, pid: u32) -> Option<u32>
     ensures value { result ≡ free_of slots.now pid }
     ensures small { IfSome result (λ fd. fd < most_fds) }
+    ensures free { IfSome result (λ fd. maps.get slots.now (pair_of pid fd) ≡ None) }
 {
     (0..MOST_FDS).find(|fd| slots
         .get(u64::from(pid) * u64::from(MOST_FDS) + u64::from(*fd))
@@ -50,6 +53,8 @@ fn free_in(slots: &Slots, pid: u32) -> Option<u32>
 fn free_beside(slots: &Slots, pid: u32, first: u32) -> Option<u32>
     ensures value { result ≡ free_but slots.now pid first }
     ensures small { IfSome result (λ fd. fd < most_fds) }
+    ensures free { IfSome result (λ fd. maps.get slots.now (pair_of pid fd) ≡ None) }
+    ensures other { IfSome result (λ fd. (fd == first) ≡ false) }
 {
     (0..MOST_FDS).find(|fd| *fd != first
         && slots
@@ -85,23 +90,14 @@ impl FdTable {
         requires { fd ≤ most_fds }
         ensures { IsNextOpen self.now.slots pid fd result }
     {
-        let first = u64::from(pid) * u64::from(MOST_FDS);
-        match self.slots.first_from(first + u64::from(fd)) {
-            None => None,
-            Some(key) => {
-                if key < first + u64::from(MOST_FDS) {
-                    Some((key - first) as u32)
-                } else {
-                    None
-                }
-            }
-        }
+        self.slots.next_open(pid, fd)
     }
 
     /// The lowest free descriptor.
     pub fn free(&self, pid: u32) -> Option<u32>
         ensures value { result ≡ free_of self.now.slots pid }
         ensures small { IfSome result (λ fd. fd < most_fds) }
+        ensures free { IfSome result (λ fd. IsFree self.now pid fd) }
     {
         free_in(&self.slots, pid)
     }
@@ -110,6 +106,8 @@ impl FdTable {
     pub fn free_after(&self, pid: u32, first: u32) -> Option<u32>
         ensures value { (s : Slot) → result ≡ free_of (maps.insert self.now.slots (pair_of pid first) s) pid }
         ensures small { IfSome result (λ fd. fd < most_fds) }
+        ensures free { IfSome result (λ fd. IsFree self.now pid fd) }
+        ensures other { IfSome result (λ fd. (fd == first) ≡ false) }
     {
         free_beside(&self.slots, pid, first)
     }
@@ -228,30 +226,32 @@ impl FdTable {
         Ok(())
     }
 
-    fn inherit_one(&mut self, parent: u32, child: u32, fd: u32) -> Result<(), AllocError>
+    /// Takes back what `open` did. Takes no memory.
+    pub fn take_back(&mut self, pid: u32, fd: u32)
         requires { fd < most_fds }
-        ensures { OnOk result (self.new ≡ record self.old {
-          slots =
-              inherited_slot self.old.slots child fd (maps.get self.old.slots (pair_of parent fd));
-        }) }
+        ensures { (was : FdTable) (d : Description) (closes : Bool)
+            → IsFree was pid fd → self.old ≡ opened was pid fd d closes → self.new ≡ was }
     {
-        let Some(slot) = self.slots.get(pair(parent, fd)) else {
-            return Ok(());
+        let Some(slot) = self.slots.remove(pair(pid, fd)) else {
+            return;
         };
-        self.slots.insert(pair(child, fd), slot)?;
-        Ok(())
+        self.descriptions.remove(slot.description);
+    }
+
+    /// Takes back what `add_pipe` did. Takes no memory.
+    pub fn take_pipe_back(&mut self, pipe: u32)
+        ensures { (was : FdTable) → pipe ≡ vacant was.pipes → self.old ≡ with_pipe was pipe [] → self.new ≡ was }
+    {
+        self.pipes.remove(pipe);
     }
 
     /// A child has its parent's descriptors, of the same descriptions (POSIX fork).
     #[tactic(auto, unfolding(crate::specs::Opens::inherited))]
     pub fn inherit(&mut self, parent: u32, child: u32) -> Result<(), AllocError>
-        ensures { OnOk result (self.new ≡ inherited self.old parent child) }
+        ensures ok { OnOk result (self.new ≡ inherited self.old parent child) }
+        ensures err { OnErr result (self.new ≡ self.old) }
     {
-        let mut at = 0u32;
-        while let Some(fd) = self.next_open(parent, at) {
-            self.inherit_one(parent, child, fd)?;
-            at = fd + 1;
-        }
+        self.slots.inherit(parent, child)?;
         Ok(())
     }
 }

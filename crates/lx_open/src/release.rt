@@ -1,9 +1,9 @@
 //! What goes once nothing names it.
 
-ghost use Rattle.std.specs.Prelude.{◌≡◌, IsTrue};
+ghost use Rattle.std.specs.Prelude.{◌≡◌, ◌<◌, IsTrue, OnOk, OnErr};
 ghost use Rattle.lx_abi.specs.Limits.{most_fds};
 ghost use Rattle.lx_open.specs.Releases.{node_released, pipe_released, object_released, description_released};
-ghost use Rattle.lx_open.specs.Releases.{closed, unlinked};
+ghost use Rattle.lx_open.specs.Releases.{closed, unlinked, replaced, IsNamedBeside};
 ghost use Rattle.lx_open.specs.Releases.{is_meant as is_meant_of, closed_if_meant, closed_each, all_closed};
 ghost use Rattle.lx_open.specs.Releases.{AreEndsKept};
 ghost use Rattle.lx_open.specs.Releases.{closed_on_exec};
@@ -14,6 +14,7 @@ use crate::description::{Object, Slot};
 use crate::fd_table::{FdTable, pair};
 use lx_abi::limits::MOST_FDS;
 use lx_files::Tree;
+use std::alloc::AllocError;
 
 /// A node goes that neither a path nor a description names.
 pub fn release_node(tree: &mut Tree, fds: &FdTable, node: u32)
@@ -82,6 +83,29 @@ pub fn close(tree: &mut Tree, fds: &mut FdTable, pid: u32, fd: u32)
     ensures { record { tree = tree.new; fds = fds.new } ≡ closed tree.old fds.old pid fd }
 {
     close_one(tree, fds, pid, fd);
+}
+
+/// A descriptor names what a slot says, and what it named before is closed (dup2). Another descriptor names the slot's
+/// description, which so stays.
+pub fn replace(
+    tree: &mut Tree,
+    fds: &mut FdTable,
+    pid: u32,
+    fd: u32,
+    slot: Slot,
+) -> Result<(), AllocError>
+    requires small { fd < most_fds }
+    requires named { IsNamedBeside fds.old pid fd slot.description }
+    ensures ok { OnOk result (record { tree = tree.new; fds = fds.new } ≡ replaced tree.old fds.old pid fd slot) }
+    ensures same_tree { OnErr result (tree.new ≡ tree.old) }
+    ensures same_fds { OnErr result (fds.new ≡ fds.old) }
+{
+    let was = fds.slot(pid, fd);
+    fds.put(pid, fd, slot)?;
+    if let Some(old) = was {
+        release_description(tree, fds, old.description);
+    }
+    Ok(())
 }
 
 /// A path names nothing from now on.

@@ -1,10 +1,12 @@
 //! Slots by pair of process and descriptor.
 
-ghost use Rattle.std.specs.Prelude.{◌≡◌, OnOk, OnErr};
+ghost use Rattle.std.specs.Prelude.{◌≡◌, ◌≤◌, OnOk, OnErr, IsSome};
 ghost use Rattle.std.specs.FinMap as maps;
-ghost use Rattle.lx_open.specs.Nexts.{IsFirstFrom};
+ghost use Rattle.lx_abi.specs.Limits.{most_fds};
+ghost use Rattle.lx_open.specs.Nexts.{IsFirstFrom, IsNextOpen};
 
 use crate::description::Slot;
+use lx_abi::limits::MOST_FDS;
 use std::alloc::{AllocError, Global};
 use std::collections::BTreeMap;
 use std::marker::Model;
@@ -70,5 +72,34 @@ impl SlotTable {
     {
         self.tree.insert(pair, slot)?;
         Ok(())
+    }
+
+    /// The slot at a pair that has one is another. Takes no memory.
+    pub fn write(&mut self, pair: u64, slot: Slot)
+        requires { IsSome (maps.get self.old pair) }
+        ensures { self.new ≡ maps.insert self.old pair slot }
+    {
+        let Some(place) = self.tree.get_mut(&pair) else {
+            return;
+        };
+        *place = slot;
+    }
+}
+
+/// The lowest open descriptor of a process at or above one.
+pub fn next_open(map: &SlotTable, pid: u32, fd: u32) -> Option<u32>
+    requires { fd ≤ most_fds }
+    ensures { IsNextOpen map.now pid fd result }
+{
+    let first = u64::from(pid) * u64::from(MOST_FDS);
+    match map.first_from(first + u64::from(fd)) {
+        None => None,
+        Some(key) => {
+            if key < first + u64::from(MOST_FDS) {
+                Some((key - first) as u32)
+            } else {
+                None
+            }
+        }
     }
 }

@@ -1,13 +1,17 @@
 //! Slots, and how many name each description.
 
-ghost use Rattle.std.specs.Prelude.{◌≡◌, OnOk, OnErr};
+ghost use Rattle.std.specs.Prelude.{◌≡◌, ◌≤◌, OnOk, OnErr};
 ghost use Rattle.std.specs.FinMap as maps;
-ghost use Rattle.lx_files.specs.Tallies.{holds, Forgets};
+ghost use Rattle.std.specs.List.{range_with_len};
+ghost use Rattle.lx_abi.specs.Limits.{most_fds};
+ghost use Rattle.lx_files.specs.Tallies.{holds};
 ghost use Rattle.lx_open.specs.Kinds.{names_description};
-ghost use Rattle.lx_open.specs.Nexts.{IsFirstFrom};
+ghost use Rattle.lx_open.specs.Nexts.{IsNextOpen};
+ghost use Rattle.lx_open.specs.Opens.{inherited_each};
 
 use crate::description::Slot;
-use crate::slot_map::SlotTable;
+use crate::sharing::{forget, inherit_from, share};
+use crate::slot_map::{SlotTable, next_open};
 use lx_files::Counts;
 use std::alloc::{AllocError, Global};
 use std::marker::Model;
@@ -33,15 +37,6 @@ impl Model for Slots {
     ghost invariant = { λ s. Agree s.counts names_description s.map };
 }
 
-/// One less of the description that a slot named before.
-fn forget(counts: &mut Counts, was: Option<Slot>)
-    ensures { Forgets names_description was counts.old counts.new }
-{
-    if let Some(slot) = was {
-        counts.subtract(slot.description);
-    }
-}
-
 impl Slots {
     pub fn new(alloc: Global) -> Self
         ensures { result ≡ maps.empty }
@@ -65,11 +60,12 @@ impl Slots {
         self.counts.count(description) > 0
     }
 
-    /// The least key at or above a number.
-    pub fn first_from(&self, from: u64) -> Option<u64>
-        ensures { IsFirstFrom self.now from result }
+    /// The lowest open descriptor of a process at or above one.
+    pub fn next_open(&self, pid: u32, fd: u32) -> Option<u32>
+        requires { fd ≤ most_fds }
+        ensures { IsNextOpen self.now pid fd result }
     {
-        self.map.first_from(from)
+        next_open(&self.map, pid, fd)
     }
 
     pub fn remove(&mut self, pair: u64) -> Option<Slot>
@@ -89,17 +85,16 @@ impl Slots {
         ensures ok { OnOk result (self.new ≡ maps.insert self.old pair slot) }
         ensures err { OnErr result (self.new ≡ self.old) }
     {
-        let was = self.map.get(pair);
-        self.counts.add(slot.description)?;
-        match self.map.insert(pair, slot) {
-            Ok(()) => {
-                forget(&mut self.counts, was);
-                Ok(())
-            }
-            Err(error) => {
-                self.counts.subtract(slot.description);
-                Err(error)
-            }
-        }
+        let was = share(&mut self.map, &mut self.counts, pair, slot)?;
+        forget(&mut self.counts, was);
+        Ok(())
+    }
+
+    /// A child has its parent's descriptors, of the same descriptions (POSIX fork).
+    pub fn inherit(&mut self, parent: u32, child: u32) -> Result<(), AllocError>
+        ensures ok { OnOk result (self.new ≡ inherited_each self.old parent child (range_with_len 0 most_fds)) }
+        ensures err { OnErr result (self.new ≡ self.old) }
+    {
+        inherit_from(&mut self.map, &mut self.counts, parent, child, 0)
     }
 }
