@@ -191,3 +191,113 @@ module _ (s : PairSet) (zombies : Bool) (m : Entries) (k : ℕ) where
 
 pub lists_empty : (s : PairSet) (zombies : Bool) → ((p n : ℕ) → has s p n ≡ false) → Lists s zombies maps.empty
 lists_empty s zombies none p n = none p n ∙ ap (λ o. is_child zombies p o && nat_lt 0 p) (sym (maps.get-empty nat_cmp n))
+
+-- an entry takes the place of one with the same parent
+pub lists_kin : (s : PairSet) (m : Entries) (k parent : ℕ) (e : Entry) → parent ≡ e.parent → Some parent ≡ option_map (λ e. e.parent) (maps.get m k) → Lists s false m → Lists s false (changed m k (λ x. e))
+lists_kin s m k parent e own is was = go (maps.get m k) refl is
+  where
+    put : (x : Entry) → x.parent ≡ e.parent → Some x ≡ maps.get m k → (p n : ℕ) (b : Bool) → (n == k) ≡ b → is_child false p (cond b (Some e) (maps.get m n)) ≡ is_child false p (maps.get m n)
+    put x alike here p n true h = ap (λ q. q == p) (sym alike) ∙ ap (is_child false p) (here ∙ ap (maps.get m) (sym (same n k h)))
+    put x alike here p n false h = refl
+
+    go : (o : Option Entry) → o ≡ maps.get m k → Some parent ≡ option_map (λ e. e.parent) o → Lists s false (changed_entry m k (λ x. e) o)
+    go None here is = was
+    go (Some x) here is =
+        let alike : x.parent ≡ e.parent = cc (is, own) in
+        λ p n. was p n ∙ ap (λ b. b && nat_lt 0 p) (sym (ap (is_child false p) (at_insert m k e n) ∙ put x alike here p n (n == k) refl))
+
+pub lists_kin_life : (s s' : PairSet) (m : Entries) (k parent : ℕ) (e : Entry) → parent ≡ e.parent → Some parent ≡ option_map (λ e. e.parent) (maps.get m k) → Lists s true m
+    → Sets parent k (is_zombie e.life && nat_lt 0 parent) s s' → Lists s' true (changed m k (λ x. e))
+lists_kin_life s s' m k parent e own is was sets = go (maps.get m k) refl is
+  where
+    go : (o : Option Entry) → o ≡ maps.get m k → Some parent ≡ option_map (λ e. e.parent) o → Lists s' true (changed m k (λ x. e))
+    go None here is = absurd (cc is)
+    go (Some x) here is =
+        let alike : e.parent ≡ x.parent = cc (is, own) in
+        moved s s' true m k (λ y. e) x _ here was (subst (λ p. Sets p k (is_zombie e.life && nat_lt 0 p) s s') (own ∙ alike) sets)
+        (subst (λ p. is_zombie e.life && nat_lt 0 p ≡ is_child true p (Some e) && nat_lt 0 p) alike (life_is e e.life))
+        (subst (λ p. Only true p (Some e)) alike (only_own true e))
+
+-- an entry takes the place of another parent's child
+module _ (s s' s'' : PairSet) (zombies : Bool) (m : Entries) (k parent : ℕ) (x e : Entry) (b : Bool) (was : Lists s zombies m) (put : Sets e.parent k b s s') (taken : Sets parent k false s' s'')
+    (is : b ≡ is_child zombies e.parent (Some e) && nat_lt 0 e.parent) (differ : (parent == e.parent) ≡ false) (here : Some x ≡ maps.get m k) (own : x.parent ≡ parent) where
+  not_both : (p : ℕ) → (p == parent) ≡ true → (p == e.parent) ≡ false
+  not_both p h = ap (λ q. q == e.parent) (same p parent h) ∙ differ
+
+  unlisted_there : (p : ℕ) → (p == parent) ≡ false → is_child zombies p (maps.get m k) && nat_lt 0 p ≡ false
+  unlisted_there p h = ap (λ o. is_child zombies p o && nat_lt 0 p) (sym here) ∙ only_own zombies x p (ap (λ q. p == q) own ∙ h)
+
+  adopted : (p n : ℕ) (u v w : Bool) → (p == parent) ≡ u → (p == e.parent) ≡ v → (n == k) ≡ w → has s'' p n ≡ is_child zombies p (cond w (Some e) (maps.get m n)) && nat_lt 0 p
+  adopted p n u v false pu pv nk =
+      taken p n
+      ∙ ap (λ y. cond ((p == parent) && y) false (has s' p n)) nk
+      ∙ ap (λ y. cond y false (has s' p n)) (and_false (p == parent))
+      ∙ put p n
+      ∙ ap (λ y. cond ((p == e.parent) && y) b (has s p n)) nk
+      ∙ ap (λ y. cond y b (has s p n)) (and_false (p == e.parent))
+      ∙ was p n
+  adopted p n true v true pu pv nk =
+      taken p n
+      ∙ ap (λ y. cond (y && (n == k)) false (has s' p n)) pu
+      ∙ ap (λ y. cond y false (has s' p n)) nk
+      ∙ sym (only_own zombies e p (not_both p pu))
+  adopted p n false true true pu pv nk =
+      taken p n
+      ∙ ap (λ y. cond (y && (n == k)) false (has s' p n)) pu
+      ∙ put p n
+      ∙ ap (λ y. cond (y && (n == k)) b (has s p n)) pv
+      ∙ ap (λ y. cond y b (has s p n)) nk
+      ∙ is
+      ∙ ap (λ q. is_child zombies q (Some e) && nat_lt 0 q) (sym (same p e.parent pv))
+  adopted p n false false true pu pv nk =
+      taken p n
+      ∙ ap (λ y. cond (y && (n == k)) false (has s' p n)) pu
+      ∙ put p n
+      ∙ ap (λ y. cond (y && (n == k)) b (has s p n)) pv
+      ∙ was p n
+      ∙ ap (λ q. is_child zombies p (maps.get m q) && nat_lt 0 p) (same n k nk)
+      ∙ unlisted_there p pu
+      ∙ sym (only_own zombies e p pv)
+
+  lists_adopted : Lists s'' zombies (maps.insert m k e)
+  lists_adopted p n = adopted p n (p == parent) (p == e.parent) (n == k) refl refl refl ∙ ap (λ o. is_child zombies p o && nat_lt 0 p) (sym (at_insert m k e n))
+
+-- what was listed of another parent's child is taken back
+spared : (s s' : PairSet) (zombies : Bool) (m : Entries) (k parent next : ℕ) (x : Entry) → Lists s zombies m → Sets next k false s s' → (parent == next) ≡ false → Some x ≡ maps.get m k → x.parent ≡ parent → Lists s' zombies m
+spared s s' zombies m k parent next x was sets differ here own p n = go (p == next) (n == k) refl refl
+  where
+    go : (u v : Bool) → (p == next) ≡ u → (n == k) ≡ v → has s' p n ≡ is_child zombies p (maps.get m n) && nat_lt 0 p
+    go u false pu nk = sets p n ∙ ap (λ y. cond ((p == next) && y) false (has s p n)) nk ∙ ap (λ y. cond y false (has s p n)) (and_false (p == next)) ∙ was p n
+    go false v pu nk = sets p n ∙ ap (λ y. cond (y && (n == k)) false (has s p n)) pu ∙ was p n
+    go true true pu nk =
+        let is_next : p ≡ next = same p next pu in
+        let apart : (p == x.parent) ≡ false = ap (λ q. p == q) own ∙ ap (λ q. q == parent) is_next ∙ other parent next differ in
+        sets p n
+        ∙ ap (λ y. cond (y && (n == k)) false (has s p n)) pu
+        ∙ ap (λ y. cond y false (has s p n)) nk
+        ∙ sym (ap (λ q. is_child zombies p (maps.get m q) && nat_lt 0 p) (same n k nk) ∙ ap (λ o. is_child zombies p o && nat_lt 0 p) (sym here) ∙ only_own zombies x p apart)
+
+pub families_adopted : (f f' f'' : Families) (m : Entries) (k parent : ℕ) (e : Entry) → Some parent ≡ option_map (λ e. e.parent) (maps.get m k) → (parent == e.parent) ≡ false → AreFamilies f m → IsListed k e f f' → Listed parent k false false f' f''
+    → AreFamilies f'' (changed m k (λ x. e))
+families_adopted f f' f'' m k parent e is differ was put taken = go (maps.get m k) refl is
+  where
+    go : (o : Option Entry) → o ≡ maps.get m k → Some parent ≡ option_map (λ e. e.parent) o → AreFamilies f'' (changed_entry m k (λ x. e) o)
+    go None here is = absurd (cc is)
+    go (Some x) here is =
+        let own : x.parent ≡ parent = cc is in
+        record {
+          children = lists_adopted f.children f'.children f''.children false m k parent x e _ was.children put.children taken.children (ap (λ b. b && nat_lt 0 e.parent) (sym (itself e.parent))) differ here own;
+          zombies = lists_adopted f.zombies f'.zombies f''.zombies true m k parent x e _ was.zombies put.zombies taken.zombies (life_is e e.life) differ here own;
+        }
+
+pub families_spared : (f f' f'' : Families) (m : Entries) (k parent next : ℕ) → Some parent ≡ option_map (λ e. e.parent) (maps.get m k) → (parent == next) ≡ false → AreFamilies f m → KeptBut next k f f' → Listed next k false false f' f'' → AreFamilies f'' m
+families_spared f f' f'' m k parent next is differ was kept taken = go (maps.get m k) refl is
+  where
+    go : (o : Option Entry) → o ≡ maps.get m k → Some parent ≡ option_map (λ e. e.parent) o → AreFamilies f'' m
+    go None here is = absurd (cc is)
+    go (Some x) here is =
+        let own : x.parent ≡ parent = cc is in
+        record {
+          children = spared f.children f''.children false m k parent next x was.children (sets_over f.children f'.children f''.children next k false kept.children taken.children) differ here own;
+          zombies = spared f.zombies f''.zombies true m k parent next x was.zombies (sets_over f.zombies f'.zombies f''.zombies next k false kept.zombies taken.zombies) differ here own;
+        }

@@ -1,6 +1,6 @@
 //! The children of each process.
 
-ghost use Rattle.std.specs.Prelude.{◌≡◌, ℕ, ◌&&◌, OnOk, OnErr, nat_lt, false};
+ghost use Rattle.std.specs.Prelude.{◌≡◌, ℕ, ◌&&◌, OnOk, OnErr, IsTrue, nat_lt, false};
 ghost use Rattle.lx_proc.specs.Pairs.{has, Sets};
 ghost use Rattle.lx_proc.specs.Families.{Listed, KeptBut};
 
@@ -41,6 +41,7 @@ impl Families {
         ensures zombies { OnOk result (Sets parent pid (zombie && nat_lt 0 parent) self.old.zombies self.new.zombies) }
         ensures children { self.new.children ≡ self.old.children }
         ensures err { OnErr result (self.new ≡ self.old) }
+        ensures only { OnErr result (IsTrue zombie) }
     {
         self.zombies.set(parent, pid, zombie && parent > 0)?;
         Ok(())

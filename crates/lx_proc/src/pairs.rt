@@ -1,6 +1,6 @@
 //! Sets of pairs of numbers.
 
-ghost use Rattle.std.specs.Prelude.{◌≡◌, ℕ, OnOk, OnErr, true, false};
+ghost use Rattle.std.specs.Prelude.{◌≡◌, ℕ, OnOk, OnErr, IsTrue, true, false};
 ghost use Rattle.lx_proc.specs.Pairs.{key as key_of, second_in, has, Sets, IsNextThat};
 
 use std::alloc::{AllocError, Global};
@@ -73,6 +73,7 @@ impl Pairs {
     pub fn set(&mut self, first: u32, second: u32, there: bool) -> Result<(), AllocError>
         ensures ok { OnOk result (Sets first second there self.old self.new) }
         ensures err { OnErr result (self.new ≡ self.old) }
+        ensures only { OnErr result (IsTrue there) }
     {
         if there {
             self.insert(first, second)?;
