@@ -1,6 +1,6 @@
 //! Results that are written to a caller's memory.
 
-ghost use Rattle.std.specs.Prelude.{◌≡◌, IfOk};
+ghost use Rattle.std.specs.Prelude.{◌≡◌, IfOk, OnErr};
 ghost use Rattle.lx_sig.specs.Calls.{given, given_as, Keeps};
 
 use lx_abi::Errno;
@@ -15,6 +15,7 @@ pub(crate) fn give(
 ) -> Result<Result<(), Errno>, AllocError>
     ensures answer { IfOk result (λ r. given_as r memory.new ≡ given memory.old at bytes.now) }
     ensures kept { IfOk result (λ r. Keeps r memory.old memory.new) }
+    ensures err { OnErr result (memory.new ≡ memory.old) }
 {
     if at == 0 {
         return Ok(Ok(()));

@@ -1,6 +1,6 @@
 //! rt_sigaction (sigaction(2)).
 
-ghost use Rattle.std.specs.Prelude.{◌≡◌, ◌<◌, false, true, IfOk, IfErr, OnOk};
+ghost use Rattle.std.specs.Prelude.{◌≡◌, ◌<◌, false, true, IfOk, IfErr, OnOk, OnErr};
 ghost use Rattle.lx_sig.specs.Doublewords.{doublewords};
 ghost use Rattle.lx_abi.specs.Signals.{may_join};
 ghost use Rattle.lx_sig.specs.Calls.{is_unreadable, outcome, Keeps};
@@ -97,6 +97,8 @@ fn act(
         (λ r. outcome r signals.new memory.new ≡ acted signals.old memory.old number new old) }
     ensures same_signals { IfOk result (λ r. Keeps r signals.old signals.new) }
     ensures same_memory { IfOk result (λ r. Keeps r memory.old memory.new) }
+    ensures err_signals { OnErr result (signals.new ≡ signals.old) }
+    ensures err_memory { OnErr result (memory.new ≡ memory.old) }
 {
     if !may_set(number, &new) {
         return Ok(Err(Errno::EINVAL));
@@ -122,6 +124,8 @@ pub fn sigaction(
         (λ r. outcome r signals.new memory.new ≡ meaning signals.old memory.old call.now) }
     ensures same_signals { IfOk result (λ r. Keeps r signals.old signals.new) }
     ensures same_memory { IfOk result (λ r. Keeps r memory.old memory.new) }
+    ensures err_signals { OnErr result (signals.new ≡ signals.old) }
+    ensures err_memory { OnErr result (memory.new ≡ memory.old) }
 {
     if call.arguments[3] != 8 {
         return Ok(Err(Errno::EINVAL));

@@ -1,6 +1,6 @@
 //! rt_sigprocmask (sigprocmask(2)).
 
-ghost use Rattle.std.specs.Prelude.{◌≡◌, false, true, IfOk, IfErr, OnOk};
+ghost use Rattle.std.specs.Prelude.{◌≡◌, false, true, IfOk, IfErr, OnOk, OnErr};
 ghost use Rattle.lx_sig.specs.Calls.{is_unreadable, outcome, Keeps};
 ghost use Rattle.lx_sig.specs.Sigprocmask.{new_set, may_mask as may_be_masked, masked as masked_by, with_mask};
 ghost use Rattle.lx_sig.specs.Sigprocmask.{mask_changed, sigprocmask as meaning};
@@ -64,6 +64,8 @@ fn change_mask(
         (λ r. outcome r signals.new memory.new ≡ mask_changed signals.old memory.old how new old) }
     ensures same_signals { IfOk result (λ r. Keeps r signals.old signals.new) }
     ensures same_memory { IfOk result (λ r. Keeps r memory.old memory.new) }
+    ensures err_signals { OnErr result (signals.new ≡ signals.old) }
+    ensures err_memory { OnErr result (memory.new ≡ memory.old) }
 {
     if !may_mask(how, new) {
         return Ok(Err(Errno::EINVAL));
@@ -88,6 +90,8 @@ pub fn sigprocmask(
         (λ r. outcome r signals.new memory.new ≡ meaning signals.old memory.old call.now) }
     ensures same_signals { IfOk result (λ r. Keeps r signals.old signals.new) }
     ensures same_memory { IfOk result (λ r. Keeps r memory.old memory.new) }
+    ensures err_signals { OnErr result (signals.new ≡ signals.old) }
+    ensures err_memory { OnErr result (memory.new ≡ memory.old) }
 {
     if call.arguments[3] != 8 {
         return Ok(Err(Errno::EINVAL));
