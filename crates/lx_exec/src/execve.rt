@@ -36,6 +36,7 @@ fn begin(
     ensures answer { IfOk result (λ r. (s : Shared) (a e : List (List ℕ)) → Reads argv.now (Some a)
         → Reads env.now (Some e) → answer_of r s user.new ≡ begins s image.now a e) }
     ensures kept { IfOk result (λ r. (s : Shared) → Kept r s user.old s user.new) }
+    ensures kept_own { OnErr result (user.new ≡ user.old) }
 {
     let Words::Whole(argv) = argv else {
         return Ok(CallReply::Refused(Errno::E2BIG));
@@ -61,6 +62,7 @@ fn run(
     ensures answer { IfOk result (λ r. (s : Shared) (a e : List (List ℕ)) → Reads argv.now (Some a)
         → Reads env.now (Some e) → answer_of r s user.new ≡ runs s content.now a e) }
     ensures kept { IfOk result (λ r. (s : Shared) → Kept r s user.old s user.new) }
+    ensures kept_own { OnErr result (user.new ≡ user.old) }
 {
     match elf_image::read(alloc, content) {
         Err(ElfFault::Memory) => Err(AllocError),
@@ -80,6 +82,7 @@ fn run_file(
     ensures answer { IfOk result (λ r. (s : Shared) (a e : List (List ℕ)) → Reads argv.now (Some a)
         → Reads env.now (Some e) → answer_of r s user.new ≡ runs_file s slashed content.now a e) }
     ensures kept { IfOk result (λ r. (s : Shared) → Kept r s user.old s user.new) }
+    ensures kept_own { OnErr result (user.new ≡ user.old) }
 {
     if slashed {
         return Ok(CallReply::Refused(Errno::ENOTDIR));
@@ -100,6 +103,7 @@ fn run_node(
     ensures answer { IfOk result (λ r. (a e : List (List ℕ)) → Reads argv.now (Some a) → Reads env.now (Some e)
         → answer_of r shared.now user.new ≡ runs_node shared.now slashed (node_at shared.now.tree path.now) a e) }
     ensures kept { IfOk result (λ r. Kept r shared.now user.old shared.now user.new) }
+    ensures kept_own { OnErr result (user.new ≡ user.old) }
 {
     match shared.tree.find(path) {
         None => Ok(CallReply::Refused(Errno::ENOENT)),
@@ -119,6 +123,7 @@ fn run_at(
     ensures answer { IfOk result (λ r. (a e : List (List ℕ)) → Reads argv.now (Some a) → Reads env.now (Some e)
         → answer_of r shared.now user.new ≡ place_run shared.now a e place.now) }
     ensures kept { IfOk result (λ r. Kept r shared.now user.old shared.now user.new) }
+    ensures kept_own { OnErr result (user.new ≡ user.old) }
 {
     let path = path(alloc, place)?;
     run_node(
@@ -145,6 +150,7 @@ fn run_path(
     ensures answer { IfOk result (λ r. (a e : List (List ℕ)) → Reads argv.now (Some a) → Reads env.now (Some e)
         → answer_of r shared.now user.new ≡ path_run shared.now pid path.now a e) }
     ensures kept { IfOk result (λ r. Kept r shared.now user.old shared.now user.new) }
+    ensures kept_own { OnErr result (user.new ≡ user.old) }
 {
     match locate(alloc, &shared.tree, directory(shared, pid), path)? {
         Err(error) => Ok(CallReply::Refused(error)),
@@ -164,6 +170,7 @@ fn run_program(
     ensures answer { IfOk result
         (λ r. answer_of r shared.now user.new ≡ program_of shared.now pid call.now user.old) }
     ensures kept { IfOk result (λ r. Kept r shared.now user.old shared.now user.new) }
+    ensures kept_own { OnErr result (user.new ≡ user.old) }
 {
     let path = match text_at(alloc, &mut user.memory, call.arguments[0], PATH_LIMIT)? {
         Text::Whole(path) => path,
@@ -233,6 +240,7 @@ pub fn execve(
     ensures answer { IfOk result (λ r. answer_of r shared.new user.new ≡ meaning shared.old pid call.now user.old) }
     ensures kept { IfOk result (λ r. Kept r shared.old user.old shared.new user.new) }
     ensures same { OnErr result (shared.new ≡ shared.old) }
+    ensures kept_own { OnErr result (user.new ≡ user.old) }
 {
     let reply = run_program(alloc, shared, pid, call, user)?;
     Ok(renew_after(shared, pid, reply))

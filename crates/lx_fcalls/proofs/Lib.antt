@@ -1,3 +1,4 @@
 pub mod Lengths
 pub mod BlockingLaws
 pub mod FileBlocking
+pub mod Opening

@@ -23,6 +23,11 @@ end_of object reads = record { object = object; offset = 0; may_read = reads; ma
 abbrev pub with_end : FdTable → ℕ → ℕ → Object → Bool → Bool → FdTable
 with_end fds p fd object reads closes = opens.opened fds p fd (end_of object reads) closes
 
+-- a descriptor for each end of a pipe
+abbrev pub both_ends : FdTable → ℕ → ℕ → ℕ → ℕ → Bool → FdTable
+both_ends fds p pipe first second closes =
+    with_end (with_end fds p first (ReadEnd pipe) true closes) p second (WriteEnd pipe) false closes
+
 abbrev pub pipes : Shared → ℕ → UserState → ℕ → Bool → ℕ → Answers
 pipes s p b at closes pipe =
     given (opens.free s.fds.slots p) emfile (λ first.

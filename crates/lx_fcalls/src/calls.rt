@@ -23,6 +23,8 @@ pub fn file_call(
 ) -> Result<Option<CallReply>, AllocError>
     ensures answer { IfOk result (λ r. answered r shared.new user.new ≡ meaning shared.old pid call.now user.old) }
     ensures kept { IfOk result (λ r. KeptIf r shared.old user.old shared.new user.new) }
+    ensures same { OnErr result (shared.new ≡ shared.old) }
+    ensures kept_own { OnErr result (user.new ≡ user.old) }
     ensures console { OnErr result (shared.new.console ≡ shared.old.console) }
 {
     match call.number {

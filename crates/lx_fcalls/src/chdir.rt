@@ -30,7 +30,8 @@ fn go_at(
 ) -> Result<CallReply, AllocError>
     ensures answer { IfOk result (λ r. answer_of r shared.new user.new ≡ goes_at shared.old pid user.old place.now) }
     ensures kept { IfOk result (λ r. Kept r shared.old user.old shared.new user.new) }
-    ensures console { OnErr result (shared.new.console ≡ shared.old.console) }
+    ensures same { OnErr result (shared.new ≡ shared.old) }
+    ensures kept_own { OnErr result (user.new ≡ user.old) }
 {
     let path = path(alloc, place)?;
     match look(&shared.tree, place.slashed, path.as_slice()) {
@@ -54,7 +55,8 @@ pub fn chdir(
 ) -> Result<CallReply, AllocError>
     ensures answer { IfOk result (λ r. answer_of r shared.new user.new ≡ meaning shared.old pid call.now user.old) }
     ensures kept { IfOk result (λ r. Kept r shared.old user.old shared.new user.new) }
-    ensures console { OnErr result (shared.new.console ≡ shared.old.console) }
+    ensures same { OnErr result (shared.new ≡ shared.old) }
+    ensures kept_own { OnErr result (user.new ≡ user.old) }
 {
     match place_at(alloc, shared, pid, user, AT_FDCWD, call.arguments[0])? {
         Ok(place) => go_at(alloc, shared, pid, user, &place),

@@ -8,12 +8,13 @@ use crate::flags::{O_CLOEXEC, has};
 use lx_abi::limits::MOST_FDS;
 use lx_abi::{Call, Errno};
 use lx_open::Slot;
+use lx_open::release::replace;
 use lx_proc::{CallReply, Shared, UserState};
 use lx_sig::low_argument;
 use std::alloc::AllocError;
 
 /// dup3(2). Refused with EINVAL for other flags, EBADF, or EINVAL for equal descriptors.
-#[tactic(auto, unfolding(crate::specs::Dup3::dup3))]
+#[tactic(auto, unfolding(crate::specs::Dup3::dup3, lx_open::specs::Releases::replaced))]
 pub fn dup3(
     shared: &mut Shared,
     pid: u32,
@@ -22,7 +23,8 @@ pub fn dup3(
 ) -> Result<CallReply, AllocError>
     ensures answer { IfOk result (λ r. answer_of r shared.new user.new ≡ meaning shared.old pid call.now user.old) }
     ensures kept { IfOk result (λ r. Kept r shared.old user.old shared.new user.new) }
-    ensures console { OnErr result (shared.new.console ≡ shared.old.console) }
+    ensures same { OnErr result (shared.new ≡ shared.old) }
+    ensures kept_own { OnErr result (user.new ≡ user.old) }
 {
     let flags = call.arguments[2];
     if flags & O_CLOEXEC != flags {
@@ -39,11 +41,10 @@ pub fn dup3(
     if old == new {
         return Ok(CallReply::Refused(Errno::EINVAL));
     }
-    lx_open::release::close(&mut shared.tree, &mut shared.fds, pid, new);
     let copy = Slot {
         description: slot.description,
         closes_on_exec: has(flags, O_CLOEXEC),
     };
-    shared.fds.put(pid, new, copy)?;
+    replace(&mut shared.tree, &mut shared.fds, pid, new, copy)?;
     Ok(CallReply::Returned(u64::from(new)))
 }

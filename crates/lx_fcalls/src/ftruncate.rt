@@ -20,7 +20,8 @@ fn truncate_node(
 ) -> Result<CallReply, AllocError>
     ensures answer { IfOk result (λ r. answer_of r shared.new user.new ≡ truncates_node shared.old user.old len node) }
     ensures kept { IfOk result (λ r. Kept r shared.old user.old shared.new user.new) }
-    ensures console { OnErr result (shared.new.console ≡ shared.old.console) }
+    ensures same { OnErr result (shared.new ≡ shared.old) }
+    ensures kept_own { OnErr result (user.new ≡ user.old) }
 {
     if len > LARGEST_FILE {
         return Ok(CallReply::Refused(Errno::EFBIG));
@@ -41,7 +42,8 @@ fn truncate_object(
 ) -> Result<CallReply, AllocError>
     ensures answer { IfOk result (λ r. answer_of r shared.new user.new ≡ truncates shared.old user.old len object) }
     ensures kept { IfOk result (λ r. Kept r shared.old user.old shared.new user.new) }
-    ensures console { OnErr result (shared.new.console ≡ shared.old.console) }
+    ensures same { OnErr result (shared.new ≡ shared.old) }
+    ensures kept_own { OnErr result (user.new ≡ user.old) }
 {
     match object {
         Object::Input | Object::Console | Object::ReadEnd(_) | Object::WriteEnd(_) => {
@@ -62,7 +64,8 @@ pub fn ftruncate(
 ) -> Result<CallReply, AllocError>
     ensures answer { IfOk result (λ r. answer_of r shared.new user.new ≡ meaning shared.old pid call.now user.old) }
     ensures kept { IfOk result (λ r. Kept r shared.old user.old shared.new user.new) }
-    ensures console { OnErr result (shared.new.console ≡ shared.old.console) }
+    ensures same { OnErr result (shared.new ≡ shared.old) }
+    ensures kept_own { OnErr result (user.new ≡ user.old) }
 {
     let len = call.arguments[1];
     if len >= 0x8000_0000_0000_0000 {

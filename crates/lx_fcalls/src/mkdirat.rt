@@ -20,7 +20,8 @@ fn make_at(
 ) -> Result<CallReply, AllocError>
     ensures answer { IfOk result (λ r. answer_of r shared.new user.new ≡ makes_at shared.old user.old place.now) }
     ensures kept { IfOk result (λ r. Kept r shared.old user.old shared.new user.new) }
-    ensures console { OnErr result (shared.new.console ≡ shared.old.console) }
+    ensures same { OnErr result (shared.new ≡ shared.old) }
+    ensures kept_own { OnErr result (user.new ≡ user.old) }
 {
     let path = path(alloc, place)?;
     match look(&shared.tree, place.slashed, path.as_slice()) {
@@ -47,7 +48,8 @@ pub fn mkdirat(
 ) -> Result<CallReply, AllocError>
     ensures answer { IfOk result (λ r. answer_of r shared.new user.new ≡ meaning shared.old pid call.now user.old) }
     ensures kept { IfOk result (λ r. Kept r shared.old user.old shared.new user.new) }
-    ensures console { OnErr result (shared.new.console ≡ shared.old.console) }
+    ensures same { OnErr result (shared.new ≡ shared.old) }
+    ensures kept_own { OnErr result (user.new ≡ user.old) }
 {
     match place_at(
         alloc,

@@ -34,7 +34,8 @@ fn tell(
 ) -> Result<CallReply, AllocError>
     ensures answer { IfOk result (λ r. answer_of r shared.new user.new ≡ tells shared.old user.old at path.now sight) }
     ensures kept { IfOk result (λ r. Kept r shared.old user.old shared.new user.new) }
-    ensures console { OnErr result (shared.new.console ≡ shared.old.console) }
+    ensures same { OnErr result (shared.new ≡ shared.old) }
+    ensures kept_own { OnErr result (user.new ≡ user.old) }
 {
     match sight {
         Lookup::Absent => Ok(CallReply::Refused(Errno::ENOENT)),
@@ -56,7 +57,8 @@ fn tell_at(
 ) -> Result<CallReply, AllocError>
     ensures answer { IfOk result (λ r. answer_of r shared.new user.new ≡ tells_at shared.old user.old at place.now) }
     ensures kept { IfOk result (λ r. Kept r shared.old user.old shared.new user.new) }
-    ensures console { OnErr result (shared.new.console ≡ shared.old.console) }
+    ensures same { OnErr result (shared.new ≡ shared.old) }
+    ensures kept_own { OnErr result (user.new ≡ user.old) }
 {
     let path = path(alloc, place)?;
     let sight = look(&shared.tree, place.slashed, path.as_slice());
@@ -74,7 +76,8 @@ pub fn newfstatat(
 ) -> Result<CallReply, AllocError>
     ensures answer { IfOk result (λ r. answer_of r shared.new user.new ≡ meaning shared.old pid call.now user.old) }
     ensures kept { IfOk result (λ r. Kept r shared.old user.old shared.new user.new) }
-    ensures console { OnErr result (shared.new.console ≡ shared.old.console) }
+    ensures same { OnErr result (shared.new ≡ shared.old) }
+    ensures kept_own { OnErr result (user.new ≡ user.old) }
 {
     let flags = call.arguments[3];
     if flags & AT_SYMLINK_NOFOLLOW != flags {

@@ -27,7 +27,7 @@ fn opening(node: u32, flags: u64) -> Description
     }
 }
 
-/// A new file.
+/// A new file. Its descriptor comes first, since that can be taken back without memory.
 fn open_new(
     alloc: Global,
     shared: &mut Shared,
@@ -40,7 +40,8 @@ fn open_new(
     ensures answer { IfOk result (λ r. answer_of r shared.new user.new
         ≡ opens_new shared.old pid user.old flags slashed path.now) }
     ensures kept { IfOk result (λ r. Kept r shared.old user.old shared.new user.new) }
-    ensures console { OnErr result (shared.new.console ≡ shared.old.console) }
+    ensures same { OnErr result (shared.new ≡ shared.old) }
+    ensures kept_own { OnErr result (user.new ≡ user.old) }
 {
     if !has(flags, O_CREAT) {
         return Ok(CallReply::Refused(Errno::ENOENT));
@@ -54,13 +55,20 @@ fn open_new(
     if !shared.tree.has_room() {
         return Ok(CallReply::Refused(Errno::ENOSPC));
     }
-    let node = shared
-        .tree
-        .create(alloc, path, Node::File(Bytes::new(alloc)))?;
+    let node = shared.tree.nodes.vacant()?;
     shared
         .fds
         .open(pid, fd, opening(node, flags), has(flags, O_CLOEXEC))?;
-    Ok(CallReply::Returned(u64::from(fd)))
+    match shared
+        .tree
+        .create(alloc, path, Node::File(Bytes::new(alloc)))
+    {
+        Ok(_) => Ok(CallReply::Returned(u64::from(fd))),
+        Err(error) => {
+            shared.fds.take_back(pid, fd);
+            Err(error)
+        }
+    }
 }
 
 /// A file that is there.
@@ -74,7 +82,8 @@ fn open_file(
     ensures answer { IfOk result (λ r. answer_of r shared.new user.new
         ≡ opens_file shared.old pid user.old flags path.now) }
     ensures kept { IfOk result (λ r. Kept r shared.old user.old shared.new user.new) }
-    ensures console { OnErr result (shared.new.console ≡ shared.old.console) }
+    ensures same { OnErr result (shared.new ≡ shared.old) }
+    ensures kept_own { OnErr result (user.new ≡ user.old) }
 {
     if has(flags, O_CREAT) && has(flags, O_EXCL) {
         return Ok(CallReply::Refused(Errno::EEXIST));
@@ -85,12 +94,12 @@ fn open_file(
     let Some(node) = shared.tree.names.get(path) else {
         return Ok(CallReply::Refused(Errno::ENOENT));
     };
-    if has(flags, O_TRUNC) {
-        shared.tree.nodes.clear(node);
-    }
     shared
         .fds
         .open(pid, fd, opening(node, flags), has(flags, O_CLOEXEC))?;
+    if has(flags, O_TRUNC) {
+        shared.tree.nodes.clear(node);
+    }
     Ok(CallReply::Returned(u64::from(fd)))
 }
 
@@ -105,7 +114,8 @@ fn open_at(
     ensures answer { IfOk result (λ r. answer_of r shared.new user.new
         ≡ opens_at shared.old pid user.old flags place.now) }
     ensures kept { IfOk result (λ r. Kept r shared.old user.old shared.new user.new) }
-    ensures console { OnErr result (shared.new.console ≡ shared.old.console) }
+    ensures same { OnErr result (shared.new ≡ shared.old) }
+    ensures kept_own { OnErr result (user.new ≡ user.old) }
 {
     let path = path(alloc, place)?;
     match look(&shared.tree, place.slashed, path.as_slice()) {
@@ -136,7 +146,8 @@ pub fn openat(
 ) -> Result<CallReply, AllocError>
     ensures answer { IfOk result (λ r. answer_of r shared.new user.new ≡ meaning shared.old pid call.now user.old) }
     ensures kept { IfOk result (λ r. Kept r shared.old user.old shared.new user.new) }
-    ensures console { OnErr result (shared.new.console ≡ shared.old.console) }
+    ensures same { OnErr result (shared.new ≡ shared.old) }
+    ensures kept_own { OnErr result (user.new ≡ user.old) }
 {
     let flags = call.arguments[2];
     if flags & OPEN_FLAGS != flags || flags % 4 == 3 {

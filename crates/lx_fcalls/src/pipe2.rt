@@ -1,11 +1,13 @@
 //! pipe2(fds, flags)
 
-ghost use Rattle.std.specs.Prelude.{◌≡◌, ◌<◌, ◌++◌, [], true, false, IfOk, OnOk, OnErr};
+ghost use Rattle.std.specs.Prelude.{◌≡◌, ◌<◌, ◌++◌, ◌==◌, [], Bool, false, IfOk, OnOk, OnErr};
 ghost use Rattle.std.specs.Int.{w32, to_le_bytes};
-ghost use Rattle.lx_open.specs.Opens.{with_pipe};
-ghost use Rattle.lx_open.specs.declared.description.Object.TheVariants as object_is;
+ghost use Rattle.containers.specs.Vacant.{vacant};
+ghost use Rattle.lx_abi.specs.Limits.{most_fds};
+ghost use Rattle.lx_open.specs.Opens.{with_pipe, IsFree};
+ghost use Rattle.lx_open.specs.declared.fd_table.FdTable.{FdTable};
 ghost use Rattle.lx_proc.specs.Answers.{answer_of, Kept};
-ghost use Rattle.lx_fcalls.specs.Pipe2.{pipe2 as meaning, pipes, end_of, with_end};
+ghost use Rattle.lx_fcalls.specs.Pipe2.{pipe2 as meaning, pipes, end_of, both_ends};
 
 use crate::flags::{O_CLOEXEC, has};
 use crate::giving::give;
@@ -36,8 +38,33 @@ fn end(object: Object, reads: bool) -> Description
     }
 }
 
-/// A new pipe, and a descriptor for each of its ends.
+/// A descriptor for each end of a pipe.
 fn open_ends(
+    fds: &mut FdTable,
+    pid: u32,
+    pipe: u32,
+    first: u32,
+    second: u32,
+    closes: bool,
+) -> Result<(), AllocError>
+    requires first { first < most_fds }
+    requires second { second < most_fds }
+    requires free { IsFree fds.old pid first }
+    ensures ok { OnOk result (fds.new ≡ both_ends fds.old pid pipe first second closes) }
+    ensures err { OnErr result (fds.new ≡ fds.old) }
+{
+    fds.open(pid, first, end(Object::ReadEnd(pipe), true), closes)?;
+    match fds.open(pid, second, end(Object::WriteEnd(pipe), false), closes) {
+        Ok(()) => Ok(()),
+        Err(error) => {
+            fds.take_back(pid, first);
+            Err(error)
+        }
+    }
+}
+
+/// A new pipe, and a descriptor for each of its ends.
+fn open_pipe(
     alloc: Global,
     fds: &mut FdTable,
     pid: u32,
@@ -46,18 +73,37 @@ fn open_ends(
     second: u32,
     closes: bool,
 ) -> Result<(), AllocError>
-    requires first { first < 256 }
-    requires second { second < 256 }
-    ensures { OnOk result (fds.new ≡ with_end
-        (with_end (with_pipe fds.old pipe []) pid first (object_is.ReadEnd pipe) true closes)
-        pid second (object_is.WriteEnd pipe) false closes) }
+    requires new { pipe ≡ vacant fds.old.pipes }
+    requires first { first < most_fds }
+    requires second { second < most_fds }
+    requires free { IsFree fds.old pid first }
+    ensures ok { OnOk result (fds.new ≡ both_ends (with_pipe fds.old pipe []) pid pipe first second closes) }
+    ensures err { OnErr result (fds.new ≡ fds.old) }
 {
     fds.add_pipe(alloc, pipe)?;
-    fds.open(pid, first, end(Object::ReadEnd(pipe), true), closes)?;
-    fds.open(pid, second, end(Object::WriteEnd(pipe), false), closes)?;
-    Ok(())
+    match open_ends(fds, pid, pipe, first, second, closes) {
+        Ok(()) => Ok(()),
+        Err(error) => {
+            fds.take_pipe_back(pipe);
+            Err(error)
+        }
+    }
 }
 
+/// What `open_pipe` did is undone.
+fn take_pipe_back(fds: &mut FdTable, pid: u32, pipe: u32, first: u32, second: u32)
+    requires first { first < most_fds }
+    requires second { second < most_fds }
+    ensures { (was : FdTable) (closes : Bool) → pipe ≡ vacant was.pipes → IsFree was pid first → IsFree was pid second
+        → (second == first) ≡ false → fds.old ≡ both_ends (with_pipe was pipe []) pid pipe first second closes
+        → fds.new ≡ was }
+{
+    fds.take_back(pid, second);
+    fds.take_back(pid, first);
+    fds.take_pipe_back(pipe);
+}
+
+/// The pipe comes before its descriptors are told, since it can be taken back without memory.
 fn make_pipe(
     alloc: Global,
     shared: &mut Shared,
@@ -67,10 +113,12 @@ fn make_pipe(
     closes: bool,
     pipe: u32,
 ) -> Result<CallReply, AllocError>
+    requires { pipe ≡ vacant shared.old.fds.pipes }
     ensures answer { IfOk result (λ r. answer_of r shared.new user.new
         ≡ pipes shared.old pid user.old at closes pipe) }
     ensures kept { IfOk result (λ r. Kept r shared.old user.old shared.new user.new) }
-    ensures console { OnErr result (shared.new.console ≡ shared.old.console) }
+    ensures same { OnErr result (shared.new ≡ shared.old) }
+    ensures kept_own { OnErr result (user.new ≡ user.old) }
 {
     let Some(first) = shared.fds.free(pid) else {
         return Ok(CallReply::Refused(Errno::EMFILE));
@@ -79,11 +127,18 @@ fn make_pipe(
         return Ok(CallReply::Refused(Errno::EMFILE));
     };
     let numbers = two(alloc, first, second)?;
-    if !give(&mut user.memory, at, numbers.as_slice())? {
-        return Ok(CallReply::Refused(Errno::EFAULT));
+    open_pipe(alloc, &mut shared.fds, pid, pipe, first, second, closes)?;
+    match give(&mut user.memory, at, numbers.as_slice()) {
+        Ok(true) => Ok(CallReply::Returned(0)),
+        Ok(false) => {
+            take_pipe_back(&mut shared.fds, pid, pipe, first, second);
+            Ok(CallReply::Refused(Errno::EFAULT))
+        }
+        Err(error) => {
+            take_pipe_back(&mut shared.fds, pid, pipe, first, second);
+            Err(error)
+        }
     }
-    open_ends(alloc, &mut shared.fds, pid, pipe, first, second, closes)?;
-    Ok(CallReply::Returned(0))
 }
 
 /// pipe2(2). Refused with EINVAL for other flags, EMFILE or EFAULT.
@@ -97,7 +152,8 @@ pub fn pipe2(
 ) -> Result<CallReply, AllocError>
     ensures answer { IfOk result (λ r. answer_of r shared.new user.new ≡ meaning shared.old pid call.now user.old) }
     ensures kept { IfOk result (λ r. Kept r shared.old user.old shared.new user.new) }
-    ensures console { OnErr result (shared.new.console ≡ shared.old.console) }
+    ensures same { OnErr result (shared.new ≡ shared.old) }
+    ensures kept_own { OnErr result (user.new ≡ user.old) }
 {
     let flags = call.arguments[1];
     if flags & O_CLOEXEC != flags {

@@ -23,7 +23,8 @@ fn read_input(
 ) -> Result<CallReply, AllocError>
     ensures answer { IfOk result (λ r. answer_of r shared.new user.new ≡ reads_input shared.old user.old at count) }
     ensures kept { IfOk result (λ r. Kept r shared.old user.old shared.new user.new) }
-    ensures console { OnErr result (shared.new.console ≡ shared.old.console) }
+    ensures same { OnErr result (shared.new ≡ shared.old) }
+    ensures kept_own { OnErr result (user.new ≡ user.old) }
 {
     let n = count.min(shared.input.len());
     if !give(&mut user.memory, at, &shared.input.as_slice()[..n])? {
@@ -45,7 +46,8 @@ fn read_file(
     ensures answer { IfOk result (λ r. answer_of r shared.new user.new
         ≡ reads_file shared.old user.old slot description node at count) }
     ensures kept { IfOk result (λ r. Kept r shared.old user.old shared.new user.new) }
-    ensures console { OnErr result (shared.new.console ≡ shared.old.console) }
+    ensures same { OnErr result (shared.new ≡ shared.old) }
+    ensures kept_own { OnErr result (user.new ≡ user.old) }
 {
     let bytes = part(content(&shared.tree, node), description.offset, count);
     let n = bytes.len() as u64;
@@ -74,7 +76,8 @@ fn read_pipe(
     ensures answer { IfOk result (λ r. answer_of r shared.new user.new
         ≡ reads_pipe shared.old user.old pipe at count) }
     ensures kept { IfOk result (λ r. Kept r shared.old user.old shared.new user.new) }
-    ensures console { OnErr result (shared.new.console ≡ shared.old.console) }
+    ensures same { OnErr result (shared.new ≡ shared.old) }
+    ensures kept_own { OnErr result (user.new ≡ user.old) }
 {
     if waits(&shared.fds, pipe, count) {
         return Ok(CallReply::Blocked);
@@ -99,7 +102,8 @@ fn read_object(
     ensures answer { IfOk result (λ r. answer_of r shared.new user.new
         ≡ reads_object shared.old user.old slot description at count description.object) }
     ensures kept { IfOk result (λ r. Kept r shared.old user.old shared.new user.new) }
-    ensures console { OnErr result (shared.new.console ≡ shared.old.console) }
+    ensures same { OnErr result (shared.new ≡ shared.old) }
+    ensures kept_own { OnErr result (user.new ≡ user.old) }
 {
     match description.object {
         Object::Input => read_input(shared, user, at, count),
@@ -119,7 +123,8 @@ pub fn read(
 ) -> Result<CallReply, AllocError>
     ensures answer { IfOk result (λ r. answer_of r shared.new user.new ≡ meaning shared.old pid call.now user.old) }
     ensures kept { IfOk result (λ r. Kept r shared.old user.old shared.new user.new) }
-    ensures console { OnErr result (shared.new.console ≡ shared.old.console) }
+    ensures same { OnErr result (shared.new ≡ shared.old) }
+    ensures kept_own { OnErr result (user.new ≡ user.old) }
 {
     let Some(slot) = shared.fds.slot(pid, low_argument(call, 0)) else {
         return Ok(CallReply::Refused(Errno::EBADF));

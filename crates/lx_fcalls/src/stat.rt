@@ -45,7 +45,8 @@ pub fn give_stat(
     ensures answer { IfOk result (λ r. answer_of r shared.new user.new
         ≡ gives shared.old user.old at (stat_of mode size) 0) }
     ensures kept { IfOk result (λ r. Kept r shared.old user.old shared.new user.new) }
-    ensures console { OnErr result (shared.new.console ≡ shared.old.console) }
+    ensures same { OnErr result (shared.new ≡ shared.old) }
+    ensures kept_own { OnErr result (user.new ≡ user.old) }
 {
     let bytes = stat(alloc, mode, size)?;
     if !give(&mut user.memory, at, bytes.as_slice())? {

@@ -76,7 +76,8 @@ fn remove_directory(
     ensures answer { IfOk result (λ r. answer_of r shared.new user.new
         ≡ removes_directory shared.old user.old path.now sight) }
     ensures kept { IfOk result (λ r. Kept r shared.old user.old shared.new user.new) }
-    ensures console { OnErr result (shared.new.console ≡ shared.old.console) }
+    ensures same { OnErr result (shared.new ≡ shared.old) }
+    ensures kept_own { OnErr result (user.new ≡ user.old) }
 {
     match sight {
         Lookup::Absent => Ok(CallReply::Refused(Errno::ENOENT)),
@@ -119,7 +120,8 @@ fn unlink_directory(
     ensures answer { IfOk result (λ r. answer_of r shared.new user.new
         ≡ unlinks_directory shared.old user.old place.now) }
     ensures kept { IfOk result (λ r. Kept r shared.old user.old shared.new user.new) }
-    ensures console { OnErr result (shared.new.console ≡ shared.old.console) }
+    ensures same { OnErr result (shared.new ≡ shared.old) }
+    ensures kept_own { OnErr result (user.new ≡ user.old) }
 {
     match nameless(
         place.last.as_slice(),
@@ -144,7 +146,8 @@ fn unlink_file(
 ) -> Result<CallReply, AllocError>
     ensures answer { IfOk result (λ r. answer_of r shared.new user.new ≡ unlinks_file shared.old user.old place.now) }
     ensures kept { IfOk result (λ r. Kept r shared.old user.old shared.new user.new) }
-    ensures console { OnErr result (shared.new.console ≡ shared.old.console) }
+    ensures same { OnErr result (shared.new ≡ shared.old) }
+    ensures kept_own { OnErr result (user.new ≡ user.old) }
 {
     match nameless(
         place.last.as_slice(),
@@ -171,7 +174,8 @@ fn unlink_at(
     ensures answer { IfOk result (λ r. answer_of r shared.new user.new
         ≡ unlinks shared.old user.old directories place.now) }
     ensures kept { IfOk result (λ r. Kept r shared.old user.old shared.new user.new) }
-    ensures console { OnErr result (shared.new.console ≡ shared.old.console) }
+    ensures same { OnErr result (shared.new ≡ shared.old) }
+    ensures kept_own { OnErr result (user.new ≡ user.old) }
 {
     if directories {
         return unlink_directory(alloc, shared, user, place);
@@ -191,7 +195,8 @@ pub fn unlinkat(
 ) -> Result<CallReply, AllocError>
     ensures answer { IfOk result (λ r. answer_of r shared.new user.new ≡ meaning shared.old pid call.now user.old) }
     ensures kept { IfOk result (λ r. Kept r shared.old user.old shared.new user.new) }
-    ensures console { OnErr result (shared.new.console ≡ shared.old.console) }
+    ensures same { OnErr result (shared.new ≡ shared.old) }
+    ensures kept_own { OnErr result (user.new ≡ user.old) }
 {
     let flags = call.arguments[2];
     if flags & AT_REMOVEDIR != flags {

@@ -24,7 +24,8 @@ fn write_console(
     ensures answer { IfOk result (λ r. answer_of r shared.new user.new
         ≡ writes_console shared.old user.old bytes.now) }
     ensures kept { IfOk result (λ r. Kept r shared.old user.old shared.new user.new) }
-    ensures console { OnErr result (shared.new.console ≡ shared.old.console) }
+    ensures same { OnErr result (shared.new ≡ shared.old) }
+    ensures kept_own { OnErr result (user.new ≡ user.old) }
 {
     if !has_space(shared, 0, bytes.len() as u64) {
         return Ok(CallReply::Refused(Errno::ENOSPC));
@@ -53,7 +54,8 @@ fn write_pipe(
     ensures answer { IfOk result (λ r. answer_of r shared.new user.new
         ≡ writes_pipe shared.old pid user.old pipe bytes.now) }
     ensures kept { IfOk result (λ r. Kept r shared.old user.old shared.new user.new) }
-    ensures console { OnErr result (shared.new.console ≡ shared.old.console) }
+    ensures same { OnErr result (shared.new ≡ shared.old) }
+    ensures kept_own { OnErr result (user.new ≡ user.old) }
 {
     if !shared.fds.has_readers(pipe) {
         return Ok(break_pipe(shared, pid, user));
@@ -77,7 +79,8 @@ fn write_at(
     ensures answer { IfOk result (λ r. answer_of r shared.new user.new
         ≡ writes_at shared.old user.old slot node at bytes.now) }
     ensures kept { IfOk result (λ r. Kept r shared.old user.old shared.new user.new) }
-    ensures console { OnErr result (shared.new.console ≡ shared.old.console) }
+    ensures same { OnErr result (shared.new ≡ shared.old) }
+    ensures kept_own { OnErr result (user.new ≡ user.old) }
 {
     let n = bytes.len() as u64;
     if at > LARGEST_FILE - n {
@@ -116,7 +119,8 @@ fn write_file(
     ensures answer { IfOk result (λ r. answer_of r shared.new user.new
         ≡ writes_file shared.old user.old slot description node bytes.now) }
     ensures kept { IfOk result (λ r. Kept r shared.old user.old shared.new user.new) }
-    ensures console { OnErr result (shared.new.console ≡ shared.old.console) }
+    ensures same { OnErr result (shared.new ≡ shared.old) }
+    ensures kept_own { OnErr result (user.new ≡ user.old) }
 {
     if bytes.len() == 0 {
         return Ok(CallReply::Returned(0));
@@ -138,7 +142,8 @@ fn write_object(
     ensures answer { IfOk result (λ r. answer_of r shared.new user.new
         ≡ writes_object shared.old pid user.old slot description bytes.now description.object) }
     ensures kept { IfOk result (λ r. Kept r shared.old user.old shared.new user.new) }
-    ensures console { OnErr result (shared.new.console ≡ shared.old.console) }
+    ensures same { OnErr result (shared.new ≡ shared.old) }
+    ensures kept_own { OnErr result (user.new ≡ user.old) }
 {
     match description.object {
         Object::Console => write_console(shared, user, bytes),
@@ -160,7 +165,8 @@ pub fn write(
 ) -> Result<CallReply, AllocError>
     ensures answer { IfOk result (λ r. answer_of r shared.new user.new ≡ meaning shared.old pid call.now user.old) }
     ensures kept { IfOk result (λ r. Kept r shared.old user.old shared.new user.new) }
-    ensures console { OnErr result (shared.new.console ≡ shared.old.console) }
+    ensures same { OnErr result (shared.new ≡ shared.old) }
+    ensures kept_own { OnErr result (user.new ≡ user.old) }
 {
     let Some(slot) = shared.fds.slot(pid, low_argument(call, 0)) else {
         return Ok(CallReply::Refused(Errno::EBADF));

@@ -1,6 +1,7 @@
 //! The calls on processes, memory and signals by number.
 
-ghost use Rattle.std.specs.Prelude.{◌≡◌, IfOk, OnErr};
+ghost use Rattle.std.specs.Prelude.{◌≡◌, IfOk, OnErr, None};
+ghost use Rattle.std.specs.FinMap as maps;
 ghost use Rattle.lx_proc.specs.Answers.{answered, KeptIf};
 ghost use Rattle.lx_pcalls.specs.Calls.{process_call as meaning, would_block as would_block_of, is_blocked_if};
 
@@ -35,6 +36,8 @@ pub fn process_call(
     ensures answer { IfOk result
         (λ r. answered r shared.new user.new ≡ meaning shared.old child pid call.now user.old) }
     ensures kept { IfOk result (λ r. KeptIf r shared.old user.old shared.new user.new) }
+    ensures same { maps.get shared.old.entries child ≡ None → OnErr result (shared.new ≡ shared.old) }
+    ensures kept_own { OnErr result (user.new ≡ user.old) }
     ensures console { OnErr result (shared.new.console ≡ shared.old.console) }
 {
     match call.number {

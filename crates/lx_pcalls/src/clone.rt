@@ -1,6 +1,7 @@
 //! clone of a whole process (clone(2), fork(2)).
 
-ghost use Rattle.std.specs.Prelude.{◌≡◌, IfOk, OnErr};
+ghost use Rattle.std.specs.Prelude.{◌≡◌, IfOk, OnErr, None};
+ghost use Rattle.std.specs.FinMap as maps;
 ghost use Rattle.lx_model.specs.Machine.{Bears};
 ghost use Rattle.lx_proc.specs.Answers.{answer_of, Kept};
 ghost use Rattle.lx_pcalls.specs.Clone.{clone as meaning, with_child, child_entry, child_user};
@@ -50,7 +51,7 @@ fn child_hart(hart: &Hart, stack: u64) -> Hart
     }
 }
 
-/// A child's entry and descriptors stand in the table, and its body is handed out.
+/// A child's body is made, its entry and descriptors stand in the table, and its body is handed out.
 fn bear(
     alloc: Global,
     shared: &mut Shared,
@@ -63,22 +64,28 @@ fn bear(
     ensures answer { IfOk result (λ r. answer_of r shared.new user.now
         ≡ Bears (with_child shared.old child pid entry) user.now (child_user user.now stack)) }
     ensures kept { IfOk result (λ r. Kept r shared.old user.now shared.new user.now) }
+    ensures same { maps.get shared.old.entries child ≡ None → OnErr result (shared.new ≡ shared.old) }
     ensures console { OnErr result (shared.new.console ≡ shared.old.console) }
 {
-    let memory = user.memory.fork()?;
-    shared.fds.inherit(pid, child)?;
-    shared.entries.insert(child, entry)?;
     let newborn = UserState {
         hart: child_hart(&user.hart, stack),
-        memory,
+        memory: user.memory.fork()?,
         heap: user.heap,
         interrupted: user.interrupted,
     };
-    Ok(CallReply::Bore(Box::new(alloc, newborn)?))
+    let newborn = Box::new(alloc, newborn)?;
+    shared.entries.insert(child, entry)?;
+    match shared.fds.inherit(pid, child) {
+        Ok(()) => Ok(CallReply::Bore(newborn)),
+        Err(error) => {
+            shared.entries.remove(child);
+            Err(error)
+        }
+    }
 }
 
 /// clone(flags, stack), of a child with this pid. EINVAL for other flags than SIGCHLD; EAGAIN where the table is full,
-/// or there is no such pid.
+/// or there is no such pid. Where memory is refused and no process had the pid, nothing is changed.
 #[inline(never)]
 #[tactic(auto, unfolding(crate::specs::Clone::clone))]
 pub fn clone(
@@ -92,6 +99,7 @@ pub fn clone(
     ensures answer { IfOk result
         (λ r. answer_of r shared.new user.now ≡ meaning shared.old child pid call.now user.now) }
     ensures kept { IfOk result (λ r. Kept r shared.old user.now shared.new user.now) }
+    ensures same { maps.get shared.old.entries child ≡ None → OnErr result (shared.new ≡ shared.old) }
     ensures console { OnErr result (shared.new.console ≡ shared.old.console) }
 {
     if call.arguments[0] != FORK_FLAGS {

@@ -16,10 +16,10 @@ use std::alloc::AllocError;
 /// SIG_IGN.
 const IGNORE: u64 = 1;
 
-/// The wait word is kept.
+/// The wait word is kept. Only that may want memory.
 fn keep_word(shared: &mut Shared, pid: u32, word: u32) -> Result<(), AllocError>
     ensures died { OnOk result (shared.new ≡ with_word shared.old pid word) }
-    ensures console { OnErr result (shared.new.console ≡ shared.old.console) }
+    ensures same { OnErr result (shared.new ≡ shared.old) }
 {
     shared.ended.insert(pid, word)?;
     shared.entries.set_life(pid, Life::Dying { word })?;
@@ -40,11 +40,11 @@ fn close_descriptors(shared: &mut Shared, pid: u32) -> bool
 pub fn die(shared: &mut Shared, pid: u32, word: u32) -> Result<bool, AllocError>
     ensures died { OnOk result (shared.new ≡ dies shared.old pid word) }
     ensures kept { IfOk result (λ kept. IsTrue kept → AreEndsKept shared.old.fds shared.new.fds) }
+    ensures same { OnErr result (shared.new ≡ shared.old) }
     ensures console { OnErr result (shared.new.console ≡ shared.old.console) }
 {
-    let kept = close_descriptors(shared, pid);
     keep_word(shared, pid, word)?;
-    Ok(kept)
+    Ok(close_descriptors(shared, pid))
 }
 
 /// A child gets parent 0, and leaves the table where it is a zombie.

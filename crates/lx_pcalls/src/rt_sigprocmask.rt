@@ -20,6 +20,7 @@ pub fn rt_sigprocmask(
         (λ r. answer_of r shared.new user.new ≡ meaning shared.old pid call.now user.old) }
     ensures kept { IfOk result (λ r. Kept r shared.old user.old shared.new user.new) }
     ensures same { OnErr result (shared.new ≡ shared.old) }
+    ensures kept_own { OnErr result (user.new ≡ user.old) }
 {
     let Some(mut signals) = signals(shared, pid) else {
         return Ok(CallReply::Refused(Errno::ESRCH));

@@ -34,6 +34,7 @@ pub fn take(
     ensures took { IfOk result (λ r. took_of r shared.new user.new ≡ takes shared.old pid user.old signal cause) }
     ensures kept { IfOk result (λ r. TookKept r shared.old shared.new) }
     ensures same { OnErr result (shared.new ≡ shared.old) }
+    ensures kept_own { OnErr result (user.new ≡ user.old) }
 {
     let Some(mut signals) = signals(shared, pid) else {
         return Ok(Reacted::Passed);

@@ -94,6 +94,7 @@ fn reap(
     ensures answer { IfOk result (λ r. answer_of r shared.new user.new ≡ reaps shared.old user.old call.now pid word) }
     ensures kept { IfOk result (λ r. Kept r shared.old user.old shared.new user.new) }
     ensures same { OnErr result (shared.new ≡ shared.old) }
+    ensures kept_own { OnErr result (user.new ≡ user.old) }
 {
     let at = call.arguments[1];
     if at == 0 {
@@ -131,6 +132,7 @@ fn wait(
     ensures answer { IfOk result (λ r. answer_of r shared.new user.new ≡ waits shared.old user.old call.now zombie) }
     ensures kept { IfOk result (λ r. Kept r shared.old user.old shared.new user.new) }
     ensures same { OnErr result (shared.new ≡ shared.old) }
+    ensures kept_own { OnErr result (user.new ≡ user.old) }
 {
     let Some(pid) = zombie else {
         if call.arguments[2] == WNOHANG {
@@ -156,6 +158,7 @@ pub fn wait4(
     ensures answer { IfOk result (λ r. answer_of r shared.new user.new ≡ meaning shared.old pid call.now user.old) }
     ensures kept { IfOk result (λ r. Kept r shared.old user.old shared.new user.new) }
     ensures same { OnErr result (shared.new ≡ shared.old) }
+    ensures kept_own { OnErr result (user.new ≡ user.old) }
 {
     if !may_wait(call) {
         return Ok(CallReply::Refused(Errno::EINVAL));
