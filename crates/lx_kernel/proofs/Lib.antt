@@ -1,11 +1,17 @@
+pub mod Awaiting
+pub mod Blocked
 pub mod Booting
+pub mod Calming
 pub mod Continuing
+pub mod Ending
 pub mod Moving
 pub mod NextAble
+pub mod Placed
 pub mod Placing
 pub mod Reaching
 pub mod Recording
 pub mod Running
 pub mod Sleeping
 pub mod Turning
+pub mod Waiting
 pub mod Watching

@@ -1,5 +1,5 @@
 -- A turn of a process runs an instruction or changes its mode exactly where the process doesn't wait.
-use Rattle.std.proofs.Common.{◌≡◌, ◌≢◌, ◌⊎◌, ℕ, Bool, true, false, Option, Some, None, refl, inl, inr, ◌∙◌}
+use Rattle.std.proofs.Common.{◌≡◌, ◌≢◌, ◌⊎◌, ℕ, Bool, true, false, Option, Some, None, refl, inl, inr, sym, subst, ◌∙◌}
 use Rattle.std.specs.Prelude.{◌||◌, IsTrue, not, ◌↔◌}
 use Rattle.std.specs.FinMap as maps
 use Rattle.lx_abi.specs.declared.log.Call.{Call}
@@ -21,13 +21,13 @@ use Rattle.lx_proc.specs.declared.state.Shared.{Shared}
 use Rattle.lx_proc.specs.declared.state.UserState.{UserState}
 use Rattle.lx_proc.specs.Answers.{is_blocked}
 use Rattle.lx_pcalls.specs.Taking.{takes}
-use Rattle.lx_turn.specs.Blocking.{would_block, waits, can_turn}
+use Rattle.lx_kernel.specs.Blocking.{would_block, waits, can_turn}
 use Rattle.lx_kernel.specs.Scheduling.{can_turn_in}
 use Rattle.lx_turn.specs.Calls.{does}
 use Rattle.lx_turn.specs.Linux.{linux}
 use Rattle.lx_turn.specs.Reactions.{is_killed}
 use Rattle.lx_kernel.specs.Runs.{Run as KernelRun, is_able_in}
-use Rattle.lx_turn.proofs.Waiting.{does_waits}
+use Rattle.lx_kernel.proofs.Waiting.{does_waits}
 
 -- where it waits, its process stays in Doing, and else it leaves it
 answered_moves : (s : Shared) (child p : ℕ) (b : UserState) (call : Call) (a : Answer Shared UserState) → is_blocked a ≡ false → task_mode (answered linux s child p b call a).task ≢ Some mode.Doing
@@ -100,9 +100,19 @@ waits_move : (w : Bool) (c : Choice) (s : Shared) (child p : ℕ) (b : UserState
 waits_move false c s child p b stage after h = (λ e. h, λ m. refl)
 waits_move true c s child p b stage after h = (λ e. absurd (cc e), λ m. absurd (h m))
 
-killed_moves : (killed : Bool) (c : Choice) (s : Shared) (child p : ℕ) (b : UserState) (stage : Stage) → Moves (killed || not (waits s p b stage)) (IsMoved c s child p b stage (killed_or killed linux c s child p b stage).task)
-killed_moves true c s child p b stage = (λ e. inr (not_dying stage), λ m. refl)
-killed_moves false c s child p b stage = waits_move (waits s p b stage) c s child p b stage (lives linux c s child p b stage).task (lives_turns c s child p b stage)
+or_true : (b : Bool) → (b || true) ≡ true
+or_true true = refl
+or_true false = refl
+
+or_false : (b : Bool) → (b || false) ≡ b
+or_false true = refl
+or_false false = refl
+
+killed_moves : (killed : Bool) (c : Choice) (s : Shared) (child p : ℕ) (b : UserState) (stage : Stage) → Moves (not (waits s p b stage) || killed) (IsMoved c s child p b stage (killed_or killed linux c s child p b stage).task)
+killed_moves true c s child p b stage = (λ e. inr (not_dying stage), λ m. or_true (not (waits s p b stage)))
+killed_moves false c s child p b stage =
+    subst (λ can. Moves can (IsMoved c s child p b stage (lives linux c s child p b stage).task)) (sym (or_false (not (waits s p b stage))))
+    (waits_move (waits s p b stage) c s child p b stage (lives linux c s child p b stage).task (lives_turns c s child p b stage))
 
 module _ (k : KernelRun) (pid : ℕ) where
   abbrev IsAbleAs : Task UserState → Type 0

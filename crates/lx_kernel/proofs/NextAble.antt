@@ -1,26 +1,14 @@
 -- The next process in the cycle of pids.
-use Rattle.std.proofs.Common.{◌≡◌, ℕ, ◌+◌, ◌<◌, ◌≤◌, Bool, true, false, Option, Some, None, inl, inr, refl, subst, arith}
-use Rattle.std.specs.Prelude.{◌&&◌, ◌||◌, not, nat_le, IsSome}
+use Rattle.std.proofs.Common.{◌≡◌, ℕ, ◌+◌, ◌≤◌, Bool, true, false, Option, Some, None, inl, inr, refl, subst, arith}
+use Rattle.std.specs.Prelude.{nat_le, IsSome}
 use Rattle.std.specs.Ordering.{nat_cmp}
-use Rattle.std.specs.FinMap as maps
 use Rattle.std.specs.FinMap.{FinMap}
 use Rattle.containers.specs.Keys.{IsNextKey}
-use Rattle.lx_model.specs.Finite.{at}
-use Rattle.lx_model.specs.declared.stage.Stage.TheVariants as stage
-use Rattle.lx_model.specs.declared.stage.Task.{Task}
-use Rattle.lx_model.specs.declared.stage.Task.TheVariants.{Alive, Dying, Gone}
 use Rattle.lx_proc.specs.declared.state.Shared.{Shared}
-use Rattle.lx_proc.specs.declared.state.UserState.{UserState}
-use Rattle.lx_fcalls.specs.Blocking.{would_block as file_would_block}
-use Rattle.lx_pcalls.specs.Calls.{would_block as process_would_block}
-use Rattle.lx_pcalls.specs.Interruption.{is_interrupted}
 use Rattle.lx_kernel.specs.Runs.{Run, is_able_in}
-use Rattle.lx_turn.specs.Blocking.{can_turn, would_block}
 use Rattle.lx_kernel.specs.Scheduling.{can_turn_in}
-use Rattle.lx_turn.specs.Reactions.{is_killed}
 use Rattle.lx_kernel.specs.Scheduling.{Tasks, AreUnable, IsFirstFrom, IsNextIn, IsNextOf}
-use Rattle.lx_turn.specs.Resting.{rests}
-use Rattle.lx_kernel.specs.Sleeping.{AllRest}
+use Rattle.lx_kernel.specs.Sleeping.{AreOthersBlocked}
 use Rattle.lx_kernel.proofs.Moving.{able_where_turns}
 use Rattle.lx_kernel.proofs.Sleeping.{below}
 
@@ -58,39 +46,12 @@ module _ (k : Run) where
   pub next_in : (after : ℕ) (o : Option ℕ) → IsNextIn k.running.shared k.running.tasks after o → IsNextOf k after o
   next_in after o h = elim h [ inl above ↦ next_of after o above.0 above.1 | inr first ↦ next_first after o first.0 first.1 ]
 
--- Who rests has no turn
-
-quiet_waits : (killed waits interrupted : Bool) → (waits && (not killed && not interrupted)) ≡ true → (killed || not (waits && not interrupted)) ≡ false
-quiet_waits true true interrupted e = absurd (cc e)
-quiet_waits true false interrupted e = absurd (cc e)
-quiet_waits false true true e = absurd (cc e)
-quiet_waits false true false e = refl
-quiet_waits false false interrupted e = absurd (cc e)
-
-rests_unable : (s : Shared) (q : ℕ) (task : Task UserState) → rests s q task ≡ true → can_turn s q task ≡ false
-unfolding rests can_turn would_block
-rests_unable s q (Alive b stage.Born) e = absurd (cc e)
-rests_unable s q (Alive b stage.Run) e = absurd (cc e)
-rests_unable s q (Alive b (stage.Faulting signal cause)) e = absurd (cc e)
-rests_unable s q (Alive b (stage.Entered joined)) e = absurd (cc e)
-rests_unable s q (Alive b (stage.Doing call)) e = quiet_waits (is_killed (maps.get s.entries q)) (file_would_block s q call b || process_would_block s q call) (is_interrupted (maps.get s.entries q)) e
-rests_unable s q (Alive b (stage.Replaced call x)) e = absurd (cc e)
-rests_unable s q (Alive b (stage.Acted call x replaced)) e = absurd (cc e)
-rests_unable s q (Alive b stage.Finished) e = absurd (cc e)
-rests_unable s q (Alive b (stage.Taken signal cause)) e = absurd (cc e)
-rests_unable s q (Alive b stage.Dropped) e = absurd (cc e)
-rests_unable s q (Dying w) e = absurd (cc e)
-rests_unable s q Gone e = refl
-
-module _ {X : Type 0} (keys : FinMap nat_cmp X) (s : Shared) (tasks : Tasks) (rest : AllRest keys s tasks) (after passed : ℕ) (low : after ≤ passed) (unable : AreUnable s tasks (after + 1) (passed + 1)) where
-  resting : (q : ℕ) → 0 < q → maps.get keys q ≡ None → can_turn_in s tasks q ≡ false
-  resting q up none = rests_unable s q (at Gone tasks q) (rest q up none)
-
+module _ {X : Type 0} (keys : FinMap nat_cmp X) (s : Shared) (tasks : Tasks) (blocked : AreOthersBlocked keys s tasks) (after passed : ℕ) (low : after ≤ passed) (unable : AreUnable s tasks (after + 1) (passed + 1)) where
   -- none up to the next key
   pub unable_before : (pid : ℕ) → IsNextKey keys passed (Some pid) → AreUnable s tasks (after + 1) pid
   unable_before pid next = λ q from to. below q passed (can_turn_in s tasks q ≡ false) (nat_le q passed) refl
       (λ le. unable q from (omega (arith, le)))
-      (λ lt. resting q (omega (arith, lt)) (next.2 q lt to))
+      (λ lt. blocked q (omega (arith, lt)) (next.2 q lt to))
 
   pub unable_upto : (pid : ℕ) → IsNextKey keys passed (Some pid) → can_turn_in s tasks pid ≡ false → AreUnable s tasks (after + 1) (pid + 1)
   unable_upto pid next here = λ q from to. below pid q (can_turn_in s tasks q ≡ false) (nat_le pid q) refl
@@ -100,4 +61,4 @@ module _ {X : Type 0} (keys : FinMap nat_cmp X) (s : Shared) (tasks : Tasks) (re
   pub unable_all : IsNextKey keys passed None → IsFirstFrom s tasks (after + 1) None
   unable_all last = λ q from. below q passed (can_turn_in s tasks q ≡ false) (nat_le q passed) refl
       (λ le. unable q from (omega (arith, le)))
-      (λ lt. resting q (omega (arith, lt)) (last q lt))
+      (λ lt. blocked q (omega (arith, lt)) (last q lt))

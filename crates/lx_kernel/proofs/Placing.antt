@@ -1,9 +1,7 @@
 -- The table of processes' own parts after a turn.
-use Rattle.std.proofs.Common.{◌≡◌, ℕ, Bool, true, false, cond, Option, Some, None, refl, ap, sym, subst, ◌∙◌, unwrap_or}
-use Rattle.std.specs.Ordering.{nat_cmp, eq_by_cmp}
-use Rattle.std.proofs.lemmas.Cmp.{nat_cmp_total}
-use Rattle.std.specs.Cmp.{eq_by_cmp_equiv}
-use Rattle.lx_turn.proofs.Placed.{equal_is, get_put}
+use Rattle.std.proofs.Common.{◌≡◌, ℕ, Bool, true, false, Option, Some, None, refl, ap, sym, subst, ◌∙◌, unwrap_or}
+use Rattle.std.specs.Ordering.{nat_cmp}
+use Rattle.lx_kernel.proofs.Placed.{get_put, get_left, remove-insert, remove_absent}
 use Rattle.std.specs.FinMap as maps
 use Rattle.std.specs.FinMap.{FinMap}
 use Rattle.std.specs.Global.{Box}
@@ -18,32 +16,6 @@ use Rattle.lx_kernel.specs.Turns.{without_gone}
 use Rattle.lx_kernel.specs.Turns.{Turns}
 use Rattle.lx_model.specs.declared.event.PtraceEvent.{PtraceEvent}
 use Rattle.lx_model.specs.declared.event.PtraceEvent.TheVariants.{Plain}
-
-module _ {X : Type 0} (m : FinMap nat_cmp X) (p : ℕ) where
-  same : (b : Bool) (x : X) (y : Option X) → cond b None (cond b (Some x) y) ≡ cond b None y
-  same true x y = refl
-  same false x y = refl
-
-  -- what is put in and taken out again
-  pub remove-insert : (x : X) → maps.remove (maps.insert m p x) p ≡ maps.remove m p
-  remove-insert x = maps.same_map nat_cmp_total maps.nat_cmp-IsAntisymmetric _ _ (λ q.
-      maps.get-remove nat_cmp_total (maps.insert m p x) p q
-      ∙ ap (cond (eq_by_cmp nat_cmp q p) None) (maps.get-insert nat_cmp_total m p x q)
-      ∙ same (eq_by_cmp nat_cmp q p) x (maps.get m q)
-      ∙ sym (maps.get-remove nat_cmp_total m p q))
-
-  here : (q : ℕ) (b : Bool) → eq_by_cmp nat_cmp q p ≡ b → maps.get m p ≡ None → cond b None (maps.get m q) ≡ maps.get m q
-  here q true e none = sym (ap (maps.get m) (maps.nat_cmp-IsAntisymmetric q p (equal_is (nat_cmp q p) e)) ∙ none)
-  here q false e none = refl
-
-  -- nothing is taken out where nothing is
-  pub remove_absent : maps.get m p ≡ None → maps.remove m p ≡ m
-  remove_absent none = maps.same_map nat_cmp_total maps.nat_cmp-IsAntisymmetric _ _ (λ q.
-      maps.get-remove nat_cmp_total m p q ∙ here q (eq_by_cmp nat_cmp q p) refl none)
-
-  -- nothing stands where something was taken out
-  pub get_left : maps.get (maps.remove m p) p ≡ None
-  get_left = maps.get-remove nat_cmp_total m p p ∙ ap (λ b. cond b None (maps.get m p)) ((eq_by_cmp_equiv nat_cmp_total).refl p)
 
 abbrev Tasks : Type 0
 Tasks = FinMap nat_cmp (Task UserState)

@@ -16,7 +16,7 @@ use Rattle.lx_kernel.specs.Runs.{Run}
 use Rattle.lx_kernel.specs.Tracing.{changed, with_regs, with_change, with_part, with_part_at, IsPart}
 use Rattle.lx_kernel.specs.declared.tracing.Change.{Change}
 use Rattle.lx_kernel.proofs.Placing.{placed_there}
-use Rattle.lx_turn.proofs.Placed.{put_same}
+use Rattle.lx_kernel.proofs.Placed.{put_same}
 
 abbrev Tasks : Type 0
 Tasks = FinMap nat_cmp (Task UserState)

@@ -30,7 +30,7 @@ use Rattle.lx_turn.specs.Reactions.{resumed, runs, next_of, is_killed}
 use Rattle.lx_kernel.specs.Runs.{Run, turn_in, after_turn, mode_in}
 use Rattle.lx_turn.specs.Modes.{task_mode, life_mode}
 use Rattle.lx_kernel.specs.Bursts.{after_turns, StaysInRun, Burst, Follows, Halts, Continues, TaskContinues, with_tasks}
-use Rattle.lx_turn.proofs.Placed.{get_put, put_same, put_twice}
+use Rattle.lx_kernel.proofs.Placed.{get_put, put_same, put_twice}
 
 abbrev Tasks : Type 0
 Tasks = FinMap nat_cmp (Task UserState)

@@ -14,10 +14,10 @@ use Rattle.lx_model.specs.declared.stage.Task.TheVariants.{Alive, Dying, Gone}
 use Rattle.lx_proc.specs.declared.state.Shared.{Shared}
 use Rattle.lx_proc.specs.declared.state.UserState.{UserState}
 use Rattle.lx_kernel.specs.Scheduling.{Tasks}
-use Rattle.lx_turn.specs.Resting.{rests}
+use Rattle.lx_kernel.specs.Blocking.{can_turn, IsBlocked}
 use Rattle.lx_kernel.specs.Sleeping.{IsWatched, AreWatched, AreListed, IsSameBut}
 use Rattle.lx_kernel.specs.declared.run_queue.RunQueue.{RunQueue}
-use Rattle.lx_turn.proofs.Placed.{either, get_put}
+use Rattle.lx_kernel.proofs.Placed.{either, get_put}
 
 none_in : {X : Type 0} (q : ℕ) (es : List (ℕ × X)) → length es ≡ 0 → entry.find nat_cmp q es ≡ None
 none_in q [] e = refl
@@ -27,18 +27,18 @@ none_in q (x ∷ es) e = absurd (omega (arith, e))
 pub none_in_empty : {X : Type 0} (m : FinMap nat_cmp X) → maps.len m ≡ 0 → (q : ℕ) → maps.get m q ≡ None
 none_in_empty m e q = maps.get-entries m q ∙ none_in q (maps.entries m) (sym (maps.len-entries m) ∙ e)
 
--- who is gone rests
-pub gone_rests : (s : Shared) (p : ℕ) (task : Task UserState) → task ≡ Gone → rests s p task ≡ true
-unfolding rests
-gone_rests s p (Alive b stage) e = absurd (cc e)
-gone_rests s p (Dying w) e = absurd (cc e)
-gone_rests s p Gone e = refl
+-- who is gone has no turn
+pub gone_blocked : (s : Shared) (p : ℕ) (task : Task UserState) → task ≡ Gone → IsBlocked s p task
+unfolding can_turn
+gone_blocked s p (Alive b stage) e = absurd (cc e)
+gone_blocked s p (Dying w) e = absurd (cc e)
+gone_blocked s p Gone e = refl
 
 -- where nobody sleeps, all who aren't awake are gone
 pub all_awake : (sets : RunQueue) (s : Shared) (tasks : Tasks) → maps.len sets.asleep ≡ 0 → AreListed sets tasks → AreWatched sets s tasks
 all_awake sets s tasks none listed = λ q up unwatched.
     let gone = listed q up unwatched (none_in_empty sets.asleep none q) in
-    (gone_rests s q (at Gone tasks q) gone, λ e. gone)
+    (gone_blocked s q (at Gone tasks q) gone, λ e. gone)
 
 module _ (sets sets' : RunQueue) (s : Shared) (tasks : Tasks) (p : ℕ) (same : IsSameBut sets sets' p) (itself : IsWatched sets' s p (at Gone tasks p)) where
   -- all are watched, where the others were
@@ -65,28 +65,28 @@ pub absent_gone : (o : Option (Task UserState)) → is_none o ≡ true → unwra
 absent_gone None e = refl
 absent_gone (Some task) e = absurd (cc e)
 
--- Over the run_queue in a row.
+-- Over the run queue in a row.
 
--- those up to a number rest, unless they are awake
-abbrev pub RestUpTo : RunQueue → Shared → Tasks → ℕ → Type 0
-RestUpTo sets s tasks n = (q : ℕ) → 0 < q → q ≤ n → maps.get sets.awake q ≡ None → rests s q (at Gone tasks q) ≡ true
+-- those up to a number are blocked, unless they are awake
+abbrev pub BlockedUpTo : RunQueue → Shared → Tasks → ℕ → Type 0
+BlockedUpTo sets s tasks n = (q : ℕ) → 0 < q → q ≤ n → maps.get sets.awake q ≡ None → IsBlocked s q (at Gone tasks q)
 
 -- one number is at most another, or above it
 pub below : (q n : ℕ) (P : Type 0) (b : Bool) → nat_le q n ≡ b → (q ≤ n → P) → (n < q → P) → P
 below q n P true e low high = low (grind (arith, nat_tests))
 below q n P false e low high = high (grind (arith, nat_tests))
 
-module _ (sets : RunQueue) (s : Shared) (tasks : Tasks) (passed : ℕ) (listed : AreListed sets tasks) (seen : RestUpTo sets s tasks passed) where
-  -- who isn't asleep either rests as well
-  unlisted : (q : ℕ) → 0 < q → maps.get sets.awake q ≡ None → maps.get sets.asleep q ≡ None → rests s q (at Gone tasks q) ≡ true
-  unlisted q up unwatched unslept = gone_rests s q (at Gone tasks q) (listed q up unwatched unslept)
+module _ (sets : RunQueue) (s : Shared) (tasks : Tasks) (passed : ℕ) (listed : AreListed sets tasks) (seen : BlockedUpTo sets s tasks passed) where
+  -- who isn't asleep either is blocked as well
+  unlisted : (q : ℕ) → 0 < q → maps.get sets.awake q ≡ None → maps.get sets.asleep q ≡ None → IsBlocked s q (at Gone tasks q)
+  unlisted q up unwatched unslept = gone_blocked s q (at Gone tasks q) (listed q up unwatched unslept)
 
-  pub rest_up_to : (sets' : RunQueue) (p : ℕ) → IsNextKey sets.asleep passed (Some p) → IsSameBut sets sets' p → IsWatched sets' s p (at Gone tasks p) → RestUpTo sets' s tasks p
-  rest_up_to sets' p next same itself = λ q up le. either q p (maps.get sets'.awake q ≡ None → rests s q (at Gone tasks q) ≡ true) (q == p) refl
-      (λ e. subst (λ n. maps.get sets'.awake n ≡ None → rests s n (at Gone tasks n) ≡ true) (sym e) (λ unwatched. (itself unwatched).0))
+  pub blocked_up_to : (sets' : RunQueue) (p : ℕ) → IsNextKey sets.asleep passed (Some p) → IsSameBut sets sets' p → IsWatched sets' s p (at Gone tasks p) → BlockedUpTo sets' s tasks p
+  blocked_up_to sets' p next same itself = λ q up le. either q p (maps.get sets'.awake q ≡ None → IsBlocked s q (at Gone tasks q)) (q == p) refl
+      (λ e. subst (λ n. maps.get sets'.awake n ≡ None → IsBlocked s n (at Gone tasks n)) (sym e) (λ unwatched. (itself unwatched).0))
       (λ ne unwatched.
       let before = sym (same.1 q ne).0 ∙ unwatched in
-      below q passed (rests s q (at Gone tasks q) ≡ true) (nat_le q passed) refl
+      below q passed (IsBlocked s q (at Gone tasks q)) (nat_le q passed) refl
       (λ low. seen q up low before)
       (λ high. unlisted q up before (next.2 q high (strict q p ne le))))
     where
@@ -94,6 +94,6 @@ module _ (sets : RunQueue) (s : Shared) (tasks : Tasks) (passed : ℕ) (listed :
       strict q p ne le = below p q (q < p) (nat_le p q) refl (λ ge. absurd (ne (omega (arith, le, ge)))) (λ lt. lt)
 
   pub all_watched : IsNextKey sets.asleep passed None → AreWatched sets s tasks
-  all_watched last = λ q up unwatched. below q passed ((rests s q (at Gone tasks q) ≡ true) × (maps.get sets.asleep q ≡ None → at Gone tasks q ≡ Gone)) (nat_le q passed) refl
+  all_watched last = λ q up unwatched. below q passed (IsBlocked s q (at Gone tasks q) × (maps.get sets.asleep q ≡ None → at Gone tasks q ≡ Gone)) (nat_le q passed) refl
       (λ low. (seen q up low unwatched, λ unslept. listed q up unwatched unslept))
       (λ high. (unlisted q up unwatched (last q high), λ unslept. listed q up unwatched unslept))

@@ -26,7 +26,8 @@ use Rattle.lx_fcalls.specs.Blocking.{would_block, read_would_block, write_would_
 use Rattle.lx_turn.specs.Linux.{linux}
 use Rattle.lx_kernel.specs.Bursts.{TaskContinues}
 use Rattle.lx_kernel.specs.Scheduling.{Tasks}
-use Rattle.lx_turn.specs.Resting.{rests, Calms}
+use Rattle.lx_kernel.specs.Blocking.{can_turn, IsBlocked, would_block as blocks}
+use Rattle.lx_kernel.specs.Waking.{Calms}
 use Rattle.lx_kernel.specs.Sleeping.{IsKept, IsSameBut, IsWatched, AreWatched, AreListed, Watch, welcomed}
 use Rattle.lx_kernel.specs.Tracing.{with_regs, with_change, with_part_at}
 use Rattle.lx_kernel.specs.declared.tracing.Change.{Change}
@@ -36,10 +37,10 @@ use Rattle.lx_kernel.specs.Turns.{tasks_with}
 use Rattle.lx_kernel.specs.Turns.{Turns}
 use Rattle.std.specs.Global.{Box}
 use Rattle.lx_kernel.specs.declared.run_queue.RunQueue.{RunQueue}
-use Rattle.lx_turn.proofs.Placed.{get_put}
+use Rattle.lx_kernel.proofs.Placed.{get_put}
 use Rattle.lx_kernel.proofs.Placing.{at_placed}
-use Rattle.lx_turn.proofs.Placed.{either, other_put, other_left}
-use Rattle.lx_kernel.proofs.Sleeping.{put_there, gone_rests}
+use Rattle.lx_kernel.proofs.Placed.{either, other_put, other_left}
+use Rattle.lx_kernel.proofs.Sleeping.{put_there, gone_blocked}
 
 kept_same : (s : Shared) (q : ℕ) (task : Task UserState) → IsKept s q task task
 kept_same s q task = (λ e. e, λ e. e)
@@ -68,21 +69,21 @@ part_kept s tasks p (Some task) h = λ q. either q p (IsKept s q (at Gone tasks 
     (λ e. subst (λ n. IsKept s n (at Gone tasks n) (at Gone (placed tasks p task) n)) (sym e) (subst (IsKept s p (at Gone tasks p)) (sym (at_placed tasks p task)) h))
     (λ ne. subst (IsKept s q (at Gone tasks q)) (sym (placed_other tasks p q task ne)) (kept_same s q (at Gone tasks q)))
 
-regs_rest : (s : Shared) (p : ℕ) (b : UserState) (r : Regs) (at : Stage) → rests s p (Alive b at) ≡ true → rests s p (Alive (linux.with_regs b r) at) ≡ true
-unfolding rests would_block read_would_block write_would_block
-regs_rest s p b r stage.Born e = e
-regs_rest s p b r stage.Run e = e
-regs_rest s p b r (stage.Faulting signal cause) e = e
-regs_rest s p b r (stage.Entered joined) e = e
-regs_rest s p b r (stage.Doing call) e = e
-regs_rest s p b r (stage.Replaced call x) e = e
-regs_rest s p b r (stage.Acted call x replaced) e = e
-regs_rest s p b r stage.Finished e = e
-regs_rest s p b r (stage.Taken signal cause) e = e
-regs_rest s p b r stage.Dropped e = e
+regs_blocked : (s : Shared) (p : ℕ) (b : UserState) (r : Regs) (at : Stage) → IsBlocked s p (Alive b at) → IsBlocked s p (Alive (linux.with_regs b r) at)
+unfolding can_turn blocks would_block read_would_block write_would_block
+regs_blocked s p b r stage.Born e = e
+regs_blocked s p b r stage.Run e = e
+regs_blocked s p b r (stage.Faulting signal cause) e = e
+regs_blocked s p b r (stage.Entered joined) e = e
+regs_blocked s p b r (stage.Doing call) e = e
+regs_blocked s p b r (stage.Replaced call x) e = e
+regs_blocked s p b r (stage.Acted call x replaced) e = e
+regs_blocked s p b r stage.Finished e = e
+regs_blocked s p b r (stage.Taken signal cause) e = e
+regs_blocked s p b r stage.Dropped e = e
 
 pub regs_kept : (s : Shared) (p : ℕ) (r : Regs) (task : Task UserState) → PartKept s p task (with_regs r task)
-regs_kept s p r (Alive b at) = (regs_rest s p b r at, λ e. absurd (cc e))
+regs_kept s p r (Alive b at) = (regs_blocked s p b r at, λ e. absurd (cc e))
 regs_kept s p r (Dying w) = tt
 regs_kept s p r Gone = tt
 
@@ -91,19 +92,19 @@ plain_kept : (s : Shared) (p : ℕ) (b : UserState) (at : Stage) (c : Bool) → 
 plain_kept s p b at true = kept_same s p (Alive b at)
 plain_kept s p b at false = tt
 
--- it goes on from a stage that doesn't rest
-stirs : (s : Shared) (p : ℕ) (b : UserState) (task : Task UserState) (to : Stage) (c : Bool) → (task ≡ Gone → ⊥) → rests s p task ≡ false → PartKept s p task (option_map (λ s. Alive b s) (cond c (Some to) None))
+-- it goes on from a stage that isn't blocked
+stirs : (s : Shared) (p : ℕ) (b : UserState) (task : Task UserState) (to : Stage) (c : Bool) → (task ≡ Gone → ⊥) → can_turn s p task ≡ true → PartKept s p task (option_map (λ s. Alive b s) (cond c (Some to) None))
 stirs s p b task to true here awake = (λ e. absurd (cc (e, awake)), λ e. absurd (here e))
 stirs s p b task to false here awake = tt
 
 passed_kept : (s : Shared) (p : ℕ) (b : UserState) (signal : Signal) (cause : Cause) (n : ℕ) (c : Bool) →
     PartKept s p (Alive b (stage.Taken signal cause)) (option_map (λ s. Alive b s) (cond c (Some (stage.Taken signal cause)) (cond (n == 0) (Some stage.Dropped) None)))
-unfolding rests
+unfolding can_turn
 passed_kept s p b signal cause n true = kept_same s p (Alive b (stage.Taken signal cause))
 passed_kept s p b signal cause n false = stirs s p b (Alive b (stage.Taken signal cause)) stage.Dropped (n == 0) (λ e. absurd (cc e)) refl
 
 changed_at : (s : Shared) (p : ℕ) (change : Change) (b : UserState) (at : Stage) → PartKept s p (Alive b at) (with_change change (Alive b at))
-unfolding rests
+unfolding can_turn
 changed_at s p (Join signal) b stage.Born = tt
 changed_at s p (Join signal) b stage.Run = tt
 changed_at s p (Join signal) b (stage.Faulting taken cause) = tt
@@ -143,7 +144,7 @@ changed_kept s p change Gone = tt
 -- Turns in a row
 
 running : (s : Shared) (p : ℕ) (b c : UserState) → IsKept s p (Alive b stage.Run) (Alive c stage.Run)
-unfolding rests
+unfolding can_turn
 running s p b c = (λ e. e, λ e. absurd (cc e))
 
 pub continues_kept : (s : Shared) (p limit n : ℕ) (task task' : Task UserState) → TaskContinues limit n task task' → IsKept s p task task'
@@ -163,9 +164,9 @@ put_kept s tasks p task task' there kept q = either q p (IsKept s q (at Gone tas
 
 pub first_watch : (sets : RunQueue) (s : Shared) (tasks : Tasks) → (sets.known ≡ true → sets.awake ≡ maps.insert maps.empty 1 tt) → ((q : ℕ) → (q ≡ 1 → ⊥) → at Gone tasks q ≡ Gone) → Watch sets s tasks
 first_watch sets s tasks awake alone = λ known q up unwatched.
-    either q 1 ((rests s q (at Gone tasks q) ≡ true) × (maps.get sets.asleep q ≡ None → at Gone tasks q ≡ Gone)) (q == 1) refl
+    either q 1 (IsBlocked s q (at Gone tasks q) × (maps.get sets.asleep q ≡ None → at Gone tasks q ≡ Gone)) (q == 1) refl
     (λ e. put_there maps.empty sets.awake 1 tt (awake known) (subst (λ n. maps.get sets.awake n ≡ None) e unwatched))
-    (λ ne. (gone_rests s q (at Gone tasks q) (alone q ne), λ unslept. alone q ne))
+    (λ ne. (gone_blocked s q (at Gone tasks q) (alone q ne), λ unslept. alone q ne))
 
 -- a table of process 1 alone
 pub alone : (task : Task UserState) (q : ℕ) → (q ≡ 1 → ⊥) → at Gone (maps.insert maps.empty 1 task) q ≡ Gone
@@ -230,19 +231,19 @@ module _ (v : Running Shared UserState) (rules : List Rule) (follow : Bool) (p :
       ∙ gone_stays q ((watched q up (unwatched_before sets v.child q event other unwatched)).1 (unslept_before sets v.child q event other unslept))
 
   -- after a calm turn the others are watched
-  pub turn_watched : (roused : ℕ) → Calms v.shared s v.child p roused event → (q : ℕ) → 0 < q → (q ≡ p → ⊥) → (q ≡ roused → ⊥) → IsWatched (welcomed sets v.child event) s q (at Gone (tasks_with tasks v.child event) q)
-  turn_watched roused calms = λ q up ne still unwatched.
+  pub turn_watched : (told : ℕ) → Calms v.shared s v.child p told event → (q : ℕ) → 0 < q → (q ≡ p → ⊥) → (q ≡ told → ⊥) → IsWatched (welcomed sets v.child event) s q (at Gone (tasks_with tasks v.child event) q)
+  turn_watched told calms = λ q up ne still unwatched.
       let other = unwelcomed sets v.child q event unwatched in
       let h = watched q up (unwatched_before sets v.child q event other unwatched) in
       let same : at Gone (tasks_with tasks v.child event) q ≡ at Gone v.tasks q = with_child tasks v.child q event other ∙ other_is q ne in (
-        ap (rests s q) same ∙ calms q up ne still other (at Gone v.tasks q) h.0,
+        ap (can_turn s q) same ∙ calms q up ne still other (at Gone v.tasks q) h.0,
         λ unslept. same ∙ h.1 (unslept_before sets v.child q event other unslept),
       )
 
--- after one was roused, beside the others
-pub roused_watched : (sets sets' : RunQueue) (s : Shared) (tasks : Tasks) (p roused : ℕ) → IsSameBut sets sets' roused → ((roused ≡ p → ⊥) → IsWatched sets' s roused (at Gone tasks roused))
-    → ((q : ℕ) → 0 < q → (q ≡ p → ⊥) → (q ≡ roused → ⊥) → IsWatched sets s q (at Gone tasks q)) → (q : ℕ) → 0 < q → (q ≡ p → ⊥) → IsWatched sets' s q (at Gone tasks q)
-roused_watched sets sets' s tasks p roused same itself others q up ne = either q roused (IsWatched sets' s q (at Gone tasks q)) (q == roused) refl
+-- after one that was told is looked at, beside the others
+pub told_watched : (sets sets' : RunQueue) (s : Shared) (tasks : Tasks) (p told : ℕ) → IsSameBut sets sets' told → ((told ≡ p → ⊥) → IsWatched sets' s told (at Gone tasks told))
+    → ((q : ℕ) → 0 < q → (q ≡ p → ⊥) → (q ≡ told → ⊥) → IsWatched sets s q (at Gone tasks q)) → (q : ℕ) → 0 < q → (q ≡ p → ⊥) → IsWatched sets' s q (at Gone tasks q)
+told_watched sets sets' s tasks p told same itself others q up ne = either q told (IsWatched sets' s q (at Gone tasks q)) (q == told) refl
     (λ e. subst (λ n. IsWatched sets' s n (at Gone tasks n)) (sym e) (itself (λ is. ne (e ∙ is))))
     (λ apart unwatched.
     let h = others q up ne apart (sym (same.1 q apart).0 ∙ unwatched) in

@@ -1,3 +1,4 @@
+pub mod Blocking
 pub mod Bursts
 pub mod First
 pub mod Occurrences
@@ -8,3 +9,4 @@ pub mod Tracing
 pub mod Laws
 pub mod Scheduling
 pub mod Sleeping
+pub mod Waking

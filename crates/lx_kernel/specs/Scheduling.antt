@@ -7,7 +7,7 @@ use Rattle.lx_model.specs.declared.stage.Task.{Task}
 use Rattle.lx_model.specs.declared.stage.Task.TheVariants.{Gone}
 use Rattle.lx_proc.specs.declared.state.Shared.{Shared}
 use Rattle.lx_proc.specs.declared.state.UserState.{UserState}
-use Rattle.lx_turn.specs.Blocking.{can_turn}
+use Rattle.lx_kernel.specs.Blocking.{can_turn}
 use Rattle.lx_kernel.specs.Runs.{Run, is_able_in}
 
 -- an able process: the first above a pid, or the first of all where none is above

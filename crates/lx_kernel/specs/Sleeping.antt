@@ -1,4 +1,4 @@
--- Which processes a search for the next turn looks at: it needs no look at those that rest.
+-- Which processes a search for the next turn looks at: it needs no look at those that are blocked.
 use Rattle.std.specs.Prelude.{◌≡◌, ◌<◌, ℕ, true, None}
 use Rattle.std.specs.Ordering.{nat_cmp}
 use Rattle.std.specs.FinMap as maps
@@ -10,24 +10,24 @@ use Rattle.lx_model.specs.declared.stage.Task.{Task}
 use Rattle.lx_model.specs.declared.stage.Task.TheVariants.{Gone}
 use Rattle.lx_proc.specs.declared.state.Shared.{Shared}
 use Rattle.lx_proc.specs.declared.state.UserState.{UserState}
-use Rattle.lx_turn.specs.Resting.{rests}
+use Rattle.lx_kernel.specs.Blocking.{IsBlocked}
 use Rattle.lx_kernel.specs.Scheduling.{Tasks}
 use Rattle.lx_kernel.specs.declared.run_queue.RunQueue.{RunQueue}
 
--- a part that rests, or is gone, is so with another in its place
+-- a part that is blocked, or gone, is so with another in its place
 abbrev pub IsKept : Shared → ℕ → Task UserState → Task UserState → Type 0
-IsKept s p task task' = (rests s p task ≡ true → rests s p task' ≡ true) × (task ≡ Gone → task' ≡ Gone)
+IsKept s p task task' = (IsBlocked s p task → IsBlocked s p task') × (task ≡ Gone → task' ≡ Gone)
 
--- all but the keys rest
-abbrev pub AllRest : {X : Type 0} → FinMap nat_cmp X → Shared → Tasks → Type 0
-AllRest keys s tasks = (q : ℕ) → 0 < q → maps.get keys q ≡ None → rests s q (at Gone tasks q) ≡ true
+-- all but the keys are blocked
+abbrev pub AreOthersBlocked : {X : Type 0} → FinMap nat_cmp X → Shared → Tasks → Type 0
+AreOthersBlocked keys s tasks = (q : ℕ) → 0 < q → maps.get keys q ≡ None → IsBlocked s q (at Gone tasks q)
 
 -- The sets.
 
--- a process that isn't awake rests, and where it isn't asleep either it is gone
+-- a process that isn't awake is blocked, and where it isn't asleep either it is gone
 abbrev pub IsWatched : RunQueue → Shared → ℕ → Task UserState → Type 0
 IsWatched sets s p task =
-    maps.get sets.awake p ≡ None → (rests s p task ≡ true) × (maps.get sets.asleep p ≡ None → task ≡ Gone)
+    maps.get sets.awake p ≡ None → IsBlocked s p task × (maps.get sets.asleep p ≡ None → task ≡ Gone)
 
 abbrev pub AreWatched : RunQueue → Shared → Tasks → Type 0
 AreWatched sets s tasks = (q : ℕ) → 0 < q → IsWatched sets s q (at Gone tasks q)

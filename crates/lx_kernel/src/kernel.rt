@@ -14,7 +14,6 @@ ghost use Rattle.lx_model.specs.declared.stage.Task.TheVariants.{Alive, Gone};
 ghost use Rattle.lx_model.specs.declared.stage.Stage.TheVariants.{Born};
 ghost use Rattle.lx_turn.specs.Linux.{linux};
 ghost use Rattle.lx_turn.specs.Modes.{task_mode as task_mode_of};
-ghost use Rattle.lx_turn.specs.Resting.{Calms};
 ghost use Rattle.lx_turn.specs.Injection.{choice_of_task};
 ghost use Rattle.lx_turn.specs.Turned.{turned, unboxed, IsLeft, IsBirth};
 ghost use Rattle.lx_kernel.specs.Bursts.{Burst};
@@ -25,17 +24,19 @@ ghost use Rattle.lx_kernel.specs.Scheduling.{IsNextOf};
 ghost use Rattle.lx_kernel.specs.Tracing.{task_in, regs_of, peek_of, signal_of};
 ghost use Rattle.lx_kernel.specs.Tracing.{with_regs, with_change, with_part};
 ghost use Rattle.lx_kernel.specs.Turns.{Turns, without_gone, tasks_with, next_child};
+ghost use Rattle.lx_kernel.specs.Waking.{Calms};
 
 use crate::outcome::outcome;
 use crate::run_queue::{Hints, RunQueue};
 use crate::scheduling::{can_turn_at, next_in_cycle};
 use crate::tracing::Change;
+use crate::waking::{TurnTaken, take_turn};
 use crate::{bursts, tracing};
 use containers::Bytes;
 use lx_abi::{Cause, Item, Mode, Occurrences, Outcome, RegisterSet, Registers, Script, Signal};
 use lx_model::{PtraceEvent, Stage, Task};
 use lx_proc::{ProcessLimits, Shared, UserState};
-use lx_turn::{Injection, Transition, is_killed, mode_of_gone, turn_task};
+use lx_turn::{Injection, is_killed, mode_of_gone};
 use rv_hart::DecodedCode;
 use shelves::Shelf;
 use std::alloc::{AllocError, Global};
@@ -87,7 +88,7 @@ fn turn_at(
     child: u32,
     pid: u32,
     item: &mut Option<Item>,
-) -> Result<Transition, AllocError>
+) -> Result<TurnTaken, AllocError>
     requires { item.old ≡ None }
     ensures turns { IfOk result (λ t. Turns (turned (turn linux (choice_of_task injection.now pid
         (at Gone tasks.old pid)) shared.old child pid
@@ -96,20 +97,20 @@ fn turn_at(
         ≡ task_mode_of (maps.get shared.old.entries pid) (at Gone tasks.old pid)) }
     ensures after { IfOk result
         (λ t. t.after ≡ task_mode_of (maps.get shared.new.entries pid) (at Gone tasks.new pid)) }
-    ensures calm { IfOk result (λ t. IsTrue t.calm → Calms shared.old shared.new child pid t.roused (unboxed t.done)) }
+    ensures calm { IfOk result (λ t. IsTrue t.calm → Calms shared.old shared.new child pid t.told (unboxed t.done)) }
     ensures absent { at Gone tasks.old pid ≡ Gone
         → IsOkAnd result (λ t. (item.new ≡ None) × (unboxed t.done ≡ Plain)) }
     ensures console { OnErr result (shared.new.console ≡ shared.old.console) }
 {
-    let transition = match tasks.get_mut(pid) {
+    let taken = match tasks.get_mut(pid) {
         None => {
             let mode = mode_of_gone(shared, pid);
-            return Ok(Transition::of_gone(mode, mode, pid));
+            return Ok(TurnTaken::absent(pid, mode));
         }
-        Some(task) => turn_task(alloc, shared, injection, child, pid, task, item)?,
+        Some(task) => take_turn(alloc, shared, injection, child, pid, task, item)?,
     };
-    remove_gone(tasks, pid, transition.gone);
-    Ok(transition)
+    remove_gone(tasks, pid, taken.gone);
+    Ok(taken)
 }
 
 /// A child's body stands under its pid.
@@ -314,7 +315,7 @@ impl Kernel {
         };
         let last_pid = self.shared.limits.last_pid;
         let mut item = None;
-        let transition = turn_at(
+        let taken = turn_at(
             self.alloc,
             &mut self.shared,
             &mut self.tasks,
@@ -323,25 +324,26 @@ impl Kernel {
             pid,
             &mut item,
         )?;
-        let Transition {
+        let TurnTaken {
             before,
             after,
             done,
             gone,
             calm,
-            roused,
-            may_rest,
-        } = transition;
+            told,
+            may_wait,
+        } = taken;
         let event = done.by_pid(self.child);
         self.run_queue.welcome(&done, self.child);
         place_child(&mut self.tasks, &mut self.child, last_pid, done)?;
-        self.run_queue.rouse(&self.shared, &self.tasks, pid, roused);
+        self.run_queue
+            .wake_told(&self.shared, &self.tasks, pid, told);
         self.run_queue.pass(
             &self.shared,
             &self.tasks,
             pid,
             calm,
-            Hints { may_rest, gone },
+            Hints { may_wait, gone },
         );
         log_item(&mut self.log, &mut self.occurrences, &item)?;
         let after = mode_after(&self.shared, &self.tasks, pid, event, after);

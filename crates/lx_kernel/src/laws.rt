@@ -2,6 +2,7 @@
 
 ghost use Rattle.lx_kernel.specs.Laws.{BootsAreFirst, TurnsAreSteps, BootsRunAlike};
 ghost use Rattle.lx_kernel.specs.Laws.{TurnsLogWords, BootsLogWords, KernelsLogWords};
+ghost use Rattle.lx_kernel.specs.Waking.{CalmTurnsWakeNobody};
 
 use lx_model::laws::kernels_run_alike;
 use lx_proc::{Shared, UserState};
@@ -23,3 +24,8 @@ pub fn words_are_logged()
 {
     kernels_run_alike::<Shared, UserState>();
 }
+
+/// A turn that is calm leaves each other process blocked that was, but for one that is told of an end.
+pub fn calm_turns_wake_nobody()
+    ensures { CalmTurnsWakeNobody }
+{}

@@ -1,6 +1,7 @@
 //! The kernel: processes that take turns, each turn by the mode table at Linux.
 #![tactic(auto)]
 
+mod blocking;
 mod bursts;
 mod first;
 pub mod kernel;
@@ -9,6 +10,7 @@ mod outcome;
 mod run_queue;
 mod scheduling;
 pub mod tracing;
+mod waking;
 
 pub use kernel::{Failed, Kernel, Moved};
 pub use lx_abi::Boot;

@@ -12,13 +12,12 @@ ghost use Rattle.std.specs.Prelude.{◌≡◌, ◌<◌, ℕ, None, true, is_none
 ghost use Rattle.std.specs.FinMap as maps;
 ghost use Rattle.lx_model.specs.Finite.{at};
 ghost use Rattle.lx_model.specs.declared.stage.Task.TheVariants.{Gone};
-ghost use Rattle.lx_turn.specs.Resting.{rests as rests_in};
 ghost use Rattle.lx_turn.specs.Turned.{unboxed};
 ghost use Rattle.lx_kernel.specs.Sleeping.{IsWatched, IsSameBut, AreListed, Watch, welcomed};
 
+use crate::scheduling::can_turn_at;
 use lx_model::{PtraceEvent, Task};
 use lx_proc::{Shared, UserState};
-use lx_turn::rests;
 use shelves::Shelf;
 use std::alloc::Global;
 
@@ -35,7 +34,7 @@ pub struct RunQueue {
 #[derive(Clone, Copy)]
 pub struct Hints {
     /// Its process is in a call that may wait.
-    pub may_rest: bool,
+    pub may_wait: bool,
     /// Its process is gone.
     pub gone: bool,
 }
@@ -47,20 +46,9 @@ fn is_absent(tasks: &Shelf<Task<UserState>>, pid: u32) -> bool
     tasks.get(pid).is_none()
 }
 
-/// The process waits in a call, or is gone.
-#[tactic(auto, unfolding(lx_turn::specs::Resting::rests))]
-fn rests_at(shared: &Shared, tasks: &Shelf<Task<UserState>>, pid: u32) -> bool
-    ensures { result ≡ rests_in shared.now pid (at Gone tasks.now pid) }
-{
-    match tasks.get(pid) {
-        Some(task) => rests(shared, pid, task),
-        None => true,
-    }
-}
-
 /// It may be in any set.
 const ANY: Hints = Hints {
-    may_rest: true,
+    may_wait: true,
     gone: true,
 };
 
@@ -145,15 +133,15 @@ impl RunQueue {
     {
         if hints.gone && is_absent(tasks, pid) {
             self.forget(pid);
-        } else if hints.may_rest && rests_at(shared, tasks, pid) {
+        } else if hints.may_wait && !can_turn_at(shared, tasks, pid) {
             self.put_to_sleep(pid);
         } else {
             self.keep_awake(pid);
         }
     }
 
-    /// Those wake who no longer rest.
-    fn wake_stirred(&mut self, shared: &Shared, tasks: &Shelf<Task<UserState>>)
+    /// Those wake who are blocked no longer.
+    fn wake_unblocked(&mut self, shared: &Shared, tasks: &Shelf<Task<UserState>>)
         requires { self.old.known ≡ true → AreListed self.old tasks.now }
         ensures { Watch self.new shared.now tasks.now }
     {
@@ -164,16 +152,22 @@ impl RunQueue {
         }
     }
 
-    /// A process that another's turn may have roused is put into its set.
-    pub fn rouse(&mut self, shared: &Shared, tasks: &Shelf<Task<UserState>>, pid: u32, roused: u32)
+    /// A process that another's turn has told of an end is put into its set.
+    pub fn wake_told(
+        &mut self,
+        shared: &Shared,
+        tasks: &Shelf<Task<UserState>>,
+        pid: u32,
+        told: u32,
+    )
         requires { self.old.known ≡ true → AreListed self.old tasks.now }
         ensures listed { self.new.known ≡ true → AreListed self.new tasks.now }
-        ensures itself { self.new.known ≡ true → (roused ≡ pid → ⊥)
-            → IsWatched self.new shared.now roused (at Gone tasks.now roused) }
-        ensures others { self.new.known ≡ true → IsSameBut self.old self.new roused }
+        ensures itself { self.new.known ≡ true → (told ≡ pid → ⊥)
+            → IsWatched self.new shared.now told (at Gone tasks.now told) }
+        ensures others { self.new.known ≡ true → IsSameBut self.old self.new told }
     {
-        if roused != pid {
-            self.sort(shared, tasks, roused, ANY);
+        if told != pid {
+            self.sort(shared, tasks, told, ANY);
         }
     }
 
@@ -191,12 +185,12 @@ impl RunQueue {
             → IsWatched self.old shared.now q (at Gone tasks.now q) }
         ensures { Watch self.new shared.now tasks.now }
     {
-        if self.asleep.len() == 0 && !hints.may_rest && !hints.gone {
+        if self.asleep.len() == 0 && !hints.may_wait && !hints.gone {
             return;
         }
         self.sort(shared, tasks, pid, hints);
         if !calm {
-            self.wake_stirred(shared, tasks);
+            self.wake_unblocked(shared, tasks);
         }
     }
 }

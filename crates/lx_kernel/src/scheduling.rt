@@ -2,15 +2,15 @@
 
 ghost use Rattle.std.specs.Prelude.{◌≡◌, ◌+◌};
 ghost use Rattle.lx_kernel.specs.Scheduling.{IsFirstFrom, IsNextIn, can_turn_in};
-ghost use Rattle.lx_kernel.specs.Sleeping.{AllRest};
+ghost use Rattle.lx_kernel.specs.Sleeping.{AreOthersBlocked};
 
+use crate::blocking::can_turn;
 use lx_model::Task;
 use lx_proc::{Shared, UserState};
-use lx_turn::can_turn;
 use shelves::Shelf;
 
 /// A turn of the process does something.
-#[tactic(auto, unfolding(lx_turn::specs::Blocking::can_turn))]
+#[tactic(auto, unfolding(crate::specs::Blocking::can_turn))]
 pub fn can_turn_at(shared: &Shared, tasks: &Shelf<Task<UserState>>, pid: u32) -> bool
     ensures { result ≡ can_turn_in shared.now tasks.now pid }
 {
@@ -20,14 +20,14 @@ pub fn can_turn_at(shared: &Shared, tasks: &Shelf<Task<UserState>>, pid: u32) ->
     }
 }
 
-/// The first process above a pid that can take a turn. Each that rests may be left out of the keys.
+/// The first process above a pid that can take a turn. Each that is blocked may be left out of the keys.
 fn next_able<V>(
     shared: &Shared,
     tasks: &Shelf<Task<UserState>>,
     keys: &Shelf<V>,
     after: u32,
 ) -> Option<u32>
-    requires { AllRest keys.now shared.now tasks.now }
+    requires { AreOthersBlocked keys.now shared.now tasks.now }
     ensures { IsFirstFrom shared.now tasks.now (after + 1) result }
 {
     let mut passed = after;
@@ -42,7 +42,7 @@ fn next_able<V>(
 
 /// The first process that can take a turn.
 fn first_able<V>(shared: &Shared, tasks: &Shelf<Task<UserState>>, keys: &Shelf<V>) -> Option<u32>
-    requires { AllRest keys.now shared.now tasks.now }
+    requires { AreOthersBlocked keys.now shared.now tasks.now }
     ensures { IsFirstFrom shared.now tasks.now 0 result }
 {
     // no process has pid 0, but a table may have a key 0
@@ -59,7 +59,7 @@ pub fn next_in_cycle<V>(
     keys: &Shelf<V>,
     after: u32,
 ) -> Option<u32>
-    requires { AllRest keys.now shared.now tasks.now }
+    requires { AreOthersBlocked keys.now shared.now tasks.now }
     ensures { IsNextIn shared.now tasks.now after result }
 {
     match next_able(shared, tasks, keys, after) {

@@ -1,14 +1,9 @@
-pub mod Awaiting
 pub mod Births
-pub mod Calming
 pub mod CallsFit
 pub mod Consoles
 pub mod FilesFit
 pub mod LinuxLaws
-pub mod Placed
 pub mod Plainness
 pub mod ProcessesFit
-pub mod Resting
 pub mod Resuming
 pub mod Steps
-pub mod Waiting

@@ -2,8 +2,6 @@ pub mod Calls
 pub mod Reactions
 pub mod Linux
 pub mod Fitting
-pub mod Blocking
 pub mod Modes
-pub mod Resting
 pub mod Injection
 pub mod Turned

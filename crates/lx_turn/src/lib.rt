@@ -1,7 +1,6 @@
-//! One turn of one process: the mode table at Linux, and what a turn does to the other processes.
+//! One turn of one process: the mode table at Linux.
 #![tactic(auto)]
 
-mod blocking;
 mod calls;
 pub mod injection;
 pub mod laws;
@@ -9,7 +8,6 @@ mod signals;
 pub mod stages;
 pub mod turning;
 
-pub use blocking::{can_turn, rests};
 pub use injection::Injection;
 pub use signals::is_killed;
 pub use turning::{Transition, mode_of_gone, turn_task};

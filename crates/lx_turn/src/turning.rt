@@ -4,18 +4,17 @@ ghost use Rattle.std.specs.Prelude.{◌≡◌, IfOk, OnErr, IsOkAnd, IsTrue, Non
 ghost use Rattle.std.specs.FinMap as maps;
 ghost use Rattle.lx_model.specs.declared.event.PtraceEvent.TheVariants.{Plain};
 ghost use Rattle.lx_model.specs.Turn.{turn};
+ghost use Rattle.lx_open.specs.Releases.{AreEndsKept};
 ghost use Rattle.lx_model.specs.declared.stage.Task.TheVariants.{Alive, Dying, Gone};
 ghost use Rattle.lx_turn.specs.Linux.{linux};
 ghost use Rattle.lx_turn.specs.Modes.{task_mode as task_mode_of, life_mode};
-ghost use Rattle.lx_turn.specs.Resting.{Calms, told_by};
 ghost use Rattle.lx_turn.specs.Injection.{choice_of_call, choice_of_task};
 ghost use Rattle.lx_turn.specs.Turned.{turned, turned_by, unboxed, is_gone, EndsSame};
 
-use crate::blocking::is_calm;
 use crate::injection::Injection;
 use crate::signals::is_killed;
 use crate::stages::{Went, go};
-use lx_abi::{Item, Mode, calls};
+use lx_abi::{Item, Mode};
 use lx_model::{PtraceEvent, Stage, Task};
 use lx_pcalls::{die, release_task};
 use lx_proc::{Life, Shared, UserState};
@@ -24,30 +23,27 @@ use std::alloc::{AllocError, Global};
 /// The wait word of an end by SIGKILL.
 const KILL_WORD: u32 = 9;
 
-/// Where a process stood before a turn and stands after it, what was done beside, whether the process is gone, whether
-/// the turn was calm to the others, who is roused beside, and whether the process may rest now.
+/// Where a process stood before a turn and stands after it, and what was done beside.
 #[derive(Drop)]
 pub struct Transition {
     pub before: Option<Mode>,
     pub after: Option<Mode>,
     pub done: PtraceEvent<Box<UserState>>,
+    /// The process is gone.
     pub gone: bool,
-    pub calm: bool,
-    pub roused: u32,
-    pub may_rest: bool,
+    /// The process ended, and each description that it named stays, since another process names it too.
+    pub ends_kept: bool,
 }
 
 impl Transition {
     /// The process is gone.
-    pub fn of_gone(before: Option<Mode>, after: Option<Mode>, roused: u32) -> Transition
+    fn of_gone(before: Option<Mode>, after: Option<Mode>) -> Transition
         ensures { result ≡ record {
           before = before;
           after = after;
           done = PtraceEvent.Plain;
           gone = true;
-          calm = true;
-          roused = roused;
-          may_rest = false;
+          ends_kept = false;
         } }
     {
         Transition {
@@ -55,9 +51,7 @@ impl Transition {
             after,
             done: PtraceEvent::Plain,
             gone: true,
-            calm: true,
-            roused,
-            may_rest: false,
+            ends_kept: false,
         }
     }
 }
@@ -103,24 +97,6 @@ fn end(task: &mut Task<UserState>, word: u32)
     *task = Task::Dying { word };
 }
 
-/// Who is told of a process's end: its parent.
-fn told_of(shared: &Shared, pid: u32) -> u32
-    ensures { result ≡ told_by pid (maps.get shared.now.entries pid) }
-{
-    match shared.entries.get(pid) {
-        None => pid,
-        Some(entry) => entry.parent,
-    }
-}
-
-/// The process is in a call that may wait: a read, a write or a wait4.
-fn may_wait(stage: &Stage) -> bool {
-    match stage {
-        Stage::Doing { call } => calls::may_wait(call.number),
-        _ => false,
-    }
-}
-
 /// One turn of a process with a part of its own, and what it logs.
 pub fn turn_task(
     alloc: Global,
@@ -138,36 +114,33 @@ pub fn turn_task(
     ensures before { IfOk result (λ t. t.before ≡ task_mode_of (maps.get shared.old.entries pid) task.old) }
     ensures after { IfOk result (λ t. t.after ≡ task_mode_of (maps.get shared.new.entries pid) task.new) }
     ensures gone { IfOk result (λ t. t.gone ≡ is_gone task.new) }
-    ensures calm { IfOk result (λ t. IsTrue t.calm → Calms shared.old shared.new child pid t.roused (unboxed t.done)) }
+    ensures ends { IfOk result (λ t. IsTrue t.ends_kept → AreEndsKept shared.old.fds shared.new.fds) }
     ensures absent { task.old ≡ Gone → IsOkAnd result (λ t. (item.new ≡ None) × (unboxed t.done ≡ Plain)) }
     ensures console { OnErr result (shared.new.console ≡ shared.old.console) }
 {
     match task {
         Task::Gone => {
             let mode = mode_of_gone(shared, pid);
-            Ok(Transition::of_gone(mode, mode, pid))
+            Ok(Transition::of_gone(mode, mode))
         }
         Task::Dying { word } => {
-            let parent = told_of(shared, pid);
             release_task(shared, pid, *word)?;
             leave(task);
-            Ok(Transition::of_gone(Some(Mode::Dying), mode_of_gone(shared, pid), parent))
+            let mode = mode_of_gone(shared, pid);
+            Ok(Transition::of_gone(Some(Mode::Dying), mode))
         }
         Task::Alive { user, stage } => {
             let left = stage.mode();
-            let calm = is_calm(shared, child, *stage);
             match turn_alive(alloc, shared, injection, child, pid, user, stage, item)? {
                 Went::On(done) => Ok(Transition {
                     before: Some(left),
                     after: Some(stage.mode()),
                     done,
                     gone: false,
-                    calm,
-                    roused: pid,
-                    may_rest: may_wait(stage),
+                    ends_kept: false,
                 }),
                 Went::Ended { word } => {
-                    let calm = die(shared, pid, word)?;
+                    let ends_kept = die(shared, pid, word)?;
                     end(task, word);
                     *item = Some(Item::Exit { pid, word, left });
                     Ok(Transition {
@@ -175,9 +148,7 @@ pub fn turn_task(
                         after: Some(Mode::Dying),
                         done: PtraceEvent::Plain,
                         gone: false,
-                        calm,
-                        roused: pid,
-                        may_rest: false,
+                        ends_kept,
                     })
                 }
             }

@@ -20,8 +20,7 @@ use Rattle.lx_turn.specs.Linux.{linux}
 use Rattle.lx_kernel.specs.Runs.{Run as KernelRun}
 use Rattle.lx_kernel.specs.Tracing.{task_in, with_change, with_part}
 use Rattle.lx_kernel.specs.declared.tracing.Change.TheVariants.{Resume}
-use Rattle.lx_turn.proofs.Placed.{put_same}
-use Rattle.lx_kernel.proofs.Placing.{remove_absent}
+use Rattle.lx_kernel.proofs.Placed.{put_same, remove_absent}
 use Rattle.lx_abi.specs.declared.ptrace.TraceOptions.{TraceOptions}
 use Rattle.pt_model.specs.declared.ptrace.Traced.{Traced}
 use Rattle.lx_abi.specs.Options.{trace_options}

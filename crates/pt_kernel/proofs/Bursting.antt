@@ -25,7 +25,7 @@ use Rattle.lx_turn.specs.Linux.{linux}
 use Rattle.lx_kernel.specs.Runs.{Run as KernelRun, turn_in, after_turn}
 use Rattle.lx_turn.specs.Modes.{life_mode, task_mode as kernel_mode}
 use Rattle.lx_kernel.specs.Tracing.{task_in}
-use Rattle.lx_turn.proofs.Placed.{put_same}
+use Rattle.lx_kernel.proofs.Placed.{put_same}
 use Rattle.pt_model.specs.declared.ptrace.Traced.{Traced}
 use Rattle.lx_abi.specs.declared.ptrace.TraceOptions.{TraceOptions}
 use Rattle.pt_model.specs.Ptrace.{may_die, reports_of, stop_at}

@@ -4,11 +4,11 @@ use Rattle.lx_model.specs.declared.stage.Task.TheVariants.{Gone}
 use Rattle.lx_kernel.specs.Runs.{Run}
 use Rattle.lx_kernel.specs.Scheduling.{IsNextOf}
 use Rattle.lx_kernel.proofs.NextAble.{next_in}
-use Rattle.lx_kernel.proofs.Sleeping.{gone_rests}
+use Rattle.lx_kernel.proofs.Sleeping.{gone_blocked}
 use Rattle.lx_kernel.proofs.kernel.Kernel.next_able.Goals as goal
 
 pub next_in_cycle-requires : goal.next_in_cycle-requires
-next_in_cycle-requires c = λ q up none. gone_rests c.self.inside.shared q _ (ap (λ o. unwrap_or o Gone) none)
+next_in_cycle-requires c = λ q up none. gone_blocked c.self.inside.shared q _ (ap (λ o. unwrap_or o Gone) none)
 
 pub returns-then-not-self : goal.returns-then-not-self
 returns-then-not-self c =

@@ -13,23 +13,23 @@ use Rattle.lx_kernel.specs.Sleeping.{AreListed, IsWatched, welcomed}
 use Rattle.lx_kernel.specs.Scheduling.{Tasks}
 use Rattle.lx_turn.specs.Turned.{unboxed}
 use Rattle.lx_kernel.specs.declared.run_queue.RunQueue.{RunQueue}
-use Rattle.lx_kernel.proofs.Watching.{turn_listed, turn_watched, roused_watched}
+use Rattle.lx_kernel.proofs.Watching.{turn_listed, turn_watched, told_watched}
 use Rattle.lx_kernel.proofs.kernel.Kernel.turn.Goals as goal
 
 pub place_child-requires : goal.place_child-requires
 place_child-requires c =
     let k = c.self.inside in
     let v : Running Shared UserState = record { shared = k.shared; tasks = k.tasks; child = k.child; log = k.log.items } in
-    kernel_left v k.script k.follow c.args.pid (λ n. count_of k.occurrences c.args.pid n) (λ n. (c.self.invariant c.if-self.false).0 c.args.pid n) c.turn_at.new.item c.in_ok-transition.transition.done c.turn_at.new.shared c.turn_at.new.tasks c.in_ok-transition.ensures.turns
+    kernel_left v k.script k.follow c.args.pid (λ n. count_of k.occurrences c.args.pid n) (λ n. (c.self.invariant c.if-self.false).0 c.args.pid n) c.turn_at.new.item c.in_ok-taken.taken.done c.turn_at.new.shared c.turn_at.new.tasks c.in_ok-taken.ensures.turns
 
 pub returns-clause-before : goal.returns-clause-before
-returns-clause-before c = c.in_ok-transition.ensures.before ∙ ap (λ k. mode_in k c.args.pid) c.self.view_is
+returns-clause-before c = c.in_ok-taken.ensures.before ∙ ap (λ k. mode_in k c.args.pid) c.self.view_is
 
 pub returns-clause-item : goal.returns-clause-item
 returns-clause-item c =
     let k = c.self.inside in
     let v : Running Shared UserState = record { shared = k.shared; tasks = k.tasks; child = k.child; log = k.log.items } in
-    kernel_item v k.script k.follow c.args.pid (λ n. count_of k.occurrences c.args.pid n) (λ n. (c.self.invariant c.if-self.false).0 c.args.pid n) c.turn_at.new.item c.in_ok-transition.transition.done c.turn_at.new.shared c.turn_at.new.tasks c.in_ok-transition.ensures.turns
+    kernel_item v k.script k.follow c.args.pid (λ n. count_of k.occurrences c.args.pid n) (λ n. (c.self.invariant c.if-self.false).0 c.args.pid n) c.turn_at.new.item c.in_ok-taken.taken.done c.turn_at.new.shared c.turn_at.new.tasks c.in_ok-taken.ensures.turns
     ∙ ap (λ k. item_of (turn_in k c.args.pid)) c.self.view_is
 
 pub returns-clause-event : goal.returns-clause-event
@@ -37,7 +37,7 @@ returns-clause-event c =
     let k = c.self.inside in
     let v : Running Shared UserState = record { shared = k.shared; tasks = k.tasks; child = k.child; log = k.log.items } in
     c.by_pid-event.ensures
-    ∙ kernel_event v k.script k.follow c.args.pid (λ n. count_of k.occurrences c.args.pid n) (λ n. (c.self.invariant c.if-self.false).0 c.args.pid n) c.turn_at.new.item c.in_ok-transition.transition.done c.turn_at.new.shared c.turn_at.new.tasks c.in_ok-transition.ensures.turns
+    ∙ kernel_event v k.script k.follow c.args.pid (λ n. count_of k.occurrences c.args.pid n) (λ n. (c.self.invariant c.if-self.false).0 c.args.pid n) c.turn_at.new.item c.in_ok-taken.taken.done c.turn_at.new.shared c.turn_at.new.tasks c.in_ok-taken.ensures.turns
     ∙ ap (λ k. by_pid k.running.child (turn_in k c.args.pid).event) c.self.view_is
 
 pub returns-clause-turned : goal.returns-clause-turned
@@ -46,7 +46,7 @@ returns-clause-turned c =
     let v : Running Shared UserState = record { shared = k.shared; tasks = k.tasks; child = k.child; log = k.log.items } in
     let run : Running Shared UserState → Run = λ r. record { running = r; script = k.script; follow = k.follow; failed = false } in
     (λ i. run (record { shared = c.turn_at.new.shared; tasks = c.in_ok-place_child.ensures.tasks i; child = c.in_ok-place_child.ensures.child i; log = c.in_ok-log_item.ensures.log i }))
-    ∙ ap run (kernel_turned v k.script k.follow c.args.pid (λ n. count_of k.occurrences c.args.pid n) (λ n. (c.self.invariant c.if-self.false).0 c.args.pid n) c.turn_at.new.item c.in_ok-transition.transition.done c.turn_at.new.shared c.turn_at.new.tasks c.in_ok-transition.ensures.turns)
+    ∙ ap run (kernel_turned v k.script k.follow c.args.pid (λ n. count_of k.occurrences c.args.pid n) (λ n. (c.self.invariant c.if-self.false).0 c.args.pid n) c.turn_at.new.item c.in_ok-taken.taken.done c.turn_at.new.shared c.turn_at.new.tasks c.in_ok-taken.ensures.turns)
     ∙ ap (λ b. after_turn (record { running = v; script = k.script; follow = k.follow; failed = b }) c.args.pid) (sym c.if-self.false)
     ∙ ap (λ k. after_turn k c.args.pid) c.self.view_is
 
@@ -55,7 +55,7 @@ returns-in_err-place_child-clause-console c =
     let k = c.self.inside in
     let v : Running Shared UserState = record { shared = k.shared; tasks = k.tasks; child = k.child; log = k.log.items } in
     on_err (c.turn_at.new.shared.console ≡ c.args.self.now.running.shared.console) c.from_residual-in_err-place_child.result
-    (kernel_born v k.script k.follow c.args.pid (λ n. count_of k.occurrences c.args.pid n) (λ n. (c.self.invariant c.if-self.false).0 c.args.pid n) c.turn_at.new.item c.in_ok-transition.transition.done c.turn_at.new.shared c.turn_at.new.tasks c.in_ok-transition.ensures.turns c.in_err-place_child.ensures.born
+    (kernel_born v k.script k.follow c.args.pid (λ n. count_of k.occurrences c.args.pid n) (λ n. (c.self.invariant c.if-self.false).0 c.args.pid n) c.turn_at.new.item c.in_ok-taken.taken.done c.turn_at.new.shared c.turn_at.new.tasks c.in_ok-taken.ensures.turns c.in_err-place_child.ensures.born
     ∙ ap (λ (r : Run). r.running.shared.console) c.self.view_is)
 
 pub returns-in_err-log_item-clause-console : goal.returns-in_err-log_item-clause-console
@@ -63,31 +63,31 @@ returns-in_err-log_item-clause-console c =
     let k = c.self.inside in
     let v : Running Shared UserState = record { shared = k.shared; tasks = k.tasks; child = k.child; log = k.log.items } in
     on_err (c.turn_at.new.shared.console ≡ c.args.self.now.running.shared.console) c.from_residual-in_err-log_item.result
-    (kernel_console v k.script k.follow c.args.pid (λ n. count_of k.occurrences c.args.pid n) (λ n. (c.self.invariant c.if-self.false).0 c.args.pid n) c.turn_at.new.item c.in_ok-transition.transition.done c.turn_at.new.shared c.turn_at.new.tasks c.in_ok-transition.ensures.turns c.in_err-log_item.ensures.some
+    (kernel_console v k.script k.follow c.args.pid (λ n. count_of k.occurrences c.args.pid n) (λ n. (c.self.invariant c.if-self.false).0 c.args.pid n) c.turn_at.new.item c.in_ok-taken.taken.done c.turn_at.new.shared c.turn_at.new.tasks c.in_ok-taken.ensures.turns c.in_err-log_item.ensures.some
     ∙ ap (λ (r : Run). r.running.shared.console) c.self.view_is)
 
-pub rouse-requires : goal.rouse-requires
-rouse-requires c = λ known.
+pub wake_told-requires : goal.wake_told-requires
+wake_told-requires c = λ known.
     let k = c.self.inside in
     let v : Running Shared UserState = record { shared = k.shared; tasks = k.tasks; child = k.child; log = k.log.items } in
     let watch = (c.self.invariant c.if-self.false).1 (c.welcome.ensures.known known) in
-    let event = unboxed c.in_ok-transition.transition.done in
+    let event = unboxed c.in_ok-taken.taken.done in
     subst (λ (sets : RunQueue). AreListed sets c.place_child.new.tasks) (sym (c.welcome.ensures.sets known))
     (subst (λ (tasks : Tasks). AreListed (welcomed k.run_queue k.child event) tasks) (sym c.in_ok-place_child.ensures.tasks)
-    (turn_listed v k.script k.follow c.args.pid (λ n. count_of k.occurrences c.args.pid n) c.turn_at.new.item c.in_ok-transition.transition.done c.turn_at.new.shared c.turn_at.new.tasks c.in_ok-transition.ensures.turns k.run_queue watch))
+    (turn_listed v k.script k.follow c.args.pid (λ n. count_of k.occurrences c.args.pid n) c.turn_at.new.item c.in_ok-taken.taken.done c.turn_at.new.shared c.turn_at.new.tasks c.in_ok-taken.ensures.turns k.run_queue watch))
 
 pub pass-requires-clause-others : goal.pass-requires-clause-others
 pass-requires-clause-others c = λ calm known q up ne.
     let k = c.self.inside in
     let v : Running Shared UserState = record { shared = k.shared; tasks = k.tasks; child = k.child; log = k.log.items } in
-    let same = c.rouse.ensures.others known in
+    let same = c.wake_told.ensures.others known in
     let watch = (c.self.invariant c.if-self.false).1 (c.welcome.ensures.known same.0) in
-    let event = unboxed c.in_ok-transition.transition.done in
-    let roused = c.in_ok-transition.transition.roused in
-    roused_watched c.welcome.new.self c.rouse.new.self c.turn_at.new.shared c.place_child.new.tasks c.args.pid roused same (c.rouse.ensures.itself known)
+    let event = unboxed c.in_ok-taken.taken.done in
+    let told = c.in_ok-taken.taken.told in
+    told_watched c.welcome.new.self c.wake_told.new.self c.turn_at.new.shared c.place_child.new.tasks c.args.pid told same (c.wake_told.ensures.itself known)
     (λ q up ne still.
     subst (λ (sets : RunQueue). IsWatched sets c.turn_at.new.shared q (at Gone c.place_child.new.tasks q)) (sym (c.welcome.ensures.sets same.0))
     (subst (λ (tasks : Tasks). IsWatched (welcomed k.run_queue k.child event) c.turn_at.new.shared q (at Gone tasks q)) (sym c.in_ok-place_child.ensures.tasks)
-    (turn_watched v k.script k.follow c.args.pid (λ n. count_of k.occurrences c.args.pid n) c.turn_at.new.item c.in_ok-transition.transition.done c.turn_at.new.shared c.turn_at.new.tasks c.in_ok-transition.ensures.turns k.run_queue watch
-    roused (c.in_ok-transition.ensures.calm calm) q up ne still)))
+    (turn_watched v k.script k.follow c.args.pid (λ n. count_of k.occurrences c.args.pid n) c.turn_at.new.item c.in_ok-taken.taken.done c.turn_at.new.shared c.turn_at.new.tasks c.in_ok-taken.ensures.turns k.run_queue watch
+    told (c.in_ok-taken.ensures.calm calm) q up ne still)))
     q up ne

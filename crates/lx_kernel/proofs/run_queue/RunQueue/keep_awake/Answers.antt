@@ -1,6 +1,6 @@
 use Rattle.std.proofs.Common.{ap, ◌∙◌}
 use Rattle.std.specs.FinMap as maps
-use Rattle.lx_turn.proofs.Placed.{other_put, other_left}
+use Rattle.lx_kernel.proofs.Placed.{other_put, other_left}
 use Rattle.lx_kernel.proofs.Sleeping.{put_there}
 use Rattle.lx_kernel.proofs.run_queue.RunQueue.keep_awake.Goals as goal
 

@@ -1,13 +1,13 @@
 use Rattle.std.proofs.Common.{ap, sym, ◌∙◌}
 use Rattle.std.specs.FinMap as maps
-use Rattle.lx_turn.proofs.Placed.{other_put, other_left}
-use Rattle.lx_kernel.proofs.Sleeping.{put_there, absent_gone, gone_rests}
+use Rattle.lx_kernel.proofs.Placed.{other_put, other_left}
+use Rattle.lx_kernel.proofs.Sleeping.{put_there, absent_gone, gone_blocked}
 use Rattle.lx_kernel.proofs.run_queue.RunQueue.sort.Goals as goal
 
 pub returns-then-is_absent-clause-itself : goal.returns-then-is_absent-clause-itself
 returns-then-is_absent-clause-itself c = λ known unwatched.
     let gone = absent_gone (maps.get c.args.tasks.now c.args.pid) (sym c.is_absent.ensures ∙ c.if-is_absent.true) in
-    (gone_rests c.args.shared.now c.args.pid _ gone, λ unslept. gone)
+    (gone_blocked c.args.shared.now c.args.pid _ gone, λ unslept. gone)
 
 pub returns-then-is_absent-clause-others : goal.returns-then-is_absent-clause-others
 returns-then-is_absent-clause-others c = λ known. (
@@ -18,12 +18,12 @@ returns-then-is_absent-clause-others c = λ known. (
   ),
 )
 
-pub returns-then-rests_at-clause-itself : goal.returns-then-rests_at-clause-itself
-returns-then-rests_at-clause-itself c = λ known unwatched.
-    (sym c.rests_at.ensures ∙ c.if-rests_at.true, λ unslept. put_there c.args.self.now.asleep c.put_to_sleep.new.self.asleep c.args.pid tt (c.put_to_sleep.ensures.asleep known) unslept)
+pub returns-then-not-can_turn_at-clause-itself : goal.returns-then-not-can_turn_at-clause-itself
+returns-then-not-can_turn_at-clause-itself c = λ known unwatched.
+    (sym c.can_turn_at.ensures ∙ c.if-not-can_turn_at.true, λ unslept. put_there c.args.self.now.asleep c.put_to_sleep.new.self.asleep c.args.pid tt (c.put_to_sleep.ensures.asleep known) unslept)
 
-pub returns-then-rests_at-clause-others : goal.returns-then-rests_at-clause-others
-returns-then-rests_at-clause-others c = λ known. (
+pub returns-then-not-can_turn_at-clause-others : goal.returns-then-not-can_turn_at-clause-others
+returns-then-not-can_turn_at-clause-others c = λ known. (
   c.put_to_sleep.ensures.known known,
   λ q ne. (
     ap (λ m. maps.get m q) c.put_to_sleep.ensures.awake ∙ other_left c.args.self.now.awake c.args.pid q ne,

@@ -1,5 +1,5 @@
-use Rattle.lx_kernel.proofs.Sleeping.{listed_but, rest_up_to, all_watched}
-use Rattle.lx_kernel.proofs.run_queue.RunQueue.wake_stirred.Goals as goal
+use Rattle.lx_kernel.proofs.Sleeping.{listed_but, blocked_up_to, all_watched}
+use Rattle.lx_kernel.proofs.run_queue.RunQueue.wake_unblocked.Goals as goal
 
 pub loop-pid-preserved : goal.loop-pid-preserved
 loop-pid-preserved c = record {
@@ -8,7 +8,7 @@ loop-pid-preserved c = record {
       listed_but c.loop-pid.self c.sort.new.self c.args.shared.now c.args.tasks.now c.in-Some.pid same (c.sort.ensures.itself known) (c.loop-pid.invariant.listed same.0);
   seen = λ known.
       let same = c.sort.ensures.others known in
-      rest_up_to c.loop-pid.self c.args.shared.now c.args.tasks.now c.loop-pid.passed (c.loop-pid.invariant.listed same.0) (c.loop-pid.invariant.seen same.0) c.sort.new.self c.in-Some.pid c.in-Some.ensures same (c.sort.ensures.itself known);
+      blocked_up_to c.loop-pid.self c.args.shared.now c.args.tasks.now c.loop-pid.passed (c.loop-pid.invariant.listed same.0) (c.loop-pid.invariant.seen same.0) c.sort.new.self c.in-Some.pid c.in-Some.ensures same (c.sort.ensures.itself known);
 }
 
 pub returns : goal.returns

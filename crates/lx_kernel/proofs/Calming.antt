@@ -1,10 +1,8 @@
--- Turns that let each other process that rests rest on.
-use Rattle.std.proofs.Common.{◌≡◌, ℕ, Bool, true, false, cond, List, [], ◌∷◌, Option, Some, None, refl, ap, sym, subst, ◌∙◌, arith}
-use Rattle.std.specs.Prelude.{◌==◌, ◌||◌, ◌*◌, ◌<◌, nat_lt, fold, is_some, is_none, not, if◌then◌else◌}
-use Rattle.std.specs.List.{filter, range_with_len}
+-- Turns that leave each other process blocked that was.
+use Rattle.std.proofs.Common.{◌≡◌, ℕ, Bool, true, false, cond, List, Option, Some, None, refl, sym, subst, ◌∙◌, arith}
+use Rattle.std.specs.Prelude.{◌==◌, ◌||◌, ◌*◌, is_some, is_none, not}
 use Rattle.std.specs.Option.{unwrap_or}
 use Rattle.std.specs.FinMap as maps
-use Rattle.std.specs.Global.{Box}
 use Rattle.std.specs.Int.{w32, to_le_bytes}
 use Rattle.std.specs.declared.result.Result.TheVariants.{Ok, Err}
 use Rattle.std.proofs.lemmas.Bool.Decides.{nat_tests}
@@ -19,9 +17,10 @@ use Rattle.lx_abi.specs.Effects as effect
 use Rattle.lx_abi.specs.Errnos.{eagain, echild, einval, efault, enomem, enosys, esrch}
 use Rattle.lx_abi.specs.declared.log.Call.{Call}
 use Rattle.lx_abi.specs.declared.log.Cause.{Cause}
+use Rattle.lx_abi.specs.declared.log.Item.{Item}
 use Rattle.lx_abi.specs.declared.signal.Signal.{Signal}
 use Rattle.lx_abi.specs.declared.script.Choice.{Choice}
-use Rattle.lx_model.specs.Machine.{Answer, Refused, Returns, Jumps, Execs, Bears, Blocks, Ends, Took}
+use Rattle.lx_model.specs.Machine.{Answer, Refused, Returns, Jumps, Execs, Bears, Blocks, Ends, Took, Kills}
 use Rattle.lx_model.specs.declared.event.PtraceEvent.{PtraceEvent}
 use Rattle.lx_model.specs.declared.event.PtraceEvent.TheVariants.{Plain, Forked}
 use Rattle.lx_model.specs.Turn.{Out, turn, killed_or, lives, stepped, answered, took, joins}
@@ -39,6 +38,7 @@ use Rattle.lx_sig.specs.declared.reactions.Reaction.TheVariants as reaction
 use Rattle.lx_sig.specs.declared.state.Interrupted.{Interrupted}
 use Rattle.lx_sig.specs.declared.state.Signals.{Signals}
 use Rattle.lx_open.specs.Opens.{inherited}
+use Rattle.lx_open.specs.Releases.{AreEndsKept}
 use Rattle.lx_proc.specs.declared.state.Entry.{Entry}
 use Rattle.lx_proc.specs.declared.state.Shared.{Shared}
 use Rattle.lx_proc.specs.declared.state.UserState.{UserState}
@@ -59,32 +59,17 @@ use Rattle.lx_pcalls.specs.RtSigprocmask.{rt_sigprocmask}
 use Rattle.lx_pcalls.specs.RtSigreturn.{rt_sigreturn}
 use Rattle.lx_pcalls.specs.SchedYield.{sched_yield}
 use Rattle.lx_pcalls.specs.Signals.{leaves}
-use Rattle.lx_pcalls.specs.Taking.{takes, takes_at, reacts}
+use Rattle.lx_pcalls.specs.Taking.{takes, takes_at, reacts, segv_word}
 use Rattle.lx_pcalls.specs.Wait4.{wait4, waits, reaps, may_wait, first_child, word_in}
 use Rattle.lx_turn.specs.Calls.{does, called}
 use Rattle.lx_turn.specs.Linux.{linux}
 use Rattle.lx_turn.specs.Reactions.{next_of, runs, resumed, ran_by, is_killed}
-use Rattle.lx_turn.specs.Resting.{is_quiet, is_calm_at, is_calm_number, Calms, told_by}
-use Rattle.lx_turn.proofs.Placed.{either, other_put, other_left}
-use Rattle.lx_abi.specs.declared.log.Item.{Item}
-use Rattle.lx_files.specs.declared.tree.Tree.{Tree}
-use Rattle.lx_open.specs.Kinds.{SlotMap}
-use Rattle.lx_open.specs.Opens.{pair, slot, description, is_named, has_readers, has_writers}
-use Rattle.lx_open.specs.Releases.{Held, AreEndsKept, description_released, description_dropped, object_released, slot_closed, closed, closed_if_meant, closed_each, all_closed, is_meant}
-use Rattle.lx_open.specs.declared.description.Description.{Description}
-use Rattle.lx_open.specs.declared.description.Object.{Object}
-use Rattle.lx_open.specs.declared.description.Object.TheVariants.{Input, Console, ReadEnd, WriteEnd, Opened}
-use Rattle.lx_open.specs.declared.description.Slot.{Slot}
-use Rattle.lx_open.specs.declared.fd_table.FdTable.{FdTable}
-use Rattle.lx_proc.specs.State.{Entries}
-use Rattle.lx_proc.specs.declared.state.Life.TheVariants.{Zombie}
-use Rattle.lx_pcalls.specs.Ends.{dies, buried, buried_entry, orphan, orphaned, released, released_entry, retired_by, told, wants_no_news, with_life}
-use Rattle.lx_proc.specs.Families.{is_zombie}
-use Rattle.lx_turn.specs.Turned.{Turned, turned, turned_by, unboxed}
-use Rattle.lx_turn.specs.declared.stages.Went.TheVariants.{On}
-use Rattle.lx_turn.proofs.Placed.{get_put}
-use Rattle.lx_turn.proofs.Awaiting.{awaits_on, signalled_spared, twice_spared, died_spared, reaped_spared, born_spared, buried_spared}
-use Rattle.lx_turn.proofs.Resting.{both, other_pair, rests_on, waits_same, waits_alike, inherited_alike, entry_other, quiet_same, quiet_left}
+use Rattle.lx_turn.specs.Turned.{Turned, turned}
+use Rattle.lx_kernel.specs.Waking.{is_calm_number, is_calm_task, calm_after, IsCalm, Calms, CalmTurnsWakeNobody, told_in}
+use Rattle.lx_kernel.proofs.Awaiting.{awaits_on, signalled_spared, twice_spared, reaped_spared, born_spared}
+use Rattle.lx_kernel.proofs.Blocked.{both, blocked_on, waits_same, waits_alike, inherited_alike, entry_other, quiet_same, quiet_left}
+use Rattle.lx_kernel.proofs.Ending.{end_calm, burial_calm}
+use Rattle.lx_kernel.proofs.Placed.{other_put}
 
 module _ (s : Shared) (child p : ℕ) where
   abbrev Calm : Shared → PtraceEvent UserState → Type 0
@@ -99,7 +84,7 @@ module _ (s : Shared) (child p : ℕ) where
   entry_calm g event = λ q up ne still unborn task h.
       let f = λ (e : Entry). with_signals e (g e) in
       let t : Shared = with_entries s (changed s.entries p f) in
-      rests_on s t q (waits_same s t q refl)
+      blocked_on s t q (waits_same s t q refl)
       (awaits_on s t q (signalled_spared s.entries p q g))
       (quiet_same (maps.get s.entries q) (maps.get t.entries q) (entry_other s.entries p q f (maps.get s.entries p) ne)) task h
 
@@ -109,7 +94,7 @@ module _ (s : Shared) (child p : ℕ) where
       let f = λ (e : Entry). with_signals e (g e) in
       let j = λ (e : Entry). with_signals e (i e) in
       let t : Shared = with_entries s (changed (changed s.entries p f) p j) in
-      rests_on s t q (waits_same s t q refl)
+      blocked_on s t q (waits_same s t q refl)
       (awaits_on s t q (twice_spared s.entries p q g i))
       (quiet_same (maps.get s.entries q) (maps.get t.entries q)
       (entry_other (changed s.entries p f) p q j (maps.get (changed s.entries p f) p) ne ∙ entry_other s.entries p q f (maps.get s.entries p) ne)) task h
@@ -118,7 +103,7 @@ module _ (s : Shared) (child p : ℕ) where
   left_calm : (wanted n : ℕ) (event : PtraceEvent UserState) → first_child s.entries p wanted true ≡ Some n → Calm (with_entries s (maps.remove s.entries n)) event
   left_calm wanted n event found = λ q up ne still unborn task h.
       let t : Shared = with_entries s (maps.remove s.entries n) in
-      rests_on s t q (waits_same s t q refl)
+      blocked_on s t q (waits_same s t q refl)
       (awaits_on s t q (reaped_spared s.entries p q wanted n ne found))
       (quiet_left s.entries n q) task h
 
@@ -129,61 +114,61 @@ module _ (s : Shared) (child p : ℕ) where
   born_calm e newborn parent free = λ q up ne still unborn task h.
       let t : Shared = record s { fds = inherited s.fds p child; entries = maps.insert s.entries child e } in
       let other = unborn tt in
-      rests_on s t q (waits_alike s t q (inherited s.fds p child).slots refl (inherited_alike s.fds p child q other))
+      blocked_on s t q (waits_alike s t q (inherited s.fds p child).slots refl (inherited_alike s.fds p child q other))
       (awaits_on s t q (born_spared s.entries p child q e ne parent free))
       (quiet_same (maps.get s.entries q) (maps.get t.entries q) (other_put s.entries child q other e)) task h
 
   -- Answers
 
-  abbrev IsCalm : Answers → Type 0
-  IsCalm (Refused e) = Unit {0}
-  IsCalm (Returns t b x) = Calm t Plain
-  IsCalm (Jumps t b) = Calm t Plain
-  IsCalm (Execs t b) = ⊥
-  IsCalm (Bears t b newborn) = Calm t (Forked newborn)
-  IsCalm Blocks = Unit {0}
-  IsCalm (Ends w) = Unit {0}
+  abbrev AnswerCalms : Answers → Type 0
+  AnswerCalms (Refused e) = Unit {0}
+  AnswerCalms (Returns t b x) = Calm t Plain
+  AnswerCalms (Jumps t b) = Calm t Plain
+  AnswerCalms (Execs t b) = ⊥
+  AnswerCalms (Bears t b newborn) = Calm t (Forked newborn)
+  AnswerCalms Blocks = Unit {0}
+  AnswerCalms (Ends w) = Unit {0}
 
-  either_calm : (test : Bool) (x y : Answers) → IsCalm x → IsCalm y → IsCalm (cond test x y)
+  either_calm : (test : Bool) (x y : Answers) → AnswerCalms x → AnswerCalms y → AnswerCalms (cond test x y)
   either_calm true x y h g = h
   either_calm false x y h g = g
 
-  unless_calm : (test : Bool) (e : ℕ) (a : Answers) → IsCalm a → IsCalm (unless test e a)
+  unless_calm : (test : Bool) (e : ℕ) (a : Answers) → AnswerCalms a → AnswerCalms (unless test e a)
   unless_calm test e a h = either_calm test a (Refused e) h tt
 
-  given_calm : {A : Type 0} (o : Option A) (e : ℕ) (f : A → Answers) → ((x : A) → IsCalm (f x)) → IsCalm (given o e f)
+  given_calm : {A : Type 0} (o : Option A) (e : ℕ) (f : A → Answers) → ((x : A) → AnswerCalms (f x)) → AnswerCalms (given o e f)
   given_calm None e f h = tt
   given_calm (Some x) e f h = h x
 
-  gives_calm : (t : Shared) (b : UserState) (at : ℕ) (bytes : List ℕ) (result : ℕ) → Calm t Plain → IsCalm (gives t b at bytes result)
+  gives_calm : (t : Shared) (b : UserState) (at : ℕ) (bytes : List ℕ) (result : ℕ) → Calm t Plain → AnswerCalms (gives t b at bytes result)
   gives_calm t b at bytes result h = either_calm (is_some (first_fault access.Write b.memory at _)) (Refused efault) (Returns t (with_memory b (written b.memory at bytes)) result) tt h
 
-  leaves_calm : (b : UserState) (o : SignalOutcome) → IsCalm (leaves s p b o)
+  leaves_calm : (b : UserState) (o : SignalOutcome) → AnswerCalms (leaves s p b o)
   leaves_calm b (Err e) = tt
   leaves_calm b (Ok c) = entry_calm _ Plain
 
   module _ (call : Call) (b : UserState) where
-    sigaction_calm : IsCalm (rt_sigaction s p call b)
+    sigaction_calm : AnswerCalms (rt_sigaction s p call b)
     sigaction_calm = given_calm (maps.get s.entries p) esrch _ (λ (e : Entry). leaves_calm b (sigaction e.signals b.memory call))
 
-    sigprocmask_calm : IsCalm (rt_sigprocmask s p call b)
+    sigprocmask_calm : AnswerCalms (rt_sigprocmask s p call b)
     sigprocmask_calm = given_calm (maps.get s.entries p) esrch _ (λ (e : Entry). leaves_calm b (sigprocmask e.signals b.memory call))
 
-    sigreturn_calm : IsCalm (rt_sigreturn s p b)
+    sigreturn_calm : AnswerCalms (rt_sigreturn s p b)
     sigreturn_calm = given_calm (maps.get s.entries p) esrch _ (λ (e : Entry). unless_calm (not (is_some (return_fault b.memory b.hart))) efault _ (entry_calm _ Plain))
 
-    getppid_calm : IsCalm (getppid s p b)
+    getppid_calm : AnswerCalms (getppid s p b)
     getppid_calm = given_calm (maps.get s.entries p) esrch _ (λ e. same_calm Plain)
 
-    brk_calm : IsCalm (brk s call b)
+    brk_calm : AnswerCalms (brk s call b)
     unfolding brk
     brk_calm = same_calm Plain
 
-    munmap_calm : IsCalm (munmap s call b)
+    munmap_calm : AnswerCalms (munmap s call b)
     unfolding munmap
     munmap_calm = unless_calm (may_unmap (argument call 0) (argument call 1)) einval _ (same_calm Plain)
 
-    mmap_calm : IsCalm (mmap s call b)
+    mmap_calm : AnswerCalms (mmap s call b)
     unfolding mmap
     mmap_calm =
         let pages = pages_for (argument call 1) in
@@ -192,25 +177,25 @@ module _ (s : Shared) (child p : ℕ) where
         (given_calm (highest_free b.memory pages map_low map_high) enomem (maps_at s b pages rights)
         (λ a. unless_calm (is_none (limit_fault (mapped b.memory a (4096 * pages) rights))) enomem _ (same_calm Plain)))
 
-    clone_calm : maps.get s.entries child ≡ None → IsCalm (clone s child p call b)
+    clone_calm : maps.get s.entries child ≡ None → AnswerCalms (clone s child p call b)
     unfolding clone
     clone_calm free =
         unless_calm (argument call 0 == fork_flags) einval _
         (given_calm (maps.get s.entries p) esrch (bears s child p call b)
         (λ e. unless_calm (has_room s child) eagain _ (born_calm (child_entry e p) (child_user b (argument call 1)) refl free)))
 
-    reaps_calm : (n word : ℕ) → first_child s.entries p (low_argument call 0) true ≡ Some n → IsCalm (reaps s b call n word)
+    reaps_calm : (n word : ℕ) → first_child s.entries p (low_argument call 0) true ≡ Some n → AnswerCalms (reaps s b call n word)
     reaps_calm n word found =
         let left : Shared = with_entries s (maps.remove s.entries n) in
         let calm = left_calm (low_argument call 0) n Plain found in
         either_calm (argument call 1 == 0) (Returns left b n) (gives left b (argument call 1) (to_le_bytes w32 word) n) calm
         (gives_calm left b (argument call 1) (to_le_bytes w32 word) n calm)
 
-    waits_calm : (o : Option ℕ) → first_child s.entries p (low_argument call 0) true ≡ o → IsCalm (waits s b call o)
+    waits_calm : (o : Option ℕ) → first_child s.entries p (low_argument call 0) true ≡ o → AnswerCalms (waits s b call o)
     waits_calm None found = either_calm (argument call 2 == 1) (Returns s b 0) Blocks (same_calm Plain) tt
     waits_calm (Some n) found = given_calm (word_in (maps.get s.entries n)) echild (reaps s b call n) (λ word. reaps_calm n word found)
 
-    wait4_calm : IsCalm (wait4 s p call b)
+    wait4_calm : AnswerCalms (wait4 s p call b)
     unfolding wait4
     wait4_calm =
         unless_calm (may_wait call) einval _
@@ -219,16 +204,16 @@ module _ (s : Shared) (child p : ℕ) where
 
     -- by number
 
-    calm_at : (n : ℕ) (a : Answers) → call.number ≡ n → file_call s p call b ≡ None → process_call s child p call b ≡ Some a → IsCalm a → IsCalm (called s child p call b)
+    calm_at : (n : ℕ) (a : Answers) → call.number ≡ n → file_call s p call b ≡ None → process_call s child p call b ≡ Some a → AnswerCalms a → AnswerCalms (called s child p call b)
     calm_at n a is no_file answer calm =
-        subst (λ o. IsCalm (unwrap_or o (unwrap_or (process_call s child p call b) (Refused enosys)))) (sym no_file)
-        (subst (λ o. IsCalm (unwrap_or o (Refused enosys))) (sym answer) calm)
+        subst (λ o. AnswerCalms (unwrap_or o (unwrap_or (process_call s child p call b) (Refused enosys)))) (sym no_file)
+        (subst (λ o. AnswerCalms (unwrap_or o (Refused enosys))) (sym answer) calm)
 
-  blocked_calm : (b : UserState) (interrupted : Bool) → IsCalm (blocks_or_returns s b interrupted)
+  blocked_calm : (b : UserState) (interrupted : Bool) → AnswerCalms (blocks_or_returns s b interrupted)
   blocked_calm b true = same_calm Plain
   blocked_calm b false = tt
 
-  interrupted_calm : (b : UserState) (a : Answers) → IsCalm a → IsCalm (interruptible s p b a)
+  interrupted_calm : (b : UserState) (a : Answers) → AnswerCalms a → AnswerCalms (interruptible s p b a)
   interrupted_calm b (Refused e) h = h
   interrupted_calm b (Returns t c x) h = h
   interrupted_calm b (Jumps t c) h = h
@@ -246,7 +231,7 @@ numbered a b h = grind (arith, nat_tests)
 
 module _ (s : Shared) (child p : ℕ) (call : Call) (b : UserState) where
   abbrev CalledCalm : Type 0
-  CalledCalm = IsCalm s child p (called s child p call b)
+  CalledCalm = AnswerCalms s child p (called s child p call b)
 
   yields : call.number ≡ 124 → CalledCalm
   unfolding file_call process_call
@@ -324,23 +309,15 @@ module _ (s : Shared) (child p : ℕ) (call : Call) (b : UserState) where
       (λ e. let h = both (N == 220) (is_none (maps.get s.entries child)) e in
       clones (numbered N 220 h.0) (nothing_there (maps.get s.entries child) h.1))
 
-  does_calm : is_calm_number s child call.number ≡ true → IsCalm s child p (does s child p call b)
+  does_calm : is_calm_number s child call.number ≡ true → AnswerCalms s child p (does s child p call b)
   unfolding does
   does_calm e = interrupted_calm s child p b (called s child p call b) (called_calm e)
 
 -- Turns
 
--- a calm turn between these stands of its process
-abbrev is_calm : Shared → ℕ → Task UserState → Task UserState → Bool
-is_calm s child (Alive b stage) (Alive c next) = is_calm_at s child stage
-is_calm s child (Alive b stage) (Dying w) = false
-is_calm s child (Alive b stage) Gone = false
-is_calm s child (Dying w) task = false
-is_calm s child Gone task = true
-
 -- an out of a turn from this stand
 abbrev OutCalms : Shared → ℕ → ℕ → Task UserState → Out Shared UserState → Type 0
-OutCalms s child p task o = is_calm s child task o.task ≡ true → Calms s o.shared child p p o.event
+OutCalms s child p task o = IsCalm s child task o.shared o.task → Calms s o.shared child p (told_in s p task) o.event
 
 ran_calm : (s : Shared) (child p : ℕ) (b : UserState) (stage : Stage) (o : Outcome) (st : Step) → OutCalms s child p (Alive b stage) (stepped linux s p b (ran_by b o st))
 ran_calm s child p b stage o step.Ran = λ e. same_calm s child p Plain
@@ -361,24 +338,27 @@ joins_calm s child p (Some signal) None = entry_calm s child p _ Plain
 joins_calm s child p None (Some signal) = entry_calm s child p _ Plain
 joins_calm s child p (Some signal) (Some other) = entries_calm s child p _ _ Plain
 
-answered_calm : (s : Shared) (child p : ℕ) (b : UserState) (call : Call) (a : Answer Shared UserState) → (is_calm_number s child call.number ≡ true → IsCalm s child p a) → OutCalms s child p (Alive b (Doing call)) (answered linux s child p b call a)
+answered_calm : (s : Shared) (child p : ℕ) (b : UserState) (call : Call) (a : Answer Shared UserState) → (is_calm_number s child call.number ≡ true → AnswerCalms s child p a) → OutCalms s child p (Alive b (Doing call)) (answered linux s child p b call a)
 answered_calm s child p b call (Refused x) h = λ e. same_calm s child p Plain
 answered_calm s child p b call (Returns t c x) h = λ e. h e
 answered_calm s child p b call (Jumps t c) h = λ e. h e
 answered_calm s child p b call (Execs t c) h = λ e. absurd (h e)
 answered_calm s child p b call (Bears t c born) h = λ e. h e
 answered_calm s child p b call Blocks h = λ e. same_calm s child p Plain
-answered_calm s child p b call (Ends w) h = λ e. absurd (cc e)
+answered_calm s child p b call (Ends w) h = λ e. end_calm s child p w e
 
 took_either : (s : Shared) (child p : ℕ) (b : UserState) (stage : Stage) (signal : Signal) (cause : Cause) (test : Bool) (x y : Took Shared UserState)
     → OutCalms s child p (Alive b stage) (took linux s p signal cause x) → OutCalms s child p (Alive b stage) (took linux s p signal cause y) → OutCalms s child p (Alive b stage) (took linux s p signal cause (cond test x y))
 took_either s child p b stage signal cause true x y h g = h
 took_either s child p b stage signal cause false x y h g = g
 
+kills_calm : (s : Shared) (child p : ℕ) (b : UserState) (stage : Stage) (signal : Signal) (cause : Cause) (w : ℕ) → OutCalms s child p (Alive b stage) (took linux s p signal cause (Kills w))
+kills_calm s child p b stage signal cause w = λ kept. end_calm s child p w kept
+
 reacts_calm : (s : Shared) (child p : ℕ) (e : Entry) (b : UserState) (stage : Stage) (signal : Signal) (cause : Cause) (r : Reaction) → OutCalms s child p (Alive b stage) (took linux s p signal cause (reacts s p e b signal r))
 reacts_calm s child p e b stage signal cause reaction.Passes = λ e. same_calm s child p Plain
-reacts_calm s child p e b stage signal cause reaction.Ends = λ e. absurd (cc e)
-reacts_calm s child p e b stage signal cause (reaction.Handles a) = took_either s child p b stage signal cause (is_some (frame_fault b.memory b.hart)) _ _ (λ e. absurd (cc e)) (λ e. entry_calm s child p _ Plain)
+reacts_calm s child p e b stage signal cause reaction.Ends = kills_calm s child p b stage signal cause signal.number
+reacts_calm s child p e b stage signal cause (reaction.Handles a) = took_either s child p b stage signal cause (is_some (frame_fault b.memory b.hart)) _ _ (kills_calm s child p b stage signal cause segv_word) (λ e. entry_calm s child p _ Plain)
 
 takes_at_calm : (s : Shared) (child p : ℕ) (b : UserState) (stage : Stage) (signal : Signal) (cause : Cause) (o : Option Entry) → OutCalms s child p (Alive b stage) (took linux s p signal cause (takes_at o s p b signal cause))
 takes_at_calm s child p b stage signal cause None = λ e. same_calm s child p Plain
@@ -401,154 +381,22 @@ lives_calm c s child p b (Taken signal cause) = takes_calm s child p b (Taken si
 lives_calm c s child p b Dropped = λ e. same_calm s child p Plain
 
 killed_calm : (killed : Bool) (c : Choice) (s : Shared) (child p : ℕ) (b : UserState) (stage : Stage) → OutCalms s child p (Alive b stage) (killed_or killed linux c s child p b stage)
-killed_calm true c s child p b stage = λ e. absurd (cc e)
+killed_calm true c s child p b stage = λ e. end_calm s child p 9 e
 killed_calm false c s child p b stage = lives_calm c s child p b stage
 
-turn_calm : (c : Choice) (s : Shared) (child p : ℕ) (task : Task UserState) → OutCalms s child p task (turn linux c s child p task)
+pub turn_calm : CalmTurnsWakeNobody
 turn_calm c s child p (Alive b stage) = killed_calm (is_killed (maps.get s.entries p)) c s child p b stage
-turn_calm c s child p (Dying w) = λ e. absurd (cc e)
+turn_calm c s child p (Dying w) = λ e. burial_calm s child p w
 turn_calm c s child p Gone = λ e. same_calm s child p Plain
 
--- a turn of a living process that goes on
-pub on_calm : (c : Choice) (s : Shared) (child p : ℕ) (b : UserState) (stage : Stage) (done : PtraceEvent (Box UserState)) (t : Shared) (d : UserState) (next : Stage) (item : Option Item) → turned (turn linux c s child p (Alive b stage)) ≡ turned_by (On done) t d p stage next item → is_calm_at s child stage ≡ true → Calms s t child p p (unboxed done)
-on_calm c s child p b stage done t d next item e calm =
-    let o : Out Shared UserState = turn linux c s child p (Alive b stage) in
-    subst (λ (x : Shared). Calms s x child p p (unboxed done)) (ap (λ (x : Turned). x.shared) e)
-    (subst (λ (x : PtraceEvent UserState). Calms s o.shared child p p x) (ap (λ (x : Turned). x.event) e)
-    (turn_calm c s child p (Alive b stage) (ap (λ (x : Turned). is_calm s child (Alive b stage) x.task) e ∙ calm)))
+-- what code looks at before a turn and after it
+pub calm_is : (s s' : Shared) (child : ℕ) (task task' : Task UserState) (calm ends_kept : Bool) → calm ≡ is_calm_task s child task → (ends_kept ≡ true → AreEndsKept s.fds s'.fds)
+    → calm_after task' calm ends_kept ≡ true → IsCalm s child task s' task'
+calm_is s s' child task (Alive c next) calm ends_kept is kept e = sym is ∙ e
+calm_is s s' child task (Dying w) calm ends_kept is kept e = kept e
+calm_is s s' child task Gone calm ends_kept is kept e = tt
 
--- and one that has none
-pub gone_calm : (s : Shared) (child p : ℕ) (event : PtraceEvent UserState) → Calms s s child p p event
-gone_calm s child p event = same_calm s child p event
-
--- The end of a process
-
--- its descriptors are no other's
-module _ (p q fd : ℕ) (ne : q ≡ p → ⊥) (small : fd < 256) where
-  released_slots : (tree : Tree) (fds : FdTable) (n : ℕ) → (description_released tree fds n).fds.slots ≡ fds.slots
-  unfolding description_released
-  released_slots tree fds n = named (is_named fds n) (description fds n)
-    where
-      pipe_kept : (t : FdTable) (b : Bool) (pipe : ℕ) → (if b then t else record t { pipes = maps.remove t.pipes pipe }).slots ≡ t.slots
-      pipe_kept t true pipe = refl
-      pipe_kept t false pipe = refl
-
-      object_kept : (t : FdTable) (object : Object) → (object_released tree t object).fds.slots ≡ t.slots
-      object_kept t Input = refl
-      object_kept t Console = refl
-      object_kept t (ReadEnd pipe) = pipe_kept t (has_readers t pipe || has_writers t pipe) pipe
-      object_kept t (WriteEnd pipe) = pipe_kept t (has_readers t pipe || has_writers t pipe) pipe
-      object_kept t (Opened node) = refl
-
-      dropped : (o : Option Description) → (description_dropped tree fds n o).fds.slots ≡ fds.slots
-      dropped None = refl
-      dropped (Some d) = object_kept (record fds { descriptions = maps.remove fds.descriptions n }) d.object
-
-      named : (b : Bool) (o : Option Description) → (if b then record { tree = tree; fds = fds } else description_dropped tree fds n o).fds.slots ≡ fds.slots
-      named true o = refl
-      named false o = dropped o
-
-  abbrev At : Held → Option Slot
-  At h = maps.get h.fds.slots (pair q fd)
-
-  closed_slot : (h : Held) (n : ℕ) (b : Bool) → nat_lt n 256 ≡ b → (o : Option Slot) → At (slot_closed h.tree h.fds (pair p n) (cond b o None)) ≡ At h
-  closed_slot h n true e None = refl
-  closed_slot h n true e (Some named) =
-      ap (λ (slots : SlotMap). maps.get slots (pair q fd)) (released_slots h.tree (record h.fds { slots = maps.remove h.fds.slots (pair p n) }) named.description)
-      ∙ other_left h.fds.slots (pair p n) (pair q fd) (other_pair p q fd ne small n (let lt : n < 256 = grind (arith) in lt))
-  closed_slot h n false e o = refl
-
-  closed_other : (h : Held) (n : ℕ) → At (closed h.tree h.fds p n) ≡ At h
-  unfolding closed
-  closed_other h n = closed_slot h n (nat_lt n 256) refl (maps.get h.fds.slots (pair p n))
-
-  if_other : (h : Held) (n : ℕ) (b : Bool) → At (if b then closed h.tree h.fds p n else h) ≡ At h
-  if_other h n true = closed_other h n
-  if_other h n false = refl
-
-  each_closed : (h : Held) (ns : List ℕ) → At (closed_each false h p ns) ≡ At h
-  unfolding closed_each
-  each_closed h [] = refl
-  each_closed h (n ∷ ns) = each_closed (closed_if_meant false h p n) ns ∙ if_other h n (is_meant false (slot h.fds p n))
-
-all_other : (tree : Tree) (fds : FdTable) (p q fd : ℕ) → (q ≡ p → ⊥) → (b : Bool) → nat_lt fd 256 ≡ b
-    → cond b (maps.get (all_closed tree fds p).fds.slots (pair q fd)) None ≡ cond b (maps.get fds.slots (pair q fd)) None
-unfolding all_closed
-all_other tree fds p q fd ne true e = each_closed p q fd ne (let lt : fd < 256 = grind (arith) in lt) (record { tree = tree; fds = fds }) (range_with_len 0 256)
-all_other tree fds p q fd ne false e = refl
-
--- where each description stays, each other process rests on
-pub end_calm : (s : Shared) (child p w : ℕ) → AreEndsKept s.fds (dies s p w).fds → Calms s (dies s p w) child p p Plain
-end_calm s child p w kept = λ q up ne still unborn task h.
-    let t : Shared = dies s p w in
-    rests_on s t q
-    (waits_alike s t q t.fds.slots (λ i. record { slots = t.fds.slots; descriptions = kept.0 i; pipes = kept.1 i }) (λ fd. all_other s.tree s.fds p q fd ne (nat_lt fd 256) refl))
-    (awaits_on s t q (died_spared s.entries p q w))
-    (quiet_same (maps.get s.entries q) (maps.get t.entries q) (entry_other s.entries p q _ (maps.get s.entries p) ne)) task h
-
--- Burial
-
-abbrev Quiet : Entries → ℕ → Type 0
-Quiet m q = is_quiet (maps.get m q) ≡ true
-
-adopted_quiet : (m : Entries) (n q : ℕ) (e : Entry) (b : Bool) → maps.get m n ≡ Some e → Quiet m q → Quiet (orphan m n e b) q
-adopted_quiet m n q e true there h = quiet_left m n q h
-adopted_quiet m n q e false there h = either q n (Quiet (maps.insert m n (record e { parent = 0 })) q) (q == n) refl
-    (λ same. subst (λ x. Quiet (maps.insert m n (record e { parent = 0 })) x) (sym same)
-    (ap is_quiet (get_put m n (record e { parent = 0 })) ∙ sym (ap is_quiet there) ∙ ap (λ x. is_quiet (maps.get m x)) (sym same) ∙ h))
-    (λ ne. quiet_same (maps.get m q) (maps.get (maps.insert m n (record e { parent = 0 })) q) (other_put m n q ne (record e { parent = 0 })) h)
-
-mine_quiet : (m : Entries) (n q : ℕ) (e : Entry) (b : Bool) → maps.get m n ≡ Some e → Quiet m q → Quiet (if b then orphan m n e (is_zombie e.life) else m) q
-mine_quiet m n q e true there h = adopted_quiet m n q e (is_zombie e.life) there h
-mine_quiet m n q e false there h = h
-
-entry_quiet : (m : Entries) (p n q : ℕ) (o : Option Entry) → maps.get m n ≡ o → Quiet m q → Quiet (released_entry m p n o) q
-entry_quiet m p n q None there h = h
-entry_quiet m p n q (Some e) there h = mine_quiet m n q e (e.parent == p) there h
-
-released_quiet : (m : Entries) (p n q : ℕ) → Quiet m q → Quiet (released p m n) q
-unfolding released
-released_quiet m p n q h = entry_quiet m p n q (maps.get m n) refl h
-
-each_quiet : (m : Entries) (p q : ℕ) (ns : List ℕ) → Quiet m q → Quiet (fold (released p) m ns) q
-each_quiet m p q [] h = h
-each_quiet m p q (n ∷ ns) h = each_quiet (released p m n) p q ns (released_quiet m p n q h)
-
-told_quiet : (m : Entries) (p w parent q : ℕ) (b : Bool) → (q ≡ p → ⊥) → (q ≡ parent → ⊥) → Quiet m q
-    → Quiet (if b then maps.remove m p else changed (changed m parent (λ e. told e p w)) p (λ e. with_life e (Zombie w))) q
-told_quiet m p w parent q true ne other h = quiet_left m p q h
-told_quiet m p w parent q false ne other h =
-    let told_parent = changed m parent (λ e. told e p w) in
-    quiet_same (maps.get m q) (maps.get (changed told_parent p (λ e. with_life e (Zombie w))) q)
-    (entry_other told_parent p q (λ e. with_life e (Zombie w)) (maps.get told_parent p) ne ∙ entry_other m parent q (λ e. told e p w) (maps.get m parent) other) h
-
-retired_quiet : (m : Entries) (p w parent q : ℕ) (o : Option Entry) → (q ≡ p → ⊥) → (q ≡ parent → ⊥) → Quiet m q → Quiet (retired_by m p w parent o) q
-retired_quiet m p w parent q None ne other h = quiet_left m p q h
-retired_quiet m p w parent q (Some e) ne other h = told_quiet m p w parent q (wants_no_news e) ne other h
-
-buried_quiet : (m : Entries) (p w q : ℕ) (o : Option Entry) → (q ≡ p → ⊥) → (q ≡ told_by p o → ⊥) → Quiet m q → Quiet (buried_entry m p w o) q
-unfolding orphaned
-buried_quiet m p w q None ne other h = h
-buried_quiet m p w q (Some e) ne other h =
-    let left = orphaned m p in
-    retired_quiet left p w e.parent q (maps.get left e.parent) ne other (each_quiet m p q (filter (nat_lt 0) (maps.keys m)) h)
-
--- who isn't told of a burial rests on
-pub burial_calm : (s : Shared) (child p w : ℕ) → Calms s (buried s p w) child p (told_by p (maps.get s.entries p)) Plain
-unfolding buried
-burial_calm s child p w = λ q up ne other unborn task h.
-    let t : Shared = with_entries s (buried_entry s.entries p w (maps.get s.entries p)) in
-    rests_on s t q (waits_same s t q refl)
-    (awaits_on s t q (buried_spared p q ne up s.entries w (maps.get s.entries p) refl other))
-    (buried_quiet s.entries p w q (maps.get s.entries p) ne other) task h
-
-pub told_calm : (s t : Shared) (child p w : ℕ) → t ≡ buried s p w → (roused : ℕ) → roused ≡ told_by p (maps.get s.entries p) → Calms s t child p roused Plain
-told_calm s t child p w is roused told =
-    subst (λ (x : Shared). Calms s x child p roused Plain) (sym is)
-    (subst (λ r. Calms s (buried s p w) child p r Plain) (sym told) (burial_calm s child p w))
-
-pub ended_calm : (s now t : Shared) (child p w : ℕ) → now ≡ s → t ≡ dies now p w → AreEndsKept now.fds t.fds → Calms s t child p p Plain
-ended_calm s now t child p w same is kept =
-    subst (λ (x : Shared). Calms x t child p p Plain) same
-    (subst (λ (x : Shared). Calms now x child p p Plain) (sym is)
-    (end_calm now child p w (subst (λ (x : Shared). AreEndsKept now.fds x.fds) is kept)))
+pub taken_calm : (c : Choice) (s s' : Shared) (child p : ℕ) (task task' : Task UserState) (item : Option Item) (event : PtraceEvent UserState) → turned (turn linux c s child p task) ≡ record { shared = s'; task = task'; item = item; event = event }
+    → IsCalm s child task s' task' → Calms s s' child p (told_in s p task) event
+taken_calm c s s' child p task task' item event is =
+    subst (λ (x : Turned). IsCalm s child task x.shared x.task → Calms s x.shared child p (told_in s p task) x.event) is (turn_calm c s child p task)

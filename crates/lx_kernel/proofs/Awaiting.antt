@@ -22,8 +22,8 @@ use Rattle.lx_pcalls.specs.Ends.{with_life, orphan, orphaned, released, released
 use Rattle.lx_pcalls.specs.Wait4.{any_child, zombie_word, is_meant_by, is_child, first_child, may_wait, wait4_would_block}
 use Rattle.lx_pcalls.proofs.Finding.{skip}
 use Rattle.lx_pcalls.proofs.Children.{child_there, unequal}
-use Rattle.lx_turn.specs.Resting.{told_by}
-use Rattle.lx_turn.proofs.Placed.{either, apart, get_put, get_left, other_put, other_left}
+use Rattle.lx_kernel.specs.Waking.{told_by}
+use Rattle.lx_kernel.proofs.Placed.{either, apart, get_put, get_left, other_put, other_left}
 
 -- The keys that pass a test
 

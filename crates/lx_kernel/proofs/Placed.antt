@@ -1,4 +1,4 @@
--- What a table has at a key that was put in, and at the others.
+-- What a table has at a key that was put in or taken out, and at the others.
 use Rattle.std.proofs.Common.{◌≡◌, ℕ, Bool, true, false, cond, Option, Some, None, refl, ap, sym, ◌∙◌, arith}
 use Rattle.std.specs.Prelude.{◌==◌}
 use Rattle.std.proofs.lemmas.Bool.Decides.{nat_tests}
@@ -41,6 +41,27 @@ module _ {X : Type 0} (m : FinMap nat_cmp X) (p : ℕ) where
       ∙ ap (cond (eq_by_cmp nat_cmp q p) (Some y)) (maps.get-insert nat_cmp_total m p x q)
       ∙ twice (eq_by_cmp nat_cmp q p) x y (maps.get m q)
       ∙ sym (maps.get-insert nat_cmp_total m p y q))
+
+  left_twice : (b : Bool) (x : X) (y : Option X) → cond b None (cond b (Some x) y) ≡ cond b None y
+  left_twice true x y = refl
+  left_twice false x y = refl
+
+  -- what is put in and taken out again
+  pub remove-insert : (x : X) → maps.remove (maps.insert m p x) p ≡ maps.remove m p
+  remove-insert x = maps.same_map nat_cmp_total maps.nat_cmp-IsAntisymmetric _ _ (λ q.
+      maps.get-remove nat_cmp_total (maps.insert m p x) p q
+      ∙ ap (cond (eq_by_cmp nat_cmp q p) None) (maps.get-insert nat_cmp_total m p x q)
+      ∙ left_twice (eq_by_cmp nat_cmp q p) x (maps.get m q)
+      ∙ sym (maps.get-remove nat_cmp_total m p q))
+
+  left_here : (q : ℕ) (b : Bool) → eq_by_cmp nat_cmp q p ≡ b → maps.get m p ≡ None → cond b None (maps.get m q) ≡ maps.get m q
+  left_here q true e none = sym (ap (maps.get m) (maps.nat_cmp-IsAntisymmetric q p (equal_is (nat_cmp q p) e)) ∙ none)
+  left_here q false e none = refl
+
+  -- nothing is taken out where nothing is
+  pub remove_absent : maps.get m p ≡ None → maps.remove m p ≡ m
+  remove_absent none = maps.same_map nat_cmp_total maps.nat_cmp-IsAntisymmetric _ _ (λ q.
+      maps.get-remove nat_cmp_total m p q ∙ left_here q (eq_by_cmp nat_cmp q p) refl none)
 
 -- one number is another, or isn't
 pub either : (q p : ℕ) (P : Type 0) (b : Bool) → (q == p) ≡ b → (q ≡ p → P) → ((q ≡ p → ⊥) → P) → P

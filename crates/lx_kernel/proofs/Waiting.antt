@@ -14,7 +14,7 @@ use Rattle.lx_fcalls.specs.Calls.{file_call}
 use Rattle.lx_fcalls.specs.Blocking.{would_block as file_would_block, passes}
 use Rattle.lx_pcalls.specs.Calls.{process_call, would_block as process_would_block, is_blocked_if}
 use Rattle.lx_pcalls.specs.Interruption.{is_interrupted, interruptible, blocks_or_returns}
-use Rattle.lx_turn.specs.Blocking.{would_block}
+use Rattle.lx_kernel.specs.Blocking.{would_block}
 use Rattle.lx_turn.specs.Calls.{does, called}
 use Rattle.lx_fcalls.proofs.FileBlocking.{file_blocks}
 use Rattle.lx_pcalls.proofs.Blocking.{process_blocks}

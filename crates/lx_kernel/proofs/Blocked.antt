@@ -1,6 +1,6 @@
--- What keeps a process that rests at rest.
+-- What keeps a process that is blocked so.
 use Rattle.std.proofs.Common.{◌≡◌, ℕ, zero, suc, ◌+◌, ◌<◌, ◌≤◌, Bool, true, false, cond, List, [], ◌∷◌, Option, Some, None, refl, ap, ◌∙◌, arith}
-use Rattle.std.specs.Prelude.{◌==◌, ◌&&◌, ◌||◌, nat_lt, min, if◌then◌else◌}
+use Rattle.std.specs.Prelude.{◌==◌, ◌&&◌, ◌||◌, not, nat_lt, min, if◌then◌else◌}
 use Rattle.std.specs.Ordering.{nat_cmp, eq_by_cmp}
 use Rattle.std.specs.Cmp.{nat_cmp_total}
 use Rattle.std.specs.List.{range_with_len}
@@ -22,8 +22,10 @@ use Rattle.lx_proc.specs.Answers.{argument, low_argument}
 use Rattle.lx_fcalls.specs.Blocking.{would_block, read_would_block, write_would_block, open_passes, passes, read_waits, write_waits}
 use Rattle.lx_open.specs.Opens.{description}
 use Rattle.lx_pcalls.specs.Calls.{would_block as process_would_block}
-use Rattle.lx_turn.specs.Resting.{is_quiet, rests}
-use Rattle.lx_turn.proofs.Placed.{other_put}
+use Rattle.lx_pcalls.specs.Interruption.{is_interrupted}
+use Rattle.lx_turn.specs.Reactions.{is_killed}
+use Rattle.lx_kernel.specs.Blocking.{IsBlocked, can_turn, would_block as blocks}
+use Rattle.lx_kernel.proofs.Placed.{other_put}
 
 pub both : (a b : Bool) → (a && b) ≡ true → (a ≡ true) × (b ≡ true)
 both true b e = (refl, e)
@@ -37,30 +39,51 @@ either_kept : (a b a' b' : Bool) → a' ≡ a → (b ≡ true → b' ≡ true) �
 either_kept true b a' b' is kept e = ap (λ x. x || b') is
 either_kept false b a' b' is kept e = ap (λ x. x || b') is ∙ kept e
 
--- a process rests on where its call still waits and no signal has come
-pub rests_on : (s s' : Shared) (q : ℕ) → ((call : Call) (b : UserState) → would_block s' q call b ≡ would_block s q call b)
+-- no signal is pending that would end a wait
+abbrev pub is_quiet : Option Entry → Bool
+is_quiet e = not (is_killed e) && not (is_interrupted e)
+
+-- of a call that waits, unless a signal interrupts it or SIGKILL is pending
+no_turn : (waits killed interrupted : Bool) → (not (waits && not interrupted) || killed) ≡ false → (waits && (not killed && not interrupted)) ≡ true
+no_turn false killed interrupted e = absurd (cc e)
+no_turn true true true e = absurd (cc e)
+no_turn true true false e = absurd (cc e)
+no_turn true false true e = absurd (cc e)
+no_turn true false false e = refl
+
+then_no_turn : (waits killed interrupted : Bool) → (waits && (not killed && not interrupted)) ≡ true → (not (waits && not interrupted) || killed) ≡ false
+then_no_turn false killed interrupted e = absurd (cc e)
+then_no_turn true true interrupted e = absurd (cc e)
+then_no_turn true false true e = absurd (cc e)
+then_no_turn true false false e = refl
+
+-- a process stays blocked where its call still waits and no signal has come
+pub blocked_on : (s s' : Shared) (q : ℕ) → ((call : Call) (b : UserState) → would_block s' q call b ≡ would_block s q call b)
     → ((call : Call) → process_would_block s q call ≡ true → process_would_block s' q call ≡ true)
     → (is_quiet (maps.get s.entries q) ≡ true → is_quiet (maps.get s'.entries q) ≡ true)
-    → (task : Task UserState) → rests s q task ≡ true → rests s' q task ≡ true
-unfolding rests
-rests_on s s' q waits awaits quiet (Alive b Born) e = e
-rests_on s s' q waits awaits quiet (Alive b Run) e = e
-rests_on s s' q waits awaits quiet (Alive b (Faulting signal cause)) e = e
-rests_on s s' q waits awaits quiet (Alive b (Entered joined)) e = e
-rests_on s s' q waits awaits quiet (Alive b (Doing call)) e =
+    → (task : Task UserState) → IsBlocked s q task → IsBlocked s' q task
+unfolding can_turn blocks
+blocked_on s s' q waits awaits quiet (Alive b Born) e = absurd (cc e)
+blocked_on s s' q waits awaits quiet (Alive b Run) e = absurd (cc e)
+blocked_on s s' q waits awaits quiet (Alive b (Faulting signal cause)) e = absurd (cc e)
+blocked_on s s' q waits awaits quiet (Alive b (Entered joined)) e = absurd (cc e)
+blocked_on s s' q waits awaits quiet (Alive b (Doing call)) e =
     let file = would_block s q call b in
     let file' = would_block s' q call b in
     let process = process_would_block s q call in
     let process' = process_would_block s' q call in
-    let h = both (file || process) (is_quiet (maps.get s.entries q)) e in
-    join (file' || process') (is_quiet (maps.get s'.entries q)) (either_kept file process file' process' (waits call b) (awaits call) h.0) (quiet h.1)
-rests_on s s' q waits awaits quiet (Alive b (Replaced call x)) e = e
-rests_on s s' q waits awaits quiet (Alive b (Acted call x replaced)) e = e
-rests_on s s' q waits awaits quiet (Alive b Finished) e = e
-rests_on s s' q waits awaits quiet (Alive b (Taken signal cause)) e = e
-rests_on s s' q waits awaits quiet (Alive b Dropped) e = e
-rests_on s s' q waits awaits quiet (Dying w) e = e
-rests_on s s' q waits awaits quiet Gone e = e
+    let entry = maps.get s.entries q in
+    let entry' = maps.get s'.entries q in
+    let h = both (file || process) (is_quiet entry) (no_turn (file || process) (is_killed entry) (is_interrupted entry) e) in
+    then_no_turn (file' || process') (is_killed entry') (is_interrupted entry')
+    (join (file' || process') (is_quiet entry') (either_kept file process file' process' (waits call b) (awaits call) h.0) (quiet h.1))
+blocked_on s s' q waits awaits quiet (Alive b (Replaced call x)) e = absurd (cc e)
+blocked_on s s' q waits awaits quiet (Alive b (Acted call x replaced)) e = absurd (cc e)
+blocked_on s s' q waits awaits quiet (Alive b Finished) e = absurd (cc e)
+blocked_on s s' q waits awaits quiet (Alive b (Taken signal cause)) e = absurd (cc e)
+blocked_on s s' q waits awaits quiet (Alive b Dropped) e = absurd (cc e)
+blocked_on s s' q waits awaits quiet (Dying w) e = absurd (cc e)
+blocked_on s s' q waits awaits quiet Gone e = refl
 
 -- Descriptors
 

@@ -1,5 +1,5 @@
 -- Which calls block, and which processes can take a turn that changes something.
-use Rattle.std.specs.Prelude.{ℕ, Bool, true, false, not, ◌&&◌, ◌||◌}
+use Rattle.std.specs.Prelude.{◌≡◌, ℕ, Bool, true, false, not, ◌&&◌, ◌||◌}
 use Rattle.std.specs.FinMap as maps
 use Rattle.lx_abi.specs.declared.log.Call.{Call}
 use Rattle.lx_model.specs.declared.stage.Stage.{Stage}
@@ -33,6 +33,10 @@ waits s p b Dropped = false
 
 -- a turn of the process does something
 unfoldable pub can_turn : Shared → ℕ → Task UserState → Bool
-can_turn s p (Alive b stage) = is_killed (maps.get s.entries p) || not (waits s p b stage)
+can_turn s p (Alive b stage) = not (waits s p b stage) || is_killed (maps.get s.entries p)
 can_turn s p (Dying w) = true
 can_turn s p Gone = false
+
+-- the process waits in a call, or is gone
+abbrev pub IsBlocked : Shared → ℕ → Task UserState → Type 0
+IsBlocked s p task = can_turn s p task ≡ false

@@ -1,7 +1,0 @@
-use Rattle.lx_kernel.proofs.Sleeping.{listed_but}
-use Rattle.lx_kernel.proofs.run_queue.RunQueue.rouse.Goals as goal
-
-pub returns-then-roused-pid-clause-listed : goal.returns-then-roused-pid-clause-listed
-returns-then-roused-pid-clause-listed c = λ known.
-    let same = c.sort.ensures.others known in
-    listed_but c.args.self.now c.sort.new.self c.args.shared.now c.args.tasks.now c.args.roused same (c.sort.ensures.itself known) (c.requires same.0)

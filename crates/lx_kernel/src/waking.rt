@@ -1,0 +1,173 @@
+//! Whom the turn of a process wakes: nobody, by a look at where the process stands before the turn and after it.
+
+ghost use Rattle.std.specs.Prelude.{◌≡◌, IfOk, OnErr, IsOkAnd, IsTrue, None, true, false, is_none};
+ghost use Rattle.std.specs.FinMap as maps;
+ghost use Rattle.lx_model.specs.declared.event.PtraceEvent.TheVariants.{Plain};
+ghost use Rattle.lx_model.specs.declared.stage.Task.TheVariants.{Gone};
+ghost use Rattle.lx_model.specs.Turn.{turn};
+ghost use Rattle.lx_turn.specs.Injection.{choice_of_task};
+ghost use Rattle.lx_turn.specs.Linux.{linux};
+ghost use Rattle.lx_turn.specs.Modes.{task_mode as task_mode_of};
+ghost use Rattle.lx_turn.specs.Turned.{turned, unboxed, is_gone};
+ghost use Rattle.lx_kernel.specs.Waking.{is_calm_number as is_calm_number_of, is_calm_task, calm_after, Calms};
+ghost use Rattle.lx_kernel.specs.Waking.{told_by, told_in};
+
+use lx_abi::{Item, Mode, calls, sys};
+use lx_model::{PtraceEvent, Stage, Task};
+use lx_proc::{Shared, UserState};
+use lx_turn::{Injection, Transition, turn_task};
+use std::alloc::{AllocError, Global};
+
+/// A turn that was taken: where its process stood before and stands after it, what was done beside, and what the run
+/// queue asks of it.
+#[derive(Drop)]
+pub struct TurnTaken {
+    pub before: Option<Mode>,
+    pub after: Option<Mode>,
+    pub done: PtraceEvent<Box<UserState>>,
+    /// The process is gone.
+    pub gone: bool,
+    /// No other process that was blocked can take a turn now, but for one that is told.
+    pub calm: bool,
+    /// Who is told that the process has ended; itself where nobody is.
+    pub told: u32,
+    /// The process is in a call that may wait.
+    pub may_wait: bool,
+}
+
+impl TurnTaken {
+    /// The turn of a process without a part of its own.
+    pub fn absent(pid: u32, mode: Option<Mode>) -> Self
+        ensures { result ≡ record {
+          before = mode;
+          after = mode;
+          done = PtraceEvent.Plain;
+          gone = true;
+          calm = true;
+          told = pid;
+          may_wait = false;
+        } }
+    {
+        TurnTaken {
+            before: mode,
+            after: mode,
+            done: PtraceEvent::Plain,
+            gone: true,
+            calm: true,
+            told: pid,
+            may_wait: false,
+        }
+    }
+}
+
+/// No process has the pid.
+fn is_free(shared: &Shared, pid: u32) -> bool
+    ensures { result ≡ is_none (maps.get shared.now.entries pid) }
+{
+    shared.entries.get(pid).is_none()
+}
+
+/// A call that leaves the descriptors, the signals and the children of each other process as they are, under the next
+/// child's pid.
+fn leaves_others(shared: &Shared, child: u32, number: u64) -> bool
+    ensures { result ≡ is_calm_number_of shared.now child number }
+{
+    calls::is_calm(number) || (number == sys::SYS_CLONE && is_free(shared, child))
+}
+
+/// A turn from where the process stands wakes no other, where it lives on.
+fn is_calm(shared: &Shared, child: u32, task: &Task<UserState>) -> bool
+    ensures { result ≡ is_calm_task shared.now child task.now }
+{
+    match task {
+        Task::Alive {
+            stage: Stage::Doing { call },
+            ..
+        } => leaves_others(shared, child, call.number),
+        _ => true,
+    }
+}
+
+/// A process's parent.
+fn parent_of(shared: &Shared, pid: u32) -> u32
+    ensures { result ≡ told_by pid (maps.get shared.now.entries pid) }
+{
+    match shared.entries.get(pid) {
+        None => pid,
+        Some(entry) => entry.parent,
+    }
+}
+
+/// Who is told by a turn of the process that it has ended.
+fn told_of(shared: &Shared, pid: u32, task: &Task<UserState>) -> u32
+    ensures { result ≡ told_in shared.now pid task.now }
+{
+    match task {
+        Task::Dying { .. } => parent_of(shared, pid),
+        Task::Alive { .. } | Task::Gone => pid,
+    }
+}
+
+/// A turn was calm that left its process so.
+fn was_calm(task: &Task<UserState>, calm: bool, ends_kept: bool) -> bool
+    ensures { result ≡ calm_after task.now calm ends_kept }
+{
+    match task {
+        Task::Alive { .. } => calm,
+        Task::Dying { .. } => ends_kept,
+        Task::Gone => true,
+    }
+}
+
+/// The process is in a call that may wait: a read, a write or a wait4.
+fn may_wait(task: &Task<UserState>) -> bool {
+    match task {
+        Task::Alive {
+            stage: Stage::Doing { call },
+            ..
+        } => calls::may_wait(call.number),
+        _ => false,
+    }
+}
+
+/// One turn of a process with a part of its own, what it logs, and whom it wakes.
+pub fn take_turn(
+    alloc: Global,
+    shared: &mut Shared,
+    injection: &Injection,
+    child: u32,
+    pid: u32,
+    task: &mut Task<UserState>,
+    item: &mut Option<Item>,
+) -> Result<TurnTaken, AllocError>
+    requires { item.old ≡ None }
+    ensures turned { IfOk result (λ t. turned (turn linux
+        (choice_of_task injection.now pid task.old) shared.old child pid task.old) ≡
+        record { shared = shared.new; task = task.new; item = item.new; event = unboxed t.done }) }
+    ensures before { IfOk result (λ t. t.before ≡ task_mode_of (maps.get shared.old.entries pid) task.old) }
+    ensures after { IfOk result (λ t. t.after ≡ task_mode_of (maps.get shared.new.entries pid) task.new) }
+    ensures gone { IfOk result (λ t. t.gone ≡ is_gone task.new) }
+    ensures calm { IfOk result (λ t. IsTrue t.calm → Calms shared.old shared.new child pid t.told (unboxed t.done)) }
+    ensures absent { task.old ≡ Gone → IsOkAnd result (λ t. (item.new ≡ None) × (unboxed t.done ≡ Plain)) }
+    ensures console { OnErr result (shared.new.console ≡ shared.old.console) }
+{
+    let calm = is_calm(shared, child, task);
+    let told = told_of(shared, pid, task);
+    let transition = turn_task(alloc, shared, injection, child, pid, task, item)?;
+    let Transition {
+        before,
+        after,
+        done,
+        gone,
+        ends_kept,
+    } = transition;
+    Ok(TurnTaken {
+        before,
+        after,
+        done,
+        gone,
+        calm: was_calm(task, calm, ends_kept),
+        told,
+        may_wait: may_wait(task),
+    })
+}
