@@ -1,9 +1,9 @@
 -- Processes that end, and that are born, keep a state sound.
-use Rattle.std.proofs.Common.{◌≡◌, ℕ, suc, ◌+◌, ◌≤◌, ◌&&◌, ◌⊎◌, ⊎_elim, Bool, true, false, cond, List, [], ◌∷◌, Option, Some, None, refl, ap, sym, subst, ◌∙◌, arith}
+use Rattle.std.proofs.Common.{◌≡◌, ℕ, zero, suc, ◌+◌, ◌<◌, ◌≤◌, ◌&&◌, ◌⊎◌, inl, inr, ⊎_elim, Bool, true, false, cond, List, [], ◌∷◌, Option, Some, None, refl, ap, sym, subst, ◌∙◌, arith}
 use Rattle.std.proofs.lemmas.Bool.Decides.{nat_tests}
-use Rattle.std.specs.Prelude.{◌==◌, nat_lt, nat_le, fold, max, is_some}
+use Rattle.std.specs.Prelude.{◌==◌, nat_lt, nat_le, fold, max, is_some, IsSome}
 use Rattle.std.proofs.Math.Nat.{le-max_right}
-use Rattle.std.specs.List.{filter}
+use Rattle.std.specs.List.{filter, range_with_len}
 use Rattle.std.specs.Cmp.{nat_cmp_total}
 use Rattle.std.specs.FinMap as maps
 use Rattle.lx_model.specs.Kernel.{put}
@@ -11,7 +11,13 @@ use Rattle.lx_model.specs.declared.stage.Stage.{Stage}
 use Rattle.lx_model.specs.declared.stage.Stage.TheVariants.{Born}
 use Rattle.lx_model.specs.declared.stage.Task.{Task}
 use Rattle.lx_model.specs.declared.stage.Task.TheVariants as task
-use Rattle.lx_open.specs.Releases.{all_closed}
+use Rattle.lx_abi.specs.Limits.{most_fds}
+use Rattle.lx_files.specs.declared.tree.Tree.{Tree}
+use Rattle.lx_open.specs.Kinds.{SlotMap, DescriptionMap}
+use Rattle.lx_open.specs.Opens.{pair, inherited_slot, inherited_each, inherited}
+use Rattle.lx_open.specs.Releases.{Held, all_closed}
+use Rattle.lx_open.specs.declared.description.Slot.{Slot}
+use Rattle.lx_open.specs.declared.fd_table.FdTable.{FdTable}
 use Rattle.lx_proc.specs.declared.state.Entry.{Entry}
 use Rattle.lx_proc.specs.declared.state.Life.{Life}
 use Rattle.lx_proc.specs.declared.state.Life.TheVariants.{Alive, Dying, Zombie}
@@ -21,11 +27,15 @@ use Rattle.lx_proc.specs.State.{Entries, changed, changed_entry, with_entries, w
 use Rattle.lx_proc.specs.Families.{is_zombie}
 use Rattle.lx_proc.specs.WaitWords.{Words}
 use Rattle.lx_pcalls.specs.Clone.{has_room, with_child, child_entry}
-use Rattle.lx_pcalls.specs.Ends.{with_life, dies, orphan, released_entry, released, orphaned, told, wants_no_news, retired_by, buried_entry, buried}
+use Rattle.lx_pcalls.specs.Ends.{with_life, sigchld, cause_of_end, dies, orphan, released_entry, released, orphaned, told, wants_no_news, retired_by, buried_entry, buried}
+use Rattle.lx_sound.specs.Parts.{is_alive, lives, EntrySound, EntriesSound, AreOwned, PartsSound}
 use Rattle.lx_sound.specs.Sound.{Agree, HasWord, Sound}
 use Rattle.lx_sound.proofs.Maps.{inserted, there_now, removed, inserted_other, removed_other}
 use Rattle.lx_sound.proofs.Together.{inherited_together, all_closed_together}
-use Rattle.lx_sound.proofs.Keeping.{SameEntry, SameEntries, put_len, take_len, entries_stay, entries_then, put_same, taken_same, gone, changed_same, kept_sound, entries_keep}
+use Rattle.lx_sound.proofs.Fewer.{all_closed_fewer, none_left}
+use Rattle.lx_sound.proofs.Entries.{SameEntry, SameEntries, put_len, take_len, entries_stay, entries_then, put_same, taken_same, gone, changed_same, put_sound, taken_sound, changed_sound, received_sound}
+use Rattle.lx_sound.proofs.Changes.{Loses, parts_done}
+use Rattle.lx_sound.proofs.Keeping.{kept_sound, entries_keep}
 
 abbrev Tasks : Type 0
 Tasks = ℕ → Task UserState
@@ -45,7 +55,7 @@ alive_agrees None b c stage next h = h
 alive_agrees (Some e) b c stage next h = h
 
 pub stands : (s : Shared) (tasks : Tasks) (child p : ℕ) (b c : UserState) (stage next : Stage) → tasks p ≡ task.Alive b stage → Sound s tasks child → Sound s (put tasks p (task.Alive c next)) child
-stands s tasks child p b c stage next is h = record { files = h.files; agree = λ q. go q (p == q) refl; words = h.words; pids = h.pids; live = h.live; last = h.last }
+stands s tasks child p b c stage next is h = record { parts = h.parts; agree = λ q. go q (p == q) refl; words = h.words; pids = h.pids; live = h.live; last = h.last }
   where
     go : (q : ℕ) (t : Bool) → (p == q) ≡ t → Agree (maps.get s.entries q) (cond t (task.Alive c next) (tasks q))
     go q false other = h.agree q
@@ -54,7 +64,7 @@ stands s tasks child p b c stage next is h = record { files = h.files; agree = �
         subst (λ i. Agree (maps.get s.entries i) (task.Alive c next)) same (alive_agrees (maps.get s.entries p) b c stage next (subst (Agree (maps.get s.entries p)) is (h.agree p)))
 
 pub stays_gone : (s : Shared) (tasks : Tasks) (child p : ℕ) → tasks p ≡ task.Gone → Sound s tasks child → Sound s (put tasks p task.Gone) child
-stays_gone s tasks child p is h = record { files = h.files; agree = λ q. go q (p == q) refl; words = h.words; pids = h.pids; live = h.live; last = h.last }
+stays_gone s tasks child p is h = record { parts = h.parts; agree = λ q. go q (p == q) refl; words = h.words; pids = h.pids; live = h.live; last = h.last }
   where
     go : (q : ℕ) (t : Bool) → (p == q) ≡ t → Agree (maps.get s.entries q) (cond t task.Gone (tasks q))
     go q false other = h.agree q
@@ -66,9 +76,9 @@ stays_gone s tasks child p is h = record { files = h.files; agree = λ q. go q (
 
 module _ (s : Shared) (tasks : Tasks) (child p : ℕ) (h : Sound s tasks child) (old x : Entry) (next : Task UserState) where
   pub relived : maps.get s.entries p ≡ Some old → Agree (Some x) next → (words : Words) → ((q : ℕ) → (q == p) ≡ false → maps.get words q ≡ maps.get s.ended q) → HasWord words p x.life
-      → (t : Shared) → t.entries ≡ maps.insert s.entries p x → t.ended ≡ words → t.tree ≡ s.tree → t.fds ≡ s.fds → t.limits ≡ s.limits → Sound t (put tasks p next) child
-  relived is agrees words others has t es ws ts fs ls = record {
-    files = rw (ts, fs) h.files;
+      → (t : Shared) → PartsSound t → t.entries ≡ maps.insert s.entries p x → t.ended ≡ words → t.limits ≡ s.limits → Sound t (put tasks p next) child
+  relived is agrees words others has t parts es ws ls = record {
+    parts = parts;
     agree = λ q. subst (λ (m : Entries). Agree (maps.get m q) (put tasks p next q)) (sym es) (agree_at q (p == q) refl);
     words = λ q e e_is. subst (λ (w : Words). HasWord w q e.life) (sym ws) (words_at q e (q == p) refl (ap (λ (m : Entries). maps.get m q) (sym es) ∙ e_is));
     pids = λ q le. ap (λ (m : Entries). maps.get m q) es ∙ pids_at q (q == p) refl le;
@@ -99,20 +109,73 @@ module _ (s : Shared) (tasks : Tasks) (child p : ℕ) (h : Sound s tasks child) 
 
 -- A process that enters Dying.
 
-abbrev closed : Shared → ℕ → Shared
-closed s p = with_held s (all_closed s.tree s.fds p)
+-- a process of another life, which has no descriptors
+relived_parts : (s : Shared) (p : ℕ) (l : Life) → PartsSound s → ((fd : ℕ) → fd < most_fds → maps.get s.fds.slots (pair p fd) ≡ None)
+    → (t : Shared) → t.tree ≡ s.tree → t.fds ≡ s.fds → t.console ≡ s.console → t.entries ≡ changed s.entries p (λ e. with_life e l) → PartsSound t
+relived_parts s p l h none t tree fds console es = record {
+  files = rw (tree, fds) h.files;
+  rooted = rw tree h.rooted;
+  entries = rw (tree, es) (changed_sound s.tree s.entries p (λ e. with_life e l) (λ e sound. record { directory = sound.directory }) h.entries);
+  owned = rw (fds, es) owned;
+  within = record { nodes = rw tree h.within.nodes; files = rw tree h.within.files; contents = rw (tree, console) h.within.contents; offsets = rw fds h.within.offsets };
+}
+  where
+    elsewhere : (q : ℕ) → (q == p) ≡ false → (o : Option Entry) → lives (maps.get s.entries q) ≡ true → lives (maps.get (changed_entry s.entries p (λ e. with_life e l) o) q) ≡ true
+    elsewhere q other None alive = alive
+    elsewhere q other (Some e) alive = ap lives (inserted_other s.entries p (with_life e l) q other) ∙ alive
+
+    owned : AreOwned s.fds (changed s.entries p (λ e. with_life e l))
+    owned q fd below there = go (q == p) refl
+      where
+        go : (b : Bool) → (q == p) ≡ b → lives (maps.get (changed s.entries p (λ e. with_life e l)) q) ≡ true
+        go false other = elsewhere q other (maps.get s.entries p) (h.owned q fd below there)
+        go true eq =
+            let same : p ≡ q = grind (arith, nat_tests, eq) in
+            let gone : maps.get s.fds.slots (pair q fd) ≡ None = subst (λ i. maps.get s.fds.slots (pair i fd) ≡ None) same (none fd below) in
+            absurd (cc (gone, there))
+
+died_parts : (s : Shared) (p w : ℕ) → lives (maps.get s.entries p) ≡ true → PartsSound s → PartsSound (dies s p w)
+died_parts s p w alive h =
+    let left : Held = all_closed s.tree s.fds p in
+    relived_parts (with_held s left) p (Dying w) (parts_done s p h alive (Loses left) ((λ x. all_closed_together s.tree s.fds x p), all_closed_fewer s.tree s.fds p)) (λ fd below. none_left s.tree s.fds p fd below)
+    (dies s p w) refl refl refl refl
+
+-- who doesn't live has no descriptors
+no_slots : (s : Shared) (p : ℕ) → PartsSound s → lives (maps.get s.entries p) ≡ false → (fd : ℕ) → fd < most_fds → maps.get s.fds.slots (pair p fd) ≡ None
+no_slots s p h dead fd below = go (maps.get s.fds.slots (pair p fd)) refl
+  where
+    go : (o : Option Slot) → maps.get s.fds.slots (pair p fd) ≡ o → o ≡ None
+    go None is = refl
+    go (Some x) is = let alive : lives (maps.get s.entries p) ≡ true = h.owned p fd below (ap is_some is) in absurd (cc (alive, dead))
+
+dying_dead : (o : Option Entry) (w : ℕ) → Agree o (task.Dying w) → lives o ≡ false
+dying_dead None w agrees = refl
+dying_dead (Some e) w agrees = ap is_alive agrees
+
+left_parts : (s : Shared) (p : ℕ) → PartsSound s → lives (maps.get s.entries p) ≡ false → PartsSound (with_entries s (maps.remove s.entries p))
+left_parts s p h dead = record {
+  files = h.files;
+  rooted = h.rooted;
+  entries = taken_sound s.tree s.entries p h.entries;
+  owned = λ q fd below there. go q (q == p) refl (h.owned q fd below there);
+  within = record { nodes = h.within.nodes; files = h.within.files; contents = h.within.contents; offsets = h.within.offsets };
+}
+  where
+    go : (q : ℕ) (b : Bool) → (q == p) ≡ b → lives (maps.get s.entries q) ≡ true → lives (maps.get (maps.remove s.entries p) q) ≡ true
+    go q false other alive = ap lives (removed_other s.entries p q other) ∙ alive
+    go q true eq alive =
+        let same : p ≡ q = grind (arith, nat_tests, eq) in
+        let none : lives (maps.get s.entries q) ≡ false = subst (λ i. lives (maps.get s.entries i) ≡ false) same dead in
+        absurd (cc (none, alive))
 
 pub dies_sound : (s : Shared) (tasks : Tasks) (child p w : ℕ) (b : UserState) (stage : Stage) → tasks p ≡ task.Alive b stage → Sound s tasks child → Sound (dies s p w) (put tasks p (task.Dying w)) child
 dies_sound s tasks child p w b stage is h = go (maps.get s.entries p) refl (subst (Agree (maps.get s.entries p)) is (h.agree p))
   where
-    shut : Sound (closed s p) tasks child
-    shut = record { files = all_closed_together s.tree s.fds h.files p; agree = h.agree; words = h.words; pids = h.pids; live = h.live; last = h.last }
-
     go : (o : Option Entry) → maps.get s.entries p ≡ o → Agree o (task.Alive b stage) → Sound (dies s p w) (put tasks p (task.Dying w)) child
     go None none agrees = absurd agrees
     go (Some e) there agrees =
-        relived (closed s p) tasks child p shut e (with_life e (Dying w)) (task.Dying w) there refl (maps.insert s.ended p w) (λ q other. inserted_other s.ended p w q other) (there_now nat_cmp_total s.ended p w)
-        (dies s p w) (ap (changed_entry s.entries p (λ x. with_life x (Dying w))) there) refl refl refl refl
+        relived s tasks child p h e (with_life e (Dying w)) (task.Dying w) there refl (maps.insert s.ended p w) (λ q other. inserted_other s.ended p w q other) (there_now nat_cmp_total s.ended p w)
+        (dies s p w) (died_parts s p w (ap lives there ∙ ap is_alive agrees) h.parts) (ap (changed_entry s.entries p (λ x. with_life x (Dying w))) there) refl refl
 
 -- A process that leaves Dying.
 
@@ -145,12 +208,37 @@ orphaned_same : (m : Entries) (p : ℕ) → SameEntries m (orphaned m p)
 unfolding orphaned
 orphaned_same m p = each_same p m (filter (nat_lt 0) (maps.keys m))
 
+-- and each is sound still
+orphan_sound : (tree : Tree) (m : Entries) (c : ℕ) (e : Entry) → EntrySound tree e → EntriesSound tree m → (z : Bool) → EntriesSound tree (orphan m c e z)
+orphan_sound tree m c e sound h true = taken_sound tree m c h
+orphan_sound tree m c e sound h false = put_sound tree m c (record e { parent = 0 }) (record { directory = sound.directory }) h
+
+released_sound : (tree : Tree) (p : ℕ) (m : Entries) (c : ℕ) → EntriesSound tree m → EntriesSound tree (released p m c)
+unfolding released
+released_sound tree p m c h = go (maps.get m c) refl
+  where
+    either : (e : Entry) (t : Bool) → EntrySound tree e → EntriesSound tree (cond t (orphan m c e (is_zombie e.life)) m)
+    either e true sound = orphan_sound tree m c e sound h (is_zombie e.life)
+    either e false sound = h
+
+    go : (o : Option Entry) → maps.get m c ≡ o → EntriesSound tree (released_entry m p c o)
+    go None is = h
+    go (Some e) is = either e (e.parent == p) (h c e is)
+
+each_sound : (tree : Tree) (p : ℕ) (m : Entries) (cs : List ℕ) → EntriesSound tree m → EntriesSound tree (fold (released p) m cs)
+each_sound tree p m [] h = h
+each_sound tree p m (c ∷ cs) h = each_sound tree p (released p m c) cs (released_sound tree p m c h)
+
+orphaned_sound : (tree : Tree) (m : Entries) (p : ℕ) → EntriesSound tree m → EntriesSound tree (orphaned m p)
+unfolding orphaned
+orphaned_sound tree m p h = each_sound tree p m (filter (nat_lt 0) (maps.keys m)) h
+
 -- it leaves the table
-leaves_sound : (s : Shared) (tasks : Tasks) (child p : ℕ) → Sound s tasks child → Sound (with_entries s (maps.remove s.entries p)) (put tasks p task.Gone) child
-leaves_sound s tasks child p h = record {
-  files = h.files;
+leaves_sound : (s : Shared) (tasks : Tasks) (child p w : ℕ) → tasks p ≡ task.Dying w → Sound s tasks child → Sound (with_entries s (maps.remove s.entries p)) (put tasks p task.Gone) child
+leaves_sound s tasks child p w is h = record {
+  parts = left_parts s p h.parts (dying_dead (maps.get s.entries p) w (subst (Agree (maps.get s.entries p)) is (h.agree p)));
   agree = λ q. agree_at q (p == q) refl;
-  words = λ q e is. h.words q e (removed nat_cmp_total s.entries p q e is);
+  words = λ q e there. h.words q e (removed nat_cmp_total s.entries p q e there);
   pids = λ q le. pids_at q (q == p) refl le;
   live = let fewer = take_len s.entries p in let live = h.live in omega (arith, fewer, live);
   last = h.last;
@@ -175,20 +263,22 @@ waits_sound s tasks child p w is h = go (maps.get s.entries p) refl (subst (Agre
     go None none agrees = absurd agrees
     go (Some e) there agrees =
         relived s tasks child p h e (with_life e (Zombie w)) task.Gone there (w, refl) s.ended (λ q other. refl) (subst (HasWord s.ended p) agrees (h.words p e there))
-        (with_entries s (changed s.entries p (λ e. with_life e (Zombie w)))) (ap (changed_entry s.entries p (λ x. with_life x (Zombie w))) there) refl refl refl refl
+        (with_entries s (changed s.entries p (λ e. with_life e (Zombie w))))
+        (relived_parts s p (Zombie w) h.parts (no_slots s p h.parts (ap lives there ∙ ap is_alive agrees)) (with_entries s (changed s.entries p (λ e. with_life e (Zombie w)))) refl refl refl refl)
+        (ap (changed_entry s.entries p (λ x. with_life x (Zombie w))) there) refl refl
 
 abbrev told_in : Shared → ℕ → ℕ → ℕ → Shared
 told_in s p w parent = with_entries s (changed s.entries parent (λ x. told x p w))
 
 retired_sound : (s : Shared) (tasks : Tasks) (child p w parent : ℕ) (o : Option Entry) → tasks p ≡ task.Dying w → Sound s tasks child → Sound (with_entries s (retired_by s.entries p w parent o)) (put tasks p task.Gone) child
-retired_sound s tasks child p w parent None is h = leaves_sound s tasks child p h
+retired_sound s tasks child p w parent None is h = leaves_sound s tasks child p w is h
 retired_sound s tasks child p w parent (Some e) is h = go (wants_no_news e)
   where
     go : (t : Bool) → Sound (with_entries s (cond t (maps.remove s.entries p) (changed (changed s.entries parent (λ x. told x p w)) p (λ x. with_life x (Zombie w))))) (put tasks p task.Gone) child
-    go true = leaves_sound s tasks child p h
+    go true = leaves_sound s tasks child p w is h
     go false =
         waits_sound (told_in s p w parent) tasks child p w is
-        (kept_sound s (told_in s p w parent) tasks child (entries_keep s (changed s.entries parent (λ x. told x p w)) (changed_same s.entries parent (λ x. told x p w) (λ x. refl))) h)
+        (kept_sound s (told_in s p w parent) tasks child (entries_keep s (changed s.entries parent (λ x. told x p w)) (changed_same s.entries parent (λ x. told x p w) (λ x. refl)) (changed_sound s.tree s.entries parent (λ x. told x p w) (λ x sound. received_sound s.tree x sigchld (cause_of_end p w) sound))) h)
 
 pub buried_sound : (s : Shared) (tasks : Tasks) (child p w : ℕ) → tasks p ≡ task.Dying w → Sound s tasks child → Sound (buried s p w) (put tasks p task.Gone) child
 unfolding buried
@@ -199,7 +289,7 @@ buried_sound s tasks child p w is h = go (maps.get s.entries p) (subst (Agree (m
     go (Some e) agrees =
         let m : Entries = orphaned s.entries p in
         retired_sound (with_entries s m) tasks child p w e.parent (maps.get m e.parent) is
-        (kept_sound s (with_entries s m) tasks child (entries_keep s m (orphaned_same s.entries p)) h)
+        (kept_sound s (with_entries s m) tasks child (entries_keep s m (orphaned_same s.entries p) (orphaned_sound s.tree s.entries p)) h)
 
 -- A process that is born.
 
@@ -226,9 +316,68 @@ born_last s child room =
     let most = most_1 s.limits.last_pid in
     grind (arith, nat_tests, le, most)
 
-pub bears_sound : (s : Shared) (tasks : Tasks) (child p : ℕ) (e : Entry) (newborn : UserState) → has_room s child ≡ true → Sound s tasks child → Sound (with_child s child p (child_entry e p)) (put tasks child (task.Alive newborn Born)) (suc child)
-bears_sound s tasks child p e newborn room h = record {
+-- a child's descriptors are its own
+AllBelow : List ℕ → Type 0
+AllBelow [] = Unit {0}
+AllBelow (n ∷ ns) = (n < most_fds) × AllBelow ns
+
+range_below : (a n : ℕ) → a + n ≤ most_fds → AllBelow (range_with_len a n)
+unfolding AllBelow
+range_below a zero le = tt
+range_below a (suc n) le = (omega (arith, le), range_below (a + 1) n (omega (arith, le)))
+
+abbrev HasOwner : Entries → SlotMap → ℕ → Type 0
+HasOwner m slots child = (q fd : ℕ) → fd < most_fds → IsSome (maps.get slots (pair q fd)) → (lives (maps.get m q) ≡ true) ⊎ (q ≡ child)
+
+inherits_owned : (m : Entries) (slots : SlotMap) (child fd : ℕ) (o : Option Slot) → fd < most_fds → HasOwner m slots child → HasOwner m (inherited_slot slots child fd o) child
+inherits_owned m slots child fd None below h q n less there = h q n less there
+inherits_owned m slots child fd (Some x) below h q n less there = go (pair q n == pair child fd) refl
+  where
+    go : (b : Bool) → (pair q n == pair child fd) ≡ b → (lives (maps.get m q) ≡ true) ⊎ (q ≡ child)
+    go true eq = let key : pair q n ≡ pair child fd = grind (arith, nat_tests, eq) in inr (omega (arith, key, below, less))
+    go false other = h q n less (subst (λ (o : Option Slot). IsSome o) (inserted_other slots (pair child fd) x (pair q n) other) there)
+
+each_owned : (m : Entries) (slots : SlotMap) (parent child : ℕ) (ns : List ℕ) → AllBelow ns → HasOwner m slots child → HasOwner m (inherited_each slots parent child ns) child
+unfolding inherited_each AllBelow
+each_owned m slots parent child [] below h = h
+each_owned m slots parent child (fd ∷ ns) below h =
+    each_owned m (inherited_slot slots child fd (maps.get slots (pair parent fd))) parent child ns below.1 (inherits_owned m slots child fd (maps.get slots (pair parent fd)) below.0 h)
+
+inherited_owned : (m : Entries) (fds : FdTable) (parent child : ℕ) → AreOwned fds m → HasOwner m (inherited fds parent child).slots child
+unfolding inherited
+inherited_owned m fds parent child h = each_owned m fds.slots parent child (range_with_len 0 most_fds) (range_below 0 most_fds (omega arith)) (λ q fd below there. inl (h q fd below there))
+
+inherited_described : (fds : FdTable) (parent child : ℕ) → (inherited fds parent child).descriptions ≡ fds.descriptions
+unfolding inherited
+inherited_described fds parent child = refl
+
+born_parts : (s : Shared) (child p : ℕ) (e : Entry) → EntrySound s.tree (child_entry e p) → PartsSound s → PartsSound (with_child s child p (child_entry e p))
+born_parts s child p e sound h = record {
   files = inherited_together s.tree s.fds h.files p child;
+  rooted = h.rooted;
+  entries = put_sound s.tree s.entries child (child_entry e p) sound h.entries;
+  owned = λ q fd below there. owned q (inherited_owned s.entries s.fds p child h.owned q fd below there);
+  within = record {
+    nodes = h.within.nodes;
+    files = h.within.files;
+    contents = h.within.contents;
+    offsets = λ n d is. h.within.offsets n d (subst (λ (m : DescriptionMap). maps.get m n ≡ Some d) (inherited_described s.fds p child) is);
+  };
+}
+  where
+    newborn : (q : ℕ) → q ≡ child → lives (maps.get (maps.insert s.entries child (child_entry e p)) q) ≡ true
+    newborn q same = ap (λ i. lives (maps.get (maps.insert s.entries child (child_entry e p)) i)) same ∙ ap lives (there_now nat_cmp_total s.entries child (child_entry e p))
+
+    owned : (q : ℕ) → (lives (maps.get s.entries q) ≡ true) ⊎ (q ≡ child) → lives (maps.get (maps.insert s.entries child (child_entry e p)) q) ≡ true
+    owned q either = ⊎_elim (λ alive. go (q == child) refl alive) (newborn q) either
+      where
+        go : (b : Bool) → (q == child) ≡ b → lives (maps.get s.entries q) ≡ true → lives (maps.get (maps.insert s.entries child (child_entry e p)) q) ≡ true
+        go false other alive = ap lives (inserted_other s.entries child (child_entry e p) q other) ∙ alive
+        go true eq alive = newborn q (grind (arith, nat_tests, eq))
+
+pub bears_sound : (s : Shared) (tasks : Tasks) (child p : ℕ) (e : Entry) (newborn : UserState) → EntrySound s.tree (child_entry e p) → has_room s child ≡ true → Sound s tasks child → Sound (with_child s child p (child_entry e p)) (put tasks child (task.Alive newborn Born)) (suc child)
+bears_sound s tasks child p e newborn sound room h = record {
+  parts = born_parts s child p e sound h.parts;
   agree = λ q. agree_at q (child == q) refl;
   words = λ q x is. words_at q x (inserted nat_cmp_total s.entries child (child_entry e p) q x is);
   pids = λ q le. inserted_other s.entries child (child_entry e p) q (let above = le in grind (arith, nat_tests, above)) ∙ h.pids q (omega (arith, le));

@@ -1,7 +1,13 @@
 pub mod Maps
+pub mod Paths
+pub mod Trees
+pub mod Fewer
 pub mod Together
+pub mod Entries
+pub mod Changes
 pub mod Keeping
 pub mod Files
 pub mod Processes
 pub mod Ends
+pub mod Booted
 pub mod Turns

@@ -13,6 +13,7 @@ use Rattle.lx_abi.specs.Errnos.{eagain, echild, einval, enomem, enoexec, e2big, 
 use Rattle.lx_abi.specs.declared.log.Call.{Call}
 use Rattle.lx_abi.specs.declared.outcome.Node.{Node}
 use Rattle.lx_abi.specs.declared.outcome.Node.TheVariants as node
+use Rattle.lx_abi.specs.declared.log.Cause.TheVariants.{Sent}
 use Rattle.lx_abi.specs.declared.signal.Signal.{Signal}
 use Rattle.lx_model.specs.Machine.{Refused, Returns, Jumps, Execs, Bears, Blocks, Ends}
 use Rattle.lx_sig.specs.Calls.{Outcome}
@@ -25,6 +26,7 @@ use Rattle.lx_sig.specs.declared.state.Signals.{Signals}
 use Rattle.lx_files.specs.Places.{place, path_of}
 use Rattle.lx_files.specs.Trees.{node_at}
 use Rattle.lx_files.specs.declared.places.Place.{Place}
+use Rattle.lx_files.specs.declared.tree.Tree.{Tree}
 use Rattle.lx_open.specs.Releases.{Held, closed_on_exec}
 use Rattle.lx_proc.specs.declared.state.Entry.{Entry}
 use Rattle.lx_proc.specs.declared.state.Life.{Life}
@@ -52,21 +54,30 @@ use Rattle.lx_pcalls.specs.RtSigreturn.{rt_sigreturn}
 use Rattle.lx_pcalls.specs.SchedYield.{sched_yield}
 use Rattle.lx_pcalls.specs.Signals.{leaves}
 use Rattle.lx_pcalls.specs.Wait4.{wait4, waits, reaps, may_wait, first_child, word_in}
+use Rattle.lx_sound.specs.Parts.{lives, EntrySound, PartsSound}
 use Rattle.lx_sound.proofs.Together.{exec_together}
-use Rattle.lx_sound.proofs.Keeping.{Keeps, SameEntry, keeps_all, entries_keep, changed_keeps, changed_same, taken_same, DoesKeep, either_kept, unless_kept, given_kept, gives_kept}
+use Rattle.lx_sound.proofs.Fewer.{exec_fewer}
+use Rattle.lx_sound.proofs.Entries.{SameEntry, taken_same, taken_sound, signals_sound, received_sound}
+use Rattle.lx_sound.proofs.Changes.{Loses, done}
+use Rattle.lx_sound.proofs.Keeping.{Keeps, keeps_all, keeps_done, keeps_then, entries_keep, changed_keeps, DoesKeep, KeptIf, either_kept, unless_kept, given_kept, gives_kept}
 
 -- signals of a process are others
 signals_keep : (s : Shared) (p : ℕ) (signals : Signals) → Keeps s (with_signals_at s p signals)
-signals_keep s p signals = changed_keeps s p (λ e. with_signals e signals) (λ e. refl)
+signals_keep s p signals = changed_keeps s p (λ e. with_signals e signals) (λ e. refl) (λ e h. signals_sound s.tree e signals h)
 
 sent_life : (e : Entry) (l : Life) (p : ℕ) (signal : Signal) → (sent_to e l p signal).life ≡ e.life
 sent_life e Alive p signal = refl
 sent_life e (Dying w) p signal = refl
 sent_life e (Zombie w) p signal = refl
 
+sent_sound : (tree : Tree) (e : Entry) (l : Life) (p : ℕ) (signal : Signal) → EntrySound tree e → EntrySound tree (sent_to e l p signal)
+sent_sound tree e Alive p signal h = received_sound tree e signal (Sent p) h
+sent_sound tree e (Dying w) p signal h = h
+sent_sound tree e (Zombie w) p signal h = h
+
 sends_keep : (s : Shared) (p target : ℕ) (signal : Option Signal) → Keeps s (sends s p target signal)
 sends_keep s p target None = keeps_all s
-sends_keep s p target (Some signal) = changed_keeps s target (λ e. sent_to e e.life p signal) (λ e. sent_life e e.life p signal)
+sends_keep s p target (Some signal) = changed_keeps s target (λ e. sent_to e e.life p signal) (λ e. sent_life e e.life p signal) (λ e h. sent_sound s.tree e e.life p signal h)
 
 -- who has a word to be waited for is a zombie
 zombie_leaves : (o : Option Entry) (w : ℕ) → word_in o ≡ Some w → SameEntry o None
@@ -78,16 +89,15 @@ zombie_leaves (Some x) w e = go x.life refl e
     go (Dying v) is h = absurd (cc h)
     go (Zombie v) is h = (v, is)
 
-renewed_keeps : (s : Shared) (p : ℕ) → Keeps s (renewed s p)
-renewed_keeps s p =
-    let h : Held = closed_on_exec s.tree s.fds p in record {
-      files = λ x. exec_together s.tree s.fds x p;
-      entries = changed_same s.entries p (λ e. with_signals e (after_exec e.signals)) (λ e. refl);
-      words = refl;
-      limits = refl;
-    }
+renewed_keeps : (s : Shared) (p : ℕ) → lives (maps.get s.entries p) ≡ true → Keeps s (renewed s p)
+renewed_keeps s p alive =
+    let left : Held = closed_on_exec s.tree s.fds p in
+    let shut : Shared = done s p (Loses left) in
+    keeps_then s shut (renewed s p)
+    (keeps_done s p alive (Loses left) ((λ x. exec_together s.tree s.fds x p), exec_fewer s.tree s.fds p))
+    (changed_keeps shut p (λ e. with_signals e (after_exec e.signals)) (λ e. refl) (λ e h. signals_sound left.tree e (after_exec e.signals) h))
 
-module _ (child : ℕ) (s : Shared) (p : ℕ) (call : Call) (b : UserState) where
+module _ (child : ℕ) (s : Shared) (p : ℕ) (call : Call) (b : UserState) (h : PartsSound s) (alive : lives (maps.get s.entries p) ≡ true) where
   abbrev Kept : Answers → Type 0
   Kept a = DoesKeep child s p a
 
@@ -131,7 +141,7 @@ module _ (child : ℕ) (s : Shared) (p : ℕ) (call : Call) (b : UserState) wher
   reaps_kept : (n word : ℕ) → word_in (maps.get s.entries n) ≡ Some word → Kept (reaps s b call n word)
   reaps_kept n word is =
       let left : Shared = with_entries s (maps.remove s.entries n) in
-      let keeps : Keeps s left = entries_keep s (maps.remove s.entries n) (taken_same s.entries n (zombie_leaves (maps.get s.entries n) word is)) in
+      let keeps : Keeps s left = entries_keep s (maps.remove s.entries n) (taken_same s.entries n (zombie_leaves (maps.get s.entries n) word is)) (taken_sound s.tree s.entries n) in
       either_kept child s p (argument call 1 == 0) (Returns left b n) (gives left b (argument call 1) (to_le_bytes w32 word) n) keeps
       (λ e. gives_kept child s p left b (argument call 1) (to_le_bytes w32 word) n keeps)
 
@@ -148,7 +158,7 @@ module _ (child : ℕ) (s : Shared) (p : ℕ) (call : Call) (b : UserState) wher
 
   clone_kept : Kept (clone s child p call b)
   unfolding clone
-  clone_kept = unless_kept child s p (argument call 0 == fork_flags) einval _ (λ e0. given_kept child s p (maps.get s.entries p) esrch (bears s child p call b) (λ e is. unless_kept child s p (has_room s child) eagain _ (λ room. (e, room, refl))))
+  clone_kept = unless_kept child s p (argument call 0 == fork_flags) einval _ (λ e0. given_kept child s p (maps.get s.entries p) esrch (bears s child p call b) (λ e is. unless_kept child s p (has_room s child) eagain _ (λ room. (e, record { directory = (h.entries p e is).directory }, room, refl))))
 
   -- it is refused, or a program begins over what is shared
   abbrev IsProgram : Answers → Type 0
@@ -161,8 +171,8 @@ module _ (child : ℕ) (s : Shared) (p : ℕ) (call : Call) (b : UserState) wher
   IsProgram (Ends w) = ⊥
 
   either_program : (t : Bool) (x y : Answers) → IsProgram x → IsProgram y → IsProgram (cond t x y)
-  either_program true x y h g = h
-  either_program false x y h g = g
+  either_program true x y f g = f
+  either_program false x y f g = g
 
   runs_file_program : (slashed : Bool) (content : List ℕ) (argv env : List (List ℕ)) → IsProgram (runs_file s slashed content argv env)
   runs_file_program true content argv env = tt
@@ -176,12 +186,12 @@ module _ (child : ℕ) (s : Shared) (p : ℕ) (call : Call) (b : UserState) wher
   runs_node_program slashed (Some (node.File content)) argv env = runs_file_program slashed content argv env
 
   given_program : {A : Type 0} (o : Option A) (e : ℕ) (f : A → Answers) → ((x : A) → IsProgram (f x)) → IsProgram (given o e f)
-  given_program None e f h = tt
-  given_program (Some x) e f h = h x
+  given_program None e f g = tt
+  given_program (Some x) e f g = g x
 
   granted_program : (r : Result Place ℕ) (f : Place → Answers) → ((x : Place) → IsProgram (f x)) → IsProgram (granted r f)
-  granted_program (Err e) f h = tt
-  granted_program (Ok x) f h = h x
+  granted_program (Err e) f g = tt
+  granted_program (Ok x) f g = g x
 
   with_path_program : (t : Text) → IsProgram (with_path s p call b t)
   with_path_program Unreadable = tt
@@ -196,13 +206,13 @@ module _ (child : ℕ) (s : Shared) (p : ℕ) (call : Call) (b : UserState) wher
   program_is = with_path_program (text_at b.memory path_limit (argument call 0))
 
   renews_kept : (a : Answers) → IsProgram a → Kept (renews p a)
-  renews_kept (Refused e) h = tt
-  renews_kept (Returns t c x) h = absurd h
-  renews_kept (Jumps t c) h = absurd h
-  renews_kept (Execs t c) h = subst (λ (u : Shared). Keeps s (renewed u p)) (sym h) (renewed_keeps s p)
-  renews_kept (Bears t c newborn) h = absurd h
-  renews_kept Blocks h = absurd h
-  renews_kept (Ends w) h = absurd h
+  renews_kept (Refused e) g = tt
+  renews_kept (Returns t c x) g = absurd g
+  renews_kept (Jumps t c) g = absurd g
+  renews_kept (Execs t c) g = subst (λ (u : Shared). Keeps s (renewed u p)) (sym g) (renewed_keeps s p alive)
+  renews_kept (Bears t c newborn) g = absurd g
+  renews_kept Blocks g = absurd g
+  renews_kept (Ends w) g = absurd g
 
   execve_kept : Kept (execve s p call b)
   unfolding execve
@@ -210,15 +220,14 @@ module _ (child : ℕ) (s : Shared) (p : ℕ) (call : Call) (b : UserState) wher
 
   -- all of them
 
-  abbrev pub KeptIf : Option Answers → Type 0
-  KeptIf None = Unit {0}
-  KeptIf (Some a) = Kept a
+  abbrev KeptIfAny : Option Answers → Type 0
+  KeptIfAny o = KeptIf child s p o
 
-  step : (c : Bool) (a : Answers) (rest : Option Answers) → Kept a → KeptIf rest → KeptIf (cond c (Some a) rest)
-  step true a rest h after = h
-  step false a rest h after = after
+  step : (c : Bool) (a : Answers) (rest : Option Answers) → Kept a → KeptIfAny rest → KeptIfAny (cond c (Some a) rest)
+  step true a rest g after = g
+  step false a rest g after = after
 
-  pub processes_kept : KeptIf (process_call s child p call b)
+  pub processes_kept : KeptIfAny (process_call s child p call b)
   unfolding process_call
   processes_kept =
       step (call.number == 93) (exit call) _ tt

@@ -1,5 +1,5 @@
 -- A turn keeps a state sound, and a boot begins in one.
-use Rattle.std.proofs.Common.{◌≡◌, ℕ, zero, suc, ◌+◌, ◌≤◌, ⊎_elim, Bool, true, false, cond, List, [], ◌∷◌, length, Option, Some, None, is_some, refl, ap, sym, subst, ◌∙◌, arith}
+use Rattle.std.proofs.Common.{◌≡◌, ℕ, zero, suc, ◌+◌, ◌<◌, ◌≤◌, ⊎_elim, Bool, true, false, cond, List, [], ◌∷◌, length, Option, Some, None, is_some, refl, ap, sym, subst, ◌∙◌, arith}
 use Rattle.std.proofs.lemmas.Bool.Decides.{nat_tests}
 use Rattle.std.proofs.Math.Nat.{le-max_left}
 use Rattle.std.specs.Prelude.{max, ◌==◌, fold, take}
@@ -16,15 +16,17 @@ use Rattle.lx_abi.specs.declared.boot.Boot.{Boot}
 use Rattle.lx_abi.specs.declared.boot.GuestFile.{GuestFile}
 use Rattle.lx_abi.specs.declared.log.Call.{Call}
 use Rattle.lx_abi.specs.declared.log.Cause.{Cause}
+use Rattle.lx_abi.specs.declared.log.Cause.TheVariants.{Kernel as By_kernel}
+use Rattle.lx_abi.specs.Limits.{most_fds}
 use Rattle.lx_abi.specs.declared.outcome.Node.TheVariants.{File, Directory}
 use Rattle.lx_abi.specs.declared.script.Choice.{Choice}
 use Rattle.lx_abi.specs.declared.signal.Signal.{Signal}
 use Rattle.lx_files.specs.Boots.{rooted, ends_directory, is_there, with_directory_at, with_directories, with_file, tree_of}
 use Rattle.lx_files.specs.Trees.{created}
 use Rattle.lx_files.specs.declared.tree.Tree.{Tree}
-use Rattle.lx_open.specs.Opens.{no_fds, opened}
+use Rattle.lx_open.specs.Opens.{pair, no_fds}
+use Rattle.lx_open.specs.declared.description.Slot.{Slot}
 use Rattle.lx_open.specs.declared.description.Object.TheVariants.{Input, Console}
-use Rattle.lx_open.specs.declared.fd_table.FdTable.{FdTable}
 use Rattle.lx_model.specs.Machine.{with_result, Refused, Returns, Jumps, Execs, Bears, Blocks, Ends, Took, Passes, Kills}
 use Rattle.lx_model.specs.Turn.{Out, turn, killed_or, lives, joins, stepped, answered, took}
 use Rattle.lx_model.specs.Kernel.{Script, Kernel, traces, choice_at, put, after_turn, with_child, first_kernel, kernel_turn, kernel_run, born}
@@ -33,7 +35,7 @@ use Rattle.lx_model.specs.declared.stage.Stage.{Stage}
 use Rattle.lx_model.specs.declared.stage.Stage.TheVariants.{Born, Run, Faulting, Entered, Doing, Replaced, Acted, Finished, Taken, Dropped}
 use Rattle.lx_model.specs.declared.stage.Task.{Task}
 use Rattle.lx_model.specs.declared.stage.Task.TheVariants as task
-use Rattle.lx_sig.specs.Frames.{frame_fault}
+use Rattle.lx_sig.specs.Frames.{frame_fault, blocking}
 use Rattle.lx_sig.specs.Pending.{without_pending}
 use Rattle.lx_sig.specs.Reactions.{reaction as reaction_to}
 use Rattle.lx_sig.specs.declared.reactions.Reaction.{Reaction}
@@ -44,6 +46,7 @@ use Rattle.lx_proc.specs.declared.state.Shared.{Shared}
 use Rattle.lx_proc.specs.declared.state.UserState.{UserState}
 use Rattle.lx_proc.specs.State.{with_signals}
 use Rattle.lx_proc.specs.Answers.{Answers}
+use Rattle.lx_boot.specs.Boots.{fault_of}
 use Rattle.lx_boot.specs.First.{first_entry, first_fds, first_shared, reads, writes}
 use Rattle.lx_exec.specs.Programs.{booted}
 use Rattle.lx_fcalls.specs.Calls.{file_call}
@@ -54,12 +57,16 @@ use Rattle.lx_turn.specs.Calls.{does, called}
 use Rattle.lx_turn.specs.Linux.{linux}
 use Rattle.lx_turn.specs.Reactions.{next_of, runs, resumed, ran_by, is_killed}
 use Rattle.lx_sound.specs.Together.{HoldTogether}
+use Rattle.lx_sound.specs.Parts.{is_alive, lives as is_living, PartsSound}
 use Rattle.lx_sound.specs.Sound.{Agree, HasWord, Sound, IsSound, TurnsStaySound, KernelsAreSound}
-use Rattle.lx_sound.proofs.Maps.{inserted, inserted_other}
-use Rattle.lx_sound.proofs.Together.{opened_together, created_together}
-use Rattle.lx_sound.proofs.Keeping.{Keeps, keeps_all, keeps_then, changed_keeps, kept_sound, DoesKeep}
-use Rattle.lx_sound.proofs.Files as files
-use Rattle.lx_sound.proofs.Processes as processes
+use Rattle.lx_sound.proofs.Maps.{there_now, inserted, inserted_other}
+use Rattle.lx_sound.proofs.Together.{created_together}
+use Rattle.lx_sound.proofs.Entries.{put_sound, signals_sound, received_sound}
+use Rattle.lx_sound.proofs.Changes.{Change, Opens, done, parts_done}
+use Rattle.lx_sound.proofs.Booted.{IsWithin, boots_within}
+use Rattle.lx_sound.proofs.Keeping.{Keeps, keeps_all, keeps_then, changed_keeps, kept_sound, DoesKeep, KeptIf}
+use Rattle.lx_sound.proofs.Files.{files_kept}
+use Rattle.lx_sound.proofs.Processes.{processes_kept}
 use Rattle.lx_sound.proofs.Ends.{stands, stays_gone, dies_sound, buried_sound, bears_sound}
 
 -- Calls and signals.
@@ -77,20 +84,20 @@ interruptible_kept child s p b (Bears t c newborn) h = h
 interruptible_kept child s p b Blocks h = interrupted_kept child s p b (is_interrupted (maps.get s.entries p))
 interruptible_kept child s p b (Ends w) h = h
 
-process_kept : (child : ℕ) (s : Shared) (p : ℕ) (call : Call) (b : UserState) (o : Option Answers) → processes.KeptIf child s p call b o → DoesKeep child s p (unwrap_or o (Refused enosys))
-process_kept child s p call b None h = tt
-process_kept child s p call b (Some a) h = h
+process_kept : (child : ℕ) (s : Shared) (p : ℕ) (o : Option Answers) → KeptIf child s p o → DoesKeep child s p (unwrap_or o (Refused enosys))
+process_kept child s p None h = tt
+process_kept child s p (Some a) h = h
 
-file_kept : (child : ℕ) (s : Shared) (p : ℕ) (call : Call) (b : UserState) (o : Option Answers) (other : Answers) → files.KeptIf child s p call b o → DoesKeep child s p other → DoesKeep child s p (unwrap_or o other)
-file_kept child s p call b None other h g = g
-file_kept child s p call b (Some a) other h g = h
+file_kept : (child : ℕ) (s : Shared) (p : ℕ) (o : Option Answers) (other : Answers) → KeptIf child s p o → DoesKeep child s p other → DoesKeep child s p (unwrap_or o other)
+file_kept child s p None other h g = g
+file_kept child s p (Some a) other h g = h
 
-does_kept : (child : ℕ) (s : Shared) (p : ℕ) (call : Call) (b : UserState) → DoesKeep child s p (does s child p call b)
+does_kept : (child : ℕ) (s : Shared) (p : ℕ) (call : Call) (b : UserState) → PartsSound s → is_living (maps.get s.entries p) ≡ true → DoesKeep child s p (does s child p call b)
 unfolding does
-does_kept child s p call b =
+does_kept child s p call b h alive =
     interruptible_kept child s p b (called s child p call b)
-    (file_kept child s p call b (file_call s p call b) _ (files.files_kept child s p call b)
-    (process_kept child s p call b (process_call s child p call b) (processes.processes_kept child s p call b)))
+    (file_kept child s p (file_call s p call b) _ (files_kept child s p call b h alive)
+    (process_kept child s p (process_call s child p call b) (processes_kept child s p call b h alive)))
 
 abbrev TookKeeps : Shared → Took Shared UserState → Type 0
 TookKeeps s (Passes t c) = Keeps s t
@@ -103,7 +110,7 @@ took_either s false x y h g = g
 reacts_kept : (s : Shared) (p : ℕ) (e : Entry) (b : UserState) (signal : Signal) (r : Reaction) → TookKeeps s (reacts s p e b signal r)
 reacts_kept s p e b signal reaction.Passes = keeps_all s
 reacts_kept s p e b signal reaction.Ends = tt
-reacts_kept s p e b signal (reaction.Handles a) = took_either s (is_some (frame_fault b.memory b.hart)) _ _ tt (changed_keeps s p _ (λ x. refl))
+reacts_kept s p e b signal (reaction.Handles a) = took_either s (is_some (frame_fault b.memory b.hart)) _ _ tt (changed_keeps s p _ (λ x. refl) (λ x h. signals_sound s.tree x (blocking e.signals signal a) h))
 
 takes_at_kept : (s : Shared) (p : ℕ) (b : UserState) (signal : Signal) (cause : Cause) (o : Option Entry) → TookKeeps s (takes_at o s p b signal cause)
 takes_at_kept s p b signal cause None = keeps_all s
@@ -115,12 +122,16 @@ takes_kept s p b signal cause = takes_at_kept s p b signal cause (maps.get s.ent
 
 join_kept : (s : Shared) (p : ℕ) (x : Option Signal) → Keeps s (joins linux s p x)
 join_kept s p None = keeps_all s
-join_kept s p (Some signal) = changed_keeps s p _ (λ e. refl)
+join_kept s p (Some signal) = changed_keeps s p _ (λ e. refl) (λ e h. received_sound s.tree e signal By_kernel h)
 
 joins_kept : (s : Shared) (p : ℕ) (x y : Option Signal) → Keeps s (joins linux (joins linux s p x) p y)
 joins_kept s p x y = keeps_then s (joins linux s p x) (joins linux (joins linux s p x) p y) (join_kept s p x) (join_kept (joins linux s p x) p y)
 
 -- A turn.
+
+alive_is : (o : Option Entry) (b : UserState) (stage : Stage) → Agree o (task.Alive b stage) → is_living o ≡ true
+alive_is None b stage agrees = absurd agrees
+alive_is (Some e) b stage agrees = ap is_alive agrees
 
 abbrev next : Kernel Shared UserState → ℕ → Out Shared UserState → Kernel Shared UserState
 next k p o = with_child (after_turn k p o) o.event
@@ -146,8 +157,11 @@ module _ (k : Kernel Shared UserState) (p : ℕ) (b : UserState) (stage : Stage)
   resumed_sound None = ran_sound (instruction b.hart b.memory) (instruction b.hart b.memory).step
 
   runs_sound : (signal : Option Signal) → Goes (stepped linux k.shared p b (runs k.shared p b signal))
-  runs_sound (Some signal) = on _ b _ (changed_keeps k.shared p (λ e. with_signals e (without_pending e.signals signal)) (λ e. refl))
+  runs_sound (Some signal) = on _ b _ (changed_keeps k.shared p (λ e. with_signals e (without_pending e.signals signal)) (λ e. refl) (λ e x. signals_sound k.shared.tree e (without_pending e.signals signal) x))
   runs_sound None = resumed_sound b.interrupted
+
+  lives_now : is_living (maps.get k.shared.entries p) ≡ true
+  lives_now = alive_is (maps.get k.shared.entries p) b stage (subst (Agree (maps.get k.shared.entries p)) is (h.agree p))
 
   ends : (w : ℕ) → Sound (linux.die k.shared p w) (put k.tasks p (task.Dying w)) k.child
   ends w = dies_sound k.shared k.tasks k.child p w b stage is h
@@ -160,8 +174,8 @@ module _ (k : Kernel Shared UserState) (p : ℕ) (b : UserState) (stage : Stage)
   answered_sound call (Bears t c newborn) g =
       let to : Stage = Acted call k.child false in
       let parent : UserState = with_result linux c k.child in
-      subst (λ (u : Shared). Sound u (put (put k.tasks p (task.Alive parent to)) k.child (task.Alive newborn Born)) (suc k.child)) (sym g.2)
-      (bears_sound k.shared (put k.tasks p (task.Alive parent to)) k.child p g.0 newborn g.1 (here parent to))
+      subst (λ (u : Shared). Sound u (put (put k.tasks p (task.Alive parent to)) k.child (task.Alive newborn Born)) (suc k.child)) (sym g.3)
+      (bears_sound k.shared (put k.tasks p (task.Alive parent to)) k.child p g.0 newborn g.1 g.2 (here parent to))
   answered_sound call Blocks g = here b (Doing call)
   answered_sound call (Ends w) g = ends w
 
@@ -174,7 +188,7 @@ lives_sound c k p b Born is h = here k p b Born is h b Run
 lives_sound c k p b Run is h = runs_sound k p b Run is h (next_of (maps.get k.shared.entries p))
 lives_sound c k p b (Faulting signal cause) is h = here k p b (Faulting signal cause) is h b _
 lives_sound c k p b (Entered x) is h = on k p b (Entered x) is h _ b _ (joins_kept k.shared p x c.signal)
-lives_sound c k p b (Doing call) is h = answered_sound k p b (Doing call) is h call (does k.shared k.child p call b) (does_kept k.child k.shared p call b)
+lives_sound c k p b (Doing call) is h = answered_sound k p b (Doing call) is h call (does k.shared k.child p call b) (does_kept k.child k.shared p call b h.parts (lives_now k p b (Doing call) is h))
 lives_sound c k p b (Replaced call x) is h = here k p b (Replaced call x) is h _ _
 lives_sound c k p b (Acted call x replaced) is h = here k p b (Acted call x replaced) is h b Finished
 lives_sound c k p b Finished is h = here k p b Finished is h b Run
@@ -226,14 +240,41 @@ planted : (tree : Tree) (gs : List GuestFile) → HoldTogether tree no_fds → H
 planted tree [] h = h
 planted tree (f ∷ gs) h = planted (with_file tree f) gs (created_together (with_directories tree f.path (length f.path)) no_fds (directories tree f.path (length f.path) h) f.path (File f.content))
 
-first_together : (gs : List GuestFile) → HoldTogether (tree_of gs) first_fds
-unfolding first_fds
-first_together gs =
-    let tree : Tree = tree_of gs in
-    let h : HoldTogether tree no_fds = planted rooted gs (created_together (record { names = maps.empty; nodes = maps.empty }) no_fds bare [] Directory) in
-    let zero : FdTable = opened no_fds 1 0 (reads Input) false in
-    let one : FdTable = opened zero 1 1 (writes Console) false in
-    opened_together tree one (opened_together tree zero (opened_together tree no_fds h 1 0 (reads Input) false refl) 1 1 (writes Console) false refl) 1 2 (writes Console) false refl
+-- before a descriptor is open
+bare_shared : Boot → Shared
+bare_shared boot = record (first_shared boot.limits boot.files boot.input) { fds = no_fds }
+
+bare_parts : (boot : Boot) → fault_of boot ≡ None → PartsSound (bare_shared boot)
+unfolding bare_shared
+bare_parts boot none =
+    let within : IsWithin boot.files = boots_within boot none in record {
+      files = planted rooted boot.files (created_together (record { names = maps.empty; nodes = maps.empty }) no_fds bare [] Directory);
+      rooted = within.rooted;
+      entries = put_sound (tree_of boot.files) maps.empty 1 first_entry (record { directory = within.rooted.root }) (λ p e is. absurd (none_there p e is));
+      owned = λ p fd below there. absurd (let no : is_some (maps.get (maps.empty {X = Slot} {R = nat_cmp}) (pair p fd)) ≡ false = ap is_some (maps.get-empty nat_cmp (pair p fd)) in cc (no, there));
+      within = record {
+        nodes = within.nodes;
+        files = within.small;
+        contents = let le = within.contents in omega (arith, le);
+        offsets = λ n d is. absurd (none_there n d is);
+      };
+    }
+
+-- with the three that process 1 begins with
+first_parts : (boot : Boot) → fault_of boot ≡ None → PartsSound (first_shared boot.limits boot.files boot.input)
+unfolding bare_shared first_fds
+first_parts boot none =
+    let input : Change = Opens 0 (reads Input) false in
+    let output : Change = Opens 1 (writes Console) false in
+    let errors : Change = Opens 2 (writes Console) false in
+    let s : Shared = bare_shared boot in
+    let one : Shared = done s 1 input in
+    let two : Shared = done one 1 output in
+    let alive : is_living (maps.get s.entries 1) ≡ true = ap is_living (there_now nat_cmp_total maps.empty 1 first_entry) in
+    let below_0 : 0 < most_fds = omega arith in
+    let below_1 : 1 < most_fds = omega arith in
+    let below_2 : 2 < most_fds = omega arith in
+    parts_done two 1 (parts_done one 1 (parts_done s 1 (bare_parts boot none) alive input (below_0, refl, refl)) alive output (below_1, refl, refl)) alive errors (below_2, refl, refl)
 
 one_lives : (n : ℕ) → maps.len (maps.insert (maps.empty {X = Entry} {R = nat_cmp}) 1 first_entry) ≤ max 1 n
 one_lives n =
@@ -249,10 +290,10 @@ one_lives n =
 two_next : (n : ℕ) → 2 ≤ suc (max 1 n)
 two_next n = let most = le-max_left 1 n in omega (arith, most)
 
-first_sound : (boot : Boot) → IsSound (first_kernel (first_shared boot.limits boot.files boot.input) (booted boot.argv boot.env))
-first_sound boot =
+first_sound : (boot : Boot) → fault_of boot ≡ None → IsSound (first_kernel (first_shared boot.limits boot.files boot.input) (booted boot.argv boot.env))
+first_sound boot none =
     let b : UserState = booted boot.argv boot.env in record {
-      files = first_together boot.files;
+      parts = first_parts boot none;
       agree = λ p. subst (λ o. Agree o (born (p == 1) b)) (sym (looked p)) (alone b (p == 1));
       words = λ p e is. ⊎_elim (λ same. subst (λ (y : Entry). HasWord maps.empty p y.life) same tt) (λ old. absurd (none_there p e old)) (inserted nat_cmp_total maps.empty 1 first_entry p e is);
       pids = λ p le. inserted_other maps.empty 1 first_entry p (let above = le in grind (arith, nat_tests, above)) ∙ maps.get-empty nat_cmp p;
@@ -275,7 +316,7 @@ runs_sound_from script follow k [] h = h
 runs_sound_from script follow k (p ∷ pids) h = runs_sound_from script follow (kernel_turn linux script follow k p) pids (turns_stay_sound script follow k p h)
 
 pub kernels_are_sound : KernelsAreSound
-kernels_are_sound script follow boot pids = runs_sound_from script follow (first_kernel (first_shared boot.limits boot.files boot.input) (booted boot.argv boot.env)) pids (first_sound boot)
+kernels_are_sound script follow boot pids none = runs_sound_from script follow (first_kernel (first_shared boot.limits boot.files boot.input) (booted boot.argv boot.env)) pids (first_sound boot none)
 
 pub as_code_has_it : (v : Running Shared UserState) (k : Kernel Shared UserState) → Is v k → IsSound k → Sound v.shared (at task.Gone v.tasks) v.child
 as_code_has_it v k is h = rw (is.shared, is.tasks, is.child) h

@@ -13,12 +13,13 @@ use Rattle.lx_proc.specs.declared.state.Life.TheVariants.{Alive, Dying, Zombie}
 use Rattle.lx_proc.specs.declared.state.Shared.{Shared}
 use Rattle.lx_proc.specs.declared.state.UserState.{UserState}
 use Rattle.lx_proc.specs.WaitWords.{Words}
+use Rattle.lx_boot.specs.Boots.{fault_of}
 use Rattle.lx_boot.specs.First.{first_shared}
 use Rattle.lx_exec.specs.Programs.{booted}
 use Rattle.lx_turn.specs.Linux.{linux}
 use Rattle.lx_kernel.specs.First.{first_run}
 use Rattle.lx_kernel.specs.Laws.{after_all}
-use Rattle.lx_sound.specs.Together.{HoldTogether}
+use Rattle.lx_sound.specs.Parts.{PartsSound}
 
 -- a process's entry and its own part agree on whether it lives, is dying, and with which word, or is gone
 abbrev pub Agree : Option Entry → Task UserState → Type 0
@@ -36,7 +37,7 @@ HasWord words p (Dying w) = maps.get words p ≡ Some w
 HasWord words p (Zombie w) = maps.get words p ≡ Some w
 
 pub record Sound (s : Shared) (tasks : ℕ → Task UserState) (child : ℕ) : Type 0 where
-  pub files : HoldTogether s.tree s.fds
+  pub parts : PartsSound s
   pub agree : (p : ℕ) → Agree (maps.get s.entries p) (tasks p)
   pub words : (p : ℕ) (e : Entry) → maps.get s.entries p ≡ Some e → HasWord s.ended p e.life
   -- no process is under the next pid, nor under any above it
@@ -57,13 +58,13 @@ abbrev pub TurnsStaySound : Type 0
 TurnsStaySound = (script : Script) (follow : Bool) (k : Kernel Shared UserState) (p : ℕ) → IsSound k →
     IsSound (kernel_turn linux script follow k p)
 
--- so it holds after any turns of the untraced kernel
+-- so it holds after any turns of the untraced kernel, from a boot that isn't refused
 abbrev pub KernelsAreSound : Type 0
-KernelsAreSound = (script : Script) (follow : Bool) (boot : Boot) (pids : List ℕ) →
+KernelsAreSound = (script : Script) (follow : Bool) (boot : Boot) (pids : List ℕ) → fault_of boot ≡ None →
     IsSound (kernel_run linux script follow
     (first_kernel (first_shared boot.limits boot.files boot.input) (booted boot.argv boot.env)) pids)
 
 -- and after any turns of a boot
 abbrev pub BootsAreSound : Type 0
-BootsAreSound = (boot : Boot) (script : List Rule) (pids : List ℕ) →
+BootsAreSound = (boot : Boot) (script : List Rule) (pids : List ℕ) → fault_of boot ≡ None →
     RunsSoundly (after_all (first_run boot script) pids).running

@@ -9,4 +9,4 @@ pub returns-clause-kernels : goal.returns-clause-kernels
 returns-clause-kernels c = kernels_are_sound
 
 pub returns-clause-boots : goal.returns-clause-boots
-returns-clause-boots c = λ boot script pids. as_code_has_it _ _ (c.boots_are_first_runs.ensures.runs boot script pids) (kernels_are_sound (choice_of script) boot.follow boot pids)
+returns-clause-boots c = λ boot script pids none. as_code_has_it _ _ (c.boots_are_first_runs.ensures.runs boot script pids) (kernels_are_sound (choice_of script) boot.follow boot pids none)
