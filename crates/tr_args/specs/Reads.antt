@@ -1,9 +1,7 @@
 -- What is read for the texts of a call's arguments, and the texts, by halves of calls.
-use Rattle.std.specs.Prelude.{ℕ, List, [], Option, Some, None}
-use Rattle.std.specs.Global.{Box}
+use Rattle.std.specs.Prelude.{ℕ, List, Option}
 use Rattle.pt_model.specs.Parts.{Half, At_entry, At_exit, Texts}
 use Rattle.tr_args.specs.Arguments.{wish_of, text_of as shown_text, half as shown_half}
-use Rattle.tr_args.specs.Decoders.{Decoding}
 use Rattle.tr_args.specs.Texts.{context_of}
 use Rattle.tr_args.specs.declared.halves.Half.{Half as CodeHalf}
 use Rattle.tr_args.specs.declared.halves.Half.TheVariants.{Entry, Exit}
@@ -20,8 +18,3 @@ text_of limit half got = shown_text (shown_half (context_of limit half) got)
 
 abbrev pub texts_of : ℕ → Texts
 texts_of limit = record { wants = wants_of limit; text = text_of limit }
-
--- what a decoder was given, if there is one
-abbrev pub got_of : Option (Box Decoding) → List (List ℕ)
-got_of None = []
-got_of (Some d) = d.value.got

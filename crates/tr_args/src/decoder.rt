@@ -1,6 +1,6 @@
 //! Texts of calls, from registers and from what is read of a memory.
 
-ghost use Rattle.std.specs.Prelude.{◌≡◌, ◌≤◌, IfOk, IsTrue, OnOk, OnErr, string_bytes};
+ghost use Rattle.std.specs.Prelude.{◌≡◌, ◌≤◌, IfOk, OnOk, OnErr, string_bytes};
 ghost use Rattle.tr_args.specs.Arguments.{half, wish_of, text_of};
 ghost use Rattle.tr_args.specs.Decoders as spec;
 
@@ -113,20 +113,6 @@ impl Decoder {
             most,
         };
         Decoder::begin(alloc, context)
-    }
-
-    /// It is of this half.
-    pub fn is_of(&self, context: &Context) -> bool
-        ensures { IsTrue result → self.now.context ≡ context.now }
-    {
-        self.context == *context
-    }
-
-    /// What was read.
-    pub fn read(&self) -> &[Bytes]
-        ensures { result.now ≡ self.now.got }
-    {
-        self.read.as_slice()
     }
 
     /// The address and the length that are read next; none once the text is whole.

@@ -15,5 +15,5 @@ mod progress;
 
 pub use context::Context;
 pub use decoder::{Decoder, made};
-pub use halves::{Half, Reading};
+pub use halves::Half;
 pub use laws::texts_are_whole;

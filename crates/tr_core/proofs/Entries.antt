@@ -15,6 +15,7 @@ use Rattle.pt_model.specs.Tracer as tracer
 use Rattle.lx_model.specs.Turn.{result_word}
 use Rattle.lx_abi.specs.Occurrences.{count_of}
 use Rattle.tr_core.specs.Hearings.{Comes, counts_at, going_on, known_at}
+use Rattle.tr_core.specs.Held.{IsHeld}
 use Rattle.tr_core.specs.Known.{known_of, place_of}
 use Rattle.tr_core.specs.Pens.{wrote as wrote_of, pen_after}
 use Rattle.tr_core.specs.declared.heard.Heard.{Heard as CodeHeard}
@@ -64,9 +65,10 @@ pub entered : (o : Options) (script : Script) (r : Regs) (got : List (List ℕ))
     → bytes ≡ wrote_of s.printer (enter_part o t.pid call (sp_of r) got)
     → s'.printer ≡ pen_after s.printer (enter_part o t.pid call (sp_of r) got)
     → s'.settings ≡ s.settings
+    → IsHeld s'.settings.options call next
     → Comes (entry o script t.pid r got (known_at s t)) (record { next = Some next; bytes = bytes }) s s' t
     (record { pid = t.pid; tracee = record { inside = t.tracee.inside; called = call; saved = saved; standing = Read } })
-entered o script r got s s' t call choice saved signal next bytes is chosen saves joins goes counts wrote pen same =
+entered o script r got s s' t call choice saved signal next bytes is chosen saves joins goes counts wrote pen same held =
     let p = t.pid in
     let k : Known = known_at s t in
     let f : ℕ → ℕ = counts_at s.counts p in
@@ -87,6 +89,7 @@ entered o script r got s s' t call choice saved signal next bytes is chosen save
       others = λ q n e. others_stay p call.number q n _ _ e (counts q n);
       settings = same;
       pid = refl;
+      held = held;
     })
 
 -- the same at what the code knows
@@ -100,6 +103,7 @@ stops k m pl ql told s was is e f same h = record {
   others = λ q n x. refl;
   settings = refl;
   pid = same;
+  held = h.held;
 }
 
 pub stands : (t : Tracee) (s : Standing) (m : Standing) (counts : ℕ → ℕ) → s ≡ m → known_of (record { inside = t.inside; called = t.called; saved = t.saved; standing = s }) counts ≡ stands_at (known_of t counts) m

@@ -15,6 +15,7 @@ use Rattle.lx_model.specs.Finite.{at}
 use Rattle.pt_model.specs.Tracer.{Known, Heard, focus_on, heard, hears, took_stop, told_tracees}
 use Rattle.lx_model.proofs.Bridge.{at-insert}
 use Rattle.tr_core.specs.Hearings.{Comes, LeavesOthers, counts_at, stop_heard}
+use Rattle.tr_core.specs.Held.{Holds, NextIsHeld}
 use Rattle.tr_core.specs.Known.{known_of, new_tracee, place_of}
 use Rattle.tr_core.specs.Tracers.{Goes, focus_of, known_in}
 use Rattle.lx_abi.specs.declared.occurrences.Occurrences.{Occurrences}
@@ -23,7 +24,8 @@ use Rattle.tr_core.specs.declared.session.InHand.{InHand}
 use Rattle.tr_core.specs.declared.session.Session.{Session}
 use Rattle.tr_core.specs.declared.place.Awaiting.{Awaiting}
 use Rattle.tr_core.specs.declared.place.Tracee.{Tracee}
-use Rattle.tr_core.specs.declared.tracer.Core.{Core}
+use Rattle.tr_core.specs.declared.settings.Options.{Options as CodeOptions}
+use Rattle.tr_core.specs.declared.stepping.Core.{Core}
 
 put_in : (m : maps.FinMap nat_cmp Tracee) (old new : Occurrences) (pid : ℕ) (t : Tracee) (k : Known) → LeavesOthers pid old new → k ≡ known_of t (counts_at new pid)
     → (λ q. known_of (at new_tracee (maps.insert m pid t) q) (counts_at new q)) ≡ put (λ q. known_of (at new_tracee m q) (counts_at old q)) pid k
@@ -35,11 +37,23 @@ put_in m old new pid t k others e = fun_ext (λ q. ap (λ x. known_of x (counts_
         ap (λ x. known_of t (counts_at new x)) (sym same) ∙ sym e
     go q false i = ap (λ c. known_of (at new_tracee m q) c) (fun_ext (λ n. others q n i))
 
+-- a place that holds its decoder by its tracee does so by the map that the tracee is put in
+pub held_kept : (o : CodeOptions) (m : maps.FinMap nat_cmp Tracee) (pid : ℕ) (t : Tracee) (next : Option Awaiting)
+    → NextIsHeld o t.called next → NextIsHeld o (at new_tracee (maps.insert m pid t) pid).called next
+held_kept o m pid t next h =
+    subst (λ (x : Tracee). NextIsHeld o x.called next)
+    (sym (ap (λ (f : ℕ → Tracee). f pid) (at-insert new_tracee m pid t) ∙ own (pid == pid) (grind (arith, nat_tests)))) h
+  where
+    own : (b : Bool) → b ≡ true → cond b t (at new_tracee m pid) ≡ t
+    own true e = refl
+    own false e = absurd (cc e)
+
 -- a core whose tracee was kept
 pub record Keeps (hand : InHand) (next : Option Awaiting) (old mid new : Core) : Type 0 where
   pub known : new.known ≡ maps.insert old.known hand.pid hand.tracee
   pub focus : focus_of new.focus ≡ focus_on hand.pid (option_map place_of next)
   pub rest : (new.session ≡ mid.session) × (new.living ≡ mid.living)
+  pub holds : Holds new
 
 pub kept : (h : Heard) (was is : InHand) (told : CodeHeard) (session : Session) (living : List ℕ) (old new : Core)
     → Comes h told old.session session was is
@@ -53,6 +67,7 @@ kept h was is told session living old new comes keeps = record {
   text = comes.text;
   pen = ap (λ (s : Session). s.printer) keeps.rest.0 ∙ comes.pen;
   settings = ap (λ (s : Session). s.settings) keeps.rest.0 ∙ comes.settings;
+  holds = keeps.holds;
 }
 
 took_stop-is : (o : Options) (known : ℕ → Known) (p : ℕ) (stop : Stop) → took_stop o known p stop ≡ heard known p (stop_heard o p (known p) stop)

@@ -24,7 +24,7 @@ use Rattle.lx_abi.specs.declared.occurrences.Occurrences.{Occurrences}
 use Rattle.tr_core.specs.declared.place.Focus.{Focus}
 use Rattle.tr_core.specs.declared.place.Focus.TheVariants as focus
 use Rattle.tr_core.specs.declared.place.Tracee.{Tracee}
-use Rattle.tr_core.specs.declared.tracer.Core.{Core}
+use Rattle.tr_core.specs.declared.stepping.Core.{Core}
 use Rattle.tr_core.specs.declared.tracing.Act.{Act}
 use Rattle.tr_core.specs.declared.tracing.TraceFault.TheVariants.{Inadmissible, Memory}
 use Rattle.tr_core.proofs.Admitting.{next-is, tracees-is}

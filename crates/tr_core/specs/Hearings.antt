@@ -13,6 +13,7 @@ use Rattle.pt_model.specs.Tracer as tracer
 use Rattle.tr_core.specs.declared.heard.Heard.{Heard as CodeHeard}
 use Rattle.tr_core.specs.declared.session.InHand.{InHand}
 use Rattle.tr_core.specs.declared.session.Session.{Session}
+use Rattle.tr_core.specs.Held.{NextIsHeld}
 use Rattle.tr_core.specs.Known.{known_of, place_of}
 use Rattle.lx_abi.specs.Occurrences.{count_of}
 use Rattle.lx_abi.specs.declared.occurrences.Occurrences.{Occurrences}
@@ -30,7 +31,7 @@ LeavesOthers pid old new = (q n : ℕ) → (pid == q) ≡ false → count_of new
 abbrev pub known_at : Session → InHand → Known
 known_at s t = known_of t.tracee (counts_at s.counts t.pid)
 
--- this is known of it, asked next and printed, and nothing else has changed
+-- this is known of it, asked next and printed, nothing else has changed, and a place that reads holds its decoder
 pub record Comes (m : Heard) (told : CodeHeard) (old new : Session) (was is : InHand) : Type 0 where
   pub known : m.known ≡ known_of is.tracee (counts_at new.counts was.pid)
   pub place : m.next ≡ option_map place_of told.next
@@ -39,6 +40,7 @@ pub record Comes (m : Heard) (told : CodeHeard) (old new : Session) (was is : In
   pub others : LeavesOthers was.pid old.counts new.counts
   pub settings : new.settings ≡ old.settings
   pub pid : is.pid ≡ was.pid
+  pub held : NextIsHeld new.settings.options is.tracee.called told.next
 
 -- from an entry stop
 abbrev pub going_on : Regs → ℕ → Option ℕ → tracer.Awaiting

@@ -26,10 +26,10 @@ new_tracee =
 abbrev pub place_of : Awaiting → tracer.Awaiting
 place_of Seizing = tracer.Seizing
 place_of EntryRegs = tracer.Entry_regs
-place_of (EntryPeek r got w) = tracer.Entry_peek r got w
+place_of (EntryPeek r d w) = tracer.Entry_peek r d.value.got w
 place_of (EntrySet r n) = tracer.Entry_set r n
 place_of ExitRegs = tracer.Exit_regs
 place_of (ExitSet r x) = tracer.Exit_set r x
-place_of (ExitPeek x replaced got w) = tracer.Exit_peek x replaced got w
+place_of (ExitPeek x replaced d w) = tracer.Exit_peek x replaced d.value.got w
 place_of (SignalInfo n) = tracer.Signal_info n
 place_of (Resuming n) = tracer.Resuming n

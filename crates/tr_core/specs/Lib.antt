@@ -3,6 +3,7 @@ pub mod Faults
 pub mod Settings
 pub mod Hearings
 pub mod Crossings
+pub mod Held
 pub mod Pens
 pub mod States
 pub mod Outcomes

@@ -8,8 +8,9 @@ use Rattle.tr_core.specs.Pens.{wrote, pen_after}
 use Rattle.tr_core.specs.Known.{known_of, new_tracee, place_of}
 use Rattle.tr_core.specs.Settings.{options_of, script_of}
 use Rattle.tr_core.specs.Hearings.{counts_at}
+use Rattle.tr_core.specs.Held.{Holds}
 use Rattle.tr_core.specs.States.{State, admitted, heard, said, is_faulted}
-use Rattle.tr_core.specs.declared.tracer.Core.{Core}
+use Rattle.tr_core.specs.declared.stepping.Core.{Core}
 use Rattle.tr_core.specs.declared.tracer.Tracer.{Tracer as CodeTracer}
 use Rattle.tr_core.specs.declared.place.Focus.{Focus}
 use Rattle.tr_core.specs.declared.place.Focus.TheVariants.{Booting, Waiting, Serving, AskingOutcome, Over}
@@ -58,6 +59,7 @@ pub record Goes (n : Next) (tracees : List ℕ) (bytes : List ℕ) (old new : Co
   pub text : bytes ≡ wrote old.session.printer n.printed
   pub pen : new.session.printer ≡ pen_after old.session.printer n.printed
   pub settings : new.session.settings ≡ old.session.settings
+  pub holds : Holds new
 
 -- a whole step, of a tracer that took so many replies: of one that is admitted the bytes, of any other none
 abbrev pub Steps : ℕ → Core → Reply → Option (List ℕ) → Core → Type 0

@@ -1,13 +1,18 @@
 //! A call's entry and its exit: each is read where the call is shown, and then told.
 
 ghost use Rattle.std.specs.Prelude.{◌≡◌, IfOk, [], true};
+ghost use Rattle.lx_abi.specs.Scripts.{includes};
+ghost use Rattle.lx_abi.specs.declared.log.Call.{Call as CallOf};
 ghost use Rattle.lx_model.specs.Turn.{result_word};
 ghost use Rattle.pt_model.specs.Tracer as tracer;
+ghost use Rattle.tr_args.specs.Decoders.{given as decoder_given};
 ghost use Rattle.tr_args.specs.Reads.{half_of};
 ghost use Rattle.tr_core.specs.Crossings.{half_at, peek_at, peeked_at, reads_at, told_at};
 ghost use Rattle.tr_core.specs.Hearings.{Comes, going_on, known_at};
+ghost use Rattle.tr_core.specs.Held.{IsHeld, IsOf, IsTold, call_at, got_of};
 ghost use Rattle.tr_core.specs.Known.{place_of};
 ghost use Rattle.tr_core.specs.Settings.{options_of, script_of};
+ghost use Rattle.tr_core.specs.declared.settings.Options.{Options as OptionsOf};
 
 use crate::heard::{Heard, asks, nothing};
 use crate::place::Awaiting;
@@ -18,7 +23,7 @@ use containers::Bytes;
 use lx_abi::{Call, Choice, RegisterSet};
 use pt_model::Standing;
 use std::alloc::AllocError;
-use tr_args::{Half, Reading};
+use tr_args::{Decoder, Half};
 
 /// A call is entered, or left with a result, which may be in the place of its own.
 #[derive(Drop)]
@@ -44,13 +49,15 @@ fn half(crossing: &Crossing, called: Call) -> Half
 }
 
 /// What is asked while more is read for the text.
-fn peeking(crossing: Crossing, got: Reading, want: (u64, u32)) -> Awaiting
-    ensures { place_of result ≡ peek_at crossing got want }
+fn peeking(crossing: Crossing, decoder: Box<Decoder>, want: (u64, u32)) -> Awaiting
+    ensures place { place_of result ≡ peek_at crossing decoder.value.got want }
+    ensures held { (o : OptionsOf) (called : CallOf) → IsOf o (half_at called crossing) decoder.value
+        → IsHeld o called result }
 {
     match crossing {
         Crossing::Entering { registers } => Awaiting::EntryPeek {
             registers,
-            got,
+            decoder,
             want,
         },
         Crossing::Exiting {
@@ -59,7 +66,7 @@ fn peeking(crossing: Crossing, got: Reading, want: (u64, u32)) -> Awaiting
         } => Awaiting::ExitPeek {
             result: value,
             replaced,
-            got,
+            decoder,
             want,
         },
     }
@@ -67,7 +74,8 @@ fn peeking(crossing: Crossing, got: Reading, want: (u64, u32)) -> Awaiting
 
 /// How a tracee goes on from its entry stop.
 fn go_on(registers: RegisterSet, signal: u32, saved: Option<u64>) -> Awaiting
-    ensures { place_of result ≡ going_on registers signal saved }
+    ensures place { place_of result ≡ going_on registers signal saved }
+    ensures held { (o : OptionsOf) (called : CallOf) → IsHeld o called result }
 {
     match saved {
         None => Awaiting::Resuming { signal },
@@ -104,12 +112,14 @@ fn enter(
     session: &mut Session,
     hand: &mut InHand,
     registers: RegisterSet,
-    got: &Reading,
+    decoder: Option<&Decoder>,
 ) -> Result<Heard, AllocError>
+    requires { IsTold session.old.settings.options (half_at hand.old.tracee.called (Crossing.Entering registers))
+        decoder }
     ensures { IfOk result
         (λ h. Comes
         (tracer.entry (options_of session.old.settings) (script_of session.old.settings) hand.old.pid registers
-        got.now (known_at session.old hand.old)) h session.old session.new hand.old hand.new) }
+        (got_of decoder.entry) (known_at session.old hand.old)) h session.old session.new hand.old hand.new) }
 {
     let called = call(&registers);
     let stack = stack_pointer(&registers);
@@ -128,7 +138,7 @@ fn enter(
         hand.pid,
         called,
         stack,
-        got,
+        decoder,
     )?;
     session.counts.count(hand.pid, called.number)?;
     hand.tracee.called = called;
@@ -146,11 +156,13 @@ fn leave(
     hand: &mut InHand,
     value: u64,
     replaced: bool,
-    got: &Reading,
+    decoder: Option<&Decoder>,
 ) -> Result<Heard, AllocError>
+    requires { IsTold session.old.settings.options (half_at hand.old.tracee.called (Crossing.Exiting value replaced))
+        decoder }
     ensures { IfOk result
         (λ h. Comes
-        (tracer.exit (options_of session.old.settings) hand.old.pid value replaced got.now
+        (tracer.exit (options_of session.old.settings) hand.old.pid value replaced (got_of decoder.entry)
         (known_at session.old hand.old)) h session.old session.new hand.old hand.new) }
 {
     let bytes = print_exit(
@@ -160,7 +172,7 @@ fn leave(
         hand.tracee.called,
         value,
         replaced,
-        got,
+        decoder,
     )?;
     hand.tracee.saved = None;
     Ok(Heard {
@@ -174,19 +186,20 @@ fn tell(
     session: &mut Session,
     hand: &mut InHand,
     crossing: Crossing,
-    got: &Reading,
+    decoder: Option<&Decoder>,
 ) -> Result<Heard, AllocError>
+    requires { IsTold session.old.settings.options (half_at hand.old.tracee.called crossing) decoder }
     ensures { IfOk result
         (λ h. Comes
-        (told_at (options_of session.old.settings) (script_of session.old.settings) hand.old.pid crossing got.now
-        (known_at session.old hand.old)) h session.old session.new hand.old hand.new) }
+        (told_at (options_of session.old.settings) (script_of session.old.settings) hand.old.pid crossing
+        (got_of decoder.entry) (known_at session.old hand.old)) h session.old session.new hand.old hand.new) }
 {
     match crossing {
-        Crossing::Entering { registers } => enter(session, hand, registers, got),
+        Crossing::Entering { registers } => enter(session, hand, registers, decoder),
         Crossing::Exiting {
             result: value,
             replaced,
-        } => leave(session, hand, value, replaced, got),
+        } => leave(session, hand, value, replaced, decoder),
     }
 }
 
@@ -195,21 +208,18 @@ fn read(
     session: &mut Session,
     hand: &mut InHand,
     crossing: Crossing,
-    got: Reading,
+    decoder: Box<Decoder>,
 ) -> Result<Heard, AllocError>
+    requires { IsOf session.old.settings.options (half_at hand.old.tracee.called crossing) decoder.value }
     ensures { IfOk result
         (λ h. Comes
-        (reads_at (options_of session.old.settings) (script_of session.old.settings) hand.old.pid crossing got
-        (known_at session.old hand.old) true) h session.old session.new hand.old hand.new) }
+        (reads_at (options_of session.old.settings) (script_of session.old.settings) hand.old.pid crossing
+        decoder.value.got (known_at session.old hand.old) true) h session.old session.new hand.old hand.new) }
 {
-    let half = half(&crossing, hand.tracee.called);
-    let alloc = session.settings.alloc;
-    let limit = session.settings.options.string_limit;
-    let got = got.begun(alloc, limit, half)?;
-    let wish = got.wants(alloc, limit, half)?;
-    match wish {
-        None => tell(session, hand, crossing, &got),
-        Some(want) => Ok(asks(alloc, peeking(crossing, got, want))),
+    let lent = decoder.as_ref();
+    match lent.wants() {
+        None => tell(session, hand, crossing, Some(lent)),
+        Some(want) => Ok(asks(session.settings.alloc, peeking(crossing, decoder, want))),
     }
 }
 
@@ -220,17 +230,30 @@ pub fn cross(
     crossing: Crossing,
     shown: bool,
 ) -> Result<Heard, AllocError>
+    requires { shown ≡ includes session.old.settings.options.shown
+        (call_at (half_at hand.old.tracee.called crossing)).number }
     ensures { IfOk result
         (λ h. Comes
         (reads_at (options_of session.old.settings) (script_of session.old.settings) hand.old.pid crossing []
         (known_at session.old hand.old) shown) h session.old session.new hand.old hand.new) }
 {
-    if shown {
-        read(session, hand, crossing, Reading::new())
-    } else {
-        let nothing = Reading::new();
-        tell(session, hand, crossing, &nothing)
+    if !shown {
+        return tell(session, hand, crossing, None);
     }
+    let alloc = session.settings.alloc;
+    let half = half(&crossing, hand.tracee.called);
+    let decoder = half.begin(alloc, session.settings.options.string_limit)?;
+    let boxed = Box::new(alloc, decoder)?;
+    read(session, hand, crossing, boxed)
+}
+
+/// The decoder once it was given what was read.
+fn fed(decoder: Box<Decoder>, bytes: Bytes) -> Result<Box<Decoder>, AllocError>
+    ensures { IfOk result (λ d. d.value ≡ decoder_given decoder.value bytes) }
+{
+    let mut decoder = decoder;
+    decoder.give(bytes)?;
+    Ok(decoder)
 }
 
 /// A string of a text came, or not.
@@ -238,22 +261,20 @@ pub fn hear_bytes(
     session: &mut Session,
     hand: &mut InHand,
     crossing: Crossing,
-    got: Reading,
+    decoder: Box<Decoder>,
     came: Option<Bytes>,
 ) -> Result<Heard, AllocError>
+    requires { IsOf session.old.settings.options (half_at hand.old.tracee.called crossing) decoder.value }
     ensures { IfOk result
         (λ h. Comes
-        (peeked_at (options_of session.old.settings) (script_of session.old.settings) hand.old.pid crossing got
-        (known_at session.old hand.old) came) h session.old session.new hand.old hand.new) }
+        (peeked_at (options_of session.old.settings) (script_of session.old.settings) hand.old.pid crossing
+        decoder.value.got (known_at session.old hand.old) came) h session.old session.new hand.old hand.new) }
 {
-    let alloc = session.settings.alloc;
     match came {
-        None => Ok(nothing(alloc)),
+        None => Ok(nothing(session.settings.alloc)),
         Some(bytes) => {
-            let half = half(&crossing, hand.tracee.called);
-            let limit = session.settings.options.string_limit;
-            let got = got.with(alloc, limit, half, bytes)?;
-            read(session, hand, crossing, got)
+            let fed = fed(decoder, bytes)?;
+            read(session, hand, crossing, fed)
         }
     }
 }

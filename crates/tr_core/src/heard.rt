@@ -2,6 +2,7 @@
 
 ghost use Rattle.pt_model.specs.Tracer as tracer;
 ghost use Rattle.tr_core.specs.Hearings.{Comes, known_at};
+ghost use Rattle.tr_core.specs.Held.{IsHeld};
 ghost use Rattle.tr_core.specs.Known.{place_of};
 ghost use Rattle.tr_core.specs.declared.session.Session.{Session as SessionOf};
 ghost use Rattle.tr_core.specs.declared.session.InHand.{InHand as InHandOf};
@@ -31,7 +32,7 @@ pub fn nothing(alloc: Global) -> Heard
 /// This is asked next, and nothing printed.
 #[tactic(auto, unfolding(crate::specs::Pens::wrote, crate::specs::Pens::pen_after))]
 pub fn asks(alloc: Global, place: Awaiting) -> Heard
-    ensures { (s : SessionOf) (t : InHandOf)
+    ensures { (s : SessionOf) (t : InHandOf) → IsHeld s.settings.options t.tracee.called place
         → Comes (tracer.moves (known_at s t) (place_of place)) result s s t t }
 {
     Heard {

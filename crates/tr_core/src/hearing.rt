@@ -4,6 +4,7 @@ ghost use Rattle.std.specs.Prelude.{[], IfOk};
 ghost use Rattle.lx_abi.specs.Scripts.{includes};
 ghost use Rattle.pt_model.specs.Tracer as tracer;
 ghost use Rattle.tr_core.specs.Hearings.{Comes, known_at};
+ghost use Rattle.tr_core.specs.Held.{IsHeld};
 ghost use Rattle.tr_core.specs.Known.{place_of};
 ghost use Rattle.tr_core.specs.Settings.{options_of, script_of};
 ghost use Rattle.tr_core.specs.declared.session.Session.{Session as SessionOf};
@@ -168,6 +169,7 @@ pub fn hear(
     place: Awaiting,
     reply: Reply,
 ) -> Result<Heard, AllocError>
+    requires { IsHeld session.old.settings.options hand.old.tracee.called place }
     ensures { IfOk result
         (λ h. Comes
         (tracer.hears (options_of session.old.settings) (script_of session.old.settings) hand.old.pid
@@ -178,9 +180,13 @@ pub fn hear(
         Awaiting::Seizing => Ok(nothing(alloc)),
         Awaiting::Resuming { .. } => Ok(nothing(alloc)),
         Awaiting::EntryRegs => hear_entry(session, hand, registers_in(reply)),
-        Awaiting::EntryPeek { registers, got, .. } => {
+        Awaiting::EntryPeek {
+            registers,
+            decoder,
+            ..
+        } => {
             let crossing = Crossing::Entering { registers };
-            hear_bytes(session, hand, crossing, got, bytes_in(alloc, reply))
+            hear_bytes(session, hand, crossing, decoder, bytes_in(alloc, reply))
         }
         Awaiting::EntrySet { signal, .. } => Ok(hear_set(alloc, signal, is_done(&reply))),
         Awaiting::ExitRegs => hear_exit_regs(session, hand, registers_in(reply)),
@@ -190,14 +196,14 @@ pub fn hear(
         Awaiting::ExitPeek {
             result: value,
             replaced,
-            got,
+            decoder,
             ..
         } => {
             let crossing = Crossing::Exiting {
                 result: value,
                 replaced,
             };
-            hear_bytes(session, hand, crossing, got, bytes_in(alloc, reply))
+            hear_bytes(session, hand, crossing, decoder, bytes_in(alloc, reply))
         }
         Awaiting::SignalInfo { signal } => hear_info(session, hand, signal, info_in(&reply)),
     }

@@ -2,6 +2,7 @@
 #![tactic(auto)]
 
 mod admission;
+mod asking;
 mod crossing;
 mod heard;
 mod hearing;
@@ -13,6 +14,7 @@ mod registers;
 mod replies;
 mod session;
 pub mod settings;
+mod stepping;
 mod stops;
 pub mod tracer;
 pub mod tracing;

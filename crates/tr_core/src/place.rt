@@ -2,7 +2,7 @@
 
 use lx_abi::{Call, Outcome, RegisterSet};
 use pt_model::Standing;
-use tr_args::Reading;
+use tr_args::Decoder;
 
 /// What is known of one tracee, beside how often it entered each call.
 #[derive(Clone, Copy, Debug, PartialEq, Eq)]
@@ -20,7 +20,7 @@ pub enum Awaiting {
     EntryRegs,
     EntryPeek {
         registers: RegisterSet,
-        got: Reading,
+        decoder: Box<Decoder>,
         want: (u64, u32),
     },
     EntrySet {
@@ -35,7 +35,7 @@ pub enum Awaiting {
     ExitPeek {
         result: u64,
         replaced: bool,
-        got: Reading,
+        decoder: Box<Decoder>,
         want: (u64, u32),
     },
     SignalInfo {

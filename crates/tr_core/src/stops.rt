@@ -4,8 +4,11 @@ ghost use Rattle.std.specs.Prelude.{◌≡◌, ℕ, IfOk};
 ghost use Rattle.pt_model.specs.Admissible.{was_read as entry_was_read};
 ghost use Rattle.pt_model.specs.Tracer as tracer;
 ghost use Rattle.tr_core.specs.Hearings.{Comes, known_at, stop_heard};
+ghost use Rattle.tr_core.specs.Held.{IsHeld};
 ghost use Rattle.tr_core.specs.Known.{known_of, place_of};
 ghost use Rattle.tr_core.specs.Settings.{options_of};
+ghost use Rattle.tr_core.specs.declared.settings.Options.{Options as OptionsOf};
+ghost use Rattle.lx_abi.specs.declared.log.Call.{Call as CallOf};
 
 use crate::heard::{Heard, asks};
 use crate::place::{Awaiting, Tracee};
@@ -25,9 +28,10 @@ fn was_read(standing: Standing) -> bool
 /// Where a call begins or ends: at an exit the registers are wanted where its entry was read, and the call is
 /// shown or replaced.
 fn first_place(settings: &Settings, tracee: &Tracee) -> Awaiting
-    ensures { (counts : ℕ → ℕ)
+    ensures place { (counts : ℕ → ℕ)
         → place_of result ≡ tracer.first_place (options_of settings.now) (known_of tracee.now counts)
         tracee.now.inside }
+    ensures held { (o : OptionsOf) (called : CallOf) → IsHeld o called result }
 {
     if !tracee.inside {
         Awaiting::EntryRegs

@@ -1,13 +1,50 @@
-use Rattle.tr_core.specs.Hearings.{known_at}
+use Rattle.std.proofs.Common.{◌≡◌, true, false, [], IfOk, sym, ap, subst, ◌∙◌, rules}
+use Rattle.pt_model.specs.Tracer.{Heard}
+use Rattle.tr_args.specs.Decoders.{Decoding, started}
+use Rattle.tr_args.specs.Reads.{half_of}
+use Rattle.tr_args.specs.Texts.{context_of}
+use Rattle.tr_core.specs.Crossings.{reads_at}
+use Rattle.tr_core.specs.Hearings.{Comes, known_at}
 use Rattle.tr_core.specs.Settings.{options_of, script_of}
 use Rattle.tr_core.proofs.Crossed.{not_shown}
 use Rattle.tr_core.proofs.crossing.cross.Goals as goal
 
-pub returns-then-shown : goal.returns-then-shown
-returns-then-shown c = rw (c.if-shown.true, ← c.new.ensures) c.read.ensures
+pub tell-requires : goal.tell-requires
+tell-requires c =
+    let hidden : c.args.shown ≡ false = search rules in
+    sym c.requires ∙ hidden
 
-pub returns-else-shown : goal.returns-else-shown
-returns-else-shown c =
+pub returns-then-not-shown : goal.returns-then-not-shown
+returns-then-not-shown c =
     let s = c.args.session.now in
     let t = c.args.hand.now in
-    rw (c.if-shown.false, not_shown (options_of s.settings) (script_of s.settings) t.pid c.args.crossing (known_at s t), ← c.new-nothing.ensures) c.tell.ensures
+    let o = options_of s.settings in
+    let hidden : c.args.shown ≡ false = search rules in
+    subst (λ b. IfOk c.tell.result (λ h. Comes (reads_at o (script_of s.settings) t.pid c.args.crossing [] (known_at s t) b) h s c.tell.new.session t c.tell.new.hand))
+    (sym hidden)
+    (subst (λ (m : Heard). IfOk c.tell.result (λ h. Comes m h s c.tell.new.session t c.tell.new.hand))
+    (sym (not_shown o (script_of s.settings) t.pid c.args.crossing (known_at s t))) c.tell.ensures)
+
+pub read-requires : goal.read-requires
+read-requires c =
+    let limit = c.args.session.now.settings.options.string_limit in
+    let shown : c.args.shown ≡ true = search rules in
+    let is : c.in_ok-boxed.boxed.value ≡ started (context_of limit (half_of c.half-half.result)) =
+    c.in_ok-boxed.ensures.ok ∙ c.in_ok-decoder.ensures in
+    record {
+      context = ap (λ (d : Decoding). d.context) is ∙ ap (context_of limit) c.half-half.ensures;
+      shown = sym c.requires ∙ shown;
+    }
+
+pub returns : goal.returns
+returns c =
+    let s = c.args.session.now in
+    let t = c.args.hand.now in
+    let o = options_of s.settings in
+    let shown : c.args.shown ≡ true = search rules in
+    let is : c.in_ok-boxed.boxed.value ≡ started (context_of s.settings.options.string_limit (half_of c.half-half.result)) =
+    c.in_ok-boxed.ensures.ok ∙ c.in_ok-decoder.ensures in
+    subst (λ b. IfOk c.read.result (λ h. Comes (reads_at o (script_of s.settings) t.pid c.args.crossing [] (known_at s t) b) h s c.read.new.session t c.read.new.hand))
+    (sym shown)
+    (subst (λ g. IfOk c.read.result (λ h. Comes (reads_at o (script_of s.settings) t.pid c.args.crossing g (known_at s t) true) h s c.read.new.session t c.read.new.hand))
+    (ap (λ (d : Decoding). d.got) is) c.read.ensures)

@@ -1,36 +1,47 @@
 use Rattle.std.proofs.Common.{◌≡◌, Some, None, IfOk, sym, ap, subst, ◌∙◌}
-use Rattle.pt_model.specs.Tracer.{moves}
+use Rattle.pt_model.specs.Tracer.{Heard, moves}
+use Rattle.tr_args.specs.Arguments.{half, wish_of}
+use Rattle.tr_args.specs.Decoders.{Decoding, wants}
 use Rattle.tr_args.specs.Reads.{wants_of}
-use Rattle.tr_core.specs.Crossings.{half_at, peek_at, told_at}
+use Rattle.tr_core.specs.Crossings.{half_at, told_at}
 use Rattle.tr_core.specs.Hearings.{Comes, known_at}
+use Rattle.tr_core.specs.Held.{IsOf}
 use Rattle.tr_core.specs.Settings.{options_of, script_of}
 use Rattle.tr_core.proofs.Crossed.{nothing_wanted, more_wanted}
 use Rattle.tr_core.proofs.crossing.read.Goals as goal
 
+pub tell-requires : goal.tell-requires
+tell-requires c =
+    let o = c.args.session.now.settings.options in
+    subst (λ (d : Decoding). IsOf o (half_at c.args.hand.now.tracee.called c.args.crossing) d) (sym c.as_ref-lent.ensures) c.requires
+
 pub returns-in-None : goal.returns-in-None
+unfolding wants_of
 returns-in-None c =
     let s = c.args.session.now in
     let t = c.args.hand.now in
+    let d = c.args.decoder.value in
     let o = options_of s.settings in
-    let limit = s.settings.options.string_limit in
-    let w : wants_of limit (half_at t.tracee.called c.args.crossing) c.args.got ≡ None =
-    ap (wants_of limit (half_at t.tracee.called c.args.crossing)) (sym c.in_ok-got.ensures)
-    ∙ ap (λ h. wants_of limit h c.in_ok-got.got) (sym c.half-half.ensures) ∙ sym c.in_ok-wish.ensures ∙ c.in-None.is in
-    subst (λ m. IfOk c.tell.result (λ h. Comes m h s c.tell.new.session t c.tell.new.hand))
-    (sym (nothing_wanted o (script_of s.settings) t.pid c.args.crossing c.args.got (known_at s t) w))
-    (subst (λ g. IfOk c.tell.result (λ h. Comes (told_at o (script_of s.settings) t.pid c.args.crossing g (known_at s t)) h s c.tell.new.session t c.tell.new.hand))
-    c.in_ok-got.ensures c.tell.ensures)
+    let w : wants_of s.settings.options.string_limit (half_at t.tracee.called c.args.crossing) d.got ≡ None =
+    ap (λ k. wish_of (half k d.got)) (sym c.requires.context) ∙ ap (λ (x : Decoding). wants x) (sym c.as_ref-lent.ensures)
+    ∙ sym c.wants.ensures ∙ c.in-None.is in
+    subst (λ (m : Heard). IfOk c.tell.result (λ h. Comes m h s c.tell.new.session t c.tell.new.hand))
+    (sym (nothing_wanted o (script_of s.settings) t.pid c.args.crossing d.got (known_at s t) w))
+    (subst (λ (x : Decoding). IfOk c.tell.result (λ h. Comes (told_at o (script_of s.settings) t.pid c.args.crossing x.got (known_at s t)) h s c.tell.new.session t c.tell.new.hand))
+    c.as_ref-lent.ensures c.tell.ensures)
 
 pub returns-in-Some : goal.returns-in-Some
+unfolding wants_of
 returns-in-Some c =
     let s = c.args.session.now in
     let t = c.args.hand.now in
+    let d = c.args.decoder.value in
     let k = known_at s t in
-    let limit = s.settings.options.string_limit in
     let want = c.in-Some.want in
-    let w : wants_of limit (half_at t.tracee.called c.args.crossing) c.args.got ≡ Some want =
-    ap (wants_of limit (half_at t.tracee.called c.args.crossing)) (sym c.in_ok-got.ensures)
-    ∙ ap (λ h. wants_of limit h c.in_ok-got.got) (sym c.half-half.ensures) ∙ sym c.in_ok-wish.ensures ∙ c.in-Some.is in
-    let e = more_wanted (options_of s.settings) (script_of s.settings) t.pid c.args.crossing c.args.got k want w
-    ∙ ap (moves k) (ap (λ g. peek_at c.args.crossing g want) (sym c.in_ok-got.ensures) ∙ sym c.peeking.ensures) in
-    subst (λ m. Comes m c.asks.result s s t t) (sym e) (c.asks.ensures s t)
+    let w : wants_of s.settings.options.string_limit (half_at t.tracee.called c.args.crossing) d.got ≡ Some want =
+    ap (λ x. wish_of (half x d.got)) (sym c.requires.context) ∙ ap (λ (x : Decoding). wants x) (sym c.as_ref-lent.ensures)
+    ∙ sym c.wants.ensures ∙ c.in-Some.is in
+    let e = more_wanted (options_of s.settings) (script_of s.settings) t.pid c.args.crossing d.got k want w
+    ∙ ap (moves k) (sym c.peeking.ensures.place) in
+    subst (λ (m : Heard). Comes m c.asks.result s s t t) (sym e)
+    (c.asks.ensures s t (c.peeking.ensures.held s.settings.options t.tracee.called c.requires))

@@ -6,4 +6,4 @@ pub returns-in-Some : goal.returns-in-Some
 returns-in-Some c =
     let t = c.args.hand.now in
     let registers = c.set_number.ensures ∙ ap (λ r. with_a7 r t.tracee.called.number) c.set_result.ensures in
-    rw (c.in-Some.is, ← registers) (rw c.in-Some.is at (c.asks.ensures c.args.session.now t))
+    rw (c.in-Some.is, ← registers) (rw c.in-Some.is at (c.asks.ensures c.args.session.now t tt))

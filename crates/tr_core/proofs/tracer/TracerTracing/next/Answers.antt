@@ -38,3 +38,6 @@ unfolding state_of
 returns-in-Err c =
     hears_want c.args.self.now.taken c.args.self.now.core c.step.new.core c.args.self.now.failed c.args.reply
     c.in-Err.ensures.admitted
+
+pub step-requires : goal.step-requires
+step-requires c = c.args.self.now.held c.if-self.false

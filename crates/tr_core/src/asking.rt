@@ -1,0 +1,74 @@
+//! What is asked next.
+
+ghost use Rattle.std.specs.Prelude.{◌≡◌, IfOk};
+ghost use Rattle.pt_model.specs.Tracer.{asked_options as options_asked, asks, request};
+ghost use Rattle.tr_core.specs.Settings.{options_of};
+ghost use Rattle.tr_core.specs.Known.{place_of};
+ghost use Rattle.tr_core.specs.Tracers.{focus_of};
+ghost use Rattle.tr_core.specs.States.{act_of};
+
+use crate::place::{Awaiting, Focus};
+use crate::settings::Settings;
+use crate::stepping::Core;
+use crate::tracing::Act;
+use containers::Bytes;
+use lx_abi::{Ask, RegisterSet, Request, TraceOptions};
+use std::alloc::AllocError;
+
+/// The options of each tracee.
+fn asked_options(follow: bool) -> TraceOptions
+    ensures { result ≡ options_asked follow }
+{
+    TraceOptions {
+        good: true,
+        forks: follow,
+        execs: true,
+    }
+}
+
+fn ask_of(settings: &Settings, place: &Awaiting) -> Result<Ask, AllocError>
+    ensures { IfOk result (λ ask. ask ≡ asks (options_of settings.now) (place_of place.now)) }
+{
+    let ask = match place {
+        Awaiting::Seizing => Ask::Seize {
+            options: asked_options(settings.options.follow).bits(),
+        },
+        Awaiting::EntryRegs | Awaiting::ExitRegs => Ask::GetRegs,
+        Awaiting::EntryPeek { want, .. } | Awaiting::ExitPeek { want, .. } => Ask::Peek {
+            address: want.0,
+            length: want.1,
+        },
+        Awaiting::EntrySet { registers, .. } | Awaiting::ExitSet { registers, .. } => Ask::SetRegs {
+            registers: RegisterSet::new(settings.alloc, registers.get())?,
+        },
+        Awaiting::SignalInfo { .. } => Ask::SigInfo,
+        Awaiting::Resuming { signal } => Ask::Syscall { signal: *signal },
+    };
+    Ok(ask)
+}
+
+/// What is asked next, none at the end.
+fn request_in(core: &Core) -> Result<Option<Request>, AllocError>
+    ensures { IfOk result (λ q. q ≡ request (options_of core.now.session.settings) (focus_of core.now.focus)) }
+{
+    match &core.focus {
+        Focus::Waiting => Ok(Some(Request::Wait)),
+        Focus::Serving { pid, place } => {
+            let ask = ask_of(&core.session.settings, place)?;
+            Ok(Some(Request::To { pid: *pid, ask }))
+        }
+        Focus::AskingOutcome => Ok(Some(Request::Outcome)),
+        Focus::Booting | Focus::Over(_) | Focus::TurnsOver | Focus::Faulted => Ok(None),
+    }
+}
+
+/// What was printed, and what is asked next.
+pub fn act(core: &Core, bytes: Bytes) -> Result<Act, AllocError>
+    ensures { IfOk result
+        (λ act. act ≡ act_of (request (options_of core.now.session.settings) (focus_of core.now.focus)) bytes) }
+{
+    match request_in(core)? {
+        Some(request) => Ok(Act::Ask { bytes, request }),
+        None => Ok(Act::Finished { bytes }),
+    }
+}

@@ -1,0 +1,314 @@
+//! What a reply makes of what a tracer keeps.
+
+ghost use Rattle.std.specs.Prelude.{◌≡◌, ◌&&◌, ℕ, IfOk, OnOk, OnErr, Some, true};
+ghost use Rattle.lx_abi.specs.declared.log.Call.{Call as CallOf};
+ghost use Rattle.lx_model.specs.Finite.{at};
+ghost use Rattle.std.specs.FinMap as maps;
+ghost use Rattle.std.specs.Option.{option_map};
+ghost use Rattle.pt_model.specs.Tracer.{focus_on, told_tracees};
+ghost use Rattle.pt_model.specs.Tracer.{took_stop, heard, hears, says_done, stays};
+ghost use Rattle.tr_core.specs.Settings.{options_of, script_of};
+ghost use Rattle.tr_core.specs.Held.{Holds, IsHeld, NextIsHeld, FocusHolds};
+ghost use Rattle.tr_core.specs.Known.{new_tracee, place_of};
+ghost use Rattle.tr_core.specs.Tracers.{admits_in, focus_of, known_in, Goes, Steps};
+ghost use Rattle.tr_core.specs.Admitted.{says_out, waits_by, serves_by};
+ghost use Rattle.tr_core.specs.Admitted.{ends_by, tracees_by_status, tracees_by_reply, is_seizing as seizes};
+ghost use Rattle.tr_core.specs.Admitted.{next_by, tracees_by};
+ghost use Rattle.tr_core.specs.declared.settings.Options.{Options as OptionsOf};
+
+use crate::admission::{admits_answer, stop_fits};
+use crate::hearing::hear;
+use crate::living::Living;
+use crate::place::{Awaiting, Focus, Tracee};
+use crate::replies::{is_childless, is_done, is_out, outcome_in, status_in};
+use crate::session::{InHand, Session};
+use crate::stops::take_stop;
+use containers::{Bytes, Map};
+use lx_abi::{Call, Errno, Outcome, Reply, Stop};
+use pt_model::Standing;
+use std::alloc::AllocError;
+use std::mem;
+
+/// What a tracer keeps beside the flag for want of memory.
+#[derive(Drop)]
+pub struct Core {
+    pub session: Session,
+    pub known: Map<Tracee>,
+    pub living: Living,
+    pub focus: Focus,
+}
+
+/// What is known of a process, at first nothing.
+fn tracee_at(known: &Map<Tracee>, pid: u32) -> Tracee
+    ensures { result ≡ at new_tracee known.now pid }
+{
+    match known.get(pid) {
+        Some(tracee) => *tracee,
+        None => Tracee {
+            inside: false,
+            called: Call {
+                number: u64::MAX,
+                arguments: [0; 6],
+            },
+            saved: None,
+            standing: Standing::Unmet,
+        },
+    }
+}
+
+/// The reply is one that a host may give.
+fn admits(core: &Core, reply: &Reply) -> bool
+    ensures { result ≡ admits_in core.now reply.now }
+{
+    match (&core.focus, reply) {
+        (Focus::Booting, reply) => is_done(reply),
+        (Focus::Waiting, Reply::Status { pid, status }) => match status.stop() {
+            None => false,
+            Some(stop) => {
+                let tracee = tracee_at(&core.known, *pid);
+                (core.session.settings.options.follow || *pid == 1)
+                    && stop_fits(
+                        core.session.settings.options.follow,
+                        tracee.called.number,
+                        tracee.saved.is_some(),
+                        tracee.standing,
+                        stop,
+                    )
+            }
+        },
+        (Focus::Waiting, Reply::Errno { number }) => Errno::ECHILD.is(*number)
+            && core.living.is_empty(),
+        (Focus::Serving { place, .. }, reply) => admits_answer(place, reply),
+        (Focus::Waiting | Focus::AskingOutcome, Reply::OutOfTurns)
+        | (Focus::AskingOutcome, Reply::Outcome { .. }) => true,
+        _ => false,
+    }
+}
+
+/// What is asked next of a tracee; where nothing is, the next status is waited for.
+fn focus_at(pid: u32, next: Option<Awaiting>) -> Focus
+    ensures focus { focus_of result ≡ focus_on pid (option_map place_of next) }
+    ensures holds { (o : OptionsOf) (called : ℕ → CallOf) → NextIsHeld o (called pid) next
+        → FocusHolds o called result }
+{
+    match next {
+        Some(place) => Focus::Serving { pid, place },
+        None => Focus::Waiting,
+    }
+}
+
+/// What was heard of the tracee in hand is kept, and asked next.
+fn keep(core: &mut Core, hand: InHand, next: Option<Awaiting>) -> Result<(), AllocError>
+    requires { NextIsHeld core.old.session.settings.options hand.tracee.called next }
+    ensures known { OnOk result (core.new.known ≡ maps.insert core.old.known hand.pid hand.tracee) }
+    ensures focus { OnOk result (focus_of core.new.focus ≡ focus_on hand.pid (option_map place_of next)) }
+    ensures rest { OnOk result ((core.new.session ≡ core.old.session) × (core.new.living ≡ core.old.living)) }
+    ensures holds { OnOk result (Holds core.new) }
+{
+    let InHand { pid, tracee } = hand;
+    core.known.insert(pid, tracee)?;
+    core.focus = focus_at(pid, next);
+    Ok(())
+}
+
+/// The list of tracees after a status.
+fn attend(living: &mut Living, pid: u32, stop: Stop) -> Result<(), AllocError>
+    ensures { OnOk result (living.new ≡ told_tracees living.old pid (Some stop)) }
+{
+    match stop {
+        Stop::Ended { .. } => living.remove(pid),
+        _ => living.add(pid)?,
+    }
+    Ok(())
+}
+
+/// A status that is admitted.
+fn hear_status(core: &mut Core, pid: u32, stop: Stop) -> Result<Bytes, AllocError>
+    ensures { IfOk result
+        (λ b. Goes (took_stop (options_of core.old.session.settings) (known_in core.old) pid stop)
+        (told_tracees core.old.living pid (Some stop)) b core.old core.new) }
+{
+    let tracee = tracee_at(&core.known, pid);
+    let mut hand = InHand { pid, tracee };
+    let heard = take_stop(&mut core.session, &mut hand, stop)?;
+    attend(&mut core.living, pid, stop)?;
+    keep(core, hand, heard.next)?;
+    Ok(heard.bytes)
+}
+
+/// A reply, which is admitted, to what was asked of the tracee in hand.
+fn hear_reply(core: &mut Core, pid: u32, place: Awaiting, reply: Reply) -> Result<Bytes, AllocError>
+    requires { IsHeld core.old.session.settings.options (at new_tracee core.old.known pid).called place }
+    ensures { IfOk result
+        (λ b. Goes
+        (heard (known_in core.old) pid
+        (hears (options_of core.old.session.settings) (script_of core.old.session.settings) pid (known_in core.old pid)
+        (place_of place) reply)) core.old.living b core.old core.new) }
+{
+    let tracee = tracee_at(&core.known, pid);
+    let mut hand = InHand { pid, tracee };
+    let heard = hear(&mut core.session, &mut hand, place, reply)?;
+    keep(core, hand, heard.next)?;
+    Ok(heard.bytes)
+}
+
+/// Nothing is printed, and this asked.
+#[tactic(auto, unfolding(crate::specs::Pens::wrote, crate::specs::Pens::pen_after))]
+fn stay(core: &mut Core, focus: Focus) -> Bytes
+    requires { FocusHolds core.old.session.settings.options (λ pid. (at new_tracee core.old.known pid).called) focus }
+    ensures { Goes (stays (known_in core.old) (focus_of focus)) core.old.living result core.old core.new }
+{
+    core.focus = focus;
+    Bytes::new(core.session.settings.alloc)
+}
+
+/// A reply to Wait.
+fn hear_wait(
+    core: &mut Core,
+    told: Option<(u32, Option<Stop>)>,
+    childless: bool,
+    out: bool,
+) -> Result<Bytes, AllocError>
+    ensures { IfOk result
+        (λ b. Goes (waits_by (options_of core.old.session.settings) (known_in core.old) told childless out)
+        (tracees_by_status core.old.living told) b core.old core.new) }
+{
+    match told {
+        Some((pid, Some(stop))) => hear_status(core, pid, stop),
+        Some((_, None)) => Ok(stay(core, Focus::Waiting)),
+        None => {
+            if childless {
+                Ok(stay(core, Focus::AskingOutcome))
+            } else if out {
+                Ok(stay(core, Focus::TurnsOver))
+            } else {
+                Ok(stay(core, Focus::Waiting))
+            }
+        }
+    }
+}
+
+/// A reply to what was asked of the tracee in hand, or OutOfTurns.
+fn hear_served(
+    core: &mut Core,
+    pid: u32,
+    place: Awaiting,
+    reply: Reply,
+    out: bool,
+) -> Result<Bytes, AllocError>
+    requires { IsHeld core.old.session.settings.options (at new_tracee core.old.known pid).called place }
+    ensures { IfOk result
+        (λ b. Goes
+        (serves_by (options_of core.old.session.settings) (script_of core.old.session.settings) (known_in core.old) pid
+        (place_of place) reply out) core.old.living b core.old core.new) }
+{
+    if out {
+        Ok(stay(core, Focus::TurnsOver))
+    } else {
+        hear_reply(core, pid, place, reply)
+    }
+}
+
+/// A reply to Outcome.
+fn hear_outcome(core: &mut Core, told: Option<Outcome>, out: bool) -> Bytes
+    ensures { Goes (ends_by (known_in core.old) told out) core.old.living result core.old core.new }
+{
+    match told {
+        Some(outcome) => stay(core, Focus::Over(outcome)),
+        None => {
+            if out {
+                stay(core, Focus::TurnsOver)
+            } else {
+                stay(core, Focus::AskingOutcome)
+            }
+        }
+    }
+}
+
+/// Process 1 is known from its Seize on.
+fn attend_seized(living: &mut Living, pid: u32, seized: bool) -> Result<(), AllocError>
+    ensures { OnOk result (living.new ≡ tracees_by_reply living.old pid seized) }
+{
+    if seized {
+        living.add(pid)?;
+    }
+    Ok(())
+}
+
+fn is_seizing(place: &Awaiting) -> bool
+    ensures { result ≡ seizes (place_of place.now) }
+{
+    matches!(place, Awaiting::Seizing)
+}
+
+/// A reply to the tracee in hand, and the list of tracees after it.
+fn hear_serving(
+    core: &mut Core,
+    pid: u32,
+    place: Awaiting,
+    reply: Reply,
+) -> Result<Bytes, AllocError>
+    requires { IsHeld core.old.session.settings.options (at new_tracee core.old.known pid).called place }
+    ensures { IfOk result
+        (λ b. Goes
+        (serves_by (options_of core.old.session.settings) (script_of core.old.session.settings) (known_in core.old) pid
+        (place_of place) reply (says_out reply))
+        (tracees_by_reply core.old.living pid (seizes (place_of place) && says_done reply)) b core.old core.new) }
+{
+    let seized = is_seizing(&place) && is_done(&reply);
+    let out = is_out(&reply);
+    let bytes = hear_served(core, pid, place, reply, out)?;
+    attend_seized(&mut core.living, pid, seized)?;
+    Ok(bytes)
+}
+
+/// A reply that is admitted.
+fn go(core: &mut Core, focus: Focus, reply: Reply) -> Result<Bytes, AllocError>
+    requires { FocusHolds core.old.session.settings.options (λ pid. (at new_tracee core.old.known pid).called) focus }
+    ensures { IfOk result
+        (λ b. Goes
+        (next_by (options_of core.old.session.settings) (script_of core.old.session.settings) (known_in core.old) focus
+        reply)
+        (tracees_by core.old.living focus reply) b core.old core.new) }
+{
+    match focus {
+        Focus::Waiting => {
+            let told = status_in(&reply);
+            let childless = is_childless(&reply);
+            let out = is_out(&reply);
+            hear_wait(core, told, childless, out)
+        }
+        Focus::Serving { pid, place } => hear_serving(core, pid, place, reply),
+        Focus::AskingOutcome => {
+            let out = is_out(&reply);
+            let told = outcome_in(reply);
+            Ok(hear_outcome(core, told, out))
+        }
+        Focus::Booting => Ok(stay(
+            core,
+            Focus::Serving {
+                pid: 1,
+                place: Awaiting::Seizing,
+            },
+        )),
+        Focus::Over(_) => Ok(stay(core, Focus::Faulted)),
+        Focus::TurnsOver => Ok(stay(core, Focus::Faulted)),
+        Focus::Faulted => Ok(stay(core, Focus::Faulted)),
+    }
+}
+
+/// A reply: its bytes, or none where it isn't admitted.
+pub fn step(core: &mut Core, reply: Reply) -> Result<Option<Bytes>, AllocError>
+    requires { Holds core.old }
+    ensures step { IfOk result (λ b. (taken : ℕ) → Steps taken core.old reply b core.new) }
+    ensures admitted { OnErr result (admits_in core.old reply ≡ true) }
+    ensures holds { OnOk result (Holds core.new) }
+{
+    if !admits(core, &reply) {
+        core.focus = Focus::Faulted;
+        return Ok(None);
+    }
+    let focus = mem::replace(&mut core.focus, Focus::Faulted);
+    let bytes = go(core, focus, reply)?;
+    Ok(Some(bytes))
+}
