@@ -32,7 +32,7 @@ pub struct Ending {
 }
 
 /// The wait word of process 1, if it has ended.
-fn first_word(outcome: &Outcome) -> Option<u32>
+pub fn first_word(outcome: &Outcome) -> Option<u32>
     ensures { result ≡ first_word outcome.now }
 {
     let ended = outcome.ended.as_slice().iter().find(|e| e.pid == 1)?;

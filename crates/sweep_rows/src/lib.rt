@@ -1,11 +1,15 @@
 //! What a sweep is made of, beside its runs: which occurrences of calls a log has, the script by which one of them
-//! fails, and what came of a run beside another.
+//! fails, what came of a run beside another, and what differs.
 #![tactic(auto)]
 
+pub mod differences;
 pub mod entries;
 pub mod failures;
 pub mod kinds;
 
+pub use differences::{
+    Change, ConsoleDifference, FileDifference, console_difference, file_differences,
+};
 pub use entries::{Occurrence, occurrences};
 pub use failures::{Failure, failing};
-pub use kinds::{Ending, Kind, kind_of, leaves_the_same};
+pub use kinds::{Ending, Kind, first_word, kind_of, leaves_the_same};
