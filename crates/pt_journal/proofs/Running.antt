@@ -22,7 +22,7 @@ use Rattle.pt_model.specs.Tracer.{request, next}
 use Rattle.pt_model.specs.World.{World, met, happens, happens_asked, world_run, turns_of, effective, first_world}
 use Rattle.pt_journal.specs.Journals.{events_of, Replays}
 use Rattle.pt_journal.specs.Told.{Told}
-use Rattle.pt_journal.specs.Telling.{Asks, JournalsTell}
+use Rattle.pt_journal.specs.Telling.{Asks, AsksAtEach, JournalsTell}
 use Rattle.pt_journal.specs.declared.entry.Entry.{Entry}
 use Rattle.pt_journal.specs.declared.entry.Entry.TheVariants.{Ask, Did}
 
@@ -47,6 +47,7 @@ module _ {S B : Type 0} (m : Machine S B) (outcome : S → Outcome) (follow : Bo
     pub turned : g.turns ≡ v.turns ++ effective m outcome o script w events
     pub more : List Reply
     pub own : rs ++ more ≡ world_replies m outcome o script w events
+    pub asked : AsksAtEach m outcome o script w events
 
   -- an event of both
   record Stepped (v v' : Hosting S B) (w w' : World S B) (e : Event) (r : Option Reply) : Type 0 where
@@ -54,6 +55,7 @@ module _ {S B : Type 0} (m : Machine S B) (outcome : S → Outcome) (follow : Bo
     pub host : w'.host ≡ host_in v'
     pub replied : reply_to m outcome w (request o w.tracer.focus) e ≡ r
     pub turned : v'.turns ≡ v.turns ++ turns_of m w (request o w.tracer.focus) e
+    pub asked : is_there (request o w.tracer.focus) ≡ true
 
   ran_on : (v v' g : Hosting S B) (w w' : World S B) (e : Event) (r : Option Reply) (es : List Event) (rs rs' : List Reply)
       → Stepped v v' w w' e r → Ran v' w' es g rs' → rs ≡ option_to_list r ++ rs' → Ran v w (e ∷ es) g rs
@@ -74,6 +76,7 @@ module _ {S B : Type 0} (m : Machine S B) (outcome : S → Outcome) (follow : Bo
             ∙ ap (λ (u : World S B). option_to_list r ++ world_replies m outcome o script u es) (sym s.went)
             ∙ ap (λ z. option_to_list z ++ world_replies m outcome o script (happens m outcome o script w e) es) (sym s.replied)
             ∙ sym (append_assoc (option_to_list (reply_to m outcome w (request o w.tracer.focus) e)) (replies m outcome o script (happens m outcome o script w e) es) (out (happens m outcome o script w e)));
+        asked = (s.asked, subst (λ (u : World S B). AsksAtEach m outcome o script u es) (sym s.went) x.asked);
       }
 
   abbrev after_turn : World S B → ℕ → World S B
@@ -88,6 +91,7 @@ module _ {S B : Type 0} (m : Machine S B) (outcome : S → Outcome) (follow : Bo
         host = ap (λ (g : Host S B). host_turn m g p) h ∙ sym (ap (λ (a : Attending S B). a.host) like.0);
         replied = ap (λ z. reply_to m outcome w z (Turn p)) f;
         turned = like.2 ∙ ap (λ (g : Host S B). v.turns ++ turned m g (Turn p)) (sym h) ∙ ap (λ z. v.turns ++ turns_of m w z (Turn p)) (sym f);
+        asked = ap is_there f;
       }
 
   abbrev after_serve : World S B → Request → Option Reply → World S B
@@ -128,6 +132,7 @@ module _ {S B : Type 0} (m : Machine S B) (outcome : S → Outcome) (follow : Bo
         host = met_host w (serve m outcome w.host q).host r ∙ s.host;
         replied = ap (λ z. reply_to m outcome w z Serve) f ∙ told;
         turned = s.turned ∙ sym (append-nil v.turns) ∙ ap (λ z. v.turns ++ turns_of m w z Serve) (sym f);
+        asked = ap is_there f;
       }
 
   none_next : (v : Hosting S B) (xs : List (Request × Reply)) → v.pending ≡ None → IsNext v.pending xs
@@ -140,6 +145,7 @@ module _ {S B : Type 0} (m : Machine S B) (outcome : S → Outcome) (follow : Bo
     turned = ap (λ (u : Hosting S B). u.turns) same ∙ sym (append-nil v.turns);
     more = world_replies m outcome o script w [];
     own = ap (λ l. answers_in l ++ world_replies m outcome o script w []) none;
+    asked = tt;
   }
   at_end v g w xs h same asks (inr out) =
       let asked : request o w.tracer.focus ≡ Some out.0 = (subst (λ l. Asks o script w.tracer l) out.1 asks).0 in
@@ -148,6 +154,7 @@ module _ {S B : Type 0} (m : Machine S B) (outcome : S → Outcome) (follow : Bo
         turned = ap (λ (u : Hosting S B). u.turns) same ∙ sym (append-nil v.turns);
         more = [];
         own = ap (λ l. answers_in l ++ []) out.1 ∙ ap (λ z. out_of_turns_if (is_there z)) (sym asked);
+        asked = tt;
       }
 
   run : (es : List Entry) (v g : Hosting S B) (w : World S B) (xs : List (Request × Reply)) → IsFresh v → w.host ≡ host_in v → IsNext v.pending xs
@@ -156,7 +163,7 @@ module _ {S B : Type 0} (m : Machine S B) (outcome : S → Outcome) (follow : Bo
   run (Ask q ∷ es) v g w [] fresh h due rep told asks = absurd told
   run (Ask q ∷ es) v g w (x ∷ xs) fresh h due rep told asks =
       let again : Ran (with_pending v (Some q)) w (events_of es) g (answers_in (x ∷ xs)) = run es (with_pending v (Some q)) g w (x ∷ xs) fresh h told.0 rep.2 told.1 asks in
-      record { host = again.host; turned = again.turned; more = again.more; own = again.own }
+      record { host = again.host; turned = again.turned; more = again.more; own = again.own; asked = again.asked }
   run (Did (Turn p) None ∷ es) v g w [] fresh h due rep told asks = absurd told
   run (Did (Turn p) None ∷ es) v g w (x ∷ xs) fresh h due rep told asks =
       let like = alike m outcome follow v (Turn p) fresh in
@@ -188,4 +195,4 @@ module _ {S B : Type 0} (m : Machine S B) (outcome : S → Outcome) (follow : Bo
 pub journals_tell : {S B : Type 0} → HostsAttendAlike S B → HostsBeginAlike S B → JournalsTell S B
 journals_tell {S} {B} alike begin m outcome follow o script s b journal g xs rep told asks =
     let x = run m outcome follow o script alike journal (first_hosting s b) g (first_world s b) xs (begin s b).1 (sym (begin s b).0) tt rep told asks in
-    record { own = record { more = x.more; begins = x.own }; host = x.host; turned = x.turned }
+    record { own = record { more = x.more; begins = x.own }; host = x.host; turned = x.turned; asked = x.asked }

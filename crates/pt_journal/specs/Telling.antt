@@ -1,5 +1,5 @@
 -- A tracer's run over a host that others turn too, told by the host's journal.
-use Rattle.std.specs.Prelude.{◌≡◌, Bool, List, [], ◌∷◌, map, Some}
+use Rattle.std.specs.Prelude.{◌≡◌, Bool, true, List, [], ◌∷◌, map, Some}
 use Rattle.lx_abi.specs.declared.outcome.Outcome.{Outcome}
 use Rattle.lx_abi.specs.declared.ptrace.Reply.{Reply}
 use Rattle.lx_abi.specs.declared.ptrace.Request.{Request}
@@ -10,8 +10,9 @@ use Rattle.pt_model.specs.Calls.{IsOwn}
 use Rattle.pt_model.specs.Headline.{traced_run}
 use Rattle.pt_model.specs.Hosting.{Hosting, host_in, first_hosting}
 use Rattle.pt_model.specs.Parts.{Options}
+use Rattle.pt_model.specs.Ptrace.{is_there}
 use Rattle.pt_model.specs.Tracer.{Tracer, request, next, first_tracer}
-use Rattle.pt_model.specs.World.{effective, first_world}
+use Rattle.pt_model.specs.World.{World, happens, effective, first_world}
 use Rattle.pt_journal.specs.Journals.{events_of, Replays}
 use Rattle.pt_journal.specs.Told.{Told}
 use Rattle.pt_journal.specs.declared.entry.Entry.{Entry}
@@ -21,6 +22,13 @@ abbrev pub Asks : Options → Script → Tracer → List (Request × Reply) → 
 Asks o script t [] = Unit {0}
 Asks o script t (x ∷ xs) = (request o t.focus ≡ Some x.0) × Asks o script (next o script t x.1).tracer xs
 
+-- at each of the events something is asked
+abbrev pub AsksAtEach : {S B : Type 0} → Machine S B → (S → Outcome) → Options → Script → World S B → List Event
+    → Type 0
+AsksAtEach m outcome o script w [] = Unit {0}
+AsksAtEach m outcome o script w (e ∷ es) =
+    (is_there (request o w.tracer.focus) ≡ true) × AsksAtEach m outcome o script (happens m outcome o script w e) es
+
 -- what the journal tells of the run
 pub record JournalRun {S B : Type 0} (m : Machine S B) (outcome : S → Outcome) (o : Options) (script : Script) (s : S)
     (b : B) (events : List Event) (replies : List Reply) (g : Hosting S B) : Type 0 where
@@ -29,6 +37,7 @@ pub record JournalRun {S B : Type 0} (m : Machine S B) (outcome : S → Outcome)
   pub host : (traced_run m outcome o script s b events).host ≡ host_in g
   -- the effective turns
   pub turned : g.turns ≡ effective m outcome o script (first_world s b) events
+  pub asked : AsksAtEach m outcome o script (first_world s b) events
 
 abbrev pub JournalsTell : Type 0 → Type 0 → Type 0
 JournalsTell S B = (m : Machine S B) (outcome : S → Outcome) (follow : Bool) (o : Options) (script : Script) (s : S)
