@@ -1,3 +1,4 @@
 pub mod Asks
+pub mod Fitting
 pub mod Messages
 pub mod Whole

@@ -5,6 +5,7 @@ use Rattle.std.proofs.lemmas.Option.{some_pair_parts}
 use Rattle.lx_abi.specs.declared.boot.Boot.{Boot}
 use Rattle.lx_abi.specs.declared.boot.Limits.{Limits}
 use Rattle.lx_abi.specs.declared.boot.GuestFile.{GuestFile}
+use Rattle.lx_abi.specs.declared.outcome.Outcome.{Outcome}
 use Rattle.lx_abi.specs.declared.outcome.OutcomeFile.{OutcomeFile}
 use Rattle.lx_abi.specs.declared.outcome.Ended.{Ended}
 use Rattle.lx_abi.specs.declared.schedule.Word.{Word}
@@ -419,6 +420,24 @@ reply_kind (Outcome_is o) = refl
 reply_kind (Errno_is number) = refl
 reply_kind OutOfTurns = refl
 reply_kind (Refused fault) = refl
+
+-- an outcome whose lists are out of order isn't read
+
+outcome_refused : (o : Outcome) (rest : List ℕ) → FitsText o.console → FitItems FitsOutcomeFile o.files → FitItems FitsEnded o.ended → (paths_rise None o.files && pids_rise None o.ended) ≡ false
+    → outcome_at (text o.console ++ (items outcome_file o.files ++ (items ended o.ended ++ rest))) ≡ None
+unfolding outcome_at
+outcome_refused o rest console files ends out_of_order =
+    rw (text_form.again o.console (items outcome_file o.files ++ (items ended o.ended ++ rest)) console, (items_form outcome_file_items).again o.files (items ended o.ended ++ rest) files, (items_form ended_items).again o.ended rest ends, out_of_order) refl
+
+pub body_refused : (o : Outcome) → FitsText o.console → FitItems FitsOutcomeFile o.files → FitItems FitsEnded o.ended → (paths_rise None o.files && pids_rise None o.ended) ≡ false
+    → body_at (message (Of_reply (Outcome_is o))).0 (message (Of_reply (Outcome_is o))).1 ≡ None
+unfolding body_at
+body_refused o console files ends out_of_order =
+    let c : List ℕ = text o.console in
+    let f : List ℕ = items outcome_file o.files in
+    let e : List ℕ = items ended o.ended in
+    let parts : (c ++ f) ++ e ≡ c ++ (f ++ (e ++ [])) = append_assoc c f e ∙ ap (λ (t : List ℕ). c ++ (f ++ t)) (sym (append-nil e)) in
+    ap (λ (x : Option (Reply × List ℕ)). x >>= λ x. reading.ended (Of_reply x.0, x.1)) (ap outcome_at parts ∙ outcome_refused o [] console files ends out_of_order)
 
 pub body_again : (b : Payload) → FitsMessage b → body_at (message b).0 (message b).1 ≡ Some b
 unfolding body_at

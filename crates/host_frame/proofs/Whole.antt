@@ -1,5 +1,5 @@
 -- What is read is spelled so, and what is spelled so is read: frames.
-use Rattle.std.proofs.Common.{◌≡◌, ℕ, ◌+◌, ◌%◌, ◌<◌, ◌≤◌, List, [], ◌∷◌, ◌++◌, length, get_or, take, drop, Option, Some, refl, sym, ap, subst, ◌∙◌, append_assoc, arith, inl, inr}
+use Rattle.std.proofs.Common.{◌≡◌, ℕ, ◌+◌, ◌%◌, ◌^◌, ◌<◌, ◌≤◌, List, [], ◌∷◌, ◌++◌, length, get_or, take, drop, Option, Some, refl, sym, ap, subst, ◌∙◌, append_assoc, arith, inl, inr}
 use Rattle.std.proofs.lemmas.List.{drop_at, drop-drop, drop_more, get_or-drop, length-append, length-drop, take-append-drop}
 use Rattle.byteorder.specs.Endian.{big_number}
 use Rattle.byteorder.specs.Numbers.{big_from-lt, big_number-reads_back, length-bytes_high_first}
@@ -43,9 +43,10 @@ kind_byte (Of_reply (Errno_is number)) = refl
 kind_byte (Of_reply OutOfTurns) = refl
 kind_byte (Of_reply (Refused fault)) = refl
 
-pub frame_again : (f : Frame) → FitsFrame f → frame_at (spelled f) ≡ Some f
+-- a frame's spelling is read as its number, and what is read of its body
+pub frame_by : (f : Frame) → f.number < 256 ^ 8 → (o : Option Payload) → body_at (message f.body).0 (message f.body).1 ≡ o → frame_at (spelled f) ≡ (o >>= λ y. Some (frame_is f.number y))
 unfolding frame_at spelled
-frame_again f fits =
+frame_by f small o is =
     let w : List ℕ = word (length (content f)) in
     let d : List ℕ = double f.number in
     let k : ℕ = (message f.body).0 in
@@ -56,13 +57,16 @@ frame_again f fits =
     let d-long : length d ≡ 8 = length-bytes_high_first 8 f.number in
     let b-long : length b ≡ 1 = length-bytes_high_first 1 k in
     let behind_length : drop 4 all ≡ (d ++ b) ++ m = drop_at w ((d ++ b) ++ m) 4 w-long in
-    let number : big_number 8 (drop 4 all) ≡ f.number = ap (big_number 8) (behind_length ∙ append_assoc d b m) ∙ big_number-reads_back 8 f.number (b ++ m) fits.0 in
+    let number : big_number 8 (drop 4 all) ≡ f.number = ap (big_number 8) (behind_length ∙ append_assoc d b m) ∙ big_number-reads_back 8 f.number (b ++ m) small in
     let at_kind : all ≡ (w ++ d) ++ (b ++ m) = ap (λ (x : List ℕ). w ++ x) (append_assoc d b m) ∙ sym (append_assoc w d (b ++ m)) in
     let from_kind : drop 12 all ≡ b ++ m = ap (drop 12) at_kind ∙ drop_at (w ++ d) (b ++ m) 12 (omega (arith, length-append w d, w-long, d-long)) in
     let kind : get_or all 12 0 ≡ k = sym (get_or-drop 12 all 0 0) ∙ ap (λ (x : List ℕ). get_or x 0 0) (from_kind ∙ ap (λ (x : List ℕ). x ++ m) (kind_byte f.body)) in
     let rest : drop 13 all ≡ m = ap (drop 13) (sym (append_assoc w (d ++ b) m)) ∙ drop_at (w ++ (d ++ b)) m 13 (omega (arith, length-append w (d ++ b), length-append d b, w-long, d-long, b-long)) in
-    let body : body_at (get_or all 12 0) (drop 13 all) ≡ Some f.body = ap (λ (x : ℕ). body_at x (drop 13 all)) kind ∙ ap (body_at k) rest ∙ body_again f.body fits.1 in
-    ap (λ (o : Option Payload). o >>= λ y. Some (frame_is (big_number 8 (drop 4 all)) y)) body ∙ ap (λ (n : ℕ). Some (frame_is n f.body)) number
+    let body : body_at (get_or all 12 0) (drop 13 all) ≡ o = ap (λ (x : ℕ). body_at x (drop 13 all)) kind ∙ ap (body_at k) rest ∙ is in
+    ap (λ (o : Option Payload). o >>= λ y. Some (frame_is (big_number 8 (drop 4 all)) y)) body ∙ ap (λ (n : ℕ). o >>= λ y. Some (frame_is n y)) number
+
+pub frame_again : (f : Frame) → FitsFrame f → frame_at (spelled f) ≡ Some f
+frame_again f fits = frame_by f fits.0 (Some f.body) (body_again f.body fits.1)
 
 byte_is : (n : ℕ) → n < 256 → byte n ≡ n ∷ []
 byte_is n lt = let e : n % 256 ≡ n = omega (arith, lt) in ap (λ (x : ℕ). x ∷ []) e

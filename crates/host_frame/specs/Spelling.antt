@@ -1,5 +1,5 @@
 -- The one spelling of each frame: a length, a number, a kind, a body.
-use Rattle.std.specs.Prelude.{◌≡◌, ℕ, ◌^◌, ◌<◌, ◌≤◌, ◌⊎◌, Bool, List, [], ◌++◌, length, cond, None, true, ◌&&◌}
+use Rattle.std.specs.Prelude.{◌≡◌, ℕ, ◌^◌, ◌<◌, ◌≤◌, ◌⊎◌, Bool, List, [], ◌++◌, length, cond, Some, None, true, ◌&&◌}
 use Rattle.lx_abi.specs.declared.boot.Boot.{Boot}
 use Rattle.lx_abi.specs.declared.boot.Limits.{Limits}
 use Rattle.lx_abi.specs.declared.outcome.Outcome.{Outcome}
@@ -11,6 +11,7 @@ use Rattle.lx_abi.specs.declared.ptrace.Request.{Request}
 use Rattle.lx_abi.specs.declared.ptrace.Request.TheVariants.{Boot as Boot_with, Wait, To, Outcome as Ask_outcome}
 use Rattle.lx_abi.specs.declared.ptrace.Reply.{Reply}
 use Rattle.lx_abi.specs.declared.ptrace.Reply.TheVariants.{Done, Status as Status_is, Registers as Registers_are, Bytes as Bytes_are, Message as Message_is, Info as Info_is, Outcome as Outcome_is, Errno as Errno_is, OutOfTurns, Refused}
+use Rattle.std.specs.List.{AllByRecursion}
 use Rattle.host_values.specs.Reading.{paths_rise, pids_rise}
 use Rattle.host_values.specs.Spelling.{byte, word, double, registers, text, items, guest_file, schedule_word, outcome_file, ended, AreRegisters, FitsText, FitItems, FitsGuestFile, FitsWord, FitsOutcomeFile, FitsEnded}
 use Rattle.host_frame.specs.declared.fault.WireFault.{WireFault}
@@ -18,7 +19,7 @@ use Rattle.host_frame.specs.declared.fault.WireFault.TheVariants.{Length, Kind, 
 use Rattle.host_frame.specs.declared.frame.Payload.{Payload}
 use Rattle.host_frame.specs.declared.frame.Payload.TheVariants.{Request as Of_request, Reply as Of_reply}
 use Rattle.host_frame.specs.declared.frame.Frame.{Frame}
-use Rattle.host_frame.specs.Reading.{unsaid_limits}
+use Rattle.host_frame.specs.Reading.{frame_at, unsaid_limits}
 
 -- ---- parts of a boot
 
@@ -135,6 +136,39 @@ FitsMessage (Of_reply r) = FitsReply r
 abbrev pub FitsFrame : Frame → Type 0
 FitsFrame f = (f.number < 256 ^ 8) × FitsMessage f.body
 
+-- ---- numbers of their widths, which the types of code give; how long the lists may be is said by `IsShort`
+
+abbrev pub HasRequestNumbers : Request → Type 0
+HasRequestNumbers (Boot_with b limit words) =
+    (limit < 256 ^ 8) × (FitsLimits b.limits × AllByRecursion FitsWord words)
+HasRequestNumbers (To pid ask) = (pid < 256 ^ 4) × FitsAsk ask
+HasRequestNumbers Wait = Unit {0}
+HasRequestNumbers Ask_outcome = Unit {0}
+
+abbrev pub HasReplyNumbers : Reply → Type 0
+HasReplyNumbers Done = Unit {0}
+HasReplyNumbers (Status_is pid status) = (pid < 256 ^ 4) × (status.word < 256 ^ 4)
+HasReplyNumbers (Registers_are rs) = AreRegisters rs
+HasReplyNumbers (Bytes_are bytes) = Unit {0}
+HasReplyNumbers (Message_is pid) = pid < 256 ^ 8
+HasReplyNumbers (Info_is i) = FitsInfo i
+HasReplyNumbers (Outcome_is o) = AllByRecursion FitsEnded o.ended
+HasReplyNumbers (Errno_is number) = number < 256 ^ 4
+HasReplyNumbers OutOfTurns = Unit {0}
+HasReplyNumbers (Refused fault) = fault < 256 ^ 1
+
+abbrev pub HasMessageNumbers : Payload → Type 0
+HasMessageNumbers (Of_request q) = HasRequestNumbers q
+HasMessageNumbers (Of_reply r) = HasReplyNumbers r
+
+abbrev pub HasNumbers : Frame → Type 0
+HasNumbers f = (f.number < 256 ^ 8) × HasMessageNumbers f.body
+
+-- an outcome's lists are in order
+abbrev pub HasOrder : Payload → Type 0
+HasOrder (Of_reply (Outcome_is o)) = IsInOrder o
+HasOrder _ = Unit {0}
+
 -- ---- frames
 
 -- what stands behind the length: a number, and a message's kind and body
@@ -166,6 +200,15 @@ Spells bytes f = (bytes ≡ spelled f) ⊎ SpellsUnsaid bytes f
 -- the length is in range
 abbrev pub IsShort : Frame → Type 0
 IsShort f = length (content f) ≤ 134217728
+
+-- it is no longer than the limit, and its numbers are of their widths
+abbrev pub CanBeSpelled : Frame → Type 0
+CanBeSpelled f = IsShort f × HasNumbers f
+
+-- its spelling is read as the frame; that of an outcome out of order isn't read
+abbrev pub ReadsBack : Frame → Type 0
+ReadsBack f =
+    (HasOrder f.body × (frame_at (spelled f) ≡ Some f)) ⊎ ((HasOrder f.body → ⊥) × (frame_at (spelled f) ≡ None))
 
 abbrev pub CannotBeSpelled : Frame → WireFault → Type 0
 CannotBeSpelled f Length = 134217728 < length (content f)

@@ -1,6 +1,7 @@
 //! The bytes of a frame.
 
-ghost use Rattle.std.specs.Prelude.{◌≡◌, ◌≤◌, ◌<◌, ◌++◌, OnOk, IfOk, IfErr, length};
+ghost use Rattle.std.specs.Prelude.{◌≡◌, ◌≤◌, ◌<◌, ◌^◌, ◌++◌, OnOk, IfOk, IfErr, length};
+ghost use Rattle.std.specs.List.{AllByRecursion};
 ghost use Rattle.host_values.specs.Spelling as value;
 ghost use Rattle.host_frame.specs.Spelling as spec;
 
@@ -27,14 +28,16 @@ fn ask_kind(ask: &Ask) -> u8
 }
 
 fn put_peek(out: &mut Vec<u8>, address: u64, length: u32) -> Result<(), AllocError>
-    ensures { OnOk result (out.new.items ≡ out.old.items ++ value.double address ++ value.word length) }
+    ensures bytes { OnOk result (out.new.items ≡ out.old.items ++ value.double address ++ value.word length) }
+    ensures numbers { (address < 256 ^ 8) × (length < 256 ^ 4) }
 {
     put_double(out, address)?;
     put_word(out, length)
 }
 
 fn put_ask(out: &mut Vec<u8>, ask: &Ask) -> Result<(), AllocError>
-    ensures { OnOk result (out.new.items ≡ out.old.items ++ (spec.ask_message ask.now).1) }
+    ensures bytes { OnOk result (out.new.items ≡ out.old.items ++ (spec.ask_message ask.now).1) }
+    ensures numbers { OnOk result (spec.FitsAsk ask.now) }
 {
     match ask {
         Ask::Seize { options } => put_word(out, *options),
@@ -49,22 +52,26 @@ fn put_ask(out: &mut Vec<u8>, ask: &Ask) -> Result<(), AllocError>
 }
 
 fn put_to(out: &mut Vec<u8>, pid: u32, ask: &Ask) -> Result<(), AllocError>
-    ensures { OnOk result (out.new.items ≡ out.old.items ++ value.word pid ++ (spec.ask_message ask.now).1) }
+    ensures bytes { OnOk result (out.new.items ≡ out.old.items ++ value.word pid ++ (spec.ask_message ask.now).1) }
+    ensures numbers { OnOk result ((pid < 256 ^ 4) × spec.FitsAsk ask.now) }
 {
     put_word(out, pid)?;
     put_ask(out, ask)
 }
 
 fn put_status(out: &mut Vec<u8>, pid: u32, word: u32) -> Result<(), AllocError>
-    ensures { OnOk result (out.new.items ≡ out.old.items ++ value.word pid ++ value.word word) }
+    ensures bytes { OnOk result (out.new.items ≡ out.old.items ++ value.word pid ++ value.word word) }
+    ensures numbers { (pid < 256 ^ 4) × (word < 256 ^ 4) }
 {
     put_word(out, pid)?;
     put_word(out, word)
 }
 
 fn put_info(out: &mut Vec<u8>, info: &Info) -> Result<(), AllocError>
-    ensures { OnOk result (out.new.items ≡ out.old.items ++ value.word info.now.signal ++ value.word info.now.code
-        ++ value.word info.now.pid ++ value.word info.now.status ++ value.double info.now.address) }
+    ensures bytes { OnOk result (out.new.items ≡ out.old.items ++ value.word info.now.signal
+        ++ value.word info.now.code ++ value.word info.now.pid ++ value.word info.now.status
+        ++ value.double info.now.address) }
+    ensures numbers { OnOk result (spec.FitsInfo info.now) }
 {
     put_word(out, info.signal)?;
     put_word(out, info.code)?;
@@ -74,8 +81,9 @@ fn put_info(out: &mut Vec<u8>, info: &Info) -> Result<(), AllocError>
 }
 
 fn put_outcome(out: &mut Vec<u8>, outcome: &Outcome) -> Result<(), AllocError>
-    ensures { OnOk result (out.new.items ≡ out.old.items ++ value.text outcome.now.console
+    ensures bytes { OnOk result (out.new.items ≡ out.old.items ++ value.text outcome.now.console
         ++ value.items value.outcome_file outcome.now.files ++ value.items value.ended outcome.now.ended) }
+    ensures numbers { OnOk result (AllByRecursion value.FitsEnded outcome.now.ended) }
 {
     put_text(out, outcome.console.as_slice())?;
     put_list(out, outcome.files.as_slice())?;
@@ -94,7 +102,8 @@ fn put_parts(out: &mut Vec<u8>, boot: &Boot) -> Result<(), AllocError>
 
 #[tactic(auto, unfolding(crate::specs::Spelling::head))]
 fn put_head(out: &mut Vec<u8>, follow: bool, limit: u64) -> Result<(), AllocError>
-    ensures { OnOk result (out.new.items ≡ out.old.items ++ spec.head follow limit) }
+    ensures bytes { OnOk result (out.new.items ≡ out.old.items ++ spec.head follow limit) }
+    ensures numbers { limit < 256 ^ 8 }
 {
     put_byte(out, 2)?;
     put_byte(out, if follow { 1 } else { 0 })?;
@@ -102,14 +111,17 @@ fn put_head(out: &mut Vec<u8>, follow: bool, limit: u64) -> Result<(), AllocErro
 }
 
 fn put_limits(out: &mut Vec<u8>, limits: Limits) -> Result<(), AllocError>
-    ensures { OnOk result (out.new.items ≡ out.old.items ++ spec.limits limits) }
+    ensures bytes { OnOk result (out.new.items ≡ out.old.items ++ spec.limits limits) }
+    ensures numbers { spec.FitsLimits limits }
 {
     put_word(out, limits.live)?;
     put_word(out, limits.last_pid)
 }
 
 fn put_boot(out: &mut Vec<u8>, boot: &Boot, limit: u64, words: &[Word]) -> Result<(), AllocError>
-    ensures { OnOk result (out.new.items ≡ out.old.items ++ spec.boot boot.now limit words.now) }
+    ensures bytes { OnOk result (out.new.items ≡ out.old.items ++ spec.boot boot.now limit words.now) }
+    ensures numbers { OnOk result ((limit < 256 ^ 8)
+        × (spec.FitsLimits boot.now.limits × AllByRecursion value.FitsWord words.now)) }
 {
     put_head(out, boot.follow, limit)?;
     put_limits(out, boot.limits)?;
@@ -118,7 +130,8 @@ fn put_boot(out: &mut Vec<u8>, boot: &Boot, limit: u64, words: &[Word]) -> Resul
 }
 
 fn put_request(out: &mut Vec<u8>, request: &Request) -> Result<(), AllocError>
-    ensures { OnOk result (out.new.items ≡ out.old.items ++ (spec.request_message request.now).1) }
+    ensures bytes { OnOk result (out.new.items ≡ out.old.items ++ (spec.request_message request.now).1) }
+    ensures numbers { OnOk result (spec.HasRequestNumbers request.now) }
 {
     match request {
         Request::Boot { boot, limit, words } => put_boot(out, boot, *limit, words.as_slice()),
@@ -140,7 +153,8 @@ fn request_kind(request: &Request) -> u8
 }
 
 fn put_reply(out: &mut Vec<u8>, reply: &Reply) -> Result<(), AllocError>
-    ensures { OnOk result (out.new.items ≡ out.old.items ++ (spec.reply_message reply.now).1) }
+    ensures bytes { OnOk result (out.new.items ≡ out.old.items ++ (spec.reply_message reply.now).1) }
+    ensures numbers { OnOk result (spec.HasReplyNumbers reply.now) }
 {
     match reply {
         Reply::Done => Ok(()),
@@ -183,7 +197,8 @@ fn kind(body: &Payload) -> u8
 }
 
 fn put_body(out: &mut Vec<u8>, body: &Payload) -> Result<(), AllocError>
-    ensures { OnOk result (out.new.items ≡ out.old.items ++ (spec.message body.now).1) }
+    ensures bytes { OnOk result (out.new.items ≡ out.old.items ++ (spec.message body.now).1) }
+    ensures numbers { OnOk result (spec.HasMessageNumbers body.now) }
 {
     match body {
         Payload::Request(request) => put_request(out, request),
@@ -192,7 +207,8 @@ fn put_body(out: &mut Vec<u8>, body: &Payload) -> Result<(), AllocError>
 }
 
 fn put_content(out: &mut Vec<u8>, frame: &Frame) -> Result<(), AllocError>
-    ensures { OnOk result (out.new.items ≡ out.old.items ++ spec.content frame.now) }
+    ensures bytes { OnOk result (out.new.items ≡ out.old.items ++ spec.content frame.now) }
+    ensures numbers { OnOk result (spec.HasNumbers frame.now) }
 {
     put_double(out, frame.number)?;
     put_byte(out, kind(&frame.body))?;
@@ -203,7 +219,7 @@ fn put_content(out: &mut Vec<u8>, frame: &Frame) -> Result<(), AllocError>
 #[tactic(auto, unfolding(crate::specs::Spelling::spelled))]
 pub fn encode(alloc: Global, frame: &Frame) -> Result<Vec<u8>, WireFault>
     ensures bytes { IfOk result (λ v. v.items ≡ spec.spelled frame.now) }
-    ensures short { IfOk result (λ v. spec.IsShort frame.now) }
+    ensures fits { IfOk result (λ v. spec.CanBeSpelled frame.now) }
     ensures fault { IfErr result (λ fault. spec.CannotBeSpelled frame.now fault) }
 {
     let Some(size) = content_size(frame) else {

@@ -50,7 +50,8 @@ pub fn spend_text(budget: usize, bytes: &[u8]) -> Option<usize>
 }
 
 pub fn put_registers(out: &mut Vec<u8>, registers: &Registers) -> Result<(), AllocError>
-    ensures { OnOk result (out.new.items ≡ out.old.items ++ spec.registers registers.now) }
+    ensures bytes { OnOk result (out.new.items ≡ out.old.items ++ spec.registers registers.now) }
+    ensures numbers { spec.AreRegisters registers.now }
 {
     let mut bytes = [0; 256];
     LittleEndian::write_u64_into(registers, &mut bytes);

@@ -5,7 +5,7 @@ ghost use Rattle.host_values.specs.Sizes.{Spends};
 ghost use Rattle.host_values.specs.Reading as spec;
 ghost use Rattle.host_values.specs.Reading.{Gives, items_at, each_at};
 ghost use Rattle.host_values.specs.Spelling.{text, items, guest_file, schedule_word};
-ghost use Rattle.std.specs.List.{flat_map};
+ghost use Rattle.std.specs.List.{AllByRecursion, flat_map};
 ghost use Rattle.host_values.specs.Spelling as spell;
 
 use crate::cursor::{byte_at, text_of, word_at};
@@ -22,11 +22,15 @@ pub trait Item: Sized {
     /// Its bytes.
     ghost spelled: { Self → List ℕ };
 
+    /// Its numbers are of the widths in which they are spelled.
+    ghost numbers: { Self → Type 0 };
+
     /// The value at the front of bytes, and the bytes after it.
     ghost reads: { List ℕ → Option (Self × List ℕ) };
 
     fn put(&self, out: &mut Vec<u8>) -> Result<(), AllocError>
-        ensures { OnOk result (out.new.items ≡ out.old.items ++ spelled self.now) };
+        ensures bytes { OnOk result (out.new.items ≡ out.old.items ++ spelled self.now) }
+        ensures numbers { OnOk result (numbers self.now) };
 
     /// What is left of a budget of bytes behind it.
     fn spend(&self, budget: usize) -> Option<usize>
@@ -60,7 +64,8 @@ pub fn list_of<T: Item + Drop>(alloc: Global, bytes: &[u8]) -> Result<(Seq<T>, &
 
 #[tactic(auto, unfolding(crate::specs::Spelling::items))]
 pub fn put_list<T: Item>(out: &mut Vec<u8>, list: &[T]) -> Result<(), AllocError>
-    ensures { OnOk result (out.new.items ≡ out.old.items ++ items T.spelled list.now) }
+    ensures bytes { OnOk result (out.new.items ≡ out.old.items ++ items T.spelled list.now) }
+    ensures numbers { OnOk result (AllByRecursion T.numbers list.now) }
 {
     put_length(out, list.len())?;
     for item in list {
@@ -84,6 +89,8 @@ pub fn spend_list<T: Item>(budget: usize, list: &[T]) -> Option<usize>
 impl Item for Bytes {
     ghost spelled = { λ b. text b };
 
+    ghost numbers = { λ b. Unit {0} };
+
     ghost reads = { λ bytes. spec.text_at bytes };
 
     fn put(&self, out: &mut Vec<u8>) -> Result<(), AllocError> {
@@ -102,6 +109,8 @@ impl Item for Bytes {
 
 impl Item for GuestFile {
     ghost spelled = { λ f. guest_file f };
+
+    ghost numbers = { λ f. Unit {0} };
 
     ghost reads = { λ bytes. spec.guest_file_at bytes };
 
@@ -138,6 +147,8 @@ fn schedule_word_of(kind: u8, pid: u32) -> Option<Word>
 
 impl Item for Word {
     ghost spelled = { λ w. schedule_word w };
+
+    ghost numbers = { λ w. spell.FitsWord w };
 
     ghost reads = { λ bytes. spec.schedule_word_at bytes };
 
@@ -207,6 +218,8 @@ fn spend_node(budget: usize, node: &Node) -> Option<usize>
 impl Item for OutcomeFile {
     ghost spelled = { λ f. spell.outcome_file f };
 
+    ghost numbers = { λ f. Unit {0} };
+
     ghost reads = { λ bytes. spec.outcome_file_at bytes };
 
     fn put(&self, out: &mut Vec<u8>) -> Result<(), AllocError> {
@@ -234,6 +247,8 @@ impl Item for OutcomeFile {
 
 impl Item for Ended {
     ghost spelled = { λ e. spell.ended e };
+
+    ghost numbers = { λ e. spell.FitsEnded e };
 
     ghost reads = { λ bytes. spec.ended_at bytes };
 

@@ -1,5 +1,5 @@
 -- Spelled frames in a stream.
-use Rattle.std.proofs.Common.{◌≡◌, ℕ, ◌+◌, ◌<◌, ◌≤◌, Bool, true, false, cond, not, ltb, List, [], ◌∷◌, ◌++◌, length, take, drop, get_or, Option, Some, None, append_assoc, refl, sym, ap, subst, ◌∙◌, arith}
+use Rattle.std.proofs.Common.{◌≡◌, ℕ, ◌+◌, ◌<◌, ◌≤◌, Bool, true, false, cond, not, ltb, List, [], ◌∷◌, ◌++◌, length, take, drop, get_or, Option, Some, None, append_assoc, refl, sym, ap, subst, ◌∙◌, arith, inl, inr}
 use Rattle.std.proofs.Math.Seq.{take-length, drop-length}
 use Rattle.std.proofs.lemmas.Bool.{le-ltb, ltb-false, le-leb}
 use Rattle.std.proofs.lemmas.List.{take_at, drop_at, get_or-drop, length-append, length-drop}
@@ -15,7 +15,7 @@ use Rattle.host_frame.specs.declared.frame.Frame.{Frame}
 use Rattle.host_frame.specs.declared.fault.WireFault.{WireFault}
 use Rattle.host_frame.specs.declared.fault.WireFault.TheVariants.{Length, Kind, Payload as Body_fault}
 use Rattle.host_frame.specs.Reading.{frame_at, told_length}
-use Rattle.host_frame.specs.Spelling.{message, content, spelled, FitsFrame, IsShort}
+use Rattle.host_frame.specs.Spelling.{message, content, spelled, CanBeSpelled, FitsFrame, HasOrder, IsShort, ReadsBack}
 use Rattle.host_wire.specs.Streams.{is_length, is_kind, Stream, Going, Failed, goes_on, Front, More, Bad, Whole, whole, front_of, stream_of, AreFrames, spelled_all}
 use Rattle.host_wire.proofs.Streams.{after, by_front, goes_on_prepended, prepended, parts_of, frames_join, told_front, whole_front}
 
@@ -65,14 +65,14 @@ kind_byte (Of_reply (Errno_is number)) = refl
 kind_byte (Of_reply OutOfTurns) = refl
 kind_byte (Of_reply (Refused fault)) = refl
 
-front_whole : (bytes : List ℕ) (f : Frame) → 13 ≤ length bytes → is_length (told_length bytes) ≡ true → is_kind (get_or bytes 12 0) ≡ true → length bytes ≡ 4 + told_length bytes → frame_at bytes ≡ Some f → front_of bytes ≡ Whole f (length bytes)
+front_whole : (bytes : List ℕ) (o : Option Frame) → 13 ≤ length bytes → is_length (told_length bytes) ≡ true → is_kind (get_or bytes 12 0) ≡ true → length bytes ≡ 4 + told_length bytes → frame_at bytes ≡ o → front_of bytes ≡ whole o (length bytes)
 unfolding front_of
-front_whole bytes f long told kind size is =
+front_whole bytes o long told kind size is =
     let a : ltb (length bytes) 4 ≡ false = le-ltb (length bytes) 4 (omega (arith, long)) in
     let c : ltb (length bytes) 13 ≡ false = le-ltb (length bytes) 13 long in
     let e : ltb (length bytes) (4 + told_length bytes) ≡ false = le-ltb (length bytes) (4 + told_length bytes) (omega (arith, size)) in
     let t : take (4 + told_length bytes) bytes ≡ bytes = ap (λ (n : ℕ). take n bytes) (sym size) ∙ take-length bytes in
-    let w : whole (frame_at (take (4 + told_length bytes) bytes)) (4 + told_length bytes) ≡ Whole f (length bytes) = rw (t, is) (ap (Whole f) (sym size)) in
+    let w : whole (frame_at (take (4 + told_length bytes) bytes)) (4 + told_length bytes) ≡ whole o (length bytes) = rw (t, is) (ap (whole o) (sym size)) in
     rw (a, told, c, kind, e) w
 
 -- sizes of a spelling
@@ -107,24 +107,27 @@ sizes f short =
 is_long : (n : ℕ) → 9 ≤ n → n ≤ 134217728 → is_length n ≡ true
 is_long n low high = rw (le-leb 9 n low, le-leb n 134217728 high) refl
 
-front_spelled : (f : Frame) → FitsFrame f → IsShort f → frame_at (spelled f) ≡ Some f → front_of (spelled f) ≡ Whole f (length (spelled f))
-front_spelled f fits short again =
+front_spelled : (f : Frame) (o : Option Frame) → IsShort f → frame_at (spelled f) ≡ o → front_of (spelled f) ≡ whole o (length (spelled f))
+front_spelled f o short again =
     let s : Sizes f = sizes f short in
-    front_whole (spelled f) f (omega (arith, s.whole, s.least)) (ap is_length s.told ∙ is_long (length (content f)) s.least short) (ap is_kind s.kind ∙ kind_is f.body) (omega (arith, s.whole, s.told)) again
+    front_whole (spelled f) o (omega (arith, s.whole, s.least)) (ap is_length s.told ∙ is_long (length (content f)) s.least short) (ap is_kind s.kind ∙ kind_is f.body) (omega (arith, s.whole, s.told)) again
 
 abbrev pub SpelledIsRead : Type 0
 SpelledIsRead = (f : Frame) → FitsFrame f → frame_at (spelled f) ≡ Some f
 
-one_read : SpelledIsRead → (f : Frame) → FitsFrame f → IsShort f → stream_of (spelled f) ≡ Going (f ∷ []) []
+abbrev pub EncodedReadsBack : Type 0
+EncodedReadsBack = (f : Frame) → CanBeSpelled f → ReadsBack f
+
+one_read : (f : Frame) → IsShort f → frame_at (spelled f) ≡ Some f → stream_of (spelled f) ≡ Going (f ∷ []) []
 unfolding goes_on
-one_read again f fits short =
-    let e : front_of (spelled f) ≡ Whole f (length (spelled f)) = front_spelled f fits short (again f fits) in
+one_read f short again =
+    let e : front_of (spelled f) ≡ Whole f (length (spelled f)) = front_spelled f (Some f) short again in
     by_front [] (spelled f) ∙ ap (after [] (spelled f)) e ∙ ap (λ (bs : List ℕ). goes_on (Going (f ∷ []) []) bs) (drop-length (spelled f))
 
 pub frames_read : SpelledIsRead → (fs : List Frame) → AreFrames fs → stream_of (spelled_all fs) ≡ Going fs []
 unfolding spelled_all goes_on
 frames_read again [] fits = refl
-frames_read again (f ∷ fs) fits = frames_join (f ∷ []) (spelled f) (spelled_all fs) fs (one_read again f fits.0 fits.1.0) (frames_read again fs fits.1.1)
+frames_read again (f ∷ fs) fits = frames_join (f ∷ []) (spelled f) (spelled_all fs) fs (one_read f fits.1.0 (again f fits.0)) (frames_read again fs fits.1.1)
 
 -- frames only come
 
@@ -178,14 +181,24 @@ one_frame came g e = one_by came g (front_of came) refl (sym (by_front [] came) 
 told_of : (xs ys : List ℕ) → 4 ≤ length xs → told_length xs ≡ told_length (xs ++ ys)
 told_of xs ys le = ap told_length (sym (take_at xs ys (length xs) refl)) ∙ told_front (xs ++ ys) (length xs) le
 
-pub first_read : SpelledIsRead → (f g : Frame) (came rest more : List ℕ) → FitsFrame f → IsShort f → came ++ rest ≡ spelled f ++ more → stream_of came ≡ Going (g ∷ []) [] → (came ≡ spelled f) × (g ≡ f)
-first_read again f g came rest more fits short same e =
-    let s : Sizes f = sizes f short in
+none_read : (f : Frame) (g : Frame) → IsShort f → frame_at (spelled f) ≡ None → stream_of (spelled f) ≡ Going (g ∷ []) [] → ⊥
+none_read f g short none e =
+    let front : front_of (spelled f) ≡ Bad Body_fault = front_spelled f None short none in
+    let fails : Failed Body_fault ≡ Going (g ∷ []) [] = sym (ap (after [] (spelled f)) front) ∙ sym (by_front [] (spelled f)) ∙ e in
+    absurd cc
+
+by_reading : (f g : Frame) → IsShort f → stream_of (spelled f) ≡ Going (g ∷ []) [] → ReadsBack f → HasOrder f.body × (g ≡ f)
+by_reading f g short e (inl read) = let both : Going (g ∷ []) [] ≡ Going (f ∷ []) [] = sym e ∙ one_read f short read.1 in (read.0, cc)
+by_reading f g short e (inr none) = absurd (none_read f g short none.1 e)
+
+pub first_read : EncodedReadsBack → (f g : Frame) (came rest more : List ℕ) → CanBeSpelled f → came ++ rest ≡ spelled f ++ more → stream_of came ≡ Going (g ∷ []) [] → HasOrder f.body × ((came ≡ spelled f) × (g ≡ f))
+first_read back f g came rest more can same e =
+    let s : Sizes f = sizes f can.0 in
     let one : IsWholeFrame came = one_frame came g e in
     let told : told_length came ≡ length (content f) =
     told_of came rest (omega (arith, one.long)) ∙ ap told_length same ∙ sym (told_of (spelled f) more (omega (arith, s.whole))) ∙ s.told in
     let size : length came ≡ length (spelled f) = omega (arith, one.size, told, s.whole) in
     let is : came ≡ spelled f =
     sym (take_at came rest (length came) refl) ∙ ap (take (length came)) same ∙ ap (λ (n : ℕ). take n (spelled f ++ more)) size ∙ take_at (spelled f) more (length (spelled f)) refl in
-    let both : Going (g ∷ []) [] ≡ Going (f ∷ []) [] = sym e ∙ ap stream_of is ∙ one_read again f fits short in
-    (is, cc)
+    let read = by_reading f g can.0 (ap stream_of (sym is) ∙ e) (back f can) in
+    (read.0, (is, read.1))
