@@ -12,7 +12,7 @@ use Rattle.host_wire.specs.declared.receiving.ReceiveFault.{ReceiveFault}
 use Rattle.host_wire.specs.declared.receiving.ReceiveFault.TheVariants as receiving
 use Rattle.host_wire.specs.Ends.{AppendsPart, Input, IsPut}
 use Rattle.host_wire.specs.Receiving.{IsCutOff, Receiving}
-use Rattle.host_frame.specs.Spelling.{content, spelled}
+use Rattle.host_frame.specs.Spelling.{CanBeSpelled, content, spelled}
 use Rattle.host_wire.specs.Streams.{Stream, Going, Failed, stream_of}
 use Rattle.host_link.specs.declared.fault.LinkFault.{LinkFault}
 use Rattle.host_link.specs.declared.fault.LinkFault.TheVariants.{Ended, Read, Write, Malformed, Sequence, Inadmissible, Memory, TooMany}
@@ -22,9 +22,9 @@ request_frame number request = record { number = number; body = Of_request reque
 
 -- ---- a frame that is sent
 
--- its bytes are written by one put
+-- it can be spelled, and its bytes are written by one put
 abbrev pub IsSent : Frame → Option (List ℕ) → Option (List ℕ) → List ℕ → List ℕ → Type 0
-IsSent f old new puts puts' = Appends old new (spelled f) × IsPut puts puts' (spelled f)
+IsSent f old new puts puts' = Appends old new (spelled f) × (IsPut puts puts' (spelled f) × CanBeSpelled f)
 
 -- so they are, by one put too that may fail within them; or nothing is written, and none is made
 abbrev pub SentAs : Result ⊤ LinkFault → Frame → Option (List ℕ) → Option (List ℕ) → List ℕ → List ℕ → ℕ → Type 0

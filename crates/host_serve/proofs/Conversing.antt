@@ -6,7 +6,7 @@ use Rattle.lx_abi.specs.declared.outcome.Outcome.{Outcome}
 use Rattle.lx_abi.specs.declared.ptrace.Reply.{Reply}
 use Rattle.lx_abi.specs.declared.ptrace.Request.{Request}
 use Rattle.host_wire.specs.Ends.{AppendsPart, Input, IsPut}
-use Rattle.host_frame.specs.Spelling.{spelled, reply_frame}
+use Rattle.host_frame.specs.Spelling.{CanBeSpelled, spelled, reply_frame}
 use Rattle.host_wire.specs.Streams.{Going, goes_on}
 use Rattle.host_wire.proofs.Gathered.{unread}
 use Rattle.host_wire.proofs.Streams.{frames_join}
@@ -38,7 +38,7 @@ can_answer ready given (Serving s) due few = (due.0, omega (arith, due.1, few))
 module _ {S : Type 0} {most : ℕ} {boots : Boots S} {answers : Answers S} where
   pub starts : (a : Input) (old : Option (List ℕ)) (puts : List ℕ) → Serves most boots answers a a old old puts puts Waiting 1
   unfolding goes_on
-  starts a old puts = record { exchanges = []; came = []; consumed = Consumes-nil a.remaining; led = refl; asked = refl; taken = (refl, refl); written = (Appends-nil old, sym (append-nil puts)); counted = refl }
+  starts a old puts = record { exchanges = []; came = []; consumed = Consumes-nil a.remaining; led = refl; asked = refl; taken = (refl, refl); written = (Appends-nil old, sym (append-nil puts)); fit = tt; counted = refl }
 
   -- nothing was read or written
   pub fails_first : {left : S → Outcome} (a : Input) (old : Option (List ℕ)) (puts : List ℕ) (broken_writer : ℕ) → Served most boots answers left a a old old puts puts (Err Failed) broken_writer
@@ -56,6 +56,7 @@ module _ {S : Type 0} {most : ℕ} {boots : Boots S} {answers : Answers S} where
     last = unread a;
     ended = tt;
     written = (Appends-nil old, sym (append-nil puts));
+    fit = tt;
   }
 
   pub goes_further : {a b c : Input} {d e f : Option (List ℕ)} {u v w : List ℕ} {phase : Phase S} {number : ℕ} (next : Phase S) (q : Request) (r : Reply)
@@ -69,8 +70,9 @@ module _ {S : Type 0} {most : ℕ} {boots : Boots S} {answers : Answers S} where
     asked = frames_join _ s.came n.came _ s.asked (n.so ∙ ap (λ (k : ℕ). Going (request_frame k q ∷ []) []) s.counted);
     written = (
       Appends-trans d e f _ _ s.written.0 (subst (λ (k : ℕ). Appends e f (spelled (reply_frame k r))) s.counted sent.0),
-      put_more _ _ _ s.written.1 (subst (λ (k : ℕ). IsPut v w (spelled (reply_frame k r))) s.counted sent.1),
+      put_more _ _ _ s.written.1 (subst (λ (k : ℕ). IsPut v w (spelled (reply_frame k r))) s.counted sent.1.0),
     );
+    fit = (subst (λ (k : ℕ). CanBeSpelled (reply_frame k r)) s.counted sent.1.1, s.fit);
     counted = omega (arith, s.counted);
   }
 
@@ -89,6 +91,7 @@ module _ {S : Type 0} {most : ℕ} {boots : Boots S} {answers : Answers S} where
     last = n.received;
     ended = (n.so.0, (n.so.1.0, n.so.1.1, is));
     written = s.written;
+    fit = s.fit;
   }
 
   pub ends_failed : {left : S → Outcome} {a b c : Input} {d e : Option (List ℕ)} {u v : List ℕ} {phase : Phase S} {number broken_writer : ℕ} {next : Option Request}
@@ -106,6 +109,7 @@ module _ {S : Type 0} {most : ℕ} {boots : Boots S} {answers : Answers S} where
     last = n.received;
     ended = tt;
     written = s.written;
+    fit = s.fit;
   }
 
   pub ends_reading : {left : S → Outcome} {a b c : Input} {d e : Option (List ℕ)} {u v : List ℕ} {phase : Phase S} {number broken_writer : ℕ} (fault : ServeFault)
@@ -123,6 +127,7 @@ module _ {S : Type 0} {most : ℕ} {boots : Boots S} {answers : Answers S} where
     last = n.received;
     ended = inl n.so;
     written = s.written;
+    fit = s.fit;
   }
   ends_reading {a = a} {b = b} {c = c} {phase = phase} Wire s n = record {
     exchanges = s.exchanges;
@@ -137,6 +142,7 @@ module _ {S : Type 0} {most : ℕ} {boots : Boots S} {answers : Answers S} where
     last = n.received;
     ended = inl n.so;
     written = s.written;
+    fit = s.fit;
   }
   ends_reading {a = a} {b = b} {c = c} {phase = phase} Order s n = record {
     exchanges = s.exchanges;
@@ -151,6 +157,7 @@ module _ {S : Type 0} {most : ℕ} {boots : Boots S} {answers : Answers S} where
     last = n.received;
     ended = (n.so.0, (n.so.1.0, inl (subst (λ (k : ℕ). IsOther n.so.0 k) s.counted n.so.1.1)));
     written = s.written;
+    fit = s.fit;
   }
   ends_reading Write s n = absurd n.so
   ends_reading {a = a} {b = b} {c = c} {phase = phase} Failed s n = record {
@@ -166,6 +173,7 @@ module _ {S : Type 0} {most : ℕ} {boots : Boots S} {answers : Answers S} where
     last = n.received;
     ended = tt;
     written = s.written;
+    fit = s.fit;
   }
 
   pub ends_asked : {left : S → Outcome} {a b c : Input} {d e : Option (List ℕ)} {u v : List ℕ} {phase : Phase S} {number broken_writer : ℕ} (fails : Fails S) (q : Request) (fault : ServeFault) (next : Phase S)
@@ -186,6 +194,7 @@ module _ {S : Type 0} {most : ℕ} {boots : Boots S} {answers : Answers S} where
     last = n.received;
     ended = (request_frame _ q, (n.so, inr (q, (ap (λ (k : ℕ). request_frame k q) s.counted, h))));
     written = s.written;
+    fit = s.fit;
   }
   ends_asked fails q Failed next s n h = ends_failed s n
 
@@ -210,6 +219,7 @@ module _ {S : Type 0} {most : ℕ} {boots : Boots S} {answers : Answers S} where
         let all = subst (λ (k : ℕ). AppendsPart d f (replies_of s.exchanges ++ spelled (reply_frame k r))) s.counted (part_behind d e f (replies_of s.exchanges) (spelled (reply_frame number r)) s.written.0 part) in
         let put = put_more _ _ _ s.written.1 (subst (λ (k : ℕ). IsPut v w (spelled (reply_frame k r))) s.counted sent.1.0) in
         (q, (r, (next, (answered, (all, put)))));
+    fit = s.fit;
   }
   ends_sending {a = a} {b = b} {c = c} {d = d} {e = e} {f = f} {phase = phase} next q r Wire s n answered sent = record {
     exchanges = s.exchanges;
@@ -224,6 +234,7 @@ module _ {S : Type 0} {most : ℕ} {boots : Boots S} {answers : Answers S} where
     last = n.received;
     ended = inr (q, (r, (next, (answered, subst (λ (k : ℕ). IsTooLong k r) s.counted sent.1.1))));
     written = (subst (λ (o : Option (List ℕ)). Appends d o (replies_of s.exchanges)) (sym sent.0) s.written.0, sent.1.0 ∙ s.written.1);
+    fit = s.fit;
   }
   ends_sending {a = a} {b = b} {c = c} {d = d} {e = e} {f = f} {phase = phase} next q r Failed s n answered sent = record {
     exchanges = s.exchanges;
@@ -238,6 +249,7 @@ module _ {S : Type 0} {most : ℕ} {boots : Boots S} {answers : Answers S} where
     last = n.received;
     ended = tt;
     written = (subst (λ (o : Option (List ℕ)). Appends d o (replies_of s.exchanges)) (sym sent.0) s.written.0, sent.1 ∙ s.written.1);
+    fit = s.fit;
   }
 
   pub ends_finished : {left : S → Outcome} {a b c : Input} {d e : Option (List ℕ)} {u v : List ℕ} {phase : Phase S} {number broken_writer : ℕ} (result : Result Outcome ServeFault)
@@ -264,4 +276,5 @@ module _ {S : Type 0} {most : ℕ} {boots : Boots S} {answers : Answers S} where
     last = unread b;
     ended = inr (sym s.counted ∙ last);
     written = s.written;
+    fit = s.fit;
   }

@@ -1,5 +1,5 @@
 -- A conversation with the traced kernel: a link to it in memory tells what it replies.
-use Rattle.std.specs.Prelude.{◌≡◌, ℕ, false, List, Option, Some, None, Result, Ok, Err}
+use Rattle.std.specs.Prelude.{◌≡◌, ℕ, ◌+◌, false, List, Option, Some, None, Result, Ok, Err}
 use Rattle.lx_abi.specs.declared.boot.Boot.{Boot}
 use Rattle.lx_abi.specs.declared.schedule.Word.{Word}
 use Rattle.lx_abi.specs.declared.outcome.Outcome.{Outcome}
@@ -52,9 +52,9 @@ abbrev pub Boots_by : Boot → ℕ → List Word → Result LocalLink ℕ → Ty
 Boots_by boot limit words (Ok l) = IsFirst boot limit words l
 Boots_by boot limit words (Err n) = (fault : BootFault) × ((n ≡ fault_number fault) × IsRefusal boot fault)
 
--- what the link replies
+-- what the link replies, which it counts, and meets no fault
 abbrev pub Answers_by : LocalLink → Request → Reply → LocalLink → Type 0
-Answers_by a q r b = Calls a q (Ok r) b
+Answers_by a q r b = Calls a q (Ok r) b × ((given_of b ≡ given_of a + 1) × (faults_of b ≡ faults_of a))
 
 -- the host had no memory for it
 abbrev pub Fails_by : LocalLink → Request → LocalLink → Type 0

@@ -11,7 +11,7 @@ use Rattle.lx_abi.specs.declared.ptrace.Request.TheVariants.{Boot as Boot_with}
 use Rattle.host_frame.specs.declared.frame.Frame.{Frame}
 use Rattle.host_wire.specs.Ends.{AppendsPart, Input, IsPut}
 use Rattle.host_wire.specs.Receiving.{IsCutOff, Receiving}
-use Rattle.host_frame.specs.Spelling.{content, spelled, reply_frame}
+use Rattle.host_frame.specs.Spelling.{CanBeSpelled, content, spelled, reply_frame}
 use Rattle.host_wire.specs.Streams.{Going, stream_of}
 use Rattle.host_serve.specs.declared.fault.ServeFault.{ServeFault}
 use Rattle.host_serve.specs.declared.fault.ServeFault.TheVariants.{Read, Write, Wire, Order, Failed}
@@ -35,11 +35,12 @@ Fails S = S → Request → S → Type 0
 abbrev pub IsTooLong : ℕ → Reply → Type 0
 IsTooLong number r = 134217728 < length (content (reply_frame number r))
 
--- the reply's frame is written by one put, which may fail within it; or nothing is
+-- the reply's frame, which can be spelled, is written by one put, which may fail within it; or nothing is
 abbrev pub SentAs : Result ⊤ ServeFault → ℕ → Reply → Option (List ℕ) → Option (List ℕ) → List ℕ → List ℕ → ℕ
     → Type 0
 SentAs (Ok u) number r old new puts puts' broken =
-    Appends old new (spelled (reply_frame number r)) × IsPut puts puts' (spelled (reply_frame number r))
+    Appends old new (spelled (reply_frame number r))
+    × (IsPut puts puts' (spelled (reply_frame number r)) × CanBeSpelled (reply_frame number r))
 SentAs (Err Write) number r old new puts puts' broken =
     AppendsPart old new (spelled (reply_frame number r))
     × (IsPut puts puts' (spelled (reply_frame number r)) × (broken ≡ 1))
@@ -127,6 +128,11 @@ abbrev pub sizes_of : Exchanges → List ℕ
 sizes_of [] = []
 sizes_of (x ∷ xs) = sizes_of xs ++ length (spelled (reply_frame (length xs + 1) x.1)) ∷ []
 
+-- each of these frames can be spelled
+abbrev pub AreSpelled : Exchanges → Type 0
+AreSpelled [] = Unit {0}
+AreSpelled (x ∷ xs) = CanBeSpelled (reply_frame (length xs + 1) x.1) × AreSpelled xs
+
 -- the bytes of the requests, each of which came by so many reads at most
 abbrev pub Taken : ℕ → Input → Exchanges → Input → List ℕ → Type 0
 Taken most a [] b came = (b ≡ a) × (came ≡ [])
@@ -200,6 +206,7 @@ pub record Served {S : Type 0} (most : ℕ) (boots : Boots S) (answers : Answers
   pub last : Receiving most middle input' rest
   pub ended : EndsBy most boots answers left phase (length exchanges + 1) result rest last.reads input' broken_writer
   pub written : WritesAs boots answers phase exchanges result old new puts puts'
+  pub fit : AreSpelled exchanges
 
 -- so far, with this many exchanges
 pub record Serves {S : Type 0} (most : ℕ) (boots : Boots S) (answers : Answers S) (input input' : Input)
@@ -211,4 +218,5 @@ pub record Serves {S : Type 0} (most : ℕ) (boots : Boots S) (answers : Answers
   pub asked : stream_of came ≡ Going (requests_of exchanges) []
   pub taken : Taken most input exchanges input' came
   pub written : AreWritten exchanges old new puts puts'
+  pub fit : AreSpelled exchanges
   pub counted : number ≡ length exchanges + 1
