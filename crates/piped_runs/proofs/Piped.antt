@@ -1,0 +1,236 @@
+-- A run over a pipe has the exchanges that a link to the host itself answers.
+use Rattle.std.proofs.Common.{◌≡◌, ℕ, ◌+◌, List, [], ◌∷◌, ◌++◌, Option, Some, None, Result, Ok, Err, refl, sym, ap, subst, ◌∙◌, append_assoc, append-nil, inl, inr}
+use Rattle.std.specs.Prelude.{⊤}
+use Rattle.std.specs.Io.KnownBytes.{Appends}
+use Rattle.lx_abi.specs.declared.boot.Boot.{Boot}
+use Rattle.lx_abi.specs.declared.ptrace.Reply.{Reply}
+use Rattle.lx_abi.specs.declared.ptrace.Reply.TheVariants.{Done, Refused}
+use Rattle.lx_abi.specs.declared.ptrace.Request.{Request}
+use Rattle.lx_abi.specs.declared.ptrace.Request.TheVariants.{Boot as Boot_with}
+use Rattle.lx_abi.specs.declared.schedule.Word.{Word}
+use Rattle.lx_abi.specs.Scripts.{choice_of}
+use Rattle.lx_boot.specs.First.{first_shared}
+use Rattle.lx_exec.specs.Programs.{booted}
+use Rattle.lx_kernel.specs.Outcomes.{outcome_in}
+use Rattle.lx_model.specs.Machine.{IsMachine}
+use Rattle.lx_proc.specs.declared.state.Shared.{Shared}
+use Rattle.lx_proc.specs.declared.state.UserState.{UserState}
+use Rattle.lx_turn.specs.Linux.{linux}
+use Rattle.pt_kernel.specs.Hosts.{HostState}
+use Rattle.pt_kernel.specs.Seen.{next_of_host}
+use Rattle.pt_model.specs.Headline.{IsTold}
+use Rattle.pt_model.specs.Hosting.{host_in, IsFresh}
+use Rattle.pt_model.specs.HostLaws.{HostsBeginAlike}
+use Rattle.pt_model.specs.Laws.{EveryScriptIsOne}
+use Rattle.pt_schedule.specs.declared.schedule.Schedule.{Schedule}
+use Rattle.host_frame.specs.declared.frame.Frame.{Frame}
+use Rattle.host_frame.specs.Spelling.{spelled}
+use Rattle.host_wire.specs.Ends.{AppendsPart, Input}
+use Rattle.host_link.specs.PipeLinks.{Asks, given_of, most_of, reader_of, writer_of}
+use Rattle.host_link.specs.Pipes.{Exchanged as Exchanged_over, SentAs, request_frame}
+use Rattle.host_link.specs.declared.fault.LinkFault.{LinkFault}
+use Rattle.host_link.specs.declared.fault.LinkFault.TheVariants as fault
+use Rattle.host_link.specs.declared.local.LocalLink.{LocalLink}
+use Rattle.host_link.specs.declared.pipe.PipeLink.{PipeLink}
+use Rattle.host_serve.specs.Hosted.{Answers_by, Boots_by, IsFirst}
+use Rattle.host_serve.specs.Serving.{Answered, Exchanges, Leads as Leads_host}
+use Rattle.host_serve.specs.declared.session.Phase.{Phase}
+use Rattle.host_serve.specs.declared.session.Phase.TheVariants.{Waiting, Refused as Refusing, Serving}
+use Rattle.host_ends.specs.Recorded.{EndsAgree, Talked, in_turn}
+use Rattle.tr_core.specs.Settings.{options_by, first_pen}
+use Rattle.tr_core.specs.States.{State, new_state}
+use Rattle.tr_core.specs.declared.tracing.TraceFault.TheVariants.{Inadmissible, Memory}
+use Rattle.trace_run.specs.LocalRuns.{LocalLinksServe, IsGoing, in_process, local_answers}
+use Rattle.trace_run.specs.Runs.{Answers, Ends, Last, Leads, RunsWhole}
+use Rattle.trace_run.specs.declared.running.RunFault.{RunFault}
+use Rattle.trace_run.specs.declared.running.RunFault.TheVariants.{Link, Trace, Output}
+use Rattle.trace_run.proofs.Locals.{Cited, sound_runs_tell_parts}
+use Rattle.piped_runs.specs.Piped.{PipedRunsTell, piped}
+
+-- ---- the host's end
+
+-- what a host answered, the first first
+abbrev Forth : Phase LocalLink → Exchanges → Phase LocalLink → Type 0
+Forth a [] b = b ≡ a
+Forth a (x ∷ xs) b = (mid : Phase LocalLink) × (Answered Boots_by Answers_by a x.0 x.1 mid × Forth mid xs b)
+
+forth_snoc : (a mid b : Phase LocalLink) (xs : Exchanges) (x : Request × Reply) → Forth a xs mid → Answered Boots_by Answers_by mid x.0 x.1 b → Forth a (xs ++ x ∷ []) b
+forth_snoc a mid b [] x f answered = (b, (subst (λ (p : Phase LocalLink). Answered Boots_by Answers_by p x.0 x.1 b) f answered, refl))
+forth_snoc a mid b (y ∷ xs) x f answered = (f.0, (f.1.0, forth_snoc f.0 mid b xs x f.1.1 answered))
+
+in_order : (xs : Exchanges) (b : Phase LocalLink) → Leads_host Boots_by Answers_by xs b → Forth Waiting (in_turn xs) b
+in_order [] b led = led
+in_order (x ∷ xs) b led = forth_snoc Waiting led.0 b (in_turn xs) x (in_order xs led.0 led.1.0) led.1.1
+
+-- a link in memory, whose faults may be anything
+abbrev pub lenient : Answers LocalLink
+lenient a q (Ok r) b = local_answers a q (Ok r) b
+lenient a q (Err f) b = Unit {0}
+
+-- the boot was accepted
+record IsBegun (boot : Boot) (limit : ℕ) (words : List Word) (xs : Exchanges) (b : Phase LocalLink) : Type 0 where
+  host : LocalLink
+  is_first : IsFirst boot limit words host
+  forth : Forth (Serving host) xs b
+
+begun_by : (boot : Boot) (limit : ℕ) (words : List Word) (xs : Exchanges) (mid b : Phase LocalLink) → Answered Boots_by Answers_by Waiting (Boot_with boot limit words) Done mid → Forth mid xs b → IsBegun boot limit words xs b
+begun_by boot limit words xs Waiting b answered f = absurd answered.1.1.1.1
+begun_by boot limit words xs Refusing b answered f = let same : Done ≡ Refused answered.1.1.1.1.0 = answered.1.1.1.1.1.0 in absurd cc
+begun_by boot limit words xs (Serving host) b answered f =
+    let request : Boot_with boot limit words ≡ Boot_with answered.0 answered.1.0 answered.1.1.0 = answered.1.1.1.0 in
+    let same_boot : answered.0 ≡ boot = cc in
+    let same_limit : answered.1.0 ≡ limit = cc in
+    let same_words : answered.1.1.0 ≡ words = cc in
+    let first : IsFirst answered.0 answered.1.0 answered.1.1.0 host = answered.1.1.1.1.1 in
+    record {
+      host = host;
+      is_first = subst (λ (v : List Word). IsFirst boot limit v host) same_words (subst (λ (n : ℕ). IsFirst boot n answered.1.1.0 host) same_limit (subst (λ (x : Boot). IsFirst x answered.1.0 answered.1.1.0 host) same_boot first));
+      forth = f;
+    }
+
+-- the host's first exchanges, as those of a link to it
+record IsLed (a : LocalLink) (xs : Exchanges) : Type 0 where
+  last : LocalLink
+  led : Leads lenient a xs last
+
+serving_on : (a : LocalLink) (x : Request × Reply) (xs : Exchanges) (mid : Phase LocalLink) → Answered Boots_by Answers_by (Serving a) x.0 x.1 mid → ((t : LocalLink) → mid ≡ Serving t → IsLed t xs) → IsLed a (x ∷ xs)
+serving_on a x xs Waiting answered again = absurd answered
+serving_on a x xs Refusing answered again = absurd answered
+serving_on a x xs (Serving t) answered again =
+    let on = again t refl in
+    record { last = on.last; led = (t, (record { answered = answered.1.0; counted = answered.1.1.0; faults = answered.1.1.1 }, on.led)) }
+
+led_by : (a : LocalLink) (xs more : Exchanges) (b : Phase LocalLink) → Forth (Serving a) (xs ++ more) b → IsLed a xs
+led_by a [] more b f = record { last = a; led = refl }
+led_by a (x ∷ xs) more b f = serving_on a x xs f.0 f.1.0 (λ t is. led_by t xs more b (subst (λ (p : Phase LocalLink). Forth p (xs ++ more) b) is f.1.1))
+
+-- ---- the tracer's end
+
+-- what was known of a writer grows by these bytes
+grown : (xs bs : List ℕ) (o : Option (List ℕ)) → Appends (Some xs) o bs → o ≡ Some (xs ++ bs)
+grown xs bs None appends = absurd appends
+grown xs bs (Some ys) appends = ap Some appends
+
+abbrev Grows : List ℕ → Option (List ℕ) → Type 0
+Grows xs new = (more : List ℕ) × (new ≡ Some (xs ++ more))
+
+stays : (xs : List ℕ) (old new : Option (List ℕ)) → old ≡ Some xs → new ≡ old → Grows xs new
+stays xs old new is same = ([], same ∙ is ∙ ap Some (sym (append-nil xs)))
+
+sent_part : (f : LinkFault) (sent : Frame) (xs : List ℕ) (old new : Option (List ℕ)) (puts puts' : List ℕ) (broken : ℕ) → old ≡ Some xs → SentAs (Err f) sent old new puts puts' broken → Grows xs new
+sent_part fault.Write sent xs old new puts puts' broken is s =
+    let part : AppendsPart old new (spelled sent) = s.0 in
+    (part.0, grown xs part.0 new (subst (λ (o : Option (List ℕ)). Appends o new part.0) is part.1.1.1))
+sent_part fault.Malformed sent xs old new puts puts' broken is s = stays xs old new is s.0
+sent_part fault.Memory sent xs old new puts puts' broken is s = stays xs old new is s.0
+sent_part fault.Ended sent xs old new puts puts' broken is s = absurd s
+sent_part fault.Read sent xs old new puts puts' broken is s = absurd s
+sent_part fault.Sequence sent xs old new puts puts' broken is s = absurd s
+sent_part fault.Inadmissible sent xs old new puts puts' broken is s = absurd s
+sent_part fault.TooMany sent xs old new puts puts' broken is s = absurd s
+
+module _ {R W : Type 0} (input : R → Input) (contents : W → Option (List ℕ)) (puts : W → List ℕ) (broken_writer : W → ℕ) where
+  -- a call of the link, by how it went
+  exchanged : (a : PipeLink R W) (q : Request) (r : Reply) (b : PipeLink R W) → Asks input contents puts broken_writer a q (Ok r) b
+      → (most_of b ≡ most_of a) × Exchanged_over (most_of a) (request_frame (given_of a + 1) q) (input (reader_of a)) (input (reader_of b)) (contents (writer_of a)) (contents (writer_of b)) (puts (writer_of a)) (puts (writer_of b)) (Ok r) (broken_writer (writer_of b))
+  exchanged a q r b (inl x) = absurd (cc x.1.0)
+  exchanged a q r b (inr (inl x)) = absurd (cc x.1.0)
+  exchanged a q r b (inr (inr x)) = x
+
+  talked : (most n : ℕ) (a b : PipeLink R W) (xs : Exchanges) → given_of a + 1 ≡ n → most_of a ≡ most → Leads (piped input contents puts broken_writer) a xs b
+      → Talked most n (input (reader_of a)) (contents (writer_of a)) xs (input (reader_of b)) (contents (writer_of b))
+  talked most n a b [] number is led = (ap (λ (l : PipeLink R W). input (reader_of l)) led, ap (λ (l : PipeLink R W). contents (writer_of l)) led)
+  talked most n a b (x ∷ xs) number is led =
+      let mid = led.0 in
+      let e = exchanged a x.0 x.1 mid led.1.0.answered in
+      let by_number = subst (λ (k : ℕ). Exchanged_over (most_of a) (request_frame k x.0) (input (reader_of a)) (input (reader_of mid)) (contents (writer_of a)) (contents (writer_of mid)) (puts (writer_of a)) (puts (writer_of mid)) (Ok x.1) (broken_writer (writer_of mid))) number e.1 in
+      let by_most = subst (λ (k : ℕ). Exchanged_over k (request_frame n x.0) (input (reader_of a)) (input (reader_of mid)) (contents (writer_of a)) (contents (writer_of mid)) (puts (writer_of a)) (puts (writer_of mid)) (Ok x.1) (broken_writer (writer_of mid))) is by_number in
+      let counted : given_of mid + 1 ≡ n + 1 = ap (λ (k : ℕ). k + 1) (led.1.0.counted ∙ number) in
+      (input (reader_of mid), (contents (writer_of mid), (puts (writer_of a), (puts (writer_of mid), (broken_writer (writer_of mid), (by_most, talked most (n + 1) mid b xs counted (e.0 ∙ is) led.1.1))))))
+
+  -- what a call that failed has sent
+  failed_call : (xs : List ℕ) (a : PipeLink R W) (q : Request) (f : LinkFault) (b : PipeLink R W) → contents (writer_of a) ≡ Some xs → Asks input contents puts broken_writer a q (Err f) b → Grows xs (contents (writer_of b))
+  failed_call xs a q f b is (inl x) = stays xs (contents (writer_of a)) (contents (writer_of b)) is (ap contents x.1.1.1)
+  failed_call xs a q f b is (inr (inl x)) = stays xs (contents (writer_of a)) (contents (writer_of b)) is (ap contents x.1.1.1)
+  failed_call xs a q f b is (inr (inr (_, inl x))) =
+      let sent = request_frame (given_of a + 1) q in
+      (spelled sent, grown xs (spelled sent) (contents (writer_of b)) (subst (λ (o : Option (List ℕ)). Appends o (contents (writer_of b)) (spelled sent)) is x.0.0))
+  failed_call xs a q f b is (inr (inr (_, inr x))) = sent_part x.0 (request_frame (given_of a + 1) q) xs (contents (writer_of a)) (contents (writer_of b)) (puts (writer_of a)) (puts (writer_of b)) (broken_writer (writer_of b)) is x.1.1.0
+
+  -- what was sent after the last request that was answered
+  sent_last : (xs : List ℕ) (s : State) (rs : List Reply) (written : Option (List ℕ)) (a : PipeLink R W) (result : Result ⊤ RunFault) (b : Ends (PipeLink R W))
+      → contents (writer_of a) ≡ Some xs → Last (piped input contents puts broken_writer) s rs written a result b → Grows xs (contents (writer_of b.link))
+  unfolding Last
+  sent_last xs s rs written a (Ok u) b is h = stays xs (contents (writer_of a)) (contents (writer_of b.link)) is (ap (λ (l : PipeLink R W). contents (writer_of l)) h.4)
+  sent_last xs s rs written a (Err (Link f)) b is h = failed_call xs a h.2.0 f b.link is h.2.1.1.answered
+  sent_last xs s rs written a (Err (Trace Inadmissible)) b is h = stays xs (contents (writer_of a)) (contents (writer_of b.link)) is (ap (λ (l : PipeLink R W). contents (writer_of l)) h.3)
+  sent_last xs s rs written a (Err (Trace Memory)) b is h = stays xs (contents (writer_of a)) (contents (writer_of b.link)) is (ap (λ (l : PipeLink R W). contents (writer_of l)) h.1)
+  sent_last xs s rs written a (Err Output) b is h = stays xs (contents (writer_of a)) (contents (writer_of b.link)) is (ap (λ (l : PipeLink R W). contents (writer_of l)) h.2)
+
+  -- the last of a run over the pipe, as that of a run over the host
+  same_last : (s : State) (rs : List Reply) (written : Option (List ℕ)) (a : PipeLink R W) (host : LocalLink) (result : Result ⊤ RunFault) (b : Ends (PipeLink R W))
+      → Last (piped input contents puts broken_writer) s rs written a result b → Last lenient s rs written host result (record { link = host; written = b.written; broken = b.broken; state = b.state })
+  unfolding Last
+  same_last s rs written a host (Ok u) b h = (h.0, h.1, h.2, h.3, refl)
+  same_last s rs written a host (Err (Link f)) b h = (h.0, h.1, (h.2.0, (h.2.1.0, tt)))
+  same_last s rs written a host (Err (Trace Inadmissible)) b h = (h.0, h.1, h.2, refl)
+  same_last s rs written a host (Err (Trace Memory)) b h = (h.0, refl)
+  same_last s rs written a host (Err Output) b h = (h.0, h.1, refl)
+
+some_is : {X : Type 0} (x y : X) → Some x ≡ Some y → x ≡ y
+some_is x y e = cc
+
+-- known bytes stay known
+one_sent : (most : ℕ) (sent : Frame) (a b : Input) (xs : List ℕ) (old new : Option (List ℕ)) (puts puts' : List ℕ) (r : Reply) (broken : ℕ) → old ≡ Some xs → Exchanged_over most sent a b old new puts puts' (Ok r) broken → new ≡ Some (xs ++ spelled sent)
+one_sent most sent a b xs old new puts puts' r broken is (inl x) = grown xs (spelled sent) new (subst (λ (o : Option (List ℕ)). Appends o new (spelled sent)) is x.0.0)
+one_sent most sent a b xs old new puts puts' r broken is (inr x) = absurd (cc x.1.0)
+
+known : (most n : ℕ) (a b : Input) (xs : List ℕ) (old new : Option (List ℕ)) (ys : Exchanges) → old ≡ Some xs → Talked most n a old ys b new → Grows xs new
+known most n a b xs old new [] is t = stays xs old new is t.1
+known most n a b xs old new (y ∷ ys) is t =
+    let sent = request_frame n y.0 in
+    let one = one_sent most sent a t.0 xs old t.1.0 t.1.1.0 t.1.1.1.0 y.1 t.1.1.1.1.0 is t.1.1.1.1.1.0 in
+    let on = known most (n + 1) t.0 b (xs ++ spelled sent) t.1.0 new ys one t.1.1.1.1.1.1 in
+    (spelled sent ++ on.0, on.1 ∙ ap Some (append_assoc xs (spelled sent) on.0))
+
+-- ---- both
+
+pub piped_runs_tell : {R W : Type 0} (input : R → Input) (contents : W → Option (List ℕ)) (puts : W → List ℕ) (broken_writer : W → ℕ)
+    → EndsAgree → LocalLinksServe → HostsBeginAlike Shared UserState → IsMachine linux → IsTold linux → EveryScriptIsOne → Cited Schedule Shared UserState lenient → PipedRunsTell input contents puts broken_writer
+piped_runs_tell {R} {W} input contents puts broken_writer agree serves begin machine told every cited boot limit words script o first link link' old new broken broken' result w most a b unwritten written sizes sizes' served broken_host s unused asked carried =
+    let ys : Exchanges = w.runs.exchanges in
+    let all : Exchanges = (Boot_with boot limit words, Done) ∷ ys in
+    let led : Leads (piped input contents puts broken_writer) first all w.runs.link = (link, (asked, w.runs.led)) in
+    let talk = talked input contents puts broken_writer (most_of first) 1 first w.runs.link all (ap (λ (k : ℕ). k + 1) unused.given) refl led in
+    let sent = known (most_of first) 1 (input (reader_of first)) (input (reader_of w.runs.link)) [] (contents (writer_of first)) (contents (writer_of w.runs.link)) all unused.sent talk in
+    let more = sent_last input contents puts broken_writer sent.0 _ _ old w.runs.link _ _ sent.1 w.runs.last in
+    let whole : carried.sent ≡ sent.0 ++ more.0 = some_is carried.sent (sent.0 ++ more.0) (sym carried.held ∙ more.1) in
+    let talk_known = subst (λ (x : Option (List ℕ)). Talked (most_of first) 1 (input (reader_of first)) x all (input (reader_of w.runs.link)) (contents (writer_of w.runs.link))) unused.sent talk in
+    let talk_sent = subst (λ (x : Option (List ℕ)). Talked (most_of first) 1 (input (reader_of first)) (Some []) all (input (reader_of w.runs.link)) x) sent.1 talk_known in
+    let same = agree (most_of first) most (input (reader_of first)) (input (reader_of w.runs.link)) a s.middle s.exchanges all carried.given carried.later sent.0 s.came carried.unread more.0
+    carried.known carried.back s.fit s.taken (carried.forth ∙ whole) talk_sent in
+    let forth : Forth Waiting (all ++ same.0) s.phase = subst (λ (xs : Exchanges). Forth Waiting xs s.phase) same.1 (in_order s.exchanges s.phase s.led) in
+    let h = begun_by boot limit words (ys ++ same.0) forth.0 s.phase forth.1.0 forth.1.1 in
+    let l = led_by h.host ys same.0 s.phase h.forth in
+    let local : RunsWhole lenient (new_state (options_by o) (choice_of script) (first_pen o)) h.host old broken result l.last new broken' = record {
+      state = w.state;
+      runs = record {
+        exchanges = ys;
+        link = l.last;
+        led = l.led;
+        asked = w.runs.asked;
+        last = same_last input contents puts broken_writer _ _ old w.runs.link l.last _ _ w.runs.last;
+      };
+      ends = w.ends;
+    } in
+    let going : IsGoing h.host = record {
+      fresh = subst (λ (v : HostState). IsFresh v.hosting) (sym h.is_first.host) (begin (first_shared boot.limits boot.files boot.input) (booted boot.argv boot.env)).1;
+      whole = ap (λ (v : HostState). v.failed) h.is_first.host;
+      idle = ap (λ (v : HostState). v.hosting.pending) h.is_first.host;
+      unbroken = h.is_first.whole;
+      going = h.is_first.going;
+    } in
+    let x = sound_runs_tell_parts lenient cited IsGoing o (choice_of script) (every script) h.host l.last old new broken broken' in_process next_of_host linux machine told outcome_in
+    (first_shared boot.limits boot.files boot.input) (booted boot.argv boot.env) (λ a q r b sound is. serves a q r b sound is) going
+    (ap (λ (v : HostState). host_in v.hosting) h.is_first.host ∙ (begin (first_shared boot.limits boot.files boot.input) (booted boot.argv boot.env)).0) result local in
+    (h.host, (h.is_first, record { events = x.events; given = x.over; fed = x.fed; tells = x.tells }))

@@ -1,0 +1,70 @@
+-- A run over a pipe, at whose other end a host serves.
+use Rattle.std.specs.Prelude.{◌≡◌, ℕ, List, [], ◌++◌, Option, Some, Result, Ok}
+use Rattle.lx_abi.specs.declared.boot.Boot.{Boot}
+use Rattle.lx_abi.specs.declared.outcome.Outcome.{Outcome}
+use Rattle.lx_abi.specs.declared.ptrace.Reply.TheVariants.{Done}
+use Rattle.lx_abi.specs.declared.ptrace.Request.TheVariants.{Boot as Boot_with}
+use Rattle.lx_abi.specs.declared.schedule.Word.{Word}
+use Rattle.lx_abi.specs.declared.script.Rule.{Rule}
+use Rattle.lx_abi.specs.Scripts.{choice_of}
+use Rattle.lx_boot.specs.First.{first_shared}
+use Rattle.lx_exec.specs.Programs.{booted}
+use Rattle.host_wire.specs.Ends.{Input}
+use Rattle.host_link.specs.PipeLinks.{Asks, faults_of, given_of, reader_of, writer_of}
+use Rattle.host_link.specs.declared.local.LocalLink.{LocalLink}
+use Rattle.host_link.specs.declared.pipe.PipeLink.{PipeLink}
+use Rattle.host_serve.specs.Hosted.{Answers_by, Boots_by, IsFirst, left_by}
+use Rattle.host_serve.specs.Serving.{Served, replies_of}
+use Rattle.host_serve.specs.declared.fault.ServeFault.{ServeFault}
+use Rattle.tr_core.specs.Settings.{options_by, first_pen}
+use Rattle.tr_core.specs.States.{new_state}
+use Rattle.tr_core.specs.declared.settings.Options.{Options}
+use Rattle.trace_run.specs.LocalRuns.{LinkTells}
+use Rattle.trace_run.specs.Runs.{Answers, Called, RunsWhole}
+use Rattle.trace_run.specs.declared.running.Ended.{Ended}
+use Rattle.trace_run.specs.declared.running.RunFault.{RunFault}
+
+-- what a link over a pipe may do, with its counts
+abbrev pub piped : {R W : Type 0} → (R → Input) → (W → Option (List ℕ)) → (W → List ℕ) → (W → ℕ)
+    → Answers (PipeLink R W)
+piped input contents puts broken a q r b =
+    Called (λ a q r b. Asks input contents puts broken a q r b) (λ l. given_of l) (λ l. faults_of l) a q r b
+
+-- a link that nothing was asked yet, and that has sent nothing
+pub record IsUnused {R W : Type 0} (contents : W → Option (List ℕ)) (l : PipeLink R W) : Type 0 where
+  pub given : given_of l ≡ 0
+  pub whole : faults_of l ≡ 0
+  pub sent : contents (writer_of l) ≡ Some []
+
+-- Each end is given a beginning of what the other wrote. The link's reader gives whole replies of the host's or a
+-- beginning of one, and the host answered requests whose bytes the link has sent in the end.
+pub record IsCarried {R W : Type 0} (input : R → Input) (contents : W → Option (List ℕ)) (first last : PipeLink R W)
+    (replies requests : List ℕ) : Type 0 where
+  pub given : List ℕ
+  pub later : List ℕ
+  pub known : (input (reader_of first)).remaining ≡ Some given
+  pub back : given ++ later ≡ replies
+  pub sent : List ℕ
+  pub unread : List ℕ
+  pub held : contents (writer_of last) ≡ Some sent
+  pub forth : requests ++ unread ≡ sent
+
+-- Over a pipe that carries, at whose other end `serve` runs: the boot was accepted, and the run tells what it tells
+-- over a link in the tracer's own process to a host that this boot began, whatever its result is.
+abbrev pub PipedRunsTell : {R W : Type 0} → (R → Input) → (W → Option (List ℕ)) → (W → List ℕ) → (W → ℕ) → Type 0
+PipedRunsTell {R} {W} input contents puts broken_writer = (boot : Boot) (limit : ℕ) (words : List Word)
+    (script : List Rule) (o : Options)
+    -- the tracer's end: Boot, and a run
+    (first link link' : PipeLink R W) (old new : Option (List ℕ)) (broken broken' : ℕ) (result : Result Ended RunFault)
+    (w : RunsWhole (piped input contents puts broken_writer) (new_state (options_by o) (choice_of script) (first_pen o))
+    link old broken result link' new broken')
+    -- the host's end
+    (most : ℕ) (a b : Input) (unwritten written : Option (List ℕ)) (sizes sizes' : List ℕ)
+    (served : Result Outcome ServeFault) (broken_host : ℕ)
+    (s : Served most Boots_by Answers_by left_by a b unwritten written sizes sizes' served broken_host)
+    → IsUnused contents first
+    → piped input contents puts broken_writer first (Boot_with boot limit words) (Ok Done) link
+    → IsCarried input contents first link' (replies_of s.exchanges) s.came
+    → (host : LocalLink) × (IsFirst boot limit words host
+    × LinkTells o (choice_of script) (first_shared boot.limits boot.files boot.input) (booted boot.argv boot.env) host
+    w.runs.exchanges result old new)

@@ -1,0 +1,4 @@
+//! Runs over a pipe to a host in another process, by the untraced kernel.
+#![tactic(auto)]
+
+pub mod laws;
