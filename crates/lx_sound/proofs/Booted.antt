@@ -1,5 +1,5 @@
 -- The tree of a boot's files that isn't refused: a tree of directories, within the bounds.
-use Rattle.std.proofs.Common.{◌≡◌, ℕ, zero, suc, ◌+◌, ◌<◌, ◌≤◌, ◌⊎◌, inl, inr, ⊎_elim, ◌&&◌, ◌||◌, Bool, true, false, cond, List, [], ◌∷◌, ◌++◌, take, length, get_or, Option, Some, None, refl, ap, sym, subst, ◌∙◌, arith, length-take, if◌then◌else◌}
+use Rattle.std.proofs.Common.{◌≡◌, ℕ, zero, suc, ◌+◌, ◌<◌, ◌≤◌, ◌⊎◌, inl, inr, ⊎_elim, ◌&&◌, ◌||◌, Bool, true, false, cond, List, [], ◌∷◌, ◌++◌, take, length, Option, Some, None, refl, ap, sym, subst, ◌∙◌, arith, length-take}
 use Rattle.std.proofs.lemmas.Bool.Decides.{nat_tests}
 use Rattle.std.proofs.lemmas.Cmp.{nat_list_cmp_total}
 use Rattle.std.proofs.lemmas.List.{get_or-take, append-nil, append_assoc}
@@ -7,7 +7,7 @@ use Rattle.std.proofs.lemmas.List.Sorted.{IsPermutation-append_comm, IsPermutati
 use Rattle.std.specs.List.Sorted.{IsPermutation}
 use Rattle.std.proofs.lemmas.Slice.Eq.{bytes_eq-Decides}
 use Rattle.std.proofs.Math.Seq.{take-take, take-length}
-use Rattle.std.specs.Prelude.{◌==◌, nat_eq, nat_lt, nat_le, not, fold, is_some, IsSome, slice_index}
+use Rattle.std.specs.Prelude.{◌==◌, nat_eq, nat_lt, nat_le, not, fold, is_some, slice_index}
 use Rattle.std.specs.List.{list_any, list_all, sum_by}
 use Rattle.std.specs.Str.{bytes_eq}
 use Rattle.std.specs.Ordering.{nat_cmp, eq_by_cmp}
@@ -35,7 +35,7 @@ use Rattle.lx_boot.specs.declared.boots.BootFault.TheVariants.{BadPath, Duplicat
 use Rattle.lx_boot.proofs.Ordered.{not_itself}
 use Rattle.lx_boot.proofs.Shuffled.{nodes_again}
 use Rattle.lx_sound.specs.Rooted.{is_directory, IsRooted}
-use Rattle.lx_sound.proofs.Maps.{neither, there_now, inserted, put_elsewhere}
+use Rattle.lx_sound.proofs.Maps.{neither, there_now, inserted}
 use Rattle.lx_sound.proofs.Trees.{named, created_now, created_stays, created_rooted}
 
 -- Places of a path and of its beginning.

@@ -1,24 +1,23 @@
 -- What calls do to what processes share, one change after another.
-use Rattle.std.proofs.Common.{◌≡◌, ℕ, ◌+◌, ◌-◌, ◌*◌, ◌<◌, ◌≤◌, ◌⊎◌, inl, inr, ⊎_elim, Bool, true, false, cond, List, [], ◌++◌, length, Option, Some, None, refl, ap, sym, subst, ◌∙◌, arith}
+use Rattle.std.proofs.Common.{◌≡◌, ℕ, ◌+◌, ◌-◌, ◌<◌, ◌≤◌, ◌⊎◌, inl, inr, ⊎_elim, Bool, true, false, cond, List, [], ◌++◌, length, Option, Some, None, refl, ap, sym, subst, ◌∙◌, arith}
 use Rattle.std.proofs.lemmas.Bool.Decides.{nat_tests}
 use Rattle.std.proofs.lemmas.List.{length-append}
 use Rattle.std.proofs.lemmas.Slice.Eq.{bytes_eq-Decides}
-use Rattle.std.specs.Prelude.{◌==◌, nat_lt, nat_le, drop, is_some, IsSome}
+use Rattle.std.specs.Prelude.{◌==◌, nat_le, drop, is_some, IsSome}
 use Rattle.std.specs.Str.{bytes_eq}
 use Rattle.std.specs.Cmp.{nat_cmp_total}
 use Rattle.std.specs.FinMap as maps
 use Rattle.containers.specs.Vacant.{vacant}
-use Rattle.containers.proofs.Vacant.{vacant_is_least}
 use Rattle.lx_abi.specs.Limits.{pipe_size, most_fds, most_nodes, most_contents, largest_file}
 use Rattle.lx_abi.specs.declared.outcome.Node.{Node}
 use Rattle.lx_abi.specs.declared.outcome.Node.TheVariants.{File, Directory}
-use Rattle.lx_files.specs.Kinds.{NodeMap, size_of, bytes_of, changed_node, changed_file}
+use Rattle.lx_files.specs.Kinds.{size_of, bytes_of, changed_node, changed_file}
 use Rattle.lx_files.specs.Paths.{Path, parent}
 use Rattle.lx_files.specs.Tallies.{total, weight}
 use Rattle.lx_files.specs.Trees.{node_at, has_room, is_empty, content, contents, created, with_content}
 use Rattle.lx_files.specs.declared.tree.Tree.{Tree}
 use Rattle.lx_files.proofs.Totals.{total-insert, total-remove}
-use Rattle.lx_open.specs.Kinds.{DescriptionMap, moved}
+use Rattle.lx_open.specs.Kinds.{moved}
 use Rattle.lx_open.specs.Opens as opens
 use Rattle.lx_open.specs.Opens.{pair}
 use Rattle.lx_open.specs.Releases.{Held, unlinked}
@@ -26,7 +25,6 @@ use Rattle.lx_open.specs.declared.description.Description.{Description}
 use Rattle.lx_open.specs.declared.description.Slot.{Slot}
 use Rattle.lx_open.specs.declared.fd_table.FdTable.{FdTable}
 use Rattle.lx_proc.specs.declared.state.Entry.{Entry}
-use Rattle.lx_proc.specs.declared.state.Life.TheVariants.{Zombie}
 use Rattle.lx_proc.specs.declared.state.Shared.{Shared}
 use Rattle.lx_proc.specs.State.{Entries, with_entries, with_fds, with_tree, with_held}
 use Rattle.lx_fcalls.specs.Moving.{all_bytes, has_space}
@@ -34,8 +32,8 @@ use Rattle.lx_fcalls.specs.Unlinkat.{is_used}
 use Rattle.lx_sound.specs.Together.{is_there, HoldTogether}
 use Rattle.lx_sound.specs.Rooted.{is_directory, IsRooted}
 use Rattle.lx_sound.specs.Within.{AreWithin}
-use Rattle.lx_sound.specs.Parts.{lives, EntrySound, EntriesSound, AreOwned, PartsSound}
-use Rattle.lx_sound.proofs.Maps.{there_now, inserted, inserted_other, none_of_values}
+use Rattle.lx_sound.specs.Parts.{lives, EntriesSound, AreOwned, PartsSound}
+use Rattle.lx_sound.proofs.Maps.{inserted, inserted_other, none_of_values}
 use Rattle.lx_sound.proofs.Trees.{created_stays, created_rooted, same_rooted, content_stays, content_rooted, unlinked_stays, unlinked_rooted}
 use Rattle.lx_sound.proofs.Fewer.{FewerNodes, FewerIn, unlinked_fewer}
 use Rattle.lx_sound.proofs.Together.{named_together, opened_together, piped_together, moved_together, held_together, created_together, content_together, unlinked_together}
@@ -153,7 +151,7 @@ module _ (s : Shared) (p : ℕ) (h : PartsSound s) where
 
   -- a tree in which the directories of processes are
   in_tree : (tree : Tree) → ((q : ℕ) (e : Entry) → maps.get s.entries q ≡ Some e → is_directory (node_at s.tree e.directory) ≡ true → is_directory (node_at tree e.directory) ≡ true) → EntriesSound tree s.entries
-  in_tree tree stays q e is = record { directory = stays q e is (h.entries q e is).directory }
+  in_tree tree stays q e is = record { directory = stays q e is (h.entries q e is).directory; signals = (h.entries q e is).signals }
 
   not_removed : (path : Path) → IsRemovable s path → (q : ℕ) (e : Entry) → maps.get s.entries q ≡ Some e → e.directory ≡ path → ⊥
   not_removed path due q e is same = ⊎_elim

@@ -115,7 +115,7 @@ relived_parts : (s : Shared) (p : ℕ) (l : Life) → PartsSound s → ((fd : �
 relived_parts s p l h none t tree fds console es = record {
   files = rw (tree, fds) h.files;
   rooted = rw tree h.rooted;
-  entries = rw (tree, es) (changed_sound s.tree s.entries p (λ e. with_life e l) (λ e sound. record { directory = sound.directory }) h.entries);
+  entries = rw (tree, es) (changed_sound s.tree s.entries p (λ e. with_life e l) (λ e sound. record { directory = sound.directory; signals = sound.signals }) h.entries);
   owned = rw (fds, es) owned;
   within = record { nodes = rw tree h.within.nodes; files = rw tree h.within.files; contents = rw (tree, console) h.within.contents; offsets = rw fds h.within.offsets };
 }
@@ -211,7 +211,7 @@ orphaned_same m p = each_same p m (filter (nat_lt 0) (maps.keys m))
 -- and each is sound still
 orphan_sound : (tree : Tree) (m : Entries) (c : ℕ) (e : Entry) → EntrySound tree e → EntriesSound tree m → (z : Bool) → EntriesSound tree (orphan m c e z)
 orphan_sound tree m c e sound h true = taken_sound tree m c h
-orphan_sound tree m c e sound h false = put_sound tree m c (record e { parent = 0 }) (record { directory = sound.directory }) h
+orphan_sound tree m c e sound h false = put_sound tree m c (record e { parent = 0 }) (record { directory = sound.directory; signals = sound.signals }) h
 
 released_sound : (tree : Tree) (p : ℕ) (m : Entries) (c : ℕ) → EntriesSound tree m → EntriesSound tree (released p m c)
 unfolding released

@@ -13,7 +13,9 @@ use Rattle.lx_proc.specs.declared.state.Entry.{Entry}
 use Rattle.lx_proc.specs.declared.state.Life.TheVariants.{Zombie}
 use Rattle.lx_proc.specs.State.{Entries, changed, changed_entry, with_signals}
 use Rattle.lx_proc.specs.Sending.{receives}
+use Rattle.lx_sound.specs.Masks.{AreSignals}
 use Rattle.lx_sound.specs.Parts.{EntrySound, EntriesSound}
+use Rattle.lx_sound.proofs.Masks.{pending_signals}
 use Rattle.lx_sound.proofs.Maps.{there_now, inserted, inserted_other, removed, removed_other}
 
 -- an entry stays, or is a zombie's and leaves the table
@@ -111,8 +113,8 @@ module _ (tree : Tree) (m : Entries) (k : ℕ) where
 
 -- other signals
 
-pub signals_sound : (tree : Tree) (e : Entry) (g : Signals) → EntrySound tree e → EntrySound tree (with_signals e g)
-signals_sound tree e g h = record { directory = h.directory }
+pub signals_sound : (tree : Tree) (e : Entry) (g : Signals) → AreSignals g → EntrySound tree e → EntrySound tree (with_signals e g)
+signals_sound tree e g within h = record { directory = h.directory; signals = within }
 
 pub received_sound : (tree : Tree) (e : Entry) (signal : Signal) (cause : Cause) → EntrySound tree e → EntrySound tree (receives e signal cause)
-received_sound tree e signal cause h = signals_sound tree e (with_pending e.signals signal cause) h
+received_sound tree e signal cause h = signals_sound tree e (with_pending e.signals signal cause) (pending_signals e.signals h.signals signal cause) h

@@ -1,7 +1,7 @@
 -- What is left once descriptors are closed.
 use Rattle.std.proofs.Common.{◌≡◌, ℕ, zero, suc, ◌+◌, ◌-◌, ◌≤◌, ◌<◌, ◌||◌, Bool, true, false, cond, List, [], ◌∷◌, Option, Some, None, refl, ap, sym, subst, ◌∙◌, arith}
 use Rattle.std.proofs.lemmas.Bool.Decides.{nat_tests}
-use Rattle.std.specs.Prelude.{◌==◌, is_some, nat_lt}
+use Rattle.std.specs.Prelude.{◌==◌, nat_lt}
 use Rattle.std.specs.List.{range_with_len}
 use Rattle.std.specs.Cmp.{nat_cmp_total}
 use Rattle.std.specs.FinMap as maps
@@ -10,10 +10,9 @@ use Rattle.lx_abi.specs.Limits.{most_fds}
 use Rattle.lx_files.specs.Kinds.{NodeMap, size_of}
 use Rattle.lx_files.specs.Paths.{Path}
 use Rattle.lx_files.specs.Tallies.{total, weight}
-use Rattle.lx_files.specs.Trees.{node_at, has_path, contents, without_path, without_node}
+use Rattle.lx_files.specs.Trees.{node_at, has_path, without_path, without_node}
 use Rattle.lx_files.specs.declared.tree.Tree.{Tree}
 use Rattle.lx_files.proofs.Totals.{total-remove}
-use Rattle.lx_open.specs.Kinds.{SlotMap, DescriptionMap}
 use Rattle.lx_open.specs.declared.description.Description.{Description}
 use Rattle.lx_open.specs.declared.description.Object.{Object}
 use Rattle.lx_open.specs.declared.description.Object.TheVariants.{Input, Console, ReadEnd, WriteEnd, Opened}
@@ -21,7 +20,7 @@ use Rattle.lx_open.specs.declared.description.Slot.{Slot}
 use Rattle.lx_open.specs.declared.fd_table.FdTable.{FdTable}
 use Rattle.lx_open.specs.Opens.{pair, slot, description, is_named, has_readers, has_writers, is_open_node}
 use Rattle.lx_open.specs.Releases.{Held, node_released, pipe_released, object_released, description_dropped, description_released, slot_closed, closed, unlinked_node, unlinked, is_meant, closed_if_meant, closed_each, all_closed, closed_on_exec}
-use Rattle.lx_sound.proofs.Maps.{removed, removed_other}
+use Rattle.lx_sound.proofs.Maps.{removed}
 use Rattle.lx_sound.proofs.Trees.{released_at, released_names}
 
 -- no node is new

@@ -350,7 +350,7 @@ module _ (child : ℕ) (s : Shared) (p : ℕ) (call : Call) (b : UserState) (h :
   goes_kept at IsFile sees = tt
   goes_kept at NotDirectory sees = tt
   goes_kept at IsDirectory sees =
-      changed_keeps s p (λ e. record e { directory = path_of at }) (λ e. refl) (λ e sound. record { directory = directory_is at.slashed (node_at s.tree (path_of at)) sees })
+      changed_keeps s p (λ e. record e { directory = path_of at }) (λ e. refl) (λ e sound. record { directory = directory_is at.slashed (node_at s.tree (path_of at)) sees; signals = sound.signals })
 
   chdir_kept : Kept (chdir s p call b)
   unfolding chdir

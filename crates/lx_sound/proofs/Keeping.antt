@@ -1,10 +1,8 @@
 -- Changes that keep a state sound, while each process stands where it stood.
-use Rattle.std.proofs.Common.{◌≡◌, ℕ, suc, ◌+◌, ◌-◌, ◌≤◌, Bool, true, false, cond, List, Option, Some, None, refl, ap, sym, subst, ◌∙◌, arith, length}
-use Rattle.std.proofs.lemmas.Bool.Decides.{nat_tests}
-use Rattle.std.specs.Prelude.{◌==◌, is_some, max}
+use Rattle.std.proofs.Common.{◌≡◌, ℕ, suc, ◌≤◌, Bool, true, false, cond, List, Option, Some, None, refl, sym, subst, ◌∙◌, arith, length}
+use Rattle.std.specs.Prelude.{is_some, max}
 use Rattle.std.specs.declared.result.Result.{Result}
 use Rattle.std.specs.declared.result.Result.TheVariants.{Ok, Err}
-use Rattle.std.specs.Cmp.{nat_cmp_total}
 use Rattle.std.specs.FinMap as maps
 use Rattle.rv_mem.specs.Memory.{first_fault, written}
 use Rattle.rv_mem.specs.declared.rights.Access.TheVariants as access
@@ -15,7 +13,7 @@ use Rattle.lx_proc.specs.declared.state.Entry.{Entry}
 use Rattle.lx_proc.specs.declared.state.ProcessLimits.{ProcessLimits}
 use Rattle.lx_proc.specs.declared.state.Shared.{Shared}
 use Rattle.lx_proc.specs.declared.state.UserState.{UserState}
-use Rattle.lx_proc.specs.State.{Entries, changed, changed_entry, with_entries, with_memory}
+use Rattle.lx_proc.specs.State.{Entries, changed, with_entries, with_memory}
 use Rattle.lx_proc.specs.Answers.{Answers, unless, given, granted, gives}
 use Rattle.lx_proc.specs.WaitWords.{Words}
 use Rattle.lx_pcalls.specs.Clone.{has_room, with_child, child_entry}

@@ -3,6 +3,7 @@ pub mod Paths
 pub mod Trees
 pub mod Fewer
 pub mod Together
+pub mod Masks
 pub mod Entries
 pub mod Changes
 pub mod Keeping

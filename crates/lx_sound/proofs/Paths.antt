@@ -1,8 +1,8 @@
 -- Paths and their parents, and where a walk along a path ends.
-use Rattle.std.proofs.Common.{◌≡◌, ℕ, ◌||◌, ◌&&◌, Bool, true, false, cond, List, [], ◌∷◌, ◌++◌, length, Option, Some, None, refl, ap, sym, subst, ◌∙◌, arith}
+use Rattle.std.proofs.Common.{◌≡◌, ℕ, ◌||◌, ◌&&◌, Bool, true, false, cond, List, [], ◌∷◌, ◌++◌, length, refl, ap, sym, subst, ◌∙◌, arith}
 use Rattle.std.proofs.lemmas.Bool.Decides.{nat_tests}
 use Rattle.std.specs.Prelude.{◌==◌, nat_eq, nat_lt}
-use Rattle.std.specs.List.{filter, slice_split, onto_first, starts_with}
+use Rattle.std.specs.List.{slice_split, onto_first, starts_with}
 use Rattle.lx_files.specs.Paths.{Path, slash, has_slash, parent, is_under}
 use Rattle.lx_files.specs.Places.{pieces, parts}
 

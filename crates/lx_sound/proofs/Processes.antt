@@ -54,7 +54,9 @@ use Rattle.lx_pcalls.specs.RtSigreturn.{rt_sigreturn}
 use Rattle.lx_pcalls.specs.SchedYield.{sched_yield}
 use Rattle.lx_pcalls.specs.Signals.{leaves}
 use Rattle.lx_pcalls.specs.Wait4.{wait4, waits, reaps, may_wait, first_child, word_in}
+use Rattle.lx_sound.specs.Masks.{AreSignals}
 use Rattle.lx_sound.specs.Parts.{lives, EntrySound, PartsSound}
+use Rattle.lx_sound.proofs.Masks.{IsLeft, exec_signals, child_signals, popped_signals, sigaction_signals, sigprocmask_signals}
 use Rattle.lx_sound.proofs.Together.{exec_together}
 use Rattle.lx_sound.proofs.Fewer.{exec_fewer}
 use Rattle.lx_sound.proofs.Entries.{SameEntry, taken_same, taken_sound, signals_sound, received_sound}
@@ -62,8 +64,8 @@ use Rattle.lx_sound.proofs.Changes.{Loses, done}
 use Rattle.lx_sound.proofs.Keeping.{Keeps, keeps_all, keeps_done, keeps_then, entries_keep, changed_keeps, DoesKeep, KeptIf, either_kept, unless_kept, given_kept, gives_kept}
 
 -- signals of a process are others
-signals_keep : (s : Shared) (p : ℕ) (signals : Signals) → Keeps s (with_signals_at s p signals)
-signals_keep s p signals = changed_keeps s p (λ e. with_signals e signals) (λ e. refl) (λ e h. signals_sound s.tree e signals h)
+signals_keep : (s : Shared) (p : ℕ) (signals : Signals) → AreSignals signals → Keeps s (with_signals_at s p signals)
+signals_keep s p signals within = changed_keeps s p (λ e. with_signals e signals) (λ e. refl) (λ e h. signals_sound s.tree e signals within h)
 
 sent_life : (e : Entry) (l : Life) (p : ℕ) (signal : Signal) → (sent_to e l p signal).life ≡ e.life
 sent_life e Alive p signal = refl
@@ -95,28 +97,28 @@ renewed_keeps s p alive =
     let shut : Shared = done s p (Loses left) in
     keeps_then s shut (renewed s p)
     (keeps_done s p alive (Loses left) ((λ x. exec_together s.tree s.fds x p), exec_fewer s.tree s.fds p))
-    (changed_keeps shut p (λ e. with_signals e (after_exec e.signals)) (λ e. refl) (λ e h. signals_sound left.tree e (after_exec e.signals) h))
+    (changed_keeps shut p (λ e. with_signals e (after_exec e.signals)) (λ e. refl) (λ e h. signals_sound left.tree e (after_exec e.signals) (exec_signals e.signals h.signals) h))
 
 module _ (child : ℕ) (s : Shared) (p : ℕ) (call : Call) (b : UserState) (h : PartsSound s) (alive : lives (maps.get s.entries p) ≡ true) where
   abbrev Kept : Answers → Type 0
   Kept a = DoesKeep child s p a
 
-  leaves_kept : (o : Outcome) → Kept (leaves s p b o)
-  leaves_kept (Err e) = tt
-  leaves_kept (Ok c) = signals_keep s p c.signals
+  leaves_kept : (o : Outcome) → IsLeft o → Kept (leaves s p b o)
+  leaves_kept (Err e) left = tt
+  leaves_kept (Ok c) left = signals_keep s p c.signals left
 
   kill_kept : Kept (kill s p call b)
   unfolding kill
   kill_kept = given_kept child s p (aim call) einval (kills s p b) (λ a e. given_kept child s p (maps.get s.entries a.pid) esrch _ (λ x e1. sends_keep s p a.pid a.signal))
 
   rt_sigaction_kept : Kept (rt_sigaction s p call b)
-  rt_sigaction_kept = given_kept child s p (maps.get s.entries p) esrch _ (λ (e : Entry) is. leaves_kept (sigaction e.signals b.memory call))
+  rt_sigaction_kept = given_kept child s p (maps.get s.entries p) esrch _ (λ (e : Entry) is. leaves_kept (sigaction e.signals b.memory call) (sigaction_signals e.signals (h.entries p e is).signals b.memory call))
 
   rt_sigprocmask_kept : Kept (rt_sigprocmask s p call b)
-  rt_sigprocmask_kept = given_kept child s p (maps.get s.entries p) esrch _ (λ (e : Entry) is. leaves_kept (sigprocmask e.signals b.memory call))
+  rt_sigprocmask_kept = given_kept child s p (maps.get s.entries p) esrch _ (λ (e : Entry) is. leaves_kept (sigprocmask e.signals b.memory call) (sigprocmask_signals e.signals (h.entries p e is).signals b.memory call))
 
   rt_sigreturn_kept : Kept (rt_sigreturn s p b)
-  rt_sigreturn_kept = given_kept child s p (maps.get s.entries p) esrch _ (λ (e : Entry) is. unless_kept child s p (not (is_some (return_fault b.memory b.hart))) efault _ (λ e1. signals_keep s p (popped_mask e.signals (frame_at b.memory b.hart))))
+  rt_sigreturn_kept = given_kept child s p (maps.get s.entries p) esrch _ (λ (e : Entry) is. unless_kept child s p (not (is_some (return_fault b.memory b.hart))) efault _ (λ e1. signals_keep s p (popped_mask e.signals (frame_at b.memory b.hart)) (popped_signals e.signals (h.entries p e is).signals (frame_at b.memory b.hart))))
 
   getppid_kept : Kept (getppid s p b)
   getppid_kept = given_kept child s p (maps.get s.entries p) esrch _ (λ e is. keeps_all s)
@@ -158,7 +160,7 @@ module _ (child : ℕ) (s : Shared) (p : ℕ) (call : Call) (b : UserState) (h :
 
   clone_kept : Kept (clone s child p call b)
   unfolding clone
-  clone_kept = unless_kept child s p (argument call 0 == fork_flags) einval _ (λ e0. given_kept child s p (maps.get s.entries p) esrch (bears s child p call b) (λ e is. unless_kept child s p (has_room s child) eagain _ (λ room. (e, record { directory = (h.entries p e is).directory }, room, refl))))
+  clone_kept = unless_kept child s p (argument call 0 == fork_flags) einval _ (λ e0. given_kept child s p (maps.get s.entries p) esrch (bears s child p call b) (λ e is. unless_kept child s p (has_room s child) eagain _ (λ room. (e, record { directory = (h.entries p e is).directory; signals = child_signals e.signals (h.entries p e is).signals }, room, refl))))
 
   -- it is refused, or a program begins over what is shared
   abbrev IsProgram : Answers → Type 0

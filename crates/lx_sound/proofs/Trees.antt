@@ -1,5 +1,5 @@
 -- What is done to a tree keeps it a tree of directories.
-use Rattle.std.proofs.Common.{◌≡◌, ℕ, ◌⊎◌, inl, inr, ⊎_elim, ◌||◌, Bool, true, false, cond, List, [], ◌∷◌, ◌++◌, length, Option, Some, None, refl, ap, sym, subst, ◌∙◌, arith}
+use Rattle.std.proofs.Common.{◌≡◌, ℕ, ◌⊎◌, ⊎_elim, ◌||◌, Bool, true, false, cond, List, [], ◌∷◌, ◌++◌, length, Option, Some, None, refl, ap, sym, subst, ◌∙◌, arith}
 use Rattle.std.proofs.lemmas.Bool.Decides.{nat_tests}
 use Rattle.std.proofs.lemmas.Cmp.{nat_list_cmp_total}
 use Rattle.std.specs.Prelude.{◌==◌, not, is_some, IsSome}
@@ -9,17 +9,16 @@ use Rattle.std.specs.Ordering.{eq_by_cmp}
 use Rattle.std.specs.Cmp.{nat_cmp_total}
 use Rattle.std.specs.FinMap as maps
 use Rattle.std.specs.declared.result.Result.{Result}
-use Rattle.std.specs.declared.result.Result.TheVariants.{Ok, Err}
+use Rattle.std.specs.declared.result.Result.TheVariants.{Ok}
 use Rattle.containers.specs.Vacant.{vacant}
 use Rattle.containers.proofs.Vacant.{vacant_is_least}
 use Rattle.lx_abi.specs.declared.outcome.Node.{Node}
 use Rattle.lx_abi.specs.declared.outcome.Node.TheVariants.{File, Directory}
 use Rattle.lx_files.specs.Kinds.{NameMap, changed_node, changed_file, is_number}
 use Rattle.lx_files.specs.Paths.{Path, path_cmp, slash, has_slash, parent, is_under}
-use Rattle.lx_files.specs.Places.{bar, unless_barred, entered, reached, beyond, and_then, is_dot, is_dot_dot, sight}
+use Rattle.lx_files.specs.Places.{bar, unless_barred, reached, beyond, and_then, is_dot, is_dot_dot}
 use Rattle.lx_files.specs.Trees.{node_at, has_path, is_empty, created, with_content, without_path, without_node}
 use Rattle.lx_files.specs.declared.places.Place.{Place}
-use Rattle.lx_files.specs.declared.places.Lookup.TheVariants.{Absent, IsFile, IsDirectory, NotDirectory}
 use Rattle.lx_files.specs.declared.tree.Tree.{Tree}
 use Rattle.lx_files.proofs.Texts.{path_cmp-IsAntisymmetric, equal_is}
 use Rattle.lx_open.specs.declared.fd_table.FdTable.{FdTable}

@@ -57,12 +57,14 @@ use Rattle.lx_turn.specs.Calls.{does, called}
 use Rattle.lx_turn.specs.Linux.{linux}
 use Rattle.lx_turn.specs.Reactions.{next_of, runs, resumed, ran_by, is_killed}
 use Rattle.lx_sound.specs.Together.{HoldTogether}
+use Rattle.lx_sound.specs.Masks.{AreSignals}
 use Rattle.lx_sound.specs.Parts.{is_alive, lives as is_living, PartsSound}
 use Rattle.lx_sound.specs.Sound.{Agree, HasWord, Sound, IsSound, TurnsStaySound, KernelsAreSound}
 use Rattle.lx_sound.proofs.Maps.{there_now, inserted, inserted_other}
 use Rattle.lx_sound.proofs.Together.{created_together}
 use Rattle.lx_sound.proofs.Entries.{put_sound, signals_sound, received_sound}
 use Rattle.lx_sound.proofs.Changes.{Change, Opens, done, parts_done}
+use Rattle.lx_sound.proofs.Masks.{taken_signals, blocked_signals, first_signals}
 use Rattle.lx_sound.proofs.Booted.{IsWithin, boots_within}
 use Rattle.lx_sound.proofs.Keeping.{Keeps, keeps_all, keeps_then, changed_keeps, kept_sound, DoesKeep, KeptIf}
 use Rattle.lx_sound.proofs.Files.{files_kept}
@@ -107,18 +109,20 @@ took_either : (s : Shared) (t : Bool) (x y : Took Shared UserState) → TookKeep
 took_either s true x y h g = h
 took_either s false x y h g = g
 
-reacts_kept : (s : Shared) (p : ℕ) (e : Entry) (b : UserState) (signal : Signal) (r : Reaction) → TookKeeps s (reacts s p e b signal r)
-reacts_kept s p e b signal reaction.Passes = keeps_all s
-reacts_kept s p e b signal reaction.Ends = tt
-reacts_kept s p e b signal (reaction.Handles a) = took_either s (is_some (frame_fault b.memory b.hart)) _ _ tt (changed_keeps s p _ (λ x. refl) (λ x h. signals_sound s.tree x (blocking e.signals signal a) h))
+reacts_kept : (s : Shared) (p : ℕ) (e : Entry) (b : UserState) (signal : Signal) (cause : Cause) → AreSignals e.signals → (r : Reaction) → reaction_to e.signals signal cause ≡ r → TookKeeps s (reacts s p e b signal r)
+reacts_kept s p e b signal cause within reaction.Passes is = keeps_all s
+reacts_kept s p e b signal cause within reaction.Ends is = tt
+reacts_kept s p e b signal cause within (reaction.Handles a) is =
+    took_either s (is_some (frame_fault b.memory b.hart)) _ _ tt
+    (changed_keeps s p _ (λ x. refl) (λ x h. signals_sound s.tree x (blocking e.signals signal a) (blocked_signals e.signals within signal cause a is) h))
 
-takes_at_kept : (s : Shared) (p : ℕ) (b : UserState) (signal : Signal) (cause : Cause) (o : Option Entry) → TookKeeps s (takes_at o s p b signal cause)
-takes_at_kept s p b signal cause None = keeps_all s
-takes_at_kept s p b signal cause (Some e) = reacts_kept s p e b signal (reaction_to e.signals signal cause)
+takes_at_kept : (s : Shared) (p : ℕ) (b : UserState) (signal : Signal) (cause : Cause) (o : Option Entry) → PartsSound s → maps.get s.entries p ≡ o → TookKeeps s (takes_at o s p b signal cause)
+takes_at_kept s p b signal cause None h is = keeps_all s
+takes_at_kept s p b signal cause (Some e) h is = reacts_kept s p e b signal cause (h.entries p e is).signals (reaction_to e.signals signal cause) refl
 
-takes_kept : (s : Shared) (p : ℕ) (b : UserState) (signal : Signal) (cause : Cause) → TookKeeps s (takes s p b signal cause)
+takes_kept : (s : Shared) (p : ℕ) (b : UserState) (signal : Signal) (cause : Cause) → PartsSound s → TookKeeps s (takes s p b signal cause)
 unfolding takes
-takes_kept s p b signal cause = takes_at_kept s p b signal cause (maps.get s.entries p)
+takes_kept s p b signal cause h = takes_at_kept s p b signal cause (maps.get s.entries p) h refl
 
 join_kept : (s : Shared) (p : ℕ) (x : Option Signal) → Keeps s (joins linux s p x)
 join_kept s p None = keeps_all s
@@ -133,7 +137,7 @@ alive_is : (o : Option Entry) (b : UserState) (stage : Stage) → Agree o (task.
 alive_is None b stage agrees = absurd agrees
 alive_is (Some e) b stage agrees = ap is_alive agrees
 
-abbrev next : Kernel Shared UserState → ℕ → Out Shared UserState → Kernel Shared UserState
+abbrev pub next : Kernel Shared UserState → ℕ → Out Shared UserState → Kernel Shared UserState
 next k p o = with_child (after_turn k p o) o.event
 
 module _ (k : Kernel Shared UserState) (p : ℕ) (b : UserState) (stage : Stage) (is : k.tasks p ≡ task.Alive b stage) (h : IsSound k) where
@@ -157,7 +161,7 @@ module _ (k : Kernel Shared UserState) (p : ℕ) (b : UserState) (stage : Stage)
   resumed_sound None = ran_sound (instruction b.hart b.memory) (instruction b.hart b.memory).step
 
   runs_sound : (signal : Option Signal) → Goes (stepped linux k.shared p b (runs k.shared p b signal))
-  runs_sound (Some signal) = on _ b _ (changed_keeps k.shared p (λ e. with_signals e (without_pending e.signals signal)) (λ e. refl) (λ e x. signals_sound k.shared.tree e (without_pending e.signals signal) x))
+  runs_sound (Some signal) = on _ b _ (changed_keeps k.shared p (λ e. with_signals e (without_pending e.signals signal)) (λ e. refl) (λ e x. signals_sound k.shared.tree e (without_pending e.signals signal) (taken_signals e.signals x.signals signal) x))
   runs_sound None = resumed_sound b.interrupted
 
   lives_now : is_living (maps.get k.shared.entries p) ≡ true
@@ -192,14 +196,14 @@ lives_sound c k p b (Doing call) is h = answered_sound k p b (Doing call) is h c
 lives_sound c k p b (Replaced call x) is h = here k p b (Replaced call x) is h _ _
 lives_sound c k p b (Acted call x replaced) is h = here k p b (Acted call x replaced) is h b Finished
 lives_sound c k p b Finished is h = here k p b Finished is h b Run
-lives_sound c k p b (Taken signal cause) is h = took_sound k p b (Taken signal cause) is h signal cause (takes k.shared p b signal cause) (takes_kept k.shared p b signal cause)
+lives_sound c k p b (Taken signal cause) is h = took_sound k p b (Taken signal cause) is h signal cause (takes k.shared p b signal cause) (takes_kept k.shared p b signal cause h.parts)
 lives_sound c k p b Dropped is h = here k p b Dropped is h b Run
 
 killed_sound : (killed : Bool) (c : Choice) (k : Kernel Shared UserState) (p : ℕ) (b : UserState) (stage : Stage) → k.tasks p ≡ task.Alive b stage → IsSound k → IsSound (next k p (killed_or killed linux c k.shared k.child p b stage))
 killed_sound true c k p b stage is h = ends k p b stage is h 9
 killed_sound false c k p b stage is h = lives_sound c k p b stage is h
 
-turn_sound : (c : Choice) (k : Kernel Shared UserState) (p : ℕ) (x : Task UserState) → k.tasks p ≡ x → IsSound k → IsSound (next k p (turn linux c k.shared k.child p x))
+pub turn_sound : (c : Choice) (k : Kernel Shared UserState) (p : ℕ) (x : Task UserState) → k.tasks p ≡ x → IsSound k → IsSound (next k p (turn linux c k.shared k.child p x))
 turn_sound c k p (task.Alive b stage) is h = killed_sound (is_killed (maps.get k.shared.entries p)) c k p b stage is h
 turn_sound c k p (task.Dying w) is h = buried_sound k.shared k.tasks k.child p w is h
 turn_sound c k p task.Gone is h = stays_gone k.shared k.tasks k.child p is h
@@ -250,7 +254,7 @@ bare_parts boot none =
     let within : IsWithin boot.files = boots_within boot none in record {
       files = planted rooted boot.files (created_together (record { names = maps.empty; nodes = maps.empty }) no_fds bare [] Directory);
       rooted = within.rooted;
-      entries = put_sound (tree_of boot.files) maps.empty 1 first_entry (record { directory = within.rooted.root }) (λ p e is. absurd (none_there p e is));
+      entries = put_sound (tree_of boot.files) maps.empty 1 first_entry (record { directory = within.rooted.root; signals = first_signals }) (λ p e is. absurd (none_there p e is));
       owned = λ p fd below there. absurd (let no : is_some (maps.get (maps.empty {X = Slot} {R = nat_cmp}) (pair p fd)) ≡ false = ap is_some (maps.get-empty nat_cmp (pair p fd)) in cc (no, there));
       within = record {
         nodes = within.nodes;
@@ -290,7 +294,7 @@ one_lives n =
 two_next : (n : ℕ) → 2 ≤ suc (max 1 n)
 two_next n = let most = le-max_left 1 n in omega (arith, most)
 
-first_sound : (boot : Boot) → fault_of boot ≡ None → IsSound (first_kernel (first_shared boot.limits boot.files boot.input) (booted boot.argv boot.env))
+pub first_sound : (boot : Boot) → fault_of boot ≡ None → IsSound (first_kernel (first_shared boot.limits boot.files boot.input) (booted boot.argv boot.env))
 first_sound boot none =
     let b : UserState = booted boot.argv boot.env in record {
       parts = first_parts boot none;

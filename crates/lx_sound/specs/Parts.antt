@@ -14,6 +14,7 @@ use Rattle.lx_proc.specs.State.{Entries}
 use Rattle.lx_sound.specs.Together.{HoldTogether}
 use Rattle.lx_sound.specs.Rooted.{is_directory, IsRooted}
 use Rattle.lx_sound.specs.Within.{AreWithin}
+use Rattle.lx_sound.specs.Masks.{AreSignals}
 
 abbrev pub is_alive : Life → Bool
 is_alive Alive = true
@@ -27,6 +28,7 @@ lives (Some e) = is_alive e.life
 pub record EntrySound (tree : Tree) (e : Entry) : Type 0 where
   -- the working directory is a directory
   pub directory : is_directory (node_at tree e.directory) ≡ true
+  pub signals : AreSignals e.signals
 
 abbrev pub EntriesSound : Tree → Entries → Type 0
 EntriesSound tree m = (p : ℕ) (e : Entry) → maps.get m p ≡ Some e → EntrySound tree e

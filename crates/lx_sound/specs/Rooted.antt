@@ -1,5 +1,5 @@
 -- The file tree as a tree of directories.
-use Rattle.std.specs.Prelude.{◌≡◌, Bool, true, false, List, [], Option, Some, None, IsSome}
+use Rattle.std.specs.Prelude.{◌≡◌, Bool, true, false, [], Option, Some, None, IsSome}
 use Rattle.std.specs.FinMap as maps
 use Rattle.lx_abi.specs.declared.outcome.Node.{Node}
 use Rattle.lx_abi.specs.declared.outcome.Node.TheVariants.{File, Directory}
