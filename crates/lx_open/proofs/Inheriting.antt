@@ -1,5 +1,5 @@
 -- A child has its parent's descriptors, one after another, and what it had comes back where one finds no memory.
-use Rattle.std.proofs.Common.{◌≡◌, ℕ, ◌+◌, ◌-◌, ◌≤◌, ◌<◌, Bool, true, cond, Option, Some, None, refl, ap, sym, subst, ◌∙◌, arith, rules}
+use Rattle.std.proofs.Common.{◌≡◌, ℕ, ◌+◌, true, cond, Option, Some, None, ap, sym, subst, ◌∙◌, arith, rules}
 use Rattle.std.proofs.lemmas.Bool.Decides.{nat_tests}
 use Rattle.std.specs.Prelude.{IsSome}
 use Rattle.std.specs.Ordering.{nat_cmp, eq_by_cmp}
@@ -7,7 +7,7 @@ use Rattle.std.specs.Cmp.{nat_cmp_total}
 use Rattle.std.specs.FinMap as maps
 use Rattle.containers.proofs.Maps.{insert-insert}
 use Rattle.lx_files.specs.declared.counts.Counts.{Counts}
-use Rattle.lx_files.specs.Tallies.{count_of, one_if, how_many, weight, Forgets}
+use Rattle.lx_files.specs.Tallies.{one_if, how_many, weight, Forgets}
 use Rattle.lx_files.proofs.Totals.{total-insert, remove-insert, insert-same}
 use Rattle.lx_open.specs.Kinds.{Slot, SlotMap, names_description}
 use Rattle.lx_open.specs.Counted.{CountsAll, CountsMore, CountsFollow, put_back, fds_from}

@@ -1,7 +1,6 @@
 use Rattle.std.proofs.Common.{ap, ◌∙◌}
-use Rattle.lx_files.specs.declared.tree.Tree.{Tree}
 use Rattle.lx_open.specs.Opens.{FdTable}
-use Rattle.lx_open.specs.Releases.{Held, description_released}
+use Rattle.lx_open.specs.Releases.{description_released}
 use Rattle.lx_open.proofs.Replacing.{replaced_none, replaced_some}
 use Rattle.lx_open.proofs.release.replace.Goals as goal
 

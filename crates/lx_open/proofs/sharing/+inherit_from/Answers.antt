@@ -1,10 +1,8 @@
-use Rattle.std.proofs.Common.{◌≡◌, ◌+◌, ◌≤◌, Some, None, ap, sym, subst, ◌∙◌, rules, arith}
+use Rattle.std.proofs.Common.{Some, None, ap, sym, subst, ◌∙◌, rules, arith}
 use Rattle.std.specs.Prelude.{IsSome}
 use Rattle.std.specs.FinMap as maps
 use Rattle.lx_open.specs.Kinds.{SlotMap}
 use Rattle.lx_open.specs.Nexts.{IsNextOpen}
-use Rattle.lx_open.specs.Opens.{pair}
-use Rattle.lx_open.specs.Counted.{put_back}
 use Rattle.lx_open.proofs.Rows.{inherited_end}
 use Rattle.lx_open.proofs.Inheriting.{there, stands_again, counts_all, counts_follow, inherits}
 use Rattle.lx_open.proofs.sharing.+inherit_from.Goals as goal

@@ -1,6 +1,6 @@
-use Rattle.std.proofs.Common.{◌≡◌, Some, None, ap, ◌∙◌}
+use Rattle.std.proofs.Common.{ap, ◌∙◌}
 use Rattle.std.specs.FinMap as maps
-use Rattle.lx_open.specs.Opens.{FdTable, pair}
+use Rattle.lx_open.specs.Opens.{FdTable}
 use Rattle.lx_open.proofs.Taking.{slots_back, descriptions_back, nothing_taken}
 use Rattle.lx_open.proofs.fd_table.FdTable.take_back.Goals as goal
 

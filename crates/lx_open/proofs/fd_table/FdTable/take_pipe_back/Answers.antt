@@ -1,4 +1,4 @@
-use Rattle.std.proofs.Common.{◌≡◌, [], ap, ◌∙◌}
+use Rattle.std.proofs.Common.{[], ap, ◌∙◌}
 use Rattle.lx_files.proofs.Full.{taken_back}
 use Rattle.lx_open.specs.Opens.{FdTable}
 use Rattle.lx_open.proofs.fd_table.FdTable.take_pipe_back.Goals as goal
