@@ -53,6 +53,7 @@ test:
 	tests/served
 	tests/limits
 	tests/refused
+	tests/refused-calls
 	tests/hostile
 
 # Proves what an edit changed.
