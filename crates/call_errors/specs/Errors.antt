@@ -1,5 +1,5 @@
--- The errors of each call that a sweep tries where none are named: of the manual page's (section 2), in the order of their
--- names, those that a program which passes sound arguments can meet.
+-- The errors of each call that a sweep tries where none are named: of the manual page's (section 2), in the order of
+-- their names, those that a program which passes sound arguments can meet.
 use Rattle.std.specs.Prelude.{ℕ, ◌==◌, List, [], ◌∷◌, Option, Some, None, find}
 use Rattle.std.specs.Borrow.{Bor}
 use Rattle.lx_abi.specs.Sys.{sys_getcwd, sys_dup, sys_dup3, sys_mkdirat, sys_unlinkat, sys_ftruncate}
@@ -85,8 +85,11 @@ call_errors =
     (sys_mkdirat, eacces ∷ edquot ∷ eexist ∷ emlink ∷ enoent ∷ enomem ∷ enospc ∷ eperm ∷ erofs ∷ []) ∷
     (sys_unlinkat, eacces ∷ ebusy ∷ eio ∷ enoent ∷ enomem ∷ eperm ∷ erofs ∷ []) ∷
     (sys_ftruncate, efbig ∷ eintr ∷ eio ∷ eperm ∷ []) ∷
-    (sys_chdir, eacces ∷ eio ∷ enoent ∷ enomem ∷ []) ∷
-    (sys_openat, eacces ∷ edquot ∷ eexist ∷ eintr ∷ emfile ∷ enfile ∷ enoent ∷ enomem ∷ enospc ∷ eperm ∷ erofs ∷ etxtbsy ∷ []) ∷
+    (sys_chdir, eacces ∷ eio ∷ enoent ∷ enomem ∷ []) ∷ (
+      sys_openat,
+      eacces ∷ edquot ∷ eexist ∷ eintr ∷ emfile ∷ enfile ∷ enoent ∷ enomem ∷ enospc ∷ eperm ∷ erofs
+          ∷ etxtbsy ∷ [],
+    ) ∷
     (sys_close, edquot ∷ eintr ∷ eio ∷ enospc ∷ []) ∷
     (sys_pipe2, emfile ∷ enfile ∷ []) ∷
     (sys_lseek, eoverflow ∷ espipe ∷ []) ∷

@@ -30,7 +30,8 @@ pub record HeldState : Type 0 where
   pub failed : Bool
 
 abbrev pub held_by : Boot → HostState → List Entry → ℕ → Bool → Bool → HeldState
-held_by boot host journal limit closed failed = record { boot = boot; host = host; journal = journal; limit = limit; closed = closed; failed = failed }
+held_by boot host journal limit closed failed =
+    record { boot = boot; host = host; journal = journal; limit = limit; closed = closed; failed = failed }
 
 abbrev pub first_of : Boot → Linux_host
 first_of boot = first_hosting (first_shared boot.limits boot.files boot.input) (booted boot.argv boot.env)

@@ -10,10 +10,12 @@ use Rattle.host_shared.specs.HeldStates.{HeldState, asked, serve_of, next_turn, 
 
 -- a request is put, or answered at once
 abbrev pub Puts : HeldState → Request → Option (Result Reply LinkFault) → HeldState → Type 0
-Puts h q None h' = (h.failed ≡ false) × (h.closed ≡ false) × (is_there h.host.hosting.pending ≡ false) × (h' ≡ asked h q)
+Puts h q None h' =
+    (h.failed ≡ false) × (h.closed ≡ false) × (is_there h.host.hosting.pending ≡ false) × (h' ≡ asked h q)
 Puts h q (Some (Ok r)) h' = (h.failed ≡ false) × (h.closed ≡ true) × (r ≡ Out_of_turns) × (h' ≡ h)
 Puts h q (Some (Err Memory)) h' = h'.failed ≡ true
-Puts h q (Some (Err Sequence)) h' = (h.failed ≡ false) × (h.closed ≡ false) × (is_there h.host.hosting.pending ≡ true) × (h' ≡ h)
+Puts h q (Some (Err Sequence)) h' =
+    (h.failed ≡ false) × (h.closed ≡ false) × (is_there h.host.hosting.pending ≡ true) × (h' ≡ h)
 Puts h q (Some (Err f)) h' = ⊥
 
 -- it is served, or it waits
@@ -36,7 +38,8 @@ FailsSo (Some (Ok r)) = Unit {0}
 FailsSo (Some (Err f)) = IsSharedFault f
 
 -- a call of a link over it: what was asked and answered is kept
-abbrev pub Calls : {L : Type 0} → (L → List (Request × Reply)) → (L → ℕ) → L → Request → Result Reply LinkFault → L → Type 0
+abbrev pub Calls : {L : Type 0} → (L → List (Request × Reply)) → (L → ℕ) → L → Request → Result Reply LinkFault → L
+    → Type 0
 Calls given broken a q (Ok r) b = given b ≡ given a ++ (q, r) ∷ []
 Calls given broken a q (Err Memory) b = given b ≡ given a
 Calls given broken a q (Err Sequence) b = given b ≡ given a
