@@ -53,7 +53,6 @@ test:
 	tests/served
 	tests/limits
 	tests/refused
-	tests/refused-calls
 	tests/hostile
 
 # Proves what an edit changed.
