@@ -29,6 +29,7 @@ use Rattle.lx_proc.specs.WaitWords.{Words}
 use Rattle.lx_pcalls.specs.Clone.{has_room, with_child, child_entry}
 use Rattle.lx_pcalls.specs.Ends.{with_life, sigchld, cause_of_end, dies, orphan, released_entry, released, orphaned, told, wants_no_news, retired_by, buried_entry, buried}
 use Rattle.lx_sound.specs.Parts.{is_alive, lives, EntrySound, EntriesSound, AreOwned, PartsSound}
+use Rattle.lx_sound.specs.Pages.{HasFewPages, IsSmall}
 use Rattle.lx_sound.specs.Sound.{Agree, HasWord, Sound}
 use Rattle.lx_sound.proofs.Maps.{inserted, there_now, removed, inserted_other, removed_other}
 use Rattle.lx_sound.proofs.Together.{inherited_together, all_closed_together}
@@ -54,8 +55,17 @@ alive_agrees : (o : Option Entry) (b c : UserState) (stage next : Stage) → Agr
 alive_agrees None b c stage next h = h
 alive_agrees (Some e) b c stage next h = h
 
-pub stands : (s : Shared) (tasks : Tasks) (child p : ℕ) (b c : UserState) (stage next : Stage) → tasks p ≡ task.Alive b stage → Sound s tasks child → Sound s (put tasks p (task.Alive c next)) child
-stands s tasks child p b c stage next is h = record { parts = h.parts; agree = λ q. go q (p == q) refl; words = h.words; pids = h.pids; live = h.live; last = h.last }
+-- a process's memory is small, and so is each other's
+put_small : (tasks : Tasks) (p : ℕ) (t : Task UserState) → IsSmall t → ((q : ℕ) → IsSmall (tasks q)) → (q : ℕ) → IsSmall (put tasks p t q)
+put_small tasks p t small h q = go (p == q)
+  where
+    go : (b : Bool) → IsSmall (cond b t (tasks q))
+    go true = small
+    go false = h q
+
+pub stands : (s : Shared) (tasks : Tasks) (child p : ℕ) (b c : UserState) (stage next : Stage) → tasks p ≡ task.Alive b stage → HasFewPages c.memory → Sound s tasks child → Sound s (put tasks p (task.Alive c next)) child
+stands s tasks child p b c stage next is small h =
+    record { parts = h.parts; agree = λ q. go q (p == q) refl; words = h.words; pids = h.pids; live = h.live; last = h.last; pages = put_small tasks p (task.Alive c next) small h.pages }
   where
     go : (q : ℕ) (t : Bool) → (p == q) ≡ t → Agree (maps.get s.entries q) (cond t (task.Alive c next) (tasks q))
     go q false other = h.agree q
@@ -64,7 +74,8 @@ stands s tasks child p b c stage next is h = record { parts = h.parts; agree = �
         subst (λ i. Agree (maps.get s.entries i) (task.Alive c next)) same (alive_agrees (maps.get s.entries p) b c stage next (subst (Agree (maps.get s.entries p)) is (h.agree p)))
 
 pub stays_gone : (s : Shared) (tasks : Tasks) (child p : ℕ) → tasks p ≡ task.Gone → Sound s tasks child → Sound s (put tasks p task.Gone) child
-stays_gone s tasks child p is h = record { parts = h.parts; agree = λ q. go q (p == q) refl; words = h.words; pids = h.pids; live = h.live; last = h.last }
+stays_gone s tasks child p is h =
+    record { parts = h.parts; agree = λ q. go q (p == q) refl; words = h.words; pids = h.pids; live = h.live; last = h.last; pages = put_small tasks p task.Gone tt h.pages }
   where
     go : (q : ℕ) (t : Bool) → (p == q) ≡ t → Agree (maps.get s.entries q) (cond t task.Gone (tasks q))
     go q false other = h.agree q
@@ -75,15 +86,16 @@ stays_gone s tasks child p is h = record { parts = h.parts; agree = λ q. go q (
 -- A process has an entry of another life, and stands elsewhere.
 
 module _ (s : Shared) (tasks : Tasks) (child p : ℕ) (h : Sound s tasks child) (old x : Entry) (next : Task UserState) where
-  pub relived : maps.get s.entries p ≡ Some old → Agree (Some x) next → (words : Words) → ((q : ℕ) → (q == p) ≡ false → maps.get words q ≡ maps.get s.ended q) → HasWord words p x.life
+  pub relived : maps.get s.entries p ≡ Some old → Agree (Some x) next → IsSmall next → (words : Words) → ((q : ℕ) → (q == p) ≡ false → maps.get words q ≡ maps.get s.ended q) → HasWord words p x.life
       → (t : Shared) → PartsSound t → t.entries ≡ maps.insert s.entries p x → t.ended ≡ words → t.limits ≡ s.limits → Sound t (put tasks p next) child
-  relived is agrees words others has t parts es ws ls = record {
+  relived is agrees small words others has t parts es ws ls = record {
     parts = parts;
     agree = λ q. subst (λ (m : Entries). Agree (maps.get m q) (put tasks p next q)) (sym es) (agree_at q (p == q) refl);
     words = λ q e e_is. subst (λ (w : Words). HasWord w q e.life) (sym ws) (words_at q e (q == p) refl (ap (λ (m : Entries). maps.get m q) (sym es) ∙ e_is));
     pids = λ q le. ap (λ (m : Entries). maps.get m q) es ∙ pids_at q (q == p) refl le;
     live = rw (es, ls) (subst (λ n. n ≤ max 1 s.limits.live) (sym (put_len s.entries p x (ap is_some is))) h.live);
     last = rw ls h.last;
+    pages = put_small tasks p next small h.pages;
   }
     where
       agree_at : (q : ℕ) (t : Bool) → (p == q) ≡ t → Agree (maps.get (maps.insert s.entries p x) q) (cond t next (tasks q))
@@ -174,7 +186,7 @@ dies_sound s tasks child p w b stage is h = go (maps.get s.entries p) refl (subs
     go : (o : Option Entry) → maps.get s.entries p ≡ o → Agree o (task.Alive b stage) → Sound (dies s p w) (put tasks p (task.Dying w)) child
     go None none agrees = absurd agrees
     go (Some e) there agrees =
-        relived s tasks child p h e (with_life e (Dying w)) (task.Dying w) there refl (maps.insert s.ended p w) (λ q other. inserted_other s.ended p w q other) (there_now nat_cmp_total s.ended p w)
+        relived s tasks child p h e (with_life e (Dying w)) (task.Dying w) there refl tt (maps.insert s.ended p w) (λ q other. inserted_other s.ended p w q other) (there_now nat_cmp_total s.ended p w)
         (dies s p w) (died_parts s p w (ap lives there ∙ ap is_alive agrees) h.parts) (ap (changed_entry s.entries p (λ x. with_life x (Dying w))) there) refl refl
 
 -- A process that leaves Dying.
@@ -242,6 +254,7 @@ leaves_sound s tasks child p w is h = record {
   pids = λ q le. pids_at q (q == p) refl le;
   live = let fewer = take_len s.entries p in let live = h.live in omega (arith, fewer, live);
   last = h.last;
+  pages = put_small tasks p task.Gone tt h.pages;
 }
   where
     gone_at : (q : ℕ) → (q == p) ≡ true → maps.get (maps.remove s.entries p) q ≡ None
@@ -262,7 +275,7 @@ waits_sound s tasks child p w is h = go (maps.get s.entries p) refl (subst (Agre
     go : (o : Option Entry) → maps.get s.entries p ≡ o → Agree o (task.Dying w) → Sound (with_entries s (changed s.entries p (λ e. with_life e (Zombie w)))) (put tasks p task.Gone) child
     go None none agrees = absurd agrees
     go (Some e) there agrees =
-        relived s tasks child p h e (with_life e (Zombie w)) task.Gone there (w, refl) s.ended (λ q other. refl) (subst (HasWord s.ended p) agrees (h.words p e there))
+        relived s tasks child p h e (with_life e (Zombie w)) task.Gone there (w, refl) tt s.ended (λ q other. refl) (subst (HasWord s.ended p) agrees (h.words p e there))
         (with_entries s (changed s.entries p (λ e. with_life e (Zombie w))))
         (relived_parts s p (Zombie w) h.parts (no_slots s p h.parts (ap lives there ∙ ap is_alive agrees)) (with_entries s (changed s.entries p (λ e. with_life e (Zombie w)))) refl refl refl refl)
         (ap (changed_entry s.entries p (λ x. with_life x (Zombie w))) there) refl refl
@@ -375,14 +388,15 @@ born_parts s child p e sound h = record {
         go false other alive = ap lives (inserted_other s.entries child (child_entry e p) q other) ∙ alive
         go true eq alive = newborn q (grind (arith, nat_tests, eq))
 
-pub bears_sound : (s : Shared) (tasks : Tasks) (child p : ℕ) (e : Entry) (newborn : UserState) → EntrySound s.tree (child_entry e p) → has_room s child ≡ true → Sound s tasks child → Sound (with_child s child p (child_entry e p)) (put tasks child (task.Alive newborn Born)) (suc child)
-bears_sound s tasks child p e newborn sound room h = record {
+pub bears_sound : (s : Shared) (tasks : Tasks) (child p : ℕ) (e : Entry) (newborn : UserState) → EntrySound s.tree (child_entry e p) → HasFewPages newborn.memory → has_room s child ≡ true → Sound s tasks child → Sound (with_child s child p (child_entry e p)) (put tasks child (task.Alive newborn Born)) (suc child)
+bears_sound s tasks child p e newborn sound small room h = record {
   parts = born_parts s child p e sound h.parts;
   agree = λ q. agree_at q (child == q) refl;
   words = λ q x is. words_at q x (inserted nat_cmp_total s.entries child (child_entry e p) q x is);
   pids = λ q le. inserted_other s.entries child (child_entry e p) q (let above = le in grind (arith, nat_tests, above)) ∙ h.pids q (omega (arith, le));
   live = born_live s child (child_entry e p) room;
   last = born_last s child room;
+  pages = put_small tasks child (task.Alive newborn Born) small h.pages;
 }
   where
     agree_at : (q : ℕ) (t : Bool) → (child == q) ≡ t → Agree (maps.get (maps.insert s.entries child (child_entry e p)) q) (cond t (task.Alive newborn Born) (tasks q))

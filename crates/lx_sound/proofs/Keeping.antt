@@ -86,6 +86,7 @@ module _ (s t : Shared) (tasks : ℕ → Task UserState) (child : ℕ) where
     live = subst (λ (l : ProcessLimits). maps.len t.entries ≤ max 1 l.live) (sym keeps.limits) (let fewer = keeps.entries.fewer in let live = h.live in omega (arith, fewer, live));
     last = subst (λ (l : ProcessLimits). child ≤ suc (max 1 l.last_pid)) (sym keeps.limits) h.last;
     pids = λ q le. none_still (maps.get s.entries q) (maps.get t.entries q) (keeps.entries.each q) (h.pids q le);
+    pages = h.pages;
   }
 
 -- Answers.

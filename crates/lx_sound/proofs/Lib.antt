@@ -9,6 +9,10 @@ pub mod Changes
 pub mod Keeping
 pub mod Files
 pub mod Processes
+pub mod Pages
+pub mod Bodies
+pub mod FileBodies
+pub mod ProcessBodies
 pub mod Ends
 pub mod Booted
 pub mod Turns

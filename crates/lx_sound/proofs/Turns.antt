@@ -1,6 +1,7 @@
 -- A turn keeps a state sound, and a boot begins in one.
-use Rattle.std.proofs.Common.{◌≡◌, ℕ, zero, suc, ◌+◌, ◌<◌, ◌≤◌, ⊎_elim, Bool, true, false, cond, List, [], ◌∷◌, length, Option, Some, None, is_some, refl, ap, sym, subst, ◌∙◌, arith}
+use Rattle.std.proofs.Common.{◌≡◌, ℕ, zero, suc, ◌+◌, ◌<◌, ◌≤◌, ⊎_elim, Bool, true, false, cond, map, List, [], ◌∷◌, length, Option, Some, None, is_some, refl, ap, sym, subst, ◌∙◌, arith}
 use Rattle.std.proofs.lemmas.Bool.Decides.{nat_tests}
+use Rattle.std.proofs.lemmas.List.Elements.{All-nil, All-cons}
 use Rattle.std.proofs.Math.Nat.{le-max_left}
 use Rattle.std.specs.Prelude.{max, ◌==◌, fold, take}
 use Rattle.std.specs.Option.{unwrap_or}
@@ -10,6 +11,8 @@ use Rattle.std.specs.FinMap as maps
 use Rattle.rv_hart.specs.declared.outcome.Step.{Step}
 use Rattle.rv_hart.specs.declared.outcome.Step.TheVariants as step
 use Rattle.rv_hart.specs.Steps.{Outcome, stepped as instruction}
+use Rattle.elf_image.specs.Images.{extent_of, IsInRange, IsLaidOut}
+use Rattle.elf_image.specs.Layout.{page_count as extents_count}
 use Rattle.lx_abi.specs.Errnos.{enosys}
 use Rattle.lx_abi.specs.Log.{entries, items_of}
 use Rattle.lx_abi.specs.declared.boot.Boot.{Boot}
@@ -48,7 +51,7 @@ use Rattle.lx_proc.specs.State.{with_signals}
 use Rattle.lx_proc.specs.Answers.{Answers}
 use Rattle.lx_boot.specs.Boots.{fault_of}
 use Rattle.lx_boot.specs.First.{first_entry, first_fds, first_shared, reads, writes}
-use Rattle.lx_exec.specs.Programs.{booted}
+use Rattle.lx_exec.specs.Programs.{stub_image, booted}
 use Rattle.lx_fcalls.specs.Calls.{file_call}
 use Rattle.lx_pcalls.specs.Calls.{process_call}
 use Rattle.lx_pcalls.specs.Interruption.{is_interrupted, interruptible, blocks_or_returns}
@@ -58,6 +61,7 @@ use Rattle.lx_turn.specs.Linux.{linux}
 use Rattle.lx_turn.specs.Reactions.{next_of, runs, resumed, ran_by, is_killed}
 use Rattle.lx_sound.specs.Together.{HoldTogether}
 use Rattle.lx_sound.specs.Masks.{AreSignals}
+use Rattle.lx_sound.specs.Pages.{HasFewPages, IsSmall}
 use Rattle.lx_sound.specs.Parts.{is_alive, lives as is_living, PartsSound}
 use Rattle.lx_sound.specs.Sound.{Agree, HasWord, Sound, IsSound, TurnsStaySound, KernelsAreSound}
 use Rattle.lx_sound.proofs.Maps.{there_now, inserted, inserted_other}
@@ -65,6 +69,10 @@ use Rattle.lx_sound.proofs.Together.{created_together}
 use Rattle.lx_sound.proofs.Entries.{put_sound, signals_sound, received_sound}
 use Rattle.lx_sound.proofs.Changes.{Change, Opens, done, parts_done}
 use Rattle.lx_sound.proofs.Masks.{taken_signals, blocked_signals, first_signals}
+use Rattle.lx_sound.proofs.Pages.{written_few, stepped_few, program_few}
+use Rattle.lx_sound.proofs.Bodies.{LeavesFew, LeavesFewIf}
+use Rattle.lx_sound.proofs.FileBodies.{files_few}
+use Rattle.lx_sound.proofs.ProcessBodies.{processes_few}
 use Rattle.lx_sound.proofs.Booted.{IsWithin, boots_within}
 use Rattle.lx_sound.proofs.Keeping.{Keeps, keeps_all, keeps_then, changed_keeps, kept_sound, DoesKeep, KeptIf}
 use Rattle.lx_sound.proofs.Files.{files_kept}
@@ -100,6 +108,52 @@ does_kept child s p call b h alive =
     interruptible_kept child s p b (called s child p call b)
     (file_kept child s p (file_call s p call b) _ (files_kept child s p call b h alive)
     (process_kept child s p (process_call s child p call b) (processes_kept child s p call b h alive)))
+
+-- and of the caller's memory
+
+interrupted_few : (s : Shared) (b : UserState) (t : Bool) → HasFewPages b.memory → LeavesFew (blocks_or_returns s b t)
+interrupted_few s b true few = few
+interrupted_few s b false few = tt
+
+interruptible_few : (s : Shared) (p : ℕ) (b : UserState) (a : Answers) → HasFewPages b.memory → LeavesFew a → LeavesFew (interruptible s p b a)
+interruptible_few s p b (Refused e) few h = h
+interruptible_few s p b (Returns t c x) few h = h
+interruptible_few s p b (Jumps t c) few h = h
+interruptible_few s p b (Execs t c) few h = h
+interruptible_few s p b (Bears t c newborn) few h = h
+interruptible_few s p b Blocks few h = interrupted_few s b (is_interrupted (maps.get s.entries p)) few
+interruptible_few s p b (Ends w) few h = h
+
+or_few : (o : Option Answers) (other : Answers) → LeavesFewIf o → LeavesFew other → LeavesFew (unwrap_or o other)
+or_few None other h g = g
+or_few (Some a) other h g = h
+
+does_few : (child : ℕ) (s : Shared) (p : ℕ) (call : Call) (b : UserState) → HasFewPages b.memory → LeavesFew (does s child p call b)
+unfolding does
+does_few child s p call b few =
+    interruptible_few s p b (called s child p call b) few
+    (or_few (file_call s p call b) _ (files_few s p call b few) (or_few (process_call s child p call b) (Refused enosys) (processes_few child s p call b few) tt))
+
+abbrev TookFew : Took Shared UserState → Type 0
+TookFew (Passes t c) = HasFewPages c.memory
+TookFew (Kills w) = Unit {0}
+
+either_took_few : (t : Bool) (x y : Took Shared UserState) → TookFew x → TookFew y → TookFew (cond t x y)
+either_took_few true x y h g = h
+either_took_few false x y h g = g
+
+reacts_few : (s : Shared) (p : ℕ) (e : Entry) (b : UserState) (signal : Signal) (r : Reaction) → HasFewPages b.memory → TookFew (reacts s p e b signal r)
+reacts_few s p e b signal reaction.Passes few = few
+reacts_few s p e b signal reaction.Ends few = tt
+reacts_few s p e b signal (reaction.Handles a) few = either_took_few (is_some (frame_fault b.memory b.hart)) _ _ tt (written_few b.memory _ _ few)
+
+takes_at_few : (s : Shared) (p : ℕ) (b : UserState) (signal : Signal) (cause : Cause) (o : Option Entry) → HasFewPages b.memory → TookFew (takes_at o s p b signal cause)
+takes_at_few s p b signal cause None few = few
+takes_at_few s p b signal cause (Some e) few = reacts_few s p e b signal (reaction_to e.signals signal cause) few
+
+takes_few : (s : Shared) (p : ℕ) (b : UserState) (signal : Signal) (cause : Cause) → HasFewPages b.memory → TookFew (takes s p b signal cause)
+unfolding takes
+takes_few s p b signal cause few = takes_at_few s p b signal cause (maps.get s.entries p) few
 
 abbrev TookKeeps : Shared → Took Shared UserState → Type 0
 TookKeeps s (Passes t c) = Keeps s t
@@ -145,23 +199,27 @@ module _ (k : Kernel Shared UserState) (p : ℕ) (b : UserState) (stage : Stage)
   Goes o = IsSound (next k p o)
 
   -- it lives on, and what is shared is kept
-  on : (t : Shared) (c : UserState) (to : Stage) → Keeps k.shared t → Sound t (put k.tasks p (task.Alive c to)) k.child
-  on t c to keeps = stands t k.tasks k.child p b c stage to is (kept_sound k.shared t k.tasks k.child keeps h)
+  on : (t : Shared) (c : UserState) (to : Stage) → HasFewPages c.memory → Keeps k.shared t → Sound t (put k.tasks p (task.Alive c to)) k.child
+  on t c to small keeps = stands t k.tasks k.child p b c stage to is small (kept_sound k.shared t k.tasks k.child keeps h)
 
-  here : (c : UserState) (to : Stage) → Sound k.shared (put k.tasks p (task.Alive c to)) k.child
-  here c to = on k.shared c to (keeps_all k.shared)
+  here : (c : UserState) (to : Stage) → HasFewPages c.memory → Sound k.shared (put k.tasks p (task.Alive c to)) k.child
+  here c to small = on k.shared c to small (keeps_all k.shared)
 
-  ran_sound : (o : Outcome) (st : Step) → Goes (stepped linux k.shared p b (ran_by b o st))
-  ran_sound o step.Ran = here _ Run
-  ran_sound o step.Call = here b (Entered None)
-  ran_sound o (step.Fault kind address) = here b _
+  own : HasFewPages b.memory
+  own = subst IsSmall is (h.pages p)
+
+  ran_sound : (o : Outcome) (st : Step) → HasFewPages o.memory → Goes (stepped linux k.shared p b (ran_by b o st))
+  ran_sound o step.Ran small = here _ Run small
+  ran_sound o step.Call small = here b (Entered None) own
+  ran_sound o (step.Fault kind address) small = here b _ own
 
   resumed_sound : (x : Option Interrupted) → Goes (stepped linux k.shared p b (resumed b x))
-  resumed_sound (Some x) = here _ Run
-  resumed_sound None = ran_sound (instruction b.hart b.memory) (instruction b.hart b.memory).step
+  resumed_sound (Some x) = here _ Run own
+  resumed_sound None = ran_sound (instruction b.hart b.memory) (instruction b.hart b.memory).step (stepped_few b.hart b.memory own)
 
   runs_sound : (signal : Option Signal) → Goes (stepped linux k.shared p b (runs k.shared p b signal))
-  runs_sound (Some signal) = on _ b _ (changed_keeps k.shared p (λ e. with_signals e (without_pending e.signals signal)) (λ e. refl) (λ e x. signals_sound k.shared.tree e (without_pending e.signals signal) (taken_signals e.signals x.signals signal) x))
+  runs_sound (Some signal) =
+      on _ b _ own (changed_keeps k.shared p (λ e. with_signals e (without_pending e.signals signal)) (λ e. refl) (λ e x. signals_sound k.shared.tree e (without_pending e.signals signal) (taken_signals e.signals x.signals signal) x))
   runs_sound None = resumed_sound b.interrupted
 
   lives_now : is_living (maps.get k.shared.entries p) ≡ true
@@ -170,34 +228,36 @@ module _ (k : Kernel Shared UserState) (p : ℕ) (b : UserState) (stage : Stage)
   ends : (w : ℕ) → Sound (linux.die k.shared p w) (put k.tasks p (task.Dying w)) k.child
   ends w = dies_sound k.shared k.tasks k.child p w b stage is h
 
-  answered_sound : (call : Call) (a : Answers) → DoesKeep k.child k.shared p a → Goes (answered linux k.shared k.child p b call a)
-  answered_sound call (Refused e) g = here _ _
-  answered_sound call (Returns t c x) g = on t _ _ g
-  answered_sound call (Jumps t c) g = on t c _ g
-  answered_sound call (Execs t c) g = on t c _ g
-  answered_sound call (Bears t c newborn) g =
+  answered_sound : (call : Call) (a : Answers) → DoesKeep k.child k.shared p a → LeavesFew a → Goes (answered linux k.shared k.child p b call a)
+  answered_sound call (Refused e) g few = here _ _ own
+  answered_sound call (Returns t c x) g few = on t _ _ few g
+  answered_sound call (Jumps t c) g few = on t c _ few g
+  answered_sound call (Execs t c) g few = on t c _ few g
+  answered_sound call (Bears t c newborn) g few =
       let to : Stage = Acted call k.child false in
       let parent : UserState = with_result linux c k.child in
       subst (λ (u : Shared). Sound u (put (put k.tasks p (task.Alive parent to)) k.child (task.Alive newborn Born)) (suc k.child)) (sym g.3)
-      (bears_sound k.shared (put k.tasks p (task.Alive parent to)) k.child p g.0 newborn g.1 g.2 (here parent to))
-  answered_sound call Blocks g = here b (Doing call)
-  answered_sound call (Ends w) g = ends w
+      (bears_sound k.shared (put k.tasks p (task.Alive parent to)) k.child p g.0 newborn g.1 few.1 g.2 (here parent to few.0))
+  answered_sound call Blocks g few = here b (Doing call) own
+  answered_sound call (Ends w) g few = ends w
 
-  took_sound : (signal : Signal) (cause : Cause) (t : Took Shared UserState) → TookKeeps k.shared t → Goes (took linux k.shared p signal cause t)
-  took_sound signal cause (Passes t c) g = on t c Run g
-  took_sound signal cause (Kills w) g = ends w
+  took_sound : (signal : Signal) (cause : Cause) (t : Took Shared UserState) → TookKeeps k.shared t → TookFew t → Goes (took linux k.shared p signal cause t)
+  took_sound signal cause (Passes t c) g few = on t c Run few g
+  took_sound signal cause (Kills w) g few = ends w
 
 lives_sound : (c : Choice) (k : Kernel Shared UserState) (p : ℕ) (b : UserState) (stage : Stage) → k.tasks p ≡ task.Alive b stage → IsSound k → IsSound (next k p (lives linux c k.shared k.child p b stage))
-lives_sound c k p b Born is h = here k p b Born is h b Run
+lives_sound c k p b Born is h = here k p b Born is h b Run (own k p b Born is h)
 lives_sound c k p b Run is h = runs_sound k p b Run is h (next_of (maps.get k.shared.entries p))
-lives_sound c k p b (Faulting signal cause) is h = here k p b (Faulting signal cause) is h b _
-lives_sound c k p b (Entered x) is h = on k p b (Entered x) is h _ b _ (joins_kept k.shared p x c.signal)
-lives_sound c k p b (Doing call) is h = answered_sound k p b (Doing call) is h call (does k.shared k.child p call b) (does_kept k.child k.shared p call b h.parts (lives_now k p b (Doing call) is h))
-lives_sound c k p b (Replaced call x) is h = here k p b (Replaced call x) is h _ _
-lives_sound c k p b (Acted call x replaced) is h = here k p b (Acted call x replaced) is h b Finished
-lives_sound c k p b Finished is h = here k p b Finished is h b Run
-lives_sound c k p b (Taken signal cause) is h = took_sound k p b (Taken signal cause) is h signal cause (takes k.shared p b signal cause) (takes_kept k.shared p b signal cause h.parts)
-lives_sound c k p b Dropped is h = here k p b Dropped is h b Run
+lives_sound c k p b (Faulting signal cause) is h = here k p b (Faulting signal cause) is h b _ (own k p b (Faulting signal cause) is h)
+lives_sound c k p b (Entered x) is h = on k p b (Entered x) is h _ b _ (own k p b (Entered x) is h) (joins_kept k.shared p x c.signal)
+lives_sound c k p b (Doing call) is h =
+    answered_sound k p b (Doing call) is h call (does k.shared k.child p call b) (does_kept k.child k.shared p call b h.parts (lives_now k p b (Doing call) is h)) (does_few k.child k.shared p call b (own k p b (Doing call) is h))
+lives_sound c k p b (Replaced call x) is h = here k p b (Replaced call x) is h _ _ (own k p b (Replaced call x) is h)
+lives_sound c k p b (Acted call x replaced) is h = here k p b (Acted call x replaced) is h b Finished (own k p b (Acted call x replaced) is h)
+lives_sound c k p b Finished is h = here k p b Finished is h b Run (own k p b Finished is h)
+lives_sound c k p b (Taken signal cause) is h =
+    took_sound k p b (Taken signal cause) is h signal cause (takes k.shared p b signal cause) (takes_kept k.shared p b signal cause h.parts) (takes_few k.shared p b signal cause (own k p b (Taken signal cause) is h))
+lives_sound c k p b Dropped is h = here k p b Dropped is h b Run (own k p b Dropped is h)
 
 killed_sound : (killed : Bool) (c : Choice) (k : Kernel Shared UserState) (p : ℕ) (b : UserState) (stage : Stage) → k.tasks p ≡ task.Alive b stage → IsSound k → IsSound (next k p (killed_or killed linux c k.shared k.child p b stage))
 killed_sound true c k p b stage is h = ends k p b stage is h 9
@@ -294,6 +354,19 @@ one_lives n =
 two_next : (n : ℕ) → 2 ≤ suc (max 1 n)
 two_next n = let most = le-max_left 1 n in omega (arith, most)
 
+stub_laid_out : IsLaidOut stub_image
+stub_laid_out = record {
+  some = omega arith;
+  few = omega arith;
+  in_range = All-cons IsInRange _ [] (record { some = omega arith; start = omega arith; end = omega arith; content = omega arith }) (All-nil IsInRange);
+  apart = refl;
+  pages = let one : extents_count (map extent_of stub_image.segments) ≡ 1 = refl in omega (arith, one);
+}
+
+born_small : (t : Bool) (b : UserState) → HasFewPages b.memory → IsSmall (born t b)
+born_small true b few = few
+born_small false b few = tt
+
 pub first_sound : (boot : Boot) → fault_of boot ≡ None → IsSound (first_kernel (first_shared boot.limits boot.files boot.input) (booted boot.argv boot.env))
 first_sound boot none =
     let b : UserState = booted boot.argv boot.env in record {
@@ -303,6 +376,7 @@ first_sound boot none =
       pids = λ p le. inserted_other maps.empty 1 first_entry p (let above = le in grind (arith, nat_tests, above)) ∙ maps.get-empty nat_cmp p;
       live = one_lives boot.limits.live;
       last = two_next boot.limits.last_pid;
+      pages = λ p. born_small (p == 1) b (program_few stub_image boot.argv boot.env stub_laid_out);
     }
   where
     same : (p : ℕ) → eq_by_cmp nat_cmp p 1 ≡ (p == 1)

@@ -19,6 +19,7 @@ use Rattle.lx_exec.specs.Programs.{booted}
 use Rattle.lx_turn.specs.Linux.{linux}
 use Rattle.lx_kernel.specs.First.{first_run}
 use Rattle.lx_kernel.specs.Laws.{after_all}
+use Rattle.lx_sound.specs.Pages.{IsSmall}
 use Rattle.lx_sound.specs.Parts.{PartsSound}
 
 -- a process's entry and its own part agree on whether it lives, is dying, and with which word, or is gone
@@ -45,6 +46,8 @@ pub record Sound (s : Shared) (tasks : ℕ → Task UserState) (child : ℕ) : T
   -- there are no more processes than the boot allows, zombies among them, and no higher pids; process 1 there always is
   pub live : maps.len s.entries ≤ max 1 s.limits.live
   pub last : child ≤ suc (max 1 s.limits.last_pid)
+  -- no process has more than 16,384 pages of memory
+  pub pages : (p : ℕ) → IsSmall (tasks p)
 
 -- of the untraced kernel of the definitions, and of the kernel that code has
 abbrev pub IsSound : Kernel Shared UserState → Type 0
