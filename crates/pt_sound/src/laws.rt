@@ -1,0 +1,16 @@
+//! What holds in every state of the ptrace machine.
+
+ghost use Rattle.pt_sound.specs.Traced.{TurnsStaySound, RequestsStaySound, WorldsAreSound, HostsAreSound};
+
+use lx_proc::{Shared, UserState};
+use pt_model::laws::hosts_run_alike;
+
+/// Traced states are sound as untraced ones are: turns and requests keep this, whatever is asked, and a boot begins so.
+pub fn traced_states_stay_sound()
+    ensures turn { TurnsStaySound }
+    ensures request { RequestsStaySound }
+    ensures worlds { WorldsAreSound }
+    ensures hosts { HostsAreSound }
+{
+    hosts_run_alike::<Shared, UserState>();
+}

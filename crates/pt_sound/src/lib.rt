@@ -1,0 +1,4 @@
+//! Laws of all states that a traced run reaches.
+#![tactic(auto)]
+
+pub mod laws;
