@@ -2,6 +2,7 @@
 -- their names, those that a program which passes sound arguments can meet.
 use Rattle.std.specs.Prelude.{ℕ, ◌==◌, List, [], ◌∷◌, Option, Some, None, find}
 use Rattle.std.specs.Borrow.{Bor}
+use Rattle.lx_abi.specs.Errnos.{eacces, eagain, ebusy, echild, eexist, efbig, eintr, eio, emfile, enoent, enomem, enospc, epipe, espipe, esrch}
 use Rattle.lx_abi.specs.Sys.{sys_getcwd, sys_dup, sys_dup3, sys_mkdirat, sys_unlinkat, sys_ftruncate}
 use Rattle.lx_abi.specs.Sys.{sys_chdir, sys_openat, sys_close, sys_pipe2, sys_lseek, sys_read}
 use Rattle.lx_abi.specs.Sys.{sys_write, sys_newfstatat, sys_fstat, sys_exit, sys_exit_group, sys_sched_yield}
@@ -9,66 +10,21 @@ use Rattle.lx_abi.specs.Sys.{sys_kill, sys_rt_sigaction, sys_rt_sigprocmask, sys
 use Rattle.lx_abi.specs.Sys.{sys_gettid, sys_brk, sys_munmap, sys_clone, sys_execve, sys_mmap}
 use Rattle.lx_abi.specs.Sys.{sys_wait4}
 
--- errno(3)
+-- errors that no definition of a call speaks of (errno(3))
 abbrev pub eperm : ℕ
 eperm = 1
-
-abbrev pub enoent : ℕ
-enoent = 2
-
-abbrev pub esrch : ℕ
-esrch = 3
-
-abbrev pub eintr : ℕ
-eintr = 4
-
-abbrev pub eio : ℕ
-eio = 5
-
-abbrev pub echild : ℕ
-echild = 10
-
-abbrev pub eagain : ℕ
-eagain = 11
-
-abbrev pub enomem : ℕ
-enomem = 12
-
-abbrev pub eacces : ℕ
-eacces = 13
-
-abbrev pub ebusy : ℕ
-ebusy = 16
-
-abbrev pub eexist : ℕ
-eexist = 17
 
 abbrev pub enfile : ℕ
 enfile = 23
 
-abbrev pub emfile : ℕ
-emfile = 24
-
 abbrev pub etxtbsy : ℕ
 etxtbsy = 26
-
-abbrev pub efbig : ℕ
-efbig = 27
-
-abbrev pub enospc : ℕ
-enospc = 28
-
-abbrev pub espipe : ℕ
-espipe = 29
 
 abbrev pub erofs : ℕ
 erofs = 30
 
 abbrev pub emlink : ℕ
 emlink = 31
-
-abbrev pub epipe : ℕ
-epipe = 32
 
 abbrev pub eoverflow : ℕ
 eoverflow = 75

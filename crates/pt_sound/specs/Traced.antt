@@ -34,7 +34,8 @@ RequestsStaySound = (outcome : Shared → Outcome) (h : Host Shared UserState) (
 
 -- so it holds in every world, under every script and all options, after any events
 abbrev pub WorldsAreSound : Type 0
-WorldsAreSound = (outcome : Shared → Outcome) (options : Options) (script : Script) (boot : Boot) (events : List Event) →
+WorldsAreSound = (outcome : Shared → Outcome) (options : Options) (script : Script) (boot : Boot)
+    (events : List Event) →
     fault_of boot ≡ None →
     HostIsSound (world_run linux outcome options script
     (first_world (first_shared boot.limits boot.files boot.input) (booted boot.argv boot.env)) events).host
