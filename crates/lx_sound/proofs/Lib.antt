@@ -16,3 +16,4 @@ pub mod ProcessBodies
 pub mod Ends
 pub mod Booted
 pub mod Turns
+pub mod Counts

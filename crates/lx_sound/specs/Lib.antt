@@ -5,3 +5,4 @@ pub mod Masks
 pub mod Pages
 pub mod Parts
 pub mod Sound
+pub mod Counts
