@@ -1,11 +1,11 @@
 -- A conversation goes on by a request and its reply, and ends.
-use Rattle.std.proofs.Common.{◌≡◌, ℕ, ◌+◌, ◌≤◌, ◌^◌, List, [], ◌∷◌, ◌++◌, Option, Some, None, Result, Ok, Err, refl, sym, ap, subst, ◌∙◌, inl, inr, append_assoc, append-nil, arith}
+use Rattle.std.proofs.Common.{◌≡◌, ℕ, ◌+◌, ◌≤◌, ◌^◌, List, [], ◌∷◌, ◌++◌, Option, Some, None, Result, Ok, Err, length, refl, sym, ap, subst, ◌∙◌, inl, inr, append_assoc, append-nil, arith}
 use Rattle.std.specs.Io.KnownBytes.{Appends, Consumes}
 use Rattle.std.proofs.KnownBytes.{Appends-nil, Appends-trans, Consumes-nil, Consumes-trans}
 use Rattle.lx_abi.specs.declared.outcome.Outcome.{Outcome}
 use Rattle.lx_abi.specs.declared.ptrace.Reply.{Reply}
 use Rattle.lx_abi.specs.declared.ptrace.Request.{Request}
-use Rattle.host_wire.specs.Ends.{AppendsPart, Input, IsPut}
+use Rattle.host_wire.specs.Ends.{Input, IsPut}
 use Rattle.host_frame.specs.Spelling.{CanBeSpelled, spelled, reply_frame}
 use Rattle.host_wire.specs.Streams.{Going, goes_on}
 use Rattle.host_wire.proofs.Gathered.{unread}
@@ -15,12 +15,7 @@ use Rattle.host_serve.specs.declared.fault.ServeFault.TheVariants.{Read, Write, 
 use Rattle.host_serve.specs.declared.session.Phase.{Phase}
 use Rattle.host_serve.specs.declared.session.Phase.TheVariants.{Waiting, Refused as Refusing, Serving}
 use Rattle.host_serve.specs.Requests.{IsOther, Next, request_frame}
-use Rattle.host_serve.specs.Serving.{Boots, Answers, IsTooLong, SentAs, Answered, CanAnswer, Fails, Finishes, IsDue, Responds, Served, Serves, outcome_at, replies_of}
-
--- a first part of what comes behind known bytes
-part_behind : (a b c : Option (List ℕ)) (xs ys : List ℕ) → Appends a b xs → AppendsPart b c ys → AppendsPart a c (xs ++ ys)
-part_behind a b c xs ys whole part =
-    (xs ++ part.0, (part.1.0, (append_assoc xs part.0 part.1.0 ∙ ap (λ (t : List ℕ). xs ++ t) part.1.1.0, Appends-trans a b c xs part.0 whole part.1.1.1)))
+use Rattle.host_serve.specs.Serving.{Boots, Answers, IsSentInPart, IsTooLong, SentAs, Answered, CanAnswer, Fails, Finishes, IsDue, Responds, Served, Serves, Unsent, outcome_at, replies_of}
 
 -- one put more
 put_more : (a sizes : List ℕ) (n : ℕ) {b c : List ℕ} → b ≡ a ++ sizes → c ≡ b ++ n ∷ [] → c ≡ a ++ (sizes ++ n ∷ [])
@@ -198,6 +193,17 @@ module _ {S : Type 0} {most : ℕ} {boots : Boots S} {answers : Answers S} where
   }
   ends_asked fails q Failed next s n h = ends_failed s n
 
+  -- the one request whose reply wasn't sent
+  abbrev left_unsent : {a b c : Input} {d e : Option (List ℕ)} {u v : List ℕ} {phase : Phase S} {number : ℕ} (next : Phase S) (q : Request) (r : Reply)
+      → (s : Serves most boots answers a b d e u v phase number) → (n : Next most b (Ok (Some q)) number c) → Answered boots answers phase q r next → Unsent boots answers phase (length s.exchanges + 1) n.came
+  left_unsent next q r s n answered = record {
+    request = q;
+    reply = r;
+    next = next;
+    asked = n.so ∙ ap (λ (k : ℕ). Going (request_frame k q ∷ []) []) s.counted;
+    answered = answered;
+  }
+
   pub ends_sending : {left : S → Outcome} {a b c : Input} {d e f : Option (List ℕ)} {u v w : List ℕ} {phase : Phase S} {number broken_writer : ℕ} (next : Phase S) (q : Request) (r : Reply) (fault : ServeFault)
       → Serves most boots answers a b d e u v phase number → Next most b (Ok (Some q)) number c → Answered boots answers phase q r next → SentAs (Err fault) number r e f v w broken_writer → Served most boots answers left a c d f u w (Err fault) broken_writer
   ends_sending next q r Read s n answered sent = absurd sent
@@ -213,12 +219,14 @@ module _ {S : Type 0} {most : ℕ} {boots : Boots S} {answers : Answers S} where
     asked = s.asked;
     taken = s.taken;
     last = n.received;
-    ended = sent.1.1;
-    written =
-        let part : AppendsPart e f (spelled (reply_frame number r)) = sent.0 in
-        let all = subst (λ (k : ℕ). AppendsPart d f (replies_of s.exchanges ++ spelled (reply_frame k r))) s.counted (part_behind d e f (replies_of s.exchanges) (spelled (reply_frame number r)) s.written.0 part) in
-        let put = put_more _ _ _ s.written.1 (subst (λ (k : ℕ). IsPut v w (spelled (reply_frame k r))) s.counted sent.1.0) in
-        (q, (r, (next, (answered, (all, put)))));
+    ended = sent.1;
+    written = record {
+      whole = e;
+      sizes = v;
+      written = s.written;
+      unsent = left_unsent next q r s n answered;
+      part = subst (λ (k : ℕ). IsSentInPart k r e f v w) s.counted sent.0;
+    };
     fit = s.fit;
   }
   ends_sending {a = a} {b = b} {c = c} {d = d} {e = e} {f = f} {phase = phase} next q r Wire s n answered sent = record {
@@ -232,7 +240,7 @@ module _ {S : Type 0} {most : ℕ} {boots : Boots S} {answers : Answers S} where
     asked = s.asked;
     taken = s.taken;
     last = n.received;
-    ended = inr (q, (r, (next, (answered, subst (λ (k : ℕ). IsTooLong k r) s.counted sent.1.1))));
+    ended = inr (left_unsent next q r s n answered, subst (λ (k : ℕ). IsTooLong k r) s.counted sent.1.1);
     written = (subst (λ (o : Option (List ℕ)). Appends d o (replies_of s.exchanges)) (sym sent.0) s.written.0, sent.1.0 ∙ s.written.1);
     fit = s.fit;
   }
@@ -274,7 +282,7 @@ module _ {S : Type 0} {most : ℕ} {boots : Boots S} {answers : Answers S} where
     asked = s.asked;
     taken = s.taken;
     last = unread b;
-    ended = inr (sym s.counted ∙ last);
+    ended = inr (sym s.counted ∙ last, refl);
     written = s.written;
     fit = s.fit;
   }

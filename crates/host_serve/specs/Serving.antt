@@ -35,15 +35,19 @@ Fails S = S → Request → S → Type 0
 abbrev pub IsTooLong : ℕ → Reply → Type 0
 IsTooLong number r = 134217728 < length (content (reply_frame number r))
 
+-- one put wrote a first part of the reply's frame, which can be spelled
+abbrev pub IsSentInPart : ℕ → Reply → Option (List ℕ) → Option (List ℕ) → List ℕ → List ℕ → Type 0
+IsSentInPart number r old new puts puts' =
+    AppendsPart old new (spelled (reply_frame number r))
+    × (IsPut puts puts' (spelled (reply_frame number r)) × CanBeSpelled (reply_frame number r))
+
 -- the reply's frame, which can be spelled, is written by one put, which may fail within it; or nothing is
 abbrev pub SentAs : Result ⊤ ServeFault → ℕ → Reply → Option (List ℕ) → Option (List ℕ) → List ℕ → List ℕ → ℕ
     → Type 0
 SentAs (Ok u) number r old new puts puts' broken =
     Appends old new (spelled (reply_frame number r))
     × (IsPut puts puts' (spelled (reply_frame number r)) × CanBeSpelled (reply_frame number r))
-SentAs (Err Write) number r old new puts puts' broken =
-    AppendsPart old new (spelled (reply_frame number r))
-    × (IsPut puts puts' (spelled (reply_frame number r)) × (broken ≡ 1))
+SentAs (Err Write) number r old new puts puts' broken = IsSentInPart number r old new puts puts' × (broken ≡ 1)
 SentAs (Err Wire) number r old new puts puts' broken = (new ≡ old) × ((puts' ≡ puts) × IsTooLong number r)
 SentAs (Err Failed) number r old new puts puts' broken = (new ≡ old) × (puts' ≡ puts)
 SentAs (Err Read) number r old new puts puts' broken = ⊥
@@ -156,17 +160,28 @@ Finishes (Err Write) wanted = ⊥
 Finishes (Err Wire) wanted = ⊥
 Finishes (Err Order) wanted = ⊥
 
--- what ended it: `rest` is what was read after the requests that were answered, `reads` how much each read of it gave
+-- after the requests whose replies were sent, one was read, and no byte behind it; its reply, and where the conversation
+-- then stood
+pub record Unsent {S : Type 0} (boots : Boots S) (answers : Answers S) (phase : Phase S) (number : ℕ)
+    (rest : List ℕ) : Type 0 where
+  pub request : Request
+  pub reply : Reply
+  pub next : Phase S
+  pub asked : stream_of rest ≡ Going (request_frame number request ∷ []) []
+  pub answered : Answered boots answers phase request reply next
+
+-- what ended it: `rest` is what was read after the requests whose replies were sent, `reads` how much each read of it
+-- gave
 abbrev pub EndsBy : {S : Type 0} → ℕ → Boots S → Answers S → (S → Outcome) → Phase S → ℕ → Result Outcome ServeFault
     → List ℕ → List ℕ → Input → ℕ → Type 0
 EndsBy most boots answers left phase number (Ok outcome) rest reads b broken_writer =
     (tail : List ℕ) × ((stream_of rest ≡ Going [] tail) × IsAtEnd b.remaining × (outcome ≡ outcome_at left phase))
 EndsBy most boots answers left phase number (Err Read) rest reads b broken_writer =
-    ((tail : List ℕ) × ((stream_of rest ≡ Going [] tail) × IsCutOff most reads b)) ⊎ (number ≡ 2 ^ 40 + 1)
-EndsBy {S} most boots answers left phase number (Err Wire) rest reads b broken_writer =
+    ((tail : List ℕ) × ((stream_of rest ≡ Going [] tail) × IsCutOff most reads b))
+    ⊎ ((number ≡ 2 ^ 40 + 1) × (rest ≡ []))
+EndsBy most boots answers left phase number (Err Wire) rest reads b broken_writer =
     IsFaulty (stream_of rest)
-    ⊎ ((q : Request)
-    × ((r : Reply) × ((next : Phase S) × (Answered boots answers phase q r next × IsTooLong number r))))
+    ⊎ ((unsent : Unsent boots answers phase number rest) × IsTooLong number unsent.reply)
 EndsBy most boots answers left phase number (Err Order) rest reads b broken_writer =
     (f : Frame)
     × ((stream_of rest ≡ Going (f ∷ []) [])
@@ -178,17 +193,25 @@ EndsBy most boots answers left phase number (Err Failed) rest reads b broken_wri
 abbrev pub AreWritten : Exchanges → Option (List ℕ) → Option (List ℕ) → List ℕ → List ℕ → Type 0
 AreWritten xs old new puts puts' = Appends old new (replies_of xs) × (puts' ≡ puts ++ sizes_of xs)
 
--- the replies are written whole; a put that failed wrote a first part of the next
-abbrev pub WritesAs : {S : Type 0} → Boots S → Answers S → Phase S → Exchanges → Result Outcome ServeFault
+-- the replies were written whole, and a put that failed wrote a first part of the next
+pub record BreaksOff {S : Type 0} (boots : Boots S) (answers : Answers S) (phase : Phase S) (xs : Exchanges)
+    (rest : List ℕ) (old new : Option (List ℕ)) (puts puts' : List ℕ) : Type 0 where
+  pub whole : Option (List ℕ)
+  pub sizes : List ℕ
+  pub written : AreWritten xs old whole puts sizes
+  pub unsent : Unsent boots answers phase (length xs + 1) rest
+  pub part : IsSentInPart (length xs + 1) unsent.reply whole new sizes puts'
+
+-- what was written: the replies, each whole, but where a put failed
+abbrev pub WritesAs : {S : Type 0} → Boots S → Answers S → Phase S → Exchanges → Result Outcome ServeFault → List ℕ
     → Option (List ℕ) → Option (List ℕ) → List ℕ → List ℕ → Type 0
-WritesAs boots answers phase xs (Ok outcome) old new puts puts' = AreWritten xs old new puts puts'
-WritesAs boots answers phase xs (Err Read) old new puts puts' = AreWritten xs old new puts puts'
-WritesAs boots answers phase xs (Err Wire) old new puts puts' = AreWritten xs old new puts puts'
-WritesAs boots answers phase xs (Err Order) old new puts puts' = AreWritten xs old new puts puts'
-WritesAs boots answers phase xs (Err Failed) old new puts puts' = AreWritten xs old new puts puts'
-WritesAs {S} boots answers phase xs (Err Write) old new puts puts' =
-    (q : Request) × ((r : Reply) × ((next : Phase S) × (Answered boots answers phase q r next
-    × (AppendsPart old new (replies_of ((q, r) ∷ xs)) × (puts' ≡ puts ++ sizes_of ((q, r) ∷ xs))))))
+WritesAs boots answers phase xs (Ok outcome) rest old new puts puts' = AreWritten xs old new puts puts'
+WritesAs boots answers phase xs (Err Read) rest old new puts puts' = AreWritten xs old new puts puts'
+WritesAs boots answers phase xs (Err Wire) rest old new puts puts' = AreWritten xs old new puts puts'
+WritesAs boots answers phase xs (Err Order) rest old new puts puts' = AreWritten xs old new puts puts'
+WritesAs boots answers phase xs (Err Failed) rest old new puts puts' = AreWritten xs old new puts puts'
+WritesAs boots answers phase xs (Err Write) rest old new puts puts' =
+    BreaksOff boots answers phase xs rest old new puts puts'
 
 pub record Served {S : Type 0} (most : ℕ) (boots : Boots S) (answers : Answers S) (left : S → Outcome)
     (input input' : Input) (old new : Option (List ℕ)) (puts puts' : List ℕ) (result : Result Outcome ServeFault)
@@ -205,7 +228,7 @@ pub record Served {S : Type 0} (most : ℕ) (boots : Boots S) (answers : Answers
   pub taken : Taken most input exchanges middle came
   pub last : Receiving most middle input' rest
   pub ended : EndsBy most boots answers left phase (length exchanges + 1) result rest last.reads input' broken_writer
-  pub written : WritesAs boots answers phase exchanges result old new puts puts'
+  pub written : WritesAs boots answers phase exchanges result rest old new puts puts'
   pub fit : AreSpelled exchanges
 
 -- so far, with this many exchanges
