@@ -1,7 +1,9 @@
 -- A run over a pipe has the exchanges that a link to the host itself answers.
 use Rattle.std.proofs.Common.{◌≡◌, ℕ, ◌+◌, List, [], ◌∷◌, ◌++◌, Option, Some, None, Result, Ok, Err, refl, sym, ap, subst, ◌∙◌, append_assoc, append-nil, inl, inr}
 use Rattle.std.specs.Prelude.{⊤}
-use Rattle.std.specs.Io.KnownBytes.{Appends}
+use Rattle.std.specs.Io.KnownBytes.{Appends, Consumes}
+use Rattle.std.proofs.KnownBytes.{Appends-trans}
+use Rattle.lx_abi.specs.declared.outcome.Outcome.{Outcome}
 use Rattle.lx_abi.specs.declared.boot.Boot.{Boot}
 use Rattle.lx_abi.specs.declared.ptrace.Reply.{Reply}
 use Rattle.lx_abi.specs.declared.ptrace.Reply.TheVariants.{Done, Refused}
@@ -32,8 +34,10 @@ use Rattle.host_link.specs.declared.fault.LinkFault.{LinkFault}
 use Rattle.host_link.specs.declared.fault.LinkFault.TheVariants as fault
 use Rattle.host_link.specs.declared.local.LocalLink.{LocalLink}
 use Rattle.host_link.specs.declared.pipe.PipeLink.{PipeLink}
-use Rattle.host_serve.specs.Hosted.{Answers_by, Boots_by, IsFirst}
-use Rattle.host_serve.specs.Serving.{Answered, Exchanges, Leads as Leads_host}
+use Rattle.host_serve.specs.Hosted.{Answers_by, Boots_by, IsFirst, left_by}
+use Rattle.host_serve.specs.Serving.{Answered, AreSpelled, Exchanges, Leads as Leads_host, Served, Taken, replies_of}
+use Rattle.host_serve.specs.declared.fault.ServeFault.{ServeFault}
+use Rattle.host_serve.specs.declared.fault.ServeFault.TheVariants.{Read, Write, Wire, Order, Failed}
 use Rattle.host_serve.specs.declared.session.Phase.{Phase}
 use Rattle.host_serve.specs.declared.session.Phase.TheVariants.{Waiting, Refused as Refusing, Serving}
 use Rattle.host_ends.specs.Recorded.{EndsAgree, Talked, in_turn}
@@ -193,25 +197,92 @@ known most n a b xs old new (y ∷ ys) is t =
     let on = known most (n + 1) t.0 b (xs ++ spelled sent) t.1.0 new ys one t.1.1.1.1.1.1 in
     (spelled sent ++ on.0, on.1 ∙ ap Some (append_assoc xs (spelled sent) on.0))
 
+-- ---- what a host answered, whatever ended it
+
+-- Exchanges and the bytes of their requests, one by one; that of the reply that was cut short is among them.
+record Host (most : ℕ) (a : Input) (old new : Option (List ℕ)) (read : List ℕ) : Type 0 where
+  exchanges : Exchanges
+  phase : Phase LocalLink
+  led : Leads_host Boots_by Answers_by exchanges phase
+  fit : AreSpelled exchanges
+  middle : Input
+  came : List ℕ
+  taken : Taken most a exchanges middle came
+  behind : List ℕ
+  parts : came ++ behind ≡ read
+  wrote : AppendsPart old new (replies_of exchanges)
+
+written_whole : {most broken : ℕ} {a b : Input} {old new : Option (List ℕ)} {sizes sizes' : List ℕ} {result : Result Outcome ServeFault} (s : Served most Boots_by Answers_by left_by a b old new sizes sizes' result broken)
+    → Appends old new (replies_of s.exchanges) → Host most a old new (s.came ++ s.rest)
+written_whole s whole = record {
+  exchanges = s.exchanges;
+  phase = s.phase;
+  led = s.led;
+  fit = s.fit;
+  middle = s.middle;
+  came = s.came;
+  taken = s.taken;
+  behind = s.rest;
+  parts = refl;
+  wrote = (replies_of s.exchanges, ([], (append-nil (replies_of s.exchanges), whole)));
+}
+
+-- a first part of what comes behind known bytes
+part_behind : (a b c : Option (List ℕ)) (xs ys : List ℕ) → Appends a b xs → AppendsPart b c ys → AppendsPart a c (xs ++ ys)
+part_behind a b c xs ys whole part =
+    (xs ++ part.0, (part.1.0, (append_assoc xs part.0 part.1.0 ∙ ap (λ (t : List ℕ). xs ++ t) part.1.1.0, Appends-trans a b c xs part.0 whole part.1.1.1)))
+
+answered_by : {most broken : ℕ} {a b : Input} {old new : Option (List ℕ)} {sizes sizes' : List ℕ} (result : Result Outcome ServeFault) → (s : Served most Boots_by Answers_by left_by a b old new sizes sizes' result broken) → Host most a old new (s.came ++ s.rest)
+answered_by (Ok outcome) s = written_whole s s.written.0
+answered_by (Err Read) s = written_whole s s.written.0
+answered_by (Err Wire) s = written_whole s s.written.0
+answered_by (Err Order) s = written_whole s s.written.0
+answered_by (Err Failed) s = written_whole s s.written.0
+answered_by {b = b} {old = old} {new = new} (Err Write) s = record {
+  exchanges = (s.written.unsent.request, s.written.unsent.reply) ∷ s.exchanges;
+  phase = s.written.unsent.next;
+  led = (s.phase, (s.led, s.written.unsent.answered));
+  fit = (s.written.part.1.1, s.fit);
+  middle = b;
+  came = s.came ++ s.rest;
+  taken = (s.middle, (s.came, (s.rest, (refl, (s.taken, (s.last, s.written.unsent.asked))))));
+  behind = [];
+  parts = append-nil (s.came ++ s.rest);
+  wrote = part_behind old s.written.whole new (replies_of s.exchanges) _ s.written.written.0 s.written.part.0;
+}
+
+-- what is left of known bytes
+left_of : (xs bs : List ℕ) (o : Option (List ℕ)) → Consumes (Some xs) o bs → (ys : List ℕ) × (xs ≡ bs ++ ys)
+left_of xs bs None consumed = absurd consumed
+left_of xs bs (Some ys) consumed = (ys, consumed)
+
 -- ---- both
 
 pub piped_runs_tell : {R W : Type 0} (input : R → Input) (contents : W → Option (List ℕ)) (puts : W → List ℕ) (broken_writer : W → ℕ)
     → EndsAgree → LocalLinksServe → HostsBeginAlike Shared UserState → IsMachine linux → IsTold linux → EveryScriptIsOne → Cited Schedule Shared UserState lenient → PipedRunsTell input contents puts broken_writer
-piped_runs_tell {R} {W} input contents puts broken_writer agree serves begin machine told every cited boot limit words script o first link link' old new broken broken' result w most a b unwritten written sizes sizes' served broken_host s unused asked carried =
+piped_runs_tell {R} {W} input contents puts broken_writer agree serves begin machine told every cited boot limit words script o first link link' old new broken broken' result w most a b unwritten written sizes sizes' served broken_host s unused asked nothing back forth =
     let ys : Exchanges = w.runs.exchanges in
     let all : Exchanges = (Boot_with boot limit words, Done) ∷ ys in
     let led : Leads (piped input contents puts broken_writer) first all w.runs.link = (link, (asked, w.runs.led)) in
     let talk = talked input contents puts broken_writer (most_of first) 1 first w.runs.link all (ap (λ (k : ℕ). k + 1) unused.given) refl led in
     let sent = known (most_of first) 1 (input (reader_of first)) (input (reader_of w.runs.link)) [] (contents (writer_of first)) (contents (writer_of w.runs.link)) all unused.sent talk in
     let more = sent_last input contents puts broken_writer sent.0 _ _ old w.runs.link _ _ sent.1 w.runs.last in
-    let whole : carried.sent ≡ sent.0 ++ more.0 = some_is carried.sent (sent.0 ++ more.0) (sym carried.held ∙ more.1) in
+    let host = answered_by served s in
+    let in_all : written ≡ Some host.wrote.0 = grown [] host.wrote.0 written (subst (λ (o : Option (List ℕ)). Appends o written host.wrote.0) nothing host.wrote.1.1.1) in
+    let given : List ℕ = back.0 in
+    let replies : given ++ (back.1.0 ++ host.wrote.1.0) ≡ replies_of host.exchanges =
+    sym (append_assoc given back.1.0 host.wrote.1.0) ∙ ap (λ (t : List ℕ). t ++ host.wrote.1.0) (some_is (given ++ back.1.0) host.wrote.0 (sym back.1.1.1 ∙ in_all)) ∙ host.wrote.1.1.0 in
+    let left = left_of forth.0 (s.came ++ s.rest) b.remaining (subst (λ (o : Option (List ℕ)). Consumes o b.remaining (s.came ++ s.rest)) forth.1.1.0 s.consumed) in
+    let front : host.came ++ (host.behind ++ left.0) ≡ forth.0 = sym (append_assoc host.came host.behind left.0) ∙ ap (λ (t : List ℕ). t ++ left.0) host.parts ∙ sym left.1 in
+    let requests : host.came ++ ((host.behind ++ left.0) ++ forth.1.0) ≡ sent.0 ++ more.0 =
+    sym (append_assoc host.came (host.behind ++ left.0) forth.1.0) ∙ ap (λ (t : List ℕ). t ++ forth.1.0) front ∙ some_is (forth.0 ++ forth.1.0) (sent.0 ++ more.0) (sym forth.1.1.1 ∙ more.1) in
     let talk_known = subst (λ (x : Option (List ℕ)). Talked (most_of first) 1 (input (reader_of first)) x all (input (reader_of w.runs.link)) (contents (writer_of w.runs.link))) unused.sent talk in
     let talk_sent = subst (λ (x : Option (List ℕ)). Talked (most_of first) 1 (input (reader_of first)) (Some []) all (input (reader_of w.runs.link)) x) sent.1 talk_known in
-    let same = agree (most_of first) most (input (reader_of first)) (input (reader_of w.runs.link)) a s.middle s.exchanges all carried.given carried.later sent.0 s.came carried.unread more.0
-    carried.known carried.back s.fit s.taken (carried.forth ∙ whole) talk_sent in
-    let forth : Forth Waiting (all ++ same.0) s.phase = subst (λ (xs : Exchanges). Forth Waiting xs s.phase) same.1 (in_order s.exchanges s.phase s.led) in
-    let h = begun_by boot limit words (ys ++ same.0) forth.0 s.phase forth.1.0 forth.1.1 in
-    let l = led_by h.host ys same.0 s.phase h.forth in
+    let same = agree (most_of first) most (input (reader_of first)) (input (reader_of w.runs.link)) a host.middle host.exchanges all given (back.1.0 ++ host.wrote.1.0) sent.0 host.came ((host.behind ++ left.0) ++ forth.1.0) more.0
+    back.1.1.0 replies host.fit host.taken requests talk_sent in
+    let led_on : Forth Waiting (all ++ same.0) host.phase = subst (λ (xs : Exchanges). Forth Waiting xs host.phase) same.1 (in_order host.exchanges host.phase host.led) in
+    let h = begun_by boot limit words (ys ++ same.0) led_on.0 host.phase led_on.1.0 led_on.1.1 in
+    let l = led_by h.host ys same.0 host.phase h.forth in
     let local : RunsWhole lenient (new_state (options_by o) (choice_of script) (first_pen o)) h.host old broken result l.last new broken' = record {
       state = w.state;
       runs = record {

@@ -14,7 +14,7 @@ use Rattle.host_link.specs.PipeLinks.{Asks, faults_of, given_of, reader_of, writ
 use Rattle.host_link.specs.declared.local.LocalLink.{LocalLink}
 use Rattle.host_link.specs.declared.pipe.PipeLink.{PipeLink}
 use Rattle.host_serve.specs.Hosted.{Answers_by, Boots_by, IsFirst, left_by}
-use Rattle.host_serve.specs.Serving.{Served, replies_of}
+use Rattle.host_serve.specs.Serving.{Served}
 use Rattle.host_serve.specs.declared.fault.ServeFault.{ServeFault}
 use Rattle.tr_core.specs.Settings.{options_by, first_pen}
 use Rattle.tr_core.specs.States.{new_state}
@@ -36,21 +36,12 @@ pub record IsUnused {R W : Type 0} (contents : W → Option (List ℕ)) (l : Pip
   pub whole : faults_of l ≡ 0
   pub sent : contents (writer_of l) ≡ Some []
 
--- Each end is given a beginning of what the other wrote. The link's reader gives whole replies of the host's or a
--- beginning of one, and the host answered requests whose bytes the link has sent in the end.
-pub record IsCarried {R W : Type 0} (input : R → Input) (contents : W → Option (List ℕ)) (first last : PipeLink R W)
-    (replies requests : List ℕ) : Type 0 where
-  pub given : List ℕ
-  pub later : List ℕ
-  pub known : (input (reader_of first)).remaining ≡ Some given
-  pub back : given ++ later ≡ replies
-  pub sent : List ℕ
-  pub unread : List ℕ
-  pub held : contents (writer_of last) ≡ Some sent
-  pub forth : requests ++ unread ≡ sent
+-- what this reader gives, from its first byte on, begins what that writer was given
+abbrev pub Carries : Option (List ℕ) → Option (List ℕ) → Type 0
+Carries written given = (xs : List ℕ) × ((ys : List ℕ) × ((given ≡ Some xs) × (written ≡ Some (xs ++ ys))))
 
--- Over a pipe that carries, at whose other end `serve` runs: the boot was accepted, and the run tells what it tells
--- over a link in the tracer's own process to a host that this boot began, whatever its result is.
+-- Over pipes that carry, at whose other end `serve` runs: the boot was accepted, and the run tells what it tells over a
+-- link in the tracer's own process to a host that this boot began, whatever its result is, and the host's.
 abbrev pub PipedRunsTell : {R W : Type 0} → (R → Input) → (W → Option (List ℕ)) → (W → List ℕ) → (W → ℕ) → Type 0
 PipedRunsTell {R} {W} input contents puts broken_writer = (boot : Boot) (limit : ℕ) (words : List Word)
     (script : List Rule) (o : Options)
@@ -61,10 +52,13 @@ PipedRunsTell {R} {W} input contents puts broken_writer = (boot : Boot) (limit :
     -- the host's end
     (most : ℕ) (a b : Input) (unwritten written : Option (List ℕ)) (sizes sizes' : List ℕ)
     (served : Result Outcome ServeFault) (broken_host : ℕ)
-    (s : Served most Boots_by Answers_by left_by a b unwritten written sizes sizes' served broken_host)
+    → Served most Boots_by Answers_by left_by a b unwritten written sizes sizes' served broken_host
     → IsUnused contents first
     → piped input contents puts broken_writer first (Boot_with boot limit words) (Ok Done) link
-    → IsCarried input contents first link' (replies_of s.exchanges) s.came
+    -- nothing was written before, and each end is given a beginning of what the other wrote
+    → unwritten ≡ Some []
+    → Carries written (input (reader_of first)).remaining
+    → Carries (contents (writer_of link')) a.remaining
     → (host : LocalLink) × (IsFirst boot limit words host
     × LinkTells o (choice_of script) (first_shared boot.limits boot.files boot.input) (booted boot.argv boot.env) host
     w.runs.exchanges result old new)
