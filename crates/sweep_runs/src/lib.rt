@@ -3,10 +3,12 @@
 
 pub mod chosen;
 pub mod ends;
+pub mod progress;
 pub mod runs;
 pub mod sweeping;
 
 pub use chosen::{Case, Wanted, cases};
 pub use ends::ending;
-pub use runs::{Reference, Setup, SweepFault, refer, run_under};
-pub use sweeping::{Report, Row, sweep};
+pub use progress::{Progress, Silent};
+pub use runs::{Reference, Setup, refer, run_accepted, run_under};
+pub use sweeping::{Report, Row, rows, sweep};

@@ -1,17 +1,19 @@
 //! Whole runs from their boot on.
 
-ghost use Rattle.std.specs.Prelude.{◌≡◌, [], IfOk};
+ghost use Rattle.std.specs.Prelude.{◌≡◌, [], IfOk, IfErr, OnOk, None, Some, Err};
+ghost use Rattle.lx_boot.specs.Boots.{Refuses, fault_of};
+ghost use Rattle.lx_boot.specs.declared.boots.BootFault.{BootFault as BootRefusal};
 ghost use Rattle.lx_kernel.specs.Runs.{Run as KernelRun};
 ghost use Rattle.sweep_runs.specs.Runs.{ComesTo, IsReference};
 
 use crate::ends::ending;
 use lx_abi::{Boot, Item, Script, Word};
-use lx_boot::BootFault;
+use lx_boot::{BootFault, boot_fault};
 use lx_copies::Copied;
 use lx_kernel::Kernel;
 use plain_run::{Unwatched, run};
 use pt_schedule::Schedule;
-use std::alloc::{AllocError, AllocFailed, Global};
+use std::alloc::{AllocError, Global};
 use sweep_rows::Ending;
 
 /// What all runs of a sweep begin with: a boot, the words of a schedule, and the most turns of each.
@@ -22,26 +24,6 @@ pub struct Setup {
     pub limit: u64,
 }
 
-/// Why there is no sweep.
-#[derive(Clone, Copy, Debug, PartialEq, Eq)]
-pub enum SweepFault {
-    /// The boot is refused.
-    Boot(BootFault),
-    Memory,
-}
-
-impl From<AllocError> for SweepFault {
-    fn from(_error: AllocError) -> Self {
-        SweepFault::Memory
-    }
-}
-
-impl<T: Drop> From<AllocFailed<T>> for SweepFault {
-    fn from(_error: AllocFailed<T>) -> Self {
-        SweepFault::Memory
-    }
-}
-
 fn copy<T: Copy + Drop>(alloc: Global, items: &[T]) -> Result<Vec<T>, AllocError>
     ensures { IfOk result (λ copy. copy.items ≡ items.now) }
 {
@@ -50,8 +32,9 @@ fn copy<T: Copy + Drop>(alloc: Global, items: &[T]) -> Result<Vec<T>, AllocError
     Ok(copy)
 }
 
-/// The kernel at the end of the run under a script.
-pub fn run_under(alloc: Global, setup: &Setup, script: Script) -> Result<Kernel, SweepFault>
+/// The kernel at the end of the run under a script. The fault is the boot's, or Memory where memory runs out, in the run
+/// too.
+pub fn run_under(alloc: Global, setup: &Setup, script: Script) -> Result<Kernel, BootFault>
     ensures to { IfOk result (ComesTo setup.now script) }
 {
     let boot = setup.boot.copy(alloc)?;
@@ -59,11 +42,24 @@ pub fn run_under(alloc: Global, setup: &Setup, script: Script) -> Result<Kernel,
     let mut schedule = Schedule::words(turns, setup.limit);
     let mut kernel = match Kernel::boot(alloc, boot, script) {
         Ok(kernel) => kernel,
-        Err(fault) => return Err(SweepFault::Boot(fault)),
+        Err(fault) => return Err(fault),
     };
     match run(&mut kernel, &mut schedule, &mut Unwatched) {
         Ok(()) => Ok(kernel),
-        Err(_) => Err(SweepFault::Memory),
+        Err(_) => {
+            drop(kernel);
+            Err(BootFault::Memory)
+        }
+    }
+}
+
+/// The kernel at the end of the run under a script, of a boot that is accepted.
+pub fn run_accepted(alloc: Global, setup: &Setup, script: Script) -> Result<Kernel, AllocError>
+    ensures { IfOk result (ComesTo setup.now script) }
+{
+    match run_under(alloc, setup, script) {
+        Ok(kernel) => Ok(kernel),
+        Err(_) => Err(AllocError),
     }
 }
 
@@ -74,8 +70,8 @@ pub struct Reference {
     pub log: Vec<Item>,
 }
 
-/// What the run without a failure left and logged.
-fn referred(alloc: Global, kernel: &Kernel) -> Result<Reference, AllocError>
+/// What a run left and logged.
+fn reference_of(alloc: Global, kernel: &Kernel) -> Result<Reference, AllocError>
     ensures { IfOk result (IsReference kernel.now) }
 {
     Ok(Reference {
@@ -84,12 +80,36 @@ fn referred(alloc: Global, kernel: &Kernel) -> Result<Reference, AllocError>
     })
 }
 
-/// The run without a failure.
-pub fn refer(alloc: Global, setup: &Setup) -> Result<Reference, SweepFault>
+/// What the run without a failure left and logged.
+fn referred(alloc: Global, kernel: Kernel) -> Result<Reference, AllocError>
+    ensures { IfOk result (IsReference kernel) }
+{
+    let reference = reference_of(alloc, &kernel);
+    drop(kernel);
+    reference
+}
+
+/// The run without a failure, of a boot that is accepted.
+fn refer_accepted(alloc: Global, setup: &Setup) -> Result<Reference, AllocError>
     ensures { IfOk result (λ r. (k : KernelRun) × ComesTo setup.now [] k × IsReference k r) }
 {
-    let kernel = run_under(alloc, setup, Script::empty(alloc))?;
-    let reference = referred(alloc, &kernel)?;
-    drop(kernel);
+    let kernel = run_accepted(alloc, setup, Script::empty(alloc))?;
+    let reference = referred(alloc, kernel)?;
+    Ok(reference)
+}
+
+/// The run without a failure.
+pub fn refer(alloc: Global, setup: &Setup) -> Result<Reference, BootFault>
+    ensures reference { IfOk result (λ r. (k : KernelRun) × ComesTo setup.now [] k × IsReference k r) }
+    ensures accepted { OnOk result (fault_of setup.now.boot ≡ None) }
+    ensures fault { IfErr result (Refuses setup.now.boot) }
+
+    // A boot with a fault is refused with it, whatever the memory.
+    ensures refused { (e : BootRefusal) → fault_of setup.now.boot ≡ Some e → result ≡ Err e }
+{
+    if let Some(fault) = boot_fault(alloc, &setup.boot) {
+        return Err(fault);
+    }
+    let reference = refer_accepted(alloc, setup)?;
     Ok(reference)
 }

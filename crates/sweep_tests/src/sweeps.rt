@@ -2,11 +2,12 @@
 
 use containers::{Bytes, Seq};
 use lx_abi::{Boot, Errno, GuestFile, Limits};
+use lx_boot::BootFault;
 use rv_asm::assemble;
 use std::alloc::Global;
 use std::test::Fail;
 use sweep_rows::Kind;
-use sweep_runs::{Report, Setup, SweepFault, Wanted, sweep};
+use sweep_runs::{Report, Setup, Silent, Wanted, sweep};
 use tr_expr::parse_trace;
 
 /// Writes twice whatever comes of it, and exits.
@@ -72,8 +73,8 @@ fn wanted(alloc: Global, calls: &str) -> Result<Vec<Wanted>, Fail> {
 }
 
 /// The sweep, without clauses.
-fn swept(alloc: Global, setup: &Setup, wanted: &[Wanted]) -> Result<Report, SweepFault> {
-    sweep(alloc, setup, wanted)
+fn swept(alloc: Global, setup: &Setup, wanted: &[Wanted]) -> Result<Report, BootFault> {
+    sweep(alloc, setup, wanted, &mut Silent)
 }
 
 fn letter(kind: Kind) -> char {
