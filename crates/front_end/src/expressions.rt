@@ -46,7 +46,7 @@ fn text_of(alloc: Global, start: &str, value: &str) -> Result<String, AllocError
 }
 
 /// The expressions, in the order of the words.
-fn expression_words(alloc: Global, matches: &ArgMatches) -> Result<Vec<String>, AllocError> {
+pub fn expression_words(alloc: Global, matches: &ArgMatches) -> Result<Vec<String>, AllocError> {
     let mut placed: Vec<Placed> = Vec::new(alloc);
     for (option, start) in OPTIONS {
         let values = matches.get_strs(option).unwrap_or(&[]);
@@ -98,6 +98,14 @@ fn refusal(alloc: Global, refused: RefusedExpression<'_>) -> Fault {
     match (refused.fault, explain_expression(alloc, refused)) {
         (ExprFault::Memory, _) | (_, Err(_)) => Fault::Memory,
         (fault, Ok(reason)) => Fault::Expression { fault, reason },
+    }
+}
+
+/// One expression.
+pub fn read_expression(alloc: Global, text: &str) -> Result<Expr, Fault> {
+    match parse_expr(alloc, text) {
+        Ok(expression) => Ok(expression),
+        Err(fault) => Err(refusal(alloc, RefusedExpression { text, fault })),
     }
 }
 

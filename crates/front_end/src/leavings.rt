@@ -163,7 +163,7 @@ fn write_files<R: Files + AllocGlobal>(
 }
 
 /// A path in one line: a byte that isn't a printable character of ASCII, or a backslash, is `\` and three octal digits.
-fn escaped(alloc: Global, path: &Bytes) -> Result<String, AllocError> {
+pub fn escaped(alloc: Global, path: &Bytes) -> Result<String, AllocError> {
     let mut line = String::new(alloc);
     for byte in path.as_slice().iter().copied() {
         if matches!(byte, b' '..=b'~') && byte != b'\\' {

@@ -1,4 +1,4 @@
-//! What the command lines of both programs share: their words, the guest's files and input, expressions, and how faults
+//! What the command lines of the programs share: their words, the guest's files and input, expressions, and how faults
 //! are reported and explained.
 #![tactic(auto)]
 
@@ -23,9 +23,9 @@ mod waits;
 
 pub use boot::{BootWords, boot_of, read_files};
 pub use boot_faults::{check_boot, refuse_boot};
-pub use expressions::{Expressions, read_expressions};
+pub use expressions::{Expressions, expression_words, read_expression, read_expressions};
 pub use fault::Fault;
-pub use leavings::{Leavings, with_leavings};
+pub use leavings::{Leavings, escaped, with_leavings};
 pub use offered::{
     with_calls, with_environment, with_explain, with_expressions, with_files, with_limit,
     with_program,

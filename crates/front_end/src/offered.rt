@@ -1,4 +1,4 @@
-//! Options that both programs have, each added to a command. The help is the program's own.
+//! Options that several programs have, each added to a command. The help is the program's own.
 
 use clap::{Arg, ArgAction, Command};
 use std::alloc::{AllocError, Global};
