@@ -1,0 +1,16 @@
+//! Makes each call of a modelled guest fail in turn, and tells what came of each failure.
+#![tactic(auto)]
+
+use std::process::ExitCode;
+use sweep_command::{command, tell};
+
+fn main(rt: HostRuntime) -> ExitCode {
+    let mut input = rt.stdin();
+    let mut out = rt.stdout();
+    let mut err = rt.stderr();
+    let status = match front_end::arguments(&rt) {
+        Ok(words) => command(&rt, words.as_slice(), &mut input, &mut out, &mut err),
+        Err(fault) => tell(fault, &mut err),
+    };
+    ExitCode::from(status)
+}

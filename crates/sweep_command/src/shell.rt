@@ -1,0 +1,179 @@
+//! The words of `strace_cli` that show a run.
+
+use crate::calls::error_name;
+use clap::ArgMatches;
+use lx_abi::calls::call_name;
+use std::alloc::{AllocError, Global};
+use sweep_rows::Kind;
+use sweep_runs::Case;
+
+/// The last occurrence that `when=` takes.
+const LAST_OCCURRENCE: u64 = 65_535;
+
+/// How many events the program that shows a run may need for a turn.
+const EVENTS_OF_A_TURN: u64 = 1000;
+
+/// The expression by which an occurrence fails, if there is one: the call has a name, and `when=` takes the occurrence.
+fn expression(alloc: Global, case: &Case) -> Result<Option<String>, AllocError> {
+    let n = case.occurrence.n;
+    match call_name(case.occurrence.call.number) {
+        Some(name) if n <= LAST_OCCURRENCE => {
+            let error = error_name(alloc, case.error)?;
+            Ok(Some(format!(in alloc; "fault={name}:error={error}:when={n}")?))
+        }
+        _ => Ok(None),
+    }
+}
+
+fn push(alloc: Global, words: &mut Vec<String>, word: &str) -> Result<(), AllocError> {
+    words.push(format!(in alloc; "{word}")?)?;
+    Ok(())
+}
+
+/// Adds an option with each of its values.
+fn push_each(
+    alloc: Global,
+    words: &mut Vec<String>,
+    option: &str,
+    values: &[&str],
+) -> Result<(), AllocError> {
+    for value in values {
+        push(alloc, words, option)?;
+        push(alloc, words, *value)?;
+    }
+    Ok(())
+}
+
+/// The limit on events for a limit on turns. A run that is out of turns is out of as many events.
+fn limit(kind: Kind, digits: &str) -> u64 {
+    let turns: u64 = digits.parse().unwrap_or(u64::MAX);
+    match kind {
+        Kind::Hung => turns,
+        _ => turns.saturating_mul(EVENTS_OF_A_TURN),
+    }
+}
+
+/// The words that make an occurrence fail; none, where no expression names it.
+pub fn failure_words(
+    alloc: Global,
+    matches: &ArgMatches,
+    case: &Case,
+    kind: Kind,
+) -> Result<Vec<String>, AllocError> {
+    let mut words = Vec::new(alloc);
+    let Some(expression) = expression(alloc, case)? else {
+        return Ok(words);
+    };
+    push_each(alloc, &mut words, "-e", &[expression.as_str()])?;
+    if let Some(digits) = matches.get_str("limit") {
+        push(alloc, &mut words, "--limit")?;
+        words.push(format!(in alloc; "{}", limit(kind, digits))?)?;
+    }
+    Ok(words)
+}
+
+/// The words before those that make an occurrence fail.
+fn push_start(
+    alloc: Global,
+    words: &mut Vec<String>,
+    matches: &ArgMatches,
+) -> Result<(), AllocError> {
+    push(alloc, words, "strace_cli")?;
+    if matches.get_flag("follow") {
+        push(alloc, words, "-f")?;
+    }
+    Ok(())
+}
+
+/// The words behind those that make an occurrence fail.
+fn push_rest(
+    alloc: Global,
+    words: &mut Vec<String>,
+    matches: &ArgMatches,
+) -> Result<(), AllocError> {
+    if let Some(path) = matches.get_str("turns") {
+        push_each(alloc, words, "--turns", &[path])?;
+    }
+    push_each(
+        alloc,
+        words,
+        "-E",
+        matches.get_strs("environment").unwrap_or(&[]),
+    )?;
+    push_each(
+        alloc,
+        words,
+        "--file",
+        matches.get_strs("file").unwrap_or(&[]),
+    )?;
+    push(alloc, words, "--")?;
+    for word in matches.get_strs("program").unwrap_or(&[]) {
+        push(alloc, words, *word)?;
+    }
+    Ok(())
+}
+
+/// All words that show a run, the program's name first, by those that make its occurrence fail.
+pub fn words_with(
+    alloc: Global,
+    matches: &ArgMatches,
+    failure: &[String],
+) -> Result<Vec<String>, AllocError> {
+    let mut words = Vec::new(alloc);
+    if failure.is_empty() {
+        return Ok(words);
+    }
+    push_start(alloc, &mut words, matches)?;
+    for word in failure {
+        push(alloc, &mut words, word.as_str())?;
+    }
+    push_rest(alloc, &mut words, matches)?;
+    Ok(words)
+}
+
+/// What all runs are shown by, with dots in the place of the words that make an occurrence fail.
+pub fn common(alloc: Global, matches: &ArgMatches) -> Result<String, AllocError> {
+    let mut start = Vec::new(alloc);
+    push_start(alloc, &mut start, matches)?;
+    let mut rest = Vec::new(alloc);
+    push_rest(alloc, &mut rest, matches)?;
+    let start = typed(alloc, start.as_slice())?;
+    let rest = typed(alloc, rest.as_slice())?;
+    format!(in alloc; "{start} .. {rest}")
+}
+
+/// A word that a shell takes as it is.
+fn is_plain(word: &str) -> bool {
+    !word.is_empty()
+        && word.bytes().all(|byte| byte.is_ascii_alphanumeric() || b"_@%+=:,./-".contains(&byte))
+}
+
+/// A word as a shell takes it.
+fn quoted(alloc: Global, word: &str) -> Result<String, AllocError> {
+    if is_plain(word) {
+        return format!(in alloc; "{word}");
+    }
+    let mut text = format!(in alloc; "'")?;
+    for c in word.chars() {
+        if c == '\'' {
+            text.push_str("'\\''")?;
+        } else {
+            text.push(c)?;
+        }
+    }
+    text.push('\'')?;
+    Ok(text)
+}
+
+/// Words as they are typed to a shell.
+pub fn typed(alloc: Global, words: &[String]) -> Result<String, AllocError> {
+    let mut text = String::new(alloc);
+    for (place, word) in words.iter().enumerate() {
+        if place > 0 {
+            text.push(' ')?;
+        }
+        let word = quoted(alloc, word.as_str())?;
+        text.push_str(word.as_str())?;
+    }
+    Ok(text)
+}
