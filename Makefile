@@ -1,5 +1,5 @@
 # The programs, each crates/NAME/out/NAME once it is built.
-PROGRAMS = guest_host strace_cli
+PROGRAMS = guest_host strace_cli strace_sweep
 
 # Where make install puts programs, manual pages and completions; DESTDIR stands before it.
 PREFIX = /usr/local
@@ -7,7 +7,8 @@ PREFIX = /usr/local
 .PHONY: run build install test check wrong-bodies
 
 # Traces a guest whose second write is made to fail: by the proved program where it is built and new, else by the same
-# sources unproved. make run-strace_cli and make run-guest_host run the programs on their stored runs.
+# sources unproved. make run-strace_cli, make run-strace_sweep and make run-guest_host run the programs on their stored
+# runs.
 run:
 	@echo '$$ strace_cli -e trace=write -e fault=write:when=2 --file /p=three_writes -- /p'
 	@tests/stored-run strace_cli -o /dev/stdout -e trace=write -e fault=write:when=2 --file /p=three_writes -- /p
@@ -42,6 +43,7 @@ test:
 	tests/guests
 	tests/calls
 	tests/runs
+	tests/sweeps
 	tests/conversations
 	tests/messages
 	tests/traces

@@ -1,10 +1,11 @@
-# Completion of strace_cli and guest_host for bash: source this file, or put it where bash-completion looks.
+# Completion of strace_cli, strace_sweep and guest_host for bash: source this file, or put it where bash-completion looks.
 # Written by completions/make.
 _girmolet_calls='all none %file %desc %process %signal %memory brk chdir clone close dup dup3 execve exit exit_group fstat ftruncate getcwd getpid getppid gettid kill lseek mkdirat mmap munmap newfstatat openat pipe2 read rt_sigaction rt_sigprocmask rt_sigreturn sched_yield unlinkat wait4 write'
 _girmolet_errors='E2BIG EACCES EADDRINUSE EADDRNOTAVAIL EADV EAFNOSUPPORT EAGAIN EALREADY EBADE EBADF EBADFD EBADMSG EBADR EBADRQC EBADSLT EBFONT EBUSY ECANCELED ECHILD ECHRNG ECOMM ECONNABORTED ECONNREFUSED ECONNRESET EDEADLK EDEADLOCK EDESTADDRREQ EDOM EDOTDOT EDQUOT EEXIST EFAULT EFBIG EHOSTDOWN EHOSTUNREACH EHWPOISON EIDRM EILSEQ EINPROGRESS EINTR EINVAL EIO EISCONN EISDIR EISNAM EKEYEXPIRED EKEYREJECTED EKEYREVOKED EL2HLT EL2NSYNC EL3HLT EL3RST ELIBACC ELIBBAD ELIBEXEC ELIBMAX ELIBSCN ELNRNG ELOOP EMEDIUMTYPE EMFILE EMLINK EMSGSIZE EMULTIHOP ENAMETOOLONG ENAVAIL ENETDOWN ENETRESET ENETUNREACH ENFILE ENOANO ENOBUFS ENOCSI ENODATA ENODEV ENOENT ENOEXEC ENOKEY ENOLCK ENOLINK ENOMEDIUM ENOMEM ENOMSG ENONET ENOPKG ENOPROTOOPT ENOSPC ENOSR ENOSTR ENOSYS ENOTBLK ENOTCONN ENOTDIR ENOTEMPTY ENOTNAM ENOTRECOVERABLE ENOTSOCK ENOTSUP ENOTTY ENOTUNIQ ENXIO EOPNOTSUPP EOVERFLOW EOWNERDEAD EPERM EPFNOSUPPORT EPIPE EPROTO EPROTONOSUPPORT EPROTOTYPE ERANGE EREMCHG EREMOTE EREMOTEIO ERESTART ERFKILL EROFS ESHUTDOWN ESOCKTNOSUPPORT ESPIPE ESRCH ESRMNT ESTALE ESTRPIPE ETIME ETIMEDOUT ETOOMANYREFS ETXTBSY EUCLEAN EUNATCH EUSERS EWOULDBLOCK EXDEV EXFULL'
 _girmolet_signals='HUP INT QUIT ILL TRAP ABRT BUS FPE KILL USR1 SEGV USR2 PIPE ALRM TERM STKFLT CHLD URG XCPU XFSZ VTALRM PROF WINCH IO PWR SYS'
 _girmolet_options='-e --trace --inject --fault -f --follow-forks -o --output -s --string-limit -a --columns -E --env --host --host-arg --turns --limit --file --files-out --files-list --explain -h --help -V --version --'
 _girmolet_plain_options='-e --inject --fault -E --env --turns --limit --file --files-out --files-list --explain -h --help -V --version --'
+_girmolet_sweep_options='-e --fault -f --follow-forks -o --output --format --summary -E --env --turns --limit --file --explain -h --help -V --version --'
 
 # Candidates for an expression: its words up to the item under way, and what may stand there.
 _girmolet_expression() {
@@ -27,6 +28,18 @@ _girmolet_expression() {
     esac
 }
 
+# Candidates for an expression of a sweep: the calls that fail, and their errors.
+_girmolet_faults() {
+    local word=$1
+    case $word in
+        fault=*:error=*,*) compgen -P "${word%,*}," -W "$_girmolet_errors" -- "${word##*,}" ;;
+        fault=*:error=*) compgen -P "${word%=*}=" -W "$_girmolet_errors" -- "${word##*=}" ;;
+        fault=*:*) compgen -P "${word%:*}:" -W 'error=' -- "${word##*:}" ;;
+        fault=*) _girmolet_expression "$word" ;;
+        *) compgen -W 'fault=' -- "$word" ;;
+    esac
+}
+
 # The guest's files that the words before name.
 _girmolet_guests() {
     local -a guests
@@ -42,7 +55,8 @@ _girmolet() {
     local -a all
     read -ra all <<<"${COMP_LINE:0:COMP_POINT}"
     case ${COMP_LINE:COMP_POINT-1:1} in ' ') all+=("") ;; esac
-    local word=${all[-1]} before=${all[-2]} program=${all[0]##*/} found i
+    local word=${all[-1]} before=${all[-2]} program=${all[0]##*/} expression=_girmolet_expression found i
+    case $program in strace_sweep) expression=_girmolet_faults ;; esac
     for i in "${all[@]:1:${#all[@]}-2}"; do
         if [ "$i" = -- ]; then before=--; break; fi
     done
@@ -50,16 +64,18 @@ _girmolet() {
         --) found=$(_girmolet_guests "$word") ;;
         -o | --output | --host | --turns | --files-list) found=$(compgen -f -- "$word") ;;
         --files-out) found=$(compgen -d -- "$word") ;;
-        -e) found=$(_girmolet_expression "$word") ;;
+        -e) found=$($expression "$word") ;;
         --trace) found=$(_girmolet_expression "trace=$word" | sed s/^trace=//) ;;
         --inject) found=$(_girmolet_expression "inject=$word" | sed s/^inject=//) ;;
-        --fault) found=$(_girmolet_expression "fault=$word" | sed s/^fault=//) ;;
+        --fault) found=$($expression "fault=$word" | sed s/^fault=//) ;;
+        --format) found=$(compgen -W 'table json' -- "$word") ;;
         --file) case $word in *=*) found=$(compgen -P "${word%%=*}=" -f -- "${word#*=}") ;; esac ;;
         -s | --string-limit | -a | --columns | -E | --env | --limit) ;;
         *)
             case $program:${all[1]}:$word in
                 *:--trace=* | *:--inject=* | *:--fault=*)
-                    found=$(_girmolet_expression "${word#--}" | sed s/^/--/) ;;
+                    found=$($expression "${word#--}" | sed s/^/--/) ;;
+                strace_sweep:*) found=$(compgen -W "$_girmolet_sweep_options" -- "$word") ;;
                 guest_host:plain:*) found=$(compgen -W "$_girmolet_plain_options" -- "$word") ;;
                 guest_host:asm:*) found=$(compgen -f -- "$word") ;;
                 guest_host:serve:*) found=$(compgen -W '-h --help' -- "$word") ;;
@@ -75,4 +91,4 @@ _girmolet() {
     # a blank follows what is whole
     case ${#COMPREPLY[@]}:${COMPREPLY[0]} in 1:-*) compopt +o nospace 2>/dev/null ;; esac
 }
-complete -o nospace -F _girmolet strace_cli guest_host
+complete -o nospace -F _girmolet strace_cli strace_sweep guest_host

@@ -1,4 +1,4 @@
-# Completion of strace_cli and guest_host for fish: put it into ~/.config/fish/completions, under both names.
+# Completion of strace_cli, strace_sweep and guest_host for fish: put it into ~/.config/fish/completions, under each name.
 # Written by completions/make.
 set -g __girmolet_calls all none %file %desc %process %signal %memory brk chdir clone close dup dup3 execve exit exit_group fstat ftruncate getcwd getpid getppid gettid kill lseek mkdirat mmap munmap newfstatat openat pipe2 read rt_sigaction rt_sigprocmask rt_sigreturn sched_yield unlinkat wait4 write
 set -g __girmolet_errors E2BIG EACCES EADDRINUSE EADDRNOTAVAIL EADV EAFNOSUPPORT EAGAIN EALREADY EBADE EBADF EBADFD EBADMSG EBADR EBADRQC EBADSLT EBFONT EBUSY ECANCELED ECHILD ECHRNG ECOMM ECONNABORTED ECONNREFUSED ECONNRESET EDEADLK EDEADLOCK EDESTADDRREQ EDOM EDOTDOT EDQUOT EEXIST EFAULT EFBIG EHOSTDOWN EHOSTUNREACH EHWPOISON EIDRM EILSEQ EINPROGRESS EINTR EINVAL EIO EISCONN EISDIR EISNAM EKEYEXPIRED EKEYREJECTED EKEYREVOKED EL2HLT EL2NSYNC EL3HLT EL3RST ELIBACC ELIBBAD ELIBEXEC ELIBMAX ELIBSCN ELNRNG ELOOP EMEDIUMTYPE EMFILE EMLINK EMSGSIZE EMULTIHOP ENAMETOOLONG ENAVAIL ENETDOWN ENETRESET ENETUNREACH ENFILE ENOANO ENOBUFS ENOCSI ENODATA ENODEV ENOENT ENOEXEC ENOKEY ENOLCK ENOLINK ENOMEDIUM ENOMEM ENOMSG ENONET ENOPKG ENOPROTOOPT ENOSPC ENOSR ENOSTR ENOSYS ENOTBLK ENOTCONN ENOTDIR ENOTEMPTY ENOTNAM ENOTRECOVERABLE ENOTSOCK ENOTSUP ENOTTY ENOTUNIQ ENXIO EOPNOTSUPP EOVERFLOW EOWNERDEAD EPERM EPFNOSUPPORT EPIPE EPROTO EPROTONOSUPPORT EPROTOTYPE ERANGE EREMCHG EREMOTE EREMOTEIO ERESTART ERFKILL EROFS ESHUTDOWN ESOCKTNOSUPPORT ESPIPE ESRCH ESRMNT ESTALE ESTRPIPE ETIME ETIMEDOUT ETOOMANYREFS ETXTBSY EUCLEAN EUNATCH EUSERS EWOULDBLOCK EXDEV EXFULL
@@ -34,6 +34,28 @@ function __girmolet_expression
     string replace -- $option '' $found
 end
 
+# Candidates for an expression of a sweep, of this qualifier or with its own.
+function __girmolet_faults
+    set -l option ''
+    set -l word (commandline -ct)
+    if string match -qr '^--[a-z]+=' -- $word
+        set word (string replace -r '^--[a-z]+=' '' -- $word)
+    end
+    if test -n "$argv[1]"
+        set option $argv[1]=
+    end
+    set -l whole $option$word
+    set -l found fault=
+    if string match -qr '^fault=.*:error=.*' -- $whole
+        set found (string replace -r '[^=,]*$' '' -- $whole)$__girmolet_errors
+    else if string match -qr '^fault=.*:' -- $whole
+        set found (string replace -r '[^:]*$' '' -- $whole)error=
+    else if string match -qr '^fault=' -- $whole
+        set found (string match -r '^fault=(?:.*,)?[!?]?' -- $whole)$__girmolet_calls
+    end
+    string replace -- $option '' $found
+end
+
 # The path of the guest stays before the path of the file.
 function __girmolet_file
     set -l word (commandline -ct)
@@ -62,6 +84,19 @@ complete -c strace_cli -l files-list -r -F -d 'List the files that the run leave
 complete -c strace_cli -l explain -d 'Explain faults'
 complete -c strace_cli -s h -l help -d 'Print help'
 complete -c strace_cli -s V -l version -d 'Print the version'
+complete -c strace_sweep -s e -x -a '(__girmolet_faults)' -d 'Which calls fail, and with which errors'
+complete -c strace_sweep -l fault -x -a '(__girmolet_faults fault)' -d 'Which calls fail, and with which errors'
+complete -c strace_sweep -s f -l follow-forks -d 'Make the calls of children fail too'
+complete -c strace_sweep -s o -l output -r -F -d 'Write the report to a file'
+complete -c strace_sweep -l format -x -a 'table json' -d 'How the report is written'
+complete -c strace_sweep -l summary -d 'Tell what was lost, killed or hung first'
+complete -c strace_sweep -s E -l env -x -d 'A variable of the environment'
+complete -c strace_sweep -l turns -r -F -d 'A schedule by words'
+complete -c strace_sweep -l limit -x -d 'End each run after so many turns'
+complete -c strace_sweep -l file -x -a '(__girmolet_file)' -d 'A file of the guest'
+complete -c strace_sweep -l explain -d 'Explain faults'
+complete -c strace_sweep -s h -l help -d 'Print help'
+complete -c strace_sweep -s V -l version -d 'Print the version'
 complete -c guest_host -n '__fish_seen_subcommand_from plain' -s e -x -a '(__girmolet_expression)' -d 'Which calls are shown or tampered with'
 complete -c guest_host -n '__fish_seen_subcommand_from plain' -l inject -x -a '(__girmolet_expression inject)' -d 'Which calls are tampered with'
 complete -c guest_host -n '__fish_seen_subcommand_from plain' -l fault -x -a '(__girmolet_expression fault)' -d 'Which calls fail'
