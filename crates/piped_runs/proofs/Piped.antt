@@ -13,18 +13,11 @@ use Rattle.lx_abi.specs.declared.schedule.Word.{Word}
 use Rattle.lx_abi.specs.Scripts.{choice_of}
 use Rattle.lx_boot.specs.First.{first_shared}
 use Rattle.lx_exec.specs.Programs.{booted}
-use Rattle.lx_kernel.specs.Outcomes.{outcome_in}
-use Rattle.lx_model.specs.Machine.{IsMachine}
 use Rattle.lx_proc.specs.declared.state.Shared.{Shared}
 use Rattle.lx_proc.specs.declared.state.UserState.{UserState}
-use Rattle.lx_turn.specs.Linux.{linux}
 use Rattle.pt_kernel.specs.Hosts.{HostState}
-use Rattle.pt_kernel.specs.Seen.{next_of_host}
-use Rattle.pt_model.specs.Headline.{IsTold}
-use Rattle.pt_model.specs.Hosting.{host_in, IsFresh}
+use Rattle.pt_model.specs.Hosting.{IsFresh}
 use Rattle.pt_model.specs.HostLaws.{HostsBeginAlike}
-use Rattle.pt_model.specs.Laws.{EveryScriptIsOne}
-use Rattle.pt_schedule.specs.declared.schedule.Schedule.{Schedule}
 use Rattle.host_frame.specs.declared.frame.Frame.{Frame}
 use Rattle.host_frame.specs.Spelling.{spelled}
 use Rattle.host_wire.specs.Ends.{AppendsPart, Input}
@@ -41,14 +34,15 @@ use Rattle.host_serve.specs.declared.fault.ServeFault.TheVariants.{Read, Write, 
 use Rattle.host_serve.specs.declared.session.Phase.{Phase}
 use Rattle.host_serve.specs.declared.session.Phase.TheVariants.{Waiting, Refused as Refusing, Serving}
 use Rattle.host_ends.specs.Recorded.{EndsAgree, Talked, in_turn}
-use Rattle.tr_core.specs.Settings.{options_by, first_pen}
-use Rattle.tr_core.specs.States.{State, new_state}
+use Rattle.tr_core.specs.States.{State}
 use Rattle.tr_core.specs.declared.tracing.TraceFault.TheVariants.{Inadmissible, Memory}
-use Rattle.trace_run.specs.LocalRuns.{LocalLinksServe, IsGoing, in_process, local_answers}
-use Rattle.trace_run.specs.Runs.{Answers, Ends, Last, Leads, RunsWhole}
+use Rattle.trace_run.specs.BootedRuns.{LinuxRunsTell}
+use Rattle.trace_run.specs.LocalRuns.{AnswersItsOwn, LocalLinksAnswerTheirOwn, IsGoing, local_answers}
+use Rattle.trace_run.specs.Runs.{Ends, Last, Leads}
+use Rattle.trace_run.specs.Writers.{Writer}
 use Rattle.trace_run.specs.declared.running.RunFault.{RunFault}
 use Rattle.trace_run.specs.declared.running.RunFault.TheVariants.{Link, Trace, Output}
-use Rattle.trace_run.proofs.Locals.{Cited, sound_runs_tell_parts}
+use Rattle.trace_run.proofs.InProcess.{link_tells}
 use Rattle.piped_runs.specs.Piped.{PipedRunsTell, piped}
 
 -- ---- the host's end
@@ -65,11 +59,6 @@ forth_snoc a mid b (y ∷ xs) x f answered = (f.0, (f.1.0, forth_snoc f.0 mid b 
 in_order : (xs : Exchanges) (b : Phase LocalLink) → Leads_host Boots_by Answers_by xs b → Forth Waiting (in_turn xs) b
 in_order [] b led = led
 in_order (x ∷ xs) b led = forth_snoc Waiting led.0 b (in_turn xs) x (in_order xs led.0 led.1.0) led.1.1
-
--- a link in memory, whose faults may be anything
-abbrev pub lenient : Answers LocalLink
-lenient a q (Ok r) b = local_answers a q (Ok r) b
-lenient a q (Err f) b = Unit {0}
 
 -- the boot was accepted
 record IsBegun (boot : Boot) (limit : ℕ) (words : List Word) (xs : Exchanges) (b : Phase LocalLink) : Type 0 where
@@ -95,7 +84,7 @@ begun_by boot limit words xs (Serving host) b answered f =
 -- the host's first exchanges, as those of a link to it
 record IsLed (a : LocalLink) (xs : Exchanges) : Type 0 where
   last : LocalLink
-  led : Leads lenient a xs last
+  led : Leads local_answers a xs last
 
 serving_on : (a : LocalLink) (x : Request × Reply) (xs : Exchanges) (mid : Phase LocalLink) → Answered Boots_by Answers_by (Serving a) x.0 x.1 mid → ((t : LocalLink) → mid ≡ Serving t → IsLed t xs) → IsLed a (x ∷ xs)
 serving_on a x xs Waiting answered again = absurd answered
@@ -162,24 +151,14 @@ module _ {R W : Type 0} (input : R → Input) (contents : W → Option (List ℕ
   failed_call xs a q f b is (inr (inr (_, inr x))) = sent_part x.0 (request_frame (given_of a + 1) q) xs (contents (writer_of a)) (contents (writer_of b)) (puts (writer_of a)) (puts (writer_of b)) (broken_writer (writer_of b)) is x.1.1.0
 
   -- what was sent after the last request that was answered
-  sent_last : (xs : List ℕ) (s : State) (rs : List Reply) (written : Option (List ℕ)) (a : PipeLink R W) (result : Result ⊤ RunFault) (b : Ends (PipeLink R W))
-      → contents (writer_of a) ≡ Some xs → Last (piped input contents puts broken_writer) s rs written a result b → Grows xs (contents (writer_of b.link))
+  sent_last : (xs : List ℕ) (s : State) (rs : List Reply) (old : Writer) (a : PipeLink R W) (result : Result ⊤ RunFault) (b : Ends (PipeLink R W))
+      → contents (writer_of a) ≡ Some xs → Last (piped input contents puts broken_writer) s rs old a result b → Grows xs (contents (writer_of b.link))
   unfolding Last
-  sent_last xs s rs written a (Ok u) b is h = stays xs (contents (writer_of a)) (contents (writer_of b.link)) is (ap (λ (l : PipeLink R W). contents (writer_of l)) h.4)
-  sent_last xs s rs written a (Err (Link f)) b is h = failed_call xs a h.2.0 f b.link is h.2.1.1.answered
-  sent_last xs s rs written a (Err (Trace Inadmissible)) b is h = stays xs (contents (writer_of a)) (contents (writer_of b.link)) is (ap (λ (l : PipeLink R W). contents (writer_of l)) h.3)
-  sent_last xs s rs written a (Err (Trace Memory)) b is h = stays xs (contents (writer_of a)) (contents (writer_of b.link)) is (ap (λ (l : PipeLink R W). contents (writer_of l)) h.1)
-  sent_last xs s rs written a (Err Output) b is h = stays xs (contents (writer_of a)) (contents (writer_of b.link)) is (ap (λ (l : PipeLink R W). contents (writer_of l)) h.2)
-
-  -- the last of a run over the pipe, as that of a run over the host
-  same_last : (s : State) (rs : List Reply) (written : Option (List ℕ)) (a : PipeLink R W) (host : LocalLink) (result : Result ⊤ RunFault) (b : Ends (PipeLink R W))
-      → Last (piped input contents puts broken_writer) s rs written a result b → Last lenient s rs written host result (record { link = host; written = b.written; broken = b.broken; state = b.state })
-  unfolding Last
-  same_last s rs written a host (Ok u) b h = (h.0, h.1, h.2, h.3, refl)
-  same_last s rs written a host (Err (Link f)) b h = (h.0, h.1, (h.2.0, (h.2.1.0, tt)))
-  same_last s rs written a host (Err (Trace Inadmissible)) b h = (h.0, h.1, h.2, refl)
-  same_last s rs written a host (Err (Trace Memory)) b h = (h.0, refl)
-  same_last s rs written a host (Err Output) b h = (h.0, h.1, refl)
+  sent_last xs s rs old a (Ok u) b is h = stays xs (contents (writer_of a)) (contents (writer_of b.link)) is (ap (λ (l : PipeLink R W). contents (writer_of l)) h.4)
+  sent_last xs s rs old a (Err (Link f)) b is h = failed_call xs a h.2.0 f b.link is h.2.1.1.answered
+  sent_last xs s rs old a (Err (Trace Inadmissible)) b is h = stays xs (contents (writer_of a)) (contents (writer_of b.link)) is (ap (λ (l : PipeLink R W). contents (writer_of l)) h.2)
+  sent_last xs s rs old a (Err (Trace Memory)) b is h = stays xs (contents (writer_of a)) (contents (writer_of b.link)) is (ap (λ (l : PipeLink R W). contents (writer_of l)) h.1)
+  sent_last xs s rs old a (Err Output) b is h = stays xs (contents (writer_of a)) (contents (writer_of b.link)) is (ap (λ (l : PipeLink R W). contents (writer_of l)) h.3)
 
 some_is : {X : Type 0} (x y : X) → Some x ≡ Some y → x ≡ y
 some_is x y e = cc
@@ -259,8 +238,8 @@ left_of xs bs (Some ys) consumed = (ys, consumed)
 -- ---- both
 
 pub piped_runs_tell : {R W : Type 0} (input : R → Input) (contents : W → Option (List ℕ)) (puts : W → List ℕ) (broken_writer : W → ℕ)
-    → EndsAgree → LocalLinksServe → HostsBeginAlike Shared UserState → IsMachine linux → IsTold linux → EveryScriptIsOne → Cited Schedule Shared UserState lenient → PipedRunsTell input contents puts broken_writer
-piped_runs_tell {R} {W} input contents puts broken_writer agree serves begin machine told every cited boot limit words script o first link link' old new broken broken' result w most a b unwritten written sizes sizes' served broken_host s unused asked nothing back forth =
+    → EndsAgree → LocalLinksAnswerTheirOwn → HostsBeginAlike Shared UserState → LinuxRunsTell (piped {R} {W} input contents puts broken_writer) → PipedRunsTell input contents puts broken_writer
+piped_runs_tell {R} {W} input contents puts broken_writer agree own begin tells boot limit words script o first link link' old new result w most a b unwritten written sizes sizes' served broken_host s unused asked nothing back forth =
     let ys : Exchanges = w.runs.exchanges in
     let all : Exchanges = (Boot_with boot limit words, Done) ∷ ys in
     let led : Leads (piped input contents puts broken_writer) first all w.runs.link = (link, (asked, w.runs.led)) in
@@ -283,25 +262,17 @@ piped_runs_tell {R} {W} input contents puts broken_writer agree serves begin mac
     let led_on : Forth Waiting (all ++ same.0) host.phase = subst (λ (xs : Exchanges). Forth Waiting xs host.phase) same.1 (in_order host.exchanges host.phase host.led) in
     let h = begun_by boot limit words (ys ++ same.0) led_on.0 host.phase led_on.1.0 led_on.1.1 in
     let l = led_by h.host ys same.0 host.phase h.forth in
-    let local : RunsWhole lenient (new_state (options_by o) (choice_of script) (first_pen o)) h.host old broken result l.last new broken' = record {
-      state = w.state;
-      runs = record {
-        exchanges = ys;
-        link = l.last;
-        led = l.led;
-        asked = w.runs.asked;
-        last = same_last input contents puts broken_writer _ _ old w.runs.link l.last _ _ w.runs.last;
-      };
-      ends = w.ends;
-    } in
+    let shared : Shared = first_shared boot.limits boot.files boot.input in
+    let user : UserState = booted boot.argv boot.env in
     let going : IsGoing h.host = record {
-      fresh = subst (λ (v : HostState). IsFresh v.hosting) (sym h.is_first.host) (begin (first_shared boot.limits boot.files boot.input) (booted boot.argv boot.env)).1;
+      fresh = subst (λ (v : HostState). IsFresh v.hosting) (sym h.is_first.host) (begin shared user).1;
       whole = ap (λ (v : HostState). v.failed) h.is_first.host;
       idle = ap (λ (v : HostState). v.hosting.pending) h.is_first.host;
       unbroken = h.is_first.whole;
       going = h.is_first.going;
     } in
-    let x = sound_runs_tell_parts lenient cited IsGoing o (choice_of script) (every script) h.host l.last old new broken broken' in_process next_of_host linux machine told outcome_in
-    (first_shared boot.limits boot.files boot.input) (booted boot.argv boot.env) (λ a q r b sound is. serves a q r b sound is) going
-    (ap (λ (v : HostState). host_in v.hosting) h.is_first.host ∙ (begin (first_shared boot.limits boot.files boot.input) (booted boot.argv boot.env)).0) result local in
-    (h.host, (h.is_first, record { events = x.events; given = x.over; fed = x.fed; tells = x.tells }))
+    let answered : AnswersItsOwn o (choice_of script) shared user h.host ys =
+    own o (choice_of script) h.host l.last ys shared user going (ap (λ (v : HostState). v.hosting) h.is_first.host) l.led w.runs.asked in
+    let told = link_tells (piped input contents puts broken_writer) o (choice_of script) h.host shared user link link' old new result w answered
+    (λ events is_own. tells boot script o link link' old new result w events is_own) in
+    (h.host, (h.is_first, told))

@@ -21,6 +21,7 @@ use Rattle.tr_core.specs.States.{new_state}
 use Rattle.tr_core.specs.declared.settings.Options.{Options}
 use Rattle.trace_run.specs.LocalRuns.{LinkTells}
 use Rattle.trace_run.specs.Runs.{Answers, Called, RunsWhole}
+use Rattle.trace_run.specs.Writers.{Writer}
 use Rattle.trace_run.specs.declared.running.Ended.{Ended}
 use Rattle.trace_run.specs.declared.running.RunFault.{RunFault}
 
@@ -46,9 +47,9 @@ abbrev pub PipedRunsTell : {R W : Type 0} → (R → Input) → (W → Option (L
 PipedRunsTell {R} {W} input contents puts broken_writer = (boot : Boot) (limit : ℕ) (words : List Word)
     (script : List Rule) (o : Options)
     -- the tracer's end: Boot, and a run
-    (first link link' : PipeLink R W) (old new : Option (List ℕ)) (broken broken' : ℕ) (result : Result Ended RunFault)
+    (first link link' : PipeLink R W) (old new : Writer) (result : Result Ended RunFault)
     (w : RunsWhole (piped input contents puts broken_writer) (new_state (options_by o) (choice_of script) (first_pen o))
-    link old broken result link' new broken')
+    link old result link' new)
     -- the host's end
     (most : ℕ) (a b : Input) (unwritten written : Option (List ℕ)) (sizes sizes' : List ℕ)
     (served : Result Outcome ServeFault) (broken_host : ℕ)
@@ -61,4 +62,4 @@ PipedRunsTell {R} {W} input contents puts broken_writer = (boot : Boot) (limit :
     → Carries (contents (writer_of link')) a.remaining
     → (host : LocalLink) × (IsFirst boot limit words host
     × LinkTells o (choice_of script) (first_shared boot.limits boot.files boot.input) (booted boot.argv boot.env) host
-    w.runs.exchanges result old new)
+    w.runs.exchanges result old.contents new.contents)

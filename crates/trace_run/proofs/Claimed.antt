@@ -33,18 +33,21 @@ told_by_log m outcome o script s b events result old new no_loss t alive =
     }
 
 pub refused_by_log : {L S B : Type 0} (answers : Answers L) → NoKillNoLoss → RefusedRunsTell S B answers → RefusedByLog S B answers
-refused_by_log answers no_loss tells o script is_script link link' old new broken broken' w m is_m is_told outcome s b events u alive =
-    let t : RefusedTells m outcome o script s b events u.own old new = tells o script is_script link link' old new broken broken' w m is_m is_told outcome s b events u in
-    subst (AppendsPart old new)
+unfolding RefusedRunsTell
+refused_by_log answers no_loss tells o script is_script link link' old new w m is_m is_told outcome s b events u alive =
+    let t : RefusedTells m outcome o script s b events u.own old.contents new.contents = tells o script is_script link link' old new w m is_m is_told outcome s b events u in
+    subst (AppendsPart old.contents new.contents)
     (ap (λ (items : List Noted). rendering (layout_by o) (parts (options_by o) items)) (no_loss t.lost (traced o.follow (plain_run m outcome (options_by o) script s b events).log) alive)) t.begins
 
 pub under_kills : {L S B : Type 0} (answers : Answers L) → RunsTell S B answers → UnderKills S B answers
-under_kills answers tells o script is_script link link' old new broken broken' result w m is_m is_told outcome s b events own =
-    tells o script is_script link link' old new broken broken' result w m is_m is_told outcome s b events own
+unfolding RunsTell
+under_kills answers tells o script is_script link link' old new result w m is_m is_told outcome s b events own =
+    tells o script is_script link link' old new result w m is_m is_told outcome s b events own
 
 pub joined_signals : {L S B : Type 0} (answers : Answers L) → NoKillNoLoss → RunsTell S B answers → JoinedSignals S B answers
-joined_signals answers no_loss tells o script is_script link link' old new broken broken' result w m is_m is_told outcome s b events own =
-    told_by_log m outcome o script s b events result old new no_loss (tells o script is_script link link' old new broken broken' result w m is_m is_told outcome s b events own)
+unfolding RunsTell
+joined_signals answers no_loss tells o script is_script link link' old new result w m is_m is_told outcome s b events own =
+    told_by_log m outcome o script s b events result old.contents new.contents no_loss (tells o script is_script link link' old new result w m is_m is_told outcome s b events own)
 
 pub replaced_calls : {L S B : Type 0} (answers : Answers L) → JoinedSignals S B answers → ReplacedCalls S B answers
 replaced_calls answers joined o script none = joined o script (λ call n signal e. absurd (cc (sym (none call n) ∙ e)))

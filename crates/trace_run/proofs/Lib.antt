@@ -3,10 +3,13 @@ pub mod Booted
 pub mod Claimed
 pub mod Failing
 pub mod Fed
+pub mod Few
 pub mod InProcess
 pub mod Locals
+pub mod Owed
 pub mod Refused
 pub mod Resulting
 pub mod Rounds
 pub mod Talks
 pub mod Telling
+pub mod Waits

@@ -1,6 +1,5 @@
 -- A run over a host in memory, from the events that its schedule gave.
-use Rattle.std.proofs.Common.{◌≡◌, ℕ, ◌≤◌, ◌<◌, Bool, true, List, [], ◌∷◌, ◌++◌, Option, Some, None, Result, Ok, Err, refl, sym, ap, subst, ◌∙◌}
-use Rattle.std.specs.Prelude.{OnOk}
+use Rattle.std.proofs.Common.{◌≡◌, ℕ, ◌≤◌, ◌<◌, Bool, true, List, [], ◌∷◌, ◌++◌, Option, Some, None, Ok, refl, sym, ap, subst, ◌∙◌}
 use Rattle.std.proofs.lemmas.List.{append-nil}
 use Rattle.lx_abi.specs.declared.outcome.Outcome.{Outcome}
 use Rattle.lx_abi.specs.declared.ptrace.Reply.{Reply}
@@ -9,7 +8,7 @@ use Rattle.lx_abi.specs.declared.ptrace.Request.{Request}
 use Rattle.lx_abi.specs.declared.schedule.Event.{Event}
 use Rattle.lx_model.specs.Kernel.{Script, traces, Kernel}
 use Rattle.lx_model.specs.Machine.{Machine, IsMachine}
-use Rattle.pt_model.specs.Calls.{Talks, TalksOver, WorldsCall, RunsAppend, OutOfTurnsShowsNothing, SchedulesAreLists, TalksAreOwn}
+use Rattle.pt_model.specs.Calls.{Talks, WorldsCall, RunsAppend, OutOfTurnsShowsNothing, SchedulesAreLists, TalksAreOwn}
 use Rattle.pt_model.specs.Attending.{Schedules}
 use Rattle.pt_model.specs.Headline.{IsTold, IsScript, traced_run, plain_run, IsTransparent}
 use Rattle.pt_model.specs.Parts as parts_of
@@ -23,20 +22,20 @@ use Rattle.tr_core.specs.States.{State, new_state, heard, moved as moved_by, tol
 use Rattle.tr_core.specs.declared.settings.Options.{Options}
 use Rattle.trace_run.specs.declared.running.Ended.{Ended}
 use Rattle.trace_run.specs.declared.running.Ended.TheVariants.{Whole, OutOfTurns}
-use Rattle.trace_run.specs.declared.running.RunFault.{RunFault}
 use Rattle.trace_run.specs.Runs.{Answers, Ends, Last, RunsWhole, replies_of}
 use Rattle.trace_run.specs.Tells.{view_text, shown_text, Tells, RunsTell}
+use Rattle.trace_run.specs.Writers.{Writer}
 use Rattle.trace_run.specs.Local.{InMemory, SoundCall, Feeds, LocalRun, LocalRunsTell}
-use Rattle.trace_run.proofs.Fed.{IsFed, is_fed, Talk, talk}
+use Rattle.trace_run.proofs.Fed.{IsFed, is_fed}
 
 -- it asks nothing more, and its link stays
 record IsLast {L : Type 0} (s : State) (rs : List Reply) (a : L) (b : Ends L) : Type 0 where
   pub asks_none : request_of (told s rs) ≡ None
   pub link : b.link ≡ a
 
-last_link : {L : Type 0} (answers : Answers L) (s : State) (rs : List Reply) (written : Option (List ℕ)) (a : L) (b : Ends L) → Last answers s rs written a (Ok tt) b → IsLast s rs a b
+last_link : {L : Type 0} (answers : Answers L) (s : State) (rs : List Reply) (old : Writer) (a : L) (b : Ends L) → Last answers s rs old a (Ok tt) b → IsLast s rs a b
 unfolding Last
-last_link answers s rs written a b h = record { asks_none = h.3; link = h.4 }
+last_link answers s rs old a b h = record { asks_none = h.3; link = h.4 }
 
 module _ {S B : Type 0} (m : Machine S B) (outcome : S → Outcome) (o : Options) (script : Script) (s : S) (b : B) (events : List Event) where
   abbrev plain : Kernel S B
@@ -87,19 +86,19 @@ pub record Cited {L : Type 0} (X S B : Type 0) (answers : Answers L) : Type 0 wh
 
 -- a run over a link that is sound, at its beginning
 pub sound_runs_tell : {L X S B : Type 0} (answers : Answers L) → Cited X S B answers → (sound : L → Type 0)
-    (o : Options) (script : Script) → IsScript script → (link link' : L) (trace : List ℕ) (broken broken' : ℕ) (ended : Ended)
-    (w : RunsWhole answers (new_state (options_by o) script (first_pen o)) link (Some []) broken (Ok ended) link' (Some trace) broken')
+    (o : Options) (script : Script) → IsScript script → (link link' : L) (old new : Writer) (trace : List ℕ) → old.contents ≡ Some [] → new.contents ≡ Some trace → (ended : Ended)
+    (w : RunsWhole answers (new_state (options_by o) script (first_pen o)) link old (Ok ended) link' new)
     (i : InMemory L X S B) (choose : Schedules X S B) (m : Machine S B) → IsMachine m → IsTold m → (outcome : S → Outcome) (s : S) (b : B)
     → ((a : L) (q : Request) (r : Reply) (b : L) → sound a → answers a q (Ok r) b → SoundCall sound i choose m outcome a q r b)
     → sound link → i.host link ≡ (first_world s b).host → i.turns link ≡ []
     → LocalRun choose m outcome o script (i.schedule link) s b ended trace (outcome (i.host link').shared) (i.turns link')
-unfolding heard moved_by
-sound_runs_tell {L} {X} {S} {B} answers cited sound o script is_script link link' trace broken broken' ended w i choose m is_m is_told outcome s b serves is_sound first no_turns =
+unfolding heard moved_by RunsTell
+sound_runs_tell {L} {X} {S} {B} answers cited sound o script is_script link link' old new trace nothing whole ended w i choose m is_m is_told outcome s b serves is_sound first no_turns =
     let po : parts_of.Options = options_by o in
     let xs : List (Request × Reply) = w.runs.exchanges in
     let begun : State = heard (new_state po script (first_pen o)) Agreed in
-    let last : IsLast (new_state po script (first_pen o)) (Agreed ∷ replies_of xs) w.runs.link (record { link = link'; written = Some trace; broken = broken'; state = w.state }) =
-    last_link answers (new_state po script (first_pen o)) (Agreed ∷ replies_of xs) (Some []) w.runs.link (record { link = link'; written = Some trace; broken = broken'; state = w.state }) w.runs.last in
+    let last : IsLast (new_state po script (first_pen o)) (Agreed ∷ replies_of xs) w.runs.link (record { link = link'; writer = new; state = w.state }) =
+    last_link answers (new_state po script (first_pen o)) (Agreed ∷ replies_of xs) old w.runs.link (record { link = link'; writer = new; state = w.state }) w.runs.last in
     let fed : IsFed answers i choose m outcome sound serves cited.calls cited.appends cited.nothing begun link w.runs.link [] xs =
     is_fed answers i choose m outcome sound serves cited.calls cited.appends cited.nothing xs begun link w.runs.link [] is_sound w.runs.led w.runs.asked last.asks_none in
     let world : record { host = i.host link; tracer = first_tracer; printed = [] } ≡ first_world s b = ap (λ (h : Host S B). record { host = h; tracer = first_tracer; printed = [] }) first in
@@ -110,7 +109,9 @@ sound_runs_tell {L} {X} {S} {B} answers cited sound o script is_script link link
     let talks : Talks m outcome po script first_tracer (first_world s b).host fed.events xs =
     subst (λ (h : Host S B). Talks m outcome po script first_tracer h fed.events xs) first (cited.lists choose m outcome po script first_tracer (i.schedule link) (i.host link) fed.events xs fed.over) in
     let t : Tells m outcome o script s b fed.events (Ok ended) (Some []) (Some trace) =
-    cited.tells o script is_script link link' (Some []) (Some trace) broken broken' (Ok ended) w m is_m is_told outcome s b fed.events (cited.own m outcome po script s b fed.events xs talks) in
+    subst (λ c. Tells m outcome o script s b fed.events (Ok ended) (Some []) c) whole
+    (subst (λ c. Tells m outcome o script s b fed.events (Ok ended) c new.contents) nothing
+    (cited.tells o script is_script link link' old new (Ok ended) w m is_m is_told outcome s b fed.events (cited.own m outcome po script s b fed.events xs talks))) in
     let x = shown m outcome o script s b fed.events ended trace (outcome (i.host link').shared) same t in
     record {
       events = fed.events;
@@ -126,60 +127,8 @@ sound_runs_tell {L} {X} {S} {B} answers cited sound o script is_script link link
       out_of_turns = x.out_of_turns;
     }
 
--- what a run says, however it ends and whatever it writes to
-pub record PartsTold {X S B : Type 0} (choose : Schedules X S B) (m : Machine S B) (outcome : S → Outcome) (o : Options) (script : Script) (x : X) (s : S) (b : B)
-    (exchanges : List (Request × Reply)) (result : Result Ended RunFault) (old new : Option (List ℕ)) : Type 0 where
-  pub events : List Event
-  pub over : TalksOver choose m outcome (options_by o) script first_tracer x (first_world s b).host events exchanges
-  pub fed : OnOk result (Feeds choose m outcome (options_by o) script x (first_world s b) events)
-  pub tells : Tells m outcome o script s b events result old new
-
-module _ {L X S B : Type 0} (answers : Answers L) (cited : Cited X S B answers) (sound : L → Type 0)
-    (o : Options) (script : Script) (is_script : IsScript script) (link link' : L) (old new : Option (List ℕ)) (broken broken' : ℕ)
-    (i : InMemory L X S B) (choose : Schedules X S B) (m : Machine S B) (is_m : IsMachine m) (is_told : IsTold m) (outcome : S → Outcome) (s : S) (b : B)
-    (serves : (a : L) (q : Request) (r : Reply) (b : L) → sound a → answers a q (Ok r) b → SoundCall sound i choose m outcome a q r b)
-    (is_sound : sound link) (first : i.host link ≡ (first_world s b).host) where
-  -- by the events of its talk
-  told_by_talk : (result : Result Ended RunFault) (w : RunsWhole answers (new_state (options_by o) script (first_pen o)) link old broken result link' new broken')
-      (events : List Event) → TalksOver choose m outcome (options_by o) script first_tracer (i.schedule link) (i.host link) events w.runs.exchanges
-      → OnOk result (Feeds choose m outcome (options_by o) script (i.schedule link) (first_world s b) events)
-      → PartsTold choose m outcome o script (i.schedule link) s b w.runs.exchanges result old new
-  told_by_talk result w events talks fed =
-      let po : parts_of.Options = options_by o in
-      let xs : List (Request × Reply) = w.runs.exchanges in
-      let over : TalksOver choose m outcome po script first_tracer (i.schedule link) (first_world s b).host events xs =
-      subst (λ (h : Host S B). TalksOver choose m outcome po script first_tracer (i.schedule link) h events xs) first talks in
-      let own : Talks m outcome po script first_tracer (first_world s b).host events xs =
-      cited.lists choose m outcome po script first_tracer (i.schedule link) (first_world s b).host events xs over in
-      record {
-        events = events;
-        over = over;
-        fed = fed;
-        tells = cited.tells o script is_script link link' old new broken broken' result w m is_m is_told outcome s b events (cited.own m outcome po script s b events xs own);
-      }
-
-  pub sound_runs_tell_parts : (result : Result Ended RunFault) (w : RunsWhole answers (new_state (options_by o) script (first_pen o)) link old broken result link' new broken')
-      → PartsTold choose m outcome o script (i.schedule link) s b w.runs.exchanges result old new
-  unfolding heard moved_by
-  sound_runs_tell_parts (Ok ended) w =
-      let po : parts_of.Options = options_by o in
-      let xs : List (Request × Reply) = w.runs.exchanges in
-      let begun : State = heard (new_state po script (first_pen o)) Agreed in
-      let last : IsLast (new_state po script (first_pen o)) (Agreed ∷ replies_of xs) w.runs.link (record { link = link'; written = new; broken = broken'; state = w.state }) =
-      last_link answers (new_state po script (first_pen o)) (Agreed ∷ replies_of xs) old w.runs.link (record { link = link'; written = new; broken = broken'; state = w.state }) w.runs.last in
-      let fed : IsFed answers i choose m outcome sound serves cited.calls cited.appends cited.nothing begun link w.runs.link [] xs =
-      is_fed answers i choose m outcome sound serves cited.calls cited.appends cited.nothing xs begun link w.runs.link [] is_sound w.runs.led w.runs.asked last.asks_none in
-      let world : record { host = i.host link; tracer = first_tracer; printed = [] } ≡ first_world s b = ap (λ (h : Host S B). record { host = h; tracer = first_tracer; printed = [] }) first in
-      told_by_talk (Ok ended) w fed.events fed.over (subst (λ (v : World S B). Feeds choose m outcome po script (i.schedule link) v fed.events) world fed.given)
-  sound_runs_tell_parts (Err fault) w =
-      let po : parts_of.Options = options_by o in
-      let xs : List (Request × Reply) = w.runs.exchanges in
-      let begun : State = heard (new_state po script (first_pen o)) Agreed in
-      let said : Talk answers i choose m outcome sound serves cited.calls cited.appends cited.nothing begun link xs =
-      talk answers i choose m outcome sound serves cited.calls cited.appends cited.nothing xs begun link w.runs.link is_sound w.runs.led w.runs.asked in
-      told_by_talk (Err fault) w said.0 said.1 tt
-
 pub local_runs_tell : {L X S B : Type 0} (answers : Answers L) → Cited X S B answers → LocalRunsTell X S B answers
-local_runs_tell {L} answers cited o script is_script link link' trace broken broken' ended w i choose m is_m is_told outcome s b serves first no_turns =
-    sound_runs_tell answers cited (λ (a : L). Unit {0}) o script is_script link link' trace broken broken' ended w i choose m is_m is_told outcome s b
+unfolding LocalRunsTell
+local_runs_tell {L} answers cited o script is_script link link' old new trace nothing whole ended w i choose m is_m is_told outcome s b serves first no_turns =
+    sound_runs_tell answers cited (λ (a : L). Unit {0}) o script is_script link link' old new trace nothing whole ended w i choose m is_m is_told outcome s b
     (λ a q r b _ h. record { served = serves a q r b h; stays = λ _. tt }) tt first no_turns

@@ -51,7 +51,7 @@ module _ (o : Options) (script : Script) where
   one : (t : Tracer) (r : Reply) → (next o script t r).tracer.focus ≡ Faulted → admits o t r ≡ false
   one t r e = by_admission (admits_at o t.known t.tracees t.focus r) t t.focus r (next_at o script t.known t.focus r) (λ a. at t.known t.tracees t.focus r a) e
 
-  last_of : (x : Moved) (rs : List Reply) (r : Reply) → after_all o script x (rs ++ r ∷ []) ≡ after o script (after_all o script x rs) r
+  pub last_of : (x : Moved) (rs : List Reply) (r : Reply) → after_all o script x (rs ++ r ∷ []) ≡ after o script (after_all o script x rs) r
   last_of x [] r = refl
   last_of x (q ∷ rs) r = last_of (after o script x q) rs r
 

@@ -154,16 +154,18 @@ runs_are_one boot schedule script options a b k l =
 
 pub traces_are_runs : TracesAreRuns
 traces_are_runs boot schedule script options run ended old new r t =
-    one_trace next_of_host linux outcome_in (following options boot.follow) (choice_of script) schedule (first_shared boot.limits boot.files boot.input) (booted boot.argv boot.env) ended run.ended run.trace run.outcome run.turns t.events old new r t.fed t.tells
+    one_trace next_of_host linux outcome_in (following options boot.follow) (choice_of script) schedule (first_shared boot.limits boot.files boot.input) (booted boot.argv boot.env) ended run.ended run.trace run.outcome run.turns t.events old.contents new.contents r t.fed t.tells
 
 pub traces_tell_log : NoKillNoLoss → TracesTellLog
 traces_tell_log no_loss boot schedule script options result old new t alive =
-    told_by_log linux outcome_in (following options boot.follow) (choice_of script) (first_shared boot.limits boot.files boot.input) (booted boot.argv boot.env) t.events result old new no_loss t.tells alive
+    told_by_log linux outcome_in (following options boot.follow) (choice_of script) (first_shared boot.limits boot.files boot.input) (booted boot.argv boot.env) t.events result old.contents new.contents no_loss t.tells alive
 
 pub linux_runs_tell : {L : Type 0} (answers : Answers L) → RunsTell Shared UserState answers → IsMachine linux → IsTold linux → EveryScriptIsOne → LinuxRunsTell answers
-linux_runs_tell answers tells machine told one boot script o link link' old new broken broken' result w events own =
-    tells o (choice_of script) (one script) link link' old new broken broken' result w linux machine told outcome_in (first_shared boot.limits boot.files boot.input) (booted boot.argv boot.env) events own
+unfolding LinuxRunsTell RunsTell
+linux_runs_tell answers tells machine told one boot script o link link' old new result w events own =
+    tells o (choice_of script) (one script) link link' old new result w linux machine told outcome_in (first_shared boot.limits boot.files boot.input) (booted boot.argv boot.env) events own
 
 pub linux_refused_runs_tell : {L : Type 0} (answers : Answers L) → RefusedRunsTell Shared UserState answers → IsMachine linux → IsTold linux → EveryScriptIsOne → LinuxRefusedRunsTell answers
-linux_refused_runs_tell answers tells machine told one boot script o link link' old new broken broken' w events own =
-    tells o (choice_of script) (one script) link link' old new broken broken' w linux machine told outcome_in (first_shared boot.limits boot.files boot.input) (booted boot.argv boot.env) events own
+unfolding LinuxRefusedRunsTell RefusedRunsTell
+linux_refused_runs_tell answers tells machine told one boot script o link link' old new w events own =
+    tells o (choice_of script) (one script) link link' old new w linux machine told outcome_in (first_shared boot.limits boot.files boot.input) (booted boot.argv boot.env) events own

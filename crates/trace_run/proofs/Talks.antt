@@ -1,36 +1,37 @@
 -- Many rounds.
 use Rattle.std.proofs.Common.{◌≡◌, ℕ, suc, ◌+◌, ◌≤◌, ◌^◌, List, [], ◌∷◌, ◌++◌, Option, Some, None, Ok, Err, refl, sym, ap, subst, ◌∙◌, arith, append_assoc}
-use Rattle.std.specs.Prelude.{IfSome}
+use Rattle.std.specs.Prelude.{IfSome, false, true, length}
+use Rattle.std.proofs.KnownBytes.{Appends-nil, Appends-trans}
 use Rattle.std.proofs.lemmas.List.{map-append, append-nil}
 use Rattle.std.specs.Io.KnownBytes.{Appends}
 use Rattle.lx_abi.specs.declared.ptrace.Reply.{Reply}
 use Rattle.lx_abi.specs.declared.ptrace.Reply.TheVariants.{Done as Agreed}
 use Rattle.lx_abi.specs.declared.ptrace.Request.{Request}
-use Rattle.host_wire.specs.Ends.{AppendsPart}
 use Rattle.tr_core.specs.declared.tracing.TraceFault.TheVariants.{Inadmissible, Memory}
-use Rattle.tr_core.specs.States.{State, heard, said, request_of, is_faulted, taken_of, told, text}
-use Rattle.tr_core.proofs.Told.{said-refused, faulted-refused, taken-heard, told-snoc, text-snoc}
+use Rattle.tr_core.specs.States.{State, heard, said, request_of, is_faulted, admitted, taken_of, told, text}
+use Rattle.tr_core.proofs.Told.{taken-heard, told-snoc, text-snoc}
 use Rattle.trace_run.specs.declared.running.RunFault.{RunFault}
 use Rattle.trace_run.specs.declared.running.RunFault.TheVariants.{Link, Trace, Output}
-use Rattle.trace_run.specs.Runs.{Answers, Leads, Asked, replies_of, Ends, Round, Last, Runs}
+use Rattle.trace_run.specs.Runs.{Answers, Leads, Asked, replies_of, Ends, Round, sizes, Writes, FailsAtLast, Last, Runs}
+use Rattle.trace_run.specs.Writers.{Writer, PutsWhole, PutsPart}
 
--- Bytes
+-- Puts
 
-none_appended : (a : Option (List ℕ)) → Appends a a []
-none_appended None = tt
-none_appended (Some xs) = sym (append-nil xs)
+none_written : (s : State) (w : Writer) → Writes s [] w w
+none_written s w = record { written = Appends-nil w.contents; counted = sym (append-nil w.puts); unbroken = refl }
 
-appends-trans : (a b c : Option (List ℕ)) (xs ys : List ℕ) → Appends a b xs → Appends b c ys → Appends a c (xs ++ ys)
-appends-trans None b c xs ys h k = tt
-appends-trans (Some zs) None c xs ys h k = absurd h
-appends-trans (Some zs) (Some bs) None xs ys h k = absurd k
-appends-trans (Some zs) (Some bs) (Some cs) xs ys h k = k ∙ ap (λ l. l ++ ys) h ∙ append_assoc zs xs ys
+sizes-snoc : (s : State) (rs : List Reply) (r : Reply) → sizes s (rs ++ r ∷ []) ≡ sizes s rs ++ length (said (told s rs) r) ∷ []
+sizes-snoc s [] r = refl
+sizes-snoc s (q ∷ rs) r = ap (λ l. length (said s q) ∷ l) (sizes-snoc (heard s q) rs r)
 
-part-trans : (a b c : Option (List ℕ)) (xs ys : List ℕ) → Appends a b xs → AppendsPart b c ys → AppendsPart a c (xs ++ ys)
-part-trans a b c xs ys h k = (xs ++ k.0, (k.1.0, (append_assoc xs k.0 k.1.0 ∙ ap (λ l. xs ++ l) k.1.1.0, appends-trans a b c xs k.0 h k.1.1.1)))
-
-all_is_part : (a b : Option (List ℕ)) (xs ys : List ℕ) → Appends a b xs → AppendsPart a b (xs ++ ys)
-all_is_part a b xs ys h = (xs, (ys, (refl, h)))
+-- one more put
+written-snoc : (s : State) (rs : List Reply) (r : Reply) (a b c : Writer) → Writes s rs a b → PutsWhole b c (said (told s rs) r) → Writes s (rs ++ r ∷ []) a c
+written-snoc s rs r a b c w p = record {
+  written = subst (Appends a.contents c.contents) (sym (text-snoc s rs r)) (Appends-trans a.contents b.contents c.contents (text s rs) (said (told s rs) r) w.written p.written);
+  counted =
+      p.counted ∙ ap (λ l. l ++ length (said (told s rs) r) ∷ []) w.counted ∙ append_assoc a.puts (sizes s rs) (length (said (told s rs) r) ∷ []) ∙ ap (λ l. a.puts ++ l) (sym (sizes-snoc s rs r));
+  unbroken = p.unbroken ∙ w.unbroken;
+}
 
 -- Exchanges
 
@@ -51,7 +52,7 @@ pub record Going {L : Type 0} (answers : Answers L) (given : L → ℕ) (a : End
   pub exchanges : List (Request × Reply)
   pub are : Agreed ∷ replies_of exchanges ≡ before ++ r ∷ []
   pub state : b.state ≡ told a.state before
-  pub written : Appends a.written b.written (text a.state before)
+  pub writes : Writes a.state before a.writer b.writer
   pub led : Leads answers a.link exchanges b.link
   pub asked : Asked (heard a.state Agreed) exchanges
   pub taken : taken_of b.state ≤ given b.link
@@ -64,7 +65,7 @@ module _ {L : Type 0} (answers : Answers L) (given : L → ℕ) (a : Ends L) whe
     exchanges = [];
     are = refl;
     state = refl;
-    written = none_appended a.written;
+    writes = none_written a.state a.writer;
     led = refl;
     asked = tt;
     taken = omega (arith, e);
@@ -76,17 +77,21 @@ module _ {L : Type 0} (answers : Answers L) (given : L → ℕ) (a : Ends L) whe
     heard_so_far : (c : Ends L) → c.state ≡ heard b.state r → c.state ≡ told a.state (Agreed ∷ replies_of i.exchanges)
     heard_so_far c e = e ∙ ap (λ s. heard s r) i.state ∙ sym (told-snoc a.state i.before r) ∙ ap (told a.state) (sym i.are)
 
-    text_so_far : text a.state (Agreed ∷ replies_of i.exchanges) ≡ text a.state i.before ++ said b.state r
-    text_so_far = ap (text a.state) i.are ∙ text-snoc a.state i.before r ∙ ap (λ s. text a.state i.before ++ said s r) (sym i.state)
+    -- and what is written, where it was put whole
+    whole_so_far : (c : Ends L) → PutsWhole b.writer c.writer (said b.state r) → Writes a.state (Agreed ∷ replies_of i.exchanges) a.writer c.writer
+    whole_so_far c w =
+        subst (λ rs. Writes a.state rs a.writer c.writer) (sym i.are) (written-snoc a.state i.before r a.writer b.writer c.writer i.writes (subst (λ s. PutsWhole b.writer c.writer (said s r)) i.state w))
 
-    whole_so_far : (c : Ends L) → Appends b.written c.written (said b.state r) → Appends a.written c.written (text a.state (Agreed ∷ replies_of i.exchanges))
-    whole_so_far c w = subst (Appends a.written c.written) (sym text_so_far) (appends-trans a.written b.written c.written (text a.state i.before) (said b.state r) i.written w)
-
-    part_so_far : (c : Ends L) → AppendsPart b.written c.written (said b.state r) → AppendsPart a.written c.written (text a.state (Agreed ∷ replies_of i.exchanges))
-    part_so_far c w = subst (AppendsPart a.written c.written) (sym text_so_far) (part-trans a.written b.written c.written (text a.state i.before) (said b.state r) i.written w)
-
-    old_so_far : (c : Ends L) → c.written ≡ b.written → AppendsPart a.written c.written (text a.state (Agreed ∷ replies_of i.exchanges))
-    old_so_far c e = subst (AppendsPart a.written c.written) (sym text_so_far) (all_is_part a.written c.written (text a.state i.before) (said b.state r) (subst (λ w. Appends a.written w (text a.state i.before)) (sym e) i.written))
+    -- where the run failed at this reply
+    at_last : (fails : State → Reply → Writer → Type 0) → fails b.state r b.writer → FailsAtLast a.state (Agreed ∷ replies_of i.exchanges) a.writer fails
+    at_last fails f = record {
+      before = i.before;
+      reply = r;
+      split = i.are;
+      writer = b.writer;
+      writes = i.writes;
+      failed = subst (λ s. fails s r b.writer) i.state f;
+    }
 
     -- one more round
     pub goes : (next : Reply) (c : Ends L) → Round answers b r (Ok (Some next)) c → given c.link ≡ given b.link + 1 → given c.link ≤ 2 ^ 40 → Going answers given a next c
@@ -100,7 +105,7 @@ module _ {L : Type 0} (answers : Answers L) (given : L → ℕ) (a : Ends L) whe
           exchanges = i.exchanges ++ (q, next) ∷ [];
           are = ap (λ rs. Agreed ∷ rs) (replies-snoc i.exchanges q next) ∙ ap (λ rs. rs ++ next ∷ []) i.are;
           state = now ∙ ap (told a.state) i.are;
-          written = subst (λ rs. Appends a.written c.written (text a.state rs)) i.are (whole_so_far c h.1);
+          writes = subst (λ rs. Writes a.state rs a.writer c.writer) i.are (whole_so_far c h.1);
           led = leads-snoc answers a.link b.link c.link i.exchanges q next i.led h.2.1.1;
           asked = asked-snoc (heard a.state Agreed) i.exchanges q next i.asked (ap request_of (sym now) ∙ h.2.1.0);
           taken = taken;
@@ -131,23 +136,29 @@ module _ {L : Type 0} (answers : Answers L) (given : L → ℕ) (a : Ends L) whe
           asked = i.asked;
           last = (now, whole_so_far c h.1, (h.2.0, (ap request_of (sym now) ∙ h.2.1.0, h.2.1.1)));
         }
-    failed (Trace Inadmissible) c h =
+    failed (Trace Inadmissible) c h = record {
+      exchanges = i.exchanges;
+      link = b.link;
+      led = i.led;
+      asked = i.asked;
+      last = (heard_so_far c h.0, at_last (λ s q w. (admitted s q ≡ false) × (c.writer ≡ w)) (h.1, h.2), h.3);
+    }
+    failed (Trace Memory) c h = record {
+      exchanges = i.exchanges;
+      link = b.link;
+      led = i.led;
+      asked = i.asked;
+      last = (at_last (λ s q w. (s.failed ≡ false → admitted s q ≡ true) × (c.writer ≡ w)) (h.0, h.1), h.2);
+    }
+    failed Output c h =
         let now = heard_so_far c h.0 in
         record {
           exchanges = i.exchanges;
           link = b.link;
           led = i.led;
           asked = i.asked;
-          last = (
-            now,
-            subst (λ t. Appends a.written c.written t) (sym (text_so_far ∙ ap (λ t. text a.state i.before ++ t) (said-refused b.state r h.1) ∙ append-nil (text a.state i.before)))
-                (subst (λ w. Appends a.written w (text a.state i.before)) (sym h.2) i.written),
-            ap is_faulted (sym now ∙ h.0) ∙ faulted-refused b.state r h.1,
-            h.3,
-          );
+          last = (now, at_last (λ s q w. PutsPart w c.writer (said s q)) h.1, ap is_faulted (sym now) ∙ h.2, h.3);
         }
-    failed (Trace Memory) c h = record { exchanges = i.exchanges; link = b.link; led = i.led; asked = i.asked; last = (old_so_far c h.0, h.1) }
-    failed Output c h = record { exchanges = i.exchanges; link = b.link; led = i.led; asked = i.asked; last = (part_so_far c h.1, h.2, h.3) }
 
     -- the same, of what the round answered
     pub goes_by : (o : Option Reply) (next : Reply) → o ≡ Some next → (c : Ends L) → Round answers b r (Ok o) c → IfSome o (λ _. (given c.link ≡ given b.link + 1) × (given c.link ≤ 2 ^ 40)) → Going answers given a next c

@@ -1,6 +1,7 @@
 -- What a run writes, by the untraced kernel.
 use Rattle.std.proofs.Common.{◌≡◌, ℕ, ◌≤◌, ◌<◌, true, false, List, [], ◌∷◌, ◌++◌, Option, Some, None, Result, Ok, Err, refl, sym, ap, subst, ◌∙◌, append_assoc}
 use Rattle.std.specs.Prelude.{⊤, OnOk}
+use Rattle.std.proofs.KnownBytes.{Appends-nil, Appends-trans}
 use Rattle.std.proofs.lemmas.List.{append-nil}
 use Rattle.std.specs.Io.KnownBytes.{Appends}
 use Rattle.lx_abi.specs.declared.outcome.Outcome.{Outcome}
@@ -24,7 +25,8 @@ use Rattle.host_wire.specs.Ends.{AppendsPart}
 use Rattle.tr_core.specs.Settings.{options_by, layout_by, first_pen}
 use Rattle.tr_core.specs.Laws.{StatesAreTracers, TextsAreWhole, TracersWriteRenderings}
 use Rattle.tr_core.specs.Outcomes.{outcome_at, outcome_of}
-use Rattle.tr_core.specs.States.{State, new_state, told, text, heard, moved as moved_by, request_of, is_faulted, is_faulted_at}
+use Rattle.tr_core.proofs.Told.{said-refused, faulted-refused, told-snoc, text-snoc}
+use Rattle.tr_core.specs.States.{State, new_state, told, text, said, heard, moved as moved_by, request_of, admitted, is_faulted, is_faulted_at}
 use Rattle.tr_core.specs.declared.settings.Options.{Options}
 use Rattle.tr_core.specs.declared.tracing.TraceFault.TheVariants.{Inadmissible, Memory}
 use Rattle.tr_line.specs.Lines.{rendering}
@@ -35,8 +37,9 @@ use Rattle.trace_run.specs.declared.running.RunFault.{RunFault}
 use Rattle.trace_run.specs.declared.running.RunFault.TheVariants.{Link, Trace, Output}
 use Rattle.trace_run.proofs.Begun.{begun}
 use Rattle.trace_run.proofs.Refused.{last_is_refused}
-use Rattle.trace_run.specs.Runs.{Answers, Asked, Ends, EndsAs, Last, replies_of, forgets}
+use Rattle.trace_run.specs.Runs.{Answers, Asked, Ends, EndsAs, FailsAtLast, Last, replies_of, forgets}
 use Rattle.trace_run.specs.Tells.{view_text, RunsTell, OwnUntil, RefusedRunsTell, Served, ServedRunsTell}
+use Rattle.trace_run.specs.Writers.{Writer}
 
 part_more : (a b : Option (List ℕ)) (xs ys zs : List ℕ) → xs ++ ys ≡ zs → AppendsPart a b xs → AppendsPart a b zs
 part_more a b xs ys zs e k = (k.0, (k.1.0 ++ ys, (sym (append_assoc k.0 k.1.0 ys) ∙ ap (λ l. l ++ ys) k.1.1.0 ∙ e, k.1.1.1)))
@@ -44,23 +47,51 @@ part_more a b xs ys zs e k = (k.0, (k.1.0 ++ ys, (sym (append_assoc k.0 k.1.0 ys
 all_part : (a b : Option (List ℕ)) (xs : List ℕ) → Appends a b xs → AppendsPart a b xs
 all_part a b xs h = (xs, ([], (append-nil xs, h)))
 
-last_part : {L : Type 0} (answers : Answers L) (s : State) (rs : List Reply) (written : Option (List ℕ)) (a : L) (r : Result ⊤ RunFault) (b : Ends L) → Last answers s rs written a r b → AppendsPart written b.written (text s rs)
+part_trans : (a b c : Option (List ℕ)) (xs ys : List ℕ) → Appends a b xs → AppendsPart b c ys → AppendsPart a c (xs ++ ys)
+part_trans a b c xs ys h k = (xs ++ k.0, (k.1.0, (append_assoc xs k.0 k.1.0 ∙ ap (λ l. xs ++ l) k.1.1.0, Appends-trans a b c xs k.0 h k.1.1.1)))
+
+-- nothing of them is written yet
+no_part : (a : Option (List ℕ)) (xs : List ℕ) → AppendsPart a a xs
+no_part a xs = ([], (xs, (refl, Appends-nil a)))
+
+-- where a run failed at its last reply
+module _ (s : State) (rs : List Reply) (old : Writer) (fails : State → Reply → Writer → Type 0) (x : FailsAtLast s rs old fails) where
+  text_is : text s rs ≡ text s x.before ++ said (told s x.before) x.reply
+  text_is = ap (text s) x.split ∙ text-snoc s x.before x.reply
+
+  until_part : (new : Writer) → AppendsPart x.writer.contents new.contents (said (told s x.before) x.reply) → AppendsPart old.contents new.contents (text s rs)
+  until_part new w =
+      subst (AppendsPart old.contents new.contents) (sym text_is) (part_trans old.contents x.writer.contents new.contents (text s x.before) (said (told s x.before) x.reply) x.writes.written w)
+
+  until_same : (new : Writer) → new ≡ x.writer → AppendsPart old.contents new.contents (text s rs)
+  until_same new e = until_part new (subst (λ (w : Writer). AppendsPart x.writer.contents w.contents (said (told s x.before) x.reply)) (sym e) (no_part x.writer.contents (said (told s x.before) x.reply)))
+
+  -- and by a reply that isn't admitted
+  until_refused : (new : Writer) → new ≡ x.writer → admitted (told s x.before) x.reply ≡ false → Appends old.contents new.contents (text s rs)
+  until_refused new e k =
+      subst (Appends old.contents new.contents) (sym (text_is ∙ ap (λ l. text s x.before ++ l) (said-refused (told s x.before) x.reply k) ∙ append-nil (text s x.before)))
+      (subst (λ (w : Writer). Appends old.contents w.contents (text s x.before)) (sym e) x.writes.written)
+
+  refused_faults : admitted (told s x.before) x.reply ≡ false → is_faulted (told s rs) ≡ true
+  refused_faults k = ap is_faulted (ap (told s) x.split ∙ told-snoc s x.before x.reply) ∙ faulted-refused (told s x.before) x.reply k
+
+last_part : {L : Type 0} (answers : Answers L) (s : State) (rs : List Reply) (old : Writer) (a : L) (r : Result ⊤ RunFault) (b : Ends L) → Last answers s rs old a r b → AppendsPart old.contents b.writer.contents (text s rs)
 unfolding Last
-last_part answers s rs written a (Ok u) b h = all_part written b.written (text s rs) h.1
-last_part answers s rs written a (Err (Link f)) b h = all_part written b.written (text s rs) h.1
-last_part answers s rs written a (Err (Trace Inadmissible)) b h = all_part written b.written (text s rs) h.1
-last_part answers s rs written a (Err (Trace Memory)) b h = h.0
-last_part answers s rs written a (Err Output) b h = h.0
+last_part answers s rs old a (Ok u) b h = all_part old.contents b.writer.contents (text s rs) h.1.written
+last_part answers s rs old a (Err (Link f)) b h = all_part old.contents b.writer.contents (text s rs) h.1.written
+last_part answers s rs old a (Err (Trace Inadmissible)) b h = until_same s rs old _ h.1 b.writer h.1.failed.1
+last_part answers s rs old a (Err (Trace Memory)) b h = until_same s rs old _ h.0 b.writer h.0.failed.1
+last_part answers s rs old a (Err Output) b h = until_part s rs old _ h.1 b.writer h.1.failed.written
 
 -- a whole run heard all replies, and wrote all of their text
-record IsWhole {L : Type 0} (s : State) (rs : List Reply) (written : Option (List ℕ)) (b : Ends L) : Type 0 where
+record IsWhole {L : Type 0} (s : State) (rs : List Reply) (old : Writer) (b : Ends L) : Type 0 where
   pub state : b.state ≡ told s rs
-  pub written_all : Appends written b.written (text s rs)
+  pub written_all : Appends old.contents b.writer.contents (text s rs)
 
-last_whole : {L : Type 0} (answers : Answers L) (s : State) (rs : List Reply) (written : Option (List ℕ)) (a : L) (r : Result Ended RunFault) (x : Outcome) (b : Ends L) → r ≡ Ok (Whole x) → Last answers s rs written a (forgets r) b → IsWhole s rs written b
+last_whole : {L : Type 0} (answers : Answers L) (s : State) (rs : List Reply) (old : Writer) (a : L) (r : Result Ended RunFault) (x : Outcome) (b : Ends L) → r ≡ Ok (Whole x) → Last answers s rs old a (forgets r) b → IsWhole s rs old b
 unfolding Last
-last_whole answers s rs written a (Ok y) x b e h = record { state = h.0; written_all = h.1 }
-last_whole answers s rs written a (Err f) x b e h = absurd (cc e)
+last_whole answers s rs old a (Ok y) x b e h = record { state = h.0; written_all = h.1.written }
+last_whole answers s rs old a (Err f) x b e h = absurd (cc e)
 
 same_options : (s : State) (rs : List Reply) → (told s rs).options ≡ s.options
 unfolding heard
@@ -72,22 +103,22 @@ record IsOut (s : State) (rs : List Reply) (end : State) : Type 0 where
   pub state : end ≡ told s rs
   pub asks_none : request_of (told s rs) ≡ None
 
-last_out : {L : Type 0} (answers : Answers L) (s : State) (rs : List Reply) (written : Option (List ℕ)) (a : L) (r : Result Ended RunFault) (b : Ends L) → r ≡ Ok OutOfTurns → Last answers s rs written a (forgets r) b → IsOut s rs b.state
+last_out : {L : Type 0} (answers : Answers L) (s : State) (rs : List Reply) (old : Writer) (a : L) (r : Result Ended RunFault) (b : Ends L) → r ≡ Ok OutOfTurns → Last answers s rs old a (forgets r) b → IsOut s rs b.state
 unfolding Last
-last_out answers s rs written a (Ok y) b e h = record { state = h.0; asks_none = h.3 }
-last_out answers s rs written a (Err f) b e h = absurd (cc e)
+last_out answers s rs old a (Ok y) b e h = record { state = h.0; asks_none = h.3 }
+last_out answers s rs old a (Err f) b e h = absurd (cc e)
 
 -- a run that didn't fail asks nothing more, and wrote all of the text
-record IsEnded {L : Type 0} (s : State) (rs : List Reply) (written : Option (List ℕ)) (b : Ends L) : Type 0 where
+pub record IsEnded {L : Type 0} (s : State) (rs : List Reply) (old : Writer) (b : Ends L) : Type 0 where
   pub asks_none : request_of (told s rs) ≡ None
-  pub written_all : Appends written b.written (text s rs)
+  pub written_all : Appends old.contents b.writer.contents (text s rs)
 
-last_ended : {L : Type 0} (answers : Answers L) (s : State) (rs : List Reply) (written : Option (List ℕ)) (a : L) (r : Result Ended RunFault) (b : Ends L) → Last answers s rs written a (forgets r) b → OnOk r (IsEnded s rs written b)
+pub last_ended : {L : Type 0} (answers : Answers L) (s : State) (rs : List Reply) (old : Writer) (a : L) (r : Result Ended RunFault) (b : Ends L) → Last answers s rs old a (forgets r) b → OnOk r (IsEnded s rs old b)
 unfolding Last
-last_ended answers s rs written a (Ok y) b h = record { asks_none = h.3; written_all = h.1 }
-last_ended answers s rs written a (Err f) b h = tt
+last_ended answers s rs old a (Ok y) b h = record { asks_none = h.3; written_all = h.1.written }
+last_ended answers s rs old a (Err f) b h = tt
 
-on_ok : {A B : Type 0} (r : Result Ended RunFault) → (A → B) → OnOk r A → OnOk r B
+pub on_ok : {A B : Type 0} (r : Result Ended RunFault) → (A → B) → OnOk r A → OnOk r B
 on_ok (Ok y) f h = f h
 on_ok (Err e) f h = tt
 
@@ -108,12 +139,12 @@ none_told : (s : State) → outcome_of s ≡ None → outcome_at s.tracer.focus 
 unfolding outcome_of
 none_told s e = e
 
-last_fault : {L : Type 0} (answers : Answers L) (s : State) (rs : List Reply) (written : Option (List ℕ)) (a : L) (r : Result Ended RunFault) (b : Ends L) → r ≡ Err (Trace Inadmissible) → Last answers s rs written a (forgets r) b → is_faulted (told s rs) ≡ true
+last_fault : {L : Type 0} (answers : Answers L) (s : State) (rs : List Reply) (old : Writer) (a : L) (r : Result Ended RunFault) (b : Ends L) → r ≡ Err (Trace Inadmissible) → Last answers s rs old a (forgets r) b → is_faulted (told s rs) ≡ true
 unfolding Last
-last_fault answers s rs written a r b e h = go (subst (λ q. Last answers s rs written a (forgets q) b) e h)
+last_fault answers s rs old a r b e h = go (subst (λ q. Last answers s rs old a (forgets q) b) e h)
   where
-    go : Last answers s rs written a (Err (Trace Inadmissible)) b → is_faulted (told s rs) ≡ true
-    go k = k.2
+    go : Last answers s rs old a (Err (Trace Inadmissible)) b → is_faulted (told s rs) ≡ true
+    go k = refused_faults s rs old _ k.1 k.1.failed.0
 
 over_at : (f : Focus) (x : Outcome) → outcome_at f ≡ Some x → f ≡ Over x
 over_at Booting x e = absurd (cc e)
@@ -142,7 +173,8 @@ unfolding is_faulted
 fault_in s e = fault_at s.tracer.focus e
 
 pub runs_tell : {L S B : Type 0} (answers : Answers L) → FailuresLeaveAPrefix S B → OwnRepliesTell S B → StatesAreTracers → TextsAreWhole → TracersWriteRenderings → RenderingGrows → RunsTell S B answers
-runs_tell {L} {S} {B} answers fails own states whole writes grows o script is_script link link' old new broken broken' result w m is_m is_told outcome s b events is_own =
+unfolding RunsTell
+runs_tell {L} {S} {B} answers fails own states whole writes grows o script is_script link link' old new result w m is_m is_told outcome s b events is_own =
     let po : parts_of.Options = options_by o in
     let rs : List Reply = replies_of w.runs.exchanges in
     let first : State = new_state po script (first_pen o) in
@@ -150,21 +182,21 @@ runs_tell {L} {S} {B} answers fails own states whole writes grows o script is_sc
     let texts : IsTexts po.texts = whole o.string_limit o.limit_in_range in
     let tracer : (told first (Agreed ∷ rs)).tracer ≡ moved.tracer = (states po script (first_pen o) (Agreed ∷ rs)).0 in
     let bytes : text first (Agreed ∷ rs) ≡ rendering (layout_by o) moved.printed = writes po script (layout_by o) (Agreed ∷ rs) in
-    let end : Ends L = record { link = link'; written = new; broken = broken'; state = w.state } in
+    let end : Ends L = record { link = link'; writer = new; state = w.state } in
     let prefix = fails m is_m is_told outcome po texts script is_script s b events rs is_own in
     let run : OwnRun m outcome po script s b events rs = own m is_m is_told outcome po texts script is_script s b events rs is_own in
     let grown = grows (layout_by o) moved.printed prefix.1.0 in
     record {
       lost = prefix.0;
       begins =
-          part_more old new (text first (Agreed ∷ rs)) grown.later (view_text m outcome o script s b events prefix.0)
+          part_more old.contents new.contents (text first (Agreed ∷ rs)) grown.later (view_text m outcome o script s b events prefix.0)
           (ap (λ l. l ++ grown.later) bytes ∙ grown.whole ∙ ap (rendering (layout_by o)) prefix.1.1)
           (last_part answers first (Agreed ∷ rs) old w.runs.link (forgets result) end w.runs.last);
       shown =
           on_ok result
           (λ (ended : IsEnded first (Agreed ∷ rs) old end).
           let done = run.done (ap (λ (t : Tracer). request po t.focus) (sym tracer) ∙ none_in first rs ended.asks_none) in
-          subst (Appends old new) (bytes ∙ ap (rendering (layout_by o)) (run.shown ∙ ap (λ (v : World S B). v.printed) done.0)) ended.written_all)
+          subst (Appends old.contents new.contents) (bytes ∙ ap (rendering (layout_by o)) (run.shown ∙ ap (λ (v : World S B). v.printed) done.0)) ended.written_all)
           (last_ended answers first (Agreed ∷ rs) old w.runs.link result end w.runs.last);
       whole = λ x e.
           let ended : IsWhole first (Agreed ∷ rs) old end = last_whole answers first (Agreed ∷ rs) old w.runs.link result x end e w.runs.last in
@@ -178,7 +210,7 @@ runs_tell {L} {S} {B} answers fails own states whole writes grows o script is_sc
             same_outcome = run.headline.replied x over_there ∙ ap (λ (k : Kernel S B). outcome k.shared) plain;
             told = ap (λ (v : World S B). v.tracer.focus) (sym done.0) ∙ over_there;
             lost = run.headline.lost;
-            all = subst (Appends old new) (bytes ∙ ap (rendering (layout_by o)) (all ∙ ap (λ (k : Kernel S B). parts po (view run.headline.lost (traced o.follow k.log))) plain)) ended.written_all;
+            all = subst (Appends old.contents new.contents) (bytes ∙ ap (rendering (layout_by o)) (all ∙ ap (λ (k : Kernel S B). parts po (view run.headline.lost (traced o.follow k.log))) plain)) ended.written_all;
             all_ended = subst (λ (k : Kernel S B). (q : ℕ) → 1 ≤ q → q < k.child → traces o.follow q ≡ true → has_exit q k.log ≡ true) plain (run.headline.all_ended (subst IsPast (sym over_there) tt));
           };
       out_of_turns = λ e.
@@ -196,12 +228,13 @@ runs_tell {L} {S} {B} answers fails own states whole writes grows o script is_sc
           run.admitted (ap (λ (t : Tracer). t.focus) (sym tracer) ∙ fault_in (told first (Agreed ∷ rs)) (last_fault answers first (Agreed ∷ rs) old w.runs.link result end e w.runs.last));
     }
 
-last_refused : {L : Type 0} (answers : Answers L) (s : State) (rs : List Reply) (written : Option (List ℕ)) (a : L) (b : Ends L) → Last answers s rs written a (Err (Trace Inadmissible)) b → Appends written b.written (text s rs)
+last_refused : {L : Type 0} (answers : Answers L) (s : State) (rs : List Reply) (old : Writer) (a : L) (b : Ends L) → Last answers s rs old a (Err (Trace Inadmissible)) b → Appends old.contents b.writer.contents (text s rs)
 unfolding Last
-last_refused answers s rs written a b h = h.1
+last_refused answers s rs old a b h = until_refused s rs old _ h.1 b.writer h.1.failed.1 h.1.failed.0
 
 pub refused_runs_tell : {L S B : Type 0} (answers : Answers L) → FaultsLeaveAPrefix S B → FaultsAreForGood → StatesAreTracers → TextsAreWhole → TracersWriteRenderings → RenderingGrows → RefusedRunsTell S B answers
-refused_runs_tell {L} {S} {B} answers fails for_good states whole writes grows o script is_script link link' old new broken broken' w m is_m is_told outcome s b events u =
+unfolding RefusedRunsTell
+refused_runs_tell {L} {S} {B} answers fails for_good states whole writes grows o script is_script link link' old new w m is_m is_told outcome s b events u =
     let po : parts_of.Options = options_by o in
     let rs : List Reply = replies_of w.runs.exchanges in
     let first : State = new_state po script (first_pen o) in
@@ -211,7 +244,7 @@ refused_runs_tell {L} {S} {B} answers fails for_good states whole writes grows o
     let same : moved ≡ split = ap (λ l. told_by po script (Agreed ∷ l)) u.split in
     let tracer : (told first (Agreed ∷ rs)).tracer ≡ moved.tracer = (states po script (first_pen o) (Agreed ∷ rs)).0 in
     let bytes : text first (Agreed ∷ rs) ≡ rendering (layout_by o) moved.printed = writes po script (layout_by o) (Agreed ∷ rs) in
-    let end : Ends L = record { link = link'; written = new; broken = broken'; state = w.state } in
+    let end : Ends L = record { link = link'; writer = new; state = w.state } in
     let faulted : moved.tracer.focus ≡ Faulted =
     ap (λ (t : Tracer). t.focus) (sym tracer) ∙ fault_in (told first (Agreed ∷ rs)) (last_fault answers first (Agreed ∷ rs) old w.runs.link (Err (Trace Inadmissible)) end refl w.runs.last) in
     let refused : admits po before.tracer u.last ≡ false =
@@ -222,11 +255,11 @@ refused_runs_tell {L} {S} {B} answers fails for_good states whole writes grows o
     record {
       lost = prefix.0;
       begins =
-          part_more old new (text first (Agreed ∷ rs)) grown.later (view_text m outcome o script s b events prefix.0)
+          part_more old.contents new.contents (text first (Agreed ∷ rs)) grown.later (view_text m outcome o script s b events prefix.0)
           (ap (λ l. l ++ grown.later) bytes ∙ grown.whole ∙ ap (rendering (layout_by o)) (ap (λ (x : Moved). x.printed ++ prefix.1.0) same ∙ prefix.1.1))
           (last_part answers first (Agreed ∷ rs) old w.runs.link (Err (Trace Inadmissible)) end w.runs.last);
       shown =
-          subst (Appends old new) (bytes ∙ ap (rendering (layout_by o)) (ap (λ (x : Moved). x.printed) same ∙ kept))
+          subst (Appends old.contents new.contents) (bytes ∙ ap (rendering (layout_by o)) (ap (λ (x : Moved). x.printed) same ∙ kept))
           (last_refused answers first (Agreed ∷ rs) old w.runs.link end w.runs.last);
     }
 
@@ -242,5 +275,6 @@ unfolding heard moved_by
 own_talks own m outcome o script s b events xs a v = own m outcome (options_by o) script s b events xs (talks m outcome (heard (new_state (options_by o) script (first_pen o)) Agreed) (first_world s b).host events xs a v)
 
 pub served_runs_tell : {L S B : Type 0} (answers : Answers L) → TalksAreOwn S B → RunsTell S B answers → ServedRunsTell S B answers
-served_runs_tell answers own tells o script is_script link link' old new broken broken' result w m is_m is_told outcome s b events v =
-    tells o script is_script link link' old new broken broken' result w m is_m is_told outcome s b events (own_talks own m outcome o script s b events w.runs.exchanges w.runs.asked v)
+unfolding ServedRunsTell RunsTell
+served_runs_tell answers own tells o script is_script link link' old new result w m is_m is_told outcome s b events v =
+    tells o script is_script link link' old new result w m is_m is_told outcome s b events (own_talks own m outcome o script s b events w.runs.exchanges w.runs.asked v)

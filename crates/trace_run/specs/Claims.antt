@@ -22,6 +22,7 @@ use Rattle.trace_run.specs.declared.running.RunFault.TheVariants.{Trace}
 use Rattle.tr_core.specs.declared.tracing.TraceFault.TheVariants.{Inadmissible}
 use Rattle.trace_run.specs.Runs.{Answers, RunsWhole, replies_of}
 use Rattle.trace_run.specs.Tells.{Tells, OwnUntil}
+use Rattle.trace_run.specs.Writers.{Writer}
 
 -- the bytes of the untraced kernel's log
 abbrev pub log_text : {S B : Type 0} → Machine S B → (S → Outcome) → Options → Script → S → B → List Event → List ℕ
@@ -49,12 +50,12 @@ abbrev pub Claim : {L S B : Type 0} → Answers L
     → ((m : Machine S B) → (S → Outcome) → Options → Script → S → B → List Event → Result Ended RunFault
     → Option (List ℕ) → Option (List ℕ) → Type 0)
     → Options → Script → Type 0
-Claim {L} {S} {B} answers says o script = (link link' : L) (old new : Option (List ℕ)) (broken broken' : ℕ)
+Claim {L} {S} {B} answers says o script = (link link' : L) (old new : Writer)
     (result : Result Ended RunFault)
-    (w : RunsWhole answers (new_state (options_by o) script (first_pen o)) link old broken result link' new broken')
+    (w : RunsWhole answers (new_state (options_by o) script (first_pen o)) link old result link' new)
     (m : Machine S B) → IsMachine m → IsTold m → (outcome : S → Outcome) (s : S) (b : B) (events : List Event)
     → IsOwn m outcome (options_by o) script s b events (replies_of w.runs.exchanges)
-    → says m outcome o script s b events result old new
+    → says m outcome o script s b events result old.contents new.contents
 
 -- told by the log, where nobody is killed
 abbrev pub by_log : {S B : Type 0} (m : Machine S B) → (S → Outcome) → Options → Script → S → B → List Event
@@ -65,13 +66,13 @@ by_log m outcome o script s b events result old new =
 -- where it fails by a reply that isn't admitted, what it wrote begins the rendering of that log
 abbrev pub RefusedByLog : {L : Type 0} → (S B : Type 0) → Answers L → Type 0
 RefusedByLog {L} S B answers = (o : Options) (script : Script) → IsScript script
-    → (link link' : L) (old new : Option (List ℕ)) (broken broken' : ℕ)
-    (w : RunsWhole answers (new_state (options_by o) script (first_pen o)) link old broken (Err (Trace Inadmissible))
-    link' new broken')
+    → (link link' : L) (old new : Writer)
+    (w : RunsWhole answers (new_state (options_by o) script (first_pen o)) link old (Err (Trace Inadmissible))
+    link' new)
     (m : Machine S B) → IsMachine m → IsTold m → (outcome : S → Outcome) (s : S) (b : B) (events : List Event)
     → OwnUntil m outcome (options_by o) script s b events (replies_of w.runs.exchanges)
     → HasNoKill m outcome o script s b events
-    → AppendsPart old new (log_text m outcome o script s b events)
+    → AppendsPart old.contents new.contents (log_text m outcome o script s b events)
 
 -- no call is joined by a signal
 abbrev pub JoinsNothing : Script → Type 0

@@ -2,7 +2,9 @@ pub mod BootedRuns
 pub mod Claims
 pub mod Local
 pub mod LocalRuns
+pub mod Owed
 pub mod Results
 pub mod Runs
 pub mod Tells
+pub mod Writers
 pub mod Writings

@@ -21,6 +21,7 @@ use Rattle.trace_run.specs.declared.running.Ended.{Ended}
 use Rattle.trace_run.specs.declared.running.Ended.TheVariants.{Whole, OutOfTurns}
 use Rattle.trace_run.specs.Runs.{Answers, RunsWhole}
 use Rattle.trace_run.specs.Tells.{view_text, shown_text}
+use Rattle.trace_run.specs.Writers.{Writer}
 
 -- What a link in memory is: a host, a schedule that feeds it, and the turns that it gave to the kernel
 pub record InMemory (L X S B : Type 0) : Type 0 where
@@ -86,11 +87,11 @@ pub record LocalRun {X S B : Type 0} (choose : Schedules X S B) (m : Machine S B
       → is_there (request (options_by o) (traced_run m outcome (options_by o) script s b events).tracer.focus) ≡ true
 
 -- for every run that ends without a fault, over a link that serves by a host in memory from its beginning
-abbrev pub LocalRunsTell : {L : Type 0} → (X S B : Type 0) → Answers L → Type 0
+unfoldable pub LocalRunsTell : {L : Type 0} → (X S B : Type 0) → Answers L → Type 0
 LocalRunsTell {L} X S B answers = (o : Options) (script : Script) → IsScript script
-    → (link link' : L) (trace : List ℕ) (broken broken' : ℕ) (ended : Ended)
-    (w : RunsWhole answers (new_state (options_by o) script (first_pen o)) link (Some []) broken (Ok ended) link'
-    (Some trace) broken')
+    → (link link' : L) (old new : Writer) (trace : List ℕ) → old.contents ≡ Some [] → new.contents ≡ Some trace
+    → (ended : Ended)
+    (w : RunsWhole answers (new_state (options_by o) script (first_pen o)) link old (Ok ended) link' new)
     (i : InMemory L X S B) (choose : Schedules X S B) (m : Machine S B) → IsMachine m → IsTold m
     → (outcome : S → Outcome) (s : S) (b : B)
     → ServesCalls i choose m outcome answers

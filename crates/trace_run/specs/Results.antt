@@ -21,6 +21,7 @@ use Rattle.tr_core.specs.declared.settings.Options.{Options}
 use Rattle.tr_line.specs.Lines.{rendering}
 use Rattle.trace_run.specs.BootedRuns.{following, RunOf, TraceOf}
 use Rattle.trace_run.specs.Claims.{HasNoKill, JoinsNothing, TellsLog}
+use Rattle.trace_run.specs.Writers.{Writer}
 use Rattle.trace_run.specs.declared.local.Run.{Run}
 use Rattle.trace_run.specs.declared.running.Ended.TheVariants.{Whole}
 use Rattle.trace_run.specs.declared.running.Ended.{Ended}
@@ -90,18 +91,18 @@ RunsAreOne = (boot : Boot) (schedule : Schedule) (script : List Rule) (options :
 -- and a run to any writer that didn't fail has written its trace, and ended as it did
 abbrev pub TracesAreRuns : Type 0
 TracesAreRuns = (boot : Boot) (schedule : Schedule) (script : List Rule) (options : Options) (run : Run) (ended : Ended)
-    (old new : Option (List ℕ))
+    (old new : Writer)
     → RunOf boot schedule script options run → TraceOf boot schedule script options (Ok ended) old new
-    → (ended ≡ run.ended) × Appends old new run.trace
+    → (ended ≡ run.ended) × Appends old.contents new.contents run.trace
 
 -- To any writer
 
 -- however the run ended: told by the log itself, where no tracee ended by SIGKILL
 abbrev pub TracesTellLog : Type 0
 TracesTellLog = (boot : Boot) (schedule : Schedule) (script : List Rule) (options : Options)
-    (result : Result Ended RunFault) (old new : Option (List ℕ))
+    (result : Result Ended RunFault) (old new : Writer)
     (t : TraceOf boot schedule script options result old new)
     → HasNoKill linux outcome_in (following options boot.follow) (choice_of script)
     (first_shared boot.limits boot.files boot.input) (booted boot.argv boot.env) t.events
     → TellsLog linux outcome_in (following options boot.follow) (choice_of script)
-    (first_shared boot.limits boot.files boot.input) (booted boot.argv boot.env) t.events result old new
+    (first_shared boot.limits boot.files boot.input) (booted boot.argv boot.env) t.events result old.contents new.contents

@@ -1,12 +1,11 @@
 -- A run: a tracer, a link and a writer, over any of each.
-use Rattle.std.specs.Prelude.{◌≡◌, ℕ, ◌+◌, true, false, List, [], ◌∷◌, Option, Some, None}
+use Rattle.std.specs.Prelude.{◌≡◌, ℕ, ◌+◌, true, false, List, [], ◌∷◌, ◌++◌, length, Option, Some, None}
 use Rattle.std.specs.Prelude.{Result, Ok, Err, is_ok, map, ⊤, if◌then◌else◌}
 use Rattle.std.specs.Io.KnownBytes.{Appends}
 use Rattle.lx_abi.specs.declared.ptrace.Reply.{Reply}
 use Rattle.lx_abi.specs.declared.ptrace.Reply.TheVariants.{Done as Agreed}
 use Rattle.lx_abi.specs.declared.ptrace.Request.{Request}
 use Rattle.host_link.specs.declared.fault.LinkFault.{LinkFault}
-use Rattle.host_wire.specs.Ends.{AppendsPart}
 use Rattle.tr_core.specs.declared.tracing.TraceFault.TheVariants.{Inadmissible, Memory}
 use Rattle.tr_core.specs.States.{State, heard, said, request_of, is_faulted, admitted, told, text}
 use Rattle.tr_core.specs.Outcomes.{outcome_of}
@@ -14,6 +13,7 @@ use Rattle.trace_run.specs.declared.running.Ended.{Ended}
 use Rattle.trace_run.specs.declared.running.Ended.TheVariants.{Whole, OutOfTurns}
 use Rattle.trace_run.specs.declared.running.RunFault.{RunFault}
 use Rattle.trace_run.specs.declared.running.RunFault.TheVariants.{Link, Trace, Output}
+use Rattle.trace_run.specs.Writers.{Writer, PutsWhole, PutsPart}
 
 -- what a link may do: the link before, the request, the answer, the link after
 abbrev pub Answers : Type 0 → Type 1
@@ -50,34 +50,57 @@ Exchanged answers a s answer b = (q : Request) × ((request_of s ≡ Some q) × 
 -- the round touched, before and after.
 pub record Ends (L : Type 0) : Type 0 where
   pub link : L
-  pub written : Option (List ℕ)
-  pub broken : ℕ
+  pub writer : Writer
   pub state : State
 
 unfoldable pub Round : {L : Type 0} → Answers L → Ends L → Reply → Result (Option Reply) RunFault → Ends L → Type 0
-Round answers a r (Ok (Some next)) b = (b.state ≡ heard a.state r) × Appends a.written b.written (said a.state r)
+Round answers a r (Ok (Some next)) b = (b.state ≡ heard a.state r) × PutsWhole a.writer b.writer (said a.state r)
     × Exchanged answers a.link b.state (Ok next) b.link
-Round answers a r (Ok None) b = (b.state ≡ heard a.state r) × Appends a.written b.written (said a.state r)
+Round answers a r (Ok None) b = (b.state ≡ heard a.state r) × PutsWhole a.writer b.writer (said a.state r)
     × (is_faulted b.state ≡ false) × (request_of b.state ≡ None) × (b.link ≡ a.link)
-Round answers a r (Err (Link f)) b = (b.state ≡ heard a.state r) × Appends a.written b.written (said a.state r)
+Round answers a r (Err (Link f)) b = (b.state ≡ heard a.state r) × PutsWhole a.writer b.writer (said a.state r)
     × Exchanged answers a.link b.state (Err f) b.link
 Round answers a r (Err (Trace Inadmissible)) b = (b.state ≡ heard a.state r) × (admitted a.state r ≡ false)
-    × (b.written ≡ a.written) × (b.link ≡ a.link)
-Round answers a r (Err (Trace Memory)) b = (b.written ≡ a.written) × (b.link ≡ a.link)
-Round answers a r (Err Output) b = (b.state ≡ heard a.state r) × AppendsPart a.written b.written (said a.state r)
-    × (b.broken ≡ 1) × (b.link ≡ a.link)
+    × (b.writer ≡ a.writer) × (b.link ≡ a.link)
+Round answers a r (Err (Trace Memory)) b = (a.state.failed ≡ false → admitted a.state r ≡ true)
+    × (b.writer ≡ a.writer) × (b.link ≡ a.link)
+Round answers a r (Err Output) b = (b.state ≡ heard a.state r) × PutsPart a.writer b.writer (said a.state r)
+    × (is_faulted b.state ≡ false) × (b.link ≡ a.link)
+
+-- how many bytes each of these replies brings
+abbrev pub sizes : State → List Reply → List ℕ
+sizes s [] = []
+sizes s (r ∷ rs) = length (said s r) ∷ sizes (heard s r) rs
+
+-- all that these replies bring was written, by one put for each
+pub record Writes (s : State) (rs : List Reply) (old new : Writer) : Type 0 where
+  pub written : Appends old.contents new.contents (text s rs)
+  pub counted : new.puts ≡ old.puts ++ sizes s rs
+  pub unbroken : new.broken ≡ old.broken
+
+-- So it was until the last of them. There the run failed: with this tracer, at this reply, and with this writer.
+pub record FailsAtLast (s : State) (rs : List Reply) (old : Writer) (fails : State → Reply → Writer → Type 0) :
+    Type 0 where
+  pub before : List Reply
+  pub reply : Reply
+  pub split : rs ≡ before ++ reply ∷ []
+  pub writer : Writer
+  pub writes : Writes s before old writer
+  pub failed : fails (told s before) reply writer
 
 -- The end of a run, after these replies (Boot's among them) and with the link at a.
-unfoldable pub Last : {L : Type 0} → Answers L → State → List Reply → Option (List ℕ) → L → Result ⊤ RunFault
-    → Ends L → Type 0
-Last answers s rs written a (Ok u) b = (b.state ≡ told s rs) × Appends written b.written (text s rs)
+unfoldable pub Last : {L : Type 0} → Answers L → State → List Reply → Writer → L → Result ⊤ RunFault → Ends L → Type 0
+Last answers s rs old a (Ok u) b = (b.state ≡ told s rs) × Writes s rs old b.writer
     × (is_faulted (told s rs) ≡ false) × (request_of (told s rs) ≡ None) × (b.link ≡ a)
-Last answers s rs written a (Err (Link f)) b = (b.state ≡ told s rs) × Appends written b.written (text s rs)
+Last answers s rs old a (Err (Link f)) b = (b.state ≡ told s rs) × Writes s rs old b.writer
     × Exchanged answers a (told s rs) (Err f) b.link
-Last answers s rs written a (Err (Trace Inadmissible)) b = (b.state ≡ told s rs)
-    × Appends written b.written (text s rs) × (is_faulted (told s rs) ≡ true) × (b.link ≡ a)
-Last answers s rs written a (Err (Trace Memory)) b = AppendsPart written b.written (text s rs) × (b.link ≡ a)
-Last answers s rs written a (Err Output) b = AppendsPart written b.written (text s rs) × (b.broken ≡ 1) × (b.link ≡ a)
+Last answers s rs old a (Err (Trace Inadmissible)) b = (b.state ≡ told s rs)
+    × FailsAtLast s rs old (λ t r w. (admitted t r ≡ false) × (b.writer ≡ w)) × (b.link ≡ a)
+Last answers s rs old a (Err (Trace Memory)) b =
+    FailsAtLast s rs old (λ t r w. (t.failed ≡ false → admitted t r ≡ true) × (b.writer ≡ w)) × (b.link ≡ a)
+Last answers s rs old a (Err Output) b = (b.state ≡ told s rs)
+    × FailsAtLast s rs old (λ t r w. PutsPart w b.writer (said t r)) × (is_faulted (told s rs) ≡ false)
+    × (b.link ≡ a)
 
 -- A whole run: one list of requests and answers leads the link from its beginning to where it ends.
 pub record Runs {L : Type 0} (answers : Answers L) (a : Ends L) (result : Result ⊤ RunFault) (b : Ends L) :
@@ -86,7 +109,7 @@ pub record Runs {L : Type 0} (answers : Answers L) (a : Ends L) (result : Result
   pub link : L
   pub led : Leads answers a.link exchanges link
   pub asked : Asked (heard a.state Agreed) exchanges
-  pub last : Last answers a.state (Agreed ∷ replies_of exchanges) a.written link result b
+  pub last : Last answers a.state (Agreed ∷ replies_of exchanges) a.writer link result b
 
 -- with no word of how it ended
 abbrev pub forgets : Result Ended RunFault → Result ⊤ RunFault
@@ -100,10 +123,10 @@ EndsAs (Ok OutOfTurns) s = outcome_of s ≡ None
 EndsAs (Err f) s = Unit {0}
 
 -- a run of a tracer that begins
-pub record RunsWhole {L : Type 0} (answers : Answers L) (first : State) (link : L) (written : Option (List ℕ))
-    (broken : ℕ) (result : Result Ended RunFault) (link' : L) (written' : Option (List ℕ)) (broken' : ℕ) : Type 0 where
+pub record RunsWhole {L : Type 0} (answers : Answers L) (first : State) (link : L) (old : Writer)
+    (result : Result Ended RunFault) (link' : L) (new : Writer) : Type 0 where
   -- the tracer in the end
   pub state : State
-  pub runs : Runs answers (record { link = link; written = written; broken = broken; state = first })
-      (forgets result) (record { link = link'; written = written'; broken = broken'; state = state })
+  pub runs : Runs answers (record { link = link; writer = old; state = first }) (forgets result)
+      (record { link = link'; writer = new; state = state })
   pub ends : EndsAs result state

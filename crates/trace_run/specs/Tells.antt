@@ -28,6 +28,7 @@ use Rattle.trace_run.specs.declared.running.Ended.TheVariants.{Whole, OutOfTurns
 use Rattle.trace_run.specs.declared.running.RunFault.{RunFault}
 use Rattle.trace_run.specs.declared.running.RunFault.TheVariants.{Trace}
 use Rattle.trace_run.specs.Runs.{Answers, RunsWhole, replies_of}
+use Rattle.trace_run.specs.Writers.{Writer}
 
 -- the bytes of a view of the untraced kernel's log, after the same effective turns
 abbrev pub view_text : {S B : Type 0} → Machine S B → (S → Outcome) → Options → Script → S → B → List Event
@@ -66,13 +67,13 @@ pub record Tells {S B : Type 0} (m : Machine S B) (outcome : S → Outcome) (o :
   pub admitted : result ≡ Err (Trace Inadmissible) → ⊥
 
 -- for every run whose replies are a host's own
-abbrev pub RunsTell : {L : Type 0} → (S B : Type 0) → Answers L → Type 0
+unfoldable pub RunsTell : {L : Type 0} → (S B : Type 0) → Answers L → Type 0
 RunsTell {L} S B answers = (o : Options) (script : Script) → IsScript script
-    → (link link' : L) (old new : Option (List ℕ)) (broken broken' : ℕ) (result : Result Ended RunFault)
-    (w : RunsWhole answers (new_state (options_by o) script (first_pen o)) link old broken result link' new broken')
+    → (link link' : L) (old new : Writer) (result : Result Ended RunFault)
+    (w : RunsWhole answers (new_state (options_by o) script (first_pen o)) link old result link' new)
     (m : Machine S B) → IsMachine m → IsTold m → (outcome : S → Outcome) (s : S) (b : B) (events : List Event)
     → IsOwn m outcome (options_by o) script s b events (replies_of w.runs.exchanges)
-    → Tells m outcome o script s b events result old new
+    → Tells m outcome o script s b events result old.contents new.contents
 
 -- replies that are a host's own for these events, and a last one that may be anything
 pub record OwnUntil {S B : Type 0} (m : Machine S B) (outcome : S → Outcome) (o : parts_of.Options) (script : Script)
@@ -92,14 +93,14 @@ pub record RefusedTells {S B : Type 0} (m : Machine S B) (outcome : S → Outcom
       (rendering (layout_by o) (told_by (options_by o) script (Agreed ∷ own)).printed)
 
 -- for every run whose replies before that one are a host's own
-abbrev pub RefusedRunsTell : {L : Type 0} → (S B : Type 0) → Answers L → Type 0
+unfoldable pub RefusedRunsTell : {L : Type 0} → (S B : Type 0) → Answers L → Type 0
 RefusedRunsTell {L} S B answers = (o : Options) (script : Script) → IsScript script
-    → (link link' : L) (old new : Option (List ℕ)) (broken broken' : ℕ)
-    (w : RunsWhole answers (new_state (options_by o) script (first_pen o)) link old broken (Err (Trace Inadmissible))
-    link' new broken')
+    → (link link' : L) (old new : Writer)
+    (w : RunsWhole answers (new_state (options_by o) script (first_pen o)) link old (Err (Trace Inadmissible))
+    link' new)
     (m : Machine S B) → IsMachine m → IsTold m → (outcome : S → Outcome) (s : S) (b : B) (events : List Event)
     (u : OwnUntil m outcome (options_by o) script s b events (replies_of w.runs.exchanges))
-    → RefusedTells m outcome o script s b events u.own old new
+    → RefusedTells m outcome o script s b events u.own old.contents new.contents
 
 -- each reply is what a call of the host in memory answers, by the events that are left
 abbrev pub Served : {S B : Type 0} → Machine S B → (S → Outcome) → Host S B → List Event → List (Request × Reply)
@@ -109,10 +110,10 @@ Served m outcome h es (x ∷ xs) = (x.1 ≡ reply_or (called m outcome h x.0 es)
     × Served m outcome (called m outcome h x.0 es).host (called m outcome h x.0 es).left xs
 
 -- for every run over such a host
-abbrev pub ServedRunsTell : {L : Type 0} → (S B : Type 0) → Answers L → Type 0
+unfoldable pub ServedRunsTell : {L : Type 0} → (S B : Type 0) → Answers L → Type 0
 ServedRunsTell {L} S B answers = (o : Options) (script : Script) → IsScript script
-    → (link link' : L) (old new : Option (List ℕ)) (broken broken' : ℕ) (result : Result Ended RunFault)
-    (w : RunsWhole answers (new_state (options_by o) script (first_pen o)) link old broken result link' new broken')
+    → (link link' : L) (old new : Writer) (result : Result Ended RunFault)
+    (w : RunsWhole answers (new_state (options_by o) script (first_pen o)) link old result link' new)
     (m : Machine S B) → IsMachine m → IsTold m → (outcome : S → Outcome) (s : S) (b : B) (events : List Event)
     → Served m outcome (first_world s b).host events w.runs.exchanges
-    → Tells m outcome o script s b events result old new
+    → Tells m outcome o script s b events result old.contents new.contents

@@ -1,9 +1,13 @@
 //! What a run writes, as the contract of a function with an empty body: call it to cite it.
 
+ghost use Rattle.trace_run.specs.BootedRuns.{BootedRunsFail, BootedRunsTell, BootedTracesTell, KeptRunsFail};
 ghost use Rattle.trace_run.specs.BootedRuns.{LinuxRefusedRunsTell, LinuxRunsTell};
 ghost use Rattle.trace_run.specs.Claims.{PlainTracing, RefusedByLog, ReplacedCalls, JoinedSignals, UnderKills};
 ghost use Rattle.trace_run.specs.Local.{LocalRunsTell};
-ghost use Rattle.trace_run.specs.LocalRuns.{LocalLinksFail, LocalLinksServe, LocalLinksTell, LocalLinksTellParts};
+ghost use Rattle.trace_run.specs.LocalRuns.{LocalLinksAnswerTheirOwn, LocalLinksFail, LocalLinksServe};
+ghost use Rattle.trace_run.specs.LocalRuns.{LocalLinksTell, LocalLinksTellParts};
+ghost use Rattle.trace_run.specs.Owed.{ResumesBeforeItWaits, StopsWithItsWriter, TracesWriteBeforeTheyWait};
+ghost use Rattle.trace_run.specs.Owed.{WritesBeforeItAsks, WritesBeforeItWaits, WritesBeforeTheLinkFails};
 ghost use Rattle.trace_run.specs.Results.{JoinedRuns, KilledRuns, PlainRuns, ReplacedRuns};
 ghost use Rattle.trace_run.specs.Results.{RunsAreOne, TracesAreRuns, TracesTellLog};
 ghost use Rattle.trace_run.specs.Runs.{calls_of};
@@ -16,9 +20,10 @@ use pt_kernel::Schedule;
 use pt_kernel::laws::{hosts_are_called, linux_is_told};
 use pt_model::laws::{
     every_script_is_one, failures_leave_a_prefix, faults_leave_a_prefix, hosts_run_alike,
-    no_kill_no_loss, own_replies_tell, schedules_are_lists, traces_grow_until_a_fault,
-    tracing_is_transparent, worlds_attend,
+    no_kill_no_loss, nobody_is_left_held, own_replies_tell, replies_tell_all, schedules_are_lists,
+    traces_grow_until_a_fault, tracing_is_transparent, worlds_attend,
 };
+use pt_schedule::laws::events_are_few;
 use tr_core::laws::{states_are_tracers, texts_are_whole, tracers_write_renderings};
 use tr_line::renderings_grow;
 
@@ -84,6 +89,18 @@ pub fn local_links_serve()
     hosts_are_called();
 }
 
+/// What such a link answered to a tracer's requests, from its boot on, are a host's own replies, whoever carried them:
+/// so `linux_runs_tell` holds of a run over any link that gives these.
+pub fn local_links_answer_their_own()
+    ensures { LocalLinksAnswerTheirOwn }
+{
+    local_links_serve();
+    schedules_are_lists::<Schedule, Shared, UserState>();
+    own_replies_tell::<Shared, UserState>();
+    worlds_attend::<Shared, UserState>();
+    hosts_run_alike::<Shared, UserState>();
+}
+
 /// A run over such a link, from its boot on, has the outcome of the untraced kernel by the effective turns; its trace
 /// begins the rendering of a view of that kernel's log, and is all of it where the run is whole.
 pub fn local_links_tell()
@@ -106,20 +123,14 @@ pub fn local_links_tell()
 pub fn local_links_tell_parts()
     ensures { LocalLinksTellParts }
 {
-    local_links_serve();
+    local_links_answer_their_own();
     runs_tell::<Shared, UserState, LocalLink>();
-    schedules_are_lists::<Schedule, Shared, UserState>();
-    own_replies_tell::<Shared, UserState>();
-    worlds_attend::<Shared, UserState>();
-    tracing_is_transparent::<Shared, UserState>();
-    hosts_run_alike::<Shared, UserState>();
-    texts_are_whole();
     linux_is_a_machine();
     linux_is_told();
 }
 
 /// A run over such a link, from its boot on, fails only where memory was refused, where its writer failed, and where
-/// the link had given 2^40 replies.
+/// the schedule had events for 2^40 replies, more than one by words or of a list ever has.
 pub fn local_links_fail()
     ensures { LocalLinksFail }
 {
@@ -127,6 +138,59 @@ pub fn local_links_fail()
     local_links_serve();
     own_replies_tell::<Shared, UserState>();
     worlds_attend::<Shared, UserState>();
+    events_are_few();
+}
+
+/// So it is over a link to a host that a boot began: what such a run tells, what it writes, and how it fails.
+pub fn booted_runs_tell()
+    ensures run { BootedRunsTell }
+    ensures trace { BootedTracesTell }
+    ensures fails { BootedRunsFail }
+    ensures kept { KeptRunsFail }
+{
+    local_links_tell();
+    local_links_tell_parts();
+    local_links_fail();
+    every_script_is_one();
+    hosts_run_alike::<Shared, UserState>();
+}
+
+/// Before it asks, a run has written what it owes: all that the replies before brought, by one put for each, whatever
+/// they are. Where its writer fails it asks no more. Whose status it took it resumed, or found gone, before the next
+/// Wait.
+pub fn runs_write_before_they_ask<L: Link>()
+    ensures asks { WritesBeforeItAsks (calls_of L.answers L.given L.broken) }
+    ensures link { WritesBeforeTheLinkFails (calls_of L.answers L.given L.broken) }
+    ensures writer { StopsWithItsWriter (calls_of L.answers L.given L.broken) }
+    ensures resumed { ResumesBeforeItWaits (calls_of L.answers L.given L.broken) }
+{
+    nobody_is_left_held();
+}
+
+/// So nothing is kept back at a Wait: where the replies are a host's own, what was written by then is the rendering of
+/// all that is behind the statuses that were taken.
+pub fn runs_write_before_they_wait<S, B, L: Link>()
+    ensures { WritesBeforeItWaits S B (calls_of L.answers L.given L.broken) }
+{
+    tracing_is_transparent::<S, B>();
+    replies_tell_all::<S, B>();
+    worlds_attend::<S, B>();
+    own_replies_tell::<S, B>();
+    states_are_tracers();
+    texts_are_whole();
+    tracers_write_renderings();
+}
+
+/// So it is of `trace_local`.
+pub fn traces_write_before_they_wait()
+    ensures { TracesWriteBeforeTheyWait }
+{
+    runs_write_before_they_wait::<Shared, UserState, LocalLink>();
+    schedules_are_lists::<Schedule, Shared, UserState>();
+    own_replies_tell::<Shared, UserState>();
+    every_script_is_one();
+    linux_is_a_machine();
+    linux_is_told();
 }
 
 /// Under the empty script a run tells the untraced kernel's log and outcome, where nobody is killed.

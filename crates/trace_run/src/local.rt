@@ -3,10 +3,12 @@
 ghost use Rattle.std.specs.Prelude.{◌≡◌, None, Some, Err, IfErr, IfOk, OnOk};
 ghost use Rattle.lx_boot.specs.Boots.{Refuses, fault_of};
 ghost use Rattle.lx_boot.specs.declared.boots.BootFault.{BootFault};
-ghost use Rattle.trace_run.specs.BootedRuns.{RunOf, TraceOf};
-ghost use Rattle.trace_run.specs.LocalRuns.{FailsBy};
+ghost use Rattle.trace_run.specs.BootedRuns.{IsBooted, IsLeft, KeptRun, RunOf, TraceOf};
+ghost use Rattle.pt_schedule.specs.Schedules.{events_left};
+ghost use Rattle.trace_run.specs.LocalRuns.{FailsBy, IsLocalFault};
+ghost use Rattle.trace_run.specs.Writers.{writer_of};
 
-use crate::laws::{local_links_fail, local_links_tell, local_links_tell_parts};
+use crate::laws::booted_runs_tell;
 use crate::running::{Ended, RunFault, run};
 use crate::written::Written;
 use containers::Bytes;
@@ -14,10 +16,8 @@ use host_link::{LinkFault, LocalLink};
 use host_wire::Sink;
 use lx_abi::{Boot, Outcome, Script};
 use lx_boot::BootFault;
-use lx_proc::{Shared, UserState};
 use pt_kernel::{Host, Schedule, Turns};
-use pt_model::laws::{every_script_is_one, hosts_run_alike};
-use std::alloc::Global;
+use std::alloc::{AllocError, Global};
 use tr_core::{Options, TraceFault};
 
 /// What a run in one process leaves.
@@ -33,7 +33,7 @@ pub struct Run {
 
 /// What a boot answers for a run that failed, where the trace is kept in memory.
 fn refusal(fault: RunFault) -> BootFault
-    requires { FailsBy 1 fault }
+    requires { IsLocalFault fault }
     ensures { result ≡ BootFault.Memory }
 {
     match fault {
@@ -42,6 +42,53 @@ fn refusal(fault: RunFault) -> BootFault
         | RunFault::Output => BootFault::Memory,
         RunFault::Link(_) | RunFault::Trace(_) => unreachable!(),
     }
+}
+
+/// A link to a host that this boot began.
+fn booted_link(alloc: Global, boot: Boot, schedule: Schedule) -> Result<LocalLink, BootFault>
+    ensures link { IfOk result (IsBooted boot schedule) }
+    ensures accepted { OnOk result (fault_of boot ≡ None) }
+    ensures fault { IfErr result (Refuses boot) }
+    ensures refused { (e : BootFault) → fault_of boot ≡ Some e → result ≡ Err e }
+{
+    let host = Host::boot(alloc, boot)?;
+    let link = LocalLink::new(host, schedule);
+    Ok(link)
+}
+
+/// A run whose trace is kept in memory.
+fn kept_run(
+    alloc: Global,
+    link: &mut LocalLink,
+    trace: &mut Written,
+    script: Script,
+    options: Options,
+) -> Result<Ended, RunFault>
+    ensures { KeptRun script options link.old trace.old result link.new trace.new }
+{
+    run(alloc, link, trace, script, options)
+}
+
+/// What it leaves.
+fn left(link: LocalLink, trace: Written, ended: Ended) -> Result<Run, AllocError>
+    ensures { IfOk result (IsLeft link trace ended) }
+{
+    let host = link.into_host();
+    let outcome = match host.outcome() {
+        Ok(outcome) => outcome,
+        Err(fault) => {
+            drop(host);
+            drop(trace);
+            drop(ended);
+            return Err(fault);
+        }
+    };
+    Ok(Run {
+        trace: trace.into_bytes(),
+        ended,
+        outcome,
+        turns: host.into_turns(),
+    })
 }
 
 /// Boots a guest, and traces it by the events of the schedule, in this process. The boot's follow counts, not that of
@@ -60,29 +107,22 @@ pub fn run_local(
     // A boot with a fault is refused with it, whatever the memory.
     ensures refused { (e : BootFault) → fault_of boot ≡ Some e → result ≡ Err e }
 {
-    local_links_tell();
-    local_links_fail();
-    every_script_is_one();
-    hosts_run_alike::<Shared, UserState>();
     let mut options = options;
     options.follow = boot.follow;
-    let host = Host::boot(alloc, boot)?;
-    let mut link = LocalLink::new(host, schedule);
+    let mut link = booted_link(alloc, boot, schedule)?;
+    booted_runs_tell();
     let mut trace = Written::new(alloc);
-    let ended = match run(alloc, &mut link, &mut trace, script, options) {
-        Ok(ended) => ended,
-        Err(fault) => return Err(refusal(fault)),
-    };
-    let outcome = match link.host().outcome() {
-        Ok(outcome) => outcome,
-        Err(_) => return Err(BootFault::Memory),
-    };
-    Ok(Run {
-        trace: trace.into_bytes(),
-        ended,
-        outcome,
-        turns: link.into_host().into_turns(),
-    })
+    match kept_run(alloc, &mut link, &mut trace, script, options) {
+        Ok(ended) => match left(link, trace, ended) {
+            Ok(run) => Ok(run),
+            Err(_) => Err(BootFault::Memory),
+        },
+        Err(fault) => {
+            drop(link);
+            drop(trace);
+            Err(refusal(fault))
+        }
+    }
 }
 
 /// Boots a guest, and traces it in this process to any writer, as the trace comes. The boot's follow counts, not that
@@ -96,24 +136,22 @@ pub fn trace_local<W: Sink>(
     writer: &mut W,
 ) -> Result<Result<Ended, RunFault>, BootFault>
     ensures trace { IfOk result
-        (λ ended. TraceOf boot schedule script options ended (W.contents writer.old) (W.contents writer.new)) }
+        (λ ended. TraceOf boot schedule script options ended (writer_of W.contents W.puts W.broken writer.old)
+        (writer_of W.contents W.puts W.broken writer.new)) }
 
-    // Memory was refused or the writer failed; or the link had given 2^40 replies.
-    ensures fails { IfOk result (λ ended. IfErr ended (FailsBy (W.broken writer.new))) }
+    // Memory was refused or the writer failed; or the schedule had 2^40 - 1 events to come, and those of `Schedule`'s
+    // own functions have 2^39 at most.
+    ensures fails { IfOk result (λ ended. IfErr ended (FailsBy (events_left schedule) (W.broken writer.new))) }
     ensures accepted { OnOk result (fault_of boot ≡ None) }
     ensures fault { IfErr result (Refuses boot) }
 
     // A boot with a fault is refused with it, whatever the memory.
     ensures refused { (e : BootFault) → fault_of boot ≡ Some e → result ≡ Err e }
 {
-    local_links_tell_parts();
-    local_links_fail();
-    every_script_is_one();
-    hosts_run_alike::<Shared, UserState>();
     let mut options = options;
     options.follow = boot.follow;
-    let host = Host::boot(alloc, boot)?;
-    let mut local = LocalLink::new(host, schedule);
+    let mut local = booted_link(alloc, boot, schedule)?;
+    booted_runs_tell();
     let ended = run(alloc, &mut local, writer, script, options);
     drop(local);
     Ok(ended)

@@ -2,9 +2,10 @@
 
 ghost use Rattle.std.specs.Prelude.{◌≡◌, ◌+◌, ◌≤◌, ◌^◌, Ok, IfOk, IfErr, IfSome, OnOk, OnErr};
 ghost use Rattle.std.specs.Io.KnownBytes.{Appends};
-ghost use Rattle.host_wire.specs.Ends.{AppendsPart};
+ghost use Rattle.host_wire.specs.Ends.{AppendsPart, IsPut};
 ghost use Rattle.tr_core.specs.States.{State, new_state, taken_of};
 ghost use Rattle.trace_run.specs.Runs.{calls_of, Ends, EndsAs, Round, Runs, RunsWhole};
+ghost use Rattle.trace_run.specs.Writers.{writer_of};
 ghost use Rattle.tr_core.specs.Settings.{first_pen, options_by};
 ghost use Rattle.tr_core.specs.Outcomes.{outcome_of};
 ghost use Rattle.lx_abi.specs.Scripts.{choice_of};
@@ -33,6 +34,8 @@ fn write<W: Sink>(writer: &mut W, bytes: &Bytes) -> Result<(), RunFault>
     ensures whole { OnOk result (Appends (W.contents writer.old) (W.contents writer.new) bytes.now) }
     ensures fault { IfErr result (λ fault. fault ≡ RunFault.Output) }
     ensures part { OnErr result (AppendsPart (W.contents writer.old) (W.contents writer.new) bytes.now) }
+    ensures counted { IsPut (W.puts writer.old) (W.puts writer.new) bytes.now }
+    ensures unbroken { OnOk result (W.broken writer.new ≡ W.broken writer.old) }
     ensures broken { OnErr result (W.broken writer.new ≡ 1) }
 {
     match writer.put(bytes.as_slice()) {
@@ -52,17 +55,13 @@ fn round<L: Link, W: Sink, T: Tracing>(
     ensures round { Round (calls_of L.answers L.given L.broken)
         (record {
           link = link.old;
-          written = W.contents writer.old;
-          broken = W.broken writer.old;
-          state =
-              T.state tracer.old;
+          writer = writer_of W.contents W.puts W.broken writer.old;
+          state = T.state tracer.old;
         }) reply result
         (record {
           link = link.new;
-          written = W.contents writer.new;
-          broken = W.broken writer.new;
-          state =
-              T.state tracer.new;
+          writer = writer_of W.contents W.puts W.broken writer.new;
+          state = T.state tracer.new;
         }) }
     ensures counted { IfOk result
         (λ next. IfSome next (λ _. (L.given link.new ≡ L.given link.old + 1) × (L.given link.new ≤ 2 ^ 40))) }
@@ -98,17 +97,13 @@ pub fn run_tracer<L: Link, W: Sink, T: Tracing>(
     ensures { Runs (calls_of L.answers L.given L.broken)
         (record {
           link = link.old;
-          written = W.contents writer.old;
-          broken = W.broken writer.old;
-          state =
-              T.state tracer.old;
+          writer = writer_of W.contents W.puts W.broken writer.old;
+          state = T.state tracer.old;
         }) result
         (record {
           link = link.new;
-          written = W.contents writer.new;
-          broken = W.broken writer.new;
-          state =
-              T.state tracer.new;
+          writer = writer_of W.contents W.puts W.broken writer.new;
+          state = T.state tracer.new;
         }) }
 {
     let mut reply = Reply::Done;
@@ -147,7 +142,8 @@ pub fn run<L: Link, W: Sink>(
 ) -> Result<Ended, RunFault>
     ensures { RunsWhole (calls_of L.answers L.given L.broken)
         (new_state (options_by options) (choice_of script) (first_pen options)) link.old
-        (W.contents writer.old) (W.broken writer.old) result link.new (W.contents writer.new) (W.broken writer.new) }
+        (writer_of W.contents W.puts W.broken writer.old) result link.new
+        (writer_of W.contents W.puts W.broken writer.new) }
 {
     let mut tracer = Tracer::new(alloc, script, options);
     match run_tracer(link, writer, &mut tracer) {

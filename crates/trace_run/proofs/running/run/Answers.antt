@@ -2,6 +2,7 @@ use Rattle.std.proofs.Common.{Ok, Err, ap, sym, subst}
 use Rattle.tr_core.specs.States.{State, taken_of}
 use Rattle.tr_core.specs.Tracers.{state_of}
 use Rattle.trace_run.specs.Runs.{calls_of, Runs}
+use Rattle.trace_run.specs.Writers.{writer_of}
 use Rattle.trace_run.proofs.running.run.Goals as goal
 
 pub run_tracer-requires : goal.run_tracer-requires
@@ -15,8 +16,8 @@ returns-in-Ok g c =
       state = last;
       runs =
           subst
-          (λ s. Runs (calls_of g.L.Link.answers g.L.Link.given g.L.Link.broken) (record { link = c.args.link.now; written = g.W.Sink.contents c.args.writer.now; broken = g.W.Sink.broken c.args.writer.now; state = s }) (Ok tt)
-          (record { link = c.run_tracer.new.link; written = g.W.Sink.contents c.run_tracer.new.writer; broken = g.W.Sink.broken c.run_tracer.new.writer; state = last }))
+          (λ s. Runs (calls_of g.L.Link.answers g.L.Link.given g.L.Link.broken) (record { link = c.args.link.now; writer = writer_of g.W.Sink.contents g.W.Sink.puts g.W.Sink.broken c.args.writer.now; state = s }) (Ok tt)
+          (record { link = c.run_tracer.new.link; writer = writer_of g.W.Sink.contents g.W.Sink.puts g.W.Sink.broken c.run_tracer.new.writer; state = last }))
           c.new-tracer.ensures c.in-Ok.ensures;
       ends = c.end_by.ensures last (sym c.into_outcome.ensures);
     }
@@ -28,8 +29,8 @@ returns-in-Err g c =
       state = last;
       runs =
           subst
-          (λ s. Runs (calls_of g.L.Link.answers g.L.Link.given g.L.Link.broken) (record { link = c.args.link.now; written = g.W.Sink.contents c.args.writer.now; broken = g.W.Sink.broken c.args.writer.now; state = s }) (Err c.in-Err.fault)
-          (record { link = c.run_tracer.new.link; written = g.W.Sink.contents c.run_tracer.new.writer; broken = g.W.Sink.broken c.run_tracer.new.writer; state = last }))
+          (λ s. Runs (calls_of g.L.Link.answers g.L.Link.given g.L.Link.broken) (record { link = c.args.link.now; writer = writer_of g.W.Sink.contents g.W.Sink.puts g.W.Sink.broken c.args.writer.now; state = s }) (Err c.in-Err.fault)
+          (record { link = c.run_tracer.new.link; writer = writer_of g.W.Sink.contents g.W.Sink.puts g.W.Sink.broken c.run_tracer.new.writer; state = last }))
           c.new-tracer.ensures c.in-Err.ensures;
       ends = tt;
     }
