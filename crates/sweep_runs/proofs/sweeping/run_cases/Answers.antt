@@ -18,10 +18,9 @@ loop-case-preserved g c =
     let rest = c.in-Some.rest.now in
     let pushed : c.push.new.self.items ≡ rows ++ row ∷ [] = c.in_ok-push.ensures.items in
     let next : c.loop-case.left.now ≡ row.case ∷ rest =
-        c.in-Some.ensures.cases.0 ∙ ap (λ (case : Case). case ∷ rest) (sym c.in_ok-row.ensures.case) in
-    (
+    c.in-Some.ensures.cases.0 ∙ ap (λ (case : Case). case ∷ rest) (sym c.in_ok-row.ensures.case) in (
       ap (λ (rs : List Row). map (λ r. r.case) rs ++ rest) pushed
-      ∙ more_rows rows row c.loop-case.left.now rest c.args.cases.now c.loop-case.invariant.0 next,
+          ∙ more_rows rows row c.loop-case.left.now rest c.args.cases.now c.loop-case.invariant.0 next,
       subst (λ (rs : List Row). All (IsRow c.args.setup.now c.args.reference.now) rs) (sym pushed)
-      (All-push (IsRow c.args.setup.now c.args.reference.now) rows row c.loop-case.invariant.1 c.in_ok-row.ensures.row),
+          (All-push (IsRow c.args.setup.now c.args.reference.now) rows row c.loop-case.invariant.1 c.in_ok-row.ensures.row),
     )
