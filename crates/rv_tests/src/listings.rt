@@ -1,5 +1,7 @@
 //! Listings with ample memory, one of each kind of answer. Others stand in guests/runs.
+use elf_image::Image;
 use rv_asm::assemble;
+use std::alloc::{AllocError, Global};
 use std::test::Fail;
 
 /// The line and the number of the fault, or zeros.
@@ -10,16 +12,24 @@ fn fault_in(rt: &HostRuntime, text: &str) -> (usize, u8) {
     }
 }
 
-/// The entry of an image, and its bytes.
-fn content(rt: &HostRuntime, text: &str) -> Result<(u64, Vec<u8>), Fail> {
-    let image = assemble(rt.alloc(), text)?;
-    let segment = image.segments.as_slice().first().ok_or("one segment")?;
-    Ok((image.entry, segment.bytes.as_slice().to_vec(rt.alloc())?))
+/// The bytes of the first segment.
+fn first_bytes(alloc: Global, image: &Image) -> Result<Vec<u8>, AllocError> {
+    match image.segments.as_slice().first() {
+        Some(segment) => segment.bytes.as_slice().to_vec(alloc),
+        None => Ok(Vec::new(alloc)),
+    }
+}
+
+/// The entry of a listing's image, and its bytes.
+fn content(alloc: Global, text: &str) -> Result<(u64, Vec<u8>), Fail> {
+    let image = assemble(alloc, text)?;
+    let bytes = first_bytes(alloc, &image)?;
+    Ok((image.entry, bytes))
 }
 
 #[test]
 fn a_listing_is_assembled_or_refused(rt: HostRuntime) -> Result<(), Fail> {
-    let (entry, bytes) = content(&rt, "nop\nx: _start: la a0, x")?;
+    let (entry, bytes) = content(rt.alloc(), "nop\nx: _start: la a0, x")?;
     assert_eq!(rt; entry, 0x10004);
     assert_eq!(rt;
         bytes.as_slice(),

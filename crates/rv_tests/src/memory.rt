@@ -1,3 +1,4 @@
+//! Calls of a space, a script of them each, and what they tell. Numbers and bytes are worked out by hand.
 use rv_mem::{MemFault, Rights, Space};
 use std::alloc::{AllocError, Global};
 use std::test::Fail;
@@ -42,6 +43,19 @@ fn write(space: &mut Space, address: u64, bytes: &[u8]) -> Result<(), MemFault> 
     space.write(address, bytes)
 }
 
+fn fill(
+    alloc: Global,
+    space: &mut Space,
+    address: u64,
+    byte: u8,
+    count: usize,
+) -> Result<(), MemFault> {
+    match Vec::from_elem(alloc, byte, count) {
+        Ok(bytes) => write(space, address, bytes.as_slice()),
+        Err(_) => Err(MemFault::Memory),
+    }
+}
+
 fn load(space: &mut Space, address: u64, bytes: &[u8]) -> Result<(), MemFault> {
     space.load(address, bytes)
 }
@@ -62,245 +76,124 @@ fn highest_free(space: &Space, pages: u64, low: u64, high: u64) -> Option<u64> {
     space.highest_free(pages, low, high)
 }
 
+/// How many bytes of code are near, and the first of them.
+fn code_near(space: &Space, address: u64) -> Option<(usize, u8)> {
+    let page = space.code_near(address)?;
+    let first = page.first()?;
+    Some((page.len(), *first))
+}
+
+fn read_near(space: &Space, address: u64) -> Option<[u8; 2]> {
+    space.read_near(address)
+}
+
+fn write_near(space: &mut Space, address: u64, byte: u8) -> bool {
+    space.write_near(address, [byte])
+}
+
 fn fork(space: &Space) -> Result<Space, AllocError> {
     space.fork()
 }
 
-/// Pages 1 to 3 for reading and writing, 4 for reading, 5 and 6 for execution, 8 with no right.
-fn example(alloc: Global) -> Result<Space, MemFault> {
-    let mut space = Space::new(alloc);
-    map(&mut space, 1, 3, READ_WRITE)?;
-    map(&mut space, 4, 1, READ)?;
-    map(&mut space, 5, 2, EXECUTE)?;
-    map(&mut space, 8, 1, NONE)?;
-    Ok(space)
+/// A call; pages by the number of the first, and how many.
+#[derive(Clone, Copy)]
+enum Call {
+    Map(u16, u16, Rights),
+    Unmap(u16, u16),
+    Write(u64, &'static [u8]),
+    /// A write of a byte so many times.
+    Fill(u64, u8, usize),
+    Load(u64, &'static [u8]),
+    Store(u64, u64),
+    Read(u64, usize),
+    Peek(u64, usize),
+    Double(u64),
+    Fetch(u64),
+    /// How many pages, between two addresses.
+    Free(u64, u64, u64),
+    /// The first byte of each of the first eight pages; a dot stands for a page that is missing.
+    Firsts,
+    CodeNear(u64),
+    ReadNear(u64),
+    WriteNear(u64, u8),
 }
 
-/// Sevens over more than a page from 0x1ffe on, and 1 to 4 at their beginning.
-fn written(alloc: Global) -> Result<Space, MemFault> {
-    let mut space = example(alloc)?;
-    for bytes in [[7u8; 4100].as_slice(), [1, 2, 3, 4].as_slice()] {
-        write(&mut space, 0x1ffe, bytes)?;
+#[derive(Clone, Copy)]
+enum Told {
+    Done,
+    Number(u64),
+    Place(Option<u64>),
+    Bytes(&'static [u8]),
+    Length(usize),
+    Code(Option<(usize, u8)>),
+    Pair(Option<[u8; 2]>),
+    Is(bool),
+    Unmapped(u64),
+    Forbidden(u64),
+    TooLarge,
+}
+
+fn is_fault(fault: MemFault, told: Told) -> bool {
+    match (fault, told) {
+        (MemFault::Unmapped(address), Told::Unmapped(wanted)) => address == wanted,
+        (MemFault::Forbidden(address), Told::Forbidden(wanted)) => address == wanted,
+        (MemFault::TooLarge, Told::TooLarge) => true,
+        _ => false,
     }
-    Ok(space)
 }
 
-#[test]
-fn bytes_across_pages(rt: HostRuntime) -> Result<(), Fail> {
-    let space = written(rt.alloc())?;
-    for (address, want) in [
-        (0x1ff8, [0, 0, 0, 0, 0, 0, 1, 2]),
-        (0x1ffc, [0, 0, 1, 2, 3, 4, 7, 7]),
-        (0x2ffe, [7, 7, 7, 7, 0, 0, 0, 0]),
-    ] {
-        let bytes = read(&space, address, 8)?;
-        assert_eq!(rt; bytes.as_slice(), want.as_slice(), "at {address}");
+fn is_done(answer: Result<(), MemFault>, told: Told) -> bool {
+    match answer {
+        Ok(()) => matches!(told, Told::Done),
+        Err(fault) => is_fault(fault, told),
     }
-    Ok(())
 }
 
-#[test]
-fn doubles_across_pages(rt: HostRuntime) -> Result<(), Fail> {
-    let mut space = written(rt.alloc())?;
-    for (address, want) in [
-        (0x1ff8, [0, 0, 0, 0, 0, 0, 1, 2]),
-        (0x1ffc, [0, 0, 1, 2, 3, 4, 7, 7]),
-        (0x2ffe, [7, 7, 7, 7, 0, 0, 0, 0]),
-    ] {
-        let double = load_double(&mut space, address)?;
-        assert_eq!(rt; double.to_le_bytes(), want, "at {address}");
+fn is_number(answer: Result<u64, MemFault>, told: Told) -> bool {
+    match answer {
+        Ok(number) => matches!(told, Told::Number(wanted) if number == wanted),
+        Err(fault) => is_fault(fault, told),
     }
-    Ok(())
 }
 
-/// The same, with a double at 0x1ffd.
-fn stored(alloc: Global) -> Result<Space, MemFault> {
-    let mut space = written(alloc)?;
-    store_double(&mut space, 0x1ffd, 0x8877_6655_4433_2211)?;
-    Ok(space)
-}
-
-#[test]
-fn doubles_are_stored_across_pages(rt: HostRuntime) -> Result<(), Fail> {
-    let mut space = stored(rt.alloc())?;
-    assert_eq!(rt; load_double(&mut space, 0x1ffd), Ok(0x8877_6655_4433_2211));
-    let bytes = read(&space, 0x2000, 2)?;
-    assert_eq!(rt; bytes.as_slice(), [0x44, 0x55].as_slice());
-    Ok(())
-}
-
-#[test]
-fn words_are_fetched_at_any_address(rt: HostRuntime) -> Result<(), Fail> {
-    let mut space = example(rt.alloc())?;
-    load(&mut space, 0x5ffe, &[0x13, 0x05, 0x10, 0x00])?;
-    for (address, want) in [
-        (0x5ffe, Ok(0x0010_0513)),
-        (0x5000, Ok(0)),
-        (0x6ffd, Err(MemFault::Unmapped(0x7000))),
-        (0x4ffe, Err(MemFault::Forbidden(0x4ffe))),
-    ] {
-        assert_eq!(rt; fetch(&mut space, address), want, "at {address}");
+fn is_place(place: Option<u64>, told: Told) -> bool {
+    match told {
+        Told::Place(wanted) => place == wanted,
+        _ => false,
     }
-    Ok(())
 }
 
-/// What a load at an address tells, and a store there of 1.
-fn load_and_store(
-    space: &mut Space,
-    address: u64,
-) -> (Result<u64, MemFault>, Result<(), MemFault>) {
-    let loaded = load_double(space, address);
-    (loaded, store_double(space, address, 1))
+fn is_code(code: Option<(usize, u8)>, told: Told) -> bool {
+    matches!(told, Told::Code(wanted) if code == wanted)
 }
 
-#[test]
-fn first_bad_byte_is_named(rt: HostRuntime) -> Result<(), Fail> {
-    let mut space = example(rt.alloc())?;
-    let (unmapped, forbidden) = (MemFault::Unmapped, MemFault::Forbidden);
-    for (address, on_load, on_store) in [
-        (0xfff, Err(unmapped(0xfff)), Err(unmapped(0xfff))),
-        (0x3ff9, Ok(0), Err(forbidden(0x4000))),
-        (0x4ff9, Err(forbidden(0x5000)), Err(forbidden(0x4ff9))),
-        (0x7ffc, Err(unmapped(0x7ffc)), Err(unmapped(0x7ffc))),
-        (0x8fff, Err(forbidden(0x8fff)), Err(forbidden(0x8fff))),
-        (u64::MAX, Err(unmapped(u64::MAX)), Err(unmapped(u64::MAX))),
-        (
-            u64::MAX - 7,
-            Err(unmapped(u64::MAX - 7)),
-            Err(unmapped(u64::MAX - 7)),
-        ),
-    ] {
-        let told = load_and_store(&mut space, address);
-        assert_eq!(rt; told, (on_load, on_store), "at {address}");
+fn is_pair(pair: Option<[u8; 2]>, told: Told) -> bool {
+    matches!(told, Told::Pair(wanted) if pair == wanted)
+}
+
+fn are_bytes(bytes: &[u8], told: Told) -> bool {
+    match told {
+        Told::Bytes(wanted) => bytes == wanted,
+        Told::Length(wanted) => bytes.len() == wanted,
+        _ => false,
     }
-    Ok(())
 }
 
-#[test]
-fn accesses_up_to_an_end(rt: HostRuntime) -> Result<(), Fail> {
-    let mut space = example(rt.alloc())?;
-    assert_eq!(rt; load_double(&mut space, 0x3ff8), Ok(0));
-    assert_eq!(rt; read(&space, u64::MAX, 0)?.len(), 0);
-    Ok(())
-}
-
-#[test]
-fn peek_stops_at_the_first_unmapped_byte(rt: HostRuntime) -> Result<(), Fail> {
-    let mut space = example(rt.alloc())?;
-    load(&mut space, 0x8ffe, &[5, 6])?;
-    for (address, len, want) in [
-        (0x8ffe, 9, [5, 6].as_slice()),
-        (0x8ffe, 1, [5].as_slice()),
-        (0x7fff, 2, [].as_slice()),
-        (u64::MAX, 2, [].as_slice()),
-    ] {
-        assert_eq!(rt;
-            peek(&space, address, len)?.as_slice(),
-            want,
-            "at {address}"
-        );
+fn is_read(answer: Result<Vec<u8>, MemFault>, told: Told) -> bool {
+    match answer {
+        Ok(bytes) => are_bytes(bytes.as_slice(), told),
+        Err(fault) => is_fault(fault, told),
     }
-    assert_eq!(rt; peek(&space, 0x4800, 0x3000)?.len(), 0x2800);
-    Ok(())
 }
 
-/// The example, with 9 on page 4, and pages 0 to 9 made readable.
-fn grown(alloc: Global) -> Result<Space, MemFault> {
-    let mut space = example(alloc)?;
-    load(&mut space, 0x4000, &[9])?;
-    map(&mut space, 0, 10, READ)?;
-    Ok(space)
-}
-
-#[test]
-fn mapped_pages_keep_bytes(rt: HostRuntime) -> Result<(), Fail> {
-    let space = grown(rt.alloc())?;
-    assert_eq!(rt; read(&space, 0, 0xa000)?.len(), 0xa000);
-    assert_eq!(rt; read(&space, 0x4000, 1)?.as_slice(), [9].as_slice());
-    Ok(())
-}
-
-#[test]
-fn mapped_pages_gain_rights(rt: HostRuntime) -> Result<(), Fail> {
-    let mut space = grown(rt.alloc())?;
-    let refused = Err(MemFault::Forbidden(0x4000));
-    assert_eq!(rt; write(&mut space, 0x4000, &[1]), refused);
-    assert_eq!(rt; fetch(&mut space, 0x5000), Ok(0));
-    Ok(())
-}
-
-#[test]
-fn unmapped_pages_are_gone(rt: HostRuntime) -> Result<(), Fail> {
-    let mut space = grown(rt.alloc())?;
-    unmap(&mut space, 2, 20);
-    assert_eq!(rt; read(&space, 0x1000, 0x2000).is_ok(), false);
-    assert_eq!(rt; peek(&space, 0, 0x3000)?.len(), 0x2000);
-    Ok(())
-}
-
-#[test]
-fn room_is_found_from_the_top(rt: HostRuntime) -> Result<(), Fail> {
-    let space = example(rt.alloc())?;
-    for (pages, low, high, want) in [
-        (1, 0, 0xa000, Some(0x9000)),
-        (1, 0, 0x9fff, Some(0x7000)),
-        (2, 0, 0x9fff, None),
-        (1, 0x7000, 0x9000, Some(0x7000)),
-        (1, 0x7001, 0x9000, None),
-        (1, 0, 0x1000, Some(0)),
-        (0, 1, 0x8fff, Some(0x8000)),
-        (0, 1, 0xfff, None),
-        (3, 0, u64::MAX, Some(0xffff_ffff_ffff_c000)),
-        (u64::MAX, 0, u64::MAX, None),
-    ] {
-        assert_eq!(rt;
-            highest_free(&space, pages, low, high),
-            want,
-            "{pages} pages below {high}"
-        );
+fn is_peeked(answer: Result<Vec<u8>, AllocError>, told: Told) -> bool {
+    match answer {
+        Ok(bytes) => are_bytes(bytes.as_slice(), told),
+        Err(_) => false,
     }
-    Ok(())
 }
 
-#[test]
-fn forked_spaces_go_their_own_ways(rt: HostRuntime) -> Result<(), Fail> {
-    let mut parent = example(rt.alloc())?;
-    write(&mut parent, 0x1000, &[7])?;
-    let mut child = fork(&parent)?;
-    write(&mut child, 0x1000, &[9])?;
-    unmap(&mut child, 2, 1);
-    assert_eq!(rt; read(&parent, 0x1000, 1)?.as_slice(), [7].as_slice());
-    assert_eq!(rt; read(&parent, 0x2000, 1)?.as_slice(), [0].as_slice());
-    assert_eq!(rt; read(&child, 0x1000, 1)?.as_slice(), [9].as_slice());
-    assert_eq!(rt; peek(&child, 0x2000, 1)?.len(), 0);
-    Ok(())
-}
-
-#[test]
-fn pages_are_limited(rt: HostRuntime) -> Result<(), Fail> {
-    let mut space = Space::new(rt.alloc());
-    map(&mut space, 5, 16_000, READ)?;
-    for (first, pages, want) in [
-        (20_000, 385, Err(MemFault::TooLarge)),
-        (4, 16_385, Err(MemFault::TooLarge)),
-        (0, u16::MAX, Err(MemFault::TooLarge)),
-        (20_000, 384, Ok(())),
-        (4, 1, Err(MemFault::TooLarge)),
-        (5, 16_000, Ok(())),
-        (4, 2, Err(MemFault::TooLarge)),
-    ] {
-        assert_eq!(rt;
-            map(&mut space, first, pages, READ),
-            want,
-            "{pages} pages from {first}"
-        );
-    }
-    assert_eq!(rt; peek(&space, 0x4000, 1)?.len(), 0);
-    Ok(())
-}
-
-/// The first byte of each of the first eight pages; a dot stands for a page that is missing.
-fn first_bytes(space: &Space, alloc: Global) -> Result<Vec<u8>, AllocError> {
+fn firsts(space: &Space, alloc: Global) -> Result<Vec<u8>, AllocError> {
     let mut bytes = Vec::new(alloc);
     for number in 0..8u64 {
         let byte = peek(space, 4096 * number, 1)?.first().copied();
@@ -309,72 +202,292 @@ fn first_bytes(space: &Space, alloc: Global) -> Result<Vec<u8>, AllocError> {
     Ok(bytes)
 }
 
+/// A call tells this.
+fn tells(alloc: Global, space: &mut Space, call: Call, told: Told) -> bool {
+    match call {
+        Call::Map(first, pages, rights) => is_done(map(space, first, pages, rights), told),
+        Call::Unmap(first, pages) => {
+            unmap(space, first, pages);
+            true
+        }
+        Call::Write(address, bytes) => is_done(write(space, address, bytes), told),
+        Call::Fill(address, byte, count) => is_done(fill(alloc, space, address, byte, count), told),
+        Call::Load(address, bytes) => is_done(load(space, address, bytes), told),
+        Call::Store(address, value) => is_done(store_double(space, address, value), told),
+        Call::Read(address, len) => is_read(read(space, address, len), told),
+        Call::Peek(address, len) => is_peeked(peek(space, address, len), told),
+        Call::Double(address) => is_number(load_double(space, address), told),
+        Call::Fetch(address) => is_number(fetch(space, address).map(u64::from), told),
+        Call::Free(pages, low, high) => is_place(highest_free(space, pages, low, high), told),
+        Call::Firsts => is_peeked(firsts(space, alloc), told),
+        Call::CodeNear(address) => is_code(code_near(space, address), told),
+        Call::ReadNear(address) => is_pair(read_near(space, address), told),
+        Call::WriteNear(address, byte) => {
+            matches!(told, Told::Is(wanted) if write_near(space, address, byte) == wanted)
+        }
+    }
+}
+
+/// Pages 1 to 3 for reading and writing, 4 for reading, 5 and 6 for execution, 8 with no right.
+const EXAMPLE: [Call; 4] = [
+    Call::Map(1, 3, READ_WRITE),
+    Call::Map(4, 1, READ),
+    Call::Map(5, 2, EXECUTE),
+    Call::Map(8, 1, NONE),
+];
+
 /// Pages 1 to 6, each of which begins with its number as a digit.
-fn numbered(alloc: Global) -> Result<Space, MemFault> {
+const NUMBERED: [Call; 7] = [
+    Call::Map(1, 6, READ_WRITE),
+    Call::Write(0x1000, b"1"),
+    Call::Write(0x2000, b"2"),
+    Call::Write(0x3000, b"3"),
+    Call::Write(0x4000, b"4"),
+    Call::Write(0x5000, b"5"),
+    Call::Write(0x6000, b"6"),
+];
+
+const DONE: Told = Told::Done;
+
+type Row = (Call, Told);
+
+/// Bytes and doubles across pages.
+const ACROSS: &[Row] = &[
+    (Call::Fill(0x1ffe, 7, 4100), DONE),
+    (Call::Write(0x1ffe, &[1, 2, 3, 4]), DONE),
+    (
+        Call::Read(0x1ff8, 8),
+        Told::Bytes(&[0, 0, 0, 0, 0, 0, 1, 2]),
+    ),
+    (
+        Call::Read(0x1ffc, 8),
+        Told::Bytes(&[0, 0, 1, 2, 3, 4, 7, 7]),
+    ),
+    (
+        Call::Read(0x2ffe, 8),
+        Told::Bytes(&[7, 7, 7, 7, 0, 0, 0, 0]),
+    ),
+    (Call::Double(0x1ff8), Told::Number(0x0201_0000_0000_0000)),
+    (Call::Double(0x1ffc), Told::Number(0x0707_0403_0201_0000)),
+    (Call::Double(0x2ffe), Told::Number(0x0707_0707)),
+    (Call::Store(0x1ffd, 0x8877_6655_4433_2211), DONE),
+    (Call::Double(0x1ffd), Told::Number(0x8877_6655_4433_2211)),
+    (Call::Read(0x2000, 2), Told::Bytes(&[0x44, 0x55])),
+];
+
+/// Words are fetched at any address.
+const FETCHED: &[Row] = &[
+    (Call::Load(0x5ffe, &[0x13, 0x05, 0x10, 0x00]), DONE),
+    (Call::Fetch(0x5ffe), Told::Number(0x0010_0513)),
+    (Call::Fetch(0x5000), Told::Number(0)),
+    (Call::Fetch(0x6ffd), Told::Unmapped(0x7000)),
+    (Call::Fetch(0x4ffe), Told::Forbidden(0x4ffe)),
+];
+
+/// The first bad byte is named; an access goes up to an end.
+const ENDS: &[Row] = &[
+    (Call::Double(0xfff), Told::Unmapped(0xfff)),
+    (Call::Store(0xfff, 1), Told::Unmapped(0xfff)),
+    (Call::Double(0x3ff9), Told::Number(0)),
+    (Call::Store(0x3ff9, 1), Told::Forbidden(0x4000)),
+    (Call::Double(0x4ff9), Told::Forbidden(0x5000)),
+    (Call::Store(0x4ff9, 1), Told::Forbidden(0x4ff9)),
+    (Call::Double(0x7ffc), Told::Unmapped(0x7ffc)),
+    (Call::Store(0x7ffc, 1), Told::Unmapped(0x7ffc)),
+    (Call::Double(0x8fff), Told::Forbidden(0x8fff)),
+    (Call::Store(0x8fff, 1), Told::Forbidden(0x8fff)),
+    (Call::Double(u64::MAX), Told::Unmapped(u64::MAX)),
+    (Call::Store(u64::MAX, 1), Told::Unmapped(u64::MAX)),
+    (Call::Double(u64::MAX - 7), Told::Unmapped(u64::MAX - 7)),
+    (Call::Store(u64::MAX - 7, 1), Told::Unmapped(u64::MAX - 7)),
+    (Call::Double(0x3ff8), Told::Number(0)),
+    (Call::Read(u64::MAX, 0), Told::Length(0)),
+];
+
+/// A peek stops at the first unmapped byte.
+const PEEKED: &[Row] = &[
+    (Call::Load(0x8ffe, &[5, 6]), DONE),
+    (Call::Peek(0x8ffe, 9), Told::Bytes(&[5, 6])),
+    (Call::Peek(0x8ffe, 1), Told::Bytes(&[5])),
+    (Call::Peek(0x7fff, 2), Told::Bytes(&[])),
+    (Call::Peek(u64::MAX, 2), Told::Bytes(&[])),
+    (Call::Peek(0x4800, 0x3000), Told::Length(0x2800)),
+];
+
+/// Pages that are mapped again keep their bytes and get the rights; those that are unmapped are gone.
+const GROWN: &[Row] = &[
+    (Call::Load(0x4000, &[9]), DONE),
+    (Call::Map(0, 10, READ), DONE),
+    (Call::Read(0, 0xa000), Told::Length(0xa000)),
+    (Call::Read(0x4000, 1), Told::Bytes(&[9])),
+    (Call::Write(0x4000, &[1]), Told::Forbidden(0x4000)),
+    (Call::Fetch(0x5000), Told::Number(0)),
+    (Call::Unmap(2, 20), DONE),
+    (Call::Read(0x1000, 0x2000), Told::Unmapped(0x2000)),
+    (Call::Peek(0, 0x3000), Told::Length(0x2000)),
+];
+
+/// Room is found from the top.
+const ROOM: &[Row] = &[
+    (Call::Free(1, 0, 0xa000), Told::Place(Some(0x9000))),
+    (Call::Free(1, 0, 0x9fff), Told::Place(Some(0x7000))),
+    (Call::Free(2, 0, 0x9fff), Told::Place(None)),
+    (Call::Free(1, 0x7000, 0x9000), Told::Place(Some(0x7000))),
+    (Call::Free(1, 0x7001, 0x9000), Told::Place(None)),
+    (Call::Free(1, 0, 0x1000), Told::Place(Some(0))),
+    (Call::Free(0, 1, 0x8fff), Told::Place(Some(0x8000))),
+    (Call::Free(0, 1, 0xfff), Told::Place(None)),
+    (
+        Call::Free(3, 0, u64::MAX),
+        Told::Place(Some(0xffff_ffff_ffff_c000)),
+    ),
+    (Call::Free(u64::MAX, 0, u64::MAX), Told::Place(None)),
+];
+
+/// There are 16,384 pages at most.
+const LIMITED: &[Row] = &[
+    (Call::Map(5, 16_000, READ), DONE),
+    (Call::Map(20_000, 385, READ), Told::TooLarge),
+    (Call::Map(4, 16_385, READ), Told::TooLarge),
+    (Call::Map(0, u16::MAX, READ), Told::TooLarge),
+    (Call::Map(20_000, 384, READ), DONE),
+    (Call::Map(4, 1, READ), Told::TooLarge),
+    (Call::Map(5, 16_000, READ), DONE),
+    (Call::Map(4, 2, READ), Told::TooLarge),
+    (Call::Peek(0x4000, 1), Told::Length(0)),
+];
+
+/// Pages stay where others are unmapped.
+const UNMAPPED: &[Row] = &[
+    (Call::Unmap(3, 1), DONE),
+    (Call::Firsts, Told::Bytes(b".12.456.")),
+    (Call::Unmap(8, 9), DONE),
+    (Call::Firsts, Told::Bytes(b".12.456.")),
+    (Call::Unmap(6, 60_000), DONE),
+    (Call::Firsts, Told::Bytes(b".12.45..")),
+    (Call::Unmap(0, 3), DONE),
+    (Call::Firsts, Told::Bytes(b"....45..")),
+    (Call::Unmap(4, 1), DONE),
+    (Call::Firsts, Told::Bytes(b".....5..")),
+    (Call::Unmap(0, 60_000), DONE),
+    (Call::Firsts, Told::Bytes(b"........")),
+];
+
+/// Pages come back blank.
+const BLANK: &[Row] = &[
+    (Call::Unmap(2, 2), DONE),
+    (Call::Map(0, 6, READ), DONE),
+    (Call::Firsts, Told::Bytes(b"\x001\x00\x00456.")),
+    (Call::Write(0x1fff, &[7, 7]), Told::Forbidden(0x2000)),
+    (Call::Peek(0x1fff, 1), Told::Bytes(&[0])),
+];
+
+/// Pages are crossed in whatever order they were mapped.
+const CROSSED: &[Row] = &[
+    (Call::Map(7, 1, READ_WRITE), DONE),
+    (Call::Map(5, 1, READ_WRITE), DONE),
+    (Call::Map(6, 1, READ_WRITE), DONE),
+    (Call::Fill(0x5fff, 3, 4098), DONE),
+    (Call::Fill(0x4fff, 3, 4098), Told::Unmapped(0x4fff)),
+    (Call::Fill(0x6fff, 3, 4098), Told::Unmapped(0x8000)),
+    (Call::Read(0x6ffe, 4), Told::Bytes(&[3, 3, 3, 0])),
+];
+
+/// What is near is what was used lately, and of pages whose numbers agree in their lowest 6 bits the last; elsewhere
+/// there is no answer.
+const NEAR: &[Row] = &[
+    (Call::Map(1, 1, READ_WRITE), DONE),
+    (Call::Map(2, 1, EXECUTE), DONE),
+    (Call::Map(3, 1, READ), DONE),
+    (Call::Map(65, 1, READ), DONE),
+    (Call::Load(0x2000, &[0x73, 0, 0, 0]), DONE),
+    (Call::Store(0x1008, 0x0102), DONE),
+    (Call::Fetch(0x2000), Told::Number(0x73)),
+    (Call::CodeNear(0x2abc), Told::Code(Some((4096, 0x73)))),
+    (Call::CodeNear(0x2000), Told::Code(Some((4096, 0x73)))),
+    (Call::CodeNear(0x1008), Told::Code(None)),
+    (Call::ReadNear(0x1008), Told::Pair(Some([2, 1]))),
+    (Call::ReadNear(0x3000), Told::Pair(None)),
+    (Call::Double(0x3000), Told::Number(0)),
+    (Call::WriteNear(0x1009, 7), Told::Is(true)),
+    (Call::ReadNear(0x1008), Told::Pair(Some([2, 7]))),
+    (Call::WriteNear(0x3000, 7), Told::Is(false)),
+    (Call::Double(0x41000), Told::Number(0)),
+    (Call::WriteNear(0x1009, 7), Told::Is(false)),
+];
+
+/// What each script begins with, and its rows.
+const SCRIPTS: [(&[Call], &[Row]); 11] = [
+    (&EXAMPLE, ACROSS),
+    (&EXAMPLE, FETCHED),
+    (&EXAMPLE, ENDS),
+    (&EXAMPLE, PEEKED),
+    (&EXAMPLE, GROWN),
+    (&EXAMPLE, ROOM),
+    (&[], LIMITED),
+    (&NUMBERED, UNMAPPED),
+    (&NUMBERED, BLANK),
+    (&[], CROSSED),
+    (&[], NEAR),
+];
+
+/// A space after these calls, each of which succeeds.
+fn begun(alloc: Global, calls: &[Call]) -> Result<Space, Fail> {
     let mut space = Space::new(alloc);
-    map(&mut space, 1, 6, READ_WRITE)?;
-    for digit in b'1'..b'7' {
-        write(&mut space, 4096 * u64::from(digit - b'0'), &[digit])?;
+    for call in calls {
+        if !tells(alloc, &mut space, *call, DONE) {
+            return Err(Fail::from("a script begins"));
+        }
     }
     Ok(space)
 }
 
+/// How many rows tell what they should, up to the first that doesn't.
+fn followed(alloc: Global, space: &mut Space, rows: &[Row]) -> usize {
+    let mut count = 0usize;
+    for (call, told) in rows {
+        if !tells(alloc, space, *call, *told) {
+            break;
+        }
+        count = count.saturating_add(1);
+    }
+    count
+}
+
 #[test]
-fn pages_stay_where_others_are_unmapped(rt: HostRuntime) -> Result<(), Fail> {
-    let mut space = numbered(rt.alloc())?;
-    for (first, pages, want) in [
-        (3, 1, ".12.456."),
-        (8, 9, ".12.456."),
-        (6, 60_000, ".12.45.."),
-        (0, 3, "....45.."),
-        (4, 1, ".....5.."),
-        (0, 60_000, "........"),
-    ] {
-        unmap(&mut space, first, pages);
-        assert_eq!(rt;
-            first_bytes(&space, rt.alloc())?.as_slice(),
-            want.as_bytes(),
-            "{pages} pages from {first} taken away"
-        );
+fn scripts(rt: HostRuntime) -> Result<(), Fail> {
+    for (calls, rows) in SCRIPTS {
+        let mut space = begun(rt.alloc(), calls)?;
+        assert_eq!(rt; followed(rt.alloc(), &mut space, rows), rows.len());
     }
     Ok(())
 }
 
-#[test]
-fn pages_come_back_blank(rt: HostRuntime) -> Result<(), Fail> {
-    let mut space = numbered(rt.alloc())?;
-    unmap(&mut space, 2, 2);
-    map(&mut space, 0, 6, READ)?;
-    assert_eq!(rt;
-        first_bytes(&space, rt.alloc())?.as_slice(),
-        b"\x001\x00\x00456.".as_slice()
-    );
-    assert_eq!(rt;
-        write(&mut space, 0x1fff, &[7, 7]),
-        Err(MemFault::Forbidden(0x2000))
-    );
-    assert_eq!(rt; peek(&space, 0x1fff, 1)?.as_slice(), [0].as_slice());
-    Ok(())
+/// Pages 1 to 6, each of which begins with its number as a digit.
+fn numbered(alloc: Global) -> Result<Space, Fail> {
+    begun(alloc, &NUMBERED)
+}
+
+/// The child loses page 2 and writes on page 1, the parent on page 3.
+fn change_both(parent: &mut Space, child: &mut Space) -> Result<(), MemFault> {
+    unmap(child, 2, 1);
+    write(child, 0x1000, b"9")?;
+    write(parent, 0x3000, b"7")
+}
+
+/// What stands on the pages of a space and of its fork, once both were changed.
+fn forked(alloc: Global) -> Result<(Vec<u8>, Vec<u8>), Fail> {
+    let mut parent = numbered(alloc)?;
+    let mut child = fork(&parent)?;
+    change_both(&mut parent, &mut child)?;
+    Ok((firsts(&parent, alloc)?, firsts(&child, alloc)?))
 }
 
 #[test]
-fn pages_are_crossed_in_whatever_order_they_were_mapped(rt: HostRuntime) -> Result<(), Fail> {
-    let mut space = Space::new(rt.alloc());
-    for number in [7, 5, 6] {
-        map(&mut space, number, 1, READ_WRITE)?;
-    }
-    let bytes = vec![in rt.alloc(); 3u8; 4098]?;
-    for (address, want) in [
-        (0x5fff, Ok(())),
-        (0x4fff, Err(MemFault::Unmapped(0x4fff))),
-        (0x6fff, Err(MemFault::Unmapped(0x8000))),
-    ] {
-        assert_eq!(rt; write(&mut space, address, &bytes), want, "at {address}");
-    }
-    assert_eq!(rt;
-        read(&space, 0x6ffe, 4)?.as_slice(),
-        [3, 3, 3, 0].as_slice()
-    );
+fn forked_spaces_go_their_own_ways(rt: HostRuntime) -> Result<(), Fail> {
+    let (parent, child) = forked(rt.alloc())?;
+    assert_eq!(rt; parent.as_slice(), b".127456.".as_slice());
+    assert_eq!(rt; child.as_slice(), b".9.3456.".as_slice());
     Ok(())
 }
 
@@ -385,39 +498,13 @@ fn a_refused_map_changes_nothing(rt: HostRuntime) -> Result<(), Fail> {
     unmap(&mut space, 3, 1);
     if map(&mut space, 0, 40, EXECUTE).is_err() {
         assert_eq!(rt;
-            first_bytes(&space, rt.alloc())?.as_slice(),
+            firsts(&space, rt.alloc())?.as_slice(),
             b".12.456.".as_slice()
         );
         assert_eq!(rt; fetch(&mut space, 0x1000), Err(MemFault::Forbidden(0x1000)));
     } else {
         assert_eq!(rt; fetch(&mut space, 0x27ffc), Ok(0));
     }
-    Ok(())
-}
-
-/// What is near is what was used lately, and of pages whose numbers agree in their lowest 6 bits the last; elsewhere
-/// there is no answer.
-#[test]
-fn near_accesses(rt: HostRuntime) -> Result<(), Fail> {
-    let mut space = Space::new(rt.alloc());
-    map(&mut space, 1, 1, READ_WRITE)?;
-    map(&mut space, 2, 1, EXECUTE)?;
-    map(&mut space, 3, 1, READ)?;
-    map(&mut space, 65, 1, READ)?;
-    load(&mut space, 0x2000, &[0x73, 0, 0, 0])?;
-    store_double(&mut space, 0x1008, 0x0102)?;
-    assert_eq!(rt; fetch(&mut space, 0x2000)?, 0x73);
-    assert_eq!(rt; space.code_near(0x2abc).map(|page| page.len()), Some(4096));
-    assert_eq!(rt; space.code_near(0x2000).map(|page| page[0]), Some(0x73));
-    assert_eq!(rt; space.code_near(0x1008).map(|page| page.len()), None);
-    assert_eq!(rt; space.read_near(0x1008), Some([2u8, 1]));
-    assert_eq!(rt; space.read_near::<2>(0x3000), None);
-    assert_eq!(rt; load_double(&mut space, 0x3000)?, 0);
-    assert_eq!(rt; space.write_near(0x1009, [7u8]), true);
-    assert_eq!(rt; space.read_near(0x1008), Some([2u8, 7]));
-    assert_eq!(rt; space.write_near(0x3000, [7u8]), false);
-    assert_eq!(rt; load_double(&mut space, 0x41000)?, 0);
-    assert_eq!(rt; space.write_near(0x1009, [7u8]), false);
     Ok(())
 }
 
@@ -445,7 +532,7 @@ fn a_refused_write_to_shared_pages_changes_nothing(rt: HostRuntime) -> Result<()
         b".123456."
     };
     for (space, want) in [(&parent, want), (&child, b".123456.")] {
-        assert_eq!(rt; first_bytes(space, rt.alloc())?.as_slice(), want.as_slice());
+        assert_eq!(rt; firsts(space, rt.alloc())?.as_slice(), want.as_slice());
     }
     Ok(())
 }
