@@ -1,9 +1,13 @@
-//! Tests of the public calls of hosts, of frames and of links. A crate with tests of its own is proved twice, so they
-//! stand here alone.
+//! Tests of the public calls of kernels and hosts, of frames and links. A crate with tests of its own is proved twice,
+//! so they stand here alone.
 #![tactic(auto)]
 
 #[cfg(test)]
+mod abi;
+#[cfg(test)]
 mod asking;
+#[cfg(test)]
+mod boots;
 #[cfg(test)]
 mod bounds;
 #[cfg(test)]
@@ -15,8 +19,16 @@ mod ends;
 #[cfg(test)]
 mod frames;
 #[cfg(test)]
+mod kernels;
+#[cfg(test)]
+mod limits;
+#[cfg(test)]
 mod schedules;
+#[cfg(test)]
+mod scripts;
 #[cfg(test)]
 mod serving;
 #[cfg(test)]
 mod wire;
+#[cfg(test)]
+mod words;

@@ -1,5 +1,5 @@
-//! Kernels under an empty script. Each helper makes one call of theirs, without clauses; a kernel that a function holds
-//! at its end is dropped by name, which is proved in a second where it takes half a minute otherwise.
+//! Calls of kernels under an empty script. Each helper makes one of them, without clauses; a kernel that a function
+//! holds at its end is dropped by name, which is proved in a second where it takes half a minute otherwise.
 
 use crate::boots::boot;
 use lx_abi::{Boot, Cause, Mode, Outcome, Script, Signal};
@@ -19,6 +19,11 @@ pub(crate) fn booted(alloc: Global, boot: Boot) -> Result<Kernel, AllocError> {
     }
 }
 
+/// A kernel without files: execve fails, and the first program exits with 127.
+pub(crate) fn without_files(alloc: Global) -> Result<Kernel, AllocError> {
+    booted(alloc, boot(alloc, "", "/p")?)
+}
+
 /// The number of a boot's fault, 0 where it is accepted.
 pub(crate) fn fault_of(alloc: Global, boot: Boot) -> Result<u8, AllocError> {
     match boot_by(alloc, boot) {
@@ -35,21 +40,14 @@ fn turn(kernel: &mut Kernel) -> bool {
     kernel.turn(1).is_ok()
 }
 
-/// So many turns of process 1.
-pub(crate) fn make_turns(kernel: &mut Kernel, turns: u32) -> Result<(), AllocError> {
+/// Whether so many turns of process 1 were made.
+pub(crate) fn make_turns(kernel: &mut Kernel, turns: u32) -> bool {
     for _ in 0..turns {
         if !turn(kernel) {
-            return Err(AllocError);
+            return false;
         }
     }
-    Ok(())
-}
-
-/// A kernel without files after so many turns of process 1: execve fails, and the first program exits with 127.
-pub(crate) fn after(alloc: Global, turns: u32) -> Result<Kernel, AllocError> {
-    let mut kernel = booted(alloc, boot(alloc, "", "/p")?)?;
-    make_turns(&mut kernel, turns)?;
-    Ok(kernel)
+    true
 }
 
 /// How many turns in a row process 1 had in Run.
@@ -97,6 +95,7 @@ pub(crate) fn skip(kernel: &mut Kernel) -> bool {
     kernel.skip(1)
 }
 
+/// The signal that process 1 has taken, with its cause.
 pub(crate) fn signal(kernel: &Kernel) -> Option<(Signal, Cause)> {
     kernel.siginfo(1)
 }
@@ -121,16 +120,24 @@ pub(crate) fn registers(kernel: &Kernel) -> Result<Option<[u64; 5]>, AllocError>
     }
 }
 
-/// Whether a process lives, and what stands in its memory.
+/// How many bytes stand in the memory of a process up to a length, and the first of them; none where it doesn't live.
 pub(crate) fn peek(
-    alloc: Global,
     kernel: &Kernel,
     pid: u32,
     address: u64,
     length: usize,
-) -> Result<(bool, Vec<u8>), AllocError> {
+) -> Result<Option<(usize, [u8; 5])>, AllocError> {
     match kernel.peek(pid, address, length)? {
-        None => Ok((false, Vec::new(alloc))),
-        Some(bytes) => Ok((true, bytes.as_slice().to_vec(alloc)?)),
+        None => Ok(None),
+        Some(bytes) => Ok(Some((bytes.len(), first_bytes(bytes.as_slice())))),
     }
+}
+
+/// The first bytes, or zeros where there are fewer.
+fn first_bytes(bytes: &[u8]) -> [u8; 5] {
+    let mut first = [0; 5];
+    for (place, byte) in first.iter_mut().zip(bytes) {
+        *place = *byte;
+    }
+    first
 }
