@@ -183,13 +183,31 @@ fn is_copy<T: Copied + Same + Drop>(
     Ok(copy.same(other))
 }
 
+// Whether the copy of one value is the same as another, by their numbers.
+
+fn are_same_requests(alloc: Global, one: usize, other: usize) -> Result<bool, AllocError> {
+    let value = request(alloc, one)?;
+    let other = request(alloc, other)?;
+    is_copy(alloc, &value, &other)
+}
+
+fn are_same_replies(alloc: Global, one: usize, other: usize) -> Result<bool, AllocError> {
+    let value = reply(alloc, one)?;
+    let other = reply(alloc, other)?;
+    is_copy(alloc, &value, &other)
+}
+
+fn are_same_boots(alloc: Global, one: usize, other: usize) -> Result<bool, AllocError> {
+    let value = changed_boot(alloc, one)?;
+    let other = changed_boot(alloc, other)?;
+    is_copy(alloc, &value, &other)
+}
+
 #[test]
 fn requests_are_copied(rt: HostRuntime) -> Result<(), Fail> {
-    for at in 0..18 {
-        let value = request(rt.alloc(), at)?;
+    for one in 0..18 {
         for other in 0..18 {
-            let other_value = request(rt.alloc(), other)?;
-            assert_eq!(rt; is_copy(rt.alloc(), &value, &other_value)?, at == other);
+            assert_eq!(rt; are_same_requests(rt.alloc(), one, other)?, one == other);
         }
     }
     Ok(())
@@ -197,11 +215,9 @@ fn requests_are_copied(rt: HostRuntime) -> Result<(), Fail> {
 
 #[test]
 fn replies_are_copied(rt: HostRuntime) -> Result<(), Fail> {
-    for at in 0..14 {
-        let value = reply(rt.alloc(), at)?;
+    for one in 0..14 {
         for other in 0..14 {
-            let other_value = reply(rt.alloc(), other)?;
-            assert_eq!(rt; is_copy(rt.alloc(), &value, &other_value)?, at == other);
+            assert_eq!(rt; are_same_replies(rt.alloc(), one, other)?, one == other);
         }
     }
     Ok(())
@@ -209,11 +225,9 @@ fn replies_are_copied(rt: HostRuntime) -> Result<(), Fail> {
 
 #[test]
 fn boots_are_copied(rt: HostRuntime) -> Result<(), Fail> {
-    for at in 0..8 {
-        let value = changed_boot(rt.alloc(), at)?;
+    for one in 0..8 {
         for other in 0..8 {
-            let other_value = changed_boot(rt.alloc(), other)?;
-            assert_eq!(rt; is_copy(rt.alloc(), &value, &other_value)?, at == other);
+            assert_eq!(rt; are_same_boots(rt.alloc(), one, other)?, one == other);
         }
     }
     Ok(())
