@@ -8,6 +8,7 @@ use rv_asm::assemble;
 use std::alloc::Global;
 use std::test::Fail;
 use tr_core::Options;
+use tr_expr::parse_trace;
 use trace_run::local::Run;
 use trace_run::run_local;
 
@@ -40,4 +41,28 @@ pub(crate) fn run_here(
     options: Options,
 ) -> Result<Run, BootFault> {
     run_local(alloc, boot, schedule, script, options)
+}
+
+pub(crate) fn options(alloc: Global, follow: bool, shown: &str) -> Result<Options, Fail> {
+    Ok(Options {
+        follow,
+        shown: parse_trace(alloc, shown)?,
+        string_limit: 32,
+        width: 40,
+    })
+}
+
+/// The run of a boot that is accepted. The options' own follow is not that of the boot.
+pub(crate) fn run_shown(
+    alloc: Global,
+    boot: Boot,
+    schedule: Schedule,
+    script: Script,
+    shown: &str,
+) -> Result<Run, Fail> {
+    let options = options(alloc, !boot.follow, shown)?;
+    match run_here(alloc, boot, schedule, script, options) {
+        Ok(run) => Ok(run),
+        Err(_) => Err(Fail::from("the boot is accepted")),
+    }
 }

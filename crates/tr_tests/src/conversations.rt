@@ -1,17 +1,15 @@
 //! Whole runs over pipes whose other ends kept replies stand in for: the bytes that a host wrote.
 
-use crate::booting::boot;
+use crate::booting::{boot, options};
 use crate::ends::{Kept, Replies};
 use crate::runs::{End, end_of};
 use containers::Seq;
 use host_link::{Link, LinkFault, PipeLink};
 use host_serve::serve;
-use host_wire::{Counted, Feed, Frame, Payload, Sink, Source, encode};
+use host_wire::{Counted, Feed, Frame, Payload, Sink, Source, WireFault, encode};
 use lx_abi::{Reply, Request, Script, parse_words};
 use std::alloc::Global;
 use std::test::Fail;
-use tr_core::Options;
-use tr_expr::parse_trace;
 use trace_run::{RunFault, run};
 
 /// A run, by what strace_cli is given, and its trace.
@@ -51,20 +49,27 @@ pub struct Played {
     pub is_over: bool,
 }
 
-/// The first frame of a conversation.
-pub fn boot_frame(alloc: Global, row: &Row) -> Result<Vec<u8>, Fail> {
-    let boot = boot(alloc, "/p", row.listing, row.follow)?;
+fn boot_request(alloc: Global, row: &Row) -> Result<Request, Fail> {
     let words = Seq::from_vec(parse_words(alloc, row.turns)?);
-    let request = Request::Boot {
+    let boot = boot(alloc, "/p", row.listing, row.follow)?;
+    Ok(Request::Boot {
         boot,
         limit: 10_000_000,
         words,
-    };
-    let frame = Frame {
-        number: 1,
-        body: Payload::Request(request),
-    };
-    Ok(encode(alloc, &frame)?)
+    })
+}
+
+fn encoded(alloc: Global, frame: &Frame) -> Result<Vec<u8>, WireFault> {
+    encode(alloc, frame)
+}
+
+/// The first frame of a conversation.
+pub fn boot_frame(alloc: Global, row: &Row) -> Result<Vec<u8>, Fail> {
+    let body = Payload::Request(boot_request(alloc, row)?);
+    match encoded(alloc, &Frame { number: 1, body }) {
+        Ok(bytes) => Ok(bytes),
+        Err(_) => Err(Fail::from("a frame")),
+    }
 }
 
 /// The request of a frame.
@@ -104,12 +109,7 @@ fn trace<L: Link, W: Sink>(
     link: &mut L,
     writer: &mut W,
 ) -> Result<End, Fail> {
-    let options = Options {
-        follow: row.follow,
-        shown: parse_trace(alloc, row.shown)?,
-        string_limit: 32,
-        width: 40,
-    };
+    let options = options(alloc, row.follow, row.shown)?;
     let ended = run(alloc, link, writer, Script::empty(alloc), options);
     let end = end_of(&ended);
     drop(ended);

@@ -125,19 +125,33 @@ fn ends_so(
     Ok(is_so)
 }
 
+// How many of a row's runs end as they should, up to the first that doesn't.
+
 /// The input ends within each reply, and before it.
+fn cut(alloc: Global, kept: &Kept) -> Result<u64, Fail> {
+    let mut runs = 0u64;
+    for cut in 0..kept.replies.len() {
+        let replies = kept.replies.get(..cut).unwrap_or(&[]);
+        if !ends_so(alloc, kept, replies, ALL, ENDED)? {
+            break;
+        }
+        runs = runs.saturating_add(1);
+    }
+    Ok(runs)
+}
+
+fn cut_row(alloc: Global, row: &'static Row) -> Result<u64, Fail> {
+    let kept = keep(alloc, row)?;
+    let runs = cut(alloc, &kept);
+    drop(kept);
+    runs
+}
+
 #[test]
 fn replies_that_end(rt: HostRuntime) -> Result<(), Fail> {
     let mut runs = 0u64;
     for row in ROWS.iter() {
-        let kept = keep(rt.alloc(), row)?;
-        for cut in 0..kept.replies.len() {
-            let replies = kept.replies.get(..cut).unwrap_or(&[]);
-            let is_so = ends_so(rt.alloc(), &kept, replies, ALL, ENDED)?;
-            assert!(rt; is_so, "cut at {cut}: {}", row.trace);
-            runs = runs.saturating_add(1);
-        }
-        drop(kept);
+        runs = runs.saturating_add(cut_row(rt.alloc(), row)?);
     }
     assert_eq!(rt; runs, 17_090);
     Ok(())
@@ -190,22 +204,40 @@ fn pipes(alloc: Global, kept: &Kept) -> Result<[(Pipe, u64); 3], Fail> {
     ])
 }
 
-/// Each end fails at each of its calls.
+/// An end fails at each of its calls.
+fn fail_one(alloc: Global, kept: &Kept, pipe: Pipe, most: u64) -> Result<u64, Fail> {
+    let mut runs = 0u64;
+    for count in 0..most.saturating_add(1) {
+        let (calls, fault) = failing(pipe, count);
+        let end = if count == most { End::Whole } else { fault };
+        if !ends_so(alloc, kept, kept.replies.as_slice(), calls, end)? {
+            break;
+        }
+        runs = runs.saturating_add(1);
+    }
+    Ok(runs)
+}
+
+fn fail_each(alloc: Global, kept: &Kept) -> Result<u64, Fail> {
+    let mut runs = 0u64;
+    for (pipe, most) in pipes(alloc, kept)? {
+        runs = runs.saturating_add(fail_one(alloc, kept, pipe, most)?);
+    }
+    Ok(runs)
+}
+
+fn fail_row(alloc: Global, row: &'static Row) -> Result<u64, Fail> {
+    let kept = keep(alloc, row)?;
+    let runs = fail_each(alloc, &kept);
+    drop(kept);
+    runs
+}
+
 #[test]
 fn ends_that_fail(rt: HostRuntime) -> Result<(), Fail> {
     let mut runs = 0u64;
     for row in ROWS.iter() {
-        let kept = keep(rt.alloc(), row)?;
-        for (pipe, most) in pipes(rt.alloc(), &kept)? {
-            for count in 0..most.saturating_add(1) {
-                let (calls, fault) = failing(pipe, count);
-                let end = if count == most { End::Whole } else { fault };
-                let is_so = ends_so(rt.alloc(), &kept, kept.replies.as_slice(), calls, end)?;
-                assert!(rt; is_so, "{pipe:?} fails behind {count} calls: {}", row.trace);
-                runs = runs.saturating_add(1);
-            }
-        }
-        drop(kept);
+        runs = runs.saturating_add(fail_row(rt.alloc(), row)?);
     }
     assert_eq!(rt; runs, 684);
     Ok(())
@@ -284,26 +316,53 @@ fn kinds(alloc: Global, kept: &Kept) -> Result<Vec<u8>, Fail> {
     Ok(kinds)
 }
 
-/// Each reply is replaced by others, and has the number of the one before and of the one behind.
+/// A reply is replaced by others, and has the number of the one before and of the one behind.
+fn spoil_one(
+    alloc: Global,
+    kept: &Kept,
+    frames: &[&[u8]],
+    number: u64,
+    kind: u8,
+) -> Result<u64, Fail> {
+    let mut runs = 0u64;
+    for spoil in SPOILS {
+        let replies = spoiled(alloc, frames, number, spoil)?;
+        if !ends_so(alloc, kept, replies.as_slice(), ALL, end_by(spoil, kind))? {
+            break;
+        }
+        runs = runs.saturating_add(1);
+    }
+    Ok(runs)
+}
+
+fn spoil_each(alloc: Global, kept: &Kept, frames: &[&[u8]], kinds: &[u8]) -> Result<u64, Fail> {
+    let mut runs = 0u64;
+    let mut number = 0u64;
+    for kind in kinds {
+        number = number.saturating_add(1);
+        runs = runs.saturating_add(spoil_one(alloc, kept, frames, number, *kind)?);
+    }
+    Ok(runs)
+}
+
+fn spoil_kept(alloc: Global, kept: &Kept) -> Result<u64, Fail> {
+    let frames = frames(alloc, kept.replies.as_slice())?;
+    let kinds = kinds(alloc, kept)?;
+    spoil_each(alloc, kept, frames.as_slice(), kinds.as_slice())
+}
+
+fn spoil_row(alloc: Global, row: &'static Row) -> Result<u64, Fail> {
+    let kept = keep(alloc, row)?;
+    let runs = spoil_kept(alloc, &kept);
+    drop(kept);
+    runs
+}
+
 #[test]
 fn spoiled_replies(rt: HostRuntime) -> Result<(), Fail> {
     let mut runs = 0u64;
     for row in ROWS.iter() {
-        let kept = keep(rt.alloc(), row)?;
-        let frames = frames(rt.alloc(), kept.replies.as_slice())?;
-        let mut number = 0u64;
-        for kind in kinds(rt.alloc(), &kept)? {
-            number = number.saturating_add(1);
-            for spoil in SPOILS {
-                let replies = spoiled(rt.alloc(), frames.as_slice(), number, spoil)?;
-                let end = end_by(spoil, kind);
-                let is_so = ends_so(rt.alloc(), &kept, replies.as_slice(), ALL, end)?;
-                assert!(rt; is_so, "{spoil:?} for reply {number}: {}", row.trace);
-                runs = runs.saturating_add(1);
-            }
-        }
-        drop(frames);
-        drop(kept);
+        runs = runs.saturating_add(spoil_row(rt.alloc(), row)?);
     }
     assert_eq!(rt; runs, 524);
     Ok(())

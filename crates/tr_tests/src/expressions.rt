@@ -1,87 +1,15 @@
-//! Outside examples: expressions of strace(1), and their meaning worked by hand. Those that are refused stand in
-//! guests/runs, those that name calls in guests/conversations.
+//! Outside examples: expressions of strace(1), and their meaning worked by hand. Those that are refused, and which
+//! occurrences they choose, stand in guests/runs, those that name calls in guests/conversations.
 
 use std::alloc::Global;
 use std::test::Fail;
-use tr_expr::{Expr, ExprFault, Rule, Script, parse_expr, parse_inject};
+use tr_expr::{Expr, ExprFault, parse_expr};
 
 const WRITE: u64 = 64;
 
 const READ: u64 = 63;
 
 const GETPID: u64 = 172;
-
-/// The results at the occurrences 1 to 8 of write.
-fn results_of(rules: Vec<Rule>) -> [Option<i64>; 8] {
-    let script = Script::new(rules);
-    let mut results = [None; 8];
-    for (i, place) in results.iter_mut().enumerate() {
-        *place = script.choose(WRITE, i as u64 + 1).result;
-    }
-    results
-}
-
-fn rules_of(alloc: Global, first: &str, second: &str) -> Option<Vec<Rule>> {
-    let mut rules = Vec::new(alloc);
-    rules.push(parse_inject(alloc, first).ok()?).ok()?;
-    rules.push(parse_inject(alloc, second).ok()?).ok()?;
-    Some(rules)
-}
-
-#[test]
-fn chooses_occurrences(rt: HostRuntime) {
-    const NO: Option<i64> = None;
-    let every = [Some(-5); 8];
-    let one = Some(1);
-    for ([first, second], wanted) in [
-        (
-            ["read:retval=7", "write:retval=1:when=2+3"],
-            [NO, one, NO, NO, one, NO, NO, one],
-        ),
-        (
-            ["write:error=EIO", "write:retval=1:when=3"],
-            [NO, NO, one, NO, NO, NO, NO, NO],
-        ),
-        (["write:retval=1:when=3", "write:error=EIO"], every),
-        (["write:error=EIO", "?wrote:retval=1"], every),
-        (["write:error=EIO", "none:retval=1"], every),
-        (
-            ["read:retval=7", "write:retval=1:when=7+"],
-            [NO, NO, NO, NO, NO, NO, one, one],
-        ),
-        (
-            ["read:retval=7", "write:retval=1:when=2..5"],
-            [NO, one, one, one, one, NO, NO, NO],
-        ),
-        (
-            ["read:retval=7", "write:retval=1:when=2..7+3"],
-            [NO, one, NO, NO, one, NO, NO, NO],
-        ),
-        (
-            ["read:retval=7", "write:retval=1:when=2..9+3"],
-            [NO, one, NO, NO, one, NO, NO, one],
-        ),
-        (
-            ["read:retval=7", "write:retval=1:when=3..3+"],
-            [NO, NO, one, NO, NO, NO, NO, NO],
-        ),
-        (["read:retval=7", "write:retval=1:when=1..65534"], [one; 8]),
-        (["read:retval=7", "!read:error=EPERM:error=5"], every),
-        (
-            ["read:retval=7", "write:retval=1:when=02:when=3"],
-            [NO, NO, one, NO, NO, NO, NO, NO],
-        ),
-        (["read:retval=7", "write:error=007"], [Some(-7); 8]),
-        (["read:retval=7", "write:error=200"], [Some(-200); 8]),
-        (
-            ["read:retval=7", "write:retval=0x7fffffffffffffff"],
-            [Some(i64::MAX); 8],
-        ),
-    ] {
-        let results = rules_of(rt.alloc(), first, second).map(results_of);
-        assert_eq!(rt; results, Some(wanted), "{first} {second}");
-    }
-}
 
 /// What a word asks for: whether it traces, whether it names the call, and the result at the first occurrence.
 fn asked_by(alloc: Global, word: &str, call: u64) -> Result<(bool, bool, Option<i64>), ExprFault> {

@@ -1,14 +1,14 @@
 //! An untraced kernel that is given the effective turns of a traced run has its outcome: random guests, scripts and
 //! schedules of the calls that there are.
 
-use crate::booting::{boot, run_here};
-use lx_abi::{Node, Outcome, Script, Word};
+use crate::booting::{boot, run_shown};
+use lx_abi::{Boot, Node, Outcome, Script, Word};
+use lx_boot::BootFault;
 use lx_kernel::Kernel;
 use pt_kernel::{Schedule, TurnRun};
 use std::alloc::{AllocError, Global};
 use std::test::Fail;
-use tr_core::Options;
-use tr_expr::{parse_inject, parse_trace};
+use tr_expr::parse_inject;
 use trace_run::Ended;
 use trace_run::local::Run;
 
@@ -179,25 +179,35 @@ fn schedule(alloc: Global, chance: &mut Chance) -> Result<Schedule, Fail> {
     Ok(Schedule::words(words, chance.below(MOST_EVENTS)))
 }
 
-fn traced(alloc: Global, case: u64) -> Result<Run, Fail> {
-    let mut chance = Chance::new(case);
+/// What is run: a boot, rules, and a schedule.
+#[derive(Drop)]
+struct Case {
+    boot: Boot,
+    script: Script,
+    schedule: Schedule,
+}
+
+fn case(alloc: Global, number: u64) -> Result<Case, Fail> {
+    let mut chance = Chance::new(number);
     let follow = chance.below(4) > 0;
     let guest = listing(alloc, &mut chance)?;
     let script = script(alloc, &mut chance)?;
     let schedule = schedule(alloc, &mut chance)?;
-    let options = Options {
-        follow,
-        shown: parse_trace(alloc, "all")?,
-        string_limit: 32,
-        width: 40,
-    };
-    Ok(run_here(
-        alloc,
-        boot(alloc, "/p", guest.as_str(), follow)?,
-        schedule,
+    let boot = boot(alloc, "/p", guest.as_str(), follow)?;
+    Ok(Case {
+        boot,
         script,
-        options,
-    )?)
+        schedule,
+    })
+}
+
+fn traced(alloc: Global, number: u64) -> Result<Run, Fail> {
+    let Case {
+        boot,
+        script,
+        schedule,
+    } = case(alloc, number)?;
+    run_shown(alloc, boot, schedule, script, "all")
 }
 
 fn turn_once(kernel: &mut Kernel, pid: u32) -> bool {
@@ -221,13 +231,17 @@ fn turn_by(kernel: &mut Kernel, rows: &[TurnRun]) -> Result<(), AllocError> {
     Ok(())
 }
 
+fn boot_by(alloc: Global, boot: Boot, script: Script) -> Result<Kernel, BootFault> {
+    Kernel::boot(alloc, boot, script)
+}
+
 /// The untraced kernel of a case.
-fn booted(alloc: Global, case: u64) -> Result<Kernel, Fail> {
-    let mut chance = Chance::new(case);
-    let follow = chance.below(4) > 0;
-    let guest = listing(alloc, &mut chance)?;
-    let script = script(alloc, &mut chance)?;
-    Ok(Kernel::boot(alloc, boot(alloc, "/p", guest.as_str(), follow)?, script)?)
+fn booted(alloc: Global, number: u64) -> Result<Kernel, Fail> {
+    let Case { boot, script, .. } = case(alloc, number)?;
+    match boot_by(alloc, boot, script) {
+        Ok(kernel) => Ok(kernel),
+        Err(_) => Err(Fail::from("the boot is accepted")),
+    }
 }
 
 fn outcome(kernel: &Kernel) -> Result<Outcome, AllocError> {

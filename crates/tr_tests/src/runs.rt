@@ -4,8 +4,8 @@
 use crate::steps::{BEGUN, BY_USR1, SYSCALL, Step, options, reply};
 use containers::Bytes;
 use host_link::{LinkFault, Recorded};
-use lx_abi::Script;
-use std::alloc::Global;
+use lx_abi::{Reply, Script};
+use std::alloc::{AllocError, Global};
 use std::test::Fail;
 use tr_core::TraceFault;
 use tr_expr::parse_inject;
@@ -68,24 +68,29 @@ pub(crate) fn end_of(ended: &Result<Ended, RunFault>) -> End {
     }
 }
 
-fn traced(alloc: Global, steps: &[Step], inject: &str) -> Result<(Bytes, End), Fail> {
+fn replies(alloc: Global, steps: &[Step]) -> Result<Vec<Reply>, AllocError> {
     let mut replies = Vec::new(alloc);
     for step in steps {
         replies.push(reply(alloc, *step)?)?;
     }
+    Ok(replies)
+}
+
+/// What a run over these replies prints, and how it ends.
+fn traced_by(alloc: Global, replies: Vec<Reply>, script: Script) -> (Bytes, End) {
     let mut link = Recorded::new(replies);
     let mut writer = Written::new(alloc);
-    let ended = run(
-        alloc,
-        &mut link,
-        &mut writer,
-        script(alloc, inject)?,
-        options(alloc),
-    );
+    let ended = run(alloc, &mut link, &mut writer, script, options(alloc));
     let end = end_of(&ended);
     drop(ended);
     drop(link);
-    Ok((writer.into_bytes(), end))
+    (writer.into_bytes(), end)
+}
+
+fn traced(alloc: Global, steps: &[Step], inject: &str) -> Result<(Bytes, End), Fail> {
+    let script = script(alloc, inject)?;
+    let replies = replies(alloc, steps)?;
+    Ok(traced_by(alloc, replies, script))
 }
 
 #[test]
