@@ -181,20 +181,20 @@ fn schedule(alloc: Global, chance: &mut Chance) -> Result<Schedule, Fail> {
 
 /// What is run: a boot, rules, and a schedule.
 #[derive(Drop)]
-struct Case {
+struct Setup {
     boot: Boot,
     script: Script,
     schedule: Schedule,
 }
 
-fn case(alloc: Global, number: u64) -> Result<Case, Fail> {
+fn case(alloc: Global, number: u64) -> Result<Setup, Fail> {
     let mut chance = Chance::new(number);
     let follow = chance.below(4) > 0;
     let guest = listing(alloc, &mut chance)?;
     let script = script(alloc, &mut chance)?;
     let schedule = schedule(alloc, &mut chance)?;
     let boot = boot(alloc, "/p", guest.as_str(), follow)?;
-    Ok(Case {
+    Ok(Setup {
         boot,
         script,
         schedule,
@@ -202,7 +202,7 @@ fn case(alloc: Global, number: u64) -> Result<Case, Fail> {
 }
 
 fn traced(alloc: Global, number: u64) -> Result<Run, Fail> {
-    let Case {
+    let Setup {
         boot,
         script,
         schedule,
@@ -237,7 +237,7 @@ fn boot_by(alloc: Global, boot: Boot, script: Script) -> Result<Kernel, BootFaul
 
 /// The untraced kernel of a case.
 fn booted(alloc: Global, number: u64) -> Result<Kernel, Fail> {
-    let Case { boot, script, .. } = case(alloc, number)?;
+    let Setup { boot, script, .. } = case(alloc, number)?;
     match boot_by(alloc, boot, script) {
         Ok(kernel) => Ok(kernel),
         Err(_) => Err(Fail::from("the boot is accepted")),
