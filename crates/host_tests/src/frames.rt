@@ -1,17 +1,22 @@
 //! Frames written out by hand: a length of 4 bytes, a number of 8, a kind and a body.
 
 use host_wire::{Frame, WireFault, encode};
-use std::alloc::Global;
+use std::alloc::{AllocError, Global};
 use std::test::Fail;
+
+/// The frame of this number with this kind and body, of less than 2^32 bytes.
+fn framed(alloc: Global, number: u64, message: &[u8]) -> Result<Vec<u8>, AllocError> {
+    let length = (message.len() as u32).wrapping_add(8);
+    let mut bytes = length.to_be_bytes().to_vec(alloc)?;
+    bytes.extend_from_slice(number.to_be_bytes().as_slice())?;
+    bytes.extend_from_slice(message)?;
+    Ok(bytes)
+}
 
 /// The frame of this number whose kind and body are told by hexadecimal digits.
 pub fn frame(alloc: Global, number: u64, message: &str) -> Result<Vec<u8>, Fail> {
     let message = hex::decode(alloc, message)?;
-    let length = u32::try_from(message.len())?.wrapping_add(8);
-    let mut bytes = length.to_be_bytes().to_vec(alloc)?;
-    bytes.extend_from_slice(number.to_be_bytes().as_slice())?;
-    bytes.extend_from_slice(message.as_slice())?;
-    Ok(bytes)
+    Ok(framed(alloc, number, message.as_slice())?)
 }
 
 /// The frames of these messages, numbered from 1.

@@ -4,7 +4,7 @@ use crate::conversation::BOOT;
 use crate::frames::{are_same, frame, part, spelled, stream};
 use host_wire::{Feed, Frame, Payload, WireFault};
 use lx_abi::{Ask, Reply, Request, Status};
-use std::alloc::Global;
+use std::alloc::{AllocError, Global};
 use std::test::Fail;
 
 /// The registers 1 to 32, the lowest byte of each first.
@@ -19,18 +19,29 @@ const REGISTERS: &str = "\
     1d000000000000001e000000000000001f000000000000002000000000000000";
 
 /// These digits, and then the registers.
-fn with_registers(alloc: Global, prefix: &str) -> Result<String, Fail> {
-    Ok(format!(in alloc; "{prefix}{REGISTERS}")?)
+fn with_registers(alloc: Global, prefix: &str) -> Result<String, AllocError> {
+    let mut digits = String::from_str(alloc, prefix)?;
+    digits.push_str(REGISTERS)?;
+    Ok(digits)
 }
 
 /// The frame of these bytes, where nothing is left of them.
 fn whole(alloc: Global, bytes: &[u8]) -> Option<Frame> {
     let mut feed = Feed::new(alloc);
     let fits = feed_at_once(&mut feed, bytes);
-    let frame = feed.take();
-    let left = feed.missing();
+    let frame = take(&mut feed);
+    let left = missing(&feed);
     drop(feed);
     if fits && left == 4 { frame } else { None }
+}
+
+fn take(feed: &mut Feed) -> Option<Frame> {
+    feed.take()
+}
+
+/// How many bytes the frame under way lacks.
+fn missing(feed: &Feed) -> usize {
+    feed.missing()
 }
 
 /// What is read of a frame with this message, and is written again.
@@ -99,28 +110,28 @@ fn limits_that_are_not_said(rt: HostRuntime) -> Result<(), Fail> {
     Ok(())
 }
 
+/// The frame with the number 3 is spelled so.
+fn is_spelled(alloc: Global, body: Payload, digits: &str) -> Result<bool, Fail> {
+    let bytes = spelled(alloc, &Frame { number: 3, body })?;
+    Ok(are_same(bytes, hex::decode(alloc, digits)?))
+}
+
 /// Two frames, byte for byte: Wait 3, and its reply, EVENT_STOP of process 1.
 #[test]
 fn two_frames(rt: HostRuntime) -> Result<(), Fail> {
-    let alloc = rt.alloc();
-    let status = Reply::Status {
+    let wait = Payload::Request(Request::Wait);
+    assert!(rt; is_spelled(rt.alloc(), wait, "00000009000000000000000304")?);
+    let stop = Payload::Reply(Reply::Status {
         pid: 1,
         status: Status { word: 0x80057f },
-    };
-    let rows = [
-        (
-            Payload::Request(Request::Wait),
-            "00000009000000000000000304",
-        ),
-        (
-            Payload::Reply(status),
-            "00000011000000000000000382000000010080057f",
-        ),
-    ];
-    for (body, wanted) in rows {
-        let bytes = spelled(alloc, &Frame { number: 3, body })?;
-        assert!(rt; are_same(bytes, hex::decode(alloc, wanted)?), "{wanted}");
-    }
+    });
+    assert!(rt;
+        is_spelled(
+            rt.alloc(),
+            stop,
+            "00000011000000000000000382000000010080057f"
+        )?
+    );
     Ok(())
 }
 
@@ -281,26 +292,27 @@ fn bodies(rt: HostRuntime) -> Result<(), Fail> {
     Ok(())
 }
 
+/// Peek of three bytes.
+fn is_peek(ask: &Ask) -> bool {
+    match ask {
+        Ask::Peek { address, length } => *address == 0x3f_ffff_effd && *length == 3,
+        _ => false,
+    }
+}
+
 /// The frame is Peek of three bytes of process 1, with the number 2.
-fn is_peek(frame: &Frame) -> bool {
-    frame.number == 2
-        && matches!(
-            &frame.body,
-            Payload::Request(Request::To {
-                pid: 1,
-                ask: Ask::Peek {
-                    address: 0x3f_ffff_effd,
-                    length: 3,
-                },
-            },),
-        )
+fn peeks(frame: &Frame) -> bool {
+    match &frame.body {
+        Payload::Request(Request::To { pid: 1, ask }) => frame.number == 2 && is_peek(ask),
+        _ => false,
+    }
 }
 
 /// A letter for the frame that is given: none (-), Peek (p) or another (?).
 fn given(feed: &mut Feed) -> char {
     match feed.take() {
         None => '-',
-        Some(frame) => if is_peek(&frame) { 'p' } else { '?' },
+        Some(frame) => if peeks(&frame) { 'p' } else { '?' },
     }
 }
 
