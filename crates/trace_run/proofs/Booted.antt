@@ -1,7 +1,6 @@
 -- A run from its boot on.
-use Rattle.std.proofs.Common.{◌≡◌, ℕ, ◌+◌, arith, false, List, [], Option, Some, None, Result, Ok, Err, refl, sym, ap, subst}
-use Rattle.std.specs.Prelude.{IfErr, OnOk}
-use Rattle.lx_abi.specs.declared.boot.Boot.{Boot}
+use Rattle.std.proofs.Common.{◌≡◌, ℕ, ◌+◌, arith, false, List, Some, Ok, Err, sym, ap, subst}
+use Rattle.std.specs.Prelude.{OnOk}
 use Rattle.lx_abi.specs.declared.outcome.Outcome.{Outcome}
 use Rattle.lx_abi.specs.Scripts.{choice_of}
 use Rattle.lx_boot.specs.First.{first_shared}
@@ -10,7 +9,6 @@ use Rattle.lx_proc.specs.declared.state.Shared.{Shared}
 use Rattle.lx_proc.specs.declared.state.UserState.{UserState}
 use Rattle.lx_turn.specs.Linux.{linux}
 use Rattle.lx_kernel.specs.Outcomes.{outcome_in}
-use Rattle.lx_model.specs.Kernel.{Script}
 use Rattle.pt_model.specs.Calls.{TalksOver}
 use Rattle.pt_model.specs.Tracer.{first_tracer}
 use Rattle.pt_model.specs.World.{first_world}

@@ -1,5 +1,5 @@
 -- Laws of whole runs in one process, from their contracts.
-use Rattle.std.proofs.Common.{◌≡◌, ℕ, ◌≤◌, ◌<◌, Bool, true, false, List, [], ◌∷◌, Option, Some, None, Result, Ok, refl, sym, ap, ap₂, subst, ◌∙◌, inl, inr}
+use Rattle.std.proofs.Common.{◌≡◌, ℕ, ◌≤◌, ◌<◌, true, List, [], ◌∷◌, Option, Some, None, Ok, refl, sym, ap, ap₂, subst, ◌∙◌, inl, inr}
 use Rattle.std.specs.Io.KnownBytes.{Appends}
 use Rattle.lx_abi.specs.declared.boot.Boot.{Boot}
 use Rattle.lx_abi.specs.declared.outcome.Outcome.{Outcome}
@@ -17,13 +17,12 @@ use Rattle.lx_proc.specs.declared.state.UserState.{UserState}
 use Rattle.lx_turn.specs.Linux.{linux}
 use Rattle.pt_kernel.specs.Seen.{next_of_host}
 use Rattle.pt_model.specs.Attending.{Schedules}
-use Rattle.pt_model.specs.Calls.{attends}
 use Rattle.pt_model.specs.Headline.{IsTold, traced_run, plain_run}
 use Rattle.pt_model.specs.Laws.{NoKillNoLoss, EveryScriptIsOne}
 use Rattle.pt_model.specs.Parts as parts_of
 use Rattle.pt_model.specs.Ptrace.{is_there}
 use Rattle.pt_model.specs.Tracer.{Focus, Over, request}
-use Rattle.pt_model.specs.View.{view, has_kill, has_exit, traced, parts}
+use Rattle.pt_model.specs.View.{view, has_exit, traced, parts}
 use Rattle.pt_model.specs.World.{World, happens, effective, first_world}
 use Rattle.pt_schedule.specs.declared.schedule.Schedule.{Schedule}
 use Rattle.tr_core.specs.Settings.{options_by, layout_by}
@@ -31,7 +30,7 @@ use Rattle.tr_core.specs.declared.settings.Options.{Options}
 use Rattle.tr_line.specs.Lines.{rendering}
 use Rattle.trace_run.specs.BootedRuns.{following, RunOf, LinuxRunsTell, LinuxRefusedRunsTell}
 use Rattle.trace_run.specs.Local.{Feeds, LocalRun}
-use Rattle.trace_run.specs.Results.{kernel_by, log_by, TellsItems, PlainRuns, ReplacedRuns, JoinedRuns, KilledRuns, IsSameRun, RunsAreOne, TracesAreRuns, TracesTellLog}
+use Rattle.trace_run.specs.Results.{kernel_by, log_by, TellsItems, PlainRuns, ReplacedRuns, JoinedRuns, KilledRuns, RunsAreOne, TracesAreRuns, TracesTellLog}
 use Rattle.trace_run.specs.Runs.{Answers}
 use Rattle.trace_run.specs.Tells.{shown_text, Tells, RunsTell, RefusedRunsTell}
 use Rattle.trace_run.specs.declared.local.Run.{Run}

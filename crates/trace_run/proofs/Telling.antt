@@ -38,7 +38,7 @@ use Rattle.trace_run.specs.declared.running.RunFault.TheVariants.{Link, Trace, O
 use Rattle.trace_run.proofs.Begun.{begun}
 use Rattle.trace_run.proofs.Refused.{last_is_refused}
 use Rattle.trace_run.specs.Runs.{Answers, Asked, Ends, EndsAs, FailsAtLast, Last, replies_of, forgets}
-use Rattle.trace_run.specs.Tells.{view_text, RunsTell, OwnUntil, RefusedRunsTell, Served, ServedRunsTell}
+use Rattle.trace_run.specs.Tells.{view_text, RunsTell, RefusedRunsTell, Served, ServedRunsTell}
 use Rattle.trace_run.specs.Writers.{Writer}
 
 part_more : (a b : Option (List ℕ)) (xs ys zs : List ℕ) → xs ++ ys ≡ zs → AppendsPart a b xs → AppendsPart a b zs

@@ -1,12 +1,11 @@
 -- What a run has written when it asks Wait, by the untraced kernel.
-use Rattle.std.proofs.Common.{◌≡◌, ◌⊎◌, ℕ, ◌+◌, ◌≤◌, Bool, true, false, List, [], ◌∷◌, ◌++◌, Option, Some, None, Result, refl, sym, ap, subst, ◌∙◌, arith, inl, inr, append_assoc}
+use Rattle.std.proofs.Common.{◌≡◌, ◌⊎◌, ◌≤◌, Bool, true, false, List, [], ◌∷◌, ◌++◌, refl, sym, ap, subst, ◌∙◌, arith, inl, inr, append_assoc}
 use Rattle.std.specs.Prelude.{length}
 use Rattle.std.proofs.lemmas.List.{map-append, append-nil}
 use Rattle.std.specs.Io.KnownBytes.{Appends}
 use Rattle.lx_abi.specs.declared.outcome.Outcome.{Outcome}
 use Rattle.lx_abi.specs.declared.ptrace.Reply.{Reply}
 use Rattle.lx_abi.specs.declared.ptrace.Reply.TheVariants.{Done as Agreed, OutOfTurns as Out_of_turns}
-use Rattle.lx_abi.specs.declared.ptrace.Request.{Request}
 use Rattle.lx_abi.specs.declared.ptrace.Request.TheVariants.{Wait}
 use Rattle.lx_abi.specs.declared.schedule.Event.{Event}
 use Rattle.lx_abi.specs.Scripts.{choice_of}
@@ -37,7 +36,7 @@ use Rattle.tr_line.specs.Lines.{rendering}
 use Rattle.trace_run.specs.BootedRuns.{following}
 use Rattle.trace_run.specs.LocalRuns.{local_answers}
 use Rattle.trace_run.specs.Owed.{HadWritten, WritesBeforeItWaits, TracesWriteBeforeTheyWait}
-use Rattle.trace_run.specs.Runs.{Answers, Asked, Ends, forgets, replies_of}
+use Rattle.trace_run.specs.Runs.{Answers, Ends, forgets, replies_of}
 use Rattle.trace_run.proofs.Owed.{rest_of, Begins, AsksThen, asked_behind, asks_then, waits_in, writes_before_it_asks}
 use Rattle.trace_run.proofs.Refused.{last_of}
 

@@ -1,7 +1,6 @@
 -- A run from its boot on, in the tracer's own process.
-use Rattle.std.specs.Prelude.{◌≡◌, ℕ, Bool, false, List, [], Option, Some, Result, Ok, Err, IfErr, OnOk}
+use Rattle.std.specs.Prelude.{◌≡◌, Bool, false, List, [], Result, Ok, Err, IfErr, OnOk}
 use Rattle.lx_abi.specs.declared.boot.Boot.{Boot}
-use Rattle.lx_abi.specs.declared.outcome.Outcome.{Outcome}
 use Rattle.lx_abi.specs.declared.schedule.Event.{Event}
 use Rattle.lx_abi.specs.declared.script.Rule.{Rule}
 use Rattle.lx_abi.specs.Scripts.{choice_of}

@@ -1,6 +1,6 @@
 -- When a run writes what it owes: before it asks. Its last moment shows this, since a writer may fail at any put and a
 -- link at any request: what had to be written by then is written however the run ends.
-use Rattle.std.specs.Prelude.{◌≡◌, ◌⊎◌, ℕ, ◌+◌, Bool, List, ◌∷◌, ◌++◌, length, Option, Some, Result, Err, ⊤}
+use Rattle.std.specs.Prelude.{◌≡◌, ◌⊎◌, ℕ, ◌+◌, Bool, List, ◌∷◌, ◌++◌, length, Some, Result, Err, ⊤}
 use Rattle.std.specs.Io.KnownBytes.{Appends}
 use Rattle.lx_abi.specs.declared.boot.Boot.{Boot}
 use Rattle.lx_abi.specs.declared.outcome.Outcome.{Outcome}

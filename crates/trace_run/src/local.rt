@@ -70,13 +70,14 @@ fn kept_run(
 }
 
 /// What it leaves.
-fn left(link: LocalLink, trace: Written, ended: Ended) -> Result<Run, AllocError>
+fn finish(link: LocalLink, trace: Written, ended: Ended) -> Result<Run, AllocError>
     ensures { IfOk result (IsLeft link trace ended) }
 {
     let host = link.into_host();
     let outcome = match host.outcome() {
         Ok(outcome) => outcome,
         Err(fault) => {
+            // An implicit drop of these takes the prover many minutes.
             drop(host);
             drop(trace);
             drop(ended);
@@ -113,7 +114,7 @@ pub fn run_local(
     booted_runs_tell();
     let mut trace = Written::new(alloc);
     match kept_run(alloc, &mut link, &mut trace, script, options) {
-        Ok(ended) => match left(link, trace, ended) {
+        Ok(ended) => match finish(link, trace, ended) {
             Ok(run) => Ok(run),
             Err(_) => Err(BootFault::Memory),
         },

@@ -2,7 +2,7 @@ use Rattle.std.proofs.Common.{refl, ap, ◌∙◌}
 use Rattle.lx_kernel.specs.Outcomes.{outcome_in}
 use Rattle.pt_kernel.specs.Hosts.{HostState}
 use Rattle.trace_run.specs.BootedRuns.{IsLeft}
-use Rattle.trace_run.proofs.local.left.Goals as goal
+use Rattle.trace_run.proofs.local.finish.Goals as goal
 
 pub returns : goal.returns
 unfolding IsLeft
