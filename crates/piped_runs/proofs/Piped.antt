@@ -238,7 +238,8 @@ left_of xs bs (Some ys) consumed = (ys, consumed)
 -- ---- both
 
 pub piped_runs_tell : {R W : Type 0} (input : R → Input) (contents : W → Option (List ℕ)) (puts : W → List ℕ) (broken_writer : W → ℕ)
-    → EndsAgree → LocalLinksAnswerTheirOwn → HostsBeginAlike Shared UserState → LinuxRunsTell (piped {R} {W} input contents puts broken_writer) → PipedRunsTell input contents puts broken_writer
+    → EndsAgree → LocalLinksAnswerTheirOwn → HostsBeginAlike Shared UserState → LinuxRunsTell (piped {R = R} {W = W} input contents puts broken_writer) → PipedRunsTell input contents puts broken_writer
+unfolding LocalLinksAnswerTheirOwn LinuxRunsTell
 piped_runs_tell {R} {W} input contents puts broken_writer agree own begin tells boot limit words script o first link link' old new result w most a b unwritten written sizes sizes' served broken_host s unused asked nothing back forth =
     let ys : Exchanges = w.runs.exchanges in
     let all : Exchanges = (Boot_with boot limit words, Done) ∷ ys in
