@@ -51,6 +51,7 @@ test:
 	tests/completions
 	tests/documents
 	tests/cuts
+	tests/threads
 	tests/faults
 	tests/served
 	tests/limits

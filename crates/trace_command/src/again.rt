@@ -1,4 +1,4 @@
-//! A run made once more, to see where its processes stand when it is out of turns.
+//! A run made once more: to know its turns, and where its processes stand when it is out of them.
 
 use crate::plan::Plan;
 use clap::ArgMatches;
@@ -15,13 +15,15 @@ use trace_run::run_local;
 #[derive(Drop)]
 pub struct Again {
     boot: Boot,
-    turns: Vec<Word>,
+    words: Vec<Word>,
     limit: u64,
+    /// The effective turns, once they are known.
+    turns: Option<Turns>,
 }
 
-fn copy_turns(alloc: Global, turns: &[Word]) -> Result<Vec<Word>, AllocError> {
+fn copy_words(alloc: Global, words: &[Word]) -> Result<Vec<Word>, AllocError> {
     let mut copy = Vec::new(alloc);
-    for word in turns {
+    for word in words {
         copy.push(*word)?;
     }
     Ok(copy)
@@ -54,13 +56,19 @@ impl Again {
     pub fn of(alloc: Global, plan: &Plan, limit: u64) -> Result<Self, AllocError> {
         Ok(Again {
             boot: plan.boot.copy(alloc)?,
-            turns: copy_turns(alloc, plan.turns.as_slice())?,
+            words: copy_words(alloc, plan.turns.as_slice())?,
             limit,
+            turns: None,
         })
     }
 
-    /// The effective turns of the run.
-    fn turns(&self, alloc: Global, matches: &ArgMatches) -> Result<Turns, Fault> {
+    /// These are the run's effective turns.
+    pub fn know(&mut self, turns: Turns) {
+        self.turns = Some(turns);
+    }
+
+    /// The effective turns of a run by the same words.
+    fn second(&self, alloc: Global, matches: &ArgMatches) -> Result<Turns, Fault> {
         let expressions = read_expressions(alloc, matches)?;
         let options = Options {
             follow: self.boot.follow,
@@ -68,7 +76,7 @@ impl Again {
             string_limit: 0,
             width: 0,
         };
-        let schedule = Schedule::words(copy_turns(alloc, self.turns.as_slice())?, self.limit);
+        let schedule = Schedule::words(copy_words(alloc, self.words.as_slice())?, self.limit);
         let boot = self.boot.copy(alloc)?;
         match run_local(alloc, boot, schedule, expressions.script, options) {
             Ok(run) => Ok(run.turns),
@@ -76,18 +84,30 @@ impl Again {
         }
     }
 
+    /// The effective turns of the run: those that came with it, else those of a second run.
+    pub fn turns(&mut self, alloc: Global, matches: &ArgMatches) -> Result<&Turns, Fault> {
+        if self.turns.is_none() {
+            self.turns = Some(self.second(alloc, matches)?);
+        }
+        match &self.turns {
+            Some(turns) => Ok(turns),
+            None => Err(Fault::Memory),
+        }
+    }
+
     /// The kernel as the run leaves it.
-    fn kernel(&self, alloc: Global, matches: &ArgMatches) -> Result<Kernel, Fault> {
-        let turns = self.turns(alloc, matches)?;
+    fn kernel(&mut self, alloc: Global, matches: &ArgMatches) -> Result<Kernel, Fault> {
         let script = read_expressions(alloc, matches)?.script;
-        match Kernel::boot(alloc, self.boot.copy(alloc)?, script) {
-            Ok(kernel) => replayed(kernel, &turns),
+        let boot = self.boot.copy(alloc)?;
+        let turns = self.turns(alloc, matches)?;
+        match Kernel::boot(alloc, boot, script) {
+            Ok(kernel) => replayed(kernel, turns),
             Err(_) => Err(Fault::Memory),
         }
     }
 
     /// Why the run is out of turns.
-    pub fn waits(&self, alloc: Global, matches: &ArgMatches) -> Result<String, Fault> {
+    pub fn waits(&mut self, alloc: Global, matches: &ArgMatches) -> Result<String, Fault> {
         let kernel = self.kernel(alloc, matches)?;
         let text = explain_turns(alloc, &kernel, self.limit, "events");
         drop(kernel);

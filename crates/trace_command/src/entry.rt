@@ -8,6 +8,8 @@ use std::alloc::Global;
 use std::io::{IsTerminal, Read, Write};
 use std::process::Processes;
 use std::rt::Files;
+use std::sync::Wait;
+use std::thread::Threads;
 
 /// The program in its messages.
 const NAME: &str = "strace";
@@ -15,7 +17,7 @@ const NAME: &str = "strace";
 /// Traces the run that the words ask for, the program's name first, and gives the exit status. A fault is one line on
 /// `err`; at a terminal, and where the words ask for it, others explain it.
 pub fn command<
-    R: Files + Processes + AllocGlobal,
+    R: Files + Processes + Threads + Wait + Sync + AllocGlobal,
     I: Read + IsTerminal,
     O: Write,
     E: Write + IsTerminal,
@@ -42,7 +44,12 @@ pub fn tell<E: Write>(fault: Fault, err: &mut E) -> u8 {
     report(NAME, &fault, false, err)
 }
 
-fn run<R: Files + Processes + AllocGlobal, I: Read + IsTerminal, O: Write, E: Write + IsTerminal>(
+fn run<
+    R: Files + Processes + Threads + Wait + Sync + AllocGlobal,
+    I: Read + IsTerminal,
+    O: Write,
+    E: Write + IsTerminal,
+>(
     rt: &R,
     matches: &ArgMatches,
     explained: bool,

@@ -1,7 +1,9 @@
 //! Faults of a host.
 
-use front_end::Fault;
+use front_end::{Fault, refuse_boot};
 use host_link::LinkFault;
+use std::alloc::Global;
+use trace_threads::ThreadsFault;
 
 /// A host's fault in words.
 fn reason(fault: LinkFault) -> &'static str {
@@ -25,6 +27,21 @@ pub fn host_fault(fault: LinkFault) -> Fault {
         fault => Fault::Host {
             number: fault.number(),
             reason: reason(fault),
+        },
+    }
+}
+
+/// The fault of a run on threads that gives none.
+pub fn threads_fault(alloc: Global, fault: ThreadsFault) -> Fault {
+    match fault {
+        ThreadsFault::Boot(fault) => refuse_boot(alloc, fault),
+        ThreadsFault::Start => Fault::Host {
+            number: 9,
+            reason: "a thread did not start",
+        },
+        ThreadsFault::Unlike => Fault::Host {
+            number: 10,
+            reason: "the run is not the one that the journal of its threads tells",
         },
     }
 }

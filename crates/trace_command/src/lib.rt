@@ -8,7 +8,9 @@ mod kernel;
 mod lines;
 mod place;
 mod plan;
+mod threads;
 mod tracing;
+mod turns_out;
 mod words;
 
 pub use entry::{command, tell};

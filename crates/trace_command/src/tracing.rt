@@ -6,8 +6,11 @@ use crate::kernel::{Kernel, boot_kernel, run_kernel};
 use crate::lines::Lines;
 use crate::place::{Place, open};
 use crate::plan::{Plan, read_plan};
+use crate::threads::trace_on_threads;
+use crate::turns_out::write_turns;
 use crate::words::TraceOptions;
 use clap::ArgMatches;
+use containers::Bytes;
 use front_end::{Fault, Leavings, Program};
 use host_link::LinkFault;
 use host_wire::Counted;
@@ -16,6 +19,8 @@ use std::alloc::Global;
 use std::io::{IsTerminal, Read, Write};
 use std::process::{OpenProcess, Processes};
 use std::rt::Files;
+use std::sync::Wait;
+use std::thread::Threads;
 use tr_core::{Options, TraceFault};
 use trace_run::{Ended, RunFault};
 
@@ -92,6 +97,54 @@ fn run_plan<R: Files + Processes + AllocGlobal, O: Write, E: Write>(
     trace_kernel(rt, kernel, script, options, place, out, err)
 }
 
+/// The line that was written last isn't ended.
+fn is_open(trace: &Bytes) -> bool {
+    match trace.as_slice().last() {
+        Some(last) => *last != b'\n',
+        None => false,
+    }
+}
+
+/// What a run on threads leaves. Where it is out of turns, a line that stands open on `err` is ended.
+fn outcome_of_threads<E: Write>(
+    alloc: Global,
+    ended: Ended,
+    trace: &Bytes,
+    place: Place<'_>,
+    err: &mut E,
+) -> Result<Outcome, Fault> {
+    match ended {
+        Ended::Whole(outcome) => Ok(outcome),
+        Ended::OutOfTurns => {
+            if place == Place::Error && is_open(trace) && writeln!(err).is_err() {
+                return Err(place.fault(alloc));
+            }
+            Err(Fault::OutOfTurns(None))
+        }
+    }
+}
+
+/// Makes the run, on threads where the words ask for them; their turns are then known.
+fn run_as_asked<R: Files + Processes + Threads + Wait + Sync + AllocGlobal, O: Write, E: Write>(
+    rt: &R,
+    matches: &ArgMatches,
+    options: TraceOptions,
+    plan: Plan,
+    again: &mut Option<Again>,
+    out: &mut O,
+    err: &mut E,
+) -> Result<Outcome, Fault> {
+    let Some(workers) = options.workers else {
+        return run_plan(rt, matches, plan, options.limit, out, err);
+    };
+    let place = Place::of(matches.get_str("output"));
+    let run = trace_on_threads(rt, plan, workers, place, out, &mut *err)?;
+    if let Some(again) = again {
+        again.know(run.turns);
+    }
+    outcome_of_threads(rt.alloc(), run.ended, &run.trace, place, err)
+}
+
 /// Process 1's exit code, or 128 and the signal that ended it.
 fn status_of(outcome: &Outcome) -> Option<u8> {
     let ended = outcome
@@ -127,16 +180,35 @@ fn finish<R: Files + AllocGlobal, O: Write>(
     Ok(status)
 }
 
-/// Makes the run, which is explained by nothing.
-fn trace_plainly<R: Files + Processes + AllocGlobal, O: Write, E: Write>(
+/// Writes the turns of a run that has ended, where the words ask for them.
+fn leave_turns<R: Files + AllocGlobal>(
     rt: &R,
     matches: &ArgMatches,
+    again: &mut Option<Again>,
+    outcome: &Result<Outcome, Fault>,
+) -> Result<(), Fault> {
+    let has_ended = matches!(outcome, Ok(_) | Err(Fault::OutOfTurns(_)));
+    match (matches.get_str("turns-out"), again) {
+        (Some(path), Some(again)) if has_ended => {
+            write_turns(rt, path, again.turns(rt.alloc(), matches)?)
+        }
+        _ => Ok(()),
+    }
+}
+
+/// Makes the run, and writes what it leaves. Gives the exit status.
+fn trace_plan<R: Files + Processes + Threads + Wait + Sync + AllocGlobal, O: Write, E: Write>(
+    rt: &R,
+    matches: &ArgMatches,
+    options: TraceOptions,
     plan: Plan,
-    limit: u64,
+    again: &mut Option<Again>,
     out: &mut O,
     err: &mut E,
 ) -> Result<u8, Fault> {
-    let outcome = run_plan(rt, matches, plan, limit, out, err)?;
+    let outcome = run_as_asked(rt, matches, options, plan, again, out, err);
+    leave_turns(rt, matches, again, &outcome)?;
+    let outcome = outcome?;
     let status = finish(rt, matches, &outcome, out);
     drop(outcome);
     status
@@ -147,27 +219,29 @@ fn trace_plainly<R: Files + Processes + AllocGlobal, O: Write, E: Write>(
 fn explain<E: Write>(
     alloc: Global,
     matches: &ArgMatches,
-    again: Again,
+    again: Option<Again>,
     program: Program,
     ended: Result<u8, Fault>,
     err: &mut E,
 ) -> Result<u8, Fault> {
-    match ended {
-        Ok(status) => {
+    match (ended, again) {
+        (Ok(status), _) => {
             if let Some(reason) = program.reason(alloc, status)? {
                 // The run is whole, whether this can be written or not.
                 let _written = writeln!(err, "strace: {reason}");
             }
             Ok(status)
         }
-        Err(Fault::OutOfTurns(_)) => Err(Fault::OutOfTurns(Some(again.waits(alloc, matches)?))),
-        Err(fault) => Err(fault),
+        (Err(Fault::OutOfTurns(_)), Some(mut again)) => {
+            Err(Fault::OutOfTurns(Some(again.waits(alloc, matches)?)))
+        }
+        (Err(fault), _) => Err(fault),
     }
 }
 
 /// Makes the run, and gives the exit status. The console goes to `out` once the run is whole.
 pub fn trace<
-    R: Files + Processes + AllocGlobal,
+    R: Files + Processes + Threads + Wait + Sync + AllocGlobal,
     I: Read + IsTerminal,
     O: Write,
     E: Write + IsTerminal,
@@ -180,11 +254,15 @@ pub fn trace<
     err: &mut E,
 ) -> Result<u8, Fault> {
     let plan = read_plan(rt, matches, options, input, err)?;
+    let mut again = if options.explain || matches.get_str("turns-out").is_some() {
+        Some(Again::of(rt.alloc(), &plan, options.limit)?)
+    } else {
+        None
+    };
     if !options.explain {
-        return trace_plainly(rt, matches, plan, options.limit, out, err);
+        return trace_plan(rt, matches, options, plan, &mut again, out, err);
     }
     let program = Program::of(rt.alloc(), &plan.boot)?;
-    let again = Again::of(rt.alloc(), &plan, options.limit)?;
-    let ended = trace_plainly(rt, matches, plan, options.limit, out, err);
+    let ended = trace_plan(rt, matches, options, plan, &mut again, out, err);
     explain(rt.alloc(), matches, again, program, ended, err)
 }

@@ -1,12 +1,13 @@
 //! What the command line asks for.
 
-ghost use Rattle.std.specs.Prelude.{◌≤◌, IfOk};
+ghost use Rattle.std.specs.Prelude.{◌×◌, ◌≤◌, ◌^◌, IfOk, IfSome};
 
 use clap::{Arg, ArgAction, ArgMatches, Command, Error};
 use front_end::{
     Fault, Shown, limit, number, with_calls, with_environment, with_explain, with_expressions,
     with_files, with_leavings, with_limit, with_program,
 };
+use host_shared::MOST_EVENTS;
 use std::alloc::{AllocError, Global};
 
 /// The most bytes of a string that may be shown.
@@ -51,11 +52,24 @@ strace: host fault N (status 3)
   5  its reply answers another request
   6  its reply is of the wrong kind
   8  there were too many requests
+  9  a thread did not start
+  10 the run isn't the one that the journal of its threads tells
 strace: output fault, strace: out of memory (status 3)
 strace: out of turns (status 4): all processes wait, or the limit was reached
 
 Example: make the second write fail, and watch
   strace_cli -e trace=write -e fault=write:error=EIO:when=2 --file /p=hello -- /p </dev/null";
+
+/// Threads that turn a run's processes, and the most turns and requests together.
+#[derive(Clone, Copy, Debug)]
+pub struct Workers {
+    pub count: u8,
+    pub limit: u64,
+    pub ghost some: { 1 ≤ count },
+    pub ghost few: { count ≤ 8 },
+    pub ghost some_events: { 1 ≤ limit },
+    pub ghost few_events: { limit ≤ 2 ^ 39 },
+}
 
 /// How a run is traced.
 #[derive(Clone, Copy, Debug)]
@@ -68,6 +82,8 @@ pub struct TraceOptions {
     pub column: u32,
     /// The most events.
     pub limit: u64,
+    /// Threads, where they make the turns.
+    pub workers: Option<Workers>,
     /// Faults are explained.
     pub explain: bool,
 }
@@ -192,6 +208,20 @@ fn with_kernel<'a>(alloc: Global, command: Command<'a>) -> Result<Command<'a>, A
         "FILE",
         "A schedule by words, as 1 -2 s 1. [default: turns in rounds]",
     )?;
+    let command = with_name(
+        alloc,
+        command,
+        "workers",
+        "N",
+        "Makes the turns on N threads, 1 to 8, in an order of their own; the trace comes at the end",
+    )?;
+    let command = with_name(
+        alloc,
+        command,
+        "turns-out",
+        "FILE",
+        "Writes the turns of the run to this file, as --turns takes them",
+    )?;
     with_limit(
         alloc,
         command,
@@ -277,6 +307,45 @@ fn follow(alloc: Global, matches: &ArgMatches) -> Result<bool, Fault> {
     }
 }
 
+/// `--workers`, from 1 to 8.
+fn count_in(digits: &str) -> Option<u8>
+    ensures { IfSome result (λ count. (1 ≤ count) × (count ≤ 8)) }
+{
+    if digits.starts_with('+') {
+        return None;
+    }
+    match digits.parse::<u8>() {
+        Ok(count) if (1..=8).contains(&count) => Some(count),
+        Ok(_) | Err(_) => None,
+    }
+}
+
+/// The threads that make the turns: in this process, by no schedule of words.
+fn workers(alloc: Global, matches: &ArgMatches, limit: u64) -> Result<Option<Workers>, Fault> {
+    let Some(digits) = matches.get_str("workers") else {
+        return Ok(None);
+    };
+    for option in ["host", "turns"] {
+        if matches.get_str(option).is_some() {
+            return Err(Fault::usage(format!(in alloc;
+                "--workers excludes --{option}: threads of this process make the turns, in an order of their own"
+            )));
+        }
+    }
+    let Some(count) = count_in(digits) else {
+        return Err(Fault::usage(format!(in alloc;
+            "--workers {}: not a number from 1 to 8",
+            Shown(digits)
+        )));
+    };
+    if limit == 0 || limit > MOST_EVENTS {
+        return Err(Fault::usage(format!(in alloc;
+            "--limit {limit}: with --workers not a number from 1 to {MOST_EVENTS}"
+        )));
+    }
+    Ok(Some(Workers { count, limit }))
+}
+
 /// How the words ask the run to be traced.
 pub fn trace_options(alloc: Global, matches: &ArgMatches) -> Result<TraceOptions, Fault> {
     check_output(alloc, matches.get_str("output"))?;
@@ -288,11 +357,13 @@ pub fn trace_options(alloc: Global, matches: &ArgMatches) -> Result<TraceOptions
         MOST_STRING,
         32,
     )?;
+    let limit = limit(alloc, matches)?;
     Ok(TraceOptions {
         follow: follow(alloc, matches)?,
         string_limit,
         column: small_number(alloc, "-a", matches.get_str("columns"), MOST_COLUMN, 40)?,
-        limit: limit(alloc, matches)?,
+        limit,
+        workers: workers(alloc, matches, limit)?,
         explain: matches.get_flag("explain"),
     })
 }

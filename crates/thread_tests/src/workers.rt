@@ -1,0 +1,135 @@
+//! Runs whose turns are made by threads, with ample memory. Others stand in guests/threads.
+
+ghost use Rattle.std.specs.Prelude.{◌≤◌};
+
+use containers::{Bytes, Seq};
+use host_shared::Gate;
+use lx_abi::{Boot, GuestFile, Limits, Script, Set};
+use rv_asm::assemble;
+use std::alloc::Global;
+use std::sync::Wait;
+use std::sync::atomic::{AtomicBool, Ordering};
+use std::test::Fail;
+use std::thread::Threads;
+use tr_core::Options;
+use trace_run::Ended;
+use trace_run::local::Run;
+use trace_threads::{ThreadsFault, run_threads};
+
+const HELLO: &str = "_start: li a0, 1\nla a1, text\nli a2, 3\nli a7, 64\necall\n\
+    li a0, 0\nli a7, 94\necall\ntext: .ascii \"hi\\n\"\n";
+
+/// A worker's first pass looks so many times for the other's.
+const LOOKS: u64 = 1 << 30;
+
+/// Two workers each wait at their first pass until they have seen the other.
+#[derive(Drop)]
+struct Meeting {
+    came: [AtomicBool; 2],
+    saw: [AtomicBool; 2],
+}
+
+impl Meeting {
+    fn new() -> Self {
+        Meeting {
+            came: [AtomicBool::new(false), AtomicBool::new(false)],
+            saw: [AtomicBool::new(false), AtomicBool::new(false)],
+        }
+    }
+
+    /// Both saw each other.
+    fn was_held(&self) -> bool {
+        self.saw.iter().all(|saw| saw.load(Ordering::SeqCst))
+    }
+}
+
+/// The flag comes up while it is looked for.
+fn is_seen(flag: &AtomicBool) -> bool {
+    for _ in 0..LOOKS {
+        if flag.load(Ordering::SeqCst) {
+            return true;
+        }
+    }
+    false
+}
+
+impl Gate for Meeting {
+    fn pass(&self, worker: u8) -> bool {
+        let (mine, other) = if worker == 0 { (0, 1) } else { (1, 0) };
+        if self.came[mine].load(Ordering::SeqCst) {
+            return true;
+        }
+        self.came[mine].store(true, Ordering::SeqCst);
+        let seen = is_seen(&self.came[other]);
+        self.saw[mine].store(seen, Ordering::SeqCst);
+        seen
+    }
+}
+
+fn content(alloc: Global) -> Result<Bytes, Fail> {
+    let image = assemble(alloc, HELLO)?;
+    Ok(Bytes::from_vec(elf_image::write(alloc, &image)?))
+}
+
+fn boot(alloc: Global) -> Result<Boot, Fail> {
+    let mut files = Seq::new(alloc);
+    files.push(GuestFile {
+        path: Bytes::from_slice(alloc, b"/p")?,
+        content: content(alloc)?,
+    })?;
+    let mut argv = Seq::new(alloc);
+    argv.push(Bytes::from_slice(alloc, b"/p")?)?;
+    Ok(Boot {
+        limits: Limits::WIDEST,
+        files,
+        argv,
+        env: Seq::new(alloc),
+        input: Bytes::new(alloc),
+        follow: false,
+    })
+}
+
+/// The run of that listing with all its calls shown.
+fn traced<G: Gate, R: Threads + Wait + Sync>(
+    rt: &R,
+    alloc: Global,
+    boot: Boot,
+    workers: u8,
+    gate: &G,
+) -> Result<Run, ThreadsFault>
+    requires { 1 ≤ workers }
+    requires { workers ≤ 8 }
+{
+    let options = Options {
+        follow: false,
+        shown: Set::AllBut(Seq::new(alloc)),
+        string_limit: 32,
+        width: 40,
+    };
+    run_threads(
+        rt,
+        alloc,
+        boot,
+        workers,
+        1 << 30,
+        Script::empty(alloc),
+        options,
+        gate,
+    )
+}
+
+fn is_whole(run: &Run) -> bool {
+    matches!(run.ended, Ended::Whole(_))
+}
+
+#[test]
+fn two_workers_meet(rt: HostRuntime) -> Result<(), Fail> {
+    let alloc = rt.alloc();
+    let meeting = Meeting::new();
+    let run = traced(&rt, alloc, boot(alloc)?, 2, &meeting)?;
+    assert!(rt; is_whole(&run));
+    assert_eq!(rt; run.outcome.console.as_slice(), b"hi\n".as_slice());
+    assert!(rt; meeting.was_held());
+    drop(run);
+    Ok(())
+}

@@ -1,0 +1,34 @@
+//! Why a run on threads gives none.
+
+ghost use Rattle.std.specs.Prelude.{◌≡◌};
+ghost use Rattle.trace_threads.specs.ThreadRuns.{fault_by};
+
+use host_link::LinkFault;
+use lx_boot::BootFault;
+use thiserror::Error;
+use tr_core::TraceFault;
+use trace_run::RunFault;
+
+#[derive(Clone, Copy, Debug, PartialEq, Eq, Error)]
+pub enum ThreadsFault {
+    /// The boot's fault, or Memory where memory ran out anywhere.
+    #[error("{0}")]
+    Boot(BootFault),
+    #[error("a thread did not start")]
+    Start,
+    /// The run isn't the one that the journal tells, or the link or the tracer met another fault.
+    #[error("the run is not the one that the host's journal tells")]
+    Unlike,
+}
+
+/// The fault of a run that failed, whose trace is kept in memory.
+pub fn threads_fault(fault: RunFault) -> ThreadsFault
+    ensures { result ≡ fault_by fault }
+{
+    match fault {
+        RunFault::Link(LinkFault::Memory)
+        | RunFault::Trace(TraceFault::Memory)
+        | RunFault::Output => ThreadsFault::Boot(BootFault::Memory),
+        RunFault::Link(_) | RunFault::Trace(_) => ThreadsFault::Unlike,
+    }
+}

@@ -1,0 +1,10 @@
+//! Whole runs whose host is turned by threads.
+#![tactic(auto)]
+
+pub mod fault;
+mod finish;
+pub mod threads;
+pub mod traced;
+
+pub use fault::ThreadsFault;
+pub use threads::run_threads;

@@ -1,0 +1,68 @@
+//! A whole run in one process, the host's turns on threads of their own.
+
+ghost use Rattle.std.specs.Prelude.{◌≡◌, ◌≤◌, ◌^◌, Some, None, Err, IfOk, IfErr, OnOk};
+ghost use Rattle.lx_boot.specs.Boots.{fault_of};
+ghost use Rattle.lx_boot.specs.declared.boots.BootFault.{BootFault};
+ghost use Rattle.trace_threads.specs.ThreadRuns.{Faults, ThreadRun};
+
+use crate::fault::ThreadsFault;
+use crate::finish::finish;
+use crate::traced::trace_on_threads;
+use host_shared::{Gate, Held};
+use lx_abi::{Boot, Script};
+use lx_boot::BootFault;
+use lx_copies::Copied;
+use lx_proc::{Shared, UserState};
+use lx_turn::laws::linux_is_a_machine;
+use pt_journal::laws::journals_tell;
+use pt_kernel::laws::linux_is_told;
+use pt_model::laws::{every_script_is_one, tracing_is_transparent};
+use std::alloc::Global;
+use std::sync::{Mutex, Wait};
+use std::thread::Threads;
+use tr_core::Options;
+use tr_core::laws::texts_are_whole;
+use trace_run::local::Run;
+
+/// Boots a guest and traces it, its turns made by so many threads, one under each holding of a lock; a worker asks the
+/// gate before each. The boot's follow counts, not that of the options. At most `limit` turns and requests are made.
+pub fn run_threads<G: Gate, R: Threads + Wait + Sync>(
+    rt: &R,
+    alloc: Global,
+    boot: Boot,
+    workers: u8,
+    limit: u64,
+    script: Script,
+    options: Options,
+    gate: &G,
+) -> Result<Run, ThreadsFault>
+    requires some_workers { 1 ≤ workers }
+    requires few_workers { workers ≤ 8 }
+    requires some { 1 ≤ limit }
+    requires most { limit ≤ 2 ^ 39 }
+    ensures run { IfOk result (λ run. ThreadRun boot limit script options run) }
+    ensures accepted { OnOk result (fault_of boot ≡ None) }
+    ensures fault { IfErr result (λ fault. Faults boot fault) }
+
+    // A boot with a fault is refused with it, whatever the memory.
+    ensures refused { (e : BootFault) → fault_of boot ≡ Some e → result ≡ Err (ThreadsFault.Boot e) }
+{
+    journals_tell::<Shared, UserState>();
+    tracing_is_transparent::<Shared, UserState>();
+    every_script_is_one();
+    texts_are_whole();
+    linux_is_a_machine();
+    linux_is_told();
+    let mut options = options;
+    options.follow = boot.follow;
+    let copy = boot.copy(alloc);
+    let held = match Held::new(alloc, boot, limit) {
+        Ok(held) => Mutex::new(held),
+        Err(fault) => return Err(ThreadsFault::Boot(fault)),
+    };
+    let Ok(boot) = copy else {
+        return Err(ThreadsFault::Boot(BootFault::Memory));
+    };
+    let traced = trace_on_threads(rt, alloc, &held, workers, script, options, gate);
+    finish(&boot, limit, held.into_inner(), traced)
+}
