@@ -4,9 +4,9 @@ use host_wire::{Frame, WireFault, encode};
 use std::alloc::{AllocError, Global};
 use std::test::Fail;
 
-/// The frame of this number with this kind and body, of less than 2^32 bytes.
-fn framed(alloc: Global, number: u64, message: &[u8]) -> Result<Vec<u8>, AllocError> {
-    let length = (message.len() as u32).wrapping_add(8);
+/// The frame of this number with this kind and body, of so many bytes.
+fn framed(alloc: Global, number: u64, message: &[u8], length: u32) -> Result<Vec<u8>, AllocError> {
+    let length = length.wrapping_add(8);
     let mut bytes = length.to_be_bytes().to_vec(alloc)?;
     bytes.extend_from_slice(number.to_be_bytes().as_slice())?;
     bytes.extend_from_slice(message)?;
@@ -16,7 +16,8 @@ fn framed(alloc: Global, number: u64, message: &[u8]) -> Result<Vec<u8>, AllocEr
 /// The frame of this number whose kind and body are told by hexadecimal digits.
 pub fn frame(alloc: Global, number: u64, message: &str) -> Result<Vec<u8>, Fail> {
     let message = hex::decode(alloc, message)?;
-    Ok(framed(alloc, number, message.as_slice())?)
+    let length = u32::try_from(message.len())?;
+    Ok(framed(alloc, number, message.as_slice(), length)?)
 }
 
 /// The frames of these messages, numbered from 1.
