@@ -51,6 +51,7 @@ module _ {L : Type 0} (given_in : L → List (Request × Reply)) (given faults :
       → RunsWhole answers (new_state (options_by o) (choice_of script) (first_pen o)) link old (Ok ended) link' new
       → old.contents ≡ Some [] → given_in link ≡ [] → (xs : List (Request × Reply)) → xs ≡ given_in link'
       → (trace : List ℕ) → new.contents ≡ Some trace → IsTraced script o ended xs trace
+  unfolding LinuxRunsTell
   is_traced tells script o link link' old new ended w nothing first xs is trace written =
       let begun : State = new_state (options_by o) (choice_of script) (first_pen o) in
       let at : given_in link' ≡ w.runs.exchanges =

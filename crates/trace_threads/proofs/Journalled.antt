@@ -1,5 +1,6 @@
 -- From the journal under the lock to what a run is.
 use Rattle.std.specs.Prelude.{IfOk, IfErr, OnOk}
+use Rattle.std.proofs.Math.Bridge.{le_prop}
 use Rattle.std.proofs.Common.{Result, Err, ◌≡◌, ℕ, ◌≤◌, ◌<◌, Bool, true, List, [], ◌∷◌, ◌++◌, length, map, Some, Ok, refl, sym, ap, subst, ◌∙◌, inr, append-nil}
 use Rattle.lx_abi.specs.declared.boot.Boot.{Boot}
 use Rattle.lx_abi.specs.declared.outcome.Outcome.{Outcome}
@@ -228,3 +229,11 @@ pub is_a_fault : (boot : Boot) (limit : ℕ) (held : HeldState) (given : List (R
 is_a_fault boot limit held given trace turns ended left l (Ok run) p = tt
 is_a_fault boot limit held given trace turns (Ok e) left l (Err fault) p = (subst (λ x. Left boot limit held given x) p.fault l).fault
 is_a_fault boot limit held given trace turns (Err f) left l (Err fault) p = subst (λ x. Faults boot x) (sym p.fault) (run_fault boot f)
+
+pub on_ok : {A E P : Type 0} (result : Result A E) → P → OnOk result P
+on_ok (Ok x) p = p
+on_ok (Err e) p = tt
+
+-- options are the same whatever shows that their limit is in range
+pub limits_are_one : (o : Options) (p : o.string_limit ≤ 4096) → record o { limit_in_range = p } ≡ o
+limits_are_one o p = ap (λ (q : o.string_limit ≤ 4096). record o { limit_in_range = q }) (le_prop p o.limit_in_range)

@@ -58,11 +58,21 @@ pub fn run_threads<G: Gate, R: Threads + Wait + Sync>(
     let copy = boot.copy(alloc);
     let held = match Held::new(alloc, boot, limit) {
         Ok(held) => Mutex::new(held),
-        Err(fault) => return Err(ThreadsFault::Boot(fault)),
+        Err(fault) => {
+            drop(copy);
+            drop(script);
+            drop(options);
+            return Err(ThreadsFault::Boot(fault));
+        }
     };
     let Ok(boot) = copy else {
+        drop(held);
+        drop(script);
+        drop(options);
         return Err(ThreadsFault::Boot(BootFault::Memory));
     };
     let traced = trace_on_threads(rt, alloc, &held, workers, script, options, gate);
-    finish(&boot, limit, held.into_inner(), traced)
+    let result = finish(&boot, limit, held.into_inner(), traced);
+    drop(boot);
+    result
 }

@@ -1,4 +1,9 @@
-use Rattle.trace_threads.proofs.Journalled.{finished, same_faults}
+use Rattle.std.proofs.Common.{subst}
+use Rattle.std.specs.Prelude.{IfOk}
+use Rattle.tr_core.specs.declared.settings.Options.{Options}
+use Rattle.trace_run.specs.BootedRuns.{following}
+use Rattle.trace_threads.specs.ThreadRuns.{IsTraced}
+use Rattle.trace_threads.proofs.Journalled.{finished, limits_are_one, on_ok}
 use Rattle.trace_threads.proofs.threads.run_threads.Goals as goal
 
 pub returns-clause-run : goal.returns-clause-run
@@ -12,8 +17,11 @@ returns-clause-run g c =
       machine = c.linux_is_a_machine.ensures;
       told = c.linux_is_told.ensures;
     })
-    c.args.boot c.in-Ok.boot c.args.limit c.args.script c.args.options c.into_inner.result c.trace_on_threads-traced.result.given.items c.trace_on_threads-traced.result.trace c.trace_on_threads-traced.result.ended
-    c.in-Ok.ensures c.trace_on_threads-traced.ensures c.finish.result c.finish.ensures.run
+    c.args.boot c.in-Ok-copy.boot c.args.limit c.args.script c.args.options c.into_inner.result c.trace_on_threads-traced.result.given.items c.trace_on_threads-traced.result.trace c.trace_on_threads-traced.result.ended
+    c.in-Ok-copy.ensures
+    (subst (λ (x : Options). IfOk c.trace_on_threads-traced.result.ended (λ ended. IsTraced c.args.script x ended c.trace_on_threads-traced.result.given.items c.trace_on_threads-traced.result.trace))
+    (limits_are_one (following c.args.options c.args.boot.follow) _) c.trace_on_threads-traced.ensures)
+    c.finish-result.result c.finish-result.ensures.run
 
-pub returns-clause-fault : goal.returns-clause-fault
-returns-clause-fault g c = same_faults c.args.boot c.in-Ok.boot c.in-Ok.ensures c.finish.result c.finish.ensures.fault
+pub returns-clause-accepted : goal.returns-clause-accepted
+returns-clause-accepted g c = on_ok c.finish-result.result c.in-Ok.ensures.accepted
