@@ -97,8 +97,8 @@ fn traced<G: Gate, R: Threads + Wait + Sync>(
     workers: u8,
     gate: &G,
 ) -> Result<Run, ThreadsFault>
-    requires { 1 ≤ workers }
-    requires { workers ≤ 8 }
+    requires some { 1 ≤ workers }
+    requires few { workers ≤ 8 }
 {
     let options = Options {
         follow: false,

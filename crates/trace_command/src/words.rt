@@ -321,7 +321,7 @@ fn count_in(digits: &str) -> Option<u8>
 }
 
 /// The threads that make the turns: in this process, by no schedule of words.
-fn workers(alloc: Global, matches: &ArgMatches, limit: u64) -> Result<Option<Workers>, Fault> {
+fn read_workers(alloc: Global, matches: &ArgMatches, limit: u64) -> Result<Option<Workers>, Fault> {
     let Some(digits) = matches.get_str("workers") else {
         return Ok(None);
     };
@@ -363,7 +363,7 @@ pub fn trace_options(alloc: Global, matches: &ArgMatches) -> Result<TraceOptions
         string_limit,
         column: small_number(alloc, "-a", matches.get_str("columns"), MOST_COLUMN, 40)?,
         limit,
-        workers: workers(alloc, matches, limit)?,
+        workers: read_workers(alloc, matches, limit)?,
         explain: matches.get_flag("explain"),
     })
 }
