@@ -24,6 +24,12 @@ impl Gate for Always {
     }
 }
 
+/// Writes a trace in one piece.
+fn write_trace<W: Write + Drop>(writer: W, trace: &[u8]) -> Result<(), Broken> {
+    let mut writer = Counted::new(writer);
+    writer.put(trace)
+}
+
 /// Makes the run, and writes its trace, to a place that is opened before, at the end.
 pub fn trace_on_threads<R: Files + Threads + Wait + Sync + AllocGlobal, O: Write, E: Write>(
     rt: &R,
@@ -51,7 +57,7 @@ pub fn trace_on_threads<R: Files + Threads + Wait + Sync + AllocGlobal, O: Write
         options,
         &Always,
     ) {
-        Ok(run) => match Counted::new(trace).put(run.trace.as_slice()) {
+        Ok(run) => match write_trace(trace, run.trace.as_slice()) {
             Ok(()) => Ok(run),
             Err(Broken) => Err(place.fault(alloc)),
         },

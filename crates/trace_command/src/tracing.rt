@@ -22,6 +22,7 @@ use std::rt::Files;
 use std::sync::Wait;
 use std::thread::Threads;
 use tr_core::{Options, TraceFault};
+use trace_run::local::Run;
 use trace_run::{Ended, RunFault};
 
 /// The fault of a run whose trace goes to this place.
@@ -138,11 +139,16 @@ fn run_as_asked<R: Files + Processes + Threads + Wait + Sync + AllocGlobal, O: W
         return run_plan(rt, matches, plan, options.limit, out, err);
     };
     let place = Place::of(matches.get_str("output"));
-    let run = trace_on_threads(rt, plan, workers, place, out, &mut *err)?;
+    let Run {
+        trace,
+        ended,
+        outcome: _outcome,
+        turns,
+    } = trace_on_threads(rt, plan, workers, place, out, &mut *err)?;
     if let Some(again) = again {
-        again.know(run.turns);
+        again.know(turns);
     }
-    outcome_of_threads(rt.alloc(), run.ended, &run.trace, place, err)
+    outcome_of_threads(rt.alloc(), ended, &trace, place, err)
 }
 
 /// Process 1's exit code, or 128 and the signal that ended it.
