@@ -40,9 +40,7 @@ fn remove_file(shared: &mut Shared, user: &mut UserState, path: &[u8], sight: Lo
 fn is_empty(alloc: Global, tree: &Tree, path: &[u8]) -> Result<bool, AllocError>
     ensures { IfOk result (λ e. e ≡ is_empty_of tree.now path.now) }
 {
-    let mut start = path.to_vec(alloc)?;
-    start.push(b'/')?;
-    Ok(!tree.names.any_starts(start))
+    Ok(!tree.names.any_under(alloc, path)?)
 }
 
 /// One of these processes is in a directory.

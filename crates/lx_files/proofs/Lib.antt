@@ -2,6 +2,17 @@ pub mod Totals
 pub mod Texts
 pub mod Counting
 pub mod Paths
+pub mod Naming
+pub mod Cutting
+pub mod Climbing
+pub mod Growing
+pub mod Numbering
+pub mod Flattening
+pub mod Under
+pub mod Pruned
+pub mod Walking
+pub mod Adding
+pub mod Fresh
 pub mod Walks
 pub mod Sizes
 pub mod Full

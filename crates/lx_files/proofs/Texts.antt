@@ -1,5 +1,5 @@
 -- Maps from texts kept as the entries of a std map from vectors.
-use Rattle.std.proofs.Common.{◌≡◌, ℕ, List, [], ◌∷◌, Bool, true, false, Option, Some, None, cond, map, ◌&&◌, ◌||◌, T, refl, ap, sym, subst, ◌∙◌}
+use Rattle.std.proofs.Common.{◌≡◌, ℕ, List, [], ◌∷◌, Bool, true, false, Option, Some, None, cond, map, ◌&&◌, ◌||◌, T, refl, ap, sym, subst, ◌∙◌, arith}
 use Rattle.std.specs.Ordering.{eq_by_cmp, is_eq, is_lt}
 use Rattle.std.specs.List.{list_any}
 use Rattle.std.specs.FinMap.Entries.{below_all, is_sorted}
@@ -10,6 +10,8 @@ use Rattle.std.specs.Map.{lookup, remove_entry}
 use Rattle.std.specs.List.{AllByRecursion}
 use Rattle.std.specs.List.Sorted.{IsStrictlySortedBy}
 use Rattle.std.specs.BTreeMap.{is_at, insert_entry}
+use Rattle.std.specs.Prelude.{length, slice_get}
+use Rattle.std.specs.Cmp.{tied_itself}
 use Rattle.std.specs.FinMap as maps
 use Rattle.lx_files.specs.Paths.{path_cmp}
 
@@ -138,3 +140,17 @@ module _ {K X : Type 0} (text : K → List ℕ) where
   -- a test of the keys
   pub any_key : (p : List ℕ → Bool) (es : List (K × X)) → IsStrictlySortedBy (λ a b. path_cmp (text a) (text b)) (map (λ e. e.0) es) → list_any (λ e. p (text e.0)) es ≡ list_any p (maps.keys (maps.from_entries {R = path_cmp} (texts es)))
   any_key p es h = any-texts p es ∙ ap (λ l. list_any p (map (λ e. e.0) l)) (sym (entries-texts es h))
+
+  -- the first entry is found by its text
+  pub first_found : (es : List (K × X)) (k : K) (v : X) → slice_get es 0 ≡ Some (k, v) → maps.get (maps.from_entries {R = path_cmp} (texts es)) (text k) ≡ Some v
+  first_found [] k v h = absurd (cc h)
+  first_found (e ∷ es) k v h =
+      let key : e.0 ≡ k = cc h in
+      let value : e.1 ≡ v = cc h in
+      get-texts (text k) (e ∷ es) ∙ ap (λ z. lookup (is_at (λ x. path_cmp (text z) (text x))) (e ∷ es)) (sym key)
+      ∙ ap (λ b. cond b (Some e.1) (lookup (is_at (λ x. path_cmp (text e.0) (text x))) es)) (ap is_eq (tied_itself nat_list_cmp_total (text e.0))) ∙ ap (λ (z : X). Some z) value
+
+  -- nothing is found where there is no entry
+  pub none_found : (es : List (K × X)) (q : List ℕ) → length es ≡ 0 → maps.get (maps.from_entries {R = path_cmp} (texts es)) q ≡ None
+  none_found [] q h = get-texts q []
+  none_found (e ∷ es) q h = absurd (omega (arith, h))

@@ -41,3 +41,8 @@ is_number n x = x == n
 pub record AreKept (nodes : NodeMap) (contents full_below : ℕ) : Type 0 where
   pub sum : contents ≡ total size_of nodes
   pub full : IsFullBelow nodes full_below
+
+-- some path has the number
+abbrev pub IsAny : NameMap → Option ℕ → Type 0
+IsAny names None = (path : List ℕ) → maps.get names path ≡ None
+IsAny names (Some number) = (path : List ℕ) × (maps.get names path ≡ Some number)

@@ -1,6 +1,7 @@
 pub mod Tallies
 pub mod Paths
 pub mod Kinds
+pub mod Folders
 pub mod Trees
 pub mod Places
 pub mod Contents

@@ -3,11 +3,17 @@
 
 pub mod boots;
 pub mod counts;
+mod flat;
+pub mod folder;
+pub mod folders;
 mod listing;
+pub mod name_tree;
 pub mod names;
 pub mod nodes;
 pub mod path_map;
 pub mod places;
+mod pruning;
+mod reaching;
 pub mod tree;
 
 pub use boots::plant;

@@ -2,24 +2,27 @@
 
 ghost use Rattle.std.specs.Prelude.{◌≡◌, OnOk, OnErr};
 ghost use Rattle.std.specs.FinMap as maps;
-ghost use Rattle.std.specs.Prelude.{nat_eq, IfOk, map};
-ghost use Rattle.std.specs.List.{list_any, starts_with, filter};
+ghost use Rattle.std.specs.Prelude.{IfOk, map, []};
+ghost use Rattle.std.specs.List.{list_any, filter};
+ghost use Rattle.lx_files.specs.Paths.{is_under};
 ghost use Rattle.lx_files.specs.Listing.{is_named, file_of};
 ghost use Rattle.lx_files.specs.Tallies.{holds, Forgets};
 ghost use Rattle.lx_files.specs.Kinds.{is_number};
+ghost use Rattle.lx_files.specs.Places.{numbered, parts as parts_of, reached};
 
 use crate::counts::Counts;
+use crate::name_tree::NameTree;
 use crate::nodes::Nodes;
-use crate::path_map::PathMap;
+use crate::places::Place;
 use containers::Seq;
-use lx_abi::OutcomeFile;
+use lx_abi::{Errno, OutcomeFile};
 use std::alloc::{AllocError, Global};
 use std::marker::Model;
 
 /// A node's number by path, with how many paths name each node.
 #[derive(Drop)]
 pub struct Names {
-    map: PathMap,
+    map: NameTree,
     counts: Counts,
 }
 
@@ -52,7 +55,7 @@ impl Names {
         ensures { result ≡ maps.empty }
     {
         Names {
-            map: PathMap::new(alloc),
+            map: NameTree::new(alloc),
             counts: Counts::new(alloc),
         }
     }
@@ -78,11 +81,26 @@ impl Names {
         self.map.list(alloc, nodes)
     }
 
-    /// Some path begins with these bytes.
-    pub fn any_starts(&self, start: Vec<u8>) -> bool
-        ensures { result ≡ list_any (λ path. starts_with nat_eq path start.items) (maps.keys self.now) }
+    /// Some path leads on from a path.
+    pub fn any_under(&self, alloc: Global, path: &[u8]) -> Result<bool, AllocError>
+        ensures { IfOk result (λ a. a ≡ list_any (is_under path.now) (maps.keys self.now)) }
     {
-        self.map.any_starts(start)
+        self.map.any_under(alloc, path)
+    }
+
+    /// The place of the last of the pieces of a text, once those before it are entered, from a path on.
+    pub fn reach(
+        &self,
+        alloc: Global,
+        nodes: &Nodes,
+        slashed: bool,
+        start: Vec<u8>,
+        pieces: &[&[u8]],
+    ) -> Result<Result<Place, Errno>, AllocError>
+        ensures { IfOk result (λ r. numbered r ≡ reached (record { names = self.now; nodes = nodes.now }) slashed
+            start.items [] (parts_of (map (λ p. p.now) pieces.now))) }
+    {
+        self.map.reach(alloc, nodes, slashed, start, pieces)
     }
 
     /// The path names nothing from now on.
@@ -104,11 +122,9 @@ impl Names {
         ensures ok { OnOk result (self.new ≡ maps.insert self.old path.now node) }
         ensures err { OnErr result (self.new ≡ self.old) }
     {
-        let key = path.to_vec(alloc)?;
-        let was = self.map.get(path);
         self.counts.add(node)?;
-        match self.map.insert(key, node) {
-            Ok(()) => {
+        match self.map.insert(alloc, path, node) {
+            Ok(was) => {
                 forget(&mut self.counts, was);
                 Ok(())
             }

@@ -5,6 +5,7 @@ ghost use Rattle.std.specs.FinMap as maps;
 ghost use Rattle.std.specs.Prelude.{nat_eq, map};
 ghost use Rattle.std.specs.List.{list_any, starts_with, filter};
 ghost use Rattle.lx_files.specs.Listing.{is_named, file_of};
+ghost use Rattle.lx_files.specs.Kinds.{IsAny};
 
 use crate::listing::list_files;
 use crate::nodes::Nodes;
@@ -84,6 +85,16 @@ impl PathMap {
         match self.tree.range(&start..).next() {
             None => false,
             Some((path, _number)) => path.as_slice().starts_with(start.as_slice()),
+        }
+    }
+
+    /// The number of some path, if there is a path.
+    pub fn any(&self) -> Option<u32>
+        ensures { IsAny self.now result }
+    {
+        match self.tree.first_key_value() {
+            None => None,
+            Some((_path, number)) => Some(*number),
         }
     }
 }

@@ -1,13 +1,10 @@
 //! What a text of a path names.
 
-ghost use Rattle.std.specs.Prelude.{◌≡◌, OnOk, IfOk, IfSome, map};
+ghost use Rattle.std.specs.Prelude.{◌≡◌, OnOk, IfOk, map};
+ghost use Rattle.std.specs.List.{list_any};
 ghost use Rattle.lx_files.specs.Paths.{parent as parent_of};
-ghost use Rattle.std.specs.Prelude.{[], nat_eq, ◌∷◌};
-ghost use Rattle.std.specs.List.{list_any, ends_with};
-ghost use Rattle.std.specs.Option.{option_map};
 ghost use Rattle.lx_files.specs.Trees.{node_at};
-ghost use Rattle.lx_files.specs.Places.{beyond as beyond_of, bar as bar_of, numbered, pieces as pieces_of};
-ghost use Rattle.lx_files.specs.Places.{parts as parts_of, reached, is_long, is_slashed, start_of};
+ghost use Rattle.lx_files.specs.Places.{beyond as beyond_of, numbered, pieces as pieces_of, is_long, start_of};
 ghost use Rattle.lx_files.specs.Places.{place as place_of, path_of, sight as sight_of};
 
 use crate::tree::Tree;
@@ -63,52 +60,11 @@ pub fn go_beyond(path: &mut Vec<u8>, part: &[u8]) -> Result<(), AllocError>
     Ok(())
 }
 
-/// Why what stands at a path can't be entered.
-fn bar(tree: &Tree, path: &[u8]) -> Option<Errno>
-    ensures { option_map (λ e. e.number) result ≡ bar_of (node_at tree.now path.now) }
-{
-    match tree.find(path) {
-        None => Some(Errno::ENOENT),
-        Some(Node::File(_)) => Some(Errno::ENOTDIR),
-        Some(Node::Directory) => None,
-    }
-}
-
 /// What stands between slashes.
 fn pieces(alloc: Global, text: &[u8]) -> Result<Vec<&[u8]>, AllocError>
     ensures { IfOk result (λ v. map (λ p. p.now) v.items ≡ pieces_of text.now) }
 {
     text.split(|byte| *byte == b'/').collect(alloc)
-}
-
-/// The place of the last part, once the parts before it are entered.
-fn reach(
-    alloc: Global,
-    tree: &Tree,
-    slashed: bool,
-    start: Vec<u8>,
-    pieces: &[&[u8]],
-) -> Result<Result<Place, Errno>, AllocError>
-    ensures { IfOk result (λ r. numbered r
-        ≡ reached tree.now slashed start.items [] (parts_of (map (λ p. p.now) pieces.now))) }
-{
-    let mut at = start;
-    let mut last: &[u8] = b"".as_slice();
-    for part in pieces {
-        if part.len() == 0 {
-            continue;
-        }
-        go_beyond(&mut at, last)?;
-        match bar(tree, at.as_slice()) {
-            Some(error) => return Ok(Err(error)),
-            None => last = part,
-        }
-    }
-    Ok(Ok(Place {
-        under: Bytes::from_vec(at),
-        last: Bytes::from_slice(alloc, last)?,
-        slashed,
-    }))
 }
 
 fn any_long(pieces: &[&[u8]]) -> bool
@@ -150,13 +106,9 @@ pub fn locate(
         return Ok(Err(Errno::ENAMETOOLONG));
     }
     let start = start(alloc, directory, text)?;
-    reach(
-        alloc,
-        tree,
-        text.ends_with(b"/".as_slice()),
-        start,
-        pieces.as_slice(),
-    )
+    let slashed = text.ends_with(b"/".as_slice());
+    tree.names
+        .reach(alloc, &tree.nodes, slashed, start, pieces.as_slice())
 }
 
 /// The path of a place.

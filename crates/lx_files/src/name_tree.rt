@@ -1,0 +1,142 @@
+//! Numbers by path, in folders.
+//!
+//! A path is looked up name by name from the top, each in the folder above it, so it takes time with its names, and a
+//! part of it from its folder one look-up. A name is kept twice: in the folder above, and where its own folder stands.
+//! Whole paths are made where they are listed, and for `any_under` where a folder without a number is all there is in
+//! another, as is so only where a path was given a number before the path above it.
+
+ghost use Rattle.std.specs.Prelude.{◌≡◌, OnOk, OnErr, IfOk, map, []};
+ghost use Rattle.std.specs.FinMap as maps;
+ghost use Rattle.std.specs.List.{list_any, filter};
+ghost use Rattle.lx_files.specs.Listing.{is_named, file_of};
+ghost use Rattle.lx_files.specs.Paths.{is_under};
+ghost use Rattle.lx_files.specs.Places.{numbered, parts as parts_of, reached};
+
+use crate::flat::{any_under, flatten};
+use crate::folder::Folders;
+use crate::folders::{TOP, enter_path, walk};
+use crate::nodes::Nodes;
+use crate::places::Place;
+use crate::pruning::prune;
+use crate::reaching::reach;
+use containers::Seq;
+use lx_abi::{Errno, OutcomeFile};
+use shelves::Shelf;
+use std::alloc::{AllocError, Global};
+use std::marker::Model;
+
+/// A map from path to number. Each path is a folder, whose name stands in the folder above it.
+#[derive(Drop)]
+pub struct NameTree {
+    folders: Folders,
+    numbers: Shelf<u32>,
+}
+
+impl Model for NameTree {
+    ghost use Rattle.std.specs.Coded.{codes};
+    ghost use Rattle.std.specs.FinMap as maps;
+    ghost use Rattle.lx_files.specs.Kinds.{NameMap};
+    ghost use Rattle.lx_files.specs.Folders.{named, IsTree, AreThere};
+
+    ghost Value = { NameMap };
+
+    ghost coded = { Prim.hlevel (codes, maps.code) };
+
+    ghost view = { λ n. named n.folders.standings n.numbers };
+
+    ghost invariant = { λ n. IsTree n.folders.children n.folders.standings n.folders.full_below
+        × AreThere n.folders.standings n.numbers };
+}
+
+impl NameTree {
+    pub fn new(alloc: Global) -> Self
+        ensures { result ≡ maps.empty }
+    {
+        NameTree {
+            folders: Folders {
+                children: Shelf::new(alloc),
+                standings: Shelf::new(alloc),
+                full_below: 0,
+            },
+            numbers: Shelf::new(alloc),
+        }
+    }
+
+    pub fn get(&self, path: &[u8]) -> Option<u32>
+        ensures { result ≡ maps.get self.now path.now }
+    {
+        match walk(&self.folders.children, TOP, path) {
+            None => None,
+            Some(folder) => self.numbers.get(folder).copied(),
+        }
+    }
+
+    /// The path has the number, and no other; the number that it had before.
+    pub fn insert(
+        &mut self,
+        alloc: Global,
+        path: &[u8],
+        number: u32,
+    ) -> Result<Option<u32>, AllocError>
+        ensures was { IfOk result (λ w. w ≡ maps.get self.old path.now) }
+        ensures ok { OnOk result (self.new ≡ maps.insert self.old path.now number) }
+        ensures err { OnErr result (self.new ≡ self.old) }
+    {
+        let folder = enter_path(alloc, &mut self.folders, path)?;
+        let was = self.numbers.get(folder).copied();
+        self.numbers.insert(folder, number)?;
+        Ok(was)
+    }
+
+    pub fn remove(&mut self, path: &[u8]) -> Option<u32>
+        ensures value { result ≡ maps.get self.old path.now }
+        ensures rest { self.new ≡ maps.remove self.old path.now }
+    {
+        match walk(&self.folders.children, TOP, path) {
+            None => None,
+            Some(folder) => {
+                let number = self.numbers.remove(folder);
+                prune(&mut self.folders, folder);
+                number
+            }
+        }
+    }
+
+    /// What stands at each path but the root, in byte order.
+    pub fn list(&self, alloc: Global, nodes: &Nodes) -> Result<Seq<OutcomeFile>, AllocError>
+        ensures { IfOk result (λ l. l ≡ map (file_of nodes.now) (filter is_named (maps.entries self.now))) }
+    {
+        let flat = flatten(alloc, &self.folders, &self.numbers)?;
+        flat.list(alloc, nodes)
+    }
+
+    /// Some path leads on from a path.
+    pub fn any_under(&self, alloc: Global, path: &[u8]) -> Result<bool, AllocError>
+        ensures { IfOk result (λ a. a ≡ list_any (is_under path.now) (maps.keys self.now)) }
+    {
+        any_under(alloc, &self.folders, &self.numbers, path)
+    }
+
+    /// The place of the last of the pieces of a text, once those before it are entered, from a path on.
+    pub fn reach(
+        &self,
+        alloc: Global,
+        nodes: &Nodes,
+        slashed: bool,
+        start: Vec<u8>,
+        pieces: &[&[u8]],
+    ) -> Result<Result<Place, Errno>, AllocError>
+        ensures { IfOk result (λ r. numbered r ≡ reached (record { names = self.now; nodes = nodes.now }) slashed
+            start.items [] (parts_of (map (λ p. p.now) pieces.now))) }
+    {
+        reach(
+            alloc,
+            &self.folders,
+            &self.numbers,
+            nodes,
+            slashed,
+            start,
+            pieces,
+        )
+    }
+}
