@@ -1,33 +1,40 @@
 //! A journal that grows.
 
-ghost use Rattle.std.specs.Prelude.{◌≡◌, ◌++◌, [], ◌∷◌, Some, None, true};
-ghost use Rattle.std.specs.Prelude.{OnOk, OnErr, IfSome, MatchOption, if◌then◌else◌};
+ghost use Rattle.std.specs.Prelude.{◌≡◌, ◌++◌, ◌+◌, [], ◌∷◌, Some, true, ℕ, List, length};
+ghost use Rattle.std.specs.Prelude.{OnOk, OnErr, MatchOption};
 ghost use Rattle.lx_abi.specs.declared.schedule.Event.TheVariants as event;
 ghost use Rattle.pt_journal.specs.declared.entry.Entry.TheVariants as entry;
-ghost use Rattle.pt_journal.specs.Rows.{entries_of, with_turn, Passes, Belies};
+ghost use Rattle.pt_journal.specs.Marks.{entry_of, turned, woven, turns_before, with_turn, Passes, Belies};
 ghost use Rattle.pt_journal.specs.Told.{Told};
 
-use crate::row::{Row, TurnRow};
+use crate::mark::{Deed, Mark};
 use lx_abi::{Reply, Request};
 use lx_copies::Same;
 use std::alloc::{AllocError, Global};
 use std::marker::Model;
+use turn_rows::Turns;
 
-/// A journal, which contracts see as the list of its entries.
+/// A journal, which contracts see as the list of its entries. It is kept as the turns, which take little room where
+/// they come in rows or rounds, and the places among them of what was asked and served.
 #[derive(Drop)]
 pub struct Journal {
     alloc: Global,
-    rows: Vec<Row>,
+    turns: Turns,
+    marks: Vec<Mark>,
+    /// Turns behind the last mark.
+    since: u64,
 }
 
 impl Model for Journal {
-    ghost use Rattle.std.specs.Prelude.{List};
+    ghost use Rattle.std.specs.Prelude.{◌≡◌, ◌+◌, List, length};
     ghost use Rattle.pt_journal.specs.declared.entry.Entry.{Entry};
-    ghost use Rattle.pt_journal.specs.Rows.{entries_of};
+    ghost use Rattle.pt_journal.specs.Marks.{woven, turns_before};
 
     ghost Value = { List Entry };
 
-    ghost view = { λ j. entries_of j.rows.items };
+    ghost view = { λ j. woven j.marks.items j.turns };
+
+    ghost invariant = { λ j. length j.turns ≡ turns_before j.marks.items + j.since };
 }
 
 impl Journal {
@@ -36,15 +43,28 @@ impl Journal {
     {
         Journal {
             alloc,
-            rows: Vec::new(alloc),
+            turns: Turns::new(alloc),
+            marks: Vec::new(alloc),
+            since: 0,
         }
     }
 
-    /// The entries, turns in a row of one process as one.
-    pub fn rows(&self) -> &[Row]
-        ensures { entries_of result.now ≡ self.now }
+    /// What it is kept as: marks, and the turns before, between and behind them.
+    pub fn parts(&self) -> (&[Mark], &Turns)
+        ensures { woven result.0.now result.1.now ≡ self.now }
     {
-        self.rows.as_slice()
+        (self.marks.as_slice(), &self.turns)
+    }
+
+    /// Something but a turn was done.
+    fn mark(&mut self, deed: Deed) -> Result<(), AllocError>
+        ensures ok { OnOk result (self.new ≡ self.old ++ entry_of deed ∷ []) }
+        ensures err { OnErr result (self.new ≡ self.old) }
+    {
+        let turns = self.since;
+        self.marks.push(Mark { turns, deed })?;
+        self.since = 0;
+        Ok(())
     }
 
     /// A request was put.
@@ -53,8 +73,7 @@ impl Journal {
         ensures err { OnErr result (self.new ≡ self.old) }
     {
         let place = Box::new(self.alloc, request)?;
-        self.rows.push(Row::Asked(place))?;
-        Ok(())
+        self.mark(Deed::Asked(place))
     }
 
     /// A Serve was answered.
@@ -63,8 +82,7 @@ impl Journal {
         ensures err { OnErr result (self.new ≡ self.old) }
     {
         let place = Box::new(self.alloc, reply)?;
-        self.rows.push(Row::Served(place))?;
-        Ok(())
+        self.mark(Deed::Served(place))
     }
 
     /// A process had a turn.
@@ -72,10 +90,11 @@ impl Journal {
         ensures ok { OnOk result (self.new ≡ with_turn pid self.old) }
         ensures err { OnErr result (self.new ≡ self.old) }
     {
-        if lengthen(&mut self.rows, pid) {
-            return Ok(());
+        if self.since == u64::MAX {
+            return Err(AllocError);
         }
-        self.rows.push(Row::Turned(TurnRow { pid, turns: 1 }))?;
+        self.turns.push(pid)?;
+        self.since += 1;
         Ok(())
     }
 
@@ -85,60 +104,26 @@ impl Journal {
         ensures found { result ≡ true → Told self.now given.now }
         ensures told { Told self.now given.now → result ≡ true }
     {
-        tells(self.rows.as_slice(), given)
+        tells(self.marks.as_slice(), self.since, given)
     }
 }
 
-/// One more turn of a row, where it is the process's.
-fn lengthened(row: &Row, pid: u32) -> Option<Row>
-    ensures { IfSome result (λ longer. entries_of (longer ∷ []) ≡ with_turn pid (entries_of (row.now ∷ []))) }
-{
-    match row {
-        Row::Turned(last) if last.pid == pid && last.turns < u64::MAX => {
-            Some(Row::Turned(TurnRow {
-                pid,
-                turns: last.turns + 1,
-            }))
-        }
-        _ => None,
-    }
-}
-
-/// One more turn in the last row, where it is the process's.
-fn lengthen(rows: &mut Vec<Row>, pid: u32) -> bool
-    ensures { entries_of rows.new.items
-        ≡ (if result then with_turn pid (entries_of rows.old.items) else entries_of rows.old.items) }
-{
-    if rows.is_empty() {
-        return false;
-    }
-    let at = rows.len() - 1;
-    match lengthened(&rows[at], pid) {
-        None => false,
-        Some(longer) => {
-            rows[at] = longer;
-            true
-        }
-    }
-}
-
-/// What is left of requests and replies behind a row that tells of the first of them; none where it doesn't.
-fn after_row<'a>(row: &Row, given: &'a [(Request, Reply)]) -> Option<&'a [(Request, Reply)]>
-    ensures { MatchOption result (Belies row.now given.now) (λ rest. Passes row.now given.now rest.now) }
+/// What is left of requests and replies behind a mark that tells of the first of them; none where it doesn't.
+fn after_mark<'a>(deed: &Deed, given: &'a [(Request, Reply)]) -> Option<&'a [(Request, Reply)]>
+    ensures { MatchOption result (Belies deed.now given.now) (λ rest. Passes deed.now given.now rest.now) }
 {
     let Some((first, rest)) = given.split_first() else {
         return None;
     };
-    match row {
-        Row::Asked(request) => {
+    match deed {
+        Deed::Asked(request) => {
             if request.same(&first.0) {
                 Some(given)
             } else {
                 None
             }
         }
-        Row::Turned(_) => Some(given),
-        Row::Served(reply) => {
+        Deed::Served(reply) => {
             if reply.same(&first.1) {
                 Some(rest)
             } else {
@@ -159,16 +144,29 @@ fn is_end(given: &[(Request, Reply)]) -> bool
     }
 }
 
-fn tells(rows: &[Row], given: &[(Request, Reply)]) -> bool
-    ensures found { result ≡ true → Told (entries_of rows.now) given.now }
-    ensures told { Told (entries_of rows.now) given.now → result ≡ true }
+/// Behind so many turns nothing is left, or a request that was answered OutOfTurns: some, where there were turns.
+fn is_end_after(turns: u64, given: &[(Request, Reply)]) -> bool
+    ensures found { result ≡ true → (ps : List ℕ) → length ps ≡ turns → Told (turned ps) given.now }
+    ensures told { (ps : List ℕ) → length ps ≡ turns → Told (turned ps) given.now → result ≡ true }
+{
+    if given.is_empty() {
+        return turns == 0;
+    }
+    is_end(given)
+}
+
+fn tells(marks: &[Mark], since: u64, given: &[(Request, Reply)]) -> bool
+    ensures found { result ≡ true → (ps : List ℕ) → length ps ≡ turns_before marks.now + since
+        → Told (woven marks.now ps) given.now }
+    ensures told { (ps : List ℕ) → length ps ≡ turns_before marks.now + since → Told (woven marks.now ps) given.now
+        → result ≡ true }
 {
     let mut left = given;
-    for row in rows {
-        match after_row(row, left) {
+    for mark in marks {
+        match after_mark(&mark.deed, left) {
             None => return false,
             Some(rest) => left = rest,
         }
     }
-    is_end(left)
+    is_end_after(since, left)
 }

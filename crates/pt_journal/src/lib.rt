@@ -5,8 +5,8 @@
 pub mod entry;
 pub mod journal;
 pub mod laws;
-pub mod row;
+pub mod mark;
 
 pub use entry::Entry;
 pub use journal::Journal;
-pub use row::{Row, TurnRow};
+pub use mark::{Deed, Mark};
