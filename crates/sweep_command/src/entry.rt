@@ -8,6 +8,7 @@ use front_end::{Fault, print_help, refusal, report, shown_words};
 use std::alloc::Global;
 use std::io::{IsTerminal, Read, Write};
 use std::rt::Files;
+use std::thread::Threads;
 use std::time::Clock;
 
 /// The program in its messages.
@@ -16,7 +17,7 @@ const NAME: &str = "strace_sweep";
 /// Makes the sweep that the words ask for, the program's name first, and gives the exit status. A fault is one line on
 /// `err`; at a terminal, and where the words ask for it, another explains it.
 pub fn command<
-    R: Files + Clock + AllocGlobal,
+    R: Files + Clock + Threads + Sync + AllocGlobal,
     I: Read + IsTerminal,
     O: Write,
     E: Write + IsTerminal,
@@ -37,13 +38,12 @@ pub fn tell<E: Write>(fault: Fault, err: &mut E) -> u8 {
     report(NAME, &fault, false, err)
 }
 
-fn run<R: Files + Clock + AllocGlobal, I: Read + IsTerminal, O: Write, E: Write + IsTerminal>(
-    rt: &R,
-    matches: &ArgMatches,
-    input: &mut I,
-    out: &mut O,
-    err: &mut E,
-) -> u8 {
+fn run<
+    R: Files + Clock + Threads + Sync + AllocGlobal,
+    I: Read + IsTerminal,
+    O: Write,
+    E: Write + IsTerminal,
+>(rt: &R, matches: &ArgMatches, input: &mut I, out: &mut O, err: &mut E) -> u8 {
     let explained = matches.get_flag("explain") || err.is_terminal();
     match sweep(rt, matches, explained, input, out, err) {
         Ok(status) => status,

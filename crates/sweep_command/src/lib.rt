@@ -1,8 +1,11 @@
-//! The command that makes each call of a guest fail in turn: its words, the runs, and what is told of them.
+//! The command that makes each call of a guest fail in turn, or tries orders of its turns: its words, the runs, and
+//! what is told of them.
 #![tactic(auto)]
 
 mod calls;
 mod entry;
+mod keeping;
+mod orders;
 mod plan;
 mod progress;
 mod reference;

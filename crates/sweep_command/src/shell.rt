@@ -53,6 +53,20 @@ fn limit(kind: Kind, digits: &str) -> u64 {
     }
 }
 
+/// Adds the limit on events, where the words have one on turns.
+fn push_limit(
+    alloc: Global,
+    words: &mut Vec<String>,
+    matches: &ArgMatches,
+    kind: Kind,
+) -> Result<(), AllocError> {
+    if let Some(digits) = matches.get_str("limit") {
+        push(alloc, words, "--limit")?;
+        words.push(format!(in alloc; "{}", limit(kind, digits))?)?;
+    }
+    Ok(())
+}
+
 /// The words that make an occurrence fail; none, where no expression names it.
 pub fn failure_words(
     alloc: Global,
@@ -65,27 +79,24 @@ pub fn failure_words(
         return Ok(words);
     };
     push_each(alloc, &mut words, "-e", &[expression.as_str()])?;
-    if let Some(digits) = matches.get_str("limit") {
-        push(alloc, &mut words, "--limit")?;
-        words.push(format!(in alloc; "{}", limit(kind, digits))?)?;
-    }
+    push_limit(alloc, &mut words, matches, kind)?;
     Ok(words)
 }
 
-/// The words before those that make an occurrence fail.
+/// The words before those of a run. By an order of turns it is shown to the end of all processes.
 fn push_start(
     alloc: Global,
     words: &mut Vec<String>,
     matches: &ArgMatches,
 ) -> Result<(), AllocError> {
     push(alloc, words, "strace_cli")?;
-    if matches.get_flag("follow") {
+    if matches.get_flag("follow") || matches.get_str("orders").is_some() {
         push(alloc, words, "-f")?;
     }
     Ok(())
 }
 
-/// The words behind those that make an occurrence fail.
+/// The words behind those of a run.
 fn push_rest(
     alloc: Global,
     words: &mut Vec<String>,
@@ -113,25 +124,38 @@ fn push_rest(
     Ok(())
 }
 
-/// All words that show a run, the program's name first, by those that make its occurrence fail.
+/// All words that show a run, the program's name first, by those that are its own.
 pub fn words_with(
     alloc: Global,
     matches: &ArgMatches,
-    failure: &[String],
+    own: &[String],
 ) -> Result<Vec<String>, AllocError> {
     let mut words = Vec::new(alloc);
-    if failure.is_empty() {
+    if own.is_empty() {
         return Ok(words);
     }
     push_start(alloc, &mut words, matches)?;
-    for word in failure {
+    for word in own {
         push(alloc, &mut words, word.as_str())?;
     }
     push_rest(alloc, &mut words, matches)?;
     Ok(words)
 }
 
-/// What all runs are shown by, with dots in the place of the words that make an occurrence fail.
+/// The words that give a run its order of turns, by a file that has it.
+pub fn order_words(
+    alloc: Global,
+    matches: &ArgMatches,
+    path: &str,
+    kind: Kind,
+) -> Result<Vec<String>, AllocError> {
+    let mut words = Vec::new(alloc);
+    push_each(alloc, &mut words, "--turns", &[path])?;
+    push_limit(alloc, &mut words, matches, kind)?;
+    Ok(words)
+}
+
+/// What all runs are shown by, with dots in the place of the words of each.
 pub fn common(alloc: Global, matches: &ArgMatches) -> Result<String, AllocError> {
     let mut start = Vec::new(alloc);
     push_start(alloc, &mut start, matches)?;

@@ -1,12 +1,13 @@
 //! A sweep, from its words to its report.
 
+use crate::orders::orders_reported;
 use crate::plan::{Plan, read_plan};
 use crate::progress::ShownProgress;
 use crate::reference::reference;
-use crate::table::{Counts, objects, table};
+use crate::table::{Counts, Reported, objects, table};
 use crate::told::{Told, tell_row};
 use crate::traced::traced_calls;
-use crate::words::{Format, format_of};
+use crate::words::{Format, Words, words_of};
 use clap::ArgMatches;
 use front_end::{Fault, Program, Shown};
 use lx_abi::Status;
@@ -14,9 +15,11 @@ use std::alloc::{AllocError, Global};
 use std::fs;
 use std::io::{IsTerminal, Read, Write};
 use std::rt::Files;
+use std::thread::Threads;
 use std::time::Clock;
 use sweep_rows::{Kind, first_word};
-use sweep_runs::{Reference, Row, rows};
+use sweep_runs::{Reference, Row};
+use sweep_threads::rows_on_threads;
 
 /// The name of standard output as a file, which this program writes without opening it.
 const STANDARD_OUTPUT: &str = "/dev/stdout";
@@ -53,14 +56,18 @@ fn explain<E: Write>(
     Ok(())
 }
 
-fn swept<C: Clock, E: Write>(
-    alloc: Global,
+/// The rows, by so many threads.
+fn swept<R: Threads + Sync + AllocGlobal, C: Clock, E: Write>(
+    rt: &R,
+    jobs: u8,
     plan: &Plan,
     reference: &Reference,
     progress: &mut ShownProgress<C, E>,
 ) -> Result<Vec<Row>, AllocError> {
-    rows(
-        alloc,
+    rows_on_threads(
+        rt,
+        rt.alloc(),
+        jobs,
         &plan.setup,
         reference,
         plan.wanted.as_slice(),
@@ -69,21 +76,22 @@ fn swept<C: Clock, E: Write>(
 }
 
 /// The rows; where `err` is a terminal it shows how far they are.
-fn make<R: Clock + AllocGlobal, E: Write + IsTerminal>(
+fn make<R: Clock + Threads + Sync + AllocGlobal, E: Write + IsTerminal>(
     rt: &R,
+    jobs: u8,
     plan: &Plan,
     reference: &Reference,
     err: &mut E,
 ) -> Result<Vec<Row>, Fault> {
     let is_shown = err.is_terminal();
     let mut progress = ShownProgress::new(rt, err, is_shown);
-    let made = swept(rt.alloc(), plan, reference, &mut progress);
+    let made = swept(rt, jobs, plan, reference, &mut progress);
     progress.end();
     Ok(made?)
 }
 
 /// The place of a kind under `--summary`.
-fn place(kind: Kind) -> u8 {
+pub fn place(kind: Kind) -> u8 {
     match kind {
         Kind::Lost => 0,
         Kind::Killed => 1,
@@ -126,6 +134,38 @@ fn report(
     }
 }
 
+/// The report on the runs with a failure, and how many came to what.
+fn failures<R: Clock + Threads + Sync + AllocGlobal, E: Write + IsTerminal>(
+    rt: &R,
+    matches: &ArgMatches,
+    words: Words,
+    plan: &Plan,
+    reference: &Reference,
+    err: &mut E,
+) -> Result<Reported, Fault> {
+    let alloc = rt.alloc();
+    let mut rows = make(rt, words.jobs, plan, reference, err)?;
+    let counts = Counts::of(rows.as_slice());
+    let told = all_told(alloc, matches, plan, &mut rows)?;
+    let text = report(alloc, matches, words.format, told.as_slice(), counts)?;
+    Ok(Reported { text, counts })
+}
+
+/// The report on the orders of turns, or else on the runs with a failure.
+fn reported<R: Files + Clock + Threads + Sync + AllocGlobal, E: Write + IsTerminal>(
+    rt: &R,
+    matches: &ArgMatches,
+    words: Words,
+    plan: &Plan,
+    reference: &Reference,
+    err: &mut E,
+) -> Result<Reported, Fault> {
+    match words.orders {
+        Some(orders) => orders_reported(rt, matches, words.format, orders, plan, reference, err),
+        None => failures(rt, matches, words, plan, reference, err),
+    }
+}
+
 fn write_flushed<W: Write>(text: &str, writer: &mut W) -> bool {
     writer.write_all(text.as_bytes()).is_ok() && writer.flush().is_ok()
 }
@@ -149,7 +189,12 @@ fn write<F: Write + Drop, O: Write>(
 }
 
 /// Makes the sweep that the words ask for, and gives the exit status. The report is written once all runs are made.
-pub fn sweep<R: Files + Clock + AllocGlobal, I: Read + IsTerminal, O: Write, E: Write + IsTerminal>(
+pub fn sweep<
+    R: Files + Clock + Threads + Sync + AllocGlobal,
+    I: Read + IsTerminal,
+    O: Write,
+    E: Write + IsTerminal,
+>(
     rt: &R,
     matches: &ArgMatches,
     explained: bool,
@@ -158,17 +203,14 @@ pub fn sweep<R: Files + Clock + AllocGlobal, I: Read + IsTerminal, O: Write, E: 
     err: &mut E,
 ) -> Result<u8, Fault> {
     let alloc = rt.alloc();
-    let format = format_of(alloc, matches)?;
+    let words = words_of(alloc, matches)?;
     let plan = read_plan(rt, matches, input, err)?;
     let file = open(rt, matches.get_str("output"))?;
     let reference = reference(alloc, &plan.setup, explained)?;
     if explained {
         explain(alloc, &plan, &reference, err)?;
     }
-    let mut rows = make(rt, &plan, &reference, err)?;
-    let counts = Counts::of(rows.as_slice());
-    let told = all_told(alloc, matches, &plan, &mut rows)?;
-    let text = report(alloc, matches, format, told.as_slice(), counts)?;
-    write(alloc, text.as_str(), file, out)?;
-    Ok(counts.status())
+    let report = reported(rt, matches, words, &plan, &reference, err)?;
+    write(alloc, report.text.as_str(), file, out)?;
+    Ok(report.counts.status())
 }

@@ -10,7 +10,7 @@ use sweep_rows::Kind;
 use sweep_runs::Row;
 
 /// How many runs came to what.
-#[derive(Clone, Copy, Debug, PartialEq, Eq, Serialize)]
+#[derive(Clone, Copy, Debug, Default, PartialEq, Eq, Serialize)]
 pub struct Counts {
     pub runs: u64,
     pub same: u64,
@@ -20,20 +20,26 @@ pub struct Counts {
     pub hung: u64,
 }
 
-fn count(rows: &[Row], kind: Kind) -> u64 {
-    rows.iter().filter(|row| row.kind == kind).count() as u64
-}
-
 impl Counts {
+    /// So many runs more came to this.
+    pub fn add(&mut self, kind: Kind, runs: u64) {
+        let count = match kind {
+            Kind::Same => &mut self.same,
+            Kind::Reported => &mut self.reported,
+            Kind::Lost => &mut self.lost,
+            Kind::Killed => &mut self.killed,
+            Kind::Hung => &mut self.hung,
+        };
+        *count = count.saturating_add(runs);
+        self.runs = self.runs.saturating_add(runs);
+    }
+
     pub fn of(rows: &[Row]) -> Self {
-        Counts {
-            runs: rows.len() as u64,
-            same: count(rows, Kind::Same),
-            reported: count(rows, Kind::Reported),
-            lost: count(rows, Kind::Lost),
-            killed: count(rows, Kind::Killed),
-            hung: count(rows, Kind::Hung),
+        let mut counts = Counts::default();
+        for row in rows {
+            counts.add(row.kind, 1);
         }
+        counts
     }
 
     /// 1 where a failure went unnoticed, or wasn't survived, else 0.
@@ -41,16 +47,24 @@ impl Counts {
         u8::from(self.lost > 0 || self.killed > 0 || self.hung > 0)
     }
 
-    fn line(self, alloc: Global) -> Result<String, AllocError> {
+    /// The last line of a report, by what these runs are.
+    pub fn line(self, alloc: Global, runs: &str) -> Result<String, AllocError> {
         format!(in alloc;
-            "{} runs: {} same, {} reported, {} lost, {} killed, {} hung\n",
+            "{} {runs}: {} same, {} reported, {} lost, {} killed, {} hung\n",
             self.runs, self.same, self.reported, self.lost, self.killed, self.hung
         )
     }
 }
 
+/// A report, and what it counts.
+#[derive(Drop)]
+pub struct Reported {
+    pub text: String,
+    pub counts: Counts,
+}
+
 /// Adds a text, and blanks up to a width and two more.
-fn push_column(line: &mut String, text: &str, width: usize) -> Result<(), AllocError> {
+pub fn push_column(line: &mut String, text: &str, width: usize) -> Result<(), AllocError> {
     line.push_str(text)?;
     for _ in text.len()..width.saturating_add(2) {
         line.push(' ')?;
@@ -59,8 +73,8 @@ fn push_column(line: &mut String, text: &str, width: usize) -> Result<(), AllocE
 }
 
 /// How process 1 ended, where that is the news of a run.
-fn end_text(alloc: Global, told: &Told) -> Result<Option<String>, AllocError> {
-    Ok(match (told.kind, told.status) {
+fn end_text(alloc: Global, kind: &str, status: Option<u8>) -> Result<Option<String>, AllocError> {
+    Ok(match (kind, status) {
         ("reported", Some(status)) => Some(format!(in alloc; "exited with {status}")?),
         ("killed", Some(status)) => {
             let signal = Signal::from_number(u64::from(status.saturating_sub(128)));
@@ -89,23 +103,29 @@ fn file_text(alloc: Global, file: &ToldFile) -> Result<String, AllocError> {
     }
 }
 
-/// What differs, piece by piece.
-fn differences(alloc: Global, told: &Told) -> Result<Vec<String>, AllocError> {
+/// What differs between a run and the reference, piece by piece.
+pub fn differences(
+    alloc: Global,
+    kind: &str,
+    status: Option<u8>,
+    console: Option<&ToldConsole>,
+    files: &[ToldFile],
+) -> Result<Vec<String>, AllocError> {
     let mut pieces = Vec::new(alloc);
-    if let Some(end) = end_text(alloc, told)? {
+    if let Some(end) = end_text(alloc, kind, status)? {
         pieces.push(end)?;
     }
-    if let Some(console) = &told.console {
+    if let Some(console) = console {
         pieces.push(console_text(alloc, console)?)?;
     }
-    for file in &told.files {
+    for file in files {
         pieces.push(file_text(alloc, file)?)?;
     }
     Ok(pieces)
 }
 
 /// Adds what differs in brackets, if anything does.
-fn push_differences(line: &mut String, pieces: &[String]) -> Result<(), AllocError> {
+pub fn push_differences(line: &mut String, pieces: &[String]) -> Result<(), AllocError> {
     for (place, piece) in pieces.iter().enumerate() {
         line.push_str(if place == 0 { "  [" } else { "; " })?;
         line.push_str(piece.as_str())?;
@@ -153,7 +173,14 @@ fn line_of(alloc: Global, told: &Told, width: usize, follow: bool) -> Result<Str
     push_column(&mut line, told.kind, 8)?;
     push_column(&mut line, failure_text(alloc, told)?.as_str(), width)?;
     push_call(&mut line, alloc, told, follow)?;
-    push_differences(&mut line, differences(alloc, told)?.as_slice())?;
+    let pieces = differences(
+        alloc,
+        told.kind,
+        told.status,
+        told.console.as_ref(),
+        told.files.as_slice(),
+    )?;
+    push_differences(&mut line, pieces.as_slice())?;
     line.push('\n')?;
     Ok(line)
 }
@@ -171,7 +198,7 @@ pub fn table(
     for told in rows {
         report.push_str(line_of(alloc, told, width, follow)?.as_str())?;
     }
-    report.push_str(counts.line(alloc)?.as_str())?;
+    report.push_str(counts.line(alloc, "runs")?.as_str())?;
     Ok(report)
 }
 

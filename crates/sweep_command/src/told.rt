@@ -60,7 +60,7 @@ pub fn kind_name(kind: Kind) -> &'static str {
     }
 }
 
-fn told_console(difference: ConsoleDifference) -> ToldConsole {
+pub fn told_console(difference: ConsoleDifference) -> ToldConsole {
     ToldConsole {
         at: difference.at,
         length: difference.length,
@@ -98,7 +98,7 @@ fn told_file(alloc: Global, difference: &FileDifference) -> Result<ToldFile, All
     })
 }
 
-fn told_files(alloc: Global, files: &[FileDifference]) -> Result<Vec<ToldFile>, AllocError> {
+pub fn told_files(alloc: Global, files: &[FileDifference]) -> Result<Vec<ToldFile>, AllocError> {
     let mut told = Vec::new(alloc);
     for file in files {
         told.push(told_file(alloc, file)?)?;

@@ -2,8 +2,8 @@
 
 use clap::{Arg, ArgAction, ArgMatches, Command, Error};
 use front_end::{
-    Fault, Shown, with_calls, with_environment, with_explain, with_expressions, with_files,
-    with_limit, with_program,
+    Fault, Shown, expression_words, number, with_calls, with_environment, with_explain,
+    with_expressions, with_files, with_limit, with_program,
 };
 use std::alloc::{AllocError, Global};
 
@@ -23,11 +23,21 @@ Each line is a run in which one occurrence of one call fails, and nothing else:
 then the words for strace_cli that make the call fail, the call without the failure, and in brackets what differs. The
 first line has the words of strace_cli that show a run, with dots in the place of those.
 
+With --orders no call fails, and each run has its own order of turns: the default one, then those with one switch to
+another process where a call returned, those with two, and then some by chance. Each line is a result, with how many
+orders had it and the words of --turns by which a shortest of them has it.
+
 The status is 0 where no run was lost, killed or hung, else 1; 2 for words, files or a boot at fault, 3 for an output or
 for memory, 4 where the run without a failure is out of turns.
 
-Example: make each write fail with EINTR
-  strace_sweep -e fault=write:error=EINTR --file /p=hello -- /p </dev/null";
+Examples: make each write fail with EINTR; try 100 orders of turns
+  strace_sweep -e fault=write:error=EINTR --file /p=hello -- /p </dev/null
+  strace_sweep --orders 100 --keep . --file /p=letters -- /p </dev/null";
+
+/// The most threads, and the most orders of turns.
+const MOST_JOBS: u64 = 8;
+
+const MOST_ORDERS: u64 = 1_000_000;
 
 /// How the report is written.
 #[derive(Clone, Copy, Debug, PartialEq, Eq)]
@@ -113,13 +123,46 @@ fn with_sets<'a>(alloc: Global, command: Command<'a>) -> Result<Command<'a>, All
     )
 }
 
-fn with_order<'a>(alloc: Global, command: Command<'a>) -> Result<Command<'a>, AllocError> {
+/// Adds `--orders N` with `--seed N` and `--keep DIR`.
+fn with_orders<'a>(alloc: Global, command: Command<'a>) -> Result<Command<'a>, AllocError> {
+    let command = with_name(
+        alloc,
+        command,
+        "orders",
+        "N",
+        "Tries N orders of turns, 1 to 1000000, without a failure, and tells each result once",
+    )?;
+    let command = with_name(
+        alloc,
+        command,
+        "seed",
+        "N",
+        "Draws orders by chance from this number on [default: 0]",
+    )?;
+    with_name(
+        alloc,
+        command,
+        "keep",
+        "DIR",
+        "Writes an order of each result to a file of this directory, as --turns takes it",
+    )
+}
+
+fn with_runs<'a>(alloc: Global, command: Command<'a>) -> Result<Command<'a>, AllocError> {
     let command = with_name(
         alloc,
         command,
         "turns",
         "FILE",
         "A schedule by words, as 1 2 1. [default: turns in rounds]",
+    )?;
+    let command = with_orders(alloc, command)?;
+    let command = with_name(
+        alloc,
+        command,
+        "jobs",
+        "N",
+        "Makes the runs with a failure on N threads, 1 to 8 [default: 1]; the report is the same",
     )?;
     with_limit(
         alloc,
@@ -147,7 +190,7 @@ fn sweep_command<'a>(alloc: Global) -> Result<Command<'a>, AllocError> {
     let command = with_follow(alloc, command)?;
     let command = with_sets(alloc, command)?;
     let command = with_report(alloc, command)?;
-    let command = with_order(alloc, command)?;
+    let command = with_runs(alloc, command)?;
     let command = with_explain(alloc, command)?;
     with_guest(alloc, command)
 }
@@ -158,7 +201,7 @@ pub fn parse<'a>(alloc: Global, words: &'a [String]) -> Result<ArgMatches<'a>, E
 }
 
 /// The format that the words ask for.
-pub fn format_of(alloc: Global, matches: &ArgMatches) -> Result<Format, Fault> {
+fn format_of(alloc: Global, matches: &ArgMatches) -> Result<Format, Fault> {
     match matches.get_str("format") {
         None | Some("table") => Ok(Format::Table),
         Some("json") => Ok(Format::Json),
@@ -167,4 +210,93 @@ pub fn format_of(alloc: Global, matches: &ArgMatches) -> Result<Format, Fault> {
             Shown(other)
         ))),
     }
+}
+
+/// A number in decimal digits alone, which isn't 0.
+fn count_in(digits: &str) -> Option<u64> {
+    if digits.starts_with('+') {
+        return None;
+    }
+    digits.parse().ok().filter(|count: &u64| *count > 0)
+}
+
+/// The number that an option gives, from 1 to the most.
+fn count_of(
+    alloc: Global,
+    option: &str,
+    digits: Option<&str>,
+    most: u64,
+) -> Result<Option<u64>, Fault> {
+    let Some(digits) = digits else {
+        return Ok(None);
+    };
+    match count_in(digits) {
+        Some(count) if count <= most => Ok(Some(count)),
+        Some(_) | None => Err(Fault::usage(format!(in alloc;
+            "{option} {}: not a number from 1 to {most}",
+            Shown(digits)
+        ))),
+    }
+}
+
+/// On how many threads the runs are made.
+fn jobs_of(alloc: Global, matches: &ArgMatches) -> Result<u8, Fault> {
+    let count = count_of(alloc, "--jobs", matches.get_str("jobs"), MOST_JOBS)?;
+    Ok(u8::try_from(count.unwrap_or(1)).unwrap_or(1))
+}
+
+/// How many orders of turns are tried, and from which seed.
+#[derive(Clone, Copy, Debug, PartialEq, Eq)]
+pub struct Orders {
+    pub count: usize,
+    pub seed: u64,
+}
+
+/// What `--orders` stands in the place of.
+fn check_orders(alloc: Global, matches: &ArgMatches) -> Result<(), Fault> {
+    if matches.get_str("turns").is_some() {
+        return Err(Fault::usage(format!(in alloc;
+            "--orders excludes --turns: each run has an order of its own"
+        )));
+    }
+    if !expression_words(alloc, matches)?.is_empty() {
+        return Err(Fault::usage(format!(in alloc; "--orders excludes -e: no call fails")));
+    }
+    Ok(())
+}
+
+/// The orders of turns that the words ask for, if they do.
+fn orders_of(alloc: Global, matches: &ArgMatches) -> Result<Option<Orders>, Fault> {
+    let seed = number(alloc, "--seed", matches.get_str("seed"), u64::MAX, 0)?;
+    let Some(count) = count_of(alloc, "--orders", matches.get_str("orders"), MOST_ORDERS)? else {
+        for option in ["seed", "keep"] {
+            if matches.get_str(option).is_some() {
+                return Err(Fault::usage(format!(in alloc;
+                    "--{option}: without --orders no order of turns is tried"
+                )));
+            }
+        }
+        return Ok(None);
+    };
+    check_orders(alloc, matches)?;
+    Ok(Some(Orders {
+        count: count as usize,
+        seed,
+    }))
+}
+
+/// What the words ask for beside the runs' setup.
+#[derive(Clone, Copy, Debug, PartialEq, Eq)]
+pub struct Words {
+    pub format: Format,
+    pub jobs: u8,
+    pub orders: Option<Orders>,
+}
+
+pub fn words_of(alloc: Global, matches: &ArgMatches) -> Result<Words, Fault> {
+    Ok(Words {
+        format: format_of(alloc, matches)?,
+        jobs: jobs_of(alloc, matches)?,
+        orders: orders_of(alloc, matches)?,
+    })
 }

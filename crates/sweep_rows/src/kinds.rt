@@ -2,7 +2,7 @@
 
 ghost use Rattle.std.specs.Prelude.{◌≡◌};
 ghost use Rattle.std.specs.Bool.{Decides};
-ghost use Rattle.sweep_rows.specs.Kinds.{first_word, is_signal, Comes, Leaves};
+ghost use Rattle.sweep_rows.specs.Kinds.{first_word, is_signal, Comes, EndsAs, Leaves};
 
 use lx_abi::Outcome;
 use lx_copies::Same;
@@ -59,6 +59,13 @@ fn same_word(a: Option<u32>, b: Option<u32>) -> bool
     }
 }
 
+/// Process 1 ended so in both runs.
+pub fn ends_as(a: &Ending, b: &Ending) -> bool
+    ensures { Decides result (EndsAs a.now b.now) }
+{
+    same_word(first_word(&a.outcome), first_word(&b.outcome))
+}
+
 /// Console and files are the same.
 pub fn leaves_the_same(a: &Outcome, b: &Outcome) -> bool
     ensures { Decides result (Leaves a.now b.now) }
@@ -73,14 +80,13 @@ pub fn kind_of(reference: &Ending, run: &Ending) -> Kind
     if run.alive {
         return Kind::Hung;
     }
-    let word = first_word(&run.outcome);
-    if same_word(first_word(&reference.outcome), word) {
+    if ends_as(reference, run) {
         if leaves_the_same(&reference.outcome, &run.outcome) {
             return Kind::Same;
         }
         return Kind::Lost;
     }
-    if is_signal(word) {
+    if is_signal(first_word(&run.outcome)) {
         Kind::Killed
     } else {
         Kind::Reported

@@ -12,4 +12,4 @@ pub use differences::{
 };
 pub use entries::{Occurrence, occurrences};
 pub use failures::{Failure, failing};
-pub use kinds::{Ending, Kind, first_word, kind_of, leaves_the_same};
+pub use kinds::{Ending, Kind, ends_as, first_word, kind_of, leaves_the_same};

@@ -10,5 +10,5 @@ pub mod sweeping;
 pub use chosen::{Case, Wanted, cases};
 pub use ends::ending;
 pub use progress::{Progress, Silent};
-pub use runs::{Reference, Setup, refer, run_accepted, run_under};
-pub use sweeping::{Report, Row, rows, sweep};
+pub use runs::{Reference, Setup, refer, run_accepted, run_by, run_under};
+pub use sweeping::{Report, Row, rows, run_cases, sweep};

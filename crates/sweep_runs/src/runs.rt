@@ -3,7 +3,10 @@
 ghost use Rattle.std.specs.Prelude.{◌≡◌, [], IfOk, IfErr, OnOk, None, Some, Err};
 ghost use Rattle.lx_boot.specs.Boots.{Refuses, fault_of};
 ghost use Rattle.lx_boot.specs.declared.boots.BootFault.{BootFault as BootRefusal};
+ghost use Rattle.lx_kernel.specs.First.{first_run};
 ghost use Rattle.lx_kernel.specs.Runs.{Run as KernelRun};
+ghost use Rattle.plain_run.specs.Runs.{RunsTo};
+ghost use Rattle.pt_schedule.specs.Schedules.{worded};
 ghost use Rattle.sweep_runs.specs.Runs.{ComesTo, IsReference};
 
 use crate::ends::ending;
@@ -32,14 +35,20 @@ fn copy<T: Copy + Drop>(alloc: Global, items: &[T]) -> Result<Vec<T>, AllocError
     Ok(copy)
 }
 
-/// The kernel at the end of the run under a script. The fault is the boot's, or Memory where memory runs out, in the run
-/// too.
-pub fn run_under(alloc: Global, setup: &Setup, script: Script) -> Result<Kernel, BootFault>
-    ensures to { IfOk result (ComesTo setup.now script) }
+/// The kernel at the end of the run of a boot under a script, by these words. The fault is the boot's, or Memory where
+/// memory runs out, in the run too.
+pub fn run_by(
+    alloc: Global,
+    boot: &Boot,
+    words: &[Word],
+    limit: u64,
+    script: Script,
+) -> Result<Kernel, BootFault>
+    ensures { IfOk result (RunsTo (first_run boot.now script) (worded words.now limit)) }
 {
-    let boot = setup.boot.copy(alloc)?;
-    let turns = copy(alloc, setup.turns.as_slice())?;
-    let mut schedule = Schedule::words(turns, setup.limit);
+    let boot = boot.copy(alloc)?;
+    let words = copy(alloc, words)?;
+    let mut schedule = Schedule::words(words, limit);
     let mut kernel = match Kernel::boot(alloc, boot, script) {
         Ok(kernel) => kernel,
         Err(fault) => return Err(fault),
@@ -51,6 +60,16 @@ pub fn run_under(alloc: Global, setup: &Setup, script: Script) -> Result<Kernel,
             Err(BootFault::Memory)
         }
     }
+}
+
+/// The kernel at the end of the run under a script. The fault is the boot's, or Memory where memory runs out, in the
+/// run too.
+pub fn run_under(alloc: Global, setup: &Setup, script: Script) -> Result<Kernel, BootFault>
+    ensures to { IfOk result (ComesTo setup.now script) }
+{
+    let words = setup.turns.as_slice();
+    let kernel = run_by(alloc, &setup.boot, words, setup.limit, script)?;
+    Ok(kernel)
 }
 
 /// The kernel at the end of the run under a script, of a boot that is accepted.

@@ -77,8 +77,8 @@ fn run_case(alloc: Global, setup: &Setup, reference: &Ending, case: Case) -> Res
     Ok(row)
 }
 
-/// Makes the run of each case.
-fn run_cases<P: Progress>(
+/// Makes the run of each case, of a boot that is accepted.
+pub fn run_cases<P: Progress>(
     alloc: Global,
     setup: &Setup,
     reference: &Ending,

@@ -1,0 +1,4 @@
+pub mod Room
+pub mod Drawing
+pub mod Stepping
+pub mod Trying

@@ -1,0 +1,5 @@
+pub mod Steps
+pub mod Plans
+pub mod Draws
+pub mod Found
+pub mod Orders
