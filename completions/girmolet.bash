@@ -5,7 +5,7 @@ _girmolet_errors='E2BIG EACCES EADDRINUSE EADDRNOTAVAIL EADV EAFNOSUPPORT EAGAIN
 _girmolet_signals='HUP INT QUIT ILL TRAP ABRT BUS FPE KILL USR1 SEGV USR2 PIPE ALRM TERM STKFLT CHLD URG XCPU XFSZ VTALRM PROF WINCH IO PWR SYS'
 _girmolet_options='-e --trace --inject --fault -f --follow-forks -o --output -s --string-limit -a --columns -E --env --host --host-arg --turns --workers --turns-out --limit --file --files-out --files-list --explain -h --help -V --version --'
 _girmolet_plain_options='-e --inject --fault -E --env --turns --limit --file --files-out --files-list --explain -h --help -V --version --'
-_girmolet_sweep_options='-e --fault -f --follow-forks -o --output --format --summary -E --env --turns --limit --file --explain -h --help -V --version --'
+_girmolet_sweep_options='-e --fault -f --follow-forks -o --output --format --summary -E --env --turns --limit --jobs --orders --seed --keep --file --explain -h --help -V --version --'
 
 # Candidates for an expression: its words up to the item under way, and what may stand there.
 _girmolet_expression() {
@@ -63,14 +63,14 @@ _girmolet() {
     case $before in
         --) found=$(_girmolet_guests "$word") ;;
         -o | --output | --host | --turns | --turns-out | --files-list) found=$(compgen -f -- "$word") ;;
-        --files-out) found=$(compgen -d -- "$word") ;;
+        --keep | --files-out) found=$(compgen -d -- "$word") ;;
         -e) found=$($expression "$word") ;;
         --trace) found=$(_girmolet_expression "trace=$word" | sed s/^trace=//) ;;
         --inject) found=$(_girmolet_expression "inject=$word" | sed s/^inject=//) ;;
         --fault) found=$($expression "fault=$word" | sed s/^fault=//) ;;
         --format) found=$(compgen -W 'table json' -- "$word") ;;
         --file) case $word in *=*) found=$(compgen -P "${word%%=*}=" -f -- "${word#*=}") ;; esac ;;
-        -s | --string-limit | -a | --columns | -E | --env | --workers | --limit) ;;
+        -s | --string-limit | -a | --columns | -E | --env | --workers | --limit | --jobs | --orders | --seed) ;;
         *)
             case $program:${all[1]}:$word in
                 *:--trace=* | *:--inject=* | *:--fault=*)

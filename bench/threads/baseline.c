@@ -1,34 +1,64 @@
-// Threads that take turns under one mutex: each holding of it counts down the cell of the next process in a cycle, and notes
-// whose turn it was. Usage: baseline THREADS TURNS PROCESSES
+// Threads that take turns under one mutex, each as many. A turn takes the lock, finds the next process in the cycle that
+// is able, runs one instruction of its loop, notes whose turn it was, and lets the lock go. The threads start together.
+// Usage: baseline THREADS TURNS PROCESSES
 #include <pthread.h>
+#include <stdint.h>
 #include <stdio.h>
 #include <stdlib.h>
 
+// again: addi t0, t0, -1; bnez t0, again
+static const uint32_t program[] = {0xfff28293, 0xfe029ee3};
+
+static struct process {
+    int able;
+    uint64_t pc, registers[32];
+} table[64];
+
 static pthread_mutex_t lock = PTHREAD_MUTEX_INITIALIZER;
-static long left, processes, count;
-static volatile long cells[64];
+static pthread_barrier_t start;
+static long quota, processes, last, count;
 static unsigned *turns;
 
-static int turn(void)
+static void step(struct process *it)
 {
-    if (left == 0)
-        return 0;
-    long process = count % processes;
-    cells[process]--;
-    turns[count++] = process;
-    left--;
-    return 1;
+    uint32_t word = program[it->pc / 4 % 2];
+    unsigned rd = word >> 7 & 31, rs1 = word >> 15 & 31, rs2 = word >> 20 & 31;
+    switch (word & 127) {
+    case 0x13:
+        if (rd)
+            it->registers[rd] = it->registers[rs1] + ((int32_t)word >> 20);
+        it->pc += 4;
+        break;
+    case 0x63:
+        if (it->registers[rs1] != it->registers[rs2])
+            it->pc -= 4;
+        else
+            it->pc += 4;
+        break;
+    }
+}
+
+static void turn(void)
+{
+    for (long passed = 0; passed < processes; passed++) {
+        last = last + 1 == processes ? 0 : last + 1;
+        if (table[last].able) {
+            turns[count++] = last;
+            step(&table[last]);
+            return;
+        }
+    }
 }
 
 static void *work(void *unused)
 {
-    for (;;) {
+    pthread_barrier_wait(&start);
+    for (long i = 0; i < quota; i++) {
         pthread_mutex_lock(&lock);
-        int went = turn();
+        turn();
         pthread_mutex_unlock(&lock);
-        if (!went)
-            return unused;
     }
+    return unused;
 }
 
 int main(int count_of_words, char **words)
@@ -36,9 +66,12 @@ int main(int count_of_words, char **words)
     if (count_of_words != 4)
         return 2;
     int threads = atoi(words[1]);
-    left = atol(words[2]);
+    quota = atol(words[2]) / threads;
     processes = atol(words[3]);
-    turns = malloc(left * sizeof *turns);
+    turns = malloc(quota * threads * sizeof *turns);
+    pthread_barrier_init(&start, 0, threads);
+    for (long i = 0; i < processes; i++)
+        table[i] = (struct process){1, 0, {[5] = 1ull << 40}};
     pthread_t made[64];
     for (int i = 0; i < threads; i++)
         if (pthread_create(&made[i], 0, work, 0))

@@ -1,7 +1,7 @@
 //! Journals: what is put into them, as rows, and which requests and replies they tell.
 
 use lx_abi::{Reply, Request, Status};
-use pt_journal::{Journal, Row};
+use pt_journal::{Deed, Journal, Mark};
 use std::alloc::{AllocError, Global};
 use std::test::Fail;
 
@@ -23,29 +23,27 @@ fn journal(alloc: Global) -> Result<Journal, AllocError> {
     Ok(journal)
 }
 
-/// A letter for a row.
-fn letter(row: &Row) -> char {
-    match row {
-        Row::Asked(_) => 'a',
-        Row::Turned(_) => 't',
-        Row::Served(_) => 's',
+/// A letter for a mark, behind the number of turns before it.
+fn show(marks: &[Mark], shown: &mut String) -> Result<(), AllocError> {
+    for mark in marks {
+        let letter = match mark.deed {
+            Deed::Asked(_) => 'a',
+            Deed::Served(_) => 's',
+        };
+        write!(shown, "{}{letter}", mark.turns)?;
     }
+    Ok(())
 }
 
-/// Turns of a process in a row are one row, however many.
+/// What was asked and served stands at its place among the turns, which are two rows.
 #[test]
-fn turns_in_a_row_are_one(rt: HostRuntime) -> Result<(), Fail> {
+fn marks_have_their_places(rt: HostRuntime) -> Result<(), Fail> {
     let journal = journal(rt.alloc())?;
+    let (marks, turns) = journal.parts();
     let mut shown = String::new(rt.alloc());
-    for row in journal.rows() {
-        shown.push(letter(row))?;
-    }
-    assert_eq!(rt; shown.as_str(), "attsa");
-    let turns = match journal.rows().get(1) {
-        Some(Row::Turned(row)) => row.turns,
-        _ => 0,
-    };
-    assert_eq!(rt; turns, 1000);
+    show(marks, &mut shown)?;
+    assert_eq!(rt; shown.as_str(), "0a1001s0a");
+    assert_eq!(rt; turns.rows().len(), 2);
     Ok(())
 }
 

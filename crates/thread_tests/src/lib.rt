@@ -1,9 +1,12 @@
-//! Tests of copies, of journals and of runs on threads. A crate with tests of its own is proved twice, so they stand here alone.
+//! Tests of copies, of journals, of turns as they are kept and of runs on threads. A crate with tests of its own is
+//! proved twice, so they stand here alone.
 #![tactic(auto)]
 
 #[cfg(test)]
 mod copies;
 #[cfg(test)]
 mod journals;
+#[cfg(test)]
+mod turns;
 #[cfg(test)]
 mod workers;

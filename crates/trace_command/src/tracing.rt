@@ -7,7 +7,7 @@ use crate::lines::Lines;
 use crate::place::{Place, open};
 use crate::plan::{Plan, read_plan};
 use crate::threads::trace_on_threads;
-use crate::turns_out::write_turns;
+use crate::turns_out::{create_turns, write_turns};
 use crate::words::TraceOptions;
 use clap::ArgMatches;
 use containers::Bytes;
@@ -186,23 +186,31 @@ fn finish<R: Files + AllocGlobal, O: Write>(
     Ok(status)
 }
 
-/// Writes the turns of a run that has ended, where the words ask for them.
-fn leave_turns<R: Files + AllocGlobal>(
-    rt: &R,
+/// Writes the turns of a run that has ended to this file, where the words ask for them.
+fn leave_turns<W: Write + Drop>(
+    alloc: Global,
     matches: &ArgMatches,
     again: &mut Option<Again>,
     outcome: &Result<Outcome, Fault>,
+    file: Option<W>,
 ) -> Result<(), Fault> {
     let has_ended = matches!(outcome, Ok(_) | Err(Fault::OutOfTurns(_)));
-    match (matches.get_str("turns-out"), again) {
-        (Some(path), Some(again)) if has_ended => {
-            write_turns(rt, path, again.turns(rt.alloc(), matches)?)
+    match (matches.get_str("turns-out"), file, again) {
+        (Some(path), Some(file), Some(again)) if has_ended => {
+            let turns = match again.turns(alloc, matches) {
+                Ok(turns) => turns,
+                Err(fault) => {
+                    drop(file);
+                    return Err(fault);
+                }
+            };
+            write_turns(alloc, path, file, turns)
         }
         _ => Ok(()),
     }
 }
 
-/// Makes the run, and writes what it leaves. Gives the exit status.
+/// Makes the run, and writes what it leaves, its turns to a file that is made before. Gives the exit status.
 fn trace_plan<R: Files + Processes + Threads + Wait + Sync + AllocGlobal, O: Write, E: Write>(
     rt: &R,
     matches: &ArgMatches,
@@ -212,8 +220,15 @@ fn trace_plan<R: Files + Processes + Threads + Wait + Sync + AllocGlobal, O: Wri
     out: &mut O,
     err: &mut E,
 ) -> Result<u8, Fault> {
+    let file = match create_turns(rt, matches.get_str("turns-out")) {
+        Ok(file) => file,
+        Err(fault) => {
+            drop(plan);
+            return Err(fault);
+        }
+    };
     let outcome = run_as_asked(rt, matches, options, plan, again, out, err);
-    leave_turns(rt, matches, again, &outcome)?;
+    leave_turns(rt.alloc(), matches, again, &outcome, file)?;
     let outcome = outcome?;
     let status = finish(rt, matches, &outcome, out);
     drop(outcome);

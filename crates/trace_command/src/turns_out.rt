@@ -15,8 +15,8 @@ fn write_run<W: Write>(writer: &mut W, run: TurnRun) -> io::Result<()> {
     Ok(())
 }
 
-fn write_words<R: Files + AllocGlobal>(rt: &R, path: &str, turns: &Turns) -> io::Result<()> {
-    let mut writer = BufWriter::new(rt.alloc(), fs::create(rt, path)?)?;
+fn write_words<W: Write + Drop>(alloc: Global, file: W, turns: &Turns) -> io::Result<()> {
+    let mut writer = BufWriter::new(alloc, file)?;
     for run in turns.runs() {
         write_run(&mut writer, *run)?;
     }
@@ -30,10 +30,32 @@ fn unwritten(alloc: Global, path: &str, error: io::Error) -> Fault {
     Fault::output(format!(in alloc; "--turns-out {}: {error}", Shown(path)))
 }
 
-/// Writes the turns to a file, a word a line as `--turns` reads them.
-pub fn write_turns<R: Files + AllocGlobal>(rt: &R, path: &str, turns: &Turns) -> Result<(), Fault> {
-    match write_words(rt, path, turns) {
+/// Makes the file that `--turns-out` names, where it names one, anew.
+pub fn create_turns<R: Files + AllocGlobal>(
+    rt: &R,
+    path: Option<&str>,
+) -> Result<Option<R::File>, Fault> {
+    let Some(path) = path else {
+        return Ok(None);
+    };
+    match fs::create(rt, path) {
+        Ok(file) => Ok(Some(file)),
+        Err(error) => {
+            let what = format!(in rt.alloc(); "--turns-out {}", Shown(path))?;
+            Err(Fault::file(rt.alloc(), what, error))
+        }
+    }
+}
+
+/// Writes the turns to the file of this name, a word a line as `--turns` reads them.
+pub fn write_turns<W: Write + Drop>(
+    alloc: Global,
+    path: &str,
+    file: W,
+    turns: &Turns,
+) -> Result<(), Fault> {
+    match write_words(alloc, file, turns) {
         Ok(()) => Ok(()),
-        Err(error) => Err(unwritten(rt.alloc(), path, error)),
+        Err(error) => Err(unwritten(alloc, path, error)),
     }
 }
