@@ -55,3 +55,25 @@ uncut text h = go (nat_lt (place text) (length text)) refl h
 -- what follows the slash
 pub cut_rest : (text : List ℕ) (n : ℕ) → drop 1 (take (length text - n) (drop n text)) ≡ drop (n + 1) text
 cut_rest text n = ap (drop 1) (take_all (length text - n) (drop n text) (omega (arith, length-drop n text))) ∙ drop-drop 1 n text
+
+-- where it is cut, a slash stands
+at_place : (text : List ℕ) → place text < length text → drop (place text) text ≡ slash ∷ drop (place text + 1) text
+at_place [] lt = absurd (omega (arith, lt))
+at_place (x ∷ text) lt = go (x == slash) refl lt (at_place text)
+  where
+    go : (b : Bool) → (x == slash) ≡ b → cond (not b) (1 + place text) 0 < length (x ∷ text) → (place text < length text → drop (place text) text ≡ slash ∷ drop (place text + 1) text)
+        → drop (cond (not b) (1 + place text) 0) (x ∷ text) ≡ slash ∷ drop (cond (not b) (1 + place text) 0 + 1) (x ∷ text)
+    go true e lt rest = ap (λ z. z ∷ text) (grind (arith, nat_tests, e))
+    go false e lt rest =
+        let first : 1 + place text ≡ suc (place text) = omega arith in
+        let second : (1 + place text) + 1 ≡ suc (place text + 1) = omega arith in
+        ap (λ n. drop n (x ∷ text)) first ∙ rest (omega (arith, lt)) ∙ sym (ap (λ n. slash ∷ drop n (x ∷ text)) second)
+
+pub slash_there : (text : List ℕ) (n : ℕ) → Some n ≡ first_slash text → drop n text ≡ slash ∷ drop (n + 1) text
+slash_there text n h = go (nat_lt (place text) (length text)) refl h
+  where
+    go : (b : Bool) → nat_lt (place text) (length text) ≡ b → Some n ≡ cond b (Some (place text)) None → drop n text ≡ slash ∷ drop (n + 1) text
+    go false e i = absurd (cc i)
+    go true e i =
+        let is : n ≡ place text = cc i in
+        subst (λ m. drop m text ≡ slash ∷ drop (m + 1) text) (sym is) (at_place text (grind (arith, nat_tests, e)))

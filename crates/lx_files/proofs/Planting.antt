@@ -88,6 +88,16 @@ pub known_stand : (tree : Tree) (path : List ℕ) (k : ℕ) → HasParents tree 
 known_stand tree path zero whole there = no_directories tree path
 known_stand tree path (suc k) whole there = sym (up_to tree path (suc k) (suc k) whole (there (omega arith)) (omega arith))
 
+-- the place at which a directory ends that is there
+pub known_stand_past : (tree : Tree) (path : List ℕ) (k : ℕ) → HasParents tree → (0 < k → is_there tree (take k path) ≡ true) → tree ≡ with_directories tree path (k + 1)
+known_stand_past tree path k whole there =
+    sym (go (ends_directory path k) refl) ∙ ap (λ t. with_directory_at t path k) (known_stand tree path k whole there) ∙ one_more_place tree path k
+  where
+    go : (b : Bool) → ends_directory path k ≡ b → with_directory_at tree path k ≡ tree
+    go true e = ap (λ b. cond b (cond (is_there tree (take k path)) tree (created tree (take k path) Directory)) tree) e
+        ∙ ap (λ b. cond b tree (created tree (take k path) Directory)) (there (grind (arith, nat_tests, e)))
+    go false e = ap (λ b. cond b (cond (is_there tree (take k path)) tree (created tree (take k path) Directory)) tree) e
+
 -- The directories above each file of a boot stand.
 
 -- those above the path's first n places

@@ -1,7 +1,7 @@
 //! The tree of a boot's files.
 
-ghost use Rattle.std.specs.Prelude.{◌≡◌, ◌<◌, ◌≤◌, ◌&&◌, true, OnOk, IfOk, take, length};
-ghost use Rattle.lx_files.specs.Boots.{rooted, ends_directory, is_there, HasParents, with_directory, with_directory_at, with_directories, with_file};
+ghost use Rattle.std.specs.Prelude.{◌≡◌, ◌<◌, OnOk, IfOk, length};
+ghost use Rattle.lx_files.specs.Boots.{rooted, HasParents, with_directory, with_directory_at, with_directories, with_file};
 ghost use Rattle.lx_files.specs.Boots.{tree_of};
 
 use crate::tree::Tree;
@@ -29,37 +29,16 @@ fn add_directory_at(alloc: Global, tree: &mut Tree, path: &[u8], i: usize) -> Re
     Ok(())
 }
 
-/// A directory above the path ends at this place, and is there.
-fn ends_known_directory(tree: &Tree, path: &[u8], i: usize) -> bool
-    requires { i < length path.now }
-    ensures { result ≡ (ends_directory path.now i && is_there tree.now (take i path.now)) }
-{
-    i > 0 && path[i] == b'/' && tree.names.get(&path[..i]).is_some()
-}
-
-/// Where the last of the directories above a path ends that are there; 0 where none is.
-fn known_part(tree: &Tree, path: &[u8]) -> usize
-    ensures there { 0 < result → is_there tree.now (take result path.now) ≡ true }
-    ensures within { result ≤ length path.now }
-{
-    let mut end = path.len();
-    while end > 0 {
-        end -= 1;
-        if ends_known_directory(tree, path, end) {
-            return end;
-        }
-    }
-    0
-}
-
-/// The directories above a path stand. They are looked up from the path on: above the first that is there, all are.
+/// The directories above a path stand. Above the last that is there, all are.
 fn add_directories(alloc: Global, tree: &mut Tree, path: &[u8]) -> Result<(), AllocError>
     requires { HasParents tree.old }
     ensures { OnOk result (tree.new ≡ with_directories tree.old path.now (length path.now)) }
 {
-    let known = known_part(tree, path);
+    let known = tree.names.known_part(path);
     for i in known..path.len() {
-        add_directory_at(alloc, tree, path, i)?;
+        if i > known {
+            add_directory_at(alloc, tree, path, i)?;
+        }
     }
     Ok(())
 }

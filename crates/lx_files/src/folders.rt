@@ -1,6 +1,7 @@
 //! Names that lead from folder to folder.
 
-ghost use Rattle.std.specs.Prelude.{◌≡◌, ◌<◌, drop, OnOk, OnErr, IfOk, Some, None, List, ℕ, true, false};
+ghost use Rattle.std.specs.Prelude.{◌≡◌, ◌<◌, ◌≤◌, take, drop, length, OnOk, OnErr, IfOk, IsSome, Some, None, List, ℕ, true, false};
+ghost use Rattle.std.specs.Option.{option_and_then};
 ghost use Rattle.std.specs.FinMap as maps;
 ghost use Rattle.containers.specs.Vacant.{vacant, IsFullBelow};
 ghost use Rattle.lx_files.specs.Paths.{has_slash};
@@ -59,6 +60,30 @@ pub fn walk(children: &Shelf<PathMap>, from: u32, text: &[u8]) -> Option<u32>
                 rest = after_first(&rest[end..]);
             }
         }
+    }
+}
+
+/// Where the last of the directories above a path ends that have a number; 0 where none has.
+pub fn known_part(children: &Shelf<PathMap>, numbers: &Shelf<u32>, path: &[u8]) -> usize
+    ensures within { result ≤ length path.now }
+    ensures there { 0 < result → IsSome (option_and_then (maps.get numbers.now)
+        (at_names children.now (names_of (take result path.now)))) }
+{
+    let mut known = 0;
+    let mut folder = TOP;
+    let mut rest = path;
+    'names: loop {
+        let Some(end) = first_slash(rest) else {
+            return known;
+        };
+        let Some(next) = child(children, folder, &rest[..end]) else {
+            return known;
+        };
+        if numbers.get(next).is_some() {
+            known = path.len() - rest.len() + end;
+        }
+        folder = next;
+        rest = after_first(&rest[end..]);
     }
 }
 

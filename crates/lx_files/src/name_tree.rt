@@ -5,7 +5,7 @@
 //! Whole paths are made where they are listed, and for `any_under` where a folder without a number is all there is in
 //! another, as is so only where a path was given a number before the path above it.
 
-ghost use Rattle.std.specs.Prelude.{◌≡◌, OnOk, OnErr, IfOk, map, []};
+ghost use Rattle.std.specs.Prelude.{◌≡◌, ◌<◌, ◌≤◌, take, length, is_some, true, OnOk, OnErr, IfOk, map, []};
 ghost use Rattle.std.specs.FinMap as maps;
 ghost use Rattle.std.specs.List.{list_any, filter};
 ghost use Rattle.lx_files.specs.Listing.{is_named, file_of};
@@ -14,7 +14,7 @@ ghost use Rattle.lx_files.specs.Places.{numbered, parts as parts_of, reached};
 
 use crate::flat::{any_under, flatten};
 use crate::folder::Folders;
-use crate::folders::{TOP, enter_path, walk};
+use crate::folders::{TOP, enter_path, known_part, walk};
 use crate::nodes::Nodes;
 use crate::places::Place;
 use crate::pruning::prune;
@@ -69,6 +69,15 @@ impl NameTree {
             None => None,
             Some(folder) => self.numbers.get(folder).copied(),
         }
+    }
+
+    /// Where the last of the directories above a path ends that have a number; 0 where none has. The path is walked
+    /// once.
+    pub fn known_part(&self, path: &[u8]) -> usize
+        ensures within { result ≤ length path.now }
+        ensures there { 0 < result → is_some (maps.get self.now (take result path.now)) ≡ true }
+    {
+        known_part(&self.folders.children, &self.numbers, path)
     }
 
     /// The path has the number, and no other; the number that it had before.

@@ -1,6 +1,6 @@
 //! The nodes that paths name.
 
-ghost use Rattle.std.specs.Prelude.{◌≡◌, OnOk, OnErr};
+ghost use Rattle.std.specs.Prelude.{◌≡◌, ◌<◌, ◌≤◌, take, length, is_some, true, OnOk, OnErr};
 ghost use Rattle.std.specs.FinMap as maps;
 ghost use Rattle.std.specs.Prelude.{IfOk, map, []};
 ghost use Rattle.std.specs.List.{list_any, filter};
@@ -65,6 +65,14 @@ impl Names {
         ensures { result ≡ maps.get self.now path.now }
     {
         self.map.get(path)
+    }
+
+    /// Where the last of the directories above a path ends that are there; 0 where none is.
+    pub fn known_part(&self, path: &[u8]) -> usize
+        ensures within { result ≤ length path.now }
+        ensures there { 0 < result → is_some (maps.get self.now (take result path.now)) ≡ true }
+    {
+        self.map.known_part(path)
     }
 
     /// Some path names the node.
