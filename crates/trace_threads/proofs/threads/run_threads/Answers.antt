@@ -1,8 +1,9 @@
 use Rattle.std.proofs.Common.{subst}
-use Rattle.std.specs.Prelude.{IfOk}
+use Rattle.std.specs.Prelude.{IfOk, IfErr}
+use Rattle.lx_abi.specs.declared.boot.Boot.{Boot}
 use Rattle.tr_core.specs.declared.settings.Options.{Options}
 use Rattle.trace_run.specs.BootedRuns.{following}
-use Rattle.trace_threads.specs.ThreadRuns.{IsTraced}
+use Rattle.trace_threads.specs.ThreadRuns.{Faults, IsTraced}
 use Rattle.trace_threads.proofs.Journalled.{finished, limits_are_one, on_ok}
 use Rattle.trace_threads.proofs.threads.run_threads.Goals as goal
 
@@ -25,3 +26,6 @@ returns-clause-run g c =
 
 pub returns-clause-accepted : goal.returns-clause-accepted
 returns-clause-accepted g c = on_ok c.finish-result.result c.in-Ok.ensures.accepted
+
+pub returns-clause-fault : goal.returns-clause-fault
+returns-clause-fault g c = subst (λ (b : Boot). IfErr c.finish-result.result (λ fault. Faults b fault)) c.in-Ok-copy.ensures c.finish-result.ensures.fault
