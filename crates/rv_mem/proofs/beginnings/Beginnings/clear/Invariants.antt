@@ -1,0 +1,9 @@
+use Rattle.std.proofs.Common.{ℕ, ◌<◌, ◌⊎◌, length}
+use Rattle.rv_mem.specs.Beginnings.{Marks}
+use Rattle.rv_mem.proofs.beginnings.Beginnings.clear.Given as goal
+
+abbrev pub invariant-loop-mark : goal.invariant-loop-mark
+invariant-loop-mark l = (n : ℕ) → (n < l.first) ⊎ (l.end < n) → Marks l.fn.self n → Marks l.self n
+
+abbrev pub decreases-loop-mark : goal.decreases-loop-mark
+decreases-loop-mark l = length l.self.marks.keys
