@@ -10,7 +10,8 @@ use crate::table::PageTable;
 use std::alloc::{AllocError, Global};
 use std::collections::BTreeSet;
 
-/// A mark at each number of a page before which none stands. It serves to pass over a run of pages in one step.
+/// A mark at the number of each page before which none stands, but for the page of number zero. By the marks a run of
+/// pages is passed over in one step.
 #[derive(Drop)]
 pub struct Beginnings {
     pub marks: BTreeSet<u64>,
@@ -26,7 +27,7 @@ impl Beginnings {
         }
     }
 
-    /// The greatest marked number up to another. There is none between the two.
+    /// The greatest marked number up to that of a page: where its run begins.
     pub(crate) fn run_start(&self, number: u64) -> u64
         ensures at_most { result ≤ number }
         ensures greatest { (n : ℕ) → result < n → n ≤ number → Marks self.now n → ⊥ }
@@ -40,7 +41,7 @@ impl Beginnings {
         }
     }
 
-    /// Sets the marks anew where pages from a number up to another were all added, or all taken out.
+    /// Sets the marks anew where the pages from a number up to another were all added, or all taken out.
     pub(crate) fn renew(&mut self, table: &PageTable, first: u64, end: u64)
         requires whole { IsTable table.now }
         requires rising { first ≤ end }
