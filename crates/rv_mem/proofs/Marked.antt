@@ -4,6 +4,8 @@ use Rattle.std.specs.Prelude.{IsSome, IfSome, IfNone, is_some, IsTrue, IsFalse, 
 use Rattle.std.specs.Ordering.{nat_cmp}
 use Rattle.std.specs.BTreeSet.{BTreeSet, contains, IsKeyRangeOf}
 use Rattle.std.specs.FinMap.{get}
+use Rattle.std.specs.List.{list_any}
+use Rattle.std.specs.BTreeMap.{is_at}
 use Rattle.std.specs.declared.ops.Bound.TheVariants.{Included, Unbounded}
 use Rattle.rv_mem.specs.Beginnings.{Begun, IsBeginning, Marks}
 use Rattle.rv_mem.specs.Memory.{Memory, Cell, written}
@@ -43,9 +45,10 @@ greatest_mark s hi m r rest is e n l g there =
     let most = at_least_from m n (is.4 m rest e n (tt, at_most_to n hi g) there) in
     omega (arith, most, l)
 
-pub no_mark : (s : BTreeSet ℕ) (hi : ℕ) (r : List ℕ) → IsKeyRangeOf nat_cmp Unbounded (Included hi) s r → r ≡ [] → (n : ℕ) → n ≤ hi → contains nat_cmp s n ≡ true → ⊥
-no_mark s hi r is e n g there =
-    let never = sym there ∙ is.5 e n (tt, at_most_to n hi g) in
+-- a part of the marks that is empty
+pub none_marked : (s : BTreeSet ℕ) (lo hi first end : ℕ) (r : List ℕ) → lo ≡ first → hi ≡ end → IsKeyRangeOf nat_cmp (Included lo) (Included hi) s r → r ≡ [] → (n : ℕ) → first ≤ n → n ≤ end → contains nat_cmp s n ≡ true → ⊥
+none_marked s lo hi first end r from to is e n l g there =
+    let never = sym there ∙ is.5 e n (at_most_to lo n (omega (arith, l, from)), at_most_to n hi (omega (arith, g, to))) in
     let no : ⊥ = cc never in
     no
 
@@ -88,31 +91,28 @@ beside_below : (f e n : ℕ) → f ≤ e → (n < f) ⊎ (e < n) → 0 < n → (
 beside_below f e n le (inl l) past = inl (omega (arith, l, past))
 beside_below f e n le (inr g) past = inr (omega (arith, g, le, past))
 
-pub begun_before : (m : Memory) (f e : ℕ) (r : Rights) (n : ℕ) → f ≤ e → (n < f) ⊎ (e < n) → IsBeginning (mapped m (4096 * f) (4096 * (e - f)) r) n → IsBeginning m n
-begun_before m f e r n le out begins =
-    let apart = beside f e n le out in
-    let under = beside_below f e n le out begins.past in
-    record {
-      past = begins.past;
-      here = subst IsSome (get-mapped_out m (4096 * f) (4096 * (e - f)) r (4096 * n) apart) begins.here;
-      before = sym (get-mapped_out m (4096 * f) (4096 * (e - f)) r (4096 * (n - 1)) under) ∙ begins.before;
-    }
+-- a memory that is another outside of the pages from f up to e
+abbrev pub IsOutside : ℕ → ℕ → Memory → Memory → Type 0
+IsOutside f e m m' = (q : ℕ) → (q < 4096 * f) ⊎ (4096 * f + 4096 * (e - f) ≤ q) → get m q ≡ get m' q
+
+pub mapped_outside : (f e : ℕ) (m m' : Memory) (r : Rights) → m' ≡ mapped m (4096 * f) (4096 * (e - f)) r → IsOutside f e m m'
+mapped_outside f e m m' r is = λ q out. sym (ap (λ (x : Memory). get x q) is ∙ get-mapped_out m (4096 * f) (4096 * (e - f)) r q out)
+
+pub unmapped_outside : (f e : ℕ) (m m' : Memory) → m' ≡ unmapped m (4096 * f) (4096 * (e - f)) → IsOutside f e m m'
+unmapped_outside f e m m' is = λ q out. sym (ap (λ (x : Memory). get x q) is ∙ get-unmapped_out m (4096 * f) (4096 * (e - f)) q out)
+
+pub begins_outside : (f e : ℕ) (m m' : Memory) → IsOutside f e m m' → (n : ℕ) → f ≤ e → (n < f) ⊎ (e < n) → IsBeginning m n → IsBeginning m' n
+begins_outside f e m m' alike n le out begins = record {
+  past = begins.past;
+  here = subst IsSome (alike (4096 * n) (beside f e n le out)) begins.here;
+  before = sym (alike (4096 * (n - 1)) (beside_below f e n le out begins.past)) ∙ begins.before;
+}
 
 pub not_within : (m : Memory) (f e : ℕ) (r : Rights) (n : ℕ) → f < n → n < e → IsBeginning (mapped m (4096 * f) (4096 * (e - f)) r) n → ⊥
 not_within m f e r n l g begins =
     let never = sym (get-mapped_in m (4096 * f) (4096 * (e - f)) r (4096 * (n - 1)) (omega (arith, l)) (omega (arith, l, g))) ∙ begins.before in
     let no : ⊥ = cc never in
     no
-
-pub begun_before_unmapped : (m : Memory) (f e n : ℕ) → f ≤ e → (n < f) ⊎ (e < n) → IsBeginning (unmapped m (4096 * f) (4096 * (e - f))) n → IsBeginning m n
-begun_before_unmapped m f e n le out begins =
-    let apart = beside f e n le out in
-    let under = beside_below f e n le out begins.past in
-    record {
-      past = begins.past;
-      here = subst IsSome (get-unmapped_out m (4096 * f) (4096 * (e - f)) (4096 * n) apart) begins.here;
-      before = sym (get-unmapped_out m (4096 * f) (4096 * (e - f)) (4096 * (n - 1)) under) ∙ begins.before;
-    }
 
 pub not_within_unmapped : (m : Memory) (f e n : ℕ) → f < n → n < e → IsBeginning (unmapped m (4096 * f) (4096 * (e - f))) n → ⊥
 not_within_unmapped m f e n l g begins =
@@ -143,13 +143,18 @@ none_too : (o p : Option Cell) → is_some o ≡ is_some p → o ≡ None → p 
 none_too o None e n = refl
 none_too o (Some c) e n = absurd (let never = sym (ap is_some n) ∙ e in let no : ⊥ = cc never in no)
 
+-- runs begin at the same numbers where the same addresses are mapped
+begins_too : (m m' : Memory) → ((q : ℕ) → is_some (get m q) ≡ is_some (get m' q)) → (n : ℕ) → IsBeginning m n → IsBeginning m' n
+begins_too m m' there n begins = record {
+  past = begins.past;
+  here = sym (there (4096 * n)) ∙ begins.here;
+  before = none_too (get m (4096 * (n - 1))) (get m' (4096 * (n - 1))) (there (4096 * (n - 1))) begins.before;
+}
+
 begun_written : (b : Beginnings) (m : Memory) (a : ℕ) (bs : List ℕ) → Begun b m → Begun b (written m a bs)
 begun_written b m a bs begun = record {
-  marked = λ n begins. begun.marked n (record {
-    past = begins.past;
-    here = sym (written_there m a bs (4096 * n)) ∙ begins.here;
-    before = none_too (get (written m a bs) (4096 * (n - 1))) (get m (4096 * (n - 1))) (written_there m a bs (4096 * (n - 1))) begins.before;
-  });
+  marked = λ n begins. begun.marked n (begins_too (written m a bs) m (written_there m a bs) n begins);
+  only = λ n marked. begins_too m (written m a bs) (λ q. sym (written_there m a bs q)) n (begun.only n marked);
 }
 
 pub begun_if_ok : {E : Type 0} (r : Result (Unit {0}) E) (b : Beginnings) (m m' : Memory) (a : ℕ) (bs : List ℕ) → OnOk r (m' ≡ written m a bs) → OnErr r (m' ≡ m) → Begun b m → Begun b m'
@@ -160,10 +165,11 @@ pub begun_if : (w : Bool) (b : Beginnings) (m m' : Memory) (a : ℕ) (bs : List 
 begun_if true b m m' a bs ok err begun = subst (Begun b) (sym (ok refl)) (begun_written b m a bs begun)
 begun_if false b m m' a bs ok err begun = subst (Begun b) (sym (err refl)) begun
 
--- no page is there yet
-pub begun_empty : (b : Beginnings) (ps : List Page) → ps ≡ [] → Begun b (memory_of ps)
-begun_empty b ps e = record {
+-- no page is there yet, and no mark
+pub begun_empty : (b : Beginnings) (ps : List Page) → b.marks.keys ≡ [] → ps ≡ [] → Begun b (memory_of ps)
+begun_empty b ps none e = record {
   marked = λ n begins. absurd (let never = sym begins.here ∙ ap is_some (no_cell ps (4096 * n) (λ k h s. omega (arith, h, ap length e))) in let no : ⊥ = cc never in no);
+  only = λ n marked. absurd (let never = sym marked ∙ ap (list_any (is_at (nat_cmp n))) none in let no : ⊥ = cc never in no);
 }
 
 -- ---- down a run

@@ -12,10 +12,15 @@ pub record IsBeginning (m : Memory) (n : ℕ) : Type 0 where
   pub here : IsSome (get m (4096 * n))
   pub before : get m (4096 * (n - 1)) ≡ None
 
--- a number has a mark, where the marks are known
-abbrev pub Marks : Beginnings → ℕ → Type 0
-Marks b n = b.known ≡ true → contains nat_cmp b.marks n ≡ true
+-- a number has a mark
+abbrev pub IsMarked : Beginnings → ℕ → Type 0
+IsMarked b n = contains nat_cmp b.marks n ≡ true
 
--- wherever a run of pages begins, there is a mark
+-- a number has a mark, if the marks are known
+abbrev pub Marks : Beginnings → ℕ → Type 0
+Marks b n = b.known ≡ true → IsMarked b n
+
+-- where a run of pages begins, there is a mark, and there alone
 pub record Begun (b : Beginnings) (m : Memory) : Type 0 where
   pub marked : (n : ℕ) → IsBeginning m n → Marks b n
+  pub only : (n : ℕ) → IsMarked b n → IsBeginning m n

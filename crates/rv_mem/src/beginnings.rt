@@ -1,9 +1,7 @@
 //! Where the runs of pages begin.
-ghost use Rattle.std.specs.Prelude.{◌≡◌, ℕ, ◌<◌, ◌≤◌, ◌⊎◌, ◌*◌, is_some, IfSome, IfOk, IsTrue, true};
-ghost use Rattle.std.specs.Ordering.{nat_cmp};
-ghost use Rattle.std.specs.BTreeSet.{contains};
+ghost use Rattle.std.specs.Prelude.{◌≡◌, ℕ, ◌<◌, ◌≤◌, ◌⊎◌, ◌*◌, is_some, [], IfSome, IfNone, IfOk, IsTrue, IsFalse, true};
 ghost use Rattle.std.specs.FinMap.{get};
-ghost use Rattle.rv_mem.specs.Beginnings.{Begun, IsBeginning, Marks};
+ghost use Rattle.rv_mem.specs.Beginnings.{Begun, IsBeginning, IsMarked, Marks};
 ghost use Rattle.rv_mem.specs.Pages.{IsTable, contents};
 
 use crate::table::PageTable;
@@ -20,7 +18,9 @@ pub struct Beginnings {
 }
 
 impl Beginnings {
-    pub(crate) fn new(alloc: Global) -> Beginnings {
+    pub(crate) fn new(alloc: Global) -> Beginnings
+        ensures { result.marks.keys ≡ [] }
+    {
         Beginnings {
             marks: BTreeSet::new(alloc),
             known: true,
@@ -30,6 +30,7 @@ impl Beginnings {
     /// The greatest marked number up to that of a page: where its run begins.
     pub(crate) fn run_start(&self, number: u64) -> u64
         ensures at_most { result ≤ number }
+        ensures marked { self.now.known ≡ true → 0 < result → IsMarked self.now result }
         ensures greatest { (n : ℕ) → result < n → n ≤ number → Marks self.now n → ⊥ }
     {
         if !self.known {
@@ -46,6 +47,7 @@ impl Beginnings {
         requires whole { IsTable table.now }
         requires rising { first ≤ end }
         requires outside { (n : ℕ) → (n < first) ⊎ (end < n) → IsBeginning (contents table.now) n → Marks self.old n }
+        requires stays { (n : ℕ) → (n < first) ⊎ (end < n) → IsMarked self.old n → IsBeginning (contents table.now) n }
         requires inside { (n : ℕ) → first < n → n < end → IsBeginning (contents table.now) n → ⊥ }
         ensures { Begun self.new (contents table.now) }
     {
@@ -57,7 +59,8 @@ impl Beginnings {
     /// Takes out the marks from a number up to another, that one too.
     fn clear(&mut self, first: u64, end: u64)
         requires { first ≤ end }
-        ensures { (n : ℕ) → (n < first) ⊎ (end < n) → Marks self.old n → Marks self.new n }
+        ensures kept { (n : ℕ) → (n < first) ⊎ (end < n) → Marks self.old n → Marks self.new n }
+        ensures only { (n : ℕ) → IsMarked self.new n → IsMarked self.old n × ((n < first) ⊎ (end < n)) }
     {
         while let Some(mark) = self.mark_within(first, end) {
             self.marks.remove(&mark);
@@ -67,10 +70,12 @@ impl Beginnings {
     /// A mark from a number up to another, that one too.
     fn mark_within(&self, first: u64, end: u64) -> Option<u64>
         requires { first ≤ end }
-        ensures marked { IfSome result (λ n. contains nat_cmp self.now.marks n ≡ true) }
+        ensures marked { IfSome result (IsMarked self.now) }
         ensures within { IfSome result (λ n. (first ≤ n) × (n ≤ end)) }
+        ensures none { IfNone result ((n : ℕ) → first ≤ n → n ≤ end → IsMarked self.now n → ⊥) }
     {
-        self.marks.range(first..=end).next().copied()
+        let mark = self.marks.range(first..=end).next()?;
+        Some(*mark)
     }
 
     /// Marks a number if a run begins there.
@@ -78,6 +83,7 @@ impl Beginnings {
         requires { IsTable table.now }
         ensures marked { IsBeginning (contents table.now) number → Marks self.new number }
         ensures kept { (n : ℕ) → Marks self.old n → Marks self.new n }
+        ensures only { (n : ℕ) → IsMarked self.new n → IsMarked self.old n ⊎ IsBeginning (contents table.now) n }
     {
         if begins(table, number) {
             self.mark(number);
@@ -88,6 +94,7 @@ impl Beginnings {
     fn mark(&mut self, number: u64)
         ensures marked { Marks self.new number }
         ensures kept { (n : ℕ) → Marks self.old n → Marks self.new n }
+        ensures only { (n : ℕ) → IsMarked self.new n → IsMarked self.old n ⊎ (n ≡ number) }
     {
         if self.marks.insert(number).is_err() {
             self.known = false;
@@ -96,7 +103,8 @@ impl Beginnings {
 
     /// The same marks again.
     pub(crate) fn copy(&self) -> Result<Beginnings, AllocError>
-        ensures { IfOk result (λ copy. (n : ℕ) → Marks self.now n → Marks copy n) }
+        ensures known { IfOk result (λ copy. copy.known ≡ self.now.known) }
+        ensures marks { IfOk result (λ copy. copy.marks.keys ≡ self.now.marks.keys) }
     {
         Ok(Beginnings {
             marks: self.marks.clone()?,
@@ -108,7 +116,8 @@ impl Beginnings {
 /// Whether a run of pages begins at a number other than zero.
 fn begins(table: &PageTable, number: u64) -> bool
     requires { IsTable table.now }
-    ensures { IsBeginning (contents table.now) number → IsTrue result }
+    ensures begins { IsTrue result → IsBeginning (contents table.now) number }
+    ensures no { IsFalse result → IsBeginning (contents table.now) number → ⊥ }
 {
     number > 0 && has_page(table, number) && !has_page(table, number - 1)
 }
