@@ -31,10 +31,10 @@ bare_led children name bare = ap (at children) (names_of-one name bare) ∙ at-n
 
 pub first_reached : (children : Children) (path : Path) → Reached children top path path
 first_reached children path = record {
-    left = ap (λ n. drop n path) none;
-    short = omega arith;
-    leads = λ n h. ap (λ m. at children (names_of (take m path))) (omega arith) ∙ bare_led children (take n path) ((cut path n h).bare);
-  }
+  left = ap (λ n. drop n path) none;
+  short = omega arith;
+  leads = λ n h. ap (λ m. at children (names_of (take m path))) (omega arith) ∙ bare_led children (take n path) ((cut path n h).bare);
+}
   where
     none : 0 ≡ length path - length path
     none = omega arith

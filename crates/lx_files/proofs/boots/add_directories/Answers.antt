@@ -10,17 +10,17 @@ loop-i-init c = known_stand c.args.tree.now c.args.path.now c.known_part-known.r
 
 pub loop-i-preserved : goal.loop-i-preserved
 loop-i-preserved c = elim c.if-i-known.branch [
-    then-i-known+in_ok-add_directory_at w ↦
-        w.tree-is
-        ∙ w.in_ok-add_directory_at.ensures
-        ∙ ap (λ (t : Tree). with_directory_at t c.args.path.now c.loop-i.i) c.loop-i.invariant
-        ∙ one_more_place c.args.tree.now c.args.path.now c.loop-i.i
+  | then-i-known+in_ok-add_directory_at w ↦
+      w.tree-is
+      ∙ w.in_ok-add_directory_at.ensures
+      ∙ ap (λ (t : Tree). with_directory_at t c.args.path.now c.loop-i.i) c.loop-i.invariant
+      ∙ one_more_place c.args.tree.now c.args.path.now c.loop-i.i
   | else-i-known w ↦
-        let at_known : c.loop-i.i ≡ c.known_part-known.result = let low = c.loop-i.auto.i in let high = w.if-i-known.false in grind (arith, low, high) in
-        w.tree-is
-        ∙ c.loop-i.invariant
-        ∙ ap (with_directories c.args.tree.now c.args.path.now) at_known
-        ∙ sym (known_stand c.args.tree.now c.args.path.now c.known_part-known.result c.requires c.known_part-known.ensures.there)
-        ∙ known_stand_past c.args.tree.now c.args.path.now c.known_part-known.result c.requires c.known_part-known.ensures.there
-        ∙ ap (λ i. with_directories c.args.tree.now c.args.path.now (i + 1)) (sym at_known)
-  ]
+      let at_known : c.loop-i.i ≡ c.known_part-known.result = let low = c.loop-i.auto.i in let high = w.if-i-known.false in grind (arith, low, high) in
+      w.tree-is
+      ∙ c.loop-i.invariant
+      ∙ ap (with_directories c.args.tree.now c.args.path.now) at_known
+      ∙ sym (known_stand c.args.tree.now c.args.path.now c.known_part-known.result c.requires c.known_part-known.ensures.there)
+      ∙ known_stand_past c.args.tree.now c.args.path.now c.known_part-known.result c.requires c.known_part-known.ensures.there
+      ∙ ap (λ i. with_directories c.args.tree.now c.args.path.now (i + 1)) (sym at_known)
+]

@@ -10,5 +10,5 @@ returns-clause-there c = λ lt.
     let part : List ℕ = take c.known_part.result c.args.path.now in
     ap is_some
     (sym (ap (λ m. maps.get m part) c.self.view_is)
-        ∙ got c.self.inside.folders.children c.self.inside.folders.standings c.self.inside.folders.full_below c.self.invariant.0 part c.self.inside.numbers c.self.invariant.1 (at c.self.inside.folders.children (names_of part)) refl)
+    ∙ got c.self.inside.folders.children c.self.inside.folders.standings c.self.inside.folders.full_below c.self.invariant.0 part c.self.inside.numbers c.self.invariant.1 (at c.self.inside.folders.children (names_of part)) refl)
     ∙ c.known_part.ensures.there lt
