@@ -70,8 +70,14 @@ map_flags = (2, codes "MAP_PRIVATE") ∷ (0x20, codes "MAP_ANONYMOUS") ∷ []
 abbrev pub wnohang : Named
 wnohang = (1, codes "WNOHANG")
 
+abbrev pub wstopped : Named
+wstopped = (2, codes "WSTOPPED")
+
+abbrev pub wcontinued : Named
+wcontinued = (8, codes "WCONTINUED")
+
 abbrev pub wait_options : List Named
-wait_options = wnohang ∷ []
+wait_options = wnohang ∷ wstopped ∷ wcontinued ∷ []
 
 -- what sigprocmask(2) does with its set
 abbrev pub mask_changes : List Named

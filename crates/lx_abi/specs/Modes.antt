@@ -29,6 +29,8 @@ may_lose mode.Doing = false
 may_lose mode.Acted = false
 may_lose mode.Finished = true
 may_lose mode.Taken = true
+may_lose mode.Stopped = true
+may_lose mode.Woken = false
 may_lose mode.Dying = false
 may_lose mode.Zombie = false
 
@@ -45,3 +47,5 @@ mode_number (Some mode.Finished) = 7
 mode_number (Some mode.Taken) = 8
 mode_number (Some mode.Dying) = 9
 mode_number (Some mode.Zombie) = 10
+mode_number (Some mode.Stopped) = 11
+mode_number (Some mode.Woken) = 12

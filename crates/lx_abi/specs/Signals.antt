@@ -4,7 +4,7 @@ use Rattle.std.specs.Str.{bytes_eq}
 use Rattle.std.specs.List.{starts_with}
 use Rattle.lx_abi.specs.declared.signal.Signal.{Signal}
 
--- 1 to 31
+-- 1 to 31, which kill(2) takes
 abbrev pub is_signal : ℕ → Bool
 is_signal n = nat_lt 0 n && nat_lt n 32
 
@@ -16,14 +16,13 @@ numbered n false e = None
 unfoldable pub signal_numbered : ℕ → Option Signal
 signal_numbered n = numbered n (is_signal n) refl
 
--- kill(2) takes it: a signal, and none of job control's (CONT, STOP, TSTP, TTIN, TTOU)
-abbrev pub may_join : ℕ → Bool
-may_join n = is_signal n && not (nat_le 18 n && nat_le n 22)
+-- a stop signal of job control (signal(7)): STOP, TSTP, TTIN, TTOU
+abbrev pub is_stop : ℕ → Bool
+is_stop n = nat_le 19 n && nat_le n 22
 
--- a signal that is joined to a call, if there is one, is one that kill takes
-abbrev pub is_joinable : Option Signal → Bool
-is_joinable None = true
-is_joinable (Some signal) = may_join signal.number
+-- CONT
+abbrev pub cont_number : ℕ
+cont_number = 18
 
 -- number and name of each signal, without SIG
 unfoldable pub signals : List (ℕ × List ℕ)

@@ -45,6 +45,10 @@ pub const MAP_ANONYMOUS: Named = (0x20, "MAP_ANONYMOUS");
 
 pub const WNOHANG: Named = (1, "WNOHANG");
 
+pub const WSTOPPED: Named = (2, "WSTOPPED");
+
+pub const WCONTINUED: Named = (8, "WCONTINUED");
+
 pub const SIG_BLOCK: Named = (0, "SIG_BLOCK");
 
 pub const SIG_UNBLOCK: Named = (1, "SIG_UNBLOCK");
@@ -90,7 +94,7 @@ pub static PROTECTIONS: [Named; 3] = [PROT_READ, PROT_WRITE, PROT_EXEC];
 
 pub static MAP_FLAGS: [Named; 2] = [MAP_PRIVATE, MAP_ANONYMOUS];
 
-pub static WAIT_OPTIONS: [Named; 1] = [WNOHANG];
+pub static WAIT_OPTIONS: [Named; 3] = [WNOHANG, WSTOPPED, WCONTINUED];
 
 /// What sigprocmask(2) does with its set.
 pub static MASK_CHANGES: [Named; 3] = [SIG_BLOCK, SIG_UNBLOCK, SIG_SETMASK];

@@ -13,6 +13,10 @@ pub enum Mode {
     Acted,
     Finished,
     Taken,
+    /// In a group stop, until SIGCONT (signal(7)).
+    Stopped,
+    /// SIGCONT has ended a group stop.
+    Woken,
     Dying,
     Zombie,
 }
@@ -28,6 +32,10 @@ pub enum Cause {
     Exited { pid: u32, code: u8 },
     /// A child was killed by the signal with this number.
     Killed { pid: u32, signal: u8 },
+    /// A child was stopped by the signal with this number.
+    Stopped { pid: u32, signal: u8 },
+    /// A stopped child was continued by SIGCONT.
+    Continued { pid: u32 },
     /// An instruction, with the signal's code and the address.
     Fault { code: u8, address: u64 },
 }
@@ -57,6 +65,11 @@ pub enum Item {
         pid: u32,
         signal: Signal,
         cause: Cause,
+    },
+    /// A taken signal has stopped the process.
+    Stopped {
+        pid: u32,
+        signal: Signal,
     },
     /// The wait word of wait(2), and the mode that was left.
     Exit {

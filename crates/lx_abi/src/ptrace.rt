@@ -84,6 +84,8 @@ pub enum Ask {
     /// The child of the last EVENT_FORK, or the process's own pid after an EVENT_EXEC.
     EventMsg,
     SigInfo,
+    /// Lets go at a group stop: the tracee stays stopped until SIGCONT.
+    Listen,
 }
 
 /// What a tracer asks of a host, one at a time.

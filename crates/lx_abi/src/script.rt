@@ -1,7 +1,6 @@
 //! Which occurrences of which calls are replaced or joined.
 
-ghost use Rattle.std.specs.Prelude.{◌≡◌, [], IsTrue};
-ghost use Rattle.lx_abi.specs.Signals.{is_joinable};
+ghost use Rattle.std.specs.Prelude.{◌≡◌, []};
 
 use crate::signal::Signal;
 use crate::when::When;
@@ -49,8 +48,6 @@ pub struct Rule {
     pub calls: Set,
     pub choice: Choice,
     pub when: When,
-    /// A joined signal is one that kill(2) takes.
-    pub ghost joins: { IsTrue (is_joinable choice.signal) },
 }
 
 /// Rules, of which the last that names a call decides, whether its occurrences cover it or not.

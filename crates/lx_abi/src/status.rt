@@ -20,6 +20,8 @@ pub enum Stop {
     Syscall { good: bool },
     /// A signal-delivery stop.
     Signal { signal: Signal },
+    /// A group stop by this signal.
+    Group { signal: Signal },
     Event { event: EventStop },
     /// It has ended: its exit code times 256, or the number of the signal that killed it.
     Ended { word: u32 },
@@ -46,6 +48,9 @@ fn stopped_by(high: u32) -> Option<Stop>
         0x8005 => Some(Stop::Event {
             event: EventStop::Stop,
         }),
+        0x8013..=0x8016 => {
+            Signal::from_number(u64::from(high - 0x8000)).map(|signal| Stop::Group { signal })
+        }
         _ => Signal::from_number(u64::from(high)).map(|signal| Stop::Signal { signal }),
     }
 }
@@ -97,6 +102,7 @@ impl Stop {
             Stop::Syscall { good: true } => 0x857f,
             Stop::Syscall { good: false } => 0x57f,
             Stop::Signal { signal } => u32::from(signal.number) * 256 + 0x7f,
+            Stop::Group { signal } => u32::from(signal.number) * 256 + 0x80007f,
             Stop::Event {
                 event: EventStop::Fork,
             } => 0x1057f,

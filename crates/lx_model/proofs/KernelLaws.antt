@@ -13,8 +13,8 @@ use Rattle.lx_abi.specs.declared.log.Item.TheVariants as item
 use Rattle.lx_abi.specs.declared.script.Choice.{Choice}
 use Rattle.lx_abi.specs.declared.signal.Signal.{Signal}
 use Rattle.lx_abi.specs.Log.{Noted, pid_of, is_entry, items_of, entries}
-use Rattle.lx_model.specs.Machine.{Machine, Ran, Goes, Calls, Faults, Takes, Answer, Refused, Returns, Jumps, Execs, Bears, Blocks, Ends, Took, Passes, Kills}
-use Rattle.lx_model.specs.Turn.{Stage, Born, Run, Faulting, Entered, Doing, Replaced, Acted, Finished, Taken, Dropped, Task, Alive, Dying, Gone, PtraceEvent, Plain, Execed, Forked, Out, turn, killed_or, lives, stepped, answered, took}
+use Rattle.lx_model.specs.Machine.{Machine, Ran, Goes, Calls, Faults, Takes, Answer, Refused, Returns, Jumps, Execs, Bears, Blocks, Ends, Took, Passes, Stops, Kills}
+use Rattle.lx_model.specs.Turn.{Stage, Born, Run, Faulting, Entered, Doing, Replaced, Acted, Finished, Taken, Dropped, Stopped, Released, Woken, Task, Alive, Dying, Gone, PtraceEvent, Plain, Execed, Forked, Out, turn, killed_or, lives, stepped, answered, halts, took, wakes}
 use Rattle.lx_model.specs.Kernel.{Script, put, traces, choice_at, Kernel, after_turn, with_child, turn_of, kernel_turn, kernel_run, first_kernel, born}
 use Rattle.lx_model.specs.KernelLaws.{NobodyTakesNoTurn, IsFresh, FirstIsFresh, RunsStayFresh, IsGiven, PidsAreGivenOnce, PidsRise, OthersCountNothing, ChoicesAreByOccurrence}
 
@@ -49,9 +49,18 @@ module _ {S B : Type 0} (m : Machine S B) (c : Choice) (s : S) (child p : ℕ) w
   of_answer b call Blocks = tt
   of_answer b call (Ends w) = refl
 
-  of_signal : (signal : Signal) (cause : Cause) (t : Took S B) → IsOf p (took m s p signal cause t).item
-  of_signal signal cause (Passes t b) = tt
-  of_signal signal cause (Kills w) = refl
+  of_halt : (b : B) (signal : Signal) (continued : Bool) → IsOf p (halts continued m s p b signal).item
+  of_halt b signal true = tt
+  of_halt b signal false = refl
+
+  of_signal : (b : B) (signal : Signal) (cause : Cause) (t : Took S B) → IsOf p (took m s p b signal cause t).item
+  of_signal b signal cause (Passes t d) = tt
+  of_signal b signal cause Stops = of_halt b signal (m.continued s p)
+  of_signal b signal cause (Kills w) = refl
+
+  of_wake : (b : B) (signal : Signal) (continued : Bool) → IsOf p (wakes continued m s p b signal).item
+  of_wake b signal true = tt
+  of_wake b signal false = tt
 
   of_stage : (b : B) (stage : Stage) → IsOf p (lives m c s child p b stage).item
   of_stage b Born = tt
@@ -62,8 +71,11 @@ module _ {S B : Type 0} (m : Machine S B) (c : Choice) (s : S) (child p : ℕ) w
   of_stage b (Replaced call x) = tt
   of_stage b (Acted call x replaced) = refl
   of_stage b Finished = tt
-  of_stage b (Taken signal cause) = of_signal signal cause (m.take s p signal cause b)
+  of_stage b (Taken signal cause) = of_signal b signal cause (m.take s p signal cause b)
   of_stage b Dropped = tt
+  of_stage b (Stopped signal) = of_wake b signal (m.continued s p)
+  of_stage b Released = tt
+  of_stage b Woken = tt
 
   of_alive : (b : B) (stage : Stage) (killed : Bool) → IsOf p (killed_or killed m c s child p b stage).item
   of_alive b stage true = refl
@@ -82,6 +94,7 @@ no_entry q call (item.Enter p d) ne = go (q == p) refl
     go false e = refl
 no_entry q call (item.Done p d x replaced) ne = refl
 no_entry q call (item.Taken p signal cause) ne = refl
+no_entry q call (item.Stopped p signal) ne = refl
 no_entry q call (item.Exit p w left) ne = refl
 
 -- what another logs is no entry of this process

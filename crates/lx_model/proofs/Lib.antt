@@ -1,2 +1,3 @@
 pub mod Bridge
 pub mod KernelLaws
+pub mod Halts

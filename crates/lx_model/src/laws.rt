@@ -2,7 +2,7 @@
 
 ghost use Rattle.lx_model.specs.KernelLaws.{NobodyTakesNoTurn, FirstIsFresh, RunsStayFresh, PidsAreGivenOnce, PidsRise};
 ghost use Rattle.lx_model.specs.KernelLaws.{OthersCountNothing, ChoicesAreByOccurrence};
-ghost use Rattle.lx_model.specs.Laws.{KernelsBeginAlike, KernelsRunAlike};
+ghost use Rattle.lx_model.specs.Laws.{KernelsBeginAlike, KernelsRunAlike, TheStoppedStay, ContinuedInTime};
 
 /// The kernel over finite maps runs as the kernel over functions does.
 pub fn kernels_run_alike<S, B>()
@@ -27,4 +27,10 @@ pub fn pids_are_given_once<S, B>()
 pub fn occurrences_are_counted<S, B>()
     ensures others { OthersCountNothing S B }
     ensures choice { ChoicesAreByOccurrence S B }
+{}
+
+/// A stopped process stays so until SIGCONT or SIGKILL, and SIGCONT that comes before the stop lets it go on.
+pub fn the_stopped_stay<S, B>()
+    ensures stays { TheStoppedStay S B }
+    ensures in_time { ContinuedInTime S B }
 {}

@@ -1,7 +1,7 @@
 -- A reply that is admitted is of a kind that answers its request.
 use Rattle.std.proofs.Common.{◌≡◌, ℕ, true, List, Some, refl, subst}
 use Rattle.lx_abi.specs.declared.ptrace.Ask.{Ask}
-use Rattle.lx_abi.specs.declared.ptrace.Ask.TheVariants.{Seize, SetOptions, GetRegs, SetRegs, Peek, Syscall, EventMsg, SigInfo}
+use Rattle.lx_abi.specs.declared.ptrace.Ask.TheVariants.{Seize, SetOptions, GetRegs, SetRegs, Peek, Syscall, EventMsg, SigInfo, Listen}
 use Rattle.lx_abi.specs.declared.ptrace.Reply.{Reply}
 use Rattle.lx_abi.specs.declared.ptrace.Reply.TheVariants.{Done as Agreed, Status as Status_is, Registers as Registers_are, Bytes as Bytes_are, Message as Message_is, Info as Info_is, Outcome as Outcome_is, Errno as Errno_is, OutOfTurns as Out_of_turns, Refused as Boot_refused}
 use Rattle.lx_abi.specs.declared.ptrace.Request.{Request}
@@ -91,6 +91,16 @@ kind_of SigInfo (Outcome_is v) h = absurd (cc h)
 kind_of SigInfo (Errno_is v) h = refl
 kind_of SigInfo Out_of_turns h = refl
 kind_of SigInfo (Boot_refused v) h = absurd (cc h)
+kind_of Listen Agreed h = refl
+kind_of Listen (Status_is v z) h = absurd (cc h)
+kind_of Listen (Registers_are v) h = absurd (cc h)
+kind_of Listen (Bytes_are v) h = absurd (cc h)
+kind_of Listen (Message_is v) h = absurd (cc h)
+kind_of Listen (Info_is v) h = absurd (cc h)
+kind_of Listen (Outcome_is v) h = absurd (cc h)
+kind_of Listen (Errno_is v) h = refl
+kind_of Listen Out_of_turns h = refl
+kind_of Listen (Boot_refused v) h = absurd (cc h)
 
 module _ (o : Options) (known : ℕ → Known) (tracees : List ℕ) where
   abbrev Answers : Focus → Request → Reply → Type 0

@@ -5,22 +5,22 @@ use Rattle.std.proofs.lemmas.Bool.Decides.{nat_tests}
 use Rattle.lx_abi.specs.declared.log.Mode.{Mode}
 use Rattle.lx_abi.specs.declared.ptrace.Ask.TheVariants.{Peek}
 use Rattle.lx_abi.specs.declared.signal.Signal.{Signal}
-use Rattle.lx_model.specs.Machine.{Machine, call_of, sp_of, a7_of}
+use Rattle.lx_model.specs.Machine.{Machine, call_of, sp_of}
 use Rattle.lx_model.specs.Kernel.{Script}
 use Rattle.pt_model.specs.Requests.{answer, esrch, peeked}
-use Rattle.lx_abi.specs.Signals.{may_join}
+use Rattle.lx_abi.specs.Signals.{is_signal}
 use Rattle.pt_model.specs.Parts.{At_entry, At_exit, Options}
 use Rattle.pt_model.specs.Admissible.{admits_answer}
-use Rattle.pt_model.specs.Tracer.{Known, Awaiting, Seizing, Entry_regs, Entry_peek, Entry_set, Exit_regs, Exit_set, Exit_peek, Signal_info, Resuming, asks, signal_word}
-use Rattle.pt_model.specs.Headline.{IsTold, IsTexts, IsScript}
-use Rattle.pt_model.proofs.Phases.{Phase, Running, Enter_due, Enter_asked, Enter_peeking, Enter_setting, Enter_resuming, Enter_free, In_call, In_replaced, Has_acted, Exit_due, Exit_asked, Exit_setting, Exit_peeking, Exit_resuming, Exit_free, Fault_free, Sig_due, Sig_asked, Sig_resuming, Sig_free, Dead_due, Dead, Nobody, Unborn, Boot_held, Born_due, Born_resuming, Born_free, Event_due, Event_resuming, Loose, proc_of, stage_of, is_other, Chosen, Knows}
+use Rattle.pt_model.specs.Tracer.{Known, Awaiting, Seizing, Entry_regs, Entry_peek, Entry_set, Exit_regs, Exit_set, Exit_peek, Signal_info, Resuming, Listening, asks, signal_word}
+use Rattle.pt_model.specs.Headline.{IsTold, IsTexts}
+use Rattle.pt_model.proofs.Phases.{Phase, Running, Enter_due, Enter_asked, Enter_peeking, Enter_setting, Enter_resuming, Enter_free, In_call, In_replaced, Has_acted, Exit_due, Exit_asked, Exit_setting, Exit_peeking, Exit_resuming, Exit_free, Fault_free, Sig_due, Sig_asked, Sig_resuming, Sig_free, Halt_due, Halt_asked, Halt_free, Wake_due, Wake_resuming, Wake_free, Dead_due, Dead, Nobody, Unborn, Boot_held, Born_due, Born_resuming, Born_free, Event_due, Event_resuming, Loose, proc_of, stage_of, is_other, Chosen, Knows}
 use Rattle.pt_model.proofs.Local.{same_pid, some_inj, may_resume, seize_answer}
 
 bytes_admitted : (a n : ℕ) (bytes : List ℕ) → length bytes ≤ n → admits_answer (Peek a n) (peeked bytes) ≡ true
 bytes_admitted a n [] l = refl
 bytes_admitted a n (x ∷ bytes) l = grind (arith, nat_tests)
 
-module _ {S B : Type 0} (m : Machine S B) (told : IsTold m) (o : Options) (texts : IsTexts o.texts) (script : Script) (scripts : IsScript script) (k : Known) (e : ℕ → ℕ) (message : ℕ) where
+module _ {S B : Type 0} (m : Machine S B) (told : IsTold m) (o : Options) (texts : IsTexts o.texts) (script : Script) (k : Known) (e : ℕ → ℕ) (message : ℕ) where
   abbrev Admits : Phase B → Awaiting → Type 0
   Admits ph st = admits_answer (asks o st) (answer m message (proc_of m o.follow ph) (asks o st)).reply ≡ true
 
@@ -34,12 +34,13 @@ module _ {S B : Type 0} (m : Machine S B) (told : IsTold m) (o : Options) (texts
   dead_admitted w mode (Exit_peek x r d y) h = refl
   dead_admitted w mode (Signal_info n) h = refl
   dead_admitted w mode (Resuming n) h = refl
+  dead_admitted w mode Listening h = refl
 
   resumed_admitted : (b : B) (r : Option ℕ) (n : Option Signal) → Chosen script (m.regs b) r n k e → Admits (Enter_resuming b r n) (Resuming (signal_word n))
   resumed_admitted b r None h = refl
   resumed_admitted b r (Some v) h =
-      let j : may_join v.number ≡ true = scripts (a7_of (m.regs b)) (e (a7_of (m.regs b))) v h.signal in
-      rw (may_resume (v.number == 0) (may_join v.number) j) refl
+      let j : is_signal v.number ≡ true = v.in_range in
+      rw (may_resume (v.number == 0) (is_signal v.number) j) refl
 
   pub admitted : (ph : Phase B) → Knows m o script ph k e → (st : Awaiting) → stage_of m ph ≡ Some st → Admits ph st
   admitted (Enter_asked b) h st q = subst (λ x. Admits (Enter_asked b) x) (some_inj _ _ q) (refl)
@@ -52,6 +53,8 @@ module _ {S B : Type 0} (m : Machine S B) (told : IsTold m) (o : Options) (texts
   admitted (Exit_resuming b) h st q = subst (λ x. Admits (Exit_resuming b) x) (some_inj _ _ q) (refl)
   admitted (Sig_asked b n cause) h st q = subst (λ x. Admits (Sig_asked b n cause) x) (some_inj _ _ q) (refl)
   admitted (Sig_resuming b n cause) h st q = subst (λ x. Admits (Sig_resuming b n cause) x) (some_inj _ _ q) (rw (same_pid n.number) refl)
+  admitted (Halt_asked b n) h st q = subst (λ x. Admits (Halt_asked b n) x) (some_inj _ _ q) (refl)
+  admitted (Wake_resuming b) h st q = subst (λ x. Admits (Wake_resuming b) x) (some_inj _ _ q) (refl)
   admitted (Boot_held b) h st q = subst (λ x. Admits (Boot_held b) x) (some_inj _ _ q) (rw (seize_answer m message o.follow b) refl)
   admitted (Born_resuming b) h st q = subst (λ x. Admits (Born_resuming b) x) (some_inj _ _ q) (refl)
   admitted (Event_resuming b c) h st q = subst (λ x. Admits (Event_resuming b c) x) (some_inj _ _ q) (refl)
@@ -68,6 +71,10 @@ module _ {S B : Type 0} (m : Machine S B) (told : IsTold m) (o : Options) (texts
   admitted (Fault_free b n cause) h st q = absurd (cc q)
   admitted (Sig_due b n cause) h st q = absurd (cc q)
   admitted (Sig_free b n cause) h st q = absurd (cc q)
+  admitted (Halt_due b n) h st q = absurd (cc q)
+  admitted (Halt_free b n) h st q = absurd (cc q)
+  admitted (Wake_due b) h st q = absurd (cc q)
+  admitted (Wake_free b) h st q = absurd (cc q)
   admitted (Dead w) h st q = absurd (cc q)
   admitted Nobody h st q = absurd (cc q)
   admitted (Unborn t) h st q = absurd (cc q)

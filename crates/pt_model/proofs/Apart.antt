@@ -10,14 +10,14 @@ use Rattle.lx_abi.specs.declared.script.Choice.{Choice}
 use Rattle.lx_abi.specs.declared.signal.Signal.{Signal}
 use Rattle.lx_abi.specs.declared.status.EventStop.TheVariants.{Fork as At_fork, Stop as At_start}
 use Rattle.lx_abi.specs.declared.status.Stop.{Stop}
-use Rattle.lx_abi.specs.declared.status.Stop.TheVariants.{Syscall as Syscall_stop, Signal as Signal_stop, Event as Event_stop, Ended}
+use Rattle.lx_abi.specs.declared.status.Stop.TheVariants.{Syscall as Syscall_stop, Signal as Signal_stop, Group as Group_stop, Event as Event_stop, Ended}
 use Rattle.lx_abi.specs.Scripts.{no_choice}
-use Rattle.lx_model.specs.Machine.{Machine, Ran, Goes, Calls, Faults, Takes, Answer, Refused, Returns, Jumps, Execs, Bears, Blocks, Ends, Took, Passes, Kills}
+use Rattle.lx_model.specs.Machine.{Machine, Ran, Goes, Calls, Faults, Takes, Answer, Refused, Returns, Jumps, Execs, Bears, Blocks, Ends, Took, Passes, Stops, Kills}
 use Rattle.lx_model.specs.declared.event.PtraceEvent.{PtraceEvent}
 use Rattle.lx_model.specs.declared.event.PtraceEvent.TheVariants.{Plain, Execed, Forked}
-use Rattle.lx_model.specs.Turn.{Out, stepped, answered, took, lives, killed_or, turn}
+use Rattle.lx_model.specs.Turn.{Out, stepped, answered, halts, took, wakes, lives, killed_or, turn}
 use Rattle.lx_model.specs.declared.stage.Stage.{Stage}
-use Rattle.lx_model.specs.declared.stage.Stage.TheVariants.{Born, Run, Faulting, Entered, Doing, Replaced, Acted, Finished, Taken, Dropped}
+use Rattle.lx_model.specs.declared.stage.Stage.TheVariants.{Born, Run, Faulting, Entered, Doing, Replaced, Acted, Finished, Taken, Dropped, Stopped, Released, Woken}
 use Rattle.lx_model.specs.declared.stage.Task.{Task}
 use Rattle.lx_model.specs.declared.stage.Task.TheVariants.{Alive, Dying, Gone}
 use Rattle.lx_model.specs.Kernel.{Script, put, Kernel, after_turn, with_child, turn_of, kernel_turn, kernel_run, first_kernel}
@@ -84,9 +84,18 @@ module _ {S B : Type 0} (m : Machine S B) (s : S) (child p : ℕ) where
   answered_logs b c Blocks h = absurd (cc h)
   answered_logs b c (Ends w) h = here
 
-  took_logs : (n : Signal) (cause : Cause) (t : Took S B) → Logs (took m s p n cause t)
-  took_logs n cause (Passes t c) h = absurd (cc h)
-  took_logs n cause (Kills w) h = here
+  halts_logs : (continued : Bool) (b : B) (n : Signal) → Logs (halts continued m s p b n)
+  halts_logs true b n h = absurd (cc h)
+  halts_logs false b n h = absurd (cc h)
+
+  wakes_logs : (continued : Bool) (b : B) (n : Signal) → Logs (wakes continued m s p b n)
+  wakes_logs true b n h = absurd (cc h)
+  wakes_logs false b n h = absurd (cc h)
+
+  took_logs : (b : B) (n : Signal) (cause : Cause) (t : Took S B) → Logs (took m s p b n cause t)
+  took_logs b n cause (Passes t c) h = absurd (cc h)
+  took_logs b n cause Stops h = halts_logs (m.continued s p) b n h
+  took_logs b n cause (Kills w) h = here
 
   lives_logs : (c : Choice) (b : B) (stage : Stage) → Logs (lives m c s child p b stage)
   lives_logs c b Born h = absurd (cc h)
@@ -97,8 +106,11 @@ module _ {S B : Type 0} (m : Machine S B) (s : S) (child p : ℕ) where
   lives_logs c b (Replaced call x) h = absurd (cc h)
   lives_logs c b (Acted call x replaced) h = absurd (cc h)
   lives_logs c b Finished h = absurd (cc h)
-  lives_logs c b (Taken n cause) h = took_logs n cause (m.take s p n cause b) h
+  lives_logs c b (Taken n cause) h = took_logs b n cause (m.take s p n cause b) h
   lives_logs c b Dropped h = absurd (cc h)
+  lives_logs c b (Stopped n) h = wakes_logs (m.continued s p) b n h
+  lives_logs c b Released h = absurd (cc h)
+  lives_logs c b Woken h = absurd (cc h)
 
   killed_logs : (kk : Bool) (c : Choice) (b : B) (stage : Stage) → Logs (killed_or kk m c s child p b stage)
   killed_logs true c b stage h = here
@@ -177,6 +189,7 @@ the_held_can_be_killed m h p b stage w e killed = rw (e, killed) (put_here h.pro
 take_queue : {S B : Type 0} (h : Host S B) (rest : List Report) (p : ℕ) (stop : Stop) → (take_report h rest p stop).queue ≡ rest
 take_queue h rest p (Syscall_stop good) = refl
 take_queue h rest p (Signal_stop n) = refl
+take_queue h rest p (Group_stop n) = refl
 take_queue h rest p (Event_stop n) = refl
 take_queue h rest p (Ended w) = refl
 
@@ -186,7 +199,7 @@ first_report_is_told m outcome h r rest e = rw e (refl, take_queue h rest r.pid 
 module _ {S B : Type 0} (m : Machine S B) (w : TraceOptions) (s : S) (child p : ℕ) where
   -- a turn that bears a child leaves its process at the clone that did
   abbrev Clones : Out S B → Type 0
-  Clones o = (born : B) → o.event ≡ Forked born → (is_dying o.task ≡ false) × (tracee_stop w o.task (Forked born) ≡ cond w.forks (Some (Event_stop At_fork)) None)
+  Clones o = (born : B) → o.event ≡ Forked born → (is_dying o.task ≡ false) × (tracee_stop w o.task o.item (Forked born) ≡ cond w.forks (Some (Event_stop At_fork)) None)
 
   stepped_clones : (b : B) (r : Ran S B) → Clones (stepped m s p b r)
   stepped_clones b (Goes c) born h = absurd (cc h)
@@ -203,9 +216,18 @@ module _ {S B : Type 0} (m : Machine S B) (w : TraceOptions) (s : S) (child p : 
   answered_clones b c Blocks born h = absurd (cc h)
   answered_clones b c (Ends v) born h = absurd (cc h)
 
-  took_clones : (n : Signal) (cause : Cause) (t : Took S B) → Clones (took m s p n cause t)
-  took_clones n cause (Passes t c) born h = absurd (cc h)
-  took_clones n cause (Kills v) born h = absurd (cc h)
+  halts_clones : (continued : Bool) (b : B) (n : Signal) → Clones (halts continued m s p b n)
+  halts_clones true b n born h = absurd (cc h)
+  halts_clones false b n born h = absurd (cc h)
+
+  wakes_clones : (continued : Bool) (b : B) (n : Signal) → Clones (wakes continued m s p b n)
+  wakes_clones true b n born h = absurd (cc h)
+  wakes_clones false b n born h = absurd (cc h)
+
+  took_clones : (b : B) (n : Signal) (cause : Cause) (t : Took S B) → Clones (took m s p b n cause t)
+  took_clones b n cause (Passes t c) born h = absurd (cc h)
+  took_clones b n cause Stops born h = halts_clones (m.continued s p) b n born h
+  took_clones b n cause (Kills v) born h = absurd (cc h)
 
   lives_clones : (c : Choice) (b : B) (stage : Stage) → Clones (lives m c s child p b stage)
   lives_clones c b Born born h = absurd (cc h)
@@ -216,8 +238,11 @@ module _ {S B : Type 0} (m : Machine S B) (w : TraceOptions) (s : S) (child p : 
   lives_clones c b (Replaced call x) born h = absurd (cc h)
   lives_clones c b (Acted call x replaced) born h = absurd (cc h)
   lives_clones c b Finished born h = absurd (cc h)
-  lives_clones c b (Taken n cause) born h = took_clones n cause (m.take s p n cause b) born h
+  lives_clones c b (Taken n cause) born h = took_clones b n cause (m.take s p n cause b) born h
   lives_clones c b Dropped born h = absurd (cc h)
+  lives_clones c b (Stopped n) born h = wakes_clones (m.continued s p) b n born h
+  lives_clones c b Released born h = absurd (cc h)
+  lives_clones c b Woken born h = absurd (cc h)
 
   killed_clones : (kk : Bool) (c : Choice) (b : B) (stage : Stage) → Clones (killed_or kk m c s child p b stage)
   killed_clones true c b stage born h = absurd (cc h)
@@ -228,13 +253,13 @@ module _ {S B : Type 0} (m : Machine S B) (w : TraceOptions) (s : S) (child p : 
   turn_clones c (Dying v) born h = absurd (cc h)
   turn_clones c Gone born h = absurd (cc h)
 
-fork_queue : {S B : Type 0} (h : Host S B) (p : ℕ) (w : TraceOptions) (o : Out S B) (born : B) → w.forks ≡ true → o.event ≡ Forked born → is_dying o.task ≡ false → tracee_stop w o.task (Forked born) ≡ cond w.forks (Some (Event_stop At_fork)) None →
+fork_queue : {S B : Type 0} (h : Host S B) (p : ℕ) (w : TraceOptions) (o : Out S B) (born : B) → w.forks ≡ true → o.event ≡ Forked born → is_dying o.task ≡ false → tracee_stop w o.task o.item (Forked born) ≡ cond w.forks (Some (Event_stop At_fork)) None →
     (bears (moved h p (Some w) o) (Some w) o.event).queue ≡ h.queue ++ record { pid = p; stop = Event_stop At_fork } ∷ record { pid = h.child; stop = Event_stop At_start } ∷ []
 fork_queue h p w o born f x dying stop = rw (x, dying, stop, f) (append_assoc h.queue (record { pid = p; stop = Event_stop At_fork } ∷ []) (record { pid = h.child; stop = Event_stop At_start } ∷ []))
 
 pub fork_is_told_first : {S B : Type 0} → ForkIsToldFirst S B
 fork_is_told_first m h p w born e f g x =
-    let c : (is_dying (host_turn_of m h p).task ≡ false) × (tracee_stop w (host_turn_of m h p).task (Forked born) ≡ cond w.forks (Some (Event_stop At_fork)) None) = turn_clones m w h.shared h.child p no_choice (h.procs p).task born x in
+    let c : (is_dying (host_turn_of m h p).task ≡ false) × (tracee_stop w (host_turn_of m h p).task (host_turn_of m h p).item (Forked born) ≡ cond w.forks (Some (Event_stop At_fork)) None) = turn_clones m w h.shared h.child p no_choice (h.procs p).task born x in
     rw (g, e) (fork_queue h p w (host_turn_of m h p) born f x c.0 c.1)
 
 reports_for-append : (q : ℕ) (xs ys : List Report) → reports_for q (xs ++ ys) ≡ reports_for q xs + reports_for q ys
@@ -290,13 +315,13 @@ one_report_a_stop {S} {B} m h p d g =
     let w : Option TraceOptions = (h.procs p).options in
     let o : Out S B = host_turn_of m h p in
     let c : h.child ≢ p = λ e. d (sym e) in
-    let left : (turned_host m h p).procs p ≡ proc_after w o.task o.event = bears_apart (moved h p w o) w o.event p c ∙ put_here h.procs p (proc_after w o.task o.event) in
-    let told : reports_for p (turned_host m h p).queue ≡ cond (is_dying o.task) 0 (reports_for p h.queue) + one_if (is_there (stop_at w o.task o.event)) = bears_report (moved h p w o) w o.event p c ∙ task_reports p h.queue (is_dying o.task) (stop_at w o.task o.event) in
+    let left : (turned_host m h p).procs p ≡ proc_after w o.task o.item o.event = bears_apart (moved h p w o) w o.event p c ∙ put_here h.procs p (proc_after w o.task o.item o.event) in
+    let told : reports_for p (turned_host m h p).queue ≡ cond (is_dying o.task) 0 (reports_for p h.queue) + one_if (is_there (stop_at w o.task o.item o.event)) = bears_report (moved h p w o) w o.event p c ∙ task_reports p h.queue (is_dying o.task) (stop_at w o.task o.item o.event) in
     rw g (told ∙ ap (λ (t : Proc B). cond (is_dying o.task) 0 (reports_for p h.queue) + one_if t.held) (sym left))
 
 pub no_other_report : {S B : Type 0} → NoOtherReport S B
 no_other_report {S} {B} m h p q d c = go (is_effective m h.shared p (h.procs p))
   where
     go : (b : Bool) → reports_for q (cond b (turned_host m h p) h).queue ≡ reports_for q h.queue
-    go true = bears_report (moved h p (h.procs p).options (host_turn_of m h p)) (h.procs p).options (host_turn_of m h p).event q c ∙ other_reports p q d h.queue (is_dying (host_turn_of m h p).task) (stop_at (h.procs p).options (host_turn_of m h p).task (host_turn_of m h p).event)
+    go true = bears_report (moved h p (h.procs p).options (host_turn_of m h p)) (h.procs p).options (host_turn_of m h p).event q c ∙ other_reports p q d h.queue (is_dying (host_turn_of m h p).task) (stop_at (h.procs p).options (host_turn_of m h p).task (host_turn_of m h p).item (host_turn_of m h p).event)
     go false = refl

@@ -9,7 +9,7 @@ use Rattle.lx_model.specs.Kernel.{Script}
 use Rattle.pt_model.specs.Requests.{esrch}
 use Rattle.pt_model.specs.Parts.{At_entry, At_exit, Options}
 use Rattle.pt_model.specs.Admissible.{admits_answer}
-use Rattle.pt_model.specs.Tracer.{Known, Awaiting, Seizing, Entry_regs, Entry_peek, Entry_set, Exit_regs, Exit_set, Exit_peek, Signal_info, Resuming, asks, hears, entry_with, look_entry, read_entry, look_exit, read_exit, exit_with, peeked_entry, peeked_exit, Waiting, Serving, focus_on, admits_at, next_at}
+use Rattle.pt_model.specs.Tracer.{Known, Awaiting, Seizing, Entry_regs, Entry_peek, Entry_set, Exit_regs, Exit_set, Exit_peek, Signal_info, Resuming, Listening, asks, hears, entry_with, look_entry, read_entry, look_exit, read_exit, exit_with, peeked_entry, peeked_exit, Waiting, Serving, focus_on, admits_at, next_at}
 use Rattle.pt_model.specs.Replies.{LetsGo, NobodyIsLeftHeld}
 use Rattle.pt_model.proofs.Maps.{equal_if}
 
@@ -151,6 +151,16 @@ module _ (o : Options) (script : Script) (p : ℕ) (k : Known) where
   let_go (Resuming n) (Errno_is m) a h t = inr (is_three m a)
   let_go (Resuming n) Out_of_turns a h t = absurd (t refl)
   let_go (Resuming n) (Boot_refused v) a h t = absurd (cc a)
+  let_go Listening Agreed a h t = inl (tt, refl)
+  let_go Listening (Status_is v z) a h t = absurd (cc a)
+  let_go Listening (Registers_are v) a h t = absurd (cc a)
+  let_go Listening (Bytes_are v) a h t = absurd (cc a)
+  let_go Listening (Message_is v) a h t = absurd (cc a)
+  let_go Listening (Info_is v) a h t = absurd (cc a)
+  let_go Listening (Outcome_is v) a h t = absurd (cc a)
+  let_go Listening (Errno_is m) a h t = inr (is_three m a)
+  let_go Listening Out_of_turns a h t = absurd (t refl)
+  let_go Listening (Boot_refused v) a h t = absurd (cc a)
 
 is_waiting : (p : ℕ) (x : Option Awaiting) → focus_on p x ≡ Waiting → x ≡ None
 is_waiting p None h = refl

@@ -1,7 +1,9 @@
 -- The rows compute.
 use Rattle.std.proofs.Common.{refl}
+use Rattle.lx_abi.specs.Calls.{calls, has_effects}
 use Rattle.lx_abi.specs.Signals.{signal_numbered}
 use Rattle.lx_abi.specs.Status.{stop_of}
+use Rattle.pt_model.specs.JobRows.{StopRows, SendRows, ListenRows, JobRuns, JobRows}
 use Rattle.pt_model.specs.ModeRows.{ModeRows}
 use Rattle.pt_model.specs.RequestRows.{EsrchRows, SeizeRows, OptionRows, PeekRows, ResumeRows, SigInfoRows, MessageRows, WaitRows, RequestRows}
 
@@ -43,3 +45,22 @@ wait_rows = record { no_tracee = refl; start = refl; nothing_yet_told = refl; ex
 
 pub request_rows : RequestRows
 request_rows = record { esrch_first = esrch_rows; seizing = seize_rows; options = option_rows; peeking = peek_rows; resuming = resume_rows; information = information_rows; messages = message_rows; waiting = wait_rows }
+
+stop_rows : StopRows
+unfolding signal_numbered stop_of
+stop_rows = record { takes_stop = refl; stops = refl; stops_no_more = refl; stays = refl; stays_at_signal = refl; wakes = refl; woken = refl; takes_cont = refl; dropped = refl; released = refl; killed_taken = refl; killed_stopped = refl; killed_released = refl; killed_woken = refl }
+
+send_rows : SendRows
+unfolding signal_numbered stop_of
+send_rows = record { stop_takes_cont = refl; cont_takes_stops = refl; stops_keep_stops = refl; cont_at_stop = refl; cont_again = refl; cont_elsewhere = refl; stop_after_cont = refl }
+
+listen_rows : ListenRows
+unfolding signal_numbered stop_of
+listen_rows = record { signal_stop = refl; stop = refl; stop_by_other = refl; information = refl; listen = refl; registers_of_listening = refl; listen_twice = refl; no_more_stop = refl; held_at_stop = refl; woken = refl; woken_after_listen = refl; woken_once = refl; released = refl; released_goes_on = refl; released_with_signal = refl; woken_with_signal = refl; at_start = refl; at_entry_stop = refl; at_exit_stop = refl; at_signal_stop = refl; at_event_stop = refl; at_waking = refl; before_seize = refl; of_none = refl; of_dying = refl }
+
+job_runs : JobRuns
+unfolding signal_numbered stop_of has_effects calls
+job_runs = record { stopped_child = refl; stopped_outcome = refl; untold_stop = refl; logged_stop = refl; told_stop = refl; continued_child = refl; left_child = refl }
+
+pub job_rows : JobRows
+job_rows = record { modes = stop_rows; sending = send_rows; listening = listen_rows; runs = job_runs }

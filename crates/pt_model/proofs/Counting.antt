@@ -5,7 +5,7 @@ use Rattle.std.proofs.lemmas.Bool.Decides.{nat_tests}
 use Rattle.lx_abi.specs.declared.ptrace.Reply.{Reply}
 use Rattle.lx_abi.specs.declared.ptrace.Reply.TheVariants.{Done as Agreed, Status as Status_is, Registers as Registers_are, Bytes as Bytes_are, Message as Message_is, Info as Info_is, Outcome as Outcome_is, Errno as Errno_is, OutOfTurns as Out_of_turns, Refused as Boot_refused}
 use Rattle.lx_abi.specs.declared.status.Stop.{Stop}
-use Rattle.lx_abi.specs.declared.status.Stop.TheVariants.{Syscall as Syscall_stop, Signal as Signal_stop, Event as Event_stop, Ended}
+use Rattle.lx_abi.specs.declared.status.Stop.TheVariants.{Syscall as Syscall_stop, Signal as Signal_stop, Group as Group_stop, Event as Event_stop, Ended}
 use Rattle.lx_abi.specs.Status.{stop_of}
 use Rattle.lx_model.specs.Machine.{Regs, call_of, a7_of, sp_of}
 use Rattle.lx_model.specs.Turn.{result_word}
@@ -13,7 +13,7 @@ use Rattle.lx_model.specs.Kernel.{Script}
 use Rattle.pt_model.specs.Ptrace.{is_there}
 use Rattle.pt_model.specs.Parts.{Half, At_entry, At_exit, Options, Part}
 use Rattle.pt_model.specs.Admissible.{was_read, admits_answer}
-use Rattle.pt_model.specs.Tracer.{Known, Awaiting, Seizing, Entry_regs, Entry_peek, Entry_set, Exit_regs, Exit_set, Exit_peek, Signal_info, Resuming, asks, hears, entry_with, look_entry, read_entry, look_exit, read_exit, exit_with, bytes_of, peeked_entry, peeked_exit, Focus, Booting, Waiting, Serving, Asking_outcome, Over, Turns_over, Faulted, Tracer, Moved, focus_on, stays, first_place, exit_place, took_status, admits_stop, is_empty, is_among, with_tracee, tracees_after, told_tracees, takes, faults, next_at, next, new_tracer}
+use Rattle.pt_model.specs.Tracer.{Known, Awaiting, Seizing, Entry_regs, Entry_peek, Entry_set, Exit_regs, Exit_set, Exit_peek, Signal_info, Resuming, Listening, asks, hears, entry_with, look_entry, read_entry, look_exit, read_exit, exit_with, bytes_of, peeked_entry, peeked_exit, Focus, Booting, Waiting, Serving, Asking_outcome, Over, Turns_over, Faulted, Tracer, Moved, focus_on, stays, first_place, exit_place, took_status, admits_stop, is_empty, is_among, with_tracee, tracees_after, told_tracees, takes, faults, next_at, next, new_tracer}
 use Rattle.pt_model.specs.View.{most_reads}
 use Rattle.pt_model.specs.Headline.{IsTexts}
 use Rattle.pt_model.specs.Replies.{one_if_asked, asked_after, asked_since, FewRequests}
@@ -34,6 +34,7 @@ spare_at (Exit_set r x) = 98
 spare_at (Exit_peek x replaced got w) = 97 - length got
 spare_at (Signal_info n) = 2
 spare_at (Resuming n) = 1
+spare_at Listening = 1
 
 abbrev spare : List ℕ → Focus → ℕ
 spare known Booting = 2
@@ -188,6 +189,16 @@ module _ (o : Options) (texts : IsTexts o.texts) (script : Script) (p : ℕ) (k 
   falls (Resuming n) (Errno_is y) m = none_falls (Resuming n)
   falls (Resuming n) Out_of_turns m = none_falls (Resuming n)
   falls (Resuming n) (Boot_refused v) m = none_falls (Resuming n)
+  falls Listening Agreed m = none_falls Listening
+  falls Listening (Status_is v z) m = none_falls Listening
+  falls Listening (Registers_are v) m = none_falls Listening
+  falls Listening (Bytes_are v) m = none_falls Listening
+  falls Listening (Message_is v) m = none_falls Listening
+  falls Listening (Info_is v) m = none_falls Listening
+  falls Listening (Outcome_is v) m = none_falls Listening
+  falls Listening (Errno_is y) m = none_falls Listening
+  falls Listening Out_of_turns m = none_falls Listening
+  falls Listening (Boot_refused v) m = none_falls Listening
 
 -- so many requests so far, and so many that may follow
 record Few (o : Options) (t : Tracer) (asked : ℕ) : Type 0 where
@@ -204,6 +215,7 @@ positive (Exit_set r x) m = omega arith
 positive (Exit_peek x replaced got w) m = omega (arith, m)
 positive (Signal_info n) m = omega arith
 positive (Resuming n) m = omega arith
+positive Listening m = omega arith
 
 abbrev count : Options → Bool → Tracer → ℕ → ℕ
 count o told t asked = cond told (one_if_asked o t) (asked + one_if_asked o t)
@@ -238,6 +250,7 @@ module _ (o : Options) (texts : IsTexts o.texts) (script : Script) (known : ℕ 
       let f : past_most (first_place o (known p) (known p).inside) × (1 + spare_at (first_place o (known p) (known p).inside) ≤ 100) × (is_seizing (first_place o (known p) (known p).inside) ≡ false) = first_fits o (known p) (known p).inside in
       record { bounded = f.1; sound = (f.0, λ s. with_some tracees p) }
   status_few more l p (Some (Signal_stop n)) true h = record { bounded = omega arith; sound = (tt, λ s. with_some tracees p) }
+  status_few more l p (Some (Group_stop n)) true h = record { bounded = omega arith; sound = (tt, λ s. with_some tracees p) }
   status_few more l p (Some (Event_stop n)) true h = record { bounded = omega arith; sound = (tt, λ s. with_some tracees p) }
   status_few more l p (Some (Ended w)) true h = record { bounded = at_most_two (is_empty (filter (λ q. not (p == q)) tracees)); sound = tt }
     where
@@ -275,6 +288,7 @@ module _ (o : Options) (texts : IsTexts o.texts) (script : Script) (known : ℕ 
   kept p (Exit_peek a b c d) r h = refl
   kept p (Signal_info a) r h = refl
   kept p (Resuming a) r h = refl
+  kept p Listening r h = refl
 
   known_still : (p : ℕ) (place : Awaiting) (r : Reply) → admits_answer (asks o place) r ≡ true → (r ≡ Out_of_turns → ⊥) → (seizing : Bool) → is_seizing place ≡ seizing → (seizing ≡ false → is_empty tracees ≡ false) → is_empty (tracees_after tracees (Serving p place) r) ≡ false
   known_still p place r a t false e h = ap is_empty (kept p place r e) ∙ h refl

@@ -4,7 +4,7 @@ use Rattle.lx_abi.specs.declared.outcome.Outcome.{Outcome}
 use Rattle.lx_abi.specs.declared.ptrace.Reply.{Reply}
 use Rattle.lx_abi.specs.declared.ptrace.Reply.TheVariants.{Done as Agreed, Status as Status_is, Registers as Registers_are, Bytes as Bytes_are, Message as Message_is, Info as Info_is, Outcome as Outcome_is, Errno as Errno_is, OutOfTurns as Out_of_turns, Refused as Boot_refused}
 use Rattle.lx_abi.specs.declared.status.Stop.{Stop}
-use Rattle.lx_abi.specs.declared.status.Stop.TheVariants.{Syscall as Syscall_stop, Signal as Signal_stop, Event as Event_stop, Ended}
+use Rattle.lx_abi.specs.declared.status.Stop.TheVariants.{Syscall as Syscall_stop, Signal as Signal_stop, Group as Group_stop, Event as Event_stop, Ended}
 use Rattle.lx_abi.specs.Status.{stop_of}
 use Rattle.lx_model.specs.Kernel.{Script}
 use Rattle.pt_model.specs.Parts.{Options}
@@ -23,6 +23,7 @@ on_status : (o : Options) (known : ℕ → Known) (p : ℕ) (stop : Option Stop)
 on_status o known p None = (λ x e. absurd cc, λ e. absurd cc)
 on_status o known p (Some (Syscall_stop good)) = (λ x e. absurd cc, λ e. absurd cc)
 on_status o known p (Some (Signal_stop signal)) = (λ x e. absurd cc, λ e. absurd cc)
+on_status o known p (Some (Group_stop signal)) = (λ x e. absurd cc, λ e. absurd cc)
 on_status o known p (Some (Event_stop event)) = (λ x e. absurd cc, λ e. absurd cc)
 on_status o known p (Some (Ended word)) = (λ x e. absurd cc, λ e. absurd cc)
 

@@ -8,7 +8,7 @@ use Rattle.lx_abi.specs.declared.ptrace.Reply.TheVariants.{Done as Agreed, Statu
 use Rattle.lx_abi.specs.declared.schedule.Event.{Event as Step}
 use Rattle.lx_abi.specs.declared.schedule.Event.TheVariants.{Turn, Serve}
 use Rattle.lx_abi.specs.declared.status.Stop.{Stop}
-use Rattle.lx_abi.specs.declared.status.Stop.TheVariants.{Syscall as Syscall_stop, Signal as Signal_stop, Event as Event_stop, Ended}
+use Rattle.lx_abi.specs.declared.status.Stop.TheVariants.{Syscall as Syscall_stop, Signal as Signal_stop, Group as Group_stop, Event as Event_stop, Ended}
 use Rattle.lx_abi.specs.Status.{word_of, stop_of}
 use Rattle.lx_model.specs.Machine.{Machine}
 use Rattle.lx_model.specs.Kernel.{Script, traces, first_kernel}
@@ -75,6 +75,7 @@ module _ {S B : Type 0} (m : Machine S B) (outcome : S → Outcome) (o : Options
   not_over_status known p None x e = cc e
   not_over_status known p (Some (Syscall_stop good)) x e = cc e
   not_over_status known p (Some (Signal_stop n)) x e = cc e
+  not_over_status known p (Some (Group_stop n)) x e = cc e
   not_over_status known p (Some (Event_stop n)) x e = cc e
   not_over_status known p (Some (Ended v)) x e = cc e
 
@@ -133,10 +134,10 @@ is_past_if Turns_over h = absurd h
 is_past_if Faulted h = absurd h
 
 pub transparent : {S B : Type 0} → IsTransparent S B
-transparent m laws words outcome o texts script scripts s b events =
+transparent m laws words outcome o texts script s b events =
     let w = traced_run m outcome o script s b events in
     let k = plain_run m outcome o script s b events in
-    let t : Tied m o script w k = run_tied m outcome o script laws words texts scripts events (first_world s b) (first_kernel s b) (first_tied m o script s b) in
+    let t : Tied m o script w k = run_tied m outcome o script laws words texts events (first_world s b) (first_kernel s b) (first_tied m o script s b) in
     record {
       same_outcome = ap outcome t.shared;
       admitted = λ e. cc (t.sane, ap is_stuck e);

@@ -19,17 +19,17 @@ use Rattle.lx_abi.specs.declared.script.Choice.{Choice}
 use Rattle.lx_abi.specs.declared.signal.Signal.{Signal}
 use Rattle.lx_abi.specs.declared.status.EventStop.TheVariants.{Stop as At_start}
 use Rattle.lx_abi.specs.declared.status.Stop.{Stop}
-use Rattle.lx_abi.specs.declared.status.Stop.TheVariants.{Syscall as Syscall_stop, Signal as Signal_stop, Event as Event_stop, Ended}
+use Rattle.lx_abi.specs.declared.status.Stop.TheVariants.{Syscall as Syscall_stop, Signal as Signal_stop, Group as Group_stop, Event as Event_stop, Ended}
 use Rattle.lx_abi.specs.Scripts.{no_choice, choice_of}
-use Rattle.lx_abi.specs.Log.{entries}
+use Rattle.lx_abi.specs.Log.{Noted, entries}
 use Rattle.lx_model.specs.Machine.{Machine}
-use Rattle.lx_model.specs.Machine.{call_of, Ran, Goes, Calls, Faults, Takes, Answer, Refused, Returns, Jumps, Execs, Bears, Blocks, Ends, Took, Passes, Kills}
+use Rattle.lx_model.specs.Machine.{call_of, Ran, Goes, Calls, Faults, Takes, Answer, Refused, Returns, Jumps, Execs, Bears, Blocks, Ends, Took, Passes, Stops, Kills}
 use Rattle.lx_model.specs.Events.{by_pid}
 use Rattle.lx_model.specs.declared.event.PtraceEvent.{PtraceEvent}
 use Rattle.lx_model.specs.declared.event.PtraceEvent.TheVariants.{Plain, Execed, Forked}
-use Rattle.lx_model.specs.Turn.{Out, gives, joins, stepped, chosen, result_word, answered as answered_call, took, lives, killed_or, turn}
+use Rattle.lx_model.specs.Turn.{Out, gives, joins, stepped, chosen, result_word, answered as answered_call, halts, took, wakes, lives, killed_or, turn}
 use Rattle.lx_model.specs.declared.stage.Stage.{Stage}
-use Rattle.lx_model.specs.declared.stage.Stage.TheVariants.{Born, Run, Faulting, Entered, Doing, Replaced, Acted, Finished, Taken, Dropped}
+use Rattle.lx_model.specs.declared.stage.Stage.TheVariants.{Born, Run, Faulting, Entered, Doing, Replaced, Acted, Finished, Taken, Dropped, Stopped, Released, Woken}
 use Rattle.lx_model.specs.declared.stage.Task.{Task}
 use Rattle.lx_model.specs.declared.stage.Task.TheVariants.{Alive, Dying, Gone}
 use Rattle.lx_model.specs.Kernel.{put, traces, choice_at, born}
@@ -51,7 +51,7 @@ same_where f p q true e = ap f (equal e)
     equal h = grind (arith, nat_tests)
 same_where f p q false e = refl
 
-put_same : {X : Type 0} (f : ℕ → X) (p : ℕ) → put f p (f p) ≡ f
+pub put_same : {X : Type 0} (f : ℕ → X) (p : ℕ) → put f p (f p) ≡ f
 put_same f p = fun_ext (λ q. same_where f p q (p == q) refl)
 
 abbrev procs_by : {B : Type 0} → (ℕ → Task B) → (ℕ → Traced) → ℕ → Proc B
@@ -137,8 +137,8 @@ module _ {S B : Type 0} (m : Machine S B) where
   abbrev unborn : Hosting S B → ℕ → Traced → Out S B → Hosting S B
   unborn v p t o = record {
     running = ran v.running p o;
-    traced = traced_after v.traced p v.running.child t.message t.options o.task o.event;
-    queue = cond (is_dying o.task) (without p v.queue) v.queue ++ reports_of p (stop_at t.options o.task o.event);
+    traced = traced_after v.traced p v.running.child t.message t.options o.task o.item o.event;
+    queue = cond (is_dying o.task) (without p v.queue) v.queue ++ reports_of p (stop_at t.options o.task o.item o.event);
     tracees = v.tracees;
     turns = v.turns ++ p ∷ [];
     pending = v.pending;
@@ -158,20 +158,20 @@ module _ {S B : Type 0} (m : Machine S B) where
       go false = put_same messages p
 
   after_is : (v : Hosting S B) (p : ℕ) (o : Out S B) (w : Option TraceOptions) → (traced_at v p).options ≡ w → (w ≡ None → (traced_at v p).held ≡ false) →
-      host_in (record { running = ran v.running p o; traced = traced_after v.traced p v.running.child (traced_at v p).message w o.task o.event; queue = cond (is_dying o.task) (without p v.queue) v.queue ++ reports_of p (stop_at w o.task o.event); tracees = v.tracees; turns = v.turns ++ p ∷ []; pending = v.pending })
+      host_in (record { running = ran v.running p o; traced = traced_after v.traced p v.running.child (traced_at v p).message w o.task o.item o.event; queue = cond (is_dying o.task) (without p v.queue) v.queue ++ reports_of p (stop_at w o.task o.item o.event); tracees = v.tracees; turns = v.turns ++ p ∷ []; pending = v.pending })
       ≡ moved (host_in v) p w o
   after_is v p o None e h = same_host o.shared _ _ _ v.tracees _ _ v.running.child
       (procs_put (at Gone v.running.tasks) _ (traced_at v) (traced_at v) p o.task (traced_at v p) (at-placed v.running.tasks p o.task) (sym (put_same (traced_at v) p)) ∙ ap (put (proc_in v) p) (unwatched (traced_at v p) e (h refl)))
       refl
     where
-      unwatched : (t : Traced) → t.options ≡ None → t.held ≡ false → as_proc o.task t ≡ proc_after None o.task o.event
+      unwatched : (t : Traced) → t.options ≡ None → t.held ≡ false → as_proc o.task t ≡ proc_after None o.task o.item o.event
       unwatched t f g = rw (f, g) refl
   after_is v p o (Some w) e h = same_host o.shared _ _ _ v.tracees _ _ v.running.child
       (procs_put (at Gone v.running.tasks) _ (traced_at v) _ p o.task x (at-placed v.running.tasks p o.task) (at-insert untraced v.traced p x))
       (messages_put (traced_at v) _ p x (at-insert untraced v.traced p x) ∙ message_put (λ q. (traced_at v q).message) p v.running.child w o.event)
     where
       x : Traced
-      x = record { held = is_there (tracee_stop w o.task o.event); options = Some w; message = message_after (traced_at v p).message p w (by_pid v.running.child o.event) }
+      x = record { held = is_there (tracee_stop w o.task o.item o.event); options = Some w; message = message_after (traced_at v p).message p w (by_pid v.running.child o.event) }
 
   -- a child
   abbrev with_user : Hosting S B → PtraceEvent B → Hosting S B
@@ -198,9 +198,9 @@ module _ {S B : Type 0} (m : Machine S B) where
   birth_is v w Execed fresh = refl
   birth_is v w (Forked b) fresh = child_is v b (inherits w) fresh
 
-  after_fresh : (child : ℕ) (traced : maps.FinMap nat_cmp Traced) (p message : ℕ) (w : Option TraceOptions) (task : Task B) (e : PtraceEvent B) → (at untraced traced p).options ≡ w → Fresh child traced → Fresh child (traced_after traced p child message w task e)
-  after_fresh child traced p message None task e h f = f
-  after_fresh child traced p message (Some w) task e h f = fresh_insert child traced p _ f (is_watched (maps.get traced p) w h)
+  after_fresh : (child : ℕ) (traced : maps.FinMap nat_cmp Traced) (p message : ℕ) (w : Option TraceOptions) (task : Task B) (i : Option Noted) (e : PtraceEvent B) → (at untraced traced p).options ≡ w → Fresh child traced → Fresh child (traced_after traced p child message w task i e)
+  after_fresh child traced p message None task i e h f = f
+  after_fresh child traced p message (Some w) task i e h f = fresh_insert child traced p _ f (is_watched (maps.get traced p) w h)
 
   birth_fresh : (v : Hosting S B) (w : Option TraceOptions) (e : PtraceEvent B) → IsFresh v → IsFresh (with_birth (with_user v e) v.running.child w e)
   birth_fresh v w Plain f = f
@@ -215,7 +215,7 @@ module _ {S B : Type 0} (m : Machine S B) where
       (host_in (hosted v p (traced_at v p) o) ≡ bears (moved (host_in v) p (traced_at v p).options o) (traced_at v p).options o.event) × IsFresh (hosted v p (traced_at v p) o)
   turn_is v p o fresh eff =
       let u : Hosting S B = unborn v p (traced_at v p) o in
-      let f : IsFresh u = after_fresh v.running.child v.traced p (traced_at v p).message (traced_at v p).options o.task o.event refl fresh in
+      let f : IsFresh u = after_fresh v.running.child v.traced p (traced_at v p).message (traced_at v p).options o.task o.item o.event refl fresh in
       (birth_is u (traced_at v p).options o.event f ∙ ap (λ h. bears h (traced_at v p).options o.event) (after_is v p o (traced_at v p).options refl (idle v.running.shared p (traced_at v p).held (traced_at v p).options (at Gone v.running.tasks p) eff)), birth_fresh u (traced_at v p).options o.event f)
 
   out_is : (follow : Bool) (v : Hosting S B) (p : ℕ) → turn_out m no_script follow v.running p ≡ host_turn_of m (host_in v) p
@@ -277,6 +277,7 @@ module _ {S B : Type 0} (m : Machine S B) where
   took_is : (v : Hosting S B) (rest : List Report) (p : ℕ) (stop : Stop) → IsFresh v → (host_in (took_report v rest p stop) ≡ take_report (host_in v) rest p stop) × IsFresh (took_report v rest p stop)
   took_is v rest p (Syscall_stop good) fresh = (refl, fresh)
   took_is v rest p (Signal_stop signal) fresh = (refl, fresh)
+  took_is v rest p (Group_stop signal) fresh = (refl, fresh)
   took_is v rest p (Event_stop event) fresh = (refl, fresh)
   took_is v rest p (Ended word) fresh =
       let r : at untraced (released v.traced p (maps.get v.traced p)) ≡ put (traced_at v) p (let_go (traced_at v p)) = released_is v.traced p (maps.get v.traced p) refl in (
@@ -321,7 +322,7 @@ module _ {S B : Type 0} (m : Machine S B) where
   turn_keeps follow v p true = birth_keeps (with_user v p (turn_out m no_script follow v.running p)) v.running.child (traced_at v p).options (turn_out m no_script follow v.running p).event
     where
       with_user : Hosting S B → ℕ → Out S B → Hosting S B
-      with_user v p o = record { running = bore (ran v.running p o) o.event; traced = traced_after v.traced p v.running.child (traced_at v p).message (traced_at v p).options o.task o.event; queue = cond (is_dying o.task) (without p v.queue) v.queue ++ reports_of p (stop_at (traced_at v p).options o.task o.event); tracees = v.tracees; turns = v.turns ++ p ∷ []; pending = v.pending }
+      with_user v p o = record { running = bore (ran v.running p o) o.event; traced = traced_after v.traced p v.running.child (traced_at v p).message (traced_at v p).options o.task o.item o.event; queue = cond (is_dying o.task) (without p v.queue) v.queue ++ reports_of p (stop_at (traced_at v p).options o.task o.item o.event); tracees = v.tracees; turns = v.turns ++ p ∷ []; pending = v.pending }
   turn_keeps follow v p false = (refl, sym (append-nil v.turns), refl)
 
   answer_turns : (v : Hosting S B) (p message : ℕ) (t : Proc B) (held : Bool) (w : Option TraceOptions) (task : Task B) (q : Ask) → (hosting_to m v p message t held w task q).hosting.turns ≡ v.turns
@@ -334,6 +335,7 @@ module _ {S B : Type 0} (m : Machine S B) where
   took_turns : (v : Hosting S B) (rest : List Report) (p : ℕ) (stop : Stop) → (took_report v rest p stop).turns ≡ v.turns
   took_turns v rest p (Syscall_stop good) = refl
   took_turns v rest p (Signal_stop signal) = refl
+  took_turns v rest p (Group_stop signal) = refl
   took_turns v rest p (Event_stop event) = refl
   took_turns v rest p (Ended word) = refl
 
@@ -391,7 +393,7 @@ hosts_begin_alike {S} {B} s b =
 
 module _ {S B : Type 0} (m : Machine S B) (w : TraceOptions) (child : ℕ) where
   abbrev Tells : Out S B → Type 0
-  Tells o = (told_stop w (task_mode o.task) (item_of o) (by_pid child o.event) ≡ tracee_stop w o.task o.event) × (ends_dying (task_mode o.task) ≡ is_dying o.task)
+  Tells o = (told_stop w (task_mode o.task) (item_of o) (by_pid child o.event) ≡ tracee_stop w o.task o.item o.event) × (ends_dying (task_mode o.task) ≡ is_dying o.task)
 
   stepped_tells : (s : S) (p : ℕ) (b : B) (r : Ran S B) → Tells (stepped m s p b r)
   stepped_tells s p b (Goes c) = (refl, refl)
@@ -412,9 +414,18 @@ module _ {S B : Type 0} (m : Machine S B) (w : TraceOptions) (child : ℕ) where
   answer_tells s p b call Blocks = (refl, refl)
   answer_tells s p b call (Ends v) = (refl, refl)
 
-  took_tells : (s : S) (p : ℕ) (signal : Signal) (cause : Cause) (t : Took S B) → Tells (took m s p signal cause t)
-  took_tells s p signal cause (Passes t c) = (refl, refl)
-  took_tells s p signal cause (Kills v) = (refl, refl)
+  halts_tells : (continued : Bool) (s : S) (p : ℕ) (b : B) (signal : Signal) → Tells (halts continued m s p b signal)
+  halts_tells true s p b signal = (refl, refl)
+  halts_tells false s p b signal = (refl, refl)
+
+  wakes_tells : (continued : Bool) (s : S) (p : ℕ) (b : B) (signal : Signal) → Tells (wakes continued m s p b signal)
+  wakes_tells true s p b signal = (refl, refl)
+  wakes_tells false s p b signal = (refl, refl)
+
+  took_tells : (s : S) (p : ℕ) (b : B) (signal : Signal) (cause : Cause) (t : Took S B) → Tells (took m s p b signal cause t)
+  took_tells s p b signal cause (Passes t c) = (refl, refl)
+  took_tells s p b signal cause Stops = halts_tells (m.continued s p) s p b signal
+  took_tells s p b signal cause (Kills v) = (refl, refl)
 
   lives_tells : (c : Choice) (s : S) (p : ℕ) (b : B) (stage : Stage) → Tells (lives m c s child p b stage)
   lives_tells c s p b Born = (refl, refl)
@@ -425,8 +436,11 @@ module _ {S B : Type 0} (m : Machine S B) (w : TraceOptions) (child : ℕ) where
   lives_tells c s p b (Replaced call x) = (refl, refl)
   lives_tells c s p b (Acted call x replaced) = (refl, refl)
   lives_tells c s p b Finished = (refl, refl)
-  lives_tells c s p b (Taken signal cause) = took_tells s p signal cause (m.take s p signal cause b)
+  lives_tells c s p b (Taken signal cause) = took_tells s p b signal cause (m.take s p signal cause b)
   lives_tells c s p b Dropped = (refl, refl)
+  lives_tells c s p b (Stopped signal) = wakes_tells (m.continued s p) s p b signal
+  lives_tells c s p b Released = (refl, refl)
+  lives_tells c s p b Woken = (refl, refl)
 
   killed_tells : (killed : Bool) (c : Choice) (s : S) (p : ℕ) (b : B) (stage : Stage) → Tells (killed_or killed m c s child p b stage)
   killed_tells true c s p b stage = (refl, refl)

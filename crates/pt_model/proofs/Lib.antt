@@ -13,6 +13,7 @@ pub mod TinyMachine
 pub mod Computed
 pub mod Apart
 pub mod Hosts
+pub mod Halts
 pub mod Composition
 pub mod Called
 pub mod Owned
@@ -21,6 +22,5 @@ pub mod Hands
 pub mod Resumed
 pub mod Counting
 pub mod Admission
-pub mod Scripts
 pub mod Endings
 pub mod Faults

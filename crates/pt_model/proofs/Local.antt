@@ -20,14 +20,14 @@ use Rattle.lx_abi.specs.Errnos.{enosys}
 use Rattle.lx_abi.specs.Log.{Noted, items_of, entries}
 use Rattle.lx_abi.specs.Scripts.{no_choice}
 use Rattle.lx_abi.specs.Errors.{error_word}
-use Rattle.lx_abi.specs.Signals.{is_signal, may_join, signal_numbered}
+use Rattle.lx_abi.specs.Signals.{is_signal, is_stop, signal_numbered}
 use Rattle.lx_abi.specs.Status.{is_end}
-use Rattle.lx_model.specs.Machine.{call_of, a0_of, a7_of, sp_of, with_a0, with_a7, Machine, IsMachine, with_result, Ran, Goes, Calls, Faults, Takes, Answer, Refused, Returns, Jumps, Execs, Bears, Blocks, Ends, Took, Passes, Kills}
+use Rattle.lx_model.specs.Machine.{call_of, a0_of, a7_of, sp_of, with_a0, with_a7, Machine, IsMachine, with_result, Ran, Goes, Calls, Faults, Takes, Answer, Refused, Returns, Jumps, Execs, Bears, Blocks, Ends, Took, Passes, Stops, Kills}
 use Rattle.lx_model.specs.declared.event.PtraceEvent.{PtraceEvent}
 use Rattle.lx_model.specs.declared.event.PtraceEvent.TheVariants.{Plain}
-use Rattle.lx_model.specs.Turn.{stage_mode, Out, gives, dies, stepped, joins, chosen, result_word, answered, took, lives, killed_or, turn}
+use Rattle.lx_model.specs.Turn.{stage_mode, Out, gives, dies, stepped, joins, chosen, result_word, answered, halts, took, wakes, lives, killed_or, turn}
 use Rattle.lx_model.specs.declared.stage.Stage.{Stage}
-use Rattle.lx_model.specs.declared.stage.Stage.TheVariants.{Born, Run, Faulting, Entered, Doing, Replaced, Acted, Finished, Taken, Dropped}
+use Rattle.lx_model.specs.declared.stage.Stage.TheVariants.{Born, Run, Faulting, Entered, Doing, Replaced, Acted, Finished, Taken, Dropped, Stopped, Released, Woken}
 use Rattle.lx_model.specs.declared.stage.Task.{Task}
 use Rattle.lx_model.specs.declared.stage.Task.TheVariants.{Alive, Dying, Gone}
 use Rattle.lx_model.specs.Kernel.{Script, put, choice_at}
@@ -36,13 +36,13 @@ use Rattle.pt_model.specs.Requests.{Answered, says, answer, esrch, peeked}
 use Rattle.pt_model.specs.Parts.{Half, At_entry, At_exit, Options, enter_part, done_part}
 use Rattle.lx_abi.specs.Calls.{has_effects}
 use Rattle.lx_abi.specs.Effects.{forks, execs, exits}
-use Rattle.pt_model.specs.Admissible.{Standing, Unmet, Between, After_signal, Unread, Read, After_event, was_read, is_exit_word, end_fits}
-use Rattle.pt_model.specs.Tracer.{Known, Awaiting, Seizing, Entry_regs, Entry_peek, Entry_set, Exit_regs, Exit_set, Exit_peek, Signal_info, Resuming, asks, asked_options, options_word, signal_word, Heard, hears, entry_with, look_entry, read_entry, exit, look_exit, read_exit, exit_with, peeked_entry, peeked_exit, bytes_of}
+use Rattle.pt_model.specs.Admissible.{Standing, Unmet, Between, After_signal, Halted, Unread, Read, After_event, was_read, is_exit_word, end_fits}
+use Rattle.pt_model.specs.Tracer.{Known, Awaiting, Seizing, Entry_regs, Entry_peek, Entry_set, Exit_regs, Exit_set, Exit_peek, Signal_info, Resuming, Listening, asks, asked_options, options_word, signal_word, Heard, hears, entry_with, look_entry, read_entry, exit, look_exit, read_exit, exit_with, peeked_entry, peeked_exit, bytes_of}
 use Rattle.pt_model.specs.View.{may_lose, reads, read_on, most_reads, part, parts, Due, Logged, Unlogged, items_in, report_of}
-use Rattle.pt_model.specs.Headline.{IsTold, IsTexts, IsScript}
+use Rattle.pt_model.specs.Headline.{IsTold, IsTexts}
 use Rattle.pt_model.proofs.Words.{signal_back}
 use Rattle.pt_model.proofs.Registers.{hidden_number, result_back, restored}
-use Rattle.pt_model.proofs.Phases.{Phase, Running, Enter_due, Enter_asked, Enter_peeking, Enter_setting, Enter_resuming, Enter_free, In_call, In_replaced, Has_acted, Exit_due, Exit_asked, Exit_setting, Exit_peeking, Exit_resuming, Exit_free, Fault_free, Sig_due, Sig_asked, Sig_resuming, Sig_free, Dead_due, Dead, Nobody, Unborn, Boot_held, Born_due, Born_resuming, Born_free, Event_due, Event_resuming, Loose, DuesOf, free, held, masked, left, left_masked, call_in, result_in, acted_masked, task_of, proc_of, due_in, hand_in, stage_of, enter_of, done_of, rest_of, signal_of, exit_of, is_other, is_between, Outside, Passing, Entering, Calling, fits_end, Chosen, Reading, Knows, AllOf, more, some, dead, reaped, is_unborn, is_traced, Fate, Goes_on, Says_nothing, Owes_nothing, Loses}
+use Rattle.pt_model.proofs.Phases.{Phase, Running, Enter_due, Enter_asked, Enter_peeking, Enter_setting, Enter_resuming, Enter_free, In_call, In_replaced, Has_acted, Exit_due, Exit_asked, Exit_setting, Exit_peeking, Exit_resuming, Exit_free, Fault_free, Sig_due, Sig_asked, Sig_resuming, Sig_free, Halt_due, Halt_asked, Halt_free, Wake_due, Wake_resuming, Wake_free, Dead_due, Dead, Nobody, Unborn, Boot_held, Born_due, Born_resuming, Born_free, Event_due, Event_resuming, Loose, DuesOf, free, held, masked, left, left_masked, call_in, result_in, acted_masked, task_of, proc_of, due_in, hand_in, stage_of, enter_of, done_of, rest_of, signal_of, halt_of, exit_of, is_other, is_between, Outside, Passing, Halting, Entering, Calling, fits_end, Chosen, Reading, Knows, AllOf, more, some, dead, reaped, is_unborn, is_traced, Fate, Goes_on, Says_nothing, Owes_nothing, Loses}
 
 pub same_pid : (p : ℕ) → (p == p) ≡ true
 same_pid p = grind (arith, nat_tests)
@@ -109,7 +109,7 @@ pub record Turned {S B : Type 0} (m : Machine S B) (f : Bool) (o : Options) (scr
   pub next : Phase B
   pub shared : host.shared ≡ kernel.shared
   pub event : host.event ≡ kernel.event
-  pub proc : proc_after (proc_of m f ph).options host.task host.event ≡ proc_of m f next
+  pub proc : proc_after (proc_of m f ph).options host.task host.item host.event ≡ proc_of m f next
   pub task : kernel.task ≡ task_of m next
   pub knows : Knows m o script next k (more p (option_to_list kernel.item) e)
   pub stage : stage_of m next ≡ stage_of m ph
@@ -118,7 +118,7 @@ pub record Turned {S B : Type 0} (m : Machine S B) (f : Bool) (o : Options) (scr
   pub logged : items_in dues ≡ cond (is_traced ph) (option_to_list kernel.item) []
   pub tasks : DuesOf p dues
   pub hand : hand_in m p next ≡ cond (is_dying host.task) [] (hand_in m p ph)
-  pub reports : map report_of dues ≡ reports_of p (stop_at (proc_of m f ph).options host.task host.event)
+  pub reports : map report_of dues ≡ reports_of p (stop_at (proc_of m f ph).options host.task host.item host.event)
   pub whole : AllOf p (option_to_list kernel.item)
   pub fate : Fate m p ph next (is_dying host.task) (cond (is_traced ph) (option_to_list kernel.item) [])
   pub listed : reaped next ≡ false → reaped ph ≡ false
@@ -143,9 +143,18 @@ module _ {S B : Type 0} (m : Machine S B) (s : S) (child p : ℕ) where
   answered_task b c (Bears t d born) = tt
   answered_task b c (Ends w) = (refl, tt)
 
-  took_task : (n : Signal) (cause : Cause) (t : Took S B) → AllOf p (option_to_list (took m s p n cause t).item)
-  took_task n cause (Passes t c) = tt
-  took_task n cause (Kills w) = (refl, tt)
+  halts_task : (continued : Bool) (b : B) (n : Signal) → AllOf p (option_to_list (halts continued m s p b n).item)
+  halts_task true b n = tt
+  halts_task false b n = (refl, tt)
+
+  wakes_task : (continued : Bool) (b : B) (n : Signal) → AllOf p (option_to_list (wakes continued m s p b n).item)
+  wakes_task true b n = tt
+  wakes_task false b n = tt
+
+  took_task : (b : B) (n : Signal) (cause : Cause) (t : Took S B) → AllOf p (option_to_list (took m s p b n cause t).item)
+  took_task b n cause (Passes t c) = tt
+  took_task b n cause Stops = halts_task (m.continued s p) b n
+  took_task b n cause (Kills w) = (refl, tt)
 
   lives_task : (c : Choice) (b : B) (stage : Stage) → AllOf p (option_to_list (lives m c s child p b stage).item)
   lives_task c b Born = tt
@@ -156,8 +165,11 @@ module _ {S B : Type 0} (m : Machine S B) (s : S) (child p : ℕ) where
   lives_task c b (Replaced call x) = tt
   lives_task c b (Acted call x replaced) = (refl, tt)
   lives_task c b Finished = tt
-  lives_task c b (Taken n cause) = took_task n cause (m.take s p n cause b)
+  lives_task c b (Taken n cause) = took_task b n cause (m.take s p n cause b)
   lives_task c b Dropped = tt
+  lives_task c b (Stopped n) = wakes_task (m.continued s p) b n
+  lives_task c b Released = tt
+  lives_task c b Woken = tt
 
   killed_task : (kk : Bool) (c : Choice) (b : B) (stage : Stage) → AllOf p (option_to_list (killed_or kk m c s child p b stage).item)
   killed_task true c b stage = (refl, tt)
@@ -203,6 +215,12 @@ module _ {S B : Type 0} (m : Machine S B) (laws : IsMachine m) (words : IsTold m
   other_place (Sig_asked b n cause) a l = refl
   other_place (Sig_resuming b n cause) a l = refl
   other_place (Sig_free b n cause) a l = refl
+  other_place (Halt_due b n) a l = refl
+  other_place (Halt_asked b n) a l = refl
+  other_place (Halt_free b n) a l = refl
+  other_place (Wake_due b) a l = refl
+  other_place (Wake_resuming b) a l = refl
+  other_place (Wake_free b) a l = refl
   other_place (Born_due b) a l = refl
   other_place (Born_resuming b) a l = refl
   other_place (Born_free b) a l = refl
@@ -222,15 +240,18 @@ module _ {S B : Type 0} (m : Machine S B) (laws : IsMachine m) (words : IsTold m
   unread_fits : k.standing ≡ Unread → fits_end k 9 ≡ true
   unread_fits h = ap (λ x. end_fits k.called.number (is_there k.saved) x 9) h
 
-  passing_fits : k.standing ≡ After_signal → fits_end k 9 ≡ true
+  passing_fits : {n : Signal} → k.standing ≡ After_signal n → fits_end k 9 ≡ true
   passing_fits h = ap (λ x. end_fits k.called.number (is_there k.saved) x 9) h
+
+  halting_fits : k.standing ≡ Halted → fits_end k 9 ≡ true
+  halting_fits h = ap (λ x. end_fits k.called.number (is_there k.saved) x 9) h
 
   between_fits : is_between k.standing ≡ true → fits_end k 9 ≡ true
   between_fits h = go k.called.number (is_there k.saved) k.standing h
     where
       go : (n : ℕ) (r : Bool) (x : Standing) → is_between x ≡ true → end_fits n r x 9 ≡ true
       go n r Between g = refl
-      go n r After_signal g = refl
+      go n r (After_signal v) g = refl
       go n r _ g = absurd (cc g)
 
   read_fits : was_read k.standing ≡ true → fits_end k 9 ≡ true
@@ -247,7 +268,7 @@ module _ {S B : Type 0} (m : Machine S B) (laws : IsMachine m) (words : IsTold m
     next = Dead_due 9 (stage_mode stage) (stage_of m ph);
     shared = refl;
     event = refl;
-    proc = ap (λ w. proc_after {B = B} w (Dying 9) Plain) real.3;
+    proc = ap (λ w. proc_after {B = B} w (Dying 9) (dies m s p 9 other).item Plain) real.3;
     task = refl;
     knows = (refl, fits, other_place ph alive real.0);
     stage = refl;
@@ -256,7 +277,7 @@ module _ {S B : Type 0} (m : Machine S B) (laws : IsMachine m) (words : IsTold m
     logged = ap (λ t. cond t (exit_of p 9 (stage_mode stage) ∷ []) []) (sym real.2);
     tasks = (refl, tt);
     hand = refl;
-    reports = ap (λ w. reports_of p (stop_at {B = B} w (Dying 9) Plain)) (sym real.3);
+    reports = ap (λ w. reports_of p (stop_at {B = B} w (Dying 9) (dies m s p 9 other).item Plain)) (sym real.3);
     whole = (refl, tt);
     fate = subst (λ t. Fate m p ph (Dead_due 9 (stage_mode stage) (stage_of m ph)) true (cond t (exit_of p 9 (stage_mode stage) ∷ []) [])) (sym real.2) (⊎_elim (λ q. Owes_nothing refl refl alive q) (λ q. Loses refl refl alive q.0 q.1 (stage_mode stage) q.2 refl) owes);
     listed = λ _. real.0;
@@ -276,7 +297,7 @@ module _ {S B : Type 0} (m : Machine S B) (laws : IsMachine m) (words : IsTold m
   exit_fits : (c : Call) (w : ℕ) → k.saved ≡ None → k.called ≡ c → k.standing ≡ Read → has_effects c.number exits ≡ true → is_exit_word w ≡ true → fits_end k w ≡ true
   exit_fits c w saved called read number word = rw (saved, called, read) (or_right (w == 9) (has_effects c.number exits && is_exit_word w) (ap₂ (λ x y. x && y) number word))
 
-  passed : Passing k e → Outside k e
+  passed : {n : Signal} → Passing n k e → Outside k e
   passed h = record { outside = h.outside; between = ap is_between h.passing; same = h.same }
 
   stepped_turned : (f : Bool) (b : B) → Outside k e → (r : Ran S B) → Turned m f o script p (Running b) k e (stepped m s p b r) (stepped m s p b r)
@@ -298,9 +319,18 @@ module _ {S B : Type 0} (m : Machine S B) (laws : IsMachine m) (words : IsTold m
   answered_turned f b c same h (Bears t d born) ends = forks_turned f b c same h ends t d born
   answered_turned f b c same h (Ends w) ends = record { next = Dead_due w mode.Doing None; shared = refl; event = refl; proc = refl; task = refl; knows = (exit_is_end w ends.1, exit_fits c w h.0.saved_is h.0.called_is h.1 ends.0 ends.1, refl); stage = refl; dues = Logged (exit_of p w mode.Doing) ∷ []; due = refl; logged = refl; tasks = (refl, tt); hand = refl; reports = refl; whole = (refl, tt); fate = Owes_nothing refl refl refl refl; listed = λ _. refl; unborn = refl; sort = refl; birth = Traced_birth refl refl }
 
-  took_turned : (f : Bool) (b : B) (n : Signal) (cause : Cause) → Passing k e → (t : Took S B) → ((w : ℕ) → t ≡ Kills w → is_signal w ≡ true) → Turned m f o script p (Sig_free b n cause) k e (took m s p n cause t) (took m s p n cause t)
-  took_turned f b n cause h (Passes t c) ends = record { next = Running c; shared = refl; event = refl; proc = refl; task = refl; knows = keep (Running c) (passed h); stage = refl; dues = []; due = refl; logged = refl; tasks = tt; hand = refl; reports = refl; whole = tt; fate = Goes_on refl refl refl; listed = λ _. refl; unborn = refl; sort = refl; birth = Traced_birth refl refl }
-  took_turned f b n cause h (Kills w) ends = record { next = Dead_due w mode.Taken None; shared = refl; event = refl; proc = refl; task = refl; knows = (signal_is_end w (ends w refl), ap (λ x. end_fits k.called.number (is_there k.saved) x w) h.passing ∙ ends w refl, refl); stage = refl; dues = Logged (exit_of p w mode.Taken) ∷ []; due = refl; logged = refl; tasks = (refl, tt); hand = refl; reports = refl; whole = (refl, tt); fate = Owes_nothing refl refl refl refl; listed = λ _. refl; unborn = refl; sort = refl; birth = Traced_birth refl refl }
+  halts_turned : (f : Bool) (b : B) (n : Signal) (cause : Cause) → Passing n k e → is_stop n.number ≡ true → (continued : Bool) → Turned m f o script p (Sig_free b n cause) k e (halts continued m s p b n) (halts continued m s p b n)
+  halts_turned f b n cause h stops true = record { next = Running b; shared = refl; event = refl; proc = refl; task = refl; knows = keep (Running b) (passed h); stage = refl; dues = []; due = refl; logged = refl; tasks = tt; hand = refl; reports = refl; whole = tt; fate = Goes_on refl refl refl; listed = λ _. refl; unborn = refl; sort = refl; birth = Traced_birth refl refl }
+  halts_turned f b n cause h stops false = record { next = Halt_due b n; shared = refl; event = refl; proc = refl; task = refl; knows = keep (Halt_due b n) (h, stops); stage = refl; dues = Logged (halt_of m p b n) ∷ []; due = refl; logged = refl; tasks = (refl, tt); hand = refl; reports = refl; whole = (refl, tt); fate = Goes_on refl refl refl; listed = λ _. refl; unborn = refl; sort = refl; birth = Traced_birth refl refl }
+
+  wakes_turned : (f : Bool) (b : B) (n : Signal) → Halting k e → (continued : Bool) → Turned m f o script p (Halt_free b n) k e (wakes continued m s p b n) (wakes continued m s p b n)
+  wakes_turned f b n h true = record { next = Wake_due b; shared = refl; event = refl; proc = refl; task = refl; knows = keep (Wake_due b) h; stage = refl; dues = Unlogged p At_start ∷ []; due = refl; logged = refl; tasks = (refl, tt); hand = refl; reports = refl; whole = tt; fate = Goes_on refl refl refl; listed = λ _. refl; unborn = refl; sort = refl; birth = Traced_birth refl refl }
+  wakes_turned f b n h false = record { next = Halt_free b n; shared = refl; event = refl; proc = refl; task = refl; knows = keep (Halt_free b n) h; stage = refl; dues = []; due = refl; logged = refl; tasks = tt; hand = refl; reports = refl; whole = tt; fate = Goes_on refl refl refl; listed = λ _. refl; unborn = refl; sort = refl; birth = Traced_birth refl refl }
+
+  took_turned : (f : Bool) (b : B) (n : Signal) (cause : Cause) → Passing n k e → (t : Took S B) → ((w : ℕ) → t ≡ Kills w → is_signal w ≡ true) → (t ≡ Stops → is_stop n.number ≡ true) → Turned m f o script p (Sig_free b n cause) k e (took m s p b n cause t) (took m s p b n cause t)
+  took_turned f b n cause h (Passes t c) ends stops = record { next = Running c; shared = refl; event = refl; proc = refl; task = refl; knows = keep (Running c) (passed h); stage = refl; dues = []; due = refl; logged = refl; tasks = tt; hand = refl; reports = refl; whole = tt; fate = Goes_on refl refl refl; listed = λ _. refl; unborn = refl; sort = refl; birth = Traced_birth refl refl }
+  took_turned f b n cause h Stops ends stops = halts_turned f b n cause h (stops refl) (m.continued s p)
+  took_turned f b n cause h (Kills w) ends stops = record { next = Dead_due w mode.Taken None; shared = refl; event = refl; proc = refl; task = refl; knows = (signal_is_end w (ends w refl), ap (λ x. end_fits k.called.number (is_there k.saved) x w) h.passing ∙ ends w refl, refl); stage = refl; dues = Logged (exit_of p w mode.Taken) ∷ []; due = refl; logged = refl; tasks = (refl, tt); hand = refl; reports = refl; whole = (refl, tt); fate = Owes_nothing refl refl refl refl; listed = λ _. refl; unborn = refl; sort = refl; birth = Traced_birth refl refl }
 
   entered_turned : (f : Bool) (b : B) (r : Option ℕ) (n : Option Signal) → Chosen script (m.regs b) r n k e → Turned m f o script p (Enter_free b r n) k e (gives (joins m s p n) (Alive b (chosen (call_of (m.regs b)) r))) (lives m no_choice s child p (masked m b r) (Entered n))
   entered_turned f b None n h = record { next = In_call b (call_of (m.regs b)); shared = refl; event = refl; proc = refl; task = refl; knows = keep (In_call b (call_of (m.regs b))) (h.calling, h.read); stage = refl; dues = []; due = refl; logged = refl; tasks = tt; hand = refl; reports = refl; whole = tt; fate = Goes_on refl refl refl; listed = λ _. refl; unborn = refl; sort = refl; birth = Traced_birth refl refl }
@@ -335,7 +365,13 @@ module _ {S B : Type 0} (m : Machine S B) (laws : IsMachine m) (words : IsTold m
   turned f same (Sig_due b n cause) h g = killed_or_turned f (m.killed s p) (Sig_due b n cause) refl (refl, refl, refl, refl) (between_fits h.between) _ _ b b (Taken n cause) (Taken n cause) (inr (_, refl, refl)) (λ q. absurd (cc (g, q)))
   turned f same (Sig_asked b n cause) h g = killed_or_turned f (m.killed s p) (Sig_asked b n cause) refl (refl, refl, refl, refl) (passing_fits h.passing) _ _ b b (Taken n cause) (Taken n cause) (inr (_, refl, refl)) (λ q. absurd (cc (g, q)))
   turned f same (Sig_resuming b n cause) h g = killed_or_turned f (m.killed s p) (Sig_resuming b n cause) refl (refl, refl, refl, refl) (passing_fits h.passing) _ _ b b (Taken n cause) (Taken n cause) (inl refl) (λ q. absurd (cc (g, q)))
-  turned f same (Sig_free b n cause) h g = killed_or_turned f (m.killed s p) (Sig_free b n cause) refl (refl, refl, refl, refl) (passing_fits h.passing) _ _ b b (Taken n cause) (Taken n cause) (inl refl) (λ q. took_turned f b n cause h (m.take s p n cause b) (λ w. words.by_signal s p n cause b w))
+  turned f same (Sig_free b n cause) h g = killed_or_turned f (m.killed s p) (Sig_free b n cause) refl (refl, refl, refl, refl) (passing_fits h.passing) _ _ b b (Taken n cause) (Taken n cause) (inl refl) (λ q. took_turned f b n cause h (m.take s p n cause b) (λ w. words.by_signal s p n cause b w) (words.by_stop s p n cause b))
+  turned f same (Halt_due b n) h g = killed_or_turned f (m.killed s p) (Halt_due b n) refl (refl, refl, refl, refl) (passing_fits h.0.passing) _ _ b b (Stopped n) (Stopped n) (inr (_, refl, refl)) (λ q. absurd (cc (g, q)))
+  turned f same (Halt_asked b n) h g = killed_or_turned f (m.killed s p) (Halt_asked b n) refl (refl, refl, refl, refl) (halting_fits h.halting) _ _ b b (Stopped n) (Stopped n) (inl refl) (λ q. absurd (cc (g, q)))
+  turned f same (Halt_free b n) h g = killed_or_turned f (m.killed s p) (Halt_free b n) refl (refl, refl, refl, refl) (halting_fits h.halting) _ _ b b (Stopped n) (Stopped n) (inl refl) (λ q. wakes_turned f b n h (m.continued s p))
+  turned f same (Wake_due b) h g = killed_or_turned f (m.killed s p) (Wake_due b) refl (refl, refl, refl, refl) (halting_fits h.halting) _ _ b b Woken Woken (inl refl) (λ q. absurd (cc (g, q)))
+  turned f same (Wake_resuming b) h g = killed_or_turned f (m.killed s p) (Wake_resuming b) refl (refl, refl, refl, refl) (between_fits h.between) _ _ b b Woken Woken (inl refl) (λ q. absurd (cc (g, q)))
+  turned f same (Wake_free b) h g = killed_or_turned f (m.killed s p) (Wake_free b) refl (refl, refl, refl, refl) (between_fits h.between) _ _ b b Woken Woken (inl refl) (λ q. record { next = Running b; shared = refl; event = refl; proc = refl; task = refl; knows = keep (Running b) h; stage = refl; dues = []; due = refl; logged = refl; tasks = tt; hand = refl; reports = refl; whole = tt; fate = Goes_on refl refl refl; listed = λ _. refl; unborn = refl; sort = refl; birth = Traced_birth refl refl })
   turned f same (Dead_due w mode st) h g = absurd (cc g)
   turned f same (Dead w) h g = record { next = Nobody; shared = refl; event = refl; proc = refl; task = refl; knows = tt; stage = refl; dues = []; due = refl; logged = refl; tasks = tt; hand = refl; reports = refl; whole = tt; fate = Says_nothing refl refl refl; listed = λ q. q; unborn = refl; sort = refl; birth = No_birth refl }
   turned f same Nobody h g = record { next = Nobody; shared = refl; event = refl; proc = refl; task = refl; knows = tt; stage = refl; dues = []; due = refl; logged = refl; tasks = tt; hand = refl; reports = refl; whole = tt; fate = Says_nothing refl refl refl; listed = λ q. q; unborn = refl; sort = refl; birth = No_birth refl }
@@ -400,7 +436,7 @@ as_at m f o script p e ph other a b h u pr out qa qb ha du hd de re un tr = reco
     go (Not_seized x y z) = Not_seized qb (y ∙ du) (z ∙ re)
     go (Seized x y) = absurd (cc (x, qa))
 
-module _ {S B : Type 0} (m : Machine S B) (laws : IsMachine m) (o : Options) (texts : IsTexts o.texts) (script : Script) (scripts : IsScript script) (p : ℕ) (k : Known) (e : ℕ → ℕ) where
+module _ {S B : Type 0} (m : Machine S B) (laws : IsMachine m) (o : Options) (texts : IsTexts o.texts) (script : Script) (p : ℕ) (k : Known) (e : ℕ → ℕ) where
   -- what is asked at a phase
   abbrev pub Serves : Bool → ℕ → Phase B → Ask → Awaiting → Type 0
   Serves f message ph q st = Served m f o script p ph e (answer m message (proc_of m f ph) q) (hears o script p k st (answer m message (proc_of m f ph) q).reply)
@@ -415,6 +451,7 @@ module _ {S B : Type 0} (m : Machine S B) (laws : IsMachine m) (o : Options) (te
   dead_served f w mode h (Exit_peek x r d y) = record { next = Dead_due w mode None; proc = refl; task = refl; knows = (h.0, h.1, refl); stage = refl; seized = Not_seized refl refl refl; said = []; printed = refl; hand = refl; lives = refl; unborn = refl; sort = refl; in_turns = refl }
   dead_served f w mode h (Signal_info n) = record { next = Dead_due w mode None; proc = refl; task = refl; knows = (h.0, h.1, refl); stage = refl; seized = Not_seized refl refl refl; said = []; printed = refl; hand = refl; lives = refl; unborn = refl; sort = refl; in_turns = refl }
   dead_served f w mode h (Resuming n) = record { next = Dead_due w mode None; proc = refl; task = refl; knows = (h.0, h.1, refl); stage = refl; seized = Not_seized refl refl refl; said = []; printed = refl; hand = refl; lives = refl; unborn = refl; sort = refl; in_turns = refl }
+  dead_served f w mode h Listening = record { next = Dead_due w mode None; proc = refl; task = refl; knows = (h.0, h.1, refl); stage = refl; seized = Not_seized refl refl refl; said = []; printed = refl; hand = refl; lives = refl; unborn = refl; sort = refl; in_turns = refl }
 
   occurrence : (b : B) → Entering true (m.regs b) k e → (c : Choice) → script (a7_of (m.regs b)) (k.counts (a7_of (m.regs b)) + 1) ≡ c → script (a7_of (m.regs b)) (e (a7_of (m.regs b))) ≡ c
   occurrence b h c chosen =
@@ -491,8 +528,8 @@ module _ {S B : Type 0} (m : Machine S B) (laws : IsMachine m) (o : Options) (te
   resumed_entry : (f : Bool) (message : ℕ) (b : B) (r : Option ℕ) (n : Option Signal) → Chosen script (m.regs b) r n k e → Serves f message (Enter_resuming b r n) (asks o (Resuming (signal_word n))) (Resuming (signal_word n))
   resumed_entry f message b r None h = rw zero_is_none (record { next = Enter_free b r None; proc = refl; task = refl; knows = h; stage = refl; seized = Not_seized refl refl refl; said = []; printed = refl; hand = refl; lives = refl; unborn = refl; sort = refl; in_turns = refl })
   resumed_entry f message b r (Some v) h =
-      let j : may_join v.number ≡ true = scripts (a7_of (m.regs b)) (e (a7_of (m.regs b))) v h.signal in
-      rw (may_resume (v.number == 0) (may_join v.number) j, signal_back v) (record { next = Enter_free b r (Some v); proc = refl; task = refl; knows = h; stage = refl; seized = Not_seized refl refl refl; said = []; printed = refl; hand = refl; lives = refl; unborn = refl; sort = refl; in_turns = refl })
+      let j : is_signal v.number ≡ true = v.in_range in
+      rw (may_resume (v.number == 0) (is_signal v.number) j, signal_back v) (record { next = Enter_free b r (Some v); proc = refl; task = refl; knows = h; stage = refl; seized = Not_seized refl refl refl; said = []; printed = refl; hand = refl; lives = refl; unborn = refl; sort = refl; in_turns = refl })
 
   pub served : (message : ℕ) (ph : Phase B) → Knows m o script ph k e → (st : Awaiting) → stage_of m ph ≡ Some st → Serves o.follow message ph (asks o st) st
   served message (Enter_asked b) h st q = subst (λ x. Serves o.follow message (Enter_asked b) (asks o x) x) (some_inj _ _ q) (read_entry_served o.follow b [] most_reads (record { whole = refl }) h (o.shows (a7_of (m.regs b))) refl)
@@ -512,6 +549,8 @@ module _ {S B : Type 0} (m : Machine S B) (laws : IsMachine m) (o : Options) (te
   served message (Exit_resuming b) h st q = subst (λ x. Serves o.follow message (Exit_resuming b) (asks o x) x) (some_inj _ _ q) (record { next = Exit_free b; proc = refl; task = refl; knows = h; stage = refl; seized = Not_seized refl refl refl; said = []; printed = refl; hand = refl; lives = refl; unborn = refl; sort = refl; in_turns = refl })
   served message (Sig_asked b n cause) h st q = subst (λ x. Serves o.follow message (Sig_asked b n cause) (asks o x) x) (some_inj _ _ q) (record { next = Sig_resuming b n cause; proc = refl; task = refl; knows = h; stage = refl; seized = Not_seized refl refl refl; said = signal_of m p b n cause ∷ []; printed = refl; hand = refl; lives = refl; unborn = refl; sort = refl; in_turns = refl })
   served message (Sig_resuming b n cause) h st q = subst (λ x. Serves o.follow message (Sig_resuming b n cause) (asks o x) x) (some_inj _ _ q) (rw (same_pid n.number) (record { next = Sig_free b n cause; proc = refl; task = refl; knows = h; stage = refl; seized = Not_seized refl refl refl; said = []; printed = refl; hand = refl; lives = refl; unborn = refl; sort = refl; in_turns = refl }))
+  served message (Halt_asked b n) h st q = subst (λ x. Serves o.follow message (Halt_asked b n) (asks o x) x) (some_inj _ _ q) (record { next = Halt_free b n; proc = refl; task = refl; knows = h; stage = refl; seized = Not_seized refl refl refl; said = []; printed = refl; hand = refl; lives = refl; unborn = refl; sort = refl; in_turns = refl })
+  served message (Wake_resuming b) h st q = subst (λ x. Serves o.follow message (Wake_resuming b) (asks o x) x) (some_inj _ _ q) (record { next = Wake_free b; proc = refl; task = refl; knows = h; stage = refl; seized = Not_seized refl refl refl; said = []; printed = refl; hand = refl; lives = refl; unborn = refl; sort = refl; in_turns = refl })
   served message (Dead_due w mode (Some x)) h st q = subst (λ y. Serves o.follow message (Dead_due w mode (Some x)) (asks o y) y) (some_inj _ _ q) (dead_served o.follow w mode (h.0, h.1) x)
   served message (Boot_held b) h st q = subst (λ x. Serves o.follow message (Boot_held b) (asks o x) x) (some_inj _ _ q) (rw (seize_answer m message o.follow b) (record { next = Born_due b; proc = refl; task = refl; knows = h; stage = refl; seized = Seized refl refl; said = []; printed = refl; hand = refl; lives = refl; unborn = refl; sort = refl; in_turns = refl }))
   served message (Born_resuming b) h st q = subst (λ x. Serves o.follow message (Born_resuming b) (asks o x) x) (some_inj _ _ q) (record { next = Born_free b; proc = refl; task = refl; knows = h; stage = refl; seized = Not_seized refl refl refl; said = []; printed = refl; hand = refl; lives = refl; unborn = refl; sort = refl; in_turns = refl })
@@ -528,6 +567,10 @@ module _ {S B : Type 0} (m : Machine S B) (laws : IsMachine m) (o : Options) (te
   served message (Fault_free b n cause) h st q = absurd (cc q)
   served message (Sig_due b n cause) h st q = absurd (cc q)
   served message (Sig_free b n cause) h st q = absurd (cc q)
+  served message (Halt_due b n) h st q = absurd (cc q)
+  served message (Halt_free b n) h st q = absurd (cc q)
+  served message (Wake_due b) h st q = absurd (cc q)
+  served message (Wake_free b) h st q = absurd (cc q)
   served message (Dead w) h st q = absurd (cc q)
   served message Nobody h st q = absurd (cc q)
   served message (Unborn t) h st q = absurd (cc q)

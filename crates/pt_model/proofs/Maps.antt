@@ -5,7 +5,7 @@ use Rattle.std.proofs.lemmas.Bool.Decides.{nat_tests}
 use Rattle.std.proofs.lemmas.List.{map-append}
 use Rattle.std.proofs.lemmas.List.Elements.{filter-append}
 use Rattle.lx_abi.specs.declared.log.Item.{Item}
-use Rattle.lx_abi.specs.declared.log.Item.TheVariants.{Enter, Done, Taken as Signalled, Exit}
+use Rattle.lx_abi.specs.declared.log.Item.TheVariants.{Enter, Done, Taken as Signalled, Stopped as Halts, Exit}
 use Rattle.lx_abi.specs.Log.{Noted, pid_of, is_entry, items_of, entries}
 use Rattle.lx_model.specs.Kernel.{put, traces}
 use Rattle.pt_model.specs.Ptrace.{without}
@@ -40,6 +40,7 @@ item_pid : (i : Item) → (item_report i).pid ≡ pid_of i
 item_pid (Enter p c) = refl
 item_pid (Done p c x b) = refl
 item_pid (Signalled p n cause) = refl
+item_pid (Halts p n) = refl
 item_pid (Exit p w m) = refl
 
 pub report_pid : (i : Due) → (report_of i).pid ≡ due_pid i
@@ -119,6 +120,7 @@ not_entry : (p q n : ℕ) (i : Item) → p ≢ q → pid_of i ≡ p → is_entry
 not_entry p q n (Enter r c) d h = rw (is_not_same q r (λ e. d (sym (e ∙ h)))) refl
 not_entry p q n (Done r c x b) d h = refl
 not_entry p q n (Signalled r s cause) d h = refl
+not_entry p q n (Halts r s) d h = refl
 not_entry p q n (Exit r w m) d h = refl
 
 pub no_entry : (p q n : ℕ) (items : List Noted) → p ≢ q → AllOf p items → entries q n (items_of items) ≡ 0

@@ -11,10 +11,10 @@ use Rattle.lx_model.specs.Kernel.{Script, Kernel}
 use Rattle.pt_model.specs.Ptrace.{Host, is_there}
 use Rattle.pt_model.specs.Parts.{Options, Part}
 use Rattle.pt_model.specs.Admissible.{admits_answer}
-use Rattle.pt_model.specs.Tracer.{Awaiting, Seizing, Entry_regs, Entry_peek, Entry_set, Exit_regs, Exit_set, Exit_peek, Signal_info, Resuming, asks, Focus, Booting, Waiting, Serving, Asking_outcome, Over, Turns_over, Faulted, Tracer, next_from, next, Moved, request, new_tracer}
+use Rattle.pt_model.specs.Tracer.{Awaiting, Seizing, Entry_regs, Entry_peek, Entry_set, Exit_regs, Exit_set, Exit_peek, Signal_info, Resuming, Listening, asks, Focus, Booting, Waiting, Serving, Asking_outcome, Over, Turns_over, Faulted, Tracer, next_from, next, Moved, request, new_tracer}
 use Rattle.pt_model.specs.World.{World, met, world_run, effective, first_world}
 use Rattle.pt_model.specs.Attending.{Schedules, event, turned, Called, answered_by, called, reply_or}
-use Rattle.pt_model.specs.Headline.{IsTold, IsTexts, IsScript, Headline, traced_run, plain_run}
+use Rattle.pt_model.specs.Headline.{IsTold, IsTexts, Headline, traced_run, plain_run}
 use Rattle.pt_model.specs.Replies.{after, told_by, replies}
 use Rattle.pt_model.specs.Calls.{CallsOver, TalksOver, SchedulesAreLists, IsCall, Used, out_of_turns_if, world_replies, IsOwn, Talks, TalksAreAnswers, TalksAreOwn, OutOfTurnsShowsNothing, OwnRun, OwnRepliesTell, FailuresLeaveAPrefix}
 use Rattle.pt_model.proofs.Final.{transparent}
@@ -31,6 +31,7 @@ always_out o (Exit_set r x) = refl
 always_out o (Exit_peek x replaced got w) = refl
 always_out o (Signal_info n) = refl
 always_out o (Resuming n) = refl
+always_out o Listening = refl
 
 pub out_of_turns_shows_nothing : OutOfTurnsShowsNothing
 out_of_turns_shows_nothing o script t h = go t.focus h
@@ -176,13 +177,13 @@ begins_or_is (r ∷ rs) more (x ∷ xs) y e = behind (begins_or_is rs more xs y 
     behind (inl a) h = inl (a.0, ap₂ (λ z l. z ∷ l) (sym h) a.1)
     behind (inr a) h = inr (a.0, ap₂ (λ z l. z ∷ l) h a.1)
 
-module _ {S B : Type 0} (m : Machine S B) (laws : IsMachine m) (words : IsTold m) (outcome : S → Outcome) (o : Options) (texts : IsTexts o.texts) (script : Script) (scripts : IsScript script) (s : S) (b : B) (events : List Event) (rs : List Reply) where
+module _ {S B : Type 0} (m : Machine S B) (laws : IsMachine m) (words : IsTold m) (outcome : S → Outcome) (o : Options) (texts : IsTexts o.texts) (script : Script) (s : S) (b : B) (events : List Event) (rs : List Reply) where
   -- they are the replies of the first events
   by_events : Used m outcome o script (first_world s b) events rs → OwnRun m outcome o script s b events rs
   by_events u =
       let w : World S B = traced_run m outcome o script s b u.used in
       let same : told_by o script (Agreed ∷ rs) ≡ record { tracer = w.tracer; printed = w.printed } = ap (λ x. told_by o script (Agreed ∷ x)) (sym u.replied) ∙ replies_tell_all m outcome o script s b u.used in
-      let h : Headline outcome o w (plain_run m outcome o script s b u.used) = transparent m laws words outcome o texts script scripts s b u.used in
+      let h : Headline outcome o w (plain_run m outcome o script s b u.used) = transparent m laws words outcome o texts script s b u.used in
       let focus : (told_by o script (Agreed ∷ rs)).tracer.focus ≡ w.tracer.focus = ap (λ (x : Moved). x.tracer.focus) same in
       record {
         used = u.used;
@@ -221,7 +222,7 @@ module _ {S B : Type 0} (m : Machine S B) (laws : IsMachine m) (words : IsTold m
         used = events;
         unused = [];
         split = sym (append-nil events);
-        headline = transparent m laws words outcome o texts script scripts s b events;
+        headline = transparent m laws words outcome o texts script s b events;
         shown = ap (λ (x : Moved). x.printed) same ∙ ap (λ x. w.printed ++ x) out.0 ∙ append-nil w.printed;
         whole = λ x g. absurd (cc (focus, g));
         used_up = λ g. (refl, f);
@@ -236,18 +237,18 @@ module _ {S B : Type 0} (m : Machine S B) (laws : IsMachine m) (words : IsTold m
       (begins_or_is rs task.more (replies m outcome o script (first_world s b) events) (is_there (request o (traced_run m outcome o script s b events).tracer.focus)) task.begins)
 
 pub own_replies_tell : {S B : Type 0} → OwnRepliesTell S B
-own_replies_tell m laws words outcome o texts script scripts s b events rs task = task_run m laws words outcome o texts script scripts s b events rs task
+own_replies_tell m laws words outcome o texts script s b events rs task = task_run m laws words outcome o texts script s b events rs task
 
 pub failures_leave_a_prefix : {S B : Type 0} → FailuresLeaveAPrefix S B
 unfolding by_all
-failures_leave_a_prefix {S} {B} m laws words outcome o texts script scripts s b events rs task =
+failures_leave_a_prefix {S} {B} m laws words outcome o texts script s b events rs task =
     let w : World S B = traced_run m outcome o script s b events in
     let k : Kernel S B = plain_run m outcome o script s b events in
-    let h : Headline outcome o w k = transparent m laws words outcome o texts script scripts s b events in
+    let h : Headline outcome o w k = transparent m laws words outcome o texts script s b events in
     let g : (later : List Part) × ((told_by o script (Agreed ∷ rs ++ task.more)).printed ≡ (told_by o script (Agreed ∷ rs)).printed ++ later) = traces_grow o script (Agreed ∷ rs) task.more in
     let all : (told_by o script (Agreed ∷ rs ++ task.more)).printed ≡ w.printed = ap (λ x. (told_by o script (Agreed ∷ x)).printed) task.begins ∙ shown_by (is_there (request o w.tracer.focus)) refl in
     (h.lost, (g.0 ++ h.tells.later, sym (append_assoc (told_by o script (Agreed ∷ rs)).printed g.0 h.tells.later) ∙ ap (λ x. x ++ h.tells.later) (sym g.1 ∙ all) ∙ h.tells.begins))
   where
     shown_by : (y : Bool) → is_there (request o (traced_run m outcome o script s b events).tracer.focus) ≡ y → (told_by o script (Agreed ∷ (replies m outcome o script (first_world s b) events ++ out_of_turns_if y))).printed ≡ (traced_run m outcome o script s b events).printed
     shown_by false e = ap (λ x. (told_by o script (Agreed ∷ x)).printed) (append-nil (replies m outcome o script (first_world s b) events)) ∙ ap (λ (x : Moved). x.printed) (replies_tell_all m outcome o script s b events)
-    shown_by true e = (by_all m laws words outcome o texts script scripts s b events (replies m outcome o script (first_world s b) events ++ Out_of_turns ∷ []) e refl).shown
+    shown_by true e = (by_all m laws words outcome o texts script s b events (replies m outcome o script (first_world s b) events ++ Out_of_turns ∷ []) e refl).shown

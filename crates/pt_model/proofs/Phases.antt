@@ -3,24 +3,25 @@ use Rattle.std.proofs.Common.{◌≡◌, ℕ, ◌+◌, Bool, true, false, cond, 
 use Rattle.std.specs.Prelude.{◌==◌}
 use Rattle.lx_abi.specs.declared.log.Call.{Call}
 use Rattle.lx_abi.specs.declared.log.Cause.{Cause}
-use Rattle.lx_abi.specs.declared.log.Item.TheVariants.{Enter, Done, Taken as Signalled, Exit}
+use Rattle.lx_abi.specs.declared.log.Item.TheVariants.{Enter, Done, Taken as Signalled, Stopped as Halts, Exit}
 use Rattle.lx_abi.specs.declared.log.Mode.{Mode}
 use Rattle.lx_abi.specs.declared.signal.Signal.{Signal}
 use Rattle.lx_abi.specs.declared.status.EventStop.{EventStop}
 use Rattle.lx_abi.specs.declared.status.EventStop.TheVariants.{Stop as At_start}
 use Rattle.lx_abi.specs.Log.{Noted, pid_of, items_of, entries}
+use Rattle.lx_abi.specs.Signals.{is_stop}
 use Rattle.lx_abi.specs.Status.{is_end}
 use Rattle.lx_model.specs.Machine.{Regs, call_of, a0_of, a7_of, sp_of, with_a0, with_a7, no_call, Machine, with_result}
 use Rattle.lx_model.specs.Turn.{note_of, no_note, result_word}
 use Rattle.lx_model.specs.declared.stage.Stage.{Stage}
-use Rattle.lx_model.specs.declared.stage.Stage.TheVariants.{Born, Run, Faulting, Entered, Doing, Replaced, Acted, Finished, Taken}
+use Rattle.lx_model.specs.declared.stage.Stage.TheVariants.{Born, Run, Faulting, Entered, Doing, Replaced, Acted, Finished, Taken, Stopped, Woken}
 use Rattle.lx_model.specs.declared.stage.Task.{Task}
 use Rattle.lx_model.specs.declared.stage.Task.TheVariants.{Alive, Dying, Gone}
 use Rattle.lx_model.specs.Kernel.{Script}
 use Rattle.pt_model.specs.Ptrace.{Proc, is_there}
 use Rattle.pt_model.specs.Parts.{Half, At_entry, At_exit, Options}
-use Rattle.pt_model.specs.Admissible.{Standing, Unmet, Between, After_signal, Unread, Read, was_read, event_fits, end_fits}
-use Rattle.pt_model.specs.Tracer.{Known, Awaiting, Seizing, Entry_regs, Entry_peek, Entry_set, Exit_regs, Exit_set, Exit_peek, Signal_info, Resuming, asked_options, signal_word}
+use Rattle.pt_model.specs.Admissible.{Standing, Unmet, Between, After_signal, Halted, Unread, Read, was_read, event_fits, end_fits}
+use Rattle.pt_model.specs.Tracer.{Known, Awaiting, Seizing, Entry_regs, Entry_peek, Entry_set, Exit_regs, Exit_set, Exit_peek, Signal_info, Resuming, Listening, asked_options, signal_word}
 use Rattle.pt_model.specs.View.{has_exit, may_lose, reads, most_reads, Due, Logged, Unlogged, due_pid, items_in}
 use Rattle.pt_model.proofs.Registers.{no_such_result}
 
@@ -48,6 +49,13 @@ pub data Phase (B : Type 0) : Type 0 where
   Sig_asked : B → Signal → Cause → Phase B
   Sig_resuming : B → Signal → Cause → Phase B
   Sig_free : B → Signal → Cause → Phase B
+  -- stopped by a signal
+  Halt_due : B → Signal → Phase B
+  Halt_asked : B → Signal → Phase B
+  Halt_free : B → Signal → Phase B
+  Wake_due : B → Phase B
+  Wake_resuming : B → Phase B
+  Wake_free : B → Phase B
   Dead_due : ℕ → Mode → Option Awaiting → Phase B
   Dead : ℕ → Phase B
   Nobody : Phase B
@@ -128,6 +136,12 @@ module _ {S B : Type 0} (m : Machine S B) where
   task_of (Sig_asked b n cause) = Alive b (Taken n cause)
   task_of (Sig_resuming b n cause) = Alive b (Taken n cause)
   task_of (Sig_free b n cause) = Alive b (Taken n cause)
+  task_of (Halt_due b n) = Alive b (Stopped n)
+  task_of (Halt_asked b n) = Alive b (Stopped n)
+  task_of (Halt_free b n) = Alive b (Stopped n)
+  task_of (Wake_due b) = Alive b Woken
+  task_of (Wake_resuming b) = Alive b Woken
+  task_of (Wake_free b) = Alive b Woken
   task_of (Dead_due w mode s) = Dying w
   task_of (Dead w) = Dying w
   task_of Nobody = Gone
@@ -162,6 +176,12 @@ module _ {S B : Type 0} (m : Machine S B) where
   proc_of f (Sig_asked b n cause) = held f (Alive b (Taken n cause))
   proc_of f (Sig_resuming b n cause) = held f (Alive b (Taken n cause))
   proc_of f (Sig_free b n cause) = free f (Alive b (Taken n cause))
+  proc_of f (Halt_due b n) = held f (Alive b (Stopped n))
+  proc_of f (Halt_asked b n) = held f (Alive b (Stopped n))
+  proc_of f (Halt_free b n) = free f (Alive b (Stopped n))
+  proc_of f (Wake_due b) = held f (Alive b Woken)
+  proc_of f (Wake_resuming b) = held f (Alive b Woken)
+  proc_of f (Wake_free b) = free f (Alive b Woken)
   proc_of f (Dead_due w mode s) = held f (Dying w)
   proc_of f (Dead w) = free f (Dying w)
   proc_of f Nobody = free f Gone
@@ -187,11 +207,16 @@ module _ {S B : Type 0} (m : Machine S B) where
   abbrev pub signal_of : ℕ → B → Signal → Cause → Noted
   signal_of p b n cause = record { item = Signalled p n cause; note = note_of m b }
 
+  abbrev pub halt_of : ℕ → B → Signal → Noted
+  halt_of p b n = record { item = Halts p n; note = note_of m b }
+
   -- what is behind the reports of p in the queue
   abbrev pub due_in : ℕ → Phase B → List Due
   due_in p (Enter_due b) = Logged (enter_of p b) ∷ []
   due_in p (Exit_due b c r) = Logged (done_of p b c r) ∷ []
   due_in p (Sig_due b n cause) = Logged (signal_of p b n cause) ∷ []
+  due_in p (Halt_due b n) = Logged (halt_of p b n) ∷ []
+  due_in p (Wake_due b) = Unlogged p At_start ∷ []
   due_in p (Dead_due w mode s) = Logged (exit_of p w mode) ∷ []
   due_in p (Born_due b) = Unlogged p At_start ∷ []
   due_in p (Event_due n b c) = Unlogged p n ∷ []
@@ -219,6 +244,8 @@ module _ {S B : Type 0} (m : Machine S B) where
   stage_of (Exit_resuming b) = Some (Resuming 0)
   stage_of (Sig_asked b n cause) = Some (Signal_info n.number)
   stage_of (Sig_resuming b n cause) = Some (Resuming n.number)
+  stage_of (Halt_asked b n) = Some Listening
+  stage_of (Wake_resuming b) = Some (Resuming 0)
   stage_of (Dead_due w mode s) = s
   stage_of (Boot_held b) = Some Seizing
   stage_of (Born_resuming b) = Some (Resuming 0)
@@ -229,7 +256,7 @@ module _ {S B : Type 0} (m : Machine S B) where
 
 abbrev pub is_between : Standing → Bool
 is_between Between = true
-is_between After_signal = true
+is_between (After_signal n) = true
 is_between _ = false
 
 pub record Unseen (k : Known) (e : ℕ → ℕ) : Type 0 where
@@ -242,9 +269,14 @@ pub record Outside (k : Known) (e : ℕ → ℕ) : Type 0 where
   pub between : is_between k.standing ≡ true
   pub same : (n : ℕ) → e n ≡ k.counts n
 
-pub record Passing (k : Known) (e : ℕ → ℕ) : Type 0 where
+pub record Passing (s : Signal) (k : Known) (e : ℕ → ℕ) : Type 0 where
   pub outside : k.inside ≡ false
-  pub passing : k.standing ≡ After_signal
+  pub passing : k.standing ≡ After_signal s
+  pub same : (n : ℕ) → e n ≡ k.counts n
+
+pub record Halting (k : Known) (e : ℕ → ℕ) : Type 0 where
+  pub outside : k.inside ≡ false
+  pub halting : k.standing ≡ Halted
   pub same : (n : ℕ) → e n ≡ k.counts n
 
 -- before a syscall stop at an entry was told, and after
@@ -309,9 +341,15 @@ module _ {S B : Type 0} (m : Machine S B) (o : Options) (script : Script) where
   Knows (Exit_free b) k e = Outside k e
   Knows (Fault_free b n cause) k e = Outside k e
   Knows (Sig_due b n cause) k e = Outside k e
-  Knows (Sig_asked b n cause) k e = Passing k e
-  Knows (Sig_resuming b n cause) k e = Passing k e
-  Knows (Sig_free b n cause) k e = Passing k e
+  Knows (Sig_asked b n cause) k e = Passing n k e
+  Knows (Sig_resuming b n cause) k e = Passing n k e
+  Knows (Sig_free b n cause) k e = Passing n k e
+  Knows (Halt_due b n) k e = Passing n k e × (is_stop n.number ≡ true)
+  Knows (Halt_asked b n) k e = Halting k e
+  Knows (Halt_free b n) k e = Halting k e
+  Knows (Wake_due b) k e = Halting k e
+  Knows (Wake_resuming b) k e = Outside k e
+  Knows (Wake_free b) k e = Outside k e
   Knows (Dead_due w mode s) k e = (is_end w ≡ true) × (fits_end k w ≡ true) × (is_other s ≡ true)
   Knows (Dead w) k e = Unit {0}
   Knows Nobody k e = Unit {0}

@@ -1,11 +1,11 @@
--- A tracee that a status put in hand is let go by Syscall, since Seize is asked at the beginning alone.
-use Rattle.std.proofs.Common.{◌≡◌, ◌⊎◌, inl, inr, ⊎_elim, ℕ, ◌+◌, Bool, true, false, cond, ◌&&◌, ◌||◌, List, [], ◌∷◌, ◌++◌, Option, Some, None, refl, sym, ap, subst, ◌∙◌}
+-- A tracee that a status put in hand is let go by Syscall or Listen, since Seize is asked at the beginning alone.
+use Rattle.std.proofs.Common.{◌≡◌, inl, inr, ⊎_elim, ℕ, ◌+◌, Bool, true, false, cond, ◌&&◌, ◌||◌, List, [], ◌∷◌, ◌++◌, Option, Some, None, refl, sym, ap, subst, ◌∙◌}
 use Rattle.std.specs.Prelude.{◌==◌}
 use Rattle.lx_abi.specs.declared.ptrace.Reply.{Reply}
 use Rattle.lx_abi.specs.declared.ptrace.Reply.TheVariants.{Done as Agreed, Status as Status_is, Outcome as Outcome_is, Errno as Errno_is, OutOfTurns as Out_of_turns}
 use Rattle.lx_abi.specs.declared.ptrace.Info.{Info}
 use Rattle.lx_abi.specs.declared.status.Stop.{Stop}
-use Rattle.lx_abi.specs.declared.status.Stop.TheVariants.{Syscall as Syscall_stop, Signal as Signal_stop, Event as Event_stop, Ended}
+use Rattle.lx_abi.specs.declared.status.Stop.TheVariants.{Syscall as Syscall_stop, Signal as Signal_stop, Group as Group_stop, Event as Event_stop, Ended}
 use Rattle.lx_abi.specs.Status.{stop_of}
 use Rattle.lx_model.specs.Machine.{Regs, call_of, a0_of, a7_of, sp_of}
 use Rattle.lx_model.specs.Turn.{result_word}
@@ -14,9 +14,9 @@ use Rattle.pt_model.specs.Admissible.{was_read}
 use Rattle.pt_model.specs.Focus.{exit_place, first_place}
 use Rattle.pt_model.specs.Parts.{At_entry, At_exit, Options}
 use Rattle.pt_model.specs.Ptrace.{is_there}
-use Rattle.pt_model.specs.Replies.{after, after_all, admits, in_hand, LetsGo, EachIsResumed}
+use Rattle.pt_model.specs.Replies.{after, after_all, in_hand, LetsGo, Resumes, EachIsResumed}
 use Rattle.pt_model.specs.Requests.{esrch}
-use Rattle.pt_model.specs.Tracer.{Known, Awaiting, Seizing, Entry_regs, Entry_peek, Entry_set, Exit_regs, Exit_set, Exit_peek, Signal_info, Resuming, hears, entry_with, look_entry, read_entry, look_exit, read_exit, exit_with, regs_in, bytes_of, told_info, says_done, at_entry_regs, peeked_entry, at_entry_set, at_exit_regs, at_exit_set, peeked_exit, at_info}
+use Rattle.pt_model.specs.Tracer.{Known, Awaiting, Seizing, Entry_regs, Entry_peek, Entry_set, Exit_regs, Exit_set, Exit_peek, Signal_info, Resuming, Listening, hears, entry_with, look_entry, read_entry, look_exit, read_exit, exit_with, regs_in, bytes_of, told_info, says_done, at_entry_regs, peeked_entry, at_entry_set, at_exit_regs, at_exit_set, peeked_exit, at_info}
 use Rattle.pt_model.specs.Tracer.{Focus, Booting, Waiting, Serving, Asking_outcome, Over, Turns_over, Faulted, Tracer, Next, Moved, focus_on, took_status, next_at, admits_at, takes, faults, next}
 use Rattle.pt_model.proofs.Hands.{statuses_come_to_hand, each_is_let_go}
 
@@ -31,6 +31,7 @@ IsSeized (Exit_set r x) = Unit {0}
 IsSeized (Exit_peek x replaced got w) = Unit {0}
 IsSeized (Signal_info n) = Unit {0}
 IsSeized (Resuming n) = Unit {0}
+IsSeized Listening = Unit {0}
 
 abbrev NextIsSeized : Option Awaiting → Type 0
 NextIsSeized None = Unit {0}
@@ -108,6 +109,7 @@ module _ (o : Options) (script : Script) (p : ℕ) (k : Known) where
   by_reply (Exit_peek x replaced got w) r = by_exit_bytes x replaced got (bytes_of r)
   by_reply (Signal_info n) r = by_info n (told_info r)
   by_reply (Resuming n) r = tt
+  by_reply Listening r = tt
 
 on_focus : (p : ℕ) (x : Option Awaiting) → NextIsSeized x → HasSeized (focus_on p x)
 on_focus p None h = tt
@@ -125,6 +127,7 @@ on_status : (o : Options) (known : ℕ → Known) (p : ℕ) (stop : Option Stop)
 on_status o known p None = tt
 on_status o known p (Some (Syscall_stop good)) = at_stop o (known p) (known p).inside
 on_status o known p (Some (Signal_stop signal)) = tt
+on_status o known p (Some (Group_stop signal)) = tt
 on_status o known p (Some (Event_stop event)) = tt
 on_status o known p (Some (Ended word)) = tt
 
@@ -172,7 +175,7 @@ in_hand_is (Over x) p h = absurd (cc h)
 in_hand_is Turns_over p h = absurd (cc h)
 in_hand_is Faulted p h = absurd (cc h)
 
-resumes : (place : Awaiting) → LetsGo place → IsSeized place → (signal : ℕ) × (place ≡ Resuming signal)
+resumes : (place : Awaiting) → LetsGo place → IsSeized place → Resumes place
 resumes Seizing l h = absurd h
 resumes Entry_regs l h = absurd l
 resumes (Entry_peek r got w) l h = absurd l
@@ -181,7 +184,8 @@ resumes Exit_regs l h = absurd l
 resumes (Exit_set r x) l h = absurd l
 resumes (Exit_peek x replaced got w) l h = absurd l
 resumes (Signal_info n) l h = absurd l
-resumes (Resuming n) l h = (n, refl)
+resumes (Resuming n) l h = inl (n, refl)
+resumes Listening l h = inr refl
 
 pub each_is_resumed : EachIsResumed
 each_is_resumed o script x p status rs f a c w =

@@ -16,7 +16,7 @@ use Rattle.lx_abi.specs.declared.status.EventStop.{EventStop}
 use Rattle.lx_abi.specs.declared.ptrace.Ask.TheVariants.{Seize}
 use Rattle.lx_abi.specs.declared.status.EventStop.TheVariants.{Fork as At_fork, Exec as At_exec, Stop as At_start}
 use Rattle.lx_abi.specs.declared.status.Stop.{Stop}
-use Rattle.lx_abi.specs.declared.status.Stop.TheVariants.{Syscall as Syscall_stop, Signal as Signal_stop, Event as Event_stop, Ended}
+use Rattle.lx_abi.specs.declared.status.Stop.TheVariants.{Syscall as Syscall_stop, Signal as Signal_stop, Group as Group_stop, Event as Event_stop, Ended}
 use Rattle.lx_abi.specs.Log.{Noted, items_of, entries}
 use Rattle.lx_abi.specs.Status.{word_of, stop_of}
 use Rattle.lx_model.specs.Machine.{Machine, IsMachine}
@@ -27,14 +27,14 @@ use Rattle.lx_abi.specs.declared.ptrace.TraceOptions.{TraceOptions}
 use Rattle.lx_abi.specs.Options.{trace_options}
 use Rattle.pt_model.specs.Ptrace.{Proc, Report, Host, is_there}
 use Rattle.pt_model.specs.Requests.{Answered, answer_at, answer, answered, seize, echild, take_report, serve_wait, serve}
-use Rattle.pt_model.specs.Admissible.{Standing, Unmet, Between, After_signal, Unread, Read, After_event, was_read, stop_fits, event_fits, admits_answer}
+use Rattle.pt_model.specs.Admissible.{Standing, Unmet, Between, After_signal, Halted, Unread, Read, After_event, was_read, stop_fits, event_fits, admits_answer}
 use Rattle.pt_model.specs.Parts.{Options, Part}
 use Rattle.pt_model.specs.Tracer.{Booting, Known, Awaiting, Seizing, Resuming, asks, options_word, Heard, hears, Focus, Waiting, Serving, Asking_outcome, Over, Turns_over, Faulted, focus_on, heard, stays, stands_at, turned_over, event_standing, took_status, next_at, request, admits_stop, is_empty, is_among, with_tracee, told_tracees, tracees_after, Moved, takes, faults}
 use Rattle.pt_model.specs.World.{World, met, happens_asked}
 use Rattle.pt_model.specs.View.{part, parts, Due, Logged, Unlogged, due_pid, items_in, report_of}
-use Rattle.pt_model.specs.Headline.{IsTold, IsTexts, IsScript}
-use Rattle.pt_model.proofs.Words.{syscall_back, signal_stop_back, event_back, end_back}
-use Rattle.pt_model.proofs.Phases.{Phase, Enter_due, Enter_asked, Enter_peeking, Exit_due, Exit_asked, Exit_setting, Exit_peeking, Exit_resuming, Sig_due, Sig_asked, Dead_due, Dead, Born_due, Born_resuming, Event_due, Event_resuming, dues_of, is_unborn, is_traced, enter_of, done_of, signal_of, exit_of, task_of, proc_of, due_in, stage_of, Knows, hand_in, dead, reaped, is_between, fits_end}
+use Rattle.pt_model.specs.Headline.{IsTold, IsTexts}
+use Rattle.pt_model.proofs.Words.{syscall_back, signal_stop_back, group_stop_back, event_back, end_back}
+use Rattle.pt_model.proofs.Phases.{Phase, Enter_due, Enter_asked, Enter_peeking, Exit_due, Exit_asked, Exit_setting, Exit_peeking, Exit_resuming, Sig_due, Sig_asked, Halt_due, Halt_asked, Wake_due, Wake_resuming, Dead_due, Dead, Born_due, Born_resuming, Event_due, Event_resuming, dues_of, is_unborn, is_traced, enter_of, done_of, signal_of, halt_of, exit_of, task_of, proc_of, due_in, stage_of, Knows, hand_in, dead, reaped, is_between, fits_end}
 use Rattle.pt_model.proofs.Local.{Seizes, Not_seized, Seized, is_out, Served, served}
 use Rattle.pt_model.proofs.Admitted.{admitted}
 use Rattle.pt_model.proofs.Maps.{report_pid, among_last, among_new, among_old, equal_if, same_or_not, is_same, is_not_same, put_here, put_apart, items_in-append, parts-append}
@@ -168,8 +168,8 @@ module _ {S B : Type 0} (m : Machine S B) (o : Options) (script : Script) (w : W
   next_serving known p st (Errno_is n) h = refl
   next_serving known p st (Boot_refused x) h = refl
 
-  served_here : IsMachine m → IsTexts o.texts → IsScript script → (t : Tied m o script w kernel) (p : ℕ) (st : Awaiting) → w.tracer.focus ≡ Serving p st → Served m o.follow o script p (t.phases p) (λ n. entries p n (items_of kernel.log)) (answer m (w.host.messages p) (w.host.procs p) (asks o st)) (hears o script p (w.tracer.known p) st (answer m (w.host.messages p) (w.host.procs p) (asks o st)).reply)
-  served_here laws texts scripts t p st f = rw (t.each p).proc (served m laws o texts script scripts p (w.tracer.known p) (λ n. entries p n (items_of kernel.log)) (w.host.messages p) (t.phases p) (t.each p).knows st ((t.each p).stage ∙ ap (stage_at p) f ∙ stage_here p (Some st)))
+  served_here : IsMachine m → IsTexts o.texts → (t : Tied m o script w kernel) (p : ℕ) (st : Awaiting) → w.tracer.focus ≡ Serving p st → Served m o.follow o script p (t.phases p) (λ n. entries p n (items_of kernel.log)) (answer m (w.host.messages p) (w.host.procs p) (asks o st)) (hears o script p (w.tracer.known p) st (answer m (w.host.messages p) (w.host.procs p) (asks o st)).reply)
+  served_here laws texts t p st f = rw (t.each p).proc (served m laws o texts script p (w.tracer.known p) (λ n. entries p n (items_of kernel.log)) (w.host.messages p) (t.phases p) (t.each p).knows st ((t.each p).stage ∙ ap (stage_at p) f ∙ stage_here p (Some st)))
 
   -- a Seize that is agreed to makes a tracee
   abbrev SeizesIt : Answered B → Type 0
@@ -192,11 +192,11 @@ module _ {S B : Type 0} (m : Machine S B) (o : Options) (script : Script) (w : W
   abbrev met_with : Host S B → Moved → World S B
   met_with h x = record { host = h; tracer = x.tracer; printed = w.printed ++ x.printed }
 
-  serving_tied : (outcome : S → Outcome) → IsMachine m → IsTold m → IsTexts o.texts → IsScript script → (t : Tied m o script w kernel) (p : ℕ) (st : Awaiting) → w.tracer.focus ≡ Serving p st → Tied m o script (met o script w (Serving p st) (serve m outcome w.host (To p (asks o st))).host (serve m outcome w.host (To p (asks o st))).reply) kernel
-  serving_tied outcome laws words texts scripts t p st f =
+  serving_tied : (outcome : S → Outcome) → IsMachine m → IsTold m → IsTexts o.texts → (t : Tied m o script w kernel) (p : ℕ) (st : Awaiting) → w.tracer.focus ≡ Serving p st → Tied m o script (met o script w (Serving p st) (serve m outcome w.host (To p (asks o st))).host (serve m outcome w.host (To p (asks o st))).reply) kernel
+  serving_tied outcome laws words texts t p st f =
       let a : Answered B = answer m (w.host.messages p) (w.host.procs p) (asks o st) in
-      let u : Served m o.follow o script p (t.phases p) (λ n. entries p n (items_of kernel.log)) a (hears o script p (w.tracer.known p) st a.reply) = served_here laws texts scripts t p st f in
-      let ok : admits_answer (asks o st) a.reply ≡ true = rw (t.each p).proc (admitted m words o texts script scripts (w.tracer.known p) (λ n. entries p n (items_of kernel.log)) (w.host.messages p) (t.phases p) (t.each p).knows st ((t.each p).stage ∙ ap (stage_at p) f ∙ stage_here p (Some st))) in
+      let u : Served m o.follow o script p (t.phases p) (λ n. entries p n (items_of kernel.log)) a (hears o script p (w.tracer.known p) st a.reply) = served_here laws texts t p st f in
+      let ok : admits_answer (asks o st) a.reply ≡ true = rw (t.each p).proc (admitted m words o texts script (w.tracer.known p) (λ n. entries p n (items_of kernel.log)) (w.host.messages p) (t.phases p) (t.each p).knows st ((t.each p).stage ∙ ap (stage_at p) f ∙ stage_here p (Some st))) in
       subst (λ b. Tied m o script (met_with (answered w.host p a) (cond b (takes w.tracer (Serving p st) a.reply (next_at o script w.tracer.known (Serving p st) a.reply)) (faults w.tracer))) kernel) (sym ok)
       (subst (λ x. Tied m o script (met_with (answered w.host p a) (takes w.tracer (Serving p st) a.reply x)) kernel) (sym (next_serving w.tracer.known p st a.reply u.in_turns)) (replied_tied t p st f a (hears o script p (w.tracer.known p) st a.reply) (seizes_at (w.host.messages p) (w.host.procs p) st) u))
 
@@ -348,7 +348,7 @@ module _ {S B : Type 0} (m : Machine S B) (o : Options) (script : Script) (w : W
     where
       go : (n : ℕ) (r : Bool) (x : Standing) → is_between x ≡ true → stop_fits o.follow n r x (Syscall_stop true) ≡ true
       go n r Between g = refl
-      go n r After_signal g = refl
+      go n r (After_signal v) g = refl
       go n r _ g = absurd (cc g)
 
   exit_fits : (p : ℕ) (k : Known) → traces o.follow p ≡ true → was_read k.standing ≡ true → admits_stop o p k (Some (Syscall_stop true)) ≡ true
@@ -364,8 +364,14 @@ module _ {S B : Type 0} (m : Machine S B) (o : Options) (script : Script) (w : W
     where
       go : (n : ℕ) (r : Bool) (x : Standing) → is_between x ≡ true → stop_fits o.follow n r x (Signal_stop s) ≡ true
       go n r Between g = refl
-      go n r After_signal g = refl
+      go n r (After_signal v) g = refl
       go n r _ g = absurd (cc g)
+
+  group_fits : (p : ℕ) (k : Known) (n : Signal) → traces o.follow p ≡ true → k.standing ≡ After_signal n → admits_stop o p k (Some (Group_stop n)) ≡ true
+  group_fits p k n tr st = rw (tr, st) (is_same n.number)
+
+  wake_fits : (p : ℕ) (k : Known) → traces o.follow p ≡ true → k.standing ≡ Halted → admits_stop o p k (Some (Event_stop At_start)) ≡ true
+  wake_fits p k tr st = rw (tr, st) refl
 
   start_fits : (p : ℕ) (k : Known) → traces o.follow p ≡ true → k.standing ≡ Unmet → admits_stop o p k (Some (Event_stop At_start)) ≡ true
   start_fits p k tr st = rw (tr, st) refl
@@ -486,7 +492,7 @@ module _ {S B : Type 0} (m : Machine S B) (o : Options) (script : Script) (w : W
       here = record {
         proc = tie.proc;
         task = tie.task;
-        knows = rw (put_here w.tracer.known p (stands_at (w.tracer.known p) After_signal)) (record { outside = tie.knows.outside; passing = refl; same = tie.knows.same });
+        knows = rw (put_here w.tracer.known p (stands_at (w.tracer.known p) (After_signal n))) (record { outside = tie.knows.outside; passing = refl; same = tie.knows.same });
         stage = rw (is_same p) refl;
         due = tail;
         living = tie.living;
@@ -505,6 +511,37 @@ module _ {S B : Type 0} (m : Machine S B) (o : Options) (script : Script) (w : W
       unborn = refl;
       read = signal_stop_back n;
       fits = signal_fits p (w.tracer.known p) n tie.sort tie.knows.between;
+      heeded = with_heeded p w.tracer.tracees w.host.tracees known (tie.listed refl);
+      sane = refl;
+    }
+
+    at_halt : (p : ℕ) (b : B) (n : Signal) → Tie m o script lost w kernel rest p (Halt_due b n) → [] ≡ dues_of p after → Taken_up lost p (Halt_due b n) after (Logged (halt_of m p b n)) (waited (map report_of after) p (Group_stop n))
+    at_halt p b n tie tail = record {
+      next = Halt_asked b n;
+      shared = refl;
+      queue = refl;
+      here = record {
+        proc = tie.proc;
+        task = tie.task;
+        knows = rw (put_here w.tracer.known p (stands_at (w.tracer.known p) Halted)) (record { outside = tie.knows.0.outside; halting = refl; same = tie.knows.0.same });
+        stage = rw (is_same p) refl;
+        due = tail;
+        living = tie.living;
+        listed = tie.listed;
+        sort = tie.sort;
+      };
+      procs = λ q d. refl;
+      knowns = λ q d. put_apart w.tracer.known p _ q d;
+      stages = λ q d. rw (is_not_same p q d) refl;
+      said = halt_of m p b n ∷ [];
+      printed = refl;
+      hand = λ phases. ap (λ x. halt_of m p b n ∷ hand_in m p x) (put_here phases p _);
+      listed = λ q d l. l;
+      not_yet = λ e. cc e;
+      child = refl;
+      unborn = refl;
+      read = group_stop_back n tie.knows.1;
+      fits = group_fits p (w.tracer.known p) n tie.sort tie.knows.0.passing;
       heeded = with_heeded p w.tracer.tracees w.host.tracees known (tie.listed refl);
       sane = refl;
     }
@@ -584,6 +621,12 @@ module _ {S B : Type 0} (m : Machine S B) (o : Options) (script : Script) (w : W
     take_up i p e f (Sig_due b n cause) tie =
         let h : Logged (signal_of m p b n cause) ∷ [] ≡ i ∷ dues_of p after = due_head p i rest after _ e f tie.due in
         subst (λ x. Taken_up lost p (Sig_due b n cause) after x (waited (map report_of after) (report_of x).pid (report_of x).stop)) (head_is _ _ _ _ h) (at_signal p b n cause tie (tail_is _ _ _ _ h))
+    take_up i p e f (Halt_due b n) tie =
+        let h : Logged (halt_of m p b n) ∷ [] ≡ i ∷ dues_of p after = due_head p i rest after _ e f tie.due in
+        subst (λ x. Taken_up lost p (Halt_due b n) after x (waited (map report_of after) (report_of x).pid (report_of x).stop)) (head_is _ _ _ _ h) (at_halt p b n tie (tail_is _ _ _ _ h))
+    take_up i p e f (Wake_due b) tie =
+        let h : Unlogged p At_start ∷ [] ≡ i ∷ dues_of p after = due_head p i rest after _ e f tie.due in
+        subst (λ x. Taken_up lost p (Wake_due b) after x (waited (map report_of after) (report_of x).pid (report_of x).stop)) (head_is _ _ _ _ h) (at_event p At_start (Wake_due b) (Wake_resuming b) tie (tail_is _ _ _ _ h) refl refl refl (record { outside = tie.knows.outside; between = refl; same = tie.knows.same }) refl refl (λ l. refl) (λ l. refl) refl refl (wake_fits p (w.tracer.known p) tie.sort tie.knows.halting))
     take_up i p e f (Dead_due v mode st) tie =
         let h : Logged (exit_of p v mode) ∷ [] ≡ i ∷ dues_of p after = due_head p i rest after _ e f tie.due in
         subst (λ x. Taken_up lost p (Dead_due v mode st) after x (waited (map report_of after) (report_of x).pid (report_of x).stop)) (head_is _ _ _ _ h) (at_end p v mode st tie (tail_is _ _ _ _ h))
@@ -617,11 +660,11 @@ module _ {S B : Type 0} (m : Machine S B) (o : Options) (script : Script) (w : W
   wait_tied t f (r ∷ rs) e tracees g = wait_first t f r rs t.rest refl (sym e ∙ t.queue)
 
   -- a request is served, if one is pending
-  pub serve_tied : (outcome : S → Outcome) → IsMachine m → IsTold m → IsTexts o.texts → IsScript script → (t : Tied m o script w kernel) (focus : Focus) → w.tracer.focus ≡ focus → Tied m o script (happens_asked m outcome o script w focus (request o focus) Serve) kernel
-  serve_tied outcome laws words texts scripts t Booting f = t
-  serve_tied outcome laws words texts scripts t Waiting f = wait_tied t f w.host.queue refl w.host.tracees refl
-  serve_tied outcome laws words texts scripts t (Serving p st) f = serving_tied outcome laws words texts scripts t p st f
-  serve_tied outcome laws words texts scripts t Asking_outcome f = refocused t (Over (outcome w.host.shared)) (suc w.tracer.taken) (w.printed ++ []) (append-nil w.printed) (λ q. ap (stage_at q) f) (λ phases. sym (ap (hand_at m phases) f)) (λ q. t.over (ap is_past f)) refl
-  serve_tied outcome laws words texts scripts t (Over x) f = t
-  serve_tied outcome laws words texts scripts t Turns_over f = t
-  serve_tied outcome laws words texts scripts t Faulted f = t
+  pub serve_tied : (outcome : S → Outcome) → IsMachine m → IsTold m → IsTexts o.texts → (t : Tied m o script w kernel) (focus : Focus) → w.tracer.focus ≡ focus → Tied m o script (happens_asked m outcome o script w focus (request o focus) Serve) kernel
+  serve_tied outcome laws words texts t Booting f = t
+  serve_tied outcome laws words texts t Waiting f = wait_tied t f w.host.queue refl w.host.tracees refl
+  serve_tied outcome laws words texts t (Serving p st) f = serving_tied outcome laws words texts t p st f
+  serve_tied outcome laws words texts t Asking_outcome f = refocused t (Over (outcome w.host.shared)) (suc w.tracer.taken) (w.printed ++ []) (append-nil w.printed) (λ q. ap (stage_at q) f) (λ phases. sym (ap (hand_at m phases) f)) (λ q. t.over (ap is_past f)) refl
+  serve_tied outcome laws words texts t (Over x) f = t
+  serve_tied outcome laws words texts t Turns_over f = t
+  serve_tied outcome laws words texts t Faulted f = t

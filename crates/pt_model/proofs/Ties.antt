@@ -247,10 +247,10 @@ module _ {S B : Type 0} (m : Machine S B) (o : Options) (script : Script) (w : W
         rest = cond (is_dying host.task) (dues_without p t.rest) t.rest ++ u.dues;
         lost = lost_after p t.lost u.fate;
         shared = u.shared;
-        queue = queue_after (is_dying host.task) p t.rest u.dues w.host.queue (reports_of p (stop_at (proc_of m o.follow (t.phases p)).options host.task host.event)) t.queue u.reports;
+        queue = queue_after (is_dying host.task) p t.rest u.dues w.host.queue (reports_of p (stop_at (proc_of m o.follow (t.phases p)).options host.task host.item host.event)) t.queue u.reports;
         each = changed t.lost (lost_after p t.lost u.fate) t.rest (cond (is_dying host.task) (dues_without p t.rest) t.rest ++ u.dues) t.phases t.each (record { host = moved w.host p (proc_of m o.follow (t.phases p)).options host; tracer = w.tracer; printed = w.printed }) (after_turn kernel p by) p u.next
             (record {
-              proc = put_here w.host.procs p (proc_after (proc_of m o.follow (t.phases p)).options host.task host.event) ∙ u.proc;
+              proc = put_here w.host.procs p (proc_after (proc_of m o.follow (t.phases p)).options host.task host.item host.event) ∙ u.proc;
               task = put_here kernel.tasks p by.task ∙ u.task;
               knows = subst (λ f. Knows m o script u.next (w.tracer.known p) f) (sym (fun_ext (λ n. entries-append p n kernel.log (option_to_list by.item)))) u.knows;
               stage = u.stage ∙ (t.each p).stage;
@@ -260,7 +260,7 @@ module _ {S B : Type 0} (m : Machine S B) (o : Options) (script : Script) (w : W
               sort = (t.each p).sort ∙ sym u.sort;
             })
             (λ q d ph tie. record {
-              proc = put_apart w.host.procs p (proc_after (proc_of m o.follow (t.phases p)).options host.task host.event) q d ∙ tie.proc;
+              proc = put_apart w.host.procs p (proc_after (proc_of m o.follow (t.phases p)).options host.task host.item host.event) q d ∙ tie.proc;
               task = put_apart kernel.tasks p by.task q d ∙ tie.task;
               knows = subst (λ f. Knows m o script ph (w.tracer.known q) f) (sym (fun_ext (λ n. entries-append q n kernel.log (option_to_list by.item) ∙ ap (λ x. entries q n (items_of kernel.log) + x) (no_entry p q n (option_to_list by.item) d u.whole) ∙ add-zero (entries q n (items_of kernel.log))))) tie.knows;
               stage = tie.stage;

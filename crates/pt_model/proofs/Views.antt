@@ -2,7 +2,7 @@
 use Rattle.std.proofs.Common.{◌≡◌, ◌≢◌, ⊎_elim, ℕ, Bool, true, false, cond, not, ◌&&◌, ◌||◌, List, [], ◌∷◌, ◌++◌, Option, Some, None, refl, sym, ap, ◌∙◌}
 use Rattle.std.specs.Prelude.{◌==◌}
 use Rattle.lx_abi.specs.declared.log.Item.{Item}
-use Rattle.lx_abi.specs.declared.log.Item.TheVariants.{Enter, Done, Taken as Signalled, Exit}
+use Rattle.lx_abi.specs.declared.log.Item.TheVariants.{Enter, Done, Taken as Signalled, Stopped as Halts, Exit}
 use Rattle.lx_abi.specs.declared.log.Mode.{Mode}
 use Rattle.lx_abi.specs.Log.{Noted, pid_of}
 use Rattle.lx_model.specs.Kernel.{put}
@@ -82,6 +82,7 @@ not_kill : (p : ℕ) (i : Item) → (p == pid_of i) ≡ true → is_exit p i ≡
 not_kill p (Enter q c) e h = refl
 not_kill p (Done q c x b) e h = refl
 not_kill p (Signalled q n cause) e h = refl
+not_kill p (Halts q n) e h = refl
 not_kill p (Exit q w m) e h = absurd (cc (e, h))
 
 no_kill : (p : ℕ) (log : List Noted) → has_exit p log ≡ false → kills (first_of p log) ≡ false
@@ -172,6 +173,7 @@ not_exit : (p q : ℕ) (i : Item) → p ≢ q → pid_of i ≡ p → is_exit q i
 not_exit p q (Enter r c) d h = refl
 not_exit p q (Done r c x b) d h = refl
 not_exit p q (Signalled r n cause) d h = refl
+not_exit p q (Halts r n) d h = refl
 not_exit p q (Exit r w m) d h = is_not_same q r (λ e. d (sym (e ∙ h)))
 
 pub no_exit_other : (p q : ℕ) (items : List Noted) → p ≢ q → AllOf p items → has_exit q items ≡ false
@@ -188,6 +190,7 @@ spared : (i : Item) → is_killed i ≡ false → is_kill i ≡ false
 spared (Enter p call) h = refl
 spared (Done p call result replaced) h = refl
 spared (Signalled p signal cause) h = refl
+spared (Halts p signal) h = refl
 spared (Exit p word left) h = rw h refl
 
 no_kills : (p : ℕ) (log : List Noted) → has_kill log ≡ false → kills (first_of p log) ≡ false

@@ -14,7 +14,7 @@ use Rattle.pt_model.specs.Tracer.{Focus, Booting, Waiting, Serving, Asking_outco
 use Rattle.pt_model.specs.World.{World, happens_asked, happens, world_run, turns_of, effective}
 use Rattle.pt_model.specs.View.{view, traced, parts, Due, due_pid, items_in}
 use Rattle.pt_model.specs.Laws.{is_alive}
-use Rattle.pt_model.specs.Headline.{NothingKeptBack, IsTold, IsTexts, IsScript}
+use Rattle.pt_model.specs.Headline.{NothingKeptBack, IsTold, IsTexts}
 use Rattle.pt_model.proofs.Phases.{Phase, Dead, Nobody, Unborn, Boot_held, Loose, dues_of, is_traced, task_of, proc_of, due_in, stage_of, reaped}
 use Rattle.pt_model.proofs.Local.{Turned}
 use Rattle.pt_model.proofs.Maps.{is_same, parts-append}
@@ -36,22 +36,22 @@ module _ {S B : Type 0} (m : Machine S B) (o : Options) (script : Script) (w : W
       (λ r past. cc ((t.each p).listed r, ap (is_among p) (t.over past))) u.birth))
   turn_tied laws words t p false f = t
 
-  asked_tied : (outcome : S → Outcome) → IsMachine m → IsTold m → IsTexts o.texts → IsScript script → (t : Tied m o script w kernel) (focus : Focus) → w.tracer.focus ≡ focus → (q : Option Request) → request o focus ≡ q → (e : Step) → Tied m o script (happens_asked m outcome o script w focus q e) (kernel_run m script o.follow kernel (turns_of m w q e))
-  asked_tied outcome laws words texts scripts t focus f None g e = t
-  asked_tied outcome laws words texts scripts t focus f (Some q) g (Turn p) = turn_tied laws words t p (is_effective m w.host.shared p (w.host.procs p)) refl
-  asked_tied outcome laws words texts scripts t focus f (Some q) g Serve = subst (λ x. Tied m o script (happens_asked m outcome o script w focus x Serve) kernel) g (serve_tied m o script w kernel outcome laws words texts scripts t focus f)
+  asked_tied : (outcome : S → Outcome) → IsMachine m → IsTold m → IsTexts o.texts → (t : Tied m o script w kernel) (focus : Focus) → w.tracer.focus ≡ focus → (q : Option Request) → request o focus ≡ q → (e : Step) → Tied m o script (happens_asked m outcome o script w focus q e) (kernel_run m script o.follow kernel (turns_of m w q e))
+  asked_tied outcome laws words texts t focus f None g e = t
+  asked_tied outcome laws words texts t focus f (Some q) g (Turn p) = turn_tied laws words t p (is_effective m w.host.shared p (w.host.procs p)) refl
+  asked_tied outcome laws words texts t focus f (Some q) g Serve = subst (λ x. Tied m o script (happens_asked m outcome o script w focus x Serve) kernel) g (serve_tied m o script w kernel outcome laws words texts t focus f)
 
-  pub happens_tied : (outcome : S → Outcome) → IsMachine m → IsTold m → IsTexts o.texts → IsScript script → Tied m o script w kernel → (e : Step) → Tied m o script (happens m outcome o script w e) (kernel_run m script o.follow kernel (turns_of m w (request o w.tracer.focus) e))
-  happens_tied outcome laws words texts scripts t e = asked_tied outcome laws words texts scripts t w.tracer.focus refl (request o w.tracer.focus) refl e
+  pub happens_tied : (outcome : S → Outcome) → IsMachine m → IsTold m → IsTexts o.texts → Tied m o script w kernel → (e : Step) → Tied m o script (happens m outcome o script w e) (kernel_run m script o.follow kernel (turns_of m w (request o w.tracer.focus) e))
+  happens_tied outcome laws words texts t e = asked_tied outcome laws words texts t w.tracer.focus refl (request o w.tracer.focus) refl e
 
 kernel_run-append : {S B : Type 0} (m : Machine S B) (script : Script) (follow : Bool) (kernel : Kernel S B) (ps qs : List ℕ) → kernel_run m script follow kernel (ps ++ qs) ≡ kernel_run m script follow (kernel_run m script follow kernel ps) qs
 kernel_run-append m script follow kernel [] qs = refl
 kernel_run-append m script follow kernel (p ∷ ps) qs = kernel_run-append m script follow (kernel_turn m script follow kernel p) ps qs
 
 -- every list of events keeps the tie
-pub run_tied : {S B : Type 0} (m : Machine S B) (outcome : S → Outcome) (o : Options) (script : Script) → IsMachine m → IsTold m → IsTexts o.texts → IsScript script → (events : List Step) (w : World S B) (kernel : Kernel S B) → Tied m o script w kernel → Tied m o script (world_run m outcome o script w events) (kernel_run m script o.follow kernel (effective m outcome o script w events))
-run_tied m outcome o script laws words texts scripts [] w kernel t = t
-run_tied m outcome o script laws words texts scripts (e ∷ es) w kernel t = rw (kernel_run-append m script o.follow kernel (turns_of m w (request o w.tracer.focus) e) (effective m outcome o script (happens m outcome o script w e) es)) (run_tied m outcome o script laws words texts scripts es (happens m outcome o script w e) (kernel_run m script o.follow kernel (turns_of m w (request o w.tracer.focus) e)) (happens_tied m o script w kernel outcome laws words texts scripts t e))
+pub run_tied : {S B : Type 0} (m : Machine S B) (outcome : S → Outcome) (o : Options) (script : Script) → IsMachine m → IsTold m → IsTexts o.texts → (events : List Step) (w : World S B) (kernel : Kernel S B) → Tied m o script w kernel → Tied m o script (world_run m outcome o script w events) (kernel_run m script o.follow kernel (effective m outcome o script w events))
+run_tied m outcome o script laws words texts [] w kernel t = t
+run_tied m outcome o script laws words texts (e ∷ es) w kernel t = rw (kernel_run-append m script o.follow kernel (turns_of m w (request o w.tracer.focus) e) (effective m outcome o script (happens m outcome o script w e) es)) (run_tied m outcome o script laws words texts es (happens m outcome o script w e) (kernel_run m script o.follow kernel (turns_of m w (request o w.tracer.focus) e)) (happens_tied m o script w kernel outcome laws words texts t e))
 
 -- Where Wait has answered that no tracee is left, nothing is owed.
 module _ {S B : Type 0} (m : Machine S B) (o : Options) (script : Script) (w : World S B) (kernel : Kernel S B) where

@@ -14,7 +14,7 @@ use Rattle.pt_model.specs.Tracer.{Tracer, Over, Turns_over, Faulted, request, ne
 use Rattle.pt_model.specs.World.{World, met, happens, world_run, turns_of, effective, first_world}
 use Rattle.pt_model.specs.Attending.{Attending, event, turned, Called, called, reply_or, answers_to, Schedules, Gives, listed}
 use Rattle.pt_model.specs.View.{view, traced, parts}
-use Rattle.pt_model.specs.Headline.{IsTold, IsTexts, IsScript, traced_run, plain_run, Headline}
+use Rattle.pt_model.specs.Headline.{IsTold, IsTexts, traced_run, plain_run, Headline}
 use Rattle.pt_model.specs.Replies.{told_by, reply_to, replies, admits}
 
 -- The world is the attending host with the tracer's request pending
@@ -185,7 +185,7 @@ pub record OwnRun {S B : Type 0} (m : Machine S B) (outcome : S → Outcome) (o 
 abbrev pub OwnRepliesTell : Type 0 → Type 0 → Type 0
 OwnRepliesTell S B =
     (m : Machine S B) → IsMachine m → IsTold m →
-    (outcome : S → Outcome) (o : Options) → IsTexts o.texts → (script : Script) → IsScript script →
+    (outcome : S → Outcome) (o : Options) → IsTexts o.texts → (script : Script) →
     (s : S) (b : B) (events : List Event) (rs : List Reply) →
     IsOwn m outcome o script s b events rs → OwnRun m outcome o script s b events rs
 
@@ -194,7 +194,7 @@ OwnRepliesTell S B =
 abbrev pub FailuresLeaveAPrefix : Type 0 → Type 0 → Type 0
 FailuresLeaveAPrefix S B =
     (m : Machine S B) → IsMachine m → IsTold m →
-    (outcome : S → Outcome) (o : Options) → IsTexts o.texts → (script : Script) → IsScript script →
+    (outcome : S → Outcome) (o : Options) → IsTexts o.texts → (script : Script) →
     (s : S) (b : B) (events : List Event) (rs : List Reply) →
     IsOwn m outcome o script s b events rs →
     (lost : ℕ → Bool) × ((later : List Part) × (
@@ -205,7 +205,7 @@ FailuresLeaveAPrefix S B =
 abbrev pub FaultsLeaveAPrefix : Type 0 → Type 0 → Type 0
 FaultsLeaveAPrefix S B =
     (m : Machine S B) → IsMachine m → IsTold m →
-    (outcome : S → Outcome) (o : Options) → IsTexts o.texts → (script : Script) → IsScript script →
+    (outcome : S → Outcome) (o : Options) → IsTexts o.texts → (script : Script) →
     (s : S) (b : B) (events : List Event) (rs more : List Reply) (bad : Reply) →
     IsOwn m outcome o script s b events rs → admits o (told_by o script (Agreed ∷ rs)).tracer bad ≡ false →
     (lost : ℕ → Bool) × ((later : List Part) × (

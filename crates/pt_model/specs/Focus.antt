@@ -10,15 +10,15 @@ use Rattle.lx_abi.specs.declared.ptrace.Request.TheVariants.{Wait, To, Outcome a
 use Rattle.lx_abi.specs.declared.status.EventStop.{EventStop}
 use Rattle.lx_abi.specs.declared.status.EventStop.TheVariants.{Fork as At_fork, Exec as At_exec, Stop as At_start}
 use Rattle.lx_abi.specs.declared.status.Stop.{Stop}
-use Rattle.lx_abi.specs.declared.status.Stop.TheVariants.{Syscall as Syscall_stop, Signal as Signal_stop}
+use Rattle.lx_abi.specs.declared.status.Stop.TheVariants.{Syscall as Syscall_stop, Signal as Signal_stop, Group as Group_stop}
 use Rattle.lx_abi.specs.declared.status.Stop.TheVariants.{Event as Event_stop, Ended}
 use Rattle.lx_abi.specs.Errnos.{echild}
 use Rattle.lx_abi.specs.Status.{stop_of}
 use Rattle.lx_model.specs.Kernel.{Script, put}
-use Rattle.pt_model.specs.Admissible.{Standing, Between, After_signal, After_event, At_end, was_read}
-use Rattle.pt_model.specs.Hearing.{Awaiting, Seizing, Entry_regs, Exit_regs, Signal_info, Resuming, asks, Heard, hears}
+use Rattle.pt_model.specs.Admissible.{Standing, Between, After_signal, Halted, After_event, At_end, was_read}
+use Rattle.pt_model.specs.Hearing.{Awaiting, Seizing, Entry_regs, Exit_regs, Signal_info, Resuming, Listening, asks, Heard, hears}
 use Rattle.pt_model.specs.Known.{Known, stands_at, turned_over}
-use Rattle.pt_model.specs.Parts.{Options, Part, Part_exit}
+use Rattle.pt_model.specs.Parts.{Options, Part, Part_stopped, Part_exit}
 use Rattle.pt_model.specs.Ptrace.{is_there}
 
 -- what is asked now
@@ -87,7 +87,12 @@ abbrev pub took_stop : Options → (ℕ → Known) → ℕ → Stop → Next
 took_stop o known p (Syscall_stop good) =
     stays (put known p (turned_over (known p))) (Serving p (first_place o (known p) (known p).inside))
 took_stop o known p (Signal_stop signal) =
-    stays (put known p (stands_at (known p) After_signal)) (Serving p (Signal_info signal.number))
+    stays (put known p (stands_at (known p) (After_signal signal))) (Serving p (Signal_info signal.number))
+took_stop o known p (Group_stop signal) = record {
+  known = put known p (stands_at (known p) Halted);
+  focus = Serving p Listening;
+  printed = Part_stopped p signal ∷ [];
+}
 took_stop o known p (Event_stop event) =
     stays (put known p (stands_at (known p) (event_standing event))) (Serving p (Resuming 0))
 took_stop o known p (Ended word) = record {

@@ -8,8 +8,8 @@ use Rattle.lx_abi.specs.declared.signal.Signal.{Signal}
 use Rattle.lx_abi.specs.Calls.{has_effects}
 use Rattle.lx_abi.specs.Effects.{forks, execs, exits}
 use Rattle.lx_abi.specs.Log.{Noted}
-use Rattle.lx_abi.specs.Signals.{is_signal, may_join}
-use Rattle.lx_model.specs.Machine.{Machine, IsMachine, Execs, Bears, Ends, Kills}
+use Rattle.lx_abi.specs.Signals.{is_signal, is_stop}
+use Rattle.lx_model.specs.Machine.{Machine, IsMachine, Execs, Bears, Ends, Stops, Kills}
 use Rattle.lx_model.specs.Kernel.{Script, traces, Kernel, kernel_run, first_kernel}
 use Rattle.pt_model.specs.Ptrace.{Report}
 use Rattle.pt_model.specs.Requests.{may_peek}
@@ -20,8 +20,8 @@ use Rattle.pt_model.specs.World.{World, world_run, effective, first_world}
 use Rattle.pt_model.specs.View.{has_exit, view, traced, most_reads, parts, Due, report_of, items_in}
 
 -- what a tracer is told of calls fits their numbers (wait(2), ptrace(2)): children come of a call that forks (clone),
--- new programs of one that executes a program (execve), exit codes of one that ends its process (exit, exit_group), and
--- other ends of a signal; no read of a memory gives more bytes than were asked for
+-- new programs of one that executes a program (execve), exit codes of one that ends its process (exit, exit_group),
+-- other ends of a signal, and group stops of a stop signal; no read of a memory gives more bytes than were asked for
 pub record IsTold {S B : Type 0} (m : Machine S B) : Type 0 where
   pub by_clone : (s t : S) (child p : ℕ) (c : Call) (b d born : B) →
       m.call s child p c b ≡ Bears t d born → has_effects c.number forks ≡ true
@@ -31,16 +31,14 @@ pub record IsTold {S B : Type 0} (m : Machine S B) : Type 0 where
       (has_effects c.number exits ≡ true) × (is_exit_word word ≡ true)
   pub by_signal : (s : S) (p : ℕ) (signal : Signal) (cause : Cause) (b : B) (word : ℕ) →
       m.take s p signal cause b ≡ Kills word → is_signal word ≡ true
+  pub by_stop : (s : S) (p : ℕ) (signal : Signal) (cause : Cause) (b : B) →
+      m.take s p signal cause b ≡ Stops → is_stop signal.number ≡ true
   pub peeks : (b : B) (address most : ℕ) → length (m.peek b address most) ≤ most
 
 -- each read is one that is answered, and a text is whole after so many, whatever was read
 pub record IsTexts (t : Texts) : Type 0 where
   pub stops : (half : Half) (got : List (List ℕ)) → most_reads ≤ length got → t.wants half got ≡ None
   pub fits : (half : Half) (got : List (List ℕ)) (w : ℕ × ℕ) → t.wants half got ≡ Some w → may_peek w.1 ≡ true
-
--- a joined signal is one that kill(2) takes
-abbrev pub IsScript : Script → Type 0
-IsScript script = (call n : ℕ) (signal : Signal) → (script call n).signal ≡ Some signal → may_join signal.number ≡ true
 
 -- what is shown begins a view's parts, and is all of them once no tracee is left
 pub record TellsView (printed view : List Part) (over : Type 0) : Type 0 where
@@ -96,7 +94,7 @@ pub record Headline {S B : Type 0} (outcome : S → Outcome) (o : Options) (w : 
 -- for every set of options, script, beginning and list of events
 abbrev pub HeadlineAt : {S B : Type 0} → Machine S B → Type 0
 HeadlineAt {S} {B} m =
-    (outcome : S → Outcome) (o : Options) → IsTexts o.texts → (script : Script) → IsScript script →
+    (outcome : S → Outcome) (o : Options) → IsTexts o.texts → (script : Script) →
     (s : S) (b : B) (events : List Event) →
     Headline outcome o (traced_run m outcome o script s b events) (plain_run m outcome o script s b events)
 

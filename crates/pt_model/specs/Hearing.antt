@@ -2,7 +2,7 @@
 -- entry and exit, and of a signal (ptrace(2), strace(1)).
 use Rattle.std.specs.Prelude.{ℕ, ◌+◌, ◌==◌, Bool, true, false, cond, List, [], ◌∷◌, ◌++◌, Option, Some, None}
 use Rattle.lx_abi.specs.declared.ptrace.Ask.{Ask}
-use Rattle.lx_abi.specs.declared.ptrace.Ask.TheVariants.{Seize, GetRegs, SetRegs, Peek, Syscall, SigInfo}
+use Rattle.lx_abi.specs.declared.ptrace.Ask.TheVariants.{Seize, GetRegs, SetRegs, Peek, Syscall, SigInfo, Listen}
 use Rattle.lx_abi.specs.declared.ptrace.Info.{Info}
 use Rattle.lx_abi.specs.declared.ptrace.Reply.{Reply}
 use Rattle.lx_abi.specs.declared.ptrace.Reply.TheVariants.{Done as Agreed, Registers as Registers_are}
@@ -35,6 +35,8 @@ pub data Awaiting : Type 0 where
   Signal_info : ℕ → Awaiting
   -- with a signal, 0 for none
   Resuming : ℕ → Awaiting
+  -- letting go at a group stop
+  Listening : Awaiting
 
 -- the options of each tracee
 abbrev pub asked_options : Bool → TraceOptions
@@ -53,6 +55,7 @@ asks o (Exit_set r x) = SetRegs r
 asks o (Exit_peek x replaced got w) = Peek w.0 w.1
 asks o (Signal_info n) = SigInfo
 asks o (Resuming n) = Syscall n
+asks o Listening = Listen
 
 -- what a reply makes of what is known, what is asked next, and what is printed
 pub record Heard : Type 0 where
@@ -174,7 +177,7 @@ abbrev pub at_info : ℕ → Known → ℕ → Option Info → Heard
 at_info p k n (Some i) = record { known = k; next = Some (Resuming n); printed = Part_signal p i ∷ [] }
 at_info p k n None = nothing k
 
--- after Seize and a resumption nothing more is asked of it
+-- after Seize, a resumption and Listen nothing more is asked of it
 abbrev pub hears : Options → Script → ℕ → Known → Awaiting → Reply → Heard
 hears o script p k Seizing reply = nothing k
 hears o script p k Entry_regs reply = at_entry_regs o script p k (regs_in reply)
@@ -185,3 +188,4 @@ hears o script p k (Exit_set r x) reply = at_exit_set o p k x (says_done reply)
 hears o script p k (Exit_peek x replaced got w) reply = peeked_exit o p x replaced got k (bytes_of reply)
 hears o script p k (Signal_info n) reply = at_info p k n (told_info reply)
 hears o script p k (Resuming n) reply = nothing k
+hears o script p k Listening reply = nothing k

@@ -54,7 +54,7 @@ EmptyScriptIsNone = choice_of [] ≡ no_script
 abbrev pub TurnsTell : Type 0 → Type 0 → Type 0
 TurnsTell S B = (m : Machine S B) (c : Choice) (s : S) (child p : ℕ) (task : Task B) (w : TraceOptions) →
     let o : Out S B = turn m c s child p task in
-    (told_stop w (task_mode o.task) (item_of o) (by_pid child o.event) ≡ tracee_stop w o.task o.event)
+    (told_stop w (task_mode o.task) (item_of o) (by_pid child o.event) ≡ tracee_stop w o.task o.item o.event)
     × (ends_dying (task_mode o.task) ≡ is_dying o.task)
 
 -- whether a host is ready, its queue and its tracees tell

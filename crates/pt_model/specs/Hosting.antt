@@ -4,7 +4,7 @@ use Rattle.std.specs.Prelude.{◌≡◌, ℕ, ◌==◌, ◌≤◌, Bool, true, f
 use Rattle.std.specs.Ordering.{nat_cmp}
 use Rattle.std.specs.FinMap as maps
 use Rattle.lx_abi.specs.declared.log.Item.{Item}
-use Rattle.lx_abi.specs.declared.log.Item.TheVariants.{Taken as Signalled, Exit}
+use Rattle.lx_abi.specs.declared.log.Item.TheVariants.{Taken as Signalled, Stopped as Halts, Exit}
 use Rattle.lx_abi.specs.declared.log.Mode.{Mode}
 use Rattle.lx_abi.specs.declared.log.Mode.TheVariants as mode
 use Rattle.lx_abi.specs.declared.outcome.Outcome.{Outcome}
@@ -17,7 +17,8 @@ use Rattle.lx_abi.specs.declared.schedule.Event.{Event as Step}
 use Rattle.lx_abi.specs.declared.schedule.Event.TheVariants.{Turn, Serve}
 use Rattle.lx_abi.specs.declared.status.EventStop.TheVariants.{Stop as At_start}
 use Rattle.lx_abi.specs.declared.status.Stop.{Stop}
-use Rattle.lx_abi.specs.declared.status.Stop.TheVariants.{Syscall as Syscall_stop, Signal as Signal_stop, Event as Event_stop, Ended}
+use Rattle.lx_abi.specs.declared.status.Stop.TheVariants.{Syscall as Syscall_stop, Signal as Signal_stop, Group as Group_stop, Event as Event_stop, Ended}
+use Rattle.lx_abi.specs.Log.{Noted}
 use Rattle.lx_abi.specs.Scripts.{no_choice}
 use Rattle.lx_model.specs.Events.{by_pid}
 use Rattle.lx_model.specs.Machine.{Machine}
@@ -90,10 +91,10 @@ message_after message p w (Forked child) = cond w.forks child message
 
 -- what is kept of a tracee after its turn; of who is none nothing is
 abbrev pub traced_after : {B : Type 0} → maps.FinMap nat_cmp Traced → ℕ → ℕ → ℕ
-    → Option TraceOptions → Task B → PtraceEvent B → maps.FinMap nat_cmp Traced
-traced_after traced p child message None task e = traced
-traced_after traced p child message (Some w) task e = maps.insert traced p (record {
-  held = is_there (tracee_stop w task e);
+    → Option TraceOptions → Task B → Option Noted → PtraceEvent B → maps.FinMap nat_cmp Traced
+traced_after traced p child message None task i e = traced
+traced_after traced p child message (Some w) task i e = maps.insert traced p (record {
+  held = is_there (tracee_stop w task i e);
   options = Some w;
   message = message_after message p w (by_pid child e);
 })
@@ -119,8 +120,8 @@ with_birth v child w (Forked b) = with_newborn v child (inherits w)
 abbrev pub hosted : {S B : Type 0} → Hosting S B → ℕ → Traced → Out S B → Hosting S B
 hosted v p t o = with_birth (record {
   running = bore (ran v.running p o) o.event;
-  traced = traced_after v.traced p v.running.child t.message t.options o.task o.event;
-  queue = cond (is_dying o.task) (without p v.queue) v.queue ++ reports_of p (stop_at t.options o.task o.event);
+  traced = traced_after v.traced p v.running.child t.message t.options o.task o.item o.event;
+  queue = cond (is_dying o.task) (without p v.queue) v.queue ++ reports_of p (stop_at t.options o.task o.item o.event);
   tracees = v.tracees;
   turns = v.turns ++ p ∷ [];
   pending = v.pending;
@@ -134,9 +135,10 @@ hosting_turn m follow v p =
 
 -- What a turn tells: its mode and item, and what it did beside
 
--- a signal that was taken, or an end, is that of the item
+-- a signal that was taken, a group stop or an end is that of the item
 abbrev pub item_stop : Option Item → Option Stop
 item_stop (Some (Signalled p signal cause)) = Some (Signal_stop signal)
+item_stop (Some (Halts p signal)) = Some (Group_stop signal)
 item_stop (Some (Exit p word left)) = Some (Ended word)
 item_stop _ = None
 
@@ -146,6 +148,8 @@ mode_stop w mode.Entered item e = Some (Syscall_stop w.good)
 mode_stop w mode.Acted item e = event_stop w e
 mode_stop w mode.Finished item e = Some (Syscall_stop w.good)
 mode_stop w mode.Taken item e = item_stop item
+mode_stop w mode.Stopped item e = item_stop item
+mode_stop w mode.Woken item e = Some (Event_stop At_start)
 mode_stop w mode.Dying item e = item_stop item
 mode_stop _ _ _ _ = None
 
@@ -203,6 +207,7 @@ with_queue v queue = record {
 abbrev pub took_report : {S B : Type 0} → Hosting S B → List Report → ℕ → Stop → Hosting S B
 took_report v rest p (Syscall_stop good) = with_queue v rest
 took_report v rest p (Signal_stop signal) = with_queue v rest
+took_report v rest p (Group_stop signal) = with_queue v rest
 took_report v rest p (Event_stop event) = with_queue v rest
 took_report v rest p (Ended word) = record {
   running = v.running;

@@ -1,24 +1,27 @@
 -- What the definitions owe each other, and laws that show what they mean.
-use Rattle.std.specs.Prelude.{◌≡◌, ◌≢◌, ℕ, ◌+◌, ◌==◌, ◌≤◌, ◌<◌, Bool, true, false, cond, List, [], ◌∷◌, ◌++◌, Some, length, filter}
+use Rattle.std.specs.Prelude.{◌≡◌, ◌≢◌, ◌⊎◌, ℕ, ◌+◌, ◌==◌, ◌≤◌, ◌<◌, Bool, true, false, cond, List, [], ◌∷◌, ◌++◌, Option, Some, length, filter}
 use Rattle.lx_abi.specs.declared.outcome.Outcome.{Outcome}
 use Rattle.lx_abi.specs.declared.ptrace.Request.TheVariants.{Wait}
 use Rattle.lx_abi.specs.declared.status.EventStop.TheVariants.{Fork as At_fork, Stop as At_start}
-use Rattle.lx_abi.specs.declared.status.Stop.TheVariants.{Event as Event_stop}
-use Rattle.lx_abi.specs.declared.script.Rule.{Rule}
+use Rattle.lx_abi.specs.declared.status.Stop.{Stop}
+use Rattle.lx_abi.specs.declared.status.Stop.TheVariants.{Group as Group_stop, Event as Event_stop, Ended}
+use Rattle.lx_abi.specs.declared.signal.Signal.{Signal}
 use Rattle.lx_abi.specs.Log.{Noted}
-use Rattle.lx_abi.specs.Scripts.{choice_of}
 use Rattle.lx_model.specs.Machine.{Machine}
 use Rattle.lx_model.specs.declared.event.PtraceEvent.TheVariants.{Forked}
 use Rattle.lx_model.specs.Turn.{kill_word}
 use Rattle.lx_model.specs.declared.stage.Stage.{Stage}
+use Rattle.lx_model.specs.declared.stage.Stage.TheVariants.{Stopped}
 use Rattle.lx_model.specs.declared.stage.Task.{Task}
 use Rattle.lx_model.specs.declared.stage.Task.TheVariants.{Alive, Dying, Gone}
 use Rattle.lx_model.specs.Kernel.{Script, Kernel, kernel_turn, kernel_run, first_kernel}
 use Rattle.lx_abi.specs.declared.ptrace.TraceOptions.{TraceOptions}
 use Rattle.pt_model.specs.Ptrace.{Host, Report, is_dying, is_effective, host_turn, host_turn_of}
 use Rattle.pt_model.specs.Requests.{told, serve}
-use Rattle.pt_model.specs.Headline.{IsScript}
 use Rattle.pt_model.specs.View.{view, has_exit, has_kill}
+use Rattle.pt_model.specs.Admissible.{After_signal, Halted}
+use Rattle.pt_model.specs.Parts.{Options}
+use Rattle.pt_model.specs.Tracer.{Known, admits_stop}
 
 -- a turn of one process leaves what every other has to itself
 abbrev pub KernelTurnsApart : Type 0 → Type 0 → Type 0
@@ -52,6 +55,25 @@ TheHeldCanBeKilled S B =
     (m : Machine S B) (h : Host S B) (p : ℕ) (b : B) (stage : Stage) (w : TraceOptions) →
     h.procs p ≡ record { task = Alive b stage; held = true; options = Some w } → m.killed h.shared p ≡ true →
     (host_turn m h p).procs p ≡ record { task = Dying kill_word; held = true; options = Some w }
+
+-- a tracer that has let go of a stopped process by Listen hears nothing of it until SIGCONT or SIGKILL comes
+abbrev pub WhoListensStays : Type 0 → Type 0 → Type 0
+WhoListensStays S B =
+    (m : Machine S B) (h : Host S B) (p : ℕ) (b : B) (signal : Signal) (w : Option TraceOptions) →
+    h.procs p ≡ record { task = Alive b (Stopped signal); held = false; options = w } →
+    m.killed h.shared p ≡ false → m.continued h.shared p ≡ false → host_turn m h p ≡ h
+
+-- a tracer admits a group stop by the signal whose stop it was told of last, and no other
+abbrev pub AStopComesOfItsSignal : Type 0
+AStopComesOfItsSignal =
+    (o : Options) (p : ℕ) (k : Known) (signal : Signal) → admits_stop o p k (Some (Group_stop signal)) ≡ true →
+    (passed : Signal) × ((k.standing ≡ After_signal passed) × (passed.number ≡ signal.number))
+
+-- and then that it has ended, or SIGKILL
+abbrev pub AStopEndsFirst : Type 0
+AStopEndsFirst =
+    (o : Options) (p : ℕ) (k : Known) (stop : Stop) → k.standing ≡ Halted → admits_stop o p k (Some stop) ≡ true →
+    (stop ≡ Event_stop At_start) ⊎ (stop ≡ Ended kill_word)
 
 -- Wait tells the first report, and takes it
 abbrev pub FirstReportIsTold : Type 0 → Type 0 → Type 0
@@ -89,10 +111,6 @@ OneReportAStop S B =
 abbrev pub NoOtherReport : Type 0 → Type 0 → Type 0
 NoOtherReport S B = (m : Machine S B) (h : Host S B) (p q : ℕ) → p ≢ q → h.child ≢ q →
     reports_for q (host_turn m h p).queue ≡ reports_for q h.queue
-
--- every script that is written as rules is one
-abbrev pub EveryScriptIsOne : Type 0
-EveryScriptIsOne = (rules : List Rule) → IsScript (choice_of rules)
 
 -- a log without an end by SIGKILL has one view, itself
 abbrev pub NoKillNoLoss : Type 0

@@ -19,3 +19,4 @@ pub mod Tiny
 pub mod TinyRuns
 pub mod ModeRows
 pub mod RequestRows
+pub mod JobRows

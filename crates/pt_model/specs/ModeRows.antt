@@ -15,7 +15,7 @@ use Rattle.lx_model.specs.declared.stage.Stage.TheVariants.{Born, Run, Faulting,
 use Rattle.lx_model.specs.declared.stage.Task.{Task}
 use Rattle.lx_model.specs.declared.stage.Task.TheVariants.{Alive, Dying, Gone}
 use Rattle.lx_model.specs.Finite.{task_mode, item_of}
-use Rattle.pt_model.specs.Tiny.{Pending, Shares, UserState, registers_of, tiny, user, nothing_yet, segv, sigkill, usr1, chld}
+use Rattle.pt_model.specs.Tiny.{Pending, Shares, UserState, registers_of, with_pending, tiny, user, nothing_yet, segv, sigkill, usr1, chld}
 
 -- the pc and a0 of a process that lives
 abbrev pub result_in : Task UserState → Option (ℕ × ℕ)
@@ -38,7 +38,7 @@ brief o = (
 
 -- what process 1 comes to by a turn from this stage, with its choice, the pending signals, and its body
 abbrev pub row : Choice → List Pending → UserState → Stage → Left
-row c pending b stage = brief (turn tiny c (record { console = []; pending = pending; ended = [] }) 2 1 (Alive b stage))
+row c pending b stage = brief (turn tiny c (with_pending nothing_yet pending) 2 1 (Alive b stage))
 
 abbrev pub pends : List Pending
 pends = record { pid = 1; signal = usr1; cause = By_kernel } ∷ []

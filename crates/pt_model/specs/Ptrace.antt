@@ -5,6 +5,7 @@ use Rattle.lx_abi.specs.declared.ptrace.TraceOptions.{TraceOptions}
 use Rattle.lx_abi.specs.declared.status.EventStop.TheVariants.{Fork as At_fork, Exec as At_exec, Stop as At_start}
 use Rattle.lx_abi.specs.declared.status.Stop.{Stop}
 use Rattle.lx_abi.specs.declared.status.Stop.TheVariants.{Event as Event_stop, Ended}
+use Rattle.lx_abi.specs.Log.{Noted}
 use Rattle.lx_abi.specs.Scripts.{no_choice}
 use Rattle.lx_model.specs.Machine.{Machine}
 use Rattle.lx_model.specs.declared.event.PtraceEvent.{PtraceEvent}
@@ -39,30 +40,30 @@ pub record Host (S B : Type 0) : Type 0 where
 
 -- What a turn has come to
 
+abbrev pub is_there : {X : Type 0} → Option X → Bool
+is_there (Some x) = true
+is_there None = false
+
 abbrev pub event_stop : {B : Type 0} → TraceOptions → PtraceEvent B → Option Stop
 event_stop w Plain = None
 event_stop w Execed = cond w.execs (Some (Event_stop At_exec)) None
 event_stop w (Forked b) = cond w.forks (Some (Event_stop At_fork)) None
 
--- the stop of a tracee after its turn, from where it stands and what its call did
-abbrev pub tracee_stop : {B : Type 0} → TraceOptions → Task B → PtraceEvent B → Option Stop
-tracee_stop w (Alive b stage) e = (row stage).stop w.good (event_stop w e)
-tracee_stop w (Dying word) e = Some (Ended word)
-tracee_stop w Gone e = None
+-- the stop of a tracee after its turn, from where it stands, what was logged and what its call did
+abbrev pub tracee_stop : {B : Type 0} → TraceOptions → Task B → Option Noted → PtraceEvent B → Option Stop
+tracee_stop w (Alive b stage) i e = (row stage).stop w.good (event_stop w e) (is_there i)
+tracee_stop w (Dying word) i e = Some (Ended word)
+tracee_stop w Gone i e = None
 
 -- a process that is no tracee has no stops
-abbrev pub stop_at : {B : Type 0} → Option TraceOptions → Task B → PtraceEvent B → Option Stop
-stop_at (Some w) task e = tracee_stop w task e
-stop_at None task e = None
+abbrev pub stop_at : {B : Type 0} → Option TraceOptions → Task B → Option Noted → PtraceEvent B → Option Stop
+stop_at (Some w) task i e = tracee_stop w task i e
+stop_at None task i e = None
 
 abbrev pub is_dying : {B : Type 0} → Task B → Bool
 is_dying (Alive b stage) = false
 is_dying (Dying word) = true
 is_dying Gone = false
-
-abbrev pub is_there : {X : Type 0} → Option X → Bool
-is_there (Some x) = true
-is_there None = false
 
 abbrev pub reports_of : ℕ → Option Stop → List Report
 reports_of p (Some s) = record { pid = p; stop = s } ∷ []
@@ -83,8 +84,8 @@ may_die _ _ _ _ _ = false
 abbrev pub is_effective : {S B : Type 0} → Machine S B → S → ℕ → Proc B → Bool
 is_effective m s p t = cond t.held (may_die m s p t.options t.task) true
 
-abbrev pub proc_after : {B : Type 0} → Option TraceOptions → Task B → PtraceEvent B → Proc B
-proc_after w task e = record { task = task; held = is_there (stop_at w task e); options = w }
+abbrev pub proc_after : {B : Type 0} → Option TraceOptions → Task B → Option Noted → PtraceEvent B → Proc B
+proc_after w task i e = record { task = task; held = is_there (stop_at w task i e); options = w }
 
 abbrev pub messages_after : {B : Type 0} → (ℕ → ℕ) → ℕ → ℕ → Option TraceOptions → PtraceEvent B → ℕ → ℕ
 messages_after messages p child None e = messages
@@ -97,8 +98,8 @@ messages_after messages p child (Some w) (Forked b) = cond w.forks (put messages
 abbrev pub moved : {S B : Type 0} → Host S B → ℕ → Option TraceOptions → Out S B → Host S B
 moved h p w o = record {
   shared = o.shared;
-  procs = put h.procs p (proc_after w o.task o.event);
-  queue = cond (is_dying o.task) (without p h.queue) h.queue ++ reports_of p (stop_at w o.task o.event);
+  procs = put h.procs p (proc_after w o.task o.item o.event);
+  queue = cond (is_dying o.task) (without p h.queue) h.queue ++ reports_of p (stop_at w o.task o.item o.event);
   tracees = h.tracees;
   messages = messages_after h.messages p h.child w o.event;
   child = h.child;

@@ -9,7 +9,7 @@ use Rattle.lx_abi.specs.declared.schedule.Event.{Event}
 use Rattle.lx_abi.specs.declared.schedule.Event.TheVariants.{Turn, Serve}
 use Rattle.lx_abi.specs.declared.status.Status.{Status}
 use Rattle.lx_abi.specs.declared.status.Stop.{Stop}
-use Rattle.lx_abi.specs.declared.status.Stop.TheVariants.{Syscall as Syscall_stop, Signal as Signal_stop, Event as Event_stop, Ended}
+use Rattle.lx_abi.specs.declared.status.Stop.TheVariants.{Syscall as Syscall_stop, Signal as Signal_stop, Group as Group_stop, Event as Event_stop, Ended}
 use Rattle.lx_abi.specs.Status.{stop_of}
 use Rattle.lx_model.specs.Machine.{Machine}
 use Rattle.lx_model.specs.Kernel.{Script}
@@ -17,7 +17,7 @@ use Rattle.pt_model.specs.Ptrace.{is_there}
 use Rattle.pt_model.specs.Requests.{esrch, serve}
 use Rattle.pt_model.specs.Parts.{Options, Part}
 use Rattle.pt_model.specs.Admissible.{was_read, answers}
-use Rattle.pt_model.specs.Tracer.{Awaiting, Seizing, Entry_regs, Entry_peek, Entry_set, Exit_regs, Exit_set, Exit_peek, Signal_info, Resuming, Focus, Booting, Waiting, Serving, Asking_outcome, Over, Turns_over, Faulted, Tracer, Moved, request, admits_at, next, new_tracer, first_tracer}
+use Rattle.pt_model.specs.Tracer.{Awaiting, Seizing, Entry_regs, Entry_peek, Entry_set, Exit_regs, Exit_set, Exit_peek, Signal_info, Resuming, Listening, Focus, Booting, Waiting, Serving, Asking_outcome, Over, Turns_over, Faulted, Tracer, Moved, request, admits_at, next, new_tracer, first_tracer}
 use Rattle.pt_model.specs.World.{World, happens, world_run, first_world}
 use Rattle.pt_model.specs.Headline.{IsTexts}
 
@@ -131,6 +131,7 @@ abbrev pub comes_to_hand : ℕ → Option Stop → Option ℕ
 comes_to_hand p None = None
 comes_to_hand p (Some (Syscall_stop good)) = Some p
 comes_to_hand p (Some (Signal_stop signal)) = Some p
+comes_to_hand p (Some (Group_stop signal)) = Some p
 comes_to_hand p (Some (Event_stop event)) = Some p
 comes_to_hand p (Some (Ended word)) = None
 
@@ -163,6 +164,7 @@ LetsGo (Exit_set r x) = ⊥
 LetsGo (Exit_peek x replaced got w) = ⊥
 LetsGo (Signal_info n) = ⊥
 LetsGo (Resuming n) = Unit {0}
+LetsGo Listening = Unit {0}
 
 -- A tracee in hand is let go, or met ESRCH, before Wait is asked again: nothing that was learnt is dropped.
 abbrev pub NobodyIsLeftHeld : Type 0
@@ -185,7 +187,11 @@ abbrev pub EachIsLetGo : Type 0
 EachIsLetGo = (o : Options) (script : Script) (x : Moved) (p : ℕ) (place : Awaiting) (rs : List Reply) →
     x.tracer.focus ≡ Serving p place → (after_all o script x rs).tracer.focus ≡ Waiting → LetGo o script x p rs
 
--- these replies resume the tracee in hand by Syscall, or one of them is ESRCH
+-- the last request to a tracee that a status put in hand: Syscall, or at a group stop Listen
+abbrev pub Resumes : Awaiting → Type 0
+Resumes place = ((signal : ℕ) × (place ≡ Resuming signal)) ⊎ (place ≡ Listening)
+
+-- these replies resume the tracee in hand, or one of them is ESRCH
 pub record Resumed (o : Options) (script : Script) (x : Moved) (p : ℕ) (rs : List Reply) : Type 0 where
   pub before : List Reply
   pub place : Awaiting
@@ -193,7 +199,7 @@ pub record Resumed (o : Options) (script : Script) (x : Moved) (p : ℕ) (rs : L
   pub more : List Reply
   pub split : rs ≡ before ++ reply ∷ more
   pub asked : (after_all o script x before).tracer.focus ≡ Serving p place
-  pub how : (((signal : ℕ) × (place ≡ Resuming signal)) × (reply ≡ Agreed)) ⊎ (reply ≡ esrch)
+  pub how : (Resumes place × (reply ≡ Agreed)) ⊎ (reply ≡ esrch)
 
 -- so whoever came to hand by a status was resumed, and not seized, before the next Wait
 abbrev pub EachIsResumed : Type 0

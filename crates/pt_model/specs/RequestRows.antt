@@ -132,7 +132,7 @@ pub record ResumeRows : Type 0 where
   pub entry_stop : says (at_entry 0x13 writing) (To 1 (Syscall 0)) ≡ Some Agreed
   pub entry_stop_joined : says (at_entry 0x13 writing) (To 1 (Syscall 10)) ≡ Some Agreed
   pub entry_stop_kill : says (at_entry 0x13 writing) (To 1 (Syscall 9)) ≡ Some Agreed
-  pub entry_stop_job_control : says (at_entry 0x13 writing) (To 1 (Syscall 19)) ≡ Some eio
+  pub entry_stop_job_control : says (at_entry 0x13 writing) (To 1 (Syscall 19)) ≡ Some Agreed
   pub entry_stop_no_signal : says (at_entry 0x13 writing) (To 1 (Syscall 32)) ≡ Some eio
   pub exit_stop_signal : says (at_exit 0x13 writing) (To 1 (Syscall 10)) ≡ Some eio
   pub signal_stop_passed : says at_signal (To 1 (Syscall 11)) ≡ Some Agreed

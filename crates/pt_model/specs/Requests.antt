@@ -1,10 +1,10 @@
 -- How a request is answered (ptrace(2), wait(2)).
 use Rattle.std.specs.Prelude.{ℕ, ◌==◌, nat_le, Bool, true, false, cond, not, ◌&&◌, List, [], ◌∷◌, ◌++◌, Option, Some, None, filter}
 use Rattle.lx_abi.specs.declared.log.Cause.{Cause}
-use Rattle.lx_abi.specs.declared.log.Cause.TheVariants.{Sent, Kernel as By_kernel, Exited, Killed, Fault}
+use Rattle.lx_abi.specs.declared.log.Cause.TheVariants.{Sent, Kernel as By_kernel, Exited, Killed, Stopped as Child_stopped, Continued as Child_continued, Fault}
 use Rattle.lx_abi.specs.declared.outcome.Outcome.{Outcome}
 use Rattle.lx_abi.specs.declared.ptrace.Ask.{Ask}
-use Rattle.lx_abi.specs.declared.ptrace.Ask.TheVariants.{Seize, SetOptions, GetRegs, SetRegs, Peek, Syscall, EventMsg, SigInfo}
+use Rattle.lx_abi.specs.declared.ptrace.Ask.TheVariants.{Seize, SetOptions, GetRegs, SetRegs, Peek, Syscall, EventMsg, SigInfo, Listen}
 use Rattle.lx_abi.specs.declared.ptrace.Info.{Info}
 use Rattle.lx_abi.specs.declared.ptrace.Reply.{Reply}
 use Rattle.lx_abi.specs.declared.ptrace.Reply.TheVariants.{Done as Agreed, Status as Status_is, Registers as Registers_are, Bytes as Bytes_are, Message as Message_is, Info as Info_is, Outcome as Outcome_is, Errno as Errno_is}
@@ -14,10 +14,11 @@ use Rattle.lx_abi.specs.declared.ptrace.TraceOptions.{TraceOptions}
 use Rattle.lx_abi.specs.declared.signal.Signal.{Signal}
 use Rattle.lx_abi.specs.declared.status.EventStop.TheVariants.{Stop as At_start}
 use Rattle.lx_abi.specs.declared.status.Stop.{Stop}
-use Rattle.lx_abi.specs.declared.status.Stop.TheVariants.{Syscall as Syscall_stop, Signal as Signal_stop, Event as Event_stop, Ended}
+use Rattle.lx_abi.specs.declared.status.Stop.TheVariants.{Syscall as Syscall_stop, Signal as Signal_stop, Group as Group_stop, Event as Event_stop, Ended}
 use Rattle.lx_abi.specs.Errnos as errnos
 use Rattle.lx_abi.specs.Limits.{most_peeked}
 use Rattle.lx_abi.specs.Options.{trace_options}
+use Rattle.lx_abi.specs.Signals.{cont_number}
 use Rattle.lx_abi.specs.Status.{word_of}
 use Rattle.lx_model.specs.Machine.{Machine}
 use Rattle.lx_model.specs.declared.stage.Stage.{Stage}
@@ -43,12 +44,14 @@ einval = Errno_is errnos.einval
 
 -- SigInfo: the siginfo_t of a taken signal (sigaction(2))
 
--- si_code: SI_USER, SI_KERNEL, CLD_EXITED, CLD_KILLED, or the fault's own
+-- si_code: SI_USER, SI_KERNEL, CLD_EXITED, CLD_KILLED, CLD_STOPPED, CLD_CONTINUED, or the fault's own
 abbrev pub code_of : Cause → ℕ
 code_of (Sent p) = 0
 code_of By_kernel = 0x80
 code_of (Exited p v) = 1
 code_of (Killed p v) = 2
+code_of (Child_stopped p v) = 5
+code_of (Child_continued p) = 6
 code_of (Fault code a) = code
 
 abbrev pub sender_of : Cause → ℕ
@@ -56,6 +59,8 @@ sender_of (Sent p) = p
 sender_of By_kernel = 0
 sender_of (Exited p v) = p
 sender_of (Killed p v) = p
+sender_of (Child_stopped p v) = p
+sender_of (Child_continued p) = p
 sender_of (Fault code a) = 0
 
 abbrev pub status_of : Cause → ℕ
@@ -63,6 +68,8 @@ status_of (Sent p) = 0
 status_of By_kernel = 0
 status_of (Exited p v) = v
 status_of (Killed p v) = v
+status_of (Child_stopped p v) = v
+status_of (Child_continued p) = cont_number
 status_of (Fault code a) = 0
 
 abbrev pub address_of : Cause → ℕ
@@ -102,7 +109,7 @@ says t r = record { proc = t; reply = r; seized = false }
 abbrev pub let_go : {B : Type 0} → Proc B → B → Stage → Answered B
 let_go t b stage = says (record { task = Alive b stage; held = false; options = t.options }) Agreed
 
--- Syscall: where it may not be let go, EIO
+-- Syscall and Listen: where it may not be let go, EIO
 abbrev pub goes_from : {B : Type 0} → Proc B → B → Option Stage → Answered B
 goes_from t b None = says t eio
 goes_from t b (Some stage) = let_go t b stage
@@ -130,6 +137,7 @@ stopped m t b stage message (Peek address length) =
 stopped m t b stage message (Syscall n) = goes_from t b ((row stage).resume n)
 stopped m t b stage message EventMsg = says t (Message_is message)
 stopped m t b stage message SigInfo = says t (info_at stage)
+stopped m t b stage message Listen = goes_from t b (row stage).listen
 
 abbrev pub seize : {B : Type 0} → Proc B → Option TraceOptions → Answered B
 seize t None = says t einval
@@ -149,6 +157,7 @@ unseized t (Peek address length) = says t esrch
 unseized t (Syscall n) = says t esrch
 unseized t EventMsg = says t esrch
 unseized t SigInfo = says t esrch
+unseized t Listen = says t esrch
 
 -- ESRCH comes before any other refusal: the process is not held, not a tracee, or ending
 abbrev pub answer_at :
@@ -188,6 +197,7 @@ with_queue h queue = record {
 abbrev pub take_report : {S B : Type 0} → Host S B → List Report → ℕ → Stop → Host S B
 take_report h rest p (Syscall_stop good) = with_queue h rest
 take_report h rest p (Signal_stop signal) = with_queue h rest
+take_report h rest p (Group_stop signal) = with_queue h rest
 take_report h rest p (Event_stop event) = with_queue h rest
 take_report h rest p (Ended word) = record {
   shared = h.shared;

@@ -5,10 +5,10 @@ use Rattle.lx_abi.specs.declared.schedule.Event.TheVariants.{Turn, Serve}
 use Rattle.lx_abi.specs.Scripts.{no_choice}
 use Rattle.lx_abi.specs.Sys.{sys_getpid, sys_write}
 use Rattle.lx_model.specs.Kernel.{Script}
-use Rattle.pt_model.specs.Parts.{Half, Options, Part, Part_enter, Part_done, Part_signal, Part_exit}
+use Rattle.pt_model.specs.Parts.{Half, Options, Part, Part_enter, Part_done, Part_signal, Part_stopped, Part_exit}
 use Rattle.pt_model.specs.World.{World, End, Whole, Events_used_up, end_of}
 use Rattle.lx_model.specs.Machine.{IsMachine}
-use Rattle.pt_model.specs.Headline.{IsTold, IsTexts, IsScript, traced_run, plain_run}
+use Rattle.pt_model.specs.Headline.{IsTold, IsTexts, traced_run, plain_run}
 use Rattle.pt_model.specs.Tiny.{Shares, UserState, tiny, tiny_outcome, user, nothing_yet, usr1}
 
 -- a text reads one byte string, and is it
@@ -34,12 +34,11 @@ script call n =
     cond ((call == sys_write) && (n == 2)) (record { result = Some (pos 5); signal = None })
     (cond (call == sys_getpid) (record { result = Some (pos 9); signal = Some usr1 }) no_choice)
 
--- what is asked of machines, texts and scripts can be met
+-- what is asked of machines and texts can be met
 pub record PremisesOfTiny : Type 0 where
   pub machine : IsMachine tiny
   pub told : IsTold tiny
   pub texts : (follow : Bool) → IsTexts (options follow).texts
-  pub scripts : IsScript script
 
 abbrev pub times : ℕ → List Event → List Event
 times zero es = []
@@ -61,6 +60,7 @@ brief (Part_enter p c text) = (0, p, c.number, 0)
 brief (Part_done p c x replaced text) = (1, p, x, to_number replaced)
 brief (Part_signal p i) = (2, p, i.signal, i.address)
 brief (Part_exit p w) = (3, p, w, 0)
+brief (Part_stopped p s) = (4, p, s.number, 0)
 
 abbrev pub told : World Shares UserState → List (ℕ × ℕ × ℕ × ℕ)
 told w = map brief w.printed
@@ -114,4 +114,4 @@ pub record RunsOfTiny : Type 0 where
       })
   pub killed_child : told (traced true kills_child 60)
       ≡ (0, 1, 220, 0) ∷ (1, 1, 2, 0) ∷ (0, 2, 64, 0) ∷ (0, 1, 129, 0) ∷ (1, 2, 1, 0)
-      ∷ (3, 2, 9, 0) ∷ (1, 1, 0, 0) ∷ (0, 1, 94, 0) ∷ (3, 1, 768, 0) ∷ []
+      ∷ (3, 2, 9, 0) ∷ (1, 1, 0, 0) ∷ (2, 1, 17, 0) ∷ (0, 1, 94, 0) ∷ (3, 1, 768, 0) ∷ []

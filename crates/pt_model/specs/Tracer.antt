@@ -4,7 +4,7 @@ use Rattle.lx_abi.specs.declared.ptrace.Reply.{Reply}
 use Rattle.lx_abi.specs.declared.ptrace.Reply.TheVariants.{Done as Agreed, Status as Status_is, Outcome as Outcome_is}
 use Rattle.lx_abi.specs.declared.ptrace.Reply.TheVariants.{Errno as Errno_is, OutOfTurns as Out_of_turns}
 use Rattle.lx_abi.specs.declared.status.Stop.{Stop}
-use Rattle.lx_abi.specs.declared.status.Stop.TheVariants.{Syscall as Syscall_stop, Signal as Signal_stop}
+use Rattle.lx_abi.specs.declared.status.Stop.TheVariants.{Syscall as Syscall_stop, Signal as Signal_stop, Group as Group_stop}
 use Rattle.lx_abi.specs.declared.status.Stop.TheVariants.{Event as Event_stop, Ended}
 use Rattle.lx_abi.specs.Errnos.{echild}
 use Rattle.lx_abi.specs.Status.{stop_of}
@@ -14,7 +14,7 @@ use Rattle.pt_model.specs.Parts.{Options, Part}
 use Rattle.pt_model.specs.Ptrace.{is_there}
 pub use Rattle.pt_model.specs.Known.{Known, opened, closed, stands_at, turned_over, new_known}
 pub use Rattle.pt_model.specs.Hearing.{Awaiting, Seizing, Entry_regs, Entry_peek, Entry_set, Exit_regs, Exit_set, Exit_peek}
-pub use Rattle.pt_model.specs.Hearing.{Signal_info, Resuming, asked_options, options_word, asks, Heard, nothing, moves, signal_word}
+pub use Rattle.pt_model.specs.Hearing.{Signal_info, Resuming, Listening, asked_options, options_word, asks, Heard, nothing, moves, signal_word}
 pub use Rattle.pt_model.specs.Hearing.{entry_with, entry_by, entry, look_entry, read_entry}
 pub use Rattle.pt_model.specs.Hearing.{exit, look_exit, read_exit, exit_with, regs_in, bytes_of, told_info, says_done}
 pub use Rattle.pt_model.specs.Hearing.{at_entry_regs, peeked_entry, at_entry_set, at_exit_regs, at_exit_set}
@@ -60,6 +60,7 @@ abbrev pub told_tracees : List ℕ → ℕ → Option Stop → List ℕ
 told_tracees tracees p None = tracees
 told_tracees tracees p (Some (Syscall_stop good)) = with_tracee tracees p
 told_tracees tracees p (Some (Signal_stop signal)) = with_tracee tracees p
+told_tracees tracees p (Some (Group_stop signal)) = with_tracee tracees p
 told_tracees tracees p (Some (Event_stop event)) = with_tracee tracees p
 told_tracees tracees p (Some (Ended word)) = filter (λ q. not (p == q)) tracees
 

@@ -2,16 +2,16 @@
 -- process before it may be left out, where its report was not yet told; that is the one freedom of a trace.
 use Rattle.std.specs.Prelude.{ℕ, zero, suc, ◌==◌, Bool, true, false, cond, ◌&&◌, ◌||◌, List, [], ◌∷◌, ◌++◌, Option, Some, None, filter}
 use Rattle.lx_abi.specs.declared.log.Item.{Item}
-use Rattle.lx_abi.specs.declared.log.Item.TheVariants.{Enter, Done, Taken as Signalled, Exit}
+use Rattle.lx_abi.specs.declared.log.Item.TheVariants.{Enter, Done, Taken as Signalled, Stopped as Halts, Exit}
 use Rattle.lx_abi.specs.declared.status.EventStop.{EventStop}
-use Rattle.lx_abi.specs.declared.status.Stop.TheVariants.{Syscall as Syscall_stop, Signal as Signal_stop, Event as Event_stop, Ended}
+use Rattle.lx_abi.specs.declared.status.Stop.TheVariants.{Syscall as Syscall_stop, Signal as Signal_stop, Group as Group_stop, Event as Event_stop, Ended}
 use Rattle.lx_abi.specs.Log.{Note, Noted, pid_of}
 pub use Rattle.lx_abi.specs.Modes.{may_lose}
 use Rattle.lx_model.specs.Turn.{kill_word}
 use Rattle.lx_model.specs.Kernel.{traces}
 use Rattle.pt_model.specs.Ptrace.{Report}
 use Rattle.pt_model.specs.Requests.{info_of}
-use Rattle.pt_model.specs.Parts.{Half, At_entry, At_exit, Texts, Options, Part, Part_signal, Part_exit, enter_part, done_part}
+use Rattle.pt_model.specs.Parts.{Half, At_entry, At_exit, Texts, Options, Part, Part_signal, Part_stopped, Part_exit, enter_part, done_part}
 
 -- the first item of a process
 abbrev pub first_of : ℕ → List Noted → Option Noted
@@ -76,6 +76,7 @@ item_parts o note (Enter p c) = enter_part o p c note.sp (reads o.texts note.pee
 item_parts o note (Done p c x replaced) =
     done_part o p c x replaced (reads o.texts note.peek (At_exit c x) most_reads [])
 item_parts o note (Signalled p signal cause) = Part_signal p (info_of signal cause) ∷ []
+item_parts o note (Halts p signal) = Part_stopped p signal ∷ []
 item_parts o note (Exit p word left) = Part_exit p word ∷ []
 
 abbrev pub part : Options → Noted → List Part
@@ -100,6 +101,7 @@ abbrev pub item_report : Item → Report
 item_report (Enter p c) = record { pid = p; stop = Syscall_stop true }
 item_report (Done p c x b) = record { pid = p; stop = Syscall_stop true }
 item_report (Signalled p signal cause) = record { pid = p; stop = Signal_stop signal }
+item_report (Halts p signal) = record { pid = p; stop = Group_stop signal }
 item_report (Exit p w m) = record { pid = p; stop = Ended w }
 
 abbrev pub report_of : Due → Report

@@ -10,7 +10,9 @@ ghost use Rattle.pt_model.specs.Calls.{OwnRepliesTell, FailuresLeaveAPrefix, Fau
 ghost use Rattle.pt_model.specs.Laws.{KernelTurnsApart, HostTurnsApart, TheDeadHaveEnded};
 ghost use Rattle.pt_model.specs.HostLaws.{HostsBeginAlike, HostsTurnAlike, HostsServeAlike, HostsAttendAlike};
 ghost use Rattle.pt_model.specs.HostLaws.{HostsRunTheKernel, EmptyScriptIsNone, TurnsTell, HostsAreReady, HostsAreAble};
-ghost use Rattle.pt_model.specs.Laws.{TheHeldAreStill, TheHeldCanBeKilled, NoKillNoLoss, EveryScriptIsOne};
+ghost use Rattle.pt_model.specs.Laws.{TheHeldAreStill, TheHeldCanBeKilled, NoKillNoLoss};
+ghost use Rattle.pt_model.specs.Laws.{WhoListensStays};
+ghost use Rattle.pt_model.specs.Laws.{AStopComesOfItsSignal, AStopEndsFirst};
 ghost use Rattle.pt_model.specs.Laws.{FirstReportIsTold, ForkIsToldFirst, OneReportAStop, NoOtherReport};
 
 /// A traced run has the outcome of the untraced kernel under the script, turn by turn, and its trace is that kernel's.
@@ -52,17 +54,23 @@ pub fn the_held_are_still<S, B>()
     ensures killed { TheHeldCanBeKilled S B }
 {}
 
+/// Nothing is heard of a stopped process that was let go by Listen, until SIGCONT or SIGKILL.
+pub fn who_listens_stays<S, B>()
+    ensures { WhoListensStays S B }
+{}
+
+/// A group stop is admitted after its signal's stop, and after it that it has ended, or SIGKILL.
+pub fn group_stops_are_in_order()
+    ensures stop { AStopComesOfItsSignal }
+    ensures ends { AStopEndsFirst }
+{}
+
 /// Stops are told in the order in which they arose, and each once.
 pub fn stops_are_told_once<S, B>()
     ensures first { FirstReportIsTold S B }
     ensures fork { ForkIsToldFirst S B }
     ensures one { OneReportAStop S B }
     ensures no_other { NoOtherReport S B }
-{}
-
-/// A script joins no signal but those that kill(2) takes, by the type of its rules.
-pub fn every_script_is_one()
-    ensures { EveryScriptIsOne }
 {}
 
 /// A log without an end by SIGKILL has one view, itself.
@@ -119,7 +127,8 @@ pub fn faults_leave_a_prefix<S, B>()
 {}
 
 /// A status that is no end puts its tracee in hand, and nobody else comes to hand before it is let go or has met
-/// ESRCH; only then is Wait asked again. Syscall lets it go; Seize does so only for process 1, once.
+/// ESRCH; only then is Wait asked again. Syscall lets it go, and at a group stop Listen; Seize does so only for process
+/// 1, once.
 pub fn nobody_is_left_held()
     ensures taken { StatusesComeToHand }
     ensures stays { TheHandStays }

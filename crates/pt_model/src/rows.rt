@@ -1,6 +1,7 @@
 //! What the definitions give on a machine small enough to compute with, against what was worked out by hand.
 
 ghost use Rattle.pt_model.specs.Headline.{HeadlineAt};
+ghost use Rattle.pt_model.specs.JobRows.{JobRows};
 ghost use Rattle.pt_model.specs.ModeRows.{ModeRows};
 ghost use Rattle.pt_model.specs.RequestRows.{RequestRows};
 ghost use Rattle.pt_model.specs.Tiny.{tiny};
@@ -14,6 +15,11 @@ pub fn mode_rows()
 /// Each request, with each of its refusals.
 pub fn request_rows()
     ensures { RequestRows }
+{}
+
+/// Job control: its modes, its requests, and whole runs.
+pub fn job_rows()
+    ensures { JobRows }
 {}
 
 /// Whole traced runs, transparency of all of them, and its premises, which can be met.
