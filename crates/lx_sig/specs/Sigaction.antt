@@ -3,7 +3,7 @@ use Rattle.std.specs.Prelude.{ℕ, ◌==◌, ◌&&◌, Bool, not, List, [], ◌�
 use Rattle.std.specs.declared.result.Result.TheVariants.{Err}
 use Rattle.rv_mem.specs.Memory.{Memory, bytes_at}
 use Rattle.lx_abi.specs.Errnos.{efault, einval}
-use Rattle.lx_abi.specs.Signals.{may_join}
+use Rattle.lx_abi.specs.Signals.{is_signal}
 use Rattle.lx_abi.specs.declared.log.Call.{Call}
 use Rattle.lx_sig.specs.Sets.{cleaned}
 use Rattle.lx_sig.specs.Pending.{Action, Signals, action_of}
@@ -21,10 +21,10 @@ action_in bytes = record { handler = word_of bytes 0; flags = word_of bytes 1; m
 abbrev pub new_action : Memory → ℕ → Option Action
 new_action m a = if a == 0 then None else Some (action_in (bytes_at m a 24))
 
--- the signals that have an action are those that kill(2) takes; SIGKILL's can't be set, nor can other flags
+-- the signals that have an action are those that kill(2) takes; SIGKILL's and SIGSTOP's can't be set, nor can other flags
 abbrev pub may_set : ℕ → Option Action → Bool
-may_set n None = may_join n
-may_set n (Some a) = may_join n && not (n == 9) && not (has_other_flags a.flags)
+may_set n None = is_signal n
+may_set n (Some a) = is_signal n && not (n == 9) && not (n == 19) && not (has_other_flags a.flags)
 
 abbrev pub with_action : Signals → ℕ → Option Action → Signals
 with_action g n None = g

@@ -5,10 +5,10 @@ ghost use Rattle.lx_sig.specs.Pending.{default};
 ghost use Rattle.lx_sig.specs.Reactions.{is_fault as is_faults, acts as acts_as, reaction as reaction_of};
 ghost use Rattle.lx_sig.specs.Reactions.{without_handler as without_handlers, after_exec, of_child, no_signals};
 
-use crate::delivery::{action, is_ignored, is_ignored_by_default};
+use crate::delivery::{action, is_ignored, is_ignored_by_default, is_stop};
 use crate::pending::Pending;
 use crate::sets::has;
-use crate::state::{Action, Signals};
+use crate::state::{Action, Job, Signals};
 use lx_abi::{Cause, Signal};
 
 /// What a process does with a signal that it takes.
@@ -16,6 +16,8 @@ use lx_abi::{Cause, Signal};
 pub enum Reaction {
     /// Nothing.
     Passes,
+    /// The process stops.
+    Stops,
     /// The process ends by the signal.
     Ends,
     /// The action's handler runs.
@@ -39,6 +41,7 @@ fn acts(action: Action, number: u8) -> Reaction
 {
     match action.handler {
         0 if is_ignored_by_default(number) => Reaction::Passes,
+        0 if is_stop(number) => Reaction::Stops,
         0 => Reaction::Ends,
         1 => Reaction::Passes,
         _ => Reaction::Handles(action),
@@ -85,6 +88,7 @@ pub fn for_child(signals: &Signals) -> Signals
         pending: Pending::none(),
         mask: signals.mask,
         actions: signals.actions,
+        job: Job::Free,
     }
 }
 
@@ -97,6 +101,7 @@ impl Signals {
             pending: Pending::none(),
             mask: 0,
             actions: [DEFAULT; 32],
+            job: Job::Free,
         }
     }
 }

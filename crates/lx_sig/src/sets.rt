@@ -3,8 +3,8 @@
 ghost use Rattle.std.specs.Prelude.{◌≡◌, ◌<◌};
 ghost use Rattle.lx_sig.specs.Sets.{has as is_in, cleaned, with_bit};
 
-/// The bits of signals 1 to 31, without SIGKILL's.
-const BLOCKABLE: u64 = 0x7fff_feff;
+/// The bits of signals 1 to 31, without SIGKILL's and SIGSTOP's.
+const BLOCKABLE: u64 = 0x7ffb_feff;
 
 /// The signal with this number is in a set.
 pub(crate) fn has(set: u64, number: u8) -> bool

@@ -2,7 +2,7 @@
 
 ghost use Rattle.std.specs.Prelude.{◌≡◌, ◌<◌, false, true, IfOk, IfErr, OnOk, OnErr};
 ghost use Rattle.lx_sig.specs.Doublewords.{doublewords};
-ghost use Rattle.lx_abi.specs.Signals.{may_join};
+ghost use Rattle.lx_abi.specs.Signals.{is_signal};
 ghost use Rattle.lx_sig.specs.Calls.{is_unreadable, outcome, Keeps};
 ghost use Rattle.lx_sig.specs.Sigaction.{has_other_flags as has_others, action_in as action_of_bytes, new_action};
 ghost use Rattle.lx_sig.specs.Sigaction.{may_set as may_be_set, action_bytes as bytes_of_action};
@@ -18,11 +18,11 @@ use lx_abi::{Call, Errno};
 use rv_mem::Space;
 use std::alloc::AllocError;
 
-/// Signals but those of job control (CONT, STOP, TSTP, TTIN, TTOU).
+/// A signal's number.
 pub(crate) fn is_known(number: u32) -> bool
-    ensures { result ≡ may_join number }
+    ensures { result ≡ is_signal number }
 {
-    number > 0 && number < 32 && !(18 <= number && number <= 22)
+    number > 0 && number < 32
 }
 
 /// Flags other than SA_SIGINFO, SA_RESTART and SA_NODEFER.
@@ -64,7 +64,10 @@ fn may_set(number: u32, new: &Option<Action>) -> bool
 {
     match new {
         None => is_known(number),
-        Some(action) => is_known(number) && number != 9 && !has_other_flags(action.flags),
+        Some(action) => is_known(number)
+            && number != 9
+            && number != 19
+            && !has_other_flags(action.flags),
     }
 }
 

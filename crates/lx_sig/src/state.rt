@@ -18,6 +18,14 @@ pub type Mask = u64;
 /// Actions, by the number of their signal. Nothing has the number 0.
 pub type Actions = [Action; 32];
 
+/// Whether a process is at a stop signal, which it has taken or by which it is stopped, and whether SIGCONT was sent to
+/// it since.
+#[derive(Clone, Copy, Debug, PartialEq, Eq)]
+pub enum Job {
+    Free,
+    AtStop { continued: bool },
+}
+
 /// The signals of a process.
 #[derive(Clone, Copy, Debug, PartialEq, Eq)]
 pub struct Signals {
@@ -25,6 +33,7 @@ pub struct Signals {
     /// Those that are blocked.
     pub mask: Mask,
     pub actions: Actions,
+    pub job: Job,
 }
 
 /// Where an interrupted call was made: pc and a0 at its ecall.
