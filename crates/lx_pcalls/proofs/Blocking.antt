@@ -45,7 +45,7 @@ use Rattle.lx_pcalls.specs.Munmap.{munmap, may_unmap}
 use Rattle.lx_pcalls.specs.Clone.{clone, fork_flags, has_room}
 use Rattle.lx_exec.specs.Execve.{execve, program, begins, runs, runs_file, runs_node, with_path, renews}
 use Rattle.lx_pcalls.specs.Mmap.{mmap, may_map, map_low, map_high}
-use Rattle.lx_pcalls.specs.Wait4.{wait4, wait4_would_block, may_wait, first_child, waits, reaps, word_in}
+use Rattle.lx_pcalls.specs.Wait4.{wait4, wait4_would_block, may_wait, no_hang, first_child, waits, reaps, told_child, word_in}
 use Rattle.lx_pcalls.specs.Calls.{process_call, would_block, is_blocked_if}
 
 unless_never : (h : Bool) (e : ℕ) (a : Answers) → is_blocked a ≡ false → is_blocked (unless h e a) ≡ false
@@ -146,8 +146,8 @@ module _ (s : Shared) (child p : ℕ) (call : Call) (b : UserState) where
 
   reaps_never : (n word : ℕ) → is_blocked (reaps s b call n word) ≡ false
   reaps_never n word =
-      either (argument call 1 == 0) (Returns (with_entries s (maps.remove s.entries n)) b n) _ refl
-      (gives_never (with_entries s (maps.remove s.entries n)) b (argument call 1) (to_le_bytes w32 word) n)
+      either (argument call 1 == 0) (Returns (told_child s n) b n) _ refl
+      (gives_never (told_child s n) b (argument call 1) (to_le_bytes w32 word) n)
 
   waits_or : (hangs : Bool) → is_blocked (cond hangs (Returns s b 0) Blocks) ≡ not hangs
   waits_or true = refl
@@ -157,13 +157,13 @@ module _ (s : Shared) (child p : ℕ) (call : Call) (b : UserState) where
   unless_both true e a w is = is
   unless_both false e a w is = refl
 
-  waits_blocks : (o : Option ℕ) → is_blocked (waits s b call o) ≡ (not (argument call 2 == 1) && not (is_some o))
-  waits_blocks None = waits_or (argument call 2 == 1) ∙ sym (with_true (not (argument call 2 == 1)))
+  waits_blocks : (o : Option ℕ) → is_blocked (waits s b call o) ≡ (not (no_hang call) && not (is_some o))
+  waits_blocks None = waits_or (no_hang call) ∙ sym (with_true (not (no_hang call)))
     where
       with_true : (c : Bool) → (c && true) ≡ c
       with_true true = refl
       with_true false = refl
-  waits_blocks (Some n) = given_never (word_in (maps.get s.entries n)) echild _ (reaps_never n) ∙ sym (with_false (not (argument call 2 == 1)))
+  waits_blocks (Some n) = given_never (word_in (argument call 2) (maps.get s.entries n)) echild _ (reaps_never n) ∙ sym (with_false (not (no_hang call)))
     where
       with_false : (c : Bool) → (c && false) ≡ false
       with_false true = refl
@@ -179,11 +179,11 @@ module _ (s : Shared) (child p : ℕ) (call : Call) (b : UserState) where
   wait4_blocks : is_blocked (wait4 s p call b) ≡ wait4_would_block s p call
   unfolding wait4 wait4_would_block
   wait4_blocks =
-      let any = is_some (first_child s.entries p (low_argument call 0) false) in
-      let zombie = first_child s.entries p (low_argument call 0) true in
-      unless_both (may_wait call) einval _ (any && (not (argument call 2 == 1) && not (is_some zombie)))
-      (unless_both any echild _ (not (argument call 2 == 1) && not (is_some zombie)) (waits_blocks zombie))
-      ∙ in_order (may_wait call) (not (argument call 2 == 1)) any (not (is_some zombie))
+      let any = is_some (first_child s.entries p (low_argument call 0) None) in
+      let child = first_child s.entries p (low_argument call 0) (Some (argument call 2)) in
+      unless_both (may_wait call) einval _ (any && (not (no_hang call) && not (is_some child)))
+      (unless_both any echild _ (not (no_hang call) && not (is_some child)) (waits_blocks child))
+      ∙ in_order (may_wait call) (not (no_hang call)) any (not (is_some child))
 
   abbrev foretold : Bool
   foretold = cond (call.number == 260) (wait4_would_block s p call) false

@@ -1,5 +1,5 @@
 -- clone(flags, stack): clone(2), of a whole process alone, as fork(2).
-use Rattle.std.specs.Prelude.{ℕ, ◌+◌, ◌^◌, ◌%◌, ◌==◌, ◌&&◌, nat_lt, nat_le, Bool, List, set, if◌then◌else◌}
+use Rattle.std.specs.Prelude.{ℕ, ◌+◌, ◌^◌, ◌%◌, ◌==◌, ◌&&◌, nat_lt, nat_le, Bool, List, set, None, if◌then◌else◌}
 use Rattle.std.specs.FinMap as maps
 use Rattle.rv_hart.specs.declared.hart.Hart.{Hart}
 use Rattle.lx_abi.specs.Errnos.{eagain, einval}
@@ -24,7 +24,13 @@ has_room s child = nat_lt (maps.len s.entries) s.limits.live && nat_le child s.l
 
 -- its parent's directory, mask and actions, and nothing pending
 abbrev pub child_entry : Entry → ℕ → Entry
-child_entry e p = record { life = Alive; parent = p; directory = e.directory; signals = of_child e.signals }
+child_entry e p = record {
+  life = Alive;
+  news = None;
+  parent = p;
+  directory = e.directory;
+  signals = of_child e.signals;
+}
 
 -- a child has this entry, and its parent's descriptors
 abbrev pub with_child : Shared → ℕ → ℕ → Entry → Shared

@@ -11,7 +11,7 @@ use Rattle.lx_proc.specs.declared.state.Life.{Life}
 use Rattle.lx_proc.specs.declared.state.Entry.{Entry}
 use Rattle.lx_proc.specs.declared.state.Shared.{Shared}
 use Rattle.lx_proc.specs.declared.state.Life.TheVariants.{Dying, Zombie}
-use Rattle.lx_proc.specs.State.{Entries, changed, with_entries, with_held}
+use Rattle.lx_proc.specs.State.{Entries, changed, with_entries, with_held, with_news}
 use Rattle.lx_proc.specs.Sending.{receives}
 use Rattle.lx_proc.specs.Families.{is_zombie}
 
@@ -22,7 +22,7 @@ with_life e life = record e { life = life }
 
 abbrev pub with_word : Shared → ℕ → ℕ → Shared
 with_word s p w = record s {
-  entries = changed s.entries p (λ e. with_life e (Dying w));
+  entries = changed (changed s.entries p (λ e. with_news e None)) p (λ e. with_life e (Dying w));
   ended = maps.insert s.ended p w;
 }
 
@@ -60,8 +60,11 @@ sigchld = record { number = 17; in_range = refl }
 abbrev pub wants_no_news : Entry → Bool
 wants_no_news e = (action_of e.signals 17).handler == 1
 
+abbrev pub told_of : Entry → Cause → Entry
+told_of parent cause = receives parent sigchld cause
+
 abbrev pub told : Entry → ℕ → ℕ → Entry
-told parent p w = receives parent sigchld (cause_of_end p w)
+told parent p w = told_of parent (cause_of_end p w)
 
 abbrev pub retired_by : Entries → ℕ → ℕ → ℕ → Option Entry → Entries
 retired_by entries p w parent None = maps.remove entries p

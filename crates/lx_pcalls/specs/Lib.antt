@@ -16,3 +16,4 @@ pub mod Calls
 pub mod Interruption
 pub mod Taking
 pub mod Ends
+pub mod Stops

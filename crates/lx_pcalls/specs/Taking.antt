@@ -3,8 +3,9 @@ use Rattle.std.specs.Prelude.{◌≡◌, ℕ, Option, Some, None, is_some, if◌
 use Rattle.std.specs.FinMap as maps
 use Rattle.lx_abi.specs.declared.log.Cause.{Cause}
 use Rattle.lx_abi.specs.declared.signal.Signal.{Signal}
-use Rattle.lx_model.specs.Machine.{Took, Passes, Kills}
+use Rattle.lx_model.specs.Machine.{Took, Passes, Stops, Kills}
 use Rattle.lx_sig.specs.declared.state.Action.{Action}
+use Rattle.lx_sig.specs.declared.state.Signals.{Signals}
 use Rattle.lx_sig.specs.declared.reactions.Reaction.{Reaction}
 use Rattle.lx_sig.specs.declared.reactions.Reaction.TheVariants as reaction
 use Rattle.lx_sig.specs.Reactions.{reaction as reaction_to}
@@ -20,23 +21,24 @@ use Rattle.lx_pcalls.specs.declared.taking.Reacted.TheVariants as reacted
 abbrev pub segv_word : ℕ
 segv_word = 11
 
-abbrev pub in_handler : Entry → UserState → Signal → Action → UserState
-in_handler e b signal a = record b {
+abbrev pub in_handler : Signals → UserState → Signal → Action → UserState
+in_handler g b signal a = record b {
   hart = handling b.hart signal a;
-  memory = with_frame b.memory b.hart b.interrupted e.signals signal a;
+  memory = with_frame b.memory b.hart b.interrupted g signal a;
   interrupted = None;
 }
 
 -- the handler begins; where its frame can't be written SIGSEGV ends the process
-abbrev pub handles : Shared → ℕ → Entry → UserState → Signal → Action → Took Shared UserState
-handles s p e b signal a =
+abbrev pub handles : Shared → ℕ → Signals → UserState → Signal → Action → Took Shared UserState
+handles s p g b signal a =
     if is_some (frame_fault b.memory b.hart) then Kills segv_word
-    else Passes (with_signals_at s p (blocking e.signals signal a)) (in_handler e b signal a)
+    else Passes (with_signals_at s p (blocking g signal a)) (in_handler g b signal a)
 
 abbrev pub reacts : Shared → ℕ → Entry → UserState → Signal → Reaction → Took Shared UserState
 reacts s p e b signal reaction.Passes = Passes s b
+reacts s p e b signal reaction.Stops = Stops
 reacts s p e b signal reaction.Ends = Kills signal.number
-reacts s p e b signal (reaction.Handles a) = handles s p e b signal a
+reacts s p e b signal (reaction.Handles a) = handles s p e.signals b signal a
 
 abbrev pub takes_at : Option Entry → Shared → ℕ → UserState → Signal → Cause → Took Shared UserState
 takes_at None s p b signal cause = Passes s b
@@ -49,9 +51,11 @@ takes s p b signal cause = takes_at (maps.get s.entries p) s p b signal cause
 -- What code answers, beside what it leaves in the two parts that it is lent.
 abbrev pub took_of : Reacted → Shared → UserState → Took Shared UserState
 took_of reacted.Passed s b = Passes s b
+took_of reacted.Stopped s b = Stops
 took_of (reacted.Killed w) s b = Kills w
 
--- an end leaves what is shared
-abbrev pub TookKept : Reacted → Shared → Shared → Type 0
-TookKept reacted.Passed s s' = Unit {0}
-TookKept (reacted.Killed w) s s' = s' ≡ s
+-- an end leaves what is shared, and a stop the body too
+abbrev pub TookKept : Reacted → Shared → UserState → Shared → UserState → Type 0
+TookKept reacted.Passed s b s' b' = Unit {0}
+TookKept reacted.Stopped s b s' b' = (s' ≡ s) × (b' ≡ b)
+TookKept (reacted.Killed w) s b s' b' = s' ≡ s

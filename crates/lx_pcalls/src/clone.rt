@@ -31,6 +31,7 @@ fn entry_for_child(alloc: Global, entry: &Entry, parent: u32) -> Result<Entry, A
 {
     Ok(Entry {
         life: Life::Alive,
+        news: None,
         parent,
         directory: Bytes::from_slice(alloc, entry.directory.as_slice())?,
         signals: for_child(&entry.signals),

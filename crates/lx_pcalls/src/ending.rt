@@ -6,11 +6,13 @@ ghost use Rattle.lx_open.specs.Releases.{all_closed, AreEndsKept};
 ghost use Rattle.lx_pcalls.specs.Ends.{with_word, dies, orphaned, cause_of_end};
 ghost use Rattle.lx_pcalls.specs.Ends.{released as released_entries};
 ghost use Rattle.lx_pcalls.specs.Ends.{wants_no_news as wants_no_news_of, retired, buried};
+ghost use Rattle.std.specs.FinMap as maps;
+ghost use Rattle.lx_pcalls.specs.Stops.{heard, stopped, settled_at, settles, woken, is_continued_at};
 
 use lx_abi::{Cause, Signal};
 use lx_open::release::close_all;
-use lx_proc::{Entry, Life, Shared, Table, send};
-use lx_sig::action;
+use lx_proc::{Entry, Life, News, Shared, Table, send};
+use lx_sig::{action, settle as settle_signals};
 use std::alloc::AllocError;
 
 /// SIG_IGN.
@@ -22,6 +24,7 @@ fn keep_word(shared: &mut Shared, pid: u32, word: u32) -> Result<(), AllocError>
     ensures same { OnErr result (shared.new ≡ shared.old) }
 {
     shared.ended.insert(pid, word)?;
+    shared.entries.set_news(pid, None);
     shared.entries.set_life(pid, Life::Dying { word })?;
     Ok(())
 }
@@ -96,6 +99,16 @@ fn wants_no_news(entry: &Entry) -> bool
     action(&entry.signals, 17).handler == IGNORE
 }
 
+/// A parent is told of a child that lives on, unless SIGCHLD is set to be ignored.
+fn hear(entries: &mut Table, parent: u32, cause: Cause)
+    ensures { entries.new ≡ heard entries.old parent cause }
+{
+    match entries.get(parent) {
+        Some(entry) if !wants_no_news(entry) => send(entries, parent, Signal::CHLD, cause),
+        _ => {}
+    }
+}
+
 /// A process waits for its parent as a zombie, or leaves the table where nobody will wait.
 fn become_zombie(entries: &mut Table, pid: u32, word: u32, parent: u32) -> Result<(), AllocError>
     ensures { OnOk result (entries.new ≡ retired entries.old pid word parent) }
@@ -124,4 +137,66 @@ pub fn release_task(shared: &mut Shared, pid: u32, word: u32) -> Result<(), Allo
     orphan_children(&mut shared.entries, pid);
     become_zombie(&mut shared.entries, pid, word, parent)?;
     Ok(())
+}
+
+/// A process is stopped by a signal: wait4 is to tell of it, and its parent gets SIGCHLD.
+#[inline(never)]
+#[tactic(auto, unfolding(crate::specs::Stops::stopped))]
+pub fn stop(shared: &mut Shared, pid: u32, signal: Signal)
+    ensures { shared.new ≡ stopped shared.old pid signal }
+{
+    let Some(entry) = shared.entries.get(pid) else {
+        return;
+    };
+    let parent = entry.parent;
+    shared.entries.set_news(pid, Some(News::Stopped { signal }));
+    let cause = Cause::Stopped {
+        pid,
+        signal: signal.number,
+    };
+    hear(&mut shared.entries, parent, cause);
+}
+
+/// A process is at no stop signal any more.
+fn settle_at(entries: &mut Table, pid: u32)
+    ensures { entries.new ≡ settled_at entries.old pid }
+{
+    let Some(entry) = entries.get(pid) else {
+        return;
+    };
+    let mut signals = entry.signals;
+    settle_signals(&mut signals);
+    entries.set_signals(pid, signals);
+}
+
+/// A process leaves the signal that it took, or its group stop.
+pub fn settle(shared: &mut Shared, pid: u32)
+    ensures { shared.new ≡ settles shared.old pid }
+{
+    settle_at(&mut shared.entries, pid);
+}
+
+/// A stopped process is woken: wait4 is to tell of it, and its parent gets SIGCHLD.
+#[inline(never)]
+#[tactic(auto, unfolding(crate::specs::Stops::woken))]
+pub fn wake(shared: &mut Shared, pid: u32)
+    ensures { shared.new ≡ woken shared.old pid }
+{
+    let Some(entry) = shared.entries.get(pid) else {
+        return;
+    };
+    let parent = entry.parent;
+    settle_at(&mut shared.entries, pid);
+    shared.entries.set_news(pid, Some(News::Continued));
+    hear(&mut shared.entries, parent, Cause::Continued { pid });
+}
+
+/// SIGCONT was sent to a process since it took a stop signal, or was stopped.
+pub fn is_continued(shared: &Shared, pid: u32) -> bool
+    ensures { result ≡ is_continued_at (maps.get shared.now.entries pid) }
+{
+    match shared.entries.get(pid) {
+        None => false,
+        Some(entry) => lx_sig::is_continued(&entry.signals),
+    }
 }

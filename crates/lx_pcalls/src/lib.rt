@@ -20,6 +20,6 @@ pub mod taking;
 mod wait4;
 
 pub use calls::{process_blocks, process_call, would_block};
-pub use ending::{die, release_task};
+pub use ending::{die, is_continued, release_task, settle, stop, wake};
 pub use interruption::{interrupt, is_interrupted};
 pub use taking::{Reacted, take};

@@ -14,6 +14,7 @@ pub use Rattle.lx_sig.specs.declared.state.Signals.{Signals}
 pub use Rattle.lx_sig.specs.declared.state.Interrupted.{Interrupted}
 pub use Rattle.lx_proc.specs.declared.state.Life.{Life}
 pub use Rattle.lx_proc.specs.declared.state.Life.TheVariants.{Alive, Dying, Zombie}
+pub use Rattle.lx_proc.specs.declared.state.News.{News}
 pub use Rattle.lx_proc.specs.declared.state.Entry.{Entry}
 pub use Rattle.lx_proc.specs.declared.state.ProcessLimits.{ProcessLimits}
 pub use Rattle.lx_proc.specs.declared.state.Shared.{Shared}
@@ -44,6 +45,10 @@ with_signals e signals = record e { signals = signals }
 abbrev pub signals_in : Option Entry → Option Signals
 signals_in None = None
 signals_in (Some e) = Some e.signals
+
+-- what wait4 is to tell of takes the place of what it hasn't told of
+abbrev pub with_news : Entry → Option News → Entry
+with_news e news = record e { news = news }
 
 -- What is shared.
 

@@ -16,7 +16,7 @@ pub use entries::{directory, set_signals, signals};
 pub use registers::{a0, call, make_again, registers_of, return_from_call, set_registers};
 pub use reply::CallReply;
 pub use sending::send;
-pub use state::{Entry, Heap, Life, ProcessLimits, Shared, UserState};
+pub use state::{Entry, Heap, Life, News, ProcessLimits, Shared, UserState};
 pub use table::Table;
 pub use texts::{Text, Words, list_at, text_at};
 pub use wait_words::WaitWords;

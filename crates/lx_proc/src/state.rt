@@ -7,7 +7,7 @@ ghost use Rattle.lx_proc.specs.State.{limits_of};
 use crate::table::Table;
 use crate::wait_words::WaitWords;
 use containers::Bytes;
-use lx_abi::Limits;
+use lx_abi::{Limits, Signal};
 use lx_files::Tree;
 use lx_open::{FdTable, PipeBuffer};
 use lx_sig::{Interrupted, Signals};
@@ -44,10 +44,19 @@ pub enum Life {
     Zombie { word: u32 },
 }
 
+/// A change of a process that lives on, which wait4 is to tell of once.
+#[derive(Clone, Copy, Debug, PartialEq, Eq)]
+pub enum News {
+    Stopped { signal: Signal },
+    Continued,
+}
+
 /// What other processes can see or change of a process. An orphan's parent is 0.
 #[derive(Drop)]
 pub struct Entry {
     pub life: Life,
+    /// What wait4 has not told of.
+    pub news: Option<News>,
     pub parent: u32,
     /// The path of the working directory.
     pub directory: Bytes,

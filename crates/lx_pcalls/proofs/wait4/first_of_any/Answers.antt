@@ -7,8 +7,8 @@ use Rattle.lx_pcalls.proofs.wait4.first_of_any.Goals as goal
 pub returns-then-is_child : goal.returns-then-is_child
 unfolding first_child
 returns-then-is_child c =
-    first_zero (is_child c.args.entries.now c.args.parent any_child c.args.zombies) c.args.entries.now
-    (child_there c.args.entries.now c.args.parent any_child c.args.zombies) (sym c.is_child.ensures ∙ c.if-is_child.true)
+    first_zero (is_child c.args.entries.now c.args.parent any_child c.args.asked) c.args.entries.now
+    (child_there c.args.entries.now c.args.parent any_child c.args.asked) (sym c.is_child.ensures ∙ c.if-is_child.true)
 
 pub returns : goal.returns
-returns c = first_any c.args.entries.now c.args.parent c.args.zombies c.next_child.result (sym c.is_child.ensures ∙ c.if-is_child.false) c.next_child.ensures
+returns c = first_any c.args.entries.now c.args.parent c.args.asked c.next_of_any.result (sym c.is_child.ensures ∙ c.if-is_child.false) c.next_of_any.ensures
