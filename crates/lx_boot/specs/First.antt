@@ -1,5 +1,5 @@
 -- The parts of a kernel's first state.
-use Rattle.std.specs.Prelude.{ℕ, List, [], true, false}
+use Rattle.std.specs.Prelude.{ℕ, List, [], true, false, None}
 use Rattle.std.specs.FinMap as maps
 use Rattle.std.specs.FinMap.{FinMap}
 use Rattle.std.specs.Ordering.{nat_cmp}
@@ -24,7 +24,7 @@ use Rattle.lx_files.specs.Boots.{tree_of}
 
 -- process 1 has no parent, is in the root, and nothing is pending
 abbrev pub first_entry : Entry
-first_entry = record { life = Alive; parent = 0; directory = []; signals = no_signals }
+first_entry = record { life = Alive; news = None; parent = 0; directory = []; signals = no_signals }
 
 -- what is read, and what is written
 abbrev pub reads : Object → Description

@@ -23,6 +23,7 @@ fn first_entry(alloc: Global) -> Entry
 {
     Entry {
         life: Life::Alive,
+        news: None,
         parent: 0,
         directory: Bytes::new(alloc),
         signals: Signals::new(),

@@ -49,7 +49,7 @@ fn contents_fit(files: &[GuestFile]) -> bool
 }
 
 /// How many bytes two paths begin with alike.
-fn common_length(path: &[u8], other: &[u8]) -> usize
+pub fn common_length(path: &[u8], other: &[u8]) -> usize
     ensures { result ≡ common_prefix_len nat_eq path.now other.now }
 {
     for i in 0..path.len().min(other.len()) {

@@ -9,7 +9,7 @@ ghost use Rattle.lx_boot.specs.Limits.{nodes};
 ghost use Rattle.lx_boot.specs.Paths.{is_under as is_under_path};
 ghost use Rattle.lx_boot.specs.Neighbours.{rank as rank_of, precedes as precedes_path, under_next as under_next_of, twice_next as twice_next_of, has_under, AreOrdered, IsTold};
 
-use crate::limits::ordered_nodes_fit;
+use crate::limits::{common_length, ordered_nodes_fit};
 use lx_abi::GuestFile;
 use std::alloc::{AllocError, Global};
 use std::cmp::Ordering;
@@ -41,9 +41,9 @@ fn rank(byte: u8) -> u16
 
 /// The order of paths by their bytes' ranks, in which what lies under a path comes right behind it.
 fn by_rank(path: &[u8], other: &[u8]) -> Ordering {
-    path.iter()
-        .map(|byte| rank(*byte))
-        .cmp(other.iter().map(|byte| rank(*byte)))
+    let shared = common_length(path, other);
+    let next = path.get(shared).map(|byte| rank(*byte));
+    next.cmp(&other.get(shared).map(|byte| rank(*byte)))
 }
 
 /// The files by their paths' ranks.

@@ -9,12 +9,12 @@ use Rattle.lx_abi.specs.declared.log.Call.{Call}
 use Rattle.lx_abi.specs.declared.log.Cause.{Cause}
 use Rattle.lx_abi.specs.declared.signal.Signal.{Signal}
 use Rattle.lx_abi.specs.declared.script.Choice.{Choice}
-use Rattle.lx_model.specs.Machine.{Answer, Refused, Returns, Jumps, Execs, Bears, Blocks, Ends, Took, Passes, Kills}
+use Rattle.lx_model.specs.Machine.{Answer, Refused, Returns, Jumps, Execs, Bears, Blocks, Ends, Took, Passes, Stops, Kills}
 use Rattle.lx_model.specs.declared.event.PtraceEvent.{PtraceEvent}
 use Rattle.lx_model.specs.declared.event.PtraceEvent.TheVariants.{Plain, Execed, Forked}
-use Rattle.lx_model.specs.Turn.{Out, turn, killed_or, lives, stepped, answered, took}
+use Rattle.lx_model.specs.Turn.{Out, turn, killed_or, lives, stepped, answered, halts, took, wakes}
 use Rattle.lx_model.specs.declared.stage.Stage.{Stage}
-use Rattle.lx_model.specs.declared.stage.Stage.TheVariants.{Born, Run, Faulting, Entered, Doing, Replaced, Acted, Finished, Taken, Dropped}
+use Rattle.lx_model.specs.declared.stage.Stage.TheVariants.{Born, Run, Faulting, Entered, Doing, Replaced, Acted, Finished, Taken, Dropped, Stopped, Released, Woken}
 use Rattle.lx_model.specs.declared.stage.Task.{Task}
 use Rattle.lx_model.specs.declared.stage.Task.TheVariants.{Alive, Dying, Gone}
 use Rattle.lx_proc.specs.declared.state.Shared.{Shared}
@@ -23,6 +23,7 @@ use Rattle.lx_sig.specs.declared.state.Interrupted.{Interrupted}
 use Rattle.lx_turn.specs.Calls.{does}
 use Rattle.lx_turn.specs.Fitting.{Fits}
 use Rattle.lx_turn.specs.Turned.{unboxed, IsLeft, IsBirth}
+use Rattle.lx_pcalls.specs.Stops.{is_continued_at}
 use Rattle.lx_pcalls.specs.Taking.{takes}
 use Rattle.lx_turn.specs.Linux.{linux}
 use Rattle.lx_turn.specs.Reactions.{next_of, runs, resumed, ran_by, is_killed}
@@ -58,9 +59,18 @@ answered_fine s child p b call (Bears t c newborn) h = (h.console, h.left)
 answered_fine s child p b call Blocks h = tt
 answered_fine s child p b call (Ends w) h = tt
 
-took_fine : (s : Shared) (child p : ℕ) (signal : Signal) (cause : Cause) (t : Took Shared UserState) → Fine s child (took linux s p signal cause t)
-took_fine s child p signal cause (Passes t c) = tt
-took_fine s child p signal cause (Kills w) = tt
+halts_fine : (continued : Bool) (s : Shared) (child p : ℕ) (b : UserState) (signal : Signal) → Fine s child (halts continued linux s p b signal)
+halts_fine true s child p b signal = tt
+halts_fine false s child p b signal = tt
+
+wakes_fine : (continued : Bool) (s : Shared) (child p : ℕ) (b : UserState) (signal : Signal) → Fine s child (wakes continued linux s p b signal)
+wakes_fine true s child p b signal = tt
+wakes_fine false s child p b signal = tt
+
+took_fine : (s : Shared) (child p : ℕ) (b : UserState) (signal : Signal) (cause : Cause) (t : Took Shared UserState) → Fine s child (took linux s p b signal cause t)
+took_fine s child p b signal cause (Passes t c) = tt
+took_fine s child p b signal cause Stops = halts_fine (is_continued_at (maps.get s.entries p)) s child p b signal
+took_fine s child p b signal cause (Kills w) = tt
 
 lives_fine : (c : Choice) (s : Shared) (child p : ℕ) (b : UserState) (stage : Stage) → Fine s child (lives linux c s child p b stage)
 lives_fine c s child p b Born = tt
@@ -71,8 +81,11 @@ lives_fine c s child p b (Doing call) = answered_fine s child p b call (does s c
 lives_fine c s child p b (Replaced call x) = tt
 lives_fine c s child p b (Acted call x replaced) = tt
 lives_fine c s child p b Finished = tt
-lives_fine c s child p b (Taken signal cause) = took_fine s child p signal cause (takes s p b signal cause)
+lives_fine c s child p b (Taken signal cause) = took_fine s child p b signal cause (takes s p b signal cause)
 lives_fine c s child p b Dropped = tt
+lives_fine c s child p b (Stopped signal) = wakes_fine (is_continued_at (maps.get s.entries p)) s child p b signal
+lives_fine c s child p b Released = tt
+lives_fine c s child p b Woken = tt
 
 killed_fine : (killed : Bool) (c : Choice) (s : Shared) (child p : ℕ) (b : UserState) (stage : Stage) → Fine s child (killed_or killed linux c s child p b stage)
 killed_fine true c s child p b stage = tt

@@ -1,14 +1,19 @@
 -- Every call's answer fits, and so does every signal that is taken.
-use Rattle.std.proofs.Common.{ℕ, Bool, true, false, cond, Option, Some, None, is_some, refl}
+use Rattle.std.specs.Prelude.{◌==◌, ◌&&◌, ◌||◌}
+use Rattle.std.proofs.Common.{◌≡◌, ℕ, Bool, true, false, cond, Option, Some, None, is_some, refl}
 use Rattle.std.specs.Option.{unwrap_or}
 use Rattle.std.specs.FinMap as maps
 use Rattle.lx_abi.specs.Errnos.{enosys}
 use Rattle.lx_abi.specs.declared.log.Call.{Call}
 use Rattle.lx_abi.specs.declared.log.Cause.{Cause}
 use Rattle.lx_abi.specs.declared.signal.Signal.{Signal}
+use Rattle.lx_abi.specs.Signals.{is_stop}
 use Rattle.lx_model.specs.Machine.{Refused, Returns, Jumps, Execs, Bears, Blocks, Ends, Took}
 use Rattle.lx_sig.specs.Frames.{frame_fault}
-use Rattle.lx_sig.specs.Reactions.{reaction as reaction_to}
+use Rattle.lx_sig.specs.Pending.{action_of, is_ignored, is_ignored_by_default}
+use Rattle.lx_sig.specs.Reactions.{acts, is_fault, reaction as reaction_to}
+use Rattle.lx_sig.specs.Sets.{has}
+use Rattle.lx_sig.specs.declared.state.Action.{Action}
 use Rattle.lx_sig.specs.declared.reactions.Reaction.{Reaction}
 use Rattle.lx_sig.specs.declared.reactions.Reaction.TheVariants as reaction
 use Rattle.lx_proc.specs.declared.state.Shared.{Shared}
@@ -54,18 +59,37 @@ calls_fit s child p call b =
 
 -- signals
 
-took_either : (s : Shared) (test : Bool) (x y : Took Shared UserState) → TookFits s x → TookFits s y → TookFits s (cond test x y)
-took_either s true x y h g = h
-took_either s false x y h g = g
+took_either : (s : Shared) (signal : Signal) (test : Bool) (x y : Took Shared UserState) → TookFits s signal x → TookFits s signal y → TookFits s signal (cond test x y)
+took_either s signal true x y h g = h
+took_either s signal false x y h g = g
 
-reacts_fit : (s : Shared) (p : ℕ) (e : Entry) (b : UserState) (signal : Signal) (r : Reaction) → TookFits s (reacts s p e b signal r)
-reacts_fit s p e b signal reaction.Passes = refl
-reacts_fit s p e b signal reaction.Ends = signal.in_range
-reacts_fit s p e b signal (reaction.Handles a) = took_either s (is_some (frame_fault b.memory b.hart)) _ _ refl refl
+-- an action stops for a stop signal alone
+default_stops : (n : ℕ) (ignored stop : Bool) → is_stop n ≡ stop → cond ignored reaction.Passes (cond stop reaction.Stops reaction.Ends) ≡ reaction.Stops → is_stop n ≡ true
+default_stops n true stop s e = absurd (cc e)
+default_stops n false true s e = s
+default_stops n false false s e = absurd (cc e)
 
-takes_at_fit : (s : Shared) (p : ℕ) (b : UserState) (signal : Signal) (cause : Cause) (o : Option Entry) → TookFits s (takes_at o s p b signal cause)
+acts_stops : (a : Action) (n : ℕ) (default ignored : Bool) → cond default (cond (is_ignored_by_default n) reaction.Passes (cond (is_stop n) reaction.Stops reaction.Ends)) (cond ignored reaction.Passes (reaction.Handles a)) ≡ reaction.Stops → is_stop n ≡ true
+acts_stops a n true ignored e = default_stops n (is_ignored_by_default n) (is_stop n) refl e
+acts_stops a n false true e = absurd (cc e)
+acts_stops a n false false e = absurd (cc e)
+
+fault_stops : (a : Action) (n : ℕ) (fault : Bool) → cond fault reaction.Ends (acts a n) ≡ reaction.Stops → is_stop n ≡ true
+fault_stops a n true e = absurd (cc e)
+fault_stops a n false e = acts_stops a n (a.handler == 0) (a.handler == 1) e
+
+pub reaction_stops : (e : Entry) (signal : Signal) (cause : Cause) → reaction_to e.signals signal cause ≡ reaction.Stops → is_stop signal.number ≡ true
+reaction_stops e signal cause = fault_stops (action_of e.signals signal.number) signal.number (is_fault cause && (has e.signals.mask signal.number || is_ignored e.signals signal.number))
+
+reacts_fit : (s : Shared) (p : ℕ) (e : Entry) (b : UserState) (signal : Signal) (r : Reaction) → (r ≡ reaction.Stops → is_stop signal.number ≡ true) → TookFits s signal (reacts s p e b signal r)
+reacts_fit s p e b signal reaction.Passes h = refl
+reacts_fit s p e b signal reaction.Stops h = h refl
+reacts_fit s p e b signal reaction.Ends h = signal.in_range
+reacts_fit s p e b signal (reaction.Handles a) h = took_either s signal (is_some (frame_fault b.memory b.hart)) _ _ refl refl
+
+takes_at_fit : (s : Shared) (p : ℕ) (b : UserState) (signal : Signal) (cause : Cause) (o : Option Entry) → TookFits s signal (takes_at o s p b signal cause)
 takes_at_fit s p b signal cause None = refl
-takes_at_fit s p b signal cause (Some e) = reacts_fit s p e b signal (reaction_to e.signals signal cause)
+takes_at_fit s p b signal cause (Some e) = reacts_fit s p e b signal (reaction_to e.signals signal cause) (reaction_stops e signal cause)
 
 pub takes_fit : TakesFit
 unfolding takes

@@ -10,11 +10,11 @@ use Rattle.lx_abi.specs.declared.log.Item.{Item}
 use Rattle.lx_abi.specs.declared.log.Item.TheVariants as item
 use Rattle.lx_abi.specs.declared.signal.Signal.{Signal}
 use Rattle.lx_abi.specs.declared.script.Choice.{Choice}
-use Rattle.lx_model.specs.Machine.{Answer, Refused, Returns, Jumps, Execs, Bears, Blocks, Ends, Took, Passes, Kills}
-use Rattle.lx_model.specs.Turn.{Out, turn, killed_or, lives, stepped, answered, took, stage_mode}
+use Rattle.lx_model.specs.Machine.{Answer, Refused, Returns, Jumps, Execs, Bears, Blocks, Ends, Took, Passes, Stops, Kills}
+use Rattle.lx_model.specs.Turn.{Out, turn, killed_or, lives, stepped, answered, halts, took, wakes, stage_mode}
 use Rattle.lx_model.specs.Finite.{item_of}
 use Rattle.lx_model.specs.declared.stage.Stage.{Stage}
-use Rattle.lx_model.specs.declared.stage.Stage.TheVariants.{Born, Run, Faulting, Entered, Doing, Replaced, Acted, Finished, Taken, Dropped}
+use Rattle.lx_model.specs.declared.stage.Stage.TheVariants.{Born, Run, Faulting, Entered, Doing, Replaced, Acted, Finished, Taken, Dropped, Stopped, Released, Woken}
 use Rattle.lx_model.specs.declared.stage.Task.{Task}
 use Rattle.lx_model.specs.declared.stage.Task.TheVariants.{Alive, Dying, Gone}
 use Rattle.lx_proc.specs.declared.state.Shared.{Shared}
@@ -23,6 +23,7 @@ use Rattle.lx_sig.specs.declared.state.Interrupted.{Interrupted}
 use Rattle.lx_turn.specs.Calls.{does}
 use Rattle.lx_turn.specs.Turned.{Turned, turned, turned_by}
 use Rattle.lx_turn.specs.declared.stages.Went.TheVariants.{Ended}
+use Rattle.lx_pcalls.specs.Stops.{is_continued_at, stopped}
 use Rattle.lx_pcalls.specs.Taking.{takes}
 use Rattle.lx_turn.specs.Linux.{linux}
 use Rattle.lx_turn.specs.Reactions.{next_of, runs, resumed, ran_by, is_killed}
@@ -57,9 +58,22 @@ answered_keeps s child p b call (Bears t c born) = λ i e. absurd (cc e)
 answered_keeps s child p b call Blocks = λ i e. absurd (cc e)
 answered_keeps s child p b call (Ends w) = λ i e. refl
 
-took_keeps : (s : Shared) (p : ℕ) (signal : Signal) (cause : Cause) (t : Took Shared UserState) → Keeps s (took linux s p signal cause t)
-took_keeps s p signal cause (Passes t c) = λ i e. absurd (cc e)
-took_keeps s p signal cause (Kills w) = λ i e. refl
+stop_keeps : (s : Shared) (p : ℕ) (signal : Signal) → (stopped s p signal).console ≡ s.console
+unfolding stopped
+stop_keeps s p signal = refl
+
+halts_keep : (continued : Bool) (s : Shared) (p : ℕ) (b : UserState) (signal : Signal) → Keeps s (halts continued linux s p b signal)
+halts_keep true s p b signal = λ i e. absurd (cc e)
+halts_keep false s p b signal = λ i e. stop_keeps s p signal
+
+wakes_keep : (continued : Bool) (s : Shared) (p : ℕ) (b : UserState) (signal : Signal) → Keeps s (wakes continued linux s p b signal)
+wakes_keep true s p b signal = λ i e. absurd (cc e)
+wakes_keep false s p b signal = λ i e. absurd (cc e)
+
+took_keeps : (s : Shared) (p : ℕ) (b : UserState) (signal : Signal) (cause : Cause) (t : Took Shared UserState) → Keeps s (took linux s p b signal cause t)
+took_keeps s p b signal cause (Passes t c) = λ i e. absurd (cc e)
+took_keeps s p b signal cause Stops = halts_keep (is_continued_at (maps.get s.entries p)) s p b signal
+took_keeps s p b signal cause (Kills w) = λ i e. refl
 
 lives_keeps : (c : Choice) (s : Shared) (child p : ℕ) (b : UserState) (stage : Stage) → Keeps s (lives linux c s child p b stage)
 lives_keeps c s child p b Born = λ i e. absurd (cc e)
@@ -70,8 +84,11 @@ lives_keeps c s child p b (Doing call) = answered_keeps s child p b call (does s
 lives_keeps c s child p b (Replaced call x) = λ i e. absurd (cc e)
 lives_keeps c s child p b (Acted call x replaced) = λ i e. refl
 lives_keeps c s child p b Finished = λ i e. absurd (cc e)
-lives_keeps c s child p b (Taken signal cause) = took_keeps s p signal cause (takes s p b signal cause)
+lives_keeps c s child p b (Taken signal cause) = took_keeps s p b signal cause (takes s p b signal cause)
 lives_keeps c s child p b Dropped = λ i e. absurd (cc e)
+lives_keeps c s child p b (Stopped signal) = wakes_keep (is_continued_at (maps.get s.entries p)) s p b signal
+lives_keeps c s child p b Released = λ i e. absurd (cc e)
+lives_keeps c s child p b Woken = λ i e. absurd (cc e)
 
 killed_keeps : (killed : Bool) (c : Choice) (s : Shared) (child p : ℕ) (b : UserState) (stage : Stage) → Keeps s (killed_or killed linux c s child p b stage)
 killed_keeps true c s child p b stage = λ i e. refl

@@ -30,7 +30,7 @@ use Rattle.lx_files.specs.declared.places.Place.{Place}
 use Rattle.lx_proc.specs.declared.state.Shared.{Shared}
 use Rattle.lx_proc.specs.declared.state.UserState.{UserState}
 use Rattle.lx_proc.specs.declared.state.Entry.{Entry}
-use Rattle.lx_proc.specs.State.{with_entries, directory}
+use Rattle.lx_proc.specs.State.{directory}
 use Rattle.lx_proc.specs.Texts.{Text, Whole, TooLong, Unreadable, text_at, list_at}
 use Rattle.lx_proc.specs.Answers.{Answers, argument, low_argument, given, granted, gives}
 use Rattle.lx_pcalls.specs.Brk.{brk}
@@ -50,7 +50,7 @@ use Rattle.lx_pcalls.specs.RtSigprocmask.{rt_sigprocmask}
 use Rattle.lx_pcalls.specs.RtSigreturn.{rt_sigreturn}
 use Rattle.lx_pcalls.specs.SchedYield.{sched_yield}
 use Rattle.lx_pcalls.specs.Signals.{leaves}
-use Rattle.lx_pcalls.specs.Wait4.{wait4, waits, reaps, may_wait, first_child, word_in}
+use Rattle.lx_pcalls.specs.Wait4.{wait4, waits, reaps, told_child, may_wait, no_hang, first_child, word_in}
 use Rattle.lx_turn.specs.Fitting.{Fits}
 use Rattle.lx_turn.proofs.Plainness.{Plain, plain_fits, either_plain, unless_plain, given_plain, gives_plain}
 
@@ -106,20 +106,20 @@ module _ (s : Shared) (child p : ℕ) (call : Call) (b : UserState) where
 
   reaps_plain : (n word : ℕ) → Plain true s (reaps s b call n word)
   reaps_plain n word =
-      let left : Shared = with_entries s (maps.remove s.entries n) in
+      let left : Shared = told_child s n in
       either_plain true s (argument call 1 == 0) (Returns left b n) (gives left b (argument call 1) (to_le_bytes w32 word) n) refl
       (gives_plain true s left b (argument call 1) (to_le_bytes w32 word) n refl)
 
   waits_plain : (o : Option ℕ) → Plain true s (waits s b call o)
-  waits_plain None = either_plain true s (argument call 2 == 1) (Returns s b 0) Blocks refl refl
-  waits_plain (Some n) = given_plain true s (word_in (maps.get s.entries n)) echild (reaps s b call n) (reaps_plain n)
+  waits_plain None = either_plain true s (no_hang call) (Returns s b 0) Blocks refl refl
+  waits_plain (Some n) = given_plain true s (word_in (argument call 2) (maps.get s.entries n)) echild (reaps s b call n) (reaps_plain n)
 
   wait4_plain : Plain true s (wait4 s p call b)
   unfolding wait4
   wait4_plain =
       unless_plain true s (may_wait call) einval _
-      (unless_plain true s (is_some (first_child s.entries p (low_argument call 0) false)) echild _
-      (waits_plain (first_child s.entries p (low_argument call 0) true)))
+      (unless_plain true s (is_some (first_child s.entries p (low_argument call 0) None)) echild _
+      (waits_plain (first_child s.entries p (low_argument call 0) (Some (argument call 2)))))
 
   -- clone
 

@@ -6,8 +6,8 @@ use Rattle.lx_abi.specs.declared.log.Cause.{Cause}
 use Rattle.lx_abi.specs.declared.signal.Signal.{Signal}
 use Rattle.lx_abi.specs.Calls.{has_effects}
 use Rattle.lx_abi.specs.Effects.{forks, execs, exits}
-use Rattle.lx_abi.specs.Signals.{is_signal}
-use Rattle.lx_model.specs.Machine.{Answer, Refused, Returns, Jumps, Execs, Bears, Blocks, Ends, Took, Passes, Kills}
+use Rattle.lx_abi.specs.Signals.{is_signal, is_stop}
+use Rattle.lx_model.specs.Machine.{Answer, Refused, Returns, Jumps, Execs, Bears, Blocks, Ends, Took, Passes, Stops, Kills}
 use Rattle.lx_sig.specs.Calls.{argument}
 use Rattle.lx_proc.specs.declared.state.Shared.{Shared}
 use Rattle.lx_proc.specs.declared.state.UserState.{UserState}
@@ -32,11 +32,13 @@ Fits child s call (Ends w) = (has_effects call.number exits ≡ true) × (w ≡ 
 abbrev pub CallsFit : Type 0
 CallsFit = (s : Shared) (child p : ℕ) (call : Call) (b : UserState) → Fits child s call (does s child p call b)
 
--- What is said of every signal that is taken: the words stay, and a process ends by a signal.
-abbrev pub TookFits : Shared → Took Shared UserState → Type 0
-TookFits s (Passes t b) = t.ended ≡ s.ended
-TookFits s (Kills w) = is_signal w ≡ true
+-- What is said of every signal that is taken: the words stay, a process is stopped by a stop signal, and ends by a
+-- signal.
+abbrev pub TookFits : Shared → Signal → Took Shared UserState → Type 0
+TookFits s signal (Passes t b) = t.ended ≡ s.ended
+TookFits s signal Stops = is_stop signal.number ≡ true
+TookFits s signal (Kills w) = is_signal w ≡ true
 
 abbrev pub TakesFit : Type 0
 TakesFit = (s : Shared) (p : ℕ) (b : UserState) (signal : Signal) (cause : Cause)
-    → TookFits s (takes s p b signal cause)
+    → TookFits s signal (takes s p b signal cause)

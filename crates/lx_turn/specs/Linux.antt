@@ -8,6 +8,7 @@ use Rattle.lx_proc.specs.Registers.{regs, with_regs}
 use Rattle.lx_pcalls.specs.Taking.{takes}
 use Rattle.lx_turn.specs.Reactions.{next_of, runs, is_killed, joined}
 use Rattle.lx_pcalls.specs.Ends as end
+use Rattle.lx_pcalls.specs.Stops.{is_continued_at, settles, stopped, woken}
 use Rattle.lx_turn.specs.Calls.{does}
 
 abbrev pub linux : Machine Shared UserState
@@ -20,6 +21,10 @@ linux = record {
   take = λ s p signal cause b. takes s p b signal cause;
   killed = λ s p. is_killed (maps.get s.entries p);
   join = joined;
+  continued = λ s p. is_continued_at (maps.get s.entries p);
+  settle = settles;
+  stop = stopped;
+  wake = woken;
   die = end.dies;
   release_task = end.buried;
 }

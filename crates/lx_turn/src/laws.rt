@@ -11,7 +11,7 @@ pub fn linux_is_a_machine()
 
 /// What is said of every call's answer: a program begins by execve alone, a child is born by clone alone, and a process
 /// ends by exit alone, with its status. No call and no signal changes the words of processes that have ended, and a
-/// signal that is taken ends its process by a signal.
+/// signal that is taken stops its process by a stop signal alone, and ends it by a signal.
 pub fn calls_fit()
     ensures calls { CallsFit }
     ensures signals { TakesFit }

@@ -3,7 +3,7 @@
 ghost use Rattle.std.specs.Prelude.{◌≡◌, IfOk, OnOk, OnErr, None, false};
 ghost use Rattle.rv_hart.specs.Faults.{signal_number};
 ghost use Rattle.std.specs.FinMap as maps;
-ghost use Rattle.lx_model.specs.Turn.{joins, chosen, stepped, answered, took, lives, result_word};
+ghost use Rattle.lx_model.specs.Turn.{joins, chosen, stepped, answered, halts, took, wakes, lives, result_word};
 ghost use Rattle.lx_model.specs.Machine.{call_of, with_result};
 ghost use Rattle.lx_pcalls.specs.Taking.{takes};
 ghost use Rattle.lx_turn.specs.Linux.{linux};
@@ -20,7 +20,7 @@ use crate::injection::Injection;
 use crate::signals;
 use lx_abi::{Call, Cause, Choice, Item, Signal};
 use lx_model::{PtraceEvent, Stage};
-use lx_pcalls::{Reacted, take};
+use lx_pcalls::{Reacted, is_continued, settle, stop, take, wake};
 use lx_proc::{CallReply, Shared, UserState, a0, call, make_again, return_from_call};
 use rv_hart::{FaultKind, Step, step};
 use std::alloc::{AllocError, Global};
@@ -225,27 +225,68 @@ fn do_call(
     }
 }
 
-/// A taken signal does what its action says: its process goes on, or ends.
+/// A taken signal stops its process, unless SIGCONT was sent since.
+fn halt(
+    shared: &mut Shared,
+    pid: u32,
+    _user: &UserState,
+    stage: &mut Stage,
+    item: &mut Option<Item>,
+    signal: Signal,
+) -> Went
+    requires { item.old ≡ None }
+    ensures turned { turned (halts (linux.continued shared.old pid) linux shared.old pid _user.now signal)
+        ≡ goes_on shared.new _user.now stage.new item.new }
+    ensures went { result ≡ Went.On PtraceEvent.Plain }
+{
+    if is_continued(shared, pid) {
+        settle(shared, pid);
+        *stage = Stage::Run;
+    } else {
+        stop(shared, pid, signal);
+        *stage = Stage::Stopped { signal };
+        *item = Some(Item::Stopped { pid, signal });
+    }
+    Went::On(PtraceEvent::Plain)
+}
+
+/// SIGCONT wakes a stopped process; else it stays so.
+fn wake_up(shared: &mut Shared, pid: u32, _user: &UserState, stage: &mut Stage, signal: Signal)
+    requires { stage.old ≡ stages.Stopped signal }
+    ensures turned { turned (wakes (linux.continued shared.old pid) linux shared.old pid _user.now signal)
+        ≡ goes_on shared.new _user.now stage.new None }
+{
+    if is_continued(shared, pid) {
+        wake(shared, pid);
+        *stage = Stage::Woken;
+    }
+}
+
+/// A taken signal does what its action says: its process goes on, stops or ends.
 #[inline(never)]
 fn react(
     shared: &mut Shared,
     pid: u32,
     user: &mut UserState,
     stage: &mut Stage,
+    item: &mut Option<Item>,
     signal: Signal,
     cause: Cause,
 ) -> Result<Went, AllocError>
-    ensures turned { IfOk result (λ w. turned (took linux shared.old pid signal cause
+    requires { item.old ≡ None }
+    ensures turned { IfOk result (λ w. turned (took linux shared.old pid user.old signal cause
         (takes shared.old pid user.old signal cause)) ≡ turned_by w shared.new user.new pid
-        (stages.Taken signal cause) stage.new None) }
+        (stages.Taken signal cause) stage.new item.new) }
     ensures ends { IfOk result (λ w. EndsSame w shared.old shared.new) }
     ensures console { OnErr result (shared.new.console ≡ shared.old.console) }
 {
     match take(shared, pid, user, signal, cause)? {
         Reacted::Passed => {
+            settle(shared, pid);
             *stage = Stage::Run;
             Ok(Went::On(PtraceEvent::Plain))
         }
+        Reacted::Stopped => Ok(halt(shared, pid, user, stage, item, signal)),
         Reacted::Killed(word) => Ok(Went::Ended { word }),
     }
 }
@@ -269,7 +310,12 @@ pub fn go(
     ensures console { OnErr result (shared.new.console ≡ shared.old.console) }
 {
     match *stage {
-        Stage::Born | Stage::Finished | Stage::Dropped => {
+        Stage::Born | Stage::Finished | Stage::Woken => {
+            *stage = Stage::Run;
+            Ok(Went::On(PtraceEvent::Plain))
+        }
+        Stage::Dropped | Stage::Released => {
+            settle(shared, pid);
             *stage = Stage::Run;
             Ok(Went::On(PtraceEvent::Plain))
         }
@@ -314,6 +360,10 @@ pub fn go(
             });
             Ok(Went::On(PtraceEvent::Plain))
         }
-        Stage::Taken { signal, cause } => react(shared, pid, user, stage, signal, cause),
+        Stage::Taken { signal, cause } => react(shared, pid, user, stage, item, signal, cause),
+        Stage::Stopped { signal } => {
+            wake_up(shared, pid, user, stage, signal);
+            Ok(Went::On(PtraceEvent::Plain))
+        }
     }
 }
