@@ -7,7 +7,7 @@ use Rattle.std.specs.List.{range_with_len}
 use Rattle.std.specs.FinMap as maps
 use Rattle.lx_abi.specs.declared.log.Call.{Call}
 use Rattle.lx_abi.specs.Limits.{most_moved}
-use Rattle.lx_model.specs.declared.stage.Stage.TheVariants.{Born, Run, Faulting, Entered, Doing, Replaced, Acted, Finished, Taken, Dropped}
+use Rattle.lx_model.specs.declared.stage.Stage.TheVariants.{Born, Run, Faulting, Entered, Doing, Replaced, Acted, Finished, Taken, Dropped, Stopped, Released, Woken}
 use Rattle.lx_model.specs.declared.stage.Task.{Task}
 use Rattle.lx_model.specs.declared.stage.Task.TheVariants.{Alive, Dying, Gone}
 use Rattle.lx_open.specs.Kinds.{SlotMap}
@@ -23,6 +23,7 @@ use Rattle.lx_fcalls.specs.Blocking.{would_block, read_would_block, write_would_
 use Rattle.lx_open.specs.Opens.{description}
 use Rattle.lx_pcalls.specs.Calls.{would_block as process_would_block}
 use Rattle.lx_pcalls.specs.Interruption.{is_interrupted}
+use Rattle.lx_pcalls.specs.Stops.{is_continued_at}
 use Rattle.lx_turn.specs.Reactions.{is_killed}
 use Rattle.lx_kernel.specs.Blocking.{IsBlocked, can_turn, would_block as blocks}
 use Rattle.lx_kernel.proofs.Placed.{other_put}
@@ -39,9 +40,17 @@ either_kept : (a b a' b' : Bool) → a' ≡ a → (b ≡ true → b' ≡ true) �
 either_kept true b a' b' is kept e = ap (λ x. x || b') is
 either_kept false b a' b' is kept e = ap (λ x. x || b') is ∙ kept e
 
--- no signal is pending that would end a wait
-abbrev pub is_quiet : Option Entry → Bool
-is_quiet e = not (is_killed e) && not (is_interrupted e)
+-- what ends a stop, and what ends a wait in a call
+abbrev pub is_stirred : Bool → Option Entry → Bool
+is_stirred true e = is_continued_at e
+is_stirred false e = is_interrupted e
+
+-- no signal has come that would end a stop, or a wait in a call
+abbrev pub is_quiet : Bool → Option Entry → Bool
+is_quiet stopped e = not (is_killed e) && not (is_stirred stopped e)
+
+abbrev pub StaysQuiet : Option Entry → Option Entry → Type 0
+StaysQuiet o o' = (stopped : Bool) → is_quiet stopped o ≡ true → is_quiet stopped o' ≡ true
 
 -- of a call that waits, unless a signal interrupts it or SIGKILL is pending
 no_turn : (waits killed interrupted : Bool) → (not (waits && not interrupted) || killed) ≡ false → (waits && (not killed && not interrupted)) ≡ true
@@ -57,10 +66,22 @@ then_no_turn true true interrupted e = absurd (cc e)
 then_no_turn true false true e = absurd (cc e)
 then_no_turn true false false e = refl
 
+-- of a stopped process
+no_waking : (killed continued : Bool) → (not (not continued) || killed) ≡ false → (not killed && not continued) ≡ true
+no_waking true true e = absurd (cc e)
+no_waking true false e = absurd (cc e)
+no_waking false true e = absurd (cc e)
+no_waking false false e = refl
+
+then_no_waking : (killed continued : Bool) → (not killed && not continued) ≡ true → (not (not continued) || killed) ≡ false
+then_no_waking true continued e = absurd (cc e)
+then_no_waking false true e = absurd (cc e)
+then_no_waking false false e = refl
+
 -- a process stays blocked where its call still waits and no signal has come
 pub blocked_on : (s s' : Shared) (q : ℕ) → ((call : Call) (b : UserState) → would_block s' q call b ≡ would_block s q call b)
     → ((call : Call) → process_would_block s q call ≡ true → process_would_block s' q call ≡ true)
-    → (is_quiet (maps.get s.entries q) ≡ true → is_quiet (maps.get s'.entries q) ≡ true)
+    → StaysQuiet (maps.get s.entries q) (maps.get s'.entries q)
     → (task : Task UserState) → IsBlocked s q task → IsBlocked s' q task
 unfolding can_turn blocks
 blocked_on s s' q waits awaits quiet (Alive b Born) e = absurd (cc e)
@@ -74,14 +95,20 @@ blocked_on s s' q waits awaits quiet (Alive b (Doing call)) e =
     let process' = process_would_block s' q call in
     let entry = maps.get s.entries q in
     let entry' = maps.get s'.entries q in
-    let h = both (file || process) (is_quiet entry) (no_turn (file || process) (is_killed entry) (is_interrupted entry) e) in
+    let h = both (file || process) (is_quiet false entry) (no_turn (file || process) (is_killed entry) (is_interrupted entry) e) in
     then_no_turn (file' || process') (is_killed entry') (is_interrupted entry')
-    (join (file' || process') (is_quiet entry') (either_kept file process file' process' (waits call b) (awaits call) h.0) (quiet h.1))
+    (join (file' || process') (is_quiet false entry') (either_kept file process file' process' (waits call b) (awaits call) h.0) (quiet false h.1))
 blocked_on s s' q waits awaits quiet (Alive b (Replaced call x)) e = absurd (cc e)
 blocked_on s s' q waits awaits quiet (Alive b (Acted call x replaced)) e = absurd (cc e)
 blocked_on s s' q waits awaits quiet (Alive b Finished) e = absurd (cc e)
 blocked_on s s' q waits awaits quiet (Alive b (Taken signal cause)) e = absurd (cc e)
 blocked_on s s' q waits awaits quiet (Alive b Dropped) e = absurd (cc e)
+blocked_on s s' q waits awaits quiet (Alive b (Stopped signal)) e =
+    let entry = maps.get s.entries q in
+    let entry' = maps.get s'.entries q in
+    then_no_waking (is_killed entry') (is_continued_at entry') (quiet true (no_waking (is_killed entry) (is_continued_at entry) e))
+blocked_on s s' q waits awaits quiet (Alive b Released) e = absurd (cc e)
+blocked_on s s' q waits awaits quiet (Alive b Woken) e = absurd (cc e)
 blocked_on s s' q waits awaits quiet (Dying w) e = absurd (cc e)
 blocked_on s s' q waits awaits quiet Gone e = refl
 
@@ -147,13 +174,19 @@ pub entry_other : (entries : Entries) (p q : ℕ) (f : Entry → Entry) (o : Opt
 entry_other entries p q f None ne = refl
 entry_other entries p q f (Some e) ne = other_put entries p q ne (f e)
 
-pub quiet_same : (o o' : Option Entry) → o' ≡ o → is_quiet o ≡ true → is_quiet o' ≡ true
-quiet_same o o' e h = ap is_quiet e ∙ h
+pub quiet_same : (o o' : Option Entry) → o' ≡ o → StaysQuiet o o'
+quiet_same o o' e stopped h = ap (is_quiet stopped) e ∙ h
 
-none_quiet : (b : Bool) (o : Option Entry) → is_quiet o ≡ true → is_quiet (cond b None o) ≡ true
-none_quiet true o h = refl
-none_quiet false o h = h
+none_quiet : (b : Bool) (o : Option Entry) → StaysQuiet o (cond b None o)
+none_quiet true o true h = refl
+none_quiet true o false h = refl
+none_quiet false o stopped h = h
 
 -- one that has left the table has no signal
-pub quiet_left : (entries : Entries) (n q : ℕ) → is_quiet (maps.get entries q) ≡ true → is_quiet (maps.get (maps.remove entries n) q) ≡ true
-quiet_left entries n q h = ap is_quiet (maps.get-remove nat_cmp_total entries n q) ∙ none_quiet (eq_by_cmp nat_cmp q n) (maps.get entries q) h
+pub quiet_left : (entries : Entries) (n q : ℕ) → StaysQuiet (maps.get entries q) (maps.get (maps.remove entries n) q)
+quiet_left entries n q stopped h = ap (is_quiet stopped) (maps.get-remove nat_cmp_total entries n q) ∙ none_quiet (eq_by_cmp nat_cmp q n) (maps.get entries q) stopped h
+
+-- nor does another parent bring one
+pub quiet_orphan : (e : Entry) (stopped : Bool) → is_quiet stopped (Some (record e { parent = 0 })) ≡ is_quiet stopped (Some e)
+quiet_orphan e true = refl
+quiet_orphan e false = refl

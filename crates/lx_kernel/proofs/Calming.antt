@@ -1,5 +1,5 @@
--- Turns that leave each other process blocked that was.
-use Rattle.std.proofs.Common.{◌≡◌, ℕ, Bool, true, false, cond, List, Option, Some, None, refl, sym, subst, ◌∙◌, arith}
+-- Turns that leave each other process blocked that was, but for one that is told.
+use Rattle.std.proofs.Common.{◌≡◌, ℕ, Bool, true, false, cond, List, Option, Some, None, refl, ap, sym, subst, ◌∙◌, arith}
 use Rattle.std.specs.Prelude.{◌==◌, ◌||◌, ◌*◌, is_some, is_none, not}
 use Rattle.std.specs.Option.{unwrap_or}
 use Rattle.std.specs.FinMap as maps
@@ -19,17 +19,20 @@ use Rattle.lx_abi.specs.declared.log.Call.{Call}
 use Rattle.lx_abi.specs.declared.log.Cause.{Cause}
 use Rattle.lx_abi.specs.declared.log.Item.{Item}
 use Rattle.lx_abi.specs.declared.signal.Signal.{Signal}
+use Rattle.lx_abi.specs.Signals.{is_stop}
 use Rattle.lx_abi.specs.declared.script.Choice.{Choice}
 use Rattle.lx_model.specs.Machine.{Answer, Refused, Returns, Jumps, Execs, Bears, Blocks, Ends, Took, Kills}
 use Rattle.lx_model.specs.declared.event.PtraceEvent.{PtraceEvent}
 use Rattle.lx_model.specs.declared.event.PtraceEvent.TheVariants.{Plain, Forked}
-use Rattle.lx_model.specs.Turn.{Out, turn, killed_or, lives, stepped, answered, took, joins}
+use Rattle.lx_model.specs.Turn.{Out, turn, killed_or, lives, stepped, answered, halts, took, wakes, joins}
 use Rattle.lx_model.specs.declared.stage.Stage.{Stage}
-use Rattle.lx_model.specs.declared.stage.Stage.TheVariants.{Born, Run, Faulting, Entered, Doing, Replaced, Acted, Finished, Taken, Dropped}
+use Rattle.lx_model.specs.declared.stage.Stage.TheVariants.{Born, Run, Faulting, Entered, Doing, Replaced, Acted, Finished, Taken, Dropped, Stopped, Released, Woken}
 use Rattle.lx_model.specs.declared.stage.Task.{Task}
 use Rattle.lx_model.specs.declared.stage.Task.TheVariants.{Alive, Dying, Gone}
 use Rattle.lx_sig.specs.Calls.{Outcome as SignalOutcome}
 use Rattle.lx_sig.specs.Frames.{return_fault, frame_fault}
+use Rattle.lx_sig.specs.Kill.{aim}
+use Rattle.lx_sig.specs.declared.kill.Aim.{Aim}
 use Rattle.lx_sig.specs.Reactions.{reaction as reaction_to}
 use Rattle.lx_sig.specs.Sigaction.{sigaction}
 use Rattle.lx_sig.specs.Sigprocmask.{sigprocmask}
@@ -42,16 +45,19 @@ use Rattle.lx_open.specs.Releases.{AreEndsKept}
 use Rattle.lx_proc.specs.declared.state.Entry.{Entry}
 use Rattle.lx_proc.specs.declared.state.Shared.{Shared}
 use Rattle.lx_proc.specs.declared.state.UserState.{UserState}
-use Rattle.lx_proc.specs.State.{changed, with_entries, with_memory, with_signals}
+use Rattle.lx_proc.specs.State.{Entries, changed, changed_entry, with_entries, with_memory, with_news, with_signals}
+use Rattle.lx_proc.specs.Families.{is_zombie}
 use Rattle.lx_proc.specs.Answers.{Answers, argument, low_argument, unless, given, gives}
 use Rattle.lx_exec.specs.Pages.{pages_for, rights_for}
 use Rattle.lx_fcalls.specs.Calls.{file_call}
 use Rattle.lx_pcalls.specs.Brk.{brk}
 use Rattle.lx_pcalls.specs.Calls.{process_call}
 use Rattle.lx_pcalls.specs.Clone.{clone, bears, child_entry, child_user, fork_flags, has_room}
+use Rattle.lx_pcalls.specs.Ends.{dies}
 use Rattle.lx_pcalls.specs.Getpid.{getpid}
 use Rattle.lx_pcalls.specs.Getppid.{getppid}
 use Rattle.lx_pcalls.specs.Interruption.{is_interrupted, interruptible, blocks_or_returns}
+use Rattle.lx_pcalls.specs.Kill.{kill, kills, sends, sent_to}
 use Rattle.lx_pcalls.specs.Mmap.{mmap, may_map, maps_at, map_low, map_high}
 use Rattle.lx_pcalls.specs.Munmap.{munmap, may_unmap}
 use Rattle.lx_pcalls.specs.RtSigaction.{rt_sigaction}
@@ -59,28 +65,52 @@ use Rattle.lx_pcalls.specs.RtSigprocmask.{rt_sigprocmask}
 use Rattle.lx_pcalls.specs.RtSigreturn.{rt_sigreturn}
 use Rattle.lx_pcalls.specs.SchedYield.{sched_yield}
 use Rattle.lx_pcalls.specs.Signals.{leaves}
+use Rattle.lx_pcalls.specs.Stops.{is_continued_at, stopped}
 use Rattle.lx_pcalls.specs.Taking.{takes, takes_at, reacts, segv_word}
-use Rattle.lx_pcalls.specs.Wait4.{wait4, waits, reaps, may_wait, first_child, word_in}
+use Rattle.lx_pcalls.specs.Wait4.{wait4, waits, reaps, told_child, told_entry, may_wait, no_hang, first_child, word_in}
 use Rattle.lx_turn.specs.Calls.{does, called}
 use Rattle.lx_turn.specs.Linux.{linux}
 use Rattle.lx_turn.specs.Reactions.{next_of, runs, resumed, ran_by, is_killed}
 use Rattle.lx_turn.specs.Turned.{Turned, turned}
-use Rattle.lx_kernel.specs.Waking.{is_calm_number, is_calm_task, calm_after, IsCalm, Calms, CalmTurnsWakeNobody, told_in}
-use Rattle.lx_kernel.proofs.Awaiting.{awaits_on, signalled_spared, twice_spared, reaped_spared, born_spared}
-use Rattle.lx_kernel.proofs.Blocked.{both, blocked_on, waits_same, waits_alike, inherited_alike, entry_other, quiet_same, quiet_left}
-use Rattle.lx_kernel.proofs.Ending.{end_calm, burial_calm}
-use Rattle.lx_kernel.proofs.Placed.{other_put}
+use Rattle.lx_kernel.specs.Waking.{is_calm_number, is_calm_task, calm_after, IsCalm, Calms, CalmTurnsWakeNobody, aimed_at, told_by, told_by_call, told_by_signal, told_at, told_in}
+use Rattle.lx_turn.proofs.CallsFit.{reaction_stops}
+use Rattle.lx_kernel.proofs.Awaiting.{awaits_on, signalled_spared, twice_spared, killed_spared, reaped_spared, born_spared}
+use Rattle.lx_kernel.proofs.Blocked.{is_quiet, StaysQuiet, both, blocked_on, waits_same, waits_alike, inherited_alike, entry_other, quiet_same, quiet_left}
+use Rattle.lx_kernel.proofs.Ending.{end_calm, burial_calm, stop_calm, wake_calm}
+use Rattle.lx_kernel.proofs.Placed.{either, get_put, other_put}
 
-module _ (s : Shared) (child p : ℕ) where
+-- what wait4 has told of a process is no signal to it
+quiet_silent : (e : Entry) (stopped : Bool) → is_quiet stopped (Some (with_news e None)) ≡ is_quiet stopped (Some e)
+quiet_silent e true = refl
+quiet_silent e false = refl
+
+silent_at : (m : Entries) (n q : ℕ) (o : Option Entry) → maps.get m n ≡ o → StaysQuiet (maps.get m q) (maps.get (changed_entry m n (λ e. with_news e None) o) q)
+silent_at m n q None there stopped h = h
+silent_at m n q (Some e) there stopped h =
+    let t : Entries = maps.insert m n (with_news e None) in
+    either q n (is_quiet stopped (maps.get t q) ≡ true) (q == n) refl
+    (λ same. subst (λ x. is_quiet stopped (maps.get t x) ≡ true) (sym same)
+    (ap (is_quiet stopped) (get_put m n (with_news e None)) ∙ quiet_silent e stopped ∙ sym (ap (is_quiet stopped) there) ∙ ap (λ x. is_quiet stopped (maps.get m x)) (sym same) ∙ h))
+    (λ ne. quiet_same (maps.get m q) (maps.get t q) (other_put m n q ne (with_news e None)) stopped h)
+
+quiet_told : (m : Entries) (n q : ℕ) (o : Option Entry) → StaysQuiet (maps.get m q) (maps.get (told_entry m n o) q)
+quiet_told m n q None = λ stopped h. h
+quiet_told m n q (Some e) = go (is_zombie e.life)
+  where
+    go : (b : Bool) → StaysQuiet (maps.get m q) (maps.get (cond b (maps.remove m n) (changed m n (λ e. with_news e None))) q)
+    go true = quiet_left m n q
+    go false = silent_at m n q (maps.get m n) refl
+
+module _ (s : Shared) (child p told : ℕ) where
   abbrev Calm : Shared → PtraceEvent UserState → Type 0
-  Calm t event = Calms s t child p p event
+  Calm t event = Calms s t child p told event
 
   -- nothing is changed
-  same_calm : (event : PtraceEvent UserState) → Calm s event
+  pub same_calm : (event : PtraceEvent UserState) → Calm s event
   same_calm event = λ q up ne still unborn task h. h
 
   -- the signals of the process's own entry are
-  entry_calm : (g : Entry → Signals) (event : PtraceEvent UserState) → Calm (with_entries s (changed s.entries p (λ e. with_signals e (g e)))) event
+  pub entry_calm : (g : Entry → Signals) (event : PtraceEvent UserState) → Calm (with_entries s (changed s.entries p (λ e. with_signals e (g e)))) event
   entry_calm g event = λ q up ne still unborn task h.
       let f = λ (e : Entry). with_signals e (g e) in
       let t : Shared = with_entries s (changed s.entries p f) in
@@ -99,13 +129,26 @@ module _ (s : Shared) (child p : ℕ) where
       (quiet_same (maps.get s.entries q) (maps.get t.entries q)
       (entry_other (changed s.entries p f) p q j (maps.get (changed s.entries p f) p) ne ∙ entry_other s.entries p q f (maps.get s.entries p) ne)) task h
 
-  -- a child that has been waited for leaves the table
-  left_calm : (wanted n : ℕ) (event : PtraceEvent UserState) → first_child s.entries p wanted true ≡ Some n → Calm (with_entries s (maps.remove s.entries n)) event
-  left_calm wanted n event found = λ q up ne still unborn task h.
-      let t : Shared = with_entries s (maps.remove s.entries n) in
+  -- a signal is sent to the one that is told
+  sent_calm : (signal : Signal) (event : PtraceEvent UserState) → Calm (with_entries s (changed s.entries told (λ e. sent_to e e.life p signal))) event
+  sent_calm signal event = λ q up ne still unborn task h.
+      let f = λ (e : Entry). sent_to e e.life p signal in
+      let t : Shared = with_entries s (changed s.entries told f) in
       blocked_on s t q (waits_same s t q refl)
-      (awaits_on s t q (reaped_spared s.entries p q wanted n ne found))
-      (quiet_left s.entries n q) task h
+      (awaits_on s t q (killed_spared s.entries p told q signal))
+      (quiet_same (maps.get s.entries q) (maps.get t.entries q) (entry_other s.entries told q f (maps.get s.entries told) still)) task h
+
+  sends_calm : (signal : Option Signal) (event : PtraceEvent UserState) → Calm (sends s p told signal) event
+  sends_calm None event = same_calm event
+  sends_calm (Some signal) event = sent_calm signal event
+
+  -- a child that was told of leaves the table, or has no news
+  told_calm : (wanted options n : ℕ) (event : PtraceEvent UserState) → first_child s.entries p wanted (Some options) ≡ Some n → Calm (told_child s n) event
+  told_calm wanted options n event found = λ q up ne still unborn task h.
+      let t : Shared = told_child s n in
+      blocked_on s t q (waits_same s t q refl)
+      (awaits_on s t q (reaped_spared s.entries p q wanted options n ne found))
+      (quiet_told s.entries n q (maps.get s.entries n)) task h
 
   -- a child is born under a pid that is free
   born_calm : (e : Entry) (newborn : UserState) → e.parent ≡ p → maps.get s.entries child ≡ None
@@ -120,7 +163,7 @@ module _ (s : Shared) (child p : ℕ) where
 
   -- Answers
 
-  abbrev AnswerCalms : Answers → Type 0
+  abbrev pub AnswerCalms : Answers → Type 0
   AnswerCalms (Refused e) = Unit {0}
   AnswerCalms (Returns t b x) = Calm t Plain
   AnswerCalms (Jumps t b) = Calm t Plain
@@ -148,27 +191,27 @@ module _ (s : Shared) (child p : ℕ) where
   leaves_calm b (Ok c) = entry_calm _ Plain
 
   module _ (call : Call) (b : UserState) where
-    sigaction_calm : AnswerCalms (rt_sigaction s p call b)
+    pub sigaction_calm : AnswerCalms (rt_sigaction s p call b)
     sigaction_calm = given_calm (maps.get s.entries p) esrch _ (λ (e : Entry). leaves_calm b (sigaction e.signals b.memory call))
 
-    sigprocmask_calm : AnswerCalms (rt_sigprocmask s p call b)
+    pub sigprocmask_calm : AnswerCalms (rt_sigprocmask s p call b)
     sigprocmask_calm = given_calm (maps.get s.entries p) esrch _ (λ (e : Entry). leaves_calm b (sigprocmask e.signals b.memory call))
 
-    sigreturn_calm : AnswerCalms (rt_sigreturn s p b)
+    pub sigreturn_calm : AnswerCalms (rt_sigreturn s p b)
     sigreturn_calm = given_calm (maps.get s.entries p) esrch _ (λ (e : Entry). unless_calm (not (is_some (return_fault b.memory b.hart))) efault _ (entry_calm _ Plain))
 
-    getppid_calm : AnswerCalms (getppid s p b)
+    pub getppid_calm : AnswerCalms (getppid s p b)
     getppid_calm = given_calm (maps.get s.entries p) esrch _ (λ e. same_calm Plain)
 
-    brk_calm : AnswerCalms (brk s call b)
+    pub brk_calm : AnswerCalms (brk s call b)
     unfolding brk
     brk_calm = same_calm Plain
 
-    munmap_calm : AnswerCalms (munmap s call b)
+    pub munmap_calm : AnswerCalms (munmap s call b)
     unfolding munmap
     munmap_calm = unless_calm (may_unmap (argument call 0) (argument call 1)) einval _ (same_calm Plain)
 
-    mmap_calm : AnswerCalms (mmap s call b)
+    pub mmap_calm : AnswerCalms (mmap s call b)
     unfolding mmap
     mmap_calm =
         let pages = pages_for (argument call 1) in
@@ -184,23 +227,26 @@ module _ (s : Shared) (child p : ℕ) where
         (given_calm (maps.get s.entries p) esrch (bears s child p call b)
         (λ e. unless_calm (has_room s child) eagain _ (born_calm (child_entry e p) (child_user b (argument call 1)) refl free)))
 
-    reaps_calm : (n word : ℕ) → first_child s.entries p (low_argument call 0) true ≡ Some n → AnswerCalms (reaps s b call n word)
+    abbrev tells : Option ℕ
+    tells = first_child s.entries p (low_argument call 0) (Some (argument call 2))
+
+    reaps_calm : (n word : ℕ) → tells ≡ Some n → AnswerCalms (reaps s b call n word)
     reaps_calm n word found =
-        let left : Shared = with_entries s (maps.remove s.entries n) in
-        let calm = left_calm (low_argument call 0) n Plain found in
+        let left : Shared = told_child s n in
+        let calm = told_calm (low_argument call 0) (argument call 2) n Plain found in
         either_calm (argument call 1 == 0) (Returns left b n) (gives left b (argument call 1) (to_le_bytes w32 word) n) calm
         (gives_calm left b (argument call 1) (to_le_bytes w32 word) n calm)
 
-    waits_calm : (o : Option ℕ) → first_child s.entries p (low_argument call 0) true ≡ o → AnswerCalms (waits s b call o)
-    waits_calm None found = either_calm (argument call 2 == 1) (Returns s b 0) Blocks (same_calm Plain) tt
-    waits_calm (Some n) found = given_calm (word_in (maps.get s.entries n)) echild (reaps s b call n) (λ word. reaps_calm n word found)
+    waits_calm : (o : Option ℕ) → tells ≡ o → AnswerCalms (waits s b call o)
+    waits_calm None found = either_calm (no_hang call) (Returns s b 0) Blocks (same_calm Plain) tt
+    waits_calm (Some n) found = given_calm (word_in (argument call 2) (maps.get s.entries n)) echild (reaps s b call n) (λ word. reaps_calm n word found)
 
-    wait4_calm : AnswerCalms (wait4 s p call b)
+    pub wait4_calm : AnswerCalms (wait4 s p call b)
     unfolding wait4
     wait4_calm =
         unless_calm (may_wait call) einval _
-        (unless_calm (is_some (first_child s.entries p (low_argument call 0) false)) echild _
-        (waits_calm (first_child s.entries p (low_argument call 0) true) refl))
+        (unless_calm (is_some (first_child s.entries p (low_argument call 0) None)) echild _
+        (waits_calm tells refl))
 
     -- by number
 
@@ -226,60 +272,80 @@ or_else : (P : Type 0) (a b : Bool) → (a || b) ≡ true → (a ≡ true → P)
 or_else P true b e left right = left refl
 or_else P false b e left right = right e
 
-numbered : (a b : ℕ) → (a == b) ≡ true → a ≡ b
+pub numbered : (a b : ℕ) → (a == b) ≡ true → a ≡ b
 numbered a b h = grind (arith, nat_tests)
 
 module _ (s : Shared) (child p : ℕ) (call : Call) (b : UserState) where
+  -- a kill is to whom it is sent
+  kills_calm : (o : Option Aim) → AnswerCalms s child p (aimed_at p o) (given o einval (kills s p b))
+  kills_calm None = tt
+  kills_calm (Some a) = given_calm s child p a.pid (maps.get s.entries a.pid) esrch _ (λ e. sends_calm s child p a.pid a.signal Plain)
+
+  pub kill_calm : AnswerCalms s child p (aimed_at p (aim call)) (kill s p call b)
+  unfolding kill
+  kill_calm = kills_calm (aim call)
+
+  abbrev told : ℕ
+  told = told_by_call p call
+
   abbrev CalledCalm : Type 0
-  CalledCalm = AnswerCalms s child p (called s child p call b)
+  CalledCalm = AnswerCalms s child p told (called s child p call b)
+
+  told_is : call.number ≡ 129 → told ≡ aimed_at p (aim call)
+  told_is h = rw h refl
+
+  kills_one : call.number ≡ 129 → CalledCalm
+  unfolding file_call process_call
+  kills_one h = calm_at s child p told call b 129 (kill s p call b) h (rw h refl) (rw h refl)
+      (subst (λ n. AnswerCalms s child p n (kill s p call b)) (sym (told_is h)) kill_calm)
 
   yields : call.number ≡ 124 → CalledCalm
   unfolding file_call process_call
-  yields h = calm_at s child p call b 124 (sched_yield s b) h (rw h refl) (rw h refl) (same_calm s child p Plain)
+  yields h = calm_at s child p told call b 124 (sched_yield s b) h (rw h refl) (rw h refl) (same_calm s child p told Plain)
 
   acts : call.number ≡ 134 → CalledCalm
   unfolding file_call process_call
-  acts h = calm_at s child p call b 134 (rt_sigaction s p call b) h (rw h refl) (rw h refl) (sigaction_calm s child p call b)
+  acts h = calm_at s child p told call b 134 (rt_sigaction s p call b) h (rw h refl) (rw h refl) (sigaction_calm s child p told call b)
 
   masks : call.number ≡ 135 → CalledCalm
   unfolding file_call process_call
-  masks h = calm_at s child p call b 135 (rt_sigprocmask s p call b) h (rw h refl) (rw h refl) (sigprocmask_calm s child p call b)
+  masks h = calm_at s child p told call b 135 (rt_sigprocmask s p call b) h (rw h refl) (rw h refl) (sigprocmask_calm s child p told call b)
 
   returns : call.number ≡ 139 → CalledCalm
   unfolding file_call process_call
-  returns h = calm_at s child p call b 139 (rt_sigreturn s p b) h (rw h refl) (rw h refl) (sigreturn_calm s child p call b)
+  returns h = calm_at s child p told call b 139 (rt_sigreturn s p b) h (rw h refl) (rw h refl) (sigreturn_calm s child p told call b)
 
   names_itself : call.number ≡ 172 → CalledCalm
   unfolding file_call process_call
-  names_itself h = calm_at s child p call b 172 (getpid s p b) h (rw h refl) (rw h refl) (same_calm s child p Plain)
+  names_itself h = calm_at s child p told call b 172 (getpid s p b) h (rw h refl) (rw h refl) (same_calm s child p told Plain)
 
   names_parent : call.number ≡ 173 → CalledCalm
   unfolding file_call process_call
-  names_parent h = calm_at s child p call b 173 (getppid s p b) h (rw h refl) (rw h refl) (getppid_calm s child p call b)
+  names_parent h = calm_at s child p told call b 173 (getppid s p b) h (rw h refl) (rw h refl) (getppid_calm s child p told call b)
 
   names_thread : call.number ≡ 178 → CalledCalm
   unfolding file_call process_call
-  names_thread h = calm_at s child p call b 178 (getpid s p b) h (rw h refl) (rw h refl) (same_calm s child p Plain)
+  names_thread h = calm_at s child p told call b 178 (getpid s p b) h (rw h refl) (rw h refl) (same_calm s child p told Plain)
 
   breaks : call.number ≡ 214 → CalledCalm
   unfolding file_call process_call
-  breaks h = calm_at s child p call b 214 (brk s call b) h (rw h refl) (rw h refl) (brk_calm s child p call b)
+  breaks h = calm_at s child p told call b 214 (brk s call b) h (rw h refl) (rw h refl) (brk_calm s child p told call b)
 
   unmaps : call.number ≡ 215 → CalledCalm
   unfolding file_call process_call
-  unmaps h = calm_at s child p call b 215 (munmap s call b) h (rw h refl) (rw h refl) (munmap_calm s child p call b)
+  unmaps h = calm_at s child p told call b 215 (munmap s call b) h (rw h refl) (rw h refl) (munmap_calm s child p told call b)
 
   clones : call.number ≡ 220 → maps.get s.entries child ≡ None → CalledCalm
   unfolding file_call process_call
-  clones h free = calm_at s child p call b 220 (clone s child p call b) h (rw h refl) (rw h refl) (clone_calm s child p call b free)
+  clones h free = calm_at s child p told call b 220 (clone s child p call b) h (rw h refl) (rw h refl) (clone_calm s child p told call b free)
 
   maps_pages : call.number ≡ 222 → CalledCalm
   unfolding file_call process_call
-  maps_pages h = calm_at s child p call b 222 (mmap s call b) h (rw h refl) (rw h refl) (mmap_calm s child p call b)
+  maps_pages h = calm_at s child p told call b 222 (mmap s call b) h (rw h refl) (rw h refl) (mmap_calm s child p told call b)
 
   awaits : call.number ≡ 260 → CalledCalm
   unfolding file_call process_call
-  awaits h = calm_at s child p call b 260 (wait4 s p call b) h (rw h refl) (rw h refl) (wait4_calm s child p call b)
+  awaits h = calm_at s child p told call b 260 (wait4 s p call b) h (rw h refl) (rw h refl) (wait4_calm s child p told call b)
 
   abbrev N : ℕ
   N = call.number
@@ -305,13 +371,14 @@ module _ (s : Shared) (child p : ℕ) (call : Call) (b : UserState) where
   nothing_there (Some x) e = absurd (cc e)
 
   called_calm : is_calm_number s child call.number ≡ true → CalledCalm
-  called_calm e = or_else CalledCalm (has_effects N effect.calm) _ e numbered_calm
+  called_calm e = or_else CalledCalm (has_effects N effect.calm) _ e numbered_calm (λ e.
+      or_else CalledCalm (N == 129) _ e (λ h. kills_one (numbered N 129 h))
       (λ e. let h = both (N == 220) (is_none (maps.get s.entries child)) e in
-      clones (numbered N 220 h.0) (nothing_there (maps.get s.entries child) h.1))
+      clones (numbered N 220 h.0) (nothing_there (maps.get s.entries child) h.1)))
 
-  does_calm : is_calm_number s child call.number ≡ true → AnswerCalms s child p (does s child p call b)
+  does_calm : is_calm_number s child call.number ≡ true → AnswerCalms s child p told (does s child p call b)
   unfolding does
-  does_calm e = interrupted_calm s child p b (called s child p call b) (called_calm e)
+  does_calm e = interrupted_calm s child p told b (called s child p call b) (called_calm e)
 
 -- Turns
 
@@ -319,75 +386,104 @@ module _ (s : Shared) (child p : ℕ) (call : Call) (b : UserState) where
 abbrev OutCalms : Shared → ℕ → ℕ → Task UserState → Out Shared UserState → Type 0
 OutCalms s child p task o = IsCalm s child task o.shared o.task → Calms s o.shared child p (told_in s p task) o.event
 
-ran_calm : (s : Shared) (child p : ℕ) (b : UserState) (stage : Stage) (o : Outcome) (st : Step) → OutCalms s child p (Alive b stage) (stepped linux s p b (ran_by b o st))
-ran_calm s child p b stage o step.Ran = λ e. same_calm s child p Plain
-ran_calm s child p b stage o step.Call = λ e. same_calm s child p Plain
-ran_calm s child p b stage o (step.Fault kind address) = λ e. same_calm s child p Plain
+-- an end tells nobody
+ends_calm : (s : Shared) (child p who w : ℕ) → AreEndsKept s.fds (dies s p w).fds → Calms s (dies s p w) child p who Plain
+ends_calm s child p who w kept = λ q up ne still unborn. end_calm s child p w kept q up ne ne unborn
 
-resumed_calm : (s : Shared) (child p : ℕ) (b : UserState) (stage : Stage) (at : Option Interrupted) → OutCalms s child p (Alive b stage) (stepped linux s p b (resumed b at))
-resumed_calm s child p b stage (Some at) = λ e. same_calm s child p Plain
-resumed_calm s child p b stage None = ran_calm s child p b stage (instruction b.hart b.memory) (instruction b.hart b.memory).step
+ran_calm : (s : Shared) (child p : ℕ) (b : UserState) (o : Outcome) (st : Step) → OutCalms s child p (Alive b Run) (stepped linux s p b (ran_by b o st))
+ran_calm s child p b o step.Ran = λ e. same_calm s child p p Plain
+ran_calm s child p b o step.Call = λ e. same_calm s child p p Plain
+ran_calm s child p b o (step.Fault kind address) = λ e. same_calm s child p p Plain
 
-runs_calm : (s : Shared) (child p : ℕ) (b : UserState) (stage : Stage) (signal : Option Signal) → OutCalms s child p (Alive b stage) (stepped linux s p b (runs s p b signal))
-runs_calm s child p b stage (Some signal) = λ e. entry_calm s child p _ Plain
-runs_calm s child p b stage None = resumed_calm s child p b stage b.interrupted
+resumed_calm : (s : Shared) (child p : ℕ) (b : UserState) (at : Option Interrupted) → OutCalms s child p (Alive b Run) (stepped linux s p b (resumed b at))
+resumed_calm s child p b (Some at) = λ e. same_calm s child p p Plain
+resumed_calm s child p b None = ran_calm s child p b (instruction b.hart b.memory) (instruction b.hart b.memory).step
 
-joins_calm : (s : Shared) (child p : ℕ) (first second : Option Signal) → Calms s (joins linux (joins linux s p first) p second) child p p Plain
-joins_calm s child p None None = same_calm s child p Plain
-joins_calm s child p (Some signal) None = entry_calm s child p _ Plain
-joins_calm s child p None (Some signal) = entry_calm s child p _ Plain
-joins_calm s child p (Some signal) (Some other) = entries_calm s child p _ _ Plain
+runs_calm : (s : Shared) (child p : ℕ) (b : UserState) (signal : Option Signal) → OutCalms s child p (Alive b Run) (stepped linux s p b (runs s p b signal))
+runs_calm s child p b (Some signal) = λ e. entry_calm s child p p _ Plain
+runs_calm s child p b None = resumed_calm s child p b b.interrupted
 
-answered_calm : (s : Shared) (child p : ℕ) (b : UserState) (call : Call) (a : Answer Shared UserState) → (is_calm_number s child call.number ≡ true → AnswerCalms s child p a) → OutCalms s child p (Alive b (Doing call)) (answered linux s child p b call a)
-answered_calm s child p b call (Refused x) h = λ e. same_calm s child p Plain
+pub joins_calm : (s : Shared) (child p : ℕ) (first second : Option Signal) → Calms s (joins linux (joins linux s p first) p second) child p p Plain
+joins_calm s child p None None = same_calm s child p p Plain
+joins_calm s child p (Some signal) None = entry_calm s child p p _ Plain
+joins_calm s child p None (Some signal) = entry_calm s child p p _ Plain
+joins_calm s child p (Some signal) (Some other) = entries_calm s child p p _ _ Plain
+
+answered_calm : (s : Shared) (child p : ℕ) (b : UserState) (call : Call) (a : Answer Shared UserState) → (is_calm_number s child call.number ≡ true → AnswerCalms s child p (told_by_call p call) a) → OutCalms s child p (Alive b (Doing call)) (answered linux s child p b call a)
+answered_calm s child p b call (Refused x) h = λ e. same_calm s child p (told_by_call p call) Plain
 answered_calm s child p b call (Returns t c x) h = λ e. h e
 answered_calm s child p b call (Jumps t c) h = λ e. h e
 answered_calm s child p b call (Execs t c) h = λ e. absurd (h e)
 answered_calm s child p b call (Bears t c born) h = λ e. h e
-answered_calm s child p b call Blocks h = λ e. same_calm s child p Plain
-answered_calm s child p b call (Ends w) h = λ e. end_calm s child p w e
+answered_calm s child p b call Blocks h = λ e. same_calm s child p (told_by_call p call) Plain
+answered_calm s child p b call (Ends w) h = λ e. ends_calm s child p (told_by_call p call) w e
 
-took_either : (s : Shared) (child p : ℕ) (b : UserState) (stage : Stage) (signal : Signal) (cause : Cause) (test : Bool) (x y : Took Shared UserState)
-    → OutCalms s child p (Alive b stage) (took linux s p signal cause x) → OutCalms s child p (Alive b stage) (took linux s p signal cause y) → OutCalms s child p (Alive b stage) (took linux s p signal cause (cond test x y))
-took_either s child p b stage signal cause true x y h g = h
-took_either s child p b stage signal cause false x y h g = g
+-- A signal that is taken.
 
-kills_calm : (s : Shared) (child p : ℕ) (b : UserState) (stage : Stage) (signal : Signal) (cause : Cause) (w : ℕ) → OutCalms s child p (Alive b stage) (took linux s p signal cause (Kills w))
-kills_calm s child p b stage signal cause w = λ kept. end_calm s child p w kept
+module _ (s : Shared) (child p : ℕ) (b : UserState) (signal : Signal) (cause : Cause) where
+  abbrev parent : ℕ
+  parent = told_by_signal s p signal.number
 
-reacts_calm : (s : Shared) (child p : ℕ) (e : Entry) (b : UserState) (stage : Stage) (signal : Signal) (cause : Cause) (r : Reaction) → OutCalms s child p (Alive b stage) (took linux s p signal cause (reacts s p e b signal r))
-reacts_calm s child p e b stage signal cause reaction.Passes = λ e. same_calm s child p Plain
-reacts_calm s child p e b stage signal cause reaction.Ends = kills_calm s child p b stage signal cause signal.number
-reacts_calm s child p e b stage signal cause (reaction.Handles a) = took_either s child p b stage signal cause (is_some (frame_fault b.memory b.hart)) _ _ (kills_calm s child p b stage signal cause segv_word) (λ e. entry_calm s child p _ Plain)
+  abbrev TookCalm : Took Shared UserState → Type 0
+  TookCalm t = OutCalms s child p (Alive b (Taken signal cause)) (took linux s p b signal cause t)
 
-takes_at_calm : (s : Shared) (child p : ℕ) (b : UserState) (stage : Stage) (signal : Signal) (cause : Cause) (o : Option Entry) → OutCalms s child p (Alive b stage) (took linux s p signal cause (takes_at o s p b signal cause))
-takes_at_calm s child p b stage signal cause None = λ e. same_calm s child p Plain
-takes_at_calm s child p b stage signal cause (Some e) = reacts_calm s child p e b stage signal cause (reaction_to e.signals signal cause)
+  took_either : (test : Bool) (x y : Took Shared UserState) → TookCalm x → TookCalm y → TookCalm (cond test x y)
+  took_either true x y h g = h
+  took_either false x y h g = g
 
-takes_calm : (s : Shared) (child p : ℕ) (b : UserState) (stage : Stage) (signal : Signal) (cause : Cause) → OutCalms s child p (Alive b stage) (took linux s p signal cause (takes s p b signal cause))
-unfolding takes
-takes_calm s child p b stage signal cause = takes_at_calm s child p b stage signal cause (maps.get s.entries p)
+  kill_took : (w : ℕ) → TookCalm (Kills w)
+  kill_took w = λ kept. ends_calm s child p parent w kept
+
+  -- its parent is told of a stop
+  pub stop_told : is_stop signal.number ≡ true → Calms s (stopped s p signal) child p parent Plain
+  stop_told h = subst (λ t. Calms s (stopped s p signal) child p (cond t (told_by p (maps.get s.entries p)) p) Plain) (sym h) (stop_calm s child p signal)
+
+  halts_calm : (continued : Bool) → is_stop signal.number ≡ true → OutCalms s child p (Alive b (Taken signal cause)) (halts continued linux s p b signal)
+  halts_calm true h = λ e. entry_calm s child p parent _ Plain
+  halts_calm false h = λ e. stop_told h
+
+  reacts_calm : (e : Entry) (r : Reaction) → (r ≡ reaction.Stops → is_stop signal.number ≡ true) → TookCalm (reacts s p e b signal r)
+  reacts_calm e reaction.Passes h = λ e. entry_calm s child p parent _ Plain
+  reacts_calm e reaction.Stops h = halts_calm (is_continued_at (maps.get s.entries p)) (h refl)
+  reacts_calm e reaction.Ends h = kill_took signal.number
+  reacts_calm e (reaction.Handles a) h = took_either (is_some (frame_fault b.memory b.hart)) _ _ (kill_took segv_word) (λ e. entries_calm s child p parent _ _ Plain)
+
+  takes_at_calm : (o : Option Entry) → TookCalm (takes_at o s p b signal cause)
+  takes_at_calm None = λ e. entry_calm s child p parent _ Plain
+  takes_at_calm (Some e) = reacts_calm e (reaction_to e.signals signal cause) (reaction_stops e signal cause)
+
+  takes_calm : TookCalm (takes s p b signal cause)
+  unfolding takes
+  takes_calm = takes_at_calm (maps.get s.entries p)
+
+-- and of its end, by SIGCONT
+wakes_calm : (s : Shared) (child p : ℕ) (b : UserState) (signal : Signal) (continued : Bool) → OutCalms s child p (Alive b (Stopped signal)) (wakes continued linux s p b signal)
+wakes_calm s child p b signal true = λ e. wake_calm s child p
+wakes_calm s child p b signal false = λ e. same_calm s child p (told_by p (maps.get s.entries p)) Plain
 
 lives_calm : (c : Choice) (s : Shared) (child p : ℕ) (b : UserState) (stage : Stage) → OutCalms s child p (Alive b stage) (lives linux c s child p b stage)
-lives_calm c s child p b Born = λ e. same_calm s child p Plain
-lives_calm c s child p b Run = runs_calm s child p b Run (next_of (maps.get s.entries p))
-lives_calm c s child p b (Faulting signal cause) = λ e. same_calm s child p Plain
+lives_calm c s child p b Born = λ e. same_calm s child p p Plain
+lives_calm c s child p b Run = runs_calm s child p b (next_of (maps.get s.entries p))
+lives_calm c s child p b (Faulting signal cause) = λ e. same_calm s child p p Plain
 lives_calm c s child p b (Entered joined) = λ e. joins_calm s child p joined c.signal
 lives_calm c s child p b (Doing call) = answered_calm s child p b call (does s child p call b) (does_calm s child p call b)
-lives_calm c s child p b (Replaced call x) = λ e. same_calm s child p Plain
-lives_calm c s child p b (Acted call x replaced) = λ e. same_calm s child p Plain
-lives_calm c s child p b Finished = λ e. same_calm s child p Plain
-lives_calm c s child p b (Taken signal cause) = takes_calm s child p b (Taken signal cause) signal cause
-lives_calm c s child p b Dropped = λ e. same_calm s child p Plain
+lives_calm c s child p b (Replaced call x) = λ e. same_calm s child p p Plain
+lives_calm c s child p b (Acted call x replaced) = λ e. same_calm s child p p Plain
+lives_calm c s child p b Finished = λ e. same_calm s child p p Plain
+lives_calm c s child p b (Taken signal cause) = takes_calm s child p b signal cause
+lives_calm c s child p b Dropped = λ e. entry_calm s child p p _ Plain
+lives_calm c s child p b (Stopped signal) = wakes_calm s child p b signal (is_continued_at (maps.get s.entries p))
+lives_calm c s child p b Released = λ e. entry_calm s child p p _ Plain
+lives_calm c s child p b Woken = λ e. same_calm s child p p Plain
 
 killed_calm : (killed : Bool) (c : Choice) (s : Shared) (child p : ℕ) (b : UserState) (stage : Stage) → OutCalms s child p (Alive b stage) (killed_or killed linux c s child p b stage)
-killed_calm true c s child p b stage = λ e. end_calm s child p 9 e
+killed_calm true c s child p b stage = λ e. ends_calm s child p (told_at s p stage) 9 e
 killed_calm false c s child p b stage = lives_calm c s child p b stage
 
 pub turn_calm : CalmTurnsWakeNobody
 turn_calm c s child p (Alive b stage) = killed_calm (is_killed (maps.get s.entries p)) c s child p b stage
 turn_calm c s child p (Dying w) = λ e. burial_calm s child p w
-turn_calm c s child p Gone = λ e. same_calm s child p Plain
+turn_calm c s child p Gone = λ e. same_calm s child p p Plain
 
 -- what code looks at before a turn and after it
 pub calm_is : (s s' : Shared) (child : ℕ) (task task' : Task UserState) (calm ends_kept : Bool) → calm ≡ is_calm_task s child task → (ends_kept ≡ true → AreEndsKept s.fds s'.fds)

@@ -1,12 +1,17 @@
--- The end of a process, and its burial, leave each other process blocked that was.
+-- The end of a process, its burial, its stop and its waking leave each other process blocked that was.
 use Rattle.std.proofs.Common.{◌≡◌, ℕ, Bool, true, false, cond, List, [], ◌∷◌, Option, Some, None, refl, ap, sym, subst, ◌∙◌, arith}
 use Rattle.std.specs.Prelude.{◌==◌, ◌||◌, ◌<◌, nat_lt, fold, if◌then◌else◌}
 use Rattle.std.specs.List.{filter, range_with_len}
 use Rattle.std.specs.FinMap as maps
 use Rattle.lx_model.specs.declared.event.PtraceEvent.TheVariants.{Plain}
+use Rattle.lx_abi.specs.declared.log.Cause.{Cause}
+use Rattle.lx_abi.specs.declared.log.Cause.TheVariants as cause
+use Rattle.lx_abi.specs.declared.signal.Signal.{Signal}
+use Rattle.lx_sig.specs.Pending.{settled}
 use Rattle.lx_proc.specs.declared.state.Entry.{Entry}
+use Rattle.lx_proc.specs.declared.state.News.TheVariants as news
 use Rattle.lx_proc.specs.declared.state.Shared.{Shared}
-use Rattle.lx_proc.specs.State.{Entries, changed, with_entries}
+use Rattle.lx_proc.specs.State.{Entries, changed, with_entries, with_news, with_signals}
 use Rattle.lx_files.specs.declared.tree.Tree.{Tree}
 use Rattle.lx_open.specs.Kinds.{SlotMap}
 use Rattle.lx_open.specs.Opens.{pair, slot, description, is_named, has_readers, has_writers}
@@ -17,11 +22,12 @@ use Rattle.lx_open.specs.declared.description.Object.TheVariants.{Input, Console
 use Rattle.lx_open.specs.declared.description.Slot.{Slot}
 use Rattle.lx_open.specs.declared.fd_table.FdTable.{FdTable}
 use Rattle.lx_proc.specs.declared.state.Life.TheVariants.{Zombie}
-use Rattle.lx_pcalls.specs.Ends.{dies, buried, buried_entry, orphan, orphaned, released, released_entry, retired_by, told, wants_no_news, with_life}
+use Rattle.lx_pcalls.specs.Ends.{dies, buried, buried_entry, orphan, orphaned, released, released_entry, retired_by, told, told_of, wants_no_news, with_life}
+use Rattle.lx_pcalls.specs.Stops.{heard_by, stopped as stops, stop_entry, wake_entry, woken}
 use Rattle.lx_proc.specs.Families.{is_zombie}
 use Rattle.lx_kernel.specs.Waking.{Calms, told_by}
-use Rattle.lx_kernel.proofs.Awaiting.{awaits_on, died_spared, buried_spared}
-use Rattle.lx_kernel.proofs.Blocked.{is_quiet, other_pair, blocked_on, waits_same, waits_alike, entry_other, quiet_same, quiet_left}
+use Rattle.lx_kernel.proofs.Awaiting.{awaits_on, died_spared, buried_spared, stopped_spared, woken_spared}
+use Rattle.lx_kernel.proofs.Blocked.{is_quiet, other_pair, blocked_on, waits_same, waits_alike, entry_other, quiet_same, quiet_left, quiet_orphan}
 use Rattle.lx_kernel.proofs.Placed.{either, get_put, other_put, other_left}
 
 -- its descriptors are no other's
@@ -85,54 +91,56 @@ end_calm s child p w kept = λ q up ne still unborn task h.
     blocked_on s t q
     (waits_alike s t q t.fds.slots (λ i. record { slots = t.fds.slots; descriptions = kept.0 i; pipes = kept.1 i }) (λ fd. all_other s.tree s.fds p q fd ne (nat_lt fd 256) refl))
     (awaits_on s t q (died_spared s.entries p q w))
-    (quiet_same (maps.get s.entries q) (maps.get t.entries q) (entry_other s.entries p q _ (maps.get s.entries p) ne)) task h
+    (quiet_same (maps.get s.entries q) (maps.get t.entries q)
+    (entry_other (changed s.entries p (λ e. with_news e None)) p q _ (maps.get (changed s.entries p (λ e. with_news e None)) p) ne ∙ entry_other s.entries p q _ (maps.get s.entries p) ne)) task h
 
 -- Burial
 
-abbrev Quiet : Entries → ℕ → Type 0
-Quiet m q = is_quiet (maps.get m q) ≡ true
+module _ (stopped : Bool) where
+  abbrev Quiet : Entries → ℕ → Type 0
+  Quiet m q = is_quiet stopped (maps.get m q) ≡ true
 
-adopted_quiet : (m : Entries) (n q : ℕ) (e : Entry) (b : Bool) → maps.get m n ≡ Some e → Quiet m q → Quiet (orphan m n e b) q
-adopted_quiet m n q e true there h = quiet_left m n q h
-adopted_quiet m n q e false there h = either q n (Quiet (maps.insert m n (record e { parent = 0 })) q) (q == n) refl
-    (λ same. subst (λ x. Quiet (maps.insert m n (record e { parent = 0 })) x) (sym same)
-    (ap is_quiet (get_put m n (record e { parent = 0 })) ∙ sym (ap is_quiet there) ∙ ap (λ x. is_quiet (maps.get m x)) (sym same) ∙ h))
-    (λ ne. quiet_same (maps.get m q) (maps.get (maps.insert m n (record e { parent = 0 })) q) (other_put m n q ne (record e { parent = 0 })) h)
+  adopted_quiet : (m : Entries) (n q : ℕ) (e : Entry) (b : Bool) → maps.get m n ≡ Some e → Quiet m q → Quiet (orphan m n e b) q
+  adopted_quiet m n q e true there h = quiet_left m n q stopped h
+  adopted_quiet m n q e false there h = either q n (Quiet (maps.insert m n (record e { parent = 0 })) q) (q == n) refl
+      (λ same. subst (λ x. Quiet (maps.insert m n (record e { parent = 0 })) x) (sym same)
+      (ap (is_quiet stopped) (get_put m n (record e { parent = 0 })) ∙ quiet_orphan e stopped ∙ sym (ap (is_quiet stopped) there) ∙ ap (λ x. is_quiet stopped (maps.get m x)) (sym same) ∙ h))
+      (λ ne. quiet_same (maps.get m q) (maps.get (maps.insert m n (record e { parent = 0 })) q) (other_put m n q ne (record e { parent = 0 })) stopped h)
 
-mine_quiet : (m : Entries) (n q : ℕ) (e : Entry) (b : Bool) → maps.get m n ≡ Some e → Quiet m q → Quiet (if b then orphan m n e (is_zombie e.life) else m) q
-mine_quiet m n q e true there h = adopted_quiet m n q e (is_zombie e.life) there h
-mine_quiet m n q e false there h = h
+  mine_quiet : (m : Entries) (n q : ℕ) (e : Entry) (b : Bool) → maps.get m n ≡ Some e → Quiet m q → Quiet (if b then orphan m n e (is_zombie e.life) else m) q
+  mine_quiet m n q e true there h = adopted_quiet m n q e (is_zombie e.life) there h
+  mine_quiet m n q e false there h = h
 
-entry_quiet : (m : Entries) (p n q : ℕ) (o : Option Entry) → maps.get m n ≡ o → Quiet m q → Quiet (released_entry m p n o) q
-entry_quiet m p n q None there h = h
-entry_quiet m p n q (Some e) there h = mine_quiet m n q e (e.parent == p) there h
+  entry_quiet : (m : Entries) (p n q : ℕ) (o : Option Entry) → maps.get m n ≡ o → Quiet m q → Quiet (released_entry m p n o) q
+  entry_quiet m p n q None there h = h
+  entry_quiet m p n q (Some e) there h = mine_quiet m n q e (e.parent == p) there h
 
-released_quiet : (m : Entries) (p n q : ℕ) → Quiet m q → Quiet (released p m n) q
-unfolding released
-released_quiet m p n q h = entry_quiet m p n q (maps.get m n) refl h
+  released_quiet : (m : Entries) (p n q : ℕ) → Quiet m q → Quiet (released p m n) q
+  unfolding released
+  released_quiet m p n q h = entry_quiet m p n q (maps.get m n) refl h
 
-each_quiet : (m : Entries) (p q : ℕ) (ns : List ℕ) → Quiet m q → Quiet (fold (released p) m ns) q
-each_quiet m p q [] h = h
-each_quiet m p q (n ∷ ns) h = each_quiet (released p m n) p q ns (released_quiet m p n q h)
+  each_quiet : (m : Entries) (p q : ℕ) (ns : List ℕ) → Quiet m q → Quiet (fold (released p) m ns) q
+  each_quiet m p q [] h = h
+  each_quiet m p q (n ∷ ns) h = each_quiet (released p m n) p q ns (released_quiet m p n q h)
 
-told_quiet : (m : Entries) (p w parent q : ℕ) (b : Bool) → (q ≡ p → ⊥) → (q ≡ parent → ⊥) → Quiet m q
-    → Quiet (if b then maps.remove m p else changed (changed m parent (λ e. told e p w)) p (λ e. with_life e (Zombie w))) q
-told_quiet m p w parent q true ne other h = quiet_left m p q h
-told_quiet m p w parent q false ne other h =
-    let told_parent = changed m parent (λ e. told e p w) in
-    quiet_same (maps.get m q) (maps.get (changed told_parent p (λ e. with_life e (Zombie w))) q)
-    (entry_other told_parent p q (λ e. with_life e (Zombie w)) (maps.get told_parent p) ne ∙ entry_other m parent q (λ e. told e p w) (maps.get m parent) other) h
+  told_quiet : (m : Entries) (p w parent q : ℕ) (b : Bool) → (q ≡ p → ⊥) → (q ≡ parent → ⊥) → Quiet m q
+      → Quiet (if b then maps.remove m p else changed (changed m parent (λ e. told e p w)) p (λ e. with_life e (Zombie w))) q
+  told_quiet m p w parent q true ne other h = quiet_left m p q stopped h
+  told_quiet m p w parent q false ne other h =
+      let told_parent = changed m parent (λ e. told e p w) in
+      quiet_same (maps.get m q) (maps.get (changed told_parent p (λ e. with_life e (Zombie w))) q)
+      (entry_other told_parent p q (λ e. with_life e (Zombie w)) (maps.get told_parent p) ne ∙ entry_other m parent q (λ e. told e p w) (maps.get m parent) other) stopped h
 
-retired_quiet : (m : Entries) (p w parent q : ℕ) (o : Option Entry) → (q ≡ p → ⊥) → (q ≡ parent → ⊥) → Quiet m q → Quiet (retired_by m p w parent o) q
-retired_quiet m p w parent q None ne other h = quiet_left m p q h
-retired_quiet m p w parent q (Some e) ne other h = told_quiet m p w parent q (wants_no_news e) ne other h
+  retired_quiet : (m : Entries) (p w parent q : ℕ) (o : Option Entry) → (q ≡ p → ⊥) → (q ≡ parent → ⊥) → Quiet m q → Quiet (retired_by m p w parent o) q
+  retired_quiet m p w parent q None ne other h = quiet_left m p q stopped h
+  retired_quiet m p w parent q (Some e) ne other h = told_quiet m p w parent q (wants_no_news e) ne other h
 
-buried_quiet : (m : Entries) (p w q : ℕ) (o : Option Entry) → (q ≡ p → ⊥) → (q ≡ told_by p o → ⊥) → Quiet m q → Quiet (buried_entry m p w o) q
-unfolding orphaned
-buried_quiet m p w q None ne other h = h
-buried_quiet m p w q (Some e) ne other h =
-    let left = orphaned m p in
-    retired_quiet left p w e.parent q (maps.get left e.parent) ne other (each_quiet m p q (filter (nat_lt 0) (maps.keys m)) h)
+  buried_quiet : (m : Entries) (p w q : ℕ) (o : Option Entry) → (q ≡ p → ⊥) → (q ≡ told_by p o → ⊥) → Quiet m q → Quiet (buried_entry m p w o) q
+  unfolding orphaned
+  buried_quiet m p w q None ne other h = h
+  buried_quiet m p w q (Some e) ne other h =
+      let left = orphaned m p in
+      retired_quiet left p w e.parent q (maps.get left e.parent) ne other (each_quiet m p q (filter (nat_lt 0) (maps.keys m)) h)
 
 -- who isn't told of a burial stays blocked
 pub burial_calm : (s : Shared) (child p w : ℕ) → Calms s (buried s p w) child p (told_by p (maps.get s.entries p)) Plain
@@ -141,4 +149,49 @@ burial_calm s child p w = λ q up ne other unborn task h.
     let t : Shared = with_entries s (buried_entry s.entries p w (maps.get s.entries p)) in
     blocked_on s t q (waits_same s t q refl)
     (awaits_on s t q (buried_spared p q ne up s.entries w (maps.get s.entries p) refl other))
-    (buried_quiet s.entries p w q (maps.get s.entries p) ne other) task h
+    (λ stopped. buried_quiet stopped s.entries p w q (maps.get s.entries p) ne other) task h
+
+-- Group stops
+
+module _ (m : Entries) (q : ℕ) where
+  heard_if : (parent : ℕ) (c : Cause) (b : Bool) → (q ≡ parent → ⊥) → maps.get (if b then m else changed m parent (λ e. told_of e c)) q ≡ maps.get m q
+  heard_if parent c true other = refl
+  heard_if parent c false other = entry_other m parent q (λ e. told_of e c) (maps.get m parent) other
+
+  heard_other : (parent : ℕ) (c : Cause) (o : Option Entry) → (q ≡ parent → ⊥) → maps.get (heard_by m parent c o) q ≡ maps.get m q
+  heard_other parent c None other = refl
+  heard_other parent c (Some e) other = heard_if parent c (wants_no_news e) other
+
+-- the entry of one that isn't told stays as it is
+stopped_other : (m : Entries) (p q : ℕ) (signal : Signal) (o : Option Entry) → (q ≡ p → ⊥) → (q ≡ told_by p o → ⊥) → maps.get (stop_entry m p signal o) q ≡ maps.get m q
+stopped_other m p q signal None ne other = refl
+stopped_other m p q signal (Some e) ne other =
+    let at : Entries = changed m p (λ e. with_news e (Some (news.Stopped signal))) in
+    heard_other at q e.parent (cause.Stopped p signal.number) (maps.get at e.parent) other
+    ∙ entry_other m p q (λ e. with_news e (Some (news.Stopped signal))) (maps.get m p) ne
+
+woken_other : (m : Entries) (p q : ℕ) (o : Option Entry) → (q ≡ p → ⊥) → (q ≡ told_by p o → ⊥) → maps.get (wake_entry m p o) q ≡ maps.get m q
+woken_other m p q None ne other = refl
+woken_other m p q (Some e) ne other =
+    let free : Entries = changed m p (λ e. with_signals e (settled e.signals)) in
+    let at : Entries = changed free p (λ e. with_news e (Some news.Continued)) in
+    heard_other at q e.parent (cause.Continued p) (maps.get at e.parent) other
+    ∙ entry_other free p q (λ e. with_news e (Some news.Continued)) (maps.get free p) ne
+    ∙ entry_other m p q (λ e. with_signals e (settled e.signals)) (maps.get m p) ne
+
+-- who isn't told of a stop, or of its end, stays blocked
+pub stop_calm : (s : Shared) (child p : ℕ) (signal : Signal) → Calms s (stops s p signal) child p (told_by p (maps.get s.entries p)) Plain
+unfolding stops
+stop_calm s child p signal = λ q up ne other unborn task h.
+    let t : Shared = with_entries s (stop_entry s.entries p signal (maps.get s.entries p)) in
+    blocked_on s t q (waits_same s t q refl)
+    (awaits_on s t q (stopped_spared s.entries p q signal (maps.get s.entries p) refl other))
+    (quiet_same (maps.get s.entries q) (maps.get t.entries q) (stopped_other s.entries p q signal (maps.get s.entries p) ne other)) task h
+
+pub wake_calm : (s : Shared) (child p : ℕ) → Calms s (woken s p) child p (told_by p (maps.get s.entries p)) Plain
+unfolding woken
+wake_calm s child p = λ q up ne other unborn task h.
+    let t : Shared = with_entries s (wake_entry s.entries p (maps.get s.entries p)) in
+    blocked_on s t q (waits_same s t q refl)
+    (awaits_on s t q (woken_spared s.entries p q (maps.get s.entries p) refl other))
+    (quiet_same (maps.get s.entries q) (maps.get t.entries q) (woken_other s.entries p q (maps.get s.entries p) ne other)) task h

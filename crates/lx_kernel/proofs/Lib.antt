@@ -4,6 +4,7 @@ pub mod Booting
 pub mod Calming
 pub mod Continuing
 pub mod Ending
+pub mod FilesApart
 pub mod Moving
 pub mod NextAble
 pub mod Placed
@@ -12,6 +13,7 @@ pub mod Reaching
 pub mod Recording
 pub mod Running
 pub mod Sleeping
+pub mod Stopping
 pub mod Turning
 pub mod Waiting
 pub mod Watching

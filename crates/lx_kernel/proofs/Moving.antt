@@ -7,10 +7,10 @@ use Rattle.lx_abi.specs.declared.log.Cause.{Cause}
 use Rattle.lx_abi.specs.declared.signal.Signal.{Signal}
 use Rattle.lx_abi.specs.declared.log.Mode.TheVariants as mode
 use Rattle.lx_abi.specs.declared.script.Choice.{Choice}
-use Rattle.lx_model.specs.Machine.{Answer, Refused, Returns, Jumps, Execs, Bears, Blocks, Ends, Took, Passes, Kills}
-use Rattle.lx_model.specs.Turn.{turn, killed_or, lives, answered, took, chosen, result_word, stage_mode}
+use Rattle.lx_model.specs.Machine.{Answer, Refused, Returns, Jumps, Execs, Bears, Blocks, Ends, Took, Passes, Stops, Kills}
+use Rattle.lx_model.specs.Turn.{turn, killed_or, lives, answered, halts, took, wakes, chosen, result_word, stage_mode}
 use Rattle.lx_model.specs.declared.stage.Stage.{Stage}
-use Rattle.lx_model.specs.declared.stage.Stage.TheVariants.{Born, Run, Faulting, Entered, Doing, Replaced, Acted, Finished, Taken, Dropped}
+use Rattle.lx_model.specs.declared.stage.Stage.TheVariants.{Born, Run, Faulting, Entered, Doing, Replaced, Acted, Finished, Taken, Dropped, Stopped, Released, Woken}
 use Rattle.lx_model.specs.declared.stage.Task.{Task}
 use Rattle.lx_model.specs.declared.stage.Task.TheVariants.{Alive, Dying, Gone}
 use Rattle.lx_model.specs.Finite.{task_mode, at}
@@ -20,6 +20,7 @@ use Rattle.lx_abi.specs.Log.{entries}
 use Rattle.lx_proc.specs.declared.state.Shared.{Shared}
 use Rattle.lx_proc.specs.declared.state.UserState.{UserState}
 use Rattle.lx_proc.specs.Answers.{is_blocked}
+use Rattle.lx_pcalls.specs.Stops.{is_continued_at}
 use Rattle.lx_pcalls.specs.Taking.{takes}
 use Rattle.lx_kernel.specs.Blocking.{would_block, waits, can_turn}
 use Rattle.lx_kernel.specs.Scheduling.{can_turn_in}
@@ -52,9 +53,14 @@ chosen_moves : (b : UserState) (call : Call) (o : Option ℕ) → task_mode (Ali
 chosen_moves b call None = λ e. cc
 chosen_moves b call (Some x) = λ e. cc
 
-took_moves : (s : Shared) (p : ℕ) (signal : Signal) (cause : Cause) (t : Took Shared UserState) → task_mode (took linux s p signal cause t).task ≢ Some mode.Taken
-took_moves s p signal cause (Passes t c) = λ e. cc
-took_moves s p signal cause (Kills w) = λ e. cc
+halts_move : (continued : Bool) (s : Shared) (p : ℕ) (b : UserState) (signal : Signal) → task_mode (halts continued linux s p b signal).task ≢ Some mode.Taken
+halts_move true s p b signal = λ e. cc
+halts_move false s p b signal = λ e. cc
+
+took_moves : (s : Shared) (p : ℕ) (b : UserState) (signal : Signal) (cause : Cause) (t : Took Shared UserState) → task_mode (took linux s p b signal cause t).task ≢ Some mode.Taken
+took_moves s p b signal cause (Passes t c) = λ e. cc
+took_moves s p b signal cause Stops = halts_move (is_continued_at (maps.get s.entries p)) s p b signal
+took_moves s p b signal cause (Kills w) = λ e. cc
 
 abbrev IsMoved : Choice → Shared → ℕ → ℕ → UserState → Stage → Task UserState → Type 0
 IsMoved c s child p b stage after = (task_mode (Alive b stage) ≡ Some mode.Run) ⊎ (task_mode after ≢ task_mode (Alive b stage))
@@ -68,6 +74,10 @@ doing_turns : (c : Choice) (s : Shared) (child p : ℕ) (b : UserState) (call : 
 doing_turns c s child p b call false is = inr (answered_moves s child p b call (does s child p call b) (does_waits s child p call b ∙ is))
 doing_turns c s child p b call true is = λ h. elim h [ inl e ↦ absurd (cc e) | inr ne ↦ absurd (ne (answered_waits s child p b call (does s child p call b) (does_waits s child p call b ∙ is))) ]
 
+stopped_turns : (c : Choice) (s : Shared) (child p : ℕ) (b : UserState) (signal : Signal) (continued : Bool) → Turns (not continued) c s child p b (Stopped signal) (wakes continued linux s p b signal).task
+stopped_turns c s child p b signal true = inr (λ e. cc)
+stopped_turns c s child p b signal false = λ h. elim h [ inl e ↦ absurd (cc e) | inr ne ↦ absurd (ne refl) ]
+
 lives_turns : (c : Choice) (s : Shared) (child p : ℕ) (b : UserState) (stage : Stage) → Turns (waits s p b stage) c s child p b stage (lives linux c s child p b stage).task
 lives_turns c s child p b Born = inr (λ e. cc)
 lives_turns c s child p b Run = inl refl
@@ -77,8 +87,11 @@ lives_turns c s child p b (Doing call) = doing_turns c s child p b call (would_b
 lives_turns c s child p b (Replaced call x) = inr (λ e. cc)
 lives_turns c s child p b (Acted call x replaced) = inr (λ e. cc)
 lives_turns c s child p b Finished = inr (λ e. cc)
-lives_turns c s child p b (Taken signal cause) = inr (took_moves s p signal cause (takes s p b signal cause))
+lives_turns c s child p b (Taken signal cause) = inr (took_moves s p b signal cause (takes s p b signal cause))
 lives_turns c s child p b Dropped = inr (λ e. cc)
+lives_turns c s child p b (Stopped signal) = stopped_turns c s child p b signal (is_continued_at (maps.get s.entries p))
+lives_turns c s child p b Released = inr (λ e. cc)
+lives_turns c s child p b Woken = inr (λ e. cc)
 
 not_dying : (stage : Stage) → Some mode.Dying ≢ Some (stage_mode stage)
 not_dying Born = λ e. cc
@@ -91,6 +104,9 @@ not_dying (Acted call x replaced) = λ e. cc
 not_dying Finished = λ e. cc
 not_dying (Taken signal cause) = λ e. cc
 not_dying Dropped = λ e. cc
+not_dying (Stopped signal) = λ e. cc
+not_dying Released = λ e. cc
+not_dying Woken = λ e. cc
 
 -- a turn changes something exactly where it can
 abbrev Moves : Bool → Type 0 → Type 0

@@ -13,15 +13,15 @@ use Rattle.lx_abi.specs.declared.log.Call.{Call}
 use Rattle.lx_abi.specs.declared.log.Cause.{Cause}
 use Rattle.lx_abi.specs.declared.script.Choice.{Choice}
 use Rattle.lx_abi.specs.declared.signal.Signal.{Signal}
-use Rattle.lx_model.specs.Machine.{Answer, Refused, Returns, Jumps, Execs, Bears, Blocks, Ends, Took, Passes, Kills}
+use Rattle.lx_model.specs.Machine.{Answer, Refused, Returns, Jumps, Execs, Bears, Blocks, Ends, Took, Passes, Stops, Kills}
 use Rattle.lx_model.specs.declared.event.PtraceEvent.{PtraceEvent}
 use Rattle.lx_model.specs.declared.event.PtraceEvent.TheVariants.{Plain, Execed, Forked}
-use Rattle.lx_model.specs.Turn.{Out, turn, killed_or, lives, joins, stepped, answered, took}
+use Rattle.lx_model.specs.Turn.{Out, turn, killed_or, lives, joins, stepped, answered, halts, took, wakes}
 use Rattle.lx_model.specs.Kernel.{Script, traces, choice_at, first_kernel, kernel_run}
 use Rattle.lx_model.specs.Finite.{Is, at, item_of, Running, ran, bore, turn_out, running_turn, running, first_running}
 use Rattle.lx_model.specs.Laws.{KernelsBeginAlike, KernelsRunAlike}
 use Rattle.lx_model.specs.declared.stage.Stage.{Stage}
-use Rattle.lx_model.specs.declared.stage.Stage.TheVariants.{Born, Run, Faulting, Entered, Doing, Replaced, Acted, Finished, Taken, Dropped}
+use Rattle.lx_model.specs.declared.stage.Stage.TheVariants.{Born, Run, Faulting, Entered, Doing, Replaced, Acted, Finished, Taken, Dropped, Stopped, Released, Woken}
 use Rattle.lx_model.specs.declared.stage.Task.{Task}
 use Rattle.lx_model.specs.declared.stage.Task.TheVariants.{Alive, Dying, Gone}
 use Rattle.lx_proc.specs.declared.state.Shared.{Shared}
@@ -33,6 +33,7 @@ use Rattle.lx_turn.specs.Fitting.{Fits, TookFits}
 use Rattle.lx_boot.specs.First.{first_shared}
 use Rattle.lx_kernel.specs.First.{first_run}
 use Rattle.lx_kernel.specs.Laws.{after_all, with_end, logged_words, HasLoggedWords, TurnsLogWords, BootsLogWords, KernelsLogWords}
+use Rattle.lx_pcalls.specs.Stops.{is_continued_at, stopped, woken}
 use Rattle.lx_pcalls.specs.Taking.{takes}
 use Rattle.lx_turn.specs.Linux.{linux}
 use Rattle.lx_turn.specs.Reactions.{next_of, runs as runs_in, resumed, ran_by, is_killed}
@@ -68,9 +69,26 @@ answered_records s child p b call (Bears t c born) h = h.words
 answered_records s child p b call Blocks h = refl
 answered_records s child p b call (Ends w) h = refl
 
-took_records : (s : Shared) (p : ℕ) (signal : Signal) (cause : Cause) (t : Took Shared UserState) → TookFits s t → Records s (took linux s p signal cause t)
-took_records s p signal cause (Passes t c) h = h
-took_records s p signal cause (Kills w) h = refl
+stopped_words : (s : Shared) (p : ℕ) (signal : Signal) → (stopped s p signal).ended ≡ s.ended
+unfolding stopped
+stopped_words s p signal = refl
+
+woken_words : (s : Shared) (p : ℕ) → (woken s p).ended ≡ s.ended
+unfolding woken
+woken_words s p = refl
+
+halts_record : (continued : Bool) (s : Shared) (p : ℕ) (b : UserState) (signal : Signal) → Records s (halts continued linux s p b signal)
+halts_record true s p b signal = refl
+halts_record false s p b signal = stopped_words s p signal
+
+wakes_record : (continued : Bool) (s : Shared) (p : ℕ) (b : UserState) (signal : Signal) → Records s (wakes continued linux s p b signal)
+wakes_record true s p b signal = woken_words s p
+wakes_record false s p b signal = refl
+
+took_records : (s : Shared) (p : ℕ) (b : UserState) (signal : Signal) (cause : Cause) (t : Took Shared UserState) → TookFits s signal t → Records s (took linux s p b signal cause t)
+took_records s p b signal cause (Passes t c) h = h
+took_records s p b signal cause Stops h = halts_record (is_continued_at (maps.get s.entries p)) s p b signal
+took_records s p b signal cause (Kills w) h = refl
 
 joins_record : (s : Shared) (p : ℕ) (x y : Option Signal) → (joins linux (joins linux s p x) p y).ended ≡ s.ended
 joins_record s p None None = refl
@@ -87,8 +105,11 @@ lives_records c s child p b (Doing call) = answered_records s child p b call (do
 lives_records c s child p b (Replaced call x) = refl
 lives_records c s child p b (Acted call x replaced) = refl
 lives_records c s child p b Finished = refl
-lives_records c s child p b (Taken signal cause) = took_records s p signal cause (takes s p b signal cause) (takes_fit s p b signal cause)
+lives_records c s child p b (Taken signal cause) = took_records s p b signal cause (takes s p b signal cause) (takes_fit s p b signal cause)
 lives_records c s child p b Dropped = refl
+lives_records c s child p b (Stopped signal) = wakes_record (is_continued_at (maps.get s.entries p)) s p b signal
+lives_records c s child p b Released = refl
+lives_records c s child p b Woken = refl
 
 killed_records : (killed : Bool) (c : Choice) (s : Shared) (child p : ℕ) (b : UserState) (stage : Stage) → Records s (killed_or killed linux c s child p b stage)
 killed_records true c s child p b stage = refl

@@ -60,6 +60,9 @@ running_stage b (stages.Acted call x replaced) h = absurd (cc h)
 running_stage b stages.Finished h = absurd (cc h)
 running_stage b (stages.Taken signal cause) h = absurd (cc h)
 running_stage b stages.Dropped h = absurd (cc h)
+running_stage b (stages.Stopped signal) h = absurd (cc h)
+running_stage b stages.Released h = absurd (cc h)
+running_stage b stages.Woken h = absurd (cc h)
 
 running_of : (e : Option Entry) (task : Task UserState) → task_mode e task ≡ Some mode.Run → IsRunning task
 running_of e (Alive b stage) h = running_stage b stage h

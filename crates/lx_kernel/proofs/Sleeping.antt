@@ -1,7 +1,6 @@
 -- The sets of processes that are awake and asleep.
 use Rattle.std.proofs.Common.{◌≡◌, ◌<◌, ℕ, Bool, true, false, List, [], ◌∷◌, length, Option, Some, None, refl, ap, sym, subst, ◌∙◌, arith}
-use Rattle.std.specs.Prelude.{◌==◌, ◌≤◌, nat_le, is_none}
-use Rattle.std.specs.Option.{unwrap_or}
+use Rattle.std.specs.Prelude.{◌==◌, ◌≤◌, nat_le}
 use Rattle.containers.specs.Keys.{IsNextKey}
 use Rattle.std.specs.Ordering.{nat_cmp}
 use Rattle.std.specs.FinMap as maps
@@ -14,8 +13,8 @@ use Rattle.lx_model.specs.declared.stage.Task.TheVariants.{Alive, Dying, Gone}
 use Rattle.lx_proc.specs.declared.state.Shared.{Shared}
 use Rattle.lx_proc.specs.declared.state.UserState.{UserState}
 use Rattle.lx_kernel.specs.Scheduling.{Tasks}
-use Rattle.lx_kernel.specs.Blocking.{can_turn, IsBlocked}
-use Rattle.lx_kernel.specs.Sleeping.{IsWatched, AreWatched, AreListed, IsSameBut}
+use Rattle.lx_kernel.specs.Blocking.{can_turn, IsBlocked, rests}
+use Rattle.lx_kernel.specs.Sleeping.{IsWatched, AreWatched, IsListed, AreListed, IsSameBut}
 use Rattle.lx_kernel.specs.declared.run_queue.RunQueue.{RunQueue}
 use Rattle.lx_kernel.proofs.Placed.{either, get_put}
 
@@ -34,11 +33,11 @@ gone_blocked s p (Alive b stage) e = absurd (cc e)
 gone_blocked s p (Dying w) e = absurd (cc e)
 gone_blocked s p Gone e = refl
 
--- where nobody sleeps, all who aren't awake are gone
-pub all_awake : (sets : RunQueue) (s : Shared) (tasks : Tasks) → maps.len sets.asleep ≡ 0 → AreListed sets tasks → AreWatched sets s tasks
+-- where nobody sleeps, all who aren't awake are stopped or gone
+pub all_awake : (sets : RunQueue) (s : Shared) (tasks : Tasks) → maps.len sets.asleep ≡ 0 → AreListed sets s tasks → AreWatched sets s tasks
 all_awake sets s tasks none listed = λ q up unwatched.
-    let gone = listed q up unwatched (none_in_empty sets.asleep none q) in
-    (gone_blocked s q (at Gone tasks q) gone, λ e. gone)
+    let h = listed q up unwatched (none_in_empty sets.asleep none q) in
+    (h.0, λ e. h.1)
 
 module _ (sets sets' : RunQueue) (s : Shared) (tasks : Tasks) (p : ℕ) (same : IsSameBut sets sets' p) (itself : IsWatched sets' s p (at Gone tasks p)) where
   -- all are watched, where the others were
@@ -50,20 +49,16 @@ module _ (sets sets' : RunQueue) (s : Shared) (tasks : Tasks) (p : ℕ) (same : 
       (h.0, λ unslept. h.1 (sym (same.1 q ne).1 ∙ unslept)))
 
   -- and listed
-  pub listed_but : AreListed sets tasks → AreListed sets' tasks
-  listed_but listed = λ q up. either q p (maps.get sets'.awake q ≡ None → maps.get sets'.asleep q ≡ None → at Gone tasks q ≡ Gone) (q == p) refl
-      (λ e. subst (λ n. maps.get sets'.awake n ≡ None → maps.get sets'.asleep n ≡ None → at Gone tasks n ≡ Gone) (sym e) (λ unwatched unslept. (itself unwatched).1 unslept))
-      (λ ne unwatched unslept. listed q up (sym (same.1 q ne).0 ∙ unwatched) (sym (same.1 q ne).1 ∙ unslept))
+  pub listed_but : ((q : ℕ) → 0 < q → (q ≡ p → ⊥) → IsListed sets s q (at Gone tasks q)) → AreListed sets' s tasks
+  listed_but others = λ q up. either q p (IsListed sets' s q (at Gone tasks q)) (q == p) refl
+      (λ e. subst (λ n. IsListed sets' s n (at Gone tasks n)) (sym e) (λ unwatched unslept. ((itself unwatched).0, (itself unwatched).1 unslept)))
+      (λ ne unwatched unslept. others q up ne (sym (same.1 q ne).0 ∙ unwatched) (sym (same.1 q ne).1 ∙ unslept))
 
 -- what was put in is there
 pub put_there : {X P : Type 0} (m m' : FinMap nat_cmp X) (p : ℕ) (x : X) → m' ≡ maps.insert m p x → maps.get m' p ≡ None → P
 put_there {X = X} m m' p x is none =
     let e : ◌≡◌ {A = Option X} (Some x) None = sym (ap (λ m. maps.get m p) is ∙ get_put m p x) ∙ none in
     absurd (cc e)
-
-pub absent_gone : (o : Option (Task UserState)) → is_none o ≡ true → unwrap_or o Gone ≡ Gone
-absent_gone None e = refl
-absent_gone (Some task) e = absurd (cc e)
 
 -- Over the run queue in a row.
 
@@ -76,10 +71,10 @@ pub below : (q n : ℕ) (P : Type 0) (b : Bool) → nat_le q n ≡ b → (q ≤ 
 below q n P true e low high = low (grind (arith, nat_tests))
 below q n P false e low high = high (grind (arith, nat_tests))
 
-module _ (sets : RunQueue) (s : Shared) (tasks : Tasks) (passed : ℕ) (listed : AreListed sets tasks) (seen : BlockedUpTo sets s tasks passed) where
+module _ (sets : RunQueue) (s : Shared) (tasks : Tasks) (passed : ℕ) (listed : AreListed sets s tasks) (seen : BlockedUpTo sets s tasks passed) where
   -- who isn't asleep either is blocked as well
   unlisted : (q : ℕ) → 0 < q → maps.get sets.awake q ≡ None → maps.get sets.asleep q ≡ None → IsBlocked s q (at Gone tasks q)
-  unlisted q up unwatched unslept = gone_blocked s q (at Gone tasks q) (listed q up unwatched unslept)
+  unlisted q up unwatched unslept = (listed q up unwatched unslept).0
 
   pub blocked_up_to : (sets' : RunQueue) (p : ℕ) → IsNextKey sets.asleep passed (Some p) → IsSameBut sets sets' p → IsWatched sets' s p (at Gone tasks p) → BlockedUpTo sets' s tasks p
   blocked_up_to sets' p next same itself = λ q up le. either q p (maps.get sets'.awake q ≡ None → IsBlocked s q (at Gone tasks q)) (q == p) refl
@@ -94,6 +89,6 @@ module _ (sets : RunQueue) (s : Shared) (tasks : Tasks) (passed : ℕ) (listed :
       strict q p ne le = below p q (q < p) (nat_le p q) refl (λ ge. absurd (ne (omega (arith, le, ge)))) (λ lt. lt)
 
   pub all_watched : IsNextKey sets.asleep passed None → AreWatched sets s tasks
-  all_watched last = λ q up unwatched. below q passed (IsBlocked s q (at Gone tasks q) × (maps.get sets.asleep q ≡ None → at Gone tasks q ≡ Gone)) (nat_le q passed) refl
-      (λ low. (seen q up low unwatched, λ unslept. listed q up unwatched unslept))
-      (λ high. (unlisted q up unwatched (last q high), λ unslept. listed q up unwatched unslept))
+  all_watched last = λ q up unwatched. below q passed (IsBlocked s q (at Gone tasks q) × (maps.get sets.asleep q ≡ None → rests (at Gone tasks q) ≡ true)) (nat_le q passed) refl
+      (λ low. (seen q up low unwatched, λ unslept. (listed q up unwatched unslept).1))
+      (λ high. (unlisted q up unwatched (last q high), λ unslept. (listed q up unwatched unslept).1))

@@ -1,15 +1,12 @@
 -- What keeps the sets of processes right.
-use Rattle.std.proofs.Common.{◌≡◌, ◌<◌, ℕ, Bool, true, false, cond, List, Option, Some, None, inl, inr, refl, ap, sym, subst, ◌∙◌}
-use Rattle.std.specs.Prelude.{◌==◌, ◌||◌}
-use Rattle.std.specs.Option.{unwrap_or, option_map}
+use Rattle.std.proofs.Common.{◌≡◌, ◌<◌, ℕ, Bool, true, List, Option, Some, None, inl, inr, refl, ap, sym, subst, ◌∙◌}
+use Rattle.std.specs.Prelude.{◌==◌}
+use Rattle.std.specs.Option.{unwrap_or}
 use Rattle.std.specs.Ordering.{nat_cmp}
 use Rattle.std.specs.FinMap as maps
 use Rattle.lx_abi.specs.declared.log.Item.{Item}
 use Rattle.lx_abi.specs.declared.script.Rule.{Rule}
-use Rattle.lx_abi.specs.declared.signal.Signal.{Signal}
-use Rattle.lx_abi.specs.declared.log.Cause.{Cause}
 use Rattle.lx_abi.specs.Scripts.{choice_of}
-use Rattle.lx_abi.specs.Signals.{may_join, signal_numbered}
 use Rattle.lx_model.specs.Machine.{Regs}
 use Rattle.lx_model.specs.Kernel.{traces, choice_at}
 use Rattle.lx_model.specs.declared.event.PtraceEvent.{PtraceEvent}
@@ -26,12 +23,10 @@ use Rattle.lx_fcalls.specs.Blocking.{would_block, read_would_block, write_would_
 use Rattle.lx_turn.specs.Linux.{linux}
 use Rattle.lx_kernel.specs.Bursts.{TaskContinues}
 use Rattle.lx_kernel.specs.Scheduling.{Tasks}
-use Rattle.lx_kernel.specs.Blocking.{can_turn, IsBlocked, would_block as blocks}
-use Rattle.lx_kernel.specs.Waking.{Calms}
-use Rattle.lx_kernel.specs.Sleeping.{IsKept, IsSameBut, IsWatched, AreWatched, AreListed, Watch, welcomed}
-use Rattle.lx_kernel.specs.Tracing.{with_regs, with_change, with_part_at}
-use Rattle.lx_kernel.specs.declared.tracing.Change.{Change}
-use Rattle.lx_kernel.specs.declared.tracing.Change.TheVariants.{Join, Skip, Resume}
+use Rattle.lx_kernel.specs.Blocking.{can_turn, IsBlocked, rests, would_block as blocks}
+use Rattle.lx_kernel.specs.Waking.{Calms, LeavesStopped}
+use Rattle.lx_kernel.specs.Sleeping.{IsKept, IsSameBut, IsWatched, AreWatched, AreOthersListed, Watch, welcomed}
+use Rattle.lx_kernel.specs.Tracing.{with_regs, with_part_at}
 use Rattle.lx_turn.specs.Turned.{turned, Turned, unboxed, IsBirth}
 use Rattle.lx_kernel.specs.Turns.{tasks_with}
 use Rattle.lx_kernel.specs.Turns.{Turns}
@@ -40,7 +35,8 @@ use Rattle.lx_kernel.specs.declared.run_queue.RunQueue.{RunQueue}
 use Rattle.lx_kernel.proofs.Placed.{get_put}
 use Rattle.lx_kernel.proofs.Placing.{at_placed}
 use Rattle.lx_kernel.proofs.Placed.{either, other_put, other_left}
-use Rattle.lx_kernel.proofs.Sleeping.{put_there, gone_blocked}
+use Rattle.lx_kernel.proofs.Sleeping.{put_there, gone_blocked, watched_but}
+use Rattle.lx_kernel.proofs.Stopping.{still_turn}
 
 kept_same : (s : Shared) (q : ℕ) (task : Task UserState) → IsKept s q task task
 kept_same s q task = (λ e. e, λ e. e)
@@ -81,71 +77,36 @@ regs_blocked s p b r (stage.Acted call x replaced) e = e
 regs_blocked s p b r stage.Finished e = e
 regs_blocked s p b r (stage.Taken signal cause) e = e
 regs_blocked s p b r stage.Dropped e = e
+regs_blocked s p b r (stage.Stopped signal) e = e
+regs_blocked s p b r stage.Released e = e
+regs_blocked s p b r stage.Woken e = e
 
 pub regs_kept : (s : Shared) (p : ℕ) (r : Regs) (task : Task UserState) → PartKept s p task (with_regs r task)
-regs_kept s p r (Alive b at) = (regs_blocked s p b r at, λ e. absurd (cc e))
+regs_kept s p r (Alive b at) = (regs_blocked s p b r at, λ e. e)
 regs_kept s p r (Dying w) = tt
 regs_kept s p r Gone = tt
 
--- it goes on from where it stands, or not at all
-plain_kept : (s : Shared) (p : ℕ) (b : UserState) (at : Stage) (c : Bool) → PartKept s p (Alive b at) (option_map (λ s. Alive b s) (cond c (Some at) None))
-plain_kept s p b at true = kept_same s p (Alive b at)
-plain_kept s p b at false = tt
+-- Wherever a process that is awake goes on from, its part may be any.
 
--- it goes on from a stage that isn't blocked
-stirs : (s : Shared) (p : ℕ) (b : UserState) (task : Task UserState) (to : Stage) (c : Bool) → (task ≡ Gone → ⊥) → can_turn s p task ≡ true → PartKept s p task (option_map (λ s. Alive b s) (cond c (Some to) None))
-stirs s p b task to true here awake = (λ e. absurd (cc (e, awake)), λ e. absurd (here e))
-stirs s p b task to false here awake = tt
+module _ (sets sets' : RunQueue) (s : Shared) (tasks : Tasks) (p : ℕ) (same : sets'.known ≡ true → IsSameBut sets sets' p) (awake : sets'.known ≡ true → maps.get sets'.awake p ≡ None → ⊥) where
+  -- a process that was woken
+  pub wake_watch : Watch sets s tasks → Watch sets' s tasks
+  wake_watch watch = λ known. watched_but sets sets' s tasks p (same known) (λ unwatched. absurd (awake known unwatched)) (λ q up ne. watch (same known).0 q up)
 
-passed_kept : (s : Shared) (p : ℕ) (b : UserState) (signal : Signal) (cause : Cause) (n : ℕ) (c : Bool) →
-    PartKept s p (Alive b (stage.Taken signal cause)) (option_map (λ s. Alive b s) (cond c (Some (stage.Taken signal cause)) (cond (n == 0) (Some stage.Dropped) None)))
-unfolding can_turn
-passed_kept s p b signal cause n true = kept_same s p (Alive b (stage.Taken signal cause))
-passed_kept s p b signal cause n false = stirs s p b (Alive b (stage.Taken signal cause)) stage.Dropped (n == 0) (λ e. absurd (cc e)) refl
+awake_placed : (sets : RunQueue) (s : Shared) (tasks : Tasks) (p : ℕ) (task : Task UserState) → (maps.get sets.awake p ≡ None → ⊥) → AreWatched sets s tasks → AreWatched sets s (placed tasks p task)
+awake_placed sets s tasks p task awake watched = λ q up. either q p (IsWatched sets s q (at Gone (placed tasks p task) q)) (q == p) refl
+    (λ e unwatched. absurd (awake (subst (λ n. maps.get sets.awake n ≡ None) e unwatched)))
+    (λ ne. subst (IsWatched sets s q) (sym (placed_other tasks p q task ne)) (watched q up))
 
-changed_at : (s : Shared) (p : ℕ) (change : Change) (b : UserState) (at : Stage) → PartKept s p (Alive b at) (with_change change (Alive b at))
-unfolding can_turn
-changed_at s p (Join signal) b stage.Born = tt
-changed_at s p (Join signal) b stage.Run = tt
-changed_at s p (Join signal) b (stage.Faulting taken cause) = tt
-changed_at s p (Join signal) b (stage.Entered joined) = (λ e. e, λ e. absurd (cc e))
-changed_at s p (Join signal) b (stage.Doing call) = tt
-changed_at s p (Join signal) b (stage.Replaced call x) = tt
-changed_at s p (Join signal) b (stage.Acted call x replaced) = tt
-changed_at s p (Join signal) b stage.Finished = tt
-changed_at s p (Join signal) b (stage.Taken taken cause) = tt
-changed_at s p (Join signal) b stage.Dropped = tt
-changed_at s p Skip b stage.Born = tt
-changed_at s p Skip b stage.Run = tt
-changed_at s p Skip b (stage.Faulting taken cause) = tt
-changed_at s p Skip b (stage.Entered joined) = tt
-changed_at s p Skip b (stage.Doing call) = tt
-changed_at s p Skip b (stage.Replaced call x) = tt
-changed_at s p Skip b (stage.Acted call x replaced) = tt
-changed_at s p Skip b stage.Finished = tt
-changed_at s p Skip b (stage.Taken taken cause) = (λ e. e, λ e. absurd (cc e))
-changed_at s p Skip b stage.Dropped = tt
-changed_at s p (Resume n) b stage.Born = plain_kept s p b stage.Born (n == 0)
-changed_at s p (Resume n) b stage.Run = plain_kept s p b stage.Run (n == 0)
-changed_at s p (Resume n) b (stage.Faulting taken cause) = plain_kept s p b (stage.Faulting taken cause) (n == 0)
-changed_at s p (Resume n) b (stage.Entered joined) = stirs s p b (Alive b (stage.Entered joined)) (stage.Entered (signal_numbered n)) ((n == 0) || may_join n) (λ e. absurd (cc e)) refl
-changed_at s p (Resume n) b (stage.Doing call) = plain_kept s p b (stage.Doing call) (n == 0)
-changed_at s p (Resume n) b (stage.Replaced call x) = plain_kept s p b (stage.Replaced call x) (n == 0)
-changed_at s p (Resume n) b (stage.Acted call x replaced) = plain_kept s p b (stage.Acted call x replaced) (n == 0)
-changed_at s p (Resume n) b stage.Finished = plain_kept s p b stage.Finished (n == 0)
-changed_at s p (Resume n) b (stage.Taken taken cause) = passed_kept s p b taken cause n (taken.number == n)
-changed_at s p (Resume n) b stage.Dropped = plain_kept s p b stage.Dropped (n == 0)
-
-pub changed_kept : (s : Shared) (p : ℕ) (change : Change) (task : Task UserState) → PartKept s p task (with_change change task)
-changed_kept s p change (Alive b at) = changed_at s p change b at
-changed_kept s p change (Dying w) = tt
-changed_kept s p change Gone = tt
+pub awake_kept : (sets : RunQueue) (s : Shared) (tasks : Tasks) (p : ℕ) (x : Option (Task UserState)) → (maps.get sets.awake p ≡ None → ⊥) → AreWatched sets s tasks → AreWatched sets s (with_part_at tasks p x)
+awake_kept sets s tasks p None awake watched = watched
+awake_kept sets s tasks p (Some task) awake watched = awake_placed sets s tasks p task awake watched
 
 -- Turns in a row
 
 running : (s : Shared) (p : ℕ) (b c : UserState) → IsKept s p (Alive b stage.Run) (Alive c stage.Run)
 unfolding can_turn
-running s p b c = (λ e. e, λ e. absurd (cc e))
+running s p b c = (λ e. e, λ e. e)
 
 pub continues_kept : (s : Shared) (p limit n : ℕ) (task task' : Task UserState) → TaskContinues limit n task task' → IsKept s p task task'
 continues_kept s p limit n task task' h = elim h [
@@ -164,18 +125,15 @@ put_kept s tasks p task task' there kept q = either q p (IsKept s q (at Gone tas
 
 pub first_watch : (sets : RunQueue) (s : Shared) (tasks : Tasks) → (sets.known ≡ true → sets.awake ≡ maps.insert maps.empty 1 tt) → ((q : ℕ) → (q ≡ 1 → ⊥) → at Gone tasks q ≡ Gone) → Watch sets s tasks
 first_watch sets s tasks awake alone = λ known q up unwatched.
-    either q 1 (IsBlocked s q (at Gone tasks q) × (maps.get sets.asleep q ≡ None → at Gone tasks q ≡ Gone)) (q == 1) refl
+    either q 1 (IsBlocked s q (at Gone tasks q) × (maps.get sets.asleep q ≡ None → rests (at Gone tasks q) ≡ true)) (q == 1) refl
     (λ e. put_there maps.empty sets.awake 1 tt (awake known) (subst (λ n. maps.get sets.awake n ≡ None) e unwatched))
-    (λ ne. (gone_blocked s q (at Gone tasks q) (alone q ne), λ unslept. alone q ne))
+    (λ ne. (gone_blocked s q (at Gone tasks q) (alone q ne), λ unslept. ap rests (alone q ne)))
 
 -- a table of process 1 alone
 pub alone : (task : Task UserState) (q : ℕ) → (q ≡ 1 → ⊥) → at Gone (maps.insert maps.empty 1 task) q ≡ Gone
 alone task q ne = ap (λ o. unwrap_or o Gone) (other_put maps.empty 1 q ne task ∙ maps.get-empty nat_cmp q)
 
 -- A turn
-
-gone_turn : (c : Task UserState → Turned) (task : Task UserState) → task ≡ Gone → (c Gone).task ≡ Gone → (c task).task ≡ Gone
-gone_turn c task e h = ap (λ o. (c o).task) e ∙ h
 
 -- the table with a child, at another pid
 with_child : (tasks : Tasks) (child q : ℕ) (event : PtraceEvent UserState) → (IsBirth event → q ≡ child → ⊥) → at Gone (tasks_with tasks child event) q ≡ at Gone tasks q
@@ -217,18 +175,28 @@ module _ (v : Running Shared UserState) (rules : List Rule) (follow : Bool) (p :
   other_is : (q : ℕ) → (q ≡ p → ⊥) → at Gone tasks q ≡ at Gone v.tasks q
   other_is q ne = ap (λ (m : Tasks). at Gone m q) (sym turns.tasks_is) ∙ placed_other v.tasks p q (out task).task ne
 
-  -- who was gone is gone
-  gone_stays : (q : ℕ) → at Gone v.tasks q ≡ Gone → at Gone tasks q ≡ Gone
-  gone_stays q gone = either q p (at Gone tasks q ≡ Gone) (q == p) refl
-      (λ e. ap (at Gone tasks) e ∙ task_is ∙ gone_turn (λ o. turned (out o)) task (sym (ap (at Gone v.tasks) e) ∙ gone) refl)
-      (λ ne. other_is q ne ∙ gone)
+  -- who was stopped, or gone, and blocked
+  abbrev Still : Shared → ℕ → Task UserState → Type 0
+  Still s q o = IsBlocked s q o × (rests o ≡ true)
 
-  -- those in neither set are gone
-  pub turn_listed : AreListed (welcomed sets v.child event) (tasks_with tasks v.child event)
-  turn_listed = λ q up unwatched unslept.
-      let other = unwelcomed sets v.child q event unwatched in
-      with_child tasks v.child q event other
-      ∙ gone_stays q ((watched q up (unwatched_before sets v.child q event other unwatched)).1 (unslept_before sets v.child q event other unslept))
+  itself_still : Still v.shared p task → Still s p (at Gone tasks p)
+  itself_still h =
+      let same = still_turn (choice_at linux (choice_of rules) (traces follow p) count task) v.shared v.child p task h.1 h.0 in
+      subst (Still s p) (sym (task_is ∙ ap (λ (t : Turned). t.task) same)) (subst (λ (t : Shared). Still t p task) (sym (ap (λ (t : Turned). t.shared) same) ∙ turns.shared_is) h)
+
+  module _ (told : ℕ) (leaves : LeavesStopped v.shared s v.child p told event) where
+    stays_still : (q : ℕ) → 0 < q → (q ≡ told → q ≡ p) → (IsBirth event → q ≡ v.child → ⊥) → Still v.shared q (at Gone v.tasks q) → Still s q (at Gone tasks q)
+    stays_still q up untold other h = either q p (Still s q (at Gone tasks q)) (q == p) refl
+        (λ e. subst (λ n. Still s n (at Gone tasks n)) (sym e) (itself_still (subst (λ n. Still v.shared n (at Gone v.tasks n)) e h)))
+        (λ ne. subst (Still s q) (sym (other_is q ne)) (leaves q up ne (λ is. ne (untold is)) other (at Gone v.tasks q) h.1 h.0, h.1))
+
+    -- those in neither set are stopped or gone, but for one that is told
+    pub turn_listed : AreOthersListed (welcomed sets v.child event) s (tasks_with tasks v.child event) p told
+    turn_listed = λ q up untold unwatched unslept.
+        let other = unwelcomed sets v.child q event unwatched in
+        let h = watched q up (unwatched_before sets v.child q event other unwatched) in
+        subst (Still s q) (sym (with_child tasks v.child q event other))
+        (stays_still q up untold other (h.0, h.1 (unslept_before sets v.child q event other unslept)))
 
   -- after a calm turn the others are watched
   pub turn_watched : (told : ℕ) → Calms v.shared s v.child p told event → (q : ℕ) → 0 < q → (q ≡ p → ⊥) → (q ≡ told → ⊥) → IsWatched (welcomed sets v.child event) s q (at Gone (tasks_with tasks v.child event) q)
@@ -237,7 +205,7 @@ module _ (v : Running Shared UserState) (rules : List Rule) (follow : Bool) (p :
       let h = watched q up (unwatched_before sets v.child q event other unwatched) in
       let same : at Gone (tasks_with tasks v.child event) q ≡ at Gone v.tasks q = with_child tasks v.child q event other ∙ other_is q ne in (
         ap (can_turn s q) same ∙ calms q up ne still other (at Gone v.tasks q) h.0,
-        λ unslept. same ∙ h.1 (unslept_before sets v.child q event other unslept),
+        λ unslept. ap rests same ∙ h.1 (unslept_before sets v.child q event other unslept),
       )
 
 -- after one that was told is looked at, beside the others

@@ -10,13 +10,13 @@ use Rattle.lx_model.specs.declared.stage.Task.{Task}
 use Rattle.lx_model.specs.declared.stage.Task.TheVariants.{Gone}
 use Rattle.lx_proc.specs.declared.state.Shared.{Shared}
 use Rattle.lx_proc.specs.declared.state.UserState.{UserState}
-use Rattle.lx_kernel.specs.Blocking.{IsBlocked}
+use Rattle.lx_kernel.specs.Blocking.{IsBlocked, rests}
 use Rattle.lx_kernel.specs.Scheduling.{Tasks}
 use Rattle.lx_kernel.specs.declared.run_queue.RunQueue.{RunQueue}
 
--- a part that is blocked, or gone, is so with another in its place
+-- a part that is blocked, stopped or gone is so with another in its place
 abbrev pub IsKept : Shared → ℕ → Task UserState → Task UserState → Type 0
-IsKept s p task task' = (IsBlocked s p task → IsBlocked s p task') × (task ≡ Gone → task' ≡ Gone)
+IsKept s p task task' = (IsBlocked s p task → IsBlocked s p task') × (rests task ≡ true → rests task' ≡ true)
 
 -- all but the keys are blocked
 abbrev pub AreOthersBlocked : {X : Type 0} → FinMap nat_cmp X → Shared → Tasks → Type 0
@@ -24,18 +24,26 @@ AreOthersBlocked keys s tasks = (q : ℕ) → 0 < q → maps.get keys q ≡ None
 
 -- The sets.
 
--- a process that isn't awake is blocked, and where it isn't asleep either it is gone
+-- a process that isn't awake is blocked, and where it isn't asleep either it is stopped or gone
 abbrev pub IsWatched : RunQueue → Shared → ℕ → Task UserState → Type 0
 IsWatched sets s p task =
-    maps.get sets.awake p ≡ None → IsBlocked s p task × (maps.get sets.asleep p ≡ None → task ≡ Gone)
+    maps.get sets.awake p ≡ None → IsBlocked s p task × (maps.get sets.asleep p ≡ None → rests task ≡ true)
 
 abbrev pub AreWatched : RunQueue → Shared → Tasks → Type 0
 AreWatched sets s tasks = (q : ℕ) → 0 < q → IsWatched sets s q (at Gone tasks q)
 
--- who is in neither set is gone
-abbrev pub AreListed : RunQueue → Tasks → Type 0
-AreListed sets tasks =
-    (q : ℕ) → 0 < q → maps.get sets.awake q ≡ None → maps.get sets.asleep q ≡ None → at Gone tasks q ≡ Gone
+-- who is in neither set is blocked, stopped or gone
+abbrev pub IsListed : RunQueue → Shared → ℕ → Task UserState → Type 0
+IsListed sets s p task =
+    maps.get sets.awake p ≡ None → maps.get sets.asleep p ≡ None → IsBlocked s p task × (rests task ≡ true)
+
+abbrev pub AreListed : RunQueue → Shared → Tasks → Type 0
+AreListed sets s tasks = (q : ℕ) → 0 < q → IsListed sets s q (at Gone tasks q)
+
+-- each but one that another's turn has told
+abbrev pub AreOthersListed : RunQueue → Shared → Tasks → ℕ → ℕ → Type 0
+AreOthersListed sets s tasks p told =
+    (q : ℕ) → 0 < q → (q ≡ told → q ≡ p) → IsListed sets s q (at Gone tasks q)
 
 -- as long as memory for them was never refused
 abbrev pub Watch : RunQueue → Shared → Tasks → Type 0

@@ -1,6 +1,6 @@
 -- What a tracer reads and changes of one process (ptrace(2): PTRACE_GETREGSET, PTRACE_SETREGSET, PTRACE_PEEKDATA,
--- PTRACE_GETSIGINFO, PTRACE_SYSCALL).
-use Rattle.std.specs.Prelude.{◌≡◌, ℕ, Bool, true, false, List, Option, Some, None}
+-- PTRACE_GETSIGINFO, PTRACE_SYSCALL, PTRACE_LISTEN).
+use Rattle.std.specs.Prelude.{◌≡◌, ℕ, Bool, true, false, List, Option, Some, None, is_some}
 use Rattle.std.specs.Option.{option_map}
 use Rattle.std.specs.Ordering.{nat_cmp}
 use Rattle.std.specs.FinMap.{FinMap}
@@ -10,7 +10,7 @@ use Rattle.lx_model.specs.Machine.{Regs}
 use Rattle.lx_model.specs.Finite.{at, placed, with_task}
 use Rattle.lx_model.specs.Rows.{row}
 use Rattle.lx_model.specs.declared.stage.Stage.{Stage}
-use Rattle.lx_model.specs.declared.stage.Stage.TheVariants.{Entered, Taken, Dropped}
+use Rattle.lx_model.specs.declared.stage.Stage.TheVariants.{Entered, Taken, Dropped, Stopped, Released}
 use Rattle.lx_model.specs.declared.stage.Task.{Task}
 use Rattle.lx_model.specs.declared.stage.Task.TheVariants.{Alive, Dying, Gone}
 use Rattle.lx_proc.specs.declared.state.UserState.{UserState}
@@ -42,6 +42,12 @@ signal_of (Alive b stage) = (row stage).info
 signal_of (Dying w) = None
 signal_of Gone = None
 
+-- it is in a group stop, where it stays by Listen
+abbrev pub listens_of : Task UserState → Bool
+listens_of (Alive b stage) = is_some (row stage).listen
+listens_of (Dying w) = false
+listens_of Gone = false
+
 -- What is changed: none where there is nothing to change
 
 -- at a call, with another signal to be joined to it
@@ -49,9 +55,10 @@ abbrev pub joining : Option Signal → Stage → Option Stage
 joining signal (Entered joined) = Some (Entered signal)
 joining signal _ = None
 
--- at a signal stop, without the signal
+-- from a signal stop, and from a group stop, without the signal
 abbrev pub dropping : Stage → Option Stage
 dropping (Taken signal cause) = Some Dropped
+dropping (Stopped signal) = Some Released
 dropping _ = None
 
 abbrev pub changed : Change → Stage → Option Stage

@@ -1,30 +1,35 @@
--- Which turns wake no other process that is blocked.
-use Rattle.std.specs.Prelude.{◌≡◌, ℕ, Bool, true, ◌&&◌, ◌||◌, ◌==◌, ◌<◌, is_none, Option, Some, None}
+-- Which turns wake no other process that is blocked, and that none wakes another that is stopped.
+use Rattle.std.specs.Prelude.{◌≡◌, ℕ, Bool, true, ◌&&◌, ◌||◌, ◌==◌, ◌<◌, is_none, Option, Some, None, if◌then◌else◌}
 use Rattle.std.specs.FinMap as maps
 use Rattle.lx_abi.specs.Calls.{has_effects}
 use Rattle.lx_abi.specs.Effects as effect
-use Rattle.lx_abi.specs.Sys.{sys_clone}
+use Rattle.lx_abi.specs.Signals.{is_stop}
+use Rattle.lx_abi.specs.Sys.{sys_clone, sys_kill}
+use Rattle.lx_abi.specs.declared.log.Call.{Call}
 use Rattle.lx_abi.specs.declared.script.Choice.{Choice}
 use Rattle.lx_model.specs.Turn.{Out, turn}
 use Rattle.lx_model.specs.declared.event.PtraceEvent.{PtraceEvent}
 use Rattle.lx_model.specs.declared.stage.Stage.{Stage}
-use Rattle.lx_model.specs.declared.stage.Stage.TheVariants.{Born, Run, Faulting, Entered, Doing, Replaced, Acted, Finished, Taken, Dropped}
+use Rattle.lx_model.specs.declared.stage.Stage.TheVariants.{Born, Run, Faulting, Entered, Doing, Replaced, Acted, Finished, Taken, Dropped, Stopped, Released, Woken}
 use Rattle.lx_model.specs.declared.stage.Task.{Task}
 use Rattle.lx_model.specs.declared.stage.Task.TheVariants.{Alive, Dying, Gone}
 use Rattle.lx_open.specs.Releases.{AreEndsKept}
+use Rattle.lx_sig.specs.Kill.{aim}
+use Rattle.lx_sig.specs.declared.kill.Aim.{Aim}
 use Rattle.lx_proc.specs.declared.state.Entry.{Entry}
 use Rattle.lx_proc.specs.declared.state.Shared.{Shared}
 use Rattle.lx_proc.specs.declared.state.UserState.{UserState}
 use Rattle.lx_turn.specs.Linux.{linux}
 use Rattle.lx_turn.specs.Turned.{IsBirth}
-use Rattle.lx_kernel.specs.Blocking.{IsBlocked}
+use Rattle.lx_kernel.specs.Blocking.{IsBlocked, rests}
 
 -- From where a process stands.
 
--- a call that leaves others as they are, and clone, where the child's pid is free: else its entry takes the place of
--- one that some process may wait for
+-- a call that leaves others as they are; kill, which tells one; and clone, where the child's pid is free: else its
+-- entry takes the place of one that some process may wait for
 abbrev pub is_calm_number : Shared → ℕ → ℕ → Bool
-is_calm_number s child n = has_effects n effect.calm || ((n == sys_clone) && is_none (maps.get s.entries child))
+is_calm_number s child n =
+    has_effects n effect.calm || ((n == sys_kill) || ((n == sys_clone) && is_none (maps.get s.entries child)))
 
 abbrev pub is_calm_at : Shared → ℕ → Stage → Bool
 is_calm_at s child Born = true
@@ -37,20 +42,51 @@ is_calm_at s child (Acted call x replaced) = true
 is_calm_at s child Finished = true
 is_calm_at s child (Taken signal cause) = true
 is_calm_at s child Dropped = true
+is_calm_at s child (Stopped signal) = true
+is_calm_at s child Released = true
+is_calm_at s child Woken = true
 
 abbrev pub is_calm_task : Shared → ℕ → Task UserState → Bool
 is_calm_task s child (Alive b stage) = is_calm_at s child stage
 is_calm_task s child (Dying w) = true
 is_calm_task s child Gone = true
 
--- who is told of a process's end
+-- who is told of what becomes of a process
 abbrev pub told_by : ℕ → Option Entry → ℕ
 told_by p None = p
 told_by p (Some e) = e.parent
 
--- who is told by the turn of a process: its parent where it is buried
+-- whom a kill is sent to
+abbrev pub aimed_at : ℕ → Option Aim → ℕ
+aimed_at p None = p
+aimed_at p (Some a) = a.pid
+
+abbrev pub told_by_call : ℕ → Call → ℕ
+told_by_call p call = if call.number == sys_kill then aimed_at p (aim call) else p
+
+-- the parent of a process that takes a stop signal, so that it may be stopped
+abbrev pub told_by_signal : Shared → ℕ → ℕ → ℕ
+told_by_signal s p n = if is_stop n then told_by p (maps.get s.entries p) else p
+
+abbrev pub told_at : Shared → ℕ → Stage → ℕ
+told_at s p Born = p
+told_at s p Run = p
+told_at s p (Faulting signal cause) = p
+told_at s p (Entered joined) = p
+told_at s p (Doing call) = told_by_call p call
+told_at s p (Replaced call x) = p
+told_at s p (Acted call x replaced) = p
+told_at s p Finished = p
+told_at s p (Taken signal cause) = told_by_signal s p signal.number
+told_at s p Dropped = p
+told_at s p (Stopped signal) = told_by p (maps.get s.entries p)
+told_at s p Released = p
+told_at s p Woken = p
+
+-- who is told by the turn of a process: whom its kill is sent to, and its parent where it may be stopped or continued,
+-- and where it is buried
 abbrev pub told_in : Shared → ℕ → Task UserState → ℕ
-told_in s p (Alive b stage) = p
+told_in s p (Alive b stage) = told_at s p stage
 told_in s p (Dying w) = told_by p (maps.get s.entries p)
 told_in s p Gone = p
 
@@ -80,3 +116,18 @@ abbrev pub CalmTurnsWakeNobody : Type 0
 CalmTurnsWakeNobody = (c : Choice) (s : Shared) (child p : ℕ) (task : Task UserState) →
     let o : Out Shared UserState = turn linux c s child p task in
     IsCalm s child task o.shared o.task → Calms s o.shared child p (told_in s p task) o.event
+
+-- Of any turn, calm or not.
+
+-- each other process that was stopped and blocked is blocked, but for one that is told, and a child that is born
+abbrev pub LeavesStopped : Shared → Shared → ℕ → ℕ → ℕ → PtraceEvent UserState → Type 0
+LeavesStopped s s' child p told event =
+    (q : ℕ) → 0 < q → (q ≡ p → ⊥) → (q ≡ told → ⊥) → (IsBirth event → q ≡ child → ⊥) → (task : Task UserState)
+    → rests task ≡ true
+    → IsBlocked s q task
+    → IsBlocked s' q task
+
+abbrev pub TurnsLeaveStopped : Type 0
+TurnsLeaveStopped = (c : Choice) (s : Shared) (child p : ℕ) (task : Task UserState) →
+    let o : Out Shared UserState = turn linux c s child p task in
+    LeavesStopped s o.shared child p (told_in s p task) o.event

@@ -8,7 +8,7 @@ ghost use Rattle.lx_kernel.specs.Blocking.{would_block as would_block_in, can_tu
 
 use lx_abi::Call;
 use lx_model::{Stage, Task};
-use lx_pcalls::is_interrupted;
+use lx_pcalls::{is_continued, is_interrupted};
 use lx_proc::{Shared, UserState};
 use lx_turn::is_killed;
 
@@ -35,6 +35,7 @@ fn can_go_on(shared: &Shared, pid: u32, user: &UserState, stage: Stage) -> bool
 {
     match stage {
         Stage::Doing { call } => !would_block(shared, pid, &call, user) || is_killed(shared, pid),
+        Stage::Stopped { .. } => is_continued(shared, pid) || is_killed(shared, pid),
         _ => true,
     }
 }

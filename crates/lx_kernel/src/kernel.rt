@@ -21,10 +21,10 @@ ghost use Rattle.lx_kernel.specs.Occurrences.{Agree};
 ghost use Rattle.lx_kernel.specs.Outcomes.{outcome_in};
 ghost use Rattle.lx_kernel.specs.Runs.{turn_in, after_turn, is_able_in, mode_in};
 ghost use Rattle.lx_kernel.specs.Scheduling.{IsNextOf};
-ghost use Rattle.lx_kernel.specs.Tracing.{task_in, regs_of, peek_of, signal_of};
+ghost use Rattle.lx_kernel.specs.Tracing.{task_in, regs_of, peek_of, signal_of, listens_of};
 ghost use Rattle.lx_kernel.specs.Tracing.{with_regs, with_change, with_part};
 ghost use Rattle.lx_kernel.specs.Turns.{Turns, without_gone, tasks_with, next_child};
-ghost use Rattle.lx_kernel.specs.Waking.{Calms};
+ghost use Rattle.lx_kernel.specs.Waking.{Calms, LeavesStopped};
 
 use crate::outcome::outcome;
 use crate::run_queue::{Hints, RunQueue};
@@ -98,6 +98,7 @@ fn turn_at(
     ensures after { IfOk result
         (λ t. t.after ≡ task_mode_of (maps.get shared.new.entries pid) (at Gone tasks.new pid)) }
     ensures calm { IfOk result (λ t. IsTrue t.calm → Calms shared.old shared.new child pid t.told (unboxed t.done)) }
+    ensures stopped { IfOk result (λ t. LeavesStopped shared.old shared.new child pid t.told (unboxed t.done)) }
     ensures absent { at Gone tasks.old pid ≡ Gone
         → IsOkAnd result (λ t. (item.new ≡ None) × (unboxed t.done ≡ Plain)) }
     ensures console { OnErr result (shared.new.console ≡ shared.old.console) }
@@ -227,7 +228,7 @@ fn count_item(occurrences: &mut Occurrences, item: &Item) -> Result<(), AllocErr
 {
     match item {
         Item::Enter { pid, call } => occurrences.count(*pid, call.number),
-        Item::Done { .. } | Item::Taken { .. } | Item::Exit { .. } => Ok(()),
+        Item::Done { .. } | Item::Taken { .. } | Item::Stopped { .. } | Item::Exit { .. } => Ok(()),
     }
 }
 
@@ -376,7 +377,8 @@ impl Kernel {
         Ok(ran)
     }
 
-    /// A turn of the process would run an instruction or change its mode: it is in the table, and doesn't wait.
+    /// A turn of the process would run an instruction or change its mode: it is in the table, and neither waits nor is
+    /// stopped.
     pub fn able(&self, pid: u32) -> bool
         ensures { IsTrue result ↔ is_able_in self.now pid }
     {
@@ -443,6 +445,13 @@ impl Kernel {
         tracing::signal(&self.tasks, pid)
     }
 
+    /// The process is in a group stop, where it stays by PTRACE_LISTEN.
+    pub fn listens(&self, pid: u32) -> bool
+        ensures { result ≡ listens_of (task_in self.now pid) }
+    {
+        tracing::listens(&self.tasks, pid)
+    }
+
     /// Sets pc and x1 to x31 of the process: false, and nothing is changed, where it doesn't live.
     pub fn set_regs(&mut self, pid: u32, registers: &Registers) -> bool
         ensures part { self.new ≡ with_part self.old pid (with_regs registers.now (task_in self.old pid)) }
@@ -455,6 +464,8 @@ impl Kernel {
         ensures part { self.new ≡ with_part self.old pid (with_change change (task_in self.old pid)) }
         ensures there { result ≡ is_some (with_change change (task_in self.old pid)) }
     {
+        // a stopped process may go on from there
+        self.run_queue.keep_awake(pid);
         tracing::set_stage(&mut self.tasks, pid, change)
     }
 
@@ -467,7 +478,8 @@ impl Kernel {
         self.set_stage(pid, Change::Join { signal })
     }
 
-    /// Drops the signal that the process has taken: false, and nothing is changed, where it stands elsewhere.
+    /// Drops the signal that the process has taken, or ends its group stop: false, and nothing is changed, where it
+    /// stands elsewhere.
     pub fn skip(&mut self, pid: u32) -> bool
         ensures part { self.new ≡ with_part self.old pid (with_change Change.Skip (task_in self.old pid)) }
         ensures there { result ≡ is_some (with_change Change.Skip (task_in self.old pid)) }

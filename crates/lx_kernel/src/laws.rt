@@ -2,7 +2,7 @@
 
 ghost use Rattle.lx_kernel.specs.Laws.{BootsAreFirst, TurnsAreSteps, BootsRunAlike};
 ghost use Rattle.lx_kernel.specs.Laws.{TurnsLogWords, BootsLogWords, KernelsLogWords};
-ghost use Rattle.lx_kernel.specs.Waking.{CalmTurnsWakeNobody};
+ghost use Rattle.lx_kernel.specs.Waking.{CalmTurnsWakeNobody, TurnsLeaveStopped};
 
 use lx_model::laws::kernels_run_alike;
 use lx_proc::{Shared, UserState};
@@ -25,7 +25,14 @@ pub fn words_are_logged()
     kernels_run_alike::<Shared, UserState>();
 }
 
-/// A turn that is calm leaves each other process blocked that was, but for one that is told of an end.
+/// A turn that is calm leaves each other process blocked that was, in a call or by a stop, but for the one that is told
+/// and a child that is born.
 pub fn calm_turns_wake_nobody()
     ensures { CalmTurnsWakeNobody }
+{}
+
+/// Every turn, calm or not, leaves each other process blocked that was by a stop, but for the one that is told and a
+/// child that is born.
+pub fn turns_leave_stopped()
+    ensures { TurnsLeaveStopped }
 {}

@@ -1,22 +1,24 @@
 //! Which processes a search for the next turn looks at.
 //!
-//! Two sets of pids: who is awake, and who is blocked, that is, waits in a read or a write of a pipe, or in wait4, with
-//! no signal that would end the wait. `next_able` looks at those that are awake alone, so what it costs grows with
-//! them, and with the logarithm of all. A process is put to sleep by its own turn that leaves it blocked, and wakes by
-//! another's: each turn says whether it may have woken others, and after one that may, as a write, a close or a kill,
-//! those that sleep are looked at, each once. Where a process ends, its parent is looked at. What the sets say is
-//! proved; that they are kept affects only speed: once memory for them was refused, a search looks at every process,
-//! and answers the same.
+//! Two sets of pids: who is awake, and who sleeps, that is, waits in a read or a write of a pipe, or in wait4, with no
+//! signal that would end the wait. `next_able` looks at those that are awake alone, so what it costs grows with them,
+//! and with the logarithm of all. A process is put to sleep by its own turn that leaves it blocked, and wakes by
+//! another's: each turn says whether it may have woken others, and after one that may, as a write or a close, those
+//! that sleep are looked at, each once. Where a process is told, as by a kill, or by the end of its child, it alone is
+//! looked at. A stopped process, to which neither SIGCONT nor SIGKILL was sent, is in neither set: only a turn that
+//! tells it lets it go on, or its tracer, so no other turn looks at it. What the sets say is proved; that they are kept
+//! affects only speed: once memory for them was refused, a search looks at every process, and answers the same.
 
-ghost use Rattle.std.specs.Prelude.{◌≡◌, ◌<◌, ℕ, None, true, is_none, is_some};
+ghost use Rattle.std.specs.Prelude.{◌≡◌, ◌<◌, ℕ, None, true, is_some};
 ghost use Rattle.std.specs.FinMap as maps;
 ghost use Rattle.lx_model.specs.Finite.{at};
 ghost use Rattle.lx_model.specs.declared.stage.Task.TheVariants.{Gone};
 ghost use Rattle.lx_turn.specs.Turned.{unboxed};
-ghost use Rattle.lx_kernel.specs.Sleeping.{IsWatched, IsSameBut, AreListed, Watch, welcomed};
+ghost use Rattle.lx_kernel.specs.Blocking.{rests as rests_of};
+ghost use Rattle.lx_kernel.specs.Sleeping.{IsWatched, IsSameBut, AreListed, AreOthersListed, Watch, welcomed};
 
 use crate::scheduling::can_turn_at;
-use lx_model::{PtraceEvent, Task};
+use lx_model::{PtraceEvent, Stage, Task};
 use lx_proc::{Shared, UserState};
 use shelves::Shelf;
 use std::alloc::Global;
@@ -33,17 +35,27 @@ pub struct RunQueue {
 /// What a turn may have done to the sets, beside what it did to others.
 #[derive(Clone, Copy)]
 pub struct Hints {
-    /// Its process is in a call that may wait.
+    /// Its process is in a call that may wait, or is stopped.
     pub may_wait: bool,
     /// Its process is gone.
     pub gone: bool,
 }
 
-/// The process has no part of its own.
-fn is_absent(tasks: &Shelf<Task<UserState>>, pid: u32) -> bool
-    ensures { result ≡ is_none (maps.get tasks.now pid) }
+impl Hints {
+    fn may_be_blocked(self) -> bool {
+        self.may_wait || self.gone
+    }
+}
+
+/// The process is stopped, or gone.
+fn rests(tasks: &Shelf<Task<UserState>>, pid: u32) -> bool
+    ensures { result ≡ rests_of (at Gone tasks.now pid) }
 {
-    tasks.get(pid).is_none()
+    match tasks.get(pid) {
+        Some(Task::Alive { stage, .. }) => matches!(stage, Stage::Stopped { .. }),
+        Some(Task::Dying { .. }) => false,
+        Some(Task::Gone) | None => true,
+    }
 }
 
 /// It may be in any set.
@@ -84,7 +96,7 @@ impl RunQueue {
 
     /// A process is awake from now on, if it wasn't: the set of those that sleep may be large, and isn't searched for
     /// one that is awake.
-    fn keep_awake(&mut self, pid: u32)
+    pub fn keep_awake(&mut self, pid: u32)
         ensures itself { self.new.known ≡ true → maps.get self.new.awake pid ≡ None → ⊥ }
         ensures others { self.new.known ≡ true → IsSameBut self.old self.new pid }
     {
@@ -131,10 +143,12 @@ impl RunQueue {
         ensures itself { self.new.known ≡ true → IsWatched self.new shared.now pid (at Gone tasks.now pid) }
         ensures others { self.new.known ≡ true → IsSameBut self.old self.new pid }
     {
-        if hints.gone && is_absent(tasks, pid) {
-            self.forget(pid);
-        } else if hints.may_wait && !can_turn_at(shared, tasks, pid) {
-            self.put_to_sleep(pid);
+        if hints.may_be_blocked() && !can_turn_at(shared, tasks, pid) {
+            if rests(tasks, pid) {
+                self.forget(pid);
+            } else {
+                self.put_to_sleep(pid);
+            }
         } else {
             self.keep_awake(pid);
         }
@@ -142,7 +156,7 @@ impl RunQueue {
 
     /// Those wake who are blocked no longer.
     fn wake_unblocked(&mut self, shared: &Shared, tasks: &Shelf<Task<UserState>>)
-        requires { self.old.known ≡ true → AreListed self.old tasks.now }
+        requires { self.old.known ≡ true → AreListed self.old shared.now tasks.now }
         ensures { Watch self.new shared.now tasks.now }
     {
         let mut passed = 0;
@@ -152,7 +166,7 @@ impl RunQueue {
         }
     }
 
-    /// A process that another's turn has told of an end is put into its set.
+    /// A process that another's turn has told is put into its set.
     pub fn wake_told(
         &mut self,
         shared: &Shared,
@@ -160,8 +174,8 @@ impl RunQueue {
         pid: u32,
         told: u32,
     )
-        requires { self.old.known ≡ true → AreListed self.old tasks.now }
-        ensures listed { self.new.known ≡ true → AreListed self.new tasks.now }
+        requires { self.old.known ≡ true → AreOthersListed self.old shared.now tasks.now pid told }
+        ensures listed { self.new.known ≡ true → AreListed self.new shared.now tasks.now }
         ensures itself { self.new.known ≡ true → (told ≡ pid → ⊥)
             → IsWatched self.new shared.now told (at Gone tasks.now told) }
         ensures others { self.new.known ≡ true → IsSameBut self.old self.new told }
@@ -180,12 +194,12 @@ impl RunQueue {
         calm: bool,
         hints: Hints,
     )
-        requires listed { self.old.known ≡ true → AreListed self.old tasks.now }
+        requires listed { self.old.known ≡ true → AreListed self.old shared.now tasks.now }
         requires others { calm ≡ true → self.old.known ≡ true → (q : ℕ) → 0 < q → (q ≡ pid → ⊥)
             → IsWatched self.old shared.now q (at Gone tasks.now q) }
         ensures { Watch self.new shared.now tasks.now }
     {
-        if self.asleep.len() == 0 && !hints.may_wait && !hints.gone {
+        if self.asleep.len() == 0 && !hints.may_be_blocked() {
             return;
         }
         self.sort(shared, tasks, pid, hints);

@@ -3,7 +3,7 @@
 ghost use Rattle.std.specs.Prelude.{◌≡◌, IfOk, is_some};
 ghost use Rattle.lx_model.specs.Finite.{at};
 ghost use Rattle.lx_model.specs.declared.stage.Task.TheVariants.{Gone};
-ghost use Rattle.lx_kernel.specs.Tracing.{regs_of, peek_of, signal_of, with_regs, with_change};
+ghost use Rattle.lx_kernel.specs.Tracing.{regs_of, peek_of, signal_of, listens_of, with_regs, with_change};
 ghost use Rattle.lx_kernel.specs.Tracing.{with_part_at, IsPart, changed};
 
 use containers::Bytes;
@@ -58,6 +58,16 @@ pub fn signal(tasks: &Shelf<Task<UserState>>, pid: u32) -> Option<(Signal, Cause
     }
 }
 
+/// The process is in a group stop, where it stays by PTRACE_LISTEN.
+pub fn listens(tasks: &Shelf<Task<UserState>>, pid: u32) -> bool
+    ensures { result ≡ listens_of (at Gone tasks.now pid) }
+{
+    match tasks.get(pid) {
+        Some(Task::Alive { stage, .. }) => stage.listen().is_some(),
+        Some(Task::Dying { .. } | Task::Gone) | None => false,
+    }
+}
+
 fn set_task_regs(task: &mut Task<UserState>, registers: &Registers) -> bool
     ensures { IsPart (with_regs registers.now task.old) task.old task.new result }
 {
@@ -86,7 +96,7 @@ pub fn set_regs(tasks: &mut Shelf<Task<UserState>>, pid: u32, registers: &Regist
 pub enum Change {
     /// Another signal is joined to a call that was entered.
     Join { signal: Option<Signal> },
-    /// A signal that was taken is dropped.
+    /// A signal that was taken is dropped, or a group stop ended.
     Skip,
     /// PTRACE_SYSCALL with this signal's number, 0 for none.
     Resume { number: u32 },
@@ -99,6 +109,7 @@ fn change_stage(stage: Stage, change: Change) -> Option<Stage>
     match (change, stage) {
         (Change::Join { signal }, Stage::Entered { .. }) => Some(Stage::Entered { joined: signal }),
         (Change::Skip, Stage::Taken { .. }) => Some(Stage::Dropped),
+        (Change::Skip, Stage::Stopped { .. }) => Some(Stage::Released),
         (Change::Resume { number }, _) => stage.resume(number),
         _ => None,
     }

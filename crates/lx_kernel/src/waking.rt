@@ -10,11 +10,15 @@ ghost use Rattle.lx_turn.specs.Linux.{linux};
 ghost use Rattle.lx_turn.specs.Modes.{task_mode as task_mode_of};
 ghost use Rattle.lx_turn.specs.Turned.{turned, unboxed, is_gone};
 ghost use Rattle.lx_kernel.specs.Waking.{is_calm_number as is_calm_number_of, is_calm_task, calm_after, Calms};
-ghost use Rattle.lx_kernel.specs.Waking.{told_by, told_in};
+ghost use Rattle.lx_kernel.specs.Waking.{LeavesStopped};
+ghost use Rattle.lx_kernel.specs.Waking.{told_by, told_in, aimed_at, told_by_call, told_by_signal};
+ghost use Rattle.lx_kernel.specs.Waking.{told_at as told_at_of};
+ghost use Rattle.lx_sig.specs.Kill.{aim as aim_of};
 
-use lx_abi::{Item, Mode, calls, sys};
+use lx_abi::{Call, Item, Mode, Signal, calls, sys};
 use lx_model::{PtraceEvent, Stage, Task};
 use lx_proc::{Shared, UserState};
+use lx_sig::{aim_of_kill, is_stop};
 use lx_turn::{Injection, Transition, turn_task};
 use std::alloc::{AllocError, Global};
 
@@ -29,9 +33,10 @@ pub struct TurnTaken {
     pub gone: bool,
     /// No other process that was blocked can take a turn now, but for one that is told.
     pub calm: bool,
-    /// Who is told that the process has ended; itself where nobody is.
+    /// Whom a kill was sent to, or the parent of a process that has ended, or may have been stopped or continued; the
+    /// process itself where nobody is told.
     pub told: u32,
-    /// The process is in a call that may wait.
+    /// The process is in a call that may wait, or is stopped.
     pub may_wait: bool,
 }
 
@@ -67,12 +72,14 @@ fn is_free(shared: &Shared, pid: u32) -> bool
     shared.entries.get(pid).is_none()
 }
 
-/// A call that leaves the descriptors, the signals and the children of each other process as they are, under the next
-/// child's pid.
+/// A call that leaves the descriptors, the signals and the children of each other process as they are, but for one that
+/// is told and, under the next child's pid, the child.
 fn leaves_others(shared: &Shared, child: u32, number: u64) -> bool
     ensures { result ≡ is_calm_number_of shared.now child number }
 {
-    calls::is_calm(number) || (number == sys::SYS_CLONE && is_free(shared, child))
+    calls::is_calm(number)
+        || number == sys::SYS_KILL
+        || (number == sys::SYS_CLONE && is_free(shared, child))
 }
 
 /// A turn from where the process stands wakes no other, where it lives on.
@@ -98,13 +105,58 @@ fn parent_of(shared: &Shared, pid: u32) -> u32
     }
 }
 
-/// Who is told by a turn of the process that it has ended.
+/// Whom a kill is sent to.
+fn target_of(pid: u32, call: &Call) -> u32
+    ensures { result ≡ aimed_at pid (aim_of call.now) }
+{
+    match aim_of_kill(call) {
+        None => pid,
+        Some(aim) => aim.pid,
+    }
+}
+
+/// Whom a call tells.
+fn told_by_call(pid: u32, call: &Call) -> u32
+    ensures { result ≡ told_by_call pid call.now }
+{
+    if call.number == sys::SYS_KILL {
+        target_of(pid, call)
+    } else {
+        pid
+    }
+}
+
+/// Whom a signal tells that the process takes.
+fn told_by_signal(shared: &Shared, pid: u32, signal: Signal) -> u32
+    ensures { result ≡ told_by_signal shared.now pid signal.number }
+{
+    if is_stop(signal.number) {
+        parent_of(shared, pid)
+    } else {
+        pid
+    }
+}
+
+/// Whom a turn of the living process tells.
+fn told_at(shared: &Shared, pid: u32, stage: Stage) -> u32
+    ensures { result ≡ told_at_of shared.now pid stage }
+{
+    match stage {
+        Stage::Doing { call } => told_by_call(pid, &call),
+        Stage::Taken { signal, .. } => told_by_signal(shared, pid, signal),
+        Stage::Stopped { .. } => parent_of(shared, pid),
+        _ => pid,
+    }
+}
+
+/// Whom a turn of the process tells.
 fn told_of(shared: &Shared, pid: u32, task: &Task<UserState>) -> u32
     ensures { result ≡ told_in shared.now pid task.now }
 {
     match task {
+        Task::Alive { stage, .. } => told_at(shared, pid, *stage),
         Task::Dying { .. } => parent_of(shared, pid),
-        Task::Alive { .. } | Task::Gone => pid,
+        Task::Gone => pid,
     }
 }
 
@@ -119,13 +171,17 @@ fn was_calm(task: &Task<UserState>, calm: bool, ends_kept: bool) -> bool
     }
 }
 
-/// The process is in a call that may wait: a read, a write or a wait4.
+/// The process is in a call that may wait, a read, a write or a wait4, or it is stopped.
 fn may_wait(task: &Task<UserState>) -> bool {
     match task {
         Task::Alive {
             stage: Stage::Doing { call },
             ..
         } => calls::may_wait(call.number),
+        Task::Alive {
+            stage: Stage::Stopped { .. },
+            ..
+        } => true,
         _ => false,
     }
 }
@@ -148,6 +204,7 @@ pub fn take_turn(
     ensures after { IfOk result (λ t. t.after ≡ task_mode_of (maps.get shared.new.entries pid) task.new) }
     ensures gone { IfOk result (λ t. t.gone ≡ is_gone task.new) }
     ensures calm { IfOk result (λ t. IsTrue t.calm → Calms shared.old shared.new child pid t.told (unboxed t.done)) }
+    ensures stopped { IfOk result (λ t. LeavesStopped shared.old shared.new child pid t.told (unboxed t.done)) }
     ensures absent { task.old ≡ Gone → IsOkAnd result (λ t. (item.new ≡ None) × (unboxed t.done ≡ Plain)) }
     ensures console { OnErr result (shared.new.console ≡ shared.old.console) }
 {

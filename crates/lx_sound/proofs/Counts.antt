@@ -1,18 +1,16 @@
 -- A turn logs at most one item, so at most one entry.
-use Rattle.std.proofs.Common.{◌≡◌, ℕ, zero, suc, ◌+◌, ◌≤◌, Bool, true, false, List, [], ◌∷◌, ◌++◌, length, Option, Some, None, refl, ap, sym, subst, ◌∙◌, arith}
+use Rattle.std.proofs.Common.{◌≡◌, ℕ, suc, ◌+◌, ◌≤◌, Bool, true, false, List, [], ◌∷◌, ◌++◌, length, Option, Some, None, refl, ap, ◌∙◌, arith}
 use Rattle.std.specs.Prelude.{filter}
 use Rattle.std.specs.Option.{option_to_list}
 use Rattle.std.proofs.lemmas.List.{length-append}
 use Rattle.std.proofs.lemmas.List.Elements.{filter-append}
-use Rattle.lx_abi.specs.declared.boot.Boot.{Boot}
 use Rattle.lx_abi.specs.declared.log.Item.{Item}
-use Rattle.lx_abi.specs.declared.script.Rule.{Rule}
 use Rattle.lx_abi.specs.Log.{is_entry, entries}
 use Rattle.lx_abi.specs.Scripts.{choice_of}
 use Rattle.lx_model.specs.declared.event.PtraceEvent.{PtraceEvent}
 use Rattle.lx_model.specs.declared.event.PtraceEvent.TheVariants.{Plain, Execed, Forked}
 use Rattle.lx_model.specs.Turn.{Out}
-use Rattle.lx_model.specs.Finite.{Running, item_of, ran, bore, turn_out, running_turn}
+use Rattle.lx_model.specs.Finite.{Running, item_of, ran, bore, turn_out}
 use Rattle.lx_proc.specs.declared.state.Shared.{Shared}
 use Rattle.lx_proc.specs.declared.state.UserState.{UserState}
 use Rattle.lx_turn.specs.Linux.{linux}

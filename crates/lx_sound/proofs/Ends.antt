@@ -18,25 +18,34 @@ use Rattle.lx_open.specs.Opens.{pair, inherited_slot, inherited_each, inherited}
 use Rattle.lx_open.specs.Releases.{Held, all_closed}
 use Rattle.lx_open.specs.declared.description.Slot.{Slot}
 use Rattle.lx_open.specs.declared.fd_table.FdTable.{FdTable}
+use Rattle.lx_abi.specs.declared.log.Cause.{Cause}
+use Rattle.lx_abi.specs.declared.log.Cause.TheVariants as cause
+use Rattle.lx_abi.specs.declared.signal.Signal.{Signal}
+use Rattle.lx_sig.specs.Pending.{settled}
 use Rattle.lx_proc.specs.declared.state.Entry.{Entry}
+use Rattle.lx_proc.specs.declared.state.News.{News}
+use Rattle.lx_proc.specs.declared.state.News.TheVariants as news
 use Rattle.lx_proc.specs.declared.state.Life.{Life}
 use Rattle.lx_proc.specs.declared.state.Life.TheVariants.{Alive, Dying, Zombie}
 use Rattle.lx_proc.specs.declared.state.Shared.{Shared}
 use Rattle.lx_proc.specs.declared.state.UserState.{UserState}
-use Rattle.lx_proc.specs.State.{Entries, changed, changed_entry, with_entries, with_held}
+use Rattle.lx_proc.specs.State.{Entries, changed, changed_entry, with_entries, with_held, with_news, with_signals}
 use Rattle.lx_proc.specs.Families.{is_zombie}
 use Rattle.lx_proc.specs.WaitWords.{Words}
 use Rattle.lx_pcalls.specs.Clone.{has_room, with_child, child_entry}
-use Rattle.lx_pcalls.specs.Ends.{with_life, sigchld, cause_of_end, dies, orphan, released_entry, released, orphaned, told, wants_no_news, retired_by, buried_entry, buried}
+use Rattle.lx_pcalls.specs.Ends.{with_life, sigchld, cause_of_end, dies, orphan, released_entry, released, orphaned, told, told_of, wants_no_news, retired_by, buried_entry, buried}
+use Rattle.lx_pcalls.specs.Stops.{heard_by, stopped, stop_entry, settles, wake_entry, woken}
+use Rattle.lx_kernel.proofs.Placed.{put_twice}
 use Rattle.lx_sound.specs.Parts.{is_alive, lives, EntrySound, EntriesSound, AreOwned, PartsSound}
 use Rattle.lx_sound.specs.Pages.{HasFewPages, IsSmall}
 use Rattle.lx_sound.specs.Sound.{Agree, HasWord, Sound}
 use Rattle.lx_sound.proofs.Maps.{inserted, there_now, removed, inserted_other, removed_other}
 use Rattle.lx_sound.proofs.Together.{inherited_together, all_closed_together}
 use Rattle.lx_sound.proofs.Fewer.{all_closed_fewer, none_left}
-use Rattle.lx_sound.proofs.Entries.{SameEntry, SameEntries, put_len, take_len, entries_stay, entries_then, put_same, taken_same, gone, changed_same, put_sound, taken_sound, changed_sound, received_sound}
-use Rattle.lx_sound.proofs.Changes.{Loses, parts_done}
-use Rattle.lx_sound.proofs.Keeping.{kept_sound, entries_keep}
+use Rattle.lx_sound.proofs.Entries.{SameEntry, SameEntries, put_len, take_len, entries_stay, entries_then, put_same, taken_same, gone, changed_same, put_sound, taken_sound, changed_sound, signals_sound, received_sound}
+use Rattle.lx_sound.proofs.Changes.{Loses, parts_done, entered}
+use Rattle.lx_sound.proofs.Keeping.{Keeps, keeps_all, keeps_then, changed_keeps, kept_sound, entries_keep}
+use Rattle.lx_sound.proofs.Masks.{settled_signals}
 
 abbrev Tasks : Type 0
 Tasks = ℕ → Task UserState
@@ -149,8 +158,18 @@ relived_parts s p l h none t tree fds console es = record {
 died_parts : (s : Shared) (p w : ℕ) → lives (maps.get s.entries p) ≡ true → PartsSound s → PartsSound (dies s p w)
 died_parts s p w alive h =
     let left : Held = all_closed s.tree s.fds p in
-    relived_parts (with_held s left) p (Dying w) (parts_done s p h alive (Loses left) ((λ x. all_closed_together s.tree s.fds x p), all_closed_fewer s.tree s.fds p)) (λ fd below. none_left s.tree s.fds p fd below)
+    let closed : Shared = with_held s left in
+    let told : Entries = changed s.entries p (λ e. with_news e None) in
+    let parts : PartsSound closed = parts_done s p h alive (Loses left) ((λ x. all_closed_together s.tree s.fds x p), all_closed_fewer s.tree s.fds p) in
+    relived_parts (with_entries closed told) p (Dying w) (entered closed parts told (changed_same s.entries p (λ e. with_news e None) (λ e. refl)) (changed_sound left.tree s.entries p (λ e. with_news e None) (λ e sound. record { directory = sound.directory; signals = sound.signals }))) (λ fd below. none_left s.tree s.fds p fd below)
     (dies s p w) refl refl refl refl
+
+-- an entry that is changed once more
+changed_twice : (m : Entries) (p : ℕ) (f g : Entry → Entry) (e : Entry) → maps.get m p ≡ Some e → changed (changed m p f) p g ≡ maps.insert m p (g (f e))
+changed_twice m p f g e there =
+    ap (λ o. changed (changed_entry m p f o) p g) there
+    ∙ ap (changed_entry (maps.insert m p (f e)) p g) (there_now nat_cmp_total m p (f e))
+    ∙ put_twice m p (f e) (g (f e))
 
 -- who doesn't live has no descriptors
 no_slots : (s : Shared) (p : ℕ) → PartsSound s → lives (maps.get s.entries p) ≡ false → (fd : ℕ) → fd < most_fds → maps.get s.fds.slots (pair p fd) ≡ None
@@ -186,8 +205,8 @@ dies_sound s tasks child p w b stage is h = go (maps.get s.entries p) refl (subs
     go : (o : Option Entry) → maps.get s.entries p ≡ o → Agree o (task.Alive b stage) → Sound (dies s p w) (put tasks p (task.Dying w)) child
     go None none agrees = absurd agrees
     go (Some e) there agrees =
-        relived s tasks child p h e (with_life e (Dying w)) (task.Dying w) there refl tt (maps.insert s.ended p w) (λ q other. inserted_other s.ended p w q other) (there_now nat_cmp_total s.ended p w)
-        (dies s p w) (died_parts s p w (ap lives there ∙ ap is_alive agrees) h.parts) (ap (changed_entry s.entries p (λ x. with_life x (Dying w))) there) refl refl
+        relived s tasks child p h e (with_life (with_news e None) (Dying w)) (task.Dying w) there refl tt (maps.insert s.ended p w) (λ q other. inserted_other s.ended p w q other) (there_now nat_cmp_total s.ended p w)
+        (dies s p w) (died_parts s p w (ap lives there ∙ ap is_alive agrees) h.parts) (changed_twice s.entries p (λ e. with_news e None) (λ e. with_life e (Dying w)) e there) refl refl
 
 -- A process that leaves Dying.
 
@@ -408,3 +427,44 @@ bears_sound s tasks child p e newborn sound small room h = record {
 
     words_at : (q : ℕ) (x : Entry) → (child_entry e p ≡ x) ⊎ (maps.get s.entries q ≡ Some x) → HasWord s.ended q x.life
     words_at q x either = ⊎_elim (λ is. subst (λ (y : Entry). HasWord s.ended q y.life) is tt) (λ old. h.words q x old) either
+
+-- Group stops.
+
+heard_keeps : (s : Shared) (parent : ℕ) (c : Cause) (o : Option Entry) → Keeps s (with_entries s (heard_by s.entries parent c o))
+heard_keeps s parent c None = keeps_all s
+heard_keeps s parent c (Some e) = go (wants_no_news e)
+  where
+    go : (b : Bool) → Keeps s (with_entries s (cond b s.entries (changed s.entries parent (λ e. told_of e c))))
+    go true = keeps_all s
+    go false = changed_keeps s parent (λ e. told_of e c) (λ e. refl) (λ e sound. received_sound s.tree e sigchld c sound)
+
+-- a parent has news of a process
+news_keeps : (s : Shared) (p parent : ℕ) (x : Option News) (c : Cause) →
+    let m = changed s.entries p (λ e. with_news e x) in
+    Keeps s (with_entries s (heard_by m parent c (maps.get m parent)))
+news_keeps s p parent x c =
+    let t : Shared = with_entries s (changed s.entries p (λ e. with_news e x)) in
+    keeps_then s t (with_entries t (heard_by t.entries parent c (maps.get t.entries parent)))
+    (changed_keeps s p (λ e. with_news e x) (λ e. refl) (λ e sound. record { directory = sound.directory; signals = sound.signals }))
+    (heard_keeps t parent c (maps.get t.entries parent))
+
+stop_keeps : (s : Shared) (p : ℕ) (signal : Signal) (o : Option Entry) → Keeps s (with_entries s (stop_entry s.entries p signal o))
+stop_keeps s p signal None = keeps_all s
+stop_keeps s p signal (Some e) = news_keeps s p e.parent (Some (news.Stopped signal)) (cause.Stopped p signal.number)
+
+pub stopped_keeps : (s : Shared) (p : ℕ) (signal : Signal) → Keeps s (stopped s p signal)
+unfolding stopped
+stopped_keeps s p signal = stop_keeps s p signal (maps.get s.entries p)
+
+pub settles_keep : (s : Shared) (p : ℕ) → Keeps s (settles s p)
+settles_keep s p = changed_keeps s p (λ e. with_signals e (settled e.signals)) (λ e. refl) (λ e sound. signals_sound s.tree e (settled e.signals) (settled_signals e.signals sound.signals) sound)
+
+wake_keeps : (s : Shared) (p : ℕ) (o : Option Entry) → Keeps s (with_entries s (wake_entry s.entries p o))
+wake_keeps s p None = keeps_all s
+wake_keeps s p (Some e) =
+    let t : Shared = settles s p in
+    keeps_then s t (with_entries s (wake_entry s.entries p (Some e))) (settles_keep s p) (news_keeps t p e.parent (Some news.Continued) (cause.Continued p))
+
+pub woken_keeps : (s : Shared) (p : ℕ) → Keeps s (woken s p)
+unfolding woken
+woken_keeps s p = wake_keeps s p (maps.get s.entries p)

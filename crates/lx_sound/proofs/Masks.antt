@@ -1,5 +1,5 @@
 -- What is done to a process's signals keeps them within their bounds.
-use Rattle.std.proofs.Common.{◌≡◌, ℕ, zero, suc, ◌+◌, ◌-◌, ◌^◌, ◌<◌, ◌≤◌, ◌≢◌, ◌⊎◌, inl, inr, ⊎_elim, ◌&&◌, ◌||◌, Bool, true, false, cond, List, length, get_or, replicate, set, Option, Some, None, refl, ap, sym, subst, ◌∙◌, arith}
+use Rattle.std.proofs.Common.{◌≡◌, ℕ, zero, suc, ◌+◌, ◌-◌, ◌^◌, ◌<◌, ◌≤◌, ◌≢◌, ◌⊎◌, inl, inr, ⊎_elim, ◌&&◌, ◌||◌, Bool, true, false, cond, List, [], ◌∷◌, length, get_or, replicate, set, Option, Some, None, refl, ap, sym, subst, ◌∙◌, arith}
 use Rattle.std.proofs.lemmas.Bool.Decides.{nat_tests}
 use Rattle.std.proofs.lemmas.List.{get_or-set_same, get_or-set_other, set_past}
 use Rattle.std.proofs.lemmas.Nat.Bits.{bit_at-zero, bit_at_or, bit_at_and, bit_at-pow_other, bit_at-lt}
@@ -11,19 +11,21 @@ use Rattle.std.specs.declared.result.Result.{Result}
 use Rattle.std.specs.declared.result.Result.TheVariants.{Ok, Err}
 use Rattle.rv_mem.specs.Memory.{Memory, bytes_at}
 use Rattle.lx_abi.specs.Errnos.{einval}
-use Rattle.lx_abi.specs.Signals.{is_signal}
+use Rattle.lx_abi.specs.Signals.{is_signal, is_stop, cont_number}
 use Rattle.lx_abi.specs.declared.log.Call.{Call}
 use Rattle.lx_abi.specs.declared.log.Cause.{Cause}
 use Rattle.lx_abi.specs.declared.signal.Signal.{Signal}
 use Rattle.lx_sig.specs.Calls.{Outcome, is_unreadable, given, leaves, argument, low_argument}
 use Rattle.lx_sig.specs.Doublewords.{word_of}
 use Rattle.lx_sig.specs.Frames.{handler_mask, blocking, defers_nothing, popped_mask}
-use Rattle.lx_sig.specs.Pending.{default, action_of, cause_of, is_ignored, is_ignored_by_default, with_pending, without_pending}
+use Rattle.lx_sig.specs.Pending.{default, action_of, cause_of, is_ignored, is_ignored_by_default, with_job, settled, job_of, continued, noticed, dropped, without_stops, without_opposites, added, sent, with_pending, without_pending}
 use Rattle.lx_sig.specs.Reactions.{reaction, acts, after_exec, of_child, no_signals, without_handler, is_fault}
 use Rattle.lx_sig.specs.declared.state.Action.{Action}
+use Rattle.lx_sig.specs.declared.state.Job.{Job}
+use Rattle.lx_sig.specs.declared.state.Job.TheVariants.{Free}
 use Rattle.lx_sig.specs.declared.state.Signals.{Signals}
 use Rattle.lx_sig.specs.Sets.{has, blockable, cleaned, with_bit}
-use Rattle.lx_sig.specs.Sigaction.{action_in, action_bytes, new_action, may_set, acted, sigaction}
+use Rattle.lx_sig.specs.Sigaction.{action_in, action_bytes, new_action, has_other_flags, may_set, acted, sigaction}
 use Rattle.lx_sig.specs.Sigprocmask.{new_set, may_mask, masked, mask_changed, sigprocmask}
 use Rattle.lx_sig.specs.declared.reactions.Reaction.TheVariants as reaction_is
 use Rattle.lx_sound.specs.Masks.{IsMask, AreSignals}
@@ -109,22 +111,26 @@ each_passes p a (suc n) k all low high = go (a == k) refl (each_passes p (a + 1)
     go true eq later = subst (λ i. p i ≡ true) (let same : a ≡ k = grind (arith, nat_tests, eq) in same) (both_true (p a) _ all).0
     go false other later = later (grind (arith, nat_tests, other, low)) (omega (arith, high))
 
--- one signal, which isn't SIGKILL
+-- SIGKILL and SIGSTOP
+abbrev is_fixed : ℕ → Bool
+is_fixed k = (k == 9) || (k == 19)
+
+-- one signal, which is neither
 is_fine : ℕ → Bool
-is_fine k = (k == 9) || one (bit_at blockable (k - 1))
+is_fine k = is_fixed k || one (bit_at blockable (k - 1))
 
 all_fine : list_all is_fine (range_with_len 1 31) ≡ true
 unfolding is_fine
 all_fine = refl
 
-fine : (m : ℕ) → is_signal m ≡ true → (m == 9) ≡ false → one (bit_at blockable (m - 1)) ≡ true
+fine : (m : ℕ) → is_signal m ≡ true → is_fixed m ≡ false → one (bit_at blockable (m - 1)) ≡ true
 unfolding is_fine
 fine m signal other =
     let low : 1 ≤ m = grind (arith, nat_tests, signal) in
     let high : m < 1 + 31 = grind (arith, nat_tests, signal) in
     sym (ap (λ b. b || one (bit_at blockable (m - 1))) other) ∙ each_passes is_fine 1 31 m all_fine low high
 
-lone_mask : (m : ℕ) → is_signal m ≡ true → (m == 9) ≡ false → IsMask (2 ^ (m - 1))
+lone_mask : (m : ℕ) → is_signal m ≡ true → is_fixed m ≡ false → IsMask (2 ^ (m - 1))
 lone_mask m signal other n e = go (n - 1 == m - 1) refl
   where
     go : (b : Bool) → (n - 1 == m - 1) ≡ b → one (bit_at blockable (n - 1)) ≡ true
@@ -136,13 +142,14 @@ lone_mask m signal other n e = go (n - 1 == m - 1) refl
 
 -- an action that asks for a handler is the one that is handled
 handles_own : (x a : Action) (n : ℕ) → acts x n ≡ reaction_is.Handles a → (x ≡ a) × ((x.handler == 0) ≡ false)
-handles_own x a n is = go (x.handler == 0) (x.handler == 1) (is_ignored_by_default n) refl is
+handles_own x a n is = go (x.handler == 0) (x.handler == 1) (is_ignored_by_default n) (is_stop n) refl is
   where
-    go : (first second ignored : Bool) → (x.handler == 0) ≡ first → cond first (cond ignored reaction_is.Passes reaction_is.Ends) (cond second reaction_is.Passes (reaction_is.Handles x)) ≡ reaction_is.Handles a → (x ≡ a) × ((x.handler == 0) ≡ false)
-    go true second true at e = absurd (cc e)
-    go true second false at e = absurd (cc e)
-    go false true ignored at e = absurd (cc e)
-    go false false ignored at e = (cc e, at)
+    go : (first second ignored stops : Bool) → (x.handler == 0) ≡ first → cond first (cond ignored reaction_is.Passes (cond stops reaction_is.Stops reaction_is.Ends)) (cond second reaction_is.Passes (reaction_is.Handles x)) ≡ reaction_is.Handles a → (x ≡ a) × ((x.handler == 0) ≡ false)
+    go true second true stops at e = absurd (cc e)
+    go true second false true at e = absurd (cc e)
+    go true second false false at e = absurd (cc e)
+    go false true ignored stops at e = absurd (cc e)
+    go false false ignored stops at e = (cc e, at)
 
 -- what a call of signals leaves
 abbrev pub IsLeft : Outcome → Type 0
@@ -151,40 +158,86 @@ IsLeft (Ok c) = AreSignals c.signals
 
 -- Pending signals.
 
+none_set : (xs : List (Option Cause)) (n i : ℕ) → get_or xs i None ≡ None → get_or (set xs n None) i None ≡ None
+none_set [] n i e = e
+none_set (x ∷ xs) zero zero e = refl
+none_set (x ∷ xs) zero (suc i) e = e
+none_set (x ∷ xs) (suc n) zero e = e
+none_set (x ∷ xs) (suc n) (suc i) e = none_set xs n i e
+
+dropped_signals : (g : Signals) → AreSignals g → (n : ℕ) → AreSignals (dropped g n)
+dropped_signals g h n = record { pending = λ i no_signal. none_set g.pending n i (h.pending i no_signal); mask = h.mask; masks = h.masks; kill = h.kill; stop = h.stop }
+
+-- a signal that is sent takes its opposites away
+opposed_signals : (g : Signals) → AreSignals g → (n : ℕ) → AreSignals (without_opposites g n)
+opposed_signals g h n = go (is_stop n) (n == cont_number)
+  where
+    stops : AreSignals (without_stops g)
+    stops =
+        let a = dropped_signals g h 19 in
+        let b = dropped_signals (dropped g 19) a 20 in
+        let c = dropped_signals (dropped (dropped g 19) 20) b 21 in
+        dropped_signals (dropped (dropped (dropped g 19) 20) 21) c 22
+
+    go : (stop cont : Bool) → AreSignals (cond stop (dropped g cont_number) (cond cont (without_stops g) g))
+    go true cont = dropped_signals g h cont_number
+    go false true = stops
+    go false false = h
+
+-- where a process stands by job control is no matter
+pub job_signals : (g : Signals) → AreSignals g → (j : Job) → AreSignals (with_job g j)
+job_signals g h j = record { pending = h.pending; mask = h.mask; masks = h.masks; kill = h.kill; stop = h.stop }
+
+noticed_signals : (g : Signals) → AreSignals g → (n : ℕ) → AreSignals (noticed g n)
+noticed_signals g h n = go (n == cont_number)
+  where
+    go : (b : Bool) → AreSignals (cond b (with_job g (continued g.job)) g)
+    go true = job_signals g h (continued g.job)
+    go false = h
+
 module _ (g : Signals) (h : AreSignals g) where
   pending_set : (s : Signal) (o : Option Cause) (n : ℕ) → is_signal n ≡ false → get_or (set g.pending s.number o) n None ≡ None
   pending_set s o n no_signal =
       let apart : n ≢ s.number = (λ same. let is : is_signal n ≡ true = ap is_signal same ∙ s.in_range in cc (is, no_signal)) in
       get_or-set_other g.pending s.number n o None apart ∙ h.pending n no_signal
 
-  pub pending_signals : (s : Signal) (cause : Cause) → AreSignals (with_pending g s cause)
-  pending_signals s cause = go (is_some (cause_of g s.number))
+  added_signals : (s : Signal) (cause : Cause) → AreSignals (added g s.number cause)
+  added_signals s cause = go (is_some (cause_of g s.number))
     where
       go : (b : Bool) → AreSignals (cond b g (record g { pending = set g.pending s.number (Some cause) }))
       go true = h
-      go false = record { pending = pending_set s (Some cause); mask = h.mask; masks = h.masks; kill = h.kill }
+      go false = record { pending = pending_set s (Some cause); mask = h.mask; masks = h.masks; kill = h.kill; stop = h.stop }
 
   pub taken_signals : (s : Signal) → AreSignals (without_pending g s)
-  taken_signals s = record { pending = pending_set s None; mask = h.mask; masks = h.masks; kill = h.kill }
+  taken_signals s = job_signals (dropped g s.number) (dropped_signals g h s.number) (job_of s.number)
+
+  pub settled_signals : AreSignals (settled g)
+  settled_signals = job_signals g h Free
 
   -- Masks.
 
   pub masked_signals : (set : ℕ) → IsMask set → AreSignals (record g { mask = set })
-  masked_signals set mask = record { pending = h.pending; mask = mask; masks = h.masks; kill = h.kill }
+  masked_signals set mask = record { pending = h.pending; mask = mask; masks = h.masks; kill = h.kill; stop = h.stop }
 
-  handled_is_other : (s : Signal) (cause : Cause) (a : Action) → reaction g s cause ≡ reaction_is.Handles a → (action_of g s.number ≡ a) × ((s.number == 9) ≡ false)
+  handled_is_other : (s : Signal) (cause : Cause) (a : Action) → reaction g s cause ≡ reaction_is.Handles a → (action_of g s.number ≡ a) × (is_fixed s.number ≡ false)
   handled_is_other s cause a is = go (is_fault cause && (has g.mask s.number || is_ignored g s.number)) is
     where
-      not_kill : (b : Bool) → (s.number == 9) ≡ b → ((action_of g s.number).handler == 0) ≡ false → b ≡ false
-      not_kill false e at = refl
-      not_kill true e at =
-          let number : s.number ≡ 9 = grind (arith, nat_tests, e) in
-          let zero_handler : ((action_of g s.number).handler == 0) ≡ true = ap (λ n. (action_of g n).handler == 0) number ∙ ap (λ (x : Action). x.handler == 0) h.kill in
+      not_default : (n : ℕ) → action_of g n ≡ default → (b : Bool) → (s.number == n) ≡ b → ((action_of g s.number).handler == 0) ≡ false → b ≡ false
+      not_default n default false e at = refl
+      not_default n default true e at =
+          let number : s.number ≡ n = grind (arith, nat_tests, e) in
+          let zero_handler : ((action_of g s.number).handler == 0) ≡ true = ap (λ n. (action_of g n).handler == 0) number ∙ ap (λ (x : Action). x.handler == 0) default in
           absurd (cc (zero_handler, at))
 
-      go : (b : Bool) → cond b reaction_is.Ends (acts (action_of g s.number) s.number) ≡ reaction_is.Handles a → (action_of g s.number ≡ a) × ((s.number == 9) ≡ false)
+      neither : (x y : Bool) → x ≡ false → y ≡ false → (x || y) ≡ false
+      neither true y e f = absurd (cc e)
+      neither false y e f = f
+
+      go : (b : Bool) → cond b reaction_is.Ends (acts (action_of g s.number) s.number) ≡ reaction_is.Handles a → (action_of g s.number ≡ a) × (is_fixed s.number ≡ false)
       go true e = absurd (cc e)
-      go false e = let it = handles_own (action_of g s.number) a s.number e in (it.0, not_kill (s.number == 9) refl it.1)
+      go false e =
+          let it = handles_own (action_of g s.number) a s.number e in
+          (it.0, neither (s.number == 9) (s.number == 19) (not_default 9 h.kill (s.number == 9) refl it.1) (not_default 19 h.stop (s.number == 19) refl it.1))
 
   pub blocked_signals : (s : Signal) (cause : Cause) (a : Action) → reaction g s cause ≡ reaction_is.Handles a → AreSignals (blocking g s a)
   blocked_signals s cause a is =
@@ -192,7 +245,7 @@ module _ (g : Signals) (h : AreSignals g) where
       let own : IsMask a.mask = subst (λ x. IsMask (mask_of x)) it.0 (h.masks s.number) in
       masked_signals (handler_mask g.mask s a) (go (defers_nothing a) (or_mask g.mask a.mask h.mask own) it.1)
     where
-      go : (b : Bool) → IsMask (bit_or g.mask a.mask) → (s.number == 9) ≡ false → IsMask (cond b (bit_or g.mask a.mask) (with_bit (bit_or g.mask a.mask) s.number))
+      go : (b : Bool) → IsMask (bit_or g.mask a.mask) → is_fixed s.number ≡ false → IsMask (cond b (bit_or g.mask a.mask) (with_bit (bit_or g.mask a.mask) s.number))
       go true both other = both
       go false both other = or_mask (bit_or g.mask a.mask) (2 ^ (s.number - 1)) both (lone_mask s.number s.in_range other)
 
@@ -202,7 +255,7 @@ module _ (g : Signals) (h : AreSignals g) where
   -- Actions.
 
   pub exec_signals : AreSignals (after_exec g)
-  exec_signals = record { pending = h.pending; mask = h.mask; masks = masks; kill = mapped 9 ∙ ap without_handler h.kill }
+  exec_signals = record { pending = h.pending; mask = h.mask; masks = masks; kill = mapped 9 ∙ ap without_handler h.kill; stop = mapped 19 ∙ ap without_handler h.stop }
     where
       mapped : (n : ℕ) → action_of (after_exec g) n ≡ without_handler (action_of g n)
       mapped n = get_or-map without_handler g.actions n default
@@ -215,7 +268,7 @@ module _ (g : Signals) (h : AreSignals g) where
       masks n = subst (λ x. IsMask (mask_of x)) (sym (mapped n)) (either (action_of g n) (nat_lt 1 (action_of g n).handler) (h.masks n))
 
   pub child_signals : AreSignals (of_child g)
-  child_signals = record { pending = λ n no_signal. nothing 32 n; mask = h.mask; masks = h.masks; kill = h.kill }
+  child_signals = record { pending = λ n no_signal. nothing 32 n; mask = h.mask; masks = h.masks; kill = h.kill; stop = h.stop }
 
   leaves_signals : (m : Result Memory ℕ) (x : Signals) → AreSignals x → IsLeft (leaves m x)
   leaves_signals (Err e) x k = tt
@@ -225,12 +278,13 @@ module _ (g : Signals) (h : AreSignals g) where
   either_left true x y k j = k
   either_left false x y k j = j
 
-  set_action : (n : ℕ) (a : Action) → IsMask a.mask → (n == 9) ≡ false → AreSignals (record g { actions = set g.actions n a })
+  set_action : (n : ℕ) (a : Action) → IsMask a.mask → is_fixed n ≡ false → AreSignals (record g { actions = set g.actions n a })
   set_action n a mask other = record {
     pending = h.pending;
     mask = h.mask;
     masks = λ i. go i (i == n) refl;
-    kill = get_or-set_other g.actions n 9 a default (λ same. let e : (n == 9) ≡ true = grind (arith, nat_tests, same) in cc (e, other)) ∙ h.kill;
+    kill = get_or-set_other g.actions n 9 a default (λ same. let e : is_fixed n ≡ true = ap is_fixed (sym same) in cc (e, other)) ∙ h.kill;
+    stop = get_or-set_other g.actions n 19 a default (λ same. let e : is_fixed n ≡ true = ap is_fixed (sym same) in cc (e, other)) ∙ h.stop;
   }
     where
       here : (b : Bool) → nat_lt n (length g.actions) ≡ b → IsMask (mask_of (get_or (set g.actions n a) n default))
@@ -247,8 +301,14 @@ module _ (g : Signals) (h : AreSignals g) where
           let same : n ≡ i = grind (arith, nat_tests, eq) in
           subst (λ j. IsMask (mask_of (get_or (set g.actions n a) j default))) same (here (nat_lt n (length g.actions)) refl)
 
-  may_not_kill : (n : ℕ) (a : Action) → may_set n (Some a) ≡ true → (n == 9) ≡ false
-  may_not_kill n a may = grind (arith, nat_tests, may)
+  may_not_fixed : (n : ℕ) (a : Action) → may_set n (Some a) ≡ true → is_fixed n ≡ false
+  may_not_fixed n a = go (is_signal n) (n == 9) (n == 19) (not (has_other_flags a.flags))
+    where
+      go : (signal kill stop plain : Bool) → (signal && not kill && not stop && plain) ≡ true → (kill || stop) ≡ false
+      go false kill stop plain e = absurd (cc e)
+      go true true stop plain e = absurd (cc e)
+      go true false true plain e = absurd (cc e)
+      go true false false plain e = refl
 
   acted_signals : (m : Memory) (n : ℕ) (new : Option Action) (old : ℕ) → ((a : Action) → new ≡ Some a → IsMask a.mask) → IsLeft (acted g m n new old)
   unfolding acted
@@ -256,7 +316,7 @@ module _ (g : Signals) (h : AreSignals g) where
   acted_signals m n (Some a) old mask = go (may_set n (Some a)) refl
     where
       go : (b : Bool) → may_set n (Some a) ≡ b → IsLeft (cond b (leaves (given m old (action_bytes (action_of g n))) (record g { actions = set g.actions n a })) (Err einval))
-      go true may = leaves_signals (given m old (action_bytes (action_of g n))) (record g { actions = set g.actions n a }) (set_action n a (mask a refl) (may_not_kill n a may))
+      go true may = leaves_signals (given m old (action_bytes (action_of g n))) (record g { actions = set g.actions n a }) (set_action n a (mask a refl) (may_not_fixed n a may))
       go false may = tt
 
   read_mask : (m : Memory) (at : ℕ) (a : Action) → new_action m at ≡ Some a → IsMask a.mask
@@ -307,4 +367,11 @@ module _ (g : Signals) (h : AreSignals g) where
       (changed_signals m (argument call 0) (new_set m (argument call 1)) (argument call 2) (read_set m (argument call 1))))
 
 pub first_signals : AreSignals no_signals
-first_signals = record { pending = λ n other. nothing 32 n; mask = no_mask; masks = λ n. subst (λ x. IsMask (mask_of x)) (sym (all_default 32 n)) no_mask; kill = all_default 32 9 }
+first_signals = record { pending = λ n other. nothing 32 n; mask = no_mask; masks = λ n. subst (λ x. IsMask (mask_of x)) (sym (all_default 32 n)) no_mask; kill = all_default 32 9; stop = all_default 32 19 }
+
+-- a signal is sent
+pub pending_signals : (g : Signals) → AreSignals g → (s : Signal) (cause : Cause) → AreSignals (with_pending g s cause)
+unfolding sent
+pending_signals g h s cause =
+    let rest = without_opposites g s.number in
+    noticed_signals (added rest s.number cause) (added_signals rest (opposed_signals g h s.number) s cause) s.number

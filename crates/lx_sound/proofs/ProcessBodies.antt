@@ -31,7 +31,7 @@ use Rattle.lx_files.specs.Trees.{node_at}
 use Rattle.lx_files.specs.declared.places.Place.{Place}
 use Rattle.lx_proc.specs.declared.state.Shared.{Shared}
 use Rattle.lx_proc.specs.declared.state.UserState.{UserState}
-use Rattle.lx_proc.specs.State.{with_entries, directory}
+use Rattle.lx_proc.specs.State.{directory}
 use Rattle.lx_proc.specs.Texts.{Text, Whole, TooLong, Unreadable, text_at, list_at}
 use Rattle.lx_proc.specs.Answers.{Answers, argument, low_argument, gives}
 use Rattle.lx_exec.specs.Execve.{execve, program, with_path, runs_at, runs_node, runs_file, renews}
@@ -51,7 +51,7 @@ use Rattle.lx_pcalls.specs.RtSigprocmask.{rt_sigprocmask}
 use Rattle.lx_pcalls.specs.RtSigreturn.{rt_sigreturn}
 use Rattle.lx_pcalls.specs.SchedYield.{sched_yield}
 use Rattle.lx_pcalls.specs.Signals.{leaves}
-use Rattle.lx_pcalls.specs.Wait4.{wait4, waits, reaps, may_wait, first_child, word_in}
+use Rattle.lx_pcalls.specs.Wait4.{wait4, waits, reaps, told_child, may_wait, no_hang, first_child, word_in}
 use Rattle.lx_sound.specs.Pages.{HasFewPages}
 use Rattle.lx_sound.proofs.Pages.{written_few, unmapped_few, within_few, program_few, image_laid_out}
 use Rattle.lx_sound.proofs.Bodies.{LeavesFew, LeavesFewIf, either_few, unless_few, given_few, granted_few, gives_few, step_few}
@@ -161,20 +161,20 @@ module _ (child : ℕ) (s : Shared) (p : ℕ) (call : Call) (b : UserState) (few
 
   reaps_few : (n word : ℕ) → LeavesFew (reaps s b call n word)
   reaps_few n word =
-      let left : Shared = with_entries s (maps.remove s.entries n) in
+      let left : Shared = told_child s n in
       either_few (argument call 1 == 0) (Returns left b n) (gives left b (argument call 1) (to_le_bytes w32 word) n) few
       (gives_few left b (argument call 1) (to_le_bytes w32 word) n few)
 
   waits_few : (o : Option ℕ) → LeavesFew (waits s b call o)
-  waits_few None = either_few (argument call 2 == 1) (Returns s b 0) Blocks few tt
-  waits_few (Some n) = given_few (word_in (maps.get s.entries n)) echild (reaps s b call n) (λ w. reaps_few n w)
+  waits_few None = either_few (no_hang call) (Returns s b 0) Blocks few tt
+  waits_few (Some n) = given_few (word_in (argument call 2) (maps.get s.entries n)) echild (reaps s b call n) (λ w. reaps_few n w)
 
   wait4_few : LeavesFew (wait4 s p call b)
   unfolding wait4
   wait4_few =
       unless_few (may_wait call) einval _ (λ e.
-      unless_few (is_some (first_child s.entries p (low_argument call 0) false)) echild _ (λ e1.
-      waits_few (first_child s.entries p (low_argument call 0) true)))
+      unless_few (is_some (first_child s.entries p (low_argument call 0) None)) echild _ (λ e1.
+      waits_few (first_child s.entries p (low_argument call 0) (Some (argument call 2)))))
 
   clone_few : LeavesFew (clone s child p call b)
   unfolding clone

@@ -33,7 +33,8 @@ use Rattle.lx_proc.specs.declared.state.Life.{Life}
 use Rattle.lx_proc.specs.declared.state.Life.TheVariants.{Alive, Dying, Zombie}
 use Rattle.lx_proc.specs.declared.state.Shared.{Shared}
 use Rattle.lx_proc.specs.declared.state.UserState.{UserState}
-use Rattle.lx_proc.specs.State.{with_entries, with_signals, with_signals_at, directory}
+use Rattle.lx_proc.specs.Families.{is_zombie}
+use Rattle.lx_proc.specs.State.{changed, with_entries, with_news, with_signals, with_signals_at, directory}
 use Rattle.lx_proc.specs.Texts.{Text, Whole, TooLong, Unreadable, text_at, list_at}
 use Rattle.lx_proc.specs.Answers.{Answers, argument, low_argument, given, granted, gives}
 use Rattle.lx_exec.specs.Execve.{execve, program, with_path, runs_at, runs_node, runs_file, renews, renewed}
@@ -53,7 +54,7 @@ use Rattle.lx_pcalls.specs.RtSigprocmask.{rt_sigprocmask}
 use Rattle.lx_pcalls.specs.RtSigreturn.{rt_sigreturn}
 use Rattle.lx_pcalls.specs.SchedYield.{sched_yield}
 use Rattle.lx_pcalls.specs.Signals.{leaves}
-use Rattle.lx_pcalls.specs.Wait4.{wait4, waits, reaps, may_wait, first_child, word_in}
+use Rattle.lx_pcalls.specs.Wait4.{wait4, waits, reaps, told_child, told_entry, may_wait, no_hang, first_child, word_in}
 use Rattle.lx_sound.specs.Masks.{AreSignals}
 use Rattle.lx_sound.specs.Parts.{lives, EntrySound, PartsSound}
 use Rattle.lx_sound.proofs.Masks.{IsLeft, exec_signals, child_signals, popped_signals, sigaction_signals, sigprocmask_signals}
@@ -81,15 +82,24 @@ sends_keep : (s : Shared) (p target : ℕ) (signal : Option Signal) → Keeps s 
 sends_keep s p target None = keeps_all s
 sends_keep s p target (Some signal) = changed_keeps s target (λ e. sent_to e e.life p signal) (λ e. sent_life e e.life p signal) (λ e h. sent_sound s.tree e e.life p signal h)
 
--- who has a word to be waited for is a zombie
-zombie_leaves : (o : Option Entry) (w : ℕ) → word_in o ≡ Some w → SameEntry o None
-zombie_leaves None w e = tt
-zombie_leaves (Some x) w e = go x.life refl e
+zombie_is : (life : Life) → is_zombie life ≡ true → (w : ℕ) × (life ≡ Zombie w)
+zombie_is Alive h = absurd (cc h)
+zombie_is (Dying w) h = absurd (cc h)
+zombie_is (Zombie w) h = (w, refl)
+
+-- a child that was told of leaves the table as a zombie, or has no news
+told_keeps : (s : Shared) (n : ℕ) → Keeps s (told_child s n)
+told_keeps s n = told (maps.get s.entries n) refl
   where
-    go : (l : Life) → x.life ≡ l → word_in (Some (record x { life = l })) ≡ Some w → (v : ℕ) × (x.life ≡ Zombie v)
-    go Alive is h = absurd (cc h)
-    go (Dying v) is h = absurd (cc h)
-    go (Zombie v) is h = (v, is)
+    told : (o : Option Entry) → maps.get s.entries n ≡ o → Keeps s (with_entries s (told_entry s.entries n o))
+    told None there = keeps_all s
+    told (Some e) there = go (is_zombie e.life) refl
+      where
+        go : (b : Bool) → is_zombie e.life ≡ b → Keeps s (with_entries s (cond b (maps.remove s.entries n) (changed s.entries n (λ e. with_news e None))))
+        go true zombie =
+            entries_keep s (maps.remove s.entries n)
+            (taken_same s.entries n (subst (λ o. SameEntry o None) (sym there) (zombie_is e.life zombie))) (taken_sound s.tree s.entries n)
+        go false other = changed_keeps s n (λ e. with_news e None) (λ e. refl) (λ e h. record { directory = h.directory; signals = h.signals })
 
 renewed_keeps : (s : Shared) (p : ℕ) → lives (maps.get s.entries p) ≡ true → Keeps s (renewed s p)
 renewed_keeps s p alive =
@@ -140,23 +150,22 @@ module _ (child : ℕ) (s : Shared) (p : ℕ) (call : Call) (b : UserState) (h :
       given_kept child s p (highest_free b.memory pages map_low map_high) enomem (maps_at s b pages rights)
       (λ a e1. unless_kept child s p (is_none (limit_fault (mapped b.memory a (4096 * pages) rights))) enomem _ (λ e2. keeps_all s)))
 
-  reaps_kept : (n word : ℕ) → word_in (maps.get s.entries n) ≡ Some word → Kept (reaps s b call n word)
-  reaps_kept n word is =
-      let left : Shared = with_entries s (maps.remove s.entries n) in
-      let keeps : Keeps s left = entries_keep s (maps.remove s.entries n) (taken_same s.entries n (zombie_leaves (maps.get s.entries n) word is)) (taken_sound s.tree s.entries n) in
-      either_kept child s p (argument call 1 == 0) (Returns left b n) (gives left b (argument call 1) (to_le_bytes w32 word) n) keeps
-      (λ e. gives_kept child s p left b (argument call 1) (to_le_bytes w32 word) n keeps)
+  reaps_kept : (n word : ℕ) → Kept (reaps s b call n word)
+  reaps_kept n word =
+      let left : Shared = told_child s n in
+      either_kept child s p (argument call 1 == 0) (Returns left b n) (gives left b (argument call 1) (to_le_bytes w32 word) n) (told_keeps s n)
+      (λ e. gives_kept child s p left b (argument call 1) (to_le_bytes w32 word) n (told_keeps s n))
 
   waits_kept : (o : Option ℕ) → Kept (waits s b call o)
-  waits_kept None = either_kept child s p (argument call 2 == 1) (Returns s b 0) Blocks (keeps_all s) (λ e. tt)
-  waits_kept (Some n) = given_kept child s p (word_in (maps.get s.entries n)) echild (reaps s b call n) (λ w is. reaps_kept n w is)
+  waits_kept None = either_kept child s p (no_hang call) (Returns s b 0) Blocks (keeps_all s) (λ e. tt)
+  waits_kept (Some n) = given_kept child s p (word_in (argument call 2) (maps.get s.entries n)) echild (reaps s b call n) (λ w is. reaps_kept n w)
 
   wait4_kept : Kept (wait4 s p call b)
   unfolding wait4
   wait4_kept =
       unless_kept child s p (may_wait call) einval _ (λ e.
-      unless_kept child s p (is_some (first_child s.entries p (low_argument call 0) false)) echild _ (λ e1.
-      waits_kept (first_child s.entries p (low_argument call 0) true)))
+      unless_kept child s p (is_some (first_child s.entries p (low_argument call 0) None)) echild _ (λ e1.
+      waits_kept (first_child s.entries p (low_argument call 0) (Some (argument call 2)))))
 
   clone_kept : Kept (clone s child p call b)
   unfolding clone

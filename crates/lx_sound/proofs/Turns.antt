@@ -30,12 +30,12 @@ use Rattle.lx_files.specs.declared.tree.Tree.{Tree}
 use Rattle.lx_open.specs.Opens.{pair, no_fds}
 use Rattle.lx_open.specs.declared.description.Slot.{Slot}
 use Rattle.lx_open.specs.declared.description.Object.TheVariants.{Input, Console}
-use Rattle.lx_model.specs.Machine.{with_result, Refused, Returns, Jumps, Execs, Bears, Blocks, Ends, Took, Passes, Kills}
-use Rattle.lx_model.specs.Turn.{Out, turn, killed_or, lives, joins, stepped, answered, took}
+use Rattle.lx_model.specs.Machine.{with_result, Refused, Returns, Jumps, Execs, Bears, Blocks, Ends, Took, Passes, Stops, Kills}
+use Rattle.lx_model.specs.Turn.{Out, gives, turn, killed_or, lives, joins, stepped, answered, halts, took, wakes}
 use Rattle.lx_model.specs.Kernel.{Script, Kernel, traces, choice_at, put, after_turn, with_child, first_kernel, kernel_turn, kernel_run, born}
 use Rattle.lx_model.specs.Finite.{Is, Running, at}
 use Rattle.lx_model.specs.declared.stage.Stage.{Stage}
-use Rattle.lx_model.specs.declared.stage.Stage.TheVariants.{Born, Run, Faulting, Entered, Doing, Replaced, Acted, Finished, Taken, Dropped}
+use Rattle.lx_model.specs.declared.stage.Stage.TheVariants.{Born, Run, Faulting, Entered, Doing, Replaced, Acted, Finished, Taken, Dropped, Stopped, Released, Woken}
 use Rattle.lx_model.specs.declared.stage.Task.{Task}
 use Rattle.lx_model.specs.declared.stage.Task.TheVariants as task
 use Rattle.lx_sig.specs.Frames.{frame_fault, blocking}
@@ -55,6 +55,7 @@ use Rattle.lx_exec.specs.Programs.{stub_image, booted}
 use Rattle.lx_fcalls.specs.Calls.{file_call}
 use Rattle.lx_pcalls.specs.Calls.{process_call}
 use Rattle.lx_pcalls.specs.Interruption.{is_interrupted, interruptible, blocks_or_returns}
+use Rattle.lx_pcalls.specs.Stops.{is_continued_at, settles, stopped, woken}
 use Rattle.lx_pcalls.specs.Taking.{takes, takes_at, reacts}
 use Rattle.lx_turn.specs.Calls.{does, called}
 use Rattle.lx_turn.specs.Linux.{linux}
@@ -77,7 +78,7 @@ use Rattle.lx_sound.proofs.Booted.{IsWithin, boots_within}
 use Rattle.lx_sound.proofs.Keeping.{Keeps, keeps_all, keeps_then, changed_keeps, kept_sound, DoesKeep, KeptIf}
 use Rattle.lx_sound.proofs.Files.{files_kept}
 use Rattle.lx_sound.proofs.Processes.{processes_kept}
-use Rattle.lx_sound.proofs.Ends.{stands, stays_gone, dies_sound, buried_sound, bears_sound}
+use Rattle.lx_sound.proofs.Ends.{stands, stays_gone, dies_sound, buried_sound, bears_sound, stopped_keeps, settles_keep, woken_keeps}
 
 -- Calls and signals.
 
@@ -136,6 +137,7 @@ does_few child s p call b few =
 
 abbrev TookFew : Took Shared UserState → Type 0
 TookFew (Passes t c) = HasFewPages c.memory
+TookFew Stops = Unit {0}
 TookFew (Kills w) = Unit {0}
 
 either_took_few : (t : Bool) (x y : Took Shared UserState) → TookFew x → TookFew y → TookFew (cond t x y)
@@ -144,6 +146,7 @@ either_took_few false x y h g = g
 
 reacts_few : (s : Shared) (p : ℕ) (e : Entry) (b : UserState) (signal : Signal) (r : Reaction) → HasFewPages b.memory → TookFew (reacts s p e b signal r)
 reacts_few s p e b signal reaction.Passes few = few
+reacts_few s p e b signal reaction.Stops few = tt
 reacts_few s p e b signal reaction.Ends few = tt
 reacts_few s p e b signal (reaction.Handles a) few = either_took_few (is_some (frame_fault b.memory b.hart)) _ _ tt (written_few b.memory _ _ few)
 
@@ -157,6 +160,7 @@ takes_few s p b signal cause few = takes_at_few s p b signal cause (maps.get s.e
 
 abbrev TookKeeps : Shared → Took Shared UserState → Type 0
 TookKeeps s (Passes t c) = Keeps s t
+TookKeeps s Stops = Unit {0}
 TookKeeps s (Kills w) = Unit {0}
 
 took_either : (s : Shared) (t : Bool) (x y : Took Shared UserState) → TookKeeps s x → TookKeeps s y → TookKeeps s (cond t x y)
@@ -165,6 +169,7 @@ took_either s false x y h g = g
 
 reacts_kept : (s : Shared) (p : ℕ) (e : Entry) (b : UserState) (signal : Signal) (cause : Cause) → AreSignals e.signals → (r : Reaction) → reaction_to e.signals signal cause ≡ r → TookKeeps s (reacts s p e b signal r)
 reacts_kept s p e b signal cause within reaction.Passes is = keeps_all s
+reacts_kept s p e b signal cause within reaction.Stops is = tt
 reacts_kept s p e b signal cause within reaction.Ends is = tt
 reacts_kept s p e b signal cause within (reaction.Handles a) is =
     took_either s (is_some (frame_fault b.memory b.hart)) _ _ tt
@@ -241,8 +246,21 @@ module _ (k : Kernel Shared UserState) (p : ℕ) (b : UserState) (stage : Stage)
   answered_sound call Blocks g few = here b (Doing call) own
   answered_sound call (Ends w) g few = ends w
 
-  took_sound : (signal : Signal) (cause : Cause) (t : Took Shared UserState) → TookKeeps k.shared t → TookFew t → Goes (took linux k.shared p signal cause t)
-  took_sound signal cause (Passes t c) g few = on t c Run few g
+  -- it leaves the signal that it took, or its group stop
+  settles_sound : Goes (gives (settles k.shared p) (task.Alive b Run))
+  settles_sound = on (settles k.shared p) b Run own (settles_keep k.shared p)
+
+  halts_sound : (signal : Signal) (continued : Bool) → Goes (halts continued linux k.shared p b signal)
+  halts_sound signal true = settles_sound
+  halts_sound signal false = on (stopped k.shared p signal) b (Stopped signal) own (stopped_keeps k.shared p signal)
+
+  wakes_sound : (signal : Signal) (continued : Bool) → Goes (wakes continued linux k.shared p b signal)
+  wakes_sound signal true = on (woken k.shared p) b Woken own (woken_keeps k.shared p)
+  wakes_sound signal false = here b (Stopped signal) own
+
+  took_sound : (signal : Signal) (cause : Cause) (t : Took Shared UserState) → TookKeeps k.shared t → TookFew t → Goes (took linux k.shared p b signal cause t)
+  took_sound signal cause (Passes t c) g few = on (settles t p) c Run few (keeps_then k.shared t (settles t p) g (settles_keep t p))
+  took_sound signal cause Stops g few = halts_sound signal (is_continued_at (maps.get k.shared.entries p))
   took_sound signal cause (Kills w) g few = ends w
 
 lives_sound : (c : Choice) (k : Kernel Shared UserState) (p : ℕ) (b : UserState) (stage : Stage) → k.tasks p ≡ task.Alive b stage → IsSound k → IsSound (next k p (lives linux c k.shared k.child p b stage))
@@ -257,7 +275,10 @@ lives_sound c k p b (Acted call x replaced) is h = here k p b (Acted call x repl
 lives_sound c k p b Finished is h = here k p b Finished is h b Run (own k p b Finished is h)
 lives_sound c k p b (Taken signal cause) is h =
     took_sound k p b (Taken signal cause) is h signal cause (takes k.shared p b signal cause) (takes_kept k.shared p b signal cause h.parts) (takes_few k.shared p b signal cause (own k p b (Taken signal cause) is h))
-lives_sound c k p b Dropped is h = here k p b Dropped is h b Run (own k p b Dropped is h)
+lives_sound c k p b Dropped is h = settles_sound k p b Dropped is h
+lives_sound c k p b (Stopped signal) is h = wakes_sound k p b (Stopped signal) is h signal (is_continued_at (maps.get k.shared.entries p))
+lives_sound c k p b Released is h = settles_sound k p b Released is h
+lives_sound c k p b Woken is h = here k p b Woken is h b Run (own k p b Woken is h)
 
 killed_sound : (killed : Bool) (c : Choice) (k : Kernel Shared UserState) (p : ℕ) (b : UserState) (stage : Stage) → k.tasks p ≡ task.Alive b stage → IsSound k → IsSound (next k p (killed_or killed linux c k.shared k.child p b stage))
 killed_sound true c k p b stage is h = ends k p b stage is h 9

@@ -3,13 +3,13 @@ use Rattle.lx_model.specs.Finite.{Running}
 use Rattle.lx_proc.specs.declared.state.Shared.{Shared}
 use Rattle.lx_proc.specs.declared.state.UserState.{UserState}
 use Rattle.lx_kernel.specs.Runs.{Run}
-use Rattle.lx_kernel.specs.Tracing.{task_in, with_change, with_part, with_part_at}
+use Rattle.lx_kernel.specs.Tracing.{task_in, with_change, with_part}
 use Rattle.lx_kernel.proofs.Reaching.{whole}
 use Rattle.lx_model.specs.Finite.{at}
 use Rattle.lx_model.specs.declared.stage.Task.TheVariants.{Gone}
 use Rattle.lx_kernel.specs.Scheduling.{Tasks}
-use Rattle.lx_kernel.specs.Sleeping.{Watch}
-use Rattle.lx_kernel.proofs.Watching.{watch_kept, part_kept, changed_kept}
+use Rattle.lx_kernel.specs.Sleeping.{AreWatched}
+use Rattle.lx_kernel.proofs.Watching.{awake_kept, wake_watch}
 use Rattle.lx_kernel.proofs.kernel.Kernel.set_stage.Goals as goal
 
 pub returns-clause-part : goal.returns-clause-part
@@ -27,6 +27,8 @@ invariant_of-self c = λ e.
     let h = c.self.invariant e in
     let x = (with_change c.args.change (at Gone k.tasks c.args.pid)) in (
       h.0,
-      subst (λ (o : Tasks). Watch k.run_queue k.shared o) (sym c.set_stage.ensures.part)
-          (watch_kept k.run_queue k.shared k.tasks (with_part_at k.tasks c.args.pid x) (part_kept k.shared k.tasks c.args.pid x (changed_kept k.shared c.args.pid c.args.change (at Gone k.tasks c.args.pid))) h.1),
+      λ known.
+          subst (λ (o : Tasks). AreWatched c.keep_awake.new.self k.shared o) (sym c.set_stage.ensures.part)
+          (awake_kept c.keep_awake.new.self k.shared k.tasks c.args.pid x (c.keep_awake.ensures.itself known)
+          (wake_watch k.run_queue c.keep_awake.new.self k.shared k.tasks c.args.pid c.keep_awake.ensures.others c.keep_awake.ensures.itself h.1 known)),
     )

@@ -9,7 +9,7 @@ use Rattle.lx_abi.specs.Occurrences.{count_of}
 use Rattle.lx_kernel.specs.Runs.{Run, turn_in, after_turn, mode_in}
 use Rattle.lx_turn.proofs.Consoles.{on_err}
 use Rattle.lx_kernel.proofs.Turning.{kernel_item, kernel_event, kernel_left, kernel_born, kernel_console, kernel_turned}
-use Rattle.lx_kernel.specs.Sleeping.{AreListed, IsWatched, welcomed}
+use Rattle.lx_kernel.specs.Sleeping.{AreOthersListed, IsWatched, welcomed}
 use Rattle.lx_kernel.specs.Scheduling.{Tasks}
 use Rattle.lx_turn.specs.Turned.{unboxed}
 use Rattle.lx_kernel.specs.declared.run_queue.RunQueue.{RunQueue}
@@ -72,9 +72,11 @@ wake_told-requires c = λ known.
     let v : Running Shared UserState = record { shared = k.shared; tasks = k.tasks; child = k.child; log = k.log.items } in
     let watch = (c.self.invariant c.if-self.false).1 (c.welcome.ensures.known known) in
     let event = unboxed c.in_ok-taken.taken.done in
-    subst (λ (sets : RunQueue). AreListed sets c.place_child.new.tasks) (sym (c.welcome.ensures.sets known))
-    (subst (λ (tasks : Tasks). AreListed (welcomed k.run_queue k.child event) tasks) (sym c.in_ok-place_child.ensures.tasks)
-    (turn_listed v k.script k.follow c.args.pid (λ n. count_of k.occurrences c.args.pid n) c.turn_at.new.item c.in_ok-taken.taken.done c.turn_at.new.shared c.turn_at.new.tasks c.in_ok-taken.ensures.turns k.run_queue watch))
+    let told = c.in_ok-taken.taken.told in
+    subst (λ (sets : RunQueue). AreOthersListed sets c.turn_at.new.shared c.place_child.new.tasks c.args.pid told) (sym (c.welcome.ensures.sets known))
+    (subst (λ (tasks : Tasks). AreOthersListed (welcomed k.run_queue k.child event) c.turn_at.new.shared tasks c.args.pid told) (sym c.in_ok-place_child.ensures.tasks)
+    (turn_listed v k.script k.follow c.args.pid (λ n. count_of k.occurrences c.args.pid n) c.turn_at.new.item c.in_ok-taken.taken.done c.turn_at.new.shared c.turn_at.new.tasks c.in_ok-taken.ensures.turns k.run_queue watch
+    told c.in_ok-taken.ensures.stopped))
 
 pub pass-requires-clause-others : goal.pass-requires-clause-others
 pass-requires-clause-others c = λ calm known q up ne.

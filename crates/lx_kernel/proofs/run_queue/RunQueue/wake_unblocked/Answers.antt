@@ -5,7 +5,7 @@ pub loop-pid-preserved : goal.loop-pid-preserved
 loop-pid-preserved c = record {
   listed = λ known.
       let same = c.sort.ensures.others known in
-      listed_but c.loop-pid.self c.sort.new.self c.args.shared.now c.args.tasks.now c.in-Some.pid same (c.sort.ensures.itself known) (c.loop-pid.invariant.listed same.0);
+      listed_but c.loop-pid.self c.sort.new.self c.args.shared.now c.args.tasks.now c.in-Some.pid same (c.sort.ensures.itself known) (λ q up ne. c.loop-pid.invariant.listed same.0 q up);
   seen = λ known.
       let same = c.sort.ensures.others known in
       blocked_up_to c.loop-pid.self c.args.shared.now c.args.tasks.now c.loop-pid.passed (c.loop-pid.invariant.listed same.0) (c.loop-pid.invariant.seen same.0) c.sort.new.self c.in-Some.pid c.in-Some.ensures same (c.sort.ensures.itself known);

@@ -5,7 +5,7 @@ use Rattle.lx_kernel.proofs.run_queue.RunQueue.wake_unblocked.Given as goal
 
 abbrev pub invariant-loop-pid : goal.invariant-loop-pid
 invariant-loop-pid l = record {
-  listed : l.self.known ≡ true → AreListed l.self l.tasks;
+  listed : l.self.known ≡ true → AreListed l.self l.shared l.tasks;
   seen : l.self.known ≡ true → BlockedUpTo l.self l.shared l.tasks l.passed;
 }
 
