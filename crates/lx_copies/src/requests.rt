@@ -34,6 +34,7 @@ impl Copied for Ask {
             Ask::Syscall { signal } => Ok(Ask::Syscall { signal: *signal }),
             Ask::EventMsg => Ok(Ask::EventMsg),
             Ask::SigInfo => Ok(Ask::SigInfo),
+            Ask::Listen => Ok(Ask::Listen),
         }
     }
 }
@@ -57,6 +58,7 @@ impl Same for Ask {
             (Ask::Syscall { signal }, Ask::Syscall { signal: others }) => signal == others,
             (Ask::EventMsg, Ask::EventMsg) => true,
             (Ask::SigInfo, Ask::SigInfo) => true,
+            (Ask::Listen, Ask::Listen) => true,
             _ => false,
         }
     }

@@ -5,11 +5,12 @@ use Rattle.std.specs.Option.{option_map}
 use Rattle.std.specs.Ordering.{nat_cmp}
 use Rattle.std.specs.FinMap as maps
 use Rattle.lx_abi.specs.declared.ptrace.Ask.{Ask}
-use Rattle.lx_abi.specs.declared.ptrace.Ask.TheVariants.{Seize, SetOptions, GetRegs, SetRegs, Peek, Syscall, EventMsg, SigInfo}
+use Rattle.lx_abi.specs.declared.ptrace.Ask.TheVariants.{Seize, SetOptions, GetRegs, SetRegs, Peek, Syscall, EventMsg, SigInfo, Listen}
 use Rattle.lx_abi.specs.declared.ptrace.Reply.{Reply}
 use Rattle.lx_abi.specs.declared.ptrace.Reply.TheVariants.{Done as Agreed}
 use Rattle.lx_abi.specs.declared.ptrace.Request.{Request}
 use Rattle.lx_model.specs.declared.stage.Stage.{Stage}
+use Rattle.lx_model.specs.declared.stage.Stage.TheVariants.{Born, Run, Faulting, Entered, Doing, Replaced, Acted, Finished, Taken, Dropped, Stopped, Released, Woken}
 use Rattle.lx_model.specs.declared.stage.Task.{Task}
 use Rattle.lx_model.specs.declared.stage.Task.TheVariants.{Alive, Dying, Gone}
 use Rattle.lx_model.specs.Finite.{at, placed, with_task}
@@ -25,7 +26,7 @@ use Rattle.lx_abi.specs.declared.ptrace.TraceOptions.{TraceOptions}
 use Rattle.pt_model.specs.declared.ptrace.Traced.{Traced}
 use Rattle.lx_abi.specs.Options.{trace_options}
 use Rattle.pt_model.specs.Ptrace.{Proc}
-use Rattle.pt_model.specs.Requests.{esrch, eio, Answered, says, goes_from, stopped, seize, unseized}
+use Rattle.pt_model.specs.Requests.{esrch, eio, Answered, says, let_go, goes_from, stopped, seize, unseized}
 use Rattle.pt_model.specs.Hosting.{Hosted, as_proc, untraced, with_answer, hosting_to}
 use Rattle.pt_kernel.specs.declared.tracees.Tracees.{Tracees}
 use Rattle.pt_kernel.specs.Stops.{is_alive, seize_options}
@@ -116,6 +117,26 @@ goes_on k p b stage n e goes k' there part =
     (subst (λ l. GoesOn k p b ((row stage).resume n) (is_some (option_map (λ s. Alive b s) ((row stage).resume n))) l) (sym (part ∙ ap (λ task. with_part k p (with_change (Resume n) task)) e))
     (goes_to k p b ((row stage).resume n)))
 
+-- Listen lets go where a process stands, at a group stop alone
+
+listened : (t : Proc UserState) (b : UserState) (stage : Stage) → goes_from t b (row stage).listen ≡ cond (is_some (row stage).listen) (let_go t b stage) (says t eio)
+listened t b Born = refl
+listened t b Run = refl
+listened t b (Faulting signal cause) = refl
+listened t b (Entered joined) = refl
+listened t b (Doing call) = refl
+listened t b (Replaced call r) = refl
+listened t b (Acted call r replaced) = refl
+listened t b Finished = refl
+listened t b (Taken signal cause) = refl
+listened t b Dropped = refl
+listened t b (Stopped signal) = refl
+listened t b Released = refl
+listened t b Woken = refl
+
+pub listens_by : (t : Proc UserState) (b : UserState) (stage : Stage) (c : Bool) → is_some (row stage).listen ≡ c → goes_from t b (row stage).listen ≡ cond c (let_go t b stage) (says t eio)
+listens_by t b stage c e = listened t b stage ∙ ap (λ x. cond x (let_go t b stage) (says t eio)) e
+
 -- Before Seize
 
 pub not_seized : (t : Proc UserState) (q : Ask) → seize_options q ≡ None → unseized t q ≡ says t esrch
@@ -127,6 +148,7 @@ not_seized t (Peek address length) e = refl
 not_seized t (Syscall n) e = refl
 not_seized t EventMsg e = refl
 not_seized t SigInfo e = refl
+not_seized t Listen e = refl
 
 options_of : (o options : ℕ) → Some o ≡ Some options → o ≡ options
 options_of o options e = cc
@@ -140,6 +162,7 @@ is_seized t (Peek address length) options e = absurd (cc e)
 is_seized t (Syscall n) options e = absurd (cc e)
 is_seized t EventMsg options e = absurd (cc e)
 is_seized t SigInfo options e = absurd (cc e)
+is_seized t Listen options e = absurd (cc e)
 
 -- The whole
 

@@ -7,7 +7,7 @@ use Rattle.lx_abi.specs.Log.{entries}
 use Rattle.lx_abi.specs.Scripts.{choice_of}
 use Rattle.lx_abi.specs.declared.script.Choice.{Choice}
 use Rattle.lx_model.specs.declared.stage.Stage.{Stage}
-use Rattle.lx_model.specs.declared.stage.Stage.TheVariants.{Born, Run, Faulting, Entered, Doing, Replaced, Acted, Finished, Taken, Dropped}
+use Rattle.lx_model.specs.declared.stage.Stage.TheVariants.{Born, Run, Faulting, Entered, Doing, Replaced, Acted, Finished, Taken, Dropped, Stopped, Released, Woken}
 use Rattle.lx_model.specs.declared.stage.Task.{Task}
 use Rattle.lx_model.specs.declared.stage.Task.TheVariants.{Alive, Dying, Gone}
 use Rattle.lx_model.specs.Machine.{Ran, Goes, Calls, Faults, Takes}
@@ -61,6 +61,9 @@ stage_in_run b (Acted call x replaced) h = absurd (cc h)
 stage_in_run b Finished h = absurd (cc h)
 stage_in_run b (Taken signal cause) h = absurd (cc h)
 stage_in_run b Dropped h = absurd (cc h)
+stage_in_run b (Stopped signal) h = absurd (cc h)
+stage_in_run b Released h = absurd (cc h)
+stage_in_run b Woken h = absurd (cc h)
 
 task_in_run : (e : Option Entry) (task : Task UserState) → kernel_mode e task ≡ Some mode.Run → (c : UserState) × (task ≡ Alive c Run)
 task_in_run e (Alive b stage) h = stage_in_run b stage h
@@ -113,19 +116,19 @@ with_run v r turns = record { running = r; traced = v.traced; queue = v.queue; t
 
 -- nothing changes of who isn't held
 module _ (v : Linux_host) (p child : ℕ) (c : UserState) where
-  kept_by : (o : Option Traced) → maps.get v.traced p ≡ o → (unwrap_or o untraced).held ≡ false → traced_after v.traced p child (unwrap_or o untraced).message (unwrap_or o untraced).options (Alive c Run) Plain ≡ v.traced
+  kept_by : (o : Option Traced) → maps.get v.traced p ≡ o → (unwrap_or o untraced).held ≡ false → traced_after v.traced p child (unwrap_or o untraced).message (unwrap_or o untraced).options (Alive c Run) None Plain ≡ v.traced
   kept_by None e h = refl
   kept_by (Some t) e h = of_options t.options refl
     where
-      of_options : (w : Option TraceOptions) → t.options ≡ w → traced_after v.traced p child t.message w (Alive c Run) Plain ≡ v.traced
+      of_options : (w : Option TraceOptions) → t.options ≡ w → traced_after v.traced p child t.message w (Alive c Run) None Plain ≡ v.traced
       of_options None f = refl
       of_options (Some w) f = put_same v.traced p (record { held = false; options = Some w; message = t.message })
           (e ∙ ap₂ (λ held options. Some (record { held = held; options = options; message = t.message })) h f)
 
-  kept : (traced_at v p).held ≡ false → traced_after v.traced p child (traced_at v p).message (traced_at v p).options (Alive c Run) Plain ≡ v.traced
+  kept : (traced_at v p).held ≡ false → traced_after v.traced p child (traced_at v p).message (traced_at v p).options (Alive c Run) None Plain ≡ v.traced
   kept h = kept_by (maps.get v.traced p) refl h
 
-no_reports : (v : Linux_host) (p : ℕ) (w : Option TraceOptions) (c : UserState) → v.queue ++ reports_of p (stop_at {B = UserState} w (Alive c Run) Plain) ≡ v.queue
+no_reports : (v : Linux_host) (p : ℕ) (w : Option TraceOptions) (c : UserState) → v.queue ++ reports_of p (stop_at {B = UserState} w (Alive c Run) None Plain) ≡ v.queue
 no_reports v p None c = append-nil v.queue
 no_reports v p (Some w) c = append-nil v.queue
 

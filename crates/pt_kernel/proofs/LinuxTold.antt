@@ -3,9 +3,10 @@ use Rattle.std.proofs.Common.{◌≡◌, ℕ, zero, suc, ◌+◌, ◌≤◌, ◌
 use Rattle.std.specs.FinMap as maps
 use Rattle.std.proofs.lemmas.Bool.Decides.{nat_tests}
 use Rattle.lx_abi.specs.declared.log.Call.{Call}
-use Rattle.lx_abi.specs.Signals.{is_signal}
+use Rattle.lx_abi.specs.Signals.{is_signal, is_stop}
+use Rattle.lx_abi.specs.declared.signal.Signal.{Signal}
 use Rattle.rv_mem.specs.Memory.{Memory, Cell, mapped_prefix}
-use Rattle.lx_model.specs.Machine.{Answer, Refused, Returns, Jumps, Execs, Bears, Blocks, Ends, Took, Passes, Kills}
+use Rattle.lx_model.specs.Machine.{Answer, Refused, Returns, Jumps, Execs, Bears, Blocks, Ends, Took, Passes, Stops, Kills}
 use Rattle.lx_abi.specs.Calls.{has_effects}
 use Rattle.lx_abi.specs.Effects.{forks, execs, exits}
 use Rattle.pt_model.specs.Admissible.{is_exit_word}
@@ -41,11 +42,23 @@ tells s child c (Ends w) h = (h.0, exit_word (argument c 0) w h.1)
 
 abbrev end_fits : Took Shared UserState → Bool
 end_fits (Passes s b) = true
+end_fits Stops = true
 end_fits (Kills w) = is_signal w
 
-ends_fit : (s : Shared) (t : Took Shared UserState) → TookFits s t → end_fits t ≡ true
-ends_fit s (Passes u b) h = refl
-ends_fit s (Kills w) h = h
+ends_fit : (s : Shared) (signal : Signal) (t : Took Shared UserState) → TookFits s signal t → end_fits t ≡ true
+ends_fit s signal (Passes u b) h = refl
+ends_fit s signal Stops h = refl
+ends_fit s signal (Kills w) h = h
+
+abbrev stop_fits : Signal → Took Shared UserState → Bool
+stop_fits signal (Passes s b) = true
+stop_fits signal Stops = is_stop signal.number
+stop_fits signal (Kills w) = true
+
+stops_fit : (s : Shared) (signal : Signal) (t : Took Shared UserState) → TookFits s signal t → stop_fits signal t ≡ true
+stops_fit s signal (Passes u b) h = refl
+stops_fit s signal Stops h = h
+stops_fit s signal (Kills w) h = refl
 
 one_more : (o : Option Cell) (rest : List ℕ) (n : ℕ) → length rest ≤ n → length (elim o as (λ _. List ℕ) [ None ↦ [] | Some c ↦ c.byte ∷ rest ]) ≤ suc n
 one_more None rest n h = omega arith
@@ -61,6 +74,7 @@ linux_told fit took = record {
   by_clone = λ s t child p c b d born e. subst (Tells c) e (tells s child c (linux.call s child p c b) (fit s child p c b));
   by_execve = λ s t child p c b d e. subst (Tells c) e (tells s child c (linux.call s child p c b) (fit s child p c b));
   by_exit = λ s child p c b word e. subst (Tells c) e (tells s child c (linux.call s child p c b) (fit s child p c b));
-  by_signal = λ s p signal cause b word e. sym (ap end_fits e) ∙ ends_fit s (takes s p b signal cause) (took s p b signal cause);
+  by_signal = λ s p signal cause b word e. sym (ap end_fits e) ∙ ends_fit s signal (takes s p b signal cause) (took s p b signal cause);
+  by_stop = λ s p signal cause b e. sym (ap (stop_fits signal) e) ∙ stops_fit s signal (takes s p b signal cause) (took s p b signal cause);
   peeks = λ b a n. no_more_than_asked b.memory a n;
 }

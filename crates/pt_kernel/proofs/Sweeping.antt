@@ -14,7 +14,7 @@ use Rattle.lx_abi.specs.declared.ptrace.Request.TheVariants.{Boot as Boot_with, 
 use Rattle.lx_abi.specs.declared.schedule.Event.{Event}
 use Rattle.lx_abi.specs.declared.schedule.Event.TheVariants.{Turn, Serve}
 use Rattle.lx_abi.specs.declared.status.Stop.{Stop}
-use Rattle.lx_abi.specs.declared.status.Stop.TheVariants.{Syscall as Syscall_stop, Signal as Signal_stop, Event as Event_stop, Ended}
+use Rattle.lx_abi.specs.declared.status.Stop.TheVariants.{Syscall as Syscall_stop, Signal as Signal_stop, Group as Group_stop, Event as Event_stop, Ended}
 use Rattle.lx_model.specs.declared.stage.Task.{Task}
 use Rattle.lx_model.specs.declared.stage.Task.TheVariants.{Alive, Dying, Gone}
 use Rattle.lx_model.specs.declared.stage.Stage.TheVariants.{Born}
@@ -83,6 +83,7 @@ swept_to v p message t false w task q h = h
 swept_took : (v : Linux_host) (rest : List Report) (p : ℕ) (s : Stop) → IsSwept v.running → IsSwept (took_report v rest p s).running
 swept_took v rest p (Syscall_stop good) h = h
 swept_took v rest p (Signal_stop signal) h = h
+swept_took v rest p (Group_stop signal) h = h
 swept_took v rest p (Event_stop event) h = h
 swept_took v rest p (Ended word) h = h
 

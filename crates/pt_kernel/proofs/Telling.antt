@@ -9,13 +9,13 @@ use Rattle.lx_abi.specs.declared.log.Mode.TheVariants as mode
 use Rattle.lx_abi.specs.declared.script.Choice.{Choice}
 use Rattle.lx_abi.specs.declared.signal.Signal.{Signal}
 use Rattle.lx_model.specs.declared.stage.Stage.{Stage}
-use Rattle.lx_model.specs.declared.stage.Stage.TheVariants.{Born, Run, Faulting, Entered, Doing, Replaced, Acted, Finished, Taken, Dropped}
+use Rattle.lx_model.specs.declared.stage.Stage.TheVariants.{Born, Run, Faulting, Entered, Doing, Replaced, Acted, Finished, Taken, Dropped, Stopped, Released, Woken}
 use Rattle.lx_model.specs.declared.stage.Task.{Task}
 use Rattle.lx_model.specs.declared.stage.Task.TheVariants.{Alive, Dying, Gone}
-use Rattle.lx_model.specs.Machine.{Machine, Ran, Goes, Calls, Faults, Takes, Answer, Refused, Returns, Jumps, Execs, Bears, Blocks, Ends, Took, Passes, Kills}
+use Rattle.lx_model.specs.Machine.{Machine, Ran, Goes, Calls, Faults, Takes, Answer, Refused, Returns, Jumps, Execs, Bears, Blocks, Ends, Took, Passes, Stops, Kills}
 use Rattle.lx_model.specs.declared.event.PtraceEvent.{PtraceEvent}
 use Rattle.lx_model.specs.declared.event.PtraceEvent.TheVariants.{Plain, Execed, Forked}
-use Rattle.lx_model.specs.Turn.{Out, stepped, answered, took, lives, killed_or, turn}
+use Rattle.lx_model.specs.Turn.{Out, stepped, answered, halts, took, wakes, lives, killed_or, turn}
 use Rattle.lx_model.specs.Events.{by_pid}
 use Rattle.lx_model.specs.Kernel.{choice_at, traces}
 use Rattle.lx_model.specs.Finite.{at, item_of, Running, ran, bore, task_mode}
@@ -60,9 +60,18 @@ module _ {S B : Type 0} (m : Machine S B) where
   answered_at s child p b call Blocks e = absurd e
   answered_at s child p b call (Ends w) e = absurd e
 
-  took_at : (s : S) (p : ℕ) (signal : Signal) (cause : Cause) (t : Took S B) → AtItsCall (took m s p signal cause t)
-  took_at s p signal cause (Passes t c) e = absurd e
-  took_at s p signal cause (Kills w) e = absurd e
+  halts_at : (continued : Bool) (s : S) (p : ℕ) (b : B) (signal : Signal) → AtItsCall (halts continued m s p b signal)
+  halts_at true s p b signal e = absurd e
+  halts_at false s p b signal e = absurd e
+
+  wakes_at : (continued : Bool) (s : S) (p : ℕ) (b : B) (signal : Signal) → AtItsCall (wakes continued m s p b signal)
+  wakes_at true s p b signal e = absurd e
+  wakes_at false s p b signal e = absurd e
+
+  took_at : (s : S) (p : ℕ) (b : B) (signal : Signal) (cause : Cause) (t : Took S B) → AtItsCall (took m s p b signal cause t)
+  took_at s p b signal cause (Passes t c) e = absurd e
+  took_at s p b signal cause Stops e = halts_at (m.continued s p) s p b signal e
+  took_at s p b signal cause (Kills w) e = absurd e
 
   lives_at : (c : Choice) (s : S) (child p : ℕ) (b : B) (stage : Stage) → AtItsCall (lives m c s child p b stage)
   lives_at c s child p b Born e = absurd e
@@ -73,8 +82,11 @@ module _ {S B : Type 0} (m : Machine S B) where
   lives_at c s child p b (Replaced call x) e = absurd e
   lives_at c s child p b (Acted call x replaced) e = absurd e
   lives_at c s child p b Finished e = absurd e
-  lives_at c s child p b (Taken signal cause) e = took_at s p signal cause (m.take s p signal cause b) e
+  lives_at c s child p b (Taken signal cause) e = took_at s p b signal cause (m.take s p signal cause b) e
   lives_at c s child p b Dropped e = absurd e
+  lives_at c s child p b (Stopped signal) e = wakes_at (m.continued s p) s p b signal e
+  lives_at c s child p b Released e = absurd e
+  lives_at c s child p b Woken e = absurd e
 
   killed_at : (killed : Bool) (c : Choice) (s : S) (child p : ℕ) (b : B) (stage : Stage) → AtItsCall (killed_or killed m c s child p b stage)
   killed_at true c s child p b stage e = absurd e
@@ -121,8 +133,8 @@ pub left_at : (v : Running Shared UserState) (p : ℕ) (o : Out Shared UserState
 left_at v p o = ap (λ (f : ℕ → Task UserState). f p) (at-placed v.tasks p o.task) ∙ put_here (at Gone v.tasks) p o.task
 
 module _ (v : Running Shared UserState) (p child : ℕ) (o : Out Shared UserState) where
-  stop_of : (w : TraceOptions) (e : PtraceEvent UserState) → told_stop w (task_mode o.task) (item_of o) (by_pid child e) ≡ tracee_stop w o.task e → (IsBirth e → task_mode o.task ≡ Some mode.Acted) →
-      turn_stop w (stands (bore (ran v p o) e) p) (item_of o) (by_pid child e) ≡ tracee_stop w o.task e
+  stop_of : (w : TraceOptions) (e : PtraceEvent UserState) → told_stop w (task_mode o.task) (item_of o) (by_pid child e) ≡ tracee_stop w o.task o.item e → (IsBirth e → task_mode o.task ≡ Some mode.Acted) →
+      turn_stop w (stands (bore (ran v p o) e) p) (item_of o) (by_pid child e) ≡ tracee_stop w o.task o.item e
   stop_of w Plain told bears = ap (λ task. told_stop w (kernel_mode (maps.get o.shared.entries p) task) (item_of o) Plain) (left_at v p o) ∙ same_stop w (maps.get o.shared.entries p) o.task (item_of o) Plain ∙ told
   stop_of w Execed told bears = ap (λ task. told_stop w (kernel_mode (maps.get o.shared.entries p) task) (item_of o) Execed) (left_at v p o) ∙ same_stop w (maps.get o.shared.entries p) o.task (item_of o) Execed ∙ told
   stop_of w (Forked b) told bears = sym (ap (λ x. told_stop w x (item_of o) (Forked child)) (bears tt)) ∙ told
@@ -136,7 +148,7 @@ module _ (k : KernelRun) (p : ℕ) where
   abbrev chosen_in : Choice
   chosen_in = choice_at linux (choice_of k.script) (traces k.follow p) (λ n. entries p n k.running.log) (task_in k p)
 
-  pub stop_after_turn : (w : Option TraceOptions) → stop_after w (mode_in (after_turn k p) p) (item_of (turn_in k p)) (by_pid k.running.child (turn_in k p).event) ≡ stop_at w (turn_in k p).task (turn_in k p).event
+  pub stop_after_turn : (w : Option TraceOptions) → stop_after w (mode_in (after_turn k p) p) (item_of (turn_in k p)) (by_pid k.running.child (turn_in k p).event) ≡ stop_at w (turn_in k p).task (turn_in k p).item (turn_in k p).event
   stop_after_turn None = refl
   stop_after_turn (Some w) = stop_of k.running p k.running.child (turn_in k p) w (turn_in k p).event
       (turns_tell linux chosen_in k.running.shared k.running.child p (task_in k p) w).0
@@ -160,6 +172,9 @@ lives_at_stage (Acted call r replaced) b x = refl
 lives_at_stage Finished b x = refl
 lives_at_stage (Taken signal cause) b x = refl
 lives_at_stage Dropped b x = refl
+lives_at_stage (Stopped signal) b x = refl
+lives_at_stage Released b x = refl
+lives_at_stage Woken b x = refl
 
 buried_lives : (e : Entry) (l : Life) → lives_in (life_mode (Some (record e { life = l }))) ≡ false
 buried_lives e life.Alive = refl

@@ -28,7 +28,7 @@ use Rattle.pt_kernel.specs.Hosts.{Linux_host, hosting_by}
 use Rattle.pt_kernel.proofs.Telling.{stop_after_turn, dies_after_turn}
 
 abbrev turned_by : Option TraceOptions → Out Shared UserState → PtraceEvent UserState → ℕ → Turned
-turned_by w o e child = record { stop = stop_at w o.task e; dying = is_dying o.task; event = by_pid child e }
+turned_by w o e child = record { stop = stop_at w o.task o.item e; dying = is_dying o.task; event = by_pid child e }
 
 module _ (r : Running Shared UserState) (x : Tracees) (turns : List ℕ) (pending : Option Request) where
   child_is : (s : Running Shared UserState) (y : Tracees) (ts : List ℕ) (child : ℕ) (w : Option TraceOptions) → with_newborn (hosting_by s y ts pending) child w ≡ hosting_by s (tracees_with y child w) ts pending
@@ -44,7 +44,7 @@ module _ (r : Running Shared UserState) (x : Tracees) (turns : List ℕ) (pendin
   hosted_at p t o (Some w) Plain = refl
   hosted_at p t o (Some w) Execed = refl
   hosted_at p t o (Some w) (Forked b) = child_is (bore (ran r p (record o { event = Forked b })) (Forked b))
-      (record { traced = stopped_at x.traced p t.message (Some w) (turned_by (Some w) o (Forked b) r.child); queue = cond (is_dying o.task) (without p x.queue) x.queue ++ reports_of p (stop_at (Some w) o.task (Forked b)); pids = x.pids })
+      (record { traced = stopped_at x.traced p t.message (Some w) (turned_by (Some w) o (Forked b) r.child); queue = cond (is_dying o.task) (without p x.queue) x.queue ++ reports_of p (stop_at (Some w) o.task o.item (Forked b)); pids = x.pids })
       (turns ++ p ∷ []) r.child (inherits (Some w))
 
   -- a turn that is effective

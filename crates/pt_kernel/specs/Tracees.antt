@@ -5,7 +5,7 @@ use Rattle.std.specs.FinMap as maps
 use Rattle.lx_abi.specs.declared.ptrace.Reply.{Reply}
 use Rattle.lx_abi.specs.declared.status.EventStop.TheVariants.{Stop as At_start}
 use Rattle.lx_abi.specs.declared.status.Stop.{Stop}
-use Rattle.lx_abi.specs.declared.status.Stop.TheVariants.{Syscall as Syscall_stop, Signal as Signal_stop, Event as Event_stop, Ended}
+use Rattle.lx_abi.specs.declared.status.Stop.TheVariants.{Syscall as Syscall_stop, Signal as Signal_stop, Group as Group_stop, Event as Event_stop, Ended}
 use Rattle.lx_abi.specs.declared.ptrace.TraceOptions.{TraceOptions}
 use Rattle.pt_model.specs.declared.ptrace.Report.{Report}
 use Rattle.pt_model.specs.declared.ptrace.Traced.{Traced}
@@ -66,6 +66,7 @@ pub record Waited : Type 0 where
 abbrev pub took : Tracees → List Report → ℕ → Stop → Tracees
 took x rest p (Syscall_stop good) = record x { queue = rest }
 took x rest p (Signal_stop signal) = record x { queue = rest }
+took x rest p (Group_stop signal) = record x { queue = rest }
 took x rest p (Event_stop event) = record x { queue = rest }
 took x rest p (Ended word) = record {
   traced = released x.traced p (maps.get x.traced p);

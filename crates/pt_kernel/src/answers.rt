@@ -30,6 +30,8 @@ use std::alloc::AllocError;
 /// si_code of a signal that the kernel sends (sigaction(2)).
 const SI_KERNEL: u32 = 0x80;
 
+const SIGCONT: u32 = 18;
+
 fn refusal(errno: Errno) -> Reply
     ensures { result ≡ Reply.Errno errno.number }
 {
@@ -47,6 +49,8 @@ fn info_of(signal: Signal, cause: Cause) -> Info
         Cause::Kernel => (SI_KERNEL, 0, 0, 0),
         Cause::Exited { pid, code } => (1, pid, u32::from(code), 0),
         Cause::Killed { pid, signal } => (2, pid, u32::from(signal), 0),
+        Cause::Stopped { pid, signal } => (5, pid, u32::from(signal), 0),
+        Cause::Continued { pid } => (6, pid, SIGCONT, 0),
         Cause::Fault { code, address } => (u32::from(code), 0, 0, address),
     };
     Info {
@@ -118,12 +122,7 @@ fn syscall(
     if !kernel.resume(pid, signal) {
         return Ok(refusal(Errno::EIO));
     }
-    let released = Traced {
-        held: false,
-        options: traced.options,
-        message: traced.message,
-    };
-    tracees.set(pid, released)?;
+    tracees.let_go(pid, traced)?;
     Ok(Reply::Done)
 }
 
@@ -150,6 +149,24 @@ fn set_options(
             Ok(Reply::Done)
         }
     }
+}
+
+/// A tracee at a group stop is let go, and stays stopped.
+fn listen(
+    kernel: &Kernel,
+    tracees: &mut Tracees,
+    pid: u32,
+    traced: Traced,
+) -> Result<Reply, AllocError>
+    requires { maps.get tracees.old.traced pid ≡ Some traced }
+    ensures { IfOk result
+        (λ r. Answers kernel.now tracees.old pid traced Asks.Listen r kernel.now tracees.new) }
+{
+    if !kernel.listens(pid) {
+        return Ok(refusal(Errno::EIO));
+    }
+    tracees.let_go(pid, traced)?;
+    Ok(Reply::Done)
 }
 
 /// A held tracee that lives is answered.
@@ -189,6 +206,10 @@ fn answer_stopped(
             pid: u64::from(traced.message),
         }),
         Ask::SigInfo => Ok(sig_info(kernel, pid)),
+        Ask::Listen => {
+            let reply = listen(kernel, tracees, pid, traced)?;
+            Ok(reply)
+        }
     }
 }
 

@@ -8,7 +8,7 @@ ghost use Rattle.lx_turn.specs.Linux.{linux};
 use lx_kernel::laws::words_are_logged;
 use lx_proc::{Shared, UserState};
 use lx_turn::laws::{calls_fit, linux_is_a_machine};
-use pt_model::laws::{every_script_is_one, hosts_run_alike, tracing_is_transparent, turns_tell};
+use pt_model::laws::{hosts_run_alike, tracing_is_transparent, turns_tell};
 
 /// What wait(2) tells of Linux's calls fits their numbers, and no read of a memory gives more bytes than were asked
 /// for.
@@ -24,7 +24,6 @@ pub fn boots_leave_as_plain()
     ensures { BootsLeaveAsPlain }
 {
     linux_is_transparent();
-    every_script_is_one();
     words_are_logged();
 }
 

@@ -26,12 +26,13 @@ fn event_stop(options: TraceOptions, event: PtraceEvent<u32>) -> Option<Stop>
     }
 }
 
-/// A signal that was taken, or an end, is that of the item.
+/// A signal that was taken, a group stop or an end is that of the item.
 fn item_stop(item: Option<Item>) -> Option<Stop>
     ensures { result ≡ item_stop item }
 {
     match item? {
         Item::Taken { signal, .. } => Some(Stop::Signal { signal }),
+        Item::Stopped { signal, .. } => Some(Stop::Group { signal }),
         Item::Exit { word, .. } => Some(Stop::Ended { word }),
         Item::Enter { .. } | Item::Done { .. } => None,
     }
@@ -49,7 +50,10 @@ fn mode_stop(
     match mode {
         Mode::Entered | Mode::Finished => Some(Stop::Syscall { good: options.good }),
         Mode::Acted => event_stop(options, event),
-        Mode::Taken | Mode::Dying => item_stop(item),
+        Mode::Taken | Mode::Stopped | Mode::Dying => item_stop(item),
+        Mode::Woken => Some(Stop::Event {
+            event: EventStop::Stop,
+        }),
         Mode::Born | Mode::Run | Mode::Faulting | Mode::Doing | Mode::Zombie => None,
     }
 }

@@ -99,6 +99,20 @@ impl Tracees {
         Ok(())
     }
 
+    /// A process is held no more.
+    pub fn let_go(&mut self, pid: u32, traced: Traced) -> Result<(), AllocError>
+        ensures { OnOk result
+            (self.new ≡ record self.old { traced = released self.old.traced pid (Some traced) }) }
+    {
+        let released = Traced {
+            held: false,
+            options: traced.options,
+            message: traced.message,
+        };
+        self.set(pid, released)?;
+        Ok(())
+    }
+
     /// A tracee that has come to a stop is held.
     fn stop(&mut self, pid: u32, traced: Traced, turned: Turned) -> Result<(), AllocError>
         ensures { OnOk result
@@ -225,12 +239,7 @@ impl Tracees {
         match self.traced.get(pid).copied() {
             None => Ok(()),
             Some(traced) => {
-                let released = Traced {
-                    held: false,
-                    options: traced.options,
-                    message: traced.message,
-                };
-                self.traced.insert(pid, released)?;
+                self.let_go(pid, traced)?;
                 Ok(())
             }
         }

@@ -15,7 +15,7 @@ use Rattle.lx_turn.specs.Modes.{life_mode, task_mode as kernel_mode}
 use Rattle.pt_schedule.specs.Modes.{is_finished, mode_number, is_run, same_mode, moves}
 
 mode_of : ℕ → Option Mode
-mode_of n = cond (n == 1) (Some mode.Born) (cond (n == 2) (Some mode.Run) (cond (n == 3) (Some mode.Faulting) (cond (n == 4) (Some mode.Entered) (cond (n == 5) (Some mode.Doing) (cond (n == 6) (Some mode.Acted) (cond (n == 7) (Some mode.Finished) (cond (n == 8) (Some mode.Taken) (cond (n == 9) (Some mode.Dying) (cond (n == 10) (Some mode.Zombie) None)))))))))
+mode_of n = cond (n == 1) (Some mode.Born) (cond (n == 2) (Some mode.Run) (cond (n == 3) (Some mode.Faulting) (cond (n == 4) (Some mode.Entered) (cond (n == 5) (Some mode.Doing) (cond (n == 6) (Some mode.Acted) (cond (n == 7) (Some mode.Finished) (cond (n == 8) (Some mode.Taken) (cond (n == 9) (Some mode.Dying) (cond (n == 10) (Some mode.Zombie) (cond (n == 11) (Some mode.Stopped) (cond (n == 12) (Some mode.Woken) None)))))))))))
 
 back : (x : Option Mode) → mode_of (mode_number x) ≡ x
 unfolding mode_of
@@ -30,6 +30,8 @@ back (Some mode.Finished) = refl
 back (Some mode.Taken) = refl
 back (Some mode.Dying) = refl
 back (Some mode.Zombie) = refl
+back (Some mode.Stopped) = refl
+back (Some mode.Woken) = refl
 
 equal_numbers : (m n : ℕ) → (m == n) ≡ true → m ≡ n
 equal_numbers m n h = grind (arith, nat_tests)

@@ -7,7 +7,7 @@ use Rattle.std.specs.FinMap as maps
 use Rattle.lx_abi.specs.Scripts.{no_choice}
 use Rattle.lx_abi.specs.declared.outcome.Outcome.{Outcome}
 use Rattle.lx_abi.specs.declared.ptrace.Ask.{Ask}
-use Rattle.lx_abi.specs.declared.ptrace.Ask.TheVariants.{Seize, SetOptions, GetRegs, SetRegs, Peek, Syscall, EventMsg, SigInfo}
+use Rattle.lx_abi.specs.declared.ptrace.Ask.TheVariants.{Seize, SetOptions, GetRegs, SetRegs, Peek, Syscall, EventMsg, SigInfo, Listen}
 use Rattle.lx_abi.specs.declared.ptrace.Reply.{Reply}
 use Rattle.lx_abi.specs.declared.ptrace.Request.{Request}
 use Rattle.lx_abi.specs.declared.ptrace.Request.TheVariants.{Boot as Boot_with, Wait, To, Outcome as Ask_outcome}
@@ -16,7 +16,7 @@ use Rattle.lx_abi.specs.Options.{trace_options}
 use Rattle.lx_abi.specs.declared.schedule.Event.{Event}
 use Rattle.lx_abi.specs.declared.schedule.Event.TheVariants.{Turn, Serve}
 use Rattle.lx_abi.specs.declared.status.Stop.{Stop}
-use Rattle.lx_abi.specs.declared.status.Stop.TheVariants.{Syscall as Syscall_stop, Signal as Signal_stop, Event as Event_stop, Ended}
+use Rattle.lx_abi.specs.declared.status.Stop.TheVariants.{Syscall as Syscall_stop, Signal as Signal_stop, Group as Group_stop, Event as Event_stop, Ended}
 use Rattle.lx_model.specs.Rows.{row}
 use Rattle.lx_model.specs.Turn.{Out}
 use Rattle.lx_model.specs.Kernel.{Script, put, after_turn, with_child}
@@ -80,7 +80,7 @@ module _ (h : TheHost) (p : ℕ) (w : Option TraceOptions) (o : Out Shared UserS
   there = moved h p w o
 
   moved_tasks : (q : ℕ) → put (λ i. (h.procs i).task) p o.task q ≡ (there.procs q).task
-  moved_tasks q = put_task h.procs p (proc_after w o.task o.event) q
+  moved_tasks q = put_task h.procs p (proc_after w o.task o.item o.event) q
 
   born_tasks : (b : UserState) (t : Proc UserState) → t.task ≡ task.Alive b Born → (q : ℕ) → put (put (λ i. (h.procs i).task) p o.task) h.child (task.Alive b Born) q ≡ (put there.procs h.child t q).task
   born_tasks b t is q = go (h.child == q)
@@ -140,6 +140,7 @@ module _ (t : Proc UserState) (b : UserState) (stage : Stage) (is : t.task ≡ t
   stopped_keeps message (Syscall n) = goes_keeps ((row stage).resume n)
   stopped_keeps message EventMsg = Stays refl
   stopped_keeps message SigInfo = Stays refl
+  stopped_keeps message Listen = goes_keeps (row stage).listen
 
 seize_keeps : (t : Proc UserState) (x : Option TraceOptions) → Keeps t (seize t x)
 seize_keeps t None = Stays refl
@@ -154,6 +155,7 @@ unseized_keeps t (Peek address length) = Stays refl
 unseized_keeps t (Syscall n) = Stays refl
 unseized_keeps t EventMsg = Stays refl
 unseized_keeps t SigInfo = Stays refl
+unseized_keeps t Listen = Stays refl
 
 answer_keeps : (message : ℕ) (t : Proc UserState) (held : Bool) (w : Option TraceOptions) (at : Task UserState) (q : Ask) → t.task ≡ at → Keeps t (answer_at linux message t held w at q)
 answer_keeps message t true (Some w) (task.Alive b stage) q is = stopped_keeps t b stage is message q
@@ -179,6 +181,7 @@ answered_sound h p a (Goes b c stage next is new kept) s =
 took_sound : (h : TheHost) (rest : List Report) (p : ℕ) (stop : Stop) → HostIsSound h → HostIsSound (take_report h rest p stop)
 took_sound h rest p (Syscall_stop good) s = s
 took_sound h rest p (Signal_stop signal) s = s
+took_sound h rest p (Group_stop signal) s = s
 took_sound h rest p (Event_stop event) s = s
 took_sound h rest p (Ended word) s =
     same_tasks h.shared _ _ h.child (stays_at h.procs p (record { task = (h.procs p).task; held = false; options = (h.procs p).options }) refl) s
