@@ -17,7 +17,7 @@ use Rattle.tr_values.specs.Descriptors.{directory, pair_read, pair}
 use Rattle.tr_values.specs.Signals.{name_of_signal, signal_or, signal_number, bare_signal, set_shown, set_read, signal_set, frame_mask}
 use Rattle.tr_values.specs.Actions.{handler, action_read, action}
 use Rattle.tr_values.specs.Files.{file_type, file_mode, stat_read, stat}
-use Rattle.tr_values.specs.WaitWords.{wait_word, word_read, wait_word_at, wait_status}
+use Rattle.tr_values.specs.WaitWords.{exited, signalled, stopped, unnamed, is_stop_word, wait_word, word_read, wait_word_at, wait_status}
 use Rattle.tr_values.specs.Children.{child_stack, clone_flags}
 use Rattle.tr_args.specs.Kinds.{has_failed, count_of, shown, is_result, argument, is_left_out, next_argument}
 use Rattle.tr_args.specs.Progress.{is_list}
@@ -153,24 +153,33 @@ pair_f : (address : ℕ) → Framed (pair address)
 unfolding pair
 pair_f address = struct_f address 8 pair_read pair_read_f
 
+exited_f : (word : ℕ) → Framed (exited word)
+exited_f word = after_f (put (codes "[{WIFEXITED(s) && WEXITSTATUS(s) == ")) (λ s. put (decimal (word / 256)) s >>= put (codes "}]")) (put_f (codes "[{WIFEXITED(s) && WEXITSTATUS(s) == ")) (closed_f (decimal (word / 256)) (codes "}]"))
+
+signalled_f : (word : ℕ) → Framed (signalled word)
+signalled_f word = after_f (put (codes "[{WIFSIGNALED(s) && WTERMSIG(s) == SIG")) (λ s. put (bare_signal word) s >>= put (codes "}]")) (put_f (codes "[{WIFSIGNALED(s) && WTERMSIG(s) == SIG")) (closed_f (bare_signal word) (codes "}]"))
+
+stopped_f : (word : ℕ) → Framed (stopped word)
+stopped_f word = after_f (put (codes "[{WIFSTOPPED(s) && WSTOPSIG(s) == SIG")) (λ s. put (bare_signal (word / 256)) s >>= put (codes "}]")) (put_f (codes "[{WIFSTOPPED(s) && WSTOPSIG(s) == SIG")) (closed_f (bare_signal (word / 256)) (codes "}]"))
+
+unnamed_f : (word : ℕ) → Framed (unnamed word)
+unnamed_f word = after_f (put (codes "[")) (λ s. hex word s >>= put (codes "]")) (put_f (codes "[")) (after_f (hex word) (put (codes "]")) (hex_f word) (put_f (codes "]")))
+
 word_f : (word : ℕ) → Framed (wait_word word)
 unfolding wait_word
-word_f word = either_f ((word % 256 == 0) && nat_lt word 65536) exited other
-    (after_f (put (codes "[{WIFEXITED(s) && WEXITSTATUS(s) == ")) (λ s. put (decimal (word / 256)) s >>= put (codes "}]")) (put_f (codes "[{WIFEXITED(s) && WEXITSTATUS(s) == ")) (closed_f (decimal (word / 256)) (codes "}]")))
-    (either_f (nat_lt 0 word && nat_lt word 32) signalled neither
-    (after_f (put (codes "[{WIFSIGNALED(s) && WTERMSIG(s) == SIG")) (λ s. put (bare_signal word) s >>= put (codes "}]")) (put_f (codes "[{WIFSIGNALED(s) && WTERMSIG(s) == SIG")) (closed_f (bare_signal word) (codes "}]")))
-    (after_f (put (codes "[")) _ (put_f _) (after_f (hex word) (put (codes "]")) (hex_f word) (put_f _)))) where
-      exited : Sheet → Shown
-      exited s = put (codes "[{WIFEXITED(s) && WEXITSTATUS(s) == ") s >>= λ s. put (decimal (word / 256)) s >>= put (codes "}]")
+word_f word =
+    either_f ((word % 256 == 0) && nat_lt word 65536) (exited word) unless_exited (exited_f word)
+    (either_f (nat_lt 0 word && nat_lt word 32) (signalled word) unless_signalled (signalled_f word)
+    (either_f (is_stop_word word) (stopped word) unless_stopped (stopped_f word)
+    (either_f (word == 65535) (put (codes "[{WIFCONTINUED(s)}]")) (unnamed word) (put_f (codes "[{WIFCONTINUED(s)}]")) (unnamed_f word)))) where
+      unless_stopped : Sheet → Shown
+      unless_stopped s = if word == 65535 then put (codes "[{WIFCONTINUED(s)}]") s else unnamed word s
 
-      signalled : Sheet → Shown
-      signalled s = put (codes "[{WIFSIGNALED(s) && WTERMSIG(s) == SIG") s >>= λ s. put (bare_signal word) s >>= put (codes "}]")
+      unless_signalled : Sheet → Shown
+      unless_signalled s = if is_stop_word word then stopped word s else unless_stopped s
 
-      neither : Sheet → Shown
-      neither s = put (codes "[") s >>= λ s. hex word s >>= put (codes "]")
-
-      other : Sheet → Shown
-      other s = if nat_lt 0 word && nat_lt word 32 then signalled s else neither s
+      unless_exited : Sheet → Shown
+      unless_exited s = if nat_lt 0 word && nat_lt word 32 then signalled word s else unless_signalled s
 
 word_at_f : (address : ℕ) → Framed (wait_word_at address)
 unfolding wait_word_at

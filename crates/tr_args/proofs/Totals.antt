@@ -1,5 +1,5 @@
 -- No text of a call reads more than 96 times.
-use Rattle.std.proofs.Common.{ℕ, zero, suc, ◌≡◌, ◌≤◌, ◌+◌, ◌-◌, ◌/◌, ◌%◌, ◌^◌, ◌==◌, ◌&&◌, nat_le, nat_lt, Bool, true, false, if◌then◌else◌, List, [], ◌∷◌, length, Option, Some, None, option_map, find, codes, refl, arith, decimal, lit≤}
+use Rattle.std.proofs.Common.{ℕ, zero, suc, ◌≡◌, ◌≤◌, ◌+◌, ◌-◌, ◌%◌, ◌^◌, ◌==◌, ◌&&◌, nat_le, nat_lt, Bool, true, false, if◌then◌else◌, List, [], ◌∷◌, length, Option, Some, None, option_map, find, codes, refl, arith, lit≤}
 use Rattle.std.specs.List.{list_all}
 use Rattle.std.proofs.lemmas.Bool.Decides.{nat_tests}
 use Rattle.lx_abi.specs.declared.calls.Argument.{Argument}
@@ -16,10 +16,10 @@ use Rattle.tr_values.specs.Flags.{open_flags, descriptor_flags, stat_flags, unli
 use Rattle.tr_values.specs.Structs.{struct, struct_read}
 use Rattle.tr_args.specs.Lists.{comma}
 use Rattle.tr_values.specs.Descriptors.{directory, pair_read, pair}
-use Rattle.tr_values.specs.Signals.{name_of_signal, signal_or, signal_number, bare_signal, set_shown, set_read, signal_set, frame_mask}
+use Rattle.tr_values.specs.Signals.{name_of_signal, signal_or, signal_number, set_shown, set_read, signal_set, frame_mask}
 use Rattle.tr_values.specs.Actions.{handler, action_read, action}
 use Rattle.tr_values.specs.Files.{file_type, file_mode, stat_read, stat}
-use Rattle.tr_values.specs.WaitWords.{wait_word, word_read, wait_word_at, wait_status}
+use Rattle.tr_values.specs.WaitWords.{exited, signalled, stopped as stopped_word, unnamed, is_stop_word, wait_word, word_read, wait_word_at, wait_status}
 use Rattle.tr_values.specs.Children.{child_stack, clone_flags}
 use Rattle.tr_args.specs.Kinds.{has_failed, count_of, shown, is_result, argument, is_left_out, next_argument}
 use Rattle.tr_args.specs.Arguments.{place, arguments, format_by, format_of, joint, entry, rest, half_by, half, wish_of}
@@ -55,18 +55,19 @@ pair_w address = struct_w address 8 pair_read refl (λ bs s. omega arith)
 
 word_w : (word : ℕ) → Within 0 (wait_word word)
 unfolding wait_word hex
-word_w word s = choose 0 s ((word % 256 == 0) && nat_lt word 65536) exited other (omega arith) (choose 0 s (nat_lt 0 word && nat_lt word 32) signalled neither (omega arith) (omega arith)) where
-  exited : Shown
-  exited = put (codes "[{WIFEXITED(s) && WEXITSTATUS(s) == ") s >>= λ s. put (decimal (word / 256)) s >>= put (codes "}]")
+word_w word s =
+    choose 0 s ((word % 256 == 0) && nat_lt word 65536) (exited word s) unless_exited (omega arith)
+    (choose 0 s (nat_lt 0 word && nat_lt word 32) (signalled word s) unless_signalled (omega arith)
+    (choose 0 s (is_stop_word word) (stopped_word word s) unless_stopped (omega arith)
+    (choose 0 s (word == 65535) (put (codes "[{WIFCONTINUED(s)}]") s) (unnamed word s) (omega arith) (omega arith)))) where
+      unless_stopped : Shown
+      unless_stopped = if word == 65535 then put (codes "[{WIFCONTINUED(s)}]") s else unnamed word s
 
-  signalled : Shown
-  signalled = put (codes "[{WIFSIGNALED(s) && WTERMSIG(s) == SIG") s >>= λ s. put (bare_signal word) s >>= put (codes "}]")
+      unless_signalled : Shown
+      unless_signalled = if is_stop_word word then stopped_word word s else unless_stopped
 
-  neither : Shown
-  neither = put (codes "[") s >>= λ s. hex word s >>= put (codes "]")
-
-  other : Shown
-  other = if nat_lt 0 word && nat_lt word 32 then signalled else neither
+      unless_exited : Shown
+      unless_exited = if nat_lt 0 word && nat_lt word 32 then signalled word s else unless_signalled
 
 word_at_w : (address : ℕ) → Within 1 (wait_word_at address)
 unfolding wait_word_at

@@ -1,6 +1,6 @@
-pub mod Joins
 pub mod Lowest
 pub mod Marks
+pub mod Named
 pub mod Numerals
 pub mod Readings
 pub mod Refusals

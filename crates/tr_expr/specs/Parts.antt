@@ -6,7 +6,7 @@ use Rattle.std.specs.Result.{result_ok}
 use Rattle.std.specs.Str.{bytes_eq}
 use Rattle.std.specs.List.{starts_with}
 use Rattle.lx_abi.specs.Errors.{errno_number}
-use Rattle.lx_abi.specs.Signals.{may_join, signal_numbered, signal_number}
+use Rattle.lx_abi.specs.Signals.{signal_numbered, signal_number}
 use Rattle.lx_abi.specs.declared.signal.Signal.{Signal as Posix}
 use Rattle.tr_expr.specs.Numbers.{number, within}
 use Rattle.tr_expr.specs.Texts.{has_mark, before_mark, after_mark}
@@ -65,19 +65,19 @@ retval_value text =
     else number 10 0 0x7fffffffffffffff text)
     BadNumber
 
--- the signal with this number, where kill(2) takes it: none of job control's
-abbrev pub joinable : ℕ → Option Posix
-joinable n = if may_join n then signal_numbered n else None
-
 abbrev pub numbered_signal : Option ℕ → Result Posix ExprFault
 numbered_signal None = Err BadNumber
-numbered_signal (Some n) = ok_or (joinable n) UnknownSignal
+numbered_signal (Some n) = ok_or (signal_numbered n) UnknownSignal
 
--- a number from 1 to 31, or a name with or without SIG
+-- with or without SIG
+abbrev pub named_signal : List ℕ → Result Posix ExprFault
+named_signal text = ok_or (option_and_then signal_numbered (signal_number text)) UnknownSignal
+
+-- a number from 1 to 31, or a name
 unfoldable pub signal_value : List ℕ → Result Posix ExprFault
 signal_value text =
     if begins_with_digit text then numbered_signal (number 10 1 31 text)
-    else ok_or (option_and_then joinable (signal_number text)) UnknownSignal
+    else named_signal text
 
 abbrev pub occurrences_value : List ℕ → Result Occurrences ExprFault
 occurrences_value text = ok_or (when_value text) BadWhen

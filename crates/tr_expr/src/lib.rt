@@ -7,7 +7,7 @@
 //! PARTS  parts joined by colons; of a repeated part the last counts
 //! part   error=E (a name, or 1 to 4095), retval=V (decimal, or hexadecimal behind 0x), signal=S
 //!        or when=W; fault= takes error and when alone, and fails with ENOSYS by itself
-//! S      a name, with or without SIG, or 1 to 31, of a signal that isn't job control's (CONT, STOP, TSTP, TTIN, TTOU)
+//! S      a signal: a name, with or without SIG, or 1 to 31
 //! W      FIRST, FIRST+, FIRST+STEP, FIRST..LAST, FIRST..LAST+ or FIRST..LAST+STEP: a first and a step from 1 to
 //!        65535, a last from 1 to 65534 that isn't before the first
 //! ```

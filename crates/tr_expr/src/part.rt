@@ -1,10 +1,7 @@
 //! One part of a tampering expression.
 
 ghost use Rattle.std.specs.Prelude.{◌≡◌, ◌≤◌, ◌<◌, ◌^◌, IfOk};
-ghost use Rattle.std.specs.Option.{ok_or};
-ghost use Rattle.lx_abi.specs.Signals.{may_join};
 ghost use Rattle.tr_expr.specs.Parts as spec;
-ghost use Rattle.tr_expr.specs.declared.fault.ExprFault.TheVariants.{UnknownSignal};
 ghost use Rattle.tr_expr.specs.Saids.{shown};
 
 use crate::fault::ExprFault;
@@ -81,35 +78,23 @@ pub(crate) fn retval(text: &str) -> Result<u64, ExprFault>
     value.ok_or(ExprFault::BadNumber)
 }
 
-/// A signal that kill(2) takes: job control's can't be joined.
-fn may_be_joined(number: u64) -> bool
-    ensures { result ≡ may_join number }
+/// A name, with or without `SIG`.
+fn named_signal(text: &str) -> Result<Signal, ExprFault>
+    ensures { result ≡ spec.named_signal text.now }
 {
-    matches!(number, 1..=17 | 23..=31)
+    Signal::from_name(text).ok_or(ExprFault::UnknownSignal)
 }
 
-fn joinable(number: u64) -> Result<Signal, ExprFault>
-    ensures { result ≡ ok_or (spec.joinable number) UnknownSignal }
-{
-    if !may_be_joined(number) {
-        return Err(ExprFault::UnknownSignal);
-    }
-    Signal::from_number(number).ok_or(ExprFault::UnknownSignal)
-}
-
-/// A name, with or without `SIG`, or a number from 1 to 31, of a signal that can be joined.
+/// A number from 1 to 31, or a name.
 #[tactic(auto, unfolding(crate::specs::Parts::signal_value))]
 pub(crate) fn signal(text: &str) -> Result<Signal, ExprFault>
     ensures { result ≡ spec.signal_value text.now }
 {
     match text.as_bytes().first() {
         Some(b'0'..=b'9') => match number(text, 10, 1, 31) {
-            Some(number) => joinable(number),
+            Some(number) => Signal::from_number(number).ok_or(ExprFault::UnknownSignal),
             None => Err(ExprFault::BadNumber),
         },
-        _ => match Signal::from_name(text) {
-            Some(signal) => joinable(u64::from(signal.number)),
-            None => Err(ExprFault::UnknownSignal),
-        },
+        _ => named_signal(text),
     }
 }

@@ -5,7 +5,7 @@ use Rattle.std.specs.Ordering.{nat_cmp, eq_by_cmp}
 use Rattle.std.proofs.lemmas.Cmp.{nat_cmp_total}
 use Rattle.std.specs.FinMap as maps
 use mathlib.Core.Path.{fun_ext}
-use Rattle.pt_model.specs.Parts.{Part, Part_enter, Part_done, Part_signal, Part_exit}
+use Rattle.pt_model.specs.Parts.{Part, Part_enter, Part_done, Part_signal, Part_stopped, Part_exit}
 use Rattle.lx_model.specs.Kernel.{put}
 use Rattle.tr_line.specs.declared.layout.Layout.{Layout}
 use Rattle.tr_line.specs.Lines.{rendering}
@@ -25,6 +25,7 @@ step : (s : Printing) (x : Part) (parts : List Part) → printed (after_part s x
 step s (Part_enter p c text) parts = ap (λ calls. printed s.layout (line_after s.layout (Part_enter p c text)) calls parts) (inserted s.calls p c.number)
 step s (Part_done p c x replaced text) parts = ap (λ calls. printed s.layout None calls parts) (removed s.calls p)
 step s (Part_signal p i) parts = refl
+step s (Part_stopped p signal) parts = refl
 step s (Part_exit p word) parts = ap (λ calls. printed s.layout None calls parts) (removed s.calls p)
 
 same : (s : Printing) (parts : List Part) → written s parts ≡ printed s.layout s.line (maps.get s.calls) parts

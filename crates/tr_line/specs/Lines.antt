@@ -1,11 +1,11 @@
 -- The lines of a trace: what each part shows, from what stood before it and what stands after it (strace(1)).
 use Rattle.std.specs.Prelude.{ℕ, ◌+◌, ◌-◌, ◌==◌, max, Bool, false, cond, Option, Some, None}
 use Rattle.std.specs.Prelude.{List, [], ◌∷◌, ◌++◌, length, replicate, codes, decimal, if◌then◌else◌}
-use Rattle.pt_model.specs.Parts.{Part, Part_enter, Part_done, Part_signal, Part_exit}
+use Rattle.pt_model.specs.Parts.{Part, Part_enter, Part_done, Part_signal, Part_stopped, Part_exit}
 use Rattle.tr_values.specs.Calls.{name_text}
 use Rattle.tr_line.specs.declared.layout.Layout.{Layout}
 use Rattle.tr_line.specs.Results.{result_text}
-use Rattle.tr_line.specs.Signals.{signal_line}
+use Rattle.tr_line.specs.Signals.{signal_line, stop_line}
 use Rattle.tr_line.specs.Ends.{exit_line}
 
 -- the pid left in five places and a space
@@ -44,6 +44,7 @@ open_call p [] = None
 open_call p (Part_enter q c text ∷ before) = cond (q == p) (Some c.number) (open_call p before)
 open_call p (Part_done q c x replaced text ∷ before) = cond (q == p) None (open_call p before)
 open_call p (Part_signal q i ∷ before) = open_call p before
+open_call p (Part_stopped q s ∷ before) = open_call p before
 open_call p (Part_exit q word ∷ before) = cond (q == p) None (open_call p before)
 
 -- a call of the process ends with this part
@@ -51,6 +52,7 @@ abbrev pub ends : ℕ → Part → Bool
 ends p (Part_enter q c text) = false
 ends p (Part_done q c x replaced text) = p == q
 ends p (Part_signal q i) = false
+ends p (Part_stopped q s) = false
 ends p (Part_exit q word) = p == q
 
 -- an entry is split from its call's end where another part stands between them
@@ -72,6 +74,7 @@ begun l p number (Part_enter q c text ∷ before) =
     cond (q == p) (record { added = []; column = length (pid_text l q ++ text) }) (resumes l p number)
 begun l p number (Part_done q c x replaced text ∷ before) = resumes l p number
 begun l p number (Part_signal q i ∷ before) = resumes l p number
+begun l p number (Part_stopped q s ∷ before) = resumes l p number
 begun l p number (Part_exit q word ∷ before) = resumes l p number
 
 -- what is shown of a call that a process's end cuts off
@@ -90,6 +93,7 @@ piece l before (Part_enter p c text) after = (pid_text l p ++ text) ++ split p a
 piece l before (Part_done p c x replaced text) after =
     finish l (begun l p c.number before) text (codes ")") (result_text c.number x replaced)
 piece l before (Part_signal p i) after = pid_text l p ++ signal_line i
+piece l before (Part_stopped p s) after = pid_text l p ++ stop_line s.number
 piece l before (Part_exit p word) after =
     ended_by l p word before (open_call p before) ++ (pid_text l p ++ exit_line word)
 

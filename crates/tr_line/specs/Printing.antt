@@ -5,13 +5,13 @@ use Rattle.lx_abi.specs.declared.ptrace.Info.{Info}
 use Rattle.std.specs.FinMap as maps
 use Rattle.std.specs.FinMap.{FinMap}
 use Rattle.std.specs.Ordering.{nat_cmp}
-use Rattle.pt_model.specs.Parts.{Part, Part_enter, Part_done, Part_signal, Part_exit}
+use Rattle.pt_model.specs.Parts.{Part, Part_enter, Part_done, Part_signal, Part_stopped, Part_exit}
 use Rattle.lx_model.specs.Kernel.{put}
 use Rattle.tr_line.specs.declared.layout.Layout.{Layout}
 use Rattle.tr_line.specs.declared.layout.Open.{Open}
 use Rattle.tr_line.specs.Lines.{Begun, pid_text, unfinished, resumes, finish, cut_text, rendering}
 use Rattle.tr_line.specs.Results.{result_text}
-use Rattle.tr_line.specs.Signals.{signal_line}
+use Rattle.tr_line.specs.Signals.{signal_line, stop_line}
 use Rattle.tr_line.specs.Ends.{exit_line}
 
 -- the open line is left before another begins
@@ -43,6 +43,9 @@ done_text l line p number x replaced text =
 unfoldable pub signal_text : Layout → Option Open → ℕ → Info → List ℕ
 signal_text l line p i = leaves line ++ (pid_text l p ++ signal_line i)
 
+unfoldable pub stopped_text : Layout → Option Open → ℕ → ℕ → List ℕ
+stopped_text l line p n = leaves line ++ (pid_text l p ++ stop_line n)
+
 unfoldable pub end_text : Layout → Option Open → Option ℕ → ℕ → ℕ → List ℕ
 end_text l line call p word = unless_own p line ++ (cuts l p word line call ++ (pid_text l p ++ exit_line word))
 
@@ -50,18 +53,21 @@ abbrev pub writes : Layout → Option Open → (ℕ → Option ℕ) → Part →
 writes l line calls (Part_enter p c text) = enter_text l line p text
 writes l line calls (Part_done p c x replaced text) = done_text l line p c.number x replaced text
 writes l line calls (Part_signal p i) = signal_text l line p i
+writes l line calls (Part_stopped p s) = stopped_text l line p s.number
 writes l line calls (Part_exit p word) = end_text l line (calls p) p word
 
 abbrev pub line_after : Layout → Part → Option Open
 line_after l (Part_enter p c text) = Some (record { pid = p; column = length (pid_text l p ++ text) })
 line_after l (Part_done p c x replaced text) = None
 line_after l (Part_signal p i) = None
+line_after l (Part_stopped p s) = None
 line_after l (Part_exit p word) = None
 
 abbrev pub calls_after : (ℕ → Option ℕ) → Part → ℕ → Option ℕ
 calls_after calls (Part_enter p c text) = put calls p (Some c.number)
 calls_after calls (Part_done p c x replaced text) = put calls p None
 calls_after calls (Part_signal p i) = calls
+calls_after calls (Part_stopped p s) = calls
 calls_after calls (Part_exit p word) = put calls p None
 
 -- the bytes of parts, one after the other
@@ -111,6 +117,7 @@ abbrev pub after_part : Printing → Part → Printing
 after_part s (Part_enter p c text) = entered s p c.number text
 after_part s (Part_done p c x replaced text) = closed s p
 after_part s (Part_signal p i) = broken s
+after_part s (Part_stopped p signal) = broken s
 after_part s (Part_exit p word) = closed s p
 
 unfoldable pub written : Printing → List Part → List ℕ

@@ -8,7 +8,7 @@ ghost use Rattle.tr_line.specs.Printing as spec;
 use crate::ends::exit_line;
 use crate::layout::{Layout, Open};
 use crate::results::result_text;
-use crate::signals::signal_line;
+use crate::signals::{signal_line, stop_line};
 use crate::text::Text;
 use lx_abi::Info;
 use lx_abi::calls::call_name;
@@ -197,6 +197,21 @@ pub(crate) fn signal_text(
     leaves(out, line)?;
     pid_text(out, layout, pid)?;
     signal_line(out, info)
+}
+
+#[tactic(auto, unfolding(crate::specs::Printing::stopped_text))]
+pub(crate) fn stopped_text(
+    out: &mut Text,
+    layout: Layout,
+    line: Option<Open>,
+    pid: u32,
+    signal: u64,
+) -> Result<(), AllocError>
+    ensures { OnOk result (out.new ≡ out.old ++ spec.stopped_text layout line pid signal) }
+{
+    leaves(out, line)?;
+    pid_text(out, layout, pid)?;
+    stop_line(out, signal)
 }
 
 fn cut_off(word: u32) -> &'static str

@@ -5,10 +5,10 @@ ghost use Rattle.std.specs.FinMap as maps;
 ghost use Rattle.tr_line.specs.Printing as spec;
 
 use crate::layout::{Layout, Open};
-use crate::lines::{done_text, end_text, enter_text, signal_text};
+use crate::lines::{done_text, end_text, enter_text, signal_text, stopped_text};
 use crate::text::Text;
 use containers::{Bytes, Map};
-use lx_abi::Info;
+use lx_abi::{Info, Signal};
 use std::alloc::{AllocError, Global};
 use std::marker::Model;
 
@@ -106,6 +106,25 @@ impl Printer {
     {
         let mut out = Text::new(self.alloc);
         signal_text(&mut out, self.layout, self.line, pid, info)?;
+        self.line = None;
+        Ok(out.into_bytes())
+    }
+
+    /// The line of a group stop by this signal.
+    pub fn stopped(&mut self, pid: u32, signal: Signal) -> Result<Bytes, AllocError>
+        ensures bytes { IfOk result (λ b. b
+            ≡ spec.stopped_text self.old.layout self.old.line pid signal.number) }
+        ensures ok { OnOk result (self.new ≡ spec.broken self.old) }
+        ensures err { OnErr result (self.new ≡ self.old) }
+    {
+        let mut out = Text::new(self.alloc);
+        stopped_text(
+            &mut out,
+            self.layout,
+            self.line,
+            pid,
+            u64::from(signal.number),
+        )?;
         self.line = None;
         Ok(out.into_bytes())
     }

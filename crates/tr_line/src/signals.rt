@@ -1,4 +1,4 @@
-//! The line of a signal.
+//! The lines of a signal and of a stop.
 
 ghost use Rattle.std.specs.Prelude.{◌≡◌, ◌++◌, OnOk};
 ghost use Rattle.tr_values.specs.Numbers.{pointer_text};
@@ -47,50 +47,51 @@ fn fault_code(out: &mut Text, signal: u32, code: u32) -> Result<(), AllocError>
     })
 }
 
-fn child_code(out: &mut Text, killed: bool) -> Result<(), AllocError>
-    ensures { OnOk result (out.new ≡ out.old ++ spec.child_code killed) }
+fn child_code(out: &mut Text, code: u32) -> Result<(), AllocError>
+    ensures { OnOk result (out.new ≡ out.old ++ spec.child_code code) }
 {
-    out.put(if killed {
-        "si_code=CLD_KILLED"
-    } else {
-        "si_code=CLD_EXITED"
+    out.put(match code {
+        1 => "si_code=CLD_EXITED",
+        5 => "si_code=CLD_STOPPED",
+        6 => "si_code=CLD_CONTINUED",
+        _ => "si_code=CLD_KILLED",
     })
 }
 
-/// The signal that ended a child, or its code.
-fn child_status(out: &mut Text, info: &Info, killed: bool) -> Result<(), AllocError>
-    ensures { OnOk result (out.new ≡ out.old ++ spec.child_status info.now killed) }
+/// The exit code of a child, or the signal that ended, stopped or continued it.
+fn child_status(out: &mut Text, info: &Info) -> Result<(), AllocError>
+    ensures { OnOk result (out.new ≡ out.old ++ spec.child_status info.now) }
 {
-    if killed {
-        signal(out, u64::from(info.status))
-    } else {
+    if info.code == 1 {
         out.decimal(u64::from(info.status))
+    } else {
+        signal(out, u64::from(info.status))
     }
 }
 
 #[tactic(auto, unfolding(crate::specs::Signals::child_who))]
-fn child_who(out: &mut Text, info: &Info, killed: bool) -> Result<(), AllocError>
-    ensures { OnOk result (out.new ≡ out.old ++ spec.child_who info.now killed) }
+fn child_who(out: &mut Text, info: &Info) -> Result<(), AllocError>
+    ensures { OnOk result (out.new ≡ out.old ++ spec.child_who info.now) }
 {
-    child_code(out, killed)?;
+    child_code(out, info.code)?;
     out.put(", si_pid=")?;
     out.decimal(u64::from(info.pid))
 }
 
 #[tactic(auto, unfolding(crate::specs::Signals::child_how))]
-fn child_how(out: &mut Text, info: &Info, killed: bool) -> Result<(), AllocError>
-    ensures { OnOk result (out.new ≡ out.old ++ spec.child_how info.now killed) }
+fn child_how(out: &mut Text, info: &Info) -> Result<(), AllocError>
+    ensures { OnOk result (out.new ≡ out.old ++ spec.child_how info.now) }
 {
     out.put(", si_uid=0, si_status=")?;
-    child_status(out, info, killed)?;
+    child_status(out, info)?;
     out.put(", si_utime=0, si_stime=0")
 }
 
-fn child(out: &mut Text, info: &Info, killed: bool) -> Result<(), AllocError>
-    ensures { OnOk result (out.new ≡ out.old ++ spec.child_text info.now killed) }
+fn child(out: &mut Text, info: &Info) -> Result<(), AllocError>
+    ensures { OnOk result (out.new ≡ out.old ++ spec.child_text info.now) }
 {
-    child_who(out, info, killed)?;
-    child_how(out, info, killed)
+    child_who(out, info)?;
+    child_how(out, info)
 }
 
 fn sender(out: &mut Text, info: &Info) -> Result<(), AllocError>
@@ -121,7 +122,7 @@ fn cause(out: &mut Text, info: &Info) -> Result<(), AllocError>
     } else if is_fault(info.signal) {
         fault(out, info)
     } else {
-        child(out, info, info.code != 1)
+        child(out, info)
     }
 }
 
@@ -157,4 +158,13 @@ pub(crate) fn signal_line(out: &mut Text, info: &Info) -> Result<(), AllocError>
     out.put(", ")?;
     cause(out, info)?;
     out.put("} ---\n")
+}
+
+#[tactic(auto, unfolding(crate::specs::Signals::stop_line))]
+pub(crate) fn stop_line(out: &mut Text, n: u64) -> Result<(), AllocError>
+    ensures { OnOk result (out.new ≡ out.old ++ spec.stop_line n) }
+{
+    out.put("--- stopped by ")?;
+    signal(out, n)?;
+    out.put(" ---\n")
 }

@@ -1,6 +1,5 @@
 use Rattle.std.proofs.Common.{rules, ◌≡◌, ◌∙◌, sym, ap, subst, None, inr, unwrap_or, is_some}
 use Rattle.std.specs.List.{flat_map}
-use Rattle.lx_abi.specs.Signals.{is_joinable}
 use Rattle.tr_expr.specs.Faults.{found}
 use Rattle.tr_expr.specs.Rules as spec
 use Rattle.tr_expr.specs.Rules.{RefusesRule, causes, result_by}
@@ -11,7 +10,6 @@ use Rattle.tr_expr.specs.Texts.{after}
 use Rattle.tr_expr.specs.Whens.{every}
 use Rattle.tr_expr.proofs.Lowest.{found_first, found_none}
 use Rattle.tr_expr.proofs.Refusals.{found_in_all}
-use Rattle.tr_expr.proofs.Joins.{parts_join}
 use Rattle.tr_expr.proofs.rule.parse_rule.Goals as goal
 
 pub returns-in_err-negated-clause-refusal : goal.returns-in_err-negated-clause-refusal
@@ -47,8 +45,3 @@ returns-in-None-clause-meaning c =
       signal = said.signal;
       when = c.occurrences_of.ensures ∙ ap (λ o. unwrap_or o every) said.when;
     }
-
-pub invariant_of-result : goal.invariant_of-result
-invariant_of-result c = record {
-  joins = ap is_joinable c.cut.ensures.said.signal ∙ parts_join (spec.parts c.args.form c.args.text.now);
-}
