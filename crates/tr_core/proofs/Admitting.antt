@@ -71,6 +71,7 @@ seizes-is tracees p (tracer.Exit_set r y) reply = refl
 seizes-is tracees p (tracer.Exit_peek y replaced got w) reply = refl
 seizes-is tracees p (tracer.Signal_info m) reply = refl
 seizes-is tracees p (tracer.Resuming m) reply = refl
+seizes-is tracees p tracer.Listening reply = refl
 
 tells-is : (tracees : List ℕ) (r : Reply) → tracees_after tracees tracer.Waiting r ≡ tracees_by_status tracees (told_status r)
 tells-is tracees Agreed = refl

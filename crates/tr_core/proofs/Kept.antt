@@ -8,7 +8,7 @@ use Rattle.std.proofs.lemmas.Bool.Decides.{nat_tests}
 use mathlib.Core.Path.{fun_ext}
 use Rattle.lx_abi.specs.declared.ptrace.Reply.{Reply}
 use Rattle.lx_abi.specs.declared.status.Stop.{Stop}
-use Rattle.lx_abi.specs.declared.status.Stop.TheVariants.{Syscall as Syscall_stop, Signal as Signal_stop, Event as Event_stop, Ended}
+use Rattle.lx_abi.specs.declared.status.Stop.TheVariants.{Syscall as Syscall_stop, Signal as Signal_stop, Group as Group_stop, Event as Event_stop, Ended}
 use Rattle.lx_model.specs.Kernel.{Script, put}
 use Rattle.pt_model.specs.Parts.{Options}
 use Rattle.lx_model.specs.Finite.{at}
@@ -73,6 +73,7 @@ kept h was is told session living old new comes keeps = record {
 took_stop-is : (o : Options) (known : ℕ → Known) (p : ℕ) (stop : Stop) → took_stop o known p stop ≡ heard known p (stop_heard o p (known p) stop)
 took_stop-is o known p (Syscall_stop good) = refl
 took_stop-is o known p (Signal_stop signal) = refl
+took_stop-is o known p (Group_stop signal) = refl
 took_stop-is o known p (Event_stop event) = refl
 took_stop-is o known p (Ended word) = refl
 

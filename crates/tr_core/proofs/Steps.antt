@@ -6,7 +6,7 @@ use Rattle.std.specs.Prelude.{OnErr}
 use mathlib.Core.Path.{fun_ext}
 use Rattle.lx_abi.specs.declared.ptrace.Reply.{Reply}
 use Rattle.lx_abi.specs.declared.status.Stop.{Stop}
-use Rattle.lx_abi.specs.declared.status.Stop.TheVariants.{Syscall as Syscall_stop, Signal as Signal_stop, Event as Event_stop, Ended}
+use Rattle.lx_abi.specs.declared.status.Stop.TheVariants.{Syscall as Syscall_stop, Signal as Signal_stop, Group as Group_stop, Event as Event_stop, Ended}
 use Rattle.lx_model.specs.Kernel.{Script}
 use Rattle.pt_model.specs.Parts.{Options}
 use Rattle.lx_model.specs.Finite.{at}
@@ -39,6 +39,7 @@ stop_fine : (o : Options) (known : ℕ → Known) (p : ℕ) (s : Option Stop) �
 stop_fine o known p None = refl
 stop_fine o known p (Some (Syscall_stop good)) = refl
 stop_fine o known p (Some (Signal_stop signal)) = refl
+stop_fine o known p (Some (Group_stop signal)) = refl
 stop_fine o known p (Some (Event_stop event)) = refl
 stop_fine o known p (Some (Ended word)) = refl
 

@@ -2,13 +2,14 @@
 use Rattle.std.specs.Prelude.{◌≡◌, ◌==◌, ℕ, false, [], ◌∷◌, Option, Some, None}
 use Rattle.std.specs.Option.{option_map}
 use Rattle.lx_model.specs.Machine.{Regs, with_a7, no_call}
-use Rattle.pt_model.specs.Parts.{Options, Part_exit}
-use Rattle.pt_model.specs.Tracer.{Known, Heard, Entry_set, Signal_info, Resuming, moves}
+use Rattle.pt_model.specs.Parts.{Options, Part_stopped, Part_exit}
+use Rattle.pt_model.specs.Tracer.{Known, Heard, Entry_set, Signal_info, Resuming, Listening, moves}
 use Rattle.pt_model.specs.Tracer.{turned_over, first_place, stands_at, event_standing}
 use Rattle.lx_abi.specs.declared.status.Stop.{Stop}
 use Rattle.lx_abi.specs.declared.status.Stop.TheVariants.{Syscall as Syscall_stop, Signal as Signal_stop}
-use Rattle.lx_abi.specs.declared.status.Stop.TheVariants.{Event as Event_stop, Ended}
-use Rattle.pt_model.specs.declared.standing.Standing.TheVariants.{AfterSignal as After_signal, AtEnd as At_end}
+use Rattle.lx_abi.specs.declared.status.Stop.TheVariants.{Group as Group_stop, Event as Event_stop, Ended}
+use Rattle.pt_model.specs.declared.standing.Standing.TheVariants.{AfterSignal as After_signal, Halted}
+use Rattle.pt_model.specs.declared.standing.Standing.TheVariants.{AtEnd as At_end}
 use Rattle.pt_model.specs.Tracer as tracer
 use Rattle.tr_core.specs.declared.heard.Heard.{Heard as CodeHeard}
 use Rattle.tr_core.specs.declared.session.InHand.{InHand}
@@ -50,6 +51,11 @@ going_on r signal (Some x) = Entry_set (with_a7 r no_call) signal
 -- a stop that was taken
 abbrev pub stop_heard : Options → ℕ → Known → Stop → Heard
 stop_heard o p k (Syscall_stop good) = moves (turned_over k) (first_place o k k.inside)
-stop_heard o p k (Signal_stop signal) = moves (stands_at k After_signal) (Signal_info signal.number)
+stop_heard o p k (Signal_stop signal) = moves (stands_at k (After_signal signal)) (Signal_info signal.number)
+stop_heard o p k (Group_stop signal) = record {
+  known = stands_at k Halted;
+  next = Some Listening;
+  printed = Part_stopped p signal ∷ [];
+}
 stop_heard o p k (Event_stop event) = moves (stands_at k (event_standing event)) (Resuming 0)
 stop_heard o p k (Ended word) = record { known = stands_at k At_end; next = None; printed = Part_exit p word ∷ [] }

@@ -12,7 +12,7 @@ use Rattle.tr_args.specs.Texts.{context_of}
 use Rattle.tr_core.specs.Known.{new_tracee}
 use Rattle.tr_core.specs.declared.place.Awaiting.{Awaiting}
 use Rattle.tr_core.specs.declared.place.Awaiting.TheVariants.{Seizing, EntryRegs, EntryPeek, EntrySet, ExitRegs}
-use Rattle.tr_core.specs.declared.place.Awaiting.TheVariants.{ExitSet, ExitPeek, SignalInfo, Resuming}
+use Rattle.tr_core.specs.declared.place.Awaiting.TheVariants.{ExitSet, ExitPeek, SignalInfo, Resuming, Listening}
 use Rattle.tr_core.specs.declared.place.Focus.{Focus}
 use Rattle.tr_core.specs.declared.place.Focus.TheVariants as focus
 use Rattle.tr_core.specs.declared.settings.Options.{Options}
@@ -38,6 +38,7 @@ IsHeld o called (ExitSet r x) = ⊤
 IsHeld o called (ExitPeek x replaced d w) = IsOf o (At_exit called x) d.value
 IsHeld o called (SignalInfo n) = ⊤
 IsHeld o called (Resuming n) = ⊤
+IsHeld o called Listening = ⊤
 
 -- what is asked next, if anything
 abbrev pub NextIsHeld : Options → Call → Option Awaiting → Type 0
@@ -81,6 +82,7 @@ IsHeld-prop o called (ExitSet r x) = Unit-prop
 IsHeld-prop o called (ExitPeek x replaced d w) = IsOf-prop o (At_exit called x) d.value
 IsHeld-prop o called (SignalInfo n) = Unit-prop
 IsHeld-prop o called (Resuming n) = Unit-prop
+IsHeld-prop o called Listening = Unit-prop
 
 FocusHolds-prop : (o : Options) (called : ℕ → Call) (f : Focus) → IsProp (FocusHolds o called f)
 FocusHolds-prop o called focus.Booting = Unit-prop

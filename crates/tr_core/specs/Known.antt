@@ -7,7 +7,7 @@ use Rattle.pt_model.specs.Tracer as tracer
 use Rattle.tr_core.specs.declared.place.Tracee.{Tracee}
 use Rattle.tr_core.specs.declared.place.Awaiting.{Awaiting}
 use Rattle.tr_core.specs.declared.place.Awaiting.TheVariants.{Seizing, EntryRegs, EntryPeek, EntrySet, ExitRegs}
-use Rattle.tr_core.specs.declared.place.Awaiting.TheVariants.{ExitSet, ExitPeek, SignalInfo, Resuming}
+use Rattle.tr_core.specs.declared.place.Awaiting.TheVariants.{ExitSet, ExitPeek, SignalInfo, Resuming, Listening}
 
 -- a tracee, with how often it entered each call
 abbrev pub known_of : Tracee → (ℕ → ℕ) → Known
@@ -33,3 +33,4 @@ place_of (ExitSet r x) = tracer.Exit_set r x
 place_of (ExitPeek x replaced d w) = tracer.Exit_peek x replaced d.value.got w
 place_of (SignalInfo n) = tracer.Signal_info n
 place_of (Resuming n) = tracer.Resuming n
+place_of Listening = tracer.Listening

@@ -43,6 +43,7 @@ fn ask_of(settings: &Settings, place: &Awaiting) -> Result<Ask, AllocError>
         },
         Awaiting::SignalInfo { .. } => Ask::SigInfo,
         Awaiting::Resuming { signal } => Ask::Syscall { signal: *signal },
+        Awaiting::Listening => Ask::Listen,
     };
     Ok(ask)
 }

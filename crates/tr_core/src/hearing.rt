@@ -179,6 +179,7 @@ pub fn hear(
     match place {
         Awaiting::Seizing => Ok(nothing(alloc)),
         Awaiting::Resuming { .. } => Ok(nothing(alloc)),
+        Awaiting::Listening => Ok(nothing(alloc)),
         Awaiting::EntryRegs => hear_entry(session, hand, registers_in(reply)),
         Awaiting::EntryPeek {
             registers,

@@ -44,6 +44,8 @@ pub enum Awaiting {
     Resuming {
         signal: u32,
     },
+    /// Letting go at a group stop.
+    Listening,
 }
 
 /// What is asked now.

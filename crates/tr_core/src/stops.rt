@@ -80,9 +80,17 @@ pub fn take_stop(session: &mut Session, hand: &mut InHand, stop: Stop) -> Result
             Ok(asks(alloc, place))
         }
         Stop::Signal { signal } => {
-            hand.tracee.standing = Standing::AfterSignal;
+            hand.tracee.standing = Standing::AfterSignal { signal };
             let signal = u32::from(signal.number);
             Ok(asks(alloc, Awaiting::SignalInfo { signal }))
+        }
+        Stop::Group { signal } => {
+            hand.tracee.standing = Standing::Halted;
+            let bytes = session.printer.stopped(hand.pid, signal)?;
+            Ok(Heard {
+                next: Some(Awaiting::Listening),
+                bytes,
+            })
         }
         Stop::Event { event } => {
             hand.tracee.standing = event_standing(event);

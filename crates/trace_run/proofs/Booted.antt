@@ -14,7 +14,6 @@ use Rattle.pt_model.specs.Tracer.{first_tracer}
 use Rattle.pt_model.specs.World.{first_world}
 use Rattle.pt_model.specs.HostLaws.{HostsBeginAlike}
 use Rattle.pt_model.specs.Hosting.{IsFresh, first_hosting}
-use Rattle.pt_model.specs.Laws.{EveryScriptIsOne}
 use Rattle.pt_kernel.specs.Hosts.{Linux_host}
 use Rattle.pt_kernel.specs.Seen.{next_of_host}
 use Rattle.pt_schedule.specs.Schedules.{events_left}
@@ -43,14 +42,14 @@ is_going begin link s b hosting whole unbroken going = record {
   going = going;
 }
 
-pub booted_runs : LocalLinksTell → HostsBeginAlike Shared UserState → EveryScriptIsOne → BootedRunsTell
+pub booted_runs : LocalLinksTell → HostsBeginAlike Shared UserState → BootedRunsTell
 unfolding LocalLinksTell BootedRunsTell IsBooted KeptRun IsLeft
-booted_runs tell begin one boot schedule script options link link' old new ended run is nothing ran left =
+booted_runs tell begin boot schedule script options link link' old new ended run is nothing ran left =
     let o : Options = following options boot.follow in
     let s : Shared = first_shared boot.limits boot.files boot.input in
     let b : UserState = booted boot.argv boot.env in
     let by_link : LocalRun next_of_host linux outcome_in o (choice_of script) (schedule_of link) s b ended run.trace (outcome_in (host_of link').hosting.running.shared) (host_of link').hosting.turns =
-    tell o (choice_of script) (one script) link link' (writer_in old) (writer_in new) run.trace (ap (λ (w : Writing). Some w.bytes) nothing) (ap Some (sym left.1)) ended ran s b (is_going begin link s b is.0 is.1 is.2 is.3) is.0 in
+    tell o (choice_of script) link link' (writer_in old) (writer_in new) run.trace (ap (λ (w : Writing). Some w.bytes) nothing) (ap Some (sym left.1)) ended ran s b (is_going begin link s b is.0 is.1 is.2 is.3) is.0 in
     let by_schedule : LocalRun next_of_host linux outcome_in o (choice_of script) schedule s b ended run.trace (outcome_in (host_of link').hosting.running.shared) (host_of link').hosting.turns =
     subst (λ (y : Schedule). LocalRun next_of_host linux outcome_in o (choice_of script) y s b ended run.trace (outcome_in (host_of link').hosting.running.shared) (host_of link').hosting.turns) is.5 by_link in
     let by_end : LocalRun next_of_host linux outcome_in o (choice_of script) schedule s b run.ended run.trace (outcome_in (host_of link').hosting.running.shared) (host_of link').hosting.turns =
@@ -59,14 +58,14 @@ booted_runs tell begin one boot schedule script options link link' old new ended
     subst (λ (y : Outcome). LocalRun next_of_host linux outcome_in o (choice_of script) schedule s b run.ended run.trace y (host_of link').hosting.turns) (sym left.2) by_end in
     subst (λ (y : List ℕ). LocalRun next_of_host linux outcome_in o (choice_of script) schedule s b run.ended run.trace run.outcome y) (sym left.3) by_outcome
 
-pub booted_traces : LocalLinksTellParts → HostsBeginAlike Shared UserState → EveryScriptIsOne → BootedTracesTell
+pub booted_traces : LocalLinksTellParts → HostsBeginAlike Shared UserState → BootedTracesTell
 unfolding LocalLinksTellParts BootedTracesTell IsBooted
-booted_traces tell begin one boot schedule script options link link' old new result is ran =
+booted_traces tell begin boot schedule script options link link' old new result is ran =
     let o : Options = following options boot.follow in
     let s : Shared = first_shared boot.limits boot.files boot.input in
     let b : UserState = booted boot.argv boot.env in
     let going : IsGoing link = is_going begin link s b is.0 is.1 is.2 is.3 in
-    let told = tell o (choice_of script) (one script) link link' old new result ran s b going is.0 in
+    let told = tell o (choice_of script) link link' old new result ran s b going is.0 in
     record {
       link = link;
       link' = link';
@@ -95,16 +94,16 @@ is_local events broken (Trace Inadmissible) h = h
 is_local events broken (Trace Memory) h = tt
 is_local events broken Output h = tt
 
-pub booted_fails : LocalLinksFail → HostsBeginAlike Shared UserState → EveryScriptIsOne → BootedRunsFail
+pub booted_fails : LocalLinksFail → HostsBeginAlike Shared UserState → BootedRunsFail
 unfolding LocalLinksFail BootedRunsFail IsBooted
-booted_fails fails begin one boot schedule script options link link' old new (Ok ended) is ran = tt
-booted_fails fails begin one boot schedule script options link link' old new (Err fault) is ran =
+booted_fails fails begin boot schedule script options link link' old new (Ok ended) is ran = tt
+booted_fails fails begin boot schedule script options link link' old new (Err fault) is ran =
     let s : Shared = first_shared boot.limits boot.files boot.input in
     let b : UserState = booted boot.argv boot.env in
     let events : given_of link + events_left (schedule_of link) ≡ events_left schedule = omega (arith, is.4, ap (λ (y : Schedule). events_left y) is.5) in
-    subst (λ n. FailsBy n new.broken fault) events (fails (following options boot.follow) (choice_of script) (one script) link link' old new fault ran s b (is_going begin link s b is.0 is.1 is.2 is.3) is.0)
+    subst (λ n. FailsBy n new.broken fault) events (fails (following options boot.follow) (choice_of script) link link' old new fault ran s b (is_going begin link s b is.0 is.1 is.2 is.3) is.0)
 
-pub kept_fails : LocalLinksFail → HostsBeginAlike Shared UserState → EveryScriptIsOne → KeptRunsFail
+pub kept_fails : LocalLinksFail → HostsBeginAlike Shared UserState → KeptRunsFail
 unfolding KeptRunsFail KeptRun BootedRunsFail
-kept_fails fails begin one boot schedule script options link link' old new fault is ran =
-    is_local (events_left schedule) (writer_in new).broken fault (booted_fails fails begin one boot schedule script options link link' (writer_in old) (writer_in new) (Err fault) is ran)
+kept_fails fails begin boot schedule script options link link' old new fault is ran =
+    is_local (events_left schedule) (writer_in new).broken fault (booted_fails fails begin boot schedule script options link link' (writer_in old) (writer_in new) (Err fault) is ran)

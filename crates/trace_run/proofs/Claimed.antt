@@ -1,5 +1,5 @@
 -- The four claims, from what runs tell.
-use Rattle.std.proofs.Common.{◌≡◌, ℕ, Bool, List, [], Option, Result, sym, ap, subst, ◌∙◌}
+use Rattle.std.proofs.Common.{◌≡◌, ℕ, Bool, List, [], Option, Result, ap, subst}
 use Rattle.std.specs.Io.KnownBytes.{Appends}
 use Rattle.lx_abi.specs.declared.outcome.Outcome.{Outcome}
 use Rattle.lx_abi.specs.declared.schedule.Event.{Event}
@@ -8,7 +8,7 @@ use Rattle.lx_abi.specs.Scripts.{choice_of}
 use Rattle.lx_model.specs.Kernel.{Script}
 use Rattle.lx_model.specs.Machine.{Machine}
 use Rattle.pt_model.specs.Headline.{plain_run}
-use Rattle.pt_model.specs.Laws.{NoKillNoLoss, EveryScriptIsOne}
+use Rattle.pt_model.specs.Laws.{NoKillNoLoss}
 use Rattle.pt_model.specs.View.{traced, parts}
 use Rattle.host_wire.specs.Ends.{AppendsPart}
 use Rattle.tr_core.specs.Settings.{options_by, layout_by}
@@ -34,23 +34,23 @@ told_by_log m outcome o script s b events result old new no_loss t alive =
 
 pub refused_by_log : {L S B : Type 0} (answers : Answers L) → NoKillNoLoss → RefusedRunsTell S B answers → RefusedByLog S B answers
 unfolding RefusedRunsTell
-refused_by_log answers no_loss tells o script is_script link link' old new w m is_m is_told outcome s b events u alive =
-    let t : RefusedTells m outcome o script s b events u.own old.contents new.contents = tells o script is_script link link' old new w m is_m is_told outcome s b events u in
+refused_by_log answers no_loss tells o script link link' old new w m is_m is_told outcome s b events u alive =
+    let t : RefusedTells m outcome o script s b events u.own old.contents new.contents = tells o script link link' old new w m is_m is_told outcome s b events u in
     subst (AppendsPart old.contents new.contents)
     (ap (λ (items : List Noted). rendering (layout_by o) (parts (options_by o) items)) (no_loss t.lost (traced o.follow (plain_run m outcome (options_by o) script s b events).log) alive)) t.begins
 
 pub under_kills : {L S B : Type 0} (answers : Answers L) → RunsTell S B answers → UnderKills S B answers
 unfolding RunsTell
-under_kills answers tells o script is_script link link' old new result w m is_m is_told outcome s b events own =
-    tells o script is_script link link' old new result w m is_m is_told outcome s b events own
+under_kills answers tells o script link link' old new result w m is_m is_told outcome s b events own =
+    tells o script link link' old new result w m is_m is_told outcome s b events own
 
 pub joined_signals : {L S B : Type 0} (answers : Answers L) → NoKillNoLoss → RunsTell S B answers → JoinedSignals S B answers
 unfolding RunsTell
-joined_signals answers no_loss tells o script is_script link link' old new result w m is_m is_told outcome s b events own =
-    told_by_log m outcome o script s b events result old.contents new.contents no_loss (tells o script is_script link link' old new result w m is_m is_told outcome s b events own)
+joined_signals answers no_loss tells o script link link' old new result w m is_m is_told outcome s b events own =
+    told_by_log m outcome o script s b events result old.contents new.contents no_loss (tells o script link link' old new result w m is_m is_told outcome s b events own)
 
 pub replaced_calls : {L S B : Type 0} (answers : Answers L) → JoinedSignals S B answers → ReplacedCalls S B answers
-replaced_calls answers joined o script none = joined o script (λ call n signal e. absurd (cc (sym (none call n) ∙ e)))
+replaced_calls answers joined o script none = joined o script
 
-pub plain_tracing : {L S B : Type 0} (answers : Answers L) → EveryScriptIsOne → JoinedSignals S B answers → PlainTracing S B answers
-plain_tracing answers one joined o = joined o (choice_of []) (one [])
+pub plain_tracing : {L S B : Type 0} (answers : Answers L) → JoinedSignals S B answers → PlainTracing S B answers
+plain_tracing answers joined o = joined o (choice_of [])

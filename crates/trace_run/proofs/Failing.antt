@@ -72,18 +72,18 @@ last_output answers s rs old a b h = h.1.failed.broken
 module _ (serves : LocalLinksServe) (calls : WorldsCall Shared UserState) (appends : RunsAppend Shared UserState) (nothing : OutOfTurnsShowsNothing) (tells : LocalLinksTellParts) (few : EventsAreFew) where
   pub local_links_fail : LocalLinksFail
   unfolding LocalLinksFail LocalLinksServe LocalLinksTellParts
-  local_links_fail o script is_script link link' old new (Trace Inadmissible) w s b going first =
-      absurd ((tells o script is_script link link' old new (Err (Trace Inadmissible)) w s b going first).tells.admitted refl)
-  local_links_fail o script is_script link link' old new (Trace Memory) w s b going first = tt
-  local_links_fail o script is_script link link' old new Output w s b going first =
+  local_links_fail o script link link' old new (Trace Inadmissible) w s b going first =
+      absurd ((tells o script link link' old new (Err (Trace Inadmissible)) w s b going first).tells.admitted refl)
+  local_links_fail o script link link' old new (Trace Memory) w s b going first = tt
+  local_links_fail o script link link' old new Output w s b going first =
       last_output local_answers (new_state (options_by o) script (first_pen o)) (Agreed ∷ replies_of w.runs.exchanges) old w.runs.link (record { link = link'; writer = new; state = w.state }) w.runs.last
-  local_links_fail o script is_script link link' old new (Link f) w s b going first =
+  local_links_fail o script link link' old new (Link f) w s b going first =
       let begun : State = new_state (options_by o) script (first_pen o) in
       let e : Exchanged local_answers w.runs.link (told begun (Agreed ∷ replies_of w.runs.exchanges)) (Err f) link' =
       last_call local_answers begun (Agreed ∷ replies_of w.runs.exchanges) old w.runs.link f (record { link = link'; writer = new; state = w.state }) w.runs.last in
       let still : IsGoing w.runs.link =
       stays local_answers in_process next_of_host linux outcome_in IsGoing serves calls appends nothing w.runs.exchanges (heard begun Agreed) link w.runs.link e.0 going w.runs.led w.runs.asked e.1.0 in
-      let said = tells o script is_script link link' old new (Err (Link f)) w s b going first in
+      let said = tells o script link link' old new (Err (Link f)) w s b going first in
       let counts = talk_few few nothing (options_by o) script w.runs.exchanges first_tracer (schedule_of link) (first_world s b).host said.events said.given in
       call_fails f (given_of link + events_left (schedule_of link)) new.broken w.runs.link e.0 link' still (no_boot (told begun (Agreed ∷ replies_of w.runs.exchanges)) e.0 e.1.0)
       (λ full. omega (arith, full, replies_counted w.runs.exchanges link w.runs.link w.runs.led, counts.replies, counts.given))

@@ -156,8 +156,8 @@ local_links_answer_their_own serves calls appends nothing lists own begin o scri
 
 pub local_links_tell : Cited Schedule Shared UserState local_answers → LocalLinksServe → HostsBeginAlike Shared UserState → IsMachine linux → IsTold linux → LocalLinksTell
 unfolding LocalLinksTell LocalLinksServe
-local_links_tell cited serves begin machine told o script is_script link link' old new trace nothing whole ended w s b going first =
-    sound_runs_tell local_answers cited IsGoing o script is_script link link' old new trace nothing whole ended w in_process next_of_host linux machine told outcome_in s b
+local_links_tell cited serves begin machine told o script link link' old new trace nothing whole ended w s b going first =
+    sound_runs_tell local_answers cited IsGoing o script link link' old new trace nothing whole ended w in_process next_of_host linux machine told outcome_in s b
     serves going
     (ap host_in first ∙ (begin s b).0)
     (ap (λ (v : Linux_host). v.turns) first)
@@ -180,6 +180,6 @@ link_tells {L} answers o script host s b link link' old new result w x tells =
 
 pub local_links_tell_parts : LocalLinksAnswerTheirOwn → RunsTell Shared UserState local_answers → IsMachine linux → IsTold linux → LocalLinksTellParts
 unfolding LocalLinksTellParts LocalLinksAnswerTheirOwn RunsTell
-local_links_tell_parts own tells machine told o script is_script link link' old new result w s b going first =
+local_links_tell_parts own tells machine told o script link link' old new result w s b going first =
     link_tells local_answers o script link s b link link' old new result w (own o script link w.runs.link w.runs.exchanges s b going first w.runs.led w.runs.asked)
-    (λ events is_own. tells o script is_script link link' old new result w linux machine told outcome_in s b events is_own)
+    (λ events is_own. tells o script link link' old new result w linux machine told outcome_in s b events is_own)

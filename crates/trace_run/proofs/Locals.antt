@@ -10,7 +10,7 @@ use Rattle.lx_model.specs.Kernel.{Script, traces, Kernel}
 use Rattle.lx_model.specs.Machine.{Machine, IsMachine}
 use Rattle.pt_model.specs.Calls.{Talks, WorldsCall, RunsAppend, OutOfTurnsShowsNothing, SchedulesAreLists, TalksAreOwn}
 use Rattle.pt_model.specs.Attending.{Schedules}
-use Rattle.pt_model.specs.Headline.{IsTold, IsScript, traced_run, plain_run, IsTransparent}
+use Rattle.pt_model.specs.Headline.{IsTold, traced_run, plain_run, IsTransparent}
 use Rattle.pt_model.specs.Parts as parts_of
 use Rattle.pt_model.specs.Ptrace.{Host, is_there}
 use Rattle.pt_model.specs.Tracer.{Over, first_tracer, request}
@@ -86,14 +86,14 @@ pub record Cited {L : Type 0} (X S B : Type 0) (answers : Answers L) : Type 0 wh
 
 -- a run over a link that is sound, at its beginning
 pub sound_runs_tell : {L X S B : Type 0} (answers : Answers L) → Cited X S B answers → (sound : L → Type 0)
-    (o : Options) (script : Script) → IsScript script → (link link' : L) (old new : Writer) (trace : List ℕ) → old.contents ≡ Some [] → new.contents ≡ Some trace → (ended : Ended)
+    (o : Options) (script : Script) (link link' : L) (old new : Writer) (trace : List ℕ) → old.contents ≡ Some [] → new.contents ≡ Some trace → (ended : Ended)
     (w : RunsWhole answers (new_state (options_by o) script (first_pen o)) link old (Ok ended) link' new)
     (i : InMemory L X S B) (choose : Schedules X S B) (m : Machine S B) → IsMachine m → IsTold m → (outcome : S → Outcome) (s : S) (b : B)
     → ((a : L) (q : Request) (r : Reply) (b : L) → sound a → answers a q (Ok r) b → SoundCall sound i choose m outcome a q r b)
     → sound link → i.host link ≡ (first_world s b).host → i.turns link ≡ []
     → LocalRun choose m outcome o script (i.schedule link) s b ended trace (outcome (i.host link').shared) (i.turns link')
 unfolding heard moved_by RunsTell
-sound_runs_tell {L} {X} {S} {B} answers cited sound o script is_script link link' old new trace nothing whole ended w i choose m is_m is_told outcome s b serves is_sound first no_turns =
+sound_runs_tell {L} {X} {S} {B} answers cited sound o script link link' old new trace nothing whole ended w i choose m is_m is_told outcome s b serves is_sound first no_turns =
     let po : parts_of.Options = options_by o in
     let xs : List (Request × Reply) = w.runs.exchanges in
     let begun : State = heard (new_state po script (first_pen o)) Agreed in
@@ -105,13 +105,13 @@ sound_runs_tell {L} {X} {S} {B} answers cited sound o script is_script link link
     let host : (traced_run m outcome po script s b fed.events).host ≡ i.host link' =
     ap (λ (v : World S B). (world_run m outcome po script v fed.events).host) (sym world) ∙ fed.host ∙ ap i.host (sym last.link) in
     let same : outcome (i.host link').shared ≡ outcome (plain_run m outcome po script s b fed.events).shared =
-    ap (λ (h : Host S B). outcome h.shared) (sym host) ∙ (cited.transparent m is_m is_told outcome po (cited.texts o.string_limit o.limit_in_range) script is_script s b fed.events).same_outcome in
+    ap (λ (h : Host S B). outcome h.shared) (sym host) ∙ (cited.transparent m is_m is_told outcome po (cited.texts o.string_limit o.limit_in_range) script s b fed.events).same_outcome in
     let talks : Talks m outcome po script first_tracer (first_world s b).host fed.events xs =
     subst (λ (h : Host S B). Talks m outcome po script first_tracer h fed.events xs) first (cited.lists choose m outcome po script first_tracer (i.schedule link) (i.host link) fed.events xs fed.over) in
     let t : Tells m outcome o script s b fed.events (Ok ended) (Some []) (Some trace) =
     subst (λ c. Tells m outcome o script s b fed.events (Ok ended) (Some []) c) whole
     (subst (λ c. Tells m outcome o script s b fed.events (Ok ended) c new.contents) nothing
-    (cited.tells o script is_script link link' old new (Ok ended) w m is_m is_told outcome s b fed.events (cited.own m outcome po script s b fed.events xs talks))) in
+    (cited.tells o script link link' old new (Ok ended) w m is_m is_told outcome s b fed.events (cited.own m outcome po script s b fed.events xs talks))) in
     let x = shown m outcome o script s b fed.events ended trace (outcome (i.host link').shared) same t in
     record {
       events = fed.events;
@@ -129,6 +129,6 @@ sound_runs_tell {L} {X} {S} {B} answers cited sound o script is_script link link
 
 pub local_runs_tell : {L X S B : Type 0} (answers : Answers L) → Cited X S B answers → LocalRunsTell X S B answers
 unfolding LocalRunsTell
-local_runs_tell {L} answers cited o script is_script link link' old new trace nothing whole ended w i choose m is_m is_told outcome s b serves first no_turns =
-    sound_runs_tell answers cited (λ (a : L). Unit {0}) o script is_script link link' old new trace nothing whole ended w i choose m is_m is_told outcome s b
+local_runs_tell {L} answers cited o script link link' old new trace nothing whole ended w i choose m is_m is_told outcome s b serves first no_turns =
+    sound_runs_tell answers cited (λ (a : L). Unit {0}) o script link link' old new trace nothing whole ended w i choose m is_m is_told outcome s b
     (λ a q r b _ h. record { served = serves a q r b h; stays = λ _. tt }) tt first no_turns

@@ -4,7 +4,6 @@ use Rattle.std.specs.Prelude.{⊤, length}
 use Rattle.std.proofs.KnownBytes.{Appends-nil, Appends-trans}
 use Rattle.std.proofs.lemmas.List.{map-append, append-nil}
 use Rattle.std.specs.Io.KnownBytes.{Appends, append_known}
-use Rattle.lx_abi.specs.declared.ptrace.Ask.TheVariants.{Syscall}
 use Rattle.lx_abi.specs.declared.ptrace.Reply.{Reply}
 use Rattle.lx_abi.specs.declared.ptrace.Reply.TheVariants.{Done as Agreed, Status as Status_is}
 use Rattle.lx_abi.specs.declared.ptrace.Request.{Request}
@@ -12,16 +11,16 @@ use Rattle.lx_abi.specs.declared.ptrace.Request.TheVariants.{To, Wait}
 use Rattle.lx_abi.specs.declared.status.Status.{Status}
 use Rattle.lx_abi.specs.Status.{stop_of}
 use Rattle.pt_model.specs.Parts.{Options}
-use Rattle.pt_model.specs.Replies.{after as with_reply, after_all, admits, comes_to_hand, Resumed, EachIsResumed}
+use Rattle.pt_model.specs.Replies.{after as with_reply, after_all, admits, comes_to_hand, Resumes, Resumed, EachIsResumed}
 use Rattle.pt_model.specs.Requests.{esrch}
-use Rattle.pt_model.specs.Tracer.{Awaiting, Resuming, asks, Focus, Booting, Waiting, Serving, Asking_outcome, Over, Turns_over, Faulted, Tracer, Moved, request, next}
+use Rattle.pt_model.specs.Tracer.{Awaiting, asks, Focus, Booting, Waiting, Serving, Asking_outcome, Over, Turns_over, Faulted, Tracer, Moved, request, next}
 use Rattle.host_link.specs.declared.fault.LinkFault.{LinkFault}
 use Rattle.tr_core.proofs.Told.{faulted-refused}
 use Rattle.tr_core.specs.States.{State, heard, moved as moved_by, said, request_of, is_faulted, is_faulted_at, admitted, told, text}
 use Rattle.trace_run.specs.declared.running.RunFault.{RunFault}
 use Rattle.trace_run.specs.declared.running.RunFault.TheVariants.{Link, Trace, Output}
 use Rattle.tr_core.specs.declared.tracing.TraceFault.TheVariants.{Inadmissible, Memory}
-use Rattle.trace_run.specs.Owed.{HadWritten, AsksAfter, IsResumed, WritesBeforeItAsks, WritesBeforeTheLinkFails, StopsWithItsWriter, ResumesBeforeItWaits}
+use Rattle.trace_run.specs.Owed.{HadWritten, AsksAfter, ResumesBy, IsResumed, WritesBeforeItAsks, WritesBeforeTheLinkFails, StopsWithItsWriter, ResumesBeforeItWaits}
 use Rattle.trace_run.specs.Runs.{Answers, Asked, Ends, FailsAtLast, Last, Runs, Writes, replies_of, sizes}
 use Rattle.trace_run.specs.Writers.{Writer, PutsPart}
 
@@ -271,8 +270,12 @@ asks_hand : (s : State) (q : Request) (p : ℕ) (place : Awaiting) → request_o
 unfolding request_of
 asks_hand s q p place e f = cc (sym e ∙ ap (request s.options) f)
 
-how_resumed : (o : Options) (place : Awaiting) (reply : Reply) → (((signal : ℕ) × (place ≡ Resuming signal)) × (reply ≡ Agreed)) ⊎ (reply ≡ esrch) → (((signal : ℕ) × (asks o place ≡ Syscall signal)) × (reply ≡ Agreed)) ⊎ (reply ≡ esrch)
-how_resumed o place reply (inl h) = inl ((h.0.0, ap (asks o) h.0.1), h.1)
+resumes_by : (o : Options) (place : Awaiting) → Resumes place → ResumesBy (asks o place)
+resumes_by o place (inl h) = inl (h.0, ap (asks o) h.1)
+resumes_by o place (inr e) = inr (ap (asks o) e)
+
+how_resumed : (o : Options) (place : Awaiting) (reply : Reply) → (Resumes place × (reply ≡ Agreed)) ⊎ (reply ≡ esrch) → (ResumesBy (asks o place) × (reply ≡ Agreed)) ⊎ (reply ≡ esrch)
+how_resumed o place reply (inl h) = inl (resumes_by o place h.0, h.1)
 how_resumed o place reply (inr h) = inr h
 
 -- something is asked before what is asked later

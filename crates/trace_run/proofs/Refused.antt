@@ -24,6 +24,7 @@ module _ (o : Options) (script : Script) where
   stopped : (known : ℕ → Known) (p : ℕ) (s : Stop) → (took_stop o known p s).focus ≡ Faulted → ⊥
   stopped known p (stop.Syscall good) e = cc e
   stopped known p (stop.Signal signal) e = cc e
+  stopped known p (stop.Group signal) e = cc e
   stopped known p (stop.Event event) e = cc e
   stopped known p (stop.Ended word) e = cc e
 

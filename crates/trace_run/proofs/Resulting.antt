@@ -18,7 +18,7 @@ use Rattle.lx_turn.specs.Linux.{linux}
 use Rattle.pt_kernel.specs.Seen.{next_of_host}
 use Rattle.pt_model.specs.Attending.{Schedules}
 use Rattle.pt_model.specs.Headline.{IsTold, traced_run, plain_run}
-use Rattle.pt_model.specs.Laws.{NoKillNoLoss, EveryScriptIsOne}
+use Rattle.pt_model.specs.Laws.{NoKillNoLoss}
 use Rattle.pt_model.specs.Parts as parts_of
 use Rattle.pt_model.specs.Ptrace.{is_there}
 use Rattle.pt_model.specs.Tracer.{Focus, Over, request}
@@ -159,12 +159,12 @@ pub traces_tell_log : NoKillNoLoss → TracesTellLog
 traces_tell_log no_loss boot schedule script options result old new t alive =
     told_by_log linux outcome_in (following options boot.follow) (choice_of script) (first_shared boot.limits boot.files boot.input) (booted boot.argv boot.env) t.events result old.contents new.contents no_loss t.tells alive
 
-pub linux_runs_tell : {L : Type 0} (answers : Answers L) → RunsTell Shared UserState answers → IsMachine linux → IsTold linux → EveryScriptIsOne → LinuxRunsTell answers
+pub linux_runs_tell : {L : Type 0} (answers : Answers L) → RunsTell Shared UserState answers → IsMachine linux → IsTold linux → LinuxRunsTell answers
 unfolding LinuxRunsTell RunsTell
-linux_runs_tell answers tells machine told one boot script o link link' old new result w events own =
-    tells o (choice_of script) (one script) link link' old new result w linux machine told outcome_in (first_shared boot.limits boot.files boot.input) (booted boot.argv boot.env) events own
+linux_runs_tell answers tells machine told boot script o link link' old new result w events own =
+    tells o (choice_of script) link link' old new result w linux machine told outcome_in (first_shared boot.limits boot.files boot.input) (booted boot.argv boot.env) events own
 
-pub linux_refused_runs_tell : {L : Type 0} (answers : Answers L) → RefusedRunsTell Shared UserState answers → IsMachine linux → IsTold linux → EveryScriptIsOne → LinuxRefusedRunsTell answers
+pub linux_refused_runs_tell : {L : Type 0} (answers : Answers L) → RefusedRunsTell Shared UserState answers → IsMachine linux → IsTold linux → LinuxRefusedRunsTell answers
 unfolding LinuxRefusedRunsTell RefusedRunsTell
-linux_refused_runs_tell answers tells machine told one boot script o link link' old new w events own =
-    tells o (choice_of script) (one script) link link' old new w linux machine told outcome_in (first_shared boot.limits boot.files boot.input) (booted boot.argv boot.env) events own
+linux_refused_runs_tell answers tells machine told boot script o link link' old new w events own =
+    tells o (choice_of script) link link' old new w linux machine told outcome_in (first_shared boot.limits boot.files boot.input) (booted boot.argv boot.env) events own

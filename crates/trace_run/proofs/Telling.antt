@@ -174,7 +174,7 @@ fault_in s e = fault_at s.tracer.focus e
 
 pub runs_tell : {L S B : Type 0} (answers : Answers L) → FailuresLeaveAPrefix S B → OwnRepliesTell S B → StatesAreTracers → TextsAreWhole → TracersWriteRenderings → RenderingGrows → RunsTell S B answers
 unfolding RunsTell
-runs_tell {L} {S} {B} answers fails own states whole writes grows o script is_script link link' old new result w m is_m is_told outcome s b events is_own =
+runs_tell {L} {S} {B} answers fails own states whole writes grows o script link link' old new result w m is_m is_told outcome s b events is_own =
     let po : parts_of.Options = options_by o in
     let rs : List Reply = replies_of w.runs.exchanges in
     let first : State = new_state po script (first_pen o) in
@@ -183,8 +183,8 @@ runs_tell {L} {S} {B} answers fails own states whole writes grows o script is_sc
     let tracer : (told first (Agreed ∷ rs)).tracer ≡ moved.tracer = (states po script (first_pen o) (Agreed ∷ rs)).0 in
     let bytes : text first (Agreed ∷ rs) ≡ rendering (layout_by o) moved.printed = writes po script (layout_by o) (Agreed ∷ rs) in
     let end : Ends L = record { link = link'; writer = new; state = w.state } in
-    let prefix = fails m is_m is_told outcome po texts script is_script s b events rs is_own in
-    let run : OwnRun m outcome po script s b events rs = own m is_m is_told outcome po texts script is_script s b events rs is_own in
+    let prefix = fails m is_m is_told outcome po texts script s b events rs is_own in
+    let run : OwnRun m outcome po script s b events rs = own m is_m is_told outcome po texts script s b events rs is_own in
     let grown = grows (layout_by o) moved.printed prefix.1.0 in
     record {
       lost = prefix.0;
@@ -234,7 +234,7 @@ last_refused answers s rs old a b h = until_refused s rs old _ h.1 b.writer h.1.
 
 pub refused_runs_tell : {L S B : Type 0} (answers : Answers L) → FaultsLeaveAPrefix S B → FaultsAreForGood → StatesAreTracers → TextsAreWhole → TracersWriteRenderings → RenderingGrows → RefusedRunsTell S B answers
 unfolding RefusedRunsTell
-refused_runs_tell {L} {S} {B} answers fails for_good states whole writes grows o script is_script link link' old new w m is_m is_told outcome s b events u =
+refused_runs_tell {L} {S} {B} answers fails for_good states whole writes grows o script link link' old new w m is_m is_told outcome s b events u =
     let po : parts_of.Options = options_by o in
     let rs : List Reply = replies_of w.runs.exchanges in
     let first : State = new_state po script (first_pen o) in
@@ -249,7 +249,7 @@ refused_runs_tell {L} {S} {B} answers fails for_good states whole writes grows o
     ap (λ (t : Tracer). t.focus) (sym tracer) ∙ fault_in (told first (Agreed ∷ rs)) (last_fault answers first (Agreed ∷ rs) old w.runs.link (Err (Trace Inadmissible)) end refl w.runs.last) in
     let refused : admits po before.tracer u.last ≡ false =
     last_is_refused po script (record { tracer = new_tracer; printed = [] }) (Agreed ∷ u.own) u.last (ap (λ (x : Moved). x.tracer.focus) (sym same) ∙ faulted) in
-    let prefix = fails m is_m is_told outcome po (whole o.string_limit o.limit_in_range) script is_script s b events u.own [] u.last u.is_own refused in
+    let prefix = fails m is_m is_told outcome po (whole o.string_limit o.limit_in_range) script s b events u.own [] u.last u.is_own refused in
     let kept : split.printed ≡ before.printed = (for_good po script (Agreed ∷ u.own) [] u.last refused).0 in
     let grown = grows (layout_by o) moved.printed prefix.1.0 in
     record {
@@ -276,5 +276,5 @@ own_talks own m outcome o script s b events xs a v = own m outcome (options_by o
 
 pub served_runs_tell : {L S B : Type 0} (answers : Answers L) → TalksAreOwn S B → RunsTell S B answers → ServedRunsTell S B answers
 unfolding ServedRunsTell RunsTell
-served_runs_tell answers own tells o script is_script link link' old new result w m is_m is_told outcome s b events v =
-    tells o script is_script link link' old new result w m is_m is_told outcome s b events (own_talks own m outcome o script s b events w.runs.exchanges w.runs.asked v)
+served_runs_tell answers own tells o script link link' old new result w m is_m is_told outcome s b events v =
+    tells o script link link' old new result w m is_m is_told outcome s b events (own_talks own m outcome o script s b events w.runs.exchanges w.runs.asked v)

@@ -20,7 +20,6 @@ use Rattle.lx_turn.specs.Linux.{linux}
 use Rattle.pt_kernel.specs.Seen.{next_of_host}
 use Rattle.pt_model.specs.Calls.{EventsOfReplies, OutOfTurnsShowsNothing, Used, SchedulesAreLists, TalksAreOwn, Talks, IsOwn, out_of_turns_if}
 use Rattle.pt_model.specs.Headline.{IsTold, IsTransparent, Headline, NothingKeptBack, traced_run, plain_run}
-use Rattle.pt_model.specs.Laws.{EveryScriptIsOne}
 use Rattle.pt_model.specs.Parts as parts_of
 use Rattle.pt_model.specs.Ptrace.{is_there}
 use Rattle.pt_model.specs.Replies.{RepliesTellAll, replies, told_by}
@@ -76,7 +75,7 @@ not_out {S} {B} tell_all nothing m outcome o script s b events rs waits true p e
     absurd (cc (sym waits ∙ over))
 
 pub writes_before_it_waits : {L S B : Type 0} (answers : Answers L) → IsTransparent S B → RepliesTellAll S B → EventsOfReplies S B → OutOfTurnsShowsNothing → StatesAreTracers → TextsAreWhole → TracersWriteRenderings → WritesBeforeItWaits S B answers
-writes_before_it_waits {L} {S} {B} answers transparent tell_all of_replies nothing states whole writes o script is_script link link' old new result w m is_m is_told outcome s b events own before h =
+writes_before_it_waits {L} {S} {B} answers transparent tell_all of_replies nothing states whole writes o script link link' old new result w m is_m is_told outcome s b events own before h =
     let po : parts_of.Options = options_by o in
     let first : State = new_state po script (first_pen o) in
     let a : Ends L = record { link = link; writer = old; state = first } in
@@ -97,7 +96,7 @@ writes_before_it_waits {L} {S} {B} answers transparent tell_all of_replies nothi
     let told_is : told_by po script (Agreed ∷ rs) ≡ record { tracer = world.tracer; printed = world.printed } =
     ap (λ l. told_by po script (Agreed ∷ l)) (sym u.replied) ∙ tell_all m outcome po script s b u.used in
     let waits : world.tracer.focus ≡ Waiting = ap (λ (x : Moved). x.tracer.focus) (sym told_is) ∙ tracer_waits in
-    let headline : Headline outcome po world (plain_run m outcome po script s b u.used) = transparent m is_m is_told outcome po (whole o.string_limit o.limit_in_range) script is_script s b u.used in
+    let headline : Headline outcome po world (plain_run m outcome po script s b u.used) = transparent m is_m is_told outcome po (whole o.string_limit o.limit_in_range) script s b u.used in
     let kept : NothingKeptBack po world.host.queue world.printed (view headline.lost (traced o.follow (plain_run m outcome po script s b u.used).log)) = headline.kept_back waits in
     let had : HadWritten first (Agreed ∷ rs) old new = writes_before_it_asks answers a z (forgets result) w.runs before Wait h in
     let bytes : text first (Agreed ∷ rs) ≡ rendering (layout_by o) (parts po kept.past) =
@@ -113,12 +112,12 @@ writes_before_it_waits {L} {S} {B} answers transparent tell_all of_replies nothi
       written = subst (Appends old.contents had.moment.contents) bytes had.writes.written;
     }
 
-pub traces_write_before_they_wait : SchedulesAreLists Schedule Shared UserState → TalksAreOwn Shared UserState → WritesBeforeItWaits Shared UserState local_answers → IsMachine linux → IsTold linux → EveryScriptIsOne → TracesWriteBeforeTheyWait
-traces_write_before_they_wait lists own writes machine is_told one boot schedule script options result old new t before h =
+pub traces_write_before_they_wait : SchedulesAreLists Schedule Shared UserState → TalksAreOwn Shared UserState → WritesBeforeItWaits Shared UserState local_answers → IsMachine linux → IsTold linux → TracesWriteBeforeTheyWait
+traces_write_before_they_wait lists own writes machine is_told boot schedule script options result old new t before h =
     let o : Options = following options boot.follow in
     let s : Shared = first_shared boot.limits boot.files boot.input in
     let b : UserState = booted boot.argv boot.env in
     let talks : Talks linux outcome_in (options_by o) (choice_of script) first_tracer (first_world s b).host t.events t.ran.runs.exchanges =
     lists next_of_host linux outcome_in (options_by o) (choice_of script) first_tracer schedule (first_world s b).host t.events t.ran.runs.exchanges t.given in
     let is_own : IsOwn linux outcome_in (options_by o) (choice_of script) s b t.events (replies_of t.ran.runs.exchanges) = own linux outcome_in (options_by o) (choice_of script) s b t.events t.ran.runs.exchanges talks in
-    writes o (choice_of script) (one script) t.link t.link' old new result t.ran linux machine is_told outcome_in s b t.events is_own before h
+    writes o (choice_of script) t.link t.link' old new result t.ran linux machine is_told outcome_in s b t.events is_own before h

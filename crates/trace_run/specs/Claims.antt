@@ -8,7 +8,7 @@ use Rattle.lx_abi.specs.Scripts.{choice_of}
 use Rattle.lx_model.specs.Kernel.{Script}
 use Rattle.lx_model.specs.Machine.{Machine, IsMachine}
 use Rattle.pt_model.specs.Calls.{IsOwn}
-use Rattle.pt_model.specs.Headline.{IsTold, IsScript, plain_run}
+use Rattle.pt_model.specs.Headline.{IsTold, plain_run}
 use Rattle.pt_model.specs.View.{has_kill, traced, parts}
 use Rattle.host_wire.specs.Ends.{AppendsPart}
 use Rattle.tr_core.specs.Settings.{options_by, layout_by, first_pen}
@@ -65,8 +65,8 @@ by_log m outcome o script s b events result old new =
 
 -- where it fails by a reply that isn't admitted, what it wrote begins the rendering of that log
 abbrev pub RefusedByLog : {L : Type 0} → (S B : Type 0) → Answers L → Type 0
-RefusedByLog {L} S B answers = (o : Options) (script : Script) → IsScript script
-    → (link link' : L) (old new : Writer)
+RefusedByLog {L} S B answers = (o : Options) (script : Script)
+    (link link' : L) (old new : Writer)
     (w : RunsWhole answers (new_state (options_by o) script (first_pen o)) link old (Err (Trace Inadmissible))
     link' new)
     (m : Machine S B) → IsMachine m → IsTold m → (outcome : S → Outcome) (s : S) (b : B) (events : List Event)
@@ -89,10 +89,8 @@ ReplacedCalls S B answers = (o : Options) (script : Script) → JoinsNothing scr
 
 -- with signals joined too
 abbrev pub JoinedSignals : {L : Type 0} → (S B : Type 0) → Answers L → Type 0
-JoinedSignals S B answers = (o : Options) (script : Script) → IsScript script
-    → Claim {S = S} {B = B} answers by_log o script
+JoinedSignals S B answers = (o : Options) (script : Script) → Claim {S = S} {B = B} answers by_log o script
 
 -- and whoever is killed: the trace is told by a view of the log
 abbrev pub UnderKills : {L : Type 0} → (S B : Type 0) → Answers L → Type 0
-UnderKills S B answers = (o : Options) (script : Script) → IsScript script
-    → Claim {S = S} {B = B} answers Tells o script
+UnderKills S B answers = (o : Options) (script : Script) → Claim {S = S} {B = B} answers Tells o script

@@ -8,7 +8,7 @@ use Rattle.lx_model.specs.Kernel.{Script, traces}
 use Rattle.lx_model.specs.Machine.{Machine, IsMachine}
 use Rattle.pt_model.specs.Attending.{called, Schedules}
 use Rattle.pt_model.specs.Calls.{CallsOver, attends}
-use Rattle.pt_model.specs.Headline.{IsTold, IsScript, traced_run, plain_run}
+use Rattle.pt_model.specs.Headline.{IsTold, traced_run, plain_run}
 use Rattle.pt_model.specs.Parts as parts
 use Rattle.pt_model.specs.Ptrace.{Host, is_there}
 use Rattle.pt_model.specs.Tracer.{Over, request}
@@ -88,8 +88,8 @@ pub record LocalRun {X S B : Type 0} (choose : Schedules X S B) (m : Machine S B
 
 -- for every run that ends without a fault, over a link that serves by a host in memory from its beginning
 unfoldable pub LocalRunsTell : {L : Type 0} → (X S B : Type 0) → Answers L → Type 0
-LocalRunsTell {L} X S B answers = (o : Options) (script : Script) → IsScript script
-    → (link link' : L) (old new : Writer) (trace : List ℕ) → old.contents ≡ Some [] → new.contents ≡ Some trace
+LocalRunsTell {L} X S B answers = (o : Options) (script : Script)
+    (link link' : L) (old new : Writer) (trace : List ℕ) → old.contents ≡ Some [] → new.contents ≡ Some trace
     → (ended : Ended)
     (w : RunsWhole answers (new_state (options_by o) script (first_pen o)) link old (Ok ended) link' new)
     (i : InMemory L X S B) (choose : Schedules X S B) (m : Machine S B) → IsMachine m → IsTold m

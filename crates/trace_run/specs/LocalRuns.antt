@@ -10,7 +10,6 @@ use Rattle.lx_proc.specs.declared.state.Shared.{Shared}
 use Rattle.lx_proc.specs.declared.state.UserState.{UserState}
 use Rattle.lx_model.specs.Kernel.{Script}
 use Rattle.pt_model.specs.Calls.{TalksOver, IsOwn}
-use Rattle.pt_model.specs.Headline.{IsScript}
 use Rattle.pt_model.specs.Hosting.{host_in, IsFresh, first_hosting}
 use Rattle.pt_model.specs.Tracer.{first_tracer}
 use Rattle.pt_model.specs.World.{first_world}
@@ -77,8 +76,8 @@ LocalLinksAnswerTheirOwn = (o : Options) (script : Script) (link link' : LocalLi
 
 -- and a run over it, from its boot on, is the untraced kernel's
 unfoldable pub LocalLinksTell : Type 0
-LocalLinksTell = (o : Options) (script : Script) → IsScript script
-    → (link link' : LocalLink) (old new : Writer) (trace : List ℕ) → old.contents ≡ Some [] → new.contents ≡ Some trace
+LocalLinksTell = (o : Options) (script : Script)
+    (link link' : LocalLink) (old new : Writer) (trace : List ℕ) → old.contents ≡ Some [] → new.contents ≡ Some trace
     → (ended : Ended)
     (w : RunsWhole local_answers (new_state (options_by o) script (first_pen o)) link old (Ok ended) link' new)
     (s : Shared) (b : UserState) → IsGoing link → (host_of link).hosting ≡ first_hosting s b
@@ -98,8 +97,8 @@ pub record LinkTells (o : Options) (script : Script) (s : Shared) (b : UserState
   pub tells : Tells linux outcome_in o script s b events result old new
 
 unfoldable pub LocalLinksTellParts : Type 0
-LocalLinksTellParts = (o : Options) (script : Script) → IsScript script
-    → (link link' : LocalLink) (old new : Writer) (result : Result Ended RunFault)
+LocalLinksTellParts = (o : Options) (script : Script)
+    (link link' : LocalLink) (old new : Writer) (result : Result Ended RunFault)
     (w : RunsWhole local_answers (new_state (options_by o) script (first_pen o)) link old result link' new)
     (s : Shared) (b : UserState) → IsGoing link → (host_of link).hosting ≡ first_hosting s b
     → LinkTells o script s b link w.runs.exchanges result old.contents new.contents
@@ -125,8 +124,8 @@ IsLocalFault Output = ⊤
 
 -- the events are those of the replies that the link had given before, and those that its schedule has left
 unfoldable pub LocalLinksFail : Type 0
-LocalLinksFail = (o : Options) (script : Script) → IsScript script
-    → (link link' : LocalLink) (old new : Writer) (fault : RunFault)
+LocalLinksFail = (o : Options) (script : Script)
+    (link link' : LocalLink) (old new : Writer) (fault : RunFault)
     → RunsWhole local_answers (new_state (options_by o) script (first_pen o)) link old (Err fault) link' new
     → (s : Shared) (b : UserState) → IsGoing link → (host_of link).hosting ≡ first_hosting s b
     → FailsBy (given_of link + events_left (schedule_of link)) new.broken fault

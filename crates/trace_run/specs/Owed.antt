@@ -5,7 +5,7 @@ use Rattle.std.specs.Io.KnownBytes.{Appends}
 use Rattle.lx_abi.specs.declared.boot.Boot.{Boot}
 use Rattle.lx_abi.specs.declared.outcome.Outcome.{Outcome}
 use Rattle.lx_abi.specs.declared.ptrace.Ask.{Ask}
-use Rattle.lx_abi.specs.declared.ptrace.Ask.TheVariants.{Syscall}
+use Rattle.lx_abi.specs.declared.ptrace.Ask.TheVariants.{Syscall, Listen}
 use Rattle.lx_abi.specs.declared.ptrace.Reply.{Reply}
 use Rattle.lx_abi.specs.declared.ptrace.Reply.TheVariants.{Done as Agreed, Status as Status_is}
 use Rattle.lx_abi.specs.declared.ptrace.Request.{Request}
@@ -22,7 +22,7 @@ use Rattle.lx_model.specs.Kernel.{Script}
 use Rattle.lx_model.specs.Machine.{Machine, IsMachine}
 use Rattle.lx_turn.specs.Linux.{linux}
 use Rattle.pt_model.specs.Calls.{IsOwn}
-use Rattle.pt_model.specs.Headline.{IsTold, IsScript, NothingKeptBack, traced_run, plain_run}
+use Rattle.pt_model.specs.Headline.{IsTold, NothingKeptBack, traced_run, plain_run}
 use Rattle.pt_model.specs.Replies.{comes_to_hand, replies}
 use Rattle.pt_model.specs.Requests.{esrch}
 use Rattle.pt_model.specs.View.{view, traced, parts}
@@ -73,14 +73,18 @@ abbrev pub StopsWithItsWriter : {L : Type 0} → Answers L → Type 0
 StopsWithItsWriter {L} answers = (a b : Ends L) (w : Runs answers a (Err Output) b)
     → length b.writer.puts ≡ length a.writer.puts + length w.exchanges + 1
 
--- one of these exchanges resumed the tracee by Syscall, or found it gone
+-- Syscall, or Listen at a group stop
+abbrev pub ResumesBy : Ask → Type 0
+ResumesBy ask = ((signal : ℕ) × (ask ≡ Syscall signal)) ⊎ (ask ≡ Listen)
+
+-- one of these exchanges resumed the tracee by Syscall or Listen, or found it gone
 pub record IsResumed (p : ℕ) (exchanges : List (Request × Reply)) : Type 0 where
   pub before : List (Request × Reply)
   pub ask : Ask
   pub reply : Reply
   pub after : List (Request × Reply)
   pub split : exchanges ≡ before ++ (To p ask, reply) ∷ after
-  pub how : (((signal : ℕ) × (ask ≡ Syscall signal)) × (reply ≡ Agreed)) ⊎ (reply ≡ esrch)
+  pub how : (ResumesBy ask × (reply ≡ Agreed)) ⊎ (reply ≡ esrch)
 
 -- between a status that is no end and the next Wait its tracee was resumed, or found gone
 abbrev pub ResumesBeforeItWaits : {L : Type 0} → Answers L → Type 0
@@ -106,8 +110,8 @@ pub record WroteByWait {S B : Type 0} (m : Machine S B) (outcome : S → Outcome
   pub written : Appends old.contents had.moment.contents (rendering (layout_by o) (parts (options_by o) kept.past))
 
 abbrev pub WritesBeforeItWaits : {L : Type 0} → (S B : Type 0) → Answers L → Type 0
-WritesBeforeItWaits {L} S B answers = (o : Options) (script : Script) → IsScript script
-    → (link link' : L) (old new : Writer) (result : Result Ended RunFault)
+WritesBeforeItWaits {L} S B answers = (o : Options) (script : Script)
+    (link link' : L) (old new : Writer) (result : Result Ended RunFault)
     (w : RunsWhole answers (new_state (options_by o) script (first_pen o)) link old result link' new)
     (m : Machine S B) → IsMachine m → IsTold m → (outcome : S → Outcome) (s : S) (b : B) (events : List Event)
     → IsOwn m outcome (options_by o) script s b events (replies_of w.runs.exchanges)

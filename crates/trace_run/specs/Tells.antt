@@ -13,7 +13,7 @@ use Rattle.pt_model.specs.Parts as parts_of
 use Rattle.pt_model.specs.Replies.{told_by}
 use Rattle.pt_model.specs.Tracer.{Over, request}
 use Rattle.pt_model.specs.World.{first_world}
-use Rattle.pt_model.specs.Headline.{IsTold, IsScript, traced_run, plain_run}
+use Rattle.pt_model.specs.Headline.{IsTold, traced_run, plain_run}
 use Rattle.lx_model.specs.Kernel.{Script, traces}
 use Rattle.lx_model.specs.Machine.{Machine, IsMachine}
 use Rattle.pt_model.specs.View.{view, has_exit, traced, parts}
@@ -68,8 +68,8 @@ pub record Tells {S B : Type 0} (m : Machine S B) (outcome : S → Outcome) (o :
 
 -- for every run whose replies are a host's own
 unfoldable pub RunsTell : {L : Type 0} → (S B : Type 0) → Answers L → Type 0
-RunsTell {L} S B answers = (o : Options) (script : Script) → IsScript script
-    → (link link' : L) (old new : Writer) (result : Result Ended RunFault)
+RunsTell {L} S B answers = (o : Options) (script : Script)
+    (link link' : L) (old new : Writer) (result : Result Ended RunFault)
     (w : RunsWhole answers (new_state (options_by o) script (first_pen o)) link old result link' new)
     (m : Machine S B) → IsMachine m → IsTold m → (outcome : S → Outcome) (s : S) (b : B) (events : List Event)
     → IsOwn m outcome (options_by o) script s b events (replies_of w.runs.exchanges)
@@ -94,8 +94,8 @@ pub record RefusedTells {S B : Type 0} (m : Machine S B) (outcome : S → Outcom
 
 -- for every run whose replies before that one are a host's own
 unfoldable pub RefusedRunsTell : {L : Type 0} → (S B : Type 0) → Answers L → Type 0
-RefusedRunsTell {L} S B answers = (o : Options) (script : Script) → IsScript script
-    → (link link' : L) (old new : Writer)
+RefusedRunsTell {L} S B answers = (o : Options) (script : Script)
+    (link link' : L) (old new : Writer)
     (w : RunsWhole answers (new_state (options_by o) script (first_pen o)) link old (Err (Trace Inadmissible))
     link' new)
     (m : Machine S B) → IsMachine m → IsTold m → (outcome : S → Outcome) (s : S) (b : B) (events : List Event)
@@ -111,8 +111,8 @@ Served m outcome h es (x ∷ xs) = (x.1 ≡ reply_or (called m outcome h x.0 es)
 
 -- for every run over such a host
 unfoldable pub ServedRunsTell : {L : Type 0} → (S B : Type 0) → Answers L → Type 0
-ServedRunsTell {L} S B answers = (o : Options) (script : Script) → IsScript script
-    → (link link' : L) (old new : Writer) (result : Result Ended RunFault)
+ServedRunsTell {L} S B answers = (o : Options) (script : Script)
+    (link link' : L) (old new : Writer) (result : Result Ended RunFault)
     (w : RunsWhole answers (new_state (options_by o) script (first_pen o)) link old result link' new)
     (m : Machine S B) → IsMachine m → IsTold m → (outcome : S → Outcome) (s : S) (b : B) (events : List Event)
     → Served m outcome (first_world s b).host events w.runs.exchanges

@@ -19,8 +19,8 @@ use lx_turn::laws::linux_is_a_machine;
 use pt_kernel::Schedule;
 use pt_kernel::laws::{hosts_are_called, linux_is_told};
 use pt_model::laws::{
-    every_script_is_one, failures_leave_a_prefix, faults_leave_a_prefix, hosts_run_alike,
-    no_kill_no_loss, nobody_is_left_held, own_replies_tell, replies_tell_all, schedules_are_lists,
+    failures_leave_a_prefix, faults_leave_a_prefix, hosts_run_alike, no_kill_no_loss,
+    nobody_is_left_held, own_replies_tell, replies_tell_all, schedules_are_lists,
     traces_grow_until_a_fault, tracing_is_transparent, worlds_attend,
 };
 use pt_schedule::laws::events_are_few;
@@ -63,7 +63,6 @@ pub fn linux_runs_tell<L: Link>()
 {
     runs_tell::<Shared, UserState, L>();
     refused_runs_tell::<Shared, UserState, L>();
-    every_script_is_one();
     linux_is_a_machine();
     linux_is_told();
 }
@@ -151,13 +150,12 @@ pub fn booted_runs_tell()
     local_links_tell();
     local_links_tell_parts();
     local_links_fail();
-    every_script_is_one();
     hosts_run_alike::<Shared, UserState>();
 }
 
 /// Before it asks, a run has written what it owes: all that the replies before brought, by one put for each, whatever
-/// they are. Where its writer fails it asks no more. Whose status it took it resumed, or found gone, before the next
-/// Wait.
+/// they are. Where its writer fails it asks no more. Whose status it took it resumed by Syscall or Listen, or found
+/// gone, before the next Wait.
 pub fn runs_write_before_they_ask<L: Link>()
     ensures asks { WritesBeforeItAsks (calls_of L.answers L.given L.broken) }
     ensures link { WritesBeforeTheLinkFails (calls_of L.answers L.given L.broken) }
@@ -188,7 +186,6 @@ pub fn traces_write_before_they_wait()
     runs_write_before_they_wait::<Shared, UserState, LocalLink>();
     schedules_are_lists::<Schedule, Shared, UserState>();
     own_replies_tell::<Shared, UserState>();
-    every_script_is_one();
     linux_is_a_machine();
     linux_is_told();
 }
@@ -198,7 +195,6 @@ pub fn plain_tracing_is_transparent<S, B, L: Link>()
     ensures { PlainTracing S B (calls_of L.answers L.given L.broken) }
 {
     joined_signals_are_transparent::<S, B, L>();
-    every_script_is_one();
 }
 
 /// So it does with results replaced: exactly the scripted occurrences, counted per tracee and call.

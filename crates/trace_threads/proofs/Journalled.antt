@@ -18,7 +18,7 @@ use Rattle.lx_proc.specs.declared.state.Shared.{Shared}
 use Rattle.lx_proc.specs.declared.state.UserState.{UserState}
 use Rattle.lx_turn.specs.Linux.{linux}
 use Rattle.pt_model.specs.Attending.{listed}
-use Rattle.pt_model.specs.Headline.{IsTold, IsScript, IsTransparent, traced_run, plain_run}
+use Rattle.pt_model.specs.Headline.{IsTold, IsTransparent, traced_run, plain_run}
 use Rattle.pt_model.specs.Parts as parts_of
 use Rattle.pt_model.specs.Ptrace.{Host, is_there}
 use Rattle.pt_model.specs.Tracer.{Over, request, first_tracer}
@@ -111,24 +111,23 @@ module _ {S B : Type 0} (m : Machine S B) (outcome : S → Outcome) (o : Options
 
 -- a run whose host's journal tells of its requests and replies
 told_run : {S B : Type 0} → JournalsTell S B → IsTransparent S B → TextsAreWhole → (m : Machine S B) → IsMachine m → IsTold m → (outcome : S → Outcome) (follow : Bool)
-    (o : Options) (script : Script) → IsScript script → (s : S) (b : B) (journal : List Entry) (g : Hosting S B) (given : List (Request × Reply))
+    (o : Options) (script : Script) (s : S) (b : B) (journal : List Entry) (g : Hosting S B) (given : List (Request × Reply))
     (trace : List ℕ) (ended : Ended) (left : Outcome) (turns : List ℕ)
     → Replays m outcome follow (first_hosting s b) journal g → Told journal given → Asks (options_by o) script first_tracer given
     → ((events : List Event) → IsOwn m outcome (options_by o) script s b events (map (λ x. x.1) given) → Tells m outcome o script s b events (Ok ended) (Some []) (Some trace))
     → left ≡ outcome g.running.shared → turns ≡ g.turns
     → LocalRun listed m outcome o script (events_of journal) s b ended trace left turns
-told_run {S} {B} journals transparent texts m is_m is_told outcome follow o script is_script s b journal g given trace ended left turns replayed told asked tells left_is turned =
+told_run {S} {B} journals transparent texts m is_m is_told outcome follow o script s b journal g given trace ended left turns replayed told asked tells left_is turned =
     let j = journals m outcome follow (options_by o) script s b journal g given replayed told asked in
     let same : left ≡ outcome (plain_run m outcome (options_by o) script s b (events_of journal)).shared =
     left_is ∙ ap (λ (h : Host S B). outcome h.shared) (sym j.host)
-    ∙ (transparent m is_m is_told outcome (options_by o) (texts o.string_limit o.limit_in_range) script is_script s b (events_of journal)).same_outcome in
+    ∙ (transparent m is_m is_told outcome (options_by o) (texts o.string_limit o.limit_in_range) script s b (events_of journal)).same_outcome in
     run_by m outcome o script s b (events_of journal) trace ended left turns same (turned ∙ j.turned) j.asked (tells (events_of journal) j.own)
 
 -- what is cited of journals and of tracing
 pub record Cited : Type 0 where
   pub journals : JournalsTell Shared UserState
   pub transparent : IsTransparent Shared UserState
-  pub scripts : (script : List Rule) → IsScript (choice_of script)
   pub texts : TextsAreWhole
   pub machine : IsMachine linux
   pub told : IsTold linux
@@ -148,7 +147,7 @@ thread_run cited boot limit script o given run held lies traced left turned = re
   journal = events_of held.journal;
   few = subst (λ n. length (events_of held.journal) ≤ n) lies.limit_is lies.kept.few;
   run_of =
-      told_run cited.journals cited.transparent cited.texts linux cited.machine cited.told outcome_in boot.follow (following o boot.follow) (choice_of script) (cited.scripts script)
+      told_run cited.journals cited.transparent cited.texts linux cited.machine cited.told outcome_in boot.follow (following o boot.follow) (choice_of script)
       (first_shared boot.limits boot.files boot.input) (booted boot.argv boot.env) held.journal held.host.hosting given run.trace run.ended run.outcome run.turns
       (subst (λ (x : Boot). Replays linux outcome_in x.follow (first_of x) held.journal held.host.hosting) lies.boot_is lies.kept.replayed)
       lies.told traced.asked (λ events own. traced.tells boot events own) left turned;

@@ -16,7 +16,7 @@ use lx_proc::{Shared, UserState};
 use lx_turn::laws::linux_is_a_machine;
 use pt_journal::laws::journals_tell;
 use pt_kernel::laws::linux_is_told;
-use pt_model::laws::{every_script_is_one, tracing_is_transparent};
+use pt_model::laws::tracing_is_transparent;
 use std::alloc::Global;
 use std::sync::{Mutex, Wait};
 use std::thread::Threads;
@@ -49,7 +49,6 @@ pub fn run_threads<G: Gate, R: Threads + Wait + Sync>(
 {
     journals_tell::<Shared, UserState>();
     tracing_is_transparent::<Shared, UserState>();
-    every_script_is_one();
     texts_are_whole();
     linux_is_a_machine();
     linux_is_told();

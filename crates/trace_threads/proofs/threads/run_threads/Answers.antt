@@ -13,7 +13,6 @@ returns-clause-run g c =
     (record {
       journals = c.journals_tell.ensures;
       transparent = c.tracing_is_transparent.ensures;
-      scripts = c.every_script_is_one.ensures;
       texts = c.texts_are_whole.ensures;
       machine = c.linux_is_a_machine.ensures;
       told = c.linux_is_told.ensures;
