@@ -2,7 +2,7 @@
 use Rattle.std.proofs.Common.{◌≡◌, ℕ, ◌^◌, ◌<◌, List, [], ◌++◌, Option, Some, refl, sym, ap, subst, ◌∙◌, append_assoc, inl, inr}
 use Rattle.std.proofs.lemmas.Option.{some_pair_parts}
 use Rattle.lx_abi.specs.declared.ptrace.Ask.{Ask}
-use Rattle.lx_abi.specs.declared.ptrace.Ask.TheVariants.{Seize, SetOptions, GetRegs, SetRegs, Peek, Syscall, EventMsg, SigInfo}
+use Rattle.lx_abi.specs.declared.ptrace.Ask.TheVariants.{Seize, SetOptions, GetRegs, SetRegs, Peek, Syscall, EventMsg, SigInfo, Listen}
 use Rattle.lx_abi.specs.declared.ptrace.Request.{Request}
 use Rattle.lx_abi.specs.declared.ptrace.Request.TheVariants.{To}
 use Rattle.host_values.specs.Reading.{◌>>=◌, number_at}
@@ -64,7 +64,10 @@ ask_takes kind bytes x rest all e = elim (pick {k = kind} {c = 2} e) [
               | inl h ↦ bare x EventMsg all h.0 refl refl tt h.1
               | inr e ↦ elim (pick {k = kind} {c = 10} e) [
                 | inl h ↦ bare x SigInfo all h.0 refl refl tt h.1
-                | inr e ↦ absurd (cc e)
+                | inr e ↦ elim (pick {k = kind} {c = 13} e) [
+                  | inl h ↦ bare x Listen all h.0 refl refl tt h.1
+                  | inr e ↦ absurd (cc e)
+                ]
               ]
             ]
           ]
@@ -83,6 +86,7 @@ ask_again (Peek address count) rest fits = peek_form.again (address, count) rest
 ask_again (Syscall signal) rest fits = syscall_form.again signal rest fits
 ask_again EventMsg rest fits = refl
 ask_again SigInfo rest fits = refl
+ask_again Listen rest fits = refl
 
 -- a request to one process
 pub to_again : (pid : ℕ) (ask : Ask) (rest : List ℕ) → pid < 256 ^ 4 → FitsAsk ask → to_at (ask_message ask).0 ((word pid ++ (ask_message ask).1) ++ rest) ≡ Some (To pid ask, rest)

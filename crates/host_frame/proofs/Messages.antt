@@ -10,7 +10,7 @@ use Rattle.lx_abi.specs.declared.outcome.OutcomeFile.{OutcomeFile}
 use Rattle.lx_abi.specs.declared.outcome.Ended.{Ended}
 use Rattle.lx_abi.specs.declared.schedule.Word.{Word}
 use Rattle.lx_abi.specs.declared.ptrace.Ask.{Ask}
-use Rattle.lx_abi.specs.declared.ptrace.Ask.TheVariants.{Seize, SetOptions, GetRegs, SetRegs, Peek, Syscall, EventMsg, SigInfo}
+use Rattle.lx_abi.specs.declared.ptrace.Ask.TheVariants.{Seize, SetOptions, GetRegs, SetRegs, Peek, Syscall, EventMsg, SigInfo, Listen}
 use Rattle.lx_abi.specs.declared.ptrace.Request.{Request}
 use Rattle.lx_abi.specs.declared.ptrace.Request.TheVariants.{Boot as Boot_with, Wait, To, Outcome as Ask_outcome}
 use Rattle.lx_abi.specs.declared.ptrace.Reply.{Reply}
@@ -328,6 +328,7 @@ to_last (Peek address count) p q r s = refl
 to_last (Syscall signal) p q r s = refl
 to_last EventMsg p q r s = refl
 to_last SigInfo p q r s = refl
+to_last Listen p q r s = refl
 
 versioned_again : (b : Boot) (limit : ℕ) (words : List Word) (rest : List ℕ) → FitsRequest (Boot_with b limit words)
     → boot_at ((byte 2 ++ (byte (flag b.follow) ++ (double limit ++ (limits b.limits ++ (parts b ++ items schedule_word words))))) ++ rest) ≡ Some (Boot_with b limit words, rest)
@@ -408,6 +409,7 @@ request_kind (To pid (Peek address count)) = refl
 request_kind (To pid (Syscall signal)) = refl
 request_kind (To pid EventMsg) = refl
 request_kind (To pid SigInfo) = refl
+request_kind (To pid Listen) = refl
 
 reply_kind : (r : Reply) → ltb (reply_message r).0 0x80 ≡ false
 reply_kind Done = refl

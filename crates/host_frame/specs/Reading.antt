@@ -4,7 +4,7 @@ use Rattle.byteorder.specs.Endian.{big_number}
 use Rattle.lx_abi.specs.declared.boot.Boot.{Boot}
 use Rattle.lx_abi.specs.declared.boot.Limits.{Limits}
 use Rattle.lx_abi.specs.declared.ptrace.Ask.{Ask}
-use Rattle.lx_abi.specs.declared.ptrace.Ask.TheVariants.{Seize, SetOptions, GetRegs, SetRegs, Peek, Syscall, EventMsg, SigInfo}
+use Rattle.lx_abi.specs.declared.ptrace.Ask.TheVariants.{Seize, SetOptions, GetRegs, SetRegs, Peek, Syscall, EventMsg, SigInfo, Listen}
 use Rattle.lx_abi.specs.declared.ptrace.Request.{Request}
 use Rattle.lx_abi.specs.declared.ptrace.Request.TheVariants.{Boot as Boot_with, Wait, To, Outcome as Ask_outcome}
 use Rattle.lx_abi.specs.declared.ptrace.Reply.{Reply}
@@ -114,7 +114,8 @@ ask_at kind bytes =
     else (if kind == 0x08 then syscall_at bytes
     else (if kind == 0x09 then Some (EventMsg, bytes)
     else (if kind == 0x0a then Some (SigInfo, bytes)
-    else None)))))))
+    else (if kind == 0x0d then Some (Listen, bytes)
+    else None))))))))
 
 unfoldable pub to_at : ℕ → List ℕ → Option (Request × List ℕ)
 to_at kind bytes = do

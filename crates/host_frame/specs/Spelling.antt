@@ -6,7 +6,7 @@ use Rattle.lx_abi.specs.declared.outcome.Outcome.{Outcome}
 use Rattle.lx_abi.specs.declared.ptrace.Info.{Info}
 use Rattle.lx_abi.specs.declared.schedule.Word.{Word}
 use Rattle.lx_abi.specs.declared.ptrace.Ask.{Ask}
-use Rattle.lx_abi.specs.declared.ptrace.Ask.TheVariants.{Seize, SetOptions, GetRegs, SetRegs, Peek, Syscall, EventMsg, SigInfo}
+use Rattle.lx_abi.specs.declared.ptrace.Ask.TheVariants.{Seize, SetOptions, GetRegs, SetRegs, Peek, Syscall, EventMsg, SigInfo, Listen}
 use Rattle.lx_abi.specs.declared.ptrace.Request.{Request}
 use Rattle.lx_abi.specs.declared.ptrace.Request.TheVariants.{Boot as Boot_with, Wait, To, Outcome as Ask_outcome}
 use Rattle.lx_abi.specs.declared.ptrace.Reply.{Reply}
@@ -55,6 +55,7 @@ ask_message (Peek address count) = (0x07, double address ++ word count)
 ask_message (Syscall signal) = (0x08, word signal)
 ask_message EventMsg = (0x09, [])
 ask_message SigInfo = (0x0a, [])
+ask_message Listen = (0x0d, [])
 
 abbrev pub request_message : Request → ℕ × List ℕ
 request_message (Boot_with b limit words) =
@@ -90,6 +91,7 @@ FitsAsk (Peek address count) = (address < 256 ^ 8) × (count < 256 ^ 4)
 FitsAsk (Syscall signal) = signal < 256 ^ 4
 FitsAsk EventMsg = Unit {0}
 FitsAsk SigInfo = Unit {0}
+FitsAsk Listen = Unit {0}
 
 abbrev pub FitsLimits : Limits → Type 0
 FitsLimits l = (l.live < 256 ^ 4) × (l.last_pid < 256 ^ 4)

@@ -74,6 +74,7 @@ fn ask(alloc: Global, kind: u8, bytes: &[u8]) -> Result<(Ask, &[u8]), Bad>
         0x08 => syscall(bytes),
         0x09 => Ok((Ask::EventMsg, bytes)),
         0x0a => Ok((Ask::SigInfo, bytes)),
+        0x0d => Ok((Ask::Listen, bytes)),
         _ => Err(Bad::Payload),
     }
 }

@@ -22,6 +22,7 @@ fn ask_size(ask: &Ask) -> usize
         Ask::GetRegs => 0,
         Ask::EventMsg => 0,
         Ask::SigInfo => 0,
+        Ask::Listen => 0,
     }
 }
 

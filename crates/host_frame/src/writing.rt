@@ -24,6 +24,7 @@ fn ask_kind(ask: &Ask) -> u8
         Ask::Syscall { .. } => 0x08,
         Ask::EventMsg => 0x09,
         Ask::SigInfo => 0x0a,
+        Ask::Listen => 0x0d,
     }
 }
 
@@ -48,6 +49,7 @@ fn put_ask(out: &mut Vec<u8>, ask: &Ask) -> Result<(), AllocError>
         Ask::GetRegs => Ok(()),
         Ask::EventMsg => Ok(()),
         Ask::SigInfo => Ok(()),
+        Ask::Listen => Ok(()),
     }
 }
 

@@ -90,6 +90,16 @@ asks_agree p ask.SigInfo (reply.Outcome r_outcome) = refl
 asks_agree p ask.SigInfo (reply.Errno r_n) = refl
 asks_agree p ask.SigInfo reply.OutOfTurns = refl
 asks_agree p ask.SigInfo (reply.Refused r_fault) = refl
+asks_agree p ask.Listen reply.Done = refl
+asks_agree p ask.Listen (reply.Status r_pid r_status) = refl
+asks_agree p ask.Listen (reply.Registers r_r) = refl
+asks_agree p ask.Listen (reply.Bytes r_bytes) = refl
+asks_agree p ask.Listen (reply.Message r_pid) = refl
+asks_agree p ask.Listen (reply.Info r_info) = refl
+asks_agree p ask.Listen (reply.Outcome r_outcome) = refl
+asks_agree p ask.Listen (reply.Errno r_n) = refl
+asks_agree p ask.Listen reply.OutOfTurns = refl
+asks_agree p ask.Listen (reply.Refused r_fault) = refl
 
 pub kinds_agree : (q : Request) (r : Reply) → is_answer q (kind_of r) ≡ answers q r
 kinds_agree (request.Boot q_boot q_limit q_words) reply.Done = refl

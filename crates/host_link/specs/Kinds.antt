@@ -1,7 +1,7 @@
 -- The kinds of replies, and which of them answer a request.
 use Rattle.std.specs.Prelude.{ℕ, ◌==◌, ◌||◌, Bool}
 use Rattle.lx_abi.specs.declared.ptrace.Ask.{Ask}
-use Rattle.lx_abi.specs.declared.ptrace.Ask.TheVariants.{Seize, SetOptions, GetRegs, SetRegs, Peek, Syscall, EventMsg, SigInfo}
+use Rattle.lx_abi.specs.declared.ptrace.Ask.TheVariants.{Seize, SetOptions, GetRegs, SetRegs, Peek, Syscall, EventMsg, SigInfo, Listen}
 use Rattle.lx_abi.specs.declared.ptrace.Reply.{Reply}
 use Rattle.lx_abi.specs.declared.ptrace.Reply.TheVariants as reply
 use Rattle.lx_abi.specs.declared.ptrace.Request.{Request}
@@ -30,6 +30,7 @@ kind_wanted (Peek address length) = Bytes
 kind_wanted (Syscall signal) = Done
 kind_wanted EventMsg = Message
 kind_wanted SigInfo = Info
+kind_wanted Listen = Done
 
 abbrev place : Kind → ℕ
 place Done = 0

@@ -51,6 +51,7 @@ fn kind_wanted(ask: &Ask) -> Kind
         Ask::Syscall { .. } => Kind::Done,
         Ask::EventMsg => Kind::Message,
         Ask::SigInfo => Kind::Info,
+        Ask::Listen => Kind::Done,
     }
 }
 

@@ -5,7 +5,7 @@ use Rattle.std.proofs.lemmas.Bool.{le-ltb, ltb-false, le-leb}
 use Rattle.std.proofs.lemmas.List.{take_at, drop_at, get_or-drop, length-append, length-drop}
 use Rattle.byteorder.specs.Endian.{big_number}
 use Rattle.byteorder.specs.Numbers.{big_number-reads_back, length-bytes_high_first}
-use Rattle.lx_abi.specs.declared.ptrace.Ask.TheVariants.{Seize, SetOptions, GetRegs, SetRegs, Peek, Syscall, EventMsg, SigInfo}
+use Rattle.lx_abi.specs.declared.ptrace.Ask.TheVariants.{Seize, SetOptions, GetRegs, SetRegs, Peek, Syscall, EventMsg, SigInfo, Listen}
 use Rattle.lx_abi.specs.declared.ptrace.Request.TheVariants.{Boot as Boot_with, Wait, To, Outcome as Ask_outcome}
 use Rattle.lx_abi.specs.declared.ptrace.Reply.TheVariants.{Done, Status as Status_is, Registers as Registers_are, Bytes as Bytes_are, Message as Message_is, Info as Info_is, Outcome as Outcome_is, Errno as Errno_is, OutOfTurns, Refused}
 use Rattle.host_values.specs.Spelling.{byte, word, double}
@@ -31,6 +31,7 @@ kind_is (Of_request (To pid (Peek address count))) = refl
 kind_is (Of_request (To pid (Syscall signal))) = refl
 kind_is (Of_request (To pid EventMsg)) = refl
 kind_is (Of_request (To pid SigInfo)) = refl
+kind_is (Of_request (To pid Listen)) = refl
 kind_is (Of_reply Done) = refl
 kind_is (Of_reply (Status_is pid status)) = refl
 kind_is (Of_reply (Registers_are rs)) = refl
@@ -54,6 +55,7 @@ kind_byte (Of_request (To pid (Peek address count))) = refl
 kind_byte (Of_request (To pid (Syscall signal))) = refl
 kind_byte (Of_request (To pid EventMsg)) = refl
 kind_byte (Of_request (To pid SigInfo)) = refl
+kind_byte (Of_request (To pid Listen)) = refl
 kind_byte (Of_reply Done) = refl
 kind_byte (Of_reply (Status_is pid status)) = refl
 kind_byte (Of_reply (Registers_are rs)) = refl

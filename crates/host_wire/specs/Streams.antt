@@ -10,7 +10,7 @@ abbrev pub is_length : ℕ → Bool
 is_length n = nat_le 9 n && nat_le n 134217728
 
 abbrev pub is_kind : ℕ → Bool
-is_kind k = (nat_le 0x01 k && nat_le k 0x0b) || (nat_le 0x81 k && nat_le k 0x8a)
+is_kind k = (nat_le 0x01 k && nat_le k 0x0b) || (k == 0x0d) || (nat_le 0x81 k && nat_le k 0x8a)
 
 -- the frames that are whole, and the bytes of the one under way; or the first fault
 pub data Stream : Type 0 where

@@ -16,7 +16,7 @@ pub(crate) const HEADER: usize = 13;
 fn is_kind(kind: u8) -> bool
     ensures { result ≡ spec.is_kind kind }
 {
-    (0x01 <= kind && kind <= 0x0b) || (0x81 <= kind && kind <= 0x8a)
+    (0x01 <= kind && kind <= 0x0b) || kind == 0x0d || (0x81 <= kind && kind <= 0x8a)
 }
 
 fn whole(alloc: Global, bytes: &[u8]) -> Result<Option<(Frame, usize)>, WireFault>
