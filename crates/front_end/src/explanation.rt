@@ -1,7 +1,7 @@
 //! Why an expression is refused, in words: which part of it, what the part may be, and the nearest name.
 
 use crate::expressions::RefusedExpression;
-use crate::names::{Names, is_job_control, nearest};
+use crate::names::{Names, nearest};
 use crate::shown::{Escaped, Shown};
 use std::alloc::{AllocError, Global};
 use tr_expr::{ExprFault, parse_expr};
@@ -168,9 +168,6 @@ fn explain_error(alloc: Global, part: &str) -> Result<String, AllocError> {
 
 fn explain_signal(alloc: Global, part: &str) -> Result<String, AllocError> {
     let word = value_of(part);
-    if is_job_control(word) {
-        return format!(in alloc; "{} is job control's, which can't be injected", Shown(word));
-    }
     let near = near(alloc, Names::Signals, word, "SIG")?;
     format!(in alloc; "no signal is named {}{near}", Shown(word))
 }

@@ -18,9 +18,6 @@ pub enum Names {
 /// The highest number of an error that has a name.
 const LAST_ERROR: u64 = 133;
 
-/// The signals that can't be injected.
-const JOB_CONTROL: [&str; 5] = ["CONT", "STOP", "TSTP", "TTIN", "TTOU"];
-
 /// The most edits between a word and a name that it may stand for: about a third of the word.
 fn most_edits(word: &str) -> usize {
     word.len().saturating_add(2) / 3
@@ -73,11 +70,8 @@ impl Search<'_> {
 
     fn look_at_signals(&mut self, alloc: Global) -> Result<(), AllocError> {
         for number in 1..=31 {
-            match Signal::from_number(number) {
-                Some(signal) if !JOB_CONTROL.contains(&signal.name()) => {
-                    self.look_at(alloc, signal.name())?;
-                }
-                _ => (),
+            if let Some(signal) = Signal::from_number(number) {
+                self.look_at(alloc, signal.name())?;
             }
         }
         Ok(())
@@ -109,10 +103,4 @@ pub fn nearest(
         Names::Parts => search.look_at_all(alloc, &["error", "retval", "signal", "when"])?,
     }
     Ok(search.name)
-}
-
-/// A signal that can't be injected, which the word names.
-pub fn is_job_control(word: &str) -> bool {
-    let word = word.strip_prefix("SIG").unwrap_or(word);
-    JOB_CONTROL.contains(&word) || matches!(word, "18" | "19" | "20" | "21" | "22")
 }

@@ -17,16 +17,40 @@ fn call_of(log: &[Item], of: u32) -> Option<u64> {
     None
 }
 
-/// Which processes wait, those with these pids, and in which calls, by the log of calls.
-fn explain_waits(alloc: Global, pids: &[u32], log: &[Item]) -> Result<String, AllocError> {
+/// What a process waits in, by the log of calls: the name of its call.
+fn call_waited_in(log: &[Item], pid: u32) -> &'static str {
+    call_of(log, pid)
+        .and_then(|number| call_name(number))
+        .unwrap_or("a call")
+}
+
+/// Where a process waits that has this mode: in a call, or stopped; none if it doesn't wait.
+fn explain_wait(
+    alloc: Global,
+    pid: u32,
+    mode: Option<Mode>,
+    log: &[Item],
+) -> Result<Option<String>, AllocError> {
+    match mode {
+        Some(Mode::Doing) => {
+            let name = call_waited_in(log, pid);
+            Ok(Some(format!(in alloc; " {pid} in {name}")?))
+        }
+        Some(Mode::Stopped) => Ok(Some(format!(in alloc; " {pid} stopped")?)),
+        _ => Ok(None),
+    }
+}
+
+/// Which processes wait, and in which calls, or that they are stopped.
+fn explain_waits(alloc: Global, kernel: &Kernel) -> Result<String, AllocError> {
     let mut text = format!(in alloc; "every process waits:")?;
-    for (place, pid) in pids.iter().enumerate() {
-        let mark = if place == 0 { "" } else { "," };
-        let name = call_of(log, *pid)
-            .and_then(|number| call_name(number))
-            .unwrap_or("a call");
-        let part = format!(in alloc; "{mark} {pid} in {name}")?;
-        text.push_str(part.as_str())?;
+    let mut mark = "";
+    for pid in 1..kernel.next_pid() {
+        if let Some(part) = explain_wait(alloc, pid, kernel.mode(pid), kernel.log())? {
+            text.push_str(mark)?;
+            text.push_str(part.as_str())?;
+            mark = ",";
+        }
     }
     Ok(text)
 }
@@ -41,19 +65,8 @@ fn is_cut(kernel: &Kernel) -> bool {
     (1..kernel.next_pid()).any(|pid| kernel.able(pid))
 }
 
-/// The processes that wait in a call.
-fn waiting(alloc: Global, kernel: &Kernel) -> Result<Vec<u32>, AllocError> {
-    let mut pids = Vec::new(alloc);
-    for pid in 1..kernel.next_pid() {
-        if kernel.mode(pid) == Some(Mode::Doing) {
-            pids.push(pid)?;
-        }
-    }
-    Ok(pids)
-}
-
-/// Why a run that left this kernel is out of turns: its limit on what is counted, events or turns, or the calls that
-/// its processes wait in.
+/// Why a run that left this kernel is out of turns: its limit on what is counted, events or turns, or that each process
+/// waits in a call or is stopped.
 pub fn explain_turns(
     alloc: Global,
     kernel: &Kernel,
@@ -63,6 +76,5 @@ pub fn explain_turns(
     if is_cut(kernel) {
         return explain_limit(alloc, limit, counted);
     }
-    let pids = waiting(alloc, kernel)?;
-    explain_waits(alloc, pids.as_slice(), kernel.log())
+    explain_waits(alloc, kernel)
 }

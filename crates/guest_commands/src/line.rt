@@ -1,7 +1,7 @@
 //! A line of the log of calls.
 
 use itoa::{Buffer, Integer};
-use lx_abi::{Call, Item};
+use lx_abi::{Call, Item, Signal};
 
 /// The most bytes of a line; none takes more than 148.
 pub const LONGEST_LINE: usize = 256;
@@ -17,7 +17,7 @@ pub struct Line {
 }
 
 impl Line {
-    /// `E pid number a0 .. a5`, `D pid result`, `S pid signal` or `X pid word`, and a line feed.
+    /// `E pid number a0 .. a5`, `D pid result`, `S pid signal`, `T pid signal` or `X pid word`, and a line feed.
     pub fn of(item: &Item) -> Self {
         let mut line = Line {
             bytes: [0; LONGEST_LINE],
@@ -84,6 +84,11 @@ impl Line {
         }
     }
 
+    fn push_signal(&mut self, letter: u8, pid: u32, signal: Signal) {
+        self.push_head(letter, pid);
+        self.push_decimal(signal.number);
+    }
+
     fn push_item(&mut self, item: &Item) {
         match item {
             Item::Enter { pid, call } => self.push_entry(*pid, call),
@@ -93,10 +98,8 @@ impl Line {
                 replaced,
                 ..
             } => self.push_result(*pid, result.cast_signed(), *replaced),
-            Item::Taken { pid, signal, .. } => {
-                self.push_head(b'S', *pid);
-                self.push_decimal(signal.number);
-            }
+            Item::Taken { pid, signal, .. } => self.push_signal(b'S', *pid, *signal),
+            Item::Stopped { pid, signal } => self.push_signal(b'T', *pid, *signal),
             Item::Exit { pid, word, .. } => {
                 self.push_head(b'X', *pid);
                 self.push_decimal(*word);

@@ -103,12 +103,12 @@ fn turns_from<E: Write>(
     })
 }
 
-/// A process in this mode can have the next turn of its row: it is able, and no call of it is finished. Only a call
-/// can wait.
+/// A process in this mode can have the next turn of its row: it is able, and no call of it is finished. Only a process
+/// in a call, or a stopped one, can wait.
 fn goes_on(kernel: &Kernel, pid: u32, mode: Option<Mode>) -> bool {
     match mode {
         None | Some(Mode::Zombie) | Some(Mode::Finished) => false,
-        Some(Mode::Doing) => kernel.able(pid),
+        Some(Mode::Doing | Mode::Stopped) => kernel.able(pid),
         Some(_) => true,
     }
 }

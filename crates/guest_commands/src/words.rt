@@ -24,6 +24,7 @@ const NOTES: &str = "The log has a line for each step of a call:
   E pid number a0 .. a5    a call is entered
   D pid result             it is done; r at the end says that its result was replaced
   S pid signal             a signal is taken
+  T pid signal             the signal has stopped the process
   X pid word               a process ends, with its wait word
 
 Faults are one line on standard error, with the numbers that strace_cli --help lists; at a terminal and with --explain

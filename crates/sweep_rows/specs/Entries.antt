@@ -3,7 +3,7 @@
 use Rattle.std.specs.Prelude.{ℕ, suc, Bool, not, ◌==◌, ◌&&◌, cond, List, [], ◌∷◌, ◌++◌}
 use Rattle.std.specs.List.{list_any}
 use Rattle.lx_abi.specs.declared.log.Item.{Item}
-use Rattle.lx_abi.specs.declared.log.Item.TheVariants.{Enter, Done, Taken, Exit}
+use Rattle.lx_abi.specs.declared.log.Item.TheVariants.{Enter, Done, Taken, Stopped, Exit}
 use Rattle.lx_abi.specs.declared.script.Set.{Set}
 use Rattle.lx_abi.specs.Log.{entries}
 use Rattle.lx_abi.specs.Scripts.{includes}
@@ -28,6 +28,7 @@ more set follow past rows (Enter pid call) =
     (record { pid = pid; call = call; n = suc (entries pid call.number past) } ∷ []) []
 more set follow past rows (Done pid call result replaced) = []
 more set follow past rows (Taken pid signal cause) = []
+more set follow past rows (Stopped pid signal) = []
 more set follow past rows (Exit pid word left) = []
 
 -- those so far and those of the items after a log

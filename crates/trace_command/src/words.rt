@@ -31,7 +31,7 @@ strace: expression fault N (status 2)
   1  no call has this name
   2  no class of calls has this name
   3  no error has this name
-  4  no signal that can be injected has this name
+  4  no signal has this name
   5  a number is malformed or out of range
   6  the occurrences after when= are malformed or out of range
   7  error= and retval= exclude each other
@@ -55,7 +55,7 @@ strace: host fault N (status 3)
   9  a thread did not start
   10 the run isn't the one that the journal of its threads tells
 strace: output fault, strace: out of memory (status 3)
-strace: out of turns (status 4): all processes wait, or the limit was reached
+strace: out of turns (status 4): all processes wait or are stopped, or the limit was reached
 
 Example: make the second write fail, and watch
   strace_cli -e trace=write -e fault=write:error=EIO:when=2 --file /p=hello -- /p </dev/null";
