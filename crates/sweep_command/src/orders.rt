@@ -7,7 +7,7 @@ use crate::shell::{common, order_words, typed, words_with};
 use crate::sweeping::place;
 use crate::table::{Counts, Reported, differences, push_column, push_differences};
 use crate::told::{ToldConsole, ToldFile, kind_name, told_console, told_files};
-use crate::words::{Format, Orders};
+use crate::words::{Format, Orders, Words};
 use clap::ArgMatches;
 use front_end::Fault;
 use lx_abi::{Status, Word};
@@ -15,8 +15,9 @@ use serde::Serialize;
 use std::alloc::{AllocError, Global};
 use std::io::{IsTerminal, Write};
 use std::rt::Files;
+use std::thread::Threads;
 use std::time::Clock;
-use sweep_orders::{Found, explore};
+use sweep_orders::{Found, explore_on_threads};
 use sweep_rows::{Ending, Kind, console_difference, file_differences, first_word, kind_of};
 use sweep_runs::Reference;
 
@@ -43,8 +44,9 @@ struct ToldOrder {
 }
 
 /// The results; where `err` is a terminal it shows how far the runs are.
-fn find<R: Clock + AllocGlobal, E: Write + IsTerminal>(
+fn find<R: Clock + Threads + Sync + AllocGlobal, E: Write + IsTerminal>(
     rt: &R,
+    jobs: u8,
     orders: Orders,
     plan: &Plan,
     reference: &Reference,
@@ -53,8 +55,10 @@ fn find<R: Clock + AllocGlobal, E: Write + IsTerminal>(
     let is_shown = err.is_terminal();
     let mut progress = ShownProgress::new(rt, err, is_shown);
     let log = reference.log.as_slice();
-    let found = explore(
+    let found = explore_on_threads(
+        rt,
         rt.alloc(),
+        jobs,
         &plan.setup,
         log,
         orders.count,
@@ -216,10 +220,10 @@ fn counts_of(reference: &Ending, found: &[Found]) -> Counts {
 }
 
 /// Tries the orders of turns, and reports each result. Orders that are kept are files before the runs begin.
-pub fn orders_reported<R: Files + Clock + AllocGlobal, E: Write + IsTerminal>(
+pub fn orders_reported<R: Files + Clock + Threads + Sync + AllocGlobal, E: Write + IsTerminal>(
     rt: &R,
     matches: &ArgMatches,
-    format: Format,
+    words: Words,
     orders: Orders,
     plan: &Plan,
     reference: &Reference,
@@ -229,7 +233,7 @@ pub fn orders_reported<R: Files + Clock + AllocGlobal, E: Write + IsTerminal>(
     if let Some(folder) = matches.get_str("keep") {
         keep(rt, folder, 1, &[])?;
     }
-    let mut found = find(rt, orders, plan, reference, err)?;
+    let mut found = find(rt, words.jobs, orders, plan, reference, err)?;
     if matches.get_flag("summary") {
         found.sort_by_key(|one| place(kind_of(&reference.ending, &one.ending)))?;
     }
@@ -240,6 +244,6 @@ pub fn orders_reported<R: Files + Clock + AllocGlobal, E: Write + IsTerminal>(
         let number = place.saturating_add(1);
         told.push(tell(alloc, matches, &reference.ending, result, number)?)?;
     }
-    let text = report(alloc, matches, format, told.as_slice(), counts)?;
+    let text = report(alloc, matches, words.format, told.as_slice(), counts)?;
     Ok(Reported { text, counts })
 }

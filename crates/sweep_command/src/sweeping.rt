@@ -161,7 +161,7 @@ fn reported<R: Files + Clock + Threads + Sync + AllocGlobal, E: Write + IsTermin
     err: &mut E,
 ) -> Result<Reported, Fault> {
     match words.orders {
-        Some(orders) => orders_reported(rt, matches, words.format, orders, plan, reference, err),
+        Some(orders) => orders_reported(rt, matches, words, orders, plan, reference, err),
         None => failures(rt, matches, words, plan, reference, err),
     }
 }

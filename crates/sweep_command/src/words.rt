@@ -162,7 +162,7 @@ fn with_runs<'a>(alloc: Global, command: Command<'a>) -> Result<Command<'a>, All
         command,
         "jobs",
         "N",
-        "Makes the runs with a failure on N threads, 1 to 8 [default: 1]; the report is the same",
+        "Makes the runs on N threads, 1 to 8 [default: 1]; the report is the same",
     )?;
     with_limit(
         alloc,

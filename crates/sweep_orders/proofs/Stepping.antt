@@ -1,5 +1,5 @@
 -- The processes of a log.
-use Rattle.std.proofs.Common.{◌≡◌, ◌<◌, ℕ, List, [], ◌∷◌, ◌++◌, length, arith}
+use Rattle.std.proofs.Common.{◌<◌, List, [], ◌∷◌, length, arith}
 use Rattle.std.proofs.lemmas.List.{length-append}
 use Rattle.lx_abi.specs.declared.log.Item.{Item}
 use Rattle.sweep_orders.specs.Steps.{births, no_steps, steps_after, steps_with, steps_of}

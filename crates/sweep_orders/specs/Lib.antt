@@ -3,3 +3,4 @@ pub mod Plans
 pub mod Draws
 pub mod Found
 pub mod Orders
+pub mod Batches

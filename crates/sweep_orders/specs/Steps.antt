@@ -3,7 +3,7 @@
 use Rattle.std.specs.Prelude.{ℕ, ◌==◌, ◌^◌, ◌&&◌, nat_lt, Bool, true, not, cond, List, [], ◌∷◌, ◌++◌, Option, Some, None}
 use Rattle.lx_abi.specs.Sys.{sys_clone}
 use Rattle.lx_abi.specs.declared.log.Item.{Item}
-use Rattle.lx_abi.specs.declared.log.Item.TheVariants.{Enter, Done, Taken, Exit}
+use Rattle.lx_abi.specs.declared.log.Item.TheVariants.{Enter, Done, Taken, Stopped, Exit}
 use Rattle.lx_abi.specs.declared.schedule.Word.TheVariants.{UntilReturn}
 use Rattle.sweep_orders.specs.declared.steps.Steps.{Steps}
 
@@ -12,6 +12,7 @@ abbrev pub doer : Item → ℕ
 doer (Enter pid call) = pid
 doer (Done pid call result replaced) = pid
 doer (Taken pid signal cause) = pid
+doer (Stopped pid signal) = pid
 doer (Exit pid word left) = pid
 
 -- whose step is under way after an item: nobody's, where a call has returned
@@ -19,6 +20,7 @@ abbrev pub current_after : Item → Option ℕ
 current_after (Enter pid call) = Some pid
 current_after (Done pid call result replaced) = None
 current_after (Taken pid signal cause) = Some pid
+current_after (Stopped pid signal) = Some pid
 current_after (Exit pid word left) = Some pid
 
 -- a step begins with what this process does
@@ -32,6 +34,7 @@ births (Enter pid call) = []
 births (Done pid call result replaced) =
     cond ((call.number == sys_clone) && nat_lt result (2 ^ 32)) (result ∷ []) []
 births (Taken pid signal cause) = []
+births (Stopped pid signal) = []
 births (Exit pid word left) = []
 
 -- before a log: no step, and the first process alone

@@ -1,9 +1,6 @@
 //! Runs by many schedules.
 
-ghost use Rattle.std.specs.Prelude.{◌≡◌, ◌<◌, [], length, IfOk, OnOk};
-ghost use Rattle.lx_kernel.specs.First.{first_run};
-ghost use Rattle.plain_run.specs.Runs.{RunsTo};
-ghost use Rattle.pt_schedule.specs.Schedules.{worded};
+ghost use Rattle.std.specs.Prelude.{◌≡◌, ◌<◌, length, IfOk, OnOk};
 ghost use Rattle.sweep_runs.specs.Runs.{ending_of};
 ghost use Rattle.sweep_orders.specs.Plans.{plans_after};
 ghost use Rattle.sweep_orders.specs.Orders.{ahead_of, Tries, AreOrders};
@@ -12,27 +9,12 @@ use crate::found::{Found, count};
 use crate::plans::{Plan, plans_after};
 use crate::queue::Queue;
 use crate::steps::{Steps, steps_of};
-use lx_abi::{Item, Script};
+use crate::trials::run_plan;
+use lx_abi::Item;
 use lx_kernel::Kernel;
 use std::alloc::{AllocError, Global};
 use sweep_rows::Ending;
-use sweep_runs::{Progress, Setup, ending, run_by};
-
-/// The kernel at the end of the run by a plan, of a boot that is accepted.
-fn run_plan(alloc: Global, setup: &Setup, plan: &Plan) -> Result<Kernel, AllocError>
-    ensures { IfOk result (RunsTo (first_run setup.now.boot []) (worded plan.now.words setup.now.limit)) }
-{
-    match run_by(
-        alloc,
-        &setup.boot,
-        plan.words.as_slice(),
-        setup.limit,
-        Script::empty(alloc),
-    ) {
-        Ok(kernel) => Ok(kernel),
-        Err(_) => Err(AllocError),
-    }
-}
+use sweep_runs::{Progress, Setup, ending};
 
 /// What is told of a run: what it left, and the plans that come of it.
 #[derive(Drop)]

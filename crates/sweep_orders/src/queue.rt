@@ -4,6 +4,7 @@ ghost use Rattle.std.specs.Prelude.{◌≡◌, ◌<◌, length, IfOk, OnOk};
 ghost use Rattle.sweep_orders.specs.Draws.{drawn};
 ghost use Rattle.sweep_orders.specs.Plans.{most_switches};
 ghost use Rattle.sweep_orders.specs.Orders.{ahead_of, at_first, next_of, with_more};
+ghost use Rattle.sweep_orders.specs.Batches.{with_drawn, StandsFor};
 
 use crate::draws::draw;
 use crate::plans::{MOST_SWITCHES, Plan};
@@ -71,6 +72,33 @@ impl Queue {
             Some(plan) => Ok(plan),
             None => self.by_chance(alloc, steps),
         }
+    }
+
+    /// One by chance waits behind the others.
+    fn draw(&mut self, alloc: Global, steps: &Steps) -> Result<(), AllocError>
+        requires { 0 < length steps.now.born }
+        ensures { OnOk result (ahead_of self.new ≡ with_drawn steps.now (ahead_of self.old)) }
+    {
+        let plan = self.by_chance(alloc, steps)?;
+        self.waiting.push_back(plan)?;
+        Ok(())
+    }
+
+    /// Where none waits, so many by chance do.
+    pub fn fill(&mut self, alloc: Global, steps: &Steps, count: usize) -> Result<(), AllocError>
+        requires { 0 < length steps.now.born }
+        ensures ahead { OnOk result (StandsFor steps.now (ahead_of self.new) (ahead_of self.old)) }
+        ensures some { OnOk result (0 < count → 0 < length self.new.waiting.items) }
+    {
+        if !self.waiting.is_empty() {
+            return Ok(());
+        }
+        let mut left = count;
+        while left > 0 {
+            self.draw(alloc, steps)?;
+            left -= 1;
+        }
+        Ok(())
     }
 
     /// More plans wait behind the others.

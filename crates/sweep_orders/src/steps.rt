@@ -29,6 +29,7 @@ pub(crate) fn doer(item: &Item) -> u32
         Item::Enter { pid, .. }
         | Item::Done { pid, .. }
         | Item::Taken { pid, .. }
+        | Item::Stopped { pid, .. }
         | Item::Exit { pid, .. } => *pid,
     }
 }
@@ -39,7 +40,10 @@ fn current_after(item: &Item) -> Option<u32>
 {
     match item {
         Item::Done { .. } => None,
-        Item::Enter { pid, .. } | Item::Taken { pid, .. } | Item::Exit { pid, .. } => Some(*pid),
+        Item::Enter { pid, .. }
+        | Item::Taken { pid, .. }
+        | Item::Stopped { pid, .. }
+        | Item::Exit { pid, .. } => Some(*pid),
     }
 }
 

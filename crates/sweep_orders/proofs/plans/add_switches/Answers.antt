@@ -1,4 +1,4 @@
-use Rattle.std.proofs.Common.{◌++◌, List, map, take, ap, sym, ◌∙◌}
+use Rattle.std.proofs.Common.{◌++◌, map, take, ap, sym, ◌∙◌}
 use Rattle.std.specs.List.{filter}
 use Rattle.sweep_orders.specs.Plans.{might, switched}
 use Rattle.sweep_orders.proofs.Room.{one_added}
