@@ -18,7 +18,7 @@ fn booted(alloc: Global) -> Result<Host, Fail> {
     Ok(link?.into_host())
 }
 
-/// The request that a letter stands for: Seize, GetRegs, Syscall or Wait.
+/// The request that a letter stands for: Seize, GetRegs, Syscall, Listen or Wait.
 fn request(letter: char) -> Request
     ensures { is_boot result ≡ false }
 {
@@ -26,6 +26,7 @@ fn request(letter: char) -> Request
         'z' => Ask::Seize { options: 0x11 },
         'r' => Ask::GetRegs,
         'g' => Ask::Syscall { signal: 0 },
+        'l' => Ask::Listen,
         _ => return Request::Wait,
     };
     Request::To { pid: 1, ask }
@@ -89,7 +90,7 @@ fn has_turned(host: &Host, turns: u64) -> bool {
 }
 
 /// Steps, and what they give.
-const ROWS: [(&str, &str); 8] = [
+const ROWS: [(&str, &str); 9] = [
     // Nobody is traced: Wait is answered ECHILD, and no Seize was done.
     ("SwzgtS", "-.bb-e"),
     ("rS", ".e"),
@@ -98,6 +99,8 @@ const ROWS: [(&str, &str); 8] = [
     // Process 1 leaves Born, enters execve and is held there.
     ("gSttt", ".d---"),
     ("SrS", "-.r"),
+    // Listen is EIO but at a group stop.
+    ("lS", ".e"),
     ("wS", ".s"),
     // No status is left: Wait stays pending.
     ("wSzS", ".-b-"),

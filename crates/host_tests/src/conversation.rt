@@ -1,4 +1,4 @@
-//! A boot and sixteen requests, with their replies worked out by hand.
+//! A boot and seventeen requests, with their replies worked out by hand.
 
 use crate::ends::{Pieces, serve_between};
 use crate::frames::{are_same, part, spelled, stream};
@@ -48,7 +48,7 @@ const AT_START: &str = "83\
     0000000000000000000000000000000000000000000000000000000000000000";
 
 /// Requests with their replies.
-pub static ROWS: [(&str, &str); 17] = [
+pub static ROWS: [(&str, &str); 18] = [
     (BOOT, "81"),
     // Seize 1 with TRACESYSGOOD and TRACEEXEC.
     ("020000000100000011", "81"),
@@ -62,6 +62,8 @@ pub static ROWS: [(&str, &str); 17] = [
     ("07000000010000003fffffeffd00000003", "84000000032f7000"),
     // SigInfo at another stop than a signal's: EINVAL.
     ("0a00000001", "8800000016"),
+    // Listen at another stop than a group stop: EIO.
+    ("0d00000001", "8800000005"),
     // SetOptions with a bit that is none: EINVAL.
     ("030000000100000008", "8800000016"),
     // GetRegs of a process that isn't there: ESRCH.
@@ -215,7 +217,7 @@ fn in_this_process(alloc: Global) -> Result<(Vec<u8>, (u64, u64)), Fail> {
 #[test]
 fn answered_in_this_process(rt: HostRuntime) -> Result<(), Fail> {
     let (written, counts) = in_this_process(rt.alloc())?;
-    assert_eq!(rt; counts, (16, 0));
+    assert_eq!(rt; counts, (17, 0));
     assert!(rt; are_same(written, later_replies(rt.alloc())?));
     Ok(())
 }
@@ -252,7 +254,7 @@ fn answered_over_pipes(rt: HostRuntime) -> Result<(), Fail> {
     let alloc = rt.alloc();
     for most in [usize::MAX, 1] {
         let (written, counts, sent) = over_pieces(alloc, most)?;
-        assert_eq!(rt; counts, (17, 0));
+        assert_eq!(rt; counts, (18, 0));
         assert!(rt; are_same(written, replies(alloc)?));
         assert!(rt; are_same(sent, requests(alloc)?));
     }

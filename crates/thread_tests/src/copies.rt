@@ -87,11 +87,12 @@ fn ask(alloc: Global, number: usize) -> Result<Ask, AllocError> {
         },
         8 => Ask::Syscall { signal: 0 },
         9 => Ask::EventMsg,
-        _ => Ask::SigInfo,
+        10 => Ask::SigInfo,
+        _ => Ask::Listen,
     })
 }
 
-/// Requests 0 to 17, of which no two are the same.
+/// Requests 0 to 18, of which no two are the same.
 fn request(alloc: Global, number: usize) -> Result<Request, AllocError> {
     match number {
         0 => boots(alloc, "", Word::Serve),
@@ -205,8 +206,8 @@ fn are_same_boots(alloc: Global, one: usize, other: usize) -> Result<bool, Alloc
 
 #[test]
 fn requests_are_copied(rt: HostRuntime) -> Result<(), Fail> {
-    for one in 0..18 {
-        for other in 0..18 {
+    for one in 0..19 {
+        for other in 0..19 {
             assert_eq!(rt; are_same_requests(rt.alloc(), one, other)?, one == other);
         }
     }

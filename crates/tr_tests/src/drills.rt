@@ -9,7 +9,7 @@ use std::test::Fail;
 use tr_core::TraceFault;
 use trace_run::RunFault;
 
-static ROWS: [Row; 3] = [
+static ROWS: [Row; 4] = [
     Row {
         listing: "_start: li a0, 1\nla a1, text\nli a2, 3\nli a7, 64\necall\n\
             li a0, 0\nli a7, 94\necall\ntext: .ascii \"hi\\n\"\n",
@@ -52,6 +52,31 @@ static ROWS: [Row; 3] = [
             2     +++ killed by SIGKILL +++\n\
             1     <... kill resumed>)               = 0\n\
             1     --- SIGCHLD {si_signo=SIGCHLD, si_code=CLD_KILLED, si_pid=2, si_uid=0, si_status=SIGKILL, \
+            si_utime=0, si_stime=0} ---\n\
+            1     +++ exited with 0 +++\n",
+    },
+    // A child is stopped, and continued.
+    Row {
+        listing: "_start: li a0, 17\nli a7, 220\necall\nbeqz a0, child\nli a0, 2\nli a1, 19\nli a7, 129\necall\n\
+            li a0, 2\nla a1, word\nli a2, 2\nli a3, 0\nli a7, 260\necall\nli a0, 2\nli a1, 18\nli a7, 129\necall\n\
+            li a0, 2\nli a1, 0\nli a2, 0\nli a3, 0\nli a7, 260\necall\nli a0, 0\nli a7, 94\necall\n\
+            child: li a0, 3\nli a7, 94\necall\n.align 8\nword: .dword 0\n",
+        turns: "",
+        follow: true,
+        shown: "kill,wait4",
+        trace: "1     kill(2, SIGSTOP)                  = 0\n\
+            1     wait4(2,  <unfinished ...>\n\
+            2     --- SIGSTOP {si_signo=SIGSTOP, si_code=SI_USER, si_pid=1, si_uid=0} ---\n\
+            2     --- stopped by SIGSTOP ---\n\
+            1     <... wait4 resumed>[{WIFSTOPPED(s) && WSTOPSIG(s) == SIGSTOP}], WSTOPPED, NULL) = 2\n\
+            1     --- SIGCHLD {si_signo=SIGCHLD, si_code=CLD_STOPPED, si_pid=2, si_uid=0, si_status=SIGSTOP, \
+            si_utime=0, si_stime=0} ---\n\
+            1     kill(2, SIGCONT)                  = 0\n\
+            1     wait4(2,  <unfinished ...>\n\
+            2     --- SIGCONT {si_signo=SIGCONT, si_code=SI_USER, si_pid=1, si_uid=0} ---\n\
+            2     +++ exited with 3 +++\n\
+            1     <... wait4 resumed>NULL, 0, NULL) = 2\n\
+            1     --- SIGCHLD {si_signo=SIGCHLD, si_code=CLD_CONTINUED, si_pid=2, si_uid=0, si_status=SIGCONT, \
             si_utime=0, si_stime=0} ---\n\
             1     +++ exited with 0 +++\n",
     },
@@ -153,7 +178,7 @@ fn replies_that_end(rt: HostRuntime) -> Result<(), Fail> {
     for row in ROWS.iter() {
         runs = runs.saturating_add(cut_row(rt.alloc(), row)?);
     }
-    assert_eq!(rt; runs, 17_090);
+    assert_eq!(rt; runs, 21_696);
     Ok(())
 }
 
@@ -239,7 +264,7 @@ fn ends_that_fail(rt: HostRuntime) -> Result<(), Fail> {
     for row in ROWS.iter() {
         runs = runs.saturating_add(fail_row(rt.alloc(), row)?);
     }
-    assert_eq!(rt; runs, 684);
+    assert_eq!(rt; runs, 1057);
     Ok(())
 }
 
@@ -261,10 +286,11 @@ const SPOILS: [Spoil; 4] = [
 ];
 
 /// How a run ends by it, where the reply is one to a request of this kind. Done is the honest reply to Boot, to Seize,
-/// to SetRegs and to Syscall; Wait alone may be answered by a status, but not by one of a process that wasn't born.
+/// to SetRegs, to Syscall and to Listen; Wait alone may be answered by a status, but not by one of a process that
+/// wasn't born.
 fn end_by(spoil: Spoil, kind: u8) -> End {
     match (spoil, kind) {
-        (Spoil::Done, 0x01 | 0x02 | 0x06 | 0x08) => End::Whole,
+        (Spoil::Done, 0x01 | 0x02 | 0x06 | 0x08 | 0x0d) => End::Whole,
         (Spoil::Done, _) => UNFIT,
         (Spoil::Status, 0x04) => REFUSED,
         (Spoil::Status, _) => UNFIT,
@@ -364,6 +390,6 @@ fn spoiled_replies(rt: HostRuntime) -> Result<(), Fail> {
     for row in ROWS.iter() {
         runs = runs.saturating_add(spoil_row(rt.alloc(), row)?);
     }
-    assert_eq!(rt; runs, 524);
+    assert_eq!(rt; runs, 808);
     Ok(())
 }

@@ -2,7 +2,7 @@
 //! makes. Results, columns, signals and ends stand in guests/conversations.
 
 use containers::Bytes;
-use lx_abi::Info;
+use lx_abi::{Info, Signal};
 use std::alloc::{AllocError, Global};
 use std::test::Fail;
 use tr_line::{Layout, Printer};
@@ -18,6 +18,8 @@ enum Part {
     Signal(u32, u32, u32, u32, u32),
     /// Pid, signal, code, address.
     Fault(u32, u32, u32, u64),
+    /// Pid and signal.
+    Stopped(u32, u64),
     /// Pid and wait word.
     Exit(u32, u32),
 }
@@ -33,6 +35,11 @@ const FOLLOW: Layout = Layout {
 };
 
 const MINUS_10: u64 = 0xffff_ffff_ffff_fff6;
+
+fn stopped(printer: &mut Printer, pid: u32, number: u64) -> Result<Bytes, AllocError> {
+    let signal = Signal::from_number(number).unwrap_or(Signal::KILL);
+    printer.stopped(pid, signal)
+}
 
 fn printed(printer: &mut Printer, part: Part) -> Result<Bytes, AllocError> {
     match part {
@@ -60,6 +67,7 @@ fn printed(printer: &mut Printer, part: Part) -> Result<Bytes, AllocError> {
                 address,
             },
         ),
+        Part::Stopped(pid, number) => stopped(printer, pid, number),
         Part::Exit(pid, word) => printer.end(pid, word),
     }
 }
@@ -145,6 +153,50 @@ const WHOLE_TRACES: &[Row] = &[
 2     +++ killed by SIGKILL +++
 3     <... getpid resumed>)             = ?
 3     +++ exited with 1 +++
+",
+    ),
+    // A child is stopped and continued.
+    (
+        FOLLOW,
+        &[
+            Part::Enter(1, 260, "wait4(2, "),
+            Part::Signal(2, 19, 0, 1, 0),
+            Part::Stopped(2, 19),
+            Part::Done(
+                1,
+                260,
+                "[{WIFSTOPPED(s) && WSTOPSIG(s) == SIGSTOP}], WSTOPPED, NULL",
+                2,
+                false,
+            ),
+            Part::Signal(1, 17, 5, 2, 19),
+            Part::Enter(1, 129, "kill(2, SIGCONT"),
+            Part::Done(1, 129, "", 0, false),
+            Part::Signal(1, 17, 6, 2, 18),
+            Part::Signal(2, 18, 0, 1, 0),
+            Part::Exit(2, 9),
+        ],
+        "\
+1     wait4(2,  <unfinished ...>
+2     --- SIGSTOP {si_signo=SIGSTOP, si_code=SI_USER, si_pid=1, si_uid=0} ---
+2     --- stopped by SIGSTOP ---
+1     <... wait4 resumed>[{WIFSTOPPED(s) && WSTOPSIG(s) == SIGSTOP}], WSTOPPED, NULL) = 2
+1     --- SIGCHLD {si_signo=SIGCHLD, si_code=CLD_STOPPED, si_pid=2, si_uid=0, si_status=SIGSTOP, \
+si_utime=0, si_stime=0} ---
+1     kill(2, SIGCONT)                  = 0
+1     --- SIGCHLD {si_signo=SIGCHLD, si_code=CLD_CONTINUED, si_pid=2, si_uid=0, si_status=SIGCONT, \
+si_utime=0, si_stime=0} ---
+2     --- SIGCONT {si_signo=SIGCONT, si_code=SI_USER, si_pid=1, si_uid=0} ---
+2     +++ killed by SIGKILL +++
+",
+    ),
+    // A stop on an open line.
+    (
+        OFF,
+        &[Part::Enter(1, 63, "read(3, "), Part::Stopped(1, 22)],
+        "\
+read(3,  <unfinished ...>
+--- stopped by SIGTTOU ---
 ",
     ),
     // A fault.

@@ -16,6 +16,12 @@ pub const EXECED: u32 = 0x4057f;
 /// A signal stop of SIGUSR1.
 pub const BY_USR1: u32 = 0x0a7f;
 
+/// A signal stop of SIGSTOP.
+pub const BY_STOP: u32 = 0x137f;
+
+/// The group stop by SIGSTOP.
+pub const STOPPED: u32 = 0x80137f;
+
 /// The stack pointer of every tracee.
 pub const STACK: u64 = 0x3f_ffff_efb0;
 
@@ -28,6 +34,8 @@ pub enum Step {
     Errno(u32),
     /// SIGUSR1 that the kernel sent.
     Usr1,
+    /// SIGSTOP that the kernel sent.
+    Stop,
     Outcome,
     OutOfTurns,
 }
@@ -50,6 +58,19 @@ fn no_outcome(alloc: Global) -> Outcome {
     }
 }
 
+/// What is told of a signal that the kernel sent.
+fn of_kernel(signal: u32) -> Reply {
+    Reply::Info {
+        info: Info {
+            signal,
+            code: 0x80,
+            pid: 0,
+            status: 0,
+            address: 0,
+        },
+    }
+}
+
 pub fn reply(alloc: Global, step: Step) -> Result<Reply, AllocError> {
     Ok(match step {
         Step::Done => Reply::Done,
@@ -61,15 +82,8 @@ pub fn reply(alloc: Global, step: Step) -> Result<Reply, AllocError> {
             registers: RegisterSet::new(alloc, &registers(number, a0, a1, a2))?,
         },
         Step::Errno(number) => Reply::Errno { number },
-        Step::Usr1 => Reply::Info {
-            info: Info {
-                signal: 10,
-                code: 0x80,
-                pid: 0,
-                status: 0,
-                address: 0,
-            },
-        },
+        Step::Usr1 => of_kernel(10),
+        Step::Stop => of_kernel(19),
         Step::Outcome => Reply::Outcome {
             outcome: no_outcome(alloc),
         },

@@ -1,6 +1,6 @@
 //! What a tracer asks, reply by reply, with ample memory. Other conversations stand in guests/conversations.
 
-use crate::steps::{BEGUN, BY_USR1, EXECED, SYSCALL, Step, options, reply};
+use crate::steps::{BEGUN, BY_STOP, BY_USR1, EXECED, STOPPED, SYSCALL, Step, options, reply};
 use lx_abi::{Ask, Request, Script};
 use std::alloc::Global;
 use std::test::Fail;
@@ -17,6 +17,7 @@ enum Asked {
     Peek(u32, u64, u32),
     SigInfo(u32),
     Syscall(u32, u32),
+    Listen(u32),
     Outcome,
     Over,
     Fault(TraceFault),
@@ -61,6 +62,33 @@ static EXEC_OUTSIDE_EXECVE: [(Step, Asked); 6] = [
     (Step::Done, Asked::Fault(TraceFault::Inadmissible)),
 ];
 
+/// A signal stops its process, which is let go by Listen, and later continued.
+static HALTED: [(Step, Asked); 11] = [
+    (Step::Done, Asked::Seize(1, 0x11)),
+    (Step::Done, Asked::Wait),
+    (Step::Status(1, BEGUN), Asked::Syscall(1, 0)),
+    (Step::Done, Asked::Wait),
+    (Step::Status(1, BY_STOP), Asked::SigInfo(1)),
+    (Step::Stop, Asked::Syscall(1, 19)),
+    (Step::Done, Asked::Wait),
+    (Step::Status(1, STOPPED), Asked::Listen(1)),
+    (Step::Done, Asked::Wait),
+    (Step::Status(1, BEGUN), Asked::Syscall(1, 0)),
+    (Step::Done, Asked::Wait),
+];
+
+/// A group stop comes behind the stop of its signal alone.
+static HALTED_FIRST: [(Step, Asked); 5] = [
+    (Step::Done, Asked::Seize(1, 0x11)),
+    (Step::Done, Asked::Wait),
+    (Step::Status(1, BEGUN), Asked::Syscall(1, 0)),
+    (Step::Done, Asked::Wait),
+    (
+        Step::Status(1, STOPPED),
+        Asked::Fault(TraceFault::Inadmissible),
+    ),
+];
+
 fn asked_of(pid: u32, ask: &Ask) -> Asked {
     match ask {
         Ask::Seize { options } => Asked::Seize(pid, *options),
@@ -72,6 +100,7 @@ fn asked_of(pid: u32, ask: &Ask) -> Asked {
         Ask::Peek { address, length } => Asked::Peek(pid, *address, *length),
         Ask::SigInfo => Asked::SigInfo(pid),
         Ask::Syscall { signal } => Asked::Syscall(pid, *signal),
+        Ask::Listen => Asked::Listen(pid),
         _ => Asked::Other,
     }
 }
@@ -111,6 +140,8 @@ fn requests(rt: HostRuntime) -> Result<(), Fail> {
     for (steps, inject) in [
         (TAMPERED.as_slice(), "getpid:retval=9"),
         (EXEC_OUTSIDE_EXECVE.as_slice(), ""),
+        (HALTED.as_slice(), ""),
+        (HALTED_FIRST.as_slice(), ""),
     ] {
         let mut tracer = tracer(rt.alloc(), inject)?;
         for (step, wanted) in steps {
