@@ -78,7 +78,8 @@ word_in options (Some e) = told_word options e
 -- a zombie that was told of leaves the table; of any other child nothing is left to tell
 abbrev pub told_entry : Entries → ℕ → Option Entry → Entries
 told_entry entries n None = entries
-told_entry entries n (Some e) = if is_zombie e.life then maps.remove entries n else changed entries n (λ e. with_news e None)
+told_entry entries n (Some e) =
+    if is_zombie e.life then maps.remove entries n else changed entries n (λ e. with_news e None)
 
 abbrev pub told_child : Shared → ℕ → Shared
 told_child s n = with_entries s (told_entry s.entries n (maps.get s.entries n))
@@ -86,7 +87,8 @@ told_child s n = with_entries s (told_entry s.entries n (maps.get s.entries n))
 -- the child's word is written before it counts as told, unless its place is null
 abbrev pub reaps : Shared → UserState → Call → ℕ → ℕ → Answers
 reaps s b call n word =
-    if argument call 1 == 0 then Returns (told_child s n) b n else gives (told_child s n) b (argument call 1) (to_le_bytes w32 word) n
+    if argument call 1 == 0 then Returns (told_child s n) b n
+    else gives (told_child s n) b (argument call 1) (to_le_bytes w32 word) n
 
 -- with nothing to tell WNOHANG gives 0
 abbrev pub waits : Shared → UserState → Call → Option ℕ → Answers

@@ -32,7 +32,8 @@ fn handle(
     signal: Signal,
     action: Action,
 ) -> Result<Reacted, AllocError>
-    ensures took { IfOk result (λ r. took_of r shared.new user.new ≡ handles shared.old pid signals user.old signal action) }
+    ensures took { IfOk result (λ r.
+        took_of r shared.new user.new ≡ handles shared.old pid signals user.old signal action) }
     ensures kept { IfOk result (λ r. TookKept r shared.old user.old shared.new user.new) }
     ensures same { OnErr result (shared.new ≡ shared.old) }
     ensures kept_own { OnErr result (user.new ≡ user.old) }

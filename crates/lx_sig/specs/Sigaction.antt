@@ -21,7 +21,8 @@ action_in bytes = record { handler = word_of bytes 0; flags = word_of bytes 1; m
 abbrev pub new_action : Memory → ℕ → Option Action
 new_action m a = if a == 0 then None else Some (action_in (bytes_at m a 24))
 
--- the signals that have an action are those that kill(2) takes; SIGKILL's and SIGSTOP's can't be set, nor can other flags
+-- the signals that have an action are those that kill(2) takes; SIGKILL's and SIGSTOP's can't be set, nor can other
+-- flags
 abbrev pub may_set : ℕ → Option Action → Bool
 may_set n None = is_signal n
 may_set n (Some a) = is_signal n && not (n == 9) && not (n == 19) && not (has_other_flags a.flags)

@@ -223,7 +223,8 @@ abbrev pub killed_untold : List Event
 killed_untold = before_stop ++ Turn 2 ∷ Turn 1 ∷ Turn 1 ∷ Turn 2 ∷ [] ++ served_turns 2 3 ++ served_turns 1 30
 
 abbrev pub killed_listening : List Event
-killed_listening = before_stop ++ served_turns 2 1 ++ Turn 1 ∷ Turn 1 ∷ Turn 2 ∷ [] ++ served_turns 2 3 ++ served_turns 1 30
+killed_listening =
+    before_stop ++ served_turns 2 1 ++ Turn 1 ∷ Turn 1 ∷ Turn 2 ∷ [] ++ served_turns 2 3 ++ served_turns 1 30
 
 abbrev pub repeat : ℕ → ℕ → List ℕ
 repeat zero p = []
@@ -279,7 +280,8 @@ pub record JobRuns : Type 0 where
       ≡ (2, 19) ∷ (4, 19) ∷ (3, 9) ∷ []
   -- once it was told its line stands
   pub told_stop :
-      map brief (traced_run tiny tiny_outcome options no_script nothing_yet (user kills_stopped) killed_listening).printed
+      map brief
+      (traced_run tiny tiny_outcome options no_script nothing_yet (user kills_stopped) killed_listening).printed
       ≡ (0, 1, 129, 0) ∷ (1, 1, 0, 0) ∷ (0, 1, 129, 0)
       ∷ (2, 2, 19, 0) ∷ (4, 2, 19, 0) ∷ (3, 2, 9, 0)
       ∷ (1, 1, 0, 0) ∷ (2, 1, 17, 5) ∷ (0, 1, 260, 0) ∷ (1, 1, 2, 0) ∷ (3, 1, 0, 0) ∷ []

@@ -96,7 +96,8 @@ fn try_ahead<R: Threads + Sync>(
     Ok(VecDeque::from_vec(trials))
 }
 
-/// Tries so many schedules, as `explore` does, with the runs in so many threads: what is found is what one thread finds.
+/// Tries so many schedules, as `explore` does, with the runs in so many threads: what is found is what one thread
+/// finds.
 pub fn explore_on_threads<R: Threads + Sync, P: Progress>(
     rt: &R,
     alloc: Global,
