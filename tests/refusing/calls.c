@@ -1,6 +1,6 @@
 /* A library for LD_PRELOAD, for the program of calls.rattle: a request of MARK and N bytes has the Nth request from
- * there on refused, and one of just MARK bytes ends that, and is refused itself where one was. It is made without
- * headers, over glibc. */
+ * there on refused, whichever thread makes it, and one of just MARK bytes ends that, and is refused itself where one
+ * was. It is made without headers, over glibc. */
 typedef unsigned long size;
 
 extern void *__libc_malloc(size), *__libc_calloc(size, size), *__libc_realloc(void *, size);
@@ -24,8 +24,9 @@ static int refused(size *length) {
         *length = 16;
         return told;
     }
-    if (at == 0 || ++count != at) return 0;
-    return was = 1;
+    if (at == 0 || __atomic_add_fetch(&count, 1, __ATOMIC_SEQ_CST) != at) return 0;
+    __atomic_store_n(&was, 1, __ATOMIC_SEQ_CST);
+    return 1;
 }
 
 void *malloc(size length) { return refused(&length) ? 0 : __libc_malloc(length); }
