@@ -8,5 +8,5 @@ pub record Logged : Type 0 where
   pub keeps : Bool
 
 -- all of it or nothing
-abbrev pub kept : Bool → List Item → List Item
-kept keeps items = if keeps then items else []
+abbrev pub kept_of : Bool → List Item → List Item
+kept_of keeps items = if keeps then items else []

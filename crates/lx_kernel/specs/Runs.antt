@@ -13,7 +13,7 @@ use Rattle.lx_proc.specs.declared.state.Shared.{Shared}
 use Rattle.lx_proc.specs.declared.state.UserState.{UserState}
 use Rattle.lx_turn.specs.Linux.{linux}
 use Rattle.lx_turn.specs.Modes.{task_mode}
-use Rattle.lx_kernel.specs.Logs.{kept}
+use Rattle.lx_kernel.specs.Logs.{kept_of}
 
 pub record Run : Type 0 where
   pub running : Running Shared UserState
@@ -40,4 +40,4 @@ mode_in k pid = task_mode (maps.get k.running.shared.entries pid) (at Gone k.run
 
 -- what can be read of the log
 abbrev pub kept_log : Run → List Item
-kept_log k = kept k.keeps_log k.running.log
+kept_log k = kept_of k.keeps_log k.running.log

@@ -16,12 +16,7 @@ use rv_hart::DecodedCode;
 use std::alloc::{AllocError, Global};
 
 /// The kernel of an accepted boot.
-fn first(
-    alloc: Global,
-    boot: Boot,
-    script: Script,
-    keeps_log: bool,
-) -> Result<Kernel, AllocError>
+fn first(alloc: Global, boot: Boot, script: Script, keeps_log: bool) -> Result<Kernel, AllocError>
     requires in_range { IsTrue (are_limits boot.limits) }
     requires fits { start_size boot.argv boot.env ≤ start_limit }
     ensures { IfOk result (λ k. k ≡ record (first_run boot script) { keeps_log = keeps_log }) }

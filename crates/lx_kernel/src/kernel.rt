@@ -35,7 +35,9 @@ use crate::tracing::Change;
 use crate::waking::{TurnTaken, take_turn};
 use crate::{bursts, tracing};
 use containers::{Bytes, Seq};
-use lx_abi::{Call, Cause, Ended, Item, Mode, Occurrences, Outcome, RegisterSet, Registers, Script, Signal};
+use lx_abi::{
+    Call, Cause, Ended, Item, Mode, Occurrences, Outcome, RegisterSet, Registers, Script, Signal,
+};
 use lx_model::{PtraceEvent, Stage, Task};
 use lx_proc::{ProcessLimits, Shared, UserState};
 use lx_turn::{Injection, is_killed, mode_of_gone};

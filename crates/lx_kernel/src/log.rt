@@ -1,7 +1,7 @@
 //! What was logged.
 
 ghost use Rattle.std.specs.Prelude.{◌≡◌, ◌++◌, [], ◌∷◌, OnOk, OnErr};
-ghost use Rattle.lx_kernel.specs.Logs.{kept};
+ghost use Rattle.lx_kernel.specs.Logs.{kept_of};
 
 use history::History;
 use lx_abi::Item;
@@ -18,13 +18,13 @@ pub struct Log {
 
 impl Model for Log {
     ghost use Rattle.std.specs.Prelude.{◌≡◌};
-    ghost use Rattle.lx_kernel.specs.Logs.{Logged, kept};
+    ghost use Rattle.lx_kernel.specs.Logs.{Logged, kept_of};
 
     ghost Value = { Logged };
 
     ghost view = { λ l. record { items = l.all.items; keeps = l.keeps } };
 
-    ghost invariant = { λ l. l.kept.items ≡ kept l.keeps l.all.items };
+    ghost invariant = { λ l. l.kept.items ≡ kept_of l.keeps l.all.items };
 }
 
 impl Log {
@@ -53,7 +53,7 @@ impl Log {
 
     /// What is kept.
     pub fn kept(&self) -> &[Item]
-        ensures { result.now ≡ kept self.now.keeps self.now.items }
+        ensures { result.now ≡ kept_of self.now.keeps self.now.items }
     {
         self.kept.as_slice()
     }
