@@ -1,39 +1,23 @@
 //! Why a run is out of turns.
 
+use lx_abi::Mode;
 use lx_abi::calls::call_name;
-use lx_abi::{Item, Mode};
 use lx_kernel::Kernel;
 use std::alloc::{AllocError, Global};
 
-/// The call that a process entered last.
-fn call_of(log: &[Item], of: u32) -> Option<u64> {
-    for item in log.iter().rev() {
-        if let Item::Enter { pid, call } = item {
-            if *pid == of {
-                return Some(call.number);
-            }
-        }
+/// What a process waits in: the name of its call.
+fn call_waited_in(kernel: &Kernel, pid: u32) -> &'static str {
+    match kernel.call(pid) {
+        Some(call) => call_name(call.number).unwrap_or("a call"),
+        None => "a call",
     }
-    None
 }
 
-/// What a process waits in, by the log of calls: the name of its call.
-fn call_waited_in(log: &[Item], pid: u32) -> &'static str {
-    call_of(log, pid)
-        .and_then(|number| call_name(number))
-        .unwrap_or("a call")
-}
-
-/// Where a process waits that has this mode: in a call, or stopped; none if it doesn't wait.
-fn explain_wait(
-    alloc: Global,
-    pid: u32,
-    mode: Option<Mode>,
-    log: &[Item],
-) -> Result<Option<String>, AllocError> {
-    match mode {
+/// Where a process waits: in a call, or stopped; none if it doesn't wait.
+fn explain_wait(alloc: Global, kernel: &Kernel, pid: u32) -> Result<Option<String>, AllocError> {
+    match kernel.mode(pid) {
         Some(Mode::Doing) => {
-            let name = call_waited_in(log, pid);
+            let name = call_waited_in(kernel, pid);
             Ok(Some(format!(in alloc; " {pid} in {name}")?))
         }
         Some(Mode::Stopped) => Ok(Some(format!(in alloc; " {pid} stopped")?)),
@@ -46,7 +30,7 @@ fn explain_waits(alloc: Global, kernel: &Kernel) -> Result<String, AllocError> {
     let mut text = format!(in alloc; "every process waits:")?;
     let mut mark = "";
     for pid in 1..kernel.next_pid() {
-        if let Some(part) = explain_wait(alloc, pid, kernel.mode(pid), kernel.log())? {
+        if let Some(part) = explain_wait(alloc, kernel, pid)? {
             text.push_str(mark)?;
             text.push_str(part.as_str())?;
             mark = ",";

@@ -5,7 +5,8 @@ ghost use Rattle.std.specs.Option.{option_copied};
 ghost use Rattle.std.specs.Io.KnownBytes.{Appends};
 ghost use Rattle.guest_commands.specs.Drills as spec;
 
-use host_wire::{Broken, History, Sink};
+use history::History;
+use host_wire::{Broken, Sink};
 use std::alloc::{AllocError, Global};
 
 /// What is done to the reply of a number, the first being 1.

@@ -14,4 +14,3 @@ mod words;
 
 pub use entry::{command, tell};
 pub use log::Log;
-pub use plain::status_of;

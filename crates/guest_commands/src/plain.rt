@@ -4,7 +4,7 @@ use crate::log::Log;
 use crate::plan::{Plan, read_plan};
 use clap::ArgMatches;
 use front_end::{Fault, Leavings, explain_turns};
-use lx_abi::{Item, Mode, Status};
+use lx_abi::{Ended, Mode, Status};
 use lx_kernel::Kernel;
 use pt_schedule::Schedule;
 use std::alloc::{AllocError, Global};
@@ -24,23 +24,21 @@ fn is_alive(kernel: &Kernel) -> bool {
     })
 }
 
-/// Process 1's exit code, or 128 and the signal that ended it; a process ends once, mostly late in the log.
-pub fn status_of(log: &[Item]) -> u8 {
-    for item in log.iter().rev() {
-        if let Item::Exit { pid: 1, word, .. } = item {
-            return Status { word: *word }.shell_status();
-        }
+/// Process 1's exit code, or 128 and the signal that ended it.
+fn status_of(ended: &[Ended]) -> u8 {
+    match ended.first() {
+        Some(Ended { pid: 1, word }) => Status { word: *word }.shell_status(),
+        _ => ALIVE,
     }
-    ALIVE
 }
 
 /// The exit status of a run that came to its end.
-fn status(kernel: &Kernel) -> u8 {
+fn status(kernel: &Kernel) -> Result<u8, AllocError> {
     if is_alive(kernel) {
-        ALIVE
-    } else {
-        status_of(kernel.log())
+        return Ok(ALIVE);
     }
+    let ended = kernel.ended()?;
+    Ok(status_of(ended.as_slice()))
 }
 
 /// How many turns a process had, and its mode after them.
@@ -212,7 +210,7 @@ fn run_plan<R: Files + AllocGlobal, O: Write, E: Write>(
     let shown = write_console(rt.alloc(), &plan.kernel, out);
     ended?;
     shown?;
-    let status = status(&plan.kernel);
+    let status = status(&plan.kernel)?;
     write_leavings(rt, leavings, &plan.kernel, status)?;
     Ok(status)
 }

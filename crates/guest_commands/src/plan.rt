@@ -50,7 +50,7 @@ fn boot<R: Files + AllocGlobal, I: Read + IsTerminal, E: Write + IsTerminal>(
 }
 
 fn booted(alloc: Global, boot: Boot, script: Script) -> Result<Kernel, Fault> {
-    match Kernel::boot(alloc, boot, script) {
+    match Kernel::boot_without_log(alloc, boot, script) {
         Ok(kernel) => Ok(kernel),
         Err(fault) => Err(refuse_boot(alloc, fault)),
     }

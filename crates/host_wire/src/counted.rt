@@ -5,7 +5,7 @@ ghost use Rattle.std.specs.Io.KnownBytes.{Appends};
 ghost use Rattle.host_wire.specs.Ends.{AppendsPart};
 
 use crate::ends::{Broken, Sink, Source};
-use crate::history::History;
+use history::History;
 use std::io::{ErrorKind, Read, Write};
 
 /// A reader or writer of std that counts its failure, and fails for good once it has.

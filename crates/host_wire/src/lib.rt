@@ -5,13 +5,11 @@ pub mod counted;
 pub mod ends;
 pub mod feed;
 mod front;
-pub mod history;
 pub mod laws;
 pub mod receiving;
 
 pub use counted::Counted;
 pub use ends::{Broken, Sink, Source};
 pub use feed::Feed;
-pub use history::History;
 pub use host_frame::{Frame, Payload, WireFault, encode};
 pub use receiving::{MOST_READS, ReceiveFault, receive};

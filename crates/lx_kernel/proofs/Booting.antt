@@ -1,5 +1,5 @@
 -- The kernel of a boot runs as the definitions' does.
-use Rattle.std.proofs.Common.{◌≡◌, ℕ, List, [], ◌∷◌, refl, sym, subst}
+use Rattle.std.proofs.Common.{◌≡◌, ℕ, false, List, [], ◌∷◌, refl, sym, subst}
 use Rattle.lx_abi.specs.Scripts.{choice_of}
 use Rattle.lx_model.specs.Kernel.{first_kernel, kernel_run}
 use Rattle.lx_model.specs.Finite.{Is, running, first_running}
@@ -11,7 +11,7 @@ use Rattle.lx_kernel.specs.First.{first_run}
 use Rattle.lx_turn.specs.Linux.{linux}
 use Rattle.lx_exec.specs.Programs.{booted}
 use Rattle.lx_kernel.specs.Runs.{Run, after_turn}
-use Rattle.lx_kernel.specs.Laws.{after_all, BootsRunAlike}
+use Rattle.lx_kernel.specs.Laws.{after_all, BootsRunAlike, LogsAreApart}
 
 -- turns keep the script
 after_all_is : (k : Run) (pids : List ℕ) → (after_all k pids).running ≡ running linux (choice_of k.script) k.follow k.running pids
@@ -25,3 +25,10 @@ boots_run_alike begin run boot script pids =
     let b : UserState = booted boot.argv boot.env in
     let whole = kernel_run linux (choice_of script) boot.follow (first_kernel s b) pids in
     subst (λ v. Is v whole) (sym (after_all_is k pids)) (run linux (choice_of script) boot.follow (first_running s b) (first_kernel s b) (begin s b) pids)
+
+unkept : (k : Run) (pids : List ℕ) → after_all (record k { keeps_log = false }) pids ≡ record (after_all k pids) { keeps_log = false }
+unkept k [] = refl
+unkept k (p ∷ pids) = unkept (after_turn k p) pids
+
+pub logs_are_apart : LogsAreApart
+logs_are_apart boot script pids = unkept (first_run boot script) pids

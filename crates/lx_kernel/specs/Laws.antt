@@ -1,5 +1,5 @@
 -- The kernel of a boot is the kernel of the definitions, turn by turn.
-use Rattle.std.specs.Prelude.{◌≡◌, ℕ, Bool, List, [], ◌∷◌, fold}
+use Rattle.std.specs.Prelude.{◌≡◌, ℕ, Bool, false, List, [], ◌∷◌, fold}
 use Rattle.std.specs.FinMap as maps
 use Rattle.lx_abi.specs.declared.boot.Boot.{Boot}
 use Rattle.lx_abi.specs.declared.log.Item.{Item}
@@ -10,7 +10,7 @@ use Rattle.lx_abi.specs.Scripts.{choice_of}
 use Rattle.lx_model.specs.Kernel.{Script, Kernel, first_kernel, kernel_run}
 use Rattle.lx_model.specs.Finite.{Is, Running, first_running, running_turn}
 use Rattle.lx_boot.specs.First.{first_shared}
-use Rattle.lx_kernel.specs.First.{first_run}
+use Rattle.lx_kernel.specs.First.{first_run, first_run_without_log}
 use Rattle.lx_turn.specs.Linux.{linux}
 use Rattle.lx_exec.specs.Programs.{booted}
 use Rattle.lx_kernel.specs.Runs.{Run, after_turn}
@@ -40,6 +40,12 @@ BootsRunAlike = (boot : Boot) (script : List Rule) (pids : List ℕ) →
     Is (after_all (first_run boot script) pids).running
     (kernel_run linux (choice_of script) boot.follow
     (first_kernel (first_shared boot.limits boot.files boot.input) (booted boot.argv boot.env)) pids)
+
+-- whether the log is kept changes nothing but what can be read of it
+abbrev pub LogsAreApart : Type 0
+LogsAreApart = (boot : Boot) (script : List Rule) (pids : List ℕ) →
+    after_all (first_run_without_log boot script) pids
+    ≡ record (after_all (first_run boot script) pids) { keeps_log = false }
 
 -- the words by which processes ended, with this item's
 abbrev pub with_end : Words → Item → Words

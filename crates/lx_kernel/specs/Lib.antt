@@ -7,6 +7,7 @@ pub mod Runs
 pub mod Turns
 pub mod Tracing
 pub mod Laws
+pub mod Logs
 pub mod Scheduling
 pub mod Sleeping
 pub mod Waking

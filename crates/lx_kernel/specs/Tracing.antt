@@ -4,13 +4,14 @@ use Rattle.std.specs.Prelude.{◌≡◌, ℕ, Bool, true, false, List, Option, S
 use Rattle.std.specs.Option.{option_map}
 use Rattle.std.specs.Ordering.{nat_cmp}
 use Rattle.std.specs.FinMap.{FinMap}
+use Rattle.lx_abi.specs.declared.log.Call.{Call}
 use Rattle.lx_abi.specs.declared.log.Cause.{Cause}
 use Rattle.lx_abi.specs.declared.signal.Signal.{Signal}
 use Rattle.lx_model.specs.Machine.{Regs}
 use Rattle.lx_model.specs.Finite.{at, placed, with_task}
 use Rattle.lx_model.specs.Rows.{row}
 use Rattle.lx_model.specs.declared.stage.Stage.{Stage}
-use Rattle.lx_model.specs.declared.stage.Stage.TheVariants.{Entered, Taken, Dropped, Stopped, Released}
+use Rattle.lx_model.specs.declared.stage.Stage.TheVariants.{Entered, Doing, Taken, Dropped, Stopped, Released}
 use Rattle.lx_model.specs.declared.stage.Task.{Task}
 use Rattle.lx_model.specs.declared.stage.Task.TheVariants.{Alive, Dying, Gone}
 use Rattle.lx_proc.specs.declared.state.UserState.{UserState}
@@ -35,6 +36,16 @@ regs_of task = option_map (λ b. linux.regs b) (user_of task)
 
 abbrev pub peek_of : Task UserState → ℕ → ℕ → Option (List ℕ)
 peek_of task address length = option_map (λ b. linux.peek b address length) (user_of task)
+
+-- the call that it does, or waits in
+abbrev pub call_at : Stage → Option Call
+call_at (Doing call) = Some call
+call_at _ = None
+
+abbrev pub call_of : Task UserState → Option Call
+call_of (Alive b stage) = call_at stage
+call_of (Dying w) = None
+call_of Gone = None
 
 -- the signal at a signal stop, and why it came
 abbrev pub signal_of : Task UserState → Option (Signal × Cause)

@@ -12,6 +12,7 @@ ghost use Rattle.lx_model.specs.declared.event.PtraceEvent.TheVariants.{Plain};
 ghost use Rattle.lx_model.specs.Turn.{turn};
 ghost use Rattle.lx_model.specs.declared.stage.Task.TheVariants.{Alive, Gone};
 ghost use Rattle.lx_model.specs.declared.stage.Stage.TheVariants.{Born};
+ghost use Rattle.lx_proc.specs.WaitWords.{ends_of};
 ghost use Rattle.lx_turn.specs.Linux.{linux};
 ghost use Rattle.lx_turn.specs.Modes.{task_mode as task_mode_of};
 ghost use Rattle.lx_turn.specs.Injection.{choice_of_task};
@@ -19,21 +20,24 @@ ghost use Rattle.lx_turn.specs.Turned.{turned, unboxed, IsLeft, IsBirth};
 ghost use Rattle.lx_kernel.specs.Bursts.{Burst};
 ghost use Rattle.lx_kernel.specs.Occurrences.{Agree};
 ghost use Rattle.lx_kernel.specs.Outcomes.{outcome_in};
-ghost use Rattle.lx_kernel.specs.Runs.{turn_in, after_turn, is_able_in, mode_in};
+ghost use Rattle.lx_kernel.specs.Runs.{turn_in, after_turn, is_able_in, mode_in, kept_log};
 ghost use Rattle.lx_kernel.specs.Scheduling.{IsNextOf};
-ghost use Rattle.lx_kernel.specs.Tracing.{task_in, regs_of, peek_of, signal_of, listens_of};
+ghost use Rattle.lx_kernel.specs.Tracing.{task_in, regs_of, peek_of, call_of, signal_of, listens_of};
 ghost use Rattle.lx_kernel.specs.Tracing.{with_regs, with_change, with_part};
 ghost use Rattle.lx_kernel.specs.Turns.{Turns, without_gone, tasks_with, next_child};
 ghost use Rattle.lx_kernel.specs.Waking.{Calms, LeavesStopped};
 
+use crate::log::Log;
 use crate::outcome::outcome;
 use crate::run_queue::{Hints, RunQueue};
 use crate::scheduling::{can_turn_at, next_in_cycle};
 use crate::tracing::Change;
 use crate::waking::{TurnTaken, take_turn};
 use crate::{bursts, tracing};
-use containers::Bytes;
-use lx_abi::{Cause, Item, Mode, Occurrences, Outcome, RegisterSet, Registers, Script, Signal};
+use containers::{Bytes, Seq};
+use lx_abi::{
+    Call, Cause, Ended, Item, Mode, Occurrences, Outcome, RegisterSet, Registers, Script, Signal,
+};
 use lx_model::{PtraceEvent, Stage, Task};
 use lx_proc::{ProcessLimits, Shared, UserState};
 use lx_turn::{Injection, is_killed, mode_of_gone};
@@ -162,7 +166,7 @@ pub struct Kernel {
     run_queue: RunQueue,
     /// The next pid.
     child: u32,
-    log: Vec<Item>,
+    log: Log,
     occurrences: Occurrences,
     /// The instructions that were met lately, of any process.
     decoder: DecodedCode,
@@ -188,6 +192,7 @@ impl Model for Kernel {
       script = k.script;
       follow = k.follow;
       failed = k.failed;
+      keeps_log = k.log.keeps;
     } };
 
     ghost invariant = { λ k. k.failed ≡ false → Agree k.occurrences k.log.items × Watch k.run_queue k.shared k.tasks };
@@ -234,13 +239,13 @@ fn count_item(occurrences: &mut Occurrences, item: &Item) -> Result<(), AllocErr
 
 /// Logs what a turn logged, and counts it.
 fn log_item(
-    log: &mut Vec<Item>,
+    log: &mut Log,
     occurrences: &mut Occurrences,
     item: &Option<Item>,
 ) -> Result<(), AllocError>
-    ensures log { OnOk result (log.new.items ≡ log.old.items ++ option_to_list item.now) }
+    ensures log { OnOk result (log.new ≡ record log.old { items = log.old.items ++ option_to_list item.now }) }
     ensures counted { OnOk result (Agree occurrences.old log.old.items → Agree occurrences.new log.new.items) }
-    ensures kept { OnErr result (log.new.items ≡ log.old.items) }
+    ensures kept { OnErr result (log.new ≡ log.old) }
     ensures none { item.now ≡ None → IsOk result }
     ensures some { OnErr result (IsSome item.now) }
 {
@@ -248,7 +253,7 @@ fn log_item(
         return Ok(());
     };
     count_item(occurrences, item)?;
-    log.push(*item)?;
+    log.push(item)?;
     Ok(())
 }
 
@@ -261,6 +266,7 @@ impl Kernel {
         decoder: DecodedCode,
         script: Script,
         follow: bool,
+        keeps_log: bool,
     ) -> Self
         requires { (q : ℕ) → (q ≡ 1 → ⊥) → at Gone tasks q ≡ Gone }
         ensures { result ≡ record {
@@ -269,6 +275,7 @@ impl Kernel {
           script = script;
           follow = follow;
           failed = false;
+          keeps_log = keeps_log;
         } }
     {
         let mut run_queue = RunQueue::new(alloc);
@@ -279,7 +286,7 @@ impl Kernel {
             tasks,
             run_queue,
             child: 2,
-            log: Vec::new(alloc),
+            log: Log::new(alloc, keeps_log),
             occurrences: Occurrences::new(alloc),
             decoder,
             script,
@@ -445,6 +452,13 @@ impl Kernel {
         tracing::signal(&self.tasks, pid)
     }
 
+    /// The call that the process is in: it does it, or waits.
+    pub fn call(&self, pid: u32) -> Option<Call>
+        ensures { result ≡ call_of (task_in self.now pid) }
+    {
+        tracing::call(&self.tasks, pid)
+    }
+
     /// The process is in a group stop, where it stays by PTRACE_LISTEN.
     pub fn listens(&self, pid: u32) -> bool
         ensures { result ≡ listens_of (task_in self.now pid) }
@@ -496,11 +510,18 @@ impl Kernel {
         self.set_stage(pid, Change::Resume { number })
     }
 
-    /// What was logged so far.
+    /// What was logged so far; nothing where the log isn't kept.
     pub fn log(&self) -> &[Item]
-        ensures { result.now ≡ self.now.running.log }
+        ensures { result.now ≡ kept_log self.now }
     {
-        self.log.as_slice()
+        self.log.kept()
+    }
+
+    /// The processes that have ended so far, each with its wait word, by pid.
+    pub fn ended(&self) -> Result<Seq<Ended>, AllocError>
+        ensures { IfOk result (λ ended. ended ≡ ends_of self.now.running.shared.ended) }
+    {
+        self.shared.ended.list(self.alloc)
     }
 
     /// What is left of the run so far.

@@ -1,17 +1,19 @@
 //! Laws of the definitions.
 
-ghost use Rattle.lx_kernel.specs.Laws.{BootsAreFirst, TurnsAreSteps, BootsRunAlike};
+ghost use Rattle.lx_kernel.specs.Laws.{BootsAreFirst, TurnsAreSteps, BootsRunAlike, LogsAreApart};
 ghost use Rattle.lx_kernel.specs.Laws.{TurnsLogWords, BootsLogWords, KernelsLogWords};
 ghost use Rattle.lx_kernel.specs.Waking.{CalmTurnsWakeNobody, TurnsLeaveStopped};
 
 use lx_model::laws::kernels_run_alike;
 use lx_proc::{Shared, UserState};
 
-/// A boot gives the untraced kernel of the definitions in its first state, and turns are that kernel's.
+/// A boot gives the untraced kernel of the definitions in its first state, and turns are that kernel's, whether its log
+/// is kept or not.
 pub fn boots_are_first_runs()
     ensures first { BootsAreFirst }
     ensures steps { TurnsAreSteps }
     ensures runs { BootsRunAlike }
+    ensures unkept { LogsAreApart }
 {
     kernels_run_alike::<Shared, UserState>();
 }

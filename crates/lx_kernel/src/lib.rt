@@ -6,6 +6,7 @@ mod bursts;
 mod first;
 pub mod kernel;
 pub mod laws;
+mod log;
 mod outcome;
 mod run_queue;
 mod scheduling;

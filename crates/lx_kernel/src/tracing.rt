@@ -3,11 +3,11 @@
 ghost use Rattle.std.specs.Prelude.{◌≡◌, IfOk, is_some};
 ghost use Rattle.lx_model.specs.Finite.{at};
 ghost use Rattle.lx_model.specs.declared.stage.Task.TheVariants.{Gone};
-ghost use Rattle.lx_kernel.specs.Tracing.{regs_of, peek_of, signal_of, listens_of, with_regs, with_change};
+ghost use Rattle.lx_kernel.specs.Tracing.{regs_of, peek_of, call_of, call_at, signal_of, listens_of, with_regs, with_change};
 ghost use Rattle.lx_kernel.specs.Tracing.{with_part_at, IsPart, changed};
 
 use containers::Bytes;
-use lx_abi::{Cause, RegisterSet, Registers, Signal};
+use lx_abi::{Call, Cause, RegisterSet, Registers, Signal};
 use lx_model::{Stage, Task};
 use lx_proc::{UserState, registers_of, set_registers};
 use shelves::Shelf;
@@ -45,6 +45,26 @@ pub fn peek(
             Ok(Some(Bytes::from_vec(bytes)))
         }
         Some(Task::Dying { .. } | Task::Gone) | None => Ok(None),
+    }
+}
+
+/// The call that a stage is in.
+fn call_at(stage: Stage) -> Option<Call>
+    ensures { result ≡ call_at stage }
+{
+    match stage {
+        Stage::Doing { call } => Some(call),
+        _ => None,
+    }
+}
+
+/// The call that a process is in.
+pub fn call(tasks: &Shelf<Task<UserState>>, pid: u32) -> Option<Call>
+    ensures { result ≡ call_of (at Gone tasks.now pid) }
+{
+    match tasks.get(pid) {
+        Some(Task::Alive { stage, .. }) => call_at(*stage),
+        Some(Task::Dying { .. } | Task::Gone) | None => None,
     }
 }
 

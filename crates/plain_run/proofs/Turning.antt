@@ -32,7 +32,7 @@ use Rattle.pt_schedule.specs.Untraced.{readiness_of}
 use Rattle.pt_schedule.proofs.Modes.{finished_by_mode}
 use Rattle.pt_schedule.proofs.Rowing.{runs_are_turns, none_after, more_after}
 use Rattle.pt_schedule.proofs.Spending.{next_less}
-use Rattle.plain_run.specs.Runs.{IsRun, RunsTo, EndsAreSettled, RunsAreTurns}
+use Rattle.plain_run.specs.Runs.{IsRun, RunsTo, EndsAreSettled, RunsAreTurns, RunsKeepLogs}
 
 -- One turn more
 
@@ -171,3 +171,12 @@ turns_lead (p ∷ ps) k s z h = turns_lead ps (after_turn k p) (next_turn_of s (
 
 pub runs_turns : RunsAreTurns
 runs_turns k s z to = turns_lead to.pids k s z to.is_run
+
+-- Whether the log is kept
+
+keeps : (k : Run) (s : Schedule) (pids : List ℕ) (z : Run) → IsRun k s pids z → z.keeps_log ≡ k.keeps_log
+keeps k s [] z h = ap (λ (r : Run). r.keeps_log) h.1
+keeps k s (p ∷ ps) z h = keeps (after_turn k p) (next_turn_of s (readiness_of k)).schedule ps z h.1
+
+pub runs_keep_logs : RunsKeepLogs
+runs_keep_logs k s z to = keeps k s to.pids z to.is_run

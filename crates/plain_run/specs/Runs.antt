@@ -30,5 +30,9 @@ IsCause failed weary Weary = weary ≡ true
 abbrev pub EndsAreSettled : Type 0
 EndsAreSettled = (k : Run) (s : Schedule) (y z : Run) → RunsTo k s y → RunsTo k s z → y ≡ z
 
+-- a kernel that keeps its log keeps it to the end
+abbrev pub RunsKeepLogs : Type 0
+RunsKeepLogs = (k : Run) (s : Schedule) (z : Run) → RunsTo k s z → z.keeps_log ≡ k.keeps_log
+
 abbrev pub RunsAreTurns : Type 0
 RunsAreTurns = (k : Run) (s : Schedule) (z : Run) (to : RunsTo k s z) → z ≡ after_all k to.pids

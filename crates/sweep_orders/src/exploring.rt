@@ -1,6 +1,6 @@
 //! Runs by many schedules.
 
-ghost use Rattle.std.specs.Prelude.{◌≡◌, ◌<◌, length, IfOk, OnOk};
+ghost use Rattle.std.specs.Prelude.{◌≡◌, ◌<◌, true, length, IfOk, OnOk};
 ghost use Rattle.sweep_runs.specs.Runs.{ending_of};
 ghost use Rattle.sweep_orders.specs.Plans.{plans_after};
 ghost use Rattle.sweep_orders.specs.Orders.{ahead_of, Tries, AreOrders};
@@ -24,6 +24,7 @@ struct Seen {
 }
 
 fn look(alloc: Global, kernel: &Kernel, plan: &Plan, room: usize) -> Result<Seen, AllocError>
+    requires { kernel.now.keeps_log ≡ true }
     ensures ending { IfOk result (λ s. s.ending ≡ ending_of kernel.now) }
     ensures more { IfOk result (λ s. s.more.items ≡ plans_after room plan.now kernel.now.running.log) }
 {
@@ -36,6 +37,7 @@ fn look(alloc: Global, kernel: &Kernel, plan: &Plan, room: usize) -> Result<Seen
 
 /// What is told of a kernel, which is not run on.
 fn look_at(alloc: Global, kernel: Kernel, plan: &Plan, room: usize) -> Result<Seen, AllocError>
+    requires { kernel.keeps_log ≡ true }
     ensures ending { IfOk result (λ s. s.ending ≡ ending_of kernel) }
     ensures more { IfOk result (λ s. s.more.items ≡ plans_after room plan.now kernel.running.log) }
 {

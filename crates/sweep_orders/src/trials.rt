@@ -1,6 +1,6 @@
 //! Runs by plans, whose turn to be counted comes later.
 
-ghost use Rattle.std.specs.Prelude.{◌≡◌, ◌≤◌, ℕ, [], IfOk};
+ghost use Rattle.std.specs.Prelude.{◌≡◌, ◌≤◌, ℕ, [], true, IfOk};
 ghost use Rattle.std.specs.List.{AllZip};
 ghost use Rattle.lx_kernel.specs.First.{first_run};
 ghost use Rattle.plain_run.specs.Runs.{RunsTo};
@@ -43,6 +43,7 @@ pub struct Trial {
 /// The log of a run by a plan, if plans can come of it where there is room for so many.
 #[tactic(auto, unfolding(crate::specs::Plans::plans_after))]
 fn log_of(alloc: Global, kernel: &Kernel, plan: &Plan, room: usize) -> Result<Vec<Item>, AllocError>
+    requires { kernel.now.keeps_log ≡ true }
     ensures { IfOk result (λ log. (n : ℕ) → n ≤ room
         → plans_after n plan.now log.items ≡ plans_after n plan.now kernel.now.running.log) }
 {
@@ -54,6 +55,7 @@ fn log_of(alloc: Global, kernel: &Kernel, plan: &Plan, room: usize) -> Result<Ve
 }
 
 fn look(alloc: Global, kernel: &Kernel, plan: &Plan, room: usize) -> Result<Trial, AllocError>
+    requires { kernel.now.keeps_log ≡ true }
     ensures ending { IfOk result (λ t. t.ending ≡ ending_of kernel.now) }
     ensures log { IfOk result (λ t. (n : ℕ) → n ≤ room
         → plans_after n plan.now t.log.items ≡ plans_after n plan.now kernel.now.running.log) }
@@ -67,6 +69,7 @@ fn look(alloc: Global, kernel: &Kernel, plan: &Plan, room: usize) -> Result<Tria
 
 /// What is kept of a kernel, which is not run on.
 fn look_at(alloc: Global, kernel: Kernel, plan: &Plan, room: usize) -> Result<Trial, AllocError>
+    requires { kernel.keeps_log ≡ true }
     ensures ending { IfOk result (λ t. t.ending ≡ ending_of kernel) }
     ensures log { IfOk result (λ t. (n : ℕ) → n ≤ room
         → plans_after n plan.now t.log.items ≡ plans_after n plan.now kernel.running.log) }

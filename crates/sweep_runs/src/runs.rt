@@ -1,6 +1,6 @@
 //! Whole runs from their boot on.
 
-ghost use Rattle.std.specs.Prelude.{◌≡◌, [], IfOk, IfErr, OnOk, None, Some, Err};
+ghost use Rattle.std.specs.Prelude.{◌≡◌, [], true, IfOk, IfErr, OnOk, None, Some, Err};
 ghost use Rattle.lx_boot.specs.Boots.{Refuses, fault_of};
 ghost use Rattle.lx_boot.specs.declared.boots.BootFault.{BootFault as BootRefusal};
 ghost use Rattle.lx_kernel.specs.First.{first_run};
@@ -91,6 +91,7 @@ pub struct Reference {
 
 /// What a run left and logged.
 fn reference_of(alloc: Global, kernel: &Kernel) -> Result<Reference, AllocError>
+    requires { kernel.now.keeps_log ≡ true }
     ensures { IfOk result (IsReference kernel.now) }
 {
     Ok(Reference {
@@ -101,6 +102,7 @@ fn reference_of(alloc: Global, kernel: &Kernel) -> Result<Reference, AllocError>
 
 /// What the run without a failure left and logged.
 fn referred(alloc: Global, kernel: Kernel) -> Result<Reference, AllocError>
+    requires { kernel.keeps_log ≡ true }
     ensures { IfOk result (IsReference kernel) }
 {
     let reference = reference_of(alloc, &kernel);

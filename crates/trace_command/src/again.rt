@@ -100,7 +100,7 @@ impl Again {
         let script = read_expressions(alloc, matches)?.script;
         let boot = self.boot.copy(alloc)?;
         let turns = self.turns(alloc, matches)?;
-        match Kernel::boot(alloc, boot, script) {
+        match Kernel::boot_without_log(alloc, boot, script) {
             Ok(kernel) => replayed(kernel, turns),
             Err(_) => Err(Fault::Memory),
         }

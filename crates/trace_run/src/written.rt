@@ -4,7 +4,8 @@ ghost use Rattle.std.specs.Prelude.{◌≡◌, []};
 ghost use Rattle.trace_run.specs.Writings.{writing};
 
 use containers::Bytes;
-use host_wire::{Broken, History, Sink};
+use history::History;
+use host_wire::{Broken, Sink};
 use std::alloc::Global;
 use std::marker::Model;
 

@@ -20,6 +20,7 @@ returns c =
       script = c.args.script;
       follow = c.args.boot.follow;
       failed = false;
+      keeps_log = c.args.keeps_log;
     }
 
 pub new-requires-2 : goal.new-requires-2

@@ -8,7 +8,13 @@ use Rattle.sweep_orders.specs.Found.{Counts}
 use Rattle.sweep_orders.specs.Orders.{Ahead, ahead_of, next_of, with_more}
 use Rattle.sweep_orders.specs.Plans.{plans_after}
 use Rattle.sweep_orders.specs.declared.plans.Plan.{Plan}
+use Rattle.plain_run.proofs.Turning.{runs_keep_logs}
 use Rattle.sweep_orders.proofs.exploring.try_next.Goals as goal
+
+pub look_at-requires : goal.look_at-requires
+look_at-requires c =
+    let setup = c.args.setup.now in
+    runs_keep_logs (first_run setup.boot []) (worded c.in_ok-plan.plan.words.items setup.limit) c.in_ok-kernel.kernel c.in_ok-kernel.ensures
 
 pub returns : goal.returns
 returns c =

@@ -7,7 +7,7 @@ use Rattle.lx_kernel.proofs.kernel.Kernel.run.Goals as goal
 pub returns-clause-burst : goal.returns-clause-burst
 returns-clause-burst c =
     let k = c.self.inside in
-    let run : Bool → Run = λ failed. record { running = record { shared = k.shared; tasks = k.tasks; child = k.child; log = k.log.items }; script = k.script; follow = k.follow; failed = failed } in
+    let run : Bool → Run = λ failed. record { running = record { shared = k.shared; tasks = k.tasks; child = k.child; log = k.log.items }; script = k.script; follow = k.follow; failed = failed; keeps_log = k.log.keeps } in
     subst (λ r. Burst r c.args.pid c.args.limit c.in_ok-ran.ran (with_tasks (run false) c.run.new.tasks)) ((λ i. run (sym c.if-self.false i)) ∙ c.self.view_is)
     (c.in_ok-ran.ensures.burst (run false) refl refl)
 

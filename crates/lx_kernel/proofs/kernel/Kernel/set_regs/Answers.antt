@@ -16,7 +16,7 @@ pub returns-clause-part : goal.returns-clause-part
 returns-clause-part c =
     let k = c.self.inside in
     let v : Running Shared UserState = record { shared = k.shared; tasks = k.tasks; child = k.child; log = k.log.items } in
-    let run : Run = record { running = v; script = k.script; follow = k.follow; failed = k.failed } in
+    let run : Run = record { running = v; script = k.script; follow = k.follow; failed = k.failed; keeps_log = k.log.keeps } in
     ap (λ o. record run { running = record v { tasks = o } }) c.set_regs.ensures.part
     ∙ whole run c.args.pid (with_regs c.args.registers.now (task_in run c.args.pid))
     ∙ ap (λ k. with_part k c.args.pid (with_regs c.args.registers.now (task_in k c.args.pid))) c.self.view_is

@@ -44,10 +44,16 @@ pub returns-clause-turned : goal.returns-clause-turned
 returns-clause-turned c =
     let k = c.self.inside in
     let v : Running Shared UserState = record { shared = k.shared; tasks = k.tasks; child = k.child; log = k.log.items } in
-    let run : Running Shared UserState → Run = λ r. record { running = r; script = k.script; follow = k.follow; failed = false } in
-    (λ i. run (record { shared = c.turn_at.new.shared; tasks = c.in_ok-place_child.ensures.tasks i; child = c.in_ok-place_child.ensures.child i; log = c.in_ok-log_item.ensures.log i }))
+    let run : Running Shared UserState → Run = λ r. record { running = r; script = k.script; follow = k.follow; failed = false; keeps_log = k.log.keeps } in
+    (λ i. record {
+      running = record { shared = c.turn_at.new.shared; tasks = c.in_ok-place_child.ensures.tasks i; child = c.in_ok-place_child.ensures.child i; log = (c.in_ok-log_item.ensures.log i).items };
+      script = k.script;
+      follow = k.follow;
+      failed = false;
+      keeps_log = (c.in_ok-log_item.ensures.log i).keeps;
+    })
     ∙ ap run (kernel_turned v k.script k.follow c.args.pid (λ n. count_of k.occurrences c.args.pid n) (λ n. (c.self.invariant c.if-self.false).0 c.args.pid n) c.turn_at.new.item c.in_ok-taken.taken.done c.turn_at.new.shared c.turn_at.new.tasks c.in_ok-taken.ensures.turns)
-    ∙ ap (λ b. after_turn (record { running = v; script = k.script; follow = k.follow; failed = b }) c.args.pid) (sym c.if-self.false)
+    ∙ ap (λ b. after_turn (record { running = v; script = k.script; follow = k.follow; failed = b; keeps_log = k.log.keeps }) c.args.pid) (sym c.if-self.false)
     ∙ ap (λ k. after_turn k c.args.pid) c.self.view_is
 
 pub returns-in_err-place_child-clause-console : goal.returns-in_err-place_child-clause-console
