@@ -344,6 +344,46 @@ const ROOM: &[Row] = &[
     (Call::Free(u64::MAX, 0, u64::MAX), Told::Place(None)),
 ];
 
+/// Pages 16 to 34, each second of them: nine holes of one page.
+const HOLED: [Call; 11] = [
+    Call::Map(16, 20, READ),
+    Call::Unmap(17, 1),
+    Call::Unmap(19, 1),
+    Call::Unmap(21, 1),
+    Call::Unmap(23, 1),
+    Call::Unmap(25, 1),
+    Call::Unmap(27, 1),
+    Call::Unmap(29, 1),
+    Call::Unmap(31, 1),
+    Call::Unmap(33, 1),
+    Call::Unmap(35, 1),
+];
+
+/// Holes that are too small are passed over, and those that grow or shrink are known as what they are then.
+const HOLES: &[Row] = &[
+    (Call::Free(1, 0, 0x24000), Told::Place(Some(0x23000))),
+    (Call::Free(1, 0, 0x23000), Told::Place(Some(0x21000))),
+    (Call::Free(1, 0x21001, 0x23000), Told::Place(None)),
+    (Call::Free(2, 0, 0x24000), Told::Place(Some(0xe000))),
+    (Call::Free(2, 0xe001, 0x24000), Told::Place(None)),
+    (Call::Free(3, 0, 0x24000), Told::Place(Some(0xd000))),
+    (Call::Free(16, 0, 0x24000), Told::Place(Some(0))),
+    (Call::Free(17, 0, 0x24000), Told::Place(None)),
+    (Call::Unmap(26, 1), DONE),
+    (Call::Free(2, 0, 0x24000), Told::Place(Some(0x1a000))),
+    (Call::Free(3, 0, 0x24000), Told::Place(Some(0x19000))),
+    (Call::Free(4, 0, 0x24000), Told::Place(Some(0xc000))),
+    (Call::Map(26, 1, READ), DONE),
+    (Call::Free(3, 0, 0x24000), Told::Place(Some(0xd000))),
+    (Call::Unmap(20, 3), DONE),
+    (Call::Free(5, 0, 0x24000), Told::Place(Some(0x13000))),
+    (Call::Free(6, 0, 0x24000), Told::Place(Some(0xa000))),
+    (Call::Map(21, 1, READ), DONE),
+    (Call::Free(2, 0, 0x24000), Told::Place(Some(0x16000))),
+    (Call::Free(2, 0, 0x17000), Told::Place(Some(0x13000))),
+    (Call::Free(3, 0, 0x24000), Told::Place(Some(0xd000))),
+];
+
 /// There are 16,384 pages at most.
 const LIMITED: &[Row] = &[
     (Call::Map(5, 16_000, READ), DONE),
@@ -417,13 +457,14 @@ const NEAR: &[Row] = &[
 ];
 
 /// What each script begins with, and its rows.
-const SCRIPTS: [(&[Call], &[Row]); 11] = [
+const SCRIPTS: [(&[Call], &[Row]); 12] = [
     (&EXAMPLE, ACROSS),
     (&EXAMPLE, FETCHED),
     (&EXAMPLE, ENDS),
     (&EXAMPLE, PEEKED),
     (&EXAMPLE, GROWN),
     (&EXAMPLE, ROOM),
+    (&HOLED, HOLES),
     (&[], LIMITED),
     (&NUMBERED, UNMAPPED),
     (&NUMBERED, BLANK),
