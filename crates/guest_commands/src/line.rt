@@ -8,8 +8,8 @@ pub const LONGEST_LINE: usize = 256;
 
 const DIGITS: &[u8; 16] = b"0123456789abcdef";
 
-/// The line of an item. It is made in a place of its own: by `write!`, or piece by piece in a `Vec`, it would take as
-/// long as the turns of its call.
+/// The line of an item. It is made in a place of its own, which is used again: by `write!`, or piece by piece in a
+/// `Vec`, it would take as long as the turns of its call.
 #[derive(Drop)]
 pub struct Line {
     bytes: [u8; LONGEST_LINE],
@@ -17,15 +17,19 @@ pub struct Line {
 }
 
 impl Line {
-    /// `E pid number a0 .. a5`, `D pid result`, `S pid signal`, `T pid signal` or `X pid word`, and a line feed.
-    pub fn of(item: &Item) -> Self {
-        let mut line = Line {
+    /// No byte yet.
+    pub fn new() -> Self {
+        Line {
             bytes: [0; LONGEST_LINE],
             length: 0,
-        };
-        line.push_item(item);
-        line.push(b'\n');
-        line
+        }
+    }
+
+    /// `E pid number a0 .. a5`, `D pid result`, `S pid signal`, `T pid signal` or `X pid word`, and a line feed.
+    pub fn set(&mut self, item: &Item) {
+        self.length = 0;
+        self.push_item(item);
+        self.push(b'\n');
     }
 
     pub fn as_bytes(&self) -> &[u8] {

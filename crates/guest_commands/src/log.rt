@@ -17,6 +17,8 @@ const MOST_WHILE_BEHIND: u64 = 10_000;
 #[derive(Drop)]
 pub struct Log<'w, W> {
     lines: Vec<u8>,
+    /// The last line.
+    line: Line,
     /// Turns since the last line.
     quiet: u64,
     alloc: Global,
@@ -27,6 +29,7 @@ impl<'w, W: Write> Log<'w, W> {
     pub fn new(alloc: Global, out: &'w mut W) -> Result<Self, AllocError> {
         Ok(Log {
             lines: Vec::with_capacity(alloc, ROOM)?,
+            line: Line::new(),
             quiet: 0,
             alloc,
             out,
@@ -57,7 +60,8 @@ impl<'w, W: Write> Log<'w, W> {
             self.flush()?;
         }
         self.quiet = 0;
-        match self.lines.extend_from_slice(Line::of(item).as_bytes()) {
+        self.line.set(item);
+        match self.lines.extend_from_slice(self.line.as_bytes()) {
             Ok(()) => Ok(()),
             Err(_) => Err(Fault::Memory),
         }

@@ -5,6 +5,7 @@ pub mod Calming
 pub mod Continuing
 pub mod Ending
 pub mod FilesApart
+pub mod InPlace
 pub mod Moving
 pub mod NextAble
 pub mod Placed

@@ -8,6 +8,7 @@ pub mod Turns
 pub mod Tracing
 pub mod Laws
 pub mod Logs
+pub mod Moves
 pub mod Scheduling
 pub mod Sleeping
 pub mod Waking

@@ -1,7 +1,7 @@
 //! The kernel: one turn of one process at a time.
 
 ghost use Rattle.std.specs.Prelude.{◌≡◌, ◌↔◌, ◌++◌, ◌+◌, [], None, true, false, is_some};
-ghost use Rattle.std.specs.Prelude.{if◌then◌else◌, IfOk, OnOk, OnErr, IsOk, IsErr, IsOkAnd, IsSome, IsTrue, ℕ};
+ghost use Rattle.std.specs.Prelude.{if◌then◌else◌, IfOk, IfSome, OnSome, OnOk, OnErr, IsOk, IsErr, IsOkAnd, IsSome, IsTrue, ℕ};
 ghost use Rattle.std.specs.FinMap as maps;
 ghost use Rattle.std.specs.Option.{option_to_list};
 ghost use Rattle.lx_abi.specs.Log.{is_entry};
@@ -28,6 +28,7 @@ ghost use Rattle.lx_kernel.specs.Turns.{Turns, without_gone, tasks_with, next_ch
 ghost use Rattle.lx_kernel.specs.Waking.{Calms, LeavesStopped};
 
 use crate::log::Log;
+use crate::moves::move_at;
 use crate::outcome::outcome;
 use crate::run_queue::{Hints, RunQueue};
 use crate::scheduling::{can_turn_at, next_in_cycle};
@@ -295,21 +296,45 @@ impl Kernel {
         }
     }
 
-    /// One turn of a process. A pid that isn't in the table changes nothing.
-    pub fn turn(&mut self, pid: u32) -> Result<Moved, Failed>
+    /// The next turn of a process, if it changes only where the process stands; else nothing is changed.
+    fn move_on(&mut self, pid: u32) -> Option<Moved>
+        ensures before { IfSome result (λ m. m.before ≡ mode_in self.old pid) }
+        ensures after { IfSome result (λ m. m.after ≡ mode_in self.new pid) }
+        ensures item { IfSome result (λ m. m.item ≡ item_of (turn_in self.old pid)) }
+        ensures event { IfSome result (λ m. m.event ≡ by_pid self.old.running.child (turn_in self.old pid).event) }
+        ensures turned { OnSome result (self.new ≡ after_turn self.old pid) }
+        ensures failed { IsTrue self.old.failed → result ≡ None }
+        ensures same { result ≡ None → self.new ≡ self.old }
+    {
+        if self.failed {
+            return None;
+        }
+        let injection = Injection {
+            script: &self.script,
+            occurrences: &self.occurrences,
+            follow: self.follow,
+        };
+        move_at(
+            &self.shared,
+            &mut self.tasks,
+            &mut self.log,
+            &injection,
+            pid,
+        )
+    }
+
+    /// One turn of a process, of any kind. Apart, since a function pays at its entry for the size of its locals.
+    #[inline(never)]
+    fn turn_whole(&mut self, pid: u32) -> Result<Moved, Failed>
         ensures before { IfOk result (λ m. m.before ≡ mode_in self.old pid) }
         ensures after { IfOk result (λ m. m.after ≡ mode_in self.new pid) }
         ensures item { IfOk result (λ m. m.item ≡ item_of (turn_in self.old pid)) }
         ensures event { IfOk result (λ m. m.event ≡ by_pid self.old.running.child (turn_in self.old pid).event) }
         ensures turned { OnOk result (self.new ≡ after_turn self.old pid) }
-
-        // Once want of memory was met, every turn answers so; the log and the console stay as they were.
         ensures failed { OnErr result (IsTrue self.new.failed) }
         ensures failed_before { IsTrue self.old.failed → IsErr result }
         ensures log { OnErr result (self.new.running.log ≡ self.old.running.log) }
         ensures console { OnErr result (self.new.running.shared.console ≡ self.old.running.shared.console) }
-
-        // A process that isn't there needs no memory.
         ensures absent { self.old.failed ≡ false → task_in self.old pid ≡ Gone → IsOk result }
     {
         if self.failed {
@@ -362,6 +387,29 @@ impl Kernel {
             item,
             event,
         })
+    }
+
+    /// One turn of a process. A pid that isn't in the table changes nothing.
+    pub fn turn(&mut self, pid: u32) -> Result<Moved, Failed>
+        ensures before { IfOk result (λ m. m.before ≡ mode_in self.old pid) }
+        ensures after { IfOk result (λ m. m.after ≡ mode_in self.new pid) }
+        ensures item { IfOk result (λ m. m.item ≡ item_of (turn_in self.old pid)) }
+        ensures event { IfOk result (λ m. m.event ≡ by_pid self.old.running.child (turn_in self.old pid).event) }
+        ensures turned { OnOk result (self.new ≡ after_turn self.old pid) }
+
+        // Once want of memory was met, every turn answers so; the log and the console stay as they were.
+        ensures failed { OnErr result (IsTrue self.new.failed) }
+        ensures failed_before { IsTrue self.old.failed → IsErr result }
+        ensures log { OnErr result (self.new.running.log ≡ self.old.running.log) }
+        ensures console { OnErr result (self.new.running.shared.console ≡ self.old.running.shared.console) }
+
+        // A process that isn't there needs no memory.
+        ensures absent { self.old.failed ≡ false → task_in self.old pid ≡ Gone → IsOk result }
+    {
+        match self.move_on(pid) {
+            Some(moved) => Ok(moved),
+            None => self.turn_whole(pid),
+        }
     }
 
     /// Turns of a process while each begins and ends in Run, at most `limit`: how many there were.

@@ -7,6 +7,7 @@ mod first;
 pub mod kernel;
 pub mod laws;
 mod log;
+mod moves;
 mod outcome;
 mod run_queue;
 mod scheduling;

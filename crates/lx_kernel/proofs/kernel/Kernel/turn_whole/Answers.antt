@@ -14,7 +14,7 @@ use Rattle.lx_kernel.specs.Scheduling.{Tasks}
 use Rattle.lx_turn.specs.Turned.{unboxed}
 use Rattle.lx_kernel.specs.declared.run_queue.RunQueue.{RunQueue}
 use Rattle.lx_kernel.proofs.Watching.{turn_listed, turn_watched, told_watched}
-use Rattle.lx_kernel.proofs.kernel.Kernel.turn.Goals as goal
+use Rattle.lx_kernel.proofs.kernel.Kernel.turn_whole.Goals as goal
 
 pub place_child-requires : goal.place_child-requires
 place_child-requires c =
