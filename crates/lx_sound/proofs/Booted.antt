@@ -8,7 +8,7 @@ use Rattle.std.specs.List.Sorted.{IsPermutation}
 use Rattle.std.proofs.lemmas.Slice.Eq.{bytes_eq-Decides}
 use Rattle.std.proofs.Math.Seq.{take-take, take-length}
 use Rattle.std.specs.Prelude.{◌==◌, nat_eq, nat_lt, nat_le, not, fold, is_some, slice_index}
-use Rattle.std.specs.List.{list_any, list_all, sum_by}
+use Rattle.std.specs.List.{list_any, list_all, slice_split, onto_first, sum_by}
 use Rattle.std.specs.Str.{bytes_eq}
 use Rattle.std.specs.Ordering.{nat_cmp, eq_by_cmp}
 use Rattle.std.specs.Cmp.{nat_cmp_total}
@@ -28,14 +28,14 @@ use Rattle.lx_files.specs.Trees.{node_at, contents, created}
 use Rattle.lx_files.specs.declared.tree.Tree.{Tree}
 use Rattle.lx_files.proofs.Texts.{equal_is}
 use Rattle.lx_files.proofs.Totals.{total-insert, total-empty}
-use Rattle.lx_boot.specs.Boots.{is_bad_path, is_misplaced, has_bad_path, has_duplicate, has_no_program, fits, fault_of}
+use Rattle.lx_boot.specs.Boots.{is_bad_part, is_bad_path, is_misplaced, has_bad_path, has_duplicate, has_no_program, fits, fault_of}
 use Rattle.lx_boot.specs.Limits.{path_fits, file_fits, content_size, is_new_directory, new_directories, nodes, files_fit}
 use Rattle.lx_boot.specs.Paths.{is_under}
 use Rattle.lx_boot.specs.declared.boots.BootFault.TheVariants.{BadPath, Duplicate, NoProgram, TooLarge, BadLimit}
 use Rattle.lx_boot.proofs.Ordered.{not_itself}
 use Rattle.lx_boot.proofs.Shuffled.{nodes_again}
 use Rattle.lx_sound.specs.Rooted.{is_directory, IsRooted}
-use Rattle.lx_sound.proofs.Maps.{neither, there_now, inserted}
+use Rattle.lx_sound.proofs.Maps.{neither, there_now, inserted, put_elsewhere}
 use Rattle.lx_sound.proofs.Trees.{named, created_now, created_stays, created_rooted}
 
 -- Places of a path and of its beginning.
@@ -99,6 +99,45 @@ start_under (y ∷ path) (x ∷ q) e =
     let is : x ≡ y = grind (arith, nat_tests, same) in
     (ap (λ r. x ∷ r) rest.0 ∙ ap (λ z. z ∷ take (length q) path) is, rest.1)
 
+-- A good path is no slash alone, and begins with none.
+
+bad_root : (path : Path) → is_bad_path path ≡ false → path ≡ [] → ⊥
+unfolding is_bad_path
+bad_root [] h e = cc h
+bad_root (b ∷ path) h e = cc e
+
+good_whole : (path : Path) → is_bad_path path ≡ false → path ≡ slash ∷ [] → ⊥
+unfolding is_bad_path is_bad_part
+good_whole path h e = let bad : is_bad_path (slash ∷ []) ≡ true = refl in let good : is_bad_path (slash ∷ []) ≡ false = subst (λ q. is_bad_path q ≡ false) e h in absurd (cc (bad, good))
+
+-- its second byte is no slash
+second_byte : (b c : ℕ) (path : Path) → is_bad_path (b ∷ c ∷ path) ≡ false → (c == slash) ≡ false
+unfolding is_bad_path is_bad_part
+second_byte b c path h = go (c == 47) refl (neither (not (b == 47)) _ h).1
+  where
+    go : (t : Bool) → (c == 47) ≡ t → list_any is_bad_part (cond t ([] ∷ slice_split (λ x. x == 47) path) (onto_first c (slice_split (λ x. x == 47) path))) ≡ false → t ≡ false
+    go true is bad = absurd (cc bad)
+    go false is bad = refl
+
+good_start : (path : Path) (n : ℕ) → is_bad_path path ≡ false → ends_directory path n ≡ true → take n path ≡ slash ∷ [] → ⊥
+good_start path n h ends is = go path h ends is
+  where
+    one : (q : Path) → ends_directory q n ≡ true → take n q ≡ slash ∷ [] → n ≡ 1
+    one q ends is =
+        let long = length-take n q in
+        let within : n < length q = ends_within q n ends in
+        let is_one : length (take n q) ≡ 1 = ap length is in
+        omega (arith, long, within, is_one)
+
+    go : (q : Path) → is_bad_path q ≡ false → ends_directory q n ≡ true → take n q ≡ slash ∷ [] → ⊥
+    go [] h ends is = let none = ends_within [] n ends in omega (arith, none)
+    go (b ∷ []) h ends is = let first : n ≡ 1 = one (b ∷ []) ends is in let within = ends_within (b ∷ []) n ends in omega (arith, first, within)
+    go (b ∷ c ∷ rest) h ends is =
+        let first : n ≡ 1 = one (b ∷ c ∷ rest) ends is in
+        let slash_there : (c == slash) ≡ true = subst (λ i. (slice_index (b ∷ c ∷ rest) i == slash) ≡ true) first (ends_slash (b ∷ c ∷ rest) n ends) in
+        let none : (c == slash) ≡ false = second_byte b c rest h in
+        absurd (cc (slash_there, none))
+
 -- What holds of the tree of the files so far, the last first.
 
 abbrev lies_there : List GuestFile → Path → Bool
@@ -124,7 +163,7 @@ record FitsIn (f : GuestFile) (files : List GuestFile) : Type 0 where
   under : list_any (λ g. is_under f.path g.path) files ≡ false
   over : has_under files f.path ≡ false
   other : has_file files f.path ≡ false
-  own : f.path ≡ [] → ⊥
+  own : is_bad_path f.path ≡ false
 
 there_still : (tree : Tree) (path q : Path) (x : Node) → is_there tree q ≡ true → is_there (created tree path x) q ≡ true
 there_still tree path q x h = ap is_some (maps.get-insert nat_list_cmp_total tree.names path (vacant tree.nodes) q) ∙ go (eq_by_cmp path_cmp q path)
@@ -231,7 +270,7 @@ module _ (f : GuestFile) (files : List GuestFile) (fits : FitsIn f files) (start
 
   made : (tree : Tree) (n : ℕ) → IsUpTo f files start tree n → ends_directory f.path n ≡ true → is_there tree (take n f.path) ≡ false → IsUpTo f files start (created tree (take n f.path) Directory) (suc n)
   made tree n h ends none = record {
-    tree_is = created_rooted tree at Directory (no_name tree at none) (parent_there tree n at h refl) h.tree_is;
+    tree_is = created_rooted tree at Directory (no_name tree at none) (parent_there tree n at h refl) (good_start f.path n fits.own ends) h.tree_is;
     kinds = λ q there. ⊎_elim
         (λ same. inl (subst (λ r. is_directory (node_at (created tree at Directory) r) ≡ true) (sym same) (ap is_directory (created_now tree at Directory))))
         (λ old. ⊎_elim (λ it. inl (created_stays tree at Directory (no_name tree at none) q it)) (λ file. inr file) (h.kinds q old))
@@ -293,7 +332,7 @@ module _ (f : GuestFile) (files : List GuestFile) (fits : FitsIn f files) (start
       go : (b : Bool) → is_there up f.path ≡ b → b ≡ false
       go false e = refl
       go true e = ⊎_elim
-          (λ root. absurd (fits.own root))
+          (λ root. absurd (bad_root f.path fits.own root))
           (λ lies. ⊎_elim
           (λ there. let none : lies_there files f.path ≡ false = neither_in (λ g. bytes_eq g.path f.path) (λ g. is_under g.path f.path) files fits.other fits.over in absurd (cc (none, there)))
           (λ under. let itself = not_itself f.path in absurd (cc (under, itself)))
@@ -336,7 +375,7 @@ module _ (f : GuestFile) (files : List GuestFile) (fits : FitsIn f files) (start
 
   with_file_planted : IsPlanted (f ∷ files) (with_file start f)
   with_file_planted = record {
-    tree_is = created_rooted up f.path x new (parent_there up (length f.path) f.path whole all_of_it) whole.tree_is;
+    tree_is = created_rooted up f.path x new (parent_there up (length f.path) f.path whole all_of_it) (good_whole f.path fits.own) whole.tree_is;
     kinds = λ q there. ⊎_elim
         (λ same. inr (either_true (bytes_eq f.path q) (has_file files q) (inl (same_bytes q same))))
         (λ old. ⊎_elim (λ it. inl (created_stays up f.path x new q it)) (λ file. inr (either_true (bytes_eq f.path q) (has_file files q) (inr file))) (whole.kinds q old))
@@ -399,6 +438,7 @@ root_planted = record {
   tree_is = record {
     root = ap is_directory (created_now no_tree [] Directory);
     parents = λ q there. let is : q ≡ [] = root_there q there in ap (λ r. is_directory (node_at rooted (parent r))) is ∙ root_parent;
+    no_slash = put_elsewhere nat_list_cmp_total no_tree.names [] (slash ∷ []) refl (vacant no_tree.nodes) ∙ maps.get-empty path_cmp (slash ∷ []);
   };
   kinds = λ q there. inl (ap (λ r. is_directory (node_at rooted r)) (root_there q there) ∙ ap is_directory (created_now no_tree [] Directory));
   named = λ q there. inl (root_there q there);
@@ -419,21 +459,16 @@ none_of : (p : GuestFile → Bool) (files : List GuestFile) → list_any p files
 none_of p [] h = tt
 none_of p (f ∷ files) h = ((neither (p f) _ h).0, none_of p files (neither (p f) _ h).1)
 
--- the file has a path, and lies under none of these
+-- the file has a good path, and lies under none of these
 abbrev IsApart : List GuestFile → GuestFile → Type 0
-IsApart all f = (f.path ≡ [] → ⊥) × AllOf (λ g. is_under f.path g.path ≡ false) all
-
-bad_root : (path : Path) → is_bad_path path ≡ false → path ≡ [] → ⊥
-unfolding is_bad_path
-bad_root [] h e = cc h
-bad_root (b ∷ path) h e = cc e
+IsApart all f = (is_bad_path f.path ≡ false) × AllOf (λ g. is_under f.path g.path ≡ false) all
 
 well_placed : (all files : List GuestFile) → list_any (λ f. is_misplaced all f.path) files ≡ false → AllOf (IsApart all) files
 unfolding is_misplaced
 well_placed all [] h = tt
 well_placed all (f ∷ files) h =
     let mine = neither (is_bad_path f.path) _ (neither (is_misplaced all f.path) _ h).0 in
-    ((bad_root f.path mine.0, none_of (λ g. is_under f.path g.path) all mine.1), well_placed all files (neither (is_misplaced all f.path) _ h).1)
+    ((mine.0, none_of (λ g. is_under f.path g.path) all mine.1), well_placed all files (neither (is_misplaced all f.path) _ h).1)
 
 -- a file and one behind it
 abbrev IsPair : GuestFile → GuestFile → Type 0

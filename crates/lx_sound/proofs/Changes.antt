@@ -1,5 +1,5 @@
 -- What calls do to what processes share, one change after another.
-use Rattle.std.proofs.Common.{◌≡◌, ℕ, ◌+◌, ◌-◌, ◌<◌, ◌≤◌, ◌⊎◌, inl, inr, ⊎_elim, Bool, true, false, cond, List, [], ◌++◌, length, Option, Some, None, refl, ap, sym, subst, ◌∙◌, arith}
+use Rattle.std.proofs.Common.{◌≡◌, ℕ, ◌+◌, ◌-◌, ◌<◌, ◌≤◌, ◌⊎◌, inl, inr, ⊎_elim, Bool, true, false, cond, List, [], ◌∷◌, ◌++◌, length, Option, Some, None, refl, ap, sym, subst, ◌∙◌, arith}
 use Rattle.std.proofs.lemmas.Bool.Decides.{nat_tests}
 use Rattle.std.proofs.lemmas.List.{length-append}
 use Rattle.std.proofs.lemmas.Slice.Eq.{bytes_eq-Decides}
@@ -12,7 +12,7 @@ use Rattle.lx_abi.specs.Limits.{pipe_size, most_fds, most_nodes, most_contents, 
 use Rattle.lx_abi.specs.declared.outcome.Node.{Node}
 use Rattle.lx_abi.specs.declared.outcome.Node.TheVariants.{File, Directory}
 use Rattle.lx_files.specs.Kinds.{size_of, bytes_of, changed_node, changed_file}
-use Rattle.lx_files.specs.Paths.{Path, parent}
+use Rattle.lx_files.specs.Paths.{Path, parent, slash}
 use Rattle.lx_files.specs.Tallies.{total, weight}
 use Rattle.lx_files.specs.Trees.{node_at, has_room, is_empty, content, contents, created, with_content}
 use Rattle.lx_files.specs.declared.tree.Tree.{Tree}
@@ -98,7 +98,7 @@ IsDue s (Seeks n offset) = offset ≤ largest_file
 IsDue s (Holds pipe f) = (bytes : List ℕ) → maps.get s.fds.pipes pipe ≡ Some bytes → length (f bytes) ≤ pipe_size
 IsDue s (Makes path x) =
     (has_room s.tree ≡ true) × (maps.get s.tree.names path ≡ None)
-    × (is_directory (node_at s.tree (parent path)) ≡ true) × (size_of x ≡ 0)
+    × (is_directory (node_at s.tree (parent path)) ≡ true) × (size_of x ≡ 0) × (path ≡ slash ∷ [] → ⊥)
 IsDue s (Writes node f) =
     (length (f (content s.tree node)) ≤ largest_file)
     × (has_space s (length (content s.tree node)) (length (f (content s.tree node))) ≡ true)
@@ -140,7 +140,7 @@ module _ (s : Shared) (p : ℕ) (h : PartsSound s) where
   rooted_done Pipes due = h.rooted
   rooted_done (Seeks n offset) due = h.rooted
   rooted_done (Holds pipe f) due = h.rooted
-  rooted_done (Makes path x) due = created_rooted s.tree path x due.1 due.2 h.rooted
+  rooted_done (Makes path x) due = created_rooted s.tree path x due.1 due.2 due.4 h.rooted
   rooted_done (Writes node f) due = content_rooted s.tree node f h.rooted
   rooted_done (Unlinks path) due = unlinked_rooted s.tree s.fds path due.0 (either_empty path due) h.rooted
 

@@ -69,7 +69,7 @@ use Rattle.lx_sound.proofs.Maps.{some_is, there_now}
 use Rattle.lx_sound.proofs.Together.{closed_together, closed_other}
 use Rattle.lx_sound.proofs.Fewer.{closed_fewer}
 use Rattle.lx_sound.proofs.Paths.{names_bare}
-use Rattle.lx_sound.proofs.Trees.{Ends, reached_ends, absent_parent}
+use Rattle.lx_sound.proofs.Trees.{Ends, reached_ends, absent_parent, absent_apart}
 use Rattle.lx_sound.proofs.Entries.{received_sound}
 use Rattle.lx_sound.proofs.Changes.{Change, Takes, Prints, Names, Loses, Opens, Pipes, Seeks, Holds, Makes, Writes, Unlinks, IsRemovable, IsDue, done}
 use Rattle.lx_sound.proofs.Keeping.{Keeps, keeps_all, keeps_done, keeps_two, keeps_then, changed_keeps, DoesKeep, KeptIf, either_kept, unless_kept, given_kept, granted_kept, gives_kept}
@@ -195,7 +195,7 @@ module _ (child : ℕ) (s : Shared) (p : ℕ) (call : Call) (b : UserState) (h :
   makes_due : (at : Place) (x : Node) → Ends s.tree at → seen s.tree at ≡ Absent → has_room s.tree ≡ true → size_of x ≡ 0 → IsDue s (Makes (path_of at) x)
   makes_due at x ends sees room empty =
       let none : node_at s.tree (path_of at) ≡ None = absent_is at.slashed (node_at s.tree (path_of at)) sees in
-      (room, nothing_named (path_of at) none, absent_parent s.tree at h.rooted ends none, empty)
+      (room, nothing_named (path_of at) none, absent_parent s.tree at h.rooted ends none, empty, absent_apart s.tree at h.rooted ends none)
 
   -- what a file holds is within its limit
   content_within : (node : ℕ) → length (content s.tree node) ≤ largest_file

@@ -2,6 +2,7 @@
 use Rattle.std.proofs.Common.{◌≡◌, ℕ, ◌⊎◌, ⊎_elim, ◌||◌, Bool, true, false, cond, List, [], ◌∷◌, ◌++◌, length, Option, Some, None, refl, ap, sym, subst, ◌∙◌, arith}
 use Rattle.std.proofs.lemmas.Bool.Decides.{nat_tests}
 use Rattle.std.proofs.lemmas.Cmp.{nat_list_cmp_total}
+use Rattle.std.proofs.lemmas.List.{length-append}
 use Rattle.std.specs.Prelude.{◌==◌, not, is_some, IsSome}
 use Rattle.std.specs.List.{list_any}
 use Rattle.std.specs.Option.{option_and_then}
@@ -35,6 +36,16 @@ named tree path h = go (maps.get tree.names path) h
     go : (o : Option ℕ) → is_directory (option_and_then (maps.get tree.nodes) o) ≡ true → IsSome o
     go None e = absurd (cc e)
     go (Some n) e = refl
+
+abbrev IsSlash : Path → Type 0
+IsSlash path = path ≡ slash ∷ []
+
+unlike : (q path : Path) → (q ≡ path → ⊥) → eq_by_cmp path_cmp q path ≡ false
+unlike q path apart = go (eq_by_cmp path_cmp q path) refl
+  where
+    go : (b : Bool) → eq_by_cmp path_cmp q path ≡ b → b ≡ false
+    go false e = refl
+    go true e = absurd (apart (equal_is q path e))
 
 -- another node stays
 
@@ -71,10 +82,11 @@ module _ (tree : Tree) (path : Path) (x : Node) where
           let some : is_some (maps.get tree.names path) ≡ true = subst (λ i. IsSome (maps.get tree.names i)) is (named tree q h) in
           absurd (cc (new, some))
 
-  pub created_rooted : maps.get tree.names path ≡ None → is_directory (node_at tree (parent path)) ≡ true → IsRooted tree → IsRooted (created tree path x)
-  created_rooted new under h = record {
+  pub created_rooted : maps.get tree.names path ≡ None → is_directory (node_at tree (parent path)) ≡ true → (IsSlash path → ⊥) → IsRooted tree → IsRooted (created tree path x)
+  created_rooted new under apart h = record {
     root = created_stays new [] h.root;
     parents = λ q there. go q (eq_by_cmp path_cmp q path) refl there;
+    no_slash = put_elsewhere nat_list_cmp_total tree.names path (slash ∷ []) (unlike (slash ∷ []) path (λ e. apart (sym e))) (vacant tree.nodes) ∙ h.no_slash;
   }
     where
       go : (q : Path) (b : Bool) → eq_by_cmp path_cmp q path ≡ b → IsSome (maps.get (created tree path x).names q) → is_directory (node_at (created tree path x) (parent q)) ≡ true
@@ -86,6 +98,7 @@ pub same_rooted : (tree tree' : Tree) → tree'.names ≡ tree.names → ((q : P
 same_rooted tree tree' names stays h = record {
   root = stays [] h.root;
   parents = λ q there. stays (parent q) (h.parents q (subst (λ (m : NameMap). IsSome (maps.get m q)) names there));
+  no_slash = ap (λ (m : NameMap). maps.get m (slash ∷ [])) names ∙ h.no_slash;
 }
 
 module _ (tree : Tree) (node : ℕ) (f : List ℕ → List ℕ) where
@@ -154,15 +167,8 @@ module _ (tree : Tree) (fds : FdTable) (path : Path) where
       go None = refl
       go (Some node) = released_at (without_path tree path) fds node q
 
-  unlike : (q : Path) → (q ≡ path → ⊥) → eq_by_cmp path_cmp q path ≡ false
-  unlike q apart = go (eq_by_cmp path_cmp q path) refl
-    where
-      go : (b : Bool) → eq_by_cmp path_cmp q path ≡ b → b ≡ false
-      go false e = refl
-      go true e = absurd (apart (equal_is q path e))
-
   pub unlinked_stays : (q : Path) → (q ≡ path → ⊥) → is_directory (node_at tree q) ≡ true → is_directory (node_at (unlinked tree fds path) q) ≡ true
-  unlinked_stays q apart h = ap is_directory (unlinked_elsewhere q (unlike q apart)) ∙ h
+  unlinked_stays q apart h = ap is_directory (unlinked_elsewhere q (unlike q path apart)) ∙ h
 
   -- it is no parent's: a file's, or an empty directory's
   no_parent : IsRooted tree → (path ≡ [] → ⊥) → (is_directory (node_at tree path) ≡ false) ⊎ (is_empty tree path ≡ true) → (q : Path) → IsSome (maps.get tree.names q) → parent q ≡ path → ⊥
@@ -183,8 +189,13 @@ module _ (tree : Tree) (fds : FdTable) (path : Path) where
     parents = λ q there.
         let before : IsSome (maps.get tree.names q) = still q (subst (λ (m : NameMap). IsSome (maps.get m q)) unlinked_names there) in
         unlinked_stays (parent q) (no_parent h named either q before) (h.parents q before);
+    no_slash = ap (λ (m : NameMap). maps.get m (slash ∷ [])) unlinked_names ∙ maps.get-remove nat_list_cmp_total tree.names path (slash ∷ []) ∙ none (eq_by_cmp path_cmp (slash ∷ []) path);
   }
     where
+      none : (b : Bool) → cond b None (maps.get tree.names (slash ∷ [])) ≡ None
+      none true = refl
+      none false = h.no_slash
+
       still : (q : Path) → IsSome (maps.get (maps.remove tree.names path) q) → IsSome (maps.get tree.names q)
       still q there = go (eq_by_cmp path_cmp q path) (subst (λ (o : Option ℕ). IsSome o) (maps.get-remove nat_list_cmp_total tree.names path q) there)
         where
@@ -228,3 +239,19 @@ absent_parent tree place h ends none = go ((length place.last == 0) || is_dot pl
     go true up e = let there = ends.under in absurd (cc (e, there))
     go false true e = let there : is_directory (node_at tree (parent place.under)) ≡ true = h.parents place.under (named tree place.under ends.under) in absurd (cc (e, there))
     go false false e = ap (λ i. is_directory (node_at tree i)) (parent_of_name place.under place.last ends.last) ∙ ends.under
+
+-- what is absent is no slash alone
+pub absent_apart : (tree : Tree) (place : Place) → IsRooted tree → Ends tree place → node_at tree (beyond place.under place.last) ≡ None → IsSlash (beyond place.under place.last) → ⊥
+unfolding beyond
+absent_apart tree place h ends none = go (length place.last == 0) (is_dot place.last) (is_dot_dot place.last) refl none
+  where
+    go : (empty dot up : Bool) → (length place.last == 0) ≡ empty → node_at tree (cond (empty || dot) place.under (cond up (parent place.under) (place.under ++ slash ∷ place.last))) ≡ None
+        → cond (empty || dot) place.under (cond up (parent place.under) (place.under ++ slash ∷ place.last)) ≡ slash ∷ [] → ⊥
+    go true dot up long e is = let there = ends.under in absurd (cc (e, there))
+    go false true up long e is = let there = ends.under in absurd (cc (e, there))
+    go false false true long e is = let there : is_directory (node_at tree (parent place.under)) ≡ true = h.parents place.under (named tree place.under ends.under) in absurd (cc (e, there))
+    go false false false long e is =
+        let whole : length (place.under ++ slash ∷ place.last) ≡ 1 = ap length is in
+        let sum = length-append place.under (slash ∷ place.last) in
+        let short : length place.last ≡ 0 = omega (arith, whole, sum) in
+        absurd (grind (arith, nat_tests, long, short))

@@ -1,9 +1,9 @@
 -- The file tree as a tree of directories.
-use Rattle.std.specs.Prelude.{◌≡◌, Bool, true, false, [], Option, Some, None, IsSome}
+use Rattle.std.specs.Prelude.{◌≡◌, Bool, true, false, [], ◌∷◌, Option, Some, None, IsSome}
 use Rattle.std.specs.FinMap as maps
 use Rattle.lx_abi.specs.declared.outcome.Node.{Node}
 use Rattle.lx_abi.specs.declared.outcome.Node.TheVariants.{File, Directory}
-use Rattle.lx_files.specs.Paths.{Path, parent}
+use Rattle.lx_files.specs.Paths.{Path, parent, slash}
 use Rattle.lx_files.specs.Trees.{node_at}
 use Rattle.lx_files.specs.declared.tree.Tree.{Tree}
 
@@ -16,3 +16,5 @@ pub record IsRooted (tree : Tree) : Type 0 where
   pub root : is_directory (node_at tree []) ≡ true
   -- the parent of each path that names something is a directory
   pub parents : (path : Path) → IsSome (maps.get tree.names path) → is_directory (node_at tree (parent path)) ≡ true
+  -- a slash alone names nothing: the root's path is empty
+  pub no_slash : maps.get tree.names (slash ∷ []) ≡ None
