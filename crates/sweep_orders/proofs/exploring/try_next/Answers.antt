@@ -14,7 +14,7 @@ use Rattle.sweep_orders.proofs.exploring.try_next.Goals as goal
 pub look_at-requires : goal.look_at-requires
 look_at-requires c =
     let setup = c.args.setup.now in
-    runs_keep_logs (first_run setup.boot []) (worded c.in_ok-plan.plan.words.items setup.limit) c.in_ok-kernel.kernel c.in_ok-kernel.ensures
+    runs_keep_logs (first_run setup.boot []) (worded c.in_ok-plan.plan.words setup.limit) c.in_ok-kernel.kernel c.in_ok-kernel.ensures
 
 pub returns : goal.returns
 returns c =

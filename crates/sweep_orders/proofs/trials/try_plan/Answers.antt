@@ -7,4 +7,4 @@ use Rattle.sweep_orders.proofs.trials.try_plan.Goals as goal
 pub look_at-requires : goal.look_at-requires
 look_at-requires c =
     let setup = c.args.setup.now in
-    runs_keep_logs (first_run setup.boot []) (worded c.args.plan.now.words.items setup.limit) c.in_ok-kernel.kernel c.in_ok-kernel.ensures
+    runs_keep_logs (first_run setup.boot []) (worded c.args.plan.now.words setup.limit) c.in_ok-kernel.kernel c.in_ok-kernel.ensures
