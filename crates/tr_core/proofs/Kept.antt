@@ -12,9 +12,11 @@ use Rattle.lx_abi.specs.declared.status.Stop.TheVariants.{Syscall as Syscall_sto
 use Rattle.lx_model.specs.Kernel.{Script, put}
 use Rattle.pt_model.specs.Parts.{Options}
 use Rattle.lx_model.specs.Finite.{at}
-use Rattle.pt_model.specs.Tracer.{Known, Heard, focus_on, heard, hears, took_stop, told_tracees}
+use Rattle.pt_model.specs.Tracer.{Known, Heard, Waiting, focus_on, heard, hears, nothing, stays, took_stop, told_tracees}
+use Rattle.pt_model.specs.Tracer as tracer
 use Rattle.lx_model.proofs.Bridge.{at-insert}
 use Rattle.tr_core.specs.Hearings.{Comes, LeavesOthers, counts_at, stop_heard}
+use Rattle.tr_core.specs.Admitted.{lets_go}
 use Rattle.tr_core.specs.Held.{Holds, NextIsHeld}
 use Rattle.tr_core.specs.Known.{known_of, new_tracee, place_of}
 use Rattle.tr_core.specs.Tracers.{Goes, focus_of, known_in}
@@ -99,3 +101,30 @@ reply_kept o script pid place reply was is told session old new e comes keeps =
     let there = at new_tracee old.known pid in
     let c = subst (λ w. Comes (hears o script pid (known_of w (counts_at old.session.counts pid)) (place_of place) reply) told old.session session (record { pid = pid; tracee = w }) is) e comes in
     kept (hears o script pid (known_in old pid) (place_of place) reply) (record { pid = pid; tracee = there }) is told session old.living old new c keeps
+
+-- A tracee that was let go is known as before.
+
+put_same : (known : ℕ → Known) (p : ℕ) → known ≡ put known p (known p)
+put_same known p = fun_ext (λ q. go q (p == q) refl)
+  where
+    go : (q : ℕ) (b : Bool) → (p == q) ≡ b → known q ≡ cond b (known p) (known q)
+    go q true e =
+        let same : q ≡ p = grind (arith, nat_tests, e) in
+        ap known same
+    go q false e = refl
+
+let_go : (known : ℕ → Known) (p : ℕ) → stays known Waiting ≡ heard known p (nothing (known p))
+let_go known p = ap (λ m. stays m Waiting) (put_same known p)
+
+pub goes_on : (o : Options) (script : Script) (known : ℕ → Known) (p : ℕ) (place : tracer.Awaiting) (reply : Reply)
+    → lets_go place ≡ true → stays known Waiting ≡ heard known p (hears o script p (known p) place reply)
+goes_on o script known p tracer.Seizing reply e = let_go known p
+goes_on o script known p (tracer.Resuming n) reply e = let_go known p
+goes_on o script known p tracer.Listening reply e = let_go known p
+goes_on o script known p tracer.Entry_regs reply e = absurd (cc e)
+goes_on o script known p (tracer.Entry_peek r got w) reply e = absurd (cc e)
+goes_on o script known p (tracer.Entry_set r n) reply e = absurd (cc e)
+goes_on o script known p tracer.Exit_regs reply e = absurd (cc e)
+goes_on o script known p (tracer.Exit_set r x) reply e = absurd (cc e)
+goes_on o script known p (tracer.Exit_peek x replaced got w) reply e = absurd (cc e)
+goes_on o script known p (tracer.Signal_info n) reply e = absurd (cc e)

@@ -1,8 +1,8 @@
 -- A whole step, from what its parts did.
-use Rattle.std.proofs.Common.{◌≡◌, ℕ, suc, ◌+◌, Bool, true, false, cond, List, Option, Some, None, Result, Ok, Err, refl, sym, ap, subst, ◌∙◌, add-one, unwrap_or}
+use Rattle.std.proofs.Common.{◌≡◌, ℕ, suc, ◌+◌, Bool, true, false, cond, ◌&&◌, List, Option, Some, None, Result, Ok, Err, refl, sym, ap, subst, ◌∙◌, add-one, unwrap_or}
 use Rattle.std.specs.Ordering.{nat_cmp}
 use Rattle.std.specs.FinMap as maps
-use Rattle.std.specs.Prelude.{OnErr}
+use Rattle.std.specs.Prelude.{IfOk, OnErr}
 use mathlib.Core.Path.{fun_ext}
 use Rattle.lx_abi.specs.declared.ptrace.Reply.{Reply}
 use Rattle.lx_abi.specs.declared.status.Stop.{Stop}
@@ -10,7 +10,7 @@ use Rattle.lx_abi.specs.declared.status.Stop.TheVariants.{Syscall as Syscall_sto
 use Rattle.lx_model.specs.Kernel.{Script}
 use Rattle.pt_model.specs.Parts.{Options}
 use Rattle.lx_model.specs.Finite.{at}
-use Rattle.pt_model.specs.Tracer.{Known, Next, Awaiting, Moved, Tracer, focus_on, next_at, tracees_after, admits_at, takes, faults, new_known, stays, took_status, took_stop}
+use Rattle.pt_model.specs.Tracer.{Known, Next, Awaiting, Moved, Tracer, focus_on, next_at, tracees_after, admits_at, takes, faults, new_known, says_done, stays, took_status, took_stop}
 use Rattle.pt_model.specs.Tracer as tracer
 use Rattle.tr_core.specs.Hearings.{counts_at}
 use Rattle.tr_core.specs.Settings.{options_of, script_of}
@@ -18,7 +18,8 @@ use Rattle.tr_core.specs.Known.{known_of, new_tracee, place_of}
 use Rattle.lx_abi.specs.Occurrences.{count_of}
 use Rattle.tr_core.specs.Pens.{wrote, pen_after}
 use Rattle.tr_core.specs.States.{moved, said, heard, is_faulted, is_faulted_at, admitted, act_of, request_of, taken_of, Hears}
-use Rattle.tr_core.specs.Admitted.{told_status, says_childless, says_out, told_outcome, waits_by, serves_by, ends_by, next_by, tracees_by}
+use Rattle.tr_core.specs.Admitted.{told_status, says_childless, says_out, told_outcome, waits_by, serves_by, ends_by, next_by, tracees_by, tracees_by_reply}
+use Rattle.tr_core.specs.Admitted.{waits, resumes, resumed, focus_after_resuming, lets_go, is_seizing}
 use Rattle.tr_core.specs.Tracers.{Goes, Steps, focus_of, known_in, tracer_in, admits_in, state_in}
 use Rattle.lx_abi.specs.declared.occurrences.Occurrences.{Occurrences}
 use Rattle.tr_core.specs.declared.place.Focus.{Focus}
@@ -28,6 +29,7 @@ use Rattle.tr_core.specs.declared.stepping.Core.{Core}
 use Rattle.tr_core.specs.declared.tracing.Act.{Act}
 use Rattle.tr_core.specs.declared.tracing.TraceFault.TheVariants.{Inadmissible, Memory}
 use Rattle.tr_core.proofs.Admitting.{next-is, tracees-is}
+use Rattle.tr_core.proofs.Kept.{goes_on}
 
 -- an admitted reply is no fault
 
@@ -99,7 +101,7 @@ took-is taken c r e =
 
 pub stepped : (taken : ℕ) (old new : Core) (r : Reply) (bytes : List ℕ) → admits_in old r ≡ true
     → Goes (next_by (options_of old.session.settings) (script_of old.session.settings) (known_in old) old.focus r)
-    (tracees_by old.living old.focus r) bytes (record old { focus = focus.Faulted }) new
+    (tracees_by old.living old.focus r) bytes old new
     → Steps taken old r (Some bytes) new
 unfolding heard said moved admitted is_faulted took
 stepped taken old new r bytes e g =
@@ -144,15 +146,89 @@ all_known known counts p = known_of (at new_tracee known p) (counts_at counts p)
 pub fresh : (known : maps.FinMap nat_cmp Tracee) (counts : Occurrences) → known ≡ maps.empty → ((p n : ℕ) → count_of counts p n ≡ 0) → all_known known counts ≡ (λ p. new_known)
 fresh known counts e h = fun_ext (λ p. ap (λ m. known_of (at new_tracee m p) (counts_at counts p)) e ∙ ap (λ o. known_of (unwrap_or o new_tracee) (counts_at counts p)) (maps.get-empty nat_cmp p) ∙ ap (λ f. known_of new_tracee f) (fun_ext (λ n. h p n)))
 
+-- What was asked, by what the code looks at first.
+
+pub is_wait : (f : Focus) → waits f ≡ true → focus.Waiting ≡ f
+is_wait focus.Waiting e = refl
+is_wait focus.Booting e = absurd (cc e)
+is_wait (focus.Serving p place) e = absurd (cc e)
+is_wait focus.AskingOutcome e = absurd (cc e)
+is_wait (focus.Over x) e = absurd (cc e)
+is_wait focus.TurnsOver e = absurd (cc e)
+is_wait focus.Faulted e = absurd (cc e)
+
+-- the reply to a resumption
+record GoesOn (o : Options) (script : Script) (known : ℕ → Known) (tracees : List ℕ) (f : Focus) (r : Reply) : Type 0 where
+  pub next : stays known (focus_after_resuming (says_out r)) ≡ next_by o script known f r
+  pub living : tracees ≡ tracees_by tracees f r
+
+serves : (o : Options) (script : Script) (known : ℕ → Known) (p : ℕ) (place : Awaiting) (r : Reply) (out : Bool) → resumes place ≡ true
+    → stays known (focus_after_resuming out) ≡ serves_by o script known p place r out
+serves o script known p place r true e = refl
+serves o script known p place r false e = goes_on o script known p place r (lets place e)
+  where
+    lets : (place : Awaiting) → resumes place ≡ true → lets_go place ≡ true
+    lets tracer.Seizing e = absurd (cc e)
+    lets tracer.Entry_regs e = absurd (cc e)
+    lets (tracer.Entry_peek r got w) e = absurd (cc e)
+    lets (tracer.Entry_set r n) e = absurd (cc e)
+    lets tracer.Exit_regs e = absurd (cc e)
+    lets (tracer.Exit_set r x) e = absurd (cc e)
+    lets (tracer.Exit_peek x replaced got w) e = absurd (cc e)
+    lets (tracer.Signal_info n) e = absurd (cc e)
+    lets (tracer.Resuming n) e = refl
+    lets tracer.Listening e = absurd (cc e)
+
+lives : (tracees : List ℕ) (p : ℕ) (place : Awaiting) (r : Reply) → resumes place ≡ true → tracees ≡ tracees_by_reply tracees p (is_seizing place && says_done r)
+lives tracees p tracer.Seizing r e = absurd (cc e)
+lives tracees p tracer.Entry_regs r e = absurd (cc e)
+lives tracees p (tracer.Entry_peek regs got w) r e = absurd (cc e)
+lives tracees p (tracer.Entry_set regs n) r e = absurd (cc e)
+lives tracees p tracer.Exit_regs r e = absurd (cc e)
+lives tracees p (tracer.Exit_set regs x) r e = absurd (cc e)
+lives tracees p (tracer.Exit_peek x replaced got w) r e = absurd (cc e)
+lives tracees p (tracer.Signal_info n) r e = absurd (cc e)
+lives tracees p (tracer.Resuming n) r e = refl
+lives tracees p tracer.Listening r e = absurd (cc e)
+
+is_resumed : (o : Options) (script : Script) (known : ℕ → Known) (tracees : List ℕ) (f : Focus) (r : Reply) → resumed f ≡ true → GoesOn o script known tracees f r
+is_resumed o script known tracees (focus.Serving p place) r e = record {
+  next = serves o script known p (place_of place) r (says_out r) e;
+  living = lives tracees p (place_of place) r e;
+}
+is_resumed o script known tracees focus.Booting r e = absurd (cc e)
+is_resumed o script known tracees focus.Waiting r e = absurd (cc e)
+is_resumed o script known tracees focus.AskingOutcome r e = absurd (cc e)
+is_resumed o script known tracees (focus.Over x) r e = absurd (cc e)
+is_resumed o script known tracees focus.TurnsOver r e = absurd (cc e)
+is_resumed o script known tracees focus.Faulted r e = absurd (cc e)
+
+abbrev pub GoesBy : Core → Focus → Reply → List ℕ → Core → Core → Type 0
+GoesBy old f r bytes here new = Goes (next_by (options_of old.session.settings) (script_of old.session.settings) (known_in old) f r)
+    (tracees_by old.living f r) bytes here new
+
+pub by_resumption : (old new : Core) (r : Reply) (bytes : List ℕ) → resumed old.focus ≡ true
+    → Goes (stays (known_in old) (focus_after_resuming (says_out r))) old.living bytes old new
+    → GoesBy old old.focus r bytes old new
+by_resumption old new r bytes e g =
+    let o = options_of old.session.settings in
+    let h = is_resumed o (script_of old.session.settings) (known_in old) old.living old.focus r e in
+    subst (λ n. Goes n (tracees_by old.living old.focus r) bytes old new) h.next
+    (subst (λ l. Goes (stays (known_in old) (focus_after_resuming (says_out r))) l bytes old new) h.living g)
+
 -- with the focus taken out
-pub stepped_by : (taken : ℕ) (old new : Core) (r : Reply) (bytes : List ℕ) (f here : Focus) → f ≡ old.focus
-    → here ≡ focus.Faulted → admits_in old r ≡ true
-    → Goes (next_by (options_of old.session.settings) (script_of old.session.settings) (known_in old) f r) (tracees_by old.living f r) bytes (record old { focus = here }) new
-    → Steps taken old r (Some bytes) new
-stepped_by taken old new r bytes f here is none e g =
-    stepped taken old new r bytes e
-    (subst (λ x. Goes (next_by (options_of old.session.settings) (script_of old.session.settings) (known_in old) old.focus r) (tracees_by old.living old.focus r) bytes (record old { focus = x }) new) none
-    (subst (λ x. Goes (next_by (options_of old.session.settings) (script_of old.session.settings) (known_in old) x r) (tracees_by old.living x r) bytes (record old { focus = here }) new) is g))
+pub by_focus : {E : Type 0} (old new : Core) (r : Reply) (bytes : Result (List ℕ) E) (f here : Focus) → f ≡ old.focus
+    → IfOk bytes (λ b. GoesBy old f r b (record old { focus = here }) new) → IfOk bytes (λ b. GoesBy old old.focus r b old new)
+by_focus old new r (Err e) f here is g = tt
+by_focus old new r (Ok b) f here is g = subst (λ x. GoesBy old x r b old new) is (record {
+  known = g.known;
+  focus = g.focus;
+  living = g.living;
+  text = g.text;
+  pen = g.pen;
+  settings = g.settings;
+  holds = g.holds;
+})
 
 -- what a call of next answers
 

@@ -9,7 +9,8 @@ use Rattle.lx_abi.specs.Errnos.{echild}
 use Rattle.lx_abi.specs.Status.{stop_of}
 use Rattle.lx_model.specs.Kernel.{Script}
 use Rattle.pt_model.specs.Parts.{Options}
-use Rattle.pt_model.specs.Tracer.{Known, Next, Awaiting, Seizing, Waiting, Asking_outcome, Over, Turns_over, stays}
+use Rattle.pt_model.specs.Tracer.{Known, Next, Awaiting, Seizing, Resuming, Listening}
+use Rattle.pt_model.specs.Tracer.{Waiting, Asking_outcome, Over, Turns_over, stays}
 use Rattle.pt_model.specs.Tracer.{heard, hears, says_done, took_status, told_tracees, with_tracee}
 use Rattle.pt_model.specs.Tracer as tracer
 use Rattle.tr_core.specs.Known.{place_of}
@@ -45,6 +46,31 @@ tracees_by_status tracees None = tracees
 abbrev pub serves_by : Options → Script → (ℕ → Known) → ℕ → Awaiting → Reply → Bool → Next
 serves_by o script known p place reply true = stays known Turns_over
 serves_by o script known p place reply false = heard known p (hears o script p (known p) place reply)
+
+abbrev pub waits : Focus → Bool
+waits focus.Waiting = true
+waits _ = false
+
+abbrev pub resumes : Awaiting → Bool
+resumes (Resuming n) = true
+resumes _ = false
+
+-- a tracee was resumed
+abbrev pub resumed : Focus → Bool
+resumed (focus.Serving p place) = resumes (place_of place)
+resumed _ = false
+
+-- what is asked after the reply to a resumption, where the schedule has no more events or goes on
+abbrev pub focus_after_resuming : Bool → tracer.Focus
+focus_after_resuming true = Turns_over
+focus_after_resuming false = Waiting
+
+-- the tracee was let go, and goes on whatever is replied
+abbrev pub lets_go : Awaiting → Bool
+lets_go Seizing = true
+lets_go (Resuming n) = true
+lets_go Listening = true
+lets_go _ = false
 
 abbrev pub is_seizing : Awaiting → Bool
 is_seizing Seizing = true

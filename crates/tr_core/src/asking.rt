@@ -48,28 +48,21 @@ fn ask_of(settings: &Settings, place: &Awaiting) -> Result<Ask, AllocError>
     Ok(ask)
 }
 
-/// What is asked next, none at the end.
-fn request_in(core: &Core) -> Result<Option<Request>, AllocError>
-    ensures { IfOk result (λ q. q ≡ request (options_of core.now.session.settings) (focus_of core.now.focus)) }
-{
-    match &core.focus {
-        Focus::Waiting => Ok(Some(Request::Wait)),
-        Focus::Serving { pid, place } => {
-            let ask = ask_of(&core.session.settings, place)?;
-            Ok(Some(Request::To { pid: *pid, ask }))
-        }
-        Focus::AskingOutcome => Ok(Some(Request::Outcome)),
-        Focus::Booting | Focus::Over(_) | Focus::TurnsOver | Focus::Faulted => Ok(None),
-    }
-}
-
 /// What was printed, and what is asked next.
 pub fn act(core: &Core, bytes: Bytes) -> Result<Act, AllocError>
     ensures { IfOk result
         (λ act. act ≡ act_of (request (options_of core.now.session.settings) (focus_of core.now.focus)) bytes) }
 {
-    match request_in(core)? {
-        Some(request) => Ok(Act::Ask { bytes, request }),
-        None => Ok(Act::Finished { bytes }),
-    }
+    let request = match &core.focus {
+        Focus::Waiting => Request::Wait,
+        Focus::Serving { pid, place } => {
+            let ask = ask_of(&core.session.settings, place)?;
+            Request::To { pid: *pid, ask }
+        }
+        Focus::AskingOutcome => Request::Outcome,
+        Focus::Booting | Focus::Over(_) | Focus::TurnsOver | Focus::Faulted => {
+            return Ok(Act::Finished { bytes });
+        }
+    };
+    Ok(Act::Ask { bytes, request })
 }

@@ -223,6 +223,28 @@ fn read(
     }
 }
 
+/// The same of a decoder that was begun, which takes a place of its own where something is wanted.
+fn read_first(
+    session: &mut Session,
+    hand: &mut InHand,
+    crossing: Crossing,
+    decoder: Decoder,
+) -> Result<Heard, AllocError>
+    requires { IsOf session.old.settings.options (half_at hand.old.tracee.called crossing) decoder }
+    ensures { IfOk result
+        (λ h. Comes
+        (reads_at (options_of session.old.settings) (script_of session.old.settings) hand.old.pid crossing
+        decoder.got (known_at session.old hand.old) true) h session.old session.new hand.old hand.new) }
+{
+    match decoder.wants() {
+        None => tell(session, hand, crossing, Some(&decoder)),
+        Some(_) => {
+            let boxed = Box::new(session.settings.alloc, decoder)?;
+            read(session, hand, crossing, boxed)
+        }
+    }
+}
+
 /// A call is entered or left, whose text is read where it is shown.
 pub fn cross(
     session: &mut Session,
@@ -243,8 +265,7 @@ pub fn cross(
     let alloc = session.settings.alloc;
     let half = half(&crossing, hand.tracee.called);
     let decoder = half.begin(alloc, session.settings.options.string_limit)?;
-    let boxed = Box::new(alloc, decoder)?;
-    read(session, hand, crossing, boxed)
+    read_first(session, hand, crossing, decoder)
 }
 
 /// The decoder once it was given what was read.

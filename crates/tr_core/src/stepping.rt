@@ -1,30 +1,33 @@
 //! What a reply makes of what a tracer keeps.
 
-ghost use Rattle.std.specs.Prelude.{◌≡◌, ◌&&◌, ℕ, IfOk, OnOk, OnErr, Some, true};
+ghost use Rattle.std.specs.Prelude.{◌≡◌, ◌&&◌, ℕ, IfOk, OnOk, OnErr, Some, is_some, true};
 ghost use Rattle.lx_abi.specs.declared.log.Call.{Call as CallOf};
 ghost use Rattle.lx_model.specs.Finite.{at};
 ghost use Rattle.std.specs.FinMap as maps;
 ghost use Rattle.std.specs.Option.{option_map};
-ghost use Rattle.pt_model.specs.Tracer.{focus_on, told_tracees};
+ghost use Rattle.pt_model.specs.Admissible.{stop_fits as fits_stop};
+ghost use Rattle.pt_model.specs.Parts.{Options};
+ghost use Rattle.pt_model.specs.Tracer.{Known, focus_on, told_tracees};
 ghost use Rattle.pt_model.specs.Tracer.{took_stop, heard, hears, says_done, stays};
 ghost use Rattle.tr_core.specs.Settings.{options_of, script_of};
 ghost use Rattle.tr_core.specs.Held.{Holds, IsHeld, NextIsHeld, FocusHolds};
 ghost use Rattle.tr_core.specs.Known.{new_tracee, place_of};
 ghost use Rattle.tr_core.specs.Tracers.{admits_in, focus_of, known_in, Goes, Steps};
-ghost use Rattle.tr_core.specs.Admitted.{says_out, waits_by, serves_by};
+ghost use Rattle.tr_core.specs.Admitted.{says_childless, says_out, told_status, waits_by, serves_by};
+ghost use Rattle.tr_core.specs.Admitted.{focus_after_resuming, resumed, resumes, waits};
 ghost use Rattle.tr_core.specs.Admitted.{ends_by, tracees_by_status, tracees_by_reply, is_seizing as seizes};
-ghost use Rattle.tr_core.specs.Admitted.{next_by, tracees_by};
+ghost use Rattle.tr_core.specs.Admitted.{lets_go, next_by, tracees_by, told_outcome};
 ghost use Rattle.tr_core.specs.declared.settings.Options.{Options as OptionsOf};
 
 use crate::admission::{admits_answer, stop_fits};
 use crate::hearing::hear;
 use crate::living::Living;
-use crate::place::{Awaiting, Focus, Tracee};
+use crate::place::{Awaiting, Focus, LastOutcome, Tracee};
 use crate::replies::{is_childless, is_done, is_out, outcome_in, status_in};
 use crate::session::{InHand, Session};
 use crate::stops::take_stop;
 use containers::{Bytes, Map};
-use lx_abi::{Call, Errno, Outcome, Reply, Stop};
+use lx_abi::{Call, Errno, Reply, Stop};
 use pt_model::Standing;
 use std::alloc::AllocError;
 use std::mem;
@@ -56,6 +59,23 @@ fn tracee_at(known: &Map<Tracee>, pid: u32) -> Tracee
     }
 }
 
+/// The stop may be told of the process as far as it is known.
+fn fits(known: &Map<Tracee>, follow: bool, pid: u32, stop: Stop) -> bool
+    ensures { result ≡ fits_stop follow (at new_tracee known.now pid).called.number
+        (is_some (at new_tracee known.now pid).saved) (at new_tracee known.now pid).standing stop }
+{
+    match known.get(pid) {
+        Some(tracee) => stop_fits(
+            follow,
+            tracee.called.number,
+            tracee.saved.is_some(),
+            tracee.standing,
+            stop,
+        ),
+        None => stop_fits(follow, u64::MAX, false, Standing::Unmet, stop),
+    }
+}
+
 /// The reply is one that a host may give.
 fn admits(core: &Core, reply: &Reply) -> bool
     ensures { result ≡ admits_in core.now reply.now }
@@ -65,15 +85,8 @@ fn admits(core: &Core, reply: &Reply) -> bool
         (Focus::Waiting, Reply::Status { pid, status }) => match status.stop() {
             None => false,
             Some(stop) => {
-                let tracee = tracee_at(&core.known, *pid);
-                (core.session.settings.options.follow || *pid == 1)
-                    && stop_fits(
-                        core.session.settings.options.follow,
-                        tracee.called.number,
-                        tracee.saved.is_some(),
-                        tracee.standing,
-                        stop,
-                    )
+                let follow = core.session.settings.options.follow;
+                (follow || *pid == 1) && fits(&core.known, follow, *pid, stop)
             }
         },
         (Focus::Waiting, Reply::Errno { number }) => Errno::ECHILD.is(*number)
@@ -97,17 +110,29 @@ fn focus_at(pid: u32, next: Option<Awaiting>) -> Focus
     }
 }
 
+/// A tracee is put in, in place of what was known of it.
+fn put(known: &mut Map<Tracee>, pid: u32, tracee: &Tracee) -> Result<(), AllocError>
+    ensures { OnOk result (known.new ≡ maps.insert known.old pid tracee.now) }
+{
+    match known.get_mut(pid) {
+        Some(place) => {
+            *place = *tracee;
+            Ok(())
+        }
+        None => known.insert(pid, *tracee),
+    }
+}
+
 /// What was heard of the tracee in hand is kept, and asked next.
-fn keep(core: &mut Core, hand: InHand, next: Option<Awaiting>) -> Result<(), AllocError>
-    requires { NextIsHeld core.old.session.settings.options hand.tracee.called next }
-    ensures known { OnOk result (core.new.known ≡ maps.insert core.old.known hand.pid hand.tracee) }
-    ensures focus { OnOk result (focus_of core.new.focus ≡ focus_on hand.pid (option_map place_of next)) }
+fn keep(core: &mut Core, hand: &InHand, next: Option<Awaiting>) -> Result<(), AllocError>
+    requires { NextIsHeld core.old.session.settings.options hand.now.tracee.called next }
+    ensures known { OnOk result (core.new.known ≡ maps.insert core.old.known hand.now.pid hand.now.tracee) }
+    ensures focus { OnOk result (focus_of core.new.focus ≡ focus_on hand.now.pid (option_map place_of next)) }
     ensures rest { OnOk result ((core.new.session ≡ core.old.session) × (core.new.living ≡ core.old.living)) }
     ensures holds { OnOk result (Holds core.new) }
 {
-    let InHand { pid, tracee } = hand;
-    core.known.insert(pid, tracee)?;
-    core.focus = focus_at(pid, next);
+    put(&mut core.known, hand.pid, &hand.tracee)?;
+    core.focus = focus_at(hand.pid, next);
     Ok(())
 }
 
@@ -132,7 +157,7 @@ fn hear_status(core: &mut Core, pid: u32, stop: Stop) -> Result<Bytes, AllocErro
     let mut hand = InHand { pid, tracee };
     let heard = take_stop(&mut core.session, &mut hand, stop)?;
     attend(&mut core.living, pid, stop)?;
-    keep(core, hand, heard.next)?;
+    keep(core, &hand, heard.next)?;
     Ok(heard.bytes)
 }
 
@@ -148,7 +173,7 @@ fn hear_reply(core: &mut Core, pid: u32, place: Awaiting, reply: Reply) -> Resul
     let tracee = tracee_at(&core.known, pid);
     let mut hand = InHand { pid, tracee };
     let heard = hear(&mut core.session, &mut hand, place, reply)?;
-    keep(core, hand, heard.next)?;
+    keep(core, &hand, heard.next)?;
     Ok(heard.bytes)
 }
 
@@ -162,7 +187,22 @@ fn stay(core: &mut Core, focus: Focus) -> Bytes
     Bytes::new(core.session.settings.alloc)
 }
 
-/// A reply to Wait.
+/// What is asked after a reply to Wait that tells of no tracee.
+fn after_wait(childless: bool, out: bool) -> Focus
+    ensures asks { (o : Options) (known : ℕ → Known)
+        → stays known (focus_of result) ≡ waits_by o known None childless out }
+    ensures holds { (o : OptionsOf) (called : ℕ → CallOf) → FocusHolds o called result }
+{
+    if childless {
+        Focus::AskingOutcome
+    } else if out {
+        Focus::TurnsOver
+    } else {
+        Focus::Waiting
+    }
+}
+
+/// A reply to Wait, by what it says.
 fn hear_wait(
     core: &mut Core,
     told: Option<(u32, Option<Stop>)>,
@@ -176,16 +216,32 @@ fn hear_wait(
     match told {
         Some((pid, Some(stop))) => hear_status(core, pid, stop),
         Some((_, None)) => Ok(stay(core, Focus::Waiting)),
-        None => {
-            if childless {
-                Ok(stay(core, Focus::AskingOutcome))
-            } else if out {
-                Ok(stay(core, Focus::TurnsOver))
-            } else {
-                Ok(stay(core, Focus::Waiting))
-            }
-        }
+        None => Ok(stay(core, after_wait(childless, out))),
     }
+}
+
+/// A reply to Wait.
+fn hear_waiting(core: &mut Core, reply: &Reply) -> Result<Bytes, AllocError>
+    ensures { IfOk result
+        (λ b. Goes
+        (waits_by (options_of core.old.session.settings) (known_in core.old) (told_status reply.now)
+        (says_childless reply.now) (says_out reply.now))
+        (tracees_by_status core.old.living (told_status reply.now)) b core.old core.new) }
+{
+    let told = status_in(reply);
+    let childless = is_childless(reply);
+    let out = is_out(reply);
+    hear_wait(core, told, childless, out)
+}
+
+/// The tracee in hand goes on, whatever it replied.
+fn is_let_go(place: &Awaiting) -> bool
+    ensures { result ≡ lets_go (place_of place.now) }
+{
+    matches!(
+        place,
+        Awaiting::Seizing | Awaiting::Resuming { .. } | Awaiting::Listening
+    )
 }
 
 /// A reply to what was asked of the tracee in hand, or OutOfTurns.
@@ -204,25 +260,32 @@ fn hear_served(
 {
     if out {
         Ok(stay(core, Focus::TurnsOver))
+    } else if is_let_go(&place) {
+        Ok(stay(core, Focus::Waiting))
     } else {
         hear_reply(core, pid, place, reply)
     }
 }
 
 /// A reply to Outcome.
-fn hear_outcome(core: &mut Core, told: Option<Outcome>, out: bool) -> Bytes
-    ensures { Goes (ends_by (known_in core.old) told out) core.old.living result core.old core.new }
+#[inline(never)]
+fn hear_outcome(core: &mut Core, reply: Reply) -> Result<Bytes, AllocError>
+    ensures { IfOk result
+        (λ b. Goes (ends_by (known_in core.old) (told_outcome reply) (says_out reply)) core.old.living b core.old
+        core.new) }
 {
-    match told {
-        Some(outcome) => stay(core, Focus::Over(outcome)),
+    let out = is_out(&reply);
+    let focus = match outcome_in(reply) {
+        Some(outcome) => Focus::Over(LastOutcome::new(core.session.settings.alloc, outcome)?),
         None => {
             if out {
-                stay(core, Focus::TurnsOver)
+                Focus::TurnsOver
             } else {
-                stay(core, Focus::AskingOutcome)
+                Focus::AskingOutcome
             }
         }
-    }
+    };
+    Ok(stay(core, focus))
 }
 
 /// Process 1 is known from its Seize on.
@@ -262,8 +325,8 @@ fn hear_serving(
     Ok(bytes)
 }
 
-/// A reply that is admitted.
-fn go(core: &mut Core, focus: Focus, reply: Reply) -> Result<Bytes, AllocError>
+/// A reply that is admitted, with what was asked taken out.
+fn go_from(core: &mut Core, focus: Focus, reply: Reply) -> Result<Bytes, AllocError>
     requires { FocusHolds core.old.session.settings.options (λ pid. (at new_tracee core.old.known pid).called) focus }
     ensures { IfOk result
         (λ b. Goes
@@ -272,18 +335,9 @@ fn go(core: &mut Core, focus: Focus, reply: Reply) -> Result<Bytes, AllocError>
         (tracees_by core.old.living focus reply) b core.old core.new) }
 {
     match focus {
-        Focus::Waiting => {
-            let told = status_in(&reply);
-            let childless = is_childless(&reply);
-            let out = is_out(&reply);
-            hear_wait(core, told, childless, out)
-        }
+        Focus::Waiting => hear_waiting(core, &reply),
         Focus::Serving { pid, place } => hear_serving(core, pid, place, reply),
-        Focus::AskingOutcome => {
-            let out = is_out(&reply);
-            let told = outcome_in(reply);
-            Ok(hear_outcome(core, told, out))
-        }
+        Focus::AskingOutcome => hear_outcome(core, reply),
         Focus::Booting => Ok(stay(
             core,
             Focus::Serving {
@@ -291,9 +345,60 @@ fn go(core: &mut Core, focus: Focus, reply: Reply) -> Result<Bytes, AllocError>
                 place: Awaiting::Seizing,
             },
         )),
-        Focus::Over(_) => Ok(stay(core, Focus::Faulted)),
-        Focus::TurnsOver => Ok(stay(core, Focus::Faulted)),
-        Focus::Faulted => Ok(stay(core, Focus::Faulted)),
+        Focus::Over(_) | Focus::TurnsOver | Focus::Faulted => Ok(stay(core, Focus::Faulted)),
+    }
+}
+
+fn is_waiting(focus: &Focus) -> bool
+    ensures { result ≡ waits focus.now }
+{
+    matches!(focus, Focus::Waiting)
+}
+
+fn is_resuming(place: &Awaiting) -> bool
+    ensures { result ≡ resumes (place_of place.now) }
+{
+    matches!(place, Awaiting::Resuming { .. })
+}
+
+/// A tracee was resumed.
+fn has_resumed(focus: &Focus) -> bool
+    ensures { result ≡ resumed focus.now }
+{
+    match focus {
+        Focus::Serving { place, .. } => is_resuming(place),
+        _ => false,
+    }
+}
+
+/// What is asked after the reply to a resumption.
+fn after_resuming(out: bool) -> Focus
+    ensures asks { focus_of result ≡ focus_after_resuming out }
+    ensures holds { (o : OptionsOf) (called : ℕ → CallOf) → FocusHolds o called result }
+{
+    if out {
+        Focus::TurnsOver
+    } else {
+        Focus::Waiting
+    }
+}
+
+/// A reply that is admitted. What was asked stays in its place where nothing is kept of it.
+fn go(core: &mut Core, reply: Reply) -> Result<Bytes, AllocError>
+    requires { Holds core.old }
+    ensures { IfOk result
+        (λ b. Goes
+        (next_by (options_of core.old.session.settings) (script_of core.old.session.settings) (known_in core.old)
+        core.old.focus reply)
+        (tracees_by core.old.living core.old.focus reply) b core.old core.new) }
+{
+    if is_waiting(&core.focus) {
+        hear_waiting(core, &reply)
+    } else if has_resumed(&core.focus) {
+        Ok(stay(core, after_resuming(is_out(&reply))))
+    } else {
+        let focus = mem::replace(&mut core.focus, Focus::Faulted);
+        go_from(core, focus, reply)
     }
 }
 
@@ -308,7 +413,6 @@ pub fn step(core: &mut Core, reply: Reply) -> Result<Option<Bytes>, AllocError>
         core.focus = Focus::Faulted;
         return Ok(None);
     }
-    let focus = mem::replace(&mut core.focus, Focus::Faulted);
-    let bytes = go(core, focus, reply)?;
+    let bytes = go(core, reply)?;
     Ok(Some(bytes))
 }

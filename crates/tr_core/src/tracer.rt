@@ -35,7 +35,7 @@ fn outcome(focus: Focus) -> Option<Outcome>
     ensures { result ≡ outcome_kept focus }
 {
     match focus {
-        Focus::Over(outcome) => Some(outcome),
+        Focus::Over(outcome) => Some(outcome.into_inner()),
         _ => None,
     }
 }

@@ -12,6 +12,12 @@ use lx_abi::{Info, Signal};
 use std::alloc::{AllocError, Global};
 use std::marker::Model;
 
+/// Room for what stands before the text of an entry.
+const MARKS: usize = 32;
+
+/// Room for most lines, beside the text of a call.
+const LINE: usize = 96;
+
 /// Prints a trace, part by part.
 #[derive(Drop)]
 pub struct Printer {
@@ -53,7 +59,7 @@ impl Printer {
         ensures ok { OnOk result (self.new ≡ spec.entered self.old pid number text.now) }
         ensures err { OnErr result (self.new ≡ self.old) }
     {
-        let mut out = Text::new(self.alloc);
+        let mut out = Text::with_room(self.alloc, text.len().saturating_add(MARKS))?;
         let column = enter_text(&mut out, self.layout, self.line, pid, text)?;
         self.calls.insert(pid, number)?;
         self.line = Some(Open { pid, column });
@@ -81,7 +87,7 @@ impl Printer {
         ensures ok { OnOk result (self.new ≡ spec.closed self.old pid) }
         ensures err { OnErr result (self.new ≡ self.old) }
     {
-        let mut out = Text::new(self.alloc);
+        let mut out = Text::with_room(self.alloc, text.len().saturating_add(LINE))?;
         done_text(
             &mut out,
             self.layout,
@@ -104,7 +110,7 @@ impl Printer {
         ensures ok { OnOk result (self.new ≡ spec.broken self.old) }
         ensures err { OnErr result (self.new ≡ self.old) }
     {
-        let mut out = Text::new(self.alloc);
+        let mut out = Text::with_room(self.alloc, LINE)?;
         signal_text(&mut out, self.layout, self.line, pid, info)?;
         self.line = None;
         Ok(out.into_bytes())
@@ -117,7 +123,7 @@ impl Printer {
         ensures ok { OnOk result (self.new ≡ spec.broken self.old) }
         ensures err { OnErr result (self.new ≡ self.old) }
     {
-        let mut out = Text::new(self.alloc);
+        let mut out = Text::with_room(self.alloc, LINE)?;
         stopped_text(
             &mut out,
             self.layout,
@@ -136,7 +142,7 @@ impl Printer {
         ensures ok { OnOk result (self.new ≡ spec.closed self.old pid) }
         ensures err { OnErr result (self.new ≡ self.old) }
     {
-        let mut out = Text::new(self.alloc);
+        let mut out = Text::with_room(self.alloc, LINE)?;
         let call = self.calls.get(pid).copied();
         end_text(&mut out, self.layout, self.line, call, pid, word)?;
         self.calls.remove(pid);

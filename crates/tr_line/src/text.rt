@@ -1,76 +1,75 @@
 //! Text under way.
 
-ghost use Rattle.std.specs.Prelude.{◌≡◌, ◌++◌, [], OnOk, length, decimal, codes, replicate, false};
+ghost use Rattle.std.specs.Prelude.{◌≡◌, ◌++◌, [], IfOk, OnOk, length, decimal, codes, replicate, false};
 ghost use Rattle.std.specs.Fmt.{digits};
 
 use containers::Bytes;
+use itoa::Buffer;
 use std::alloc::{AllocError, Global};
 use std::marker::Model;
 
 /// Text under way, which contracts see as the list of its bytes.
 #[derive(Drop)]
 pub(crate) struct Text {
-    text: String,
+    alloc: Global,
+    bytes: Vec<u8>,
 }
 
 impl Model for Text {
-    ghost use Rattle.std.specs.Prelude.{ℕ, List, string_bytes};
+    ghost use Rattle.std.specs.Prelude.{ℕ, List};
 
     ghost Value = { List ℕ };
 
-    ghost view = { λ t. string_bytes t.text };
+    ghost view = { λ t. t.bytes.items };
 }
 
 impl Text {
-    pub(crate) fn new(alloc: Global) -> Self
-        ensures { result ≡ [] }
+    /// An empty one, with room for so many bytes.
+    pub(crate) fn with_room(alloc: Global, room: usize) -> Result<Self, AllocError>
+        ensures { IfOk result (λ t. t ≡ []) }
     {
-        Text {
-            text: String::new(alloc),
-        }
+        let bytes = Vec::with_capacity(alloc, room)?;
+        Ok(Text { alloc, bytes })
     }
 
     pub(crate) fn into_bytes(self) -> Bytes
         ensures { result ≡ self }
     {
-        Bytes::from_vec(self.text.into_bytes())
+        Bytes::from_vec(self.bytes)
     }
 
     pub(crate) fn put(&mut self, text: &str) -> Result<(), AllocError>
         ensures { OnOk result (self.new ≡ self.old ++ text.now) }
     {
-        self.text.push_str(text)?;
-        Ok(())
+        self.bytes.extend_from_slice(text.as_bytes())
     }
 
     pub(crate) fn decimal(&mut self, n: u64) -> Result<(), AllocError>
         ensures { OnOk result (self.new ≡ self.old ++ decimal n) }
     {
-        write!(self.text, "{n}")?;
-        Ok(())
+        let mut buffer = Buffer::new();
+        self.put(buffer.format(n))
     }
 
     pub(crate) fn hex(&mut self, n: u64) -> Result<(), AllocError>
         ensures { OnOk result (self.new ≡ self.old ++ (codes "0x" ++ digits 16 false n)) }
     {
-        write!(self.text, "0x{n:x}")?;
-        Ok(())
+        let digits = format!(in self.alloc; "0x{n:x}")?;
+        self.put(digits.as_str())
     }
 
     pub(crate) fn len(&self) -> usize
         ensures { result ≡ length self.now }
     {
-        self.text.len()
+        self.bytes.len()
     }
 
     pub(crate) fn spaces(&mut self, n: usize) -> Result<(), AllocError>
         ensures { OnOk result (self.new ≡ self.old ++ replicate n 32) }
     {
-        let mut left = n;
-        while left > 0 {
-            self.put(" ")?;
-            left -= 1;
-        }
-        Ok(())
+        let Some(length) = self.len().checked_add(n) else {
+            return Err(AllocError);
+        };
+        self.bytes.resize(length, b' ')
     }
 }

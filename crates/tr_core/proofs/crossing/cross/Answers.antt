@@ -25,12 +25,11 @@ returns-then-not-shown c =
     (subst (λ (m : Heard). IfOk c.tell.result (λ h. Comes m h s c.tell.new.session t c.tell.new.hand))
     (sym (not_shown o (script_of s.settings) t.pid c.args.crossing (known_at s t))) c.tell.ensures)
 
-pub read-requires : goal.read-requires
-read-requires c =
+pub read_first-requires : goal.read_first-requires
+read_first-requires c =
     let limit = c.args.session.now.settings.options.string_limit in
     let shown : c.args.shown ≡ true = search rules in
-    let is : c.in_ok-boxed.boxed.value ≡ started (context_of limit (half_of c.half-half.result)) =
-    c.in_ok-boxed.ensures.ok ∙ c.in_ok-decoder.ensures in
+    let is : c.in_ok-decoder.decoder ≡ started (context_of limit (half_of c.half-half.result)) = c.in_ok-decoder.ensures in
     record {
       context = ap (λ (d : Decoding). d.context) is ∙ ap (context_of limit) c.half-half.ensures;
       shown = sym c.requires ∙ shown;
@@ -42,9 +41,9 @@ returns c =
     let t = c.args.hand.now in
     let o = options_of s.settings in
     let shown : c.args.shown ≡ true = search rules in
-    let is : c.in_ok-boxed.boxed.value ≡ started (context_of s.settings.options.string_limit (half_of c.half-half.result)) =
-    c.in_ok-boxed.ensures.ok ∙ c.in_ok-decoder.ensures in
-    subst (λ b. IfOk c.read.result (λ h. Comes (reads_at o (script_of s.settings) t.pid c.args.crossing [] (known_at s t) b) h s c.read.new.session t c.read.new.hand))
+    let is : c.in_ok-decoder.decoder ≡ started (context_of s.settings.options.string_limit (half_of c.half-half.result)) =
+    c.in_ok-decoder.ensures in
+    subst (λ b. IfOk c.read_first.result (λ h. Comes (reads_at o (script_of s.settings) t.pid c.args.crossing [] (known_at s t) b) h s c.read_first.new.session t c.read_first.new.hand))
     (sym shown)
-    (subst (λ g. IfOk c.read.result (λ h. Comes (reads_at o (script_of s.settings) t.pid c.args.crossing g (known_at s t) true) h s c.read.new.session t c.read.new.hand))
-    (ap (λ (d : Decoding). d.got) is) c.read.ensures)
+    (subst (λ g. IfOk c.read_first.result (λ h. Comes (reads_at o (script_of s.settings) t.pid c.args.crossing g (known_at s t) true) h s c.read_first.new.session t c.read_first.new.hand))
+    (ap (λ (d : Decoding). d.got) is) c.read_first.ensures)

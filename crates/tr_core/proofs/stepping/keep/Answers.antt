@@ -11,7 +11,8 @@ use Rattle.tr_core.proofs.stepping.keep.Goals as goal
 pub returns-clause-holds : goal.returns-clause-holds
 returns-clause-holds c =
     let o = c.args.core.now.session.settings.options in
-    c.focus_at.ensures.holds o (λ pid. (at new_tracee c.insert.new.self pid).called)
-    (subst (λ (m : maps.FinMap nat_cmp Tracee). NextIsHeld o (at new_tracee m c.args.hand.pid).called c.args.next)
-    (sym c.in_ok-insert.ensures.ok)
-    (held_kept o c.args.core.now.known c.args.hand.pid c.args.hand.tracee c.args.next c.requires))
+    let hand = c.args.hand.now in
+    c.focus_at.ensures.holds o (λ pid. (at new_tracee c.put.new.known pid).called)
+    (subst (λ (m : maps.FinMap nat_cmp Tracee). NextIsHeld o (at new_tracee m hand.pid).called c.args.next)
+    (sym c.in_ok-put.ensures)
+    (held_kept o c.args.core.now.known hand.pid hand.tracee c.args.next c.requires))
