@@ -1,5 +1,5 @@
 -- Rows of turns, with more turns in the last.
-use Rattle.std.proofs.Common.{◌≡◌, ℕ, zero, suc, Bool, true, false, List, [], ◌∷◌, ◌++◌, Result, Ok, Err, length, set, get_or, replicate, refl, sym, ap, subst, ◌∙◌, arith, append-nil, append_assoc}
+use Rattle.std.proofs.Common.{◌≡◌, ℕ, zero, suc, Bool, true, false, List, [], ◌∷◌, ◌++◌, Result, Ok, Err, length, set, get_or, replicate, if◌then◌else◌, refl, sym, ap, subst, ◌∙◌, arith, append-nil, append_assoc}
 use Rattle.turn_rows.specs.Cycles.{rounds_of, turns_in, all_turns, LengthensTo, RowsAreRounds}
 use Rattle.turn_rows.specs.declared.row.TurnRow.{TurnRow}
 use Rattle.turn_rows.specs.declared.row.TurnRow.TheVariants.{Run, Cycle}
@@ -23,6 +23,12 @@ pub all_lengthen : {E : Type 0} (rows : List TurnRow) (n : ℕ) (r d longer : Tu
 all_lengthen rows n r d longer pid (Ok true) l at more = all_turns-last rows n r d longer (pid ∷ []) l at more
 all_lengthen rows n r d longer pid (Ok false) l at more = all_turns-last rows n r d longer [] l at (more ∙ sym (append-nil (turns_in r))) ∙ append-nil (all_turns rows)
 all_lengthen rows n r d longer pid (Err e) l at more = all_turns-last rows n r d longer [] l at (more ∙ sym (append-nil (turns_in r))) ∙ append-nil (all_turns rows)
+
+-- so many turns are added to the last row, or none
+pub all_added : (rows : List TurnRow) (n : ℕ) (r d longer : TurnRow) (more pid : ℕ) (result : Bool) → length rows ≡ suc n → get_or rows n d ≡ r → turns_in longer ≡ (if result then turns_in r ++ replicate more pid else turns_in r)
+    → all_turns (set rows n longer) ≡ (if result then all_turns rows ++ replicate more pid else all_turns rows)
+all_added rows n r d longer more pid true l at e = all_turns-last rows n r d longer (replicate more pid) l at e
+all_added rows n r d longer more pid false l at e = all_turns-last rows n r d longer [] l at (e ∙ sym (append-nil (turns_in r))) ∙ append-nil (all_turns rows)
 
 -- a row that is another's is left
 pub not_lengthened : (E : Type 0) (result : Result Bool E) (before : List ℕ) (pid : ℕ) (b : Bool) (after : List ℕ) → result ≡ Ok b → b ≡ false → LengthensTo before pid result after → after ≡ before

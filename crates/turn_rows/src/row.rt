@@ -1,6 +1,6 @@
 //! A row of turns.
 
-ghost use Rattle.std.specs.Prelude.{◌≡◌, ◌++◌, ◌∷◌, [], MatchOption, IfOk, replicate};
+ghost use Rattle.std.specs.Prelude.{◌≡◌, ◌++◌, ◌∷◌, [], if◌then◌else◌, MatchOption, IfOk, replicate};
 ghost use Rattle.turn_rows.specs.Cycles.{turns_in, round_in, rounds_in, rest_in, LengthensTo};
 
 use crate::cycle::Cycle;
@@ -46,17 +46,24 @@ impl TurnRow {
     }
 }
 
-/// What a row of one process becomes by one more turn, where it isn't another row's.
-fn lengthened(alloc: Global, row: &TurnRow, pid: u32) -> Result<Option<TurnRow>, AllocError>
+/// More turns of a row, where they are its process's.
+pub(crate) fn add(row: &mut TurnRow, pid: u32, more: u64) -> bool
+    ensures { turns_in row.new ≡ (if result then turns_in row.old ++ replicate more pid else turns_in row.old) }
+{
+    match row {
+        TurnRow::Run { pid: last, turns } if *last == pid && *turns <= u64::MAX - more => {
+            *turns += more;
+            true
+        }
+        _ => false,
+    }
+}
+
+/// What a row of one turn becomes by a turn of another process.
+fn cycle_of(alloc: Global, row: &TurnRow, pid: u32) -> Result<Option<TurnRow>, AllocError>
     ensures { IfOk result (λ longer. MatchOption longer (Unit {0}) (λ r. turns_in r ≡ turns_in row.now ++ pid ∷ [])) }
 {
     match row {
-        TurnRow::Run { pid: last, turns } if *last == pid && *turns < u64::MAX => {
-            Ok(Some(TurnRow::Run {
-                pid,
-                turns: *turns + 1,
-            }))
-        }
         TurnRow::Run { pid: last, turns } if *turns == 1 => {
             let cycle = Box::new(alloc, Cycle::of(alloc, *last, pid)?)?;
             Ok(Some(TurnRow::Cycle(cycle)))
@@ -69,10 +76,13 @@ fn lengthened(alloc: Global, row: &TurnRow, pid: u32) -> Result<Option<TurnRow>,
 pub(crate) fn lengthen(alloc: Global, row: &mut TurnRow, pid: u32) -> Result<bool, AllocError>
     ensures { LengthensTo (turns_in row.old) pid result (turns_in row.new) }
 {
+    if add(row, pid, 1) {
+        return Ok(true);
+    }
     if let TurnRow::Cycle(cycle) = row {
         return cycle.lengthen(alloc, pid);
     }
-    match lengthened(alloc, row, pid)? {
+    match cycle_of(alloc, row, pid)? {
         None => Ok(false),
         Some(longer) => {
             *row = longer;

@@ -1,9 +1,9 @@
 //! Turns in the order in which they were made.
 
-ghost use Rattle.std.specs.Prelude.{◌≡◌, ◌++◌, [], ◌∷◌, OnOk, OnErr, IfSome, if◌then◌else◌, replicate};
+ghost use Rattle.std.specs.Prelude.{◌≡◌, ◌++◌, [], ◌∷◌, OnOk, OnErr, if◌then◌else◌, replicate};
 ghost use Rattle.turn_rows.specs.Cycles.{turns_in, all_turns, LengthensTo};
 
-use crate::row::{TurnRow, lengthen};
+use crate::row::{TurnRow, add, lengthen};
 use std::alloc::{AllocError, Global};
 use std::marker::Model;
 
@@ -35,21 +35,6 @@ fn lengthen_last(alloc: Global, rows: &mut Vec<TurnRow>, pid: u32) -> Result<boo
     lengthen(alloc, &mut rows[at], pid)
 }
 
-/// A row with more turns of its process, where they are that process's.
-fn longer_run(row: &TurnRow, pid: u32, more: u64) -> Option<TurnRow>
-    ensures { IfSome result (λ r. turns_in r ≡ turns_in row.now ++ replicate more pid) }
-{
-    match row {
-        TurnRow::Run { pid: last, turns } if *last == pid && *turns <= u64::MAX - more => {
-            Some(TurnRow::Run {
-                pid,
-                turns: *turns + more,
-            })
-        }
-        _ => None,
-    }
-}
-
 /// More turns of the last row, where they are its process's.
 fn lengthen_run(rows: &mut Vec<TurnRow>, pid: u32, more: u64) -> bool
     ensures { all_turns rows.new.items
@@ -59,13 +44,7 @@ fn lengthen_run(rows: &mut Vec<TurnRow>, pid: u32, more: u64) -> bool
         return false;
     }
     let at = rows.len() - 1;
-    match longer_run(&rows[at], pid, more) {
-        None => false,
-        Some(longer) => {
-            rows[at] = longer;
-            true
-        }
-    }
+    add(&mut rows[at], pid, more)
 }
 
 impl Turns {
