@@ -6,8 +6,9 @@ ghost use Rattle.lx_boot.specs.declared.boots.BootFault.{BootFault};
 ghost use Rattle.pt_model.specs.Ptrace.{is_there};
 ghost use Rattle.pt_kernel.specs.Hosts.{is_boot};
 ghost use Rattle.pt_journal.specs.Journals.{is_outcome as is_outcome_of};
-ghost use Rattle.host_shared.specs.HeldStates.{first_held, asked, next_turn, Turned, serve_of, CanPut, CanServe, IsKept, Stopped};
+ghost use Rattle.host_shared.specs.HeldStates.{first_held, asked, next_after_last, next_turn, Turned, serve_of, CanPut, CanServe, IsKept, Stopped};
 
+use crate::followers::Followers;
 use crate::steps;
 use lx_abi::{Boot, Reply, Request};
 use lx_boot::BootFault;
@@ -37,6 +38,8 @@ pub struct Held {
     events: u64,
     /// The pid of the last turn, 0 at first.
     last: u32,
+    /// Who has the next turn after whom, as it is known since the last event that may have changed it.
+    followers: Followers,
     /// A request is pending.
     pending: bool,
     /// Nothing more is done.
@@ -48,7 +51,8 @@ pub struct Held {
 impl Model for Held {
     ghost use Rattle.std.specs.Coded.{codes};
     ghost use Rattle.std.specs.FinMap as maps;
-    ghost use Rattle.host_shared.specs.HeldStates.{HeldState, held_by, Keeps};
+    ghost use Rattle.std.specs.Prelude.{◌≡◌, false};
+    ghost use Rattle.host_shared.specs.HeldStates.{HeldState, held_by, Keeps, Knows};
 
     ghost Value = { HeldState };
 
@@ -56,7 +60,8 @@ impl Model for Held {
 
     ghost view = { λ h. held_by h.boot h.host h.journal h.limit h.closed h.failed };
 
-    ghost invariant = { λ h. Keeps h.boot h.host h.journal h.limit h.events h.last h.pending h.closed h.failed };
+    ghost invariant = { λ h. Keeps h.boot h.host h.journal h.limit h.events h.last h.pending h.closed h.failed
+        × (h.failed ≡ false → Knows h.host h.followers) };
 }
 
 fn is_outcome(reply: &Reply) -> bool
@@ -89,6 +94,7 @@ impl Held {
                 limit,
                 events: 0,
                 last: 0,
+                followers: Followers::none(),
                 pending: false,
                 closed: false,
                 failed: false,
@@ -110,6 +116,7 @@ impl Held {
         match steps::put(self.alloc, &mut self.host, &mut self.journal, request) {
             Ok(()) => {
                 self.pending = true;
+                self.followers = Followers::none();
                 Ok(())
             }
             Err(Memory) => {
@@ -117,6 +124,16 @@ impl Held {
                 self.closed = true;
                 Err(Memory)
             }
+        }
+    }
+
+    /// The next able process in the cycle of pids after that of the last turn.
+    fn next(&self) -> Option<u32>
+        ensures { self.now.failed ≡ false → result ≡ next_after_last self.now }
+    {
+        match self.followers.after(self.last) {
+            Some(pid) => Some(pid),
+            None => next_able(&self.host, self.last),
         }
     }
 
@@ -133,11 +150,16 @@ impl Held {
         if self.closed || self.limit <= self.events {
             return Ok(false);
         }
-        let Some(pid) = next_able(&self.host, self.last) else {
+        let Some(pid) = self.next() else {
             return Ok(false);
         };
         match steps::turn(&mut self.host, &mut self.journal, pid) {
-            Ok(()) => {
+            Ok(alike) => {
+                if alike {
+                    self.followers.learn(self.last, pid);
+                } else {
+                    self.followers = Followers::none();
+                }
                 self.events += 1;
                 self.last = pid;
                 Ok(true)
@@ -166,7 +188,7 @@ impl Held {
             return Ok(Some(Reply::OutOfTurns));
         }
         if !self.host.ready() {
-            if next_able(&self.host, self.last).is_some() {
+            if self.next().is_some() {
                 return Ok(None);
             }
             self.closed = true;
@@ -175,6 +197,7 @@ impl Held {
         match steps::serve(self.alloc, &mut self.host, &mut self.journal) {
             Ok(reply) => {
                 self.events += 1;
+                self.followers = Followers::none();
                 self.pending = false;
                 self.closed = is_outcome(&reply);
                 Ok(Some(reply))

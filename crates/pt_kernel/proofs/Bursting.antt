@@ -100,7 +100,7 @@ module _ (v : Running Shared UserState) (p : ℕ) where
 abbrev turn_by : KernelRun → ℕ → Task UserState → Out Shared UserState
 turn_by k p task = turn linux (choice_at linux (choice_of k.script) (traces k.follow p) (λ n. entries p n k.running.log) task) k.running.shared k.running.child p task
 
-stays : (k : KernelRun) (p : ℕ) → StaysInRun k p → (c : UserState) × (turn_in k p ≡ gives k.running.shared (Alive c Run))
+pub stays : (k : KernelRun) (p : ℕ) → StaysInRun k p → (c : UserState) × (turn_in k p ≡ gives k.running.shared (Alive c Run))
 stays k p h =
     let here : (c : UserState) × (task_in k p ≡ Alive c Run) = task_in_run (maps.get k.running.shared.entries p) (task_in k p) h.0 in
     let turned : turn_in k p ≡ turn_by k p (Alive here.0 Run) = ap (turn_by k p) here.1 in
@@ -111,7 +111,7 @@ stays k p h =
 
 -- What the host keeps of it
 
-abbrev with_run : Linux_host → Running Shared UserState → List ℕ → Linux_host
+abbrev pub with_run : Linux_host → Running Shared UserState → List ℕ → Linux_host
 with_run v r turns = record { running = r; traced = v.traced; queue = v.queue; tracees = v.tracees; turns = turns; pending = v.pending }
 
 -- nothing changes of who isn't held
@@ -132,8 +132,8 @@ no_reports : (v : Linux_host) (p : ℕ) (w : Option TraceOptions) (c : UserState
 no_reports v p None c = append-nil v.queue
 no_reports v p (Some w) c = append-nil v.queue
 
-abbrev kernel_by : Linux_host → Bool → Bool → KernelRun
-kernel_by v follow failed = record { running = v.running; script = []; follow = follow; failed = failed }
+abbrev pub kernel_by : Linux_host → Bool → Bool → Bool → KernelRun
+kernel_by v follow failed keeps = record { running = v.running; script = []; follow = follow; failed = failed; keeps_log = keeps }
 
 abbrev hosted_by : Linux_host → ℕ → Out Shared UserState → Linux_host
 hosted_by v p o = hosted v p (traced_at v p) o
@@ -144,15 +144,20 @@ hosted_stays v p c h =
     (kept v p v.running.child c h) (no_reports v p (traced_at v p).options c)
 
 -- one turn
-one_turn : (v : Linux_host) (follow failed : Bool) (p : ℕ) → (traced_at v p).held ≡ false → StaysInRun (kernel_by v follow failed) p →
-    hosting_turn linux follow v p ≡ with_run v (after_turn (kernel_by v follow failed) p).running (v.turns ++ p ∷ [])
-one_turn v follow failed p free on =
-    let k : KernelRun = kernel_by v follow failed in
-    let it : (c : UserState) × (turn_in k p ≡ gives v.running.shared (Alive c Run)) = stays k p on in
+pub turned_so : (v : Linux_host) (follow failed keeps : Bool) (p : ℕ) → (traced_at v p).held ≡ false → (c : UserState) → turn_in (kernel_by v follow failed keeps) p ≡ gives v.running.shared (Alive c Run) →
+    hosting_turn linux follow v p ≡ with_run v (ran v.running p (gives v.running.shared (Alive c Run))) (v.turns ++ p ∷ [])
+turned_so v follow failed keeps p free c it =
+    let k : KernelRun = kernel_by v follow failed keeps in
     let same : turn_out linux no_script follow v.running p ≡ turn_in k p = ap (λ script. turn_out linux script follow v.running p) (sym empty_script_is_none) in
     ap (λ held. cond (cond held (may_die linux v.running.shared p (traced_at v p).options (at Gone v.running.tasks p)) true) (hosted_by v p (turn_out linux no_script follow v.running p)) v) free
-    ∙ ap (hosted_by v p) (same ∙ it.1)
-    ∙ hosted_stays v p it.0 free
+    ∙ ap (hosted_by v p) (same ∙ it)
+    ∙ hosted_stays v p c free
+
+one_turn : (v : Linux_host) (follow failed keeps : Bool) (p : ℕ) → (traced_at v p).held ≡ false → StaysInRun (kernel_by v follow failed keeps) p →
+    hosting_turn linux follow v p ≡ with_run v (after_turn (kernel_by v follow failed keeps) p).running (v.turns ++ p ∷ [])
+one_turn v follow failed keeps p free on =
+    let it : (c : UserState) × (turn_in (kernel_by v follow failed keeps) p ≡ gives v.running.shared (Alive c Run)) = stays (kernel_by v follow failed keeps) p on in
+    turned_so v follow failed keeps p free it.0 it.1
     ∙ ap (λ (o : Out Shared UserState). with_run v (bore (ran v.running p o) o.event) (v.turns ++ p ∷ [])) (sym it.1)
 
 -- So many turns
@@ -160,15 +165,15 @@ one_turn v follow failed p free on =
 abbrev state : Linux_host → Bool → HostState
 state v follow = record { hosting = v; follow = follow; failed = false }
 
-all_turns : (n : ℕ) (v : Linux_host) (follow failed : Bool) (p : ℕ) → (traced_at v p).held ≡ false → ((i : ℕ) → i < n → StaysInRun (kernel_after_turns (kernel_by v follow failed) p i) p) →
-    after_turns (state v follow) p n ≡ state (with_run v (kernel_after_turns (kernel_by v follow failed) p n).running (v.turns ++ replicate n p)) follow
+all_turns : (n : ℕ) (v : Linux_host) (follow failed keeps : Bool) (p : ℕ) → (traced_at v p).held ≡ false → ((i : ℕ) → i < n → StaysInRun (kernel_after_turns (kernel_by v follow failed keeps) p i) p) →
+    after_turns (state v follow) p n ≡ state (with_run v (kernel_after_turns (kernel_by v follow failed keeps) p n).running (v.turns ++ replicate n p)) follow
 unfolding after_turns kernel_after_turns
-all_turns zero v follow failed p free on = ap (λ turns. state (with_run v v.running turns) follow) (sym (append-nil v.turns))
-all_turns (suc n) v follow failed p free on =
-    let u : Linux_host = with_run v (after_turn (kernel_by v follow failed) p).running (v.turns ++ p ∷ []) in
-    ap (λ x. after_turns (state x follow) p n) (one_turn v follow failed p free (on 0 (omega arith)))
-    ∙ all_turns n u follow failed p free (λ i l. on (suc i) (omega (arith, l)))
-    ∙ ap (λ turns. state (with_run v (kernel_after_turns (kernel_by u follow failed) p n).running turns) follow) (append_assoc v.turns (p ∷ []) (replicate n p))
+all_turns zero v follow failed keeps p free on = ap (λ turns. state (with_run v v.running turns) follow) (sym (append-nil v.turns))
+all_turns (suc n) v follow failed keeps p free on =
+    let u : Linux_host = with_run v (after_turn (kernel_by v follow failed keeps) p).running (v.turns ++ p ∷ []) in
+    ap (λ x. after_turns (state x follow) p n) (one_turn v follow failed keeps p free (on 0 (omega arith)))
+    ∙ all_turns n u follow failed keeps p free (λ i l. on (suc i) (omega (arith, l)))
+    ∙ ap (λ turns. state (with_run v (kernel_after_turns (kernel_by u follow failed keeps) p n).running turns) follow) (append_assoc v.turns (p ∷ []) (replicate n p))
 
 -- a turn changes neither script nor follow
 kept_turns : (n : ℕ) (k : KernelRun) (p : ℕ) → kernel_after_turns k p n ≡ record k { running = (kernel_after_turns k p n).running }
@@ -181,19 +186,19 @@ kept_by_burst k k' p limit n b =
     let it : k' ≡ record k { running = (kernel_after_turns k p n).running } = b.turned ∙ kept_turns n k p in
     (ap (λ (x : KernelRun). x.script) it, ap (λ (x : KernelRun). x.follow) it)
 
-module _ (v : Linux_host) (follow failed : Bool) (p limit n : ℕ) (free : (traced_at v p).held ≡ false) (waits : (readiness_of (state v follow)).ready ≡ false) where
+module _ (v : Linux_host) (follow failed keeps : Bool) (p limit n : ℕ) (free : (traced_at v p).held ≡ false) (waits : (readiness_of (state v follow)).ready ≡ false) where
   abbrev k : KernelRun
-  k = kernel_by v follow failed
+  k = kernel_by v follow failed keeps
 
   runs_at : ((i : ℕ) → i < n → StaysInRun (kernel_after_turns k p i) p) → (i : ℕ) → i < n → RunsOn (after_turns (state v follow) p i) p
-  runs_at on i l = subst (λ h. RunsOn h p) (sym (all_turns i v follow failed p free (λ j m. on j (omega (arith, l, m)))))
+  runs_at on i l = subst (λ h. RunsOn h p) (sym (all_turns i v follow failed keeps p free (λ j m. on j (omega (arith, l, m)))))
       (record { waits = waits; free = free; stays = subst (λ x. StaysInRun x p) (kept_turns i k p) (on i l) })
 
   pub bursts : (k' : KernelRun) → KernelBurst k p limit n k' → Burst (state v follow) p limit n (state (with_run v k'.running (v.turns ++ replicate n p)) follow)
   bursts k' b = record {
     whole = refl;
     within = b.within;
-    turned = ap (λ (x : KernelRun). state (with_run v x.running (v.turns ++ replicate n p)) follow) b.turned ∙ sym (all_turns n v follow failed p free b.in_run);
+    turned = ap (λ (x : KernelRun). state (with_run v x.running (v.turns ++ replicate n p)) follow) b.turned ∙ sym (all_turns n v follow failed keeps p free b.in_run);
     runs_on = runs_at b.in_run;
     stopped = λ l on. b.stopped l (subst (λ x. StaysInRun x p) (sym (b.turned ∙ kept_turns n k p ∙ ap (λ (x : KernelRun). record k { running = x.running }) (sym b.turned))) on.stays);
   }
@@ -217,11 +222,11 @@ none_held h p limit whole held = none_by h p limit whole (λ on. not_both _ held
 pub burst_made : (k k' : KernelRun) (v : Linux_host) (p limit n : ℕ) (turns' : List ℕ) → v.running ≡ k.running → k.script ≡ [] → (traced_at v p).held ≡ false → (readiness_of (state v k.follow)).ready ≡ false →
     KernelBurst k p limit n k' → turns' ≡ v.turns ++ replicate n p → Burst (state v k.follow) p limit n (state (with_run v k'.running turns') k'.follow)
 burst_made k k' v p limit n turns' running empty free waits b e =
-    let same : k ≡ kernel_by v k.follow k.failed = ap₂ (λ r script. record { running = r; script = script; follow = k.follow; failed = k.failed }) (sym running) empty in
+    let same : k ≡ kernel_by v k.follow k.failed k.keeps_log = ap₂ (λ r script. record { running = r; script = script; follow = k.follow; failed = k.failed; keeps_log = k.keeps_log }) (sym running) empty in
     let kept : k'.follow ≡ k.follow = (kept_by_burst k k' p limit n b).1 in
     subst (λ h. Burst (state v k.follow) p limit n h)
     (sym (ap₂ (λ follow turns. state (with_run v k'.running turns) follow) kept e))
-    (bursts v k.follow k.failed p limit n free waits k' (subst (λ x. KernelBurst x p limit n k') same b))
+    (bursts v k.follow k.failed k.keeps_log p limit n free waits k' (subst (λ x. KernelBurst x p limit n k') same b))
 
 -- a host that hasn't failed stays one that is sound
 
