@@ -6,9 +6,10 @@ ghost use Rattle.pt_kernel.specs.Hosts.{is_boot};
 use crate::conversation::{fed, link_of};
 use lx_abi::{Ask, Event, Reply, Request};
 use lx_kernel::Failed;
-use pt_kernel::{Host, TurnRun};
+use pt_kernel::Host;
 use std::alloc::Global;
 use std::test::Fail;
+use turn_rows::TurnRow;
 
 /// A host whose process 1 hasn't begun.
 fn booted(alloc: Global) -> Result<Host, Fail> {
@@ -86,7 +87,8 @@ fn give(host: &mut Host, steps: &str, letters: &str) -> bool {
 
 /// The effective turns are so many of process 1.
 fn has_turned(host: &Host, turns: u64) -> bool {
-    host.turns().runs() == [TurnRun { pid: 1, turns }].as_slice()
+    let rows = host.turns().rows();
+    rows.len() == 1 && matches!(&rows[0], TurnRow::Run { pid: 1, turns: made } if *made == turns)
 }
 
 /// Steps, and what they give.

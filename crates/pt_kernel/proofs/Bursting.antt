@@ -100,7 +100,7 @@ module _ (v : Running Shared UserState) (p : ℕ) where
 abbrev turn_by : KernelRun → ℕ → Task UserState → Out Shared UserState
 turn_by k p task = turn linux (choice_at linux (choice_of k.script) (traces k.follow p) (λ n. entries p n k.running.log) task) k.running.shared k.running.child p task
 
-stays : (k : KernelRun) (p : ℕ) → StaysInRun k p → (c : UserState) × (turn_in k p ≡ gives k.running.shared (Alive c Run))
+pub stays : (k : KernelRun) (p : ℕ) → StaysInRun k p → (c : UserState) × (turn_in k p ≡ gives k.running.shared (Alive c Run))
 stays k p h =
     let here : (c : UserState) × (task_in k p ≡ Alive c Run) = task_in_run (maps.get k.running.shared.entries p) (task_in k p) h.0 in
     let turned : turn_in k p ≡ turn_by k p (Alive here.0 Run) = ap (turn_by k p) here.1 in
@@ -111,7 +111,7 @@ stays k p h =
 
 -- What the host keeps of it
 
-abbrev with_run : Linux_host → Running Shared UserState → List ℕ → Linux_host
+abbrev pub with_run : Linux_host → Running Shared UserState → List ℕ → Linux_host
 with_run v r turns = record { running = r; traced = v.traced; queue = v.queue; tracees = v.tracees; turns = turns; pending = v.pending }
 
 -- nothing changes of who isn't held
@@ -132,7 +132,7 @@ no_reports : (v : Linux_host) (p : ℕ) (w : Option TraceOptions) (c : UserState
 no_reports v p None c = append-nil v.queue
 no_reports v p (Some w) c = append-nil v.queue
 
-abbrev kernel_by : Linux_host → Bool → Bool → KernelRun
+abbrev pub kernel_by : Linux_host → Bool → Bool → KernelRun
 kernel_by v follow failed = record { running = v.running; script = []; follow = follow; failed = failed }
 
 abbrev hosted_by : Linux_host → ℕ → Out Shared UserState → Linux_host
@@ -144,15 +144,20 @@ hosted_stays v p c h =
     (kept v p v.running.child c h) (no_reports v p (traced_at v p).options c)
 
 -- one turn
+pub turned_so : (v : Linux_host) (follow failed : Bool) (p : ℕ) → (traced_at v p).held ≡ false → (c : UserState) → turn_in (kernel_by v follow failed) p ≡ gives v.running.shared (Alive c Run) →
+    hosting_turn linux follow v p ≡ with_run v (ran v.running p (gives v.running.shared (Alive c Run))) (v.turns ++ p ∷ [])
+turned_so v follow failed p free c it =
+    let k : KernelRun = kernel_by v follow failed in
+    let same : turn_out linux no_script follow v.running p ≡ turn_in k p = ap (λ script. turn_out linux script follow v.running p) (sym empty_script_is_none) in
+    ap (λ held. cond (cond held (may_die linux v.running.shared p (traced_at v p).options (at Gone v.running.tasks p)) true) (hosted_by v p (turn_out linux no_script follow v.running p)) v) free
+    ∙ ap (hosted_by v p) (same ∙ it)
+    ∙ hosted_stays v p c free
+
 one_turn : (v : Linux_host) (follow failed : Bool) (p : ℕ) → (traced_at v p).held ≡ false → StaysInRun (kernel_by v follow failed) p →
     hosting_turn linux follow v p ≡ with_run v (after_turn (kernel_by v follow failed) p).running (v.turns ++ p ∷ [])
 one_turn v follow failed p free on =
-    let k : KernelRun = kernel_by v follow failed in
-    let it : (c : UserState) × (turn_in k p ≡ gives v.running.shared (Alive c Run)) = stays k p on in
-    let same : turn_out linux no_script follow v.running p ≡ turn_in k p = ap (λ script. turn_out linux script follow v.running p) (sym empty_script_is_none) in
-    ap (λ held. cond (cond held (may_die linux v.running.shared p (traced_at v p).options (at Gone v.running.tasks p)) true) (hosted_by v p (turn_out linux no_script follow v.running p)) v) free
-    ∙ ap (hosted_by v p) (same ∙ it.1)
-    ∙ hosted_stays v p it.0 free
+    let it : (c : UserState) × (turn_in (kernel_by v follow failed) p ≡ gives v.running.shared (Alive c Run)) = stays (kernel_by v follow failed) p on in
+    turned_so v follow failed p free it.0 it.1
     ∙ ap (λ (o : Out Shared UserState). with_run v (bore (ran v.running p o) o.event) (v.turns ++ p ∷ [])) (sym it.1)
 
 -- So many turns

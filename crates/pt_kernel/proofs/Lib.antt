@@ -1,5 +1,4 @@
 mod LinuxTold
-pub mod Rows
 pub mod Telling
 pub mod Leaving
 pub mod Turning
@@ -7,5 +6,6 @@ pub mod Answering
 pub mod Sweeping
 pub mod Keeping
 pub mod Bursting
+pub mod Alike
 pub mod Feeding
 pub mod Called

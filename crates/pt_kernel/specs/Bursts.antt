@@ -26,6 +26,11 @@ pub record RunsOn (h : HostState) (pid : ℕ) : Type 0 where
   pub free : (traced_at h.hosting pid).held ≡ false
   pub stays : StaysInRun (kernel_of h) pid
 
+-- the same processes are able
+abbrev pub AreAlike : HostState → HostState → Type 0
+AreAlike h h' =
+    ((readiness_of h').able ≡ (readiness_of h).able) × ((readiness_of h').last_pid ≡ (readiness_of h).last_pid)
+
 -- h' comes from h by n such turns, and n is the limit or the turn after them is no such one
 pub record Burst (h : HostState) (pid limit n : ℕ) (h' : HostState) : Type 0 where
   pub whole : h.failed ≡ false
@@ -33,3 +38,7 @@ pub record Burst (h : HostState) (pid limit n : ℕ) (h' : HostState) : Type 0 w
   pub turned : h' ≡ after_turns h pid n
   pub runs_on : (i : ℕ) → i < n → RunsOn (after_turns h pid i) pid
   pub stopped : n < limit → RunsOn h' pid → ⊥
+
+-- such turns leave able who was able
+abbrev pub BurstsLeaveAlike : Type 0
+BurstsLeaveAlike = (h h' : HostState) (pid limit n : ℕ) → Burst h pid limit n h' → AreAlike h h'

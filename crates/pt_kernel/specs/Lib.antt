@@ -1,5 +1,4 @@
 pub mod Lists
-pub mod Turns
 pub mod Tracees
 pub mod Stops
 pub mod Left

@@ -13,13 +13,13 @@ ghost use Rattle.pt_kernel.specs.Bursts.{after, Burst};
 use crate::serving::serve;
 use crate::stops::{dies_after, is_effective, stop_after};
 use crate::tracees::{Tracees, Turned};
-use crate::turns::Turns;
 use lx_abi::{Boot, Event, Outcome, Reply, Request, Script};
 use lx_boot::BootFault;
 use lx_kernel::{Failed, Kernel};
-use pt_schedule::{Schedulable, TurnRun};
+use pt_schedule::Schedulable;
 use std::alloc::{AllocError, Global};
 use std::marker::Model;
+use turn_rows::Turns;
 
 /// A request is pending already.
 #[derive(Clone, Copy, Debug, PartialEq, Eq)]
@@ -201,7 +201,7 @@ impl Host {
         }
         self.failed = true;
         let ran = self.kernel.run(pid, limit)?;
-        self.turns.extend(TurnRun { pid, turns: ran })?;
+        self.turns.extend(pid, ran)?;
         self.failed = false;
         Ok(ran)
     }

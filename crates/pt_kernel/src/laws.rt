@@ -1,5 +1,6 @@
 //! Laws of the definitions.
 
+ghost use Rattle.pt_kernel.specs.Bursts.{BurstsLeaveAlike};
 ghost use Rattle.pt_kernel.specs.Left.{BootsLeaveAsPlain};
 ghost use Rattle.pt_kernel.specs.Seen.{HostsAreCalled};
 ghost use Rattle.pt_model.specs.Headline.{IsTold, HeadlineAt};
@@ -9,6 +10,11 @@ use lx_kernel::laws::words_are_logged;
 use lx_proc::{Shared, UserState};
 use lx_turn::laws::{calls_fit, linux_is_a_machine};
 use pt_model::laws::{hosts_run_alike, tracing_is_transparent, turns_tell};
+
+/// Turns that run instructions leave able who was able.
+pub fn bursts_leave_alike()
+    ensures { BurstsLeaveAlike }
+{}
 
 /// What wait(2) tells of Linux's calls fits their numbers, and no read of a memory gives more bytes than were asked
 /// for.

@@ -9,9 +9,8 @@ pub mod queue;
 pub mod serving;
 pub mod stops;
 pub mod tracees;
-pub mod turns;
 
 pub use attending::attend;
 pub use host::{Busy, Host};
 pub use pt_schedule::{Schedule, TurnRun};
-pub use turns::Turns;
+pub use turn_rows::Turns;

@@ -59,8 +59,12 @@ fn whole_run(rt: HostRuntime) -> Result<(), Fail> {
 
 fn turns_of(run: &Run) -> u64 {
     let mut turns: u64 = 0;
-    for row in run.turns.runs() {
-        turns = turns.saturating_add(row.turns);
+    for row in run.turns.rows() {
+        let round = row.round().len() as u64;
+        let made = row.rounds().saturating_mul(round);
+        turns = turns
+            .saturating_add(made)
+            .saturating_add(row.rest().len() as u64);
     }
     turns
 }

@@ -5,12 +5,13 @@ use crate::booting::{boot, run_shown};
 use lx_abi::{Boot, Node, Outcome, Script, Word};
 use lx_boot::BootFault;
 use lx_kernel::Kernel;
-use pt_kernel::{Schedule, TurnRun};
+use pt_kernel::Schedule;
 use std::alloc::{AllocError, Global};
 use std::test::Fail;
 use tr_expr::parse_inject;
 use trace_run::Ended;
 use trace_run::local::Run;
+use turn_rows::TurnRow;
 
 const CASES: u64 = 1000;
 
@@ -214,19 +215,25 @@ fn turn_once(kernel: &mut Kernel, pid: u32) -> bool {
     kernel.turn(pid).is_ok()
 }
 
-/// So many turns of a process.
-fn turn(kernel: &mut Kernel, pid: u32, turns: u64) -> Result<(), AllocError> {
-    for _ in 0..turns {
-        if !turn_once(kernel, pid) {
+fn turn(kernel: &mut Kernel, pids: &[u32]) -> Result<(), AllocError> {
+    for pid in pids {
+        if !turn_once(kernel, *pid) {
             return Err(AllocError);
         }
     }
     Ok(())
 }
 
-fn turn_by(kernel: &mut Kernel, rows: &[TurnRun]) -> Result<(), AllocError> {
+fn turn_by_row(kernel: &mut Kernel, row: &TurnRow) -> Result<(), AllocError> {
+    for _ in 0..row.rounds() {
+        turn(kernel, row.round())?;
+    }
+    turn(kernel, row.rest())
+}
+
+fn turn_by(kernel: &mut Kernel, rows: &[TurnRow]) -> Result<(), AllocError> {
     for row in rows {
-        turn(kernel, row.pid, row.turns)?;
+        turn_by_row(kernel, row)?;
     }
     Ok(())
 }
@@ -249,7 +256,7 @@ fn outcome(kernel: &Kernel) -> Result<Outcome, AllocError> {
 }
 
 /// What it leaves after these turns.
-fn untraced(alloc: Global, case: u64, rows: &[TurnRun]) -> Result<Outcome, Fail> {
+fn untraced(alloc: Global, case: u64, rows: &[TurnRow]) -> Result<Outcome, Fail> {
     let mut kernel = booted(alloc, case)?;
     turn_by(&mut kernel, rows)?;
     let outcome = outcome(&kernel);
@@ -302,7 +309,7 @@ fn compared(run: &Run, outcome: &Outcome) -> (bool, bool, bool) {
 /// What a case shows.
 fn seen(alloc: Global, case: u64) -> Result<(bool, bool, bool), Fail> {
     let run = traced(alloc, case)?;
-    let outcome = untraced(alloc, case, run.turns.runs())?;
+    let outcome = untraced(alloc, case, run.turns.rows())?;
     let seen = compared(&run, &outcome);
     drop(run);
     drop(outcome);

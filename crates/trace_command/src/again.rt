@@ -6,10 +6,11 @@ use front_end::{Fault, explain_turns, read_expressions};
 use lx_abi::{Boot, Word};
 use lx_copies::Copied;
 use lx_kernel::Kernel;
-use pt_kernel::{Schedule, TurnRun, Turns};
+use pt_kernel::Schedule;
 use std::alloc::{AllocError, Global};
 use tr_core::Options;
 use trace_run::run_local;
+use turn_rows::{TurnRow, Turns};
 
 /// What a run is made of, but for what its expressions say.
 #[derive(Drop)]
@@ -29,19 +30,26 @@ fn copy_words(alloc: Global, words: &[Word]) -> Result<Vec<Word>, AllocError> {
     Ok(copy)
 }
 
-fn has_turns(kernel: &mut Kernel, run: TurnRun) -> Result<(), Fault> {
-    for _ in 0..run.turns {
-        if kernel.turn(run.pid).is_err() {
+fn turn_by(kernel: &mut Kernel, pids: &[u32]) -> Result<(), Fault> {
+    for pid in pids {
+        if kernel.turn(*pid).is_err() {
             return Err(Fault::Memory);
         }
     }
     Ok(())
 }
 
+fn turn_by_row(kernel: &mut Kernel, row: &TurnRow) -> Result<(), Fault> {
+    for _ in 0..row.rounds() {
+        turn_by(kernel, row.round())?;
+    }
+    turn_by(kernel, row.rest())
+}
+
 /// The kernel after these turns, where what the tracer did is the script's choice.
 fn replayed(mut kernel: Kernel, turns: &Turns) -> Result<Kernel, Fault> {
-    for run in turns.runs() {
-        match has_turns(&mut kernel, *run) {
+    for row in turns.rows() {
+        match turn_by_row(&mut kernel, row) {
             Ok(()) => (),
             Err(fault) => {
                 drop(kernel);

@@ -1,24 +1,31 @@
 //! The turns of a run, written as a schedule.
 
 use front_end::{Fault, Shown};
-use pt_kernel::{TurnRun, Turns};
 use std::alloc::Global;
 use std::fs;
 use std::io::{self, BufWriter, ErrorKind, Write};
 use std::rt::Files;
+use turn_rows::{TurnRow, Turns};
 
-/// A word for each turn in a row of one process.
-fn write_run<W: Write>(writer: &mut W, run: TurnRun) -> io::Result<()> {
-    for _ in 0..run.turns {
-        writeln!(writer, "{}", run.pid)?;
+/// A word for each turn.
+fn write_pids<W: Write>(writer: &mut W, pids: &[u32]) -> io::Result<()> {
+    for pid in pids {
+        writeln!(writer, "{pid}")?;
     }
     Ok(())
 }
 
+fn write_row<W: Write>(writer: &mut W, row: &TurnRow) -> io::Result<()> {
+    for _ in 0..row.rounds() {
+        write_pids(writer, row.round())?;
+    }
+    write_pids(writer, row.rest())
+}
+
 fn write_words<W: Write + Drop>(alloc: Global, file: W, turns: &Turns) -> io::Result<()> {
     let mut writer = BufWriter::new(alloc, file)?;
-    for run in turns.runs() {
-        write_run(&mut writer, *run)?;
+    for row in turns.rows() {
+        write_row(&mut writer, row)?;
     }
     writer.flush()
 }

@@ -16,9 +16,10 @@ use host_link::{LinkFault, LocalLink};
 use host_wire::Sink;
 use lx_abi::{Boot, Outcome, Script};
 use lx_boot::BootFault;
-use pt_kernel::{Host, Schedule, Turns};
+use pt_kernel::{Host, Schedule};
 use std::alloc::{AllocError, Global};
 use tr_core::{Options, TraceFault};
+use turn_rows::Turns;
 
 /// What a run in one process leaves.
 #[derive(Drop)]

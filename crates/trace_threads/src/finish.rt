@@ -13,9 +13,9 @@ use host_shared::Held;
 use lx_abi::{Boot, Outcome, Reply, Request};
 use lx_boot::BootFault;
 use lx_copies::Same;
-use pt_kernel::Turns;
 use trace_run::local::Run;
 use trace_run::{Ended, RunFault};
+use turn_rows::Turns;
 
 /// What is under the lock has this boot, this limit, and these requests and replies.
 fn is_told(boot: &Boot, limit: u64, held: &Held, given: &[(Request, Reply)]) -> bool
