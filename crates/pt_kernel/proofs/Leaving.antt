@@ -1,5 +1,5 @@
 -- What a traced boot leaves is what the untraced kernel leaves and logs.
-use Rattle.std.proofs.Common.{◌≡◌, List, ap, ◌∙◌}
+use Rattle.std.proofs.Common.{◌≡◌, ap, ◌∙◌}
 use Rattle.lx_abi.specs.Log.{items_of}
 use Rattle.lx_abi.specs.Scripts.{choice_of}
 use Rattle.lx_abi.specs.declared.outcome.Outcome.{Outcome}

@@ -1,4 +1,4 @@
-use Rattle.std.proofs.Common.{Bool, false, not, refl, sym, subst}
+use Rattle.std.proofs.Common.{Bool, not, refl, sym, subst}
 use Rattle.std.specs.Prelude.{◌&&◌}
 use Rattle.pt_schedule.specs.Cycle.{IsNextPlace}
 use Rattle.pt_kernel.specs.Hosts.{HostState, able_in, hosting_by, readiness_of}
