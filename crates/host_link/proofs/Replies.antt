@@ -93,22 +93,22 @@ numbered : (b : Bool) (x : Result Reply LinkFault) (r : Reply) → cond b x (Err
 numbered true x r e = e
 numbered false x r e = absurd cc
 
-pub exchanged_fits : (most number : ℕ) (q : Request) (r : Reply) (a b : Input) (old new : Option (List ℕ)) (puts puts' : List ℕ) (broken_writer : ℕ)
-    → Exchanged most (request_frame number q) a b old new puts puts' (Ok r) broken_writer → answers q r ≡ true
-exchanged_fits most number q r a b old new puts puts' broken_writer (inl x) =
+pub exchanged_fits : (most number : ℕ) (q : Request) (ahead : Bool) (r : Reply) (a b : Input) (old new : Option (List ℕ)) (puts puts' : List ℕ) (broken_writer : ℕ)
+    → Exchanged most (request_frame number q) ahead a b old new puts puts' (Ok r) broken_writer → answers q r ≡ true
+exchanged_fits most number q ahead r a b old new puts puts' broken_writer (inl x) =
     let f = x.1.so.0 in
     reply_fits q r f.body (numbered (eqb f.number number) (reply_of (Of_request q) f.body) r x.1.so.1.1)
-exchanged_fits most number q r a b old new puts puts' broken_writer (inr x) = absurd cc
+exchanged_fits most number q ahead r a b old new puts puts' broken_writer (inr x) = absurd cc
 
-not_sent : (sent : Frame) (fault : LinkFault) (old new : Option (List ℕ)) (puts puts' : List ℕ) (broken : ℕ) → Read ≡ fault → SentAs (Err fault) sent old new puts puts' broken → ⊥
-not_sent sent Read old new puts puts' broken e s = s
-not_sent sent Ended old new puts puts' broken e s = absurd cc
-not_sent sent Write old new puts puts' broken e s = absurd cc
-not_sent sent Malformed old new puts puts' broken e s = absurd cc
-not_sent sent Sequence old new puts puts' broken e s = absurd cc
-not_sent sent Inadmissible old new puts puts' broken e s = absurd cc
-not_sent sent Memory old new puts puts' broken e s = absurd cc
-not_sent sent TooMany old new puts puts' broken e s = absurd cc
+not_sent : (sent : Frame) (ahead : Bool) (fault : LinkFault) (old new : Option (List ℕ)) (puts puts' : List ℕ) (broken : ℕ) → Read ≡ fault → SentAs (Err fault) sent ahead old new puts puts' broken → ⊥
+not_sent sent ahead Read old new puts puts' broken e s = s
+not_sent sent ahead Ended old new puts puts' broken e s = absurd cc
+not_sent sent ahead Write old new puts puts' broken e s = absurd cc
+not_sent sent ahead Malformed old new puts puts' broken e s = absurd cc
+not_sent sent ahead Sequence old new puts puts' broken e s = absurd cc
+not_sent sent ahead Inadmissible old new puts puts' broken e s = absurd cc
+not_sent sent ahead Memory old new puts puts' broken e s = absurd cc
+not_sent sent ahead TooMany old new puts puts' broken e s = absurd cc
 
 abbrev fault_in : Result Reply LinkFault → LinkFault
 fault_in (Ok r) = Ended
@@ -119,9 +119,9 @@ long : {most : ℕ} {a b : Input} {came : List ℕ} (r : Receiving most a b came
 long r many some = omega (arith, many, few_times r.reads some, r.whole)
 
 pub unread : ((bytes tail : List ℕ) → stream_of bytes ≡ Going [] tail → length bytes < 134217732)
-    → (sent : Frame) (a b : Input) (old new : Option (List ℕ)) (puts puts' : List ℕ) (broken_writer : ℕ) → Exchanged (2 ^ 32) sent a b old new puts puts' (Err Read) broken_writer → b.broken ≡ 1
-unread few sent a b old new puts puts' broken_writer (inl x) = elim x.1.so.1.1 [
+    → (sent : Frame) (ahead : Bool) (a b : Input) (old new : Option (List ℕ)) (puts puts' : List ℕ) (broken_writer : ℕ) → Exchanged (2 ^ 32) sent ahead a b old new puts puts' (Err Read) broken_writer → b.broken ≡ 1
+unread few sent ahead a b old new puts puts' broken_writer (inl x) = elim x.1.so.1.1 [
   | inl is ↦ is
   | inr cut ↦ absurd (omega (arith, long x.1.received cut.0 cut.1, few x.1.came x.1.so.0 x.1.so.1.0))
 ]
-unread few sent a b old new puts puts' broken_writer (inr x) = absurd (not_sent sent x.0 old new puts puts' broken_writer (ap fault_in x.1.0) x.1.1.0)
+unread few sent ahead a b old new puts puts' broken_writer (inr x) = absurd (not_sent sent ahead x.0 old new puts puts' broken_writer (ap fault_in x.1.0) x.1.1.0)

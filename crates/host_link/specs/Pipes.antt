@@ -1,8 +1,10 @@
 -- A link over a reader and a writer: a request is a frame that is written, its reply the next frame that is read.
-use Rattle.std.specs.Prelude.{◌≡◌, ◌⊎◌, ℕ, ◌<◌, ◌==◌, if◌then◌else◌, Bool, false, List, [], ◌∷◌, length, Option, Result, Ok, Err, ⊤}
+use Rattle.std.specs.Prelude.{◌≡◌, ◌⊎◌, ℕ, ◌+◌, ◌<◌, ◌==◌, if◌then◌else◌, Bool, true, false, List, [], ◌∷◌, ◌++◌}
+use Rattle.std.specs.Prelude.{length, Option, Result, Ok, Err, ⊤}
 use Rattle.std.specs.Io.KnownBytes.{Appends, IsAtEnd}
 use Rattle.lx_abi.specs.declared.ptrace.Reply.{Reply}
 use Rattle.lx_abi.specs.declared.ptrace.Request.{Request}
+use Rattle.lx_abi.specs.declared.ptrace.Request.TheVariants.{Boot, Wait, To, Outcome}
 use Rattle.pt_model.specs.Admissible.{answers}
 use Rattle.host_frame.specs.declared.frame.Payload.{Payload}
 use Rattle.host_frame.specs.declared.frame.Payload.TheVariants.{Request as Of_request, Reply as Of_reply}
@@ -22,23 +24,44 @@ request_frame number request = record { number = number; body = Of_request reque
 
 -- ---- a frame that is sent
 
+abbrev pub is_wait : Request → Bool
+is_wait Wait = true
+is_wait (Boot boot limit words) = false
+is_wait (To pid ask) = false
+is_wait Outcome = false
+
+-- Wait behind this request
+abbrev pub wait_behind : Frame → Frame
+wait_behind f = request_frame (f.number + 1) Wait
+
+-- what goes out for a request: its frame, and that of Wait behind it where it goes ahead
+abbrev pub bytes_of : Frame → Bool → List ℕ
+bytes_of f false = spelled f
+bytes_of f true = spelled f ++ spelled (wait_behind f)
+
+abbrev pub CanBeSent : Frame → Bool → Type 0
+CanBeSent f false = CanBeSpelled f
+CanBeSent f true = CanBeSpelled f × CanBeSpelled (wait_behind f)
+
 -- it can be spelled, and its bytes are written by one put
-abbrev pub IsSent : Frame → Option (List ℕ) → Option (List ℕ) → List ℕ → List ℕ → Type 0
-IsSent f old new puts puts' = Appends old new (spelled f) × (IsPut puts puts' (spelled f) × CanBeSpelled f)
+abbrev pub IsSent : Frame → Bool → Option (List ℕ) → Option (List ℕ) → List ℕ → List ℕ → Type 0
+IsSent f ahead old new puts puts' =
+    Appends old new (bytes_of f ahead) × (IsPut puts puts' (bytes_of f ahead) × CanBeSent f ahead)
 
 -- so they are, by one put too that may fail within them; or nothing is written, and none is made
-abbrev pub SentAs : Result ⊤ LinkFault → Frame → Option (List ℕ) → Option (List ℕ) → List ℕ → List ℕ → ℕ → Type 0
-SentAs (Ok u) f old new puts puts' broken = IsSent f old new puts puts'
-SentAs (Err Write) f old new puts puts' broken =
-    AppendsPart old new (spelled f) × (IsPut puts puts' (spelled f) × (broken ≡ 1))
-SentAs (Err Malformed) f old new puts puts' broken =
+abbrev pub SentAs : Result ⊤ LinkFault → Frame → Bool → Option (List ℕ) → Option (List ℕ) → List ℕ → List ℕ → ℕ
+    → Type 0
+SentAs (Ok u) f ahead old new puts puts' broken = IsSent f ahead old new puts puts'
+SentAs (Err Write) f ahead old new puts puts' broken =
+    AppendsPart old new (bytes_of f ahead) × (IsPut puts puts' (bytes_of f ahead) × (broken ≡ 1))
+SentAs (Err Malformed) f ahead old new puts puts' broken =
     (new ≡ old) × ((puts' ≡ puts) × (134217728 < length (content f)))
-SentAs (Err Memory) f old new puts puts' broken = (new ≡ old) × (puts' ≡ puts)
-SentAs (Err Ended) f old new puts puts' broken = ⊥
-SentAs (Err Read) f old new puts puts' broken = ⊥
-SentAs (Err Sequence) f old new puts puts' broken = ⊥
-SentAs (Err Inadmissible) f old new puts puts' broken = ⊥
-SentAs (Err TooMany) f old new puts puts' broken = ⊥
+SentAs (Err Memory) f ahead old new puts puts' broken = (new ≡ old) × (puts' ≡ puts)
+SentAs (Err Ended) f ahead old new puts puts' broken = ⊥
+SentAs (Err Read) f ahead old new puts puts' broken = ⊥
+SentAs (Err Sequence) f ahead old new puts puts' broken = ⊥
+SentAs (Err Inadmissible) f ahead old new puts puts' broken = ⊥
+SentAs (Err TooMany) f ahead old new puts puts' broken = ⊥
 
 -- ---- the next frame
 
@@ -92,9 +115,9 @@ fault_of (receiving.Wire Body_fault) = Malformed
 -- ---- a request and its reply
 
 -- nothing was read, as the request was not sent; or all of it was, and this came
-abbrev pub Exchanged : ℕ → Frame → Input → Input → Option (List ℕ) → Option (List ℕ) → List ℕ → List ℕ
+abbrev pub Exchanged : ℕ → Frame → Bool → Input → Input → Option (List ℕ) → Option (List ℕ) → List ℕ → List ℕ
     → Result Reply LinkFault → ℕ → Type 0
-Exchanged most sent a b old new puts puts' result broken_writer =
-    (IsSent sent old new puts puts' × Came most a result sent b)
+Exchanged most sent ahead a b old new puts puts' result broken_writer =
+    (IsSent sent ahead old new puts puts' × Came most a result sent b)
     ⊎ ((fault : LinkFault)
-    × ((result ≡ Err fault) × (SentAs (Err fault) sent old new puts puts' broken_writer × (b ≡ a))))
+    × ((result ≡ Err fault) × (SentAs (Err fault) sent ahead old new puts puts' broken_writer × (b ≡ a))))

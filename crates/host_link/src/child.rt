@@ -64,7 +64,7 @@ fn link_over<O: Read + Drop, I: Write + Drop>(
 /// A link to a host that runs as a process of its own.
 ///
 /// Where it is dropped the pipes are closed and the process's end is waited for. A process that gave cause for a
-/// fault is killed before.
+/// fault, or whose reply nobody will read, is killed before.
 pub struct ChildLink<P: OpenProcess + Drop> {
     pipe: PipeLink<Counted<BufReader<P::Stdout>>, Counted<P::Stdin>>,
     child: Child<P>,
@@ -114,7 +114,7 @@ fn end<P: OpenProcess + Drop>(mut child: Child<P>, kills: bool) {
 impl<P: OpenProcess + Drop> Drop for ChildLink<P> {
     fn drop(self) {
         let ChildLink { pipe, child } = self;
-        let kills = pipe.faults() != 0;
+        let kills = pipe.faults() != 0 || pipe.waits();
         drop(pipe);
         end(child, kills);
     }
@@ -124,7 +124,7 @@ impl<P: OpenProcess + Drop> Link for ChildLink<P> {
     ghost use Rattle.std.specs.Io.Buffered.{reader_remaining};
     ghost use Rattle.host_wire.specs.Counting.{calls_of, faults_of as faults_of_end, input_of, inner_of};
     ghost use Rattle.host_link.specs.Children.{pipe_of};
-    ghost use Rattle.host_link.specs.PipeLinks.{Asks};
+    ghost use Rattle.host_link.specs.PipeLinks.{Asks, waits_of};
 
     ghost answers = { λ a q r b. Asks (λ e. input_of (λ out. reader_remaining P.Stdout.remaining out) e)
         (λ e. P.Stdin.contents (inner_of e)) (λ e. calls_of e) (λ e. faults_of_end e) (pipe_of a) q r (pipe_of b) };
@@ -133,8 +133,14 @@ impl<P: OpenProcess + Drop> Link for ChildLink<P> {
 
     ghost broken = { λ l. faults_of (pipe_of l) };
 
+    ghost waits = { λ l. waits_of (pipe_of l) };
+
     fn call(&mut self, request: Request) -> Result<Reply, LinkFault> {
         self.pipe.call(request)
+    }
+
+    fn call_before_wait(&mut self, request: Request) -> Result<Reply, LinkFault> {
+        self.pipe.call_before_wait(request)
     }
 
     fn asked(&self) -> u64 {

@@ -1,6 +1,6 @@
 //! Laws of links.
 
-ghost use Rattle.std.specs.Prelude.{◌≡◌, ◌<◌, ◌^◌, true, false, Ok, Err, Option, List, ℕ};
+ghost use Rattle.std.specs.Prelude.{◌≡◌, ◌<◌, ◌^◌, true, false, Bool, Ok, Err, Option, List, ℕ};
 ghost use Rattle.lx_abi.specs.declared.ptrace.Reply.{Reply};
 ghost use Rattle.lx_abi.specs.declared.ptrace.Request.{Request};
 ghost use Rattle.pt_kernel.specs.Hosts.{is_boot};
@@ -32,17 +32,18 @@ pub fn idle_links_fail_for_memory()
 
 /// Over pipes a reply is of a kind that answers its request, even where nothing is known of the bytes.
 pub fn replies_over_pipes_fit()
-    ensures { (most number : ℕ) (q : Request) (r : Reply) (a b : Input) (old new : Option (List ℕ))
+    ensures { (most number : ℕ) (q : Request) (ahead : Bool) (r : Reply) (a b : Input) (old new : Option (List ℕ))
         (puts puts' : List ℕ) (broken_writer : ℕ) →
-        Exchanged most (request_frame number q) a b old new puts puts' (Ok r) broken_writer
+        Exchanged most (request_frame number q) ahead a b old new puts puts' (Ok r) broken_writer
         → answers q r ≡ true }
 {}
 
 /// Over pipes that are given up after 2^32 reads a reply can't be read only where the reader has failed, even where
 /// nothing is known of the bytes.
 pub fn unread_replies_are_of_failed_readers()
-    ensures { (sent : Frame) (a b : Input) (old new : Option (List ℕ)) (puts puts' : List ℕ) (broken_writer : ℕ) →
-        Exchanged (2 ^ 32) sent a b old new puts puts' (Err Read) broken_writer → b.broken ≡ 1 }
+    ensures { (sent : Frame) (ahead : Bool) (a b : Input) (old new : Option (List ℕ)) (puts puts' : List ℕ)
+        (broken_writer : ℕ) → Exchanged (2 ^ 32) sent ahead a b old new puts puts' (Err Read) broken_writer
+        → b.broken ≡ 1 }
 {
     bytes_without_a_frame_are_few();
 }
