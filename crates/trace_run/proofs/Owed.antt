@@ -1,27 +1,29 @@
 -- When a run writes what it owes.
-use Rattle.std.proofs.Common.{◌≡◌, ◌⊎◌, ℕ, ◌+◌, Bool, true, false, List, [], ◌∷◌, ◌++◌, Option, Some, None, Result, Ok, Err, refl, sym, ap, subst, ◌∙◌, arith, inl, inr, append_assoc}
+use Rattle.std.proofs.Common.{◌≡◌, ◌⊎◌, ℕ, ◌+◌, Bool, true, false, cond, List, [], ◌∷◌, ◌++◌, Option, Some, None, Result, Ok, Err, refl, sym, ap, subst, ◌∙◌, arith, inl, inr, append_assoc}
 use Rattle.std.specs.Prelude.{⊤, length}
 use Rattle.std.proofs.KnownBytes.{Appends-nil, Appends-trans}
 use Rattle.std.proofs.lemmas.List.{map-append, append-nil}
 use Rattle.std.specs.Io.KnownBytes.{Appends, append_known}
 use Rattle.lx_abi.specs.declared.ptrace.Reply.{Reply}
-use Rattle.lx_abi.specs.declared.ptrace.Reply.TheVariants.{Done as Agreed, Status as Status_is}
+use Rattle.lx_abi.specs.declared.ptrace.Reply.TheVariants.{Done as Agreed, Status as Status_is, Registers as Registers_are, Bytes as Bytes_are, Message as Message_is, Info as Info_is, Outcome as Outcome_is, Errno as Errno_is, OutOfTurns as Out_of_turns, Refused as Boot_refused}
 use Rattle.lx_abi.specs.declared.ptrace.Request.{Request}
-use Rattle.lx_abi.specs.declared.ptrace.Request.TheVariants.{To, Wait}
+use Rattle.lx_abi.specs.declared.ptrace.Request.TheVariants.{To, Wait, Outcome as Ask_outcome}
 use Rattle.lx_abi.specs.declared.status.Status.{Status}
 use Rattle.lx_abi.specs.Status.{stop_of}
+use Rattle.lx_model.specs.Kernel.{Script}
 use Rattle.pt_model.specs.Parts.{Options}
 use Rattle.pt_model.specs.Replies.{after as with_reply, after_all, admits, comes_to_hand, Resumes, Resumed, EachIsResumed}
 use Rattle.pt_model.specs.Requests.{esrch}
-use Rattle.pt_model.specs.Tracer.{Awaiting, asks, Focus, Booting, Waiting, Serving, Asking_outcome, Over, Turns_over, Faulted, Tracer, Moved, request, next}
+use Rattle.pt_model.specs.Tracer.{Known, Awaiting, Seizing, Entry_regs, Entry_peek, Entry_set, Exit_regs, Exit_set, Exit_peek, Signal_info, Resuming, Listening, asks}
+use Rattle.pt_model.specs.Tracer.{Focus, Booting, Waiting, Serving, Asking_outcome, Over, Turns_over, Faulted, Tracer, Moved, request, admits_at, faults, next, next_at, next_from, takes}
 use Rattle.host_link.specs.declared.fault.LinkFault.{LinkFault}
 use Rattle.tr_core.proofs.Told.{faulted-refused}
 use Rattle.tr_core.specs.States.{State, heard, moved as moved_by, said, request_of, is_faulted, is_faulted_at, admitted, told, text}
 use Rattle.trace_run.specs.declared.running.RunFault.{RunFault}
 use Rattle.trace_run.specs.declared.running.RunFault.TheVariants.{Link, Trace, Output}
 use Rattle.tr_core.specs.declared.tracing.TraceFault.TheVariants.{Inadmissible, Memory}
-use Rattle.trace_run.specs.Owed.{HadWritten, AsksAfter, ResumesBy, IsResumed, WritesBeforeItAsks, WritesBeforeTheLinkFails, StopsWithItsWriter, ResumesBeforeItWaits}
-use Rattle.trace_run.specs.Runs.{Answers, Asked, Ends, FailsAtLast, Last, Runs, Writes, replies_of, sizes}
+use Rattle.trace_run.specs.Owed.{HadWritten, AsksAfter, IsResumed, WritesBeforeItAsks, WritesBeforeTheLinkFails, StopsWithItsWriter, ResumesBeforeItWaits, WaitsOnceItResumed}
+use Rattle.trace_run.specs.Runs.{Answers, Asked, Ends, FailsAtLast, Last, Runs, Writes, replies_of, resumes, resumes_by, sizes}
 use Rattle.trace_run.specs.Writers.{Writer, PutsPart}
 
 -- Lists
@@ -270,12 +272,12 @@ asks_hand : (s : State) (q : Request) (p : ℕ) (place : Awaiting) → request_o
 unfolding request_of
 asks_hand s q p place e f = cc (sym e ∙ ap (request s.options) f)
 
-resumes_by : (o : Options) (place : Awaiting) → Resumes place → ResumesBy (asks o place)
-resumes_by o place (inl h) = inl (h.0, ap (asks o) h.1)
-resumes_by o place (inr e) = inr (ap (asks o) e)
+it_resumes : (o : Options) (place : Awaiting) → Resumes place → resumes_by (asks o place) ≡ true
+it_resumes o place (inl h) = ap (λ (x : Awaiting). resumes_by (asks o x)) h.1
+it_resumes o place (inr e) = ap (λ (x : Awaiting). resumes_by (asks o x)) e
 
-how_resumed : (o : Options) (place : Awaiting) (reply : Reply) → (Resumes place × (reply ≡ Agreed)) ⊎ (reply ≡ esrch) → (ResumesBy (asks o place) × (reply ≡ Agreed)) ⊎ (reply ≡ esrch)
-how_resumed o place reply (inl h) = inl (resumes_by o place h.0, h.1)
+how_resumed : (o : Options) (place : Awaiting) (reply : Reply) → (Resumes place × (reply ≡ Agreed)) ⊎ (reply ≡ esrch) → ((resumes_by (asks o place) ≡ true) × (reply ≡ Agreed)) ⊎ (reply ≡ esrch)
+how_resumed o place reply (inl h) = inl (it_resumes o place h.0, h.1)
 how_resumed o place reply (inr h) = inr h
 
 -- something is asked before what is asked later
@@ -323,3 +325,79 @@ resumes_before_it_waits answers each a b result w before between p status h hand
     let same : told start (replies_of (before ++ (Wait, Status_is p status) ∷ between)) ≡ told (heard (told start (replies_of before)) (Status_is p status)) (replies_of between) =
     ap (told start) (map-append (λ x. x.1) before ((Wait, Status_is p status) ∷ between)) ∙ told-append start (replies_of before) (Status_is p status ∷ replies_of between) in
     between_waits each (told start (replies_of before)) p status between here.here here.behind (ap request_of (sym same) ∙ wait.next) hand
+
+-- Behind a resumption
+
+-- what is asked after the reply to it, where that is admitted
+follows : (o : Options) (script : Script) (known : ℕ → Known) (p : ℕ) (place : Awaiting) (r : Reply) → resumes_by (asks o place) ≡ true
+    → (request o (next_at o script known (Serving p place) r).focus ≡ Some Wait) ⊎ (request o (next_at o script known (Serving p place) r).focus ≡ None)
+follows o script known p Seizing r e = absurd (cc e)
+follows o script known p Entry_regs r e = absurd (cc e)
+follows o script known p (Entry_peek regs got w) r e = absurd (cc e)
+follows o script known p (Entry_set regs n) r e = absurd (cc e)
+follows o script known p Exit_regs r e = absurd (cc e)
+follows o script known p (Exit_set regs x) r e = absurd (cc e)
+follows o script known p (Exit_peek x replaced got w) r e = absurd (cc e)
+follows o script known p (Signal_info n) r e = absurd (cc e)
+follows o script known p (Resuming n) Agreed e = inl refl
+follows o script known p (Resuming n) (Status_is v z) e = inl refl
+follows o script known p (Resuming n) (Registers_are v) e = inl refl
+follows o script known p (Resuming n) (Bytes_are v) e = inl refl
+follows o script known p (Resuming n) (Message_is v) e = inl refl
+follows o script known p (Resuming n) (Info_is v) e = inl refl
+follows o script known p (Resuming n) (Outcome_is v) e = inl refl
+follows o script known p (Resuming n) (Errno_is v) e = inl refl
+follows o script known p (Resuming n) Out_of_turns e = inr refl
+follows o script known p (Resuming n) (Boot_refused v) e = inl refl
+follows o script known p Listening Agreed e = inl refl
+follows o script known p Listening (Status_is v z) e = inl refl
+follows o script known p Listening (Registers_are v) e = inl refl
+follows o script known p Listening (Bytes_are v) e = inl refl
+follows o script known p Listening (Message_is v) e = inl refl
+follows o script known p Listening (Info_is v) e = inl refl
+follows o script known p Listening (Outcome_is v) e = inl refl
+follows o script known p Listening (Errno_is v) e = inl refl
+follows o script known p Listening Out_of_turns e = inr refl
+follows o script known p Listening (Boot_refused v) e = inl refl
+
+wait_is : (asked : Option Request) (q : Request) → (asked ≡ Some Wait) ⊎ (asked ≡ None) → asked ≡ Some q → q ≡ Wait
+wait_is asked q (inl e) h = cc (e, h)
+wait_is asked q (inr e) h = absurd (cc (sym e ∙ h))
+
+wait_follows : (o : Options) (script : Script) (t : Tracer) (p : ℕ) (place : Awaiting) (r : Reply) (q : Request) (is_admitted : Bool) → resumes_by (asks o place) ≡ true
+    → request o (cond is_admitted (takes t (Serving p place) r (next_at o script t.known (Serving p place) r)) (faults t)).tracer.focus ≡ Some q → q ≡ Wait
+wait_follows o script t p place r q true e h = wait_is (request o (next_at o script t.known (Serving p place) r).focus) q (follows o script t.known p place r e) h
+wait_follows o script t p place r q false e h = absurd (cc h)
+
+some_is : (x y : Request) → Some x ≡ Some y → x ≡ y
+some_is x y e = cc e
+
+waits_not : (q : Request) → Wait ≡ q → resumes q ≡ true → ⊥
+waits_not q e is = cc (ap resumes e ∙ is)
+
+outcome_not : (q : Request) → Ask_outcome ≡ q → resumes q ≡ true → ⊥
+outcome_not q e is = cc (ap resumes e ∙ is)
+
+-- what a tracer asks that asks to resume
+resumes_at : (o : Options) (script : Script) (t : Tracer) (f : Focus) (r : Reply) (q behind : Request) → request o f ≡ Some q → resumes q ≡ true
+    → request o (next_from o script t f r).tracer.focus ≡ Some behind → behind ≡ Wait
+resumes_at o script t Booting r q behind e is h = absurd (cc e)
+resumes_at o script t Waiting r q behind e is h = absurd (waits_not q (some_is Wait q e) is)
+resumes_at o script t (Serving p place) r q behind e is h = wait_follows o script t p place r behind (admits_at o t.known t.tracees (Serving p place) r) (ap resumes (some_is (To p (asks o place)) q e) ∙ is) h
+resumes_at o script t Asking_outcome r q behind e is h = absurd (outcome_not q (some_is Ask_outcome q e) is)
+resumes_at o script t (Over x) r q behind e is h = absurd (cc e)
+resumes_at o script t Turns_over r q behind e is h = absurd (cc e)
+resumes_at o script t Faulted r q behind e is h = absurd (cc e)
+
+resumes_in : (s : State) (r : Reply) (q behind : Request) → request_of s ≡ Some q → resumes q ≡ true → request_of (heard s r) ≡ Some behind → behind ≡ Wait
+unfolding request_of heard moved_by
+resumes_in s r q behind e is h = resumes_at s.options s.script s.tracer s.tracer.focus r q behind e is h
+
+pub waits_once_it_resumed : {L : Type 0} (answers : Answers L) → WaitsOnceItResumed answers
+waits_once_it_resumed answers a b result w before q r behind is h =
+    let start : State = heard a.state Agreed in
+    let then : AsksThen start (before ++ (q, r) ∷ []) behind = asks_then answers a b result w (before ++ (q, r) ∷ []) behind h in
+    let here : AskedAt start before q r [] = asked_at start before q r [] then.asked in
+    let same : told start (replies_of (before ++ (q, r) ∷ [])) ≡ heard (told start (replies_of before)) r =
+    ap (told start) (map-append (λ x. x.1) before ((q, r) ∷ [])) ∙ told-append start (replies_of before) (r ∷ []) in
+    resumes_in (told start (replies_of before)) r q behind here.here is (ap request_of (sym same) ∙ then.next)

@@ -1,11 +1,11 @@
 -- When a run writes what it owes: before it asks. Its last moment shows this, since a writer may fail at any put and a
 -- link at any request: what had to be written by then is written however the run ends.
-use Rattle.std.specs.Prelude.{◌≡◌, ◌⊎◌, ℕ, ◌+◌, Bool, List, ◌∷◌, ◌++◌, length, Some, Result, Err, ⊤}
+use Rattle.std.specs.Prelude.{◌≡◌, ◌⊎◌, ℕ, ◌+◌, Bool, true, List, [], ◌∷◌, ◌++◌, length, Some, Result}
+use Rattle.std.specs.Prelude.{Err, ⊤}
 use Rattle.std.specs.Io.KnownBytes.{Appends}
 use Rattle.lx_abi.specs.declared.boot.Boot.{Boot}
 use Rattle.lx_abi.specs.declared.outcome.Outcome.{Outcome}
 use Rattle.lx_abi.specs.declared.ptrace.Ask.{Ask}
-use Rattle.lx_abi.specs.declared.ptrace.Ask.TheVariants.{Syscall, Listen}
 use Rattle.lx_abi.specs.declared.ptrace.Reply.{Reply}
 use Rattle.lx_abi.specs.declared.ptrace.Reply.TheVariants.{Done as Agreed, Status as Status_is}
 use Rattle.lx_abi.specs.declared.ptrace.Request.{Request}
@@ -37,7 +37,7 @@ use Rattle.trace_run.specs.BootedRuns.{following, TraceOf}
 use Rattle.trace_run.specs.declared.running.Ended.{Ended}
 use Rattle.trace_run.specs.declared.running.RunFault.{RunFault}
 use Rattle.trace_run.specs.declared.running.RunFault.TheVariants.{Link, Output}
-use Rattle.trace_run.specs.Runs.{Answers, Ends, Runs, RunsWhole, Writes, forgets, replies_of}
+use Rattle.trace_run.specs.Runs.{Answers, Ends, Runs, RunsWhole, Writes, forgets, replies_of, resumes, resumes_by}
 use Rattle.trace_run.specs.Writers.{Writer}
 
 -- By one put for each, all that these replies bring was written; whatever came later came behind it.
@@ -73,9 +73,11 @@ abbrev pub StopsWithItsWriter : {L : Type 0} → Answers L → Type 0
 StopsWithItsWriter {L} answers = (a b : Ends L) (w : Runs answers a (Err Output) b)
     → length b.writer.puts ≡ length a.writer.puts + length w.exchanges + 1
 
--- Syscall, or Listen at a group stop
-abbrev pub ResumesBy : Ask → Type 0
-ResumesBy ask = ((signal : ℕ) × (ask ≡ Syscall signal)) ⊎ (ask ≡ Listen)
+-- behind a request that resumes it asks Wait, or nothing more, whatever the reply was
+abbrev pub WaitsOnceItResumed : {L : Type 0} → Answers L → Type 0
+WaitsOnceItResumed {L} answers = (a b : Ends L) (result : Result ⊤ RunFault) (w : Runs answers a result b)
+    (before : List (Request × Reply)) (q : Request) (r : Reply) (behind : Request) → resumes q ≡ true
+    → AsksAfter w.exchanges result b.state (before ++ (q, r) ∷ []) behind → behind ≡ Wait
 
 -- one of these exchanges resumed the tracee by Syscall or Listen, or found it gone
 pub record IsResumed (p : ℕ) (exchanges : List (Request × Reply)) : Type 0 where
@@ -84,7 +86,7 @@ pub record IsResumed (p : ℕ) (exchanges : List (Request × Reply)) : Type 0 wh
   pub reply : Reply
   pub after : List (Request × Reply)
   pub split : exchanges ≡ before ++ (To p ask, reply) ∷ after
-  pub how : (ResumesBy ask × (reply ≡ Agreed)) ⊎ (reply ≡ esrch)
+  pub how : ((resumes_by ask ≡ true) × (reply ≡ Agreed)) ⊎ (reply ≡ esrch)
 
 -- between a status that is no end and the next Wait its tracee was resumed, or found gone
 abbrev pub ResumesBeforeItWaits : {L : Type 0} → Answers L → Type 0

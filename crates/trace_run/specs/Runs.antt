@@ -1,10 +1,14 @@
 -- A run: a tracer, a link and a writer, over any of each.
-use Rattle.std.specs.Prelude.{◌≡◌, ℕ, ◌+◌, true, false, List, [], ◌∷◌, ◌++◌, length, Option, Some, None}
+use Rattle.std.specs.Prelude.{◌≡◌, ℕ, ◌+◌, Bool, true, false, List, [], ◌∷◌, ◌++◌, length, Option, Some, None}
 use Rattle.std.specs.Prelude.{Result, Ok, Err, is_ok, map, ⊤, if◌then◌else◌}
 use Rattle.std.specs.Io.KnownBytes.{Appends}
+use Rattle.lx_abi.specs.declared.ptrace.Ask.{Ask}
+use Rattle.lx_abi.specs.declared.ptrace.Ask.TheVariants.{Seize, SetOptions, GetRegs, SetRegs, Peek, Syscall, EventMsg}
+use Rattle.lx_abi.specs.declared.ptrace.Ask.TheVariants.{SigInfo, Listen}
 use Rattle.lx_abi.specs.declared.ptrace.Reply.{Reply}
 use Rattle.lx_abi.specs.declared.ptrace.Reply.TheVariants.{Done as Agreed}
 use Rattle.lx_abi.specs.declared.ptrace.Request.{Request}
+use Rattle.lx_abi.specs.declared.ptrace.Request.TheVariants.{Boot, Wait, To, Outcome}
 use Rattle.host_link.specs.declared.fault.LinkFault.{LinkFault}
 use Rattle.tr_core.specs.declared.tracing.TraceFault.TheVariants.{Inadmissible, Memory}
 use Rattle.tr_core.specs.States.{State, heard, said, request_of, is_faulted, admitted, told, text}
@@ -14,6 +18,24 @@ use Rattle.trace_run.specs.declared.running.Ended.TheVariants.{Whole, OutOfTurns
 use Rattle.trace_run.specs.declared.running.RunFault.{RunFault}
 use Rattle.trace_run.specs.declared.running.RunFault.TheVariants.{Link, Trace, Output}
 use Rattle.trace_run.specs.Writers.{Writer, PutsWhole, PutsPart}
+
+-- Syscall, or Listen at a group stop
+abbrev pub resumes_by : Ask → Bool
+resumes_by (Seize options) = false
+resumes_by (SetOptions options) = false
+resumes_by GetRegs = false
+resumes_by (SetRegs registers) = false
+resumes_by (Peek address length) = false
+resumes_by (Syscall signal) = true
+resumes_by EventMsg = false
+resumes_by SigInfo = false
+resumes_by Listen = true
+
+abbrev pub resumes : Request → Bool
+resumes (Boot boot limit words) = false
+resumes Wait = false
+resumes (To p ask) = resumes_by ask
+resumes Outcome = false
 
 -- what a link may do: the link before, the request, the answer, the link after
 abbrev pub Answers : Type 0 → Type 1

@@ -7,7 +7,8 @@ ghost use Rattle.trace_run.specs.Local.{LocalRunsTell};
 ghost use Rattle.trace_run.specs.LocalRuns.{LocalLinksAnswerTheirOwn, LocalLinksFail, LocalLinksServe};
 ghost use Rattle.trace_run.specs.LocalRuns.{LocalLinksTell, LocalLinksTellParts};
 ghost use Rattle.trace_run.specs.Owed.{ResumesBeforeItWaits, StopsWithItsWriter, TracesWriteBeforeTheyWait};
-ghost use Rattle.trace_run.specs.Owed.{WritesBeforeItAsks, WritesBeforeItWaits, WritesBeforeTheLinkFails};
+ghost use Rattle.trace_run.specs.Owed.{WaitsOnceItResumed, WritesBeforeItAsks, WritesBeforeItWaits};
+ghost use Rattle.trace_run.specs.Owed.{WritesBeforeTheLinkFails};
 ghost use Rattle.trace_run.specs.Results.{JoinedRuns, KilledRuns, PlainRuns, ReplacedRuns};
 ghost use Rattle.trace_run.specs.Results.{RunsAreOne, TracesAreRuns, TracesTellLog};
 ghost use Rattle.trace_run.specs.Runs.{calls_of};
@@ -155,12 +156,13 @@ pub fn booted_runs_tell()
 
 /// Before it asks, a run has written what it owes: all that the replies before brought, by one put for each, whatever
 /// they are. Where its writer fails it asks no more. Whose status it took it resumed by Syscall or Listen, or found
-/// gone, before the next Wait.
+/// gone, before the next Wait; and behind Syscall and Listen it asks Wait, or nothing more.
 pub fn runs_write_before_they_ask<L: Link>()
     ensures asks { WritesBeforeItAsks (calls_of L.answers L.given L.broken) }
     ensures link { WritesBeforeTheLinkFails (calls_of L.answers L.given L.broken) }
     ensures writer { StopsWithItsWriter (calls_of L.answers L.given L.broken) }
     ensures resumed { ResumesBeforeItWaits (calls_of L.answers L.given L.broken) }
+    ensures waits { WaitsOnceItResumed (calls_of L.answers L.given L.broken) }
 {
     nobody_is_left_held();
 }

@@ -1,10 +1,10 @@
 //! The loop between a tracer and a link.
 
-ghost use Rattle.std.specs.Prelude.{◌≡◌, ◌+◌, ◌≤◌, ◌^◌, Ok, IfOk, IfErr, IfSome, OnOk, OnErr};
+ghost use Rattle.std.specs.Prelude.{◌≡◌, ◌+◌, ◌≤◌, ◌^◌, false, Ok, IfOk, IfErr, IfSome, OnOk, OnErr};
 ghost use Rattle.std.specs.Io.KnownBytes.{Appends};
 ghost use Rattle.host_wire.specs.Ends.{AppendsPart, IsPut};
 ghost use Rattle.tr_core.specs.States.{State, new_state, taken_of};
-ghost use Rattle.trace_run.specs.Runs.{calls_of, Ends, EndsAs, Round, Runs, RunsWhole};
+ghost use Rattle.trace_run.specs.Runs.{calls_of, Ends, EndsAs, Round, Runs, RunsWhole, resumes};
 ghost use Rattle.trace_run.specs.Writers.{writer_of};
 ghost use Rattle.tr_core.specs.Settings.{first_pen, options_by};
 ghost use Rattle.tr_core.specs.Outcomes.{outcome_of};
@@ -13,7 +13,7 @@ ghost use Rattle.lx_abi.specs.Scripts.{choice_of};
 use containers::Bytes;
 use host_link::{Link, LinkFault};
 use host_wire::{Broken, Sink};
-use lx_abi::{Outcome, Reply, Script};
+use lx_abi::{Ask, Outcome, Reply, Request, Script};
 use std::alloc::Global;
 use thiserror::Error;
 use tr_core::{Act, Options, TraceFault, Tracer, Tracing};
@@ -41,6 +41,32 @@ fn write<W: Sink>(writer: &mut W, bytes: &Bytes) -> Result<(), RunFault>
     match writer.put(bytes.as_slice()) {
         Ok(()) => Ok(()),
         Err(Broken) => Err(RunFault::Output),
+    }
+}
+
+/// A request that resumes a tracee.
+fn resumes(request: &Request) -> bool
+    ensures { result ≡ resumes request.now }
+{
+    match request {
+        Request::To {
+            ask: Ask::Syscall { .. } | Ask::Listen,
+            ..
+        } => true,
+        Request::To { .. } | Request::Boot { .. } | Request::Wait | Request::Outcome => false,
+    }
+}
+
+/// Asks a request. Behind one that resumes, and no other, Wait may go out with it: it comes next, if anything is asked.
+fn ask<L: Link>(link: &mut L, request: Request) -> Result<Reply, LinkFault>
+    ensures answered { calls_of L.answers L.given L.broken link.old request result link.new }
+    ensures within { OnOk result (L.given link.new ≤ 2 ^ 40) }
+    ensures alone { OnOk result (resumes request ≡ false → L.waits link.new ≡ false) }
+{
+    if resumes(&request) {
+        link.call_before_wait(request)
+    } else {
+        link.call(request)
     }
 }
 
@@ -79,7 +105,7 @@ fn round<L: Link, W: Sink, T: Tracing>(
             if let Err(fault) = write(writer, &bytes) {
                 return Err(fault);
             }
-            match link.call(request) {
+            match ask(link, request) {
                 Ok(next) => Ok(Some(next)),
                 Err(fault) => Err(RunFault::Link(fault)),
             }
