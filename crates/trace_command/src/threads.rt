@@ -18,7 +18,6 @@ use front_end::Fault;
 use host_shared::Gate;
 use host_wire::{Broken, Sink};
 use lx_abi::Outcome;
-use pt_kernel::Turns;
 use std::alloc::Global;
 use std::rt::Files;
 use std::sync::Wait;
@@ -26,6 +25,7 @@ use std::thread::Threads;
 use trace_run::local::Run;
 use trace_run::{Ended, RunFault};
 use trace_threads::run_threads;
+use turn_rows::Turns;
 
 /// Each thread makes its turns as soon as it can.
 #[derive(Clone, Copy)]
