@@ -4,6 +4,7 @@ use Rattle.std.specs.Io.KnownBytes.{Appends, Consumes, IsAtEnd}
 use Rattle.std.proofs.lemmas.List.{length-append}
 use Rattle.lx_abi.specs.declared.ptrace.Reply.{Reply}
 use Rattle.lx_abi.specs.declared.ptrace.Request.{Request}
+use Rattle.lx_abi.specs.declared.ptrace.Request.TheVariants.{Boot, Wait, To, Outcome}
 use Rattle.pt_model.specs.Admissible.{answers}
 use Rattle.host_frame.specs.Spelling.{CanBeSpelled, FitsFrame, HasOrder, IsShort, reply_frame, spelled}
 use Rattle.host_frame.specs.declared.fault.WireFault.{WireFault}
@@ -13,7 +14,7 @@ use Rattle.host_frame.specs.declared.frame.Frame.{Frame}
 use Rattle.host_wire.specs.Ends.{Input}
 use Rattle.host_wire.specs.Streams.{Stream, Going, Failed, goes_on, stream_of, AreFrames, spelled_all}
 use Rattle.host_wire.proofs.Streams.{failed_stays}
-use Rattle.host_link.specs.Pipes.{Came, Exchanged, IsSent, reply_in, request_frame}
+use Rattle.host_link.specs.Pipes.{Came, CanBeSent, Exchanged, IsSent, bytes_of, is_wait, reply_in, request_frame}
 use Rattle.host_link.specs.declared.fault.LinkFault.{LinkFault}
 use Rattle.host_link.specs.declared.fault.LinkFault.TheVariants.{Ended, Read, Write, Malformed, Sequence, Inadmissible, Memory, TooMany}
 use Rattle.host_serve.specs.Serving.{Exchanges, AreSpelled, Taken, replies_of}
@@ -333,37 +334,82 @@ requests_match first n (p ∷ ps) (q ∷ qs) came later extra t parts can few =
 
 -- ---- both ends
 
-came_of : (most : ℕ) (sent : Frame) (a b : Input) (old new : Option (List ℕ)) (puts puts' : List ℕ) (r : Reply) (broken : ℕ) → Exchanged most sent a b old new puts puts' (Ok r) broken → IsSent sent old new puts puts' × Came most a (Ok r) sent b
-came_of most sent a b old new puts puts' r broken (inl x) = x
-came_of most sent a b old new puts puts' r broken (inr y) = absurd (cc y.1.0)
+came_of : (most : ℕ) (sent : Frame) (ahead : Bool) (a b : Input) (old new : Option (List ℕ)) (puts puts' : List ℕ) (r : Reply) (broken : ℕ) → Exchanged most sent ahead a b old new puts puts' (Ok r) broken → IsSent sent ahead old new puts puts' × Came most a (Ok r) sent b
+came_of most sent ahead a b old new puts puts' r broken (inl x) = x
+came_of most sent ahead a b old new puts puts' r broken (inr y) = absurd (cc y.1.0)
 
-came_from : (most n : ℕ) (a b : Input) (old new : Option (List ℕ)) (ys : Exchanges) → Talked most n a old ys b new → CameFrom most n a ys b
-came_from most n a b old new [] t = t.0
-came_from most n a b old new (y ∷ ys) t =
-    let e = t.1.1.1.1.1 in
-    (t.0, ((came_of most (request_frame n y.0) a t.0 old t.1.0 t.1.1.0 t.1.1.1.0 y.1 t.1.1.1.1.0 e.0).1, came_from most (n + 1) t.0 b t.1.0 new ys e.1))
+came_from : (most n : ℕ) (waits : Bool) (a b : Input) (old new : Option (List ℕ)) (ys : Exchanges) → Talked most n waits a old ys b new → CameFrom most n a ys b
+came_from most n false a b old new [] t = t.0
+came_from most n true a b old new [] t = t.0
+came_from most n false a b old new (y ∷ ys) t =
+    let e = t.1.1.1.1.1.1 in
+    let ahead = t.1.1.1.1.1.0 in
+    (t.0, ((came_of most (request_frame n y.0) ahead a t.0 old t.1.0 t.1.1.0 t.1.1.1.0 y.1 t.1.1.1.1.0 e.0).1, came_from most (n + 1) ahead t.0 b t.1.0 new ys e.1))
+came_from most n true a b old new (y ∷ ys) t = (t.0, (t.1.1.0, came_from most (n + 1) false t.0 b old new ys t.1.1.1))
 
 -- what was known of the writer has grown by these bytes
 grown : (xs bs : List ℕ) (o : Option (List ℕ)) → Appends (Some xs) o bs → o ≡ Some (xs ++ bs)
 grown xs bs None appends = absurd appends
 grown xs bs (Some ys) appends = ap Some appends
 
+-- what was sent ahead of the next request
+abbrev sent_ahead : ℕ → Bool → List ℕ
+sent_ahead n false = []
+sent_ahead n true = spelled (request_frame n Wait)
+
+abbrev CanBeAhead : ℕ → Bool → Type 0
+CanBeAhead n false = Unit {0}
+CanBeAhead n true = CanBeSpelled (request_frame n Wait)
+
+by_parts : (n : ℕ) (q : Request) (ahead : Bool) (before : List ℕ) → before ++ bytes_of (request_frame n q) ahead ≡ (before ++ spelled (request_frame n q)) ++ sent_ahead (n + 1) ahead
+by_parts n q false before = sym (append-nil (before ++ spelled (request_frame n q)))
+by_parts n q true before = sym (append_assoc before (spelled (request_frame n q)) (spelled (request_frame (n + 1) Wait)))
+
+can_by_parts : (n : ℕ) (q : Request) (ahead : Bool) → CanBeSent (request_frame n q) ahead → CanBeSpelled (request_frame n q) × CanBeAhead (n + 1) ahead
+can_by_parts n q false can = (can, tt)
+can_by_parts n q true can = can
+
+wait_is : (q : Request) → is_wait q ≡ true → q ≡ Wait
+wait_is Wait e = refl
+wait_is (Boot boot limit words) e = absurd (cc e)
+wait_is (To pid ask) e = absurd (cc e)
+wait_is Outcome e = absurd (cc e)
+
 record Wrote (n : ℕ) (ys : Exchanges) (before : List ℕ) (new : Option (List ℕ)) : Type 0 where
   can : AllSpelled (frames_from n (map Of_request (asked ys)))
-  bytes : new ≡ Some (before ++ spelled_all (frames_from n (map Of_request (asked ys))))
+  -- ahead of the next request
+  extra : List ℕ
+  bytes : new ≡ Some (before ++ (spelled_all (frames_from n (map Of_request (asked ys))) ++ extra))
 
-wrote : (most n : ℕ) (a b : Input) (before : List ℕ) (old new : Option (List ℕ)) (ys : Exchanges) → old ≡ Some before → Talked most n a old ys b new → Wrote n ys before new
+wrote : (most n : ℕ) (waits : Bool) (a b : Input) (before : List ℕ) (old new : Option (List ℕ)) (ys : Exchanges) → old ≡ Some (before ++ sent_ahead n waits) → CanBeAhead n waits → Talked most n waits a old ys b new → Wrote n ys before new
 unfolding spelled_all
-wrote most n a b before old new [] is t = record { can = tt; bytes = t.1 ∙ is ∙ ap Some (sym (append-nil before)) }
-wrote most n a b before old new (y ∷ ys) is t =
-    let e = t.1.1.1.1.1 in
+wrote most n false a b before old new [] is can t = record { can = tt; extra = []; bytes = t.1 ∙ is }
+wrote most n true a b before old new [] is can t = record { can = tt; extra = spelled (request_frame n Wait); bytes = t.1 ∙ is }
+wrote most n false a b before old new (y ∷ ys) is can t =
+    let e = t.1.1.1.1.1.1 in
+    let ahead = t.1.1.1.1.1.0 in
     let f = request_frame n y.0 in
-    let sent = (came_of most f a t.0 old t.1.0 t.1.1.0 t.1.1.1.0 y.1 t.1.1.1.1.0 e.0).0 in
-    let more = grown before (spelled f) t.1.0 (subst (λ (o : Option (List ℕ)). Appends o t.1.0 (spelled f)) is sent.0) in
-    let again = wrote most (n + 1) t.0 b (before ++ spelled f) t.1.0 new ys more e.1 in
+    let rest = spelled_all (frames_from (n + 1) (map Of_request (asked ys))) in
+    let sent = (came_of most f ahead a t.0 old t.1.0 t.1.1.0 t.1.1.1.0 y.1 t.1.1.1.1.0 e.0).0 in
+    let held : old ≡ Some before = is ∙ ap Some (append-nil before) in
+    let more = grown before (bytes_of f ahead) t.1.0 (subst (λ (o : Option (List ℕ)). Appends o t.1.0 (bytes_of f ahead)) held sent.0) in
+    let cans = can_by_parts n y.0 ahead sent.1.1 in
+    let again = wrote most (n + 1) ahead t.0 b (before ++ spelled f) t.1.0 new ys (more ∙ ap Some (by_parts n y.0 ahead before)) cans.1 e.1 in
     record {
-      can = (sent.1.1, again.can);
-      bytes = again.bytes ∙ ap Some (append_assoc before (spelled f) (spelled_all (frames_from (n + 1) (map Of_request (asked ys)))));
+      can = (cans.0, again.can);
+      extra = again.extra;
+      bytes = again.bytes ∙ ap Some (append_assoc before (spelled f) (rest ++ again.extra) ∙ ap (λ (t : List ℕ). before ++ t) (sym (append_assoc (spelled f) rest again.extra)));
+    }
+wrote most n true a b before old new (y ∷ ys) is can t =
+    let f = request_frame n y.0 in
+    let rest = spelled_all (frames_from (n + 1) (map Of_request (asked ys))) in
+    let waits : Wait ≡ y.0 = sym (wait_is y.0 t.1.0) in
+    let held : old ≡ Some (before ++ spelled f) = is ∙ ap (λ (q : Request). Some (before ++ spelled (request_frame n q))) waits in
+    let again = wrote most (n + 1) false t.0 b (before ++ spelled f) old new ys (held ∙ ap Some (sym (append-nil (before ++ spelled f)))) tt t.1.1.1 in
+    record {
+      can = (subst (λ (q : Request). CanBeSpelled (request_frame n q)) waits can, again.can);
+      extra = again.extra;
+      bytes = again.bytes ∙ ap Some (append_assoc before (spelled f) (rest ++ again.extra) ∙ ap (λ (t : List ℕ). before ++ t) (sym (append_assoc (spelled f) rest again.extra)));
     }
 
 -- lists of pairs by their parts
@@ -384,9 +430,10 @@ some_is x y e = cc
 
 pub ends_agree : FirstFrames → EndsAgree
 ends_agree first most most' a b c d xs ys bytes later sent came behind more is parts can taken carried talked =
-    let replies = replies_are_those first most a b xs ys bytes later is parts can (came_from most 1 a b (Some []) (Some sent) ys talked) in
-    let w = wrote most 1 a b [] (Some []) (Some sent) ys refl talked in
-    let whole : sent ≡ spelled_all (frames_from 1 (map Of_request (asked ys))) = some_is sent (spelled_all (frames_from 1 (map Of_request (asked ys)))) w.bytes in
+    let replies = replies_are_those first most a b xs ys bytes later is parts can (came_from most 1 false a b (Some []) (Some sent) ys talked) in
+    let w = wrote most 1 false a b [] (Some []) (Some sent) ys refl tt talked in
+    let frames = spelled_all (frames_from 1 (map Of_request (asked ys))) in
+    let whole : sent ≡ frames ++ w.extra = some_is sent (frames ++ w.extra) w.bytes in
     let few : length (asked ys) ≤ length (asked (in_turn xs)) = omega (arith, ap length replies.1, length-append (told ys) replies.0, length-map (λ (y : Request × Reply). y.1) ys, length-map (λ (y : Request × Reply). y.0) ys, length-map (λ (y : Request × Reply). y.1) (in_turn xs), length-map (λ (y : Request × Reply). y.0) (in_turn xs)) in
-    let requests = requests_match first 1 (asked (in_turn xs)) (asked ys) came behind more (taken_in_turn most' c d xs came taken) (carried ∙ ap (λ (t : List ℕ). t ++ more) whole) w.can few in
+    let requests = requests_match first 1 (asked (in_turn xs)) (asked ys) came behind (w.extra ++ more) (taken_in_turn most' c d xs came taken) (carried ∙ ap (λ (t : List ℕ). t ++ more) whole ∙ append_assoc frames w.extra more) w.can few in
     pairs (in_turn xs) ys replies.0 requests.0 replies.1 requests.1

@@ -1,5 +1,6 @@
 -- What one end of a pipe wrote, read by the other.
-use Rattle.std.specs.Prelude.{◌≡◌, ℕ, ◌+◌, ◌≤◌, false, List, [], ◌∷◌, ◌++◌, length, map, Option, Some, Ok, Err}
+use Rattle.std.specs.Prelude.{◌≡◌, ℕ, ◌+◌, ◌≤◌, Bool, true, false, List, [], ◌∷◌, ◌++◌, length, map}
+use Rattle.std.specs.Prelude.{Option, Some, Ok, Err}
 use Rattle.lx_abi.specs.declared.ptrace.Reply.{Reply}
 use Rattle.lx_abi.specs.declared.ptrace.Request.{Request}
 use Rattle.pt_model.specs.Admissible.{answers}
@@ -7,7 +8,7 @@ use Rattle.host_frame.specs.Spelling.{HasOrder}
 use Rattle.host_frame.specs.declared.frame.Payload.TheVariants.{Reply as Of_reply}
 use Rattle.host_wire.specs.Ends.{Input}
 use Rattle.host_wire.specs.Receiving.{IsCutOff}
-use Rattle.host_link.specs.Pipes.{Came, Exchanged, request_frame}
+use Rattle.host_link.specs.Pipes.{Came, Exchanged, is_wait, request_frame}
 use Rattle.host_link.specs.declared.fault.LinkFault.{LinkFault}
 use Rattle.host_link.specs.declared.fault.LinkFault.TheVariants.{Ended, Read, Write, Malformed, Sequence, Inadmissible, Memory, TooMany}
 use Rattle.host_serve.specs.Serving.{Exchanges, AreSpelled, Taken, replies_of}
@@ -66,13 +67,17 @@ FaultsAreCaused = (most : ℕ) (a b c : Input) (xs ys : Exchanges) (q : Request)
 
 -- ---- both ends
 
--- a link sent these requests, of the numbers from this one on, and was given these replies
-abbrev pub Talked : ℕ → ℕ → Input → Option (List ℕ) → Exchanges → Input → Option (List ℕ) → Type 0
-Talked most number a old [] b new = (b ≡ a) × (new ≡ old)
-Talked most number a old (x ∷ xs) b new = (mid : Input) × ((between : Option (List ℕ)) × ((puts : List ℕ)
-    × ((puts' : List ℕ) × ((broken : ℕ)
-    × (Exchanged most (request_frame number x.0) a mid old between puts puts' (Ok x.1) broken
-    × Talked most (number + 1) mid between xs b new)))))
+-- A link sent these requests, of the numbers from this one on, and was given these replies. Wait may have been sent
+-- ahead of the first, or behind any.
+abbrev pub Talked : ℕ → ℕ → Bool → Input → Option (List ℕ) → Exchanges → Input → Option (List ℕ) → Type 0
+Talked most number false a old [] b new = (b ≡ a) × (new ≡ old)
+Talked most number true a old [] b new = (b ≡ a) × (new ≡ old)
+Talked most number false a old (x ∷ xs) b new = (mid : Input) × ((between : Option (List ℕ)) × ((puts : List ℕ)
+    × ((puts' : List ℕ) × ((broken : ℕ) × ((ahead : Bool)
+    × (Exchanged most (request_frame number x.0) ahead a mid old between puts puts' (Ok x.1) broken
+    × Talked most (number + 1) ahead mid between xs b new))))))
+Talked most number true a old (x ∷ xs) b new = (mid : Input) × ((is_wait x.0 ≡ true)
+    × (Came most a (Ok x.1) (request_frame number x.0) mid × Talked most (number + 1) false mid old xs b new))
 
 -- a link whose reader gives a beginning of what a host wrote, and a host whose reader gave a beginning of what that
 -- link wrote: the link's exchanges are the host's first
@@ -80,4 +85,4 @@ abbrev pub EndsAgree : Type 0
 EndsAgree = (most most' : ℕ) (a b c d : Input) (xs ys : Exchanges) (bytes later sent came behind more : List ℕ) →
     a.remaining ≡ Some bytes → bytes ++ later ≡ replies_of xs → AreSpelled xs →
     Taken most' c xs d came → came ++ behind ≡ sent ++ more →
-    Talked most 1 a (Some []) ys b (Some sent) → (rest : Exchanges) × (in_turn xs ≡ ys ++ rest)
+    Talked most 1 false a (Some []) ys b (Some sent) → (rest : Exchanges) × (in_turn xs ≡ ys ++ rest)
