@@ -1,5 +1,5 @@
 -- A run over a pipe has the exchanges that a link to the host itself answers.
-use Rattle.std.proofs.Common.{◌≡◌, ℕ, ◌+◌, List, [], ◌∷◌, ◌++◌, Option, Some, None, Result, Ok, Err, refl, sym, ap, subst, ◌∙◌, append_assoc, append-nil, inl, inr}
+use Rattle.std.proofs.Common.{◌≡◌, ℕ, ◌+◌, Bool, true, false, not, ◌&&◌, List, [], ◌∷◌, ◌++◌, Option, Some, None, Result, Ok, Err, refl, sym, ap, subst, ◌∙◌, append_assoc, append-nil, inl, inr}
 use Rattle.std.specs.Prelude.{⊤}
 use Rattle.std.specs.Io.KnownBytes.{Appends, Consumes}
 use Rattle.std.proofs.KnownBytes.{Appends-trans}
@@ -21,8 +21,8 @@ use Rattle.pt_model.specs.HostLaws.{HostsBeginAlike}
 use Rattle.host_frame.specs.declared.frame.Frame.{Frame}
 use Rattle.host_frame.specs.Spelling.{spelled}
 use Rattle.host_wire.specs.Ends.{AppendsPart, Input}
-use Rattle.host_link.specs.PipeLinks.{Asks, given_of, most_of, reader_of, writer_of}
-use Rattle.host_link.specs.Pipes.{Exchanged as Exchanged_over, SentAs, request_frame}
+use Rattle.host_link.specs.PipeLinks.{Asks, RepliedTo, given_of, most_of, reader_of, waits_of, writer_of}
+use Rattle.host_link.specs.Pipes.{Came, Exchanged as Exchanged_over, SentAs, bytes_of, is_wait, request_frame}
 use Rattle.host_link.specs.declared.fault.LinkFault.{LinkFault}
 use Rattle.host_link.specs.declared.fault.LinkFault.TheVariants as fault
 use Rattle.host_link.specs.declared.local.LocalLink.{LocalLink}
@@ -110,45 +110,86 @@ Grows xs new = (more : List ℕ) × (new ≡ Some (xs ++ more))
 stays : (xs : List ℕ) (old new : Option (List ℕ)) → old ≡ Some xs → new ≡ old → Grows xs new
 stays xs old new is same = ([], same ∙ is ∙ ap Some (sym (append-nil xs)))
 
-sent_part : (f : LinkFault) (sent : Frame) (xs : List ℕ) (old new : Option (List ℕ)) (puts puts' : List ℕ) (broken : ℕ) → old ≡ Some xs → SentAs (Err f) sent old new puts puts' broken → Grows xs new
-sent_part fault.Write sent xs old new puts puts' broken is s =
-    let part : AppendsPart old new (spelled sent) = s.0 in
+sent_part : (f : LinkFault) (sent : Frame) (ahead : Bool) (xs : List ℕ) (old new : Option (List ℕ)) (puts puts' : List ℕ) (broken : ℕ) → old ≡ Some xs → SentAs (Err f) sent ahead old new puts puts' broken → Grows xs new
+sent_part fault.Write sent ahead xs old new puts puts' broken is s =
+    let part : AppendsPart old new (bytes_of sent ahead) = s.0 in
     (part.0, grown xs part.0 new (subst (λ (o : Option (List ℕ)). Appends o new part.0) is part.1.1.1))
-sent_part fault.Malformed sent xs old new puts puts' broken is s = stays xs old new is s.0
-sent_part fault.Memory sent xs old new puts puts' broken is s = stays xs old new is s.0
-sent_part fault.Ended sent xs old new puts puts' broken is s = absurd s
-sent_part fault.Read sent xs old new puts puts' broken is s = absurd s
-sent_part fault.Sequence sent xs old new puts puts' broken is s = absurd s
-sent_part fault.Inadmissible sent xs old new puts puts' broken is s = absurd s
-sent_part fault.TooMany sent xs old new puts puts' broken is s = absurd s
+sent_part fault.Malformed sent ahead xs old new puts puts' broken is s = stays xs old new is s.0
+sent_part fault.Memory sent ahead xs old new puts puts' broken is s = stays xs old new is s.0
+sent_part fault.Ended sent ahead xs old new puts puts' broken is s = absurd s
+sent_part fault.Read sent ahead xs old new puts puts' broken is s = absurd s
+sent_part fault.Sequence sent ahead xs old new puts puts' broken is s = absurd s
+sent_part fault.Inadmissible sent ahead xs old new puts puts' broken is s = absurd s
+sent_part fault.TooMany sent ahead xs old new puts puts' broken is s = absurd s
+
+and_true : (b : Bool) → (b && true) ≡ b
+and_true true = refl
+and_true false = refl
+
+and_false : (b : Bool) → (b && false) ≡ false
+and_false true = refl
+and_false false = refl
+
+-- a call of the link that was replied to, by how it went
+record Went {R W : Type 0} (input : R → Input) (contents : W → Option (List ℕ)) (puts : W → List ℕ) (broken_writer : W → ℕ) (a : PipeLink R W) (q : Request) (r : Reply) (b : PipeLink R W) : Type 0 where
+  is_next : waits_of a ≡ true → is_wait q ≡ true
+  same_most : most_of b ≡ most_of a
+  ahead : Bool
+  waits : waits_of b ≡ (ahead && not (waits_of a))
+  replied : RepliedTo input contents puts broken_writer a (request_frame (given_of a + 1) q) ahead (Ok r) b
 
 module _ {R W : Type 0} (input : R → Input) (contents : W → Option (List ℕ)) (puts : W → List ℕ) (broken_writer : W → ℕ) where
-  -- a call of the link, by how it went
-  exchanged : (a : PipeLink R W) (q : Request) (r : Reply) (b : PipeLink R W) → Asks input contents puts broken_writer a q (Ok r) b
-      → (most_of b ≡ most_of a) × Exchanged_over (most_of a) (request_frame (given_of a + 1) q) (input (reader_of a)) (input (reader_of b)) (contents (writer_of a)) (contents (writer_of b)) (puts (writer_of a)) (puts (writer_of b)) (Ok r) (broken_writer (writer_of b))
-  exchanged a q r b (inl x) = absurd (cc x.1.0)
-  exchanged a q r b (inr (inl x)) = absurd (cc x.1.0)
-  exchanged a q r b (inr (inr x)) = x
+  went : (a : PipeLink R W) (q : Request) (r : Reply) (b : PipeLink R W) → Asks input contents puts broken_writer a q (Ok r) b → Went input contents puts broken_writer a q r b
+  went a q r b (inl x) = absurd (cc x.1.0)
+  went a q r b (inr (inl x)) = absurd (cc x.1.0)
+  went a q r b (inr (inr (inl x))) = absurd (cc x.1.1.0)
+  went a q r b (inr (inr (inr x))) = record { is_next = x.0; same_most = x.1.0; ahead = x.1.1.0; waits = x.1.1.1.0; replied = x.1.1.1.1 }
 
-  talked : (most n : ℕ) (a b : PipeLink R W) (xs : Exchanges) → given_of a + 1 ≡ n → most_of a ≡ most → Leads (piped input contents puts broken_writer) a xs b
-      → Talked most n (input (reader_of a)) (contents (writer_of a)) xs (input (reader_of b)) (contents (writer_of b))
-  talked most n a b [] number is led = (ap (λ (l : PipeLink R W). input (reader_of l)) led, ap (λ (l : PipeLink R W). contents (writer_of l)) led)
-  talked most n a b (x ∷ xs) number is led =
+  sent_now : (a : PipeLink R W) (sent : Frame) (ahead : Bool) (r : Reply) (b : PipeLink R W) → waits_of a ≡ false → RepliedTo input contents puts broken_writer a sent ahead (Ok r) b
+      → Exchanged_over (most_of a) sent ahead (input (reader_of a)) (input (reader_of b)) (contents (writer_of a)) (contents (writer_of b)) (puts (writer_of a)) (puts (writer_of b)) (Ok r) (broken_writer (writer_of b))
+  sent_now a sent ahead r b idle (inl x) = x.1
+  sent_now a sent ahead r b idle (inr x) = absurd (cc (sym idle ∙ x.0))
+
+  sent_before : (a : PipeLink R W) (sent : Frame) (ahead : Bool) (r : Reply) (b : PipeLink R W) → waits_of a ≡ true → RepliedTo input contents puts broken_writer a sent ahead (Ok r) b
+      → (writer_of b ≡ writer_of a) × Came (most_of a) (input (reader_of a)) (Ok r) sent (input (reader_of b))
+  sent_before a sent ahead r b waits (inl x) = absurd (cc (sym waits ∙ x.0))
+  sent_before a sent ahead r b waits (inr x) = x.1
+
+  talked : (most n : ℕ) (waits : Bool) (a b : PipeLink R W) (xs : Exchanges) → waits_of a ≡ waits → given_of a + 1 ≡ n → most_of a ≡ most → Leads (piped input contents puts broken_writer) a xs b
+      → Talked most n waits (input (reader_of a)) (contents (writer_of a)) xs (input (reader_of b)) (contents (writer_of b))
+  talked most n false a b [] w number is led = (ap (λ (l : PipeLink R W). input (reader_of l)) led, ap (λ (l : PipeLink R W). contents (writer_of l)) led)
+  talked most n true a b [] w number is led = (ap (λ (l : PipeLink R W). input (reader_of l)) led, ap (λ (l : PipeLink R W). contents (writer_of l)) led)
+  talked most n false a b (x ∷ xs) w number is led =
       let mid = led.0 in
-      let e = exchanged a x.0 x.1 mid led.1.0.answered in
-      let by_number = subst (λ (k : ℕ). Exchanged_over (most_of a) (request_frame k x.0) (input (reader_of a)) (input (reader_of mid)) (contents (writer_of a)) (contents (writer_of mid)) (puts (writer_of a)) (puts (writer_of mid)) (Ok x.1) (broken_writer (writer_of mid))) number e.1 in
-      let by_most = subst (λ (k : ℕ). Exchanged_over k (request_frame n x.0) (input (reader_of a)) (input (reader_of mid)) (contents (writer_of a)) (contents (writer_of mid)) (puts (writer_of a)) (puts (writer_of mid)) (Ok x.1) (broken_writer (writer_of mid))) is by_number in
+      let x_went = went a x.0 x.1 mid led.1.0.answered in
+      let e = sent_now a (request_frame (given_of a + 1) x.0) x_went.ahead x.1 mid w x_went.replied in
+      let by_number = subst (λ (k : ℕ). Exchanged_over (most_of a) (request_frame k x.0) x_went.ahead (input (reader_of a)) (input (reader_of mid)) (contents (writer_of a)) (contents (writer_of mid)) (puts (writer_of a)) (puts (writer_of mid)) (Ok x.1) (broken_writer (writer_of mid))) number e in
+      let by_most = subst (λ (k : ℕ). Exchanged_over k (request_frame n x.0) x_went.ahead (input (reader_of a)) (input (reader_of mid)) (contents (writer_of a)) (contents (writer_of mid)) (puts (writer_of a)) (puts (writer_of mid)) (Ok x.1) (broken_writer (writer_of mid))) is by_number in
       let counted : given_of mid + 1 ≡ n + 1 = ap (λ (k : ℕ). k + 1) (led.1.0.counted ∙ number) in
-      (input (reader_of mid), (contents (writer_of mid), (puts (writer_of a), (puts (writer_of mid), (broken_writer (writer_of mid), (by_most, talked most (n + 1) mid b xs counted (e.0 ∙ is) led.1.1))))))
+      let next : waits_of mid ≡ x_went.ahead = x_went.waits ∙ ap (λ (v : Bool). x_went.ahead && not v) w ∙ and_true x_went.ahead in
+      (input (reader_of mid), (contents (writer_of mid), (puts (writer_of a), (puts (writer_of mid), (broken_writer (writer_of mid), (x_went.ahead, (by_most, talked most (n + 1) x_went.ahead mid b xs next counted (x_went.same_most ∙ is) led.1.1)))))))
+  talked most n true a b (x ∷ xs) w number is led =
+      let mid = led.0 in
+      let x_went = went a x.0 x.1 mid led.1.0.answered in
+      let e = sent_before a (request_frame (given_of a + 1) x.0) x_went.ahead x.1 mid w x_went.replied in
+      let by_number = subst (λ (k : ℕ). Came (most_of a) (input (reader_of a)) (Ok x.1) (request_frame k x.0) (input (reader_of mid))) number e.1 in
+      let by_most = subst (λ (k : ℕ). Came k (input (reader_of a)) (Ok x.1) (request_frame n x.0) (input (reader_of mid))) is by_number in
+      let counted : given_of mid + 1 ≡ n + 1 = ap (λ (k : ℕ). k + 1) (led.1.0.counted ∙ number) in
+      let next : waits_of mid ≡ false = x_went.waits ∙ ap (λ (v : Bool). x_went.ahead && not v) w ∙ and_false x_went.ahead in
+      let on = talked most (n + 1) false mid b xs next counted (x_went.same_most ∙ is) led.1.1 in
+      let same = subst (λ (o : Option (List ℕ)). Talked most (n + 1) false (input (reader_of mid)) o xs (input (reader_of b)) (contents (writer_of b))) (ap contents e.0) on in
+      (input (reader_of mid), (x_went.is_next w, (by_most, same)))
 
   -- what a call that failed has sent
   failed_call : (xs : List ℕ) (a : PipeLink R W) (q : Request) (f : LinkFault) (b : PipeLink R W) → contents (writer_of a) ≡ Some xs → Asks input contents puts broken_writer a q (Err f) b → Grows xs (contents (writer_of b))
   failed_call xs a q f b is (inl x) = stays xs (contents (writer_of a)) (contents (writer_of b)) is (ap contents x.1.1.1)
   failed_call xs a q f b is (inr (inl x)) = stays xs (contents (writer_of a)) (contents (writer_of b)) is (ap contents x.1.1.1)
-  failed_call xs a q f b is (inr (inr (_, inl x))) =
+  failed_call xs a q f b is (inr (inr (inl x))) = stays xs (contents (writer_of a)) (contents (writer_of b)) is (ap contents x.1.1.1.1)
+  failed_call xs a q f b is (inr (inr (inr (_, (_, (ahead, (_, inl (_, inl x)))))))) =
       let sent = request_frame (given_of a + 1) q in
-      (spelled sent, grown xs (spelled sent) (contents (writer_of b)) (subst (λ (o : Option (List ℕ)). Appends o (contents (writer_of b)) (spelled sent)) is x.0.0))
-  failed_call xs a q f b is (inr (inr (_, inr x))) = sent_part x.0 (request_frame (given_of a + 1) q) xs (contents (writer_of a)) (contents (writer_of b)) (puts (writer_of a)) (puts (writer_of b)) (broken_writer (writer_of b)) is x.1.1.0
+      (bytes_of sent ahead, grown xs (bytes_of sent ahead) (contents (writer_of b)) (subst (λ (o : Option (List ℕ)). Appends o (contents (writer_of b)) (bytes_of sent ahead)) is x.0.0))
+  failed_call xs a q f b is (inr (inr (inr (_, (_, (ahead, (_, inl (_, inr x)))))))) = sent_part x.0 (request_frame (given_of a + 1) q) ahead xs (contents (writer_of a)) (contents (writer_of b)) (puts (writer_of a)) (puts (writer_of b)) (broken_writer (writer_of b)) is x.1.1.0
+  failed_call xs a q f b is (inr (inr (inr (_, (_, (ahead, (_, inr x))))))) = stays xs (contents (writer_of a)) (contents (writer_of b)) is (ap contents x.1.0)
 
   -- what was sent after the last request that was answered
   sent_last : (xs : List ℕ) (s : State) (rs : List Reply) (old : Writer) (a : PipeLink R W) (result : Result ⊤ RunFault) (b : Ends (PipeLink R W))
@@ -164,17 +205,21 @@ some_is : {X : Type 0} (x y : X) → Some x ≡ Some y → x ≡ y
 some_is x y e = cc
 
 -- known bytes stay known
-one_sent : (most : ℕ) (sent : Frame) (a b : Input) (xs : List ℕ) (old new : Option (List ℕ)) (puts puts' : List ℕ) (r : Reply) (broken : ℕ) → old ≡ Some xs → Exchanged_over most sent a b old new puts puts' (Ok r) broken → new ≡ Some (xs ++ spelled sent)
-one_sent most sent a b xs old new puts puts' r broken is (inl x) = grown xs (spelled sent) new (subst (λ (o : Option (List ℕ)). Appends o new (spelled sent)) is x.0.0)
-one_sent most sent a b xs old new puts puts' r broken is (inr x) = absurd (cc x.1.0)
+one_sent : (most : ℕ) (sent : Frame) (ahead : Bool) (a b : Input) (xs : List ℕ) (old new : Option (List ℕ)) (puts puts' : List ℕ) (r : Reply) (broken : ℕ) → old ≡ Some xs → Exchanged_over most sent ahead a b old new puts puts' (Ok r) broken → new ≡ Some (xs ++ bytes_of sent ahead)
+one_sent most sent ahead a b xs old new puts puts' r broken is (inl x) = grown xs (bytes_of sent ahead) new (subst (λ (o : Option (List ℕ)). Appends o new (bytes_of sent ahead)) is x.0.0)
+one_sent most sent ahead a b xs old new puts puts' r broken is (inr x) = absurd (cc x.1.0)
 
-known : (most n : ℕ) (a b : Input) (xs : List ℕ) (old new : Option (List ℕ)) (ys : Exchanges) → old ≡ Some xs → Talked most n a old ys b new → Grows xs new
-known most n a b xs old new [] is t = stays xs old new is t.1
-known most n a b xs old new (y ∷ ys) is t =
+known : (most n : ℕ) (waits : Bool) (a b : Input) (xs : List ℕ) (old new : Option (List ℕ)) (ys : Exchanges) → old ≡ Some xs → Talked most n waits a old ys b new → Grows xs new
+known most n false a b xs old new [] is t = stays xs old new is t.1
+known most n true a b xs old new [] is t = stays xs old new is t.1
+known most n false a b xs old new (y ∷ ys) is t =
     let sent = request_frame n y.0 in
-    let one = one_sent most sent a t.0 xs old t.1.0 t.1.1.0 t.1.1.1.0 y.1 t.1.1.1.1.0 is t.1.1.1.1.1.0 in
-    let on = known most (n + 1) t.0 b (xs ++ spelled sent) t.1.0 new ys one t.1.1.1.1.1.1 in
-    (spelled sent ++ on.0, on.1 ∙ ap Some (append_assoc xs (spelled sent) on.0))
+    let ahead = t.1.1.1.1.1.0 in
+    let e = t.1.1.1.1.1.1 in
+    let one = one_sent most sent ahead a t.0 xs old t.1.0 t.1.1.0 t.1.1.1.0 y.1 t.1.1.1.1.0 is e.0 in
+    let on = known most (n + 1) ahead t.0 b (xs ++ bytes_of sent ahead) t.1.0 new ys one e.1 in
+    (bytes_of sent ahead ++ on.0, on.1 ∙ ap Some (append_assoc xs (bytes_of sent ahead) on.0))
+known most n true a b xs old new (y ∷ ys) is t = known most (n + 1) false t.0 b xs old new ys is t.1.1.1
 
 -- ---- what a host answered, whatever ended it
 
@@ -244,8 +289,8 @@ piped_runs_tell {R} {W} input contents puts broken_writer agree own begin tells 
     let ys : Exchanges = w.runs.exchanges in
     let all : Exchanges = (Boot_with boot limit words, Done) ∷ ys in
     let led : Leads (piped input contents puts broken_writer) first all w.runs.link = (link, (asked, w.runs.led)) in
-    let talk = talked input contents puts broken_writer (most_of first) 1 first w.runs.link all (ap (λ (k : ℕ). k + 1) unused.given) refl led in
-    let sent = known (most_of first) 1 (input (reader_of first)) (input (reader_of w.runs.link)) [] (contents (writer_of first)) (contents (writer_of w.runs.link)) all unused.sent talk in
+    let talk = talked input contents puts broken_writer (most_of first) 1 false first w.runs.link all unused.idle (ap (λ (k : ℕ). k + 1) unused.given) refl led in
+    let sent = known (most_of first) 1 false (input (reader_of first)) (input (reader_of w.runs.link)) [] (contents (writer_of first)) (contents (writer_of w.runs.link)) all unused.sent talk in
     let more = sent_last input contents puts broken_writer sent.0 _ _ old w.runs.link _ _ sent.1 w.runs.last in
     let host = answered_by served s in
     let in_all : written ≡ Some host.wrote.0 = grown [] host.wrote.0 written (subst (λ (o : Option (List ℕ)). Appends o written host.wrote.0) nothing host.wrote.1.1.1) in
@@ -256,8 +301,8 @@ piped_runs_tell {R} {W} input contents puts broken_writer agree own begin tells 
     let front : host.came ++ (host.behind ++ left.0) ≡ forth.0 = sym (append_assoc host.came host.behind left.0) ∙ ap (λ (t : List ℕ). t ++ left.0) host.parts ∙ sym left.1 in
     let requests : host.came ++ ((host.behind ++ left.0) ++ forth.1.0) ≡ sent.0 ++ more.0 =
     sym (append_assoc host.came (host.behind ++ left.0) forth.1.0) ∙ ap (λ (t : List ℕ). t ++ forth.1.0) front ∙ some_is (forth.0 ++ forth.1.0) (sent.0 ++ more.0) (sym forth.1.1.1 ∙ more.1) in
-    let talk_known = subst (λ (x : Option (List ℕ)). Talked (most_of first) 1 (input (reader_of first)) x all (input (reader_of w.runs.link)) (contents (writer_of w.runs.link))) unused.sent talk in
-    let talk_sent = subst (λ (x : Option (List ℕ)). Talked (most_of first) 1 (input (reader_of first)) (Some []) all (input (reader_of w.runs.link)) x) sent.1 talk_known in
+    let talk_known = subst (λ (x : Option (List ℕ)). Talked (most_of first) 1 false (input (reader_of first)) x all (input (reader_of w.runs.link)) (contents (writer_of w.runs.link))) unused.sent talk in
+    let talk_sent = subst (λ (x : Option (List ℕ)). Talked (most_of first) 1 false (input (reader_of first)) (Some []) all (input (reader_of w.runs.link)) x) sent.1 talk_known in
     let same = agree (most_of first) most (input (reader_of first)) (input (reader_of w.runs.link)) a host.middle host.exchanges all given (back.1.0 ++ host.wrote.1.0) sent.0 host.came ((host.behind ++ left.0) ++ forth.1.0) more.0
     back.1.1.0 replies host.fit host.taken requests talk_sent in
     let led_on : Forth Waiting (all ++ same.0) host.phase = subst (λ (xs : Exchanges). Forth Waiting xs host.phase) same.1 (in_order host.exchanges host.phase host.led) in

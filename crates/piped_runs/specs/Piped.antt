@@ -1,5 +1,5 @@
 -- A run over a pipe, at whose other end a host serves.
-use Rattle.std.specs.Prelude.{◌≡◌, ℕ, List, [], ◌++◌, Option, Some, Result, Ok}
+use Rattle.std.specs.Prelude.{◌≡◌, ℕ, false, List, [], ◌++◌, Option, Some, Result, Ok}
 use Rattle.lx_abi.specs.declared.boot.Boot.{Boot}
 use Rattle.lx_abi.specs.declared.outcome.Outcome.{Outcome}
 use Rattle.lx_abi.specs.declared.ptrace.Reply.TheVariants.{Done}
@@ -10,7 +10,7 @@ use Rattle.lx_abi.specs.Scripts.{choice_of}
 use Rattle.lx_boot.specs.First.{first_shared}
 use Rattle.lx_exec.specs.Programs.{booted}
 use Rattle.host_wire.specs.Ends.{Input}
-use Rattle.host_link.specs.PipeLinks.{Asks, faults_of, given_of, reader_of, writer_of}
+use Rattle.host_link.specs.PipeLinks.{Asks, faults_of, given_of, reader_of, waits_of, writer_of}
 use Rattle.host_link.specs.declared.local.LocalLink.{LocalLink}
 use Rattle.host_link.specs.declared.pipe.PipeLink.{PipeLink}
 use Rattle.host_serve.specs.Hosted.{Answers_by, Boots_by, IsFirst, left_by}
@@ -35,6 +35,7 @@ piped input contents puts broken a q r b =
 pub record IsUnused {R W : Type 0} (contents : W → Option (List ℕ)) (l : PipeLink R W) : Type 0 where
   pub given : given_of l ≡ 0
   pub whole : faults_of l ≡ 0
+  pub idle : waits_of l ≡ false
   pub sent : contents (writer_of l) ≡ Some []
 
 -- what this reader gives, from its first byte on, begins what that writer was given
