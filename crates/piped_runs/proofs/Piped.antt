@@ -147,13 +147,13 @@ module _ {R W : Type 0} (input : R → Input) (contents : W → Option (List ℕ
 
   sent_now : (a : PipeLink R W) (sent : Frame) (ahead : Bool) (r : Reply) (b : PipeLink R W) → waits_of a ≡ false → RepliedTo input contents puts broken_writer a sent ahead (Ok r) b
       → Exchanged_over (most_of a) sent ahead (input (reader_of a)) (input (reader_of b)) (contents (writer_of a)) (contents (writer_of b)) (puts (writer_of a)) (puts (writer_of b)) (Ok r) (broken_writer (writer_of b))
-  sent_now a sent ahead r b no (inl x) = x.1
-  sent_now a sent ahead r b no (inr x) = absurd (cc (sym no ∙ x.0))
+  sent_now a sent ahead r b idle (inl x) = x.1
+  sent_now a sent ahead r b idle (inr x) = absurd (cc (sym idle ∙ x.0))
 
   sent_before : (a : PipeLink R W) (sent : Frame) (ahead : Bool) (r : Reply) (b : PipeLink R W) → waits_of a ≡ true → RepliedTo input contents puts broken_writer a sent ahead (Ok r) b
       → (writer_of b ≡ writer_of a) × Came (most_of a) (input (reader_of a)) (Ok r) sent (input (reader_of b))
-  sent_before a sent ahead r b yes (inl x) = absurd (cc (sym yes ∙ x.0))
-  sent_before a sent ahead r b yes (inr x) = x.1
+  sent_before a sent ahead r b waits (inl x) = absurd (cc (sym waits ∙ x.0))
+  sent_before a sent ahead r b waits (inr x) = x.1
 
   talked : (most n : ℕ) (waits : Bool) (a b : PipeLink R W) (xs : Exchanges) → waits_of a ≡ waits → given_of a + 1 ≡ n → most_of a ≡ most → Leads (piped input contents puts broken_writer) a xs b
       → Talked most n waits (input (reader_of a)) (contents (writer_of a)) xs (input (reader_of b)) (contents (writer_of b))
