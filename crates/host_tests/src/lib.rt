@@ -5,8 +5,6 @@
 #[cfg(test)]
 mod abi;
 #[cfg(test)]
-mod ahead;
-#[cfg(test)]
 mod asking;
 #[cfg(test)]
 mod boots;
