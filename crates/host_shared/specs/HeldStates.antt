@@ -1,5 +1,5 @@
 -- A host with its journal.
-use Rattle.std.specs.Prelude.{◌≡◌, ◌⊎◌, ◌≤◌, ℕ, Bool, true, false, cond, ◌||◌, nat_le, List, [], ◌∷◌, ◌++◌, length, get_or, Option, Some, None}
+use Rattle.std.specs.Prelude.{◌≡◌, ◌⊎◌, ◌≤◌, ℕ, Bool, true, false, cond, ◌||◌, nat_le, List, [], ◌∷◌, ◌++◌, length, Option, Some, None}
 use Rattle.lx_abi.specs.declared.boot.Boot.{Boot}
 use Rattle.lx_abi.specs.declared.ptrace.Reply.{Reply}
 use Rattle.lx_abi.specs.declared.ptrace.Reply.TheVariants.{OutOfTurns as Out_of_turns}
@@ -68,11 +68,6 @@ abbrev pub Keeps : Boot → HostState → List Entry → ℕ → ℕ → ℕ →
 Keeps boot host journal limit events last pending closed failed =
     (failed ≡ true → closed ≡ true)
     × (failed ≡ false → Counts (held_by boot host journal limit closed failed) events last pending)
-
--- each that is told to follow a process has the next turn after it
-abbrev pub Knows : HostState → List (Option ℕ) → Type 0
-Knows h followers = (p q : ℕ) → get_or followers p None ≡ Some q →
-    next_able (readiness_of h).able (readiness_of h).last_pid p ≡ Some q
 
 abbrev pub Stopped : HeldState → Type 0
 Stopped h = (h.failed ≡ true) × (h.closed ≡ true)

@@ -6,9 +6,8 @@ ghost use Rattle.lx_boot.specs.declared.boots.BootFault.{BootFault};
 ghost use Rattle.pt_model.specs.Ptrace.{is_there};
 ghost use Rattle.pt_kernel.specs.Hosts.{is_boot};
 ghost use Rattle.pt_journal.specs.Journals.{is_outcome as is_outcome_of};
-ghost use Rattle.host_shared.specs.HeldStates.{first_held, asked, next_after_last, next_turn, Turned, serve_of, CanPut, CanServe, IsKept, Stopped};
+ghost use Rattle.host_shared.specs.HeldStates.{first_held, asked, next_turn, Turned, serve_of, CanPut, CanServe, IsKept, Stopped};
 
-use crate::followers::Followers;
 use crate::steps;
 use lx_abi::{Boot, Reply, Request};
 use lx_boot::BootFault;
@@ -38,8 +37,6 @@ pub struct Held {
     events: u64,
     /// The pid of the last turn, 0 at first.
     last: u32,
-    /// Who has the next turn after whom, as it is known since the last event that may have changed it.
-    followers: Followers,
     /// A request is pending.
     pending: bool,
     /// Nothing more is done.
@@ -51,8 +48,7 @@ pub struct Held {
 impl Model for Held {
     ghost use Rattle.std.specs.Coded.{codes};
     ghost use Rattle.std.specs.FinMap as maps;
-    ghost use Rattle.std.specs.Prelude.{◌≡◌, false};
-    ghost use Rattle.host_shared.specs.HeldStates.{HeldState, held_by, Keeps, Knows};
+    ghost use Rattle.host_shared.specs.HeldStates.{HeldState, held_by, Keeps};
 
     ghost Value = { HeldState };
 
@@ -60,8 +56,7 @@ impl Model for Held {
 
     ghost view = { λ h. held_by h.boot h.host h.journal h.limit h.closed h.failed };
 
-    ghost invariant = { λ h. Keeps h.boot h.host h.journal h.limit h.events h.last h.pending h.closed h.failed
-        × (h.failed ≡ false → Knows h.host h.followers) };
+    ghost invariant = { λ h. Keeps h.boot h.host h.journal h.limit h.events h.last h.pending h.closed h.failed };
 }
 
 fn is_outcome(reply: &Reply) -> bool
@@ -94,7 +89,6 @@ impl Held {
                 limit,
                 events: 0,
                 last: 0,
-                followers: Followers::none(),
                 pending: false,
                 closed: false,
                 failed: false,
@@ -116,7 +110,6 @@ impl Held {
         match steps::put(self.alloc, &mut self.host, &mut self.journal, request) {
             Ok(()) => {
                 self.pending = true;
-                self.followers = Followers::none();
                 Ok(())
             }
             Err(Memory) => {
@@ -124,16 +117,6 @@ impl Held {
                 self.closed = true;
                 Err(Memory)
             }
-        }
-    }
-
-    /// The next able process in the cycle of pids after that of the last turn.
-    fn next(&self) -> Option<u32>
-        ensures { self.now.failed ≡ false → result ≡ next_after_last self.now }
-    {
-        match self.followers.after(self.last) {
-            Some(pid) => Some(pid),
-            None => next_able(&self.host, self.last),
         }
     }
 
@@ -150,16 +133,11 @@ impl Held {
         if self.closed || self.limit <= self.events {
             return Ok(false);
         }
-        let Some(pid) = self.next() else {
+        let Some(pid) = next_able(&self.host, self.last) else {
             return Ok(false);
         };
         match steps::turn(&mut self.host, &mut self.journal, pid) {
-            Ok(alike) => {
-                if alike {
-                    self.followers.learn(self.last, pid);
-                } else {
-                    self.followers = Followers::none();
-                }
+            Ok(()) => {
                 self.events += 1;
                 self.last = pid;
                 Ok(true)
@@ -188,7 +166,7 @@ impl Held {
             return Ok(Some(Reply::OutOfTurns));
         }
         if !self.host.ready() {
-            if self.next().is_some() {
+            if next_able(&self.host, self.last).is_some() {
                 return Ok(None);
             }
             self.closed = true;
@@ -197,7 +175,6 @@ impl Held {
         match steps::serve(self.alloc, &mut self.host, &mut self.journal) {
             Ok(reply) => {
                 self.events += 1;
-                self.followers = Followers::none();
                 self.pending = false;
                 self.closed = is_outcome(&reply);
                 Ok(Some(reply))

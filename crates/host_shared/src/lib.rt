@@ -1,7 +1,6 @@
 //! A host that several threads turn under a lock, with a journal of what was done to it.
 #![tactic(auto)]
 
-pub mod followers;
 pub mod held;
 pub mod shared;
 mod steps;

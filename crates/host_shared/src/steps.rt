@@ -4,16 +4,14 @@ ghost use Rattle.std.specs.Prelude.{◌≡◌, ◌++◌, ◌∷◌, [], true, fa
 ghost use Rattle.lx_abi.specs.declared.schedule.Event.TheVariants as event;
 ghost use Rattle.pt_model.specs.Hosting.{with_pending};
 ghost use Rattle.pt_kernel.specs.Hosts.{readiness_of, event_of, is_boot};
-ghost use Rattle.pt_kernel.specs.Bursts.{after, AreAlike};
+ghost use Rattle.pt_kernel.specs.Bursts.{after};
 ghost use Rattle.pt_journal.specs.declared.entry.Entry.TheVariants as entry;
 
 use crate::held::Memory;
 use lx_abi::{Event, Reply, Request};
 use lx_copies::Copied;
-use lx_kernel::Failed;
 use pt_journal::Journal;
 use pt_kernel::Host;
-use pt_kernel::laws::bursts_leave_alike;
 use std::alloc::Global;
 
 /// Puts a request, where none is pending.
@@ -41,30 +39,16 @@ pub fn put(
     }
 }
 
-/// A turn of a process in the host: whether it ran an instruction, which leaves able who was able.
-fn turn_host(host: &mut Host, pid: u32) -> Result<bool, Failed>
-    ensures host { OnOk result (host.new ≡ after host.old (event.Turn pid)) }
-    ensures alike { IfOk result (λ alike. alike ≡ true → AreAlike host.old host.new) }
-{
-    bursts_leave_alike();
-    if host.run(pid, 1)? == 1 {
-        return Ok(true);
-    }
-    host.event(Event::Turn { pid })?;
-    Ok(false)
-}
-
-/// A turn of a process: whether those who are able are sure to be the same as before.
-pub fn turn(host: &mut Host, journal: &mut Journal, pid: u32) -> Result<bool, Memory>
+/// A turn of a process.
+pub fn turn(host: &mut Host, journal: &mut Journal, pid: u32) -> Result<(), Memory>
     ensures host { OnOk result (host.new ≡ after host.old (event.Turn pid)) }
     ensures journal { OnOk result (journal.new ≡ journal.old ++ entry.Did (event.Turn pid) None ∷ []) }
-    ensures alike { IfOk result (λ alike. alike ≡ true → AreAlike host.old host.new) }
 {
     if journal.turn(pid).is_err() {
         return Err(Memory);
     }
-    match turn_host(host, pid) {
-        Ok(alike) => Ok(alike),
+    match host.event(Event::Turn { pid }) {
+        Ok(_) => Ok(()),
         Err(_) => Err(Memory),
     }
 }

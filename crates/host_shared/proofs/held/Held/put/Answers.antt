@@ -7,4 +7,4 @@ pub invariant_of-self : goal.invariant_of-self
 invariant_of-self c =
     let s = c.self.inside in
     let can = can_go (held_by s.boot s.host s.journal s.limit s.closed s.failed) (subst (λ (h : HeldState). CanPut h) (sym c.self.view_is) c.requires.can) c.if-self.false in
-    keeps_asked s.boot s.host s.journal s.limit s.events s.last s.pending s.closed s.failed c.self.invariant.0 c.if-self.false can.0 c.args.request can.1 c.put.new.host c.in-Ok.ensures.host c.put.new.journal c.in-Ok.ensures.journal
+    keeps_asked s.boot s.host s.journal s.limit s.events s.last s.pending s.closed s.failed c.self.invariant c.if-self.false can.0 c.args.request can.1 c.put.new.host c.in-Ok.ensures.host c.put.new.journal c.in-Ok.ensures.journal
