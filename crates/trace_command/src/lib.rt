@@ -8,7 +8,6 @@ mod kernel;
 mod lines;
 mod place;
 mod plan;
-mod running;
 mod threads;
 mod tracing;
 mod turns_out;

@@ -1,46 +1,33 @@
-//! Outputs of lines.
+//! Where the trace goes.
 
 ghost use Rattle.std.specs.Prelude.{◌≡◌};
 
-use host_wire::{Broken, Counted, Sink};
-use std::io::Write;
+use host_wire::{Broken, Sink};
 
-/// A writer that knows whether the line that it wrote last is open.
-pub trait LineSink: Sink {
-    /// The last line isn't ended.
-    fn is_open(&self) -> bool;
-}
-
-/// A writer of std as one.
+/// A writer of the trace, which knows whether the line that it wrote last is open.
 #[derive(Drop)]
-pub struct Lines<W> {
-    sink: Counted<W>,
+pub struct Lines<S> {
+    sink: S,
     open: bool,
 }
 
-impl<W: Write> Lines<W> {
-    ghost use Rattle.trace_run.specs.Writers.{writer_of};
-    ghost use Rattle.trace_command.specs.Tracing.{unused};
-    ghost use Rattle.trace_command.specs.Writers.{broken_of, contents_of, puts_of};
+impl<S> Lines<S> {
+    pub fn new(sink: S) -> Self {
+        Lines { sink, open: false }
+    }
 
-    pub fn new(writer: W) -> Self
-        ensures { writer_of (contents_of W.contents) puts_of broken_of result ≡ unused (W.contents writer) }
-    {
-        Lines {
-            sink: Counted::new(writer),
-            open: false,
-        }
+    /// The last line isn't ended.
+    pub fn is_open(&self) -> bool {
+        self.open
     }
 }
 
-impl<W: Write> Sink for Lines<W> {
-    ghost use Rattle.trace_command.specs.Writers.{broken_of, contents_of, puts_of};
+impl<S: Sink> Sink for Lines<S> {
+    ghost contents = { λ l. S.contents l.sink };
 
-    ghost contents = { λ l. contents_of W.contents l };
+    ghost puts = { λ l. S.puts l.sink };
 
-    ghost puts = { λ l. puts_of l };
-
-    ghost broken = { λ l. broken_of l };
+    ghost broken = { λ l. S.broken l.sink };
 
     fn put(&mut self, bytes: &[u8]) -> Result<(), Broken> {
         if let Some(last) = bytes.last() {
@@ -51,11 +38,5 @@ impl<W: Write> Sink for Lines<W> {
 
     fn faults(&self) -> u64 {
         self.sink.faults()
-    }
-}
-
-impl<W: Write> LineSink for Lines<W> {
-    fn is_open(&self) -> bool {
-        self.open
     }
 }
