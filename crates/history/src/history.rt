@@ -16,6 +16,9 @@ impl<T> Model for History<T> {
     ghost also_owns = { λ _. ftrue };
 }
 
+// It owns nothing.
+unsafe impl<T: Send> Send for History<T> {}
+
 impl<T> History<T> {
     pub fn new() -> History<T>
         ensures { result.items ≡ [] }
