@@ -10,6 +10,7 @@ mod log;
 mod plain;
 mod plan;
 mod serving;
+mod together;
 mod words;
 
 pub use entry::{command, tell};

@@ -1,10 +1,12 @@
 //! Requests on standard input, and their replies on standard output.
 
 use crate::drills::{Drill, Drilled};
+use crate::together::{Replies, Requests};
 use host_serve::{ServeFault, serve};
 use host_wire::Counted;
 use lx_abi::Outcome;
 use std::alloc::Global;
+use std::cell::Cell;
 use std::io::{BufReader, Read, Write};
 
 /// The status where a tracer is served no longer.
@@ -39,13 +41,25 @@ fn serve_drilled<I: Read, O: Write>(
     served
 }
 
-/// Answers the frames on `input` by frames to `out`, each in one write, until the end of input.
+/// Answers the frames on `input` by frames to `out`, until the end of input. Requests that came together are answered
+/// by one write.
 #[inline(never)]
 fn answer<I: Read, O: Write>(alloc: Global, input: &mut I, out: &mut O) -> Result<(), ServeFault> {
-    let Ok(mut input) = BufReader::new(alloc, input) else {
+    let has_more = Cell::new(false);
+    let Ok(mut requests) = Requests::new(alloc, input, &has_more) else {
         return Err(ServeFault::Failed);
     };
-    match serve_over(alloc, &mut input, out) {
+    let Ok(mut replies) = Replies::new(alloc, out, &has_more) else {
+        return Err(ServeFault::Failed);
+    };
+    let served = serve_over(alloc, &mut requests, &mut replies);
+    if let Err(ServeFault::Write) = &served {
+        return Err(ServeFault::Write);
+    }
+    if replies.write_out().is_err() {
+        return Err(ServeFault::Write);
+    }
+    match served {
         Ok(_) => Ok(()),
         Err(fault) => Err(fault),
     }
