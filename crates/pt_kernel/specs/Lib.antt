@@ -2,6 +2,7 @@ pub mod Lists
 pub mod Tracees
 pub mod Stops
 pub mod Left
+pub mod Asking
 pub mod Hosts
 pub mod Bursts
 pub mod Attends

@@ -5,7 +5,7 @@ ghost use Rattle.pt_schedule.specs.Schedules.{events_left};
 ghost use Rattle.pt_kernel.specs.Attends.{Attends, Attended};
 
 use crate::host::Host;
-use lx_abi::Reply;
+use lx_abi::{Event, Reply};
 use lx_kernel::Failed;
 use pt_schedule::Schedule;
 
@@ -34,12 +34,16 @@ pub fn attend(host: &mut Host, schedule: &mut Schedule) -> Result<Option<Reply>,
     'events: loop {
         match schedule.next(host) {
             None => return Ok(None),
-            Some(event) => match host.event(event) {
-                Err(failed) => return Err(failed),
-                Ok(Some(reply)) => return Ok(Some(reply)),
-                Ok(None) => {}
-            },
+            Some(Event::Serve) => {
+                if let Some(reply) = host.serve()? {
+                    return Ok(Some(reply));
+                }
+            }
+            Some(Event::Turn { pid }) => {
+                if host.turn(pid)? {
+                    run_row(host, schedule)?;
+                }
+            }
         }
-        run_row(host, schedule)?;
     }
 }

@@ -10,10 +10,11 @@ ghost use Rattle.pt_model.specs.Hosting.{first_hosting, hosting_asked, ready_in}
 ghost use Rattle.pt_kernel.specs.Hosts.{able_in, event_of, hosting_by, is_boot, readiness_of};
 ghost use Rattle.pt_kernel.specs.Bursts.{after, Burst};
 
+use crate::pending::{Asked, Pending};
 use crate::serving::serve;
 use crate::stops::{dies_after, is_effective, stop_after};
 use crate::tracees::{Tracees, Turned};
-use lx_abi::{Boot, Event, Outcome, Reply, Request, Script};
+use lx_abi::{Boot, Event, Mode, Outcome, Reply, Request, Script};
 use lx_boot::BootFault;
 use lx_kernel::{Failed, Kernel};
 use pt_schedule::Schedulable;
@@ -31,7 +32,7 @@ pub struct Host {
     kernel: Kernel,
     tracees: Tracees,
     turns: Turns,
-    pending: Option<Request>,
+    pending: Pending,
     failed: bool,
 }
 
@@ -60,14 +61,19 @@ fn is_able(kernel: &Kernel, tracees: &Tracees, pid: u32) -> bool
 }
 
 /// A request is pending, and would be answered.
-fn is_ready(pending: &Option<Request>, tracees: &Tracees) -> bool
+fn is_ready(pending: &Pending, tracees: &Tracees) -> bool
     ensures { result ≡ ready_in pending.now tracees.now.queue tracees.now.pids }
 {
-    match pending {
-        None | Some(Request::Boot { .. }) => false,
-        Some(Request::Wait) => tracees.can_wait(),
-        Some(Request::To { .. } | Request::Outcome) => true,
+    match &pending.asked {
+        None => false,
+        Some(Asked::Wait) => tracees.can_wait(),
+        Some(Asked::To { .. } | Asked::Outcome) => true,
     }
+}
+
+/// The next turn of a process that stands there may run an instruction.
+fn runs_on(mode: Option<Mode>) -> bool {
+    matches!(mode, Some(Mode::Run))
 }
 
 impl Host {
@@ -91,7 +97,7 @@ impl Host {
             kernel,
             tracees,
             turns: Turns::new(alloc),
-            pending: None,
+            pending: Pending::none(),
             failed: false,
         })
     }
@@ -109,12 +115,12 @@ impl Host {
         if self.pending.is_some() {
             return Err(Busy);
         }
-        self.pending = Some(request);
+        self.pending = Pending::of(request);
         Ok(())
     }
 
-    /// One turn of a process, if its tracer doesn't hold it.
-    fn turn(&mut self, pid: u32) -> Result<(), Failed>
+    /// One turn of a process, if its tracer doesn't hold it; true where the next may run an instruction.
+    pub(crate) fn turn(&mut self, pid: u32) -> Result<bool, Failed>
         ensures after { OnOk result (self.new ≡ after self.old (Event.Turn pid)) }
         ensures failed { OnErr result (IsTrue self.new.failed) }
         ensures failed_before { IsTrue self.old.failed → IsErr result }
@@ -124,7 +130,7 @@ impl Host {
         }
         let traced = self.tracees.traced(pid);
         if !is_effective(&self.kernel, pid, traced) {
-            return Ok(());
+            return Ok(false);
         }
         self.failed = true;
         let moved = self.kernel.turn(pid)?;
@@ -136,11 +142,11 @@ impl Host {
         self.tracees.turn(pid, traced, turned)?;
         self.turns.push(pid)?;
         self.failed = false;
-        Ok(())
+        Ok(runs_on(moved.after))
     }
 
     /// The pending request is served whole.
-    fn serve(&mut self) -> Result<Option<Reply>, Failed>
+    pub(crate) fn serve(&mut self) -> Result<Option<Reply>, Failed>
         ensures after { OnOk result (self.new ≡ after self.old Event.Serve) }
         ensures reply { IfOk result (λ r. r ≡ (event_of self.old Event.Serve).reply) }
         ensures failed { OnErr result (IsTrue self.new.failed) }

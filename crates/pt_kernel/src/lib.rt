@@ -5,6 +5,7 @@ pub mod answers;
 pub mod attending;
 pub mod host;
 pub mod laws;
+pub mod pending;
 pub mod queue;
 pub mod serving;
 pub mod stops;

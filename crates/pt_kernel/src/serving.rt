@@ -5,38 +5,39 @@ ghost use Rattle.lx_abi.specs.declared.ptrace.Request.{Request};
 ghost use Rattle.lx_turn.specs.Linux.{linux};
 ghost use Rattle.lx_kernel.specs.Outcomes.{outcome_in};
 ghost use Rattle.pt_model.specs.Hosting.{hosting_serve, hosting_pending};
+ghost use Rattle.pt_kernel.specs.Asking.{request_of};
 ghost use Rattle.pt_kernel.specs.Hosts.{hosting_by, IsSwept, made};
 
 use crate::answers::answer;
+use crate::pending::{Asked, Pending};
 use crate::tracees::Tracees;
-use lx_abi::{Reply, Request};
+use lx_abi::Reply;
 use lx_kernel::{Failed, Kernel};
 
 /// A request is answered; none where Wait stays pending.
-fn answer_request(
+fn answer_asked(
     kernel: &mut Kernel,
     tracees: &mut Tracees,
-    request: &Request,
+    asked: &Asked,
 ) -> Result<Option<Reply>, Failed>
     requires { IsSwept kernel.old.running }
     ensures answer { IfOk result
         (λ r. (turns : List ℕ) (pending : Option Request)
         → made (hosting_by kernel.new.running tracees.new turns pending) r
         ≡ hosting_serve linux outcome_in
-        (hosting_by kernel.old.running tracees.old turns pending) request.now) }
+        (hosting_by kernel.old.running tracees.old turns pending) (request_of asked.now)) }
     ensures script { OnOk result ((kernel.new.script ≡ kernel.old.script) × (kernel.new.follow ≡ kernel.old.follow)) }
 {
-    match request {
-        Request::Boot { .. } => Ok(None),
-        Request::Wait => {
+    match asked {
+        Asked::Wait => {
             let reply = tracees.wait()?;
             Ok(reply)
         }
-        Request::To { pid, ask } => {
+        Asked::To { pid, ask } => {
             let reply = answer(kernel, tracees, *pid, ask)?;
             Ok(Some(reply))
         }
-        Request::Outcome => {
+        Asked::Outcome => {
             let outcome = kernel.outcome()?;
             Ok(Some(Reply::Outcome { outcome }))
         }
@@ -48,7 +49,7 @@ fn answer_request(
 pub fn serve(
     kernel: &mut Kernel,
     tracees: &mut Tracees,
-    pending: &mut Option<Request>,
+    pending: &mut Pending,
 ) -> Result<Option<Reply>, Failed>
     requires { IsSwept kernel.old.running }
     ensures served { IfOk result
@@ -58,12 +59,12 @@ pub fn serve(
         (hosting_by kernel.old.running tracees.old turns pending.old) pending.old) }
     ensures script { OnOk result ((kernel.new.script ≡ kernel.old.script) × (kernel.new.follow ≡ kernel.old.follow)) }
 {
-    match pending.take() {
+    match &pending.asked {
         None => Ok(None),
-        Some(request) => {
-            let reply = answer_request(kernel, tracees, &request)?;
-            if reply.is_none() {
-                *pending = Some(request);
+        Some(asked) => {
+            let reply = answer_asked(kernel, tracees, asked)?;
+            if reply.is_some() {
+                pending.asked = None;
             }
             Ok(reply)
         }

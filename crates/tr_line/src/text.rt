@@ -1,12 +1,22 @@
 //! Text under way.
 
-ghost use Rattle.std.specs.Prelude.{◌≡◌, ◌++◌, [], IfOk, OnOk, length, decimal, codes, replicate, false};
+ghost use Rattle.std.specs.Prelude.{◌≡◌, ◌≤◌, ◌++◌, [], IfOk, OnOk, length, decimal, codes, replicate, false};
 ghost use Rattle.std.specs.Fmt.{digits};
 
 use containers::Bytes;
 use itoa::Buffer;
 use std::alloc::{AllocError, Global};
 use std::marker::Model;
+
+/// Spaces for most gaps.
+const BLANKS: &[u8] = &[b' '; 64];
+
+fn blanks(n: usize) -> &'static [u8]
+    requires { n ≤ 64 }
+    ensures { result.now ≡ replicate n 32 }
+{
+    &BLANKS[..n]
+}
 
 /// Text under way, which contracts see as the list of its bytes.
 #[derive(Drop)]
@@ -67,6 +77,9 @@ impl Text {
     pub(crate) fn spaces(&mut self, n: usize) -> Result<(), AllocError>
         ensures { OnOk result (self.new ≡ self.old ++ replicate n 32) }
     {
+        if n <= 64 {
+            return self.bytes.extend_from_slice(blanks(n));
+        }
         let Some(length) = self.len().checked_add(n) else {
             return Err(AllocError);
         };
