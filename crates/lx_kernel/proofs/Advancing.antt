@@ -1,6 +1,6 @@
 -- Turns of one process in a row that are made in place.
-use Rattle.std.proofs.Common.{◌≡◌, ◌≢◌, ℕ, zero, suc, Bool, true, false, not, List, ◌++◌, Option, Some, None, refl, ap, sym, subst, ◌∙◌, inl, inr, unwrap_or}
-use Rattle.std.specs.Prelude.{◌||◌, IsTrue}
+use Rattle.std.proofs.Common.{◌≡◌, ◌≢◌, ◌⊎◌, ℕ, zero, suc, Bool, true, false, not, List, ◌++◌, Option, Some, None, refl, ap, sym, subst, ◌∙◌, inl, inr, unwrap_or}
+use Rattle.std.specs.Prelude.{◌||◌, IsTrue, is_some}
 use Rattle.std.specs.Option.{option_to_list}
 use Rattle.std.specs.FinMap as maps
 use Rattle.std.proofs.lemmas.List.{append-nil}
@@ -11,6 +11,7 @@ use Rattle.lx_abi.specs.declared.log.Item.TheVariants as items
 use Rattle.lx_abi.specs.declared.log.Mode.{Mode}
 use Rattle.lx_abi.specs.declared.log.Mode.TheVariants as mode
 use Rattle.lx_abi.specs.declared.script.Choice.{Choice}
+use Rattle.lx_abi.specs.declared.signal.Signal.{Signal}
 use Rattle.lx_abi.specs.Log.{entries}
 use Rattle.lx_abi.specs.Occurrences.{count_of}
 use Rattle.lx_abi.specs.Scripts.{choice_of}
@@ -35,17 +36,26 @@ use Rattle.lx_turn.specs.Modes.{task_mode}
 use Rattle.lx_turn.specs.Reactions.{resumed, runs, next_of, is_killed}
 use Rattle.lx_turn.specs.Turned.{Turned, turned, goes_on}
 use Rattle.lx_turn.specs.declared.injection.Injection.{Injection}
-use Rattle.lx_kernel.specs.Advances.{GoesOn, IsQuiet, Quietly, IsTurn, Leads, Fits, left, PartLeads, IsDone, StaysRunning, ComesToCall, RunLeads, IsAtCall}
+use Rattle.lx_kernel.specs.Advances.{GoesOn, IsQuiet, Quietly, IsTurn, Leads, Fits, left, with_log, PartLeads, IsDone, StaysRunning, ComesToCall, RunLeads, IsAtCall}
 use Rattle.lx_kernel.specs.Blocking.{can_turn}
-use Rattle.lx_kernel.specs.Bursts.{Follows}
+use Rattle.lx_kernel.specs.Bursts.{Follows, with_tasks}
 use Rattle.lx_kernel.specs.Moves.{IsMove}
 use Rattle.lx_kernel.specs.Runs.{Run, turn_in, after_turn, mode_in, is_able_in}
+use Rattle.lx_kernel.specs.Scheduling.{Tasks}
 use Rattle.lx_kernel.specs.Sleeping.{IsKept}
 use Rattle.lx_kernel.proofs.InPlace.{entered}
 use Rattle.lx_kernel.proofs.Moving.{able_where_turns}
 use Rattle.lx_kernel.proofs.OwnCalls.{not_waiting}
 use Rattle.lx_kernel.proofs.Placed.{get_put, put_same, put_twice}
 use Rattle.lx_kernel.proofs.Waiting.{does_waits}
+
+pub nothing : {X : Type 0} (o : Option X) → is_some o ≡ false → o ≡ None
+nothing None e = refl
+nothing (Some x) e = absurd (cc e)
+
+-- from where a process only goes on into Run
+abbrev Starts : Stage → Type 0
+Starts stage = (stage ≡ stages.Born) ⊎ ((stage ≡ stages.Finished) ⊎ (stage ≡ stages.Woken))
 
 -- One turn more
 
@@ -139,6 +149,9 @@ module _ (t : Injection) (s : Shared) (child p : ℕ) where
   pub part_none : (task : Task UserState) → PartLeads t s child p 0 task None task
   part_none task = λ k fits there. (refl, refl, left_same k p task there)
 
+  pub none_leads : (task : Task UserState) (item : Option Item) → item ≡ None → PartLeads t s child p 0 task item task
+  none_leads task item none = subst (λ o. PartLeads t s child p 0 task o task) (sym none) (part_none task)
+
   -- one turn
   pub part_one : (task : Task UserState) (b : UserState) (next : Stage) (item : Option Item) → turned (part_turn task) ≡ goes_on s b next item → PartLeads t s child p 1 task item (Alive b next)
   part_one task b next item is = λ k fits there. (k, refl, last_turn k fits task there b next item is)
@@ -168,15 +181,19 @@ module _ (t : Injection) (s : Shared) (child p : ℕ) where
     unfolding can_turn
     can_run b = refl
 
-    -- a process that goes on into Run
-    pub from_born : (b : UserState) → turned (part_turn (Alive b stages.Born)) ≡ goes_on s b stages.Run None
+    from_born : (b : UserState) → turned (part_turn (Alive b stages.Born)) ≡ goes_on s b stages.Run None
     from_born b = ap turned (lives_is b stages.Born)
 
-    pub from_finished : (b : UserState) → turned (part_turn (Alive b stages.Finished)) ≡ goes_on s b stages.Run None
+    from_finished : (b : UserState) → turned (part_turn (Alive b stages.Finished)) ≡ goes_on s b stages.Run None
     from_finished b = ap turned (lives_is b stages.Finished)
 
-    pub from_woken : (b : UserState) → turned (part_turn (Alive b stages.Woken)) ≡ goes_on s b stages.Run None
+    from_woken : (b : UserState) → turned (part_turn (Alive b stages.Woken)) ≡ goes_on s b stages.Run None
     from_woken b = ap turned (lives_is b stages.Woken)
+
+    start_is : (b : UserState) (stage : Stage) → Starts stage → turned (part_turn (Alive b stage)) ≡ goes_on s b stages.Run None
+    start_is b stage (inl is) = ap (λ x. turned (part_turn (Alive b x))) is ∙ from_born b
+    start_is b stage (inr (inl is)) = ap (λ x. turned (part_turn (Alive b x))) is ∙ from_finished b
+    start_is b stage (inr (inr is)) = ap (λ x. turned (part_turn (Alive b x))) is ∙ from_woken b
 
     run_unfinished : Some (stage_mode stages.Run) ≢ Some mode.Finished
     run_unfinished e = cc e
@@ -212,11 +229,10 @@ module _ (t : Injection) (s : Shared) (child p : ℕ) where
           (to_call m b c follows called)))
 
       -- from where a process goes on into Run
-      pub start_leads : (n m : ℕ) (b : UserState) (stage : Stage) (item : Option Item) (task : Task UserState) → turned (part_turn (Alive b stage)) ≡ goes_on s b stages.Run None
-          → n ≡ suc m → RunLeads p m b item task → PartLeads t s child p n (Alive b stage) item task
-      start_leads n m b stage item task is count leads =
+      pub start_leads : (n m : ℕ) (b : UserState) (stage : Stage) (item : Option Item) (task : Task UserState) → Starts stage → n ≡ suc m → RunLeads p m b item task → PartLeads t s child p n (Alive b stage) item task
+      start_leads n m b stage item task starts count leads =
           subst (λ n. PartLeads t s child p n (Alive b stage) item task) (sym count)
-          (part_more m (Alive b stage) b stages.Run item task is (can_run b) run_unfinished (run_leads m b item task leads))
+          (part_more m (Alive b stage) b stages.Run item task (start_is b stage starts) (can_run b) run_unfinished (run_leads m b item task leads))
 
     -- A call that is done at once
 
@@ -245,7 +261,7 @@ module _ (t : Injection) (s : Shared) (child p : ℕ) where
 abbrev Awake : Stage → Type 0
 Awake stage = (s : Shared) (p : ℕ) (b : UserState) (task : Task UserState) → IsKept s p (Alive b stage) task
 
-pub awake_born : Awake stages.Born
+awake_born : Awake stages.Born
 unfolding can_turn
 awake_born s p b task = (λ e. absurd (cc e), λ e. absurd (cc e))
 
@@ -253,14 +269,38 @@ pub awake_run : Awake stages.Run
 unfolding can_turn
 awake_run s p b task = (λ e. absurd (cc e), λ e. absurd (cc e))
 
-pub awake_finished : Awake stages.Finished
+awake_finished : Awake stages.Finished
 unfolding can_turn
 awake_finished s p b task = (λ e. absurd (cc e), λ e. absurd (cc e))
 
-pub awake_woken : Awake stages.Woken
+awake_woken : Awake stages.Woken
 unfolding can_turn
 awake_woken s p b task = (λ e. absurd (cc e), λ e. absurd (cc e))
 
-pub awake_entered : Awake (stages.Entered None)
+pub awake_entered : (joined : Option Signal) → Awake (stages.Entered joined)
 unfolding can_turn
-awake_entered s p b task = (λ e. absurd (cc e), λ e. absurd (cc e))
+awake_entered joined s p b task = (λ e. absurd (cc e), λ e. absurd (cc e))
+
+pub awake_start : (stage : Stage) → Starts stage → Awake stage
+awake_start stage (inl is) = subst Awake (sym is) awake_born
+awake_start stage (inr (inl is)) = subst Awake (sym is) awake_finished
+awake_start stage (inr (inr is)) = subst Awake (sym is) awake_woken
+
+-- In the table
+
+-- a process that isn't there
+pub absent_leads : (k : Run) (p : ℕ) (tasks tasks' : Tasks) (item : Option Item) → k.running.tasks ≡ tasks → tasks' ≡ tasks → item ≡ None → Leads k p 0 item Plain (with_log (with_tasks k tasks') item)
+absent_leads k p tasks tasks' item here same none =
+    let put : tasks' ≡ k.running.tasks = same ∙ sym here in
+    (none, refl, (λ i. with_log (with_tasks k (put i)) (none i)) ∙ λ i. record k { running = record k.running { log = append-nil k.running.log i } })
+
+-- one whose part was changed in its place
+pub put_leads : (t : Injection) (s : Shared) (child p n : ℕ) (task : Task UserState) (item : Option Item) (task' : Task UserState) → PartLeads t s child p n task item task'
+    → (k : Run) → Fits k t s child p → (tasks tasks' : Tasks) → k.running.tasks ≡ tasks → Some task ≡ maps.get tasks p → tasks' ≡ maps.insert tasks p task' → Leads k p n item Plain (with_log (with_tasks k tasks') item)
+put_leads t s child p n task item task' leads k fits tasks tasks' here there put =
+    let same : maps.insert k.running.tasks p task' ≡ tasks' = ap (λ (m : Tasks). maps.insert m p task') here ∙ sym put in
+    subst (Leads k p n item Plain) (λ i. with_log (with_tasks k (same i)) item)
+    (leads k fits (ap (λ (m : Tasks). maps.get m p) here ∙ sym there))
+
+pub kept_same : (s : Shared) (p : ℕ) (task : Task UserState) → IsKept s p task task
+kept_same s p task = (λ e. e, λ e. e)

@@ -181,15 +181,50 @@ fn go_on(
     ensures console { OnErr result (shared.new.console ≡ shared.old.console) }
 {
     match *stage {
-        Stage::Run => run_to_call(decoder, pid, limit, user, stage, item),
+        Stage::Run => {
+            let ran = run_to_call(decoder, pid, limit, user, stage, item)?;
+            Ok(ran)
+        }
         Stage::Born | Stage::Finished | Stage::Woken if limit > 0 => {
-            go_to_call(decoder, pid, limit, user, stage, item)
+            let ran = go_to_call(decoder, pid, limit, user, stage, item)?;
+            Ok(ran)
         }
         Stage::Entered { joined: None } if limit > 2 => {
-            go_through_call(alloc, shared, injection, child, pid, user, stage, item)
+            let ran = go_through_call(alloc, shared, injection, child, pid, user, stage, item)?;
+            Ok(ran)
         }
         _ => Ok(0),
     }
+}
+
+/// Turns of a living process: none where a signal comes first.
+fn advance_alive(
+    alloc: Global,
+    shared: &mut Shared,
+    decoder: &mut DecodedCode,
+    injection: &Injection,
+    child: u32,
+    pid: u32,
+    limit: u64,
+    user: &mut UserState,
+    stage: &mut Stage,
+    item: &mut Option<Item>,
+) -> Result<u64, AllocError>
+    requires { item.old ≡ None }
+    ensures leads { IfOk result (λ n. PartLeads injection.now shared.old child pid n (Alive user.old stage.old) item.new
+        (Alive user.new stage.new)) }
+    ensures within { IfOk result (λ n. n ≤ limit) }
+    ensures same { OnOk result (shared.new ≡ shared.old) }
+    ensures kept { OnOk result (IsKept shared.old pid (Alive user.old stage.old) (Alive user.new stage.new)) }
+    ensures console { OnErr result (shared.new.console ≡ shared.old.console) }
+{
+    if !is_undisturbed(shared, pid) {
+        return Ok(0);
+    }
+    let turns = go_on(
+        alloc, shared, decoder, injection, child, pid, limit, user, stage, item,
+    )?;
+    Ok(turns)
 }
 
 /// Turns of a process with a part of its own.
@@ -214,12 +249,9 @@ fn advance_task(
 {
     match task {
         Task::Alive { user, stage } => {
-            let mut turns = 0;
-            if is_undisturbed(shared, pid) {
-                turns = go_on(
-                    alloc, shared, decoder, injection, child, pid, limit, user, stage, item,
-                )?;
-            }
+            let turns = advance_alive(
+                alloc, shared, decoder, injection, child, pid, limit, user, stage, item,
+            )?;
             let after = Some(stage.mode());
             Ok(InPlace { turns, after })
         }
