@@ -47,6 +47,15 @@ impl Line {
         }
     }
 
+    /// Adds a number that has one digit, as most have: false, and nothing is added, where it has more.
+    fn push_digit(&mut self, number: u64, base: u64) -> bool {
+        if number >= base {
+            return false;
+        }
+        self.push(DIGITS[(number & 15) as usize]);
+        true
+    }
+
     /// Adds a number in decimal digits.
     fn push_decimal<N: Integer>(&mut self, number: N) {
         let mut buffer = Buffer::new();
@@ -56,6 +65,9 @@ impl Line {
     /// Adds a number in hexadecimal digits.
     fn push_hexadecimal(&mut self, number: u64) {
         self.push_text(b"0x");
+        if self.push_digit(number, 16) {
+            return;
+        }
         let digits = 16 - (number | 1).leading_zeros() / 4;
         for place in 0..digits {
             let digit = number >> (4 * (digits - 1 - place)) & 15;
@@ -67,7 +79,9 @@ impl Line {
     fn push_head(&mut self, letter: u8, pid: u32) {
         self.push(letter);
         self.push(b' ');
-        self.push_decimal(pid);
+        if !self.push_digit(u64::from(pid), 10) {
+            self.push_decimal(pid);
+        }
         self.push(b' ');
     }
 
@@ -82,7 +96,9 @@ impl Line {
 
     fn push_result(&mut self, pid: u32, value: i64, replaced: bool) {
         self.push_head(b'D', pid);
-        self.push_decimal(value);
+        if !self.push_digit(value.cast_unsigned(), 10) {
+            self.push_decimal(value);
+        }
         if replaced {
             self.push_text(b" r");
         }

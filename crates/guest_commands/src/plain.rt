@@ -5,7 +5,7 @@ use crate::plan::{Plan, read_plan};
 use clap::ArgMatches;
 use front_end::{Fault, Leavings, explain_turns};
 use lx_abi::{Ended, Mode, Status};
-use lx_kernel::Kernel;
+use lx_kernel::{Advanced, Kernel};
 use pt_schedule::Schedule;
 use std::alloc::{AllocError, Global};
 use std::io::{self, IsTerminal, Read, Write};
@@ -41,64 +41,22 @@ fn status(kernel: &Kernel) -> Result<u8, AllocError> {
     Ok(status_of(ended.as_slice()))
 }
 
-/// How many turns a process had, and its mode after them.
-#[derive(Clone, Copy, Debug, PartialEq, Eq)]
-struct Passed {
-    turns: u64,
-    after: Option<Mode>,
-}
-
-/// One turn of a process, whose item is printed: its mode after it.
-fn turn<E: Write>(kernel: &mut Kernel, pid: u32, log: &mut Log<E>) -> Result<Option<Mode>, Fault> {
-    let turned = kernel.turn(pid);
-    let Ok(moved) = &turned else {
+/// Turns of a process in a row, `most` at most. What the last of them logs is printed; all before it log nothing.
+fn advance<E: Write>(
+    kernel: &mut Kernel,
+    pid: u32,
+    most: u64,
+    log: &mut Log<E>,
+) -> Result<Advanced, Fault> {
+    let mut item = None;
+    let Ok(advanced) = kernel.advance(pid, most.min(log.patience()), &mut item) else {
         return Err(Fault::Memory);
     };
-    match &moved.item {
+    match &item {
         Some(item) => log.print(item)?,
-        None => log.wait(1)?,
+        None => log.wait(advanced.turns)?,
     }
-    Ok(moved.after)
-}
-
-/// Turns of a process that run instructions, `most` at most: how many there were.
-fn run_instructions<E: Write>(
-    kernel: &mut Kernel,
-    pid: u32,
-    most: u64,
-    log: &mut Log<E>,
-) -> Result<u64, Fault> {
-    let Ok(ran) = kernel.run(pid, most.min(log.patience())) else {
-        return Err(Fault::Memory);
-    };
-    log.wait(ran)?;
-    Ok(ran)
-}
-
-/// The next turns of a process, `most` at most: those that run instructions are made at once, with the one that ends
-/// them.
-fn turns_from<E: Write>(
-    kernel: &mut Kernel,
-    pid: u32,
-    mode: Option<Mode>,
-    most: u64,
-    log: &mut Log<E>,
-) -> Result<Passed, Fault> {
-    let mut ran = 0;
-    if mode == Some(Mode::Run) {
-        ran = run_instructions(kernel, pid, most, log)?;
-        if ran == most {
-            return Ok(Passed {
-                turns: ran,
-                after: mode,
-            });
-        }
-    }
-    let after = turn(kernel, pid, log)?;
-    Ok(Passed {
-        turns: ran.saturating_add(1),
-        after,
-    })
+    Ok(advanced)
 }
 
 /// A process in this mode can have the next turn of its row: it is able, and no call of it is finished. Only a process
@@ -119,13 +77,11 @@ fn turns_of<E: Write>(
     log: &mut Log<E>,
 ) -> Result<(), Fault> {
     let most = schedule.row().map_or(0, |row| row.turns).saturating_add(1);
-    let mut mode = kernel.mode(pid);
     let mut made = 0u64;
     for _ in 0..most {
-        let passed = turns_from(kernel, pid, mode, most.saturating_sub(made), log)?;
-        made = made.saturating_add(passed.turns);
-        mode = passed.after;
-        if made >= most || !goes_on(kernel, pid, mode) {
+        let advanced = advance(kernel, pid, most.saturating_sub(made), log)?;
+        made = made.saturating_add(advanced.turns);
+        if made >= most || !goes_on(kernel, pid, advanced.after) {
             break;
         }
     }

@@ -17,6 +17,7 @@ use Rattle.lx_proc.specs.declared.state.UserState.{UserState}
 use Rattle.lx_sig.specs.declared.state.Interrupted.{Interrupted}
 use Rattle.lx_proc.specs.Registers.{made_again}
 use Rattle.lx_turn.specs.Reactions.{resumed, ran_by, fault_signal}
+use Rattle.lx_kernel.specs.Advances.{IsAtCall}
 use Rattle.lx_kernel.specs.Bursts.{Follows, Halts, Continues}
 use Rattle.lx_turn.proofs.Steps.{kept_by}
 
@@ -89,6 +90,21 @@ module _ (b : UserState) (none : b.interrupted ≡ None) where
       (same_user (step.Fault kind address) s h m (kept_by b.hart b.memory (step.Fault kind address) first.hart first.memory (ap (λ t. outcome t first.hart first.memory) is)) (ap (λ q. q.last) e))
       (λ l. halts_by b (Faults (fault_signal kind) (Fault (signal_code kind) address)) (resumed_by (step.Fault kind address) is) (faults_no_user (fault_signal kind) (Fault (signal_code kind) address)))
 
+  -- steps that end at a call
+  call_by : (t : Step) (l n : ℕ) (h : Hart) (m : Memory) → first.step ≡ t → goes_on t first (run_of l first.hart first.memory) ≡ course n (outcome step.Call h m)
+      → ((k : ℕ) → run_of l first.hart first.memory ≡ course k (outcome step.Call h m) → IsAtCall (record b { hart = h; memory = m }))
+      → IsAtCall (record b { hart = h; memory = m })
+  call_by step.Ran l n h m is e rest =
+      let ran : Course = run_of l first.hart first.memory in
+      rest ran.ran (ap (λ q. course ran.ran q.last) e)
+  call_by step.Call l n h m is e rest =
+      subst IsAtCall
+      (same_user step.Call step.Call h m (kept_by b.hart b.memory step.Call first.hart first.memory (ap (λ t. outcome t first.hart first.memory) is)) (ap (λ q. q.last) e))
+      (resumed_by step.Call is)
+  call_by (step.Fault kind address) l n h m is e rest =
+      let never : ◌≡◌ {A = Step} (step.Fault kind address) step.Call = sym is ∙ ap (λ q. q.last.step) e in
+      absurd (cc never)
+
 -- a run of instructions is a row of turns
 pub run_continues : (limit : ℕ) (b : UserState) → b.interrupted ≡ None → (n : ℕ) (s : Step) (h : Hart) (m : Memory) → run_of limit b.hart b.memory ≡ course n (outcome s h m) → Continues limit n b (record b { hart = h; memory = m })
 unfolding run_of
@@ -97,6 +113,18 @@ run_continues zero b none n s h m e =
     (λ i. record b { hart = (e i).last.hart; memory = (e i).last.memory }) (λ l. absurd (omega (arith, l)))
 run_continues (suc l) b none n s h m e =
     by_first b none (hart.stepped b.hart b.memory).step l n s h m refl e (λ k. run_continues l (next b none) none k s h m)
+
+-- and what ended at an ecall stands at a call
+ends_at_call : (limit : ℕ) (b : UserState) → b.interrupted ≡ None → (n : ℕ) (h : Hart) (m : Memory) → run_of limit b.hart b.memory ≡ course n (outcome step.Call h m) → IsAtCall (record b { hart = h; memory = m })
+unfolding run_of
+ends_at_call zero b none n h m e =
+    let never : ◌≡◌ {A = Step} step.Ran step.Call = ap (λ q. q.last.step) e in
+    absurd (cc never)
+ends_at_call (suc l) b none n h m e =
+    call_by b none (hart.stepped b.hart b.memory).step l n h m refl e (λ k. ends_at_call l (next b none) none k h m)
+
+pub run_calls : (limit : ℕ) (b : UserState) → b.interrupted ≡ None → (n : ℕ) (s : Step) (h : Hart) (m : Memory) → run_of limit b.hart b.memory ≡ course n (outcome s h m) → s ≡ step.Call → IsAtCall (record b { hart = h; memory = m })
+run_calls limit b none n s h m e called = ends_at_call limit b none n h m (e ∙ ap (λ t. course n (outcome t h m)) called)
 
 -- an interrupted call is made again, and then instructions run
 pub again_continues : (limit n : ℕ) (b c : UserState) (at : Interrupted) → b.interrupted ≡ Some at → Continues limit n (made_again b at) c → Continues (suc limit) (suc n) b c

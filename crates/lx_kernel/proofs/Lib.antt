@@ -1,3 +1,4 @@
+pub mod Advancing
 pub mod Awaiting
 pub mod Blocked
 pub mod Booting
@@ -8,6 +9,7 @@ pub mod FilesApart
 pub mod InPlace
 pub mod Moving
 pub mod NextAble
+pub mod OwnCalls
 pub mod Placed
 pub mod Placing
 pub mod Reaching

@@ -1,3 +1,4 @@
+pub mod Advances
 pub mod Blocking
 pub mod Bursts
 pub mod First

@@ -2,7 +2,9 @@
 
 ghost use Rattle.std.specs.Prelude.{◌≡◌, ℕ, None, IfOk, OnOk, not, ◌&&◌, is_some};
 ghost use Rattle.std.specs.FinMap as maps;
+ghost use Rattle.rv_hart.specs.declared.outcome.Step.TheVariants as Step;
 ghost use Rattle.lx_turn.specs.Reactions.{next_of, is_killed as is_killed_at};
+ghost use Rattle.lx_kernel.specs.Advances.{IsAtCall};
 ghost use Rattle.lx_kernel.specs.Bursts.{Burst, Continues, TaskContinues, with_tasks};
 ghost use Rattle.lx_kernel.specs.Runs.{Run as KernelRun};
 ghost use Rattle.lx_kernel.specs.Sleeping.{IsKept};
@@ -13,34 +15,46 @@ ghost use Rattle.lx_model.specs.declared.stage.Task.TheVariants.{Gone};
 use lx_model::{Stage, Task};
 use lx_proc::{Shared, UserState, make_again};
 use lx_sig::{is_pending, next};
-use rv_hart::DecodedCode;
+use rv_hart::{DecodedCode, Progress, Step};
 use shelves::Shelf;
 use std::alloc::AllocError;
 
-/// Runs instructions, at most so many: how many ran.
+/// Runs instructions, at most so many.
 fn run_instructions(
     user: &mut UserState,
     decoder: &mut DecodedCode,
     limit: u64,
-) -> Result<u64, AllocError>
+) -> Result<Progress, AllocError>
     requires { user.old.interrupted ≡ None }
-    ensures { IfOk result (λ n. Continues limit n user.old user.new) }
+    ensures continues { IfOk result (λ p. Continues limit p.ran user.old user.new) }
+    ensures calls { IfOk result (λ p. p.step ≡ Step.Call → IsAtCall user.new) }
 {
     let progress = rv_hart::run(&mut user.hart, &mut user.memory, decoder, limit)?;
-    Ok(progress.ran)
+    Ok(progress)
 }
 
-/// Turns of a body in Run, at most so many: how many there were.
-fn run_user(user: &mut UserState, decoder: &mut DecodedCode, limit: u64) -> Result<u64, AllocError>
-    ensures { IfOk result (λ n. Continues limit n user.old user.new) }
+/// Turns of a body in Run, at most so many: how many there were, and whether the next comes to a call.
+pub fn run_user(
+    user: &mut UserState,
+    decoder: &mut DecodedCode,
+    limit: u64,
+) -> Result<Progress, AllocError>
+    ensures continues { IfOk result (λ p. Continues limit p.ran user.old user.new) }
+    ensures calls { IfOk result (λ p. p.step ≡ Step.Call → IsAtCall user.new) }
 {
     match user.interrupted {
         None => run_instructions(user, decoder, limit),
-        Some(_) if limit == 0 => Ok(0),
+        Some(_) if limit == 0 => Ok(Progress {
+            ran: 0,
+            step: Step::Ran,
+        }),
         Some(at) => {
             make_again(user, at);
-            let ran = run_instructions(user, decoder, limit - 1)?;
-            Ok(ran + 1)
+            let progress = run_instructions(user, decoder, limit - 1)?;
+            Ok(Progress {
+                ran: progress.ran + 1,
+                step: progress.step,
+            })
         }
     }
 }
@@ -56,8 +70,8 @@ fn run_alive(
 {
     match stage {
         Stage::Run => {
-            let ran = run_user(user, decoder, limit)?;
-            Ok(ran)
+            let progress = run_user(user, decoder, limit)?;
+            Ok(progress.ran)
         }
         _ => Ok(0),
     }
@@ -81,7 +95,7 @@ fn run_task(
 }
 
 /// No signal comes before the next instruction of the process.
-fn is_undisturbed(shared: &Shared, pid: u32) -> bool
+pub fn is_undisturbed(shared: &Shared, pid: u32) -> bool
     ensures { result ≡ (not (is_killed_at (maps.get shared.now.entries pid)) && not (is_some (next_of
         (maps.get shared.now.entries pid)))) }
 {

@@ -1,6 +1,6 @@
 //! The kernel: one turn of one process at a time.
 
-ghost use Rattle.std.specs.Prelude.{◌≡◌, ◌↔◌, ◌++◌, ◌+◌, [], None, true, false, is_some};
+ghost use Rattle.std.specs.Prelude.{◌≡◌, ◌≤◌, ◌<◌, ◌↔◌, ◌++◌, ◌+◌, [], None, true, false, is_some};
 ghost use Rattle.std.specs.Prelude.{if◌then◌else◌, IfOk, IfSome, OnSome, OnOk, OnErr, IsOk, IsErr, IsOkAnd, IsSome, IsTrue, ℕ};
 ghost use Rattle.std.specs.FinMap as maps;
 ghost use Rattle.std.specs.Option.{option_to_list};
@@ -17,6 +17,7 @@ ghost use Rattle.lx_turn.specs.Linux.{linux};
 ghost use Rattle.lx_turn.specs.Modes.{task_mode as task_mode_of};
 ghost use Rattle.lx_turn.specs.Injection.{choice_of_task};
 ghost use Rattle.lx_turn.specs.Turned.{turned, unboxed, IsLeft, IsBirth};
+ghost use Rattle.lx_kernel.specs.Advances.{Leads};
 ghost use Rattle.lx_kernel.specs.Bursts.{Burst};
 ghost use Rattle.lx_kernel.specs.Occurrences.{Agree};
 ghost use Rattle.lx_kernel.specs.Outcomes.{outcome_in};
@@ -27,6 +28,7 @@ ghost use Rattle.lx_kernel.specs.Tracing.{with_regs, with_change, with_part};
 ghost use Rattle.lx_kernel.specs.Turns.{Turns, without_gone, tasks_with, next_child};
 ghost use Rattle.lx_kernel.specs.Waking.{Calms, LeavesStopped};
 
+use crate::advances::{InPlace, advance_at};
 use crate::log::Log;
 use crate::moves::move_at;
 use crate::outcome::outcome;
@@ -64,6 +66,14 @@ pub struct Moved {
     pub before: Option<Mode>,
     pub after: Option<Mode>,
     pub item: Option<Item>,
+    pub event: PtraceEvent<u32>,
+}
+
+/// How many turns there were in a row, where their process stands, and what the last did beside, a child by its pid.
+#[derive(Clone, Copy, Debug, PartialEq, Eq)]
+pub struct Advanced {
+    pub turns: u64,
+    pub after: Option<Mode>,
     pub event: PtraceEvent<u32>,
 }
 
@@ -430,6 +440,87 @@ impl Kernel {
         let ran = bursts::run(&self.shared, &mut self.tasks, &mut self.decoder, pid, limit)?;
         self.failed = false;
         Ok(ran)
+    }
+
+    /// The next turns of a process, as far as they can be made in place.
+    fn advance_in_place(
+        &mut self,
+        pid: u32,
+        limit: u64,
+        item: &mut Option<Item>,
+    ) -> Result<InPlace, Failed>
+        requires { item.old ≡ None }
+        ensures leads { IfOk result (λ a. Leads self.old pid a.turns item.new Plain self.new) }
+        ensures within { IfOk result (λ a. a.turns ≤ limit) }
+        ensures after { IfOk result (λ a. a.after ≡ mode_in self.new pid) }
+        ensures failed { OnErr result (IsTrue self.new.failed) }
+        ensures failed_before { IsTrue self.old.failed → IsErr result }
+        ensures log { OnErr result (self.new.running.log ≡ self.old.running.log) }
+        ensures console { OnErr result (self.new.running.shared.console ≡ self.old.running.shared.console) }
+    {
+        if self.failed {
+            return Err(Failed);
+        }
+        self.failed = true;
+        let injection = Injection {
+            script: &self.script,
+            occurrences: &self.occurrences,
+            follow: self.follow,
+        };
+        let advanced = advance_at(
+            self.alloc,
+            &mut self.shared,
+            &mut self.tasks,
+            &mut self.decoder,
+            &injection,
+            self.child,
+            pid,
+            limit,
+            item,
+        )?;
+        log_item(&mut self.log, &mut self.occurrences, item)?;
+        self.failed = false;
+        Ok(advanced)
+    }
+
+    /// Turns of a process in a row, at most `limit`, of which all but the last log nothing, do nothing beside, and
+    /// leave it able and at no end of a call. What the last logs is put into `item`.
+    ///
+    /// From the end of a call to the next call they are made at once, and so is a call that asks only for its process's
+    /// own part; elsewhere it is one turn.
+    pub fn advance(
+        &mut self,
+        pid: u32,
+        limit: u64,
+        item: &mut Option<Item>,
+    ) -> Result<Advanced, Failed>
+        ensures leads { IfOk result (λ a. Leads self.old pid a.turns item.new a.event self.new) }
+        ensures some { IfOk result (λ a. 0 < limit → 0 < a.turns) }
+        ensures within { IfOk result (λ a. a.turns ≤ limit) }
+        ensures after { IfOk result (λ a. a.after ≡ mode_in self.new pid) }
+
+        // Once want of memory was met, every call answers so; the log and the console stay as they were.
+        ensures failed { OnErr result (IsTrue self.new.failed) }
+        ensures failed_before { IsTrue self.old.failed → IsErr result }
+        ensures log { OnErr result (self.new.running.log ≡ self.old.running.log) }
+        ensures console { OnErr result (self.new.running.shared.console ≡ self.old.running.shared.console) }
+    {
+        *item = None;
+        let advanced = self.advance_in_place(pid, limit, item)?;
+        if advanced.turns > 0 || limit == 0 {
+            return Ok(Advanced {
+                turns: advanced.turns,
+                after: advanced.after,
+                event: PtraceEvent::Plain,
+            });
+        }
+        let moved = self.turn(pid)?;
+        *item = moved.item;
+        Ok(Advanced {
+            turns: 1,
+            after: moved.after,
+            event: moved.event,
+        })
     }
 
     /// A turn of the process would run an instruction or change its mode: it is in the table, and neither waits nor is

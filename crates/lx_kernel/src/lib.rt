@@ -1,6 +1,7 @@
 //! The kernel: processes that take turns, each turn by the mode table at Linux.
 #![tactic(auto)]
 
+mod advances;
 mod blocking;
 mod bursts;
 mod first;
@@ -14,5 +15,5 @@ mod scheduling;
 pub mod tracing;
 mod waking;
 
-pub use kernel::{Failed, Kernel, Moved};
+pub use kernel::{Advanced, Failed, Kernel, Moved};
 pub use lx_abi::Boot;

@@ -1,0 +1,10 @@
+use Rattle.lx_kernel.proofs.Advancing.{none_leads}
+use Rattle.lx_kernel.proofs.advances.advance_task.Goals as goal
+
+pub returns-in-Dying-clause-leads : goal.returns-in-Dying-clause-leads
+returns-in-Dying-clause-leads c =
+    none_leads c.args.injection.now c.args.shared.now c.args.child c.args.pid c.args.task.now c.args.item.now c.requires
+
+pub returns-in-Gone-clause-leads : goal.returns-in-Gone-clause-leads
+returns-in-Gone-clause-leads c =
+    none_leads c.args.injection.now c.args.shared.now c.args.child c.args.pid c.args.task.now c.args.item.now c.requires
