@@ -1,6 +1,6 @@
 -- Turns of one process in a row that are made in place.
-use Rattle.std.proofs.Common.{◌≡◌, ◌≢◌, ◌⊎◌, ℕ, zero, suc, Bool, true, false, not, List, ◌++◌, Option, Some, None, refl, ap, sym, subst, ◌∙◌, inl, inr, unwrap_or}
-use Rattle.std.specs.Prelude.{◌||◌, IsTrue, is_some}
+use Rattle.std.proofs.Common.{◌≡◌, ◌≢◌, ◌⊎◌, ℕ, zero, suc, true, false, not, ◌++◌, Option, Some, None, refl, ap, sym, subst, ◌∙◌, inl, inr, unwrap_or}
+use Rattle.std.specs.Prelude.{◌||◌, is_some}
 use Rattle.std.specs.Option.{option_to_list}
 use Rattle.std.specs.FinMap as maps
 use Rattle.std.proofs.lemmas.List.{append-nil}
@@ -8,7 +8,6 @@ use mathlib.Core.Path.{fun_ext}
 use Rattle.lx_abi.specs.declared.log.Call.{Call}
 use Rattle.lx_abi.specs.declared.log.Item.{Item}
 use Rattle.lx_abi.specs.declared.log.Item.TheVariants as items
-use Rattle.lx_abi.specs.declared.log.Mode.{Mode}
 use Rattle.lx_abi.specs.declared.log.Mode.TheVariants as mode
 use Rattle.lx_abi.specs.declared.script.Choice.{Choice}
 use Rattle.lx_abi.specs.declared.signal.Signal.{Signal}
@@ -19,7 +18,7 @@ use Rattle.lx_model.specs.Events.{by_pid}
 use Rattle.lx_model.specs.Finite.{at, item_of, placed, bore}
 use Rattle.lx_model.specs.Kernel.{traces, choice_at}
 use Rattle.lx_model.specs.Machine.{Ran, Goes, Calls, call_of}
-use Rattle.lx_model.specs.Turn.{Out, turn, killed_or, lives, stepped, answered, gives, stage_mode}
+use Rattle.lx_model.specs.Turn.{Out, turn, killed_or, lives, stepped, stage_mode}
 use Rattle.lx_model.specs.declared.event.PtraceEvent.{PtraceEvent}
 use Rattle.lx_model.specs.declared.event.PtraceEvent.TheVariants.{Plain}
 use Rattle.lx_model.specs.declared.stage.Stage.{Stage}
@@ -36,11 +35,11 @@ use Rattle.lx_turn.specs.Modes.{task_mode}
 use Rattle.lx_turn.specs.Reactions.{resumed, runs, next_of, is_killed}
 use Rattle.lx_turn.specs.Turned.{Turned, turned, goes_on}
 use Rattle.lx_turn.specs.declared.injection.Injection.{Injection}
-use Rattle.lx_kernel.specs.Advances.{GoesOn, IsQuiet, Quietly, IsTurn, Leads, Fits, left, with_log, PartLeads, IsDone, StaysRunning, ComesToCall, RunLeads, IsAtCall}
+use Rattle.lx_kernel.specs.Advances.{GoesOn, IsQuiet, Quietly, IsTurn, Leads, Fits, left, with_log, PartLeads, IsDone, RunLeads, IsAtCall}
 use Rattle.lx_kernel.specs.Blocking.{can_turn}
 use Rattle.lx_kernel.specs.Bursts.{Follows, with_tasks}
 use Rattle.lx_kernel.specs.Moves.{IsMove}
-use Rattle.lx_kernel.specs.Runs.{Run, turn_in, after_turn, mode_in, is_able_in}
+use Rattle.lx_kernel.specs.Runs.{Run, turn_in, after_turn}
 use Rattle.lx_kernel.specs.Scheduling.{Tasks}
 use Rattle.lx_kernel.specs.Sleeping.{IsKept}
 use Rattle.lx_kernel.proofs.InPlace.{entered}

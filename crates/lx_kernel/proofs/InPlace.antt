@@ -1,13 +1,11 @@
 -- Turns that change only where their process stands.
-use Rattle.std.proofs.Common.{◌≡◌, ◌≢◌, ℕ, ◌+◌, Bool, true, false, List, [], ◌++◌, Option, Some, None, refl, ap, sym, subst, arith, ◌∙◌}
+use Rattle.std.proofs.Common.{◌≡◌, ◌≢◌, ℕ, ◌+◌, Bool, true, false, List, ◌++◌, Option, Some, None, refl, ap, sym, subst, arith, ◌∙◌}
 use lib.ListN.{length-append}
 use Rattle.std.proofs.lemmas.List.Elements.{filter-append}
 use Rattle.std.specs.Prelude.{length, filter, not, ◌||◌, IfSome, OnSome}
 use Rattle.std.specs.Option.{option_map, option_to_list}
 use Rattle.std.specs.Int.{cast_unsigned, w64}
 use Rattle.std.specs.FinMap as maps
-use Rattle.std.specs.Ordering.{nat_cmp}
-use Rattle.std.specs.FinMap.{FinMap}
 use Rattle.lx_abi.specs.declared.log.Call.{Call}
 use Rattle.lx_abi.specs.declared.log.Item.{Item}
 use Rattle.lx_abi.specs.declared.log.Item.TheVariants as item
@@ -19,7 +17,7 @@ use Rattle.lx_model.specs.declared.event.PtraceEvent.TheVariants.{Plain}
 use Rattle.lx_model.specs.declared.stage.Stage.{Stage}
 use Rattle.lx_model.specs.declared.stage.Stage.TheVariants.{Born, Run, Entered, Doing, Acted, Finished, Woken}
 use Rattle.lx_model.specs.declared.stage.Task.{Task}
-use Rattle.lx_model.specs.declared.stage.Task.TheVariants.{Alive, Dying, Gone}
+use Rattle.lx_model.specs.declared.stage.Task.TheVariants.{Alive}
 use Rattle.lx_proc.specs.declared.state.Shared.{Shared}
 use Rattle.lx_proc.specs.declared.state.UserState.{UserState}
 use Rattle.lx_proc.specs.Registers.{regs}
@@ -28,7 +26,7 @@ use Rattle.lx_turn.specs.Injection.{choice_of_call, choice_of_task}
 use Rattle.lx_turn.specs.Linux.{linux}
 use Rattle.lx_turn.specs.Reactions.{is_killed}
 use Rattle.lx_turn.specs.Turned.{turned, goes_on}
-use Rattle.lx_kernel.specs.Blocking.{can_turn, rests, rests_at, waits}
+use Rattle.lx_kernel.specs.Blocking.{can_turn, rests_at, waits}
 use Rattle.lx_kernel.specs.Moves.{IsMove, IsTaskMove}
 use Rattle.lx_kernel.specs.Sleeping.{IsKept}
 

@@ -1,9 +1,7 @@
-use Rattle.std.proofs.Common.{Bool, false, refl, sym, subst, ap, ◌∙◌}
-use Rattle.lx_model.specs.Finite.{at}
+use Rattle.std.proofs.Common.{Bool, false, refl, sym, subst, ◌∙◌}
 use Rattle.lx_model.specs.declared.event.PtraceEvent.TheVariants.{Plain}
-use Rattle.lx_model.specs.declared.stage.Task.TheVariants.{Gone}
 use Rattle.lx_proc.specs.declared.state.Shared.{Shared}
-use Rattle.lx_kernel.specs.Advances.{Leads, Fits}
+use Rattle.lx_kernel.specs.Advances.{Leads}
 use Rattle.lx_kernel.specs.Runs.{Run}
 use Rattle.lx_kernel.specs.Sleeping.{Watch}
 use Rattle.lx_kernel.proofs.Watching.{watch_kept}
