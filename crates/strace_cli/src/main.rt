@@ -6,10 +6,9 @@ use trace_command::{command, tell};
 
 fn main(rt: HostRuntime) -> ExitCode {
     let mut input = rt.stdin();
-    let mut out = rt.stdout();
     let mut err = rt.stderr();
     let status = match front_end::arguments(&rt) {
-        Ok(words) => command(&rt, words.as_slice(), &mut input, &mut out, &mut err),
+        Ok(words) => command(&rt, words.as_slice(), &mut input, rt.stdout(), err),
         Err(fault) => tell(fault, &mut err),
     };
     ExitCode::from(status)

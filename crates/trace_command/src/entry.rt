@@ -1,5 +1,6 @@
 //! The program as a function of its words, its input and its outputs.
 
+use crate::tracing::Traced;
 use crate::{tracing, words};
 use clap::ArgMatches;
 use clap::error::ErrorKind;
@@ -19,22 +20,19 @@ const NAME: &str = "strace";
 pub fn command<
     R: Files + Processes + Threads + Wait + Sync + AllocGlobal,
     I: Read + IsTerminal,
-    O: Write,
-    E: Write + IsTerminal,
->(rt: &R, words: &[String], input: &mut I, out: &mut O, err: &mut E) -> u8 {
+    O: Write + Drop,
+    E: Write + IsTerminal + Drop,
+>(rt: &R, words: &[String], input: &mut I, mut out: O, mut err: E) -> u8 {
     let alloc = rt.alloc();
     match words::parse(alloc, words) {
         Ok(matches) => {
             let explained = matches.get_flag("explain") || err.is_terminal();
-            match run(rt, &matches, explained, input, out, err) {
-                Ok(status) => status,
-                Err(fault) => report(NAME, &fault, explained, err),
-            }
+            run(rt, &matches, explained, input, out, err)
         }
-        Err(error) if error.use_stderr() => tell(refuse(alloc, error.kind(), words), err),
-        Err(help) => match print_help(alloc, help, out) {
+        Err(error) if error.use_stderr() => tell(refuse(alloc, error.kind(), words), &mut err),
+        Err(help) => match print_help(alloc, help, &mut out) {
             Ok(status) => status,
-            Err(fault) => tell(fault, err),
+            Err(fault) => tell(fault, &mut err),
         },
     }
 }
@@ -47,19 +45,25 @@ pub fn tell<E: Write>(fault: Fault, err: &mut E) -> u8 {
 fn run<
     R: Files + Processes + Threads + Wait + Sync + AllocGlobal,
     I: Read + IsTerminal,
-    O: Write,
-    E: Write + IsTerminal,
->(
-    rt: &R,
-    matches: &ArgMatches,
-    explained: bool,
-    input: &mut I,
-    out: &mut O,
-    err: &mut E,
-) -> Result<u8, Fault> {
-    let mut options = words::trace_options(rt.alloc(), matches)?;
+    O: Write + Drop,
+    E: Write + IsTerminal + Drop,
+>(rt: &R, matches: &ArgMatches, explained: bool, input: &mut I, out: O, mut err: E) -> u8 {
+    let mut options = match words::trace_options(rt.alloc(), matches) {
+        Ok(options) => options,
+        Err(fault) => return report(NAME, &fault, explained, &mut err),
+    };
     options.explain = explained;
-    tracing::trace(rt, matches, options, input, out, err)
+    let traced = tracing::trace(rt, matches, options, input, out, err);
+    let Traced {
+        status,
+        out,
+        mut err,
+    } = traced;
+    drop(out);
+    match status {
+        Ok(status) => status,
+        Err(fault) => report(NAME, &fault, explained, &mut err),
+    }
 }
 
 /// What is wrong with words that the parser refuses for a fault of this kind.

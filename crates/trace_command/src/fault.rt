@@ -1,8 +1,10 @@
 //! Faults of a host.
 
+ghost use Rattle.trace_command.specs.Faults.{IsHostFault, IsUnwritable};
+
 use front_end::{Fault, refuse_boot};
 use host_link::LinkFault;
-use std::alloc::Global;
+use std::alloc::{AllocError, Global};
 use trace_threads::ThreadsFault;
 
 /// A host's fault in words.
@@ -21,13 +23,25 @@ fn reason(fault: LinkFault) -> &'static str {
 }
 
 /// The fault of a run whose link has this one.
-pub fn host_fault(fault: LinkFault) -> Fault {
+pub fn host_fault(fault: LinkFault) -> Fault
+    ensures { IsHostFault fault result }
+{
     match fault {
         LinkFault::Memory => Fault::Memory,
         fault => Fault::Host {
             number: fault.number(),
             reason: reason(fault),
         },
+    }
+}
+
+/// The fault of an output that can't be written, if there is memory to say which.
+pub fn unwritable(text: Result<String, AllocError>) -> Fault
+    ensures { IsUnwritable result }
+{
+    match text {
+        Ok(text) => Fault::Output(text),
+        Err(_) => Fault::Memory,
     }
 }
 

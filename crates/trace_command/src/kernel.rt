@@ -1,5 +1,9 @@
 //! Where the kernel runs.
 
+ghost use Rattle.std.specs.Prelude.{Ok, IfOk, IsSome, OnErr, OnOk, option_map};
+ghost use Rattle.trace_run.specs.Writers.{writer_of};
+ghost use Rattle.trace_command.specs.Tracing.{Takes, Traces, TracesHere};
+
 use crate::fault::host_fault;
 use containers::Seq;
 use front_end::{Fault, refuse_boot};
@@ -43,7 +47,9 @@ fn boot_over<L: Link>(
     boot: Boot,
     limit: u64,
     turns: Vec<Word>,
-) -> Result<(), Fault> {
+) -> Result<(), Fault>
+    ensures { OnOk result (L.answers link.old (Request.Boot boot limit turns.items) (Ok Reply.Done) link.new) }
+{
     let request = Request::Boot {
         boot,
         limit,
@@ -66,7 +72,14 @@ pub fn boot_kernel<R: Processes + AllocGlobal>(
     boot: Boot,
     turns: Vec<Word>,
     limit: u64,
-) -> Result<Kernel<R::Started>, Fault> {
+) -> Result<Kernel<R::Started>, Fault>
+    ensures takes { IfOk result
+        (λ kernel. Takes R.Started.Stdout.remaining R.Started.Stdin.contents (option_map (λ path. path.now) host.entry)
+        boot limit turns.items kernel) }
+
+    // A kernel in this process is always there.
+    ensures fault { OnErr result (IsSome (option_map (λ path. path.now) host.entry)) }
+{
     let Some(path) = host else {
         return Ok(Kernel::Here(boot, Schedule::words(turns, limit)));
     };
@@ -91,7 +104,10 @@ fn run_here<W: Sink>(
     script: Script,
     options: Options,
     lines: &mut W,
-) -> Result<Ended, RunFault> {
+) -> Result<Ended, RunFault>
+    ensures { TracesHere options script boot schedule result
+        (writer_of W.contents W.puts W.broken lines.old) (writer_of W.contents W.puts W.broken lines.new) }
+{
     match trace_local(alloc, boot, schedule, script, options, lines) {
         Ok(ended) => ended,
         Err(_) => Err(RunFault::Link(LinkFault::Memory)),
@@ -105,7 +121,10 @@ pub fn run_kernel<P: OpenProcess + Drop, W: Sink>(
     script: Script,
     options: Options,
     lines: &mut W,
-) -> Result<Ended, RunFault> {
+) -> Result<Ended, RunFault>
+    ensures { Traces P.Stdout.remaining P.Stdin.contents options script kernel result
+        (writer_of W.contents W.puts W.broken lines.old) (writer_of W.contents W.puts W.broken lines.new) }
+{
     match kernel {
         Kernel::Here(boot, schedule) => run_here(alloc, boot, schedule, script, options, lines),
         Kernel::There(mut link) => {

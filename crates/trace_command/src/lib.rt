@@ -8,6 +8,7 @@ mod kernel;
 mod lines;
 mod place;
 mod plan;
+mod running;
 mod threads;
 mod tracing;
 mod turns_out;

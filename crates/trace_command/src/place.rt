@@ -1,9 +1,10 @@
 //! The place that the trace goes to.
 
+use crate::fault::unwritable;
+use clap::ArgMatches;
 use front_end::{Fault, Shown};
 use std::alloc::Global;
 use std::fs;
-use std::io::{self, Write};
 use std::rt::Files;
 
 /// The name of standard output as a file, which this program writes without opening it again.
@@ -18,74 +19,43 @@ pub enum Place<'a> {
 }
 
 impl<'a> Place<'a> {
+    ghost use Rattle.std.specs.Prelude.{codes};
+    ghost use Rattle.trace_command.specs.Faults.{IsUnwritable};
+    ghost use Rattle.trace_command.specs.Tracing.{IsPlace, value_of};
+
     /// The place that `-o` names.
-    pub fn of(output: Option<&'a str>) -> Self {
-        match output {
+    pub fn of(matches: &ArgMatches<'a>) -> Self
+        ensures { IsPlace (value_of matches.now (codes "output")) result }
+    {
+        match matches.get_str("output") {
             None => Place::Error,
             Some(STANDARD_OUTPUT) => Place::Output,
             Some(path) => Place::File(path),
         }
     }
 
-    /// The fault of a trace that can't be written here.
-    pub fn fault(self, alloc: Global) -> Fault {
-        match self {
-            Place::Error => Fault::output(format!(in alloc;
-                "the trace could not be written to standard error"
-            )),
-            Place::Output => Fault::output(format!(in alloc;
-                "the trace could not be written to standard output"
-            )),
-            Place::File(path) => Fault::output(format!(in alloc;
-                "the trace could not be written to {}",
-                Shown(path)
-            )),
-        }
-    }
-}
-
-/// A writer of the trace; a file is made anew.
-#[derive(Drop)]
-pub enum Trace<'w, O, E, F> {
-    Error(&'w mut E),
-    Output(&'w mut O),
-    File(F),
-}
-
-/// Opens the place.
-pub fn open<'w, R: Files + AllocGlobal, O: Write, E: Write>(
-    rt: &R,
-    place: Place<'_>,
-    out: &'w mut O,
-    err: &'w mut E,
-) -> Result<Trace<'w, O, E, R::File>, Fault> {
-    match place {
-        Place::Error => Ok(Trace::Error(err)),
-        Place::Output => Ok(Trace::Output(out)),
-        Place::File(path) => match fs::create(rt, path) {
-            Ok(file) => Ok(Trace::File(file)),
-            Err(error) => {
-                let what = format!(in rt.alloc(); "-o {}", Shown(path))?;
-                Err(Fault::file(rt.alloc(), what, error))
+    /// The fault of a trace that can't be written here, if there is memory to say where.
+    pub fn fault(self, alloc: Global) -> Fault
+        ensures { IsUnwritable result }
+    {
+        let text = match self {
+            Place::Error => format!(in alloc; "the trace could not be written to standard error"),
+            Place::Output => format!(in alloc; "the trace could not be written to standard output"),
+            Place::File(path) => {
+                format!(in alloc; "the trace could not be written to {}", Shown(path))
             }
-        },
+        };
+        unwritable(text)
     }
 }
 
-impl<O: Write, E: Write, F: Write> Write for Trace<'_, O, E, F> {
-    fn write(&mut self, buf: &[u8]) -> io::Result<usize> {
-        match self {
-            Trace::Error(err) => err.write(buf),
-            Trace::Output(out) => out.write(buf),
-            Trace::File(file) => file.write(buf),
-        }
-    }
-
-    fn flush(&mut self) -> io::Result<()> {
-        match self {
-            Trace::Error(err) => err.flush(),
-            Trace::Output(out) => out.flush(),
-            Trace::File(file) => file.flush(),
+/// Makes a file for the trace anew.
+pub fn create<R: Files + AllocGlobal>(rt: &R, path: &str) -> Result<R::File, Fault> {
+    match fs::create(rt, path) {
+        Ok(file) => Ok(file),
+        Err(error) => {
+            let what = format!(in rt.alloc(); "-o {}", Shown(path))?;
+            Err(Fault::file(rt.alloc(), what, error))
         }
     }
 }

@@ -1,18 +1,31 @@
 //! A run whose turns are made by threads.
 
+ghost use Rattle.std.specs.Prelude.{◌≡◌, ◌⊎◌, IfOk, OnErr};
+ghost use Rattle.trace_run.specs.Writers.{writer_of};
+ghost use Rattle.trace_threads.specs.ThreadRuns.{ThreadRun};
+ghost use Rattle.trace_command.specs.Tracing.{PutsTrace, RunsTo, Settles, TracesOnThreads, Unmade};
+ghost use Rattle.trace_command.specs.Tracing.{WritesFile, WritesTo};
+
+use crate::again::Again;
 use crate::fault::threads_fault;
-use crate::place::{Place, open};
+use crate::lines::{LineSink, Lines};
+use crate::place::{Place, create};
 use crate::plan::Plan;
+use crate::running::{settle, write};
 use crate::words::Workers;
+use containers::Bytes;
 use front_end::Fault;
 use host_shared::Gate;
-use host_wire::{Broken, Counted, Sink};
-use std::io::Write;
+use host_wire::{Broken, Sink};
+use lx_abi::Outcome;
+use std::alloc::Global;
 use std::rt::Files;
 use std::sync::Wait;
 use std::thread::Threads;
 use trace_run::local::Run;
+use trace_run::{Ended, RunFault};
 use trace_threads::run_threads;
+use turn_rows::Turns;
 
 /// Each thread makes its turns as soon as it can.
 #[derive(Clone, Copy)]
@@ -24,21 +37,14 @@ impl Gate for Always {
     }
 }
 
-/// Writes a trace in one piece.
-fn write_trace<W: Write + Drop>(writer: W, trace: &[u8]) -> Result<(), Broken> {
-    let mut writer = Counted::new(writer);
-    writer.put(trace)
-}
-
-/// Makes the run, and writes its trace, to a place that is opened before, at the end.
-pub fn trace_on_threads<R: Files + Threads + Wait + Sync + AllocGlobal, O: Write, E: Write>(
+/// Makes the run, its trace in memory.
+fn run_on_threads<R: Threads + Wait + Sync + AllocGlobal>(
     rt: &R,
     plan: Plan,
     workers: Workers,
-    place: Place<'_>,
-    out: &mut O,
-    err: &mut E,
-) -> Result<Run, Fault> {
+) -> Result<Run, Fault>
+    ensures { IfOk result (λ run. ThreadRun plan.boot workers.limit plan.script plan.options run) }
+{
     let alloc = rt.alloc();
     let Plan {
         boot,
@@ -46,21 +52,157 @@ pub fn trace_on_threads<R: Files + Threads + Wait + Sync + AllocGlobal, O: Write
         options,
         turns: _turns,
     } = plan;
-    let trace = open(rt, place, out, err)?;
-    match run_threads(
-        rt,
-        alloc,
-        boot,
-        workers.count,
-        workers.limit,
-        script,
-        options,
-        &Always,
-    ) {
-        Ok(run) => match write_trace(trace, run.trace.as_slice()) {
-            Ok(()) => Ok(run),
-            Err(Broken) => Err(place.fault(alloc)),
-        },
+    let (count, limit) = (workers.count, workers.limit);
+    match run_threads(rt, alloc, boot, count, limit, script, options, &Always) {
+        Ok(run) => Ok(run),
         Err(fault) => Err(threads_fault(alloc, fault)),
+    }
+}
+
+/// Writes the trace of a run that ended so, in one piece.
+fn write_trace<W: Sink>(ended: Ended, trace: &Bytes, writer: &mut W) -> Result<Ended, RunFault>
+    ensures { PutsTrace ended trace.now result
+        (writer_of W.contents W.puts W.broken writer.old) (writer_of W.contents W.puts W.broken writer.new) }
+{
+    match write(writer, trace.as_slice()) {
+        Ok(()) => Ok(ended),
+        Err(Broken) => {
+            drop(ended);
+            Err(RunFault::Output)
+        }
+    }
+}
+
+/// How a run ended that is written, and its effective turns.
+#[derive(Drop)]
+struct Threaded {
+    ended: Result<Ended, RunFault>,
+    turns: Turns,
+}
+
+/// Makes the run, and writes its trace at the end.
+fn trace_to<R: Threads + Wait + Sync + AllocGlobal, W: Sink>(
+    rt: &R,
+    plan: Plan,
+    workers: Workers,
+    writer: &mut W,
+) -> Result<Threaded, Fault>
+    ensures written { IfOk result (λ run. TracesOnThreads plan workers.limit run.ended
+        (writer_of W.contents W.puts W.broken writer.old) (writer_of W.contents W.puts W.broken writer.new)) }
+    ensures unmade { OnErr result (writer_of W.contents W.puts W.broken writer.new
+        ≡ writer_of W.contents W.puts W.broken writer.old) }
+{
+    let run = match run_on_threads(rt, plan, workers) {
+        Ok(run) => run,
+        Err(fault) => return Err(fault),
+    };
+    let Run {
+        trace,
+        ended,
+        outcome,
+        turns,
+    } = run;
+    drop(outcome);
+    let ended = write_trace(ended, &trace, writer);
+    drop(trace);
+    Ok(Threaded { ended, turns })
+}
+
+/// The same, to a file that is made before the run.
+fn trace_to_file<R: Files + Threads + Wait + Sync + AllocGlobal>(
+    rt: &R,
+    plan: Plan,
+    workers: Workers,
+    path: &str,
+) -> Result<Threaded, Fault>
+    ensures { IfOk result (λ run. WritesFile R.File.contents (TracesOnThreads plan workers.limit run.ended)) }
+{
+    let mut lines = match create(rt, path) {
+        Ok(file) => Lines::new(file),
+        Err(fault) => {
+            drop(plan);
+            return Err(fault);
+        }
+    };
+    match trace_to(rt, plan, workers, &mut lines) {
+        Ok(run) => {
+            drop(lines);
+            Ok(run)
+        }
+        Err(fault) => {
+            drop(lines);
+            Err(fault)
+        }
+    }
+}
+
+/// The same, to a place.
+fn trace_to_place<R: Files + Threads + Wait + Sync + AllocGlobal, O: Sink, E: Sink>(
+    rt: &R,
+    plan: Plan,
+    workers: Workers,
+    place: Place<'_>,
+    out: &mut O,
+    err: &mut E,
+) -> Result<Threaded, Fault>
+    ensures written { IfOk result (λ run. WritesTo R.File.contents
+        (TracesOnThreads plan workers.limit run.ended) place.entry
+        (writer_of O.contents O.puts O.broken out.old) (writer_of O.contents O.puts O.broken out.new)
+        (writer_of E.contents E.puts E.broken err.old) (writer_of E.contents E.puts E.broken err.new)) }
+    ensures unmade { OnErr result (Unmade result
+        (writer_of O.contents O.puts O.broken out.old) (writer_of O.contents O.puts O.broken out.new)
+        (writer_of E.contents E.puts E.broken err.old) (writer_of E.contents E.puts E.broken err.new)) }
+{
+    match place {
+        Place::Error => trace_to(rt, plan, workers, err),
+        Place::Output => trace_to(rt, plan, workers, out),
+        Place::File(path) => trace_to_file(rt, plan, workers, path),
+    }
+}
+
+/// The turns of a run are known where it may be made again.
+fn know_turns(again: &mut Option<Again>, turns: Turns) {
+    if let Some(again) = again {
+        again.know(turns);
+    }
+}
+
+/// What comes of a run that was written; its turns are then known.
+fn settle_threaded<E: LineSink>(
+    alloc: Global,
+    run: Threaded,
+    place: Place<'_>,
+    again: &mut Option<Again>,
+    err: &mut E,
+) -> Result<Outcome, Fault>
+    ensures { Settles place.entry run.ended result
+        (writer_of E.contents E.puts E.broken err.old) (writer_of E.contents E.puts E.broken err.new) }
+{
+    let Threaded { ended, turns } = run;
+    know_turns(again, turns);
+    settle(alloc, ended, place, err)
+}
+
+/// Makes the run, and writes its trace, to a place that is opened before, at the end; its turns are then known. Where
+/// it is out of turns, a line that stands open on `err` is ended.
+pub fn trace_on_threads<R: Files + Threads + Wait + Sync + AllocGlobal, O: Sink, E: LineSink>(
+    rt: &R,
+    plan: Plan,
+    workers: Workers,
+    place: Place<'_>,
+    again: &mut Option<Again>,
+    out: &mut O,
+    err: &mut E,
+) -> Result<Outcome, Fault>
+    ensures { Unmade result
+        (writer_of O.contents O.puts O.broken out.old) (writer_of O.contents O.puts O.broken out.new)
+        (writer_of E.contents E.puts E.broken err.old) (writer_of E.contents E.puts E.broken err.new)
+        ⊎ RunsTo R.File.contents (TracesOnThreads plan workers.limit) place.entry result
+        (writer_of O.contents O.puts O.broken out.old) (writer_of O.contents O.puts O.broken out.new)
+        (writer_of E.contents E.puts E.broken err.old) (writer_of E.contents E.puts E.broken err.new) }
+{
+    match trace_to_place(rt, plan, workers, place, out, &mut *err) {
+        Ok(run) => settle_threaded(rt.alloc(), run, place, again, err),
+        Err(fault) => Err(fault),
     }
 }

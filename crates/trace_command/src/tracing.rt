@@ -1,158 +1,115 @@
 //! A traced run.
 
+ghost use Rattle.std.specs.Prelude.{◌≡◌, ◌⊎◌, None, Ok, IsSome, IfOk, OnErr, codes, is_some, true};
+ghost use Rattle.trace_run.specs.Writers.{writer_of};
+ghost use Rattle.trace_command.specs.Faults.{has_ended};
+ghost use Rattle.trace_command.specs.Tracing.{Leaves, Left, MayLack, PutsConsole, Runs, Takes, Unmade};
+ghost use Rattle.trace_command.specs.Tracing.{TracesOut, TracesPlan, TracesWords};
+ghost use Rattle.trace_command.specs.Tracing.{asks_for_files, status_in, value_of};
+
 use crate::again::Again;
-use crate::fault::host_fault;
-use crate::kernel::{Kernel, boot_kernel, run_kernel};
-use crate::lines::Lines;
-use crate::place::{Place, open};
+use crate::fault::{host_fault, unwritable};
+use crate::kernel::{Kernel, boot_kernel};
+use crate::lines::{LineSink, Lines};
+use crate::place::Place;
 use crate::plan::{Plan, read_plan};
+use crate::running::{trace_kernel, write};
 use crate::threads::trace_on_threads;
 use crate::turns_out::{create_turns, write_turns};
 use crate::words::TraceOptions;
 use clap::ArgMatches;
-use containers::Bytes;
 use front_end::{Fault, Leavings, Program};
 use host_link::LinkFault;
-use host_wire::Counted;
-use lx_abi::{Outcome, Script, Status};
+use host_wire::{Broken, Sink};
+use lx_abi::{Boot, Outcome, Status, Word};
 use std::alloc::Global;
 use std::io::{IsTerminal, Read, Write};
-use std::process::{OpenProcess, Processes};
+use std::process::Processes;
 use std::rt::Files;
 use std::sync::Wait;
 use std::thread::Threads;
-use tr_core::{Options, TraceFault};
-use trace_run::local::Run;
-use trace_run::{Ended, RunFault};
 
-/// The fault of a run whose trace goes to this place.
-fn fault_of(alloc: Global, fault: RunFault, place: Place<'_>) -> Fault {
-    match fault {
-        RunFault::Link(fault) => host_fault(fault),
-        RunFault::Trace(TraceFault::Inadmissible) => host_fault(LinkFault::Inadmissible),
-        RunFault::Trace(TraceFault::Memory) => Fault::Memory,
-        RunFault::Output => place.fault(alloc),
-    }
-}
-
-/// What a run that ended so leaves.
-fn outcome_of(
-    alloc: Global,
-    ended: Result<Ended, RunFault>,
-    place: Place<'_>,
-) -> Result<Outcome, Fault> {
-    match ended {
-        Ok(Ended::Whole(outcome)) => Ok(outcome),
-        Ok(Ended::OutOfTurns) => Err(Fault::OutOfTurns(None)),
-        Err(fault) => Err(fault_of(alloc, fault, place)),
-    }
-}
-
-/// Runs the tracer on a kernel, with its trace to a place that is opened now. Where the run ends in a fault, a line
-/// that stands open on `err` is ended.
-fn trace_kernel<R: Files + AllocGlobal, P: OpenProcess + Drop, O: Write, E: Write>(
+/// A kernel that takes this boot, in the process that the words ask for.
+fn booted_kernel<R: Processes + AllocGlobal>(
     rt: &R,
-    kernel: Kernel<P>,
-    script: Script,
-    options: Options,
-    place: Place<'_>,
-    out: &mut O,
-    err: &mut E,
-) -> Result<Outcome, Fault> {
-    let trace = open(rt, place, out, &mut *err)?;
-    let mut lines = Lines::new(Counted::new(trace));
-    let ended = run_kernel(rt.alloc(), kernel, script, options, &mut lines);
-    let is_open = lines.is_open() && place == Place::Error;
-    drop(lines);
-    let outcome = outcome_of(rt.alloc(), ended, place);
-    if outcome.is_err() && is_open && writeln!(err).is_err() {
-        return Err(place.fault(rt.alloc()));
-    }
-    outcome
+    matches: &ArgMatches,
+    boot: Boot,
+    turns: Vec<Word>,
+    limit: u64,
+) -> Result<Kernel<R::Started>, Fault>
+    ensures takes { IfOk result
+        (λ kernel. Takes R.Started.Stdout.remaining R.Started.Stdin.contents (value_of matches.now (codes "host")) boot
+        limit turns.items kernel) }
+    ensures fault { OnErr result (IsSome (value_of matches.now (codes "host"))) }
+{
+    let words = matches.get_strs("host-arg").unwrap_or(&[]);
+    boot_kernel(rt, matches.get_str("host"), words, boot, turns, limit)
 }
 
 /// Boots the kernel and runs the tracer.
-fn run_plan<R: Files + Processes + AllocGlobal, O: Write, E: Write>(
+fn run_plan<R: Files + Processes + AllocGlobal, O: Sink, E: LineSink>(
     rt: &R,
     matches: &ArgMatches,
     plan: Plan,
     limit: u64,
+    place: Place<'_>,
     out: &mut O,
     err: &mut E,
-) -> Result<Outcome, Fault> {
+) -> Result<Outcome, Fault>
+    ensures { (MayLack (value_of matches.now (codes "host")) None place.entry × Unmade result
+        (writer_of O.contents O.puts O.broken out.old) (writer_of O.contents O.puts O.broken out.new)
+        (writer_of E.contents E.puts E.broken err.old) (writer_of E.contents E.puts E.broken err.new))
+        ⊎ Runs R.Started R.Started.Stderr R.File.contents R.Started.Stdout.remaining R.Started.Stdin.contents
+        (value_of matches.now (codes "host")) plan limit None place.entry result
+        (writer_of O.contents O.puts O.broken out.old) (writer_of O.contents O.puts O.broken out.new)
+        (writer_of E.contents E.puts E.broken err.old) (writer_of E.contents E.puts E.broken err.new) }
+{
     let Plan {
         boot,
         script,
         options,
         turns,
     } = plan;
-    let kernel = boot_kernel(
-        rt,
-        matches.get_str("host"),
-        matches.get_strs("host-arg").unwrap_or(&[]),
-        boot,
-        turns,
-        limit,
-    )?;
-    let place = Place::of(matches.get_str("output"));
+    let kernel = match booted_kernel(rt, matches, boot, turns, limit) {
+        Ok(kernel) => kernel,
+        Err(fault) => {
+            drop(script);
+            drop(options);
+            return Err(fault);
+        }
+    };
     trace_kernel(rt, kernel, script, options, place, out, err)
 }
 
-/// The line that was written last isn't ended.
-fn is_open(trace: &Bytes) -> bool {
-    match trace.as_slice().last() {
-        Some(last) => *last != b'\n',
-        None => false,
-    }
-}
-
-/// What a run on threads leaves. Where it is out of turns, a line that stands open on `err` is ended.
-fn outcome_of_threads<E: Write>(
-    alloc: Global,
-    ended: Ended,
-    trace: &Bytes,
-    place: Place<'_>,
-    err: &mut E,
-) -> Result<Outcome, Fault> {
-    match ended {
-        Ended::Whole(outcome) => Ok(outcome),
-        Ended::OutOfTurns => {
-            if place == Place::Error && is_open(trace) && writeln!(err).is_err() {
-                return Err(place.fault(alloc));
-            }
-            Err(Fault::OutOfTurns(None))
-        }
-    }
-}
-
-/// Makes the run, on threads where the words ask for them; their turns are then known.
-fn run_as_asked<R: Files + Processes + Threads + Wait + Sync + AllocGlobal, O: Write, E: Write>(
+/// Makes the run, on threads where the words ask for them.
+fn run_as_asked<R: Files + Processes + Threads + Wait + Sync + AllocGlobal, O: Sink, E: LineSink>(
     rt: &R,
     matches: &ArgMatches,
     options: TraceOptions,
     plan: Plan,
+    place: Place<'_>,
     again: &mut Option<Again>,
     out: &mut O,
     err: &mut E,
-) -> Result<Outcome, Fault> {
-    let Some(workers) = options.workers else {
-        return run_plan(rt, matches, plan, options.limit, out, err);
-    };
-    let place = Place::of(matches.get_str("output"));
-    let Run {
-        trace,
-        ended,
-        outcome: _outcome,
-        turns,
-    } = trace_on_threads(rt, plan, workers, place, out, &mut *err)?;
-    if let Some(again) = again {
-        again.know(turns);
+) -> Result<Outcome, Fault>
+    ensures { (MayLack (value_of matches.now (codes "host")) options.workers place.entry × Unmade result
+        (writer_of O.contents O.puts O.broken out.old) (writer_of O.contents O.puts O.broken out.new)
+        (writer_of E.contents E.puts E.broken err.old) (writer_of E.contents E.puts E.broken err.new))
+        ⊎ Runs R.Started R.Started.Stderr R.File.contents R.Started.Stdout.remaining R.Started.Stdin.contents
+        (value_of matches.now (codes "host")) plan options.limit options.workers place.entry result
+        (writer_of O.contents O.puts O.broken out.old) (writer_of O.contents O.puts O.broken out.new)
+        (writer_of E.contents E.puts E.broken err.old) (writer_of E.contents E.puts E.broken err.new) }
+{
+    match options.workers {
+        None => run_plan(rt, matches, plan, options.limit, place, out, err),
+        Some(workers) => trace_on_threads(rt, plan, workers, place, again, out, err),
     }
-    outcome_of_threads(rt.alloc(), ended, &trace, place, err)
 }
 
 /// Process 1's exit code, or 128 and the signal that ended it.
-fn status_of(outcome: &Outcome) -> Option<u8> {
+fn status_of(outcome: &Outcome) -> Option<u8>
+    ensures { result ≡ status_in outcome.now.ended }
+{
     let ended = outcome
         .ended
         .as_slice()
@@ -162,28 +119,80 @@ fn status_of(outcome: &Outcome) -> Option<u8> {
 }
 
 /// Writes the console's bytes, and gives the exit status.
-fn write_console<O: Write>(alloc: Global, outcome: &Outcome, out: &mut O) -> Result<u8, Fault> {
+fn write_console<O: Sink>(alloc: Global, outcome: &Outcome, out: &mut O) -> Result<u8, Fault>
+    ensures { PutsConsole outcome.now result
+        (writer_of O.contents O.puts O.broken out.old) (writer_of O.contents O.puts O.broken out.new) }
+{
     let Some(status) = status_of(outcome) else {
         return Err(host_fault(LinkFault::Inadmissible));
     };
-    if out.write_all(outcome.console.as_slice()).is_err() || out.flush().is_err() {
-        return Err(Fault::output(format!(in alloc;
+    match write(out, outcome.console.as_slice()) {
+        Ok(()) => Ok(status),
+        Err(Broken) => Err(unwritable(format!(in alloc;
             "the console could not be written to standard output"
-        )));
+        ))),
     }
-    Ok(status)
+}
+
+/// The option has a value.
+fn is_given(matches: &ArgMatches, name: &str) -> bool
+    ensures { result ≡ is_some (value_of matches.now name.now) }
+{
+    match matches.get_str(name) {
+        Some(_) => true,
+        None => false,
+    }
+}
+
+fn asks_for_files(matches: &ArgMatches) -> bool
+    ensures { result ≡ asks_for_files matches.now }
+{
+    is_given(matches, "files-out") || is_given(matches, "files-list")
+}
+
+/// Writes the files that a run has left where the words ask for them.
+fn leave_files<R: Files + AllocGlobal>(
+    rt: &R,
+    matches: &ArgMatches,
+    outcome: &Outcome,
+) -> Result<(), Fault>
+    ensures { OnErr result (asks_for_files matches.now ≡ true) }
+{
+    if !asks_for_files(matches) {
+        return Ok(());
+    }
+    Leavings::of(matches).write(rt, outcome)
 }
 
 /// Writes what a run has left: the console to `out`, and its files where the words ask for them. Gives the exit status.
-fn finish<R: Files + AllocGlobal, O: Write>(
+fn finish<R: Files + AllocGlobal, O: Sink>(
     rt: &R,
     matches: &ArgMatches,
     outcome: &Outcome,
     out: &mut O,
-) -> Result<u8, Fault> {
-    let status = write_console(rt.alloc(), outcome, out)?;
-    Leavings::of(matches).write(rt, outcome)?;
-    Ok(status)
+) -> Result<u8, Fault>
+    ensures { Left matches.now outcome.now result
+        (writer_of O.contents O.puts O.broken out.old) (writer_of O.contents O.puts O.broken out.new) }
+{
+    let status = match write_console(rt.alloc(), outcome, out) {
+        Ok(status) => status,
+        Err(fault) => return Err(fault),
+    };
+    match leave_files(rt, matches, outcome) {
+        Ok(()) => Ok(status),
+        Err(fault) => Err(fault),
+    }
+}
+
+/// The run is whole, or out of turns.
+fn has_ended(made: &Result<Outcome, Fault>) -> bool
+    ensures { result ≡ has_ended made.now }
+{
+    match made {
+        Ok(_) => true,
+        Err(Fault::OutOfTurns(_)) => true,
+        Err(_) => false,
+    }
 }
 
 /// Writes the turns of a run that has ended to this file, where the words ask for them.
@@ -191,12 +200,16 @@ fn leave_turns<W: Write + Drop>(
     alloc: Global,
     matches: &ArgMatches,
     again: &mut Option<Again>,
-    outcome: &Result<Outcome, Fault>,
+    made: &Result<Outcome, Fault>,
     file: Option<W>,
-) -> Result<(), Fault> {
-    let has_ended = matches!(outcome, Ok(_) | Err(Fault::OutOfTurns(_)));
+) -> Result<(), Fault>
+    ensures { OnErr result (IsSome file × (has_ended made.now ≡ true)) }
+{
+    if !has_ended(made) {
+        return Ok(());
+    }
     match (matches.get_str("turns-out"), file, again) {
-        (Some(path), Some(file), Some(again)) if has_ended => {
+        (Some(path), Some(file), Some(again)) => {
             let turns = match again.turns(alloc, matches) {
                 Ok(turns) => turns,
                 Err(fault) => {
@@ -210,8 +223,38 @@ fn leave_turns<W: Write + Drop>(
     }
 }
 
-/// Makes the run, and writes what it leaves, its turns to a file that is made before. Gives the exit status.
-fn trace_plan<R: Files + Processes + Threads + Wait + Sync + AllocGlobal, O: Write, E: Write>(
+/// Writes what a run that was made leaves, its turns to this file. Gives the exit status.
+fn leave<R: Files + AllocGlobal, W: Write + Drop, O: Sink>(
+    rt: &R,
+    matches: &ArgMatches,
+    again: &mut Option<Again>,
+    made: Result<Outcome, Fault>,
+    file: Option<W>,
+    out: &mut O,
+) -> Result<u8, Fault>
+    ensures { Leaves matches.now (IsSome file) made result
+        (writer_of O.contents O.puts O.broken out.old) (writer_of O.contents O.puts O.broken out.new) }
+{
+    match leave_turns(rt.alloc(), matches, again, &made, file) {
+        Ok(()) => (),
+        Err(fault) => {
+            drop(made);
+            return Err(fault);
+        }
+    }
+    match made {
+        Ok(outcome) => {
+            let status = finish(rt, matches, &outcome, out);
+            drop(outcome);
+            status
+        }
+        Err(fault) => Err(fault),
+    }
+}
+
+/// Makes the run, its trace at the place that the words name, and writes what it leaves, its turns to a file that is
+/// made before. Gives the exit status.
+fn trace_plan<R: Files + Processes + Threads + Wait + Sync + AllocGlobal, O: Sink, E: LineSink>(
     rt: &R,
     matches: &ArgMatches,
     options: TraceOptions,
@@ -219,45 +262,136 @@ fn trace_plan<R: Files + Processes + Threads + Wait + Sync + AllocGlobal, O: Wri
     again: &mut Option<Again>,
     out: &mut O,
     err: &mut E,
-) -> Result<u8, Fault> {
-    let file = match create_turns(rt, matches.get_str("turns-out")) {
+) -> Result<u8, Fault>
+    ensures { TracesPlan R.Started R.Started.Stderr R.File.contents R.Started.Stdout.remaining R.Started.Stdin.contents
+        matches.now plan options.limit options.workers result
+        (writer_of O.contents O.puts O.broken out.old) (writer_of O.contents O.puts O.broken out.new)
+        (writer_of E.contents E.puts E.broken err.old) (writer_of E.contents E.puts E.broken err.new) }
+{
+    let place = Place::of(matches);
+    let file = match create_turns(rt, matches) {
         Ok(file) => file,
         Err(fault) => {
             drop(plan);
             return Err(fault);
         }
     };
-    let outcome = run_as_asked(rt, matches, options, plan, again, out, err);
-    leave_turns(rt.alloc(), matches, again, &outcome, file)?;
-    let outcome = outcome?;
-    let status = finish(rt, matches, &outcome, out);
-    drop(outcome);
-    status
+    let made = run_as_asked(rt, matches, options, plan, place, again, &mut *out, err);
+    leave(rt, matches, again, made, file, out)
 }
 
-/// A run that ended so, where its end is explained: a program that couldn't be run on `err`, and the end of the turns
+/// What comes of a run, and its outputs behind it.
+pub struct Traced<O, E> {
+    pub status: Result<u8, Fault>,
+    pub out: O,
+    pub err: E,
+}
+
+/// The same, to writers of std.
+fn trace_to<R: Files + Processes + Threads + Wait + Sync + AllocGlobal, O: Write, E: Write>(
+    rt: &R,
+    matches: &ArgMatches,
+    options: TraceOptions,
+    plan: Plan,
+    again: &mut Option<Again>,
+    out: O,
+    err: E,
+) -> Traced<O, E>
+    ensures { TracesOut R.Started R.Started.Stderr R.File.contents R.Started.Stdout.remaining R.Started.Stdin.contents
+        matches.now plan options.limit options.workers result.status (O.contents out) (O.contents result.out)
+        (E.contents err) (E.contents result.err) }
+{
+    let mut out = Lines::new(out);
+    let mut err = Lines::new(err);
+    let status = trace_plan(rt, matches, options, plan, again, &mut out, &mut err);
+    Traced {
+        status,
+        out: out.into_inner(),
+        err: err.into_inner(),
+    }
+}
+
+/// Says on `err` why a program couldn't be run, where it ended so.
+fn explain_program<E: Write>(
+    alloc: Global,
+    program: Program,
+    status: u8,
+    err: &mut E,
+) -> Result<(), Fault> {
+    if let Some(reason) = program.reason(alloc, status)? {
+        // The run is whole, whether this can be written or not.
+        let _written = writeln!(err, "strace: {reason}");
+    }
+    Ok(())
+}
+
+/// The fault of a run, which for the end of the turns says who waits.
+fn explain_fault(alloc: Global, matches: &ArgMatches, again: Option<Again>, fault: Fault) -> Fault {
+    match (fault, again) {
+        (Fault::OutOfTurns(_), Some(mut again)) => match again.waits(alloc, matches) {
+            Ok(waits) => Fault::OutOfTurns(Some(waits)),
+            Err(fault) => fault,
+        },
+        (fault, _) => fault,
+    }
+}
+
+/// A run that ended so. Where its end is explained, a program that couldn't be run is on `err`, and the end of the turns
 /// in the fault.
 fn explain<E: Write>(
     alloc: Global,
     matches: &ArgMatches,
     again: Option<Again>,
-    program: Program,
+    program: Option<Program>,
     ended: Result<u8, Fault>,
     err: &mut E,
-) -> Result<u8, Fault> {
-    match (ended, again) {
-        (Ok(status), _) => {
-            if let Some(reason) = program.reason(alloc, status)? {
-                // The run is whole, whether this can be written or not.
-                let _written = writeln!(err, "strace: {reason}");
-            }
-            Ok(status)
-        }
-        (Err(Fault::OutOfTurns(_)), Some(mut again)) => {
-            Err(Fault::OutOfTurns(Some(again.waits(alloc, matches)?)))
-        }
-        (Err(fault), _) => Err(fault),
+) -> Result<u8, Fault>
+    ensures { IfOk result (λ status. ended ≡ Ok status) }
+{
+    let Some(program) = program else {
+        return ended;
+    };
+    match ended {
+        Ok(status) => match explain_program(alloc, program, status, err) {
+            Ok(()) => Ok(status),
+            Err(fault) => Err(fault),
+        },
+        Err(fault) => Err(explain_fault(alloc, matches, again, fault)),
     }
+}
+
+/// A run that is to be made.
+#[derive(Drop)]
+struct Prepared {
+    plan: Plan,
+    again: Option<Again>,
+    /// The guest's program, where the run's end is explained.
+    program: Option<Program>,
+}
+
+fn prepare<R: Files + AllocGlobal, I: Read + IsTerminal, E: Write + IsTerminal>(
+    rt: &R,
+    matches: &ArgMatches,
+    options: TraceOptions,
+    input: &mut I,
+    err: &mut E,
+) -> Result<Prepared, Fault> {
+    let plan = read_plan(rt, matches, options, input, err)?;
+    let again = if options.explain || matches.get_str("turns-out").is_some() {
+        Some(Again::of(rt.alloc(), &plan, options.limit)?)
+    } else {
+        None
+    };
+    let program = if options.explain {
+        Some(Program::of(rt.alloc(), &plan.boot)?)
+    } else {
+        None
+    };
+    Ok(Prepared {
+        plan,
+        again,
+        program,
+    })
 }
 
 /// Makes the run, and gives the exit status. The console goes to `out` once the run is whole.
@@ -271,19 +405,33 @@ pub fn trace<
     matches: &ArgMatches,
     options: TraceOptions,
     input: &mut I,
-    out: &mut O,
-    err: &mut E,
-) -> Result<u8, Fault> {
-    let plan = read_plan(rt, matches, options, input, err)?;
-    let mut again = if options.explain || matches.get_str("turns-out").is_some() {
-        Some(Again::of(rt.alloc(), &plan, options.limit)?)
-    } else {
-        None
+    out: O,
+    mut err: E,
+) -> Traced<O, E>
+    ensures { TracesWords R.Started R.Started.Stderr R.File.contents R.Started.Stdout.remaining
+        R.Started.Stdin.contents matches.now options.limit options.workers result.status (O.contents out)
+        (O.contents result.out) }
+{
+    let Prepared {
+        plan,
+        mut again,
+        program,
+    } = match prepare(rt, matches, options, input, &mut err) {
+        Ok(prepared) => prepared,
+        Err(fault) => {
+            return Traced {
+                status: Err(fault),
+                out,
+                err,
+            };
+        }
     };
-    if !options.explain {
-        return trace_plan(rt, matches, options, plan, &mut again, out, err);
-    }
-    let program = Program::of(rt.alloc(), &plan.boot)?;
-    let ended = trace_plan(rt, matches, options, plan, &mut again, out, err);
-    explain(rt.alloc(), matches, again, program, ended, err)
+    let traced = trace_to(rt, matches, options, plan, &mut again, out, err);
+    let Traced {
+        status,
+        out,
+        mut err,
+    } = traced;
+    let status = explain(rt.alloc(), matches, again, program, status, &mut err);
+    Traced { status, out, err }
 }

@@ -1,5 +1,9 @@
 //! The turns of a run, written as a schedule.
 
+ghost use Rattle.std.specs.Prelude.{IfOk, IsSome, OnErr, codes};
+ghost use Rattle.trace_command.specs.Tracing.{value_of};
+
+use clap::ArgMatches;
 use front_end::{Fault, Shown};
 use std::alloc::Global;
 use std::fs;
@@ -40,9 +44,13 @@ fn unwritten(alloc: Global, path: &str, error: io::Error) -> Fault {
 /// Makes the file that `--turns-out` names, where it names one, anew.
 pub fn create_turns<R: Files + AllocGlobal>(
     rt: &R,
-    path: Option<&str>,
-) -> Result<Option<R::File>, Fault> {
-    let Some(path) = path else {
+    matches: &ArgMatches,
+) -> Result<Option<R::File>, Fault>
+    ensures asked { IfOk result (λ file. IsSome file → IsSome (value_of matches.now (codes "turns-out"))) }
+    ensures file { IfOk result (λ file. IsSome (value_of matches.now (codes "turns-out")) → IsSome file) }
+    ensures fault { OnErr result (IsSome (value_of matches.now (codes "turns-out"))) }
+{
+    let Some(path) = matches.get_str("turns-out") else {
         return Ok(None);
     };
     match fs::create(rt, path) {

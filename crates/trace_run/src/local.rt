@@ -1,6 +1,6 @@
 //! A whole run in one process.
 
-ghost use Rattle.std.specs.Prelude.{◌≡◌, None, Some, Err, IfErr, IfOk, OnOk};
+ghost use Rattle.std.specs.Prelude.{◌≡◌, None, Some, Err, IfErr, IfOk, OnErr, OnOk};
 ghost use Rattle.lx_boot.specs.Boots.{Refuses, fault_of};
 ghost use Rattle.lx_boot.specs.declared.boots.BootFault.{BootFault};
 ghost use Rattle.trace_run.specs.BootedRuns.{IsBooted, IsLeft, KeptRun, RunOf, TraceOf};
@@ -144,6 +144,8 @@ pub fn trace_local<W: Sink>(
     // Memory was refused or the writer failed; or the schedule had 2^40 - 1 events to come, and those of `Schedule`'s
     // own functions have 2^39 at most.
     ensures fails { IfOk result (λ ended. IfErr ended (FailsBy (events_left schedule) (W.broken writer.new))) }
+    ensures unwritten { OnErr result (writer_of W.contents W.puts W.broken writer.new
+        ≡ writer_of W.contents W.puts W.broken writer.old) }
     ensures accepted { OnOk result (fault_of boot ≡ None) }
     ensures fault { IfErr result (Refuses boot) }
 

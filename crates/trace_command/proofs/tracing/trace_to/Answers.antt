@@ -1,0 +1,29 @@
+use Rattle.std.proofs.Common.{sym}
+use Rattle.trace_run.specs.Writers.{writer_of}
+use Rattle.trace_command.specs.Tracing.{TracesPlan}
+use Rattle.trace_command.specs.Writers.{broken_of, contents_of, puts_of}
+use Rattle.trace_command.proofs.Leaving.{over_both}
+use Rattle.trace_command.proofs.tracing.trace_to.Goals as goal
+
+pub returns : goal.returns
+returns g c =
+    let out = writer_of (λ l. contents_of g.O.Write.contents l) (λ l. puts_of l) (λ l. broken_of l)
+    c.trace_plan-status.new.out in
+    let err = writer_of (λ l. contents_of g.E.Write.contents l) (λ l. puts_of l) (λ l. broken_of l)
+    c.trace_plan-status.new.err in (
+      out,
+      (
+        err,
+        (
+          sym c.into_inner.ensures,
+          (
+            sym c.into_inner-2.ensures,
+            over_both
+                (λ x y. TracesPlan g.row.R-Started.Denot g.row.R-Started-Stderr.Denot g.R.File.Write.contents
+                g.R.Started.Stdout.Read.remaining g.R.Started.Stdin.Write.contents c.args.matches.now c.args.plan
+                c.args.options.limit c.args.options.workers c.trace_plan-status.result x out y err)
+                c.new-out.ensures c.new-err.ensures c.trace_plan-status.ensures,
+          ),
+        ),
+      ),
+    )

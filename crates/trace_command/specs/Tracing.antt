@@ -1,0 +1,278 @@
+-- What a traced run writes, where it writes it, and what it leaves.
+use Rattle.std.specs.Prelude.{◌≡◌, ◌≢◌, ◌⊎◌, ℕ, ◌==◌, Bool, true, ◌||◌, ⊤, List, [], ◌∷◌, codes}
+use Rattle.std.specs.Prelude.{Option, None, Some, IsSome, is_some, option_map, find, Result, Ok, Err, IsErr, IfOk, IfErr, OnErr}
+use Rattle.std.specs.Io.Buffered.{reader_remaining}
+use Rattle.clap.specs.Words.{first_value, found_of}
+use Rattle.clap.specs.declared.parser.matches.ArgMatches.{ArgMatches}
+use Rattle.lx_abi.specs.declared.boot.Boot.{Boot}
+use Rattle.lx_abi.specs.declared.outcome.Ended.{Ended as End}
+use Rattle.lx_abi.specs.declared.outcome.Outcome.{Outcome}
+use Rattle.lx_abi.specs.declared.ptrace.Reply.TheVariants.{Done}
+use Rattle.lx_abi.specs.declared.ptrace.Request.TheVariants.{Boot as Boot_with}
+use Rattle.lx_abi.specs.declared.schedule.Word.{Word}
+use Rattle.lx_abi.specs.declared.script.Rule.{Rule}
+use Rattle.lx_abi.specs.Scripts.{choice_of}
+use Rattle.lx_abi.specs.Status.{shell_status_of}
+use Rattle.front_end.specs.declared.fault.Fault.{Fault}
+use Rattle.pt_schedule.specs.Schedules.{worded, events_left}
+use Rattle.pt_schedule.specs.declared.schedule.Schedule.{Schedule}
+use Rattle.host_wire.specs.Counting.{calls_of, faults_of as faults_of_end, input_of, inner_of}
+use Rattle.host_link.specs.Children.{pipe_of}
+use Rattle.host_link.specs.PipeLinks.{Asks, given_of, faults_of}
+use Rattle.host_link.specs.declared.child.ChildLink.{ChildLink}
+use Rattle.host_link.specs.declared.fault.LinkFault.TheVariants.{Inadmissible, Memory}
+use Rattle.tr_core.specs.Settings.{options_by, first_pen}
+use Rattle.tr_core.specs.States.{new_state}
+use Rattle.tr_core.specs.declared.settings.Options.{Options}
+use Rattle.trace_run.specs.BootedRuns.{TraceOf}
+use Rattle.trace_run.specs.LocalRuns.{FailsBy}
+use Rattle.trace_run.specs.Runs.{Answers, RunsWhole, calls_of as calls_of_link}
+use Rattle.trace_run.specs.Writers.{Writer, PutsWhole, PutsPart}
+use Rattle.trace_run.specs.declared.local.Run.{Run}
+use Rattle.trace_run.specs.declared.running.Ended.{Ended}
+use Rattle.trace_run.specs.declared.running.Ended.TheVariants.{Whole}
+use Rattle.trace_run.specs.declared.running.RunFault.{RunFault}
+use Rattle.trace_run.specs.declared.running.RunFault.TheVariants.{Link, Output as Unwritable}
+use Rattle.trace_threads.specs.ThreadRuns.{ThreadRun}
+use Rattle.trace_command.specs.Faults.{IsFaultOf, IsHostFault, IsUnwritable, has_ended}
+use Rattle.trace_command.specs.declared.kernel.Kernel.{Kernel}
+use Rattle.trace_command.specs.declared.kernel.Kernel.TheVariants.{Here, There}
+use Rattle.trace_command.specs.declared.place.Place.{Place}
+use Rattle.trace_command.specs.declared.place.Place.TheVariants.{Error, Output, File}
+use Rattle.trace_command.specs.declared.plan.Plan.{Plan}
+use Rattle.trace_command.specs.declared.words.Workers.{Workers}
+
+-- ---- the words
+
+-- the value of an option, where it has one
+abbrev pub value_of : ArgMatches → List ℕ → Option (List ℕ)
+value_of words name = first_value (found_of words) name
+
+abbrev pub asks_for_files : ArgMatches → Bool
+asks_for_files words = is_some (value_of words (codes "files-out")) || is_some (value_of words (codes "files-list"))
+
+-- the place that this value of `-o` names
+abbrev pub IsPlace : Option (List ℕ) → Place → Type 0
+IsPlace named Error = named ≡ None
+IsPlace named Output = named ≡ Some (codes "/dev/stdout")
+IsPlace named (File path) = (named ≡ Some path.now) × (path.now ≢ codes "/dev/stdout")
+
+-- ---- where the kernel runs
+
+-- what a link to a child may do, by what is known of the child's output and of its input
+abbrev pub child_answers : {P I O E : Type 0} → (O → Option (List ℕ)) → (I → Option (List ℕ))
+    → Answers (ChildLink P I O E)
+child_answers remaining contents a q r b =
+    Asks (λ e. input_of (λ out. reader_remaining remaining out) e) (λ e. contents (inner_of e)) (λ e. calls_of e)
+    (λ e. faults_of_end e) (pipe_of a) q r (pipe_of b)
+
+abbrev pub child_calls : {P I O E : Type 0} → (O → Option (List ℕ)) → (I → Option (List ℕ))
+    → Answers (ChildLink P I O E)
+child_calls remaining contents =
+    calls_of_link (child_answers remaining contents) (λ l. given_of (pipe_of l)) (λ l. faults_of (pipe_of l))
+
+-- The kernel takes this boot, under these words of a schedule: it is in this process where no host is named, else that
+-- host, of which nothing was asked before, has taken it.
+abbrev pub Takes : {P I O E : Type 0} → (O → Option (List ℕ)) → (I → Option (List ℕ)) → Option (List ℕ) → Boot → ℕ
+    → List Word → Kernel P I O E → Type 0
+Takes remaining contents None boot limit words (Here b schedule) = (b ≡ boot) × (schedule ≡ worded words limit)
+Takes remaining contents None boot limit words (There link) = ⊥
+Takes remaining contents (Some host) boot limit words (Here b schedule) = ⊥
+Takes {P} {I} {O} {E} remaining contents (Some host) boot limit words (There link) =
+    (first : ChildLink P I O E)
+    × ((given_of (pipe_of first) ≡ 0)
+    × ((faults_of (pipe_of first) ≡ 0)
+    × child_answers remaining contents first (Boot_with boot limit words) (Ok Done) link))
+
+-- ---- a run, and what it writes to a writer
+
+-- Over a kernel in this process: what is written is told by the untraced kernel, from this boot on, and a failure is
+-- one of memory or of the writer. Or memory ran out before the kernel was booted, and nothing is written.
+abbrev pub TracesHere : Options → List Rule → Boot → Schedule → Result Ended RunFault → Writer → Writer → Type 0
+TracesHere o script boot schedule result old new =
+    (TraceOf boot schedule script o result old new × IfErr result (FailsBy (events_left schedule) new.broken))
+    ⊎ ((result ≡ Err (Link Memory)) × (new ≡ old))
+
+-- Over a kernel in a child: the tracer's requests, and the bytes that came and went.
+abbrev pub TracesThere : {P I O E : Type 0} → (O → Option (List ℕ)) → (I → Option (List ℕ)) → Options → List Rule
+    → ChildLink P I O E → Result Ended RunFault → Writer → Writer → Type 0
+TracesThere {P} {I} {O} {E} remaining contents o script link result old new =
+    (last : ChildLink P I O E)
+    × RunsWhole (child_calls remaining contents) (new_state (options_by o) (choice_of script) (first_pen o)) link old
+    result last new
+
+abbrev pub Traces : {P I O E : Type 0} → (O → Option (List ℕ)) → (I → Option (List ℕ)) → Options → List Rule
+    → Kernel P I O E → Result Ended RunFault → Writer → Writer → Type 0
+Traces remaining contents o script (Here boot schedule) result old new =
+    TracesHere o script boot schedule result old new
+Traces remaining contents o script (There link) result old new =
+    TracesThere remaining contents o script link result old new
+
+-- one put, of these bytes, or of a first part of them where it fails
+abbrev pub Puts : {A X : Type 0} → List ℕ → Result A X → Writer → Writer → Type 0
+Puts bytes (Ok x) old new = PutsWhole old new bytes
+Puts bytes (Err fault) old new = PutsPart old new bytes
+
+-- the trace of a run that ended so, in one piece
+abbrev pub PutsTrace : Ended → List ℕ → Result Ended RunFault → Writer → Writer → Type 0
+PutsTrace ended trace (Ok result) old new = (result ≡ ended) × PutsWhole old new trace
+PutsTrace ended trace (Err fault) old new = (fault ≡ Unwritable) × PutsPart old new trace
+
+-- on threads: the run is the untraced kernel's by the journal of its host
+abbrev pub TracesOnThreads : Plan → ℕ → Result Ended RunFault → Writer → Writer → Type 0
+TracesOnThreads plan limit result old new =
+    (run : Run)
+    × (ThreadRun plan.boot limit plan.script plan.options run × PutsTrace run.ended run.trace result old new)
+
+-- ---- where the trace goes
+
+-- a writer of std that was not written to before
+abbrev pub unused : Option (List ℕ) → Writer
+unused contents = record { contents = contents; puts = []; broken = 0 }
+
+-- to a file that is made for it
+abbrev pub WritesFile : {F : Type 0} → (F → Option (List ℕ)) → (Writer → Writer → Type 0) → Type 0
+WritesFile {F} held writes =
+    (old : F) × ((new : F) × ((last : Writer) × ((last.contents ≡ held new) × writes (unused (held old)) last)))
+
+-- A run that writes so has written to this place, and nothing to the other outputs.
+abbrev pub WritesTo : {F : Type 0} → (F → Option (List ℕ)) → (Writer → Writer → Type 0) → Place
+    → Writer → Writer → Writer → Writer → Type 0
+WritesTo held writes Error out out' err err' = (out' ≡ out) × writes err err'
+WritesTo held writes Output out out' err err' = (err' ≡ err) × writes out out'
+WritesTo held writes (File path) out out' err err' = (out' ≡ out) × ((err' ≡ err) × WritesFile held writes)
+
+-- What comes of a run that ended so: its outcome, or its own fault. Where the trace goes to standard error the end of a
+-- line may come before the fault, and where that can't be written it is the fault.
+
+abbrev pub EndsLine : Place → Fault → Fault → Writer → Writer → Type 0
+EndsLine Error own fault err err' =
+    ((fault ≡ own) × ((err' ≡ err) ⊎ PutsWhole err err' (10 ∷ [])))
+    ⊎ (IsUnwritable fault × PutsPart err err' (10 ∷ []))
+EndsLine Output own fault err err' = (fault ≡ own) × (err' ≡ err)
+EndsLine (File path) own fault err err' = (fault ≡ own) × (err' ≡ err)
+
+abbrev pub Settles : Place → Result Ended RunFault → Result Outcome Fault → Writer → Writer → Type 0
+Settles place ended (Ok outcome) err err' = (ended ≡ Ok (Whole outcome)) × (err' ≡ err)
+Settles place ended (Err fault) err err' = (own : Fault) × (IsFaultOf ended own × EndsLine place own fault err err')
+
+-- A run that writes so was made: it has ended, and its trace is at the place.
+abbrev pub RunsTo : {F : Type 0} → (F → Option (List ℕ)) → (Result Ended RunFault → Writer → Writer → Type 0) → Place
+    → Result Outcome Fault → Writer → Writer → Writer → Writer → Type 0
+RunsTo held writes place result out out' err err' =
+    (ended : Result Ended RunFault)
+    × ((middle : Writer)
+    × (WritesTo held (writes ended) place out out' err middle × Settles place ended result middle err'))
+
+-- none was made, and nothing is written
+abbrev pub Unmade : {A : Type 0} → Result A Fault → Writer → Writer → Writer → Writer → Type 0
+Unmade (Ok x) out out' err err' = ⊥
+Unmade (Err fault) out out' err err' = (out' ≡ out) × (err' ≡ err)
+
+-- A run that needs neither a host, nor threads, nor a file for its trace is always made.
+
+abbrev pub IsFile : Place → Type 0
+IsFile Error = ⊥
+IsFile Output = ⊥
+IsFile (File path) = ⊤
+
+abbrev pub MayLack : Option (List ℕ) → Option Workers → Place → Type 0
+MayLack host workers place = IsSome host ⊎ (IsSome workers ⊎ IsFile place)
+
+-- ---- the program
+
+-- The run that was asked for: over a kernel that took the boot, or on threads.
+abbrev pub Runs : (P E : Type 0) → {F I O : Type 0} → (F → Option (List ℕ)) → (O → Option (List ℕ))
+    → (I → Option (List ℕ)) → Option (List ℕ) → Plan → ℕ → Option Workers → Place → Result Outcome Fault
+    → Writer → Writer → Writer → Writer → Type 0
+Runs P E {F} {I} {O} held remaining contents host plan limit None place result out out' err err' =
+    (kernel : Kernel P I O E)
+    × (Takes remaining contents host plan.boot limit plan.turns.items kernel
+    × RunsTo held (Traces remaining contents plan.options plan.script kernel) place result out out' err err')
+Runs P E held remaining contents host plan limit (Some workers) place result out out' err err' =
+    RunsTo held (TracesOnThreads plan workers.limit) place result out out' err err'
+
+-- what a shell shows of the end of process 1
+abbrev pub status_in : List End → Option ℕ
+status_in ends = option_map (λ e. shell_status_of e.word) (find (λ e. e.pid == 1) ends)
+
+-- The console, by one put, and the status of process 1. There is a fault where no process 1 has ended, and nothing is
+-- written then, and where the console can't be.
+abbrev pub PutsConsole : Outcome → Result ℕ Fault → Writer → Writer → Type 0
+PutsConsole outcome (Ok status) old new =
+    PutsWhole old new outcome.console × (status_in outcome.ended ≡ Some status)
+PutsConsole outcome (Err fault) old new =
+    ((status_in outcome.ended ≡ None) × (IsHostFault Inadmissible fault × (new ≡ old)))
+    ⊎ (IsSome (status_in outcome.ended) × (IsUnwritable fault × PutsPart old new outcome.console))
+
+-- A run with this outcome leaves that. Files that are asked for come behind it, and may fail.
+abbrev pub Left : ArgMatches → Outcome → Result ℕ Fault → Writer → Writer → Type 0
+Left words outcome result old new =
+    PutsConsole outcome result old new
+    ⊎ ((asks_for_files words ≡ true) × (IsErr result × ((status : ℕ) × PutsConsole outcome (Ok status) old new)))
+
+-- One that isn't whole, or whose turns can't be written, leaves nothing.
+abbrev pub LeavesAfter : ArgMatches → Result (Unit {0}) Fault → Result Outcome Fault → Result ℕ Fault
+    → Writer → Writer → Type 0
+LeavesAfter words (Err fault) made result old new = (result ≡ Err fault) × (new ≡ old)
+LeavesAfter words (Ok u) (Err fault) result old new = (result ≡ Err fault) × (new ≡ old)
+LeavesAfter words (Ok u) (Ok outcome) result old new = Left words outcome result old new
+
+-- whatever came of writing its turns, which fails only where they are asked for and the run has ended
+abbrev pub Leaves : ArgMatches → Type 0 → Result Outcome Fault → Result ℕ Fault → Writer → Writer → Type 0
+Leaves words asked made result old new =
+    (turned : Result (Unit {0}) Fault)
+    × (OnErr turned (asked × (has_ended made ≡ true)) × LeavesAfter words turned made result old new)
+
+-- All of it: the run writes its trace, then its turns are written where that is asked for, and then standard output is
+-- given what it leaves.
+pub record Completes (P E : Type 0) {F I O : Type 0} (held : F → Option (List ℕ)) (remaining : O → Option (List ℕ))
+    (contents : I → Option (List ℕ)) (words : ArgMatches) (plan : Plan) (limit : ℕ) (workers : Option Workers)
+    (place : Place) (result : Result ℕ Fault) (out out' err err' : Writer) : Type 0 where
+  pub made : Result Outcome Fault
+  -- standard output before the console
+  pub traced : Writer
+  pub runs : Runs P E held remaining contents (value_of words (codes "host")) plan limit workers place made out traced
+      err err'
+  -- a file is made for the turns where they are asked for
+  pub turns : Option F
+  pub filed : IsSome (value_of words (codes "turns-out")) → IsSome turns
+  pub leaves : Leaves words (IsSome (value_of words (codes "turns-out"))) made result traced out'
+
+-- A run of this plan, with its trace at the place that the words name, completes. Or it lacks a file, a host or threads
+-- that it needs, and nothing is written.
+abbrev pub TracesPlan : (P E : Type 0) → {F I O : Type 0} → (F → Option (List ℕ)) → (O → Option (List ℕ))
+    → (I → Option (List ℕ)) → ArgMatches → Plan → ℕ → Option Workers → Result ℕ Fault
+    → Writer → Writer → Writer → Writer → Type 0
+TracesPlan P E held remaining contents words plan limit workers result out out' err err' =
+    (place : Place)
+    × (IsPlace (value_of words (codes "output")) place
+    × (((IsSome (value_of words (codes "turns-out")) ⊎ MayLack (value_of words (codes "host")) workers place)
+    × Unmade result out out' err err')
+    ⊎ Completes P E held remaining contents words plan limit workers place result out out' err err'))
+
+-- The same to writers of std, by what they hold where that is known: standard output and standard error are written to
+-- so, and by nothing else.
+abbrev pub TracesOut : (P E : Type 0) → {F I O : Type 0} → (F → Option (List ℕ)) → (O → Option (List ℕ))
+    → (I → Option (List ℕ)) → ArgMatches → Plan → ℕ → Option Workers → Result ℕ Fault
+    → Option (List ℕ) → Option (List ℕ) → Option (List ℕ) → Option (List ℕ) → Type 0
+TracesOut P E held remaining contents words plan limit workers result out out' err err' =
+    (o : Writer)
+    × ((e : Writer)
+    × ((o.contents ≡ out')
+    × ((e.contents ≡ err')
+    × TracesPlan P E held remaining contents words plan limit workers result (unused out) o (unused err) e)))
+
+-- What is written to standard output is that of a run of some plan, and a status is that of this run. Or there was no
+-- plan, and nothing is written to it.
+abbrev pub TracesWords : (P E : Type 0) → {F I O : Type 0} → (F → Option (List ℕ)) → (O → Option (List ℕ))
+    → (I → Option (List ℕ)) → ArgMatches → ℕ → Option Workers → Result ℕ Fault
+    → Option (List ℕ) → Option (List ℕ) → Type 0
+TracesWords P E held remaining contents words limit workers result out out' =
+    (IsErr result × (out' ≡ out))
+    ⊎ ((plan : Plan)
+    × ((ended : Result ℕ Fault)
+    × ((err : Option (List ℕ))
+    × ((err' : Option (List ℕ))
+    × (IfOk result (λ status. ended ≡ Ok status)
+    × TracesOut P E held remaining contents words plan limit workers ended out out' err err')))))
