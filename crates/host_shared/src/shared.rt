@@ -6,13 +6,18 @@ ghost use Rattle.host_shared.specs.Sharing.{Puts, Tries, FailsSo, IsSharedFault}
 ghost use Rattle.host_link.specs.declared.fault.LinkFault.{LinkFault};
 
 use crate::held::Held;
+use crate::lock::SharedHost;
 use host_link::link::MOST_REPLIES;
 use host_link::{Link, LinkFault};
 use lx_abi::{Reply, Request};
 use lx_copies::Copied;
 use std::alloc::Global;
-use std::sync::{Mutex, Wait};
+use std::sync::Wait;
 use std::thread;
+
+/// So often a reply is looked for before its thread sleeps: most come soon, and each look takes the lock from who makes
+/// the turns that lead to it.
+const TRIES: u32 = 64;
 
 /// A request that would boot a host again.
 fn is_boot(request: &Request) -> bool
@@ -60,45 +65,66 @@ fn attempt(held: &mut Held) -> Option<Result<Reply, LinkFault>>
 
 fn put_locked<R: Wait>(
     rt: &R,
-    held: &Mutex<Held>,
+    host: &SharedHost,
     request: Request,
 ) -> Option<Result<Reply, LinkFault>>
     requires { is_boot request ≡ false }
     ensures { FailsSo result }
 {
-    let mut guard = held.lock(rt);
+    let mut guard = host.held.lock(rt);
     put(&mut guard, request)
 }
 
-fn attempt_locked<R: Wait>(rt: &R, held: &Mutex<Held>) -> Option<Result<Reply, LinkFault>>
+fn attempt_locked<R: Wait>(rt: &R, host: &SharedHost) -> Option<Result<Reply, LinkFault>>
     ensures { FailsSo result }
 {
-    let mut guard = held.lock(rt);
+    let mut guard = host.held.lock(rt);
     attempt(&mut guard)
 }
 
-/// Asks the host, and waits for its reply.
-fn ask<R: Wait>(rt: &R, held: &Mutex<Held>, request: Request) -> Result<Reply, LinkFault>
-    requires { is_boot request ≡ false }
+/// Waits for the reply asleep, until a worker tells that there may be one.
+fn sleep_until_served<R: Wait>(rt: &R, host: &SharedHost) -> Result<Reply, LinkFault>
     ensures { IfErr result IsSharedFault }
 {
-    if let Some(answer) = put_locked(rt, held, request) {
-        return answer;
-    }
+    let mut guard = host.held.lock(rt);
     for _ in rt.forever() {
-        if let Some(answer) = attempt_locked(rt, held) {
+        if let Some(answer) = attempt(&mut guard) {
+            return answer;
+        }
+        guard = host.news.wait(rt, guard);
+    }
+    unreachable!()
+}
+
+/// Waits for the reply.
+fn wait_for_reply<R: Wait>(rt: &R, host: &SharedHost) -> Result<Reply, LinkFault>
+    ensures { IfErr result IsSharedFault }
+{
+    for _ in 0..TRIES {
+        if let Some(answer) = attempt_locked(rt, host) {
             return answer;
         }
         thread::yield_now();
     }
-    unreachable!()
+    sleep_until_served(rt, host)
+}
+
+/// Asks the host, and waits for its reply.
+fn ask<R: Wait>(rt: &R, host: &SharedHost, request: Request) -> Result<Reply, LinkFault>
+    requires { is_boot request ≡ false }
+    ensures { IfErr result IsSharedFault }
+{
+    match put_locked(rt, host, request) {
+        Some(answer) => answer,
+        None => wait_for_reply(rt, host),
+    }
 }
 
 /// Asks the host; the request and its reply are kept.
 fn exchange<R: Wait>(
     rt: &R,
     alloc: Global,
-    held: &Mutex<Held>,
+    host: &SharedHost,
     given: &mut Vec<(Request, Reply)>,
     request: Request,
 ) -> Result<Reply, LinkFault>
@@ -112,7 +138,7 @@ fn exchange<R: Wait>(
     let Ok(kept) = request.copy(alloc) else {
         return Err(LinkFault::Memory);
     };
-    let reply = match ask(rt, held, request) {
+    let reply = match ask(rt, host, request) {
         Ok(reply) => reply,
         Err(fault) => return Err(fault),
     };
@@ -130,7 +156,7 @@ fn exchange<R: Wait>(
 pub struct SharedLink<'a, R: Wait> {
     rt: &'a R,
     alloc: Global,
-    held: &'a Mutex<Held>,
+    host: &'a SharedHost,
     given: Vec<(Request, Reply)>,
     is_broken: bool,
     ghost few: { length given.items ≤ 2 ^ 40 },
@@ -139,14 +165,14 @@ pub struct SharedLink<'a, R: Wait> {
 impl<'a, R: Wait> SharedLink<'a, R> {
     ghost use Rattle.host_shared.specs.Links.{exchanges_of, faults_of};
 
-    pub fn new(rt: &'a R, alloc: Global, held: &'a Mutex<Held>) -> Self
+    pub fn new(rt: &'a R, alloc: Global, host: &'a SharedHost) -> Self
         ensures nothing { exchanges_of result ≡ [] }
         ensures whole { faults_of result ≡ 0 }
     {
         SharedLink {
             rt,
             alloc,
-            held,
+            host,
             given: Vec::new(alloc),
             is_broken: false,
         }
@@ -186,7 +212,7 @@ impl<'a, R: Wait> Link for SharedLink<'a, R> {
             self.is_broken = true;
             return Err(LinkFault::TooMany);
         }
-        match exchange(self.rt, self.alloc, self.held, &mut self.given, request) {
+        match exchange(self.rt, self.alloc, self.host, &mut self.given, request) {
             Ok(reply) => Ok(reply),
             Err(fault) => {
                 self.is_broken = true;
