@@ -17,6 +17,7 @@ use pt_journal::Journal;
 use pt_kernel::Host;
 use std::alloc::Global;
 use std::marker::Model;
+use std::sync::{Arc, Condvar};
 
 /// The most events that a journal may be given.
 pub const MOST_EVENTS: u64 = 1 << 39;
@@ -43,6 +44,8 @@ pub struct Held {
     closed: bool,
     /// Memory was refused.
     failed: bool,
+    /// A request may be answered now that waited before.
+    news: Arc<Condvar>,
 }
 
 impl Model for Held {
@@ -79,9 +82,8 @@ impl Held {
     {
         let kept = boot.copy(alloc);
         let host = Host::boot(alloc, boot)?;
-        match kept {
-            Err(_) => Err(BootFault::Memory),
-            Ok(boot) => Ok(Held {
+        match (kept, Arc::new(alloc, Condvar::new())) {
+            (Ok(boot), Ok(news)) => Ok(Held {
                 alloc,
                 boot,
                 host: Roster::of(host),
@@ -92,7 +94,9 @@ impl Held {
                 pending: false,
                 closed: false,
                 failed: false,
+                news,
             }),
+            _ => Err(BootFault::Memory),
         }
     }
 
@@ -213,6 +217,16 @@ impl Held {
         ensures { self.now.failed ≡ false → result ≡ is_there self.now.host.hosting.pending }
     {
         self.pending
+    }
+
+    /// What wakes the thread that waits for a reply.
+    pub(crate) fn news(&self) -> Result<Arc<Condvar>, Memory> {
+        Arc::try_clone(&self.news).map_err(|_| Memory)
+    }
+
+    /// Wakes the thread that waits for a reply, if it sleeps.
+    pub(crate) fn wake(&self) {
+        self.news.notify_one();
     }
 
     /// A request is pending, and would be answered.

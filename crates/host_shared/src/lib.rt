@@ -3,13 +3,11 @@
 
 mod followers;
 pub mod held;
-pub mod lock;
 mod roster;
 pub mod shared;
 mod steps;
 pub mod workers;
 
 pub use held::{Held, MOST_EVENTS, Memory};
-pub use lock::SharedHost;
 pub use shared::SharedLink;
 pub use workers::{Gate, work};

@@ -6,13 +6,12 @@ ghost use Rattle.host_shared.specs.Sharing.{Puts, Tries, FailsSo, IsSharedFault}
 ghost use Rattle.host_link.specs.declared.fault.LinkFault.{LinkFault};
 
 use crate::held::Held;
-use crate::lock::SharedHost;
 use host_link::link::MOST_REPLIES;
 use host_link::{Link, LinkFault};
 use lx_abi::{Reply, Request};
 use lx_copies::Copied;
 use std::alloc::Global;
-use std::sync::Wait;
+use std::sync::{Mutex, Wait};
 use std::thread;
 
 /// So often a reply is looked for before its thread sleeps: most come soon, and each look takes the lock from who makes
@@ -65,58 +64,61 @@ fn attempt(held: &mut Held) -> Option<Result<Reply, LinkFault>>
 
 fn put_locked<R: Wait>(
     rt: &R,
-    host: &SharedHost,
+    held: &Mutex<Held>,
     request: Request,
 ) -> Option<Result<Reply, LinkFault>>
     requires { is_boot request ≡ false }
     ensures { FailsSo result }
 {
-    let mut guard = host.held.lock(rt);
+    let mut guard = held.lock(rt);
     put(&mut guard, request)
 }
 
-fn attempt_locked<R: Wait>(rt: &R, host: &SharedHost) -> Option<Result<Reply, LinkFault>>
+fn attempt_locked<R: Wait>(rt: &R, held: &Mutex<Held>) -> Option<Result<Reply, LinkFault>>
     ensures { FailsSo result }
 {
-    let mut guard = host.held.lock(rt);
+    let mut guard = held.lock(rt);
     attempt(&mut guard)
 }
 
 /// Waits for the reply asleep, until a worker tells that there may be one.
-fn sleep_until_served<R: Wait>(rt: &R, host: &SharedHost) -> Result<Reply, LinkFault>
+fn sleep_until_served<R: Wait>(rt: &R, held: &Mutex<Held>) -> Result<Reply, LinkFault>
     ensures { IfErr result IsSharedFault }
 {
-    let mut guard = host.held.lock(rt);
+    let mut guard = held.lock(rt);
+    let Ok(news) = guard.news() else {
+        return Err(LinkFault::Memory);
+    };
     for _ in rt.forever() {
         if let Some(answer) = attempt(&mut guard) {
             return answer;
         }
-        guard = host.news.wait(rt, guard);
+        guard = news.wait(rt, guard);
     }
     unreachable!()
 }
 
 /// Waits for the reply.
-fn wait_for_reply<R: Wait>(rt: &R, host: &SharedHost) -> Result<Reply, LinkFault>
+fn wait_for_reply<R: Wait>(rt: &R, held: &Mutex<Held>) -> Result<Reply, LinkFault>
     ensures { IfErr result IsSharedFault }
 {
     for _ in 0..TRIES {
-        if let Some(answer) = attempt_locked(rt, host) {
+        if let Some(answer) = attempt_locked(rt, held) {
             return answer;
         }
         thread::yield_now();
     }
-    sleep_until_served(rt, host)
+    sleep_until_served(rt, held)
 }
 
 /// Asks the host, and waits for its reply.
-fn ask<R: Wait>(rt: &R, host: &SharedHost, request: Request) -> Result<Reply, LinkFault>
+fn ask<R: Wait>(rt: &R, held: &Mutex<Held>, request: Request) -> Result<Reply, LinkFault>
     requires { is_boot request ≡ false }
     ensures { IfErr result IsSharedFault }
 {
-    match put_locked(rt, host, request) {
+    match put_locked(rt, held, request) {
         Some(answer) => answer,
-        None => wait_for_reply(rt, host),
+        None => wait_for_reply(rt, held),
     }
 }
 
@@ -124,7 +126,7 @@ fn ask<R: Wait>(rt: &R, host: &SharedHost, request: Request) -> Result<Reply, Li
 fn exchange<R: Wait>(
     rt: &R,
     alloc: Global,
-    host: &SharedHost,
+    held: &Mutex<Held>,
     given: &mut Vec<(Request, Reply)>,
     request: Request,
 ) -> Result<Reply, LinkFault>
@@ -138,7 +140,7 @@ fn exchange<R: Wait>(
     let Ok(kept) = request.copy(alloc) else {
         return Err(LinkFault::Memory);
     };
-    let reply = match ask(rt, host, request) {
+    let reply = match ask(rt, held, request) {
         Ok(reply) => reply,
         Err(fault) => return Err(fault),
     };
@@ -156,7 +158,7 @@ fn exchange<R: Wait>(
 pub struct SharedLink<'a, R: Wait> {
     rt: &'a R,
     alloc: Global,
-    host: &'a SharedHost,
+    held: &'a Mutex<Held>,
     given: Vec<(Request, Reply)>,
     is_broken: bool,
     ghost few: { length given.items ≤ 2 ^ 40 },
@@ -165,14 +167,14 @@ pub struct SharedLink<'a, R: Wait> {
 impl<'a, R: Wait> SharedLink<'a, R> {
     ghost use Rattle.host_shared.specs.Links.{exchanges_of, faults_of};
 
-    pub fn new(rt: &'a R, alloc: Global, host: &'a SharedHost) -> Self
+    pub fn new(rt: &'a R, alloc: Global, held: &'a Mutex<Held>) -> Self
         ensures nothing { exchanges_of result ≡ [] }
         ensures whole { faults_of result ≡ 0 }
     {
         SharedLink {
             rt,
             alloc,
-            host,
+            held,
             given: Vec::new(alloc),
             is_broken: false,
         }
@@ -212,7 +214,7 @@ impl<'a, R: Wait> Link for SharedLink<'a, R> {
             self.is_broken = true;
             return Err(LinkFault::TooMany);
         }
-        match exchange(self.rt, self.alloc, self.host, &mut self.given, request) {
+        match exchange(self.rt, self.alloc, self.held, &mut self.given, request) {
             Ok(reply) => Ok(reply),
             Err(fault) => {
                 self.is_broken = true;

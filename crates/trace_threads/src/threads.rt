@@ -8,7 +8,7 @@ ghost use Rattle.trace_threads.specs.ThreadRuns.{Faults, ThreadRun};
 use crate::fault::ThreadsFault;
 use crate::finish::finish;
 use crate::traced::trace_on_threads;
-use host_shared::{Gate, Held, SharedHost};
+use host_shared::{Gate, Held};
 use lx_abi::{Boot, Script};
 use lx_boot::BootFault;
 use lx_copies::Copied;
@@ -18,7 +18,7 @@ use pt_journal::laws::journals_tell;
 use pt_kernel::laws::linux_is_told;
 use pt_model::laws::tracing_is_transparent;
 use std::alloc::Global;
-use std::sync::Wait;
+use std::sync::{Mutex, Wait};
 use std::thread::Threads;
 use tr_core::Options;
 use tr_core::laws::texts_are_whole;
@@ -55,8 +55,8 @@ pub fn run_threads<G: Gate, R: Threads + Wait + Sync>(
     let mut options = options;
     options.follow = boot.follow;
     let copy = boot.copy(alloc);
-    let host = match Held::new(alloc, boot, limit) {
-        Ok(held) => SharedHost::new(held),
+    let held = match Held::new(alloc, boot, limit) {
+        Ok(held) => Mutex::new(held),
         Err(fault) => {
             drop(copy);
             drop(script);
@@ -65,13 +65,13 @@ pub fn run_threads<G: Gate, R: Threads + Wait + Sync>(
         }
     };
     let Ok(boot) = copy else {
-        drop(host);
+        drop(held);
         drop(script);
         drop(options);
         return Err(ThreadsFault::Boot(BootFault::Memory));
     };
-    let traced = trace_on_threads(rt, alloc, &host, workers, script, options, gate);
-    let result = finish(&boot, limit, host.into_held(), traced);
+    let traced = trace_on_threads(rt, alloc, &held, workers, script, options, gate);
+    let result = finish(&boot, limit, held.into_inner(), traced);
     drop(boot);
     result
 }

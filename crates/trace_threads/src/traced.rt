@@ -5,10 +5,10 @@ ghost use Rattle.trace_threads.specs.ThreadRuns.{IsTraced};
 
 use containers::Bytes;
 use host_shared::workers::close;
-use host_shared::{Gate, SharedHost, SharedLink, work};
+use host_shared::{Gate, Held, SharedLink, work};
 use lx_abi::{Reply, Request, Script};
 use std::alloc::Global;
-use std::sync::Wait;
+use std::sync::{Mutex, Wait};
 use std::thread;
 use std::thread::Threads;
 use tr_core::Options;
@@ -29,7 +29,7 @@ pub struct Traced {
 fn trace<R: Wait>(
     rt: &R,
     alloc: Global,
-    host: &SharedHost,
+    held: &Mutex<Held>,
     script: Script,
     options: Options,
     started: bool,
@@ -37,10 +37,10 @@ fn trace<R: Wait>(
     ensures { IfOk result.ended (λ ended. IsTraced script options ended result.given.items result.trace) }
 {
     linux_runs_tell::<SharedLink<'_, R>>();
-    let mut link = SharedLink::new(rt, alloc, host);
+    let mut link = SharedLink::new(rt, alloc, held);
     let mut trace = Written::new(alloc);
     let ended = run(alloc, &mut link, &mut trace, script, options);
-    close(rt, host);
+    close(rt, held);
     Traced {
         started,
         ended,
@@ -53,7 +53,7 @@ fn trace<R: Wait>(
 pub fn trace_on_threads<G: Gate, R: Threads + Wait + Sync>(
     rt: &R,
     alloc: Global,
-    host: &SharedHost,
+    held: &Mutex<Held>,
     workers: u8,
     script: Script,
     options: Options,
@@ -69,14 +69,14 @@ pub fn trace_on_threads<G: Gate, R: Threads + Wait + Sync>(
         {
             let mut started = true;
             for worker in 0..workers {
-                if started && scope.spawn(move || work(rt, host, worker, gate)).is_err() {
+                if started && scope.spawn(move || work(rt, held, worker, gate)).is_err() {
                     started = false;
                 }
             }
             if !started {
-                close(rt, host);
+                close(rt, held);
             }
-            trace(rt, alloc, host, script, options, started)
+            trace(rt, alloc, held, script, options, started)
         },
     )
 }
