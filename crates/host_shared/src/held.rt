@@ -4,19 +4,20 @@ ghost use Rattle.std.specs.Prelude.{◌≡◌, ◌≤◌, ◌^◌, true, false, 
 ghost use Rattle.lx_boot.specs.Boots.{fault_of, Refuses};
 ghost use Rattle.lx_boot.specs.declared.boots.BootFault.{BootFault};
 ghost use Rattle.pt_model.specs.Ptrace.{is_there};
-ghost use Rattle.pt_kernel.specs.Hosts.{is_boot};
+ghost use Rattle.pt_kernel.specs.Hosts.{is_boot, readiness_of};
 ghost use Rattle.pt_journal.specs.Journals.{is_outcome as is_outcome_of};
 ghost use Rattle.host_shared.specs.HeldStates.{first_held, asked, next_turn, Turned, serve_of, CanPut, CanServe, IsKept, Stopped};
 
+use crate::roster::Roster;
 use crate::steps;
 use lx_abi::{Boot, Reply, Request};
 use lx_boot::BootFault;
 use lx_copies::Copied;
 use pt_journal::Journal;
 use pt_kernel::Host;
-use pt_schedule::next_able;
 use std::alloc::Global;
 use std::marker::Model;
+use std::sync::{Arc, Condvar};
 
 /// The most events that a journal may be given.
 pub const MOST_EVENTS: u64 = 1 << 39;
@@ -30,7 +31,7 @@ pub struct Memory;
 pub struct Held {
     alloc: Global,
     boot: Boot,
-    host: Host,
+    host: Roster,
     journal: Journal,
     /// The most events that the journal may have, and how many it has.
     limit: u64,
@@ -43,6 +44,8 @@ pub struct Held {
     closed: bool,
     /// Memory was refused.
     failed: bool,
+    /// A request may be answered now that waited before.
+    news: Arc<Condvar>,
 }
 
 impl Model for Held {
@@ -79,12 +82,11 @@ impl Held {
     {
         let kept = boot.copy(alloc);
         let host = Host::boot(alloc, boot)?;
-        match kept {
-            Err(_) => Err(BootFault::Memory),
-            Ok(boot) => Ok(Held {
+        match (kept, Arc::new(alloc, Condvar::new())) {
+            (Ok(boot), Ok(news)) => Ok(Held {
                 alloc,
                 boot,
-                host,
+                host: Roster::of(host),
                 journal: Journal::new(alloc),
                 limit,
                 events: 0,
@@ -92,7 +94,9 @@ impl Held {
                 pending: false,
                 closed: false,
                 failed: false,
+                news,
             }),
+            _ => Err(BootFault::Memory),
         }
     }
 
@@ -133,10 +137,10 @@ impl Held {
         if self.closed || self.limit <= self.events {
             return Ok(false);
         }
-        let Some(pid) = next_able(&self.host, self.last) else {
+        let Some(pid) = self.host.next(self.last) else {
             return Ok(false);
         };
-        match steps::turn(&mut self.host, &mut self.journal, pid) {
+        match steps::turn(&mut self.host, &mut self.journal, self.last, pid) {
             Ok(()) => {
                 self.events += 1;
                 self.last = pid;
@@ -166,7 +170,7 @@ impl Held {
             return Ok(Some(Reply::OutOfTurns));
         }
         if !self.host.ready() {
-            if next_able(&self.host, self.last).is_some() {
+            if self.host.next(self.last).is_some() {
                 return Ok(None);
             }
             self.closed = true;
@@ -215,6 +219,23 @@ impl Held {
         self.pending
     }
 
+    /// What wakes the thread that waits for a reply.
+    pub(crate) fn news(&self) -> Result<Arc<Condvar>, Memory> {
+        Arc::try_clone(&self.news).map_err(|_| Memory)
+    }
+
+    /// Wakes the thread that waits for a reply, if it sleeps.
+    pub(crate) fn wake(&self) {
+        self.news.notify_one();
+    }
+
+    /// A request is pending, and would be answered.
+    pub fn is_ready(&self) -> bool
+        ensures { result ≡ (readiness_of self.now.host).ready }
+    {
+        self.host.ready()
+    }
+
     /// The most events that the journal may have.
     pub fn limit(&self) -> u64
         ensures { result ≡ self.now.limit }
@@ -239,13 +260,13 @@ impl Held {
     pub fn host(&self) -> &Host
         ensures { result.now ≡ self.now.host }
     {
-        &self.host
+        self.host.host()
     }
 
     /// The host, where the rest is used no more.
     pub fn into_host(self) -> Host
         ensures { result ≡ self.host }
     {
-        self.host
+        self.host.into_host()
     }
 }

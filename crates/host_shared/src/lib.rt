@@ -1,7 +1,9 @@
 //! A host that several threads turn under a lock, with a journal of what was done to it.
 #![tactic(auto)]
 
+mod followers;
 pub mod held;
+mod roster;
 pub mod shared;
 mod steps;
 pub mod workers;

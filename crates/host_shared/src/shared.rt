@@ -14,6 +14,10 @@ use std::alloc::Global;
 use std::sync::{Mutex, Wait};
 use std::thread;
 
+/// So often a reply is looked for before its thread sleeps: most come soon, and each look takes the lock from who makes
+/// the turns that lead to it.
+const TRIES: u32 = 64;
+
 /// A request that would boot a host again.
 fn is_boot(request: &Request) -> bool
     ensures { result ≡ is_boot request.now }
@@ -77,21 +81,45 @@ fn attempt_locked<R: Wait>(rt: &R, held: &Mutex<Held>) -> Option<Result<Reply, L
     attempt(&mut guard)
 }
 
-/// Asks the host, and waits for its reply.
-fn ask<R: Wait>(rt: &R, held: &Mutex<Held>, request: Request) -> Result<Reply, LinkFault>
-    requires { is_boot request ≡ false }
+/// Waits for the reply asleep, until a worker tells that there may be one.
+fn sleep_until_served<R: Wait>(rt: &R, held: &Mutex<Held>) -> Result<Reply, LinkFault>
     ensures { IfErr result IsSharedFault }
 {
-    if let Some(answer) = put_locked(rt, held, request) {
-        return answer;
-    }
+    let mut guard = held.lock(rt);
+    let Ok(news) = guard.news() else {
+        return Err(LinkFault::Memory);
+    };
     for _ in rt.forever() {
+        if let Some(answer) = attempt(&mut guard) {
+            return answer;
+        }
+        guard = news.wait(rt, guard);
+    }
+    unreachable!()
+}
+
+/// Waits for the reply.
+fn wait_for_reply<R: Wait>(rt: &R, held: &Mutex<Held>) -> Result<Reply, LinkFault>
+    ensures { IfErr result IsSharedFault }
+{
+    for _ in 0..TRIES {
         if let Some(answer) = attempt_locked(rt, held) {
             return answer;
         }
         thread::yield_now();
     }
-    unreachable!()
+    sleep_until_served(rt, held)
+}
+
+/// Asks the host, and waits for its reply.
+fn ask<R: Wait>(rt: &R, held: &Mutex<Held>, request: Request) -> Result<Reply, LinkFault>
+    requires { is_boot request ≡ false }
+    ensures { IfErr result IsSharedFault }
+{
+    match put_locked(rt, held, request) {
+        Some(answer) => answer,
+        None => wait_for_reply(rt, held),
+    }
 }
 
 /// Asks the host; the request and its reply are kept.

@@ -1,6 +1,7 @@
+use Rattle.std.proofs.Common.{◌∙◌}
 use Rattle.host_shared.proofs.Keeping.{keeps_first}
 use Rattle.host_shared.proofs.held.Held.new.Goals as goal
 
 pub invariant_of-result : goal.invariant_of-result
 invariant_of-result c =
-    keeps_first c.args.boot c.in-Ok.boot c.in_ok-host.host c.new.result c.args.limit c.in_ok-host.ensures.accepted c.in_ok-host.ensures.first c.in-Ok.ensures c.new.ensures
+    keeps_first c.args.boot c.in-Ok.boot c.of.result c.new.result c.args.limit c.in_ok-host.ensures.accepted (c.of.ensures ∙ c.in_ok-host.ensures.first) c.in-Ok.ensures c.new.ensures
