@@ -47,12 +47,23 @@ impl Line {
         }
     }
 
-    /// Adds a number that has one digit, as most have: false, and nothing is added, where it has more.
-    fn push_digit(&mut self, number: u64, base: u64) -> bool {
-        if number >= base {
+    /// Adds one digit.
+    fn push_digit(&mut self, digit: u64) {
+        self.push(DIGITS[(digit & 15) as usize]);
+    }
+
+    /// Adds a number of three decimal digits at most, as most have: false, and nothing is added, where it has more.
+    fn push_small(&mut self, number: u64) -> bool {
+        if number >= 1000 {
             return false;
         }
-        self.push(DIGITS[(number & 15) as usize]);
+        if number >= 100 {
+            self.push_digit(number / 100);
+        }
+        if number >= 10 {
+            self.push_digit(number / 10 % 10);
+        }
+        self.push_digit(number % 10);
         true
     }
 
@@ -65,7 +76,8 @@ impl Line {
     /// Adds a number in hexadecimal digits.
     fn push_hexadecimal(&mut self, number: u64) {
         self.push_text(b"0x");
-        if self.push_digit(number, 16) {
+        if number < 16 {
+            self.push_digit(number);
             return;
         }
         let digits = 16 - (number | 1).leading_zeros() / 4;
@@ -79,7 +91,7 @@ impl Line {
     fn push_head(&mut self, letter: u8, pid: u32) {
         self.push(letter);
         self.push(b' ');
-        if !self.push_digit(u64::from(pid), 10) {
+        if !self.push_small(u64::from(pid)) {
             self.push_decimal(pid);
         }
         self.push(b' ');
@@ -87,7 +99,9 @@ impl Line {
 
     fn push_entry(&mut self, pid: u32, call: &Call) {
         self.push_head(b'E', pid);
-        self.push_decimal(call.number);
+        if !self.push_small(call.number) {
+            self.push_decimal(call.number);
+        }
         for argument in &call.arguments {
             self.push(b' ');
             self.push_hexadecimal(*argument);
@@ -96,7 +110,7 @@ impl Line {
 
     fn push_result(&mut self, pid: u32, value: i64, replaced: bool) {
         self.push_head(b'D', pid);
-        if !self.push_digit(value.cast_unsigned(), 10) {
+        if !self.push_small(value.cast_unsigned()) {
             self.push_decimal(value);
         }
         if replaced {
