@@ -46,7 +46,7 @@ impl Cycle {
     }
 
     /// One more turn, where it is the one that comes next.
-    fn goes_on(&mut self, pid: u32) -> bool
+    pub(crate) fn goes_on(&mut self, pid: u32) -> bool
         ensures { cycled self.new ≡ (if result then cycled self.old ++ pid ∷ [] else cycled self.old) }
     {
         if self.pids[self.at] != pid || self.rounds == u64::MAX {
@@ -79,13 +79,10 @@ impl Cycle {
         Ok(pids)
     }
 
-    /// One more turn: of the next process, or where there were few, in a longer round.
+    /// One more turn in a longer round, where there were few.
     pub(crate) fn lengthen(&mut self, alloc: Global, pid: u32) -> Result<bool, AllocError>
         ensures { LengthensTo (cycled self.old) pid result (cycled self.new) }
     {
-        if self.goes_on(pid) {
-            return Ok(true);
-        }
         if !self.is_short() {
             return Ok(false);
         }

@@ -59,6 +59,16 @@ pub(crate) fn add(row: &mut TurnRow, pid: u32, more: u64) -> bool
     }
 }
 
+/// One more turn of a row as it goes on: of its process, or of the one that comes next in its cycle.
+pub(crate) fn goes_on(row: &mut TurnRow, pid: u32) -> bool
+    ensures { turns_in row.new ≡ (if result then turns_in row.old ++ pid ∷ [] else turns_in row.old) }
+{
+    if let TurnRow::Cycle(cycle) = row {
+        return cycle.goes_on(pid);
+    }
+    add(row, pid, 1)
+}
+
 /// What a row of one turn becomes by a turn of another process.
 fn cycle_of(alloc: Global, row: &TurnRow, pid: u32) -> Result<Option<TurnRow>, AllocError>
     ensures { IfOk result (λ longer. MatchOption longer (Unit {0}) (λ r. turns_in r ≡ turns_in row.now ++ pid ∷ [])) }
@@ -72,13 +82,10 @@ fn cycle_of(alloc: Global, row: &TurnRow, pid: u32) -> Result<Option<TurnRow>, A
     }
 }
 
-/// One more turn of a row, where it isn't another row's.
+/// One more turn of a row that doesn't go on with it, where it isn't another row's.
 pub(crate) fn lengthen(alloc: Global, row: &mut TurnRow, pid: u32) -> Result<bool, AllocError>
     ensures { LengthensTo (turns_in row.old) pid result (turns_in row.new) }
 {
-    if add(row, pid, 1) {
-        return Ok(true);
-    }
     if let TurnRow::Cycle(cycle) = row {
         return cycle.lengthen(alloc, pid);
     }

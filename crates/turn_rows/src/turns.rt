@@ -3,7 +3,7 @@
 ghost use Rattle.std.specs.Prelude.{◌≡◌, ◌++◌, [], ◌∷◌, OnOk, OnErr, if◌then◌else◌, replicate};
 ghost use Rattle.turn_rows.specs.Cycles.{turns_in, all_turns, LengthensTo};
 
-use crate::row::{TurnRow, add, lengthen};
+use crate::row::{TurnRow, add, goes_on, lengthen};
 use std::alloc::{AllocError, Global};
 use std::marker::Model;
 
@@ -24,7 +24,19 @@ impl Model for Turns {
     ghost view = { λ t. all_turns t.rows.items };
 }
 
-/// One more turn of the last row, where it isn't another row's.
+/// One more turn of the last row as it goes on.
+fn last_goes_on(rows: &mut Vec<TurnRow>, pid: u32) -> bool
+    ensures { all_turns rows.new.items
+        ≡ (if result then all_turns rows.old.items ++ pid ∷ [] else all_turns rows.old.items) }
+{
+    if rows.is_empty() {
+        return false;
+    }
+    let at = rows.len() - 1;
+    goes_on(&mut rows[at], pid)
+}
+
+/// One more turn of the last row that doesn't go on with it, where it isn't another row's.
 fn lengthen_last(alloc: Global, rows: &mut Vec<TurnRow>, pid: u32) -> Result<bool, AllocError>
     ensures { LengthensTo (all_turns rows.old.items) pid result (all_turns rows.new.items) }
 {
@@ -45,6 +57,20 @@ fn lengthen_run(rows: &mut Vec<TurnRow>, pid: u32, more: u64) -> bool
     }
     let at = rows.len() - 1;
     add(&mut rows[at], pid, more)
+}
+
+/// One more turn, where the last row doesn't go on with it. Apart, since a function pays at its entry for the size of its
+/// locals.
+#[inline(never)]
+fn push_apart(alloc: Global, rows: &mut Vec<TurnRow>, pid: u32) -> Result<(), AllocError>
+    ensures ok { OnOk result (all_turns rows.new.items ≡ all_turns rows.old.items ++ pid ∷ []) }
+    ensures err { OnErr result (all_turns rows.new.items ≡ all_turns rows.old.items) }
+{
+    if lengthen_last(alloc, rows, pid)? {
+        return Ok(());
+    }
+    rows.push(TurnRow::Run { pid, turns: 1 })?;
+    Ok(())
 }
 
 impl Turns {
@@ -69,11 +95,10 @@ impl Turns {
         ensures ok { OnOk result (self.new ≡ self.old ++ pid ∷ []) }
         ensures err { OnErr result (self.new ≡ self.old) }
     {
-        if lengthen_last(self.alloc, &mut self.rows, pid)? {
+        if last_goes_on(&mut self.rows, pid) {
             return Ok(());
         }
-        self.rows.push(TurnRow::Run { pid, turns: 1 })?;
-        Ok(())
+        push_apart(self.alloc, &mut self.rows, pid)
     }
 
     /// So many turns of a process.
