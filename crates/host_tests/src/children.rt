@@ -1,9 +1,9 @@
 //! A link to a process of its own, over processes that stand in for a host.
 
+use crate::ahead::ask;
 use crate::ends::Pieces;
 use crate::frames::{part, stream};
 use host_link::{ChildLink, Link};
-use lx_abi::Request;
 use std::alloc::{Allocator, Global};
 use std::cell::Cell;
 use std::io;
@@ -84,21 +84,18 @@ impl<'a> Processes for Hosts<'a> {
     }
 }
 
-/// The numbers of the faults of three calls, 0 for a reply.
-fn called<L: Link>(link: &mut L) -> [u8; 3] {
+/// The numbers of the faults of three calls at most, 0 for a reply.
+fn called<L: Link>(link: &mut L, letters: &str) -> [u8; 3] {
     let mut calls = [0; 3];
-    for call in calls.iter_mut() {
-        *call = match link.call(Request::Wait) {
-            Ok(_) => 0,
-            Err(fault) => fault.number(),
-        };
+    for (call, letter) in calls.iter_mut().zip(letters.chars()) {
+        *call = ask(link, letter);
     }
     calls
 }
 
-/// The number of the fault that a link was not started by, or 0; those of three calls; how many replies came; and how
+/// The number of the fault that a link was not started by, or 0; those of its calls; how many replies came; and how
 /// often the process was killed, and waited for.
-fn seen(alloc: Global, path: &str, replies: &[u8]) -> (u8, [u8; 3], u64, u32, u32) {
+fn seen(alloc: Global, path: &str, letters: &str, replies: &[u8]) -> (u8, [u8; 3], u64, u32, u32) {
     let (kills, waits) = (Cell::new(0), Cell::new(0));
     let hosts = Hosts {
         alloc,
@@ -109,7 +106,7 @@ fn seen(alloc: Global, path: &str, replies: &[u8]) -> (u8, [u8; 3], u64, u32, u3
     let (start, calls, asked) = match ChildLink::start(&hosts, path, &["quiet"]) {
         Err(fault) => (fault.number(), [0; 3], 0),
         Ok(mut link) => {
-            let calls = called(&mut link);
+            let calls = called(&mut link, letters);
             let asked = link.asked();
             drop(link);
             (0, calls, asked)
@@ -118,21 +115,28 @@ fn seen(alloc: Global, path: &str, replies: &[u8]) -> (u8, [u8; 3], u64, u32, u3
     (start, calls, asked, kills.get(), waits.get())
 }
 
-/// The process's end is waited for once, and it is killed only after a fault.
+/// The process's end is waited for once. It is killed only after a fault, and where a reply is left unread.
 #[test]
 fn processes_that_reply_and_end(rt: HostRuntime) -> Result<(), Fail> {
     let alloc = rt.alloc();
     let replies = stream(alloc, &["89", "89", "89"])?;
     let rows = [
-        ("/host", 39, (0, [0, 0, 0], 3, 0, 1)),
-        ("/host", 38, (0, [0, 0, 1], 2, 1, 1)),
-        ("/host", 13, (0, [0, 1, 1], 1, 1, 1)),
-        ("/host", 0, (0, [1, 1, 1], 0, 1, 1)),
-        ("/other", 39, (1, [0, 0, 0], 0, 0, 0)),
+        ("/host", "www", 39, (0, [0, 0, 0], 3, 0, 1)),
+        ("/host", "www", 38, (0, [0, 0, 1], 2, 1, 1)),
+        ("/host", "www", 13, (0, [0, 1, 1], 1, 1, 1)),
+        ("/host", "www", 0, (0, [1, 1, 1], 0, 1, 1)),
+        ("/host", "Sws", 39, (0, [0, 0, 0], 3, 0, 1)),
+        ("/host", "SwS", 39, (0, [0, 0, 0], 3, 1, 1)),
+        ("/host", "Ss", 39, (0, [0, 1, 0], 1, 1, 1)),
+        ("/other", "www", 39, (1, [0, 0, 0], 0, 0, 0)),
     ];
-    for (path, count, wanted) in rows {
+    for (path, letters, count, wanted) in rows {
         let replies = part(replies.as_slice(), 0, count);
-        assert_eq!(rt; seen(alloc, path, replies), wanted, "{path} {count}");
+        assert_eq!(rt;
+            seen(alloc, path, letters, replies),
+            wanted,
+            "{path} {letters} {count}"
+        );
     }
     Ok(())
 }

@@ -5,6 +5,8 @@
 #[cfg(test)]
 mod abi;
 #[cfg(test)]
+mod ahead;
+#[cfg(test)]
 mod asking;
 #[cfg(test)]
 mod boots;
