@@ -11,7 +11,7 @@ use byteorder::{BigEndian, ByteOrder};
 use host_values::{
     Bad, byte_at, double_at, list_of, paths_rise, pids_rise, registers_of, text_of, word_at,
 };
-use lx_abi::{Ask, Boot, Info, Limits, Outcome, Reply, Request, Status};
+use lx_abi::{Ask, Boot, Boxed, Info, Limits, Outcome, Reply, Request, Status};
 use std::alloc::Global;
 
 /// Those of a boot that doesn't say its limits.
@@ -222,6 +222,7 @@ fn boot_by(alloc: Global, version: u8, bytes: &[u8]) -> Result<(Request, &[u8]),
     let (limits, rest) = limits_by(version, rest)?;
     let (boot, rest) = parts(alloc, follow, limits, rest)?;
     let (words, rest) = list_of(alloc, rest)?;
+    let boot = Boxed::new(alloc, boot)?;
     Ok((Request::Boot { boot, limit, words }, rest))
 }
 
@@ -248,6 +249,7 @@ fn outcome(alloc: Global, bytes: &[u8]) -> Result<(Reply, &[u8]), Bad>
         files,
         ended,
     };
+    let outcome = Boxed::new(alloc, outcome)?;
     Ok((Reply::Outcome { outcome }, rest))
 }
 

@@ -51,7 +51,7 @@ fn spend_request(budget: usize, request: &Request) -> Option<usize>
     ensures { Spends result budget (length (spec.request_message request.now).1) }
 {
     match request {
-        Request::Boot { boot, limit, words } => spend_boot(budget, boot, *limit, words.as_slice()),
+        Request::Boot { boot, limit, words } => spend_boot(budget, boot.get(), *limit, words.as_slice()),
         Request::To { ask, .. } => budget.checked_sub(4)?.checked_sub(ask_size(ask)),
         Request::Wait => Some(budget),
         Request::Outcome => Some(budget),
@@ -79,7 +79,7 @@ fn spend_reply(budget: usize, reply: &Reply) -> Option<usize>
         Reply::Bytes { bytes } => spend_text(budget, bytes.as_slice()),
         Reply::Message { .. } => budget.checked_sub(8),
         Reply::Info { .. } => budget.checked_sub(24),
-        Reply::Outcome { outcome } => spend_outcome(budget, outcome),
+        Reply::Outcome { outcome } => spend_outcome(budget, outcome.get()),
         Reply::Errno { .. } => budget.checked_sub(4),
         Reply::OutOfTurns => Some(budget),
         Reply::Refused { .. } => budget.checked_sub(1),

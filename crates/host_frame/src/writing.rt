@@ -136,7 +136,7 @@ fn put_request(out: &mut Vec<u8>, request: &Request) -> Result<(), AllocError>
     ensures numbers { OnOk result (spec.HasRequestNumbers request.now) }
 {
     match request {
-        Request::Boot { boot, limit, words } => put_boot(out, boot, *limit, words.as_slice()),
+        Request::Boot { boot, limit, words } => put_boot(out, boot.get(), *limit, words.as_slice()),
         Request::To { pid, ask } => put_to(out, *pid, ask),
         Request::Wait => Ok(()),
         Request::Outcome => Ok(()),
@@ -165,7 +165,7 @@ fn put_reply(out: &mut Vec<u8>, reply: &Reply) -> Result<(), AllocError>
         Reply::Bytes { bytes } => put_text(out, bytes.as_slice()),
         Reply::Message { pid } => put_double(out, *pid),
         Reply::Info { info } => put_info(out, info),
-        Reply::Outcome { outcome } => put_outcome(out, outcome),
+        Reply::Outcome { outcome } => put_outcome(out, outcome.get()),
         Reply::Errno { number } => put_word(out, *number),
         Reply::OutOfTurns => Ok(()),
         Reply::Refused { fault } => put_byte(out, *fault),

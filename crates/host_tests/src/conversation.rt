@@ -138,7 +138,7 @@ fn served_in_pieces(rt: HostRuntime) -> Result<(), Fail> {
 /// What is known of a request to a host in this process: its own boot.
 fn boot_of(frame: Frame) -> Result<(Boot, u64), Fail> {
     match frame.body {
-        Payload::Request(Request::Boot { boot, limit, .. }) => Ok((boot, limit)),
+        Payload::Request(Request::Boot { boot, limit, .. }) => Ok((boot.into_inner(), limit)),
         _ => Err(Fail::from("the first frame is a boot")),
     }
 }

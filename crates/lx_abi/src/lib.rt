@@ -2,6 +2,7 @@
 #![tactic(auto)]
 
 pub mod boot;
+pub mod boxed;
 pub mod calls;
 pub mod effects;
 pub mod errno;
@@ -21,6 +22,7 @@ pub mod when;
 pub mod words;
 
 pub use boot::{Boot, GuestFile, Limits};
+pub use boxed::Boxed;
 pub use calls::{Argument, Class, Format};
 pub use effects::Effects;
 pub use errno::Errno;

@@ -4,6 +4,7 @@ ghost use Rattle.std.specs.Prelude.{◌≡◌, ◌≤◌};
 ghost use Rattle.lx_abi.specs.Options.{bits_where as bits_where_of};
 
 use crate::boot::Boot;
+use crate::boxed::Boxed;
 use crate::outcome::Outcome;
 use crate::register_set::RegisterSet;
 use crate::schedule::Word;
@@ -93,7 +94,7 @@ pub enum Ask {
 pub enum Request {
     /// What the run begins with, how many events it may have, and the words of its schedule. It comes first, and once.
     Boot {
-        boot: Boot,
+        boot: Boxed<Boot>,
         limit: u64,
         words: Seq<Word>,
     },
@@ -128,7 +129,7 @@ pub enum Reply {
     /// The answer to [`Ask::EventMsg`].
     Message { pid: u64 },
     Info { info: Info },
-    Outcome { outcome: Outcome },
+    Outcome { outcome: Boxed<Outcome> },
     /// An error of errno(3), by its number.
     Errno { number: u32 },
     /// The schedule has no more events.

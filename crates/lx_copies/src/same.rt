@@ -3,6 +3,7 @@
 ghost use Rattle.std.specs.Prelude.{◌≡◌, true};
 
 use containers::Bytes;
+use lx_abi::Boxed;
 
 /// Values that can be compared.
 pub trait Same {
@@ -15,6 +16,12 @@ pub trait Same {
 impl Same for Bytes {
     fn same(&self, other: &Bytes) -> bool {
         self.as_slice() == other.as_slice()
+    }
+}
+
+impl<T: Same> Same for Boxed<T> {
+    fn same(&self, other: &Boxed<T>) -> bool {
+        self.get().same(other.get())
     }
 }
 

@@ -29,6 +29,7 @@ pub struct Busy;
 /// The kernel under the empty script, its tracees, the effective turns so far, and at most one pending request.
 #[derive(Drop)]
 pub struct Host {
+    alloc: Global,
     kernel: Kernel,
     tracees: Tracees,
     turns: Turns,
@@ -94,6 +95,7 @@ impl Host {
         let kernel = Kernel::boot_without_log(alloc, boot, Script::empty(alloc))?;
         let tracees = Tracees::new(alloc)?;
         Ok(Host {
+            alloc,
             kernel,
             tracees,
             turns: Turns::new(alloc),
@@ -156,7 +158,12 @@ impl Host {
             return Err(Failed);
         }
         self.failed = true;
-        let reply = serve(&mut self.kernel, &mut self.tracees, &mut self.pending)?;
+        let reply = serve(
+            self.alloc,
+            &mut self.kernel,
+            &mut self.tracees,
+            &mut self.pending,
+        )?;
         self.failed = false;
         Ok(reply)
     }

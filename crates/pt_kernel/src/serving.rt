@@ -11,11 +11,13 @@ ghost use Rattle.pt_kernel.specs.Hosts.{hosting_by, IsSwept, made};
 use crate::answers::answer;
 use crate::pending::{Asked, Pending};
 use crate::tracees::Tracees;
-use lx_abi::Reply;
+use lx_abi::{Boxed, Reply};
 use lx_kernel::{Failed, Kernel};
+use std::alloc::Global;
 
 /// A request is answered; none where Wait stays pending.
 fn answer_asked(
+    alloc: Global,
     kernel: &mut Kernel,
     tracees: &mut Tracees,
     asked: &Asked,
@@ -38,7 +40,7 @@ fn answer_asked(
             Ok(Some(reply))
         }
         Asked::Outcome => {
-            let outcome = kernel.outcome()?;
+            let outcome = Boxed::new(alloc, kernel.outcome()?)?;
             Ok(Some(Reply::Outcome { outcome }))
         }
     }
@@ -47,6 +49,7 @@ fn answer_asked(
 /// The pending request is served whole. Apart, since a function pays at its entry for the size of its locals.
 #[inline(never)]
 pub fn serve(
+    alloc: Global,
     kernel: &mut Kernel,
     tracees: &mut Tracees,
     pending: &mut Pending,
@@ -62,7 +65,7 @@ pub fn serve(
     match &pending.asked {
         None => Ok(None),
         Some(asked) => {
-            let reply = answer_asked(kernel, tracees, asked)?;
+            let reply = answer_asked(alloc, kernel, tracees, asked)?;
             if reply.is_some() {
                 pending.asked = None;
             }

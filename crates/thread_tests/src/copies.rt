@@ -2,7 +2,7 @@
 
 use containers::{Bytes, Seq};
 use lx_abi::{
-    Ask, Boot, Ended, GuestFile, Info, Limits, Node, Outcome, OutcomeFile, RegisterSet, Reply,
+    Ask, Boot, Boxed, Ended, GuestFile, Info, Limits, Node, Outcome, OutcomeFile, RegisterSet, Reply,
     Request, Status, Word,
 };
 use lx_copies::{Copied, Same};
@@ -59,7 +59,7 @@ fn boots(alloc: Global, content: &str, word: Word) -> Result<Request, AllocError
     let boot = boot(alloc, content)?;
     let words = alone(alloc, word)?;
     Ok(Request::Boot {
-        boot,
+        boot: Boxed::new(alloc, boot)?,
         limit: 7,
         words,
     })
@@ -123,12 +123,13 @@ fn outcome(alloc: Global, content: Option<&str>) -> Result<Reply, AllocError> {
     let console = bytes(alloc, "hi")?;
     let files = alone(alloc, left(alloc, content)?)?;
     let ended = alone(alloc, Ended { pid: 1, word: 256 })?;
+    let outcome = Outcome {
+        console,
+        files,
+        ended,
+    };
     Ok(Reply::Outcome {
-        outcome: Outcome {
-            console,
-            files,
-            ended,
-        },
+        outcome: Boxed::new(alloc, outcome)?,
     })
 }
 

@@ -1,11 +1,7 @@
 //! What a tracer knows of a tracee, and what it is asking.
 
-ghost use Rattle.std.specs.Prelude.{◌≡◌, IfOk};
-
-use lx_abi::{Call, Outcome, RegisterSet};
+use lx_abi::{Boxed, Call, Outcome, RegisterSet};
 use pt_model::Standing;
-use std::alloc::{AllocError, Global};
-use std::marker::Model;
 use tr_args::Decoder;
 
 /// What is known of one tracee, beside how often it entered each call.
@@ -52,35 +48,6 @@ pub enum Awaiting {
     Listening,
 }
 
-/// An outcome in a place of its own, so that what is asked now is small.
-#[derive(Drop)]
-pub struct LastOutcome {
-    outcome: Box<Outcome>,
-}
-
-impl Model for LastOutcome {
-    ghost use Rattle.lx_abi.specs.declared.outcome.Outcome.{Outcome};
-
-    ghost Value = { Outcome };
-
-    ghost view = { λ o. o.outcome.value };
-}
-
-impl LastOutcome {
-    pub fn new(alloc: Global, outcome: Outcome) -> Result<Self, AllocError>
-        ensures { IfOk result (λ o. o ≡ outcome) }
-    {
-        let outcome = Box::new(alloc, outcome)?;
-        Ok(LastOutcome { outcome })
-    }
-
-    pub fn into_inner(self) -> Outcome
-        ensures { result ≡ self }
-    {
-        Box::into_inner(self.outcome)
-    }
-}
-
 /// What is asked now.
 #[derive(Drop)]
 pub enum Focus {
@@ -89,7 +56,7 @@ pub enum Focus {
     Waiting,
     Serving { pid: u32, place: Awaiting },
     AskingOutcome,
-    Over(LastOutcome),
+    Over(Boxed<Outcome>),
     TurnsOver,
     Faulted,
 }

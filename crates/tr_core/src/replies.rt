@@ -5,7 +5,7 @@ ghost use Rattle.pt_model.specs.Tracer.{bytes_of, regs_in, told_info, says_done}
 ghost use Rattle.tr_core.specs.Admitted.{told_status, says_childless, says_out, told_outcome};
 
 use containers::Bytes;
-use lx_abi::{Errno, Info, Outcome, RegisterSet, Reply, Stop};
+use lx_abi::{Boxed, Errno, Info, Outcome, RegisterSet, Reply, Stop};
 use std::alloc::Global;
 
 pub fn registers_in(reply: Reply) -> Option<RegisterSet>
@@ -46,7 +46,7 @@ pub fn status_in(reply: &Reply) -> Option<(u32, Option<Stop>)>
     }
 }
 
-pub fn outcome_in(reply: Reply) -> Option<Outcome>
+pub fn outcome_in(reply: Reply) -> Option<Boxed<Outcome>>
     ensures { result ≡ told_outcome reply }
 {
     match reply {

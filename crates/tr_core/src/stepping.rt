@@ -22,7 +22,7 @@ ghost use Rattle.tr_core.specs.declared.settings.Options.{Options as OptionsOf};
 use crate::admission::{admits_answer, stop_fits};
 use crate::hearing::hear;
 use crate::living::Living;
-use crate::place::{Awaiting, Focus, LastOutcome, Tracee};
+use crate::place::{Awaiting, Focus, Tracee};
 use crate::replies::{is_childless, is_done, is_out, outcome_in, status_in};
 use crate::session::{InHand, Session};
 use crate::stops::take_stop;
@@ -276,7 +276,7 @@ fn hear_outcome(core: &mut Core, reply: Reply) -> Result<Bytes, AllocError>
 {
     let out = is_out(&reply);
     let focus = match outcome_in(reply) {
-        Some(outcome) => Focus::Over(LastOutcome::new(core.session.settings.alloc, outcome)?),
+        Some(outcome) => Focus::Over(outcome),
         None => {
             if out {
                 Focus::TurnsOver

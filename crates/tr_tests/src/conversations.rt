@@ -7,7 +7,7 @@ use containers::Seq;
 use host_link::{Link, LinkFault, PipeLink};
 use host_serve::serve;
 use host_wire::{Counted, Feed, Frame, Payload, Sink, Source, WireFault, encode};
-use lx_abi::{Reply, Request, Script, parse_words};
+use lx_abi::{Boxed, Reply, Request, Script, parse_words};
 use std::alloc::Global;
 use std::test::Fail;
 use trace_run::{RunFault, run};
@@ -53,7 +53,7 @@ fn boot_request(alloc: Global, row: &Row) -> Result<Request, Fail> {
     let words = Seq::from_vec(parse_words(alloc, row.turns)?);
     let boot = boot(alloc, "/p", row.listing, row.follow)?;
     Ok(Request::Boot {
-        boot,
+        boot: Boxed::new(alloc, boot)?,
         limit: 10_000_000,
         words,
     })

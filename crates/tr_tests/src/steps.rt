@@ -1,7 +1,7 @@
 //! Replies of a host, as rows of tables.
 
 use containers::{Bytes, Seq};
-use lx_abi::{Info, Outcome, RegisterSet, Reply, Set, Status};
+use lx_abi::{Boxed, Info, Outcome, RegisterSet, Reply, Set, Status};
 use std::alloc::{AllocError, Global};
 use tr_core::Options;
 
@@ -85,7 +85,7 @@ pub fn reply(alloc: Global, step: Step) -> Result<Reply, AllocError> {
         Step::Usr1 => of_kernel(10),
         Step::Stop => of_kernel(19),
         Step::Outcome => Reply::Outcome {
-            outcome: no_outcome(alloc),
+            outcome: Boxed::new(alloc, no_outcome(alloc))?,
         },
         Step::OutOfTurns => Reply::OutOfTurns,
     })

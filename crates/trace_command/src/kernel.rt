@@ -9,7 +9,7 @@ use containers::Seq;
 use front_end::{Fault, refuse_boot};
 use host_link::{ChildLink, Link, LinkFault};
 use host_wire::Sink;
-use lx_abi::{Boot, Reply, Request, Script, Word};
+use lx_abi::{Boot, Boxed, Reply, Request, Script, Word};
 use lx_boot::BootFault;
 use pt_kernel::Schedule;
 use std::alloc::Global;
@@ -50,6 +50,9 @@ fn boot_over<L: Link>(
 ) -> Result<(), Fault>
     ensures { OnOk result (L.answers link.old (Request.Boot boot limit turns.items) (Ok Reply.Done) link.new) }
 {
+    let Ok(boot) = Boxed::new(alloc, boot) else {
+        return Err(Fault::Memory);
+    };
     let request = Request::Boot {
         boot,
         limit,
