@@ -51,7 +51,12 @@ fn spend_request(budget: usize, request: &Request) -> Option<usize>
     ensures { Spends result budget (length (spec.request_message request.now).1) }
 {
     match request {
-        Request::Boot { boot, limit, words } => spend_boot(budget, boot.get(), *limit, words.as_slice()),
+        Request::Boot { boot, limit, words } => spend_boot(
+            budget,
+            boot.get(),
+            *limit,
+            words.as_slice(),
+        ),
         Request::To { ask, .. } => budget.checked_sub(4)?.checked_sub(ask_size(ask)),
         Request::Wait => Some(budget),
         Request::Outcome => Some(budget),

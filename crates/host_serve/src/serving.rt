@@ -30,7 +30,12 @@ fn boot<S: Session + Drop>(
     ensures due { OnOk result (IsDue S.ready S.given phase.new 2) }
 {
     match request {
-        Request::Boot { boot, limit, words } => match S::boot(alloc, boot.into_inner(), limit, words) {
+        Request::Boot { boot, limit, words } => match S::boot(
+            alloc,
+            boot.into_inner(),
+            limit,
+            words,
+        ) {
             Ok(session) => {
                 *phase = Phase::Serving(session);
                 Ok(Reply::Done)

@@ -2,8 +2,8 @@
 
 use containers::{Bytes, Seq};
 use lx_abi::{
-    Ask, Boot, Boxed, Ended, GuestFile, Info, Limits, Node, Outcome, OutcomeFile, RegisterSet, Reply,
-    Request, Status, Word,
+    Ask, Boot, Boxed, Ended, GuestFile, Info, Limits, Node, Outcome, OutcomeFile, RegisterSet,
+    Reply, Request, Status, Word,
 };
 use lx_copies::{Copied, Same};
 use std::alloc::{AllocError, Global};
