@@ -1,5 +1,5 @@
 -- Turns of one process in a row that are made in place.
-use Rattle.std.proofs.Common.{◌≡◌, ◌≢◌, ◌⊎◌, ℕ, zero, suc, true, false, not, ◌++◌, Option, Some, None, refl, ap, sym, subst, ◌∙◌, inl, inr, unwrap_or}
+use Rattle.std.proofs.Common.{◌≡◌, ◌⊎◌, ℕ, zero, suc, true, false, not, ◌++◌, Option, Some, None, refl, ap, sym, subst, ◌∙◌, inl, inr, unwrap_or}
 use Rattle.std.specs.Prelude.{◌||◌, is_some}
 use Rattle.std.specs.Option.{option_to_list}
 use Rattle.std.specs.FinMap as maps
@@ -8,7 +8,6 @@ use mathlib.Core.Path.{fun_ext}
 use Rattle.lx_abi.specs.declared.log.Call.{Call}
 use Rattle.lx_abi.specs.declared.log.Item.{Item}
 use Rattle.lx_abi.specs.declared.log.Item.TheVariants as items
-use Rattle.lx_abi.specs.declared.log.Mode.TheVariants as mode
 use Rattle.lx_abi.specs.declared.script.Choice.{Choice}
 use Rattle.lx_abi.specs.declared.signal.Signal.{Signal}
 use Rattle.lx_abi.specs.Log.{entries}
@@ -35,7 +34,7 @@ use Rattle.lx_turn.specs.Modes.{task_mode}
 use Rattle.lx_turn.specs.Reactions.{resumed, runs, next_of, is_killed}
 use Rattle.lx_turn.specs.Turned.{Turned, turned, goes_on}
 use Rattle.lx_turn.specs.declared.injection.Injection.{Injection}
-use Rattle.lx_kernel.specs.Advances.{GoesOn, IsQuiet, Quietly, IsTurn, Leads, Fits, left, with_log, PartLeads, IsDone, RunLeads, IsAtCall}
+use Rattle.lx_kernel.specs.Advances.{is_under_way, GoesOn, IsQuiet, Quietly, IsTurn, Leads, Fits, left, with_log, PartLeads, IsDone, RunLeads, IsAtCall}
 use Rattle.lx_kernel.specs.Blocking.{can_turn}
 use Rattle.lx_kernel.specs.Bursts.{Follows, with_tasks}
 use Rattle.lx_kernel.specs.Moves.{IsMove}
@@ -137,11 +136,14 @@ module _ (t : Injection) (s : Shared) (child p : ℕ) where
         agrees = λ n. fits.agrees n ∙ ap (entries p n) (sym (append-nil k.running.log));
       }
 
-      moved_goes_on : can_turn s p (Alive b next) ≡ true → Some (stage_mode next) ≢ Some mode.Finished → GoesOn moved p
-      moved_goes_on can unfinished =
+      moved_goes_on : can_turn s p (Alive b next) ≡ true → is_under_way (stage_mode next) ≡ true → GoesOn moved p
+      moved_goes_on can under_way =
           let put : at Gone moved.running.tasks p ≡ Alive b next = ap (λ o. unwrap_or o Gone) moved_there in (
             (able_where_turns moved p).0 ((λ i. can_turn (fits.shared_is i) p (put i)) ∙ can),
-            λ e. unfinished (sym (ap (λ (o : Task UserState). task_mode (maps.get k.running.shared.entries p) o) put) ∙ e),
+            (
+              stage_mode next,
+              (ap (λ (o : Task UserState). task_mode (maps.get k.running.shared.entries p) o) put, under_way),
+            ),
           )
 
   -- no turn
@@ -157,15 +159,15 @@ module _ (t : Injection) (s : Shared) (child p : ℕ) where
 
   -- a turn that logs nothing, and then others
   pub part_more : (n : ℕ) (task : Task UserState) (b : UserState) (next : Stage) (item : Option Item) (task' : Task UserState) → turned (part_turn task) ≡ goes_on s b next None
-      → can_turn s p (Alive b next) ≡ true → Some (stage_mode next) ≢ Some mode.Finished → PartLeads t s child p n (Alive b next) item task' → PartLeads t s child p (suc n) task item task'
-  part_more n task b next item task' is can unfinished rest = λ k fits there.
+      → can_turn s p (Alive b next) ≡ true → is_under_way (stage_mode next) ≡ true → PartLeads t s child p n (Alive b next) item task' → PartLeads t s child p (suc n) task item task'
+  part_more n task b next item task' is can under_way rest = λ k fits there.
       let k1 = moved k fits task there b next in
       let after : after_turn k p ≡ k1 = after_is k fits task there b next None is in
       leads_more k p n item Plain k1 (left k p task' item) after
       (record {
         item_is = item_is k fits task there b next None is;
         event_is = event_is k fits task there b next None is;
-        on = subst (λ x. GoesOn x p) (sym after) (moved_goes_on k fits task there b next can unfinished);
+        on = subst (λ x. GoesOn x p) (sym after) (moved_goes_on k fits task there b next can under_way);
       })
       (subst (Leads k1 p n item Plain) (left_twice k p (Alive b next) task' item)
       (rest k1 (moved_fits k fits task there b next) (moved_there k fits task there b next)))
@@ -194,9 +196,6 @@ module _ (t : Injection) (s : Shared) (child p : ℕ) where
     start_is b stage (inr (inl is)) = ap (λ x. turned (part_turn (Alive b x))) is ∙ from_finished b
     start_is b stage (inr (inr is)) = ap (λ x. turned (part_turn (Alive b x))) is ∙ from_woken b
 
-    run_unfinished : Some (stage_mode stages.Run) ≢ Some mode.Finished
-    run_unfinished e = cc e
-
     -- Instructions
 
     module _ (calm : next_of (maps.get s.entries p) ≡ None) where
@@ -206,7 +205,7 @@ module _ (t : Injection) (s : Shared) (child p : ℕ) where
       running : (n : ℕ) (b c : UserState) → Follows n b c → PartLeads t s child p n (Alive b stages.Run) None (Alive c stages.Run)
       running zero b c same = subst (λ x. PartLeads t s child p 0 (Alive b stages.Run) None (Alive x stages.Run)) same (part_none (Alive b stages.Run))
       running (suc n) b c f =
-          part_more n (Alive b stages.Run) f.0 stages.Run None (Alive c stages.Run) (ap turned (run_is b (Goes f.0) f.1)) (can_run f.0) run_unfinished (running n f.0 c f.2)
+          part_more n (Alive b stages.Run) f.0 stages.Run None (Alive c stages.Run) (ap turned (run_is b (Goes f.0) f.1)) (can_run f.0) refl (running n f.0 c f.2)
 
       to_call : (n : ℕ) (b c : UserState) → Follows n b c → IsAtCall c
           → PartLeads t s child p (suc n) (Alive b stages.Run) (Some (items.Enter p (call_of (regs c)))) (Alive c (stages.Entered None))
@@ -215,7 +214,7 @@ module _ (t : Injection) (s : Shared) (child p : ℕ) where
           (part_one (Alive c stages.Run) c (stages.Entered None) (Some (items.Enter p (call_of (regs c)))) (ap turned (run_is c Calls called)))
       to_call (suc n) b c f called =
           part_more (suc n) (Alive b stages.Run) f.0 stages.Run (Some (items.Enter p (call_of (regs c)))) (Alive c (stages.Entered None))
-          (ap turned (run_is b (Goes f.0) f.1)) (can_run f.0) run_unfinished (to_call n f.0 c f.2 called)
+          (ap turned (run_is b (Goes f.0) f.1)) (can_run f.0) refl (to_call n f.0 c f.2 called)
 
       pub run_leads : (n : ℕ) (b : UserState) (item : Option Item) (task : Task UserState) → RunLeads p n b item task → PartLeads t s child p n (Alive b stages.Run) item task
       run_leads n b item task (inl (c, follows, none, is)) =
@@ -231,7 +230,7 @@ module _ (t : Injection) (s : Shared) (child p : ℕ) where
       pub start_leads : (n m : ℕ) (b : UserState) (stage : Stage) (item : Option Item) (task : Task UserState) → Starts stage → n ≡ suc m → RunLeads p m b item task → PartLeads t s child p n (Alive b stage) item task
       start_leads n m b stage item task starts count leads =
           subst (λ n. PartLeads t s child p n (Alive b stage) item task) (sym count)
-          (part_more m (Alive b stage) b stages.Run item task (start_is b stage starts) (can_run b) run_unfinished (run_leads m b item task leads))
+          (part_more m (Alive b stage) b stages.Run item task (start_is b stage starts) (can_run b) refl (run_leads m b item task leads))
 
     -- A call that is done at once
 
@@ -250,9 +249,9 @@ module _ (t : Injection) (s : Shared) (child p : ℕ) where
     through_call b c call choice x is chosen result signal done =
         let enters : IsMove t p b (stages.Entered None) (stages.Doing call) None = entered t p b call choice is chosen result signal in
         part_more 2 (Alive b (stages.Entered None)) b (stages.Doing call) (Some (items.Done p call x false)) (Alive c stages.Finished)
-        (ap turned (lives_is b (stages.Entered None)) ∙ enters.turns s child) (can_do b c call x done) (λ e. cc)
+        (ap turned (lives_is b (stages.Entered None)) ∙ enters.turns s child) (can_do b c call x done) refl
         (part_more 1 (Alive b (stages.Doing call)) c (stages.Acted call x false) (Some (items.Done p call x false)) (Alive c stages.Finished)
-        (ap turned (lives_is b (stages.Doing call) ∙ done)) (can_act c call x) (λ e. cc)
+        (ap turned (lives_is b (stages.Doing call) ∙ done)) (can_act c call x) refl
         (part_one (Alive c (stages.Acted call x false)) c stages.Finished (Some (items.Done p call x false)) (ap turned (lives_is c (stages.Acted call x false)))))
 
 -- Who goes on in place was neither blocked nor stopped.

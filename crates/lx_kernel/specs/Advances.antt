@@ -1,5 +1,5 @@
 -- Turns of one process in a row, up to the first that logs something, or after which the process doesn't go on.
-use Rattle.std.specs.Prelude.{◌≡◌, ◌≢◌, ◌⊎◌, ◌++◌, ℕ, zero, suc, ◌==◌, ◌||◌, Bool, false, Option, Some, None}
+use Rattle.std.specs.Prelude.{◌≡◌, ◌⊎◌, ◌++◌, ℕ, zero, suc, ◌==◌, ◌||◌, Bool, true, false, Option, Some, None}
 use Rattle.std.specs.Option.{option_to_list}
 use Rattle.std.specs.FinMap as maps
 use Rattle.lx_abi.specs.Errors.{error_word}
@@ -9,6 +9,7 @@ use Rattle.lx_abi.specs.Sys.{sys_sched_yield, sys_getpid, sys_getppid, sys_getti
 use Rattle.lx_abi.specs.declared.log.Call.{Call}
 use Rattle.lx_abi.specs.declared.log.Item.{Item}
 use Rattle.lx_abi.specs.declared.log.Item.TheVariants as items
+use Rattle.lx_abi.specs.declared.log.Mode.{Mode}
 use Rattle.lx_abi.specs.declared.log.Mode.TheVariants as mode
 use Rattle.lx_model.specs.Events.{by_pid}
 use Rattle.lx_model.specs.Finite.{item_of}
@@ -31,9 +32,24 @@ use Rattle.lx_turn.specs.declared.injection.Injection.{Injection}
 use Rattle.lx_kernel.specs.Bursts.{Follows, with_tasks}
 use Rattle.lx_kernel.specs.Runs.{Run, turn_in, after_turn, mode_in, is_able_in}
 
--- the process can have another turn, and stands at no end of a call
+-- it runs instructions, or is in a call
+abbrev pub is_under_way : Mode → Bool
+is_under_way mode.Born = false
+is_under_way mode.Run = true
+is_under_way mode.Faulting = false
+is_under_way mode.Entered = false
+is_under_way mode.Doing = true
+is_under_way mode.Acted = true
+is_under_way mode.Finished = false
+is_under_way mode.Taken = false
+is_under_way mode.Stopped = false
+is_under_way mode.Woken = false
+is_under_way mode.Dying = false
+is_under_way mode.Zombie = false
+
+-- the process can have another turn, and is under way
 abbrev pub GoesOn : Run → ℕ → Type 0
-GoesOn k pid = is_able_in k pid × (mode_in k pid ≢ Some mode.Finished)
+GoesOn k pid = is_able_in k pid × ((m : Mode) × ((mode_in k pid ≡ Some m) × (is_under_way m ≡ true)))
 
 -- its next turn logs nothing, nothing is done beside, and it goes on
 pub record IsQuiet (k : Run) (pid : ℕ) : Type 0 where

@@ -484,7 +484,7 @@ impl Kernel {
     }
 
     /// Turns of a process in a row, at most `limit`, of which all but the last log nothing, do nothing beside, and
-    /// leave it able and at no end of a call. What the last logs is put into `item`.
+    /// leave it able, where it runs instructions or is in a call. What the last logs is put into `item`.
     ///
     /// From the end of a call to the next call they are made at once, and so is a call that asks only for its process's
     /// own part; elsewhere it is one turn.

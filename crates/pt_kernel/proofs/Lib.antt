@@ -6,6 +6,7 @@ pub mod Answering
 pub mod Sweeping
 pub mod Keeping
 pub mod Bursting
+pub mod Advancing
 pub mod Alike
 pub mod Feeding
 pub mod Called

@@ -5,5 +5,6 @@ pub mod Left
 pub mod Asking
 pub mod Hosts
 pub mod Bursts
+pub mod Advances
 pub mod Attends
 pub mod Seen

@@ -1,6 +1,6 @@
 //! The host: the ptrace machine around Linux.
 
-ghost use Rattle.std.specs.Prelude.{◌≡◌, [], Some, None, true, false, Err, IfOk, IfErr, OnOk, OnErr, IsErr, IsTrue, IsSome};
+ghost use Rattle.std.specs.Prelude.{◌≡◌, ◌≤◌, ◌<◌, ◌+◌, [], Some, None, true, false, Err, IfOk, IfErr, OnOk, OnErr, IsErr, IsTrue, IsSome};
 ghost use Rattle.lx_boot.specs.Boots.{fault_of, Refuses};
 ghost use Rattle.lx_boot.specs.declared.boots.BootFault.{BootFault};
 ghost use Rattle.lx_boot.specs.First.{first_shared};
@@ -8,15 +8,17 @@ ghost use Rattle.lx_kernel.specs.Outcomes.{outcome_in};
 ghost use Rattle.lx_exec.specs.Programs.{booted};
 ghost use Rattle.pt_model.specs.Hosting.{first_hosting, hosting_asked, ready_in};
 ghost use Rattle.pt_kernel.specs.Hosts.{able_in, event_of, hosting_by, is_boot, readiness_of};
+ghost use Rattle.pt_kernel.specs.Advances.{Leads};
 ghost use Rattle.pt_kernel.specs.Bursts.{after, Burst};
 
 use crate::pending::{Asked, Pending};
 use crate::serving::serve;
 use crate::stops::{dies_after, is_effective, stop_after};
 use crate::tracees::{Tracees, Turned};
-use lx_abi::{Boot, Event, Mode, Outcome, Reply, Request, Script};
+use lx_abi::{Boot, Event, Outcome, Reply, Request, Script};
 use lx_boot::BootFault;
 use lx_kernel::{Failed, Kernel};
+use pt_model::Traced;
 use pt_schedule::Schedulable;
 use std::alloc::{AllocError, Global};
 use std::marker::Model;
@@ -72,11 +74,6 @@ fn is_ready(pending: &Pending, tracees: &Tracees) -> bool
     }
 }
 
-/// The next turn of a process that stands there may run an instruction.
-fn runs_on(mode: Option<Mode>) -> bool {
-    matches!(mode, Some(Mode::Run))
-}
-
 impl Host {
     /// Process 1 is held until it is seized and resumed.
     pub fn boot(alloc: Global, boot: Boot) -> Result<Self, BootFault>
@@ -121,9 +118,25 @@ impl Host {
         Ok(())
     }
 
-    /// One turn of a process, if its tracer doesn't hold it; true where the next may run an instruction.
-    pub(crate) fn turn(&mut self, pid: u32) -> Result<bool, Failed>
-        ensures after { OnOk result (self.new ≡ after self.old (Event.Turn pid)) }
+    /// How many turns of a process may be made at once, one and so many behind it: none behind one of a process that
+    /// its tracer holds, nor while a request is ready.
+    fn most_turns(&self, traced: Traced, more: u64) -> u64
+        ensures some { 0 < result }
+        ensures within { result ≤ more + 1 }
+        ensures free { 1 < result → (traced.held ≡ false) × ((readiness_of self.now).ready ≡ false) }
+    {
+        if traced.held || self.ready() {
+            1
+        } else {
+            more.saturating_add(1)
+        }
+    }
+
+    /// A turn of a process, if its tracer doesn't hold it, and at most so many behind it, as long as it is under way: how
+    /// many there were behind it.
+    pub(crate) fn advance(&mut self, pid: u32, more: u64) -> Result<u64, Failed>
+        ensures leads { IfOk result (λ n. Leads self.old pid n self.new) }
+        ensures within { IfOk result (λ n. n ≤ more) }
         ensures failed { OnErr result (IsTrue self.new.failed) }
         ensures failed_before { IsTrue self.old.failed → IsErr result }
     {
@@ -132,19 +145,31 @@ impl Host {
         }
         let traced = self.tracees.traced(pid);
         if !is_effective(&self.kernel, pid, traced) {
-            return Ok(false);
+            return Ok(0);
         }
+        let most = self.most_turns(traced, more);
         self.failed = true;
-        let moved = self.kernel.turn(pid)?;
+        let mut item = None;
+        let advanced = self.kernel.advance(pid, most, &mut item)?;
         let turned = Turned {
-            stop: stop_after(traced.options, moved.after, moved.item, moved.event),
-            dying: dies_after(moved.after, moved.event),
-            event: moved.event,
+            stop: stop_after(traced.options, advanced.after, item, advanced.event),
+            dying: dies_after(advanced.after, advanced.event),
+            event: advanced.event,
         };
         self.tracees.turn(pid, traced, turned)?;
-        self.turns.push(pid)?;
+        self.turns.extend(pid, advanced.turns)?;
         self.failed = false;
-        Ok(runs_on(moved.after))
+        Ok(advanced.turns - 1)
+    }
+
+    /// One turn of a process, if its tracer doesn't hold it.
+    fn turn(&mut self, pid: u32) -> Result<(), Failed>
+        ensures after { OnOk result (self.new ≡ after self.old (Event.Turn pid)) }
+        ensures failed { OnErr result (IsTrue self.new.failed) }
+        ensures failed_before { IsTrue self.old.failed → IsErr result }
+    {
+        self.advance(pid, 0)?;
+        Ok(())
     }
 
     /// The pending request is served whole.
