@@ -2,6 +2,7 @@
 use Rattle.std.specs.Prelude.{◌≡◌, ◌≢◌, ◌⊎◌, ℕ, ◌==◌, Bool, true, ◌||◌, ⊤, List, [], ◌∷◌, codes}
 use Rattle.std.specs.Prelude.{Option, None, Some, IsSome, is_some, option_map, find, Result, Ok, Err, IsErr, IfOk, IfErr, OnErr}
 use Rattle.std.specs.Io.Buffered.{reader_remaining}
+use Rattle.std.specs.Io.KnownBytes.{Keeps, append_known}
 use Rattle.clap.specs.Words.{first_value, found_of}
 use Rattle.clap.specs.declared.parser.matches.ArgMatches.{ArgMatches}
 use Rattle.lx_abi.specs.declared.boot.Boot.{Boot}
@@ -130,17 +131,29 @@ TracesOnThreads plan limit result old new =
 abbrev pub unused : Option (List ℕ) → Writer
 unused contents = record { contents = contents; puts = []; broken = 0 }
 
--- to a file that is made for it
-abbrev pub WritesFile : {F : Type 0} → (F → Option (List ℕ)) → (Writer → Writer → Type 0) → Type 0
-WritesFile {F} held writes =
-    (old : F) × ((new : F) × ((last : Writer) × ((last.contents ≡ held new) × writes (unused (held old)) last)))
+-- Behind a run that ended so the file holds what was written, where that is known. Or the rest of it couldn't be
+-- written, and the result is the output's fault.
+abbrev pub Reaches : Result Ended RunFault → Result Ended RunFault → Option (List ℕ) → Option (List ℕ) → Type 0
+Reaches ended result written held =
+    ((result ≡ ended) × Keeps written held)
+    ⊎ ((result ≡ Err Unwritable) × ((rest : List ℕ) × ((rest ≢ []) × Keeps written (append_known held rest))))
 
--- A run that writes so has written to this place, and nothing to the other outputs.
-abbrev pub WritesTo : {F : Type 0} → (F → Option (List ℕ)) → (Writer → Writer → Type 0) → Place
-    → Writer → Writer → Writer → Writer → Type 0
-WritesTo held writes Error out out' err err' = (out' ≡ out) × writes err err'
-WritesTo held writes Output out out' err err' = (err' ≡ err) × writes out out'
-WritesTo held writes (File path) out out' err err' = (out' ≡ out) × ((err' ≡ err) × WritesFile held writes)
+-- to a file that is made for it
+abbrev pub WritesFile : {F : Type 0} → (F → Option (List ℕ)) → (Result Ended RunFault → Writer → Writer → Type 0)
+    → Result Ended RunFault → Type 0
+WritesFile {F} held writes result =
+    (old : F)
+    × ((new : F)
+    × ((ended : Result Ended RunFault)
+    × ((last : Writer) × (writes ended (unused (held old)) last × Reaches ended result last.contents (held new)))))
+
+-- A run that writes so has written to this place, with this result, and nothing to the other outputs.
+abbrev pub WritesTo : {F : Type 0} → (F → Option (List ℕ)) → (Result Ended RunFault → Writer → Writer → Type 0)
+    → Result Ended RunFault → Place → Writer → Writer → Writer → Writer → Type 0
+WritesTo held writes result Error out out' err err' = (out' ≡ out) × writes result err err'
+WritesTo held writes result Output out out' err err' = (err' ≡ err) × writes result out out'
+WritesTo held writes result (File path) out out' err err' =
+    (out' ≡ out) × ((err' ≡ err) × WritesFile held writes result)
 
 -- What comes of a run that ended so: its outcome, or its own fault. Where the trace goes to standard error the end of a
 -- line may come before the fault, and where that can't be written it is the fault.
@@ -162,7 +175,7 @@ abbrev pub RunsTo : {F : Type 0} → (F → Option (List ℕ)) → (Result Ended
 RunsTo held writes place result out out' err err' =
     (ended : Result Ended RunFault)
     × ((middle : Writer)
-    × (WritesTo held (writes ended) place out out' err middle × Settles place ended result middle err'))
+    × (WritesTo held writes ended place out out' err middle × Settles place ended result middle err'))
 
 -- none was made, and nothing is written
 abbrev pub Unmade : {A : Type 0} → Result A Fault → Writer → Writer → Writer → Writer → Type 0

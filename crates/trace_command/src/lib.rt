@@ -12,6 +12,7 @@ mod running;
 mod threads;
 mod tracing;
 mod turns_out;
+mod whole_lines;
 mod words;
 
 pub use entry::{command, tell};

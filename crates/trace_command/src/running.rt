@@ -1,20 +1,24 @@
 //! A run on a kernel, with its trace to its place.
 
-ghost use Rattle.std.specs.Prelude.{◌≡◌, ◌⊎◌, Ok, Err, IfOk, IfErr, OnErr};
+ghost use Rattle.std.specs.Prelude.{◌≡◌, ◌⊎◌, ℕ, List, Option, Ok, Err, IfOk, IfErr, OnErr};
+ghost use Rattle.std.specs.Io.KnownBytes.{Keeps, append_known};
 ghost use Rattle.trace_run.specs.Writers.{writer_of};
 ghost use Rattle.trace_command.specs.Faults.{IsFaultOf};
-ghost use Rattle.trace_command.specs.Tracing.{EndsLine, IsFile, Puts, RunsTo, Settles, Traces, Unmade};
+ghost use Rattle.trace_command.specs.Tracing.{EndsLine, IsFile, Puts, Reaches, RunsTo, Settles, Traces, Unmade};
 ghost use Rattle.trace_command.specs.Tracing.{WritesFile, WritesTo};
 
 use crate::fault::host_fault;
 use crate::kernel::{Kernel, run_kernel};
 use crate::lines::{LineSink, Lines};
 use crate::place::{Place, create};
+use crate::whole_lines::WholeLines;
 use front_end::Fault;
 use host_link::LinkFault;
 use host_wire::{Broken, Sink};
 use lx_abi::{Outcome, Script};
 use std::alloc::Global;
+use std::fs::OpenFile;
+use std::io::Write;
 use std::process::OpenProcess;
 use std::rt::Files;
 use tr_core::{Options, TraceFault};
@@ -92,6 +96,68 @@ pub fn settle<E: LineSink>(
     }
 }
 
+/// What comes of a run that ended so, of whose trace these bytes couldn't be written.
+fn ended_but_for(ended: Result<Ended, RunFault>, rest: Vec<u8>) -> Result<Ended, RunFault>
+    ensures { (written held : Option (List ℕ)) → Keeps written (append_known held rest.items)
+        → Reaches ended result written held }
+{
+    if rest.is_empty() {
+        return ended;
+    }
+    drop(ended);
+    Err(RunFault::Output)
+}
+
+/// Runs the tracer on a kernel, with its trace to this file as it comes.
+fn trace_as_it_comes<P: OpenProcess + Drop, F: Write + Drop>(
+    alloc: Global,
+    kernel: Kernel<P>,
+    script: Script,
+    options: Options,
+    file: F,
+) -> Result<Ended, RunFault>
+    ensures { WritesFile F.contents (Traces P.Stdout.remaining P.Stdin.contents options script kernel) result }
+{
+    let mut lines = Lines::new(file);
+    let ended = run_kernel(alloc, kernel, script, options, &mut lines);
+    drop(lines);
+    ended
+}
+
+/// The same, with the lines of calls that can't wait written whole.
+fn trace_whole_lines<P: OpenProcess + Drop, F: Write + Drop>(
+    alloc: Global,
+    kernel: Kernel<P>,
+    script: Script,
+    options: Options,
+    file: F,
+) -> Result<Result<Ended, RunFault>, Fault>
+    ensures { IfOk result (λ ended. WritesFile F.contents
+        (Traces P.Stdout.remaining P.Stdin.contents options script kernel) ended) }
+{
+    let mut lines = match WholeLines::new(alloc, file) {
+        Ok(lines) => Lines::new(lines),
+        Err(_) => {
+            drop(kernel);
+            drop(script);
+            drop(options);
+            return Err(Fault::Memory);
+        }
+    };
+    let ended = run_kernel(alloc, kernel, script, options, &mut lines);
+    let (file, rest) = lines.into_inner().into_parts();
+    drop(file);
+    Ok(ended_but_for(ended, rest))
+}
+
+/// The kernel runs in this process, and the file is a regular one, where nobody reads along.
+fn may_keep_back<P: OpenProcess + Drop, F: OpenFile>(kernel: &Kernel<P>, file: &F) -> bool {
+    match (kernel, file.metadata()) {
+        (Kernel::Here(_, _), Ok(metadata)) => metadata.is_file(),
+        _ => false,
+    }
+}
+
 /// Runs the tracer on a kernel, with its trace to a file that is made now.
 fn trace_to_file<R: Files + AllocGlobal, P: OpenProcess + Drop>(
     rt: &R,
@@ -101,10 +167,10 @@ fn trace_to_file<R: Files + AllocGlobal, P: OpenProcess + Drop>(
     path: &str,
 ) -> Result<Result<Ended, RunFault>, Fault>
     ensures { IfOk result (λ ended. WritesFile R.File.contents
-        (Traces P.Stdout.remaining P.Stdin.contents options script kernel ended)) }
+        (Traces P.Stdout.remaining P.Stdin.contents options script kernel) ended) }
 {
-    let mut lines = match create(rt, path) {
-        Ok(file) => Lines::new(file),
+    let file = match create(rt, path) {
+        Ok(file) => file,
         Err(fault) => {
             drop(kernel);
             drop(script);
@@ -112,9 +178,11 @@ fn trace_to_file<R: Files + AllocGlobal, P: OpenProcess + Drop>(
             return Err(fault);
         }
     };
-    let ended = run_kernel(rt.alloc(), kernel, script, options, &mut lines);
-    drop(lines);
-    Ok(ended)
+    if may_keep_back(&kernel, &file) {
+        trace_whole_lines(rt.alloc(), kernel, script, options, file)
+    } else {
+        Ok(trace_as_it_comes(rt.alloc(), kernel, script, options, file))
+    }
 }
 
 /// The same, to a place.
@@ -128,7 +196,7 @@ fn trace_to_place<R: Files + AllocGlobal, P: OpenProcess + Drop, O: Sink, E: Sin
     err: &mut E,
 ) -> Result<Result<Ended, RunFault>, Fault>
     ensures written { IfOk result (λ ended. WritesTo R.File.contents
-        (Traces P.Stdout.remaining P.Stdin.contents options script kernel ended) place.entry
+        (Traces P.Stdout.remaining P.Stdin.contents options script kernel) ended place.entry
         (writer_of O.contents O.puts O.broken out.old) (writer_of O.contents O.puts O.broken out.new)
         (writer_of E.contents E.puts E.broken err.old) (writer_of E.contents E.puts E.broken err.new)) }
     ensures unmade { OnErr result (IsFile place.entry × Unmade result

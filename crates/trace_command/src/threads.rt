@@ -115,7 +115,7 @@ fn trace_to_file<R: Files + Threads + Wait + Sync + AllocGlobal>(
     workers: Workers,
     path: &str,
 ) -> Result<Threaded, Fault>
-    ensures { IfOk result (λ run. WritesFile R.File.contents (TracesOnThreads plan workers.limit run.ended)) }
+    ensures { IfOk result (λ run. WritesFile R.File.contents (TracesOnThreads plan workers.limit) run.ended) }
 {
     let mut lines = match create(rt, path) {
         Ok(file) => Lines::new(file),
@@ -146,7 +146,7 @@ fn trace_to_place<R: Files + Threads + Wait + Sync + AllocGlobal, O: Sink, E: Si
     err: &mut E,
 ) -> Result<Threaded, Fault>
     ensures written { IfOk result (λ run. WritesTo R.File.contents
-        (TracesOnThreads plan workers.limit run.ended) place.entry
+        (TracesOnThreads plan workers.limit) run.ended place.entry
         (writer_of O.contents O.puts O.broken out.old) (writer_of O.contents O.puts O.broken out.new)
         (writer_of E.contents E.puts E.broken err.old) (writer_of E.contents E.puts E.broken err.new)) }
     ensures unmade { OnErr result (Unmade result

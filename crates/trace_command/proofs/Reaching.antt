@@ -1,0 +1,42 @@
+-- What a file holds of what was written.
+use Rattle.std.proofs.Common.{◌≡◌, ◌∙◌, ◌==◌, ℕ, Bool, true, false, List, [], length, Option, None, Some, Result, Err}
+use Rattle.std.proofs.Common.{refl, sym, ap, subst, append-nil, inl, inr}
+use Rattle.std.specs.Io.KnownBytes.{Keeps, append_known}
+use Rattle.std.proofs.KnownBytes.{Keeps-refl}
+use Rattle.std.proofs.lemmas.Bool.{eqb-false, eqb-true}
+use Rattle.std.proofs.lemmas.List.{nil_from_length}
+use Rattle.trace_run.specs.Writers.{Writer}
+use Rattle.trace_run.specs.declared.running.Ended.{Ended}
+use Rattle.trace_run.specs.declared.running.RunFault.{RunFault}
+use Rattle.trace_run.specs.declared.running.RunFault.TheVariants.{Output as Unwritable}
+use Rattle.trace_command.specs.Tracing.{Reaches, WritesFile, unused}
+
+append_known-nil : (known : Option (List ℕ)) → append_known known [] ≡ known
+append_known-nil None = refl
+append_known-nil (Some bytes) = ap Some (append-nil bytes)
+
+append_known-empty : (known : Option (List ℕ)) (rest : List ℕ) → rest ≡ [] → append_known known rest ≡ known
+append_known-empty known rest e = ap (append_known known) e ∙ append_known-nil known
+
+pub reaches_at_once : (ended : Result Ended RunFault) (held : Option (List ℕ)) → Reaches ended ended held held
+reaches_at_once ended held = inl (refl, Keeps-refl held)
+
+pub reaches_whole : (ended : Result Ended RunFault) (rest : List ℕ) {is_empty : Bool} → is_empty ≡ (length rest == 0)
+    → is_empty ≡ true → (written held : Option (List ℕ)) → Keeps written (append_known held rest)
+    → Reaches ended ended written held
+reaches_whole ended rest e t written held kept =
+    let nil : rest ≡ [] = nil_from_length rest (eqb-true (length rest) 0 (sym e ∙ t)) in
+    inl (refl, subst (Keeps written) (append_known-empty held rest nil) kept)
+
+pub reaches_part : (ended : Result Ended RunFault) (rest : List ℕ) {is_empty : Bool} → is_empty ≡ (length rest == 0)
+    → is_empty ≡ false → (written held : Option (List ℕ)) → Keeps written (append_known held rest)
+    → Reaches ended (Err Unwritable) written held
+reaches_part ended rest e f written held kept =
+    inr (refl, (rest, (λ nil. eqb-false (length rest) 0 (sym e ∙ f) (ap length nil), kept)))
+
+-- a run that was written to a file, from its beginning on
+pub writes_file : {F : Type 0} (held : F → Option (List ℕ)) (writes : Result Ended RunFault → Writer → Writer → Type 0)
+    (ended result : Result Ended RunFault) (old new : F) (first last : Writer) → first ≡ unused (held old)
+    → writes ended first last → Reaches ended result last.contents (held new) → WritesFile held writes result
+writes_file held writes ended result old new first last e written reaches =
+    (old, (new, (ended, (last, (subst (λ w. writes ended w last) e written, reaches)))))
