@@ -41,7 +41,8 @@ pub struct Core {
     pub focus: Focus,
 }
 
-/// What is known of a process, at first nothing.
+/// What is known of a process, at first nothing. Apart, since the compiler merges the two cases bit by bit in a caller.
+#[inline(never)]
 fn tracee_at(known: &Map<Tracee>, pid: u32) -> Tracee
     ensures { result ≡ at new_tracee known.now pid }
 {
