@@ -2,29 +2,41 @@
 # Written by completions/make.
 _girmolet_calls='all none %file %desc %process %signal %memory brk chdir clone close dup dup3 execve exit exit_group fstat ftruncate getcwd getpid getppid gettid kill lseek mkdirat mmap munmap newfstatat openat pipe2 read rt_sigaction rt_sigprocmask rt_sigreturn sched_yield unlinkat wait4 write'
 _girmolet_errors='E2BIG EACCES EADDRINUSE EADDRNOTAVAIL EADV EAFNOSUPPORT EAGAIN EALREADY EBADE EBADF EBADFD EBADMSG EBADR EBADRQC EBADSLT EBFONT EBUSY ECANCELED ECHILD ECHRNG ECOMM ECONNABORTED ECONNREFUSED ECONNRESET EDEADLK EDEADLOCK EDESTADDRREQ EDOM EDOTDOT EDQUOT EEXIST EFAULT EFBIG EHOSTDOWN EHOSTUNREACH EHWPOISON EIDRM EILSEQ EINPROGRESS EINTR EINVAL EIO EISCONN EISDIR EISNAM EKEYEXPIRED EKEYREJECTED EKEYREVOKED EL2HLT EL2NSYNC EL3HLT EL3RST ELIBACC ELIBBAD ELIBEXEC ELIBMAX ELIBSCN ELNRNG ELOOP EMEDIUMTYPE EMFILE EMLINK EMSGSIZE EMULTIHOP ENAMETOOLONG ENAVAIL ENETDOWN ENETRESET ENETUNREACH ENFILE ENOANO ENOBUFS ENOCSI ENODATA ENODEV ENOENT ENOEXEC ENOKEY ENOLCK ENOLINK ENOMEDIUM ENOMEM ENOMSG ENONET ENOPKG ENOPROTOOPT ENOSPC ENOSR ENOSTR ENOSYS ENOTBLK ENOTCONN ENOTDIR ENOTEMPTY ENOTNAM ENOTRECOVERABLE ENOTSOCK ENOTSUP ENOTTY ENOTUNIQ ENXIO EOPNOTSUPP EOVERFLOW EOWNERDEAD EPERM EPFNOSUPPORT EPIPE EPROTO EPROTONOSUPPORT EPROTOTYPE ERANGE EREMCHG EREMOTE EREMOTEIO ERESTART ERFKILL EROFS ESHUTDOWN ESOCKTNOSUPPORT ESPIPE ESRCH ESRMNT ESTALE ESTRPIPE ETIME ETIMEDOUT ETOOMANYREFS ETXTBSY EUCLEAN EUNATCH EUSERS EWOULDBLOCK EXDEV EXFULL'
-_girmolet_signals='HUP INT QUIT ILL TRAP ABRT BUS FPE KILL USR1 SEGV USR2 PIPE ALRM TERM STKFLT CHLD URG XCPU XFSZ VTALRM PROF WINCH IO PWR SYS'
-_girmolet_options='-e --trace --inject --fault -f --follow-forks -o --output -s --string-limit -a --columns -E --env --host --host-arg --turns --workers --turns-out --limit --file --files-out --files-list --explain -h --help -V --version --'
-_girmolet_plain_options='-e --inject --fault -E --env --turns --limit --file --files-out --files-list --explain -h --help -V --version --'
-_girmolet_sweep_options='-e --fault -f --follow-forks -o --output --format --summary -E --env --turns --limit --jobs --orders --seed --keep --file --explain -h --help -V --version --'
+_girmolet_signals='HUP INT QUIT ILL TRAP ABRT BUS FPE KILL USR1 SEGV USR2 PIPE ALRM TERM STKFLT CHLD CONT STOP TSTP TTIN TTOU URG XCPU XFSZ VTALRM PROF WINCH IO PWR SYS'
+_girmolet_options='-e --trace --inject --fault -f --follow-forks -o --output -s --string-limit -a --columns -E --env --host --host-arg --turns --workers --turns-out --limit --file --dir --files-out --files-list --explain -h --help -V --version --'
+_girmolet_plain_options='-e --inject --fault -E --env --turns --limit --file --dir --files-out --files-list --explain -h --help -V --version --'
+_girmolet_sweep_options='-e --fault -f --follow-forks -o --output --format --summary -E --env --turns --limit --jobs --orders --seed --keep --file --dir --explain -h --help -V --version --'
 
-# Candidates for an expression: its words up to the item under way, and what may stand there.
-_girmolet_expression() {
-    local word=$1 before
+# Candidates for a set, with its qualifier or without.
+_girmolet_set() {
+    local word=$1 before=
     case $word in
-        *:error=*) compgen -P "${word%=*}=" -W "$_girmolet_errors" -- "${word##*=}" ;;
-        *:signal=*) compgen -P "${word%=*}=" -W "$_girmolet_signals" -- "${word##*=}" ;;
-        inject=*:*) compgen -P "${word%:*}:" -W 'error= retval= signal= when=' -- "${word##*:}" ;;
-        fault=*:*) compgen -P "${word%:*}:" -W 'error= when=' -- "${word##*:}" ;;
+        *,*) before=${word%,*}, ;;
+        *=*) before=${word%%=*}= ;;
+        *) compgen -W 'trace= inject= fault=' -- "$word" ;;
+    esac
+    word=${word#"$before"}
+    case $word in '!'* | '?'*) before=$before${word:0:1}; word=${word:1} ;; esac
+    compgen -P "$before" -W "$_girmolet_calls" -- "$word"
+}
+
+# Candidates for an expression: its words up to the part under way, and what may stand there.
+_girmolet_expression() {
+    local word=$1 part=${1##*:} before
+    before=${word%"$part"}
+    if [ -z "$before" ]; then
+        _girmolet_set "$word"
+        return
+    fi
+    case $part in
+        error=*) compgen -P "${before}error=" -W "$_girmolet_errors" -- "${part#*=}" ;;
+        signal=*) compgen -P "${before}signal=" -W "$_girmolet_signals" -- "${part#*=}" ;;
+        *=*) ;;
         *)
-            before=
-            case $word in
-                *,*) before=${word%,*}, ;;
-                *=*) before=${word%%=*}= ;;
-                *) compgen -W 'trace= inject= fault=' -- "$word" ;;
-            esac
-            word=${word#"$before"}
-            case $word in '!'* | '?'*) before=$before${word:0:1}; word=${word:1} ;; esac
-            compgen -P "$before" -W "$_girmolet_calls" -- "$word" ;;
+            case $before in
+                inject=*) compgen -P "$before" -W 'error= retval= signal= when=' -- "$part" ;;
+                fault=*) compgen -P "$before" -W 'error= when=' -- "$part" ;;
+            esac ;;
     esac
 }
 
@@ -55,11 +67,17 @@ _girmolet() {
     local -a all
     read -ra all <<<"${COMP_LINE:0:COMP_POINT}"
     case ${COMP_LINE:COMP_POINT-1:1} in ' ') all+=("") ;; esac
-    local word=${all[-1]} before=${all[-2]} program=${all[0]##*/} expression=_girmolet_expression found i
+    local word=${all[-1]} before=${all[-2]} program=${all[0]##*/} expression=_girmolet_expression
+    local found i quote= option=
     case $program in strace_sweep) expression=_girmolet_faults ;; esac
     for i in "${all[@]:1:${#all[@]}-2}"; do
         if [ "$i" = -- ]; then before=--; break; fi
     done
+    case $word in [\'\"]*) quote=${word:0:1} word=${word:1} ;; esac
+    case $before:$word in
+        --:*) ;;
+        *:--*=*) before=${word%%=*} word=${word#*=} option=$before= ;;
+    esac
     case $before in
         --) found=$(_girmolet_guests "$word") ;;
         -o | --output | --host | --turns | --turns-out | --files-list) found=$(compgen -f -- "$word") ;;
@@ -70,11 +88,10 @@ _girmolet() {
         --fault) found=$($expression "fault=$word" | sed s/^fault=//) ;;
         --format) found=$(compgen -W 'table json' -- "$word") ;;
         --file) case $word in *=*) found=$(compgen -P "${word%%=*}=" -f -- "${word#*=}") ;; esac ;;
+        --dir) case $word in *=*) found=$(compgen -P "${word%%=*}=" -d -- "${word#*=}") ;; esac ;;
         -s | --string-limit | -a | --columns | -E | --env | --workers | --limit | --jobs | --orders | --seed) ;;
         *)
             case $program:${all[1]}:$word in
-                *:--trace=* | *:--inject=* | *:--fault=*)
-                    found=$($expression "${word#--}" | sed s/^/--/) ;;
                 strace_sweep:*) found=$(compgen -W "$_girmolet_sweep_options" -- "$word") ;;
                 guest_host:plain:*) found=$(compgen -W "$_girmolet_plain_options" -- "$word") ;;
                 guest_host:asm:*) found=$(compgen -f -- "$word") ;;
@@ -85,9 +102,9 @@ _girmolet() {
     esac
     COMPREPLY=()
     [ -n "$found" ] && mapfile -t COMPREPLY <<<"$found"
-    # bash puts a candidate in the place of what stands after the last = or :
+    # bash puts a candidate in the place of what stands after the last = or :, and within quotes of all of it
     before=${word%"${word##*[=:]}"}
-    COMPREPLY=("${COMPREPLY[@]#"$before"}")
+    if [ -z "$quote" ]; then COMPREPLY=("${COMPREPLY[@]#"$before"}"); else COMPREPLY=("${COMPREPLY[@]/#/$option}"); fi
     # a blank follows what is whole
     case ${#COMPREPLY[@]}:${COMPREPLY[0]} in 1:-*) compopt +o nospace 2>/dev/null ;; esac
 }

@@ -2,7 +2,7 @@
 # Written by completions/make.
 set -g __girmolet_calls all none %file %desc %process %signal %memory brk chdir clone close dup dup3 execve exit exit_group fstat ftruncate getcwd getpid getppid gettid kill lseek mkdirat mmap munmap newfstatat openat pipe2 read rt_sigaction rt_sigprocmask rt_sigreturn sched_yield unlinkat wait4 write
 set -g __girmolet_errors E2BIG EACCES EADDRINUSE EADDRNOTAVAIL EADV EAFNOSUPPORT EAGAIN EALREADY EBADE EBADF EBADFD EBADMSG EBADR EBADRQC EBADSLT EBFONT EBUSY ECANCELED ECHILD ECHRNG ECOMM ECONNABORTED ECONNREFUSED ECONNRESET EDEADLK EDEADLOCK EDESTADDRREQ EDOM EDOTDOT EDQUOT EEXIST EFAULT EFBIG EHOSTDOWN EHOSTUNREACH EHWPOISON EIDRM EILSEQ EINPROGRESS EINTR EINVAL EIO EISCONN EISDIR EISNAM EKEYEXPIRED EKEYREJECTED EKEYREVOKED EL2HLT EL2NSYNC EL3HLT EL3RST ELIBACC ELIBBAD ELIBEXEC ELIBMAX ELIBSCN ELNRNG ELOOP EMEDIUMTYPE EMFILE EMLINK EMSGSIZE EMULTIHOP ENAMETOOLONG ENAVAIL ENETDOWN ENETRESET ENETUNREACH ENFILE ENOANO ENOBUFS ENOCSI ENODATA ENODEV ENOENT ENOEXEC ENOKEY ENOLCK ENOLINK ENOMEDIUM ENOMEM ENOMSG ENONET ENOPKG ENOPROTOOPT ENOSPC ENOSR ENOSTR ENOSYS ENOTBLK ENOTCONN ENOTDIR ENOTEMPTY ENOTNAM ENOTRECOVERABLE ENOTSOCK ENOTSUP ENOTTY ENOTUNIQ ENXIO EOPNOTSUPP EOVERFLOW EOWNERDEAD EPERM EPFNOSUPPORT EPIPE EPROTO EPROTONOSUPPORT EPROTOTYPE ERANGE EREMCHG EREMOTE EREMOTEIO ERESTART ERFKILL EROFS ESHUTDOWN ESOCKTNOSUPPORT ESPIPE ESRCH ESRMNT ESTALE ESTRPIPE ETIME ETIMEDOUT ETOOMANYREFS ETXTBSY EUCLEAN EUNATCH EUSERS EWOULDBLOCK EXDEV EXFULL
-set -g __girmolet_signals HUP INT QUIT ILL TRAP ABRT BUS FPE KILL USR1 SEGV USR2 PIPE ALRM TERM STKFLT CHLD URG XCPU XFSZ VTALRM PROF WINCH IO PWR SYS
+set -g __girmolet_signals HUP INT QUIT ILL TRAP ABRT BUS FPE KILL USR1 SEGV USR2 PIPE ALRM TERM STKFLT CHLD CONT STOP TSTP TTIN TTOU URG XCPU XFSZ VTALRM PROF WINCH IO PWR SYS
 
 # Candidates for an expression, of this qualifier or with its own.
 function __girmolet_expression
@@ -65,6 +65,17 @@ function __girmolet_file
     end
 end
 
+# The guest's files that the words before name.
+function __girmolet_guests
+    set -l before
+    for word in (commandline -opc)
+        if test "$before" = --file
+            string replace -r '=.*' '' -- $word
+        end
+        set before $word
+    end
+end
+
 complete -c strace_cli -s e -x -a '(__girmolet_expression)' -d 'Which calls are shown or tampered with'
 complete -c strace_cli -l trace -x -a '(__girmolet_expression trace)' -d 'Which calls are shown'
 complete -c strace_cli -l inject -x -a '(__girmolet_expression inject)' -d 'Which calls are tampered with'
@@ -81,6 +92,7 @@ complete -c strace_cli -l workers -x -d 'Make the turns on so many threads'
 complete -c strace_cli -l turns-out -r -F -d 'Write the turns that the run took'
 complete -c strace_cli -l limit -x -d 'End after so many events'
 complete -c strace_cli -l file -x -a '(__girmolet_file)' -d 'A file of the guest'
+complete -c strace_cli -l dir -x -a '(__girmolet_file)' -d 'A directory of files for the guest'
 complete -c strace_cli -l files-out -x -a '(__fish_complete_directories)' -d 'Write the files that the run leaves'
 complete -c strace_cli -l files-list -r -F -d 'List the files that the run leaves'
 complete -c strace_cli -l explain -d 'Explain faults'
@@ -100,6 +112,7 @@ complete -c strace_sweep -l orders -x -d 'Try so many orders of turns'
 complete -c strace_sweep -l seed -x -d 'Draw orders by chance from this number on'
 complete -c strace_sweep -l keep -x -a '(__fish_complete_directories)' -d 'Write an order of each result to a file'
 complete -c strace_sweep -l file -x -a '(__girmolet_file)' -d 'A file of the guest'
+complete -c strace_sweep -l dir -x -a '(__girmolet_file)' -d 'A directory of files for the guest'
 complete -c strace_sweep -l explain -d 'Explain faults'
 complete -c strace_sweep -s h -l help -d 'Print help'
 complete -c strace_sweep -s V -l version -d 'Print the version'
@@ -110,9 +123,13 @@ complete -c guest_host -n '__fish_seen_subcommand_from plain' -s E -l env -x -d 
 complete -c guest_host -n '__fish_seen_subcommand_from plain' -l turns -r -F -d 'A schedule by words'
 complete -c guest_host -n '__fish_seen_subcommand_from plain' -l limit -x -d 'End after so many events'
 complete -c guest_host -n '__fish_seen_subcommand_from plain' -l file -x -a '(__girmolet_file)' -d 'A file of the guest'
+complete -c guest_host -n '__fish_seen_subcommand_from plain' -l dir -x -a '(__girmolet_file)' -d 'A directory of files for the guest'
 complete -c guest_host -n '__fish_seen_subcommand_from plain' -l files-out -x -a '(__fish_complete_directories)' -d 'Write the files that the run leaves'
 complete -c guest_host -n '__fish_seen_subcommand_from plain' -l files-list -r -F -d 'List the files that the run leaves'
 complete -c guest_host -n '__fish_seen_subcommand_from plain' -l explain -d 'Explain faults'
 complete -c guest_host -s h -l help -d 'Print help'
 complete -c guest_host -s V -l version -d 'Print the version'
+complete -c strace_cli -n 'contains -- -- (commandline -opc)' -x -a '(__girmolet_guests)'
+complete -c strace_sweep -n 'contains -- -- (commandline -opc)' -x -a '(__girmolet_guests)'
+complete -c guest_host -n 'contains -- -- (commandline -opc)' -x -a '(__girmolet_guests)'
 complete -c guest_host -n __fish_use_subcommand -x -a 'plain asm serve'

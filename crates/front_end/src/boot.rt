@@ -1,5 +1,6 @@
 //! What a run begins with.
 
+use crate::directories::add_directory;
 use crate::fault::Fault;
 use crate::reading::{MOST_INPUT, read_file, read_input};
 use crate::shown::Shown;
@@ -15,6 +16,8 @@ use std::rt::Files;
 pub struct BootWords<'m, 'a> {
     /// Words GUEST=PATH.
     pub files: &'m [&'a str],
+    /// Words GUEST=DIR.
+    pub directories: &'m [&'a str],
     /// Words NAME=VALUE.
     pub environment: &'m [&'a str],
     /// The program and its arguments.
@@ -41,14 +44,22 @@ fn file<R: Files + AllocGlobal>(rt: &R, word: &str, limit: u64) -> Result<GuestF
     }
 }
 
-/// The guest's files. One that is too large is cut off behind the limit, for the boot to refuse.
-pub fn read_files<R: Files + AllocGlobal>(rt: &R, words: &[&str]) -> Result<Seq<GuestFile>, Fault> {
+/// The guest's files, those of directories last. One that is too large is cut off after the limit, for the boot to
+/// refuse.
+pub fn read_files<R: Files + AllocGlobal>(
+    rt: &R,
+    words: &[&str],
+    directories: &[&str],
+) -> Result<Seq<GuestFile>, Fault> {
     let mut files = Seq::new(rt.alloc());
     let mut left = MOST_CONTENTS;
     for word in words.iter().copied() {
         let file = file(rt, word, left.min(LARGEST_FILE))?;
         left = left.saturating_sub(file.content.len() as u64);
         files.push(file)?;
+    }
+    for word in directories.iter().copied() {
+        add_directory(rt, word, &mut files, &mut left)?;
     }
     Ok(files)
 }
@@ -123,7 +134,7 @@ pub fn boot_of<R: Files + AllocGlobal, I: Read + IsTerminal, E: Write + IsTermin
 ) -> Result<Boot, Fault> {
     let alloc = rt.alloc();
     let env = environment(alloc, words.environment)?;
-    let files = read_files(rt, words.files)?;
+    let files = read_files(rt, words.files, words.directories)?;
     announce_input(program, input, err);
     Ok(Boot {
         limits: Limits::WIDEST,

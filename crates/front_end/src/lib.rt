@@ -4,6 +4,7 @@
 
 mod boot;
 mod boot_faults;
+mod directories;
 mod explanation;
 mod expressions;
 mod fault;

@@ -60,18 +60,25 @@ pub fn with_limit<'a>(
     )
 }
 
-/// Adds `--file GUEST=PATH`, any number of times.
+/// Adds `--file GUEST=PATH` and `--dir GUEST=DIR`, any number of times.
 pub fn with_files<'a>(
     alloc: Global,
     command: Command<'a>,
     help: &'a str,
 ) -> Result<Command<'a>, AllocError> {
-    command.arg(
+    let command = command.arg(
         Arg::new(alloc, "file")
             .long("file")
             .value_name("GUEST=PATH")
             .action(ArgAction::Append)
             .help(help),
+    )?;
+    command.arg(
+        Arg::new(alloc, "dir")
+            .long("dir")
+            .value_name("GUEST=DIR")
+            .action(ArgAction::Append)
+            .help("Files of the guest's: all that this directory holds, and those below it"),
     )
 }
 

@@ -32,6 +32,14 @@ const HEADER_SIZE: usize = 56;
 /// The type of the program header that names a loader, PT_INTERP.
 const LOADER: u32 = 3;
 
+/// The type of the program header that leads to the file's attributes, PT_RISCV_ATTRIBUTES.
+const ATTRIBUTES: u32 = 0x7000_0003;
+
+/// Where the place and the size of what a program header leads to stand in it.
+const PLACE: usize = 8;
+
+const SIZE: usize = 32;
+
 /// What the file of a program is.
 #[derive(Clone, Copy, Debug, PartialEq, Eq)]
 enum Kind {
@@ -43,6 +51,8 @@ enum Kind {
     Dynamic,
     /// It has compressed instructions.
     Compressed,
+    /// It has instructions of other extensions.
+    Extended,
     Usual,
 }
 
@@ -77,13 +87,34 @@ fn word(content: &[u8], at: usize) -> u32 {
     u32::from(half_word(content, at)) + 65_536 * u32::from(high)
 }
 
-/// A program header names a loader.
-fn wants_loader(content: &[u8]) -> bool {
+/// The place of the first program header of this type.
+fn header_of(content: &[u8], kind: u32) -> Option<usize> {
     let table = word(content, HEADERS) as usize;
     let count = usize::from(half_word(content, HEADER_COUNT));
-    (0..count).any(|header| {
-        let at = table.saturating_add(header.saturating_mul(HEADER_SIZE));
-        word(content, at) == LOADER
+    (0..count)
+        .map(|header| table.saturating_add(header.saturating_mul(HEADER_SIZE)))
+        .find(|at| word(content, *at) == kind)
+}
+
+/// A program header names a loader.
+fn wants_loader(content: &[u8]) -> bool {
+    header_of(content, LOADER).is_some()
+}
+
+/// The file's attributes name extensions of RV64I, as `_m2p0` in `rv64i2p1_m2p0`.
+fn has_extensions(content: &[u8]) -> bool {
+    let Some(header) = header_of(content, ATTRIBUTES) else {
+        return false;
+    };
+    let from = word(content, header.saturating_add(PLACE)) as usize;
+    let size = word(content, header.saturating_add(SIZE)) as usize;
+    let attributes = content.get(from..from.saturating_add(size)).unwrap_or(&[]);
+    attributes.split(|byte| *byte == 0).any(|text| {
+        let text = str::from_utf8(text).unwrap_or("");
+        match text.split_once("rv64i") {
+            Some((_, rest)) => rest.contains('_'),
+            None => false,
+        }
     })
 }
 
@@ -122,6 +153,7 @@ fn kind_of(alloc: Global, content: &[u8]) -> Result<Kind, AllocError> {
         Err(fault) => Kind::Refused(refusal_of(content, fault)?),
         Ok(_) if wants_loader(content) => Kind::Dynamic,
         Ok(_) if half_word(content, FLAGS) % 2 == 1 => Kind::Compressed,
+        Ok(_) if has_extensions(content) => Kind::Extended,
         Ok(_) => Kind::Usual,
     })
 }
@@ -160,6 +192,9 @@ impl Program {
             )?,
             (Kind::Compressed, ILLEGAL | MISALIGNED) => format!(in alloc;
                 "{path} has compressed instructions, which aren't run; build it with -march=rv64i -mabi=lp64"
+            )?,
+            (Kind::Extended, ILLEGAL) => format!(in alloc;
+                "{path} is built for more than RV64I; build it with -march=rv64i -mabi=lp64"
             )?,
             _ => return Ok(None),
         };

@@ -1,1 +1,3 @@
 pub mod Drills
+pub mod Logs
+pub mod Statuses

@@ -1,11 +1,19 @@
 //! A run on the untraced kernel.
 
+ghost use Rattle.std.specs.Prelude.{◌≡◌, OnOk, IfOk};
+ghost use Rattle.lx_abi.specs.Modes.{lives_in};
+ghost use Rattle.plain_run.specs.Runs.{RunsTo};
+ghost use Rattle.plain_run.specs.Watched.{Tells};
+ghost use Rattle.guest_commands.specs.Logs.{told_by};
+ghost use Rattle.guest_commands.specs.Statuses.{is_alive as is_alive_in, first_status, status_in};
+
 use crate::log::Log;
 use crate::plan::{Plan, read_plan};
 use clap::ArgMatches;
 use front_end::{Fault, Leavings, explain_turns};
 use lx_abi::{Ended, Mode, Status};
-use lx_kernel::{Advanced, Kernel};
+use lx_kernel::Kernel;
+use plain_run::Halt;
 use pt_schedule::Schedule;
 use std::alloc::{AllocError, Global};
 use std::io::{self, IsTerminal, Read, Write};
@@ -14,26 +22,35 @@ use std::rt::Files;
 /// Turns ended with a process alive.
 const ALIVE: u8 = 4;
 
+/// The process is before its end.
+fn lives(mode: Option<Mode>) -> bool
+    ensures { result ≡ lives_in mode }
+{
+    !matches!(mode, None | Some(Mode::Dying | Mode::Zombie))
+}
+
 /// Some process is before its end.
-fn is_alive(kernel: &Kernel) -> bool {
-    (1..kernel.next_pid()).any(|pid| {
-        !matches!(
-            kernel.mode(pid),
-            None | Some(Mode::Dying) | Some(Mode::Zombie)
-        )
-    })
+#[tactic(auto, unfolding(crate::specs::Statuses::is_alive))]
+fn is_alive(kernel: &Kernel) -> bool
+    ensures { result ≡ is_alive_in kernel.now }
+{
+    (1..kernel.next_pid()).any(|pid| lives(kernel.mode(pid)))
 }
 
 /// Process 1's exit code, or 128 and the signal that ended it.
-fn status_of(ended: &[Ended]) -> u8 {
+fn status_of(ended: &[Ended]) -> u8
+    ensures { result ≡ first_status ended.now }
+{
     match ended.first() {
-        Some(Ended { pid: 1, word }) => Status { word: *word }.shell_status(),
+        Some(first) if first.pid == 1 => Status { word: first.word }.shell_status(),
         _ => ALIVE,
     }
 }
 
 /// The exit status of a run that came to its end.
-fn status(kernel: &Kernel) -> Result<u8, AllocError> {
+fn status(kernel: &Kernel) -> Result<u8, AllocError>
+    ensures { IfOk result (λ status. status ≡ status_in kernel.now) }
+{
     if is_alive(kernel) {
         return Ok(ALIVE);
     }
@@ -41,69 +58,20 @@ fn status(kernel: &Kernel) -> Result<u8, AllocError> {
     Ok(status_of(ended.as_slice()))
 }
 
-/// Turns of a process in a row, `most` at most. What the last of them logs is printed; all before it log nothing.
-fn advance<E: Write>(
-    kernel: &mut Kernel,
-    pid: u32,
-    most: u64,
-    log: &mut Log<E>,
-) -> Result<Advanced, Fault> {
-    let mut item = None;
-    let Ok(advanced) = kernel.advance(pid, most.min(log.patience()), &mut item) else {
-        return Err(Fault::Memory);
-    };
-    match &item {
-        Some(item) => log.print(item)?,
-        None => log.wait(advanced.turns)?,
-    }
-    Ok(advanced)
-}
-
-/// A process in this mode can have the next turn of its row: it is able, and no call of it is finished. Only a process
-/// in a call, or a stopped one, can wait.
-fn goes_on(kernel: &Kernel, pid: u32, mode: Option<Mode>) -> bool {
-    match mode {
-        None | Some(Mode::Zombie) | Some(Mode::Finished) => false,
-        Some(Mode::Doing | Mode::Stopped) => kernel.able(pid),
-        Some(_) => true,
-    }
-}
-
-/// The turn that a process has next, and those of its row after it as long as nothing comes between them.
-fn turns_of<E: Write>(
-    kernel: &mut Kernel,
-    schedule: &mut Schedule,
-    pid: u32,
-    log: &mut Log<E>,
-) -> Result<(), Fault> {
-    let most = schedule.row().map_or(0, |row| row.turns).saturating_add(1);
-    let mut made = 0u64;
-    for _ in 0..most {
-        let advanced = advance(kernel, pid, most.saturating_sub(made), log)?;
-        made = made.saturating_add(advanced.turns);
-        if made >= most || !goes_on(kernel, pid, advanced.after) {
-            break;
-        }
-    }
-    schedule.pass(made.saturating_sub(1));
-    Ok(())
-}
-
-/// Turns by a schedule until it has ended, each item printed. Apart, so that the compiler lays out the loop by itself.
-#[inline(never)]
+/// Turns by a schedule until it has ended, each item printed.
 fn turns<E: Write>(
     kernel: &mut Kernel,
     schedule: &mut Schedule,
     log: &mut Log<E>,
-) -> Result<(), Fault> {
-    // No schedule has so many turns.
-    for _ in 0..u64::MAX {
-        let Some(pid) = schedule.next_plain(kernel) else {
-            break;
-        };
-        turns_of(kernel, schedule, pid, log)?;
+) -> Result<(), Fault>
+    ensures to { OnOk result (RunsTo kernel.old schedule.old kernel.new) }
+    ensures told { Tells kernel.old (told_by log.old) kernel.new (told_by log.new) }
+{
+    match plain_run::run(kernel, schedule, log) {
+        Ok(()) => Ok(()),
+        Err(Halt::Memory) => Err(Fault::Memory),
+        Err(Halt::Weary) => Err(log.fault()),
     }
-    Ok(())
 }
 
 /// The same. The log is written, also where the turns end in a fault.
@@ -111,7 +79,10 @@ fn logged_turns<E: Write>(
     kernel: &mut Kernel,
     schedule: &mut Schedule,
     log: &mut Log<E>,
-) -> Result<(), Fault> {
+) -> Result<(), Fault>
+    ensures to { OnOk result (RunsTo kernel.old schedule.old kernel.new) }
+    ensures told { Tells kernel.old (told_by log.old) kernel.new (told_by log.new) }
+{
     let ended = turns(kernel, schedule, log);
     let logged = log.flush();
     ended?;
@@ -119,7 +90,9 @@ fn logged_turns<E: Write>(
 }
 
 /// The same, with the log to a writer.
-fn log_turns<E: Write>(alloc: Global, plan: &mut Plan, err: &mut E) -> Result<(), Fault> {
+fn log_turns<E: Write>(alloc: Global, plan: &mut Plan, err: &mut E) -> Result<(), Fault>
+    ensures { OnOk result (RunsTo plan.old.kernel plan.old.schedule plan.new.kernel) }
+{
     let mut log = Log::new(alloc, err)?;
     logged_turns(&mut plan.kernel, &mut plan.schedule, &mut log)
 }
@@ -161,7 +134,10 @@ fn run_plan<R: Files + AllocGlobal, O: Write, E: Write>(
     plan: &mut Plan,
     out: &mut O,
     err: &mut E,
-) -> Result<u8, Fault> {
+) -> Result<u8, Fault>
+    ensures to { OnOk result (RunsTo plan.old.kernel plan.old.schedule plan.new.kernel) }
+    ensures status { IfOk result (λ status. status ≡ status_in plan.new.kernel) }
+{
     let ended = log_turns(rt.alloc(), plan, err);
     let shown = write_console(rt.alloc(), &plan.kernel, out);
     ended?;

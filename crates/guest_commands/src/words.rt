@@ -34,7 +34,8 @@ The status is the program's, or 128 and the signal that ended it; 2 for words, f
 output or for memory, 4 where the turns ended with a process alive.
 
 Example: make the second write fail
-  guest_host plain -e fault=write:error=EIO:when=2 --file /p=hello -- /p </dev/null";
+  guest_host asm guests/rows/three_writes.s three_writes
+  guest_host plain -e fault=write:error=EIO:when=2 --file /p=three_writes -- /p </dev/null";
 
 /// What is written of drills, and of conversations that can't go on, kind by kind.
 const SERVE_NOTES: &str = "A drill spoils the reply of one number; Boot's is the first:

@@ -1,12 +1,11 @@
 -- Who is known to have the next turn after whom.
-use Rattle.std.proofs.Common.{◌≡◌, ◌⊎◌, ℕ, zero, suc, ◌%◌, Bool, true, false, nat_eq, List, [], ◌∷◌, Option, Some, None, set, get_or, replicate, refl, sym, ap, ap₂, subst, ◌∙◌, inl, inr, arith}
-use Rattle.std.specs.Prelude.{◌<◌, ◌≤◌}
+use Rattle.std.proofs.Common.{◌≡◌, ◌⊎◌, ℕ, zero, suc, ◌%◌, List, [], ◌∷◌, Option, Some, None, set, get_or, replicate, refl, sym, ap, ap₂, subst, ◌∙◌, inl, inr}
 use Rattle.lx_abi.specs.declared.schedule.Event.TheVariants.{Turn}
 use Rattle.pt_schedule.specs.Cycle.{next_able}
 use Rattle.pt_kernel.specs.Hosts.{HostState, readiness_of}
-use Rattle.pt_kernel.specs.Bursts.{after, after_turns, AreAlike, Burst, BurstsLeaveAlike}
+use Rattle.pt_kernel.specs.Bursts.{after, AreAlike, RunsOn, RunsLeaveAlike}
 use Rattle.host_shared.specs.declared.followers.Follower.{Follower}
-use Rattle.host_shared.specs.Following.{Follows, Tells, Knows, RunsOnce}
+use Rattle.host_shared.specs.Following.{Follows, Tells, Knows}
 
 abbrev Rows : Type 0
 Rows = List (Option Follower)
@@ -56,29 +55,8 @@ knows_more h rows p q knows next a b e = go (learnt rows (p % 32) (a % 32) (row 
         ap (follower h) (sym same_pid) ∙ next ∙ ap (λ n. Some n) same_next
 
 -- after a turn that ran an instruction as much is known, and who followed
-pub learns : (h h' : HostState) (rows rows' : Rows) (p q : ℕ) (ran : Bool) → RunsOnce h q ran h' → ran ≡ true → Follows h p q → rows' ≡ set rows (p % 32) (row p q) → Knows h rows → Knows h' rows'
-learns h h' rows rows' p q false runs is next new knows = absurd (cc is)
-learns h h' rows rows' p q true runs is next new knows =
+pub learns : RunsLeaveAlike → (h h' : HostState) (rows rows' : Rows) (p q : ℕ) → h' ≡ after h (Turn q) → RunsOn h q → Follows h p q → rows' ≡ set rows (p % 32) (row p q) → Knows h rows → Knows h' rows'
+learns alike h h' rows rows' p q turned on next new knows =
+    let same : AreAlike h h' = subst (λ (x : HostState). AreAlike h x) (sym turned) (alike h q on) in
     subst (λ (r : Rows). Knows h' r) (sym new)
-    (λ a b e. ap₂ (λ able last_pid. next_able able last_pid a) runs.1.0 runs.1.1 ∙ knows_more h rows p q knows next a b e)
-
--- a burst of at most one turn
-none_or_one : (n : ℕ) → n ≤ 1 → (n ≡ 0) ⊎ (n ≡ 1)
-none_or_one zero l = inl refl
-none_or_one (suc zero) l = inr refl
-none_or_one (suc (suc n)) l = absurd (omega (arith, l))
-
-one_turn : (h h' : HostState) (p : ℕ) → h' ≡ after_turns h p 1 → h' ≡ after h (Turn p)
-unfolding after_turns
-one_turn h h' p e = e
-
-no_turn : (h h' : HostState) (p : ℕ) → h' ≡ after_turns h p 0 → h' ≡ h
-unfolding after_turns
-no_turn h h' p e = e
-
-pub runs_once : BurstsLeaveAlike → (h h' : HostState) (p n : ℕ) → Burst h p 1 n h' → RunsOnce h p (nat_eq n 1) h'
-runs_once alike h h' p n b = go (none_or_one n b.within)
-  where
-    go : (n ≡ 0) ⊎ (n ≡ 1) → RunsOnce h p (nat_eq n 1) h'
-    go (inl e) = subst (λ m. RunsOnce h p (nat_eq m 1) h') (sym e) (no_turn h h' p (b.turned ∙ ap (after_turns h p) e))
-    go (inr e) = subst (λ m. RunsOnce h p (nat_eq m 1) h') (sym e) (one_turn h h' p (b.turned ∙ ap (after_turns h p) e), alike h h' p 1 n b)
+    (λ a b e. ap₂ (λ able last_pid. next_able able last_pid a) same.0 same.1 ∙ knows_more h rows p q knows next a b e)

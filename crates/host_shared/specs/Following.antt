@@ -1,8 +1,6 @@
 -- Who has the next turn after whom.
-use Rattle.std.specs.Prelude.{◌≡◌, ℕ, ◌%◌, Bool, true, false, List, Option, Some, None, get_or}
-use Rattle.lx_abi.specs.declared.schedule.Event.TheVariants.{Turn}
+use Rattle.std.specs.Prelude.{◌≡◌, ℕ, ◌%◌, List, Option, Some, None, get_or}
 use Rattle.pt_schedule.specs.Cycle.{next_able}
-use Rattle.pt_kernel.specs.Bursts.{after, AreAlike}
 use Rattle.pt_kernel.specs.Hosts.{HostState, readiness_of}
 use Rattle.host_shared.specs.declared.followers.Follower.{Follower}
 
@@ -17,8 +15,3 @@ Tells rows p q = get_or rows (p % 32) None ≡ Some (record { pid = p; next = q 
 -- what is told is so
 abbrev pub Knows : HostState → List (Option Follower) → Type 0
 Knows h rows = (p q : ℕ) → Tells rows p q → Follows h p q
-
--- a turn that ran an instruction; or nothing
-abbrev pub RunsOnce : HostState → ℕ → Bool → HostState → Type 0
-RunsOnce h p true h' = (h' ≡ after h (Turn p)) × AreAlike h h'
-RunsOnce h p false h' = h' ≡ h

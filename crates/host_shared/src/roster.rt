@@ -9,14 +9,14 @@ ghost use Rattle.pt_kernel.specs.Bursts.{after};
 ghost use Rattle.pt_kernel.specs.Hosts.{event_of, is_boot, readiness_of};
 ghost use Rattle.pt_model.specs.Hosting.{with_pending};
 ghost use Rattle.pt_schedule.specs.Cycle.{next_able};
-ghost use Rattle.host_shared.specs.Following.{Follows, Knows, RunsOnce};
+ghost use Rattle.host_shared.specs.Following.{Follows, Knows};
 
 use crate::followers::Followers;
 use lx_abi::{Event, Reply, Request};
 use lx_kernel::Failed;
 use pt_kernel::Host;
 use pt_kernel::host::Busy;
-use pt_kernel::laws::bursts_leave_alike;
+use pt_kernel::laws::runs_leave_alike;
 use pt_schedule::next_able;
 use std::marker::Model;
 
@@ -42,24 +42,11 @@ impl Model for Roster {
     ghost invariant = { λ r. Knows r.host r.followers };
 }
 
-/// A turn of a process, if it runs an instruction: whether it does. Else nothing is changed.
-fn run_once(host: &mut Host, pid: u32) -> Result<bool, Failed>
-    ensures { IfOk result (λ ran. RunsOnce host.old pid ran host.new) }
-{
-    bursts_leave_alike();
-    let ran = host.run(pid, 1)?;
-    Ok(ran == 1)
-}
-
-/// A turn of a process, of any kind. Apart, so that turns that run instructions don't pay for its locals.
-#[inline(never)]
-fn turn_whole(host: &mut Host, followers: &mut Followers, pid: u32) -> Result<(), Failed>
-    ensures host { OnOk result (host.new ≡ after host.old (event.Turn pid)) }
-    ensures known { Knows host.new followers.new }
+/// Nothing is known any more.
+fn forget(host: &Host, followers: &mut Followers)
+    ensures { Knows host.now followers.new }
 {
     *followers = Followers::none();
-    host.event(Event::Turn { pid })?;
-    Ok(())
 }
 
 /// A turn of the process that comes next after the last one.
@@ -68,15 +55,17 @@ fn turn_next(host: &mut Host, followers: &mut Followers, last: u32, pid: u32) ->
     ensures host { OnOk result (host.new ≡ after host.old (event.Turn pid)) }
     ensures known { Knows host.old followers.old → Knows host.new followers.new }
 {
-    let ran = match run_once(host, pid) {
+    runs_leave_alike();
+    let ran = match host.turn(pid) {
         Ok(ran) => ran,
         Err(failed) => {
-            *followers = Followers::none();
+            forget(host, followers);
             return Err(failed);
         }
     };
     if !ran {
-        return turn_whole(host, followers, pid);
+        forget(host, followers);
+        return Ok(());
     }
     followers.learn(last, pid);
     Ok(())

@@ -50,9 +50,11 @@ pub(crate) fn make_turns(kernel: &mut Kernel, turns: u32) -> bool {
     true
 }
 
-/// How many turns in a row process 1 had in Run.
-pub(crate) fn run(kernel: &mut Kernel, limit: u64) -> Option<u64> {
-    kernel.run(1, limit).ok()
+/// How many turns in a row process 1 had.
+pub(crate) fn advance(kernel: &mut Kernel, limit: u64) -> Option<u64> {
+    let mut item = None;
+    let advanced = kernel.advance(1, limit, &mut item).ok()?;
+    Some(advanced.turns)
 }
 
 pub(crate) fn mode(kernel: &Kernel, pid: u32) -> Option<Mode> {

@@ -12,7 +12,7 @@ use std::test::Fail;
 #[derive(Clone, Copy)]
 enum Call {
     Turns(u32),
-    Run(u64),
+    Advance(u64),
     JoinSegv,
     JoinKill,
     JoinNone,
@@ -73,7 +73,7 @@ type Row = (Call, Answer);
 
 /// The first program is one page, and the stack goes on with the page of rt_sigreturn. The word of a process is there
 /// with the Exit in the log, and stays once process 1, who has no parent, has left the table.
-static TURNS: [Row; 87] = [
+static TURNS: [Row; 85] = [
     (Call::Mode(1), Answer::Mode(Some(Mode::Born))),
     (Call::Mode(2), Answer::Mode(None)),
     (Call::IsAble, IS),
@@ -83,7 +83,6 @@ static TURNS: [Row; 87] = [
     (Call::NextAble(1), Answer::Pid(Some(1))),
     (Call::NextPid, Answer::Pid(Some(2))),
     (Call::Ended, Answer::Ended(0, None)),
-    (Call::Run(5), Answer::Count(0)),
     (Call::Turns(1), IS),
     (Call::Mode(1), Answer::Mode(Some(Mode::Run))),
     (Call::Mode(2), Answer::Mode(None)),
@@ -101,7 +100,6 @@ static TURNS: [Row; 87] = [
     (Call::Peek(1, 0x1_1000, 9), Answer::Bytes(Some((0, [0; 5])))),
     (Call::Peek(1, 0x1_0000, 0), Answer::Bytes(Some((0, [0; 5])))),
     (Call::Peek(2, 0x1_0000, 4), Answer::Bytes(None)),
-    (Call::Run(5), Answer::Count(0)),
     (Call::Turns(1), IS),
     (Call::Mode(1), Answer::Mode(Some(Mode::Entered))),
     (Call::Mode(2), Answer::Mode(None)),
@@ -176,30 +174,20 @@ static TURNS: [Row; 87] = [
 ];
 
 /// Turns in a row: two instructions stand between the first program's calls.
-static ONE_BY_ONE: [Row; 9] = [
+static ONE_BY_ONE: [Row; 7] = [
     (Call::Turns(6), IS),
-    (Call::Run(0), Answer::Count(0)),
-    (Call::Run(1), Answer::Count(1)),
+    (Call::Advance(1), Answer::Count(1)),
     (Call::Mode(1), Answer::Mode(Some(Mode::Run))),
-    (Call::Run(9), Answer::Count(1)),
+    (Call::Turns(1), IS),
     (Call::Mode(1), Answer::Mode(Some(Mode::Run))),
     (Call::Turns(1), IS),
     (Call::Mode(1), Answer::Mode(Some(Mode::Entered))),
-    (Call::Run(9), Answer::Count(0)),
 ];
 
 static BY_TWO: [Row; 3] = [
     (Call::Turns(6), IS),
-    (Call::Run(2), Answer::Count(2)),
+    (Call::Advance(2), Answer::Count(2)),
     (Call::Mode(1), Answer::Mode(Some(Mode::Run))),
-];
-
-static BY_NINE: [Row; 5] = [
-    (Call::Turns(6), IS),
-    (Call::Run(9), Answer::Count(2)),
-    (Call::Mode(1), Answer::Mode(Some(Mode::Run))),
-    (Call::Turns(4), IS),
-    (Call::Run(9), Answer::Count(0)),
 ];
 
 static SET_AT_BIRTH: [Row; 2] = [(Call::SetRegisters(1), IS), (Call::Registers, SET)];
@@ -335,7 +323,7 @@ fn ended(kernel: &Kernel) -> Result<Answer, AllocError> {
 fn changed(kernel: &mut Kernel, call: Call) -> Answer {
     match call {
         Call::Turns(turns) => Answer::Is(kernels::make_turns(kernel, turns)),
-        Call::Run(limit) => match kernels::run(kernel, limit) {
+        Call::Advance(limit) => match kernels::advance(kernel, limit) {
             Some(turns) => Answer::Count(turns),
             None => Answer::Nothing,
         },
@@ -392,7 +380,6 @@ fn scripts(rt: HostRuntime) -> Result<(), Fail> {
         TURNS.as_slice(),
         ONE_BY_ONE.as_slice(),
         BY_TWO.as_slice(),
-        BY_NINE.as_slice(),
         SET_AT_BIRTH.as_slice(),
         SET_LATER.as_slice(),
         SET_IN_RUN.as_slice(),

@@ -26,6 +26,9 @@ use Rattle.lx_files.specs.Boots.{tree_of}
 abbrev pub first_entry : Entry
 first_entry = record { life = Alive; news = None; parent = 0; directory = []; signals = no_signals }
 
+abbrev pub first_entries : FinMap nat_cmp Entry
+first_entries = maps.insert maps.empty 1 first_entry
+
 -- what is read, and what is written
 abbrev pub reads : Object → Description
 reads object = record { object = object; offset = 0; may_read = true; may_write = false; appends = false }
@@ -45,7 +48,7 @@ first_shared limits files input = record {
   fds = first_fds;
   input = input;
   console = [];
-  entries = maps.insert maps.empty 1 first_entry;
+  entries = first_entries;
   ended = maps.empty;
 }
 

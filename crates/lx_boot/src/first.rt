@@ -2,7 +2,7 @@
 
 ghost use Rattle.std.specs.Prelude.{◌≡◌, ◌≤◌, IfOk, IsTrue};
 ghost use Rattle.lx_abi.specs.Limits.{are_limits};
-ghost use Rattle.lx_boot.specs.First.{first_entry as entry_of_first, first_fds as fds_at_first, reads, writes, first_shared as shared_at_first, first_tasks as tasks_at_first};
+ghost use Rattle.lx_boot.specs.First.{first_entry as entry_of_first, first_entries as entries_at_first, first_fds as fds_at_first, reads, writes, first_shared as shared_at_first, first_tasks as tasks_at_first};
 ghost use Rattle.lx_exec.specs.Programs.{start_size};
 ghost use Rattle.lx_abi.specs.Limits.{start_limit};
 
@@ -68,6 +68,15 @@ fn first_fds(alloc: Global) -> Result<FdTable, AllocError>
     Ok(fds)
 }
 
+/// Process 1 alone is there.
+fn first_entries(alloc: Global) -> Result<Table, AllocError>
+    ensures { IfOk result (λ entries. entries ≡ entries_at_first) }
+{
+    let mut entries = Table::new(alloc);
+    entries.insert(1, first_entry(alloc))?;
+    Ok(entries)
+}
+
 /// What processes share at first.
 pub fn first_shared(
     alloc: Global,
@@ -79,9 +88,8 @@ pub fn first_shared(
     ensures { IfOk result (λ s. s ≡ shared_at_first limits files.now input) }
 {
     let tree = plant(alloc, files)?;
+    let entries = first_entries(alloc)?;
     let fds = first_fds(alloc)?;
-    let mut entries = Table::new(alloc);
-    entries.insert(1, first_entry(alloc))?;
     Ok(Shared {
         limits: ProcessLimits::new(limits),
         tree,

@@ -2,3 +2,4 @@ pub mod Lengths
 pub mod BlockingLaws
 pub mod FileBlocking
 pub mod Opening
+pub mod FileAnswers

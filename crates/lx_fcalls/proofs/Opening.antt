@@ -1,5 +1,5 @@
 -- A descriptor that is free stays so while another is opened.
-use Rattle.std.proofs.Common.{◌≡◌, ℕ, false, cond, Some, None, ap, ◌∙◌, arith}
+use Rattle.std.proofs.Common.{◌≡◌, ℕ, false, cond, Some, ap, ◌∙◌, arith}
 use Rattle.std.proofs.lemmas.Bool.Decides.{nat_tests}
 use Rattle.std.specs.Prelude.{◌==◌}
 use Rattle.std.specs.Ordering.{nat_cmp, eq_by_cmp}

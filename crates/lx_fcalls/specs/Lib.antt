@@ -19,3 +19,4 @@ pub mod Unlinkat
 pub mod Write
 pub mod Calls
 pub mod Blocking
+pub mod Errors

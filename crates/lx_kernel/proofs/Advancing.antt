@@ -1,7 +1,8 @@
 -- Turns of one process in a row that are made in place.
-use Rattle.std.proofs.Common.{◌≡◌, ◌⊎◌, ℕ, zero, suc, true, false, not, ◌++◌, Option, Some, None, refl, ap, sym, subst, ◌∙◌, inl, inr, unwrap_or}
-use Rattle.std.specs.Prelude.{◌||◌, is_some}
-use Rattle.std.specs.Option.{option_to_list}
+use Rattle.std.proofs.Common.{◌≡◌, ◌⊎◌, ◌<◌, ◌≤◌, ℕ, zero, suc, true, false, not, ◌++◌, Option, Some, None, refl, ap, sym, subst, ◌∙◌, inl, inr, unwrap_or, arith}
+use Rattle.std.specs.Prelude.{◌||◌, ◌&&◌, Bool, is_some}
+use Rattle.std.specs.Int.{cast_unsigned, w64}
+use Rattle.std.specs.Option.{option_map, option_to_list}
 use Rattle.std.specs.FinMap as maps
 use Rattle.std.proofs.lemmas.List.{append-nil}
 use mathlib.Core.Path.{fun_ext}
@@ -17,7 +18,7 @@ use Rattle.lx_model.specs.Events.{by_pid}
 use Rattle.lx_model.specs.Finite.{at, item_of, placed, bore}
 use Rattle.lx_model.specs.Kernel.{traces, choice_at}
 use Rattle.lx_model.specs.Machine.{Ran, Goes, Calls, call_of}
-use Rattle.lx_model.specs.Turn.{Out, turn, killed_or, lives, stepped, stage_mode}
+use Rattle.lx_model.specs.Turn.{Out, turn, killed_or, lives, joins, chosen, stepped, stage_mode}
 use Rattle.lx_model.specs.declared.event.PtraceEvent.{PtraceEvent}
 use Rattle.lx_model.specs.declared.event.PtraceEvent.TheVariants.{Plain}
 use Rattle.lx_model.specs.declared.stage.Stage.{Stage}
@@ -25,6 +26,7 @@ use Rattle.lx_model.specs.declared.stage.Stage.TheVariants as stages
 use Rattle.lx_model.specs.declared.stage.Task.{Task}
 use Rattle.lx_model.specs.declared.stage.Task.TheVariants.{Alive, Gone}
 use Rattle.lx_proc.specs.Registers.{regs}
+use Rattle.lx_proc.specs.declared.state.Entry.{Entry}
 use Rattle.lx_proc.specs.declared.state.Shared.{Shared}
 use Rattle.lx_proc.specs.declared.state.UserState.{UserState}
 use Rattle.lx_turn.specs.Calls.{does}
@@ -34,14 +36,11 @@ use Rattle.lx_turn.specs.Modes.{task_mode}
 use Rattle.lx_turn.specs.Reactions.{resumed, runs, next_of, is_killed}
 use Rattle.lx_turn.specs.Turned.{Turned, turned, goes_on}
 use Rattle.lx_turn.specs.declared.injection.Injection.{Injection}
-use Rattle.lx_kernel.specs.Advances.{is_under_way, GoesOn, IsQuiet, Quietly, IsTurn, Leads, Fits, left, with_log, PartLeads, IsDone, RunLeads, IsAtCall}
+use Rattle.lx_kernel.specs.Advances.{is_under_way, GoesOn, IsQuiet, Quietly, IsTurn, Leads, Fits, left, with_log, with_tasks, PartLeads, IsDone, IsGoneThrough, IsEntered, RunLeads, Follows, IsAtCall}
 use Rattle.lx_kernel.specs.Blocking.{can_turn}
-use Rattle.lx_kernel.specs.Bursts.{Follows, with_tasks}
-use Rattle.lx_kernel.specs.Moves.{IsMove}
 use Rattle.lx_kernel.specs.Runs.{Run, turn_in, after_turn}
 use Rattle.lx_kernel.specs.Scheduling.{Tasks}
 use Rattle.lx_kernel.specs.Sleeping.{IsKept}
-use Rattle.lx_kernel.proofs.InPlace.{entered}
 use Rattle.lx_kernel.proofs.Moving.{able_where_turns}
 use Rattle.lx_kernel.proofs.OwnCalls.{not_waiting}
 use Rattle.lx_kernel.proofs.Placed.{get_put, put_same, put_twice}
@@ -50,6 +49,20 @@ use Rattle.lx_kernel.proofs.Waiting.{does_waits}
 pub nothing : {X : Type 0} (o : Option X) → is_some o ≡ false → o ≡ None
 nothing None e = refl
 nothing (Some x) e = absurd (cc e)
+
+-- no signal comes first
+calm_by : (killed : Bool) (next : Option Signal) → (not killed && not (is_some next)) ≡ true → (killed ≡ false) × (next ≡ None)
+calm_by true next e = absurd (cc e)
+calm_by false None e = (refl, refl)
+calm_by false (Some signal) e = absurd (cc e)
+
+pub undisturbed : (e : Option Entry) → (not (is_killed e) && not (is_some (next_of e))) ≡ true → (is_killed e ≡ false) × (next_of e ≡ None)
+undisturbed e h = calm_by (is_killed e) (next_of e) h
+
+-- a call that its script leaves alone
+left_alone : (c : Choice) (s : Shared) (child p : ℕ) (b : UserState) (call : Call) → call ≡ call_of (regs b) → c.result ≡ None → c.signal ≡ None
+    → turned (lives linux c s child p b (stages.Entered None)) ≡ goes_on s b (stages.Doing call) None
+left_alone c s child p b call is result signal = λ i. goes_on (joins linux s p (signal i)) b (chosen (sym is i) (option_map (λ z. cast_unsigned w64 z) (result i))) None
 
 -- from where a process only goes on into Run
 abbrev Starts : Stage → Type 0
@@ -62,6 +75,12 @@ leads_more k p zero item event k1 k' is quiet (none, plain, same) =
     (k, refl, record { item_is = none ∙ sym quiet.item_is; event_is = plain ∙ sym (ap (by_pid k.running.child) quiet.event_is); turned = same ∙ sym is })
 leads_more k p (suc n) item event k1 k' is quiet (before, quietly, last) =
     (before, (quiet, subst (λ x. Quietly x p n before) (sym is) quietly), last)
+
+-- a row of one
+pub one_turn : (n : ℕ) (k k' : Run) (p : ℕ) (item : Option Item) (event : PtraceEvent ℕ) → 0 < n → n ≤ 1 → Leads k p n item event k' → IsTurn k p item event k'
+one_turn zero k k' p item event some l leads = absurd (omega (arith, some))
+one_turn (suc zero) k k' p item event some l leads = subst (λ b. IsTurn b p item event k') leads.1 leads.2
+one_turn (suc (suc n)) k k' p item event some l leads = absurd (omega (arith, l))
 
 -- the later part stays
 left_twice : (k : Run) (p : ℕ) (x y : Task UserState) (item : Option Item) → left (left k p x None) p y item ≡ left k p y item
@@ -244,15 +263,45 @@ module _ (t : Injection) (s : Shared) (child p : ℕ) where
     unfolding can_turn
     can_act b call x = refl
 
-    pub through_call : (b c : UserState) (call : Call) (choice : Choice) (x : ℕ) → call ≡ call_of (regs b) → choice ≡ choice_of_call t p b → choice.result ≡ None → choice.signal ≡ None → IsDone s child p call b c x
-        → PartLeads t s child p 3 (Alive b (stages.Entered None)) (Some (items.Done p call x false)) (Alive c stages.Finished)
-    through_call b c call choice x is chosen result signal done =
-        let enters : IsMove t p b (stages.Entered None) (stages.Doing call) None = entered t p b call choice is chosen result signal in
-        part_more 2 (Alive b (stages.Entered None)) b (stages.Doing call) (Some (items.Done p call x false)) (Alive c stages.Finished)
-        (ap turned (lives_is b (stages.Entered None)) ∙ enters.turns s child) (can_do b c call x done) refl
-        (part_more 1 (Alive b (stages.Doing call)) c (stages.Acted call x false) (Some (items.Done p call x false)) (Alive c stages.Finished)
-        (ap turned (lives_is b (stages.Doing call) ∙ done)) (can_act c call x) refl
-        (part_one (Alive c (stages.Acted call x false)) c stages.Finished (Some (items.Done p call x false)) (ap turned (lives_is c (stages.Acted call x false)))))
+    module _ (b : UserState) (call : Call) (choice : Choice) (is : call ≡ call_of (regs b)) (known : choice ≡ choice_of_call t p b) (result : choice.result ≡ None) (signal : choice.signal ≡ None) where
+      enters : turned (part_turn (Alive b (stages.Entered None))) ≡ goes_on s b (stages.Doing call) None
+      enters =
+          ap turned (lives_is b (stages.Entered None))
+          ∙ left_alone (choice_of_call t p b) s child p b call is (ap (λ (x : Choice). x.result) (sym known) ∙ result) (ap (λ (x : Choice). x.signal) (sym known) ∙ signal)
+
+      entered_leads : (n : ℕ) (stage : Stage) → IsEntered call n (stages.Entered None) stage → PartLeads t s child p n (Alive b (stages.Entered None)) None (Alive b stage)
+      entered_leads n stage (inl (one, to)) =
+          subst (λ x. PartLeads t s child p n (Alive b (stages.Entered None)) None (Alive b x)) (sym to)
+          (subst (λ n. PartLeads t s child p n (Alive b (stages.Entered None)) None (Alive b (stages.Doing call))) (sym one)
+          (part_one (Alive b (stages.Entered None)) b (stages.Doing call) None enters))
+      entered_leads n stage (inr (none, to)) =
+          subst (λ x. PartLeads t s child p n (Alive b (stages.Entered None)) None (Alive b x)) (sym to)
+          (subst (λ n. PartLeads t s child p n (Alive b (stages.Entered None)) None (Alive b (stages.Entered None))) (sym none) (part_none (Alive b (stages.Entered None))))
+
+      pub enter_leads : (n : ℕ) (from stage : Stage) (item : Option Item) → from ≡ stages.Entered None → item ≡ None → IsEntered call n from stage → PartLeads t s child p n (Alive b from) item (Alive b stage)
+      enter_leads n from stage item at none entered =
+          subst (λ (x : Stage). PartLeads t s child p n (Alive b x) item (Alive b stage)) (sym at)
+          (subst (λ o. PartLeads t s child p n (Alive b (stages.Entered None)) o (Alive b stage)) (sym none)
+          (entered_leads n stage (subst (λ x. IsEntered call n x stage) at entered)))
+
+      done_leads : (c : UserState) (x : ℕ) → IsDone s child p call b c x → PartLeads t s child p 3 (Alive b (stages.Entered None)) (Some (items.Done p call x false)) (Alive c stages.Finished)
+      done_leads c x done =
+          part_more 2 (Alive b (stages.Entered None)) b (stages.Doing call) (Some (items.Done p call x false)) (Alive c stages.Finished) enters (can_do b c call x done) refl
+          (part_more 1 (Alive b (stages.Doing call)) c (stages.Acted call x false) (Some (items.Done p call x false)) (Alive c stages.Finished)
+          (ap turned (lives_is b (stages.Doing call) ∙ done)) (can_act c call x) refl
+          (part_one (Alive c (stages.Acted call x false)) c stages.Finished (Some (items.Done p call x false)) (ap turned (lives_is c (stages.Acted call x false)))))
+
+      pub through_call : (c : UserState) (from stage : Stage) (item : Option Item) → from ≡ stages.Entered None → IsGoneThrough s child p call b c stage item → PartLeads t s child p 3 (Alive b from) item (Alive c stage)
+      through_call c from stage item at (x, done, to, logged) =
+          subst (λ (y : Stage). PartLeads t s child p 3 (Alive b y) item (Alive c stage)) (sym at)
+          (subst (λ (y : Stage). PartLeads t s child p 3 (Alive b (stages.Entered None)) item (Alive c y)) (sym to)
+          (subst (λ o. PartLeads t s child p 3 (Alive b (stages.Entered None)) o (Alive c stages.Finished)) (sym logged) (done_leads c x done)))
+
+    -- the end of a call
+    pub end_leads : (b : UserState) (from : Stage) (call : Call) (x : ℕ) (replaced : Bool) → from ≡ stages.Acted call x replaced → PartLeads t s child p 1 (Alive b from) (Some (items.Done p call x replaced)) (Alive b stages.Finished)
+    end_leads b from call x replaced at =
+        subst (λ (y : Stage). PartLeads t s child p 1 (Alive b y) (Some (items.Done p call x replaced)) (Alive b stages.Finished)) (sym at)
+        (part_one (Alive b (stages.Acted call x replaced)) b stages.Finished (Some (items.Done p call x replaced)) (ap turned (lives_is b (stages.Acted call x replaced))))
 
 -- Who goes on in place was neither blocked nor stopped.
 
@@ -278,6 +327,10 @@ awake_woken s p b task = (λ e. absurd (cc e), λ e. absurd (cc e))
 pub awake_entered : (joined : Option Signal) → Awake (stages.Entered joined)
 unfolding can_turn
 awake_entered joined s p b task = (λ e. absurd (cc e), λ e. absurd (cc e))
+
+pub awake_acted : (call : Call) (x : ℕ) (replaced : Bool) → Awake (stages.Acted call x replaced)
+unfolding can_turn
+awake_acted call x replaced s p b task = (λ e. absurd (cc e), λ e. absurd (cc e))
 
 pub awake_start : (stage : Stage) → Starts stage → Awake stage
 awake_start stage (inl is) = subst Awake (sym is) awake_born

@@ -1,20 +1,16 @@
 -- Turns that leave each other process blocked that was, but for one that is told.
-use Rattle.std.proofs.Common.{◌≡◌, ℕ, Bool, true, false, cond, List, Option, Some, None, refl, ap, sym, subst, ◌∙◌, arith}
-use Rattle.std.specs.Prelude.{◌==◌, ◌||◌, ◌*◌, is_some, is_none, not}
+use Rattle.std.proofs.Common.{◌≡◌, ℕ, Bool, true, false, cond, Option, Some, None, refl, ap, sym, subst, ◌∙◌, arith}
+use Rattle.std.specs.Prelude.{◌==◌, ◌||◌, is_some, is_none}
 use Rattle.std.specs.Option.{unwrap_or}
 use Rattle.std.specs.FinMap as maps
-use Rattle.std.specs.Int.{w32, to_le_bytes}
 use Rattle.std.specs.declared.result.Result.TheVariants.{Ok, Err}
 use Rattle.std.proofs.lemmas.Bool.Decides.{nat_tests}
 use Rattle.rv_hart.specs.declared.outcome.Step.{Step}
 use Rattle.rv_hart.specs.declared.outcome.Step.TheVariants as step
 use Rattle.rv_hart.specs.Steps.{Outcome, stepped as instruction}
-use Rattle.rv_mem.specs.Mapping.{mapped, limit_fault, highest_free}
-use Rattle.rv_mem.specs.Memory.{first_fault, written}
-use Rattle.rv_mem.specs.declared.rights.Access.TheVariants as access
 use Rattle.lx_abi.specs.Calls.{calls, has_effects}
 use Rattle.lx_abi.specs.Effects as effect
-use Rattle.lx_abi.specs.Errnos.{eagain, echild, einval, efault, enomem, enosys, esrch}
+use Rattle.lx_abi.specs.Errnos.{enosys}
 use Rattle.lx_abi.specs.declared.log.Call.{Call}
 use Rattle.lx_abi.specs.declared.log.Cause.{Cause}
 use Rattle.lx_abi.specs.declared.log.Item.{Item}
@@ -30,7 +26,7 @@ use Rattle.lx_model.specs.declared.stage.Stage.TheVariants.{Born, Run, Faulting,
 use Rattle.lx_model.specs.declared.stage.Task.{Task}
 use Rattle.lx_model.specs.declared.stage.Task.TheVariants.{Alive, Dying, Gone}
 use Rattle.lx_sig.specs.Calls.{Outcome as SignalOutcome}
-use Rattle.lx_sig.specs.Frames.{return_fault, frame_fault}
+use Rattle.lx_sig.specs.Frames.{frame_fault}
 use Rattle.lx_sig.specs.Kill.{aim}
 use Rattle.lx_sig.specs.declared.kill.Aim.{Aim}
 use Rattle.lx_sig.specs.Reactions.{reaction as reaction_to}
@@ -45,29 +41,19 @@ use Rattle.lx_open.specs.Releases.{AreEndsKept}
 use Rattle.lx_proc.specs.declared.state.Entry.{Entry}
 use Rattle.lx_proc.specs.declared.state.Shared.{Shared}
 use Rattle.lx_proc.specs.declared.state.UserState.{UserState}
-use Rattle.lx_proc.specs.State.{Entries, changed, changed_entry, with_entries, with_memory, with_news, with_signals}
+use Rattle.lx_proc.specs.State.{Entries, changed, changed_entry, with_entries, with_news, with_signals}
 use Rattle.lx_proc.specs.Families.{is_zombie}
-use Rattle.lx_proc.specs.Answers.{Answers, argument, low_argument, unless, given, gives}
-use Rattle.lx_exec.specs.Pages.{pages_for, rights_for}
+use Rattle.lx_proc.specs.Answers.{Answers, argument, low_argument}
 use Rattle.lx_fcalls.specs.Calls.{file_call}
-use Rattle.lx_pcalls.specs.Brk.{brk}
 use Rattle.lx_pcalls.specs.Calls.{process_call}
-use Rattle.lx_pcalls.specs.Clone.{clone, bears, child_entry, child_user, fork_flags, has_room}
+use Rattle.lx_pcalls.specs.Clone.{child_entry, child_user}
 use Rattle.lx_pcalls.specs.Ends.{dies}
-use Rattle.lx_pcalls.specs.Getpid.{getpid}
-use Rattle.lx_pcalls.specs.Getppid.{getppid}
 use Rattle.lx_pcalls.specs.Interruption.{is_interrupted, interruptible, blocks_or_returns}
-use Rattle.lx_pcalls.specs.Kill.{kill, kills, sends, sent_to}
-use Rattle.lx_pcalls.specs.Mmap.{mmap, may_map, maps_at, map_low, map_high}
-use Rattle.lx_pcalls.specs.Munmap.{munmap, may_unmap}
-use Rattle.lx_pcalls.specs.RtSigaction.{rt_sigaction}
-use Rattle.lx_pcalls.specs.RtSigprocmask.{rt_sigprocmask}
-use Rattle.lx_pcalls.specs.RtSigreturn.{rt_sigreturn}
-use Rattle.lx_pcalls.specs.SchedYield.{sched_yield}
+use Rattle.lx_pcalls.specs.Kill.{sends, sent_to}
 use Rattle.lx_pcalls.specs.Signals.{leaves}
 use Rattle.lx_pcalls.specs.Stops.{is_continued_at, stopped}
 use Rattle.lx_pcalls.specs.Taking.{takes, takes_at, reacts, segv_word}
-use Rattle.lx_pcalls.specs.Wait4.{wait4, waits, reaps, told_child, told_entry, may_wait, no_hang, first_child, word_in}
+use Rattle.lx_pcalls.specs.Wait4.{told_child, told_entry, first_child}
 use Rattle.lx_turn.specs.Calls.{does, called}
 use Rattle.lx_turn.specs.Linux.{linux}
 use Rattle.lx_turn.specs.Reactions.{next_of, runs, resumed, ran_by, is_killed}
@@ -76,6 +62,7 @@ use Rattle.lx_kernel.specs.Waking.{is_calm_number, is_calm_task, calm_after, IsC
 use Rattle.lx_turn.proofs.CallsFit.{reaction_stops}
 use Rattle.lx_kernel.proofs.Awaiting.{awaits_on, signalled_spared, twice_spared, killed_spared, reaped_spared, born_spared}
 use Rattle.lx_kernel.proofs.Blocked.{is_quiet, StaysQuiet, both, blocked_on, waits_same, waits_alike, inherited_alike, entry_other, quiet_same, quiet_left}
+use Rattle.lx_pcalls.proofs.ProcessAnswers.{OfProcesses, processes_hold}
 use Rattle.lx_kernel.proofs.Ending.{end_calm, burial_calm, stop_calm, wake_calm}
 use Rattle.lx_kernel.proofs.Placed.{either, get_put, other_put}
 
@@ -143,7 +130,7 @@ module _ (s : Shared) (child p told : ℕ) where
   sends_calm (Some signal) event = sent_calm signal event
 
   -- a child that was told of leaves the table, or has no news
-  told_calm : (wanted options n : ℕ) (event : PtraceEvent UserState) → first_child s.entries p wanted (Some options) ≡ Some n → Calm (told_child s n) event
+  pub told_calm : (wanted options n : ℕ) (event : PtraceEvent UserState) → first_child s.entries p wanted (Some options) ≡ Some n → Calm (told_child s n) event
   told_calm wanted options n event found = λ q up ne still unborn task h.
       let t : Shared = told_child s n in
       blocked_on s t q (waits_same s t q refl)
@@ -172,88 +159,9 @@ module _ (s : Shared) (child p told : ℕ) where
   AnswerCalms Blocks = Unit {0}
   AnswerCalms (Ends w) = Unit {0}
 
-  either_calm : (test : Bool) (x y : Answers) → AnswerCalms x → AnswerCalms y → AnswerCalms (cond test x y)
-  either_calm true x y h g = h
-  either_calm false x y h g = g
-
-  unless_calm : (test : Bool) (e : ℕ) (a : Answers) → AnswerCalms a → AnswerCalms (unless test e a)
-  unless_calm test e a h = either_calm test a (Refused e) h tt
-
-  given_calm : {A : Type 0} (o : Option A) (e : ℕ) (f : A → Answers) → ((x : A) → AnswerCalms (f x)) → AnswerCalms (given o e f)
-  given_calm None e f h = tt
-  given_calm (Some x) e f h = h x
-
-  gives_calm : (t : Shared) (b : UserState) (at : ℕ) (bytes : List ℕ) (result : ℕ) → Calm t Plain → AnswerCalms (gives t b at bytes result)
-  gives_calm t b at bytes result h = either_calm (is_some (first_fault access.Write b.memory at _)) (Refused efault) (Returns t (with_memory b (written b.memory at bytes)) result) tt h
-
-  leaves_calm : (b : UserState) (o : SignalOutcome) → AnswerCalms (leaves s p b o)
+  pub leaves_calm : (b : UserState) (o : SignalOutcome) → AnswerCalms (leaves s p b o)
   leaves_calm b (Err e) = tt
   leaves_calm b (Ok c) = entry_calm _ Plain
-
-  module _ (call : Call) (b : UserState) where
-    pub sigaction_calm : AnswerCalms (rt_sigaction s p call b)
-    sigaction_calm = given_calm (maps.get s.entries p) esrch _ (λ (e : Entry). leaves_calm b (sigaction e.signals b.memory call))
-
-    pub sigprocmask_calm : AnswerCalms (rt_sigprocmask s p call b)
-    sigprocmask_calm = given_calm (maps.get s.entries p) esrch _ (λ (e : Entry). leaves_calm b (sigprocmask e.signals b.memory call))
-
-    pub sigreturn_calm : AnswerCalms (rt_sigreturn s p b)
-    sigreturn_calm = given_calm (maps.get s.entries p) esrch _ (λ (e : Entry). unless_calm (not (is_some (return_fault b.memory b.hart))) efault _ (entry_calm _ Plain))
-
-    pub getppid_calm : AnswerCalms (getppid s p b)
-    getppid_calm = given_calm (maps.get s.entries p) esrch _ (λ e. same_calm Plain)
-
-    pub brk_calm : AnswerCalms (brk s call b)
-    unfolding brk
-    brk_calm = same_calm Plain
-
-    pub munmap_calm : AnswerCalms (munmap s call b)
-    unfolding munmap
-    munmap_calm = unless_calm (may_unmap (argument call 0) (argument call 1)) einval _ (same_calm Plain)
-
-    pub mmap_calm : AnswerCalms (mmap s call b)
-    unfolding mmap
-    mmap_calm =
-        let pages = pages_for (argument call 1) in
-        let rights = rights_for (argument call 2) in
-        unless_calm (may_map call) einval _
-        (given_calm (highest_free b.memory pages map_low map_high) enomem (maps_at s b pages rights)
-        (λ a. unless_calm (is_none (limit_fault (mapped b.memory a (4096 * pages) rights))) enomem _ (same_calm Plain)))
-
-    clone_calm : maps.get s.entries child ≡ None → AnswerCalms (clone s child p call b)
-    unfolding clone
-    clone_calm free =
-        unless_calm (argument call 0 == fork_flags) einval _
-        (given_calm (maps.get s.entries p) esrch (bears s child p call b)
-        (λ e. unless_calm (has_room s child) eagain _ (born_calm (child_entry e p) (child_user b (argument call 1)) refl free)))
-
-    abbrev tells : Option ℕ
-    tells = first_child s.entries p (low_argument call 0) (Some (argument call 2))
-
-    reaps_calm : (n word : ℕ) → tells ≡ Some n → AnswerCalms (reaps s b call n word)
-    reaps_calm n word found =
-        let left : Shared = told_child s n in
-        let calm = told_calm (low_argument call 0) (argument call 2) n Plain found in
-        either_calm (argument call 1 == 0) (Returns left b n) (gives left b (argument call 1) (to_le_bytes w32 word) n) calm
-        (gives_calm left b (argument call 1) (to_le_bytes w32 word) n calm)
-
-    waits_calm : (o : Option ℕ) → tells ≡ o → AnswerCalms (waits s b call o)
-    waits_calm None found = either_calm (no_hang call) (Returns s b 0) Blocks (same_calm Plain) tt
-    waits_calm (Some n) found = given_calm (word_in (argument call 2) (maps.get s.entries n)) echild (reaps s b call n) (λ word. reaps_calm n word found)
-
-    pub wait4_calm : AnswerCalms (wait4 s p call b)
-    unfolding wait4
-    wait4_calm =
-        unless_calm (may_wait call) einval _
-        (unless_calm (is_some (first_child s.entries p (low_argument call 0) None)) echild _
-        (waits_calm tells refl))
-
-    -- by number
-
-    calm_at : (n : ℕ) (a : Answers) → call.number ≡ n → file_call s p call b ≡ None → process_call s child p call b ≡ Some a → AnswerCalms a → AnswerCalms (called s child p call b)
-    calm_at n a is no_file answer calm =
-        subst (λ o. AnswerCalms (unwrap_or o (unwrap_or (process_call s child p call b) (Refused enosys)))) (sym no_file)
-        (subst (λ o. AnswerCalms (unwrap_or o (Refused enosys))) (sym answer) calm)
 
   blocked_calm : (b : UserState) (interrupted : Bool) → AnswerCalms (blocks_or_returns s b interrupted)
   blocked_calm b true = same_calm Plain
@@ -276,105 +184,81 @@ pub numbered : (a b : ℕ) → (a == b) ≡ true → a ≡ b
 numbered a b h = grind (arith, nat_tests)
 
 module _ (s : Shared) (child p : ℕ) (call : Call) (b : UserState) where
-  -- a kill is to whom it is sent
-  kills_calm : (o : Option Aim) → AnswerCalms s child p (aimed_at p o) (given o einval (kills s p b))
-  kills_calm None = tt
-  kills_calm (Some a) = given_calm s child p a.pid (maps.get s.entries a.pid) esrch _ (λ e. sends_calm s child p a.pid a.signal Plain)
-
-  pub kill_calm : AnswerCalms s child p (aimed_at p (aim call)) (kill s p call b)
-  unfolding kill
-  kill_calm = kills_calm (aim call)
+  abbrev N : ℕ
+  N = call.number
 
   abbrev told : ℕ
   told = told_by_call p call
 
-  abbrev CalledCalm : Type 0
-  CalledCalm = AnswerCalms s child p told (called s child p call b)
-
-  told_is : call.number ≡ 129 → told ≡ aimed_at p (aim call)
+  -- a kill is to whom it is sent
+  told_is : N ≡ 129 → told ≡ aimed_at p (aim call)
   told_is h = rw h refl
 
-  kills_one : call.number ≡ 129 → CalledCalm
-  unfolding file_call process_call
-  kills_one h = calm_at s child p told call b 129 (kill s p call b) h (rw h refl) (rw h refl)
-      (subst (λ n. AnswerCalms s child p n (kill s p call b)) (sym (told_is h)) kill_calm)
+  pub sends_told : (a : Aim) → (N == 129) ≡ true → aim call ≡ Some a → Calms s (sends s p a.pid a.signal) child p told Plain
+  sends_told a k is = subst (λ n. Calms s (sends s p a.pid a.signal) child p n Plain) (sym (told_is (numbered N 129 k) ∙ ap (aimed_at p) is)) (sends_calm s child p a.pid a.signal Plain)
 
-  yields : call.number ≡ 124 → CalledCalm
-  unfolding file_call process_call
-  yields h = calm_at s child p told call b 124 (sched_yield s b) h (rw h refl) (rw h refl) (same_calm s child p told Plain)
+  -- by number
 
-  acts : call.number ≡ 134 → CalledCalm
-  unfolding file_call process_call
-  acts h = calm_at s child p told call b 134 (rt_sigaction s p call b) h (rw h refl) (rw h refl) (sigaction_calm s child p told call b)
-
-  masks : call.number ≡ 135 → CalledCalm
-  unfolding file_call process_call
-  masks h = calm_at s child p told call b 135 (rt_sigprocmask s p call b) h (rw h refl) (rw h refl) (sigprocmask_calm s child p told call b)
-
-  returns : call.number ≡ 139 → CalledCalm
-  unfolding file_call process_call
-  returns h = calm_at s child p told call b 139 (rt_sigreturn s p b) h (rw h refl) (rw h refl) (sigreturn_calm s child p told call b)
-
-  names_itself : call.number ≡ 172 → CalledCalm
-  unfolding file_call process_call
-  names_itself h = calm_at s child p told call b 172 (getpid s p b) h (rw h refl) (rw h refl) (same_calm s child p told Plain)
-
-  names_parent : call.number ≡ 173 → CalledCalm
-  unfolding file_call process_call
-  names_parent h = calm_at s child p told call b 173 (getppid s p b) h (rw h refl) (rw h refl) (getppid_calm s child p told call b)
-
-  names_thread : call.number ≡ 178 → CalledCalm
-  unfolding file_call process_call
-  names_thread h = calm_at s child p told call b 178 (getpid s p b) h (rw h refl) (rw h refl) (same_calm s child p told Plain)
-
-  breaks : call.number ≡ 214 → CalledCalm
-  unfolding file_call process_call
-  breaks h = calm_at s child p told call b 214 (brk s call b) h (rw h refl) (rw h refl) (brk_calm s child p told call b)
-
-  unmaps : call.number ≡ 215 → CalledCalm
-  unfolding file_call process_call
-  unmaps h = calm_at s child p told call b 215 (munmap s call b) h (rw h refl) (rw h refl) (munmap_calm s child p told call b)
-
-  clones : call.number ≡ 220 → maps.get s.entries child ≡ None → CalledCalm
-  unfolding file_call process_call
-  clones h free = calm_at s child p told call b 220 (clone s child p call b) h (rw h refl) (rw h refl) (clone_calm s child p told call b free)
-
-  maps_pages : call.number ≡ 222 → CalledCalm
-  unfolding file_call process_call
-  maps_pages h = calm_at s child p told call b 222 (mmap s call b) h (rw h refl) (rw h refl) (mmap_calm s child p told call b)
-
-  awaits : call.number ≡ 260 → CalledCalm
-  unfolding file_call process_call
-  awaits h = calm_at s child p told call b 260 (wait4 s p call b) h (rw h refl) (rw h refl) (wait4_calm s child p told call b)
-
-  abbrev N : ℕ
-  N = call.number
-
-  numbered_calm : has_effects call.number effect.calm ≡ true → CalledCalm
+  free_at : (n : ℕ) → n ≡ 220 → is_calm_number s child n ≡ true → is_none (maps.get s.entries child) ≡ true
   unfolding has_effects calls
-  numbered_calm e =
-      or_else CalledCalm (N == 124) _ e (λ h. yields (numbered N 124 h)) (λ e.
-      or_else CalledCalm (N == 134) _ e (λ h. acts (numbered N 134 h)) (λ e.
-      or_else CalledCalm (N == 135) _ e (λ h. masks (numbered N 135 h)) (λ e.
-      or_else CalledCalm (N == 139) _ e (λ h. returns (numbered N 139 h)) (λ e.
-      or_else CalledCalm (N == 172) _ e (λ h. names_itself (numbered N 172 h)) (λ e.
-      or_else CalledCalm (N == 173) _ e (λ h. names_parent (numbered N 173 h)) (λ e.
-      or_else CalledCalm (N == 178) _ e (λ h. names_thread (numbered N 178 h)) (λ e.
-      or_else CalledCalm (N == 214) _ e (λ h. breaks (numbered N 214 h)) (λ e.
-      or_else CalledCalm (N == 215) _ e (λ h. unmaps (numbered N 215 h)) (λ e.
-      or_else CalledCalm (N == 222) _ e (λ h. maps_pages (numbered N 222 h)) (λ e.
-      or_else CalledCalm (N == 260) _ e (λ h. awaits (numbered N 260 h)) (λ e.
-      absurd (cc e))))))))))))
+  free_at n h e = subst (λ n. is_calm_number s child n ≡ true) h e
+
+  no_program : (n : ℕ) → n ≡ 221 → is_calm_number s child n ≡ true → ⊥
+  unfolding has_effects calls
+  no_program n h e = let never = subst (λ n. is_calm_number s child n ≡ true) h e in cc never
 
   nothing_there : (o : Option Entry) → is_none o ≡ true → o ≡ None
   nothing_there None e = refl
   nothing_there (Some x) e = absurd (cc e)
 
-  called_calm : is_calm_number s child call.number ≡ true → CalledCalm
-  called_calm e = or_else CalledCalm (has_effects N effect.calm) _ e numbered_calm (λ e.
-      or_else CalledCalm (N == 129) _ e (λ h. kills_one (numbered N 129 h))
-      (λ e. let h = both (N == 220) (is_none (maps.get s.entries child)) e in
-      clones (numbered N 220 h.0) (nothing_there (maps.get s.entries child) h.1)))
+  abbrev NoFile : Type 0
+  NoFile = file_call s p call b ≡ None
+
+  no_file : is_calm_number s child N ≡ true → NoFile
+  unfolding has_effects calls file_call
+  no_file e =
+      or_else NoFile (has_effects N effect.calm) _ e
+      (λ e.
+      or_else NoFile (N == 124) _ e (λ h. let is = numbered N 124 h in rw is refl) (λ e.
+      or_else NoFile (N == 134) _ e (λ h. let is = numbered N 134 h in rw is refl) (λ e.
+      or_else NoFile (N == 135) _ e (λ h. let is = numbered N 135 h in rw is refl) (λ e.
+      or_else NoFile (N == 139) _ e (λ h. let is = numbered N 139 h in rw is refl) (λ e.
+      or_else NoFile (N == 172) _ e (λ h. let is = numbered N 172 h in rw is refl) (λ e.
+      or_else NoFile (N == 173) _ e (λ h. let is = numbered N 173 h in rw is refl) (λ e.
+      or_else NoFile (N == 178) _ e (λ h. let is = numbered N 178 h in rw is refl) (λ e.
+      or_else NoFile (N == 214) _ e (λ h. let is = numbered N 214 h in rw is refl) (λ e.
+      or_else NoFile (N == 215) _ e (λ h. let is = numbered N 215 h in rw is refl) (λ e.
+      or_else NoFile (N == 222) _ e (λ h. let is = numbered N 222 h in rw is refl) (λ e.
+      or_else NoFile (N == 260) _ e (λ h. let is = numbered N 260 h in rw is refl) (λ e.
+      absurd (cc e)))))))))))))
+      (λ e. or_else NoFile (N == 129) _ e (λ h. let is = numbered N 129 h in rw is refl)
+      (λ e. let is = numbered N 220 (both (N == 220) (is_none (maps.get s.entries child)) e).0 in rw is refl))
+
+  abbrev CalmIf : Answers → Type 0
+  CalmIf a = is_calm_number s child N ≡ true → AnswerCalms s child p told a
+
+  process_calm : OfProcesses s child p call b CalmIf
+  process_calm = record {
+    refuses = λ n listed e. tt;
+    waits = λ k e. tt;
+    returns = λ x e. same_calm s child p told Plain;
+    loses = λ a n heap x e. same_calm s child p told Plain;
+    gains = λ m heap x fits e. same_calm s child p told Plain;
+    acts = λ own there k e. leaves_calm s child p told b (sigaction own.signals b.memory call);
+    masks = λ own there k e. leaves_calm s child p told b (sigprocmask own.signals b.memory call);
+    restores = λ own there e. entry_calm s child p told _ Plain;
+    sends = λ a k is e. sends_told a k is;
+    tells = λ n found k e. told_calm s child p told (low_argument call 0) (argument call 2) n Plain found;
+    writes = λ n at bytes found k e. told_calm s child p told (low_argument call 0) (argument call 2) n Plain found;
+    bears = λ own there k room e. born_calm s child p told (child_entry own p) (child_user b (argument call 1)) refl (nothing_there (maps.get s.entries child) (free_at N (numbered N 220 k) e));
+    execs = λ content argv env k whole e. absurd (no_program N (numbered N 221 k) e);
+    ends = λ k e. tt;
+  }
+
+  called_calm : CalmIf (called s child p call b)
+  called_calm e =
+      subst (λ o. AnswerCalms s child p told (unwrap_or o (unwrap_or (process_call s child p call b) (Refused enosys)))) (sym (no_file e))
+      (processes_hold s child p call b CalmIf process_calm (Refused enosys) (λ e. tt) e)
 
   does_calm : is_calm_number s child call.number ≡ true → AnswerCalms s child p told (does s child p call b)
   unfolding does

@@ -1,4 +1,4 @@
--- Turns of one process in a row that stay in Run: of a body alone.
+-- Instructions in a row are turns in a row, of a body alone.
 use Rattle.std.proofs.Common.{◌≡◌, ◌≢◌, ℕ, zero, suc, ◌+◌, ◌<◌, ◌≤◌, Some, None, refl, ap, sym, subst, arith, ◌∙◌}
 use Rattle.rv_mem.specs.Memory.{Memory}
 use Rattle.rv_hart.specs.declared.hart.Hart.{Hart}
@@ -17,41 +17,25 @@ use Rattle.lx_proc.specs.declared.state.UserState.{UserState}
 use Rattle.lx_sig.specs.declared.state.Interrupted.{Interrupted}
 use Rattle.lx_proc.specs.Registers.{made_again}
 use Rattle.lx_turn.specs.Reactions.{resumed, ran_by, fault_signal}
-use Rattle.lx_kernel.specs.Advances.{IsAtCall}
-use Rattle.lx_kernel.specs.Bursts.{Follows, Halts, Continues}
+use Rattle.lx_kernel.specs.Advances.{Follows, IsAtCall}
 use Rattle.lx_turn.proofs.Steps.{kept_by}
 
 abbrev Turns : Type 0
 Turns = Ran Shared UserState
 
-calls_no_user : (d : UserState) → ◌≢◌ {A = Turns} Calls (Goes d)
-calls_no_user d = λ e. cc
+-- so many, at most the limit
+abbrev Continues : ℕ → ℕ → UserState → UserState → Type 0
+Continues limit n b c = (n ≤ limit) × Follows n b c
 
-faults_no_user : (signal : Signal) (cause : Cause) (d : UserState) → ◌≢◌ {A = Turns} (Faults signal cause) (Goes d)
-faults_no_user signal cause d = λ e. cc
+-- none
+none_follows : (limit n : ℕ) (b c : UserState) → 0 ≡ n → b ≡ c → Continues limit n b c
+none_follows limit n b c none same = (omega (arith, none), subst (λ n. Follows n b c) none same)
 
--- what leads nowhere is no turn from its body
-halts_by : (b : UserState) (r : Turns) → resumed b b.interrupted ≡ r → ((d : UserState) → r ≢ Goes d) → Halts b
-halts_by b r is never = λ d e. never d (sym is ∙ e)
-
--- no turn
-none_follows : (limit n : ℕ) (b c : UserState) → 0 ≡ n → b ≡ c → (0 < limit → Halts b) → Continues limit n b c
-none_follows limit n b c none same halts =
-    record {
-      within = omega (arith, none);
-      follows = subst (λ n. Follows n b c) none same;
-      halts = λ l. subst Halts same (halts (omega (arith, none, l)));
-    }
-
--- one turn more
-pub one_more : (limit n : ℕ) (b d c : UserState) → resumed b b.interrupted ≡ Goes d → Continues limit n d c → Continues (suc limit) (suc n) b c
+-- one more
+one_more : (limit n : ℕ) (b d c : UserState) → resumed b b.interrupted ≡ Goes d → Continues limit n d c → Continues (suc limit) (suc n) b c
 one_more limit n b d c goes rest =
-    let within : n ≤ limit = rest.within in
-    record {
-      within = omega (arith, within);
-      follows = (d, goes, rest.follows);
-      halts = λ l. rest.halts (omega (arith, l));
-    }
+    let within : n ≤ limit = rest.0 in
+    (omega (arith, within), (d, goes, rest.1))
 
 module _ (b : UserState) (none : b.interrupted ≡ None) where
   abbrev first : Outcome
@@ -84,11 +68,9 @@ module _ (b : UserState) (none : b.interrupted ≡ None) where
   by_first step.Call l n s h m is e rest =
       none_follows (suc l) n b (record b { hart = h; memory = m }) (ap (λ q. q.ran) e)
       (same_user step.Call s h m (kept_by b.hart b.memory step.Call first.hart first.memory (ap (λ t. outcome t first.hart first.memory) is)) (ap (λ q. q.last) e))
-      (λ l. halts_by b Calls (resumed_by step.Call is) calls_no_user)
   by_first (step.Fault kind address) l n s h m is e rest =
       none_follows (suc l) n b (record b { hart = h; memory = m }) (ap (λ q. q.ran) e)
       (same_user (step.Fault kind address) s h m (kept_by b.hart b.memory (step.Fault kind address) first.hart first.memory (ap (λ t. outcome t first.hart first.memory) is)) (ap (λ q. q.last) e))
-      (λ l. halts_by b (Faults (fault_signal kind) (Fault (signal_code kind) address)) (resumed_by (step.Fault kind address) is) (faults_no_user (fault_signal kind) (Fault (signal_code kind) address)))
 
   -- steps that end at a call
   call_by : (t : Step) (l n : ℕ) (h : Hart) (m : Memory) → first.step ≡ t → goes_on t first (run_of l first.hart first.memory) ≡ course n (outcome step.Call h m)
@@ -110,7 +92,7 @@ pub run_continues : (limit : ℕ) (b : UserState) → b.interrupted ≡ None →
 unfolding run_of
 run_continues zero b none n s h m e =
     none_follows zero n b (record b { hart = h; memory = m }) (ap (λ q. q.ran) e)
-    (λ i. record b { hart = (e i).last.hart; memory = (e i).last.memory }) (λ l. absurd (omega (arith, l)))
+    (λ i. record b { hart = (e i).last.hart; memory = (e i).last.memory })
 run_continues (suc l) b none n s h m e =
     by_first b none (hart.stepped b.hart b.memory).step l n s h m refl e (λ k. run_continues l (next b none) none k s h m)
 
@@ -127,8 +109,5 @@ pub run_calls : (limit : ℕ) (b : UserState) → b.interrupted ≡ None → (n 
 run_calls limit b none n s h m e called = ends_at_call limit b none n h m (e ∙ ap (λ t. course n (outcome t h m)) called)
 
 -- an interrupted call is made again, and then instructions run
-pub again_continues : (limit n : ℕ) (b c : UserState) (at : Interrupted) → b.interrupted ≡ Some at → Continues limit n (made_again b at) c → Continues (suc limit) (suc n) b c
-again_continues limit n b c at is rest = one_more limit n b (made_again b at) c (ap (resumed b) is) rest
-
-pub no_turns : (b : UserState) → Continues 0 0 b b
-no_turns b = none_follows 0 0 b b refl refl (λ l. absurd (omega (arith, l)))
+pub again_follows : (n : ℕ) (b c : UserState) (at : Interrupted) → b.interrupted ≡ Some at → Follows n (made_again b at) c → Follows (suc n) b c
+again_follows n b c at is rest = (made_again b at, ap (resumed b) is, rest)

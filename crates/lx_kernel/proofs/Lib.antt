@@ -3,10 +3,9 @@ pub mod Awaiting
 pub mod Blocked
 pub mod Booting
 pub mod Calming
+pub mod Choices
 pub mod Continuing
 pub mod Ending
-pub mod FilesApart
-pub mod InPlace
 pub mod Moving
 pub mod NextAble
 pub mod OwnCalls
@@ -14,7 +13,6 @@ pub mod Placed
 pub mod Placing
 pub mod Reaching
 pub mod Recording
-pub mod Running
 pub mod Sleeping
 pub mod Stopping
 pub mod Turning

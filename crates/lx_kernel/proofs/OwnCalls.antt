@@ -15,9 +15,10 @@ use Rattle.lx_model.specs.declared.stage.Task.TheVariants.{Alive}
 use Rattle.lx_exec.specs.Pages.{pages_for, rights_for}
 use Rattle.lx_proc.specs.declared.state.Shared.{Shared}
 use Rattle.lx_proc.specs.declared.state.UserState.{UserState}
-use Rattle.lx_proc.specs.Answers.{Answers, KeptIf, argument, unless, given, is_blocked, answered as replied}
+use Rattle.lx_proc.specs.Answers.{Answers, KeptIf, argument, is_blocked, answered as replied}
 use Rattle.lx_proc.specs.declared.reply.CallReply.{CallReply}
 use Rattle.lx_proc.specs.declared.reply.CallReply.TheVariants as reply
+use Rattle.lx_proc.proofs.Checks as checks
 use Rattle.lx_fcalls.specs.Calls.{file_call}
 use Rattle.lx_pcalls.specs.Brk.{brk}
 use Rattle.lx_pcalls.specs.Calls.{process_call}
@@ -43,14 +44,6 @@ OwnAnswer s Blocks = ⊥
 OwnAnswer s (Ends w) = ⊥
 
 module _ (s : Shared) where
-  unless_own : (test : Bool) (e : ℕ) (a : Answers) → OwnAnswer s a → OwnAnswer s (unless test e a)
-  unless_own true e a h = h
-  unless_own false e a h = tt
-
-  given_own : {A : Type 0} (o : Option A) (e : ℕ) (f : A → Answers) → ((x : A) → OwnAnswer s (f x)) → OwnAnswer s (given o e f)
-  given_own None e f h = tt
-  given_own (Some x) e f h = h x
-
   module _ (p : ℕ) (call : Call) (b : UserState) where
     brk_own : OwnAnswer s (brk s call b)
     unfolding brk
@@ -58,19 +51,19 @@ module _ (s : Shared) where
 
     munmap_own : OwnAnswer s (munmap s call b)
     unfolding munmap
-    munmap_own = unless_own (may_unmap (argument call 0) (argument call 1)) einval _ refl
+    munmap_own = checks.checked (OwnAnswer s) (may_unmap (argument call 0) (argument call 1)) einval _ tt (λ may. refl)
 
     mmap_own : OwnAnswer s (mmap s call b)
     unfolding mmap
     mmap_own =
         let pages = pages_for (argument call 1) in
         let rights = rights_for (argument call 2) in
-        unless_own (may_map call) einval _
-        (given_own (highest_free b.memory pages map_low map_high) enomem (maps_at s b pages rights)
-        (λ a. unless_own (is_none (limit_fault (mapped b.memory a (4096 * pages) rights))) enomem _ refl))
+        checks.checked (OwnAnswer s) (may_map call) einval _ tt (λ may.
+        checks.named (OwnAnswer s) (highest_free b.memory pages map_low map_high) enomem (maps_at s b pages rights) tt (λ a free.
+        checks.checked (OwnAnswer s) (is_none (limit_fault (mapped b.memory a (4096 * pages) rights))) enomem _ tt (λ fits. refl)))
 
     getppid_own : OwnAnswer s (getppid s p b)
-    getppid_own = given_own (maps.get s.entries p) esrch _ (λ e. refl)
+    getppid_own = checks.named (OwnAnswer s) (maps.get s.entries p) esrch _ tt (λ e there. refl)
 
 -- a call, by its number
 pub record IsOwn (s : Shared) (child p : ℕ) (call : Call) (b : UserState) : Type 0 where

@@ -1,20 +1,16 @@
 -- No turn of another lets a stopped process go on, but one that tells it.
-use Rattle.std.proofs.Common.{◌≡◌, ℕ, Bool, true, false, cond, List, Option, Some, None, is_some, refl, ap, sym, subst, ◌∙◌}
-use Rattle.std.specs.Prelude.{◌==◌, ◌||◌, not, nat_lt}
-use Rattle.std.specs.Option.{unwrap_or}
+use Rattle.std.proofs.Common.{◌≡◌, ℕ, Bool, true, false, cond, Option, Some, None, is_some, refl, ap, subst, ◌∙◌}
+use Rattle.std.specs.Prelude.{◌||◌, not}
 use Rattle.std.specs.FinMap as maps
-use Rattle.std.specs.declared.result.Result.{Result}
 use Rattle.std.specs.declared.result.Result.TheVariants.{Ok, Err}
 use Rattle.rv_hart.specs.declared.outcome.Step.{Step}
 use Rattle.rv_hart.specs.declared.outcome.Step.TheVariants as step
 use Rattle.rv_hart.specs.Steps.{Outcome, stepped as instruction}
-use Rattle.lx_abi.specs.Limits.{path_limit, start_limit}
-use Rattle.lx_abi.specs.Errnos.{eagain, einval, efault, enosys, enoexec, e2big, esrch}
+use Rattle.lx_abi.specs.Errnos.{enosys}
 use Rattle.lx_abi.specs.declared.log.Call.{Call}
 use Rattle.lx_abi.specs.declared.log.Cause.{Cause}
+use Rattle.lx_abi.specs.declared.log.Cause.TheVariants.{Sent}
 use Rattle.lx_abi.specs.declared.log.Item.{Item}
-use Rattle.lx_abi.specs.declared.outcome.Node.{Node}
-use Rattle.lx_abi.specs.declared.outcome.Node.TheVariants as node
 use Rattle.lx_abi.specs.declared.signal.Signal.{Signal}
 use Rattle.lx_abi.specs.declared.script.Choice.{Choice}
 use Rattle.lx_abi.specs.Signals.{is_stop}
@@ -26,11 +22,10 @@ use Rattle.lx_model.specs.declared.stage.Stage.{Stage}
 use Rattle.lx_model.specs.declared.stage.Stage.TheVariants.{Born, Run, Faulting, Entered, Doing, Replaced, Acted, Finished, Taken, Dropped, Stopped, Released, Woken}
 use Rattle.lx_model.specs.declared.stage.Task.{Task}
 use Rattle.lx_model.specs.declared.stage.Task.TheVariants.{Alive, Dying, Gone}
-use Rattle.lx_files.specs.Places.{place, path_of}
-use Rattle.lx_files.specs.Trees.{node_at}
-use Rattle.lx_files.specs.declared.places.Place.{Place}
+use Rattle.lx_sig.specs.Calls.{Outcome as SignalOutcome}
+use Rattle.lx_sig.specs.Sigaction.{sigaction}
+use Rattle.lx_sig.specs.Sigprocmask.{sigprocmask}
 use Rattle.lx_sig.specs.Frames.{blocking, frame_fault}
-use Rattle.lx_sig.specs.Kill.{aim}
 use Rattle.lx_sig.specs.Reactions.{reaction as reaction_to}
 use Rattle.lx_sig.specs.declared.reactions.Reaction.{Reaction}
 use Rattle.lx_sig.specs.declared.reactions.Reaction.TheVariants as reaction
@@ -38,42 +33,36 @@ use Rattle.lx_sig.specs.declared.state.Interrupted.{Interrupted}
 use Rattle.lx_proc.specs.declared.state.Entry.{Entry}
 use Rattle.lx_proc.specs.declared.state.Shared.{Shared}
 use Rattle.lx_proc.specs.declared.state.UserState.{UserState}
-use Rattle.lx_proc.specs.State.{changed, directory, with_news, with_signals, with_signals_at}
-use Rattle.lx_proc.specs.Answers.{Answers, argument, given, granted}
-use Rattle.lx_proc.specs.Texts.{Text, Whole, TooLong, Unreadable, text_at, list_at}
-use Rattle.lx_exec.specs.Execve.{execve, program, with_path, runs_at, runs_node, runs_file, renews}
-use Rattle.lx_exec.specs.Programs.{start_size}
-use Rattle.lx_fcalls.specs.Calls.{file_call}
-use Rattle.lx_pcalls.specs.Brk.{brk}
-use Rattle.lx_pcalls.specs.Calls.{process_call}
-use Rattle.lx_pcalls.specs.Clone.{clone, bears, child_entry, child_user, fork_flags, has_room, with_child}
+use Rattle.lx_proc.specs.State.{changed, with_entries, with_news, with_signals, with_signals_at}
+use Rattle.lx_proc.specs.Answers.{Answers, argument, low_argument}
+use Rattle.lx_proc.specs.Sending.{receives}
+use Rattle.lx_exec.specs.Execve.{renewed}
+use Rattle.lx_fcalls.specs.Write.{sigpipe}
+use Rattle.lx_fcalls.proofs.FileAnswers.{OfFiles, with_files, files_hold}
+use Rattle.lx_pcalls.specs.Clone.{child_entry, child_user, with_child}
 use Rattle.lx_pcalls.specs.Ends.{dies}
-use Rattle.lx_pcalls.specs.Exit.{exit}
-use Rattle.lx_pcalls.specs.Getpid.{getpid}
-use Rattle.lx_pcalls.specs.Getppid.{getppid}
 use Rattle.lx_pcalls.specs.Interruption.{is_interrupted, interruptible, blocks_or_returns}
-use Rattle.lx_pcalls.specs.Kill.{kill}
-use Rattle.lx_pcalls.specs.Mmap.{mmap}
-use Rattle.lx_pcalls.specs.Munmap.{munmap}
-use Rattle.lx_pcalls.specs.RtSigaction.{rt_sigaction}
-use Rattle.lx_pcalls.specs.RtSigprocmask.{rt_sigprocmask}
-use Rattle.lx_pcalls.specs.RtSigreturn.{rt_sigreturn}
-use Rattle.lx_pcalls.specs.SchedYield.{sched_yield}
+use Rattle.lx_pcalls.specs.Kill.{sends}
 use Rattle.lx_pcalls.specs.Stops.{is_continued_at, settles}
 use Rattle.lx_pcalls.specs.Taking.{takes, takes_at, reacts, in_handler, segv_word}
-use Rattle.lx_pcalls.specs.Wait4.{wait4}
+use Rattle.lx_pcalls.specs.Signals.{leaves}
+use Rattle.lx_pcalls.specs.Wait4.{told_child, first_child}
 use Rattle.lx_turn.specs.Calls.{does, called}
 use Rattle.lx_turn.specs.Linux.{linux}
 use Rattle.lx_turn.specs.Reactions.{next_of, runs, resumed, ran_by, is_killed}
 use Rattle.lx_turn.specs.Turned.{Turned, turned}
 use Rattle.lx_turn.proofs.CallsFit.{reaction_stops}
 use Rattle.lx_kernel.specs.Blocking.{IsBlocked, can_turn, rests}
-use Rattle.lx_kernel.specs.Waking.{Calms, LeavesStopped, TurnsLeaveStopped, aimed_at, told_by, told_by_call, told_by_signal, told_at, told_in}
+use Rattle.lx_kernel.specs.Waking.{Calms, LeavesStopped, TurnsLeaveStopped, told_by, told_by_call, told_by_signal, told_at, told_in}
 use Rattle.lx_kernel.proofs.Blocked.{entry_other}
-use Rattle.lx_kernel.proofs.Calming.{AnswerCalms, same_calm, entry_calm, sigaction_calm, sigprocmask_calm, sigreturn_calm, getppid_calm, brk_calm, munmap_calm, mmap_calm, wait4_calm, kill_calm, joins_calm, stop_told, numbered}
+use Rattle.lx_kernel.proofs.Calming.{same_calm, entry_calm, told_calm, sends_told, joins_calm, stop_told}
+use Rattle.lx_pcalls.proofs.ProcessAnswers.{OfProcesses, processes_hold}
 use Rattle.lx_kernel.proofs.Ending.{burial_calm, wake_calm}
-use Rattle.lx_kernel.proofs.FilesApart.{IsApart, LeavesOthers, LeavesIf, files_apart}
 use Rattle.lx_kernel.proofs.Placed.{other_put}
+
+-- the entries of others are as before
+abbrev IsApart : ℕ → Shared → Shared → Type 0
+IsApart p s t = (q : ℕ) → (q ≡ p → ⊥) → maps.get t.entries q ≡ maps.get s.entries q
 
 -- with its entry as it was, a stopped process stays blocked
 stopped_on : (s t : Shared) (q : ℕ) → maps.get t.entries q ≡ maps.get s.entries q → (task : Task UserState) → rests task ≡ true → IsBlocked s q task → IsBlocked t q task
@@ -157,32 +146,6 @@ module _ (s : Shared) (child p told : ℕ) where
   AnswerLeaves Blocks = Unit {0}
   AnswerLeaves (Ends w) = Unit {0}
 
-  either_leaves : (test : Bool) (x y : Answers) → AnswerLeaves x → AnswerLeaves y → AnswerLeaves (cond test x y)
-  either_leaves true x y h g = h
-  either_leaves false x y h g = g
-
-  given_leaves : {A : Type 0} (o : Option A) (e : ℕ) (f : A → Answers) → ((x : A) → AnswerLeaves (f x)) → AnswerLeaves (given o e f)
-  given_leaves None e f h = tt
-  given_leaves (Some x) e f h = h x
-
-  from_calm : (a : Answers) → AnswerCalms s child p told a → AnswerLeaves a
-  from_calm (Refused e) h = tt
-  from_calm (Returns t b x) h = calm_leaves t Plain h
-  from_calm (Jumps t b) h = calm_leaves t Plain h
-  from_calm (Execs t b) h = absurd h
-  from_calm (Bears t b newborn) h = calm_leaves t (Forked newborn) h
-  from_calm Blocks h = tt
-  from_calm (Ends w) h = tt
-
-  from_apart : (a : Answers) → LeavesOthers p s a → AnswerLeaves a
-  from_apart (Refused e) h = tt
-  from_apart (Returns t b x) h = apart_leaves t Plain h
-  from_apart (Jumps t b) h = apart_leaves t Plain h
-  from_apart (Execs t b) h = apart_leaves t Execed h
-  from_apart (Bears t b newborn) h = absurd h
-  from_apart Blocks h = tt
-  from_apart (Ends w) h = tt
-
   blocked_leaves : (b : UserState) (interrupted : Bool) → AnswerLeaves (blocks_or_returns s b interrupted)
   blocked_leaves b true = calm_leaves s Plain (same_calm s child p told Plain)
   blocked_leaves b false = tt
@@ -196,65 +159,6 @@ module _ (s : Shared) (child p told : ℕ) where
   interrupted_leaves b Blocks h = blocked_leaves b (is_interrupted (maps.get s.entries p))
   interrupted_leaves b (Ends w) h = h
 
--- execve changes the signals of its own process
-module _ (s : Shared) (p : ℕ) (call : Call) (b : UserState) where
-  -- it is refused, or a program begins over what is shared
-  abbrev IsProgram : Answers → Type 0
-  IsProgram (Refused e) = Unit {0}
-  IsProgram (Returns t c x) = ⊥
-  IsProgram (Jumps t c) = ⊥
-  IsProgram (Execs t c) = t.entries ≡ s.entries
-  IsProgram (Bears t c newborn) = ⊥
-  IsProgram Blocks = ⊥
-  IsProgram (Ends w) = ⊥
-
-  either_program : (t : Bool) (x y : Answers) → IsProgram x → IsProgram y → IsProgram (cond t x y)
-  either_program true x y h g = h
-  either_program false x y h g = g
-
-  given_program : {A : Type 0} (o : Option A) (e : ℕ) (f : A → Answers) → ((x : A) → IsProgram (f x)) → IsProgram (given o e f)
-  given_program None e f h = tt
-  given_program (Some x) e f h = h x
-
-  granted_program : {A : Type 0} (r : Result A ℕ) (f : A → Answers) → ((x : A) → IsProgram (f x)) → IsProgram (granted r f)
-  granted_program (Err e) f h = tt
-  granted_program (Ok x) f h = h x
-
-  runs_file_program : (slashed : Bool) (content : List ℕ) (argv env : List (List ℕ)) → IsProgram (runs_file s slashed content argv env)
-  runs_file_program true content argv env = tt
-  runs_file_program false content argv env =
-      either_program _ (Refused enoexec) _ tt (either_program (nat_lt start_limit (start_size argv env)) (Refused e2big) _ tt refl)
-
-  runs_node_program : (slashed : Bool) (o : Option Node) (argv env : List (List ℕ)) → IsProgram (runs_node s slashed o argv env)
-  runs_node_program slashed None argv env = tt
-  runs_node_program slashed (Some node.Directory) argv env = tt
-  runs_node_program slashed (Some (node.File content)) argv env = runs_file_program slashed content argv env
-
-  with_path_program : (t : Text) → IsProgram (with_path s p call b t)
-  with_path_program Unreadable = tt
-  with_path_program TooLong = tt
-  with_path_program (Whole path) =
-      given_program (list_at b.memory (argument call 1)) efault _ (λ argv.
-      given_program (list_at b.memory (argument call 2)) efault _ (λ env.
-      granted_program (place s.tree (directory s p) path) (runs_at s argv env) (λ (at : Place). runs_node_program at.slashed (node_at s.tree (path_of at)) argv env)))
-
-  program_is : IsProgram (program s p call b)
-  unfolding program
-  program_is = with_path_program (text_at b.memory path_limit (argument call 0))
-
-  renews_apart : (a : Answers) → IsProgram a → LeavesOthers p s (renews p a)
-  renews_apart (Refused e) h = tt
-  renews_apart (Returns t c x) h = absurd h
-  renews_apart (Jumps t c) h = absurd h
-  renews_apart (Execs t c) h = λ q ne. entry_other t.entries p q _ (maps.get t.entries p) ne ∙ ap (λ m. maps.get m q) h
-  renews_apart (Bears t c newborn) h = absurd h
-  renews_apart Blocks h = absurd h
-  renews_apart (Ends w) h = absurd h
-
-  execve_apart : LeavesOthers p s (execve s p call b)
-  unfolding execve
-  execve_apart = renews_apart (program s p call b) program_is
-
 -- Calls
 
 module _ (s : Shared) (child p : ℕ) (call : Call) (b : UserState) where
@@ -264,71 +168,51 @@ module _ (s : Shared) (child p : ℕ) (call : Call) (b : UserState) where
   abbrev CallLeaves : Answers → Type 0
   CallLeaves a = AnswerLeaves s child p told a
 
-  calm : (a : Answers) → AnswerCalms s child p told a → CallLeaves a
-  calm a h = from_calm s child p told a h
+  same : (event : PtraceEvent UserState) → LeavesStopped s s child p told event
+  same event = calm_leaves s child p told s event (same_calm s child p told event)
 
-  same : AnswerCalms s child p told (Returns s b 0)
-  same = same_calm s child p told Plain
+  signals_leave : (o : SignalOutcome) → CallLeaves (leaves s p b o)
+  signals_leave (Err e) = tt
+  signals_leave (Ok c) = calm_leaves s child p told _ Plain (entry_calm s child p told _ Plain)
 
-  clone_leaves : CallLeaves (clone s child p call b)
-  unfolding clone
-  clone_leaves =
-      either_leaves s child p told (argument call 0 == fork_flags) _ (Refused einval)
-      (given_leaves s child p told (maps.get s.entries p) esrch (bears s child p call b)
-      (λ e. either_leaves s child p told (has_room s child) _ (Refused eagain) (bears_leaves s child p told (child_entry e p) (child_user b (argument call 1))) tt)) tt
+  tells : (n : ℕ) → first_child s.entries p (low_argument call 0) (Some (argument call 2)) ≡ Some n → LeavesStopped s (told_child s n) child p told Plain
+  tells n found = calm_leaves s child p told (told_child s n) Plain (told_calm s child p told (low_argument call 0) (argument call 2) n Plain found)
 
-  told_is : call.number ≡ 129 → told ≡ aimed_at p (aim call)
-  told_is h = rw h refl
+  process_leaves : OfProcesses s child p call b CallLeaves
+  process_leaves = record {
+    refuses = λ e listed. tt;
+    waits = λ k. tt;
+    returns = λ x. same Plain;
+    loses = λ a n heap x. same Plain;
+    gains = λ m heap x fits. same Plain;
+    acts = λ own there k. signals_leave (sigaction own.signals b.memory call);
+    masks = λ own there k. signals_leave (sigprocmask own.signals b.memory call);
+    restores = λ own there. calm_leaves s child p told _ Plain (entry_calm s child p told _ Plain);
+    sends = λ a k is. calm_leaves s child p told (sends s p a.pid a.signal) Plain (sends_told s child p call b a k is);
+    tells = λ n found k. tells n found;
+    writes = λ n at bytes found k. tells n found;
+    bears = λ own there k room. bears_leaves s child p told (child_entry own p) (child_user b (argument call 1));
+    execs = λ content argv env k whole. apart_leaves s child p told (renewed s p) Execed (λ q ne. entry_other s.entries p q _ (maps.get s.entries p) ne);
+    ends = λ k. tt;
+  }
 
-  kill_leaves : call.number ≡ 129 → CallLeaves (kill s p call b)
-  kill_leaves h = calm (kill s p call b) (subst (λ n. AnswerCalms s child p n (kill s p call b)) (sym (told_is h)) (kill_calm s child p call b))
+  own_leaves : (f : Entry → Entry) → LeavesStopped s (with_entries s (changed s.entries p f)) child p told Plain
+  own_leaves f = apart_leaves s child p told (with_entries s (changed s.entries p f)) Plain (λ q ne. entry_other s.entries p q f (maps.get s.entries p) ne)
 
-  abbrev LeavesIfAny : Option Answers → Type 0
-  LeavesIfAny None = Unit {0}
-  LeavesIfAny (Some a) = CallLeaves a
-
-  by_number : (k : ℕ) (a : Answers) (rest : Option Answers) → ((call.number == k) ≡ true → CallLeaves a) → LeavesIfAny rest → LeavesIfAny (cond (call.number == k) (Some a) rest)
-  by_number k a rest h after = go (call.number == k) refl
-    where
-      go : (c : Bool) → (call.number == k) ≡ c → LeavesIfAny (cond c (Some a) rest)
-      go true e = h e
-      go false e = after
-
-  calm_step : (k : ℕ) (a : Answers) (rest : Option Answers) → AnswerCalms s child p told a → LeavesIfAny rest → LeavesIfAny (cond (call.number == k) (Some a) rest)
-  calm_step k a rest h after = by_number k a rest (λ e. calm a h) after
-
-  process_leaves : LeavesIfAny (process_call s child p call b)
-  unfolding process_call
-  process_leaves =
-      by_number 93 (exit call) _ (λ e. tt)
-      (by_number 94 (exit call) _ (λ e. tt)
-      (calm_step 124 (sched_yield s b) _ same
-      (by_number 129 (kill s p call b) _ (λ e. kill_leaves (numbered call.number 129 e))
-      (calm_step 134 (rt_sigaction s p call b) _ (sigaction_calm s child p told call b)
-      (calm_step 135 (rt_sigprocmask s p call b) _ (sigprocmask_calm s child p told call b)
-      (calm_step 139 (rt_sigreturn s p b) _ (sigreturn_calm s child p told call b)
-      (calm_step 172 (getpid s p b) _ same
-      (calm_step 173 (getppid s p b) _ (getppid_calm s child p told call b)
-      (calm_step 178 (getpid s p b) _ same
-      (calm_step 214 (brk s call b) _ (brk_calm s child p told call b)
-      (calm_step 215 (munmap s call b) _ (munmap_calm s child p told call b)
-      (by_number 220 (clone s child p call b) _ (λ e. clone_leaves)
-      (by_number 221 (execve s p call b) _ (λ e. from_apart s child p told (execve s p call b) (execve_apart s p call b))
-      (calm_step 222 (mmap s call b) _ (mmap_calm s child p told call b)
-      (calm_step 260 (wait4 s p call b) None (wait4_calm s child p told call b) tt)))))))))))))))
-
-  of_process : (o : Option Answers) → LeavesIfAny o → CallLeaves (unwrap_or o (Refused enosys))
-  of_process None h = tt
-  of_process (Some a) h = h
-
-  of_file : (o : Option Answers) (other : Answers) → LeavesIf p s o → CallLeaves other → CallLeaves (unwrap_or o other)
-  of_file None other h g = g
-  of_file (Some a) other h g = from_apart s child p told a h
+  file_leaves : OfFiles s p call b CallLeaves
+  file_leaves = record {
+    refuses = λ e listed. tt;
+    waits = λ k. tt;
+    returns = λ tree fds input console x. apart_leaves s child p told (with_files s tree fds input console) Plain (λ q ne. refl);
+    writes = λ tree fds input console at bytes x. apart_leaves s child p told (with_files s tree fds input console) Plain (λ q ne. refl);
+    goes = λ path. own_leaves (λ e. record e { directory = path });
+    breaks = own_leaves (λ e. receives e sigpipe (Sent p));
+  }
 
   does_leaves : CallLeaves (does s child p call b)
   unfolding does
   does_leaves = interrupted_leaves s child p told b (called s child p call b)
-      (of_file (file_call s p call b) _ (files_apart s p call b) (of_process (process_call s child p call b) process_leaves))
+      (files_hold s p call b CallLeaves file_leaves _ (processes_hold s child p call b CallLeaves process_leaves (Refused enosys) tt))
 
 -- Turns
 

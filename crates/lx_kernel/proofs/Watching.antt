@@ -21,7 +21,6 @@ use Rattle.lx_proc.specs.declared.state.Shared.{Shared}
 use Rattle.lx_proc.specs.declared.state.UserState.{UserState}
 use Rattle.lx_fcalls.specs.Blocking.{would_block, read_would_block, write_would_block}
 use Rattle.lx_turn.specs.Linux.{linux}
-use Rattle.lx_kernel.specs.Bursts.{TaskContinues}
 use Rattle.lx_kernel.specs.Scheduling.{Tasks}
 use Rattle.lx_kernel.specs.Blocking.{can_turn, IsBlocked, rests, would_block as blocks}
 use Rattle.lx_kernel.specs.Waking.{Calms, LeavesStopped}
@@ -103,16 +102,6 @@ awake_kept sets s tasks p None awake watched = watched
 awake_kept sets s tasks p (Some task) awake watched = awake_placed sets s tasks p task awake watched
 
 -- Turns in a row
-
-running : (s : Shared) (p : ℕ) (b c : UserState) → IsKept s p (Alive b stage.Run) (Alive c stage.Run)
-unfolding can_turn
-running s p b c = (λ e. e, λ e. e)
-
-pub continues_kept : (s : Shared) (p limit n : ℕ) (task task' : Task UserState) → TaskContinues limit n task task' → IsKept s p task task'
-continues_kept s p limit n task task' h = elim h [
-  | inl ran ↦ subst (λ o. IsKept s p o task') (sym ran.2) (subst (IsKept s p (Alive ran.0 stage.Run)) (sym ran.3) (running s p ran.0 ran.1))
-  | inr not ↦ subst (IsKept s p task) (sym not.1) (kept_same s p task)
-]
 
 pub put_kept : (s : Shared) (tasks : Tasks) (p : ℕ) (task task' : Task UserState) → Some task ≡ maps.get tasks p → IsKept s p task task' → (q : ℕ) → IsKept s q (at Gone tasks q) (at Gone (maps.insert tasks p task') q)
 put_kept s tasks p task task' there kept q = either q p (IsKept s q (at Gone tasks q) (at Gone (maps.insert tasks p task') q)) (q == p) refl

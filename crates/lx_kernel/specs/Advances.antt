@@ -1,7 +1,9 @@
 -- Turns of one process in a row, up to the first that logs something, or after which the process doesn't go on.
 use Rattle.std.specs.Prelude.{◌≡◌, ◌⊎◌, ◌++◌, ℕ, zero, suc, ◌==◌, ◌||◌, Bool, true, false, Option, Some, None}
 use Rattle.std.specs.Option.{option_to_list}
+use Rattle.std.specs.Ordering.{nat_cmp}
 use Rattle.std.specs.FinMap as maps
+use Rattle.std.specs.FinMap.{FinMap}
 use Rattle.lx_abi.specs.Errors.{error_word}
 use Rattle.lx_abi.specs.Log.{entries}
 use Rattle.lx_abi.specs.Occurrences.{count_of}
@@ -13,10 +15,11 @@ use Rattle.lx_abi.specs.declared.log.Mode.{Mode}
 use Rattle.lx_abi.specs.declared.log.Mode.TheVariants as mode
 use Rattle.lx_model.specs.Events.{by_pid}
 use Rattle.lx_model.specs.Finite.{item_of}
-use Rattle.lx_model.specs.Machine.{Calls, call_of}
+use Rattle.lx_model.specs.Machine.{Goes, Calls, call_of}
 use Rattle.lx_model.specs.Turn.{answered, gives}
 use Rattle.lx_model.specs.declared.event.PtraceEvent.{PtraceEvent}
 use Rattle.lx_model.specs.declared.event.PtraceEvent.TheVariants.{Plain}
+use Rattle.lx_model.specs.declared.stage.Stage.{Stage}
 use Rattle.lx_model.specs.declared.stage.Stage.TheVariants as stages
 use Rattle.lx_model.specs.declared.stage.Task.{Task}
 use Rattle.lx_model.specs.declared.stage.Task.TheVariants.{Alive}
@@ -29,7 +32,6 @@ use Rattle.lx_turn.specs.Calls.{does}
 use Rattle.lx_turn.specs.Linux.{linux}
 use Rattle.lx_turn.specs.Reactions.{resumed}
 use Rattle.lx_turn.specs.declared.injection.Injection.{Injection}
-use Rattle.lx_kernel.specs.Bursts.{Follows, with_tasks}
 use Rattle.lx_kernel.specs.Runs.{Run, turn_in, after_turn, mode_in, is_able_in}
 
 -- it runs instructions, or is in a call
@@ -84,7 +86,11 @@ pub record Fits (k : Run) (t : Injection) (s : Shared) (child pid : ℕ) : Type 
   pub follow_is : k.follow ≡ t.follow
   pub agrees : (n : ℕ) → count_of t.occurrences.now pid n ≡ entries pid n k.running.log
 
--- the kernel with an item more
+-- the kernel with other parts of its processes' own
+abbrev pub with_tasks : Run → FinMap nat_cmp (Task UserState) → Run
+with_tasks k tasks = record k { running = record k.running { tasks = tasks } }
+
+-- with an item more
 abbrev pub with_log : Run → Option Item → Run
 with_log k item = record k { running = record k.running { log = k.running.log ++ option_to_list item } }
 
@@ -114,6 +120,20 @@ own_result _ = 0
 abbrev pub IsDone : Shared → ℕ → ℕ → Call → UserState → UserState → ℕ → Type 0
 IsDone s child pid call b c result =
     answered linux s child pid b call (does s child pid call b) ≡ gives s (Alive c (stages.Acted call result false))
+
+-- such a call was gone through, to its end
+abbrev pub IsGoneThrough : Shared → ℕ → ℕ → Call → UserState → UserState → Stage → Option Item → Type 0
+IsGoneThrough s child pid call b c stage item =
+    (x : ℕ) × IsDone s child pid call b c x × (stage ≡ stages.Finished) × (item ≡ Some (items.Done pid call x false))
+
+-- one turn enters a call, or there is none
+abbrev pub IsEntered : Call → ℕ → Stage → Stage → Type 0
+IsEntered call n stage stage' = ((n ≡ 1) × (stage' ≡ stages.Doing call)) ⊎ ((n ≡ 0) × (stage' ≡ stage))
+
+-- c comes from b by so many instructions; one that makes an interrupted call again is one of them
+abbrev pub Follows : ℕ → UserState → UserState → Type 0
+Follows zero b c = b ≡ c
+Follows (suc n) b c = (d : UserState) × (resumed b b.interrupted ≡ Goes d) × Follows n d c
 
 -- its next turn comes to a call
 abbrev pub IsAtCall : UserState → Type 0

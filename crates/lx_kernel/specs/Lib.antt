@@ -1,6 +1,6 @@
 pub mod Advances
 pub mod Blocking
-pub mod Bursts
+pub mod Choices
 pub mod First
 pub mod Occurrences
 pub mod Outcomes
@@ -9,7 +9,6 @@ pub mod Turns
 pub mod Tracing
 pub mod Laws
 pub mod Logs
-pub mod Moves
 pub mod Scheduling
 pub mod Sleeping
 pub mod Waking

@@ -1,7 +1,7 @@
-//! Turns of one process in a row that are made in place, on its own part: from the end of a call to the next call, and
-//! from there to its end, where the call asks for nothing else.
+//! Turns of one process in a row that are made in place, on its own part: from the end of a call to the next call, from
+//! there to its end, where the call asks for nothing else, and those that only change where the process stands.
 
-ghost use Rattle.std.specs.Prelude.{◌≡◌, ◌≤◌, ◌<◌, ℕ, suc, None, false, IfOk, OnOk, OnErr, IsTrue};
+ghost use Rattle.std.specs.Prelude.{◌≡◌, ◌≤◌, ◌<◌, ℕ, suc, None, false, IfOk, OnOk, OnErr, IsOkAnd, IsTrue};
 ghost use Rattle.std.specs.FinMap as maps;
 ghost use Rattle.lx_model.specs.Finite.{at};
 ghost use Rattle.lx_model.specs.declared.stage.Stage.TheVariants as stages;
@@ -9,27 +9,22 @@ ghost use Rattle.lx_model.specs.declared.stage.Task.TheVariants.{Alive, Gone};
 ghost use Rattle.lx_turn.specs.Modes.{task_mode as task_mode_of};
 ghost use Rattle.lx_turn.specs.Reactions.{next_of, is_killed as is_killed_at};
 ghost use Rattle.lx_model.specs.declared.event.PtraceEvent.TheVariants.{Plain};
-ghost use Rattle.lx_kernel.specs.Advances.{Leads, PartLeads, RunLeads, Fits, IsDone, own_result, is_own as is_own_number, with_log};
-ghost use Rattle.lx_kernel.specs.Bursts.{with_tasks};
+ghost use Rattle.lx_kernel.specs.Advances.{Leads, PartLeads, RunLeads, Fits, IsDone, own_result, is_own as is_own_number};
+ghost use Rattle.lx_kernel.specs.Advances.{IsGoneThrough, IsEntered};
+ghost use Rattle.lx_kernel.specs.Advances.{with_log, with_tasks};
 ghost use Rattle.lx_kernel.specs.Runs.{Run as KernelRun};
 ghost use Rattle.lx_kernel.specs.Sleeping.{IsKept};
 
-use crate::bursts::{is_undisturbed, run_user};
-use lx_abi::{Call, Item, Mode, sys};
-use lx_model::{Stage, Task};
+use crate::instructions::{is_undisturbed, run_user};
+use crate::kernel::Advanced;
+use lx_abi::{Call, Item, Mode, calls, sys};
+use lx_model::{PtraceEvent, Stage, Task};
 use lx_pcalls::process_call;
 use lx_proc::{CallReply, Shared, UserState, call, return_from_call};
 use lx_turn::{Injection, mode_of_gone};
 use rv_hart::{DecodedCode, Step};
 use shelves::Shelf;
 use std::alloc::{AllocError, Global};
-
-/// What turns in place came to: how many there were, and where the process stands.
-#[derive(Clone, Copy, Debug, PartialEq, Eq)]
-pub struct InPlace {
-    pub turns: u64,
-    pub after: Option<Mode>,
-}
 
 /// A call that asks only for its process's own part, or tells a number: others see nothing of it.
 fn is_own(number: u64) -> bool
@@ -75,31 +70,22 @@ fn do_own(
     Ok(result)
 }
 
-/// The three turns of such a call, if its script leaves it alone: from where it was entered to its end.
+/// Such a call from where it was entered to its end.
 fn go_through_call(
     alloc: Global,
     shared: &mut Shared,
-    injection: &Injection,
     child: u32,
     pid: u32,
+    call: Call,
     user: &mut UserState,
     stage: &mut Stage,
     item: &mut Option<Item>,
-) -> Result<u64, AllocError>
-    requires entered { stage.old ≡ stages.Entered None }
-    requires nothing { item.old ≡ None }
-    requires alive { is_killed_at (maps.get shared.old.entries pid) ≡ false }
-    ensures leads { IfOk result (λ n. PartLeads injection.now shared.old child pid n (Alive user.old stage.old) item.new
-        (Alive user.new stage.new)) }
-    ensures within { IfOk result (λ n. n ≤ 3) }
+) -> Result<(), AllocError>
+    requires { IsTrue (is_own_number call.number) }
+    ensures done { OnOk result (IsGoneThrough shared.old child pid call user.old user.new stage.new item.new) }
     ensures same { OnOk result (shared.new ≡ shared.old) }
     ensures console { OnErr result (shared.new.console ≡ shared.old.console) }
 {
-    let call = call(user);
-    let choice = injection.choice(pid, call.number);
-    if choice.result.is_some() || choice.signal.is_some() || !is_own(call.number) {
-        return Ok(0);
-    }
     let result = do_own(alloc, shared, child, pid, &call, user)?;
     *stage = Stage::Finished;
     *item = Some(Item::Done {
@@ -108,6 +94,53 @@ fn go_through_call(
         result,
         replaced: false,
     });
+    Ok(())
+}
+
+/// The turn that enters a call. One that may wait isn't entered so: whoever waits is put to sleep.
+fn enter(call: Call, stage: &mut Stage) -> u64
+    ensures entered { IsEntered call result stage.old stage.new }
+    ensures within { result ≤ 1 }
+{
+    if calls::may_wait(call.number) {
+        return 0;
+    }
+    *stage = Stage::Doing { call };
+    1
+}
+
+/// Turns from where a call was entered that its script leaves alone: three to its end, where it asks only for its
+/// process's own part, and else the one that enters it.
+fn go_into_call(
+    alloc: Global,
+    shared: &mut Shared,
+    injection: &Injection,
+    child: u32,
+    pid: u32,
+    limit: u64,
+    user: &mut UserState,
+    stage: &mut Stage,
+    item: &mut Option<Item>,
+) -> Result<u64, AllocError>
+    requires some { 0 < limit }
+    requires entered { stage.old ≡ stages.Entered None }
+    requires nothing { item.old ≡ None }
+    requires alive { is_killed_at (maps.get shared.old.entries pid) ≡ false }
+    ensures leads { IfOk result (λ n. PartLeads injection.now shared.old child pid n (Alive user.old stage.old) item.new
+        (Alive user.new stage.new)) }
+    ensures within { IfOk result (λ n. n ≤ limit) }
+    ensures same { OnOk result (shared.new ≡ shared.old) }
+    ensures console { OnErr result (shared.new.console ≡ shared.old.console) }
+{
+    let call = call(user);
+    let choice = injection.choice(pid, call.number);
+    if choice.result.is_some() || choice.signal.is_some() {
+        return Ok(0);
+    }
+    if limit < 3 || !is_own(call.number) {
+        return Ok(enter(call, stage));
+    }
+    go_through_call(alloc, shared, child, pid, call, user, stage, item)?;
     Ok(3)
 }
 
@@ -189,9 +222,25 @@ fn go_on(
             let ran = go_to_call(decoder, pid, limit, user, stage, item)?;
             Ok(ran)
         }
-        Stage::Entered { joined: None } if limit > 2 => {
-            let ran = go_through_call(alloc, shared, injection, child, pid, user, stage, item)?;
+        Stage::Entered { joined: None } if limit > 0 => {
+            let ran = go_into_call(
+                alloc, shared, injection, child, pid, limit, user, stage, item,
+            )?;
             Ok(ran)
+        }
+        Stage::Acted {
+            call,
+            result,
+            replaced,
+        } if limit > 0 => {
+            *stage = Stage::Finished;
+            *item = Some(Item::Done {
+                pid,
+                call,
+                result,
+                replaced,
+            });
+            Ok(1)
         }
         _ => Ok(0),
     }
@@ -227,6 +276,21 @@ fn advance_alive(
     Ok(turns)
 }
 
+/// No turn of a process that stands so.
+fn none(mode: Option<Mode>) -> Advanced
+    ensures turns { result.turns ≡ 0 }
+    ensures before { result.before ≡ mode }
+    ensures after { result.after ≡ mode }
+    ensures event { result.event ≡ Plain }
+{
+    Advanced {
+        turns: 0,
+        before: mode,
+        after: mode,
+        event: PtraceEvent::Plain,
+    }
+}
+
 /// Turns of a process with a part of its own.
 fn advance_task(
     alloc: Global,
@@ -238,31 +302,33 @@ fn advance_task(
     limit: u64,
     task: &mut Task<UserState>,
     item: &mut Option<Item>,
-) -> Result<InPlace, AllocError>
+) -> Result<Advanced, AllocError>
     requires { item.old ≡ None }
     ensures leads { IfOk result (λ a. PartLeads injection.now shared.old child pid a.turns task.old item.new task.new) }
     ensures within { IfOk result (λ a. a.turns ≤ limit) }
+    ensures before { IfOk result (λ a. a.before ≡ task_mode_of (maps.get shared.old.entries pid) task.old) }
     ensures after { IfOk result (λ a. a.after ≡ task_mode_of (maps.get shared.new.entries pid) task.new) }
+    ensures event { IfOk result (λ a. a.event ≡ Plain) }
     ensures same { OnOk result (shared.new ≡ shared.old) }
     ensures kept { OnOk result (IsKept shared.old pid task.old task.new) }
     ensures console { OnErr result (shared.new.console ≡ shared.old.console) }
+    ensures absent { task.old ≡ Gone → IsOkAnd result (λ _. item.new ≡ None) }
 {
     match task {
         Task::Alive { user, stage } => {
+            let before = Some(stage.mode());
             let turns = advance_alive(
                 alloc, shared, decoder, injection, child, pid, limit, user, stage, item,
             )?;
-            let after = Some(stage.mode());
-            Ok(InPlace { turns, after })
+            Ok(Advanced {
+                turns,
+                before,
+                after: Some(stage.mode()),
+                event: PtraceEvent::Plain,
+            })
         }
-        Task::Dying { .. } => Ok(InPlace {
-            turns: 0,
-            after: Some(Mode::Dying),
-        }),
-        Task::Gone => Ok(InPlace {
-            turns: 0,
-            after: mode_of_gone(shared, pid),
-        }),
+        Task::Dying { .. } => Ok(none(Some(Mode::Dying))),
+        Task::Gone => Ok(none(mode_of_gone(shared, pid))),
     }
 }
 
@@ -277,22 +343,23 @@ pub fn advance_at(
     pid: u32,
     limit: u64,
     item: &mut Option<Item>,
-) -> Result<InPlace, AllocError>
+) -> Result<Advanced, AllocError>
     requires { item.old ≡ None }
     ensures leads { IfOk result (λ a. (k : KernelRun) → Fits k injection.now shared.old child pid
         → k.running.tasks ≡ tasks.old → Leads k pid a.turns item.new Plain (with_log (with_tasks k tasks.new) item.new)) }
     ensures within { IfOk result (λ a. a.turns ≤ limit) }
+    ensures before { IfOk result (λ a. a.before
+        ≡ task_mode_of (maps.get shared.old.entries pid) (at Gone tasks.old pid)) }
     ensures after { IfOk result (λ a. a.after
         ≡ task_mode_of (maps.get shared.new.entries pid) (at Gone tasks.new pid)) }
+    ensures event { IfOk result (λ a. a.event ≡ Plain) }
     ensures same { OnOk result (shared.new ≡ shared.old) }
     ensures kept { OnOk result ((q : ℕ) → IsKept shared.old q (at Gone tasks.old q) (at Gone tasks.new q)) }
     ensures console { OnErr result (shared.new.console ≡ shared.old.console) }
+    ensures absent { at Gone tasks.old pid ≡ Gone → IsOkAnd result (λ _. item.new ≡ None) }
 {
     match tasks.get_mut(pid) {
-        None => Ok(InPlace {
-            turns: 0,
-            after: mode_of_gone(shared, pid),
-        }),
+        None => Ok(none(mode_of_gone(shared, pid))),
         Some(task) => {
             let advanced = advance_task(
                 alloc, shared, decoder, injection, child, pid, limit, task, item,

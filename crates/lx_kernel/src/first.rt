@@ -29,9 +29,9 @@ fn first(alloc: Global, boot: Boot, script: Script, keeps_log: bool) -> Result<K
         input,
         follow,
     } = boot;
-    let shared = first_shared(alloc, limits, files.as_slice(), input)?;
     let tasks = first_tasks(alloc, argv.as_slice(), env.as_slice())?;
     let decoder = DecodedCode::new(alloc)?;
+    let shared = first_shared(alloc, limits, files.as_slice(), input)?;
     Ok(Kernel::new(alloc, shared, tasks, decoder, script, follow, keeps_log))
 }
 

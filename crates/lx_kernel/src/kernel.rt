@@ -18,7 +18,7 @@ ghost use Rattle.lx_turn.specs.Modes.{task_mode as task_mode_of};
 ghost use Rattle.lx_turn.specs.Injection.{choice_of_task};
 ghost use Rattle.lx_turn.specs.Turned.{turned, unboxed, IsLeft, IsBirth};
 ghost use Rattle.lx_kernel.specs.Advances.{Leads};
-ghost use Rattle.lx_kernel.specs.Bursts.{Burst};
+ghost use Rattle.lx_kernel.specs.Choices.{under, turn_choosing_in, after_choosing};
 ghost use Rattle.lx_kernel.specs.Occurrences.{Agree};
 ghost use Rattle.lx_kernel.specs.Outcomes.{outcome_in};
 ghost use Rattle.lx_kernel.specs.Runs.{turn_in, after_turn, is_able_in, mode_in, kept_log};
@@ -28,18 +28,19 @@ ghost use Rattle.lx_kernel.specs.Tracing.{with_regs, with_change, with_part};
 ghost use Rattle.lx_kernel.specs.Turns.{Turns, without_gone, tasks_with, next_child};
 ghost use Rattle.lx_kernel.specs.Waking.{Calms, LeavesStopped};
 
-use crate::advances::{InPlace, advance_at};
+use crate::advances::advance_at;
+use crate::choosing::always;
 use crate::log::Log;
-use crate::moves::move_at;
 use crate::outcome::outcome;
 use crate::run_queue::{Hints, RunQueue};
 use crate::scheduling::{can_turn_at, next_in_cycle};
+use crate::tracing;
 use crate::tracing::Change;
 use crate::waking::{TurnTaken, take_turn};
-use crate::{bursts, tracing};
 use containers::{Bytes, Seq};
 use lx_abi::{
-    Call, Cause, Ended, Item, Mode, Occurrences, Outcome, RegisterSet, Registers, Script, Signal,
+    Call, Cause, Choice, Ended, Item, Mode, Occurrences, Outcome, RegisterSet, Registers, Script,
+    Signal,
 };
 use lx_model::{PtraceEvent, Stage, Task};
 use lx_proc::{ProcessLimits, Shared, UserState};
@@ -48,6 +49,7 @@ use rv_hart::DecodedCode;
 use shelves::Shelf;
 use std::alloc::{AllocError, Global};
 use std::marker::Model;
+use std::mem;
 
 /// Want of memory was met, now or before: every turn answers this from then on.
 #[derive(Clone, Copy, Debug, PartialEq, Eq)]
@@ -69,10 +71,12 @@ pub struct Moved {
     pub event: PtraceEvent<u32>,
 }
 
-/// How many turns there were in a row, where their process stands, and what the last did beside, a child by its pid.
+/// How many turns there were in a row, a process's mode before them and after them, and what the last did beside, a
+/// child by its pid; no mode where it isn't in the table.
 #[derive(Clone, Copy, Debug, PartialEq, Eq)]
 pub struct Advanced {
     pub turns: u64,
+    pub before: Option<Mode>,
     pub after: Option<Mode>,
     pub event: PtraceEvent<u32>,
 }
@@ -306,40 +310,15 @@ impl Kernel {
         }
     }
 
-    /// The next turn of a process, if it changes only where the process stands; else nothing is changed.
-    fn move_on(&mut self, pid: u32) -> Option<Moved>
-        ensures before { IfSome result (λ m. m.before ≡ mode_in self.old pid) }
-        ensures after { IfSome result (λ m. m.after ≡ mode_in self.new pid) }
-        ensures item { IfSome result (λ m. m.item ≡ item_of (turn_in self.old pid)) }
-        ensures event { IfSome result (λ m. m.event ≡ by_pid self.old.running.child (turn_in self.old pid).event) }
-        ensures turned { OnSome result (self.new ≡ after_turn self.old pid) }
-        ensures failed { IsTrue self.old.failed → result ≡ None }
-        ensures same { result ≡ None → self.new ≡ self.old }
-    {
-        if self.failed {
-            return None;
-        }
-        let injection = Injection {
-            script: &self.script,
-            occurrences: &self.occurrences,
-            follow: self.follow,
-        };
-        move_at(
-            &self.shared,
-            &mut self.tasks,
-            &mut self.log,
-            &injection,
-            pid,
-        )
-    }
-
     /// One turn of a process, of any kind. Apart, since a function pays at its entry for the size of its locals.
     #[inline(never)]
-    fn turn_whole(&mut self, pid: u32) -> Result<Moved, Failed>
-        ensures before { IfOk result (λ m. m.before ≡ mode_in self.old pid) }
-        ensures after { IfOk result (λ m. m.after ≡ mode_in self.new pid) }
-        ensures item { IfOk result (λ m. m.item ≡ item_of (turn_in self.old pid)) }
-        ensures event { IfOk result (λ m. m.event ≡ by_pid self.old.running.child (turn_in self.old pid).event) }
+    fn turn_whole(&mut self, pid: u32, item: &mut Option<Item>) -> Result<Advanced, Failed>
+        requires { item.old ≡ None }
+        ensures one { IfOk result (λ a. a.turns ≡ 1) }
+        ensures before { IfOk result (λ a. a.before ≡ mode_in self.old pid) }
+        ensures after { IfOk result (λ a. a.after ≡ mode_in self.new pid) }
+        ensures item { OnOk result (item.new ≡ item_of (turn_in self.old pid)) }
+        ensures event { IfOk result (λ a. a.event ≡ by_pid self.old.running.child (turn_in self.old pid).event) }
         ensures turned { OnOk result (self.new ≡ after_turn self.old pid) }
         ensures failed { OnErr result (IsTrue self.new.failed) }
         ensures failed_before { IsTrue self.old.failed → IsErr result }
@@ -357,7 +336,6 @@ impl Kernel {
             follow: self.follow,
         };
         let last_pid = self.shared.limits.last_pid;
-        let mut item = None;
         let taken = turn_at(
             self.alloc,
             &mut self.shared,
@@ -365,7 +343,7 @@ impl Kernel {
             &injection,
             self.child,
             pid,
-            &mut item,
+            item,
         )?;
         let TurnTaken {
             before,
@@ -388,58 +366,15 @@ impl Kernel {
             calm,
             Hints { may_wait, gone },
         );
-        log_item(&mut self.log, &mut self.occurrences, &item)?;
+        log_item(&mut self.log, &mut self.occurrences, item)?;
         let after = mode_after(&self.shared, &self.tasks, pid, event, after);
         self.failed = false;
-        Ok(Moved {
+        Ok(Advanced {
+            turns: 1,
             before,
             after,
-            item,
             event,
         })
-    }
-
-    /// One turn of a process. A pid that isn't in the table changes nothing.
-    pub fn turn(&mut self, pid: u32) -> Result<Moved, Failed>
-        ensures before { IfOk result (λ m. m.before ≡ mode_in self.old pid) }
-        ensures after { IfOk result (λ m. m.after ≡ mode_in self.new pid) }
-        ensures item { IfOk result (λ m. m.item ≡ item_of (turn_in self.old pid)) }
-        ensures event { IfOk result (λ m. m.event ≡ by_pid self.old.running.child (turn_in self.old pid).event) }
-        ensures turned { OnOk result (self.new ≡ after_turn self.old pid) }
-
-        // Once want of memory was met, every turn answers so; the log and the console stay as they were.
-        ensures failed { OnErr result (IsTrue self.new.failed) }
-        ensures failed_before { IsTrue self.old.failed → IsErr result }
-        ensures log { OnErr result (self.new.running.log ≡ self.old.running.log) }
-        ensures console { OnErr result (self.new.running.shared.console ≡ self.old.running.shared.console) }
-
-        // A process that isn't there needs no memory.
-        ensures absent { self.old.failed ≡ false → task_in self.old pid ≡ Gone → IsOk result }
-    {
-        match self.move_on(pid) {
-            Some(moved) => Ok(moved),
-            None => self.turn_whole(pid),
-        }
-    }
-
-    /// Turns of a process while each begins and ends in Run, at most `limit`: how many there were.
-    ///
-    /// These are the turns that log nothing and change nothing but the process's own registers and
-    /// memory, so many of them cost one look at the tables.
-    pub fn run(&mut self, pid: u32, limit: u64) -> Result<u64, Failed>
-        ensures burst { IfOk result (λ n. Burst self.old pid limit n self.new) }
-        ensures failed { OnErr result (IsTrue self.new.failed) }
-        ensures failed_before { IsTrue self.old.failed → IsErr result }
-        ensures log { OnErr result (self.new.running.log ≡ self.old.running.log) }
-        ensures console { OnErr result (self.new.running.shared.console ≡ self.old.running.shared.console) }
-    {
-        if self.failed {
-            return Err(Failed);
-        }
-        self.failed = true;
-        let ran = bursts::run(&self.shared, &mut self.tasks, &mut self.decoder, pid, limit)?;
-        self.failed = false;
-        Ok(ran)
     }
 
     /// The next turns of a process, as far as they can be made in place.
@@ -448,15 +383,18 @@ impl Kernel {
         pid: u32,
         limit: u64,
         item: &mut Option<Item>,
-    ) -> Result<InPlace, Failed>
+    ) -> Result<Advanced, Failed>
         requires { item.old ≡ None }
         ensures leads { IfOk result (λ a. Leads self.old pid a.turns item.new Plain self.new) }
         ensures within { IfOk result (λ a. a.turns ≤ limit) }
+        ensures before { IfOk result (λ a. a.before ≡ mode_in self.old pid) }
         ensures after { IfOk result (λ a. a.after ≡ mode_in self.new pid) }
+        ensures event { IfOk result (λ a. a.event ≡ Plain) }
         ensures failed { OnErr result (IsTrue self.new.failed) }
         ensures failed_before { IsTrue self.old.failed → IsErr result }
         ensures log { OnErr result (self.new.running.log ≡ self.old.running.log) }
         ensures console { OnErr result (self.new.running.shared.console ≡ self.old.running.shared.console) }
+        ensures absent { self.old.failed ≡ false → task_in self.old pid ≡ Gone → IsOk result }
     {
         if self.failed {
             return Err(Failed);
@@ -487,7 +425,7 @@ impl Kernel {
     /// leave it able, where it runs instructions or is in a call. What the last logs is put into `item`.
     ///
     /// From the end of a call to the next call they are made at once, and so is a call that asks only for its process's
-    /// own part; elsewhere it is one turn.
+    /// own part; elsewhere it is one turn. There is no other way to make a turn.
     pub fn advance(
         &mut self,
         pid: u32,
@@ -497,6 +435,7 @@ impl Kernel {
         ensures leads { IfOk result (λ a. Leads self.old pid a.turns item.new a.event self.new) }
         ensures some { IfOk result (λ a. 0 < limit → 0 < a.turns) }
         ensures within { IfOk result (λ a. a.turns ≤ limit) }
+        ensures before { IfOk result (λ a. a.before ≡ mode_in self.old pid) }
         ensures after { IfOk result (λ a. a.after ≡ mode_in self.new pid) }
 
         // Once want of memory was met, every call answers so; the log and the console stay as they were.
@@ -504,23 +443,88 @@ impl Kernel {
         ensures failed_before { IsTrue self.old.failed → IsErr result }
         ensures log { OnErr result (self.new.running.log ≡ self.old.running.log) }
         ensures console { OnErr result (self.new.running.shared.console ≡ self.old.running.shared.console) }
+
+        // A process that isn't there needs no memory.
+        ensures absent { self.old.failed ≡ false → task_in self.old pid ≡ Gone → IsOk result }
     {
         *item = None;
         let advanced = self.advance_in_place(pid, limit, item)?;
         if advanced.turns > 0 || limit == 0 {
-            return Ok(Advanced {
-                turns: advanced.turns,
-                after: advanced.after,
-                event: PtraceEvent::Plain,
-            });
+            return Ok(advanced);
         }
-        let moved = self.turn(pid)?;
-        *item = moved.item;
-        Ok(Advanced {
-            turns: 1,
-            after: moved.after,
-            event: moved.event,
+        let turned = self.turn_whole(pid, item)?;
+        Ok(turned)
+    }
+
+    /// One turn of a process. A pid that isn't in the table changes nothing.
+    pub fn turn(&mut self, pid: u32) -> Result<Moved, Failed>
+        ensures before { IfOk result (λ m. m.before ≡ mode_in self.old pid) }
+        ensures after { IfOk result (λ m. m.after ≡ mode_in self.new pid) }
+        ensures item { IfOk result (λ m. m.item ≡ item_of (turn_in self.old pid)) }
+        ensures event { IfOk result (λ m. m.event ≡ by_pid self.old.running.child (turn_in self.old pid).event) }
+        ensures turned { OnOk result (self.new ≡ after_turn self.old pid) }
+
+        // Once want of memory was met, every turn answers so; the log and the console stay as they were.
+        ensures failed { OnErr result (IsTrue self.new.failed) }
+        ensures failed_before { IsTrue self.old.failed → IsErr result }
+        ensures log { OnErr result (self.new.running.log ≡ self.old.running.log) }
+        ensures console { OnErr result (self.new.running.shared.console ≡ self.old.running.shared.console) }
+
+        // A process that isn't there needs no memory.
+        ensures absent { self.old.failed ≡ false → task_in self.old pid ≡ Gone → IsOk result }
+    {
+        let mut item = None;
+        let advanced = self.advance(pid, 1, &mut item)?;
+        Ok(Moved {
+            before: advanced.before,
+            after: advanced.after,
+            item,
+            event: advanced.event,
         })
+    }
+
+    /// One turn of a process under another script, of whom it is asked for too; the kernel's own stays.
+    fn turn_under(&mut self, pid: u32, script: Script) -> Result<Moved, Failed>
+        ensures before { IfOk result (λ m. m.before ≡ mode_in self.old pid) }
+        ensures after { IfOk result (λ m. m.after ≡ mode_in self.new pid) }
+        ensures item { IfOk result (λ m. m.item ≡ item_of (turn_in (under self.old script) pid)) }
+        ensures event { IfOk result (λ m. m.event ≡ by_pid self.old.running.child (turn_in (under self.old script) pid).event) }
+        ensures turned { OnOk result (self.new ≡ record self.old { running = (after_turn (under self.old script) pid).running }) }
+        ensures failed { OnErr result (IsTrue self.new.failed) }
+        ensures failed_before { IsTrue self.old.failed → IsErr result }
+        ensures log { OnErr result (self.new.running.log ≡ self.old.running.log) }
+        ensures console { OnErr result (self.new.running.shared.console ≡ self.old.running.shared.console) }
+    {
+        let own = mem::replace(&mut self.script, script);
+        let follow = mem::replace(&mut self.follow, true);
+        let moved = self.turn(pid);
+        drop(mem::replace(&mut self.script, own));
+        self.follow = follow;
+        moved
+    }
+
+    /// One turn of a process in which this is done to the call that it has entered, whatever the script does to it, and
+    /// whether the process is a tracee or not.
+    pub fn turn_choosing(&mut self, pid: u32, choice: Choice) -> Result<Moved, Failed>
+        ensures before { IfOk result (λ m. m.before ≡ mode_in self.old pid) }
+        ensures after { IfOk result (λ m. m.after ≡ mode_in self.new pid) }
+        ensures item { IfOk result (λ m. m.item ≡ item_of (turn_choosing_in self.old pid choice)) }
+        ensures event { IfOk result (λ m. m.event ≡ by_pid self.old.running.child (turn_choosing_in self.old pid choice).event) }
+        ensures turned { OnOk result (self.new ≡ after_choosing self.old pid choice) }
+
+        // As of a turn. This one needs memory.
+        ensures failed { OnErr result (IsTrue self.new.failed) }
+        ensures failed_before { IsTrue self.old.failed → IsErr result }
+        ensures log { OnErr result (self.new.running.log ≡ self.old.running.log) }
+        ensures console { OnErr result (self.new.running.shared.console ≡ self.old.running.shared.console) }
+    {
+        match always(self.alloc, choice) {
+            Ok(script) => self.turn_under(pid, script),
+            Err(_) => {
+                self.failed = true;
+                Err(Failed)
+            }
+        }
     }
 
     /// A turn of the process would run an instruction or change its mode: it is in the table, and neither waits nor is

@@ -2,6 +2,7 @@
 
 ghost use Rattle.lx_kernel.specs.Laws.{BootsAreFirst, TurnsAreSteps, BootsRunAlike, LogsAreApart};
 ghost use Rattle.lx_kernel.specs.Laws.{TurnsLogWords, BootsLogWords, KernelsLogWords};
+ghost use Rattle.lx_kernel.specs.Choices.{TurnsChoose};
 ghost use Rattle.lx_kernel.specs.Waking.{CalmTurnsWakeNobody, TurnsLeaveStopped};
 
 use lx_model::laws::kernels_run_alike;
@@ -37,4 +38,9 @@ pub fn calm_turns_wake_nobody()
 /// child that is born.
 pub fn turns_leave_stopped()
     ensures { TurnsLeaveStopped }
+{}
+
+/// A turn is the one in which that is done to the call that the process has entered what the script does to it.
+pub fn turns_choose()
+    ensures { TurnsChoose }
 {}

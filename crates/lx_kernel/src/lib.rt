@@ -3,12 +3,12 @@
 
 mod advances;
 mod blocking;
-mod bursts;
+mod choosing;
 mod first;
+mod instructions;
 pub mod kernel;
 pub mod laws;
 mod log;
-mod moves;
 mod outcome;
 mod run_queue;
 mod scheduling;

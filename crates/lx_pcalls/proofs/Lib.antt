@@ -3,3 +3,4 @@ pub mod Children
 pub mod Releasing
 pub mod Free
 pub mod Blocking
+pub mod ProcessAnswers

@@ -17,3 +17,4 @@ pub mod Interruption
 pub mod Taking
 pub mod Ends
 pub mod Stops
+pub mod Errors

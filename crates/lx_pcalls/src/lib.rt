@@ -1,23 +1,23 @@
 //! Calls on processes, memory and signals, and what signals do to a process.
 #![tactic(auto)]
 
-mod brk;
+pub mod brk;
 mod calls;
-mod clone;
+pub mod clone;
 mod ending;
-mod exit;
-mod getpid;
-mod getppid;
+pub mod exit;
+pub mod getpid;
+pub mod getppid;
 mod interruption;
-mod kill;
-mod mmap;
-mod munmap;
-mod rt_sigaction;
-mod rt_sigprocmask;
-mod rt_sigreturn;
-mod sched_yield;
+pub mod kill;
+pub mod mmap;
+pub mod munmap;
+pub mod rt_sigaction;
+pub mod rt_sigprocmask;
+pub mod rt_sigreturn;
+pub mod sched_yield;
 pub mod taking;
-mod wait4;
+pub mod wait4;
 
 pub use calls::{process_blocks, process_call, would_block};
 pub use ending::{die, is_continued, release_task, settle, stop, wake};

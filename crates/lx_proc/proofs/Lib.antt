@@ -7,3 +7,5 @@ pub mod Ended
 pub mod PairSets
 pub mod Kin
 pub mod Searching
+pub mod Checks
+pub mod Placing

@@ -1,5 +1,6 @@
 pub mod State
 pub mod Answers
+pub mod Refusals
 pub mod Registers
 pub mod Sending
 pub mod Starts

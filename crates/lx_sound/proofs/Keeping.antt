@@ -2,7 +2,7 @@
 use Rattle.std.proofs.Common.{◌≡◌, ℕ, suc, ◌≤◌, Bool, true, false, cond, List, Option, Some, None, refl, sym, subst, ◌∙◌, arith, length}
 use Rattle.std.specs.Prelude.{is_some, max}
 use Rattle.std.specs.declared.result.Result.{Result}
-use Rattle.std.specs.declared.result.Result.TheVariants.{Ok, Err}
+use Rattle.std.specs.declared.result.Result.TheVariants.{Ok}
 use Rattle.std.specs.FinMap as maps
 use Rattle.rv_mem.specs.Memory.{first_fault, written}
 use Rattle.rv_mem.specs.declared.rights.Access.TheVariants as access
@@ -16,6 +16,7 @@ use Rattle.lx_proc.specs.declared.state.UserState.{UserState}
 use Rattle.lx_proc.specs.State.{Entries, changed, with_entries, with_memory}
 use Rattle.lx_proc.specs.Answers.{Answers, unless, given, granted, gives}
 use Rattle.lx_proc.specs.WaitWords.{Words}
+use Rattle.lx_proc.proofs.Checks as checks
 use Rattle.lx_pcalls.specs.Clone.{has_room, with_child, child_entry}
 use Rattle.lx_sound.specs.Parts.{lives, EntrySound, EntriesSound, PartsSound}
 use Rattle.lx_sound.specs.Sound.{Agree, HasWord, Sound}
@@ -110,20 +111,16 @@ module _ (child : ℕ) (s : Shared) (p : ℕ) where
   KeptIf (Some a) = Kept a
 
   pub either_kept : (test : Bool) (x y : Answers) → Kept x → (test ≡ false → Kept y) → Kept (cond test x y)
-  either_kept true x y h g = h
-  either_kept false x y h g = g refl
+  either_kept test x y h g = checks.either Kept test x y (λ is. h) g
 
   pub unless_kept : (test : Bool) (e : ℕ) (a : Answers) → (test ≡ true → Kept a) → Kept (unless test e a)
-  unless_kept true e a h = h refl
-  unless_kept false e a h = tt
+  unless_kept test e a h = checks.checked Kept test e a tt h
 
   pub given_kept : {A : Type 0} (o : Option A) (e : ℕ) (f : A → Answers) → ((x : A) → o ≡ Some x → Kept (f x)) → Kept (given o e f)
-  given_kept None e f h = tt
-  given_kept (Some x) e f h = h x refl
+  given_kept o e f h = checks.named Kept o e f tt h
 
   pub granted_kept : {A : Type 0} (r : Result A ℕ) (f : A → Answers) → ((x : A) → r ≡ Ok x → Kept (f x)) → Kept (granted r f)
-  granted_kept (Err e) f h = tt
-  granted_kept (Ok x) f h = h x refl
+  granted_kept r f h = checks.allowed Kept r f (checks.of_any (λ e. Unit {0}) (λ e. tt) r) h
 
   pub gives_kept : (t : Shared) (b : UserState) (at : ℕ) (bytes : List ℕ) (result : ℕ) → Keeps s t → Kept (gives t b at bytes result)
   gives_kept t b at bytes result h = either_kept (is_some (first_fault access.Write b.memory at (length bytes))) _ (Returns t (with_memory b (written b.memory at bytes)) result) tt (λ e. h)

@@ -11,9 +11,13 @@ pub mod Files
 pub mod Processes
 pub mod Pages
 pub mod Bodies
-pub mod FileBodies
 pub mod ProcessBodies
 pub mod Ends
 pub mod Booted
 pub mod Turns
 pub mod Counts
+pub mod Limits
+pub mod Jobs
+pub mod CallJobs
+pub mod Stops
+pub mod Continues

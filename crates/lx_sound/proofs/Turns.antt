@@ -53,7 +53,7 @@ use Rattle.lx_boot.specs.Boots.{fault_of}
 use Rattle.lx_boot.specs.First.{first_entry, first_fds, first_shared, reads, writes}
 use Rattle.lx_exec.specs.Programs.{stub_image, booted}
 use Rattle.lx_fcalls.specs.Calls.{file_call}
-use Rattle.lx_pcalls.specs.Calls.{process_call}
+use Rattle.lx_fcalls.proofs.FileAnswers.{files_hold}
 use Rattle.lx_pcalls.specs.Interruption.{is_interrupted, interruptible, blocks_or_returns}
 use Rattle.lx_pcalls.specs.Stops.{is_continued_at, settles, stopped, woken}
 use Rattle.lx_pcalls.specs.Taking.{takes, takes_at, reacts}
@@ -71,8 +71,8 @@ use Rattle.lx_sound.proofs.Entries.{put_sound, signals_sound, received_sound}
 use Rattle.lx_sound.proofs.Changes.{Change, Opens, done, parts_done}
 use Rattle.lx_sound.proofs.Masks.{taken_signals, blocked_signals, first_signals}
 use Rattle.lx_sound.proofs.Pages.{written_few, stepped_few, program_few}
-use Rattle.lx_sound.proofs.Bodies.{LeavesFew, LeavesFewIf}
-use Rattle.lx_sound.proofs.FileBodies.{files_few}
+use Rattle.lx_sound.proofs.Bodies.{LeavesFew, files_few}
+use Rattle.lx_pcalls.proofs.ProcessAnswers.{processes_hold}
 use Rattle.lx_sound.proofs.ProcessBodies.{processes_few}
 use Rattle.lx_sound.proofs.Booted.{IsWithin, boots_within}
 use Rattle.lx_sound.proofs.Keeping.{Keeps, keeps_all, keeps_then, changed_keeps, kept_sound, DoesKeep, KeptIf}
@@ -95,20 +95,16 @@ interruptible_kept child s p b (Bears t c newborn) h = h
 interruptible_kept child s p b Blocks h = interrupted_kept child s p b (is_interrupted (maps.get s.entries p))
 interruptible_kept child s p b (Ends w) h = h
 
-process_kept : (child : ℕ) (s : Shared) (p : ℕ) (o : Option Answers) → KeptIf child s p o → DoesKeep child s p (unwrap_or o (Refused enosys))
-process_kept child s p None h = tt
-process_kept child s p (Some a) h = h
-
 file_kept : (child : ℕ) (s : Shared) (p : ℕ) (o : Option Answers) (other : Answers) → KeptIf child s p o → DoesKeep child s p other → DoesKeep child s p (unwrap_or o other)
 file_kept child s p None other h g = g
 file_kept child s p (Some a) other h g = h
 
-does_kept : (child : ℕ) (s : Shared) (p : ℕ) (call : Call) (b : UserState) → PartsSound s → is_living (maps.get s.entries p) ≡ true → DoesKeep child s p (does s child p call b)
+pub does_kept : (child : ℕ) (s : Shared) (p : ℕ) (call : Call) (b : UserState) → PartsSound s → is_living (maps.get s.entries p) ≡ true → DoesKeep child s p (does s child p call b)
 unfolding does
 does_kept child s p call b h alive =
     interruptible_kept child s p b (called s child p call b)
     (file_kept child s p (file_call s p call b) _ (files_kept child s p call b h alive)
-    (process_kept child s p (process_call s child p call b) (processes_kept child s p call b h alive)))
+    (processes_hold s child p call b (DoesKeep child s p) (processes_kept child s p call b h alive) (Refused enosys) tt))
 
 -- and of the caller's memory
 
@@ -125,15 +121,11 @@ interruptible_few s p b (Bears t c newborn) few h = h
 interruptible_few s p b Blocks few h = interrupted_few s b (is_interrupted (maps.get s.entries p)) few
 interruptible_few s p b (Ends w) few h = h
 
-or_few : (o : Option Answers) (other : Answers) → LeavesFewIf o → LeavesFew other → LeavesFew (unwrap_or o other)
-or_few None other h g = g
-or_few (Some a) other h g = h
-
 does_few : (child : ℕ) (s : Shared) (p : ℕ) (call : Call) (b : UserState) → HasFewPages b.memory → LeavesFew (does s child p call b)
 unfolding does
 does_few child s p call b few =
     interruptible_few s p b (called s child p call b) few
-    (or_few (file_call s p call b) _ (files_few s p call b few) (or_few (process_call s child p call b) (Refused enosys) (processes_few child s p call b few) tt))
+    (files_hold s p call b LeavesFew (files_few s p call b few) _ (processes_hold s child p call b LeavesFew (processes_few s child p call b few) (Refused enosys) tt))
 
 abbrev TookFew : Took Shared UserState → Type 0
 TookFew (Passes t c) = HasFewPages c.memory
@@ -158,7 +150,7 @@ takes_few : (s : Shared) (p : ℕ) (b : UserState) (signal : Signal) (cause : Ca
 unfolding takes
 takes_few s p b signal cause few = takes_at_few s p b signal cause (maps.get s.entries p) few
 
-abbrev TookKeeps : Shared → Took Shared UserState → Type 0
+abbrev pub TookKeeps : Shared → Took Shared UserState → Type 0
 TookKeeps s (Passes t c) = Keeps s t
 TookKeeps s Stops = Unit {0}
 TookKeeps s (Kills w) = Unit {0}
@@ -179,7 +171,7 @@ takes_at_kept : (s : Shared) (p : ℕ) (b : UserState) (signal : Signal) (cause 
 takes_at_kept s p b signal cause None h is = keeps_all s
 takes_at_kept s p b signal cause (Some e) h is = reacts_kept s p e b signal cause (h.entries p e is).signals (reaction_to e.signals signal cause) refl
 
-takes_kept : (s : Shared) (p : ℕ) (b : UserState) (signal : Signal) (cause : Cause) → PartsSound s → TookKeeps s (takes s p b signal cause)
+pub takes_kept : (s : Shared) (p : ℕ) (b : UserState) (signal : Signal) (cause : Cause) → PartsSound s → TookKeeps s (takes s p b signal cause)
 unfolding takes
 takes_kept s p b signal cause h = takes_at_kept s p b signal cause (maps.get s.entries p) h refl
 
@@ -187,12 +179,12 @@ join_kept : (s : Shared) (p : ℕ) (x : Option Signal) → Keeps s (joins linux 
 join_kept s p None = keeps_all s
 join_kept s p (Some signal) = changed_keeps s p _ (λ e. refl) (λ e h. received_sound s.tree e signal By_kernel h)
 
-joins_kept : (s : Shared) (p : ℕ) (x y : Option Signal) → Keeps s (joins linux (joins linux s p x) p y)
+pub joins_kept : (s : Shared) (p : ℕ) (x y : Option Signal) → Keeps s (joins linux (joins linux s p x) p y)
 joins_kept s p x y = keeps_then s (joins linux s p x) (joins linux (joins linux s p x) p y) (join_kept s p x) (join_kept (joins linux s p x) p y)
 
 -- A turn.
 
-alive_is : (o : Option Entry) (b : UserState) (stage : Stage) → Agree o (task.Alive b stage) → is_living o ≡ true
+pub alive_is : (o : Option Entry) (b : UserState) (stage : Stage) → Agree o (task.Alive b stage) → is_living o ≡ true
 alive_is None b stage agrees = absurd agrees
 alive_is (Some e) b stage agrees = ap is_alive agrees
 

@@ -6,3 +6,5 @@ pub mod Pages
 pub mod Parts
 pub mod Sound
 pub mod Counts
+pub mod Limits
+pub mod Jobs

@@ -1,7 +1,6 @@
 -- Every call's answer fits, and so does every signal that is taken.
 use Rattle.std.specs.Prelude.{◌==◌, ◌&&◌, ◌||◌}
 use Rattle.std.proofs.Common.{◌≡◌, ℕ, Bool, true, false, cond, Option, Some, None, is_some, refl}
-use Rattle.std.specs.Option.{unwrap_or}
 use Rattle.std.specs.FinMap as maps
 use Rattle.lx_abi.specs.Errnos.{enosys}
 use Rattle.lx_abi.specs.declared.log.Call.{Call}
@@ -20,14 +19,13 @@ use Rattle.lx_proc.specs.declared.state.Shared.{Shared}
 use Rattle.lx_proc.specs.declared.state.UserState.{UserState}
 use Rattle.lx_proc.specs.declared.state.Entry.{Entry}
 use Rattle.lx_proc.specs.Answers.{Answers}
-use Rattle.lx_fcalls.specs.Calls.{file_call}
-use Rattle.lx_pcalls.specs.Calls.{process_call}
+use Rattle.lx_fcalls.proofs.FileAnswers.{OfFiles, files_hold}
 use Rattle.lx_pcalls.specs.Interruption.{is_interrupted, interruptible, blocks_or_returns}
 use Rattle.lx_pcalls.specs.Taking.{takes, takes_at, reacts}
 use Rattle.lx_turn.specs.Calls.{does, called}
 use Rattle.lx_turn.specs.Fitting.{Fits, CallsFit, TookFits, TakesFit}
-use Rattle.lx_turn.proofs.FilesFit as files
-use Rattle.lx_turn.proofs.ProcessesFit as processes
+use Rattle.lx_pcalls.proofs.ProcessAnswers.{processes_hold}
+use Rattle.lx_turn.proofs.ProcessesFit.{process_fits}
 
 blocked_or_returned : (child : ℕ) (s : Shared) (call : Call) (b : UserState) (interrupted : Bool) → Fits child s call (blocks_or_returns s b interrupted)
 blocked_or_returned child s call b true = refl
@@ -42,20 +40,22 @@ interrupted_fits child s p call b (Bears t c newborn) h = h
 interrupted_fits child s p call b Blocks h = blocked_or_returned child s call b (is_interrupted (maps.get s.entries p))
 interrupted_fits child s p call b (Ends w) h = h
 
-process_fits : (child : ℕ) (s : Shared) (p : ℕ) (call : Call) (b : UserState) (o : Option Answers) → processes.FitIf s child p call b o → Fits child s call (unwrap_or o (Refused enosys))
-process_fits child s p call b None h = tt
-process_fits child s p call b (Some a) h = h
-
-file_fits : (child : ℕ) (s : Shared) (p : ℕ) (call : Call) (b : UserState) (o : Option Answers) (other : Answers) → files.FitIf s p call b child o → Fits child s call other → Fits child s call (unwrap_or o other)
-file_fits child s p call b None other h g = g
-file_fits child s p call b (Some a) other h g = h
+file_fits : (child : ℕ) (s : Shared) (p : ℕ) (call : Call) (b : UserState) → OfFiles s p call b (Fits child s call)
+file_fits child s p call b = record {
+  refuses = λ e listed. tt;
+  waits = λ k. tt;
+  returns = λ tree fds input console x. refl;
+  writes = λ tree fds input console at bytes x. refl;
+  goes = λ path. refl;
+  breaks = refl;
+}
 
 pub calls_fit : CallsFit
 unfolding does
 calls_fit s child p call b =
     interrupted_fits child s p call b (called s child p call b)
-    (file_fits child s p call b (file_call s p call b) _ (files.files_fit s p call b child)
-    (process_fits child s p call b (process_call s child p call b) (processes.process_fits s child p call b)))
+    (files_hold s p call b (Fits child s call) (file_fits child s p call b) _
+    (processes_hold s child p call b (Fits child s call) (process_fits child s p call b) (Refused enosys) tt))
 
 -- signals
 

@@ -1,9 +1,7 @@
 pub mod Births
 pub mod CallsFit
 pub mod Consoles
-pub mod FilesFit
 pub mod LinuxLaws
-pub mod Plainness
 pub mod ProcessesFit
 pub mod Resuming
 pub mod Steps

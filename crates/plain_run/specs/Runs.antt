@@ -34,5 +34,11 @@ EndsAreSettled = (k : Run) (s : Schedule) (y z : Run) → RunsTo k s y → RunsT
 abbrev pub RunsKeepLogs : Type 0
 RunsKeepLogs = (k : Run) (s : Schedule) (z : Run) → RunsTo k s z → z.keeps_log ≡ k.keeps_log
 
+-- and whether it is kept changes nothing else of a run
+abbrev pub RunsGoAlike : Type 0
+RunsGoAlike =
+    (keeps : Bool) (k : Run) (s : Schedule) (z : Run) → RunsTo k s z
+    → RunsTo (record k { keeps_log = keeps }) s (record z { keeps_log = keeps })
+
 abbrev pub RunsAreTurns : Type 0
 RunsAreTurns = (k : Run) (s : Schedule) (z : Run) (to : RunsTo k s z) → z ≡ after_all k to.pids

@@ -1,7 +1,8 @@
 //! Who watches a run.
 
-ghost use Rattle.std.specs.Prelude.{OnErr, IsTrue};
+ghost use Rattle.std.specs.Prelude.{◌≡◌, ◌++◌, [], ◌∷◌, OnErr, IsTrue};
 
+use history::History;
 use lx_abi::Item;
 use lx_kernel::Kernel;
 
@@ -11,7 +12,11 @@ pub struct Weary;
 
 /// Is told what a kernel logs, as it is logged. What it does with that changes nothing of the run but where it ends.
 pub trait Watch {
-    ghost use Rattle.std.specs.Prelude.{Bool};
+    ghost use Rattle.std.specs.Prelude.{◌≡◌, ◌++◌, Bool, List, [], ◌∷◌};
+    ghost use Rattle.lx_abi.specs.declared.log.Item.{Item as Logged};
+
+    /// What it was told, in order.
+    ghost told: { Self → List Logged };
 
     /// It has said that it wants no more.
     ghost weary: { Self → Bool };
@@ -21,19 +26,38 @@ pub trait Watch {
 
     /// So many turns have logged nothing.
     fn pass(&mut self, turns: u64) -> Result<(), Weary>
-        ensures { OnErr result (IsTrue (weary self.new)) };
+        ensures told { told self.new ≡ told self.old }
+        ensures weary { OnErr result (IsTrue (weary self.new)) };
 
-    /// The kernel has logged this in its last turn.
+    /// The kernel has logged this in its last turn. What wants no more was told it all the same.
     fn see(&mut self, kernel: &Kernel, item: &Item) -> Result<(), Weary>
-        ensures { OnErr result (IsTrue (weary self.new)) };
+        ensures told { told self.new ≡ told self.old ++ item.now ∷ [] }
+        ensures weary { OnErr result (IsTrue (weary self.new)) };
 }
 
-/// Nobody.
-#[derive(Clone, Copy, Debug, PartialEq, Eq)]
-pub struct Unwatched;
+/// Nobody: what it is told is forgotten.
+#[derive(Drop)]
+pub struct Unwatched {
+    told: History<Item>,
+}
+
+impl Unwatched {
+    ghost use Rattle.plain_run.specs.Watched.{told_to};
+
+    pub fn new() -> Self
+        ensures { told_to result ≡ [] }
+    {
+        Unwatched {
+            told: History::new(),
+        }
+    }
+}
 
 impl Watch for Unwatched {
     ghost use Rattle.std.specs.Prelude.{false};
+    ghost use Rattle.plain_run.specs.Watched.{told_to};
+
+    ghost told = { told_to };
 
     ghost weary = { λ _. false };
 
@@ -45,7 +69,8 @@ impl Watch for Unwatched {
         Ok(())
     }
 
-    fn see(&mut self, _kernel: &Kernel, _item: &Item) -> Result<(), Weary> {
+    fn see(&mut self, _kernel: &Kernel, item: &Item) -> Result<(), Weary> {
+        self.told = self.told.and(item);
         Ok(())
     }
 }

@@ -1,5 +1,5 @@
 -- Turns of the kernel in a row are turns of the host.
-use Rattle.std.proofs.Common.{◌≡◌, ℕ, zero, suc, ◌<◌, Bool, true, false, cond, List, [], ◌∷◌, ◌++◌, replicate, Option, Some, None, unwrap_or, refl, sym, ap, ap₂, subst, ◌∙◌, append-nil, append_assoc, arith}
+use Rattle.std.proofs.Common.{◌≡◌, ℕ, zero, suc, ◌<◌, ◌≤◌, Bool, true, false, cond, List, [], ◌∷◌, ◌++◌, replicate, Option, Some, None, unwrap_or, refl, sym, ap, ap₂, subst, ◌∙◌, append-nil, append_assoc, arith}
 use Rattle.std.specs.Prelude.{◌&&◌}
 use Rattle.std.specs.Ordering.{nat_cmp}
 use Rattle.std.specs.FinMap as maps
@@ -201,3 +201,9 @@ kept_by_leads n k k' p item e leads =
       ap (λ (x : KernelRun). x.script) leads.2.turned ∙ before.0,
       ap (λ (x : KernelRun). x.follow) leads.2.turned ∙ before.1,
     )
+
+-- the first turn alone
+pub led_none : (n : ℕ) (h h' : HostState) (p : ℕ) → n ≤ 0 → Leads h p n h' → h' ≡ after h (Turn p)
+unfolding Leads
+led_none zero h h' p l leads = leads
+led_none (suc n) h h' p l leads = absurd (omega (arith, l))

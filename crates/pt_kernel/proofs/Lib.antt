@@ -5,8 +5,10 @@ pub mod Turning
 pub mod Answering
 pub mod Sweeping
 pub mod Keeping
-pub mod Bursting
+pub mod NextAble
 pub mod Advancing
 pub mod Alike
 pub mod Feeding
 pub mod Called
+pub mod Sights
+pub mod EagerTurns

@@ -1,9 +1,13 @@
--- Turns of one process in a row, each an event of the host, that leave it where it runs instructions.
-use Rattle.std.specs.Prelude.{◌≡◌, ℕ, zero, suc, ◌<◌, ◌≤◌, [], false}
+-- The host after an event, and turns of a process that run instructions.
+use Rattle.std.specs.Prelude.{◌≡◌, ℕ, false, Option, Some}
+use Rattle.std.specs.FinMap as maps
+use Rattle.lx_abi.specs.declared.log.Mode.{Mode}
+use Rattle.lx_abi.specs.declared.log.Mode.TheVariants as mode
 use Rattle.lx_abi.specs.declared.schedule.Event.{Event}
 use Rattle.lx_abi.specs.declared.schedule.Event.TheVariants.{Turn}
-use Rattle.lx_kernel.specs.Bursts.{StaysInRun}
-use Rattle.lx_kernel.specs.Runs.{Run}
+use Rattle.lx_model.specs.declared.stage.Task.TheVariants.{Gone}
+use Rattle.lx_model.specs.Finite.{at}
+use Rattle.lx_turn.specs.Modes.{task_mode}
 use Rattle.pt_model.specs.Hosting.{traced_at}
 use Rattle.pt_kernel.specs.Hosts.{HostState, readiness_of, event_of}
 
@@ -11,40 +15,27 @@ use Rattle.pt_kernel.specs.Hosts.{HostState, readiness_of, event_of}
 abbrev pub after : HostState → Event → HostState
 after h e = record { hosting = (event_of h e).hosting; follow = h.follow; failed = false }
 
--- the host after so many turns of a process
-unfoldable pub after_turns : HostState → ℕ → ℕ → HostState
-after_turns h pid zero = h
-after_turns h pid (suc n) = after_turns (after h (Turn pid)) pid n
+-- where a process stands
+abbrev pub mode_at : HostState → ℕ → Option Mode
+mode_at h pid =
+    task_mode (maps.get h.hosting.running.shared.entries pid) (at Gone h.hosting.running.tasks pid)
 
--- its kernel, which keeps no log
-abbrev pub kernel_of : HostState → Run
-kernel_of h = record {
-  running = h.hosting.running;
-  script = [];
-  follow = h.follow;
-  failed = false;
-  keeps_log = false;
-}
-
--- the next turn of a process that its tracer doesn't hold runs an instruction, and no request is ready before it
-pub record RunsOn (h : HostState) (pid : ℕ) : Type 0 where
-  pub waits : (readiness_of h).ready ≡ false
+-- it runs instructions, and its tracer doesn't hold it
+pub record IsRunning (h : HostState) (pid : ℕ) : Type 0 where
+  pub whole : h.failed ≡ false
   pub free : (traced_at h.hosting pid).held ≡ false
-  pub stays : StaysInRun (kernel_of h) pid
+  pub runs : mode_at h pid ≡ Some mode.Run
+
+-- and its next turn leaves it there
+pub record RunsOn (h : HostState) (pid : ℕ) : Type 0 where
+  pub running : IsRunning h pid
+  pub stays : mode_at (after h (Turn pid)) pid ≡ Some mode.Run
 
 -- the same processes are able
 abbrev pub AreAlike : HostState → HostState → Type 0
 AreAlike h h' =
     ((readiness_of h').able ≡ (readiness_of h).able) × ((readiness_of h').last_pid ≡ (readiness_of h).last_pid)
 
--- h' comes from h by n such turns, and n is the limit or the turn after them is no such one
-pub record Burst (h : HostState) (pid limit n : ℕ) (h' : HostState) : Type 0 where
-  pub whole : h.failed ≡ false
-  pub within : n ≤ limit
-  pub turned : h' ≡ after_turns h pid n
-  pub runs_on : (i : ℕ) → i < n → RunsOn (after_turns h pid i) pid
-  pub stopped : n < limit → RunsOn h' pid → ⊥
-
--- such turns leave able who was able
-abbrev pub BurstsLeaveAlike : Type 0
-BurstsLeaveAlike = (h h' : HostState) (pid limit n : ℕ) → Burst h pid limit n h' → AreAlike h h'
+-- such a turn leaves able who was able
+abbrev pub RunsLeaveAlike : Type 0
+RunsLeaveAlike = (h : HostState) (pid : ℕ) → RunsOn h pid → AreAlike h (after h (Turn pid))

@@ -8,3 +8,4 @@ pub mod Bursts
 pub mod Advances
 pub mod Attends
 pub mod Seen
+pub mod Eager

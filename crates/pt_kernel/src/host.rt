@@ -5,17 +5,18 @@ ghost use Rattle.lx_boot.specs.Boots.{fault_of, Refuses};
 ghost use Rattle.lx_boot.specs.declared.boots.BootFault.{BootFault};
 ghost use Rattle.lx_boot.specs.First.{first_shared};
 ghost use Rattle.lx_kernel.specs.Outcomes.{outcome_in};
+ghost use Rattle.lx_abi.specs.declared.log.Mode.TheVariants as modes;
 ghost use Rattle.lx_exec.specs.Programs.{booted};
 ghost use Rattle.pt_model.specs.Hosting.{first_hosting, hosting_asked, ready_in};
 ghost use Rattle.pt_kernel.specs.Hosts.{able_in, event_of, hosting_by, is_boot, readiness_of};
 ghost use Rattle.pt_kernel.specs.Advances.{Leads};
-ghost use Rattle.pt_kernel.specs.Bursts.{after, Burst};
+ghost use Rattle.pt_kernel.specs.Bursts.{after, mode_at, IsRunning, RunsOn};
 
 use crate::pending::{Asked, Pending};
 use crate::serving::serve;
 use crate::stops::{dies_after, is_effective, stop_after};
 use crate::tracees::{Tracees, Turned};
-use lx_abi::{Boot, Event, Outcome, Reply, Request, Script};
+use lx_abi::{Boot, Event, Mode, Outcome, Reply, Request, Script};
 use lx_boot::BootFault;
 use lx_kernel::{Failed, Kernel};
 use pt_model::Traced;
@@ -61,6 +62,12 @@ fn is_able(kernel: &Kernel, tracees: &Tracees, pid: u32) -> bool
     ensures { result ≡ able_in (hosting_by kernel.now.running tracees.now [] None) kernel.now.follow pid }
 {
     is_effective(kernel, pid, tracees.traced(pid)) && kernel.able(pid)
+}
+
+fn is_running(mode: Option<Mode>) -> bool
+    ensures { IsTrue result → mode ≡ Some modes.Run }
+{
+    mode == Some(Mode::Run)
 }
 
 /// A request is pending, and would be answered.
@@ -162,14 +169,33 @@ impl Host {
         Ok(advanced.turns - 1)
     }
 
-    /// One turn of a process, if its tracer doesn't hold it.
-    fn turn(&mut self, pid: u32) -> Result<(), Failed>
+    /// The process stands where it runs instructions.
+    fn is_in_run(&self, pid: u32) -> bool
+        ensures { IsTrue result → mode_at self.now pid ≡ Some modes.Run }
+    {
+        is_running(self.kernel.mode(pid))
+    }
+
+    /// And its tracer doesn't hold it.
+    fn runs(&self, pid: u32) -> bool
+        ensures { IsTrue result → IsRunning self.now pid }
+    {
+        !self.failed && is_running(self.kernel.mode(pid)) && !self.tracees.traced(pid).held
+    }
+
+    /// One turn of a process, if its tracer doesn't hold it: whether it ran an instruction and nothing more.
+    pub fn turn(&mut self, pid: u32) -> Result<bool, Failed>
         ensures after { OnOk result (self.new ≡ after self.old (Event.Turn pid)) }
+        ensures ran { IfOk result (λ ran. IsTrue ran → RunsOn self.old pid) }
         ensures failed { OnErr result (IsTrue self.new.failed) }
         ensures failed_before { IsTrue self.old.failed → IsErr result }
     {
+        let runs = self.runs(pid);
         self.advance(pid, 0)?;
-        Ok(())
+        if !runs {
+            return Ok(false);
+        }
+        Ok(self.is_in_run(pid))
     }
 
     /// The pending request is served whole.
@@ -217,31 +243,6 @@ impl Host {
                 Ok(reply)
             }
         }
-    }
-
-    /// Turns of a process while each runs an instruction, at most so many: how many there were. None where a request is
-    /// ready, or the tracer holds the process.
-    ///
-    /// They are the events of so many turns, for one look at the tables.
-    pub fn run(&mut self, pid: u32, limit: u64) -> Result<u64, Failed>
-        ensures burst { IfOk result (λ n. Burst self.old pid limit n self.new) }
-        ensures failed { OnErr result (IsTrue self.new.failed) }
-        ensures failed_before { IsTrue self.old.failed → IsErr result }
-    {
-        if self.failed {
-            return Err(Failed);
-        }
-        if self.ready() {
-            return Ok(0);
-        }
-        if self.tracees.traced(pid).held {
-            return Ok(0);
-        }
-        self.failed = true;
-        let ran = self.kernel.run(pid, limit)?;
-        self.turns.extend(pid, ran)?;
-        self.failed = false;
-        Ok(ran)
     }
 
     /// A request is pending, and would be answered.

@@ -1,6 +1,6 @@
 //! Laws of the definitions.
 
-ghost use Rattle.pt_kernel.specs.Bursts.{BurstsLeaveAlike};
+ghost use Rattle.pt_kernel.specs.Bursts.{RunsLeaveAlike};
 ghost use Rattle.pt_kernel.specs.Left.{BootsLeaveAsPlain};
 ghost use Rattle.pt_kernel.specs.Seen.{HostsAreCalled};
 ghost use Rattle.pt_model.specs.Headline.{IsTold, HeadlineAt};
@@ -11,9 +11,9 @@ use lx_proc::{Shared, UserState};
 use lx_turn::laws::{calls_fit, linux_is_a_machine};
 use pt_model::laws::{hosts_run_alike, tracing_is_transparent, turns_tell};
 
-/// Turns that run instructions leave able who was able.
-pub fn bursts_leave_alike()
-    ensures { BurstsLeaveAlike }
+/// A turn that runs an instruction leaves able who was able.
+pub fn runs_leave_alike()
+    ensures { RunsLeaveAlike }
 {}
 
 /// What wait(2) tells of Linux's calls fits their numbers, and no read of a memory gives more bytes than were asked

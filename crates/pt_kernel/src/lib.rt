@@ -3,6 +3,7 @@
 
 pub mod answers;
 pub mod attending;
+pub mod eager;
 pub mod host;
 pub mod laws;
 pub mod pending;

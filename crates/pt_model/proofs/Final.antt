@@ -47,12 +47,13 @@ module _ {S B : Type 0} (m : Machine S B) (o : Options) (script : Script) (s : S
   first_fresh : (q : ℕ) → 2 ≤ q → is_unborn (first_phase (q == 1) q) ≡ true
   first_fresh q l = let e : (q == 1) ≡ false = grind (arith, nat_tests) in rw e refl
 
-  first_tied : Tied m o script (first_world s b) (first_kernel s b)
-  first_tied = record {
+  pub first_tied : (loses : Bool) → Tied m o script loses (first_world s b) (first_kernel s b)
+  first_tied loses = record {
     phases = λ q. first_phase (q == 1) q;
     past = [];
     rest = [];
     lost = λ x. false;
+    spared = λ n q. refl;
     shared = refl;
     queue = refl;
     each = λ q. first_tie q (q == 1) refl;
@@ -137,7 +138,7 @@ pub transparent : {S B : Type 0} → IsTransparent S B
 transparent m laws words outcome o texts script s b events =
     let w = traced_run m outcome o script s b events in
     let k = plain_run m outcome o script s b events in
-    let t : Tied m o script w k = run_tied m outcome o script laws words texts events (first_world s b) (first_kernel s b) (first_tied m o script s b) in
+    let t : Tied m o script true w k = run_tied m outcome o script laws words texts events (first_world s b) (first_kernel s b) (first_tied m o script s b true) in
     record {
       same_outcome = ap outcome t.shared;
       admitted = λ e. cc (t.sane, ap is_stuck e);
@@ -146,9 +147,9 @@ transparent m laws words outcome o texts script s b events =
       lost = t.lost;
       tells = record {
         later = parts o (hand_at m t.phases w.tracer.focus ++ items_in t.rest);
-        begins = told_so_far m o script w k t;
-        whole = λ h. all_told m o script w k t (is_past_if w.tracer.focus h);
+        begins = told_so_far m o script true w k t;
+        whole = λ h. all_told m o script true w k t (is_past_if w.tracer.focus h);
       };
-      kept_back = none_kept_back m o script w k t;
-      all_ended = λ h q l g tr. the_dead_have_ended m script o.follow s b (effective m outcome o script (first_world s b) events) q l g (none_left m o script w k t (is_past_if w.tracer.focus h) q tr);
+      kept_back = none_kept_back m o script true w k t;
+      all_ended = λ h q l g tr. the_dead_have_ended m script o.follow s b (effective m outcome o script (first_world s b) events) q l g (none_left m o script true w k t (is_past_if w.tracer.focus h) q tr);
     }

@@ -40,7 +40,7 @@ use Rattle.pt_model.proofs.Admitted.{admitted}
 use Rattle.pt_model.proofs.Maps.{report_pid, among_last, among_new, among_old, equal_if, same_or_not, is_same, is_not_same, put_here, put_apart, items_in-append, parts-append}
 use Rattle.pt_model.proofs.Ties.{released, stage_at, hand_at, is_past, is_stuck, Tie, Tied, changed, due_after, due_apart, no_hand, or_true, still_fresh}
 
-module _ {S B : Type 0} (m : Machine S B) (o : Options) (script : Script) (w : World S B) (kernel : Kernel S B) where
+module _ {S B : Type 0} (m : Machine S B) (o : Options) (script : Script) (loses : Bool) (w : World S B) (kernel : Kernel S B) where
   -- Serve, while the tracer asks of p
   stage_here : (p : ℕ) (next : Option Awaiting) → stage_at p (focus_on p next) ≡ next
   stage_here p None = refl
@@ -51,7 +51,7 @@ module _ {S B : Type 0} (m : Machine S B) (o : Options) (script : Script) (w : W
   stage_apart p q d (Some st) = rw (is_not_same p q d) refl
 
   hand_said : (p : ℕ) (phases : ℕ → Phase B) (next : Phase B) (x : Option Awaiting) → stage_of m next ≡ x → hand_at m (put phases p next) (focus_on p x) ≡ hand_in m p next
-  hand_said p phases next None e = sym (no_hand m o script w kernel p next e)
+  hand_said p phases next None e = sym (no_hand m o script loses w kernel p next e)
   hand_said p phases next (Some st) e = ap (hand_in m p) (put_here phases p next)
 
   not_past : (p : ℕ) (x : Option Awaiting) → is_past (focus_on p x) ≡ true → ⊥
@@ -71,12 +71,12 @@ module _ {S B : Type 0} (m : Machine S B) (o : Options) (script : Script) (w : W
   seized_due : (p : ℕ) (ph next : Phase B) (b : Bool) (rest : List Due) (sz : Seizes m p ph next b) → due_in m p ph ≡ dues_of p rest → due_in m p next ≡ dues_of p (rest_of rest sz)
   unfolding rest_of
   seized_due p ph next b rest (Not_seized x y z) h = y ∙ h
-  seized_due p ph next b rest (Seized x y) h = y ∙ due_after m o script w kernel false p rest (Unlogged p At_start ∷ []) (due_in m p ph) h (refl, tt)
+  seized_due p ph next b rest (Seized x y) h = y ∙ due_after m o script loses w kernel false p rest (Unlogged p At_start ∷ []) (due_in m p ph) h (refl, tt)
 
   seized_apart : (p q : ℕ) (ph next : Phase B) (b : Bool) (rest : List Due) (sz : Seizes m p ph next b) → p ≢ q → dues_of q rest ≡ dues_of q (rest_of rest sz)
   unfolding rest_of
   seized_apart p q ph next b rest (Not_seized x y z) d = refl
-  seized_apart p q ph next b rest (Seized x y) d = due_apart m o script w kernel false p q d rest (Unlogged p At_start ∷ []) (refl, tt)
+  seized_apart p q ph next b rest (Seized x y) d = due_apart m o script loses w kernel false p q d rest (Unlogged p At_start ∷ []) (refl, tt)
 
   seized_items : (p : ℕ) (ph next : Phase B) (b : Bool) (rest : List Due) (sz : Seizes m p ph next b) → items_in (rest_of rest sz) ≡ items_in rest
   unfolding rest_of
@@ -117,15 +117,16 @@ module _ {S B : Type 0} (m : Machine S B) (o : Options) (script : Script) (w : W
       rw s (with_heeded p known (tracees ++ p ∷ []) (λ x g. among_old x p tracees (h x g)) (among_new p tracees) q l)
   known_after p st known tracees a seizes h reply e q l = seized_among p q a.seized tracees (h q l)
 
-  replied_tied : (t : Tied m o script w kernel) (p : ℕ) (st : Awaiting) → w.tracer.focus ≡ Serving p st → (a : Answered B) (h : Heard) → (st ≡ Seizing → a.reply ≡ Agreed → a.seized ≡ true) → Served m o.follow o script p (t.phases p) (λ n. entries p n (items_of kernel.log)) a h → Tied m o script (replied p st a h) kernel
+  replied_tied : (t : Tied m o script loses w kernel) (p : ℕ) (st : Awaiting) → w.tracer.focus ≡ Serving p st → (a : Answered B) (h : Heard) → (st ≡ Seizing → a.reply ≡ Agreed → a.seized ≡ true) → Served m o.follow o script p (t.phases p) (λ n. entries p n (items_of kernel.log)) a h → Tied m o script loses (replied p st a h) kernel
   replied_tied t p st f a h seizes u = record {
     phases = put t.phases p u.next;
     past = t.past ++ u.said;
     rest = rest_of t.rest u.seized;
     lost = t.lost;
+    spared = t.spared;
     shared = t.shared;
     queue = seized_queue p (t.phases p) u.next a.seized t.rest w.host.queue u.seized t.queue;
-    each = changed m o script w kernel t.lost t.lost t.rest (rest_of t.rest u.seized) t.phases t.each (replied p st a h) kernel p u.next
+    each = changed m o script loses w kernel t.lost t.lost t.rest (rest_of t.rest u.seized) t.phases t.each (replied p st a h) kernel p u.next
         (record {
           proc = put_here w.host.procs p a.proc ∙ u.proc;
           task = (t.each p).task ∙ sym u.task;
@@ -153,7 +154,7 @@ module _ {S B : Type 0} (m : Machine S B) (o : Options) (script : Script) (w : W
     sane = not_stuck p h.next;
     child = t.child;
     many = t.many;
-    fresh = λ q l. still_fresh m o script w kernel p u.next t.phases u.unborn q (t.fresh q l);
+    fresh = λ q l. still_fresh m o script loses w kernel p u.next t.phases u.unborn q (t.fresh q l);
   }
 
   next_serving : (known : ℕ → Known) (p : ℕ) (st : Awaiting) (r : Reply) → is_out r ≡ false → next_at o script known (Serving p st) r ≡ heard known p (hears o script p (known p) st r)
@@ -168,7 +169,7 @@ module _ {S B : Type 0} (m : Machine S B) (o : Options) (script : Script) (w : W
   next_serving known p st (Errno_is n) h = refl
   next_serving known p st (Boot_refused x) h = refl
 
-  served_here : IsMachine m → IsTexts o.texts → (t : Tied m o script w kernel) (p : ℕ) (st : Awaiting) → w.tracer.focus ≡ Serving p st → Served m o.follow o script p (t.phases p) (λ n. entries p n (items_of kernel.log)) (answer m (w.host.messages p) (w.host.procs p) (asks o st)) (hears o script p (w.tracer.known p) st (answer m (w.host.messages p) (w.host.procs p) (asks o st)).reply)
+  served_here : IsMachine m → IsTexts o.texts → (t : Tied m o script loses w kernel) (p : ℕ) (st : Awaiting) → w.tracer.focus ≡ Serving p st → Served m o.follow o script p (t.phases p) (λ n. entries p n (items_of kernel.log)) (answer m (w.host.messages p) (w.host.procs p) (asks o st)) (hears o script p (w.tracer.known p) st (answer m (w.host.messages p) (w.host.procs p) (asks o st)).reply)
   served_here laws texts t p st f = rw (t.each p).proc (served m laws o texts script p (w.tracer.known p) (λ n. entries p n (items_of kernel.log)) (w.host.messages p) (t.phases p) (t.each p).knows st ((t.each p).stage ∙ ap (stage_at p) f ∙ stage_here p (Some st)))
 
   -- a Seize that is agreed to makes a tracee
@@ -192,23 +193,24 @@ module _ {S B : Type 0} (m : Machine S B) (o : Options) (script : Script) (w : W
   abbrev met_with : Host S B → Moved → World S B
   met_with h x = record { host = h; tracer = x.tracer; printed = w.printed ++ x.printed }
 
-  serving_tied : (outcome : S → Outcome) → IsMachine m → IsTold m → IsTexts o.texts → (t : Tied m o script w kernel) (p : ℕ) (st : Awaiting) → w.tracer.focus ≡ Serving p st → Tied m o script (met o script w (Serving p st) (serve m outcome w.host (To p (asks o st))).host (serve m outcome w.host (To p (asks o st))).reply) kernel
+  serving_tied : (outcome : S → Outcome) → IsMachine m → IsTold m → IsTexts o.texts → (t : Tied m o script loses w kernel) (p : ℕ) (st : Awaiting) → w.tracer.focus ≡ Serving p st → Tied m o script loses (met o script w (Serving p st) (serve m outcome w.host (To p (asks o st))).host (serve m outcome w.host (To p (asks o st))).reply) kernel
   serving_tied outcome laws words texts t p st f =
       let a : Answered B = answer m (w.host.messages p) (w.host.procs p) (asks o st) in
       let u : Served m o.follow o script p (t.phases p) (λ n. entries p n (items_of kernel.log)) a (hears o script p (w.tracer.known p) st a.reply) = served_here laws texts t p st f in
       let ok : admits_answer (asks o st) a.reply ≡ true = rw (t.each p).proc (admitted m words o texts script (w.tracer.known p) (λ n. entries p n (items_of kernel.log)) (w.host.messages p) (t.phases p) (t.each p).knows st ((t.each p).stage ∙ ap (stage_at p) f ∙ stage_here p (Some st))) in
-      subst (λ b. Tied m o script (met_with (answered w.host p a) (cond b (takes w.tracer (Serving p st) a.reply (next_at o script w.tracer.known (Serving p st) a.reply)) (faults w.tracer))) kernel) (sym ok)
-      (subst (λ x. Tied m o script (met_with (answered w.host p a) (takes w.tracer (Serving p st) a.reply x)) kernel) (sym (next_serving w.tracer.known p st a.reply u.in_turns)) (replied_tied t p st f a (hears o script p (w.tracer.known p) st a.reply) (seizes_at (w.host.messages p) (w.host.procs p) st) u))
+      subst (λ b. Tied m o script loses (met_with (answered w.host p a) (cond b (takes w.tracer (Serving p st) a.reply (next_at o script w.tracer.known (Serving p st) a.reply)) (faults w.tracer))) kernel) (sym ok)
+      (subst (λ x. Tied m o script loses (met_with (answered w.host p a) (takes w.tracer (Serving p st) a.reply x)) kernel) (sym (next_serving w.tracer.known p st a.reply u.in_turns)) (replied_tied t p st f a (hears o script p (w.tracer.known p) st a.reply) (seizes_at (w.host.messages p) (w.host.procs p) st) u))
 
   -- Serve, while the tracer waits
 
   -- the same with another focus, of no process
-  refocused : (t : Tied m o script w kernel) (focus : Focus) (taken : ℕ) (printed : List Part) → printed ≡ w.printed → ((q : ℕ) → stage_at q w.tracer.focus ≡ stage_at q focus) → ((phases : ℕ → Phase B) → hand_at m phases focus ≡ hand_at m phases w.tracer.focus) → (is_past focus ≡ true → w.host.tracees ≡ []) → is_stuck focus ≡ false → Tied m o script (record { host = w.host; tracer = record { known = w.tracer.known; tracees = w.tracer.tracees; focus = focus; taken = taken }; printed = printed }) kernel
+  refocused : (t : Tied m o script loses w kernel) (focus : Focus) (taken : ℕ) (printed : List Part) → printed ≡ w.printed → ((q : ℕ) → stage_at q w.tracer.focus ≡ stage_at q focus) → ((phases : ℕ → Phase B) → hand_at m phases focus ≡ hand_at m phases w.tracer.focus) → (is_past focus ≡ true → w.host.tracees ≡ []) → is_stuck focus ≡ false → Tied m o script loses (record { host = w.host; tracer = record { known = w.tracer.known; tracees = w.tracer.tracees; focus = focus; taken = taken }; printed = printed }) kernel
   refocused t focus taken printed same stages hands over sane = record {
     phases = t.phases;
     past = t.past;
     rest = t.rest;
     lost = t.lost;
+    spared = t.spared;
     shared = t.shared;
     queue = t.queue;
     each = λ q. record { proc = (t.each q).proc; task = (t.each q).task; knows = (t.each q).knows; stage = (t.each q).stage ∙ stages q; due = (t.each q).due; living = (t.each q).living; listed = (t.each q).listed; sort = (t.each q).sort };
@@ -262,15 +264,16 @@ module _ {S B : Type 0} (m : Machine S B) (o : Options) (script : Script) (w : W
     heeded : (q : ℕ) → is_among q v.tracer.tracees ≡ true → is_among q v.host.tracees ≡ true
     sane : is_stuck v.tracer.focus ≡ false
 
-  taken_up_tied : (t : Tied m o script w kernel) (i : Due) (after : List Due) → t.rest ≡ i ∷ after → w.tracer.focus ≡ Waiting → (v : World S B) → Taken_up t.lost (due_pid i) (t.phases (due_pid i)) after i v → Tied m o script v kernel
+  taken_up_tied : (t : Tied m o script loses w kernel) (i : Due) (after : List Due) → t.rest ≡ i ∷ after → w.tracer.focus ≡ Waiting → (v : World S B) → Taken_up t.lost (due_pid i) (t.phases (due_pid i)) after i v → Tied m o script loses v kernel
   taken_up_tied t i after e f v u = record {
     phases = put t.phases (due_pid i) u.next;
     past = t.past ++ u.said;
     rest = after;
     lost = t.lost;
+    spared = t.spared;
     shared = u.shared ∙ t.shared;
     queue = u.queue;
-    each = changed m o script w kernel t.lost t.lost t.rest after t.phases t.each v kernel (due_pid i) u.next u.here
+    each = changed m o script loses w kernel t.lost t.lost t.rest after t.phases t.each v kernel (due_pid i) u.next u.here
         (λ q d ph tie. record {
           proc = u.procs q d ∙ tie.proc;
           task = tie.task;
@@ -288,7 +291,7 @@ module _ {S B : Type 0} (m : Machine S B) (o : Options) (script : Script) (w : W
     sane = u.sane;
     child = u.child ∙ t.child;
     many = subst (λ c. 2 ≤ c) (sym u.child) t.many;
-    fresh = λ q l. still_fresh m o script w kernel (due_pid i) u.next t.phases u.unborn q (t.fresh q (subst (λ c. c ≤ q) u.child l));
+    fresh = λ q l. still_fresh m o script loses w kernel (due_pid i) u.next t.phases u.unborn q (t.fresh q (subst (λ c. c ≤ q) u.child l));
   }
 
   still_among : (p q : ℕ) → p ≢ q → (ps : List ℕ) → is_among q ps ≡ true → is_among q (filter (λ x. not (p == x)) ps) ≡ true
@@ -332,7 +335,7 @@ module _ {S B : Type 0} (m : Machine S B) (o : Options) (script : Script) (w : W
       either false g again = again g
 
       go : (b : Bool) → is_among q (cond (not b) (x ∷ filter (λ y. not (p == y)) ps) (filter (λ y. not (p == y)) ps)) ≡ true → (is_among q (filter (λ y. not (p == y)) ps) ≡ true → is_among q ps ≡ true) → ((q == x) || is_among q ps) ≡ true
-      go true g again = rw (again g) (or_true m o script w kernel (q == x))
+      go true g again = rw (again g) (or_true m o script loses w kernel (q == x))
       go false g again = either (q == x) g again
 
   -- a tracee whose end was told is known no more
@@ -638,7 +641,7 @@ module _ {S B : Type 0} (m : Machine S B) (o : Options) (script : Script) (w : W
         subst (λ x. Taken_up lost p (Event_due n b c) after x (waited (map report_of after) (report_of x).pid (report_of x).stop)) (head_is _ _ _ _ h) (at_event p n (Event_due n b c) (Event_resuming b c) tie (tail_is _ _ _ _ h) refl refl refl (record { inside_is = tie.knows.0.inside_is; saved_is = tie.knows.0.saved_is; called_is = tie.knows.0.called_is; stands = event_read o.follow c.number n tie.knows.2; same = tie.knows.0.same }) refl refl (λ l. refl) (λ l. refl) refl refl (call_event_fits p (w.tracer.known p) c n tie.sort tie.knows.1 tie.knows.0.called_is tie.knows.2))
     take_up i p e f _ tie = absurd (no_item _ _ (due_head p i rest after _ e f tie.due))
 
-  wait_first : (t : Tied m o script w kernel) → w.tracer.focus ≡ Waiting → (r : Report) (rs : List Report) (rest : List Due) → t.rest ≡ rest → r ∷ rs ≡ map report_of rest → Tied m o script (read_as rs r.pid r.stop (stop_of (word_of r.stop)) (admits_stop o r.pid (w.tracer.known r.pid) (stop_of (word_of r.stop)))) kernel
+  wait_first : (t : Tied m o script loses w kernel) → w.tracer.focus ≡ Waiting → (r : Report) (rs : List Report) (rest : List Due) → t.rest ≡ rest → r ∷ rs ≡ map report_of rest → Tied m o script loses (read_as rs r.pid r.stop (stop_of (word_of r.stop)) (admits_stop o r.pid (w.tracer.known r.pid) (stop_of (word_of r.stop)))) kernel
   wait_first t f r rs [] e g = absurd (cc g)
   wait_first t f r rs (i ∷ after) e g =
       let here : r ≡ report_of i = cc g in
@@ -646,21 +649,21 @@ module _ {S B : Type 0} (m : Machine S B) (o : Options) (script : Script) (w : W
       let pid : (report_of i).pid ≡ due_pid i = report_pid i in
       let u : Taken_up t.lost (due_pid i) (t.phases (due_pid i)) after i (waited (map report_of after) (report_of i).pid (report_of i).stop) = take_up t.lost t.rest after f t.heeded i (due_pid i) refl e (t.phases (due_pid i)) (t.each (due_pid i)) in
       let ok : admits_stop o (report_of i).pid (w.tracer.known (report_of i).pid) (Some (report_of i).stop) ≡ true = rw pid u.fits in
-      rw (here, behind) (subst (λ x. Tied m o script (read_as (map report_of after) (report_of i).pid (report_of i).stop x (admits_stop o (report_of i).pid (w.tracer.known (report_of i).pid) x)) kernel) (sym u.read)
-      (subst (λ b. Tied m o script (read_as (map report_of after) (report_of i).pid (report_of i).stop (Some (report_of i).stop) b) kernel) (sym ok)
+      rw (here, behind) (subst (λ x. Tied m o script loses (read_as (map report_of after) (report_of i).pid (report_of i).stop x (admits_stop o (report_of i).pid (w.tracer.known (report_of i).pid) x)) kernel) (sym u.read)
+      (subst (λ b. Tied m o script loses (read_as (map report_of after) (report_of i).pid (report_of i).stop (Some (report_of i).stop) b) kernel) (sym ok)
       (taken_up_tied t i after e f (waited (map report_of after) (report_of i).pid (report_of i).stop) u)))
 
   nobody_known : (known : List ℕ) → ((q : ℕ) → is_among q known ≡ true → is_among q [] ≡ true) → is_empty known ≡ true
   nobody_known [] h = refl
   nobody_known (p ∷ ps) h = absurd (cc (h p (rw (is_same p) refl)))
 
-  wait_tied : (t : Tied m o script w kernel) → w.tracer.focus ≡ Waiting → (queue : List Report) → w.host.queue ≡ queue → (tracees : List ℕ) → w.host.tracees ≡ tracees → Tied m o script (met o script w Waiting (serve_wait w.host queue tracees).host (serve_wait w.host queue tracees).reply) kernel
-  wait_tied t f [] e [] g = subst (λ b. Tied m o script (met_with w.host (cond b (takes w.tracer Waiting echild (stays w.tracer.known Asking_outcome)) (faults w.tracer))) kernel) (sym (nobody_known w.tracer.tracees (λ q l. ap (is_among q) (sym g) ∙ t.heeded q l))) (refocused t Asking_outcome (suc w.tracer.taken) (w.printed ++ []) (append-nil w.printed) (λ q. ap (stage_at q) f) (λ phases. sym (ap (hand_at m phases) f)) (λ q. g) refl)
+  wait_tied : (t : Tied m o script loses w kernel) → w.tracer.focus ≡ Waiting → (queue : List Report) → w.host.queue ≡ queue → (tracees : List ℕ) → w.host.tracees ≡ tracees → Tied m o script loses (met o script w Waiting (serve_wait w.host queue tracees).host (serve_wait w.host queue tracees).reply) kernel
+  wait_tied t f [] e [] g = subst (λ b. Tied m o script loses (met_with w.host (cond b (takes w.tracer Waiting echild (stays w.tracer.known Asking_outcome)) (faults w.tracer))) kernel) (sym (nobody_known w.tracer.tracees (λ q l. ap (is_among q) (sym g) ∙ t.heeded q l))) (refocused t Asking_outcome (suc w.tracer.taken) (w.printed ++ []) (append-nil w.printed) (λ q. ap (stage_at q) f) (λ phases. sym (ap (hand_at m phases) f)) (λ q. g) refl)
   wait_tied t f [] e (q ∷ qs) g = t
   wait_tied t f (r ∷ rs) e tracees g = wait_first t f r rs t.rest refl (sym e ∙ t.queue)
 
   -- a request is served, if one is pending
-  pub serve_tied : (outcome : S → Outcome) → IsMachine m → IsTold m → IsTexts o.texts → (t : Tied m o script w kernel) (focus : Focus) → w.tracer.focus ≡ focus → Tied m o script (happens_asked m outcome o script w focus (request o focus) Serve) kernel
+  pub serve_tied : (outcome : S → Outcome) → IsMachine m → IsTold m → IsTexts o.texts → (t : Tied m o script loses w kernel) (focus : Focus) → w.tracer.focus ≡ focus → Tied m o script loses (happens_asked m outcome o script w focus (request o focus) Serve) kernel
   serve_tied outcome laws words texts t Booting f = t
   serve_tied outcome laws words texts t Waiting f = wait_tied t f w.host.queue refl w.host.tracees refl
   serve_tied outcome laws words texts t (Serving p st) f = serving_tied outcome laws words texts t p st f

@@ -68,13 +68,15 @@ pub record Tie {S B : Type 0} (m : Machine S B) (o : Options) (script : Script) 
   pub listed : reaped ph ≡ false → is_among q w.host.tracees ≡ true
   pub sort : traces o.follow q ≡ is_traced ph
 
-pub record Tied {S B : Type 0} (m : Machine S B) (o : Options) (script : Script) (w : World S B) (kernel : Kernel S B) : Type 0 where
+pub record Tied {S B : Type 0} (m : Machine S B) (o : Options) (script : Script) (loses : Bool) (w : World S B) (kernel : Kernel S B) : Type 0 where
   pub phases : ℕ → Phase B
   -- the items that were printed
   pub past : List Noted
   -- what is behind the reports in the queue
   pub rest : List Due
   pub lost : ℕ → Bool
+  -- where processes owe nothing at their turns
+  pub spared : loses ≡ false → (q : ℕ) → lost q ≡ false
   pub shared : w.host.shared ≡ kernel.shared
   pub queue : w.host.queue ≡ map report_of rest
   pub each : (q : ℕ) → Tie m o script lost w kernel rest q (phases q)
@@ -88,7 +90,7 @@ pub record Tied {S B : Type 0} (m : Machine S B) (o : Options) (script : Script)
   pub many : 2 ≤ w.host.child
   pub fresh : (q : ℕ) → w.host.child ≤ q → is_unborn (phases q) ≡ true
 
-module _ {S B : Type 0} (m : Machine S B) (o : Options) (script : Script) (w : World S B) (kernel : Kernel S B) where
+module _ {S B : Type 0} (m : Machine S B) (o : Options) (script : Script) (loses : Bool) (w : World S B) (kernel : Kernel S B) where
   -- a step that changes what ties p alone
   pub changed : (lost lost' : ℕ → Bool) (rest after : List Due) (phases : ℕ → Phase B) → ((q : ℕ) → Tie m o script lost w kernel rest q (phases q)) →
       (v : World S B) (j : Kernel S B) (p : ℕ) (next : Phase B) →
@@ -178,7 +180,7 @@ module _ {S B : Type 0} (m : Machine S B) (o : Options) (script : Script) (w : W
       (λ (d : p ≢ q). noted_of_other q p (hand_in m q (phases q)) (λ e. d (sym e)) (hand_task q (phases q)) ∙ sym (no_hand p (phases p) (h ∙ rw (is_not_same q p (λ e. d (sym e))) refl)))
       (same_or_not p q)
 
-  owed : (t : Tied m o script w kernel) (p : ℕ) → noted_of p (hand_at m t.phases w.tracer.focus ++ items_in t.rest) ≡ hand_in m p (t.phases p) ++ items_in (due_in m p (t.phases p))
+  owed : (t : Tied m o script loses w kernel) (p : ℕ) → noted_of p (hand_at m t.phases w.tracer.focus ++ items_in t.rest) ≡ hand_in m p (t.phases p) ++ items_in (due_in m p (t.phases p))
   owed t p = rw (noted_of-append, in_hand p t.phases w.tracer.focus (t.each p).stage, (t.each p).due, items_in-of p t.rest) refl
 
   joined : (dying : Bool) (p : ℕ) (hand items : List Noted) (rest dues : List Due) → items_in dues ≡ items → cond dying (items_without p hand) hand ++ items_in (cond dying (dues_without p rest) rest ++ dues) ≡ cond dying (items_without p (hand ++ items_in rest)) (hand ++ items_in rest) ++ items
@@ -198,11 +200,18 @@ module _ {S B : Type 0} (m : Machine S B) (o : Options) (script : Script) (w : W
   lost_apart p q lost (Owes_nothing a b c e) d = refl
   lost_apart p q lost (Loses a b c x e mode g h) d = put_apart lost p true q d
 
+  spared_after : (p : ℕ) {ph next : Phase B} {dying : Bool} {items : List Noted} → (lost : ℕ → Bool) → (f : Fate m p ph next dying items) → (loses ≡ false → hand_in m p ph ++ items_in (due_in m p ph) ≡ []) → (loses ≡ false → (q : ℕ) → lost q ≡ false) → loses ≡ false → (q : ℕ) → lost_after p lost f q ≡ false
+  unfolding lost_after
+  spared_after p lost (Goes_on a b c) e h n q = h n q
+  spared_after p lost (Says_nothing a b c) e h n q = h n q
+  spared_after p lost (Owes_nothing a b c d) e h n q = h n q
+  spared_after p lost (Loses a b c x d mode f g) e h n q = absurd (cc (d, e n))
+
   same_either : (b : Bool) (xs ys : List Noted) → xs ≡ ys → cond b xs ys ≡ ys
   same_either true xs ys e = e
   same_either false xs ys e = refl
 
-  viewed_after : (t : Tied m o script w kernel) (p : ℕ) (next : Phase B) (dying : Bool) (items : List Noted) (f : Fate m p (t.phases p) next dying items) → AllOf p items →
+  viewed_after : (t : Tied m o script loses w kernel) (p : ℕ) (next : Phase B) (dying : Bool) (items : List Noted) (f : Fate m p (t.phases p) next dying items) → AllOf p items →
       t.past ++ (cond dying (items_without p (hand_at m t.phases w.tracer.focus ++ items_in t.rest)) (hand_at m t.phases w.tracer.focus ++ items_in t.rest) ++ items) ≡ view (lost_after p t.lost f) (traced o.follow kernel.log ++ items)
   unfolding lost_after
   viewed_after t p next dying items (Goes_on a b c) task =
@@ -236,8 +245,8 @@ module _ {S B : Type 0} (m : Machine S B) (o : Options) (script : Script) (w : W
   seen_after : (p : ℕ) (ph : Phase B) (items : List Noted) → traces o.follow p ≡ is_traced ph → AllOf p items → traced o.follow (kernel.log ++ items) ≡ traced o.follow kernel.log ++ cond (is_traced ph) items []
   seen_after p ph items e task = traced-append o.follow kernel.log items ∙ ap (λ x. traced o.follow kernel.log ++ x) (traced_task o.follow p (is_traced ph) e items task)
 
-  pub moved_tied : (t : Tied m o script w kernel) (p : ℕ) (by host : Out S B) → Turned m o.follow o script p (t.phases p) (w.tracer.known p) (λ n. entries p n (items_of kernel.log)) by host → Tied m o script (record { host = moved w.host p (proc_of m o.follow (t.phases p)).options host; tracer = w.tracer; printed = w.printed }) (after_turn kernel p by)
-  moved_tied t p by host u =
+  pub moved_tied : (t : Tied m o script loses w kernel) (p : ℕ) (by host : Out S B) → Turned m o.follow o script p (t.phases p) (w.tracer.known p) (λ n. entries p n (items_of kernel.log)) by host → (loses ≡ false → hand_in m p (t.phases p) ++ items_in (due_in m p (t.phases p)) ≡ []) → Tied m o script loses (record { host = moved w.host p (proc_of m o.follow (t.phases p)).options host; tracer = w.tracer; printed = w.printed }) (after_turn kernel p by)
+  moved_tied t p by host u owes =
       let items : List Noted = cond (is_traced (t.phases p)) (option_to_list by.item) [] in
       let task : AllOf p items = some_task (is_traced (t.phases p)) p (option_to_list by.item) u.whole in
       let log : traced o.follow (kernel.log ++ (option_to_list by.item)) ≡ traced o.follow kernel.log ++ items = seen_after p (t.phases p) (option_to_list by.item) (t.each p).sort u.whole in
@@ -246,6 +255,7 @@ module _ {S B : Type 0} (m : Machine S B) (o : Options) (script : Script) (w : W
         past = t.past;
         rest = cond (is_dying host.task) (dues_without p t.rest) t.rest ++ u.dues;
         lost = lost_after p t.lost u.fate;
+        spared = spared_after p t.lost u.fate owes t.spared;
         shared = u.shared;
         queue = queue_after (is_dying host.task) p t.rest u.dues w.host.queue (reports_of p (stop_at (proc_of m o.follow (t.phases p)).options host.task host.item host.event)) t.queue u.reports;
         each = changed t.lost (lost_after p t.lost u.fate) t.rest (cond (is_dying host.task) (dues_without p t.rest) t.rest ++ u.dues) t.phases t.each (record { host = moved w.host p (proc_of m o.follow (t.phases p)).options host; tracer = w.tracer; printed = w.printed }) (after_turn kernel p by) p u.next
@@ -279,7 +289,7 @@ module _ {S B : Type 0} (m : Machine S B) (o : Options) (script : Script) (w : W
         fresh = λ q l. still_fresh p u.next t.phases u.unborn q (t.fresh q l);
       }
 
-  pub turn_here : IsMachine m → IsTold m → (t : Tied m o script w kernel) (p : ℕ) → is_effective m w.host.shared p (w.host.procs p) ≡ true → Turned m o.follow o script p (t.phases p) (w.tracer.known p) (λ n. entries p n (items_of kernel.log)) (turn_of m script o.follow kernel p) (host_turn_of m w.host p)
+  pub turn_here : IsMachine m → IsTold m → (t : Tied m o script loses w kernel) (p : ℕ) → is_effective m w.host.shared p (w.host.procs p) ≡ true → Turned m o.follow o script p (t.phases p) (w.tracer.known p) (λ n. entries p n (items_of kernel.log)) (turn_of m script o.follow kernel p) (host_turn_of m w.host p)
   turn_here laws words t p f = rw ((t.each p).sort, (t.each p).task, ← t.shared, ← t.child, (t.each p).proc) (turned m laws words o script w.host.shared w.host.child p (w.tracer.known p) (λ n. entries p n (items_of kernel.log)) o.follow refl (t.phases p) (t.each p).knows (rw (t.each p).proc at f))
 
   pub or_true : (b : Bool) → (b || true) ≡ true
@@ -300,7 +310,7 @@ module _ {S B : Type 0} (m : Machine S B) (o : Options) (script : Script) (w : W
   abbrev kernel_born : B → Kernel S B
   kernel_born b = record { shared = kernel.shared; tasks = put kernel.tasks w.host.child (Alive b Born); child = suc w.host.child; log = kernel.log }
 
-  child_tied : (t : Tied m o script w kernel) (b : B) → (is_past w.tracer.focus ≡ true → ⊥) → o.follow ≡ true → Tied m o script (with_host (newborn w.host b (Some (asked_options o.follow)))) (kernel_born b)
+  child_tied : (t : Tied m o script loses w kernel) (b : B) → (is_past w.tracer.focus ≡ true → ⊥) → o.follow ≡ true → Tied m o script loses (with_host (newborn w.host b (Some (asked_options o.follow)))) (kernel_born b)
   child_tied t b going follows =
       let c : ℕ = w.host.child in
       let was : (x : Bool) × (t.phases c ≡ Unborn x) = unborn_is (t.phases c) (t.fresh c (omega arith)) in
@@ -310,6 +320,7 @@ module _ {S B : Type 0} (m : Machine S B) (o : Options) (script : Script) (w : W
         past = t.past;
         rest = t.rest ++ Unlogged c At_start ∷ [];
         lost = t.lost;
+        spared = t.spared;
         shared = t.shared;
         queue = ap (λ x. x ++ record { pid = c; stop = Event_stop At_start } ∷ []) t.queue ∙ sym (map-append report_of t.rest (Unlogged c At_start ∷ []));
         each = changed t.lost t.lost t.rest (t.rest ++ Unlogged c At_start ∷ []) t.phases t.each (with_host (newborn w.host b (Some (asked_options o.follow)))) (kernel_born b) c (Born_due b)
@@ -348,7 +359,7 @@ module _ {S B : Type 0} (m : Machine S B) (o : Options) (script : Script) (w : W
   not_one false c e l = grind (arith, nat_tests)
 
   -- a child of which the tracer hears nothing
-  loose_child_tied : (t : Tied m o script w kernel) (b : B) → o.follow ≡ false → Tied m o script (with_host (newborn w.host b None)) (kernel_born b)
+  loose_child_tied : (t : Tied m o script loses w kernel) (b : B) → o.follow ≡ false → Tied m o script loses (with_host (newborn w.host b None)) (kernel_born b)
   loose_child_tied t b alone =
       let c : ℕ = w.host.child in
       let was : (x : Bool) × (t.phases c ≡ Unborn x) = unborn_is (t.phases c) (t.fresh c (omega arith)) in
@@ -358,6 +369,7 @@ module _ {S B : Type 0} (m : Machine S B) (o : Options) (script : Script) (w : W
         past = t.past;
         rest = t.rest;
         lost = t.lost;
+        spared = t.spared;
         shared = t.shared;
         queue = t.queue;
         each = changed t.lost t.lost t.rest t.rest t.phases t.each (with_host (newborn w.host b None)) (kernel_born b) c (Loose (Alive b Born))
@@ -391,10 +403,10 @@ module _ {S B : Type 0} (m : Machine S B) (o : Options) (script : Script) (w : W
         fresh = λ q l. ap is_unborn (put_apart t.phases c (Loose (Alive b Born)) q (λ e. later c q e l)) ∙ t.fresh q (omega (arith, l));
       }
 
-  at_kernel : (t : Tied m o script w kernel) (b : B) (h : Host S B) → Tied m o script (with_host h) (kernel_born b) → Tied m o script (with_host h) (with_child kernel (Forked b))
-  at_kernel t b h u = subst (λ c. Tied m o script (with_host h) (record { shared = kernel.shared; tasks = put kernel.tasks c (Alive b Born); child = suc c; log = kernel.log })) t.child u
+  at_kernel : (t : Tied m o script loses w kernel) (b : B) (h : Host S B) → Tied m o script loses (with_host h) (kernel_born b) → Tied m o script loses (with_host h) (with_child kernel (Forked b))
+  at_kernel t b h u = subst (λ c. Tied m o script loses (with_host h) (record { shared = kernel.shared; tasks = put kernel.tasks c (Alive b Born); child = suc c; log = kernel.log })) t.child u
 
-  watched_child : (t : Tied m o script w kernel) (b : B) → (is_past w.tracer.focus ≡ true → ⊥) → (f : Bool) → o.follow ≡ f → Tied m o script (with_host (newborn w.host b (cond f (Some (asked_options o.follow)) None))) (kernel_born b)
+  watched_child : (t : Tied m o script loses w kernel) (b : B) → (is_past w.tracer.focus ≡ true → ⊥) → (f : Bool) → o.follow ≡ f → Tied m o script loses (with_host (newborn w.host b (cond f (Some (asked_options o.follow)) None))) (kernel_born b)
   watched_child t b going true e = child_tied t b going e
   watched_child t b going false e = loose_child_tied t b e
 
@@ -402,9 +414,9 @@ module _ {S B : Type 0} (m : Machine S B) (o : Options) (script : Script) (w : W
   none_traced true p h = h
   none_traced false p h = refl
 
-  pub born_tied : (t : Tied m o script w kernel) (p : ℕ) (ph : Phase B) (e : PtraceEvent B) → traces o.follow p ≡ is_traced ph → (reaped ph ≡ false → is_past w.tracer.focus ≡ true → ⊥) → Birth m o.follow ph e → Tied m o script (with_host (bears w.host (proc_of m o.follow ph).options e)) (with_child kernel e)
+  pub born_tied : (t : Tied m o script loses w kernel) (p : ℕ) (ph : Phase B) (e : PtraceEvent B) → traces o.follow p ≡ is_traced ph → (reaped ph ≡ false → is_past w.tracer.focus ≡ true → ⊥) → Birth m o.follow ph e → Tied m o script loses (with_host (bears w.host (proc_of m o.follow ph).options e)) (with_child kernel e)
   born_tied t p ph Plain sort going birth = t
   born_tied t p ph Execed sort going birth = t
   born_tied t p ph (Forked b) sort going (No_birth x) = absurd (cc x)
-  born_tied t p ph (Forked b) sort going (Loose_birth x y) = at_kernel t b (newborn w.host b (inherits (proc_of m o.follow ph).options)) (subst (λ x. Tied m o script (with_host (newborn w.host b (inherits x))) (kernel_born b)) (sym x) (loose_child_tied t b (none_traced o.follow p (sort ∙ y))))
-  born_tied t p ph (Forked b) sort going (Traced_birth x y) = at_kernel t b (newborn w.host b (inherits (proc_of m o.follow ph).options)) (subst (λ x. Tied m o script (with_host (newborn w.host b (inherits x))) (kernel_born b)) (sym x) (watched_child t b (going y) o.follow refl))
+  born_tied t p ph (Forked b) sort going (Loose_birth x y) = at_kernel t b (newborn w.host b (inherits (proc_of m o.follow ph).options)) (subst (λ x. Tied m o script loses (with_host (newborn w.host b (inherits x))) (kernel_born b)) (sym x) (loose_child_tied t b (none_traced o.follow p (sort ∙ y))))
+  born_tied t p ph (Forked b) sort going (Traced_birth x y) = at_kernel t b (newborn w.host b (inherits (proc_of m o.follow ph).options)) (subst (λ x. Tied m o script loses (with_host (newborn w.host b (inherits x))) (kernel_born b)) (sym x) (watched_child t b (going y) o.follow refl))

@@ -15,46 +15,55 @@ use Rattle.pt_model.specs.World.{World, happens_asked, happens, world_run, turns
 use Rattle.pt_model.specs.View.{view, traced, parts, Due, due_pid, items_in}
 use Rattle.pt_model.specs.Laws.{is_alive}
 use Rattle.pt_model.specs.Headline.{NothingKeptBack, IsTold, IsTexts}
-use Rattle.pt_model.proofs.Phases.{Phase, Dead, Nobody, Unborn, Boot_held, Loose, dues_of, is_traced, task_of, proc_of, due_in, stage_of, reaped}
+use Rattle.pt_model.proofs.Phases.{Phase, Dead, Nobody, Unborn, Boot_held, Loose, dues_of, is_traced, task_of, proc_of, due_in, hand_in, stage_of, reaped}
 use Rattle.pt_model.proofs.Local.{Turned}
 use Rattle.pt_model.proofs.Maps.{is_same, parts-append}
 use Rattle.pt_model.proofs.Ties.{stage_at, hand_at, is_past, Tied, moved_tied, turn_here, born_tied}
 use Rattle.pt_model.proofs.Serving.{serve_tied}
 
-module _ {S B : Type 0} (m : Machine S B) (o : Options) (script : Script) (w : World S B) (kernel : Kernel S B) where
+module _ {S B : Type 0} (m : Machine S B) (o : Options) (script : Script) (loses : Bool) (w : World S B) (kernel : Kernel S B) where
   abbrev host_after : ℕ → Option TraceOptions → Host S B
   host_after p x = bears (moved w.host p x (host_turn_of m w.host p)) x (host_turn_of m w.host p).event
 
-  turn_tied : IsMachine m → IsTold m → (t : Tied m o script w kernel) (p : ℕ) (effective : Bool) → is_effective m w.host.shared p (w.host.procs p) ≡ effective → Tied m o script (record { host = cond effective (host_after p (w.host.procs p).options) w.host; tracer = w.tracer; printed = w.printed }) (kernel_run m script o.follow kernel (cond effective (p ∷ []) []))
-  turn_tied laws words t p true f =
-      let u : Turned m o.follow o script p (t.phases p) (w.tracer.known p) (λ n. entries p n (items_of kernel.log)) (turn_of m script o.follow kernel p) (host_turn_of m w.host p) = turn_here m o script w kernel laws words t p f in
+  turn_tied : IsMachine m → IsTold m → (t : Tied m o script loses w kernel) (p : ℕ) (effective : Bool) → is_effective m w.host.shared p (w.host.procs p) ≡ effective → (loses ≡ false → hand_in m p (t.phases p) ++ items_in (due_in m p (t.phases p)) ≡ []) → Tied m o script loses (record { host = cond effective (host_after p (w.host.procs p).options) w.host; tracer = w.tracer; printed = w.printed }) (kernel_run m script o.follow kernel (cond effective (p ∷ []) []))
+  turn_tied laws words t p true f owes =
+      let u : Turned m o.follow o script p (t.phases p) (w.tracer.known p) (λ n. entries p n (items_of kernel.log)) (turn_of m script o.follow kernel p) (host_turn_of m w.host p) = turn_here m o script loses w kernel laws words t p f in
       let x : Option TraceOptions = (proc_of m o.follow (t.phases p)).options in
       let v : World S B = record { host = moved w.host p x (host_turn_of m w.host p); tracer = w.tracer; printed = w.printed } in
-      subst (λ y. Tied m o script (record { host = host_after p y; tracer = w.tracer; printed = w.printed }) (with_child (after_turn kernel p (turn_of m script o.follow kernel p)) (turn_of m script o.follow kernel p).event)) (sym (ap (λ (t : Proc B). t.options) (t.each p).proc))
-      (subst (λ e. Tied m o script (record { host = host_after p x; tracer = w.tracer; printed = w.printed }) (with_child (after_turn kernel p (turn_of m script o.follow kernel p)) e)) u.event
-      (born_tied m o script v (after_turn kernel p (turn_of m script o.follow kernel p)) (moved_tied m o script w kernel t p (turn_of m script o.follow kernel p) (host_turn_of m w.host p) u) p (t.phases p) (host_turn_of m w.host p).event (t.each p).sort
+      subst (λ y. Tied m o script loses (record { host = host_after p y; tracer = w.tracer; printed = w.printed }) (with_child (after_turn kernel p (turn_of m script o.follow kernel p)) (turn_of m script o.follow kernel p).event)) (sym (ap (λ (t : Proc B). t.options) (t.each p).proc))
+      (subst (λ e. Tied m o script loses (record { host = host_after p x; tracer = w.tracer; printed = w.printed }) (with_child (after_turn kernel p (turn_of m script o.follow kernel p)) e)) u.event
+      (born_tied m o script loses v (after_turn kernel p (turn_of m script o.follow kernel p)) (moved_tied m o script loses w kernel t p (turn_of m script o.follow kernel p) (host_turn_of m w.host p) u owes) p (t.phases p) (host_turn_of m w.host p).event (t.each p).sort
       (λ r past. cc ((t.each p).listed r, ap (is_among p) (t.over past))) u.birth))
-  turn_tied laws words t p false f = t
+  turn_tied laws words t p false f owes = t
 
-  asked_tied : (outcome : S → Outcome) → IsMachine m → IsTold m → IsTexts o.texts → (t : Tied m o script w kernel) (focus : Focus) → w.tracer.focus ≡ focus → (q : Option Request) → request o focus ≡ q → (e : Step) → Tied m o script (happens_asked m outcome o script w focus q e) (kernel_run m script o.follow kernel (turns_of m w q e))
-  asked_tied outcome laws words texts t focus f None g e = t
-  asked_tied outcome laws words texts t focus f (Some q) g (Turn p) = turn_tied laws words t p (is_effective m w.host.shared p (w.host.procs p)) refl
-  asked_tied outcome laws words texts t focus f (Some q) g Serve = subst (λ x. Tied m o script (happens_asked m outcome o script w focus x Serve) kernel) g (serve_tied m o script w kernel outcome laws words texts t focus f)
+  -- a process whose turn it is owes nothing
+  abbrev pub Calm : Tied m o script loses w kernel → Step → Type 0
+  Calm t (Turn p) = loses ≡ false → hand_in m p (t.phases p) ++ items_in (due_in m p (t.phases p)) ≡ []
+  Calm t Serve = Unit {0}
 
-  pub happens_tied : (outcome : S → Outcome) → IsMachine m → IsTold m → IsTexts o.texts → Tied m o script w kernel → (e : Step) → Tied m o script (happens m outcome o script w e) (kernel_run m script o.follow kernel (turns_of m w (request o w.tracer.focus) e))
-  happens_tied outcome laws words texts t e = asked_tied outcome laws words texts t w.tracer.focus refl (request o w.tracer.focus) refl e
+  asked_tied : (outcome : S → Outcome) → IsMachine m → IsTold m → IsTexts o.texts → (t : Tied m o script loses w kernel) (focus : Focus) → w.tracer.focus ≡ focus → (q : Option Request) → request o focus ≡ q → (e : Step) → Calm t e → Tied m o script loses (happens_asked m outcome o script w focus q e) (kernel_run m script o.follow kernel (turns_of m w q e))
+  asked_tied outcome laws words texts t focus f None g e calm = t
+  asked_tied outcome laws words texts t focus f (Some q) g (Turn p) calm = turn_tied laws words t p (is_effective m w.host.shared p (w.host.procs p)) refl calm
+  asked_tied outcome laws words texts t focus f (Some q) g Serve calm = subst (λ x. Tied m o script loses (happens_asked m outcome o script w focus x Serve) kernel) g (serve_tied m o script loses w kernel outcome laws words texts t focus f)
+
+  pub happens_tied : (outcome : S → Outcome) → IsMachine m → IsTold m → IsTexts o.texts → (t : Tied m o script loses w kernel) (e : Step) → Calm t e → Tied m o script loses (happens m outcome o script w e) (kernel_run m script o.follow kernel (turns_of m w (request o w.tracer.focus) e))
+  happens_tied outcome laws words texts t e calm = asked_tied outcome laws words texts t w.tracer.focus refl (request o w.tracer.focus) refl e calm
 
 kernel_run-append : {S B : Type 0} (m : Machine S B) (script : Script) (follow : Bool) (kernel : Kernel S B) (ps qs : List ℕ) → kernel_run m script follow kernel (ps ++ qs) ≡ kernel_run m script follow (kernel_run m script follow kernel ps) qs
 kernel_run-append m script follow kernel [] qs = refl
 kernel_run-append m script follow kernel (p ∷ ps) qs = kernel_run-append m script follow (kernel_turn m script follow kernel p) ps qs
 
 -- every list of events keeps the tie
-pub run_tied : {S B : Type 0} (m : Machine S B) (outcome : S → Outcome) (o : Options) (script : Script) → IsMachine m → IsTold m → IsTexts o.texts → (events : List Step) (w : World S B) (kernel : Kernel S B) → Tied m o script w kernel → Tied m o script (world_run m outcome o script w events) (kernel_run m script o.follow kernel (effective m outcome o script w events))
+pub run_tied : {S B : Type 0} (m : Machine S B) (outcome : S → Outcome) (o : Options) (script : Script) → IsMachine m → IsTold m → IsTexts o.texts → (events : List Step) (w : World S B) (kernel : Kernel S B) → Tied m o script true w kernel → Tied m o script true (world_run m outcome o script w events) (kernel_run m script o.follow kernel (effective m outcome o script w events))
 run_tied m outcome o script laws words texts [] w kernel t = t
-run_tied m outcome o script laws words texts (e ∷ es) w kernel t = rw (kernel_run-append m script o.follow kernel (turns_of m w (request o w.tracer.focus) e) (effective m outcome o script (happens m outcome o script w e) es)) (run_tied m outcome o script laws words texts es (happens m outcome o script w e) (kernel_run m script o.follow kernel (turns_of m w (request o w.tracer.focus) e)) (happens_tied m o script w kernel outcome laws words texts t e))
+run_tied m outcome o script laws words texts (e ∷ es) w kernel t = rw (kernel_run-append m script o.follow kernel (turns_of m w (request o w.tracer.focus) e) (effective m outcome o script (happens m outcome o script w e) es)) (run_tied m outcome o script laws words texts es (happens m outcome o script w e) (kernel_run m script o.follow kernel (turns_of m w (request o w.tracer.focus) e)) (happens_tied m o script true w kernel outcome laws words texts t e (never e)))
+  where
+    never : (e : Step) → Calm m o script true w kernel t e
+    never (Turn p) = λ h. absurd (cc h)
+    never Serve = tt
 
 -- Where Wait has answered that no tracee is left, nothing is owed.
-module _ {S B : Type 0} (m : Machine S B) (o : Options) (script : Script) (w : World S B) (kernel : Kernel S B) where
+module _ {S B : Type 0} (m : Machine S B) (o : Options) (script : Script) (loses : Bool) (w : World S B) (kernel : Kernel S B) where
   nothing_due : (q : ℕ) (ph : Phase B) → reaped ph ≡ true → due_in m q ph ≡ []
   nothing_due q (Dead v) h = refl
   nothing_due q Nobody h = refl
@@ -83,12 +92,12 @@ module _ {S B : Type 0} (m : Machine S B) (o : Options) (script : Script) (w : W
   no_hand_past phases Turns_over h = refl
   no_hand_past phases Faulted h = refl
 
-  pub all_told : (t : Tied m o script w kernel) → is_past w.tracer.focus ≡ true → w.printed ≡ parts o (view t.lost (traced o.follow kernel.log))
+  pub all_told : (t : Tied m o script loses w kernel) → is_past w.tracer.focus ≡ true → w.printed ≡ parts o (view t.lost (traced o.follow kernel.log))
   all_told t f =
       let none : t.rest ≡ [] = nothing_left t.rest (λ q. sym (t.each q).due ∙ nothing_due q (t.phases q) (is_reaped (reaped (t.phases q)) q w.host.tracees (t.over f) (t.each q).listed)) in
       t.told ∙ ap (parts o) (sym (append-nil t.past) ∙ ap (λ x. t.past ++ x) (sym (rw (no_hand_past t.phases w.tracer.focus f, none) refl)) ∙ t.viewed)
 
-  pub none_kept_back : (t : Tied m o script w kernel) → w.tracer.focus ≡ Waiting → NothingKeptBack o w.host.queue w.printed (view t.lost (traced o.follow kernel.log))
+  pub none_kept_back : (t : Tied m o script loses w kernel) → w.tracer.focus ≡ Waiting → NothingKeptBack o w.host.queue w.printed (view t.lost (traced o.follow kernel.log))
   none_kept_back t f = record {
     past = t.past;
     reported = t.rest;
@@ -97,7 +106,7 @@ module _ {S B : Type 0} (m : Machine S B) (o : Options) (script : Script) (w : W
     shown = t.told;
   }
 
-  pub told_so_far : (t : Tied m o script w kernel) → w.printed ++ parts o (hand_at m t.phases w.tracer.focus ++ items_in t.rest) ≡ parts o (view t.lost (traced o.follow kernel.log))
+  pub told_so_far : (t : Tied m o script loses w kernel) → w.printed ++ parts o (hand_at m t.phases w.tracer.focus ++ items_in t.rest) ≡ parts o (view t.lost (traced o.follow kernel.log))
   told_so_far t = ap (λ x. x ++ parts o (hand_at m t.phases w.tracer.focus ++ items_in t.rest)) t.told ∙ sym (parts-append o t.past _) ∙ ap (parts o) t.viewed
 
   gone_phase : (ph : Phase B) → reaped ph ≡ true → is_traced ph ≡ true → stage_of m ph ≡ None → is_alive (task_of m ph) ≡ false
@@ -117,5 +126,5 @@ module _ {S B : Type 0} (m : Machine S B) (o : Options) (script : Script) (w : W
   no_stage q Turns_over h = refl
   no_stage q Faulted h = refl
 
-  pub none_left : (t : Tied m o script w kernel) → is_past w.tracer.focus ≡ true → (q : ℕ) → traces o.follow q ≡ true → is_alive (kernel.tasks q) ≡ false
+  pub none_left : (t : Tied m o script loses w kernel) → is_past w.tracer.focus ≡ true → (q : ℕ) → traces o.follow q ≡ true → is_alive (kernel.tasks q) ≡ false
   none_left t f q tr = ap is_alive (t.each q).task ∙ gone_phase (t.phases q) (is_reaped (reaped (t.phases q)) q w.host.tracees (t.over f) (t.each q).listed) (sym (t.each q).sort ∙ tr) ((t.each q).stage ∙ no_stage q w.tracer.focus f)

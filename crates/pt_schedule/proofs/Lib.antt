@@ -6,3 +6,6 @@ pub mod Rowing
 pub mod Saying
 pub mod Spending
 pub mod Few
+pub mod ReadBack
+pub mod Cursors
+pub mod TurnWords

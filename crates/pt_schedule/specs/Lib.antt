@@ -6,3 +6,5 @@ pub mod Schedules
 pub mod Rows
 pub mod Untraced
 pub mod Few
+pub mod Written
+pub mod Eager

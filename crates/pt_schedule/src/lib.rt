@@ -8,8 +8,10 @@ pub mod schedule;
 pub mod system;
 mod untraced;
 mod worded;
+pub mod written;
 
 pub use cycle::next_able;
 pub use queue::TurnQueue;
 pub use schedule::{Schedule, TurnRun};
 pub use system::Schedulable;
+pub use written::{WordText, event_word, write_word, written_words};

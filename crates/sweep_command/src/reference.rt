@@ -13,7 +13,7 @@ fn referred(alloc: Global, setup: &Setup) -> Result<Reference, BootFault> {
 
 /// The kernel that the run without a failure leaves.
 fn kernel(alloc: Global, setup: &Setup) -> Result<Kernel, AllocError> {
-    run_accepted(alloc, setup, Script::empty(alloc))
+    run_accepted(alloc, setup, Script::empty(alloc), false)
 }
 
 /// Why the run without a failure is out of turns.

@@ -117,6 +117,12 @@ fn push_rest(
         "--file",
         matches.get_strs("file").unwrap_or(&[]),
     )?;
+    push_each(
+        alloc,
+        words,
+        "--dir",
+        matches.get_strs("dir").unwrap_or(&[]),
+    )?;
     push(alloc, words, "--")?;
     for word in matches.get_strs("program").unwrap_or(&[]) {
         push(alloc, words, *word)?;

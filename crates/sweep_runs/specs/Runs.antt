@@ -24,6 +24,11 @@ ending_of k = record { outcome = outcome_in k.running.shared; alive = is_alive k
 abbrev pub ComesTo : Setup → List Rule → Run → Type 0
 ComesTo setup script k = RunsTo (first_run setup.boot script) (worded setup.turns.items setup.limit) k
 
+-- the same, with its log kept or not
+abbrev pub ComesWith : Bool → Setup → List Rule → Run → Type 0
+ComesWith keeps setup script k =
+    RunsTo (record (first_run setup.boot script) { keeps_log = keeps }) (worded setup.turns.items setup.limit) k
+
 -- what a run left and logged
 pub record IsReference (k : Run) (r : Reference) : Type 0 where
   pub ending : r.ending ≡ ending_of k

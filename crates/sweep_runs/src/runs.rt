@@ -7,7 +7,7 @@ ghost use Rattle.lx_kernel.specs.First.{first_run};
 ghost use Rattle.lx_kernel.specs.Runs.{Run as KernelRun};
 ghost use Rattle.plain_run.specs.Runs.{RunsTo};
 ghost use Rattle.pt_schedule.specs.Schedules.{worded};
-ghost use Rattle.sweep_runs.specs.Runs.{ComesTo, IsReference};
+ghost use Rattle.sweep_runs.specs.Runs.{ComesTo, ComesWith, IsReference};
 
 use crate::ends::ending;
 use lx_abi::{Boot, Item, Script, Word};
@@ -35,25 +35,38 @@ fn copy<T: Copy + Drop>(alloc: Global, items: &[T]) -> Result<Vec<T>, AllocError
     Ok(copy)
 }
 
-/// The kernel at the end of the run of a boot under a script, by these words. The fault is the boot's, or Memory where
-/// memory runs out, in the run too.
+/// The kernel of a boot under a script, with its log kept or not.
+fn booted(alloc: Global, boot: Boot, script: Script, keeps_log: bool) -> Result<Kernel, BootFault>
+    ensures { IfOk result (λ k. k ≡ record (first_run boot script) { keeps_log = keeps_log }) }
+{
+    if keeps_log {
+        Kernel::boot(alloc, boot, script)
+    } else {
+        Kernel::boot_without_log(alloc, boot, script)
+    }
+}
+
+/// The kernel at the end of the run of a boot under a script, by these words, with its log or without. The fault is the
+/// boot's, or Memory where memory runs out, in the run too.
 pub fn run_by(
     alloc: Global,
     boot: &Boot,
     words: &[Word],
     limit: u64,
     script: Script,
+    keeps_log: bool,
 ) -> Result<Kernel, BootFault>
-    ensures { IfOk result (RunsTo (first_run boot.now script) (worded words.now limit)) }
+    ensures { IfOk result (RunsTo (record (first_run boot.now script) { keeps_log = keeps_log })
+        (worded words.now limit)) }
 {
     let boot = boot.copy(alloc)?;
     let words = copy(alloc, words)?;
     let mut schedule = Schedule::words(words, limit);
-    let mut kernel = match Kernel::boot(alloc, boot, script) {
+    let mut kernel = match booted(alloc, boot, script, keeps_log) {
         Ok(kernel) => kernel,
         Err(fault) => return Err(fault),
     };
-    match run(&mut kernel, &mut schedule, &mut Unwatched) {
+    match run(&mut kernel, &mut schedule, &mut Unwatched::new()) {
         Ok(()) => Ok(kernel),
         Err(_) => {
             drop(kernel);
@@ -64,19 +77,29 @@ pub fn run_by(
 
 /// The kernel at the end of the run under a script. The fault is the boot's, or Memory where memory runs out, in the
 /// run too.
-pub fn run_under(alloc: Global, setup: &Setup, script: Script) -> Result<Kernel, BootFault>
-    ensures to { IfOk result (ComesTo setup.now script) }
+pub fn run_under(
+    alloc: Global,
+    setup: &Setup,
+    script: Script,
+    keeps_log: bool,
+) -> Result<Kernel, BootFault>
+    ensures to { IfOk result (ComesWith keeps_log setup.now script) }
 {
     let words = setup.turns.as_slice();
-    let kernel = run_by(alloc, &setup.boot, words, setup.limit, script)?;
+    let kernel = run_by(alloc, &setup.boot, words, setup.limit, script, keeps_log)?;
     Ok(kernel)
 }
 
 /// The kernel at the end of the run under a script, of a boot that is accepted.
-pub fn run_accepted(alloc: Global, setup: &Setup, script: Script) -> Result<Kernel, AllocError>
-    ensures { IfOk result (ComesTo setup.now script) }
+pub fn run_accepted(
+    alloc: Global,
+    setup: &Setup,
+    script: Script,
+    keeps_log: bool,
+) -> Result<Kernel, AllocError>
+    ensures { IfOk result (ComesWith keeps_log setup.now script) }
 {
-    match run_under(alloc, setup, script) {
+    match run_under(alloc, setup, script, keeps_log) {
         Ok(kernel) => Ok(kernel),
         Err(_) => Err(AllocError),
     }
@@ -114,7 +137,7 @@ fn referred(alloc: Global, kernel: Kernel) -> Result<Reference, AllocError>
 fn refer_accepted(alloc: Global, setup: &Setup) -> Result<Reference, AllocError>
     ensures { IfOk result (λ r. (k : KernelRun) × ComesTo setup.now [] k × IsReference k r) }
 {
-    let kernel = run_accepted(alloc, setup, Script::empty(alloc))?;
+    let kernel = run_accepted(alloc, setup, Script::empty(alloc), true)?;
     let reference = referred(alloc, kernel)?;
     Ok(reference)
 }

@@ -71,7 +71,7 @@ fn run_case(alloc: Global, setup: &Setup, reference: &Ending, case: Case) -> Res
     ensures case { IfOk result (λ r. r.case ≡ case) }
 {
     let script = failing(alloc, failure(case))?;
-    let kernel = run_accepted(alloc, setup, script)?;
+    let kernel = run_accepted(alloc, setup, script, false)?;
     let ended = ended(kernel)?;
     let row = compare(alloc, reference, &ended, case)?;
     Ok(row)

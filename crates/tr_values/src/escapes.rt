@@ -1,6 +1,7 @@
 //! Bytes between quotes.
 
-ghost use Rattle.std.specs.Prelude.{◌≡◌, ◌≤◌, ◌<◌, ◌+◌, ◌∷◌, [], length, take};
+ghost use Rattle.std.specs.Prelude.{◌≡◌, ◌≤◌, ◌<◌, ◌+◌, ◌/◌, ◌%◌, ◌∷◌, [], length, take, false};
+ghost use Rattle.std.specs.Fmt.{digits};
 ghost use Rattle.tr_values.specs.Escapes as spec;
 ghost use Rattle.tr_values.specs.Sheets.{Leaves, put};
 
@@ -22,17 +23,44 @@ fn digit(sheet: &mut Sheet<'_>, d: u8) -> Result<(), Needed>
     sheet.byte(b'0' + d)
 }
 
+/// The last two octal digits.
+fn two_digits(sheet: &mut Sheet<'_>, byte: u8) -> Result<(), Needed>
+    ensures { Leaves result sheet.new (put ((48 + byte / 8 % 8) ∷ (48 + byte % 8) ∷ []) sheet.old) }
+{
+    digit(sheet, byte / 8 % 8)?;
+    digit(sheet, byte % 8)
+}
+
+fn three_digits(sheet: &mut Sheet<'_>, byte: u8) -> Result<(), Needed>
+    ensures { Leaves result sheet.new
+        (put ((48 + byte / 64) ∷ (48 + byte / 8 % 8) ∷ (48 + byte % 8) ∷ []) sheet.old) }
+{
+    digit(sheet, byte / 64)?;
+    two_digits(sheet, byte)
+}
+
+/// A number in octal, as short as can be.
+fn octal(sheet: &mut Sheet<'_>, byte: u8) -> Result<(), Needed>
+    ensures { Leaves result sheet.new (put (digits 8 false byte) sheet.old) }
+{
+    if byte < 8 {
+        digit(sheet, byte)
+    } else if byte < 64 {
+        two_digits(sheet, byte)
+    } else {
+        three_digits(sheet, byte)
+    }
+}
+
 /// The shortest octal escape, and one of three digits before a digit.
 fn octal_escape(sheet: &mut Sheet<'_>, byte: u8, digit_next: bool) -> Result<(), Needed>
     ensures { Leaves result sheet.new (put (spec.octal_escape byte digit_next) sheet.old) }
 {
-    sheet.put("\\")?;
+    sheet.byte(b'\\')?;
     if digit_next {
-        digit(sheet, byte / 64)?;
-        digit(sheet, byte / 8 % 8)?;
-        digit(sheet, byte % 8)
+        three_digits(sheet, byte)
     } else {
-        sheet.octal(u64::from(byte))
+        octal(sheet, byte)
     }
 }
 

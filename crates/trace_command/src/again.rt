@@ -18,6 +18,8 @@ pub struct Again {
     boot: Boot,
     words: Vec<Word>,
     limit: u64,
+    /// How much of a string the run asks for: its requests, and so its events, depend on it.
+    string_limit: u32,
     /// The effective turns, once they are known.
     turns: Option<Turns>,
 }
@@ -66,6 +68,7 @@ impl Again {
             boot: plan.boot.copy(alloc)?,
             words: copy_words(alloc, plan.turns.as_slice())?,
             limit,
+            string_limit: plan.options.string_limit,
             turns: None,
         })
     }
@@ -81,7 +84,7 @@ impl Again {
         let options = Options {
             follow: self.boot.follow,
             shown: expressions.shown,
-            string_limit: 0,
+            string_limit: self.string_limit,
             width: 0,
         };
         let schedule = Schedule::words(copy_words(alloc, self.words.as_slice())?, self.limit);

@@ -27,6 +27,7 @@ fn boot<R: Files + AllocGlobal, I: Read + IsTerminal, E: Write + IsTerminal>(
 ) -> Result<Boot, Fault> {
     let words = BootWords {
         files: matches.get_strs("file").unwrap_or(&[]),
+        directories: matches.get_strs("dir").unwrap_or(&[]),
         environment: matches.get_strs("environment").unwrap_or(&[]),
         program: matches.get_strs("program").unwrap_or(&[]),
         follow,

@@ -58,7 +58,8 @@ strace: output fault, strace: out of memory (status 3)
 strace: out of turns (status 4): all processes wait or are stopped, or the limit was reached
 
 Example: make the second write fail, and watch
-  strace_cli -e trace=write -e fault=write:error=EIO:when=2 --file /p=hello -- /p </dev/null";
+  guest_host asm guests/rows/three_writes.s three_writes
+  strace_cli -e trace=write -e fault=write:error=EIO:when=2 --file /p=three_writes -- /p </dev/null";
 
 /// Threads that turn a run's processes, and the most turns and requests together.
 #[derive(Clone, Copy, Debug)]

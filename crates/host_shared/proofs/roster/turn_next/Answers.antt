@@ -1,5 +1,6 @@
-use Rattle.host_shared.proofs.Knowing.{knows_none}
+use Rattle.host_shared.proofs.Knowing.{learns}
 use Rattle.host_shared.proofs.roster.turn_next.Goals as goal
 
-pub returns-in-Err-clause-known : goal.returns-in-Err-clause-known
-returns-in-Err-clause-known c _ = knows_none c.run_once.new.host c.none.result c.none.ensures
+pub returns-clause-known : goal.returns-clause-known
+returns-clause-known c = λ knows.
+    learns c.runs_leave_alike.ensures c.args.host.now c.turn.new.self c.args.followers.now c.learn.new.self c.args.last c.args.pid c.in-Ok.ensures.after (c.in-Ok.ensures.ran c.if-not-ran.false) c.requires c.learn.ensures knows

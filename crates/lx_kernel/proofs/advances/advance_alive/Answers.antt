@@ -1,8 +1,7 @@
 use Rattle.std.proofs.Common.{sym, ◌∙◌}
 use Rattle.std.specs.FinMap as maps
 use Rattle.lx_model.specs.declared.stage.Task.TheVariants.{Alive}
-use Rattle.lx_kernel.proofs.Advancing.{none_leads}
-use Rattle.lx_kernel.proofs.Running.{undisturbed}
+use Rattle.lx_kernel.proofs.Advancing.{none_leads, undisturbed}
 use Rattle.lx_kernel.proofs.advances.advance_alive.Goals as goal
 
 pub go_on-requires-clause-alive : goal.go_on-requires-clause-alive

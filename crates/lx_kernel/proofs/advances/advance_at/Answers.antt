@@ -1,9 +1,11 @@
-use Rattle.std.proofs.Common.{◌≡◌, sym, subst, ap, ◌∙◌, unwrap_or}
+use Rattle.std.proofs.Common.{◌≡◌, ℕ, sym, subst, ap, ◌∙◌, unwrap_or}
 use Rattle.std.specs.Prelude.{OnSome}
 use Rattle.std.specs.FinMap as maps
 use Rattle.lx_model.specs.Finite.{at}
 use Rattle.lx_model.specs.declared.stage.Task.TheVariants.{Gone}
 use Rattle.lx_turn.specs.Modes.{task_mode}
+use Rattle.lx_model.specs.declared.event.PtraceEvent.TheVariants.{Plain}
+use Rattle.lx_kernel.specs.Advances.{Leads, with_log, with_tasks}
 use Rattle.lx_kernel.specs.Scheduling.{Tasks}
 use Rattle.lx_kernel.specs.Sleeping.{IsKept}
 use Rattle.lx_kernel.proofs.Advancing.{absent_leads, put_leads}
@@ -13,7 +15,8 @@ use Rattle.lx_kernel.proofs.advances.advance_at.Goals as goal
 
 pub returns-in-None-clause-leads : goal.returns-in-None-clause-leads
 returns-in-None-clause-leads c = λ k fits here.
-    absent_leads k c.args.pid c.args.tasks.now c.get_mut.follows.lender-at-none c.args.item.now here c.get_mut.follows.holds-at-none c.requires
+    subst (λ (n : ℕ). Leads k c.args.pid n c.args.item.now Plain (with_log (with_tasks k c.get_mut.follows.lender-at-none) c.args.item.now)) (sym c.none.ensures.turns)
+    (absent_leads k c.args.pid c.args.tasks.now c.get_mut.follows.lender-at-none c.args.item.now here c.get_mut.follows.holds-at-none c.requires)
 
 pub returns-in_ok-advanced-in-Some-clause-leads : goal.returns-in_ok-advanced-in-Some-clause-leads
 returns-in_ok-advanced-in-Some-clause-leads c = λ k fits here.
@@ -39,3 +42,8 @@ returns-in_ok-advanced-in-Some-clause-kept c = λ q.
     let h = subst (λ r. OnSome r (c.get_mut.follows.lender w ≡ maps.insert tasks c.args.pid w)) c.in-Some.is (c.get_mut.follows.holds w) in
     subst (λ (o : Tasks). IsKept s q (at Gone tasks q) (at Gone o q)) (sym h)
     (put_kept s tasks c.args.pid c.in-Some.task.now w c.in-Some.ensures.value c.in_ok-advanced-in-Some.ensures.kept q)
+
+pub returns-in_ok-advanced-in-Some-clause-before : goal.returns-in_ok-advanced-in-Some-clause-before
+returns-in_ok-advanced-in-Some-clause-before c =
+    c.in_ok-advanced-in-Some.ensures.before
+    ∙ ap (λ o. task_mode (maps.get c.args.shared.now.entries c.args.pid) (unwrap_or o Gone)) c.in-Some.ensures.value

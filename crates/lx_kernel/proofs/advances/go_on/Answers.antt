@@ -1,9 +1,10 @@
 use Rattle.std.proofs.Common.{refl, sym, subst, arith}
 use Rattle.lx_model.specs.declared.stage.Stage.{Stage}
+use Rattle.lx_model.specs.declared.stage.Stage.TheVariants as stages
 use Rattle.lx_model.specs.declared.stage.Task.TheVariants.{Alive}
 use Rattle.lx_kernel.specs.Advances.{PartLeads}
 use Rattle.lx_kernel.specs.Sleeping.{IsKept}
-use Rattle.lx_kernel.proofs.Advancing.{none_leads, run_leads, start_leads, kept_same, awake_run, awake_start, awake_entered}
+use Rattle.lx_kernel.proofs.Advancing.{none_leads, run_leads, start_leads, end_leads, kept_same, awake_run, awake_start, awake_entered, awake_acted}
 use Rattle.lx_kernel.proofs.advances.go_on.Goals as goal
 
 pub returns-in_ok-ran-in-Run-clause-leads : goal.returns-in_ok-ran-in-Run-clause-leads
@@ -32,8 +33,8 @@ returns-in_ok-ran-in-Born-clause-kept c =
 
 pub returns-in_ok-ran-in-Entered-None-clause-kept : goal.returns-in_ok-ran-in-Entered-None-clause-kept
 returns-in_ok-ran-in-Entered-None-clause-kept c =
-    subst (λ (stage : Stage). IsKept c.args.shared.now c.args.pid (Alive c.args.user.now stage) (Alive c.go_through_call.new.user c.go_through_call.new.stage)) (sym c.in-Entered-None.is)
-    (awake_entered c.in-Entered-None.joined c.args.shared.now c.args.pid c.args.user.now (Alive c.go_through_call.new.user c.go_through_call.new.stage))
+    subst (λ (stage : Stage). IsKept c.args.shared.now c.args.pid (Alive c.args.user.now stage) (Alive c.go_into_call.new.user c.go_into_call.new.stage)) (sym c.in-Entered-None.is)
+    (awake_entered c.in-Entered-None.joined c.args.shared.now c.args.pid c.args.user.now (Alive c.go_into_call.new.user c.go_into_call.new.stage))
 
 pub returns-in_default-clause-leads : goal.returns-in_default-clause-leads
 returns-in_default-clause-leads c =
@@ -49,6 +50,24 @@ returns-in_default-3-clause-leads c =
 
 pub returns-in_default-4 : goal.returns-in_default-4
 returns-in_default-4 c = record {
+  leads = none_leads c.args.injection.now c.args.shared.now c.args.child c.args.pid (Alive c.args.user.now c.args.stage.now) c.args.item.now c.requires.nothing;
+  within = omega arith;
+  same = refl;
+  kept = kept_same c.args.shared.now c.args.pid (Alive c.args.user.now c.args.stage.now);
+  console = tt;
+}
+
+pub returns-in-Acted-clause-leads : goal.returns-in-Acted-clause-leads
+returns-in-Acted-clause-leads c =
+    end_leads c.args.injection.now c.args.shared.now c.args.child c.args.pid c.requires.alive c.args.user.now c.args.stage.now c.in-Acted.call c.in-Acted.result c.in-Acted.replaced c.in-Acted.is
+
+pub returns-in-Acted-clause-kept : goal.returns-in-Acted-clause-kept
+returns-in-Acted-clause-kept c =
+    subst (λ (stage : Stage). IsKept c.args.shared.now c.args.pid (Alive c.args.user.now stage) (Alive c.args.user.now stages.Finished)) (sym c.in-Acted.is)
+    (awake_acted c.in-Acted.call c.in-Acted.result c.in-Acted.replaced c.args.shared.now c.args.pid c.args.user.now (Alive c.args.user.now stages.Finished))
+
+pub returns-in_default-5 : goal.returns-in_default-5
+returns-in_default-5 c = record {
   leads = none_leads c.args.injection.now c.args.shared.now c.args.child c.args.pid (Alive c.args.user.now c.args.stage.now) c.args.item.now c.requires.nothing;
   within = omega arith;
   same = refl;

@@ -9,11 +9,11 @@ use Rattle.lx_kernel.proofs.first.first.Goals as goal
 pub returns : goal.returns
 returns c =
     let shared : c.in_ok-shared.shared ≡ first_shared c.args.boot.limits c.args.boot.files c.args.boot.input =
-    c.in_ok-shared.ensures ∙ ap (λ files. first_shared c.args.boot.limits files c.args.boot.input) c.as_slice.ensures in
+    c.in_ok-shared.ensures ∙ ap (λ files. first_shared c.args.boot.limits files c.args.boot.input) c.as_slice-3.ensures in
     let tasks : c.in_ok-tasks.tasks ≡ first_tasks c.args.boot.argv c.args.boot.env =
     c.in_ok-tasks.ensures
-    ∙ (ap (λ argv. first_tasks argv c.as_slice-3.result.now) c.as_slice-2.ensures
-    ∙ ap (λ env. first_tasks c.args.boot.argv env) c.as_slice-3.ensures) in
+    ∙ (ap (λ argv. first_tasks argv c.as_slice-2.result.now) c.as_slice.ensures
+    ∙ ap (λ env. first_tasks c.args.boot.argv env) c.as_slice-2.ensures) in
     c.new-2.ensures
     ∙ λ i. record {
       running = record { shared = shared i; tasks = tasks i; child = 2; log = [] };

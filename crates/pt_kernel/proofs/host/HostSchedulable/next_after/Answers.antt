@@ -2,7 +2,7 @@ use Rattle.std.proofs.Common.{Bool, not, refl, sym, subst}
 use Rattle.std.specs.Prelude.{◌&&◌}
 use Rattle.pt_schedule.specs.Cycle.{IsNextPlace}
 use Rattle.pt_kernel.specs.Hosts.{HostState, able_in, hosting_by, readiness_of}
-use Rattle.pt_kernel.proofs.Bursting.{place_in}
+use Rattle.pt_kernel.proofs.NextAble.{place_in}
 use Rattle.pt_kernel.proofs.host.HostSchedulable.next_after.Goals as goal
 
 pub returns : goal.returns

@@ -1,0 +1,4 @@
+//! What a call may do to others and is refused with, by its kind and number.
+#![tactic(auto)]
+
+pub mod laws;

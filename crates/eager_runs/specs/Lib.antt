@@ -1,0 +1,4 @@
+pub mod Runs
+pub mod Replays
+pub mod Traces
+pub mod Rows

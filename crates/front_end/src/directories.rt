@@ -1,0 +1,182 @@
+//! The files of a directory, and of those below it, as the guest's.
+
+ghost use Rattle.front_end.specs.Directories as spec;
+ghost use Rattle.std.specs.Prelude.{◌≡◌, IfOk, option_map, string_bytes};
+
+use crate::fault::Fault;
+use crate::reading::read_file;
+use crate::shown::Shown;
+use containers::{Bytes, Seq};
+use lx_abi::GuestFile;
+use lx_abi::limits::{LARGEST_FILE, MOST_NODES};
+use std::alloc::{AllocError, Global};
+use std::fmt::Display;
+use std::fs::FileType;
+use std::io::{self, Read};
+use std::rt::Files;
+
+/// A file or a directory: its path in the guest's tree, and its own.
+#[derive(Drop)]
+struct Place {
+    guest: String,
+    path: String,
+}
+
+/// What the words of `--dir` lead to.
+#[derive(Drop)]
+struct Walk<'a> {
+    /// The words, for faults.
+    word: &'a str,
+    /// Files, each directory's in the order of their names.
+    files: Vec<Place>,
+    /// Directories that are still to be read.
+    directories: Vec<Place>,
+}
+
+/// The path of a name in a directory.
+fn below(alloc: Global, directory: &str, name: &str) -> Result<String, AllocError>
+    ensures { IfOk result (λ path. string_bytes path ≡ spec.below directory.now name.now) }
+{
+    let mut path = String::new(alloc);
+    if directory != "/" {
+        path.push_str(directory)?;
+    }
+    path.push('/')?;
+    path.push_str(name)?;
+    Ok(path)
+}
+
+/// The guest's path and the directory of a word GUEST=DIR.
+fn divided(word: &str) -> Option<(&str, &str)>
+    ensures { option_map (λ parts. (parts.0.now, parts.1.now)) result ≡ spec.divided word.now }
+{
+    match word.split_once('=') {
+        Some((guest, path)) if !guest.is_empty() => Some((guest, path)),
+        _ => None,
+    }
+}
+
+/// A fault of a word of `--dir`, in what is named by `what`.
+fn refusal<D: Display + Drop>(alloc: Global, word: &str, what: D, why: &str) -> Fault {
+    Fault::usage(format!(in alloc; "--dir {}: {what}: {why}", Shown(word)))
+}
+
+/// What can't be read.
+fn unread(alloc: Global, word: &str, path: &str, error: io::Error) -> Fault {
+    match format!(in alloc; "--dir {}: {}", Shown(word), Shown(path)) {
+        Ok(what) => Fault::file(alloc, what, error),
+        Err(error) => Fault::from(error),
+    }
+}
+
+/// The names that a directory lists, each ended by a NUL, in the order of their bytes, but its own and its parent's.
+/// None, if one of them isn't UTF-8.
+fn names(alloc: Global, listed: &[u8]) -> Result<Option<Vec<&str>>, AllocError> {
+    let mut names = Vec::new(alloc);
+    for name in listed.split(|byte| *byte == 0) {
+        match str::from_utf8(name) {
+            Ok("" | "." | "..") => {}
+            Ok(name) => names.push(name)?,
+            Err(_) => return Ok(None),
+        }
+    }
+    names.sort()?;
+    Ok(Some(names))
+}
+
+impl Walk<'_> {
+    /// Adds what a name in a directory leads to.
+    fn add(&mut self, alloc: Global, place: Place, kind: FileType) -> Result<(), Fault> {
+        let seen = self.files.len().saturating_add(self.directories.len());
+        if seen >= MOST_NODES {
+            let why = "with it there are more than 4096 files and directories";
+            return Err(refusal(alloc, self.word, Shown(place.path.as_str()), why));
+        }
+        if kind.is_dir() {
+            self.directories.push(place)?;
+        } else if kind.is_file() {
+            self.files.push(place)?;
+        } else {
+            let why = "neither a file nor a directory";
+            return Err(refusal(alloc, self.word, Shown(place.path.as_str()), why));
+        }
+        Ok(())
+    }
+
+    /// Adds all that a directory holds.
+    fn read<R: Files + AllocGlobal>(&mut self, rt: &R, directory: &Place) -> Result<(), Fault> {
+        let alloc = rt.alloc();
+        let path = directory.path.as_str();
+        let listed = match listing(rt, path) {
+            Ok(listed) => listed,
+            Err(error) => return Err(unread(alloc, self.word, path, error)),
+        };
+        let Some(names) = names(alloc, listed.as_slice())? else {
+            return Err(refusal(alloc, self.word, Shown(path), "a name in it isn't UTF-8"));
+        };
+        for name in names.iter().copied() {
+            let place = Place {
+                guest: below(alloc, directory.guest.as_str(), name)?,
+                path: below(alloc, path, name)?,
+            };
+            match rt.symlink_metadata(place.path.as_str()) {
+                Ok(metadata) => self.add(alloc, place, metadata.file_type())?,
+                Err(error) => return Err(unread(alloc, self.word, place.path.as_str(), error)),
+            }
+        }
+        Ok(())
+    }
+}
+
+/// The names of a directory, each ended by a NUL.
+fn listing<R: Files + AllocGlobal>(rt: &R, path: &str) -> io::Result<Vec<u8>> {
+    let mut listed = Vec::new(rt.alloc());
+    let _ = rt.open_dir(path)?.read_to_end(&mut listed)?;
+    Ok(listed)
+}
+
+/// The files below the directory of a word GUEST=DIR.
+fn places<R: Files + AllocGlobal>(rt: &R, word: &str) -> Result<Vec<Place>, Fault> {
+    let alloc = rt.alloc();
+    let Some((guest, path)) = divided(word) else {
+        return Err(Fault::usage(format!(in alloc; "--dir {}: not GUEST=DIR", Shown(word))));
+    };
+    let mut walk = Walk {
+        word,
+        files: Vec::new(alloc),
+        directories: Vec::new(alloc),
+    };
+    walk.directories.push(Place {
+        guest: String::from_str(alloc, guest)?,
+        path: String::from_str(alloc, path)?,
+    })?;
+    for _ in 0..MOST_NODES {
+        match walk.directories.pop() {
+            Some(directory) => walk.read(rt, &directory)?,
+            None => return Ok(walk.files),
+        }
+    }
+    Err(refusal(alloc, word, Shown(path), "more than 4096 directories"))
+}
+
+/// Adds the files of a word GUEST=DIR, of which `left` bytes may be read: of a file that is too large one byte more.
+pub fn add_directory<R: Files + AllocGlobal>(
+    rt: &R,
+    word: &str,
+    files: &mut Seq<GuestFile>,
+    left: &mut u64,
+) -> Result<(), Fault> {
+    let alloc = rt.alloc();
+    for place in places(rt, word)?.iter() {
+        let content = match read_file(rt, place.path.as_str(), (*left).min(LARGEST_FILE)) {
+            Ok(content) => content,
+            Err(error) => return Err(unread(alloc, word, place.path.as_str(), error)),
+        };
+        *left = left.saturating_sub(content.len() as u64);
+        files.push(GuestFile {
+            path: Bytes::from_slice(alloc, place.guest.as_bytes())?,
+            content: Bytes::from_vec(content),
+        })?;
+    }
+    Ok(())
+}
