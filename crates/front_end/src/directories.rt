@@ -22,6 +22,16 @@ struct Place {
     path: String,
 }
 
+impl Place {
+    /// The place of a name in a directory.
+    fn place(&self, alloc: Global, name: &str) -> Result<Place, AllocError> {
+        Ok(Place {
+            guest: below(alloc, self.guest.as_str(), name)?,
+            path: below(alloc, self.path.as_str(), name)?,
+        })
+    }
+}
+
 /// What the words of `--dir` lead to.
 #[derive(Drop)]
 struct Walk<'a> {
@@ -103,28 +113,55 @@ impl Walk<'_> {
         Ok(())
     }
 
+    /// Adds what this name in a directory leads to.
+    fn look_at<R: Files + AllocGlobal>(
+        &mut self,
+        rt: &R,
+        directory: &Place,
+        name: &str,
+    ) -> Result<(), Fault> {
+        let place = directory.place(rt.alloc(), name)?;
+        match rt.symlink_metadata(place.path.as_str()) {
+            Ok(metadata) => self.add(rt.alloc(), place, metadata.file_type()),
+            Err(error) => Err(unread(rt.alloc(), self.word, place.path.as_str(), error)),
+        }
+    }
+
     /// Adds all that a directory holds.
     fn read<R: Files + AllocGlobal>(&mut self, rt: &R, directory: &Place) -> Result<(), Fault> {
-        let alloc = rt.alloc();
         let path = directory.path.as_str();
         let listed = match listing(rt, path) {
             Ok(listed) => listed,
-            Err(error) => return Err(unread(alloc, self.word, path, error)),
+            Err(error) => return Err(unread(rt.alloc(), self.word, path, error)),
         };
-        let Some(names) = names(alloc, listed.as_slice())? else {
-            return Err(refusal(alloc, self.word, Shown(path), "a name in it isn't UTF-8"));
+        let Some(names) = names(rt.alloc(), listed.as_slice())? else {
+            return Err(refusal(
+                rt.alloc(),
+                self.word,
+                Shown(path),
+                "a name in it isn't UTF-8",
+            ));
         };
         for name in names.iter().copied() {
-            let place = Place {
-                guest: below(alloc, directory.guest.as_str(), name)?,
-                path: below(alloc, path, name)?,
-            };
-            match rt.symlink_metadata(place.path.as_str()) {
-                Ok(metadata) => self.add(alloc, place, metadata.file_type())?,
-                Err(error) => return Err(unread(alloc, self.word, place.path.as_str(), error)),
-            }
+            self.look_at(rt, directory, name)?;
         }
         Ok(())
+    }
+
+    /// Adds what stands below the directories that are still to be read.
+    fn read_all<R: Files + AllocGlobal>(&mut self, rt: &R, path: &str) -> Result<(), Fault> {
+        for _ in 0..MOST_NODES {
+            match self.directories.pop() {
+                Some(directory) => self.read(rt, &directory)?,
+                None => return Ok(()),
+            }
+        }
+        Err(refusal(
+            rt.alloc(),
+            self.word,
+            Shown(path),
+            "more than 4096 directories",
+        ))
     }
 }
 
@@ -133,6 +170,14 @@ fn listing<R: Files + AllocGlobal>(rt: &R, path: &str) -> io::Result<Vec<u8>> {
     let mut listed = Vec::new(rt.alloc());
     let _ = rt.open_dir(path)?.read_to_end(&mut listed)?;
     Ok(listed)
+}
+
+/// A directory of the guest's tree, and its own.
+fn first_place(alloc: Global, guest: &str, path: &str) -> Result<Place, AllocError> {
+    Ok(Place {
+        guest: String::from_str(alloc, guest)?,
+        path: String::from_str(alloc, path)?,
+    })
 }
 
 /// The files below the directory of a word GUEST=DIR.
@@ -146,17 +191,9 @@ fn places<R: Files + AllocGlobal>(rt: &R, word: &str) -> Result<Vec<Place>, Faul
         files: Vec::new(alloc),
         directories: Vec::new(alloc),
     };
-    walk.directories.push(Place {
-        guest: String::from_str(alloc, guest)?,
-        path: String::from_str(alloc, path)?,
-    })?;
-    for _ in 0..MOST_NODES {
-        match walk.directories.pop() {
-            Some(directory) => walk.read(rt, &directory)?,
-            None => return Ok(walk.files),
-        }
-    }
-    Err(refusal(alloc, word, Shown(path), "more than 4096 directories"))
+    walk.directories.push(first_place(alloc, guest, path)?)?;
+    walk.read_all(rt, path)?;
+    Ok(walk.files)
 }
 
 /// Adds the files of a word GUEST=DIR, of which `left` bytes may be read: of a file that is too large one byte more.

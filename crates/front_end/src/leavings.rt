@@ -1,13 +1,14 @@
 //! What a run leaves in the guest's files: written to a directory, and listed.
 
 use crate::fault::Fault;
+use crate::replacing::{check_file, replace_file};
 use crate::shown::Shown;
 use clap::{Arg, ArgMatches, Command};
 use containers::Bytes;
 use lx_abi::{Node, Outcome, OutcomeFile};
 use std::alloc::{AllocError, Global};
-use std::fs;
-use std::io::{self, ErrorKind, Read};
+use std::fs::{self, File};
+use std::io::{self, ErrorKind, Read, Write};
 use std::rt::Files;
 
 /// Where the files go, and their list.
@@ -47,21 +48,14 @@ impl<'a> Leavings<'a> {
         self.directory.is_some() || self.list.is_some()
     }
 
-    /// The directory can be read, and is empty.
+    /// The directory can be read, and is empty; the list can be written.
     pub fn check<R: Files + AllocGlobal>(self, rt: &R) -> Result<(), Fault> {
-        let Some(directory) = self.directory else {
-            return Ok(());
-        };
-        let shown = Shown(directory);
-        match is_empty(rt, directory) {
-            Ok(true) => Ok(()),
-            Ok(false) => Err(Fault::usage(format!(in rt.alloc();
-                "--files-out {shown}: the directory isn't empty"
-            ))),
-            Err(error) => {
-                let what = format!(in rt.alloc(); "--files-out {shown}")?;
-                Err(Fault::file(rt.alloc(), what, error))
-            }
+        if let Some(directory) = self.directory {
+            check_directory(rt, directory)?;
+        }
+        match self.list {
+            Some(path) => check_list(rt, path),
+            None => Ok(()),
         }
     }
 
@@ -101,6 +95,30 @@ fn is_empty<R: Files>(rt: &R, directory: &str) -> io::Result<bool> {
     Ok(false)
 }
 
+fn check_directory<R: Files + AllocGlobal>(rt: &R, directory: &str) -> Result<(), Fault> {
+    let shown = Shown(directory);
+    match is_empty(rt, directory) {
+        Ok(true) => Ok(()),
+        Ok(false) => Err(Fault::usage(format!(in rt.alloc();
+            "--files-out {shown}: the directory isn't empty"
+        ))),
+        Err(error) => {
+            let what = format!(in rt.alloc(); "--files-out {shown}")?;
+            Err(Fault::file(rt.alloc(), what, error))
+        }
+    }
+}
+
+fn check_list<R: Files + AllocGlobal>(rt: &R, path: &str) -> Result<(), Fault> {
+    match check_file(rt, path) {
+        Ok(()) => Ok(()),
+        Err(error) => {
+            let what = format!(in rt.alloc(); "--files-list {}", Shown(path))?;
+            Err(Fault::file(rt.alloc(), what, error))
+        }
+    }
+}
+
 /// A path that leads from a directory to a place below it.
 fn is_below(path: &str) -> bool {
     match path.strip_prefix('/') {
@@ -111,10 +129,14 @@ fn is_below(path: &str) -> bool {
     }
 }
 
+/// Makes what isn't there yet, through no link.
 fn make<R: Files>(rt: &R, path: &str, node: &Node) -> io::Result<()> {
     match node {
         Node::Directory => fs::create_dir(rt, path),
-        Node::File(content) => fs::write(rt, path, content.as_slice()),
+        Node::File(content) => {
+            let mut file = File::create_new(rt, path)?;
+            file.write_all(content.as_slice())
+        }
     }
 }
 
@@ -200,7 +222,7 @@ fn write_list<R: Files + AllocGlobal>(
     files: &[OutcomeFile],
 ) -> Result<(), Fault> {
     let list = list_of(rt.alloc(), files)?;
-    match fs::write(rt, path, list.as_bytes()) {
+    match replace_file(rt, path, list.as_bytes()) {
         Ok(()) => Ok(()),
         Err(error) => Err(unwritten(rt.alloc(), "--files-list", path, error)),
     }

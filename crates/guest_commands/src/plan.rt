@@ -2,8 +2,8 @@
 
 use clap::ArgMatches;
 use front_end::{
-    BootWords, Fault, Leavings, Program, boot_of, check_boot, read_expressions, read_turns,
-    refuse_boot,
+    BootWords, Fault, Leavings, Program, boot_of, check_boot, check_outputs, read_expressions,
+    read_turns, refuse_boot,
 };
 use lx_abi::{Boot, Script};
 use lx_kernel::Kernel;
@@ -77,6 +77,7 @@ pub fn read_plan<R: Files + AllocGlobal, I: Read + IsTerminal, E: Write + IsTerm
     let limit = front_end::limit(rt.alloc(), matches)?;
     let script = read_expressions(rt.alloc(), matches)?.script;
     let schedule = schedule(rt, matches, limit)?;
+    check_outputs(rt.alloc(), matches)?;
     Leavings::of(matches).check(rt)?;
     let boot = boot(rt, matches, input, err)?;
     check_boot(rt.alloc(), &boot)?;

@@ -8,8 +8,8 @@ fn main(rt: HostRuntime) -> ExitCode {
     let mut input = rt.stdin();
     let mut out = rt.stdout();
     let mut err = rt.stderr();
-    let status = match front_end::arguments(&rt) {
-        Ok(words) => command(&rt, words.as_slice(), &mut input, &mut out, &mut err),
+    let status = match front_end::start(&rt) {
+        Ok(start) => command(&rt, start.words.as_slice(), &mut input, &mut out, &mut err),
         Err(fault) => tell(fault, &mut err),
     };
     ExitCode::from(status)

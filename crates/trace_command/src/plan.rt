@@ -2,7 +2,9 @@
 
 use crate::words::TraceOptions;
 use clap::ArgMatches;
-use front_end::{BootWords, Fault, Leavings, boot_of, check_boot, read_expressions, read_turns};
+use front_end::{
+    BootWords, Fault, Leavings, boot_of, check_boot, check_outputs, read_expressions, read_turns,
+};
 use lx_abi::{Boot, Script, Word};
 use std::alloc::Global;
 use std::io::{IsTerminal, Read, Write};
@@ -46,6 +48,7 @@ pub fn read_plan<R: Files + AllocGlobal, I: Read + IsTerminal, E: Write + IsTerm
 ) -> Result<Plan, Fault> {
     let expressions = read_expressions(rt.alloc(), matches)?;
     let turns = read_turns(rt, matches.get_str("turns"))?;
+    check_outputs(rt.alloc(), matches)?;
     Leavings::of(matches).check(rt)?;
     let boot = boot(rt, matches, options.follow, input, err)?;
     check_boot(rt.alloc(), &boot)?;
