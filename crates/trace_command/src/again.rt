@@ -1,5 +1,7 @@
 //! A run made once more: to know its turns, and where its processes stand when it is out of them.
 
+ghost use Rattle.std.specs.Prelude.{◌≤◌};
+
 use crate::plan::Plan;
 use clap::ArgMatches;
 use front_end::{Fault, explain_turns, read_expressions};
@@ -20,6 +22,7 @@ pub struct Again {
     limit: u64,
     /// How much of a string the run asks for: its requests, and so its events, depend on it.
     string_limit: u32,
+    ghost limit_in_range: { string_limit ≤ 4096 },
     /// The effective turns, once they are known.
     turns: Option<Turns>,
 }
