@@ -188,7 +188,7 @@ exec_fewer tree fds pid = each_fewer true (record { tree = tree; fds = fds }) pi
 
 -- Who has all of them closed has none.
 
-abbrev NoSlot : Held → ℕ → Type 0
+abbrev pub NoSlot : Held → ℕ → Type 0
 NoSlot h key = maps.get h.fds.slots key ≡ None
 
 none_later : (h g : Held) (key : ℕ) → FewerIn h.tree h.fds g → NoSlot h key → NoSlot g key
@@ -198,7 +198,7 @@ none_later h g key fewer none = go (maps.get g.fds.slots key) refl
     go None is = refl
     go (Some x) is = let there = fewer.slots key x is in absurd (cc (there, none))
 
-slot_gone : (tree : Tree) (fds : FdTable) (key : ℕ) (o : Option Slot) → maps.get fds.slots key ≡ o → NoSlot (slot_closed tree fds key o) key
+pub slot_gone : (tree : Tree) (fds : FdTable) (key : ℕ) (o : Option Slot) → maps.get fds.slots key ≡ o → NoSlot (slot_closed tree fds key o) key
 slot_gone tree fds key None is = is
 slot_gone tree fds key (Some s) is =
     let left : FdTable = record fds { slots = maps.remove fds.slots key } in

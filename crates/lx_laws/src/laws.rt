@@ -1,0 +1,17 @@
+//! What holds in every state that a boot reaches, beside that it is sound; and of calls, what the manual pages say of all.
+
+ghost use Rattle.lx_laws.specs.Families.{TurnsKeepFamilies, KernelsHaveFamilies};
+ghost use Rattle.lx_laws.specs.Manual.{RefusedCallsChangeNothing, ChildrenBeginAlike, ProgramsKeepDescriptors};
+
+/// A parent is there before its children, and until they leave it or it them: a turn keeps this, and a boot begins so.
+pub fn families_hold()
+    ensures turn { TurnsKeepFamilies }
+    ensures kernels { KernelsHaveFamilies }
+{}
+
+/// A refusal changes nothing, a child begins as its parent, and a new program has the descriptors that aren't marked.
+pub fn calls_are_as_told()
+    ensures refused { RefusedCallsChangeNothing }
+    ensures child { ChildrenBeginAlike }
+    ensures program { ProgramsKeepDescriptors }
+{}

@@ -1,0 +1,4 @@
+pub mod Lists
+pub mod Turning
+pub mod Asking
+pub mod Stops

@@ -1,0 +1,10 @@
+//! What holds of tracees, their stops and their reports in every state of the ptrace machine.
+
+ghost use Rattle.pt_laws.specs.Stops.{TurnsKeepStops, RequestsKeepStops, StopsAreKept};
+
+/// No stop is forgotten, and nobody is held for nothing: turns and requests keep this, and every machine begins so.
+pub fn no_stop_is_forgotten<S, B>()
+    ensures turn { TurnsKeepStops S B }
+    ensures request { RequestsKeepStops S B }
+    ensures all { StopsAreKept S B }
+{}
