@@ -205,6 +205,13 @@ slot_gone tree fds key (Some s) is =
     none_later (record { tree = tree; fds = left }) (description_released tree left s.description) key (description_fewer tree left s.description)
     (maps.get-remove nat_cmp_total fds.slots key key ∙ grind (arith, nat_tests))
 
+-- a descriptor that is closed names nothing
+pub closed_none : (tree : Tree) (fds : FdTable) (pid fd : ℕ) → nat_lt fd most_fds ≡ true → NoSlot (closed tree fds pid fd) (pair pid fd)
+unfolding closed
+closed_none tree fds pid fd below =
+    let is : slot fds pid fd ≡ maps.get fds.slots (pair pid fd) = ap (λ b. cond b (maps.get fds.slots (pair pid fd)) None) below in
+    subst (λ o. NoSlot (slot_closed tree fds (pair pid fd) o) (pair pid fd)) (sym is) (slot_gone tree fds (pair pid fd) (maps.get fds.slots (pair pid fd)) refl)
+
 closed_gone : (h : Held) (pid fd : ℕ) → nat_lt fd most_fds ≡ true → NoSlot (closed_if_meant false h pid fd) (pair pid fd)
 unfolding closed
 closed_gone h pid fd below = go (maps.get h.fds.slots (pair pid fd)) refl
