@@ -4,3 +4,4 @@ pub mod Burying
 pub mod Calling
 pub mod Families
 pub mod Manual
+pub mod Holders
