@@ -28,15 +28,18 @@ use Rattle.pt_model.specs.Requests.{Answered, says, goes_from, set_options, stop
 use Rattle.pt_model.proofs.Maps.{same_or_not, is_same, is_not_same, put_here, put_apart}
 use Rattle.pt_laws.specs.Stops.{StandsAt, is_to_tell, is_tracee, listings, reports_of, LastStands, is_end, NoEnds, EndsFit, Fits, Watched, lets_go, is_agreed, minds, asked, AreStops, RequestsKeepStops}
 use Rattle.pt_laws.proofs.Lists.{own_stops, other_stops, reports-append, listings-append, own_listing, other_listing, own_left, other_left, later_stands}
-use Rattle.pt_laws.proofs.Turning.{fits_as}
+use Rattle.pt_laws.proofs.Turning.{Property, Each, holds_as}
 
 -- A request to one process.
 
 -- what a request leaves of it
-abbrev Left : {B : Type 0} → ℕ → List ℕ → List Report → Bool → Ask → Answered B → Type 0
-Left p listed reports told q a =
-    Fits p a.proc (cond a.seized (listed ++ p ∷ []) listed) (cond a.seized (reports ++ record { pid = p; stop = Event_stop At_start } ∷ []) reports)
+abbrev pub Leaves : {B : Type 0} → Property B → ℕ → List ℕ → List Report → Bool → Ask → Answered B → Type 0
+Leaves P p listed reports told q a =
+    P p a.proc (cond a.seized (listed ++ p ∷ []) listed) (cond a.seized (reports ++ record { pid = p; stop = Event_stop At_start } ∷ []) reports)
     (cond (lets_go q && is_agreed (Some a.reply)) false told)
+
+abbrev Left : {B : Type 0} → ℕ → List ℕ → List Report → Bool → Ask → Answered B → Type 0
+Left = Leaves Fits
 
 module _ {S B : Type 0} (m : Machine S B) (p : ℕ) (message : ℕ) (listed : List ℕ) (reports : List Report) (told : Bool) where
   -- a refusal, or a question, leaves all as it was
@@ -122,8 +125,8 @@ module _ {S B : Type 0} (m : Machine S B) (p : ℕ) (message : ℕ) (listed : Li
 
 -- The host after it.
 
-module _ {S B : Type 0} (h : Host S B) (told : ℕ → Bool) (p : ℕ) (q : Ask) (a : Answered B) (each : (i : ℕ) → Fits i (h.procs i) (listings i h.tracees) (reports_of i h.queue) (told i))
-    (left : Left p (listings p h.tracees) (reports_of p h.queue) (told p) q a) where
+module _ {S B : Type 0} (P : Property B) (h : Host S B) (told : ℕ → Bool) (p : ℕ) (q : Ask) (a : Answered B) (each : Each P h told)
+    (left : Leaves P p (listings p h.tracees) (reports_of p h.queue) (told p) q a) where
   abbrev report : Report
   report = record { pid = p; stop = Event_stop At_start }
 
@@ -154,11 +157,11 @@ module _ {S B : Type 0} (h : Host S B) (told : ℕ → Bool) (p : ℕ) (q : Ask)
   other_told i ne true = put_apart told p false i ne
   other_told i ne false = refl
 
-  answered_fits : (i : ℕ) → Fits i ((answered h p a).procs i) (listings i (answered h p a).tracees) (reports_of i (answered h p a).queue) (minded i)
-  answered_fits i = ⊎_elim
-      (λ (e : p ≡ i). subst (λ j. Fits j ((answered h p a).procs j) (listings j (answered h p a).tracees) (reports_of j (answered h p a).queue) (minded j)) e
-      (fits_as p a.proc _ _ (listings p (answered h p a).tracees) _ (reports_of p (answered h p a).queue) _ (minded p) (put_here h.procs p a.proc) (own_listed a.seized) (own_reported a.seized) (own_told (lets_go q && is_agreed (Some a.reply))) left))
-      (λ (ne : p ≢ i). fits_as i (h.procs i) _ (listings i h.tracees) (listings i (answered h p a).tracees) (reports_of i h.queue) (reports_of i (answered h p a).queue) (told i) (minded i)
+  pub answered_each : Each P (answered h p a) minded
+  answered_each i = ⊎_elim
+      (λ (e : p ≡ i). subst (λ j. P j ((answered h p a).procs j) (listings j (answered h p a).tracees) (reports_of j (answered h p a).queue) (minded j)) e
+      (holds_as P p a.proc _ _ (listings p (answered h p a).tracees) _ (reports_of p (answered h p a).queue) _ (minded p) (put_here h.procs p a.proc) (own_listed a.seized) (own_reported a.seized) (own_told (lets_go q && is_agreed (Some a.reply))) left))
+      (λ (ne : p ≢ i). holds_as P i (h.procs i) _ (listings i h.tracees) (listings i (answered h p a).tracees) (reports_of i h.queue) (reports_of i (answered h p a).queue) (told i) (minded i)
       (put_apart h.procs p a.proc i ne) (other_listed i ne a.seized) (other_reported i ne a.seized) (other_told i ne (lets_go q && is_agreed (Some a.reply))) (each i))
       (same_or_not p i)
 
@@ -243,42 +246,53 @@ module _ {B : Type 0} (p : ℕ) (t : Proc B) (listed : List ℕ) (r : Report) (r
       go Gone is h = absurd (cc h)
       go (Dying w) is h = ⊎_elim (λ none. absurd (cc none)) (λ one. rw (is, tail_of rest (record { pid = p; stop = Ended w }) one) (ended w)) h
 
-module _ {S B : Type 0} (h : Host S B) (told : ℕ → Bool) (r : Report) (rest : List Report) (queue : h.queue ≡ r ∷ rest) (each : (i : ℕ) → Fits i (h.procs i) (listings i h.tracees) (reports_of i h.queue) (told i)) where
+module _ {S B : Type 0} (P : Property B) (h : Host S B) (told : ℕ → Bool) (r : Report) (rest : List Report) (queue : h.queue ≡ r ∷ rest) (each : Each P h told) where
   own_queue : reports_of r.pid h.queue ≡ r ∷ reports_of r.pid rest
   own_queue = ap (reports_of r.pid) queue ∙ ap (λ b. cond b (r ∷ reports_of r.pid rest) (reports_of r.pid rest)) (is_same r.pid)
 
   other_queue : (i : ℕ) → r.pid ≢ i → reports_of i rest ≡ reports_of i h.queue
   other_queue i ne = sym (ap (reports_of i) queue ∙ ap (λ b. cond b (r ∷ reports_of i rest) (reports_of i rest)) (is_not_same i r.pid (λ e. ne (sym e))))
 
-  mine : Fits r.pid (h.procs r.pid) (listings r.pid h.tracees) (r ∷ reports_of r.pid rest) (told r.pid)
-  mine = subst (λ x. Fits r.pid (h.procs r.pid) (listings r.pid h.tracees) x (told r.pid)) own_queue (each r.pid)
-
-  abbrev Told : Host S B → Type 0
-  Told g = (i : ℕ) → Fits i (g.procs i) (listings i g.tracees) (reports_of i g.queue) (put told r.pid true i)
-
-  taken_each : is_end r.stop ≡ false → (i : ℕ) → Fits i (h.procs i) (listings i h.tracees) (reports_of i rest) (put told r.pid true i)
-  taken_each other i = ⊎_elim
-      (λ (e : r.pid ≡ i). subst (λ j. Fits j (h.procs j) (listings j h.tracees) (reports_of j rest) (put told r.pid true j)) e
-      (fits_as r.pid _ _ _ _ _ _ true _ refl refl refl (put_here told r.pid true) (stop_taken r.pid (h.procs r.pid) (listings r.pid h.tracees) r (reports_of r.pid rest) (told r.pid) mine other)))
-      (λ (ne : r.pid ≢ i). fits_as i _ _ _ _ (reports_of i h.queue) _ (told i) _ refl refl (other_queue i ne) (put_apart told r.pid true i ne) (each i))
-      (same_or_not r.pid i)
-
   abbrev let_off : Proc B
   let_off = record { task = (h.procs r.pid).task; held = false; options = (h.procs r.pid).options }
 
-  ended_each : is_end r.stop ≡ true → (i : ℕ) → Fits i (put h.procs r.pid let_off i) (listings i (filter (λ q. not (r.pid == q)) h.tracees)) (reports_of i rest) (put told r.pid true i)
-  ended_each end i = ⊎_elim
-      (λ (e : r.pid ≡ i). subst (λ j. Fits j (put h.procs r.pid let_off j) (listings j (filter (λ q. not (r.pid == q)) h.tracees)) (reports_of j rest) (put told r.pid true j)) e
-      (fits_as r.pid let_off _ [] _ (reports_of r.pid rest) _ true _ (put_here h.procs r.pid let_off) (own_left r.pid h.tracees) refl (put_here told r.pid true) (end_taken r.pid (h.procs r.pid) (listings r.pid h.tracees) r (reports_of r.pid rest) (told r.pid) mine end)))
-      (λ (ne : r.pid ≢ i). fits_as i (h.procs i) _ (listings i h.tracees) _ (reports_of i h.queue) _ (told i) _ (put_apart h.procs r.pid let_off i ne) (other_left r.pid i h.tracees ne) (other_queue i ne) (put_apart told r.pid true i ne) (each i))
+  -- what is shown of the process, before and after
+  abbrev pub Before : Type 0
+  Before = P r.pid (h.procs r.pid) (listings r.pid h.tracees) (r ∷ reports_of r.pid rest) (told r.pid)
+
+  abbrev pub AfterStop : Type 0
+  AfterStop = P r.pid (h.procs r.pid) (listings r.pid h.tracees) (reports_of r.pid rest) true
+
+  abbrev pub AfterEnd : Type 0
+  AfterEnd = P r.pid let_off [] (reports_of r.pid rest) true
+
+  mine : Before
+  mine = subst (λ x. P r.pid (h.procs r.pid) (listings r.pid h.tracees) x (told r.pid)) own_queue (each r.pid)
+
+  taken_each : AfterStop → (i : ℕ) → P i (h.procs i) (listings i h.tracees) (reports_of i rest) (put told r.pid true i)
+  taken_each after i = ⊎_elim
+      (λ (e : r.pid ≡ i). subst (λ j. P j (h.procs j) (listings j h.tracees) (reports_of j rest) (put told r.pid true j)) e
+      (holds_as P r.pid _ _ _ _ _ _ true _ refl refl refl (put_here told r.pid true) after))
+      (λ (ne : r.pid ≢ i). holds_as P i _ _ _ _ (reports_of i h.queue) _ (told i) _ refl refl (other_queue i ne) (put_apart told r.pid true i ne) (each i))
       (same_or_not r.pid i)
 
-  took_fits : (stop : Stop) → r.stop ≡ stop → Told (take_report h rest r.pid stop)
-  took_fits (Syscall_stop good) is = taken_each (ap is_end is)
-  took_fits (Signal_stop signal) is = taken_each (ap is_end is)
-  took_fits (Group_stop signal) is = taken_each (ap is_end is)
-  took_fits (Event_stop event) is = taken_each (ap is_end is)
-  took_fits (Ended word) is = ended_each (ap is_end is)
+  ended_each : AfterEnd → (i : ℕ) → P i (put h.procs r.pid let_off i) (listings i (filter (λ q. not (r.pid == q)) h.tracees)) (reports_of i rest) (put told r.pid true i)
+  ended_each after i = ⊎_elim
+      (λ (e : r.pid ≡ i). subst (λ j. P j (put h.procs r.pid let_off j) (listings j (filter (λ q. not (r.pid == q)) h.tracees)) (reports_of j rest) (put told r.pid true j)) e
+      (holds_as P r.pid let_off _ [] _ (reports_of r.pid rest) _ true _ (put_here h.procs r.pid let_off) (own_left r.pid h.tracees) refl (put_here told r.pid true) after))
+      (λ (ne : r.pid ≢ i). holds_as P i (h.procs i) _ (listings i h.tracees) _ (reports_of i h.queue) _ (told i) _ (put_apart h.procs r.pid let_off i ne) (other_left r.pid i h.tracees ne) (other_queue i ne) (put_apart told r.pid true i ne) (each i))
+      (same_or_not r.pid i)
+
+  pub took_each : (is_end r.stop ≡ false → Before → AfterStop) → (is_end r.stop ≡ true → Before → AfterEnd) → (stop : Stop) → r.stop ≡ stop → Each P (take_report h rest r.pid stop) (put told r.pid true)
+  took_each stays ends (Syscall_stop good) is = taken_each (stays (ap is_end is) mine)
+  took_each stays ends (Signal_stop signal) is = taken_each (stays (ap is_end is) mine)
+  took_each stays ends (Group_stop signal) is = taken_each (stays (ap is_end is) mine)
+  took_each stays ends (Event_stop event) is = taken_each (stays (ap is_end is) mine)
+  took_each stays ends (Ended word) is = ended_each (ends (ap is_end is) mine)
+
+module _ {S B : Type 0} (h : Host S B) (r : Report) (rest : List Report) where
+  abbrev off : Proc B
+  off = record { task = (h.procs r.pid).task; held = false; options = (h.procs r.pid).options }
 
   took_fresh : ((i : ℕ) → h.child ≤ i → (h.procs i).task ≡ Gone) → (stop : Stop) → (i : ℕ) → (take_report h rest r.pid stop).child ≤ i → ((take_report h rest r.pid stop).procs i).task ≡ Gone
   took_fresh fresh (Syscall_stop good) i le = fresh i le
@@ -286,8 +300,8 @@ module _ {S B : Type 0} (h : Host S B) (told : ℕ → Bool) (r : Report) (rest 
   took_fresh fresh (Group_stop signal) i le = fresh i le
   took_fresh fresh (Event_stop event) i le = fresh i le
   took_fresh fresh (Ended word) i le = ⊎_elim
-      (λ (e : r.pid ≡ i). ap (λ (t : Proc B). t.task) (ap (put h.procs r.pid let_off) (sym e) ∙ put_here h.procs r.pid let_off) ∙ ap (λ j. (h.procs j).task) e ∙ fresh i le)
-      (λ (ne : r.pid ≢ i). ap (λ (t : Proc B). t.task) (put_apart h.procs r.pid let_off i ne) ∙ fresh i le)
+      (λ (e : r.pid ≡ i). ap (λ (t : Proc B). t.task) (ap (put h.procs r.pid off) (sym e) ∙ put_here h.procs r.pid off) ∙ ap (λ j. (h.procs j).task) e ∙ fresh i le)
+      (λ (ne : r.pid ≢ i). ap (λ (t : Proc B). t.task) (put_apart h.procs r.pid off i ne) ∙ fresh i le)
       (same_or_not r.pid i)
 
 -- Any request.
@@ -297,15 +311,18 @@ wait_keeps : {S B : Type 0} (h : Host S B) (told : ℕ → Bool) → AreStops (r
 wait_keeps h told all [] is [] = all
 wait_keeps h told all [] is (q ∷ qs) = all
 wait_keeps h told all (r ∷ rest) is qs = record {
-  each = took_fits h told r rest is all.each r.stop refl;
-  fresh = took_fresh h told r rest is all.each all.fresh r.stop;
+  each = took_each Fits h told r rest is all.each
+      (λ other fits. stop_taken r.pid (h.procs r.pid) (listings r.pid h.tracees) r (reports_of r.pid rest) (told r.pid) fits other)
+      (λ end fits. end_taken r.pid (h.procs r.pid) (listings r.pid h.tracees) r (reports_of r.pid rest) (told r.pid) fits end)
+      r.stop refl;
+  fresh = took_fresh h r rest all.fresh r.stop;
 }
 
 pub requests_keep_stops : {S B : Type 0} → RequestsKeepStops S B
 requests_keep_stops m outcome w (Boot_with boot limit words) all = all
 requests_keep_stops m outcome w Wait all = wait_keeps w.host w.told all w.host.queue refl w.host.tracees
 requests_keep_stops m outcome w (To p q) all = record {
-  each = answered_fits w.host w.told p q (answer m (w.host.messages p) (w.host.procs p) q) all.each
+  each = answered_each Fits w.host w.told p q (answer m (w.host.messages p) (w.host.procs p) q) all.each
       (answer_left m p (w.host.messages p) (listings p w.host.tracees) (reports_of p w.host.queue) (w.told p) (w.host.procs p) (w.host.procs p).held (w.host.procs p).options (w.host.procs p).task q refl (all.each p));
   fresh = λ i le. to_fresh m w.host p q i (all.fresh i le);
 }

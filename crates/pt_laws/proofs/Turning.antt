@@ -247,21 +247,25 @@ module _ {S B : Type 0} (m : Machine S B) (s : S) (child p : ℕ) (told : Bool) 
   own_fits Gone false (Some w) listed reports fits going =
       subst (λ l. After (Some w) (own Gone) l reports) (sym fits.once) (subst (λ r. After (Some w) (own Gone) [] r) (sym (fits.reported refl)) (gone_fits p told (Some w)))
 
--- A host after the turn.
+-- A host after the turn: what holds of each process before, and of the one whose turn it was, holds of each.
+
+-- of a pid, its own part, what is listed and reported of it, and whether its client was told
+abbrev pub Property : Type 0 → Type 1
+Property B = ℕ → Proc B → List ℕ → List Report → Bool → Type 0
 
 -- other parts that are equal
-pub fits_as : {B : Type 0} (p : ℕ) (t t' : Proc B) (l l' : List ℕ) (r r' : List Report) (b b' : Bool) → t' ≡ t → l' ≡ l → r' ≡ r → b' ≡ b → Fits p t l r b → Fits p t' l' r' b'
-fits_as p t t' l l' r r' b b' ts ls rs bs h = rw (ts, ls, rs, bs) h
+pub holds_as : {B : Type 0} (P : Property B) (p : ℕ) (t t' : Proc B) (l l' : List ℕ) (r r' : List Report) (b b' : Bool) → t' ≡ t → l' ≡ l → r' ≡ r → b' ≡ b → P p t l r b → P p t' l' r' b'
+holds_as P p t t' l l' r r' b b' ts ls rs bs h = rw (ts, ls, rs, bs) h
 
-module _ {S B : Type 0} (h : Host S B) (told : ℕ → Bool) (p : ℕ) (o : Out S B) where
+abbrev pub Each : {S B : Type 0} → Property B → Host S B → (ℕ → Bool) → Type 0
+Each P h told = (q : ℕ) → P q (h.procs q) (listings q h.tracees) (reports_of q h.queue) (told q)
+
+module _ {S B : Type 0} (P : Property B) (h : Host S B) (told : ℕ → Bool) (p : ℕ) (o : Out S B) where
   abbrev its : Option TraceOptions
   its = (h.procs p).options
 
   abbrev there : Host S B
   there = moved h p its o
-
-  abbrev FitsIn : Host S B → ℕ → Type 0
-  FitsIn g q = Fits q (g.procs q) (listings q g.tracees) (reports_of q g.queue) (told q)
 
   own_reports : (dying : Bool) → reports_of p (cond dying (without p h.queue) h.queue ++ stops_of p (stop_at its o.task o.item o.event)) ≡ cond dying [] (reports_of p h.queue) ++ stops_of p (stop_at its o.task o.item o.event)
   own_reports true = reports-append p (without p h.queue) _ ∙ ap (λ r. r ++ reports_of p (stops_of p (stop_at its o.task o.item o.event))) (own_without p h.queue) ∙ own_stops p (stop_at its o.task o.item o.event)
@@ -272,56 +276,67 @@ module _ {S B : Type 0} (h : Host S B) (told : ℕ → Bool) (p : ℕ) (o : Out 
       reports-append q (without p h.queue) _ ∙ ap (λ r. reports_of q (without p h.queue) ++ r) (other_stops p q (stop_at its o.task o.item o.event) ne) ∙ append-nil (reports_of q (without p h.queue)) ∙ other_without p q h.queue ne
   other_reports q ne false = reports-append q h.queue _ ∙ ap (λ r. reports_of q h.queue ++ r) (other_stops p q (stop_at its o.task o.item o.event) ne) ∙ append-nil (reports_of q h.queue)
 
-  moved_fits : ((q : ℕ) → FitsIn h q) → Fits p (proc_after its o.task o.item o.event) (listings p h.tracees) (with_stop p its o.task o.item o.event (reports_of p h.queue)) (told p) → (q : ℕ) → FitsIn there q
-  moved_fits each own q = ⊎_elim
-      (λ (e : p ≡ q). subst (λ i. FitsIn there i) e (fits_as p _ (there.procs p) _ (listings p there.tracees) _ (reports_of p there.queue) (told p) (told p) (put_here h.procs p _) refl (own_reports (is_dying o.task)) refl own))
-      (λ (ne : p ≢ q). fits_as q (h.procs q) (there.procs q) (listings q h.tracees) (listings q there.tracees) (reports_of q h.queue) (reports_of q there.queue) (told q) (told q) (put_apart h.procs p _ q ne) refl (other_reports q ne (is_dying o.task)) refl (each q))
+  pub moved_each : Each P h told → P p (proc_after its o.task o.item o.event) (listings p h.tracees) (with_stop p its o.task o.item o.event (reports_of p h.queue)) (told p) → Each P there told
+  moved_each each own q = ⊎_elim
+      (λ (e : p ≡ q). subst (λ i. P i (there.procs i) (listings i there.tracees) (reports_of i there.queue) (told i)) e
+      (holds_as P p _ (there.procs p) _ (listings p there.tracees) _ (reports_of p there.queue) (told p) (told p) (put_here h.procs p _) refl (own_reports (is_dying o.task)) refl own))
+      (λ (ne : p ≢ q). holds_as P q (h.procs q) (there.procs q) (listings q h.tracees) (listings q there.tracees) (reports_of q h.queue) (reports_of q there.queue) (told q) (told q) (put_apart h.procs p _ q ne) refl (other_reports q ne (is_dying o.task)) refl (each q))
       (same_or_not p q)
 
--- A child.
+-- A child, of whom nothing was listed and nothing reported.
 
-module _ {S B : Type 0} (g : Host S B) (told : ℕ → Bool) (born : B) (each : (q : ℕ) → Fits q (g.procs q) (listings q g.tracees) (reports_of q g.queue) (told q)) (vacant : (g.procs g.child).task ≡ Gone) where
-  abbrev Now : Host S B → ℕ → Type 0
-  Now k q = Fits q (k.procs q) (listings q k.tracees) (reports_of q k.queue) (told q)
+-- what is listed and reported of it now
+abbrev pub born_listed : ℕ → Option TraceOptions → List ℕ
+born_listed p None = []
+born_listed p (Some w) = p ∷ []
 
-  no_tracee : is_tracee (g.procs g.child) ≡ false
-  no_tracee = ap (λ x. is_there (g.procs g.child).options && is_to_tell x (g.procs g.child).held) vacant ∙ go (is_there (g.procs g.child).options)
+abbrev pub born_reports : ℕ → Option TraceOptions → List Report
+born_reports p None = []
+born_reports p (Some w) = record { pid = p; stop = Event_stop At_start } ∷ []
+
+abbrev pub born_proc : {B : Type 0} → B → Option TraceOptions → Proc B
+born_proc b w = record { task = Alive b Born; held = is_there w; options = w }
+
+module _ {S B : Type 0} (P : Property B) (g : Host S B) (told : ℕ → Bool) (born : B) (each : Each P g told) (unlisted : listings g.child g.tracees ≡ []) (unreported : reports_of g.child g.queue ≡ []) where
+  abbrev report : Report
+  report = record { pid = g.child; stop = Event_stop At_start }
+
+  pub newborn_each : (w : Option TraceOptions) → P g.child (born_proc born w) (born_listed g.child w) (born_reports g.child w) (told g.child) → Each P (newborn g born w) told
+  newborn_each None own q = ⊎_elim
+      (λ (e : g.child ≡ q). subst (λ i. P i (put g.procs g.child (born_proc born None) i) (listings i g.tracees) (reports_of i g.queue) (told i)) e
+      (holds_as P g.child _ (put g.procs g.child (born_proc born None) g.child) [] (listings g.child g.tracees) [] (reports_of g.child g.queue) (told g.child) (told g.child) (put_here g.procs g.child _) unlisted unreported refl own))
+      (λ (ne : g.child ≢ q). holds_as P q (g.procs q) _ (listings q g.tracees) _ (reports_of q g.queue) _ (told q) _ (put_apart g.procs g.child _ q ne) refl refl refl (each q))
+      (same_or_not g.child q)
+  newborn_each (Some x) own q = ⊎_elim
+      (λ (e : g.child ≡ q). subst (λ i. P i (put g.procs g.child (born_proc born (Some x)) i) (listings i (g.tracees ++ g.child ∷ [])) (reports_of i (g.queue ++ report ∷ [])) (told i)) e
+      (holds_as P g.child _ (put g.procs g.child (born_proc born (Some x)) g.child) (g.child ∷ []) (listings g.child (g.tracees ++ g.child ∷ [])) (report ∷ []) (reports_of g.child (g.queue ++ report ∷ [])) (told g.child) (told g.child) (put_here g.procs g.child _)
+      (listings-append g.child g.tracees (g.child ∷ []) ∙ ap (λ l. l ++ listings g.child (g.child ∷ [])) unlisted ∙ own_listing g.child)
+      (reports-append g.child g.queue (report ∷ []) ∙ ap (λ r. r ++ reports_of g.child (report ∷ [])) unreported ∙ own_stops g.child (Some (Event_stop At_start)))
+      refl own))
+      (λ (ne : g.child ≢ q). holds_as P q (g.procs q) _ (listings q g.tracees) (listings q (g.tracees ++ g.child ∷ [])) (reports_of q g.queue) (reports_of q (g.queue ++ report ∷ [])) (told q) _ (put_apart g.procs g.child _ q ne)
+      (listings-append q g.tracees (g.child ∷ []) ∙ ap (λ l. listings q g.tracees ++ l) (other_listing g.child q ne) ∙ append-nil (listings q g.tracees))
+      (reports-append q g.queue (report ∷ []) ∙ ap (λ r. reports_of q g.queue ++ r) (other_stops g.child q (Some (Event_stop At_start)) ne) ∙ append-nil (reports_of q g.queue))
+      refl (each q))
+      (same_or_not g.child q)
+
+born_fits : {B : Type 0} (p : ℕ) (b : B) (w : Option TraceOptions) (told : Bool) → Fits p (born_proc b w) (born_listed p w) (born_reports p w) told
+born_fits p b None told = record { once = refl; reported = λ h. refl; newest = λ h. absurd (cc h); ends = tt; heard = λ h. absurd (cc h); held = λ h. absurd (cc h) }
+born_fits p b (Some w) told = record { once = refl; reported = λ h. absurd (cc h); newest = λ h. refl; ends = (refl, tt); heard = λ h tracee none. absurd (cc none); held = λ h none. absurd (cc none) }
+
+-- who isn't there yet is listed and reported nowhere
+module _ {B : Type 0} (p : ℕ) (t : Proc B) (listed : List ℕ) (reports : List Report) (told : Bool) (fits : Fits p t listed reports told) (gone : t.task ≡ Gone) where
+  no_tracee : is_tracee t ≡ false
+  no_tracee = ap (λ x. is_there t.options && is_to_tell x t.held) gone ∙ go (is_there t.options)
     where
       go : (b : Bool) → (b && false) ≡ false
       go true = refl
       go false = refl
 
-  unlisted : listings g.child g.tracees ≡ []
-  unlisted = (each g.child).once ∙ ap (λ b. cond b (g.child ∷ []) []) no_tracee
+  pub nowhere_listed : listed ≡ []
+  nowhere_listed = fits.once ∙ ap (λ b. cond b (p ∷ []) []) no_tracee
 
-  unreported : reports_of g.child g.queue ≡ []
-  unreported = (each g.child).reported no_tracee
-
-  free_fits : (l : List ℕ) (r : List Report) → l ≡ [] → r ≡ [] → (b : Bool) → Fits g.child (record { task = Alive born Born; held = false; options = None }) l r b
-  free_fits l r ls rs b = rw (ls, rs) (record { once = refl; reported = λ h. refl; newest = λ h. absurd (cc h); ends = tt; heard = λ h. absurd (cc h); held = λ h. absurd (cc h) })
-
-  traced_fits : (w : TraceOptions) (l : List ℕ) (r : List Report) → l ≡ g.child ∷ [] → r ≡ record { pid = g.child; stop = Event_stop At_start } ∷ [] → (b : Bool) → Fits g.child (record { task = Alive born Born; held = true; options = Some w }) l r b
-  traced_fits w l r ls rs b = rw (ls, rs) (record { once = refl; reported = λ h. absurd (cc h); newest = λ h. refl; ends = (refl, tt); heard = λ h tracee none. absurd (cc none); held = λ h none. absurd (cc none) })
-
-  abbrev report : Report
-  report = record { pid = g.child; stop = Event_stop At_start }
-
-  newborn_fits : (w : Option TraceOptions) (q : ℕ) → Now (newborn g born w) q
-  newborn_fits None q = ⊎_elim
-      (λ (e : g.child ≡ q). subst (λ i. Now (newborn g born None) i) e (fits_as g.child _ (put g.procs g.child _ g.child) (listings g.child g.tracees) _ (reports_of g.child g.queue) _ (told g.child) _ (put_here g.procs g.child _) refl refl refl (free_fits _ _ unlisted unreported (told g.child))))
-      (λ (ne : g.child ≢ q). fits_as q (g.procs q) _ (listings q g.tracees) _ (reports_of q g.queue) _ (told q) _ (put_apart g.procs g.child _ q ne) refl refl refl (each q))
-      (same_or_not g.child q)
-  newborn_fits (Some x) q = ⊎_elim
-      (λ (e : g.child ≡ q). subst (λ i. Now (newborn g born (Some x)) i) e
-      (fits_as g.child _ (put g.procs g.child _ g.child) (g.child ∷ []) (listings g.child (g.tracees ++ g.child ∷ [])) (report ∷ []) (reports_of g.child (g.queue ++ report ∷ [])) (told g.child) _ (put_here g.procs g.child _)
-      (listings-append g.child g.tracees (g.child ∷ []) ∙ ap (λ l. l ++ listings g.child (g.child ∷ [])) unlisted ∙ own_listing g.child)
-      (reports-append g.child g.queue (report ∷ []) ∙ ap (λ r. r ++ reports_of g.child (report ∷ [])) unreported ∙ own_stops g.child (Some (Event_stop At_start)))
-      refl (traced_fits x _ _ refl refl (told g.child))))
-      (λ (ne : g.child ≢ q). fits_as q (g.procs q) _ (listings q g.tracees) (listings q (g.tracees ++ g.child ∷ [])) (reports_of q g.queue) (reports_of q (g.queue ++ report ∷ [])) (told q) _ (put_apart g.procs g.child _ q ne)
-      (listings-append q g.tracees (g.child ∷ []) ∙ ap (λ l. listings q g.tracees ++ l) (other_listing g.child q ne) ∙ append-nil (listings q g.tracees))
-      (reports-append q g.queue (report ∷ []) ∙ ap (λ r. reports_of q g.queue ++ r) (other_stops g.child q (Some (Event_stop At_start)) ne) ∙ append-nil (reports_of q g.queue))
-      refl (each q))
-      (same_or_not g.child q)
+  pub nowhere_reported : reports ≡ []
+  nowhere_reported = fits.reported no_tracee
 
 -- All of it.
 
@@ -332,14 +347,17 @@ module _ {S B : Type 0} (m : Machine S B) (h : Host S B) (told : ℕ → Bool) (
   abbrev pub now : Host S B
   now = moved h p (h.procs p).options o
 
-  turned_fits : is_effective m h.shared p (h.procs p) ≡ true → (q : ℕ) → Fits q (now.procs q) (listings q now.tracees) (reports_of q now.queue) (told q)
-  turned_fits going = moved_fits h told p o all.each
+  abbrev FitsIn : Property B
+  FitsIn = Fits {B = B}
+
+  pub turned_fits : is_effective m h.shared p (h.procs p) ≡ true → Each FitsIn now told
+  turned_fits going = moved_each FitsIn h told p o all.each
       (own_fits m h.shared h.child p (told p) (h.procs p).task (h.procs p).held (h.procs p).options (listings p h.tracees) (reports_of p h.queue) (all.each p) going)
 
   stays_gone : (x : Task B) → x ≡ Gone → (turn m no_choice h.shared h.child p x).task ≡ Gone
   stays_gone x is = ap (λ y. (turn m no_choice h.shared h.child p y).task) is
 
-  now_fresh : (q : ℕ) → h.child ≤ q → (now.procs q).task ≡ Gone
+  pub now_fresh : (q : ℕ) → h.child ≤ q → (now.procs q).task ≡ Gone
   now_fresh q le = ⊎_elim
       (λ (e : p ≡ q). ap (λ (t : Proc B). t.task) (ap now.procs (sym e) ∙ put_here h.procs p _) ∙ stays_gone (h.procs p).task (ap (λ i. (h.procs i).task) e ∙ all.fresh q le))
       (λ (ne : p ≢ q). ap (λ (t : Proc B). t.task) (put_apart h.procs p _ q ne) ∙ all.fresh q le)
@@ -358,7 +376,11 @@ module _ {S B : Type 0} (m : Machine S B) (h : Host S B) (told : ℕ → Bool) (
   after_event going Plain = record { each = turned_fits going; fresh = now_fresh }
   after_event going Execed = record { each = turned_fits going; fresh = now_fresh }
   after_event going (Forked born) = record {
-    each = newborn_fits now told born (turned_fits going) (now_fresh h.child (omega arith)) (inherits (h.procs p).options);
+    each =
+        let fits : Fits h.child (now.procs h.child) (listings h.child now.tracees) (reports_of h.child now.queue) (told h.child) = turned_fits going h.child in
+        let gone : (now.procs h.child).task ≡ Gone = now_fresh h.child (omega arith) in
+        newborn_each FitsIn now told born (turned_fits going) (nowhere_listed h.child _ _ _ (told h.child) fits gone) (nowhere_reported h.child _ _ _ (told h.child) fits gone) (inherits (h.procs p).options)
+        (born_fits h.child born (inherits (h.procs p).options) (told h.child));
     fresh = λ q le. newborn_fresh born (inherits (h.procs p).options) q (subst (λ n. n ≤ q) (newborn_child born (inherits (h.procs p).options)) le);
   }
 
