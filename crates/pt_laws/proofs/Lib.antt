@@ -2,3 +2,4 @@ pub mod Lists
 pub mod Turning
 pub mod Asking
 pub mod Stops
+pub mod Once

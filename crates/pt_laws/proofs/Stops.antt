@@ -22,13 +22,13 @@ first_fits p b false = record { once = refl; reported = λ h. refl; newest = λ 
 later : (p : ℕ) → 2 ≤ p → (p == 1) ≡ false
 later p le = grind (arith, nat_tests, le)
 
-first_stops : {S B : Type 0} (s : S) (b : B) → AreStops (record { host = (first_world s b).host; told = λ p. false })
+pub first_stops : {S B : Type 0} (s : S) (b : B) → AreStops (record { host = (first_world s b).host; told = λ p. false })
 first_stops s b = record {
   each = λ p. first_fits p b (p == 1);
   fresh = λ p le. ap (λ one. born one b) (later p le);
 }
 
-done_keeps : {S B : Type 0} (m : Machine S B) (outcome : S → Outcome) (w : Watched S B) (d : Deed) → AreStops w → AreStops (done m outcome w d)
+pub done_keeps : {S B : Type 0} (m : Machine S B) (outcome : S → Outcome) (w : Watched S B) (d : Deed) → AreStops w → AreStops (done m outcome w d)
 done_keeps m outcome w (Turns p) all = turns_keep_stops m w p all
 done_keeps m outcome w (Asks q) all = requests_keep_stops m outcome w q all
 
