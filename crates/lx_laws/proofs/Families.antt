@@ -70,13 +70,13 @@ turns_keep_families script follow k p sound h = kernel_holds script follow k p (
 
 -- From a boot on.
 
-abbrev first : Entries
+abbrev pub first : Entries
 first = maps.insert maps.empty 1 first_entry
 
 first_is : (p : ℕ) (e : Entry) → maps.get first p ≡ Some e → first_entry ≡ e
 first_is p e is = ⊎_elim (λ same. same) (λ old. absurd (cc (sym (maps.get-empty nat_cmp p) ∙ old))) (inserted nat_cmp_total maps.empty 1 first_entry p e is)
 
-first_families : AreFamilies first
+pub first_families : AreFamilies first
 first_families = record {
   parents = λ p e is. inl (sym (ap (λ (x : Entry). x.parent) (first_is p e is)));
   nobody = none (maps.get first 0) refl;
