@@ -1,7 +1,7 @@
 -- A process that leaves Dying leaves families: its children are nobody's, and a parent can wait for it.
-use Rattle.std.proofs.Common.{◌≡◌, ℕ, suc, ◌<◌, ◌⊎◌, inl, inr, ⊎_elim, Bool, true, false, cond, List, [], ◌∷◌, map, Option, Some, None, refl, ap, sym, subst, ◌∙◌, arith}
+use Rattle.std.proofs.Common.{◌≡◌, ℕ, ◌<◌, ◌⊎◌, inl, inr, ⊎_elim, Bool, true, false, cond, List, [], ◌∷◌, Option, Some, None, refl, ap, sym, subst, ◌∙◌, arith}
 use Rattle.std.proofs.lemmas.Bool.Decides.{nat_tests}
-use Rattle.std.specs.Prelude.{◌==◌, ◌||◌, not, fold, nat_lt, is_some, IsSome}
+use Rattle.std.specs.Prelude.{◌==◌, ◌||◌, not, fold, nat_lt, is_some}
 use Rattle.std.specs.List.{filter, list_any}
 use Rattle.std.specs.Ordering.{nat_cmp, eq_by_cmp}
 use Rattle.std.specs.Cmp.{nat_cmp_total}
@@ -9,8 +9,7 @@ use Rattle.std.specs.FinMap as maps
 use Rattle.lx_proc.specs.Families.{is_zombie}
 use Rattle.lx_proc.specs.State.{Entries, changed, changed_entry}
 use Rattle.lx_proc.specs.declared.state.Entry.{Entry}
-use Rattle.lx_proc.specs.declared.state.Life.{Life}
-use Rattle.lx_proc.specs.declared.state.Life.TheVariants.{Alive, Dying, Zombie}
+use Rattle.lx_proc.specs.declared.state.Life.TheVariants.{Zombie}
 use Rattle.lx_proc.specs.declared.state.Shared.{Shared}
 use Rattle.lx_pcalls.specs.Ends.{buried, buried_entry, orphan, orphaned, released, released_entry, retired_by, told, wants_no_news, with_life}
 use Rattle.lx_sound.specs.Parts.{is_alive}

@@ -1,6 +1,5 @@
 -- Each call keeps families.
-use Rattle.std.proofs.Common.{◌≡◌, ℕ, ◌<◌, Bool, true, false, cond, Option, Some, None, refl, ap, sym, subst, ◌∙◌, arith}
-use Rattle.std.specs.Prelude.{◌==◌}
+use Rattle.std.proofs.Common.{◌≡◌, ℕ, ◌<◌, Bool, true, false, Option, Some, None, refl}
 use Rattle.std.specs.FinMap as maps
 use Rattle.std.specs.declared.result.Result.TheVariants.{Ok, Err}
 use Rattle.lx_abi.specs.Errnos.{enosys}
@@ -29,7 +28,7 @@ use Rattle.lx_pcalls.proofs.ProcessAnswers.{OfProcesses, processes_hold}
 use Rattle.lx_turn.specs.Calls.{does, called}
 use Rattle.lx_laws.specs.Families.{has_not_ended, AreFamilies}
 use Rattle.lx_laws.proofs.Turning.{LeavesIn}
-use Rattle.lx_laws.proofs.Kin.{IsKin, KeepsKin, same_entry, kin_stay, families_stay, changed_kin, signals_kin, told_kin, born_families}
+use Rattle.lx_laws.proofs.Kin.{IsKin, same_entry, families_stay, changed_kin, signals_kin, told_kin, born_families}
 
 abbrev KeepFamilies : Shared → Type 0
 KeepFamilies t = AreFamilies t.entries

@@ -13,7 +13,7 @@ use Rattle.lx_model.specs.declared.stage.Task.TheVariants as task
 use Rattle.lx_proc.specs.Families.{is_zombie}
 use Rattle.lx_proc.specs.State.{Entries}
 use Rattle.lx_proc.specs.declared.state.Entry.{Entry}
-use Rattle.lx_proc.specs.declared.state.Life.TheVariants.{Alive, Dying}
+use Rattle.lx_proc.specs.declared.state.Life.TheVariants.{Alive}
 use Rattle.lx_proc.specs.declared.state.Shared.{Shared}
 use Rattle.lx_proc.specs.declared.state.UserState.{UserState}
 use Rattle.lx_boot.specs.First.{first_entry, first_shared}

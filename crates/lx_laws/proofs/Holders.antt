@@ -1,32 +1,27 @@
 -- What a map holds that passes a test stands at some key; so what is open has a holder.
-use Rattle.std.proofs.Common.{◌≡◌, ℕ, ◌+◌, ◌*◌, ◌<◌, ◌⊎◌, inl, inr, ⊎_elim, ◌||◌, ◌&&◌, Bool, true, false, cond, T, List, [], ◌∷◌, Option, Some, None, refl, ap, sym, subst, ◌∙◌, arith}
+use Rattle.std.proofs.Common.{◌≡◌, ℕ, ◌+◌, ◌<◌, ◌⊎◌, inl, inr, ⊎_elim, ◌||◌, ◌&&◌, Bool, true, false, cond, T, List, [], ◌∷◌, Some, None, refl, ap, sym, subst, ◌∙◌, arith}
 use Rattle.std.proofs.lemmas.Bool.Decides.{nat_tests}
 use Rattle.std.proofs.lemmas.Cmp.{nat_list_cmp_total}
 use Rattle.std.specs.Prelude.{◌==◌, ◌/◌, ◌%◌, nat_lt, is_some}
 use Rattle.std.specs.declared.cmp.Ordering.{Ordering}
 use Rattle.std.specs.declared.cmp.Ordering.TheVariants.{Less, Equal, Greater}
-use Rattle.std.specs.Ordering.{eq_by_cmp, is_eq, is_lt}
+use Rattle.std.specs.Ordering.{is_eq, is_lt}
 use Rattle.std.specs.Cmp.{IsTotalOrder, tied_itself, nat_cmp_total}
 use Rattle.std.specs.FinMap as maps
 use Rattle.std.specs.FinMap.{FinMap}
 use Rattle.std.specs.FinMap.Entries.{find, below_all, is_sorted}
 use Rattle.lx_abi.specs.Limits.{most_fds}
-use Rattle.lx_abi.specs.declared.outcome.Node.{Node}
 use Rattle.lx_files.specs.Kinds.{is_number}
-use Rattle.lx_files.specs.Paths.{Path}
 use Rattle.lx_files.specs.Tallies.{sum_of, total, one_if, holds}
 use Rattle.lx_files.specs.Trees.{has_path}
 use Rattle.lx_files.proofs.Texts.{path_cmp-IsAntisymmetric}
 use Rattle.lx_open.specs.Kinds.{is_reading, is_writing, is_open, names_description, reads_pipe, writes_pipe, has_node}
-use Rattle.lx_open.specs.Opens.{pair, slot, is_named, has_readers, has_writers, is_open_node}
-use Rattle.lx_open.specs.declared.description.Description.{Description}
+use Rattle.lx_open.specs.Opens.{pair, is_named, has_readers, has_writers, is_open_node}
 use Rattle.lx_open.specs.declared.description.Object.{Object}
 use Rattle.lx_open.specs.declared.description.Object.TheVariants.{Input, Console, ReadEnd, WriteEnd, Opened}
-use Rattle.lx_open.specs.declared.description.Slot.{Slot}
-use Rattle.lx_open.specs.declared.fd_table.FdTable.{FdTable}
 use Rattle.lx_proc.specs.declared.state.Shared.{Shared}
-use Rattle.lx_sound.specs.Parts.{lives, PartsSound}
-use Rattle.lx_laws.specs.Holders.{HasHolder, IsOpen, AllHaveHolders, NothingIsLeftOpen}
+use Rattle.lx_sound.specs.Parts.{PartsSound}
+use Rattle.lx_laws.specs.Holders.{HasHolder, AllHaveHolders, NothingIsLeftOpen}
 
 first : (a b : Bool) → T (a && b) → T a
 first true b h = tt

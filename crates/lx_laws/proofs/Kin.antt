@@ -1,5 +1,5 @@
 -- Changes of entries that keep families.
-use Rattle.std.proofs.Common.{◌≡◌, ℕ, ◌<◌, ◌⊎◌, inl, inr, ⊎_elim, Bool, true, false, cond, Option, Some, None, refl, ap, sym, subst, ◌∙◌, arith}
+use Rattle.std.proofs.Common.{◌≡◌, ℕ, ◌<◌, inl, inr, ⊎_elim, Bool, true, false, cond, Option, Some, None, refl, ap, sym, subst, ◌∙◌, arith}
 use Rattle.std.proofs.lemmas.Bool.Decides.{nat_tests}
 use Rattle.std.specs.Prelude.{◌==◌, not}
 use Rattle.std.specs.Cmp.{nat_cmp_total}
@@ -13,15 +13,14 @@ use Rattle.lx_proc.specs.State.{Entries, changed, changed_entry, with_news, with
 use Rattle.lx_proc.specs.declared.state.Entry.{Entry}
 use Rattle.lx_proc.specs.declared.state.News.{News}
 use Rattle.lx_proc.specs.declared.state.News.TheVariants as news
-use Rattle.lx_proc.specs.declared.state.Life.{Life}
-use Rattle.lx_proc.specs.declared.state.Life.TheVariants.{Alive, Dying, Zombie}
+use Rattle.lx_proc.specs.declared.state.Life.TheVariants.{Alive, Dying}
 use Rattle.lx_proc.specs.declared.state.Shared.{Shared}
 use Rattle.lx_pcalls.specs.Clone.{child_entry}
 use Rattle.lx_pcalls.specs.Ends.{dies, told_of, wants_no_news, with_life}
 use Rattle.lx_pcalls.specs.Stops.{heard, heard_by, settled_at, stop_entry, stopped, wake_entry, woken}
 use Rattle.lx_pcalls.specs.Wait4.{told_child, told_entry}
 use Rattle.lx_sound.specs.Parts.{is_alive}
-use Rattle.lx_sound.proofs.Maps.{inserted, inserted_other, removed_other, there_now}
+use Rattle.lx_sound.proofs.Maps.{inserted_other, removed_other, there_now}
 use Rattle.lx_laws.specs.Families.{has_not_ended, IsParent, AreFamilies}
 
 equals : (n k : ℕ) → (n == k) ≡ true → n ≡ k

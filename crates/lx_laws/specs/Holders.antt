@@ -1,5 +1,5 @@
 -- Who leads to what is open: nothing stays that nobody can use (close(2), pipe(7), unlink(2)).
-use Rattle.std.specs.Prelude.{◌≡◌, ℕ, ◌⊎◌, true, List, Option, Some}
+use Rattle.std.specs.Prelude.{◌≡◌, ℕ, ◌⊎◌, true, List, Some}
 use Rattle.std.specs.FinMap as maps
 use Rattle.lx_abi.specs.declared.outcome.Node.{Node}
 use Rattle.lx_files.specs.Paths.{Path}

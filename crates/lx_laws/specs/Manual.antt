@@ -1,5 +1,5 @@
 -- What the manual pages say of calls as a whole: of a refusal, of fork, of exec.
-use Rattle.std.specs.Prelude.{◌≡◌, ℕ, Bool, false, Option, Some, None, if◌then◌else◌}
+use Rattle.std.specs.Prelude.{◌≡◌, ℕ, false, Some, None, if◌then◌else◌}
 use Rattle.std.specs.FinMap as maps
 use Rattle.lx_abi.specs.Errors.{error_word}
 use Rattle.lx_abi.specs.declared.log.Call.{Call}

@@ -49,7 +49,7 @@ use Rattle.lx_fcalls.specs.Close.{close}
 use Rattle.lx_fcalls.specs.Dup.{dup}
 use Rattle.lx_fcalls.specs.Dup3.{dup3, renamed}
 use Rattle.lx_fcalls.specs.Openat.{openat, opens_seen, opening, emptied_if}
-use Rattle.lx_fcalls.specs.Pipe2.{pipe2, with_end, end_of}
+use Rattle.lx_fcalls.specs.Pipe2.{pipe2, with_end}
 use Rattle.lx_fcalls.specs.Ftruncate.{ftruncate, truncates}
 use Rattle.lx_fcalls.specs.Lseek.{lseek, seeks, origin, landing, distant}
 use Rattle.lx_fcalls.specs.Moving.{has_space}
@@ -73,7 +73,7 @@ use Rattle.lx_sound.proofs.Paths.{names_bare}
 use Rattle.lx_sound.proofs.Trees.{Ends, reached_ends, absent_parent, absent_apart}
 use Rattle.lx_sound.proofs.Entries.{received_sound}
 use Rattle.lx_sound.proofs.Changes.{Change, Takes, Prints, Names, Loses, Opens, Pipes, Seeks, Holds, Makes, Writes, Unlinks, IsRemovable, IsDue, done}
-use Rattle.lx_sound.proofs.Keeping.{Keeps, keeps_all, keeps_done, keeps_two, keeps_then, changed_keeps, DoesKeep, KeptIf, either_kept, unless_kept, given_kept, granted_kept, gives_kept}
+use Rattle.lx_sound.proofs.Keeping.{Keeps, keeps_all, keeps_done, keeps_two, changed_keeps, DoesKeep, KeptIf, either_kept, unless_kept, given_kept, granted_kept, gives_kept}
 
 -- a slot below the most descriptors
 slot_is : (fds : FdTable) (p fd : ℕ) (named : Slot) → opens.slot fds p fd ≡ Some named → maps.get fds.slots (opens.pair p fd) ≡ Some named

@@ -21,7 +21,7 @@ use Rattle.lx_files.specs.declared.tree.Tree.{Tree}
 use Rattle.lx_files.proofs.Texts.{path_cmp-IsAntisymmetric}
 use Rattle.lx_files.proofs.Totals.{total-insert, total-remove}
 use Rattle.lx_open.specs.Kinds.{SlotMap, DescriptionMap, is_reading, is_writing, is_open, names_description, reads_pipe, writes_pipe, has_node, moved}
-use Rattle.lx_open.specs.Opens.{pair, slot, description, is_named, has_readers, has_writers, is_open_node, with_slot, with_description, opened, with_pipe, with_offset, with_held, pipe_changed, inherited_slot, inherited_each, inherited}
+use Rattle.lx_open.specs.Opens.{pair, slot, description, is_named, has_readers, has_writers, is_open_node, with_slot, opened, with_pipe, with_offset, with_held, pipe_changed, inherited_slot, inherited_each, inherited}
 use Rattle.lx_open.specs.Releases.{Held, node_released, pipe_released, object_released, description_dropped, description_released, slot_closed, closed, unlinked_node, unlinked, is_meant, closed_if_meant, closed_each, all_closed, closed_on_exec}
 use Rattle.lx_open.specs.declared.description.Description.{Description}
 use Rattle.lx_open.specs.declared.description.Object.{Object}
@@ -29,7 +29,7 @@ use Rattle.lx_open.specs.declared.description.Object.TheVariants.{Input, Console
 use Rattle.lx_open.specs.declared.description.Slot.{Slot}
 use Rattle.lx_open.specs.declared.fd_table.FdTable.{FdTable}
 use Rattle.lx_sound.specs.Reached.{AreReached}
-use Rattle.lx_sound.proofs.Maps.{neither, inserted_other, removed_other, removed, there_now}
+use Rattle.lx_sound.proofs.Maps.{inserted_other, removed_other}
 
 -- Whether a map holds a value that passes a test, once it has one more, another in a place, or one less.
 

@@ -1,20 +1,15 @@
 -- A request that is served keeps what is listed, reported and told.
-use Rattle.std.proofs.Common.{◌≡◌, ◌≢◌, ⊎_elim, ℕ, ◌≤◌, inl, inr, Bool, true, false, cond, not, ◌&&◌, List, [], ◌∷◌, ◌++◌, append-nil, Option, Some, None, refl, sym, ap, subst, ◌∙◌, arith}
+use Rattle.std.proofs.Common.{◌≡◌, ◌≢◌, ⊎_elim, ℕ, ◌≤◌, inl, Bool, true, false, cond, not, ◌&&◌, List, [], ◌∷◌, ◌++◌, append-nil, Option, Some, None, refl, sym, ap, subst, ◌∙◌}
 use Rattle.std.specs.Prelude.{◌==◌, filter}
-use Rattle.std.proofs.lemmas.Bool.Decides.{nat_tests}
-use Rattle.lx_abi.specs.declared.outcome.Outcome.{Outcome}
 use Rattle.lx_abi.specs.declared.ptrace.Ask.{Ask}
 use Rattle.lx_abi.specs.declared.ptrace.Ask.TheVariants.{Seize, SetOptions, GetRegs, SetRegs, Peek, Syscall, EventMsg, SigInfo, Listen}
 use Rattle.lx_abi.specs.declared.ptrace.Reply.{Reply}
-use Rattle.lx_abi.specs.declared.ptrace.Reply.TheVariants as reply
-use Rattle.lx_abi.specs.declared.ptrace.Request.{Request}
 use Rattle.lx_abi.specs.declared.ptrace.Request.TheVariants.{Boot as Boot_with, Wait, To, Outcome as Ask_outcome}
 use Rattle.lx_abi.specs.declared.ptrace.TraceOptions.{TraceOptions}
 use Rattle.lx_abi.specs.declared.status.EventStop.TheVariants.{Stop as At_start}
 use Rattle.lx_abi.specs.declared.status.Stop.{Stop}
 use Rattle.lx_abi.specs.declared.status.Stop.TheVariants.{Syscall as Syscall_stop, Signal as Signal_stop, Group as Group_stop, Event as Event_stop, Ended}
 use Rattle.lx_abi.specs.Options.{trace_options}
-use Rattle.lx_abi.specs.Status.{word_of}
 use Rattle.lx_model.specs.Machine.{Machine}
 use Rattle.lx_model.specs.Rows.{row}
 use Rattle.lx_model.specs.Kernel.{put}
@@ -24,9 +19,9 @@ use Rattle.lx_model.specs.declared.stage.Task.{Task}
 use Rattle.lx_model.specs.declared.stage.Task.TheVariants.{Alive, Dying, Gone}
 use Rattle.pt_model.specs.declared.ptrace.Report.{Report}
 use Rattle.pt_model.specs.Ptrace.{Proc, Host, is_there}
-use Rattle.pt_model.specs.Requests.{Answered, says, goes_from, set_options, stopped, seize, unseized, answer_at, answer, answered, take_report, serve_wait, serve, esrch}
+use Rattle.pt_model.specs.Requests.{Answered, says, goes_from, set_options, stopped, seize, unseized, answer_at, answer, answered, take_report, serve_wait, esrch}
 use Rattle.pt_model.proofs.Maps.{same_or_not, is_same, is_not_same, put_here, put_apart}
-use Rattle.pt_laws.specs.Stops.{StandsAt, is_to_tell, is_tracee, listings, reports_of, LastStands, is_end, NoEnds, EndsFit, Fits, Watched, lets_go, is_agreed, minds, asked, AreStops, RequestsKeepStops}
+use Rattle.pt_laws.specs.Stops.{is_tracee, listings, reports_of, LastStands, is_end, EndsFit, Fits, lets_go, is_agreed, minds, AreStops, RequestsKeepStops}
 use Rattle.pt_laws.proofs.Lists.{own_stops, other_stops, reports-append, listings-append, own_listing, other_listing, own_left, other_left, later_stands}
 use Rattle.pt_laws.proofs.Turning.{Property, Each, holds_as}
 

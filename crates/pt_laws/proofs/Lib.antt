@@ -3,3 +3,4 @@ pub mod Turning
 pub mod Asking
 pub mod Stops
 pub mod Once
+pub mod Worlds

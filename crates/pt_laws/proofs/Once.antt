@@ -1,13 +1,10 @@
 -- A polite client is told of each stop once, while its process is held there.
-use Rattle.std.proofs.Common.{◌≡◌, ◌≢◌, ⊎_elim, ℕ, suc, ◌≤◌, ◌<◌, Bool, true, false, cond, ◌&&◌, List, [], ◌∷◌, ◌++◌, Option, Some, None, refl, sym, ap, subst, ◌∙◌, arith}
-use Rattle.std.specs.Prelude.{◌==◌, nat_lt}
-use Rattle.std.proofs.lemmas.Bool.Decides.{nat_tests}
+use Rattle.std.proofs.Common.{◌≡◌, ◌≢◌, ℕ, suc, ◌≤◌, Bool, true, false, cond, ◌&&◌, List, [], ◌∷◌, ◌++◌, Option, Some, None, refl, sym, ap, subst, ◌∙◌, arith}
+use Rattle.std.specs.Prelude.{◌==◌}
 use Rattle.lx_abi.specs.declared.outcome.Outcome.{Outcome}
 use Rattle.lx_abi.specs.declared.ptrace.Ask.{Ask}
 use Rattle.lx_abi.specs.declared.ptrace.Ask.TheVariants.{Seize, SetOptions, GetRegs, SetRegs, Peek, Syscall, EventMsg, SigInfo, Listen}
 use Rattle.lx_abi.specs.declared.ptrace.Reply.{Reply}
-use Rattle.lx_abi.specs.declared.ptrace.Reply.TheVariants as reply
-use Rattle.lx_abi.specs.declared.ptrace.Request.{Request}
 use Rattle.lx_abi.specs.declared.ptrace.Request.TheVariants.{Boot as Boot_with, Wait, To, Outcome as Ask_outcome}
 use Rattle.lx_abi.specs.declared.ptrace.TraceOptions.{TraceOptions}
 use Rattle.lx_abi.specs.declared.status.EventStop.TheVariants.{Stop as At_start}
@@ -18,7 +15,7 @@ use Rattle.lx_abi.specs.Options.{trace_options}
 use Rattle.lx_abi.specs.Scripts.{no_choice}
 use Rattle.lx_model.specs.Machine.{Machine}
 use Rattle.lx_model.specs.Rows.{row}
-use Rattle.lx_model.specs.Kernel.{put, born}
+use Rattle.lx_model.specs.Kernel.{put}
 use Rattle.lx_model.specs.Turn.{Out, killed_or, turn}
 use Rattle.lx_model.specs.declared.event.PtraceEvent.{PtraceEvent}
 use Rattle.lx_model.specs.declared.event.PtraceEvent.TheVariants.{Plain, Execed, Forked}
@@ -27,14 +24,13 @@ use Rattle.lx_model.specs.declared.stage.Task.{Task}
 use Rattle.lx_model.specs.declared.stage.Task.TheVariants.{Alive, Dying, Gone}
 use Rattle.pt_model.specs.declared.ptrace.Report.{Report}
 use Rattle.pt_model.specs.Laws.{is_alive}
-use Rattle.pt_model.specs.Ptrace.{Proc, Host, stop_at, is_dying, is_there, reports_of as stops_of, may_die, is_effective, proc_after, moved, newborn, inherits, bears, host_turn_of}
-use Rattle.pt_model.specs.Requests.{Answered, says, goes_from, set_options, stopped, seize, unseized, answer_at, answer, answered, take_report, serve_wait, serve, esrch}
-use Rattle.pt_model.specs.World.{first_world}
+use Rattle.pt_model.specs.Ptrace.{Proc, Host, stop_at, is_there, reports_of as stops_of, may_die, is_effective, proc_after, moved, newborn, inherits, bears, host_turn_of}
+use Rattle.pt_model.specs.Requests.{Answered, says, goes_from, set_options, stopped, seize, unseized, answer_at, answer, take_report, serve_wait, esrch}
 use Rattle.pt_model.proofs.Maps.{is_same, put_apart}
-use Rattle.pt_laws.specs.Stops.{is_tracee, is_to_tell, listings, reports_of, is_end, EndsFit, Fits, Watched, lets_go, is_agreed, minds, turned, asked, AreStops, Deed, Turns, Asks, done, all_done}
-use Rattle.pt_laws.specs.Polite.{IsPolite, AtMostOne, IsHeld, IsOnce, AreOnce, TurnsKeepOnce, RequestsKeepOnce, IsPoliteDeed, ArePolite, first_watched, StopsAreToldOnce}
-use Rattle.pt_laws.proofs.Turning.{Property, Each, with_stop, moved_each, born_proc, born_listed, born_reports, newborn_each, nowhere_listed, nowhere_reported, turned_fits, now_fresh, turns_keep_stops}
-use Rattle.pt_laws.proofs.Asking.{Leaves, answered_each, took_each, requests_keep_stops}
+use Rattle.pt_laws.specs.Stops.{is_tracee, is_to_tell, listings, reports_of, is_end, EndsFit, Fits, Watched, lets_go, is_agreed, minds, AreStops, Deed, Turns, Asks, done, all_done}
+use Rattle.pt_laws.specs.Polite.{AtMostOne, IsOnce, AreOnce, TurnsKeepOnce, RequestsKeepOnce, IsPoliteDeed, ArePolite, first_watched, StopsAreToldOnce}
+use Rattle.pt_laws.proofs.Turning.{Property, Each, with_stop, moved_each, born_proc, born_reports, newborn_each, nowhere_listed, nowhere_reported, turned_fits, now_fresh}
+use Rattle.pt_laws.proofs.Asking.{Leaves, answered_each, took_each}
 use Rattle.pt_laws.proofs.Stops.{done_keeps, first_stops}
 
 abbrev Once : {B : Type 0} → Property B
@@ -293,7 +289,7 @@ requests_keep_once m outcome w Ask_outcome polite all once = once
 
 -- From the first on.
 
-first_once : {S B : Type 0} (s : S) (b : B) → AreOnce (first_watched s b)
+pub first_once : {S B : Type 0} (s : S) (b : B) → AreOnce (first_watched s b)
 first_once s b = record { each = λ p. record { one = tt; still = λ was lives. absurd (cc was) }; fresh = λ p le. refl }
 
 done_once : {S B : Type 0} (m : Machine S B) (outcome : S → Outcome) (w : Watched S B) (d : Deed) → IsPoliteDeed w.told d → AreStops w → AreOnce w → AreOnce (done m outcome w d)

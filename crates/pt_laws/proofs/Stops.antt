@@ -1,14 +1,10 @@
 -- What is listed, reported and told, from the first on.
-use Rattle.std.proofs.Common.{◌≡◌, ◌≢◌, ⊎_elim, ℕ, ◌≤◌, Bool, true, false, List, [], ◌∷◌, Option, None, refl, sym, ap, ◌∙◌, arith}
+use Rattle.std.proofs.Common.{◌≡◌, ℕ, ◌≤◌, Bool, true, false, List, [], ◌∷◌, None, refl, ap, arith}
 use Rattle.std.specs.Prelude.{◌==◌}
 use Rattle.std.proofs.lemmas.Bool.Decides.{nat_tests}
 use Rattle.lx_abi.specs.declared.outcome.Outcome.{Outcome}
 use Rattle.lx_model.specs.Machine.{Machine}
 use Rattle.lx_model.specs.Kernel.{born}
-use Rattle.lx_model.specs.declared.stage.Stage.TheVariants.{Born}
-use Rattle.lx_model.specs.declared.stage.Task.{Task}
-use Rattle.lx_model.specs.declared.stage.Task.TheVariants.{Alive, Gone}
-use Rattle.pt_model.specs.Ptrace.{Proc}
 use Rattle.pt_model.specs.World.{first_world}
 use Rattle.pt_laws.specs.Stops.{Fits, Watched, AreStops, Deed, Turns, Asks, done, all_done, StopsAreKept}
 pub use Rattle.pt_laws.proofs.Turning.{turns_keep_stops}

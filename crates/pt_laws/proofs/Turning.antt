@@ -1,14 +1,12 @@
 -- A turn keeps what is listed, reported and told.
 use Rattle.std.proofs.Common.{◌≡◌, ◌≢◌, ⊎_elim, ℕ, suc, ◌≤◌, inl, inr, Bool, true, false, cond, ◌&&◌, List, [], ◌∷◌, ◌++◌, append-nil, Option, Some, None, refl, sym, ap, subst, ◌∙◌, arith}
-use Rattle.std.specs.Prelude.{◌==◌}
-use Rattle.std.proofs.lemmas.Bool.Decides.{nat_tests}
 use Rattle.lx_abi.specs.declared.log.Call.{Call}
 use Rattle.lx_abi.specs.declared.log.Cause.{Cause}
 use Rattle.lx_abi.specs.declared.script.Choice.{Choice}
 use Rattle.lx_abi.specs.declared.signal.Signal.{Signal}
 use Rattle.lx_abi.specs.declared.status.EventStop.TheVariants.{Fork as At_fork, Exec as At_exec, Stop as At_start}
 use Rattle.lx_abi.specs.declared.status.Stop.{Stop}
-use Rattle.lx_abi.specs.declared.status.Stop.TheVariants.{Syscall as Syscall_stop, Signal as Signal_stop, Group as Group_stop, Event as Event_stop, Ended}
+use Rattle.lx_abi.specs.declared.status.Stop.TheVariants.{Group as Group_stop, Event as Event_stop, Ended}
 use Rattle.lx_abi.specs.declared.ptrace.TraceOptions.{TraceOptions}
 use Rattle.lx_abi.specs.Log.{Noted}
 use Rattle.lx_abi.specs.Scripts.{no_choice}
@@ -25,7 +23,7 @@ use Rattle.lx_model.specs.Kernel.{put}
 use Rattle.pt_model.specs.declared.ptrace.Report.{Report}
 use Rattle.pt_model.specs.Ptrace.{Proc, Host, without, event_stop, tracee_stop, stop_at, is_dying, is_there, reports_of as stops_of, may_die, is_effective, proc_after, moved, newborn, inherits, bears, host_turn_of}
 use Rattle.pt_model.proofs.Maps.{same_or_not, put_here, put_apart}
-use Rattle.pt_laws.specs.Stops.{StopAt, StandsAt, is_to_tell, is_tracee, listings, reports_of, LastStands, is_end, NoEnds, EndsFit, Fits, Watched, AreStops, TurnsKeepStops, turned}
+use Rattle.pt_laws.specs.Stops.{StopAt, is_to_tell, is_tracee, listings, reports_of, is_end, NoEnds, EndsFit, Fits, AreStops, TurnsKeepStops}
 use Rattle.pt_laws.proofs.Lists.{own_without, other_without, own_stops, other_stops, reports-append, listings-append, own_listing, other_listing, last_stands, no_ends-append, some_last}
 
 -- A process that lives is dying after its turn, or lives; and nobody else bears a child.

@@ -1,14 +1,16 @@
 -- What more holds where a client lets go only of whom it was told, as one must who waits for stops (ptrace(2)).
 use Rattle.std.specs.Prelude.{◌≡◌, ℕ, ◌≤◌, Bool, true, false, List, [], ◌∷◌}
 use Rattle.lx_abi.specs.declared.outcome.Outcome.{Outcome}
+use Rattle.lx_abi.specs.declared.schedule.Event.{Event}
 use Rattle.lx_abi.specs.declared.ptrace.Request.{Request}
 use Rattle.lx_abi.specs.declared.ptrace.Request.TheVariants.{Boot as Boot_with, Wait, To, Outcome as Ask_outcome}
+use Rattle.lx_model.specs.Kernel.{Script}
 use Rattle.lx_model.specs.Machine.{Machine}
-use Rattle.lx_model.specs.declared.stage.Task.{Task}
 use Rattle.pt_model.specs.declared.ptrace.Report.{Report}
 use Rattle.pt_model.specs.Laws.{is_alive}
 use Rattle.pt_model.specs.Ptrace.{Proc, is_there}
-use Rattle.pt_model.specs.World.{first_world}
+use Rattle.pt_model.specs.Parts.{Options}
+use Rattle.pt_model.specs.World.{World, first_world, world_run}
 use Rattle.pt_laws.specs.Stops.{Watched, Deed, Turns, Asks, AreStops, all_done, asked, done, lets_go, reports_of, turned}
 
 abbrev pub IsPolite : (ℕ → Bool) → Request → Type 0
@@ -62,3 +64,14 @@ first_watched s b = record { host = (first_world s b).host; told = λ p. false }
 abbrev pub StopsAreToldOnce : Type 0 → Type 0 → Type 0
 StopsAreToldOnce S B = (m : Machine S B) (outcome : S → Outcome) (s : S) (b : B) (deeds : List Deed) →
     ArePolite m outcome (first_watched s b) deeds → AreOnce (all_done m outcome (first_watched s b) deeds)
+
+-- A world: its tracer is polite, so both hold in it, whatever its script and its options are.
+
+pub record IsAttended {S B : Type 0} (w : World S B) (told : ℕ → Bool) : Type 0 where
+  pub stops : AreStops (record { host = w.host; told = told })
+  pub once : AreOnce (record { host = w.host; told = told })
+
+abbrev pub WorldsAreAttended : Type 0 → Type 0 → Type 0
+WorldsAreAttended S B =
+    (m : Machine S B) (outcome : S → Outcome) (o : Options) (script : Script) (s : S) (b : B) (events : List Event) →
+    (told : ℕ → Bool) × IsAttended (world_run m outcome o script (first_world s b) events) told
