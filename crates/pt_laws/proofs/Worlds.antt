@@ -206,5 +206,5 @@ run_met m outcome o script w (e ∷ events) k =
 pub worlds_are_attended : {S B : Type 0} → WorldsAreAttended S B
 worlds_are_attended m outcome o script s b events =
     let k = run_met m outcome o script (first_world s b) events
-        (record { told = λ p. false; attended = record { stops = first_stops s b; once = first_once s b }; hand = λ later. absurd (cc later) }) in
+    (record { told = λ p. false; attended = record { stops = first_stops s b; once = first_once s b }; hand = λ later. absurd (cc later) }) in
     (k.told, k.attended)
