@@ -96,7 +96,7 @@ module _ {S B : Type 0} (m : Machine S B) (p : ℕ) (message : ℕ) (listed : Li
 
       seizes_left : (options : ℕ) (w : Option TraceOptions) → Left p listed reports told (Seize options) (seize first w)
       seizes_left options None = fits
-      seizes_left options (Some w) = seized options w x refl (fits.held refl refl).1 fits.once (fits.reported refl)
+      seizes_left options (Some w) = seized options w x refl (fits.held refl refl).2 fits.once (fits.reported refl)
 
       unseized_left : (q : Ask) → Left p listed reports told q (unseized first q)
       unseized_left (Seize options) = seizes_left options (trace_options options)

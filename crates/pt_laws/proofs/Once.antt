@@ -169,7 +169,7 @@ module _ {S B : Type 0} (m : Machine S B) (p : ℕ) (message : ℕ) (listed : Li
 
     not_yet : told ≡ true → ⊥
     not_yet was =
-        let alive : is_alive x ≡ true = ap is_alive (fits.held refl refl).1.1 in
+        let alive : is_alive x ≡ true = ap is_alive (fits.held refl refl).2.1 in
         let traced = (once.still was alive).traced in cc traced
 
     seizes_once : (options : ℕ) (w : Option TraceOptions) → Left (Seize options) (seize first w)

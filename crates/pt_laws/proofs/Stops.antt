@@ -11,16 +11,19 @@ pub use Rattle.pt_laws.proofs.Turning.{turns_keep_stops}
 pub use Rattle.pt_laws.proofs.Asking.{requests_keep_stops}
 
 -- process 1 is held, and nobody else is there
-first_fits : {B : Type 0} (p : ℕ) (b : B) (one : Bool) → Fits p (record { task = born one b; held = one; options = None }) [] [] false
-first_fits p b true = record { once = refl; reported = λ h. refl; newest = λ h. tt; ends = tt; heard = λ h none. absurd (cc none); held = λ h none. (refl, (b, refl)) }
-first_fits p b false = record { once = refl; reported = λ h. refl; newest = λ h. absurd (cc h); ends = refl; heard = λ h. absurd (cc h); held = λ h. absurd (cc h) }
+first_fits : {B : Type 0} (p : ℕ) (b : B) (one : Bool) → (one ≡ true → p ≡ 1) → Fits p (record { task = born one b; held = one; options = None }) [] [] false
+first_fits p b true is = record { once = refl; reported = λ h. refl; newest = λ h. tt; ends = tt; heard = λ h none. absurd (cc none); held = λ h none. (is refl, refl, (b, refl)) }
+first_fits p b false is = record { once = refl; reported = λ h. refl; newest = λ h. absurd (cc h); ends = refl; heard = λ h. absurd (cc h); held = λ h. absurd (cc h) }
+
+is_one : (p : ℕ) → (p == 1) ≡ true → p ≡ 1
+is_one p h = grind (arith, nat_tests)
 
 later : (p : ℕ) → 2 ≤ p → (p == 1) ≡ false
 later p le = grind (arith, nat_tests, le)
 
 pub first_stops : {S B : Type 0} (s : S) (b : B) → AreStops (record { host = (first_world s b).host; told = λ p. false })
 first_stops s b = record {
-  each = λ p. first_fits p b (p == 1);
+  each = λ p. first_fits p b (p == 1) (is_one p);
   fresh = λ p le. ap (λ one. born one b) (later p le);
 }
 

@@ -11,7 +11,8 @@ use Rattle.pt_model.specs.Laws.{is_alive}
 use Rattle.pt_model.specs.Ptrace.{Proc, is_there}
 use Rattle.pt_model.specs.Parts.{Options}
 use Rattle.pt_model.specs.World.{World, first_world, world_run}
-use Rattle.pt_laws.specs.Stops.{Watched, Deed, Turns, Asks, AreStops, all_done, asked, done, lets_go, reports_of, turned}
+use Rattle.pt_laws.specs.Stops.{Watched, Deed, Turns, Asks, AreStops, all_done, asked, done, lets_go, reports_of}
+use Rattle.pt_laws.specs.Stops.{turned}
 
 abbrev pub IsPolite : (ℕ → Bool) → Request → Type 0
 IsPolite told (Boot_with boot limit words) = Unit {0}

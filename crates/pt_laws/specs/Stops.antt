@@ -1,19 +1,23 @@
 -- Tracees, where they are held, and what is reported of them (ptrace(2), "Stopped states"), whoever the client is.
-use Rattle.std.specs.Prelude.{◌≡◌, ℕ, ◌==◌, ◌≤◌, ◌⊎◌, Bool, true, false, cond, ◌&&◌, List, [], ◌∷◌, filter, Option, Some, None}
+use Rattle.std.specs.Prelude.{◌≡◌, ℕ, ◌==◌, ◌≤◌, ◌⊎◌, Bool, true, false, cond, ◌&&◌, List, [], ◌∷◌, filter, Option}
+use Rattle.std.specs.Prelude.{Some, None}
 use Rattle.lx_abi.specs.declared.outcome.Outcome.{Outcome}
 use Rattle.lx_abi.specs.declared.ptrace.Ask.{Ask}
-use Rattle.lx_abi.specs.declared.ptrace.Ask.TheVariants.{Seize, SetOptions, GetRegs, SetRegs, Peek, Syscall, EventMsg, SigInfo, Listen}
+use Rattle.lx_abi.specs.declared.ptrace.Ask.TheVariants.{Seize, SetOptions, GetRegs, SetRegs, Peek, Syscall, EventMsg}
+use Rattle.lx_abi.specs.declared.ptrace.Ask.TheVariants.{SigInfo, Listen}
 use Rattle.lx_abi.specs.declared.ptrace.Reply.{Reply}
 use Rattle.lx_abi.specs.declared.ptrace.Reply.TheVariants as reply
 use Rattle.lx_abi.specs.declared.ptrace.Request.{Request}
 use Rattle.lx_abi.specs.declared.ptrace.Request.TheVariants.{Boot as Boot_with, Wait, To, Outcome as Ask_outcome}
 use Rattle.lx_abi.specs.declared.status.EventStop.TheVariants.{Fork as At_fork, Exec as At_exec, Stop as At_start}
 use Rattle.lx_abi.specs.declared.status.Stop.{Stop}
-use Rattle.lx_abi.specs.declared.status.Stop.TheVariants.{Syscall as Syscall_stop, Signal as Signal_stop, Group as Group_stop, Event as Event_stop, Ended}
+use Rattle.lx_abi.specs.declared.status.Stop.TheVariants.{Syscall as Syscall_stop, Signal as Signal_stop}
+use Rattle.lx_abi.specs.declared.status.Stop.TheVariants.{Group as Group_stop, Event as Event_stop, Ended}
 use Rattle.lx_model.specs.Machine.{Machine}
 use Rattle.lx_model.specs.Kernel.{put}
 use Rattle.lx_model.specs.declared.stage.Stage.{Stage}
-use Rattle.lx_model.specs.declared.stage.Stage.TheVariants.{Born, Run, Faulting, Entered, Doing, Replaced, Acted, Finished, Taken, Dropped, Stopped, Released, Woken}
+use Rattle.lx_model.specs.declared.stage.Stage.TheVariants.{Born, Run, Faulting, Entered, Doing, Replaced, Acted}
+use Rattle.lx_model.specs.declared.stage.Stage.TheVariants.{Finished, Taken, Dropped, Stopped, Released, Woken}
 use Rattle.lx_model.specs.declared.stage.Task.{Task}
 use Rattle.lx_model.specs.declared.stage.Task.TheVariants.{Alive, Dying, Gone}
 use Rattle.pt_model.specs.declared.ptrace.Report.{Report}
@@ -94,7 +98,8 @@ pub record Fits {B : Type 0} (p : ℕ) (t : Proc B) (listed : List ℕ) (reports
   -- no stop is forgotten: it is reported, or its client was told
   pub heard : t.held ≡ true → is_tracee t ≡ true → reports ≡ [] → told ≡ true
   -- nobody else is held, but process 1 before it is seized
-  pub held : t.held ≡ true → is_tracee t ≡ false → (t.options ≡ None) × ((b : B) × (t.task ≡ Alive b Born))
+  pub held : t.held ≡ true → is_tracee t ≡ false →
+      (p ≡ 1) × (t.options ≡ None) × ((b : B) × (t.task ≡ Alive b Born))
 
 -- A client, which keeps in mind of whom it was told and whom it let go since.
 
