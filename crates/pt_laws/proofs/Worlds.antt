@@ -23,7 +23,7 @@ use Rattle.pt_model.specs.Tracer.{Focus, Booting, Waiting, Serving, Asking_outco
 use Rattle.pt_model.specs.World.{World, met, happens_asked, happens, world_run, first_world}
 use Rattle.pt_model.proofs.Maps.{put_here}
 use Rattle.pt_laws.specs.Stops.{lets_go, is_agreed, minds, AreStops}
-use Rattle.pt_laws.specs.Polite.{IsPolite, AreOnce, IsAttended, WorldsAreAttended}
+use Rattle.pt_laws.specs.Polite.{IsPolite, AreOnce, IsAttended, minds_event, minds_all, WorldsAreAttended}
 use Rattle.pt_laws.proofs.Turning.{turns_keep_stops}
 use Rattle.pt_laws.proofs.Asking.{requests_keep_stops}
 use Rattle.pt_laws.proofs.Stops.{first_stops}
@@ -143,8 +143,7 @@ admitted_on t told focus r n false h = tt
 
 -- A world.
 
-record IsMet {S B : Type 0} (w : World S B) : Type 0 where
-  told : ℕ → Bool
+record IsMet {S B : Type 0} (w : World S B) (told : ℕ → Bool) : Type 0 where
   attended : IsAttended w told
   hand : InHand w.tracer.focus told
 
@@ -157,29 +156,27 @@ module _ {S B : Type 0} (m : Machine S B) (outcome : S → Outcome) (o : Options
 
   -- a reply to this request comes to the tracer
   replied : (focus : Focus) (q : Request) (h : Host S B) (r : Option Reply) → After q h r → InHand w.tracer.focus (minds told q None) →
-      ((x : Reply) → InHand (next_at o script w.tracer.known focus x).focus (minds told q (Some x))) → IsMet (met o script w focus h r)
-  replied focus q h None after hand leads = record { told = minds told q None; attended = record { stops = after.0; once = after.1 }; hand = hand }
+      ((x : Reply) → InHand (next_at o script w.tracer.known focus x).focus (minds told q (Some x))) → IsMet (met o script w focus h r) (minds told q r)
+  replied focus q h None after hand leads = record { attended = record { stops = after.0; once = after.1 }; hand = hand }
   replied focus q h (Some x) after hand leads = record {
-    told = minds told q (Some x);
     attended = record { stops = after.0; once = after.1 };
     hand = admitted_on w.tracer (minds told q (Some x)) focus x (next_at o script w.tracer.known focus x) (admits_at o w.tracer.known w.tracer.tracees focus x) (leads x);
   }
 
-  unminded : (p : ℕ) (b : Bool) → (b && false) ≡ false
-  unminded p true = refl
-  unminded p false = refl
+  unminded : (b : Bool) → (b && false) ≡ false
+  unminded true = refl
+  unminded false = refl
 
-  turned : (p : ℕ) → InHand w.tracer.focus told → IsMet (record { host = host_turn m w.host p; tracer = w.tracer; printed = w.printed })
+  turned : (p : ℕ) → InHand w.tracer.focus told → IsMet (record { host = host_turn m w.host p; tracer = w.tracer; printed = w.printed }) told
   turned p hand = record {
-    told = told;
     attended = record { stops = turns_keep_stops m (record { host = w.host; told = told }) p all; once = turns_keep_once m (record { host = w.host; told = told }) p all once };
     hand = hand;
   }
 
-  as_it_is : InHand w.tracer.focus told → IsMet w
-  as_it_is hand = record { told = told; attended = record { stops = all; once = once }; hand = hand }
+  as_it_is : InHand w.tracer.focus told → IsMet w told
+  as_it_is hand = record { attended = record { stops = all; once = once }; hand = hand }
 
-  asked : (focus : Focus) (e : Event) → w.tracer.focus ≡ focus → InHand w.tracer.focus told → IsMet (happens_asked m outcome o script w focus (request o focus) e)
+  asked : (focus : Focus) (e : Event) → w.tracer.focus ≡ focus → InHand w.tracer.focus told → IsMet (happens_asked m outcome o script w focus (request o focus) e) (minds_event m outcome w.host (request o focus) e told)
   asked Booting e is hand = as_it_is hand
   asked (Over x) e is hand = as_it_is hand
   asked Turns_over e is hand = as_it_is hand
@@ -193,18 +190,19 @@ module _ {S B : Type 0} (m : Machine S B) (outcome : S → Outcome) (o : Options
       let its : InHand (Serving p place) told = subst (λ f. InHand f told) is hand in
       replied (Serving p place) (To p (asks o place)) (serve m outcome w.host (To p (asks o place))).host (serve m outcome w.host (To p (asks o place))).reply
       (served (To p (asks o place)) (polite o told p place its))
-      (subst (λ b. InHand w.tracer.focus (cond b (put told p false) told)) (sym (unminded p (lets_go (asks o place)))) hand)
+      (subst (λ b. InHand w.tracer.focus (cond b (put told p false) told)) (sym (unminded (lets_go (asks o place)))) hand)
       (λ x. served_on o script w.tracer.known told p place x its)
   asked Asking_outcome Serve is hand =
       replied Asking_outcome Ask_outcome (serve m outcome w.host Ask_outcome).host (serve m outcome w.host Ask_outcome).reply (served Ask_outcome tt) hand (λ x. outcome_on o script w.tracer.known told x)
 
-run_met : {S B : Type 0} (m : Machine S B) (outcome : S → Outcome) (o : Options) (script : Script) (w : World S B) (events : List Event) → IsMet w → IsMet (world_run m outcome o script w events)
-run_met m outcome o script w [] k = k
-run_met m outcome o script w (e ∷ events) k =
-    run_met m outcome o script (happens m outcome o script w e) events (asked m outcome o script w k.told k.attended.stops k.attended.once w.tracer.focus e refl k.hand)
+run_met : {S B : Type 0} (m : Machine S B) (outcome : S → Outcome) (o : Options) (script : Script) (w : World S B) (events : List Event) (told : ℕ → Bool) → IsMet w told →
+    IsMet (world_run m outcome o script w events) (minds_all m outcome o script w events told)
+run_met m outcome o script w [] told k = k
+run_met m outcome o script w (e ∷ events) told k =
+    run_met m outcome o script (happens m outcome o script w e) events (minds_event m outcome w.host (request o w.tracer.focus) e told)
+    (asked m outcome o script w told k.attended.stops k.attended.once w.tracer.focus e refl k.hand)
 
 pub worlds_are_attended : {S B : Type 0} → WorldsAreAttended S B
 worlds_are_attended m outcome o script s b events =
-    let k = run_met m outcome o script (first_world s b) events
-    (record { told = λ p. false; attended = record { stops = first_stops s b; once = first_once s b }; hand = λ later. absurd (cc later) }) in
-    (k.told, k.attended)
+    (run_met m outcome o script (first_world s b) events (λ p. false)
+    (record { attended = record { stops = first_stops s b; once = first_once s b }; hand = λ later. absurd (cc later) })).attended

@@ -1,17 +1,20 @@
 -- What more holds where a client lets go only of whom it was told, as one must who waits for stops (ptrace(2)).
-use Rattle.std.specs.Prelude.{◌≡◌, ℕ, ◌≤◌, Bool, true, false, List, [], ◌∷◌}
+use Rattle.std.specs.Prelude.{◌≡◌, ℕ, ◌≤◌, Bool, true, false, List, [], ◌∷◌, Option, Some, None}
 use Rattle.lx_abi.specs.declared.outcome.Outcome.{Outcome}
 use Rattle.lx_abi.specs.declared.schedule.Event.{Event}
+use Rattle.lx_abi.specs.declared.schedule.Event.TheVariants.{Turn, Serve}
 use Rattle.lx_abi.specs.declared.ptrace.Request.{Request}
 use Rattle.lx_abi.specs.declared.ptrace.Request.TheVariants.{Boot as Boot_with, Wait, To, Outcome as Ask_outcome}
 use Rattle.lx_model.specs.Kernel.{Script}
 use Rattle.lx_model.specs.Machine.{Machine}
 use Rattle.pt_model.specs.declared.ptrace.Report.{Report}
 use Rattle.pt_model.specs.Laws.{is_alive}
-use Rattle.pt_model.specs.Ptrace.{Proc, is_there}
+use Rattle.pt_model.specs.Ptrace.{Proc, Host, is_there}
 use Rattle.pt_model.specs.Parts.{Options}
-use Rattle.pt_model.specs.World.{World, first_world, world_run}
-use Rattle.pt_laws.specs.Stops.{Watched, Deed, Turns, Asks, AreStops, all_done, asked, done, lets_go, reports_of}
+use Rattle.pt_model.specs.Requests.{serve}
+use Rattle.pt_model.specs.Tracer.{request}
+use Rattle.pt_model.specs.World.{World, first_world, happens, world_run}
+use Rattle.pt_laws.specs.Stops.{Watched, Deed, Turns, Asks, AreStops, all_done, asked, done, lets_go, minds, reports_of}
 use Rattle.pt_laws.specs.Stops.{turned}
 
 abbrev pub IsPolite : (ℕ → Bool) → Request → Type 0
@@ -72,7 +75,22 @@ pub record IsAttended {S B : Type 0} (w : World S B) (told : ℕ → Bool) : Typ
   pub stops : AreStops (record { host = w.host; told = told })
   pub once : AreOnce (record { host = w.host; told = told })
 
+-- what the tracer keeps in mind, by the replies to its requests
+abbrev pub minds_event : {S B : Type 0} → Machine S B → (S → Outcome) → Host S B → Option Request → Event
+    → (ℕ → Bool) → ℕ → Bool
+minds_event m outcome h None e told = told
+minds_event m outcome h (Some q) (Turn p) told = told
+minds_event m outcome h (Some q) Serve told = minds told q (serve m outcome h q).reply
+
+abbrev pub minds_all : {S B : Type 0} → Machine S B → (S → Outcome) → Options → Script → World S B → List Event
+    → (ℕ → Bool) → ℕ → Bool
+minds_all m outcome o script w [] told = told
+minds_all m outcome o script w (e ∷ events) told =
+    minds_all m outcome o script (happens m outcome o script w e) events
+    (minds_event m outcome w.host (request o w.tracer.focus) e told)
+
 abbrev pub WorldsAreAttended : Type 0 → Type 0 → Type 0
 WorldsAreAttended S B =
     (m : Machine S B) (outcome : S → Outcome) (o : Options) (script : Script) (s : S) (b : B) (events : List Event) →
-    (told : ℕ → Bool) × IsAttended (world_run m outcome o script (first_world s b) events) told
+    IsAttended (world_run m outcome o script (first_world s b) events)
+    (minds_all m outcome o script (first_world s b) events (λ p. false))
