@@ -4,3 +4,4 @@ pub mod Asking
 pub mod Stops
 pub mod Once
 pub mod Worlds
+pub mod Hosts
