@@ -16,7 +16,7 @@ use Rattle.lx_turn.specs.Calls.{does}
 use Rattle.lx_turn.specs.Linux.{linux}
 use Rattle.lx_turn.specs.Reactions.{is_killed}
 
--- intro(2): a call that is refused changes nothing but its result: nothing that is shared, and no byte of its caller
+-- ERRORS: a call that is refused changes nothing but its result, nothing that is shared and no byte of its caller
 pub record IsRefused (s : Shared) (b : UserState) (call : Call) (e : ℕ) (o : Out Shared UserState) : Type 0 where
   pub shared : o.shared ≡ s
   pub task : o.task ≡ Alive (with_result linux b (error_word e)) (Acted call (error_word e) false)
