@@ -34,8 +34,11 @@ use Rattle.lx_boot.specs.Paths.{is_under}
 use Rattle.lx_boot.specs.declared.boots.BootFault.TheVariants.{BadPath, Duplicate, NoProgram, TooLarge, BadLimit}
 use Rattle.lx_boot.proofs.Ordered.{not_itself}
 use Rattle.lx_boot.proofs.Shuffled.{nodes_again}
+use Rattle.lx_open.specs.Opens.{no_fds}
+use Rattle.lx_sound.specs.Reached.{AreReached}
 use Rattle.lx_sound.specs.Rooted.{is_directory, IsRooted}
 use Rattle.lx_sound.proofs.Maps.{neither, there_now, inserted, put_elsewhere}
+use Rattle.lx_sound.proofs.Reached.{created_reached}
 use Rattle.lx_sound.proofs.Trees.{named, created_now, created_stays, created_rooted}
 
 -- Places of a path and of its beginning.
@@ -151,6 +154,7 @@ has_under files q = list_any (λ f. is_under f.path q) files
 
 record IsPlanted (files : List GuestFile) (tree : Tree) : Type 0 where
   tree_is : IsRooted tree
+  reached : AreReached tree no_fds
   -- what is there is a directory, or one of the files
   kinds : (q : Path) → is_there tree q ≡ true → (is_directory (node_at tree q) ≡ true) ⊎ (has_file files q ≡ true)
   -- it is the root, a file or above one, and what is above a file is there
@@ -221,6 +225,7 @@ no_file path q (g ∷ gs) lies h = go (bytes_eq g.path q) refl (no_file path q g
 
 record IsUpTo (f : GuestFile) (files : List GuestFile) (start tree : Tree) (n : ℕ) : Type 0 where
   tree_is : IsRooted tree
+  reached : AreReached tree no_fds
   kinds : (q : Path) → is_there tree q ≡ true → (is_directory (node_at tree q) ≡ true) ⊎ (has_file files q ≡ true)
   named : (q : Path) → is_there tree q ≡ true → (q ≡ []) ⊎ ((lies_there files q ≡ true) ⊎ (is_under f.path q ≡ true))
   stays : (q : Path) → is_there start q ≡ true → is_there tree q ≡ true
@@ -261,6 +266,7 @@ module _ (f : GuestFile) (files : List GuestFile) (fits : FitsIn f files) (start
   passed : (tree : Tree) (n : ℕ) → IsUpTo f files start tree n → (ends_directory f.path n ≡ true → is_there tree (take n f.path) ≡ true) → IsUpTo f files start tree (suc n)
   passed tree n h here = record {
     tree_is = h.tree_is;
+    reached = h.reached;
     kinds = h.kinds;
     named = h.named;
     stays = h.stays;
@@ -271,6 +277,7 @@ module _ (f : GuestFile) (files : List GuestFile) (fits : FitsIn f files) (start
   made : (tree : Tree) (n : ℕ) → IsUpTo f files start tree n → ends_directory f.path n ≡ true → is_there tree (take n f.path) ≡ false → IsUpTo f files start (created tree (take n f.path) Directory) (suc n)
   made tree n h ends none = record {
     tree_is = created_rooted tree at Directory (no_name tree at none) (parent_there tree n at h refl) (good_start f.path n fits.own ends) h.tree_is;
+    reached = created_reached tree no_fds h.reached at Directory (no_name tree at none);
     kinds = λ q there. ⊎_elim
         (λ same. inl (subst (λ r. is_directory (node_at (created tree at Directory) r) ≡ true) (sym same) (ap is_directory (created_now tree at Directory))))
         (λ old. ⊎_elim (λ it. inl (created_stays tree at Directory (no_name tree at none) q it)) (λ file. inr file) (h.kinds q old))
@@ -310,6 +317,7 @@ module _ (f : GuestFile) (files : List GuestFile) (fits : FitsIn f files) (start
   unfolding with_directories
   all_places zero = record {
     tree_is = planted.tree_is;
+    reached = planted.reached;
     kinds = planted.kinds;
     named = λ q there. ⊎_elim (λ root. inl root) (λ lies. inr (inl lies)) (planted.named q there);
     stays = λ q there. there;
@@ -376,6 +384,7 @@ module _ (f : GuestFile) (files : List GuestFile) (fits : FitsIn f files) (start
   with_file_planted : IsPlanted (f ∷ files) (with_file start f)
   with_file_planted = record {
     tree_is = created_rooted up f.path x new (parent_there up (length f.path) f.path whole all_of_it) (good_whole f.path fits.own) whole.tree_is;
+    reached = created_reached up no_fds whole.reached f.path x new;
     kinds = λ q there. ⊎_elim
         (λ same. inr (either_true (bytes_eq f.path q) (has_file files q) (inl (same_bytes q same))))
         (λ old. ⊎_elim (λ it. inl (created_stays up f.path x new q it)) (λ file. inr (either_true (bytes_eq f.path q) (has_file files q) (inr file))) (whole.kinds q old))
@@ -432,6 +441,13 @@ nothing_there q = ap is_some (maps.get-empty path_cmp q)
 root_there : (q : Path) → is_there rooted q ≡ true → q ≡ []
 root_there q there = ⊎_elim (λ same. same) (λ old. let none = nothing_there q in absurd (cc (none, old))) (there_before no_tree [] q Directory there)
 
+nothing_reached : AreReached no_tree no_fds
+nothing_reached = record {
+  named = λ n d is. absurd (cc (sym (maps.get-empty nat_cmp n) ∙ is));
+  ended = λ n bytes is. absurd (cc (sym (maps.get-empty nat_cmp n) ∙ is));
+  placed = λ n x is. absurd (cc (sym (maps.get-empty nat_cmp n) ∙ is));
+}
+
 root_planted : IsPlanted [] rooted
 unfolding nodes parent
 root_planted = record {
@@ -440,6 +456,7 @@ root_planted = record {
     parents = λ q there. let is : q ≡ [] = root_there q there in ap (λ r. is_directory (node_at rooted (parent r))) is ∙ root_parent;
     no_slash = put_elsewhere nat_list_cmp_total no_tree.names [] (slash ∷ []) refl (vacant no_tree.nodes) ∙ maps.get-empty path_cmp (slash ∷ []);
   };
+  reached = created_reached no_tree no_fds nothing_reached [] Directory (maps.get-empty path_cmp []);
   kinds = λ q there. inl (ap (λ r. is_directory (node_at rooted r)) (root_there q there) ∙ ap is_directory (created_now no_tree [] Directory));
   named = λ q there. inl (root_there q there);
   above = λ q none. absurd (cc none);
@@ -578,6 +595,7 @@ rooted_small = created_small no_tree [] Directory (omega arith) (λ n x is. absu
 
 pub record IsWithin (files : List GuestFile) : Type 0 where
   pub rooted : IsRooted (tree_of files)
+  pub reached : AreReached (tree_of files) no_fds
   pub nodes : maps.len (tree_of files).nodes ≤ most_nodes
   pub small : AreSmall (tree_of files)
   pub contents : contents (tree_of files) ≤ most_contents
@@ -609,6 +627,7 @@ boots_within boot none =
     let le' : nat_le (sum_by content_size files) most_contents ≡ true = each.1 in
     record {
       rooted = planted.tree_is;
+      reached = planted.reached;
       nodes = grind (arith, nat_tests, few, all, le);
       small = files_small rooted files each.0 rooted_small;
       contents = grind (arith, nat_tests, sum, le');

@@ -1,12 +1,11 @@
 -- No call changes what is said of a process's stop, but for SIGCONT that it sends.
-use Rattle.std.proofs.Common.{◌≡◌, ℕ, Bool, true, false, cond, List, length, Option, Some, None, refl, ap, sym, subst, ◌∙◌}
-use Rattle.std.specs.Prelude.{◌==◌, is_some, not}
+use Rattle.std.proofs.Common.{◌≡◌, ℕ, Bool, true, false, cond, Option, Some, None, refl, sym, subst}
+use Rattle.std.specs.Prelude.{◌==◌, not}
 use Rattle.std.specs.FinMap as maps
-use Rattle.std.specs.Option.{unwrap_or}
 use Rattle.std.specs.Int.{w64, to_le_bytes}
 use Rattle.std.specs.declared.result.Result.{Result}
 use Rattle.std.specs.declared.result.Result.TheVariants.{Ok, Err}
-use Rattle.rv_mem.specs.Memory.{Memory, first_fault, written}
+use Rattle.rv_mem.specs.Memory.{Memory}
 use Rattle.lx_abi.specs.Errnos.{efault, einval, enosys}
 use Rattle.lx_abi.specs.declared.log.Call.{Call}
 use Rattle.lx_abi.specs.declared.log.Cause.TheVariants.{Sent}

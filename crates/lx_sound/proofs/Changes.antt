@@ -19,9 +19,10 @@ use Rattle.lx_files.specs.declared.tree.Tree.{Tree}
 use Rattle.lx_files.proofs.Totals.{total-insert, total-remove}
 use Rattle.lx_open.specs.Kinds.{moved}
 use Rattle.lx_open.specs.Opens as opens
-use Rattle.lx_open.specs.Opens.{pair}
+use Rattle.lx_open.specs.Opens.{pair, IsFree}
 use Rattle.lx_open.specs.Releases.{Held, unlinked}
 use Rattle.lx_open.specs.declared.description.Description.{Description}
+use Rattle.lx_open.specs.declared.description.Object.TheVariants.{ReadEnd, WriteEnd}
 use Rattle.lx_open.specs.declared.description.Slot.{Slot}
 use Rattle.lx_open.specs.declared.fd_table.FdTable.{FdTable}
 use Rattle.lx_proc.specs.declared.state.Entry.{Entry}
@@ -29,14 +30,17 @@ use Rattle.lx_proc.specs.declared.state.Shared.{Shared}
 use Rattle.lx_proc.specs.State.{Entries, with_entries, with_fds, with_tree, with_held}
 use Rattle.lx_fcalls.specs.Moving.{all_bytes, has_space}
 use Rattle.lx_fcalls.specs.Unlinkat.{is_used}
+use Rattle.lx_fcalls.specs.Pipe2.{with_end, end_of}
 use Rattle.lx_sound.specs.Together.{is_there, HoldTogether}
+use Rattle.lx_sound.specs.Reached.{AreReached}
 use Rattle.lx_sound.specs.Rooted.{is_directory, IsRooted}
 use Rattle.lx_sound.specs.Within.{AreWithin}
 use Rattle.lx_sound.specs.Parts.{lives, EntriesSound, AreOwned, PartsSound}
-use Rattle.lx_sound.proofs.Maps.{inserted, inserted_other, none_of_values}
+use Rattle.lx_sound.proofs.Maps.{inserted, inserted_other, there_now, none_of_values}
 use Rattle.lx_sound.proofs.Trees.{created_stays, created_rooted, same_rooted, content_stays, content_rooted, unlinked_stays, unlinked_rooted}
 use Rattle.lx_sound.proofs.Fewer.{FewerNodes, FewerIn, unlinked_fewer}
 use Rattle.lx_sound.proofs.Together.{named_together, opened_together, piped_together, moved_together, held_together, created_together, content_together, unlinked_together}
+use Rattle.lx_sound.proofs.Reached.{named_reached, opened_reached, pipes_reached, held_reached, moved_reached, created_reached, content_reached, unlinked_reached}
 use Rattle.lx_sound.proofs.Entries.{SameEntry, SameEntries, entries_stay}
 
 pub data Change : Type 0 where
@@ -52,8 +56,8 @@ pub data Change : Type 0 where
   Loses : Held → Change
   -- a descriptor of the process names a new description
   Opens : ℕ → Description → Bool → Change
-  -- there is a pipe more
-  Pipes : Change
+  -- there is a pipe more, and two descriptors of the process name its ends
+  Pipes : ℕ → ℕ → Bool → Change
   -- a description is at another offset
   Seeks : ℕ → ℕ → Change
   -- a pipe holds other bytes
@@ -65,6 +69,12 @@ pub data Change : Type 0 where
   -- a path is taken away
   Unlinks : Path → Change
 
+-- a pipe, with both its ends
+abbrev pub piped : Shared → ℕ → ℕ → ℕ → Bool → FdTable
+piped s p first second closes =
+    let pipe = vacant s.fds.pipes in
+    with_end (with_end (opens.with_pipe s.fds pipe []) p first (ReadEnd pipe) true closes) p second (WriteEnd pipe) false closes
+
 abbrev pub done : Shared → ℕ → Change → Shared
 done s p (Takes n) = record s { input = drop n s.input }
 done s p (Prints bytes) = record s { console = s.console ++ bytes }
@@ -72,7 +82,7 @@ done s p (Enters m) = with_entries s m
 done s p (Names fd named) = with_fds s (opens.with_slot s.fds p fd named)
 done s p (Loses h) = with_held s h
 done s p (Opens fd d closes) = with_fds s (opens.opened s.fds p fd d closes)
-done s p Pipes = with_fds s (opens.with_pipe s.fds (vacant s.fds.pipes) [])
+done s p (Pipes first second closes) = with_fds s (piped s p first second closes)
 done s p (Seeks n offset) = with_fds s (opens.with_offset s.fds n offset)
 done s p (Holds pipe f) = with_fds s (opens.with_held s.fds pipe f)
 done s p (Makes path x) = with_tree s (created s.tree path x)
@@ -86,23 +96,27 @@ IsRemovable s path =
     × ((is_directory (node_at s.tree path) ≡ false) ⊎ ((is_empty s.tree path ≡ true) × (is_used s path ≡ false)))
 
 -- what holds where a change is made
-abbrev pub IsDue : Shared → Change → Type 0
-IsDue s (Takes n) = Unit {0}
-IsDue s (Prints bytes) = has_space s 0 (length bytes) ≡ true
-IsDue s (Enters m) = SameEntries s.entries m × (EntriesSound s.tree s.entries → EntriesSound s.tree m)
-IsDue s (Names fd named) = (fd < most_fds) × IsSome (maps.get s.fds.descriptions named.description)
-IsDue s (Loses h) = (HoldTogether s.tree s.fds → HoldTogether h.tree h.fds) × FewerIn s.tree s.fds h
-IsDue s (Opens fd d closes) = (fd < most_fds) × (is_there s.tree s.fds d.object ≡ true) × (d.offset ≡ 0)
-IsDue s Pipes = Unit {0}
-IsDue s (Seeks n offset) = offset ≤ largest_file
-IsDue s (Holds pipe f) = (bytes : List ℕ) → maps.get s.fds.pipes pipe ≡ Some bytes → length (f bytes) ≤ pipe_size
-IsDue s (Makes path x) =
+abbrev pub IsDue : Shared → ℕ → Change → Type 0
+IsDue s p (Takes n) = Unit {0}
+IsDue s p (Prints bytes) = has_space s 0 (length bytes) ≡ true
+IsDue s p (Enters m) = SameEntries s.entries m × (EntriesSound s.tree s.entries → EntriesSound s.tree m)
+IsDue s p (Names fd named) = (fd < most_fds) × IsSome (maps.get s.fds.descriptions named.description) × IsFree s.fds p fd
+IsDue s p (Loses h) =
+    (HoldTogether s.tree s.fds → HoldTogether h.tree h.fds) × FewerIn s.tree s.fds h
+    × (AreReached s.tree s.fds → AreReached h.tree h.fds)
+IsDue s p (Opens fd d closes) = (fd < most_fds) × (is_there s.tree s.fds d.object ≡ true) × (d.offset ≡ 0) × IsFree s.fds p fd
+IsDue s p (Pipes first second closes) =
+    (first < most_fds) × (second < most_fds) × IsFree s.fds p first
+    × IsFree (with_end (opens.with_pipe s.fds (vacant s.fds.pipes) []) p first (ReadEnd (vacant s.fds.pipes)) true closes) p second
+IsDue s p (Seeks n offset) = offset ≤ largest_file
+IsDue s p (Holds pipe f) = (bytes : List ℕ) → maps.get s.fds.pipes pipe ≡ Some bytes → length (f bytes) ≤ pipe_size
+IsDue s p (Makes path x) =
     (has_room s.tree ≡ true) × (maps.get s.tree.names path ≡ None)
     × (is_directory (node_at s.tree (parent path)) ≡ true) × (size_of x ≡ 0) × (path ≡ slash ∷ [] → ⊥)
-IsDue s (Writes node f) =
+IsDue s p (Writes node f) =
     (length (f (content s.tree node)) ≤ largest_file)
     × (has_space s (length (content s.tree node)) (length (f (content s.tree node))) ≡ true)
-IsDue s (Unlinks path) = IsRemovable s path
+IsDue s p (Unlinks path) = IsRemovable s path
 
 lives_on : (o o' : Option Entry) → SameEntry o o' → lives o ≡ true → lives o' ≡ true
 lives_on None None same e = e
@@ -111,14 +125,19 @@ lives_on (Some x) None same e = let dead : lives (Some x) ≡ false = ap (λ l. 
 lives_on (Some x) (Some y) same e = ap (λ l. lives (Some (record x { life = l }))) same ∙ e
 
 module _ (s : Shared) (p : ℕ) (h : PartsSound s) where
-  files_done : (c : Change) → IsDue s c → HoldTogether (done s p c).tree (done s p c).fds
+  files_done : (c : Change) → IsDue s p c → HoldTogether (done s p c).tree (done s p c).fds
   files_done (Takes n) due = h.files
   files_done (Prints bytes) due = h.files
   files_done (Enters m) due = h.files
   files_done (Names fd named) due = named_together s.tree s.fds h.files p fd named due.1
   files_done (Loses x) due = due.0 h.files
   files_done (Opens fd d closes) due = opened_together s.tree s.fds h.files p fd d closes due.1
-  files_done Pipes due = piped_together s.tree s.fds h.files (vacant s.fds.pipes) [] (omega arith)
+  files_done (Pipes first second closes) due =
+      let pipe = vacant s.fds.pipes in
+      let zero : FdTable = opens.with_pipe s.fds pipe [] in
+      let there : is_some (maps.get zero.pipes pipe) ≡ true = ap is_some (there_now nat_cmp_total s.fds.pipes pipe []) in
+      let one : FdTable = with_end zero p first (ReadEnd pipe) true closes in
+      opened_together s.tree one (opened_together s.tree zero (piped_together s.tree s.fds h.files pipe [] (omega arith)) p first (end_of (ReadEnd pipe) true) closes there) p second (end_of (WriteEnd pipe) false) closes there
   files_done (Seeks n offset) due = moved_together s.tree s.fds h.files n offset
   files_done (Holds pipe f) due = held_together s.tree s.fds h.files pipe f due
   files_done (Makes path x) due = created_together s.tree s.fds h.files path x
@@ -130,14 +149,14 @@ module _ (s : Shared) (p : ℕ) (h : PartsSound s) where
   either_empty : (path : Path) → IsRemovable s path → (is_directory (node_at s.tree path) ≡ false) ⊎ (is_empty s.tree path ≡ true)
   either_empty path due = ⊎_elim (λ file. inl file) (λ empty. inr empty.0) due.1
 
-  rooted_done : (c : Change) → IsDue s c → IsRooted (done s p c).tree
+  rooted_done : (c : Change) → IsDue s p c → IsRooted (done s p c).tree
   rooted_done (Takes n) due = h.rooted
   rooted_done (Prints bytes) due = h.rooted
   rooted_done (Enters m) due = h.rooted
   rooted_done (Names fd named) due = h.rooted
   rooted_done (Loses x) due = let fewer = due.1 in same_rooted s.tree x.tree fewer.names (λ q there. ap is_directory (fewer.paths q) ∙ there) h.rooted
   rooted_done (Opens fd d closes) due = h.rooted
-  rooted_done Pipes due = h.rooted
+  rooted_done (Pipes first second closes) due = h.rooted
   rooted_done (Seeks n offset) due = h.rooted
   rooted_done (Holds pipe f) due = h.rooted
   rooted_done (Makes path x) due = created_rooted s.tree path x due.1 due.2 due.4 h.rooted
@@ -161,14 +180,14 @@ module _ (s : Shared) (p : ℕ) (h : PartsSound s) where
       absurd (cc (unlike, alike)))
       due.1
 
-  entries_done : (c : Change) → IsDue s c → EntriesSound (done s p c).tree (done s p c).entries
+  entries_done : (c : Change) → IsDue s p c → EntriesSound (done s p c).tree (done s p c).entries
   entries_done (Takes n) due = h.entries
   entries_done (Prints bytes) due = h.entries
   entries_done (Enters m) due = due.1 h.entries
   entries_done (Names fd named) due = h.entries
   entries_done (Loses x) due = in_tree x.tree (λ q e is there. ap is_directory (due.1.paths e.directory) ∙ there)
   entries_done (Opens fd d closes) due = h.entries
-  entries_done Pipes due = h.entries
+  entries_done (Pipes first second closes) due = h.entries
   entries_done (Seeks n offset) due = h.entries
   entries_done (Holds pipe f) due = h.entries
   entries_done (Makes path x) due = in_tree (created s.tree path x) (λ q e is there. created_stays s.tree path x due.1 e.directory there)
@@ -191,7 +210,7 @@ module _ (s : Shared) (p : ℕ) (h : PartsSound s) where
   pipes_owned pipe f None = h.owned
   pipes_owned pipe f (Some bytes) = h.owned
 
-  owned_done : lives (maps.get s.entries p) ≡ true → (c : Change) → IsDue s c → AreOwned (done s p c).fds (done s p c).entries
+  owned_done : lives (maps.get s.entries p) ≡ true → (c : Change) → IsDue s p c → AreOwned (done s p c).fds (done s p c).entries
   owned_done alive (Takes n) due = h.owned
   owned_done alive (Prints bytes) due = h.owned
   owned_done alive (Enters m) due = λ q fd below there. lives_on (maps.get s.entries q) (maps.get m q) (due.0.each q) (h.owned q fd below there)
@@ -203,7 +222,13 @@ module _ (s : Shared) (p : ℕ) (h : PartsSound s) where
       before (Some y) o' f e = ap is_some (f y refl)
   owned_done alive (Opens fd d closes) due =
       named_owned (opens.with_description s.fds (vacant s.fds.descriptions) d) h.owned fd (record { description = vacant s.fds.descriptions; closes_on_exec = closes }) due.0 alive
-  owned_done alive Pipes due = h.owned
+  owned_done alive (Pipes first second closes) due =
+      let pipe = vacant s.fds.pipes in
+      let zero : FdTable = opens.with_pipe s.fds pipe [] in
+      let one : FdTable = with_end zero p first (ReadEnd pipe) true closes in
+      named_owned (opens.with_description one (vacant one.descriptions) (end_of (WriteEnd pipe) false))
+      (named_owned (opens.with_description zero (vacant zero.descriptions) (end_of (ReadEnd pipe) true)) h.owned first (record { description = vacant zero.descriptions; closes_on_exec = closes }) due.0 alive)
+      second (record { description = vacant one.descriptions; closes_on_exec = closes }) due.1 alive
   owned_done alive (Seeks n offset) due = h.owned
   owned_done alive (Holds pipe f) due = pipes_owned pipe f (maps.get s.fds.pipes pipe)
   owned_done alive (Makes path x) due = h.owned
@@ -298,50 +323,74 @@ module _ (s : Shared) (p : ℕ) (h : PartsSound s) where
     offsets = λ n d is. h.within.offsets n d (descriptions n d is);
   }
 
-  within_done : (c : Change) → IsDue s c → AreWithin (done s p c)
+  within_done : (c : Change) → IsDue s p c → AreWithin (done s p c)
   within_done (Takes n) due = record { nodes = h.within.nodes; files = h.within.files; contents = h.within.contents; offsets = h.within.offsets }
   within_done (Prints bytes) due = prints_within bytes due
   within_done (Enters m) due = record { nodes = h.within.nodes; files = h.within.files; contents = h.within.contents; offsets = h.within.offsets }
   within_done (Names fd named) due = described (opens.with_slot s.fds p fd named) h.within.offsets
   within_done (Loses x) due = fewer_within (with_held s x) refl due.1.kept due.1.descriptions
   within_done (Opens fd d closes) due = described (opens.opened s.fds p fd d closes) (offset_within (vacant s.fds.descriptions) d (let zero = due.2 in omega (arith, zero)))
-  within_done Pipes due = described (opens.with_pipe s.fds (vacant s.fds.pipes) []) h.within.offsets
+  within_done (Pipes first second closes) due = described (piped s p first second closes) (λ i x is.
+      let pipe = vacant s.fds.pipes in
+      let one : FdTable = with_end (opens.with_pipe s.fds pipe []) p first (ReadEnd pipe) true closes in
+      ⊎_elim (λ same. subst (λ (y : Description). y.offset ≤ largest_file) same (omega arith))
+      (λ old. offset_within (vacant s.fds.descriptions) (end_of (ReadEnd pipe) true) (omega arith) i x old)
+      (inserted nat_cmp_total one.descriptions (vacant one.descriptions) (end_of (WriteEnd pipe) false) i x is))
   within_done (Seeks n offset) due = described (opens.with_offset s.fds n offset) (moved_within n offset due (maps.get s.fds.descriptions n))
   within_done (Holds pipe f) due = pipes_within pipe f (maps.get s.fds.pipes pipe)
   within_done (Makes path x) due = makes_within path x due.0 due.3
   within_done (Writes node f) due = writes_within node f (maps.get s.tree.nodes node) refl due.0 due.1
   within_done (Unlinks path) due = fewer_within (with_tree s (unlinked s.tree s.fds path)) refl (unlinked_fewer s.tree s.fds path) (λ n d is. is)
 
-  pub parts_done : lives (maps.get s.entries p) ≡ true → (c : Change) → IsDue s c → PartsSound (done s p c)
+  -- What is there is reached.
+
+  reached_done : (c : Change) → IsDue s p c → AreReached (done s p c).tree (done s p c).fds
+  reached_done (Takes n) due = h.reached
+  reached_done (Prints bytes) due = h.reached
+  reached_done (Enters m) due = h.reached
+  reached_done (Names fd named) due = named_reached s.tree s.fds h.reached p fd named due.2
+  reached_done (Loses x) due = due.2 h.reached
+  reached_done (Opens fd d closes) due = opened_reached s.tree s.fds h.reached p fd d closes due.3
+  reached_done (Pipes first second closes) due =
+      pipes_reached s.tree s.fds h.reached p first second (vacant s.fds.pipes) (end_of (ReadEnd (vacant s.fds.pipes)) true) (end_of (WriteEnd (vacant s.fds.pipes)) false) closes refl due.2 due.3
+  reached_done (Seeks n offset) due = moved_reached s.tree s.fds h.reached n offset
+  reached_done (Holds pipe f) due = held_reached s.tree s.fds h.reached pipe f
+  reached_done (Makes path x) due = created_reached s.tree s.fds h.reached path x due.1
+  reached_done (Writes node f) due = content_reached s.tree s.fds h.reached node f
+  reached_done (Unlinks path) due = unlinked_reached s.tree s.fds h.reached path
+
+  pub parts_done : lives (maps.get s.entries p) ≡ true → (c : Change) → IsDue s p c → PartsSound (done s p c)
   parts_done alive c due = record {
     files = files_done c due;
+    reached = reached_done c due;
     rooted = rooted_done c due;
     entries = entries_done c due;
     owned = owned_done alive c due;
     within = within_done c due;
   }
 
-pub entries_kept : (s : Shared) (p : ℕ) (c : Change) → IsDue s c → SameEntries s.entries (done s p c).entries
+pub entries_kept : (s : Shared) (p : ℕ) (c : Change) → IsDue s p c → SameEntries s.entries (done s p c).entries
 entries_kept s p (Takes n) due = entries_stay s.entries
 entries_kept s p (Prints bytes) due = entries_stay s.entries
 entries_kept s p (Enters m) due = due.0
 entries_kept s p (Names fd named) due = entries_stay s.entries
 entries_kept s p (Loses x) due = entries_stay s.entries
 entries_kept s p (Opens fd d closes) due = entries_stay s.entries
-entries_kept s p Pipes due = entries_stay s.entries
+entries_kept s p (Pipes first second closes) due = entries_stay s.entries
 entries_kept s p (Seeks n offset) due = entries_stay s.entries
 entries_kept s p (Holds pipe f) due = entries_stay s.entries
 entries_kept s p (Makes path x) due = entries_stay s.entries
 entries_kept s p (Writes node f) due = entries_stay s.entries
 entries_kept s p (Unlinks path) due = entries_stay s.entries
 
-pub lives_after : (s : Shared) (p : ℕ) (c : Change) → IsDue s c → lives (maps.get s.entries p) ≡ true → lives (maps.get (done s p c).entries p) ≡ true
+pub lives_after : (s : Shared) (p : ℕ) (c : Change) → IsDue s p c → lives (maps.get s.entries p) ≡ true → lives (maps.get (done s p c).entries p) ≡ true
 lives_after s p c due alive = lives_on (maps.get s.entries p) (maps.get (done s p c).entries p) ((entries_kept s p c due).each p) alive
 
 -- other entries, whoever changes them
 pub entered : (s : Shared) → PartsSound s → (m : Entries) → SameEntries s.entries m → (EntriesSound s.tree s.entries → EntriesSound s.tree m) → PartsSound (with_entries s m)
 entered s h m same sound = record {
   files = h.files;
+  reached = h.reached;
   rooted = h.rooted;
   entries = sound h.entries;
   owned = λ q fd below there. lives_on (maps.get s.entries q) (maps.get m q) (same.each q) (h.owned q fd below there);
@@ -355,7 +404,7 @@ ended_kept s p (Enters m) = refl
 ended_kept s p (Names fd named) = refl
 ended_kept s p (Loses x) = refl
 ended_kept s p (Opens fd d closes) = refl
-ended_kept s p Pipes = refl
+ended_kept s p (Pipes first second closes) = refl
 ended_kept s p (Seeks n offset) = refl
 ended_kept s p (Holds pipe f) = refl
 ended_kept s p (Makes path x) = refl
@@ -369,7 +418,7 @@ limits_kept s p (Enters m) = refl
 limits_kept s p (Names fd named) = refl
 limits_kept s p (Loses x) = refl
 limits_kept s p (Opens fd d closes) = refl
-limits_kept s p Pipes = refl
+limits_kept s p (Pipes first second closes) = refl
 limits_kept s p (Seeks n offset) = refl
 limits_kept s p (Holds pipe f) = refl
 limits_kept s p (Makes path x) = refl

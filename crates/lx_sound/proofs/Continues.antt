@@ -7,15 +7,14 @@ use Rattle.std.specs.FinMap as maps
 use Rattle.lx_abi.specs.declared.log.Cause.{Cause}
 use Rattle.lx_abi.specs.declared.signal.Signal.{Signal}
 use Rattle.lx_abi.specs.Log.{entries, items_of}
-use Rattle.lx_model.specs.Kernel.{Script, Kernel, put, traces, choice_at, kernel_turn, with_child, after_turn}
+use Rattle.lx_model.specs.Kernel.{Kernel, put, traces, choice_at, kernel_turn, with_child, after_turn}
 use Rattle.lx_model.specs.Turn.{Out, turn, killed_or, wakes}
 use Rattle.lx_model.specs.declared.event.PtraceEvent.{PtraceEvent}
 use Rattle.lx_model.specs.declared.event.PtraceEvent.TheVariants.{Plain, Execed, Forked}
 use Rattle.lx_model.specs.declared.stage.Stage.{Stage}
 use Rattle.lx_model.specs.declared.stage.Stage.TheVariants.{Born, Stopped}
-use Rattle.lx_model.specs.declared.stage.Task.{Task}
 use Rattle.lx_model.specs.declared.stage.Task.TheVariants as task
-use Rattle.lx_sig.specs.Pending.{added, continued, sent as sent_signal, was_continued, without_opposites}
+use Rattle.lx_sig.specs.Pending.{continued, sent as sent_signal, was_continued, without_opposites}
 use Rattle.lx_sig.specs.declared.state.Job.{Job}
 use Rattle.lx_sig.specs.declared.state.Job.TheVariants.{Free, AtStop}
 use Rattle.lx_sig.specs.declared.state.Signals.{Signals}
@@ -28,8 +27,8 @@ use Rattle.lx_pcalls.specs.Stops.{is_continued_at}
 use Rattle.lx_turn.specs.Linux.{linux}
 use Rattle.lx_turn.specs.Reactions.{is_killed}
 use Rattle.lx_kernel.specs.Blocking.{can_turn}
-use Rattle.lx_sound.specs.Jobs.{is_at_stop, JobFits, JobsFit, GoesOn, ContinueWakes, ContinuesStay, sigcont}
-use Rattle.lx_sound.specs.Sound.{Agree, IsSound}
+use Rattle.lx_sound.specs.Jobs.{is_at_stop, JobFits, GoesOn, ContinueWakes, ContinuesStay, sigcont}
+use Rattle.lx_sound.specs.Sound.{Agree}
 use Rattle.lx_sound.proofs.Maps.{there_now}
 use Rattle.lx_sound.proofs.Jobs.{KeepsJob, SameJob, added_job, opposites_job}
 use Rattle.lx_sound.proofs.Stops.{turns_both}

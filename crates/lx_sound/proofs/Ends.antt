@@ -41,6 +41,7 @@ use Rattle.lx_sound.specs.Pages.{HasFewPages, IsSmall}
 use Rattle.lx_sound.specs.Sound.{Agree, HasWord, Sound}
 use Rattle.lx_sound.proofs.Maps.{inserted, there_now, removed, inserted_other, removed_other}
 use Rattle.lx_sound.proofs.Together.{inherited_together, all_closed_together}
+use Rattle.lx_sound.proofs.Reached.{inherited_reached, all_closed_reached}
 use Rattle.lx_sound.proofs.Fewer.{all_closed_fewer, none_left}
 use Rattle.lx_sound.proofs.Entries.{SameEntry, SameEntries, put_len, take_len, entries_stay, entries_then, put_same, taken_same, gone, changed_same, put_sound, taken_sound, changed_sound, signals_sound, received_sound}
 use Rattle.lx_sound.proofs.Changes.{Loses, parts_done, entered}
@@ -135,6 +136,7 @@ relived_parts : (s : Shared) (p : ℕ) (l : Life) → PartsSound s → ((fd : �
     → (t : Shared) → t.tree ≡ s.tree → t.fds ≡ s.fds → t.console ≡ s.console → t.entries ≡ changed s.entries p (λ e. with_life e l) → PartsSound t
 relived_parts s p l h none t tree fds console es = record {
   files = rw (tree, fds) h.files;
+  reached = rw (tree, fds) h.reached;
   rooted = rw tree h.rooted;
   entries = rw (tree, es) (changed_sound s.tree s.entries p (λ e. with_life e l) (λ e sound. record { directory = sound.directory; signals = sound.signals }) h.entries);
   owned = rw (fds, es) owned;
@@ -160,7 +162,7 @@ died_parts s p w alive h =
     let left : Held = all_closed s.tree s.fds p in
     let closed : Shared = with_held s left in
     let told : Entries = changed s.entries p (λ e. with_news e None) in
-    let parts : PartsSound closed = parts_done s p h alive (Loses left) ((λ x. all_closed_together s.tree s.fds x p), all_closed_fewer s.tree s.fds p) in
+    let parts : PartsSound closed = parts_done s p h alive (Loses left) ((λ x. all_closed_together s.tree s.fds x p), all_closed_fewer s.tree s.fds p, (λ x. all_closed_reached s.tree s.fds x p)) in
     relived_parts (with_entries closed told) p (Dying w) (entered closed parts told (changed_same s.entries p (λ e. with_news e None) (λ e. refl)) (changed_sound left.tree s.entries p (λ e. with_news e None) (λ e sound. record { directory = sound.directory; signals = sound.signals }))) (λ fd below. none_left s.tree s.fds p fd below)
     (dies s p w) refl refl refl refl
 
@@ -186,6 +188,7 @@ dying_dead (Some e) w agrees = ap is_alive agrees
 left_parts : (s : Shared) (p : ℕ) → PartsSound s → lives (maps.get s.entries p) ≡ false → PartsSound (with_entries s (maps.remove s.entries p))
 left_parts s p h dead = record {
   files = h.files;
+  reached = h.reached;
   rooted = h.rooted;
   entries = taken_sound s.tree s.entries p h.entries;
   owned = λ q fd below there. go q (q == p) refl (h.owned q fd below there);
@@ -383,9 +386,10 @@ inherited_described : (fds : FdTable) (parent child : ℕ) → (inherited fds pa
 unfolding inherited
 inherited_described fds parent child = refl
 
-born_parts : (s : Shared) (child p : ℕ) (e : Entry) → EntrySound s.tree (child_entry e p) → PartsSound s → PartsSound (with_child s child p (child_entry e p))
-born_parts s child p e sound h = record {
+born_parts : (s : Shared) (child p : ℕ) (e : Entry) → EntrySound s.tree (child_entry e p) → maps.get s.entries child ≡ None → PartsSound s → PartsSound (with_child s child p (child_entry e p))
+born_parts s child p e sound vacant h = record {
   files = inherited_together s.tree s.fds h.files p child;
+  reached = inherited_reached s.tree s.fds h.reached p child (no_slots s child h (ap lives vacant));
   rooted = h.rooted;
   entries = put_sound s.tree s.entries child (child_entry e p) sound h.entries;
   owned = λ q fd below there. owned q (inherited_owned s.entries s.fds p child h.owned q fd below there);
@@ -409,7 +413,7 @@ born_parts s child p e sound h = record {
 
 pub bears_sound : (s : Shared) (tasks : Tasks) (child p : ℕ) (e : Entry) (newborn : UserState) → EntrySound s.tree (child_entry e p) → HasFewPages newborn.memory → has_room s child ≡ true → Sound s tasks child → Sound (with_child s child p (child_entry e p)) (put tasks child (task.Alive newborn Born)) (suc child)
 bears_sound s tasks child p e newborn sound small room h = record {
-  parts = born_parts s child p e sound h.parts;
+  parts = born_parts s child p e sound (h.pids child (omega arith)) h.parts;
   agree = λ q. agree_at q (child == q) refl;
   words = λ q x is. words_at q x (inserted nat_cmp_total s.entries child (child_entry e p) q x is);
   pids = λ q le. inserted_other s.entries child (child_entry e p) q (let above = le in grind (arith, nat_tests, above)) ∙ h.pids q (omega (arith, le));

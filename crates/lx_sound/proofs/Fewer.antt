@@ -188,7 +188,7 @@ exec_fewer tree fds pid = each_fewer true (record { tree = tree; fds = fds }) pi
 
 -- Who has all of them closed has none.
 
-abbrev NoSlot : Held → ℕ → Type 0
+abbrev pub NoSlot : Held → ℕ → Type 0
 NoSlot h key = maps.get h.fds.slots key ≡ None
 
 none_later : (h g : Held) (key : ℕ) → FewerIn h.tree h.fds g → NoSlot h key → NoSlot g key
@@ -198,12 +198,19 @@ none_later h g key fewer none = go (maps.get g.fds.slots key) refl
     go None is = refl
     go (Some x) is = let there = fewer.slots key x is in absurd (cc (there, none))
 
-slot_gone : (tree : Tree) (fds : FdTable) (key : ℕ) (o : Option Slot) → maps.get fds.slots key ≡ o → NoSlot (slot_closed tree fds key o) key
+pub slot_gone : (tree : Tree) (fds : FdTable) (key : ℕ) (o : Option Slot) → maps.get fds.slots key ≡ o → NoSlot (slot_closed tree fds key o) key
 slot_gone tree fds key None is = is
 slot_gone tree fds key (Some s) is =
     let left : FdTable = record fds { slots = maps.remove fds.slots key } in
     none_later (record { tree = tree; fds = left }) (description_released tree left s.description) key (description_fewer tree left s.description)
     (maps.get-remove nat_cmp_total fds.slots key key ∙ grind (arith, nat_tests))
+
+-- a descriptor that is closed names nothing
+pub closed_none : (tree : Tree) (fds : FdTable) (pid fd : ℕ) → nat_lt fd most_fds ≡ true → NoSlot (closed tree fds pid fd) (pair pid fd)
+unfolding closed
+closed_none tree fds pid fd below =
+    let is : slot fds pid fd ≡ maps.get fds.slots (pair pid fd) = ap (λ b. cond b (maps.get fds.slots (pair pid fd)) None) below in
+    subst (λ o. NoSlot (slot_closed tree fds (pair pid fd) o) (pair pid fd)) (sym is) (slot_gone tree fds (pair pid fd) (maps.get fds.slots (pair pid fd)) refl)
 
 closed_gone : (h : Held) (pid fd : ℕ) → nat_lt fd most_fds ≡ true → NoSlot (closed_if_meant false h pid fd) (pair pid fd)
 unfolding closed

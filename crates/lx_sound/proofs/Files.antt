@@ -49,7 +49,7 @@ use Rattle.lx_fcalls.specs.Close.{close}
 use Rattle.lx_fcalls.specs.Dup.{dup}
 use Rattle.lx_fcalls.specs.Dup3.{dup3, renamed}
 use Rattle.lx_fcalls.specs.Openat.{openat, opens_seen, opening, emptied_if}
-use Rattle.lx_fcalls.specs.Pipe2.{pipe2, with_end, end_of}
+use Rattle.lx_fcalls.specs.Pipe2.{pipe2, with_end}
 use Rattle.lx_fcalls.specs.Ftruncate.{ftruncate, truncates}
 use Rattle.lx_fcalls.specs.Lseek.{lseek, seeks, origin, landing, distant}
 use Rattle.lx_fcalls.specs.Moving.{has_space}
@@ -67,12 +67,13 @@ use Rattle.lx_sound.specs.Rooted.{is_directory}
 use Rattle.lx_sound.specs.Parts.{lives, PartsSound}
 use Rattle.lx_sound.proofs.Maps.{some_is, there_now}
 use Rattle.lx_sound.proofs.Together.{closed_together, closed_other}
-use Rattle.lx_sound.proofs.Fewer.{closed_fewer}
+use Rattle.lx_sound.proofs.Reached.{closed_reached}
+use Rattle.lx_sound.proofs.Fewer.{closed_fewer, closed_none}
 use Rattle.lx_sound.proofs.Paths.{names_bare}
 use Rattle.lx_sound.proofs.Trees.{Ends, reached_ends, absent_parent, absent_apart}
 use Rattle.lx_sound.proofs.Entries.{received_sound}
 use Rattle.lx_sound.proofs.Changes.{Change, Takes, Prints, Names, Loses, Opens, Pipes, Seeks, Holds, Makes, Writes, Unlinks, IsRemovable, IsDue, done}
-use Rattle.lx_sound.proofs.Keeping.{Keeps, keeps_all, keeps_done, keeps_two, keeps_then, changed_keeps, DoesKeep, KeptIf, either_kept, unless_kept, given_kept, granted_kept, gives_kept}
+use Rattle.lx_sound.proofs.Keeping.{Keeps, keeps_all, keeps_done, keeps_two, changed_keeps, DoesKeep, KeptIf, either_kept, unless_kept, given_kept, granted_kept, gives_kept}
 
 -- a slot below the most descriptors
 slot_is : (fds : FdTable) (p fd : ℕ) (named : Slot) → opens.slot fds p fd ≡ Some named → maps.get fds.slots (opens.pair p fd) ≡ Some named
@@ -101,6 +102,23 @@ found_below q a (suc n) fd is = go (q a) is (found_below q (a + 1) n fd)
     go : (b : Bool) → cond b (Some a) (find q (range_with_len (a + 1) n)) ≡ Some fd → (find q (range_with_len (a + 1) n) ≡ Some fd → fd < a + 1 + n) → fd < a + suc n
     go true e later = let same : a ≡ fd = some_is a fd e in omega (arith, same)
     go false e later = let less = later e in omega (arith, less)
+
+-- and names nothing
+found_is : (q : ℕ → Bool) (a n fd : ℕ) → find q (range_with_len a n) ≡ Some fd → q fd ≡ true
+found_is q a zero fd is = absurd (cc is)
+found_is q a (suc n) fd is = go (q a) refl is (found_is q (a + 1) n fd)
+  where
+    go : (b : Bool) → q a ≡ b → cond b (Some a) (find q (range_with_len (a + 1) n)) ≡ Some fd → (find q (range_with_len (a + 1) n) ≡ Some fd → q fd ≡ true) → q fd ≡ true
+    go true here e later = subst (λ i. q i ≡ true) (some_is a fd e) here
+    go false other e later = later e
+
+free_none : (slots : SlotMap) (p fd : ℕ) → opens.free slots p ≡ Some fd → maps.get slots (opens.pair p fd) ≡ None
+unfolding opens.free
+free_none slots p fd is = go (maps.get slots (opens.pair p fd)) (found_is (λ i. is_none (maps.get slots (opens.pair p i))) 0 most_fds fd is)
+  where
+    go : (o : Option Slot) → is_none o ≡ true → o ≡ None
+    go None e = refl
+    go (Some x) e = absurd (cc e)
 
 free_below : (slots : SlotMap) (p fd : ℕ) → opens.free slots p ≡ Some fd → fd < most_fds
 unfolding opens.free
@@ -149,7 +167,7 @@ module _ (child : ℕ) (s : Shared) (p : ℕ) (call : Call) (b : UserState) (h :
   abbrev Kept : Answers → Type 0
   Kept a = DoesKeep child s p a
 
-  keeps_one : (c : Change) → IsDue s c → Keeps s (done s p c)
+  keeps_one : (c : Change) → IsDue s p c → Keeps s (done s p c)
   keeps_one c due = keeps_done s p alive c due
 
   -- where the walk along a path argument ends
@@ -192,7 +210,7 @@ module _ (child : ℕ) (s : Shared) (p : ℕ) (call : Call) (b : UserState) (h :
       go None is e = refl
       go (Some n) is e = let there : is_some (maps.get s.tree.nodes n) ≡ true = h.files.names path n is in absurd (cc (there, e))
 
-  makes_due : (at : Place) (x : Node) → Ends s.tree at → seen s.tree at ≡ Absent → has_room s.tree ≡ true → size_of x ≡ 0 → IsDue s (Makes (path_of at) x)
+  makes_due : (at : Place) (x : Node) → Ends s.tree at → seen s.tree at ≡ Absent → has_room s.tree ≡ true → size_of x ≡ 0 → IsDue s p (Makes (path_of at) x)
   makes_due at x ends sees room empty =
       let none : node_at s.tree (path_of at) ≡ None = absent_is at.slashed (node_at s.tree (path_of at)) sees in
       (room, nothing_named (path_of at) none, absent_parent s.tree at h.rooted ends none, empty, absent_apart s.tree at h.rooted ends none)
@@ -209,13 +227,13 @@ module _ (child : ℕ) (s : Shared) (p : ℕ) (call : Call) (b : UserState) (h :
   close_kept : Kept (close s p call b)
   unfolding close
   close_kept = given_kept child s p (opens.slot s.fds p (low_argument call 0)) ebadf _ (λ named e.
-      let fd = low_argument call 0 in keeps_one (Loses (closed s.tree s.fds p fd)) ((λ x. closed_together s.tree s.fds x p fd), closed_fewer s.tree s.fds p fd))
+      let fd = low_argument call 0 in keeps_one (Loses (closed s.tree s.fds p fd)) ((λ x. closed_together s.tree s.fds x p fd), closed_fewer s.tree s.fds p fd, (λ x. closed_reached s.tree s.fds x p fd)))
 
   dup_kept : Kept (dup s p call b)
   unfolding dup
   dup_kept = given_kept child s p (opens.slot s.fds p (low_argument call 0)) ebadf _ (λ named is. given_kept child s p (opens.free s.fds.slots p) emfile _ (λ fd e.
       let copy : Slot = record { description = named.description; closes_on_exec = false } in
-      keeps_one (Names fd copy) (free_below s.fds.slots p fd e, h.files.slots (opens.pair p (low_argument call 0)) named (slot_is s.fds p (low_argument call 0) named is))))
+      keeps_one (Names fd copy) (free_below s.fds.slots p fd e, h.files.slots (opens.pair p (low_argument call 0)) named (slot_is s.fds p (low_argument call 0) named is), free_none s.fds.slots p fd e)))
 
   renames : (old new : ℕ) (named : Slot) (closes : Bool) → opens.slot s.fds p old ≡ Some named → nat_lt new most_fds ≡ true → not (old == new) ≡ true → Keeps s (renamed s p new named.description closes (closed s.tree s.fds p new))
   renames old new named closes is below other =
@@ -224,8 +242,8 @@ module _ (child : ℕ) (s : Shared) (p : ℕ) (call : Call) (b : UserState) (h :
       let x : Slot = record { description = named.description; closes_on_exec = closes } in
       let unlike : (key == opens.pair p new) ≡ false = grind (arith, nat_tests, other) in
       let left : HoldTogether c.tree c.fds = closed_together s.tree s.fds h.files p new in
-      keeps_two s p alive (Loses c) (Names new x) ((λ g. closed_together s.tree s.fds g p new), closed_fewer s.tree s.fds p new)
-      (grind (arith, nat_tests, below), left.slots key named (closed_other s.tree s.fds p new key unlike ∙ slot_is s.fds p old named is))
+      keeps_two s p alive (Loses c) (Names new x) ((λ g. closed_together s.tree s.fds g p new), closed_fewer s.tree s.fds p new, (λ g. closed_reached s.tree s.fds g p new))
+      (grind (arith, nat_tests, below), left.slots key named (closed_other s.tree s.fds p new key unlike ∙ slot_is s.fds p old named is), closed_none s.tree s.fds p new below)
 
   dup3_kept : Kept (dup3 s p call b)
   unfolding dup3
@@ -233,17 +251,6 @@ module _ (child : ℕ) (s : Shared) (p : ℕ) (call : Call) (b : UserState) (h :
       unless_kept child s p (is_within (argument call 2) o_cloexec) einval _ (λ e0. given_kept child s p (opens.slot s.fds p (low_argument call 0)) ebadf _ (λ named is.
       unless_kept child s p (nat_lt (low_argument call 1) most_fds) ebadf _ (λ below. unless_kept child s p (not (low_argument call 0 == low_argument call 1)) einval _ (λ other.
       renames (low_argument call 0) (low_argument call 1) named (has (argument call 2) o_cloexec) is below other))))
-
-  pipes_keep : (first second : ℕ) (closes : Bool) → first < most_fds → second < most_fds →
-      let pipe = vacant s.fds.pipes in
-      Keeps s (with_fds s (with_end (with_end (opens.with_pipe s.fds pipe []) p first (ReadEnd pipe) true closes) p second (WriteEnd pipe) false closes))
-  pipes_keep first second closes low lower =
-      let pipe = vacant s.fds.pipes in
-      let zero : Shared = done s p Pipes in
-      let there : is_some (maps.get zero.fds.pipes pipe) ≡ true = ap is_some (there_now nat_cmp_total s.fds.pipes pipe []) in
-      let one : Change = Opens first (end_of (ReadEnd pipe) true) closes in
-      let two : Change = Opens second (end_of (WriteEnd pipe) false) closes in
-      keeps_then s zero (done (done zero p one) p two) (keeps_one Pipes tt) (keeps_two zero p alive one two (low, there, refl) (lower, there, refl))
 
   pipe2_kept : Kept (pipe2 s p call b)
   unfolding pipe2
@@ -253,7 +260,7 @@ module _ (child : ℕ) (s : Shared) (p : ℕ) (call : Call) (b : UserState) (h :
       let one : ℕ → FdTable = λ first. with_end (opens.with_pipe s.fds pipe []) p first (ReadEnd pipe) true closes in
       unless_kept child s p (is_within (argument call 1) o_cloexec) einval _ (λ e0. given_kept child s p (opens.free s.fds.slots p) emfile _ (λ first e1.
       given_kept child s p (opens.free (one first).slots p) emfile _ (λ second e2.
-      gives_kept child s p (with_fds s (with_end (one first) p second (WriteEnd pipe) false closes)) b (argument call 0) (to_le_bytes w32 first ++ to_le_bytes w32 second) 0 (pipes_keep first second closes (free_below s.fds.slots p first e1) (free_below (one first).slots p second e2)))))
+      gives_kept child s p (with_fds s (with_end (one first) p second (WriteEnd pipe) false closes)) b (argument call 0) (to_le_bytes w32 first ++ to_le_bytes w32 second) 0 (keeps_one (Pipes first second closes) (free_below s.fds.slots p first e1, free_below (one first).slots p second e2, free_none s.fds.slots p first e1, free_none (one first).slots p second e2)))))
 
   moves_keep : (n offset : ℕ) → offset ≤ largest_file → Keeps s (with_fds s (opens.with_offset s.fds n offset))
   moves_keep n offset le = keeps_one (Seeks n offset) le
@@ -360,22 +367,22 @@ module _ (child : ℕ) (s : Shared) (p : ℕ) (call : Call) (b : UserState) (h :
   unfolding getcwd
   getcwd_kept = unless_kept child s p (nat_le (length (shown (directory s p))) (argument call 1)) erange _ (λ e. gives_kept child s p s b _ _ _ (keeps_all s))
 
-  opens_new_keep : (fd flags : ℕ) (at : Place) → fd < most_fds → Ends s.tree at → seen s.tree at ≡ Absent → has_room s.tree ≡ true → Keeps s (record s {
+  opens_new_keep : (fd flags : ℕ) (at : Place) → fd < most_fds → maps.get s.fds.slots (opens.pair p fd) ≡ None → Ends s.tree at → seen s.tree at ≡ Absent → has_room s.tree ≡ true → Keeps s (record s {
     tree = created s.tree (path_of at) (File []);
     fds = opens.opened s.fds p fd (opening (vacant s.tree.nodes) flags) (has flags o_cloexec);
   })
-  opens_new_keep fd flags at below ends sees room =
+  opens_new_keep fd flags at below free ends sees room =
       keeps_two s p alive (Makes (path_of at) (File [])) (Opens fd (opening (vacant s.tree.nodes) flags) (has flags o_cloexec)) (makes_due at (File []) ends sees room refl)
-      (below, ap is_file (there_now nat_cmp_total s.tree.nodes (vacant s.tree.nodes) (File [])), refl)
+      (below, ap is_file (there_now nat_cmp_total s.tree.nodes (vacant s.tree.nodes) (File [])), refl, free)
 
-  empties_due : (fds : FdTable) (node : ℕ) → IsDue (with_fds s fds) (Writes node (λ old. []))
+  empties_due : (fds : FdTable) (node : ℕ) → IsDue (with_fds s fds) p (Writes node (λ old. []))
   empties_due fds node = let le = h.within.contents in (omega arith, grind (arith, nat_tests, le))
 
-  opens_file_keep : (fd flags node : ℕ) → fd < most_fds → is_file (maps.get s.tree.nodes node) ≡ true → Keeps s (record s {
+  opens_file_keep : (fd flags node : ℕ) → fd < most_fds → maps.get s.fds.slots (opens.pair p fd) ≡ None → is_file (maps.get s.tree.nodes node) ≡ true → Keeps s (record s {
     tree = emptied_if (has flags o_trunc) s.tree node;
     fds = opens.opened s.fds p fd (opening node flags) (has flags o_cloexec);
   })
-  opens_file_keep fd flags node below there = go (has flags o_trunc)
+  opens_file_keep fd flags node below free there = go (has flags o_trunc)
     where
       fds : FdTable
       fds = opens.opened s.fds p fd (opening node flags) (has flags o_cloexec)
@@ -384,16 +391,16 @@ module _ (child : ℕ) (s : Shared) (p : ℕ) (call : Call) (b : UserState) (h :
       opens_it = Opens fd (opening node flags) (has flags o_cloexec)
 
       go : (t : Bool) → Keeps s (record s { tree = emptied_if t s.tree node; fds = fds })
-      go true = keeps_two s p alive opens_it (Writes node (λ old. [])) (below, there, refl) (empties_due fds node)
-      go false = keeps_one opens_it (below, there, refl)
+      go true = keeps_two s p alive opens_it (Writes node (λ old. [])) (below, there, refl, free) (empties_due fds node)
+      go false = keeps_one opens_it (below, there, refl, free)
 
   opens_kept : (flags : ℕ) (at : Place) → Ends s.tree at → (sight : Lookup) → seen s.tree at ≡ sight → Kept (opens_seen s p b flags at sight)
   opens_kept flags at ends Absent sees =
       unless_kept child s p (has flags o_creat) enoent _ (λ e. unless_kept child s p (not at.slashed) eisdir _ (λ e1. given_kept child s p (opens.free s.fds.slots p) emfile _ (λ fd e2. unless_kept child s p (has_room s.tree) enospc _ (λ e3.
-      opens_new_keep fd flags at (free_below s.fds.slots p fd e2) ends sees e3))))
+      opens_new_keep fd flags at (free_below s.fds.slots p fd e2) (free_none s.fds.slots p fd e2) ends sees e3))))
   opens_kept flags at ends IsFile sees =
       unless_kept child s p (not (has flags o_creat && has flags o_excl)) eexist _ (λ e. given_kept child s p (opens.free s.fds.slots p) emfile _ (λ fd e1. given_kept child s p (maps.get s.tree.names (path_of at)) enoent _ (λ node named.
-      opens_file_keep fd flags node (free_below s.fds.slots p fd e1) (seen_file s.tree at node sees named))))
+      opens_file_keep fd flags node (free_below s.fds.slots p fd e1) (free_none s.fds.slots p fd e1) (seen_file s.tree at node sees named))))
   opens_kept flags at ends IsDirectory sees = tt
   opens_kept flags at ends NotDirectory sees = tt
 

@@ -36,7 +36,7 @@ module _ (s : Shared) where
   keeps_all = record { parts = λ h. h; entries = entries_stay s.entries; words = refl; limits = refl }
 
   -- a change that is due, of a process that lives
-  pub keeps_done : (p : ℕ) → lives (maps.get s.entries p) ≡ true → (c : Change) → IsDue s c → Keeps s (done s p c)
+  pub keeps_done : (p : ℕ) → lives (maps.get s.entries p) ≡ true → (c : Change) → IsDue s p c → Keeps s (done s p c)
   keeps_done p alive c due = record { parts = λ h. parts_done s p h alive c due; entries = entries_kept s p c due; words = ended_kept s p c; limits = limits_kept s p c }
 
   -- other entries, whoever changes them
@@ -55,7 +55,7 @@ keeps_then s t u h g = record {
 }
 
 -- one change after another
-pub keeps_two : (s : Shared) (p : ℕ) → lives (maps.get s.entries p) ≡ true → (c d : Change) → IsDue s c → IsDue (done s p c) d → Keeps s (done (done s p c) p d)
+pub keeps_two : (s : Shared) (p : ℕ) → lives (maps.get s.entries p) ≡ true → (c d : Change) → IsDue s p c → IsDue (done s p c) p d → Keeps s (done (done s p c) p d)
 keeps_two s p alive c d due due' = keeps_then s (done s p c) (done (done s p c) p d) (keeps_done s p alive c due) (keeps_done (done s p c) p (lives_after s p c due alive) d due')
 
 module _ (s t : Shared) (tasks : ℕ → Task UserState) (child : ℕ) where

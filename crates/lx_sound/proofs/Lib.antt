@@ -3,6 +3,7 @@ pub mod Paths
 pub mod Trees
 pub mod Fewer
 pub mod Together
+pub mod Reached
 pub mod Masks
 pub mod Entries
 pub mod Changes

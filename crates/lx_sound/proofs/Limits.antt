@@ -1,11 +1,10 @@
 -- No turn changes how many processes there may be.
-use Rattle.std.proofs.Common.{◌≡◌, ℕ, Bool, true, false, List, [], ◌∷◌, Option, Some, None, refl, sym, subst, ap, ◌∙◌}
+use Rattle.std.proofs.Common.{◌≡◌, ℕ, Bool, true, false, List, [], ◌∷◌, Option, Some, None, refl, subst, ap, ◌∙◌}
 use Rattle.std.specs.FinMap as maps
 use Rattle.rv_hart.specs.declared.outcome.Step.{Step}
 use Rattle.rv_hart.specs.declared.outcome.Step.TheVariants as step
 use Rattle.rv_hart.specs.Steps.{Outcome, stepped as instruction}
 use Rattle.lx_abi.specs.Log.{entries, items_of}
-use Rattle.lx_abi.specs.declared.boot.Boot.{Boot}
 use Rattle.lx_abi.specs.declared.log.Call.{Call}
 use Rattle.lx_abi.specs.declared.log.Cause.{Cause}
 use Rattle.lx_abi.specs.declared.script.Choice.{Choice}
@@ -22,21 +21,18 @@ use Rattle.lx_model.specs.declared.stage.Task.TheVariants as task
 use Rattle.lx_sig.specs.declared.state.Interrupted.{Interrupted}
 use Rattle.lx_proc.specs.declared.state.Shared.{Shared}
 use Rattle.lx_proc.specs.declared.state.UserState.{UserState}
-use Rattle.lx_proc.specs.declared.state.ProcessLimits.{ProcessLimits}
-use Rattle.lx_proc.specs.State.{limits_of}
 use Rattle.lx_proc.specs.Answers.{Answers}
-use Rattle.lx_boot.specs.Boots.{fault_of}
 use Rattle.lx_boot.specs.First.{first_shared}
 use Rattle.lx_exec.specs.Programs.{booted}
 use Rattle.lx_pcalls.specs.Ends.{buried}
-use Rattle.lx_pcalls.specs.Stops.{is_continued_at, settles}
+use Rattle.lx_pcalls.specs.Stops.{is_continued_at}
 use Rattle.lx_pcalls.specs.Taking.{takes}
 use Rattle.lx_turn.specs.Calls.{does}
 use Rattle.lx_turn.specs.Linux.{linux}
 use Rattle.lx_turn.specs.Reactions.{next_of, runs, resumed, ran_by, is_killed}
 use Rattle.lx_sound.specs.Sound.{Agree, IsSound}
 use Rattle.lx_sound.specs.Limits.{LimitsStay, KernelsKeepLimits}
-use Rattle.lx_sound.proofs.Keeping.{Keeps, DoesKeep}
+use Rattle.lx_sound.proofs.Keeping.{DoesKeep}
 use Rattle.lx_sound.proofs.Ends.{stopped_keeps, settles_keep, woken_keeps}
 use Rattle.lx_sound.proofs.Turns.{does_kept, takes_kept, TookKeeps, joins_kept, alive_is, first_sound, turns_stay_sound}
 

@@ -29,6 +29,7 @@ use Rattle.lx_sound.specs.Parts.{lives, EntrySound, PartsSound}
 use Rattle.lx_pcalls.proofs.ProcessAnswers.{OfProcesses}
 use Rattle.lx_sound.proofs.Masks.{IsLeft, exec_signals, child_signals, popped_signals, sigaction_signals, sigprocmask_signals}
 use Rattle.lx_sound.proofs.Together.{exec_together}
+use Rattle.lx_sound.proofs.Reached.{exec_reached}
 use Rattle.lx_sound.proofs.Fewer.{exec_fewer}
 use Rattle.lx_sound.proofs.Entries.{SameEntry, taken_same, taken_sound, signals_sound, received_sound}
 use Rattle.lx_sound.proofs.Changes.{Loses, done}
@@ -76,7 +77,7 @@ renewed_keeps s p alive =
     let left : Held = closed_on_exec s.tree s.fds p in
     let shut : Shared = done s p (Loses left) in
     keeps_then s shut (renewed s p)
-    (keeps_done s p alive (Loses left) ((λ x. exec_together s.tree s.fds x p), exec_fewer s.tree s.fds p))
+    (keeps_done s p alive (Loses left) ((λ x. exec_together s.tree s.fds x p), exec_fewer s.tree s.fds p, (λ x. exec_reached s.tree s.fds x p)))
     (changed_keeps shut p (λ e. with_signals e (after_exec e.signals)) (λ e. refl) (λ e h. signals_sound left.tree e (after_exec e.signals) (exec_signals e.signals h.signals) h))
 
 leaves_kept : (child : ℕ) (s : Shared) (p : ℕ) (b : UserState) (o : Outcome) → IsLeft o → DoesKeep child s p (leaves s p b o)

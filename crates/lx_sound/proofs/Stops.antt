@@ -1,7 +1,7 @@
 -- Each process's signals say where it stands, whoever takes a turn.
 use Rattle.std.proofs.Common.{◌≡◌, ℕ, Bool, true, false, cond, List, [], ◌∷◌, Option, Some, None, refl, ap, sym, subst, ◌∙◌, arith, ⊎_elim}
 use Rattle.std.proofs.lemmas.Bool.Decides.{nat_tests}
-use Rattle.std.specs.Prelude.{◌==◌, ◌||◌, is_some, not}
+use Rattle.std.specs.Prelude.{◌==◌, is_some}
 use Rattle.std.specs.Cmp.{nat_cmp_total}
 use Rattle.std.specs.Ordering.{nat_cmp}
 use Rattle.std.specs.FinMap as maps
@@ -12,7 +12,6 @@ use Rattle.rv_hart.specs.declared.outcome.FaultKind.TheVariants as fault
 use Rattle.rv_hart.specs.Steps.{Outcome, stepped as instruction}
 use Rattle.lx_abi.specs.Log.{entries, items_of}
 use Rattle.lx_abi.specs.Signals.{is_stop}
-use Rattle.lx_abi.specs.declared.boot.Boot.{Boot}
 use Rattle.lx_abi.specs.declared.log.Call.{Call}
 use Rattle.lx_abi.specs.declared.log.Cause.{Cause}
 use Rattle.lx_abi.specs.declared.log.Cause.TheVariants.{Kernel as By_kernel}
@@ -34,12 +33,11 @@ use Rattle.lx_sig.specs.declared.state.Interrupted.{Interrupted}
 use Rattle.lx_sig.specs.declared.state.Job.{Job}
 use Rattle.lx_sig.specs.declared.state.Job.TheVariants.{Free, AtStop}
 use Rattle.lx_proc.specs.Answers.{Answers}
-use Rattle.lx_proc.specs.Sending.{receives, sent}
-use Rattle.lx_proc.specs.State.{Entries, changed, changed_entry, with_entries, with_news, with_signals}
+use Rattle.lx_proc.specs.Sending.{receives}
+use Rattle.lx_proc.specs.State.{Entries, changed, changed_entry, with_entries, with_signals}
 use Rattle.lx_proc.specs.declared.state.Entry.{Entry}
 use Rattle.lx_proc.specs.declared.state.Shared.{Shared}
 use Rattle.lx_proc.specs.declared.state.UserState.{UserState}
-use Rattle.lx_boot.specs.Boots.{fault_of}
 use Rattle.lx_boot.specs.First.{first_entry, first_shared}
 use Rattle.lx_exec.specs.Programs.{booted}
 use Rattle.lx_pcalls.specs.Clone.{child_entry}

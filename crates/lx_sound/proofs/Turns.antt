@@ -27,7 +27,10 @@ use Rattle.lx_abi.specs.declared.signal.Signal.{Signal}
 use Rattle.lx_files.specs.Boots.{rooted, ends_directory, is_there, with_directory_at, with_directories, with_file, tree_of}
 use Rattle.lx_files.specs.Trees.{created}
 use Rattle.lx_files.specs.declared.tree.Tree.{Tree}
-use Rattle.lx_open.specs.Opens.{pair, no_fds}
+use Rattle.containers.specs.Vacant.{vacant}
+use Rattle.lx_open.specs.Opens.{pair, no_fds, IsFree, opened}
+use Rattle.lx_open.specs.declared.description.Description.{Description}
+use Rattle.lx_open.specs.declared.fd_table.FdTable.{FdTable}
 use Rattle.lx_open.specs.declared.description.Slot.{Slot}
 use Rattle.lx_open.specs.declared.description.Object.TheVariants.{Input, Console}
 use Rattle.lx_model.specs.Machine.{with_result, Refused, Returns, Jumps, Execs, Bears, Blocks, Ends, Took, Passes, Stops, Kills}
@@ -326,6 +329,7 @@ unfolding bare_shared
 bare_parts boot none =
     let within : IsWithin boot.files = boots_within boot none in record {
       files = planted rooted boot.files (created_together (record { names = maps.empty; nodes = maps.empty }) no_fds bare [] Directory);
+      reached = within.reached;
       rooted = within.rooted;
       entries = put_sound (tree_of boot.files) maps.empty 1 first_entry (record { directory = within.rooted.root; signals = first_signals }) (λ p e is. absurd (none_there p e is));
       owned = λ p fd below there. absurd (let no : is_some (maps.get (maps.empty {X = Slot} {R = nat_cmp}) (pair p fd)) ≡ false = ap is_some (maps.get-empty nat_cmp (pair p fd)) in cc (no, there));
@@ -336,6 +340,9 @@ bare_parts boot none =
         offsets = λ n d is. absurd (none_there n d is);
       };
     }
+
+still_free : (fds : FdTable) (fd later : ℕ) (d : Description) → (pair 1 later == pair 1 fd) ≡ false → IsFree fds 1 later → IsFree (opened fds 1 fd d false) 1 later
+still_free fds fd later d other none = inserted_other fds.slots (pair 1 fd) (record { description = vacant fds.descriptions; closes_on_exec = false }) (pair 1 later) other ∙ none
 
 -- with the three that process 1 begins with
 first_parts : (boot : Boot) → fault_of boot ≡ None → PartsSound (first_shared boot.limits boot.files boot.input)
@@ -348,10 +355,12 @@ first_parts boot none =
     let one : Shared = done s 1 input in
     let two : Shared = done one 1 output in
     let alive : is_living (maps.get s.entries 1) ≡ true = ap is_living (there_now nat_cmp_total maps.empty 1 first_entry) in
+    let free_1 = still_free no_fds 0 1 (reads Input) refl (maps.get-empty nat_cmp (pair 1 1)) in
+    let free_2 = still_free one.fds 1 2 (writes Console) refl (still_free no_fds 0 2 (reads Input) refl (maps.get-empty nat_cmp (pair 1 2))) in
     let below_0 : 0 < most_fds = omega arith in
     let below_1 : 1 < most_fds = omega arith in
     let below_2 : 2 < most_fds = omega arith in
-    parts_done two 1 (parts_done one 1 (parts_done s 1 (bare_parts boot none) alive input (below_0, refl, refl)) alive output (below_1, refl, refl)) alive errors (below_2, refl, refl)
+    parts_done two 1 (parts_done one 1 (parts_done s 1 (bare_parts boot none) alive input (below_0, refl, refl, maps.get-empty nat_cmp (pair 1 0))) alive output (below_1, refl, refl, free_1)) alive errors (below_2, refl, refl, free_2)
 
 one_lives : (n : ℕ) → maps.len (maps.insert (maps.empty {X = Entry} {R = nat_cmp}) 1 first_entry) ≤ max 1 n
 one_lives n =

@@ -1,4 +1,5 @@
 pub mod Together
+pub mod Reached
 pub mod Rooted
 pub mod Within
 pub mod Masks

@@ -12,6 +12,7 @@ use Rattle.lx_proc.specs.declared.state.Life.TheVariants.{Alive, Dying, Zombie}
 use Rattle.lx_proc.specs.declared.state.Shared.{Shared}
 use Rattle.lx_proc.specs.State.{Entries}
 use Rattle.lx_sound.specs.Together.{HoldTogether}
+use Rattle.lx_sound.specs.Reached.{AreReached}
 use Rattle.lx_sound.specs.Rooted.{is_directory, IsRooted}
 use Rattle.lx_sound.specs.Within.{AreWithin}
 use Rattle.lx_sound.specs.Masks.{AreSignals}
@@ -39,6 +40,7 @@ AreOwned fds m = (p fd : ℕ) → fd < most_fds → IsSome (maps.get fds.slots (
 
 pub record PartsSound (s : Shared) : Type 0 where
   pub files : HoldTogether s.tree s.fds
+  pub reached : AreReached s.tree s.fds
   pub rooted : IsRooted s.tree
   pub entries : EntriesSound s.tree s.entries
   pub owned : AreOwned s.fds s.entries

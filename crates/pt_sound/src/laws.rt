@@ -1,5 +1,6 @@
 //! What holds in every state of the ptrace machine.
 
+ghost use Rattle.pt_sound.specs.Families.{TurnsKeepFamilies, RequestsKeepFamilies, WorldsHaveFamilies};
 ghost use Rattle.pt_sound.specs.Traced.{TurnsStaySound, RequestsStaySound, WorldsAreSound, HostsAreSound};
 
 use lx_proc::{Shared, UserState};
@@ -14,3 +15,10 @@ pub fn traced_states_stay_sound()
 {
     hosts_run_alike::<Shared, UserState>();
 }
+
+/// Traced processes have families as untraced ones do: turns and requests keep this, and a boot begins so.
+pub fn traced_families_hold()
+    ensures turn { TurnsKeepFamilies }
+    ensures request { RequestsKeepFamilies }
+    ensures worlds { WorldsHaveFamilies }
+{}

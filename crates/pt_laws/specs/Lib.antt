@@ -1,0 +1,3 @@
+pub mod Stops
+pub mod Polite
+pub mod Hosts

@@ -1,0 +1,4 @@
+//! Laws of all states of the ptrace machine, whoever its client is.
+#![tactic(auto)]
+
+pub mod laws;
