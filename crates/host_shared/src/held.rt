@@ -96,7 +96,13 @@ impl Held {
                 failed: false,
                 news,
             }),
-            _ => Err(BootFault::Memory),
+            (kept, news) => {
+                // An implicit drop of these takes the prover many minutes.
+                drop(kept);
+                drop(news);
+                drop(host);
+                Err(BootFault::Memory)
+            }
         }
     }
 
