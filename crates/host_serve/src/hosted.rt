@@ -34,7 +34,11 @@ fn booted(alloc: Global, boot: Boot, limit: u64, words: Seq<Word>) -> Result<Loc
     };
     match copied(alloc, &words) {
         Ok(words) => Ok(LocalLink::new(host, Schedule::words(words, limit))),
-        Err(_) => Err(BootFault::Memory),
+        Err(_) => {
+            // An implicit drop of a host takes the prover many minutes.
+            drop(host);
+            Err(BootFault::Memory)
+        }
     }
 }
 
