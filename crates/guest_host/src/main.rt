@@ -9,7 +9,13 @@ fn main(rt: HostRuntime) -> ExitCode {
     let mut out = rt.stdout();
     let mut err = rt.stderr();
     let status = match front_end::start(&rt) {
-        Ok(start) => command(&rt, start.words.as_slice(), &mut input, &mut out, &mut err),
+        Ok(started) => command(
+            &rt,
+            started.words.as_slice(),
+            &mut input,
+            &mut out,
+            &mut err,
+        ),
         Err(fault) => tell(fault, &mut err),
     };
     ExitCode::from(status)

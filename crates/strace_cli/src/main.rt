@@ -8,7 +8,7 @@ fn main(rt: HostRuntime) -> ExitCode {
     let mut input = rt.stdin();
     let mut err = rt.stderr();
     let status = match front_end::start(&rt) {
-        Ok(start) => command(&rt, start.words.as_slice(), &mut input, rt.stdout(), err),
+        Ok(started) => command(&rt, started.words.as_slice(), &mut input, rt.stdout(), err),
         Err(fault) => tell(fault, &mut err),
     };
     ExitCode::from(status)
