@@ -40,6 +40,6 @@ pub use program::Program;
 pub use reading::{read_input, read_text};
 pub use reporting::{print_help, report};
 pub use shown::Shown;
-pub use start::{Started, start};
+pub use start::{Begun, begin};
 pub use turns::read_turns;
 pub use waits::explain_turns;

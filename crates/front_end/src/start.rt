@@ -15,7 +15,7 @@ const STREAMS: usize = 3;
 
 /// The words that a program was started with, and what holds the numbers of standard streams that were closed.
 #[derive(Drop)]
-pub struct Started<F: Drop> {
+pub struct Begun<F: Drop> {
     /// The program's name first.
     pub words: Vec<String>,
     held: Vec<F>,
@@ -49,8 +49,8 @@ fn fault_of<R: AllocGlobal>(rt: &R, error: io::Error) -> Fault {
 }
 
 /// What the program is started with. It is kept as long as files are opened.
-pub fn start<R: Env + Files + AllocGlobal>(rt: &R) -> Result<Started<R::File>, Fault> {
+pub fn begin<R: Env + Files + AllocGlobal>(rt: &R) -> Result<Begun<R::File>, Fault> {
     let held = hold_streams(rt)?;
     let words = arguments(rt)?;
-    Ok(Started { words, held })
+    Ok(Begun { words, held })
 }

@@ -8,14 +8,8 @@ fn main(rt: HostRuntime) -> ExitCode {
     let mut input = rt.stdin();
     let mut out = rt.stdout();
     let mut err = rt.stderr();
-    let status = match front_end::start(&rt) {
-        Ok(started) => command(
-            &rt,
-            started.words.as_slice(),
-            &mut input,
-            &mut out,
-            &mut err,
-        ),
+    let status = match front_end::begin(&rt) {
+        Ok(begun) => command(&rt, begun.words.as_slice(), &mut input, &mut out, &mut err),
         Err(fault) => tell(fault, &mut err),
     };
     ExitCode::from(status)

@@ -7,8 +7,8 @@ use trace_command::{command, tell};
 fn main(rt: HostRuntime) -> ExitCode {
     let mut input = rt.stdin();
     let mut err = rt.stderr();
-    let status = match front_end::start(&rt) {
-        Ok(started) => command(&rt, started.words.as_slice(), &mut input, rt.stdout(), err),
+    let status = match front_end::begin(&rt) {
+        Ok(begun) => command(&rt, begun.words.as_slice(), &mut input, rt.stdout(), err),
         Err(fault) => tell(fault, &mut err),
     };
     ExitCode::from(status)
