@@ -97,15 +97,21 @@ impl Host {
         ensures refused { (e : BootFault) → fault_of boot ≡ Some e → result ≡ Err e }
     {
         let kernel = Kernel::boot_without_log(alloc, boot, Script::empty(alloc))?;
-        let tracees = Tracees::new(alloc)?;
-        Ok(Host {
-            alloc,
-            kernel,
-            tracees,
-            turns: Turns::new(alloc),
-            pending: Pending::none(),
-            failed: false,
-        })
+        match Tracees::new(alloc) {
+            Ok(tracees) => Ok(Host {
+                alloc,
+                kernel,
+                tracees,
+                turns: Turns::new(alloc),
+                pending: Pending::none(),
+                failed: false,
+            }),
+            Err(_) => {
+                // An implicit drop of a kernel takes the prover many minutes.
+                drop(kernel);
+                Err(BootFault::Memory)
+            }
+        }
     }
 
     /// Puts a request, which a Serve will answer. Where one is pending nothing changes. A host is booted before it is

@@ -17,5 +17,5 @@ invariant_of-result c = λ e.
     record {
       empty = ap (λ (k : KernelRun). k.script) first ∙ c.empty.ensures;
       swept = subst (λ (k : KernelRun). IsSwept k.running) (sym first) (swept_first s b);
-      fresh = λ q l. ap (λ (x : Tracees). maps.get x.traced q) c.in_ok-tracees.ensures ∙ (hosts_begin_alike s b).1 q (subst (λ (k : KernelRun). k.running.child ≤ q) first l);
+      fresh = λ q l. ap (λ (x : Tracees). maps.get x.traced q) c.in-Ok.ensures ∙ (hosts_begin_alike s b).1 q (subst (λ (k : KernelRun). k.running.child ≤ q) first l);
     }
