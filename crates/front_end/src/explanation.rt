@@ -1,7 +1,7 @@
 //! Why an expression is refused, in words: which part of it, what the part may be, and the nearest name.
 
 use crate::expressions::RefusedExpression;
-use crate::names::{Names, nearest};
+use crate::names::{Names, call_of, nearest};
 use crate::shown::{Escaped, Shown};
 use std::alloc::{AllocError, Global};
 use tr_expr::{ExprFault, parse_expr};
@@ -142,6 +142,9 @@ fn explain_call(alloc: Global, text: &str, item: &str) -> Result<String, AllocEr
     if matches!(item, "file" | "desc" | "process" | "signal" | "memory") {
         return format!(in alloc; "no call is named {item}; %{item} is the class");
     }
+    if let Some(call) = call_of(item) {
+        return format!(in alloc; "no call is named {item}; {call} is");
+    }
     let near = near(alloc, Names::Calls, item, "")?;
     format!(in alloc; "no call is named {}{near}", Shown(item))
 }
@@ -206,6 +209,22 @@ fn explain_when(alloc: Global, part: &str) -> Result<String, AllocError> {
     }
 }
 
+/// What is wrong with a part after `fault=` that begins with this key, and what the key is near to.
+fn explain_part_of_fault(
+    alloc: Global,
+    key: &str,
+    part: &str,
+    near: &str,
+) -> Result<String, AllocError> {
+    if near.is_empty() || matches!(key, "error" | "retval" | "signal" | "when") {
+        return format!(in alloc;
+            "fault= takes error= and when=, and not {}; inject= takes retval= and signal= too",
+            Shown(part)
+        );
+    }
+    format!(in alloc; "no part is named {}{near}", Shown(key))
+}
+
 fn explain_part(alloc: Global, cut: Pieces<'_>, part: &str) -> Result<String, AllocError> {
     let key = part.split_once('=').map_or(part, |(key, _)| key);
     if matches!(
@@ -214,16 +233,13 @@ fn explain_part(alloc: Global, cut: Pieces<'_>, part: &str) -> Result<String, Al
     ) {
         return format!(in alloc; "{key}= is strace's and not here");
     }
+    let near = near(alloc, Names::Parts, key, "")?;
     if cut.start == "fault=" {
-        return format!(in alloc;
-            "fault= takes error= and when=, and not {}; inject= takes retval= and signal= too",
-            Shown(part)
-        );
+        return explain_part_of_fault(alloc, key, part, near.as_str());
     }
     if matches!(key, "error" | "retval" | "signal" | "when") {
         return format!(in alloc; "{key} needs a value, as {key}=VALUE");
     }
-    let near = near(alloc, Names::Parts, key, "")?;
     format!(in alloc;
         "no part is named {}{near}; the parts are error=, retval=, signal= and when=",
         Shown(key)

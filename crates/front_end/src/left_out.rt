@@ -7,7 +7,7 @@ const LEFT_OUT: [(&str, &str); 73] = [
     ("-D", "traces from a detached process"),
     ("-F", "is an old name of -f"),
     ("-I", "says when signals stop it"),
-    ("-N", "leaves out failing calls' names"),
+    ("-N", "shows the names of arguments"),
     ("-O", "sets the cost of a call"),
     ("-P", "traces the calls on a path"),
     ("-S", "sorts counts"),

@@ -15,6 +15,43 @@ pub enum Names {
     Parts,
 }
 
+/// Functions of a C library, each with the call that it makes.
+const FUNCTIONS: [(&str, &str); 25] = [
+    ("_exit", "exit_group"),
+    ("creat", "openat"),
+    ("dup2", "dup3"),
+    ("execl", "execve"),
+    ("execlp", "execve"),
+    ("execv", "execve"),
+    ("execvp", "execve"),
+    ("fork", "clone"),
+    ("lstat", "newfstatat"),
+    ("mkdir", "mkdirat"),
+    ("open", "openat"),
+    ("pipe", "pipe2"),
+    ("raise", "kill"),
+    ("rmdir", "unlinkat"),
+    ("sbrk", "brk"),
+    ("sigaction", "rt_sigaction"),
+    ("signal", "rt_sigaction"),
+    ("sigprocmask", "rt_sigprocmask"),
+    ("sigreturn", "rt_sigreturn"),
+    ("stat", "newfstatat"),
+    ("unlink", "unlinkat"),
+    ("vfork", "clone"),
+    ("wait", "wait4"),
+    ("wait3", "wait4"),
+    ("waitpid", "wait4"),
+];
+
+/// The call that a function of a C library makes.
+pub fn call_of(function: &str) -> Option<&'static str> {
+    FUNCTIONS
+        .iter()
+        .find(|(name, _)| *name == function)
+        .map(|(_, call)| *call)
+}
+
 /// The highest number of an error that has a name.
 const LAST_ERROR: u64 = 133;
 
