@@ -45,10 +45,10 @@ idle_at host None over is goes leaves = absurd (cc (sym is ∙ goes))
 
 pub reply_leaves_idle : (a b : LocalLink) (q : Request) (r : Reply) → Calls a q (Ok r) b → IsIdle b
 unfolding Calls
-reply_leaves_idle a b q r (inl c) goes = absurd (cc (sym goes ∙ c.1.1.1.1))
+reply_leaves_idle a b q r (inl c) goes = absurd (cc (sym goes ∙ c.1.1.1.1.0))
 reply_leaves_idle a b q r (inr c) goes =
     let serves = c.1.1.1.0 in
-    idle_at b.host c.1.1.0 b.over c.1.1.1.1.1 goes (λ reply is. fed_leaves serves.asked a.schedule serves.attends.fed (record { host = b.host; schedule = b.schedule; reply = c.1.1.0 }) reply is serves.attends.is_fed)
+    idle_at b.host c.1.1.0 b.over c.1.1.1.1.1.0 goes (λ reply is. fed_leaves serves.asked a.schedule serves.attends.fed (record { host = b.host; schedule = b.schedule; reply = c.1.1.0 }) reply is serves.attends.is_fed)
 
 pub idle_fails_for_memory : (a b : LocalLink) (q : Request) (f : LinkFault) → faults_of a ≡ 0 → given_of a < 2 ^ 40 → IsIdle a → is_boot q ≡ false → Calls a q (Err f) b → f ≡ Memory
 unfolding Calls

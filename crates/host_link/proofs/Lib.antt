@@ -1,3 +1,4 @@
+pub mod Answered
 mod Agreement
 mod Idle
 mod LinkLists

@@ -40,7 +40,7 @@ record Over (b c : LocalLink) (xs : List (Request × Reply)) : Type 0 where
 -- a call then answers so, and changes nothing
 over_call : (a b : LocalLink) (q : Request) (r : Reply) → is_over a ≡ true → Calls a q (Ok r) b → (r ≡ Out_of_turns) × (host_of b ≡ host_of a) × (is_over b ≡ true)
 unfolding Calls
-over_call a b q r over (inl c) = (c.1.0, c.1.1.0, c.1.1.1.1)
+over_call a b q r over (inl c) = (c.1.0, c.1.1.0, c.1.1.1.1.0)
 over_call a b q r over (inr c) = absurd (cc (sym over ∙ c.0))
 
 over_all : (xs : List (Request × Reply)) (b c : LocalLink) → is_over b ≡ true → AnswersAll b xs c → Over b c xs
@@ -120,7 +120,7 @@ module _ (called_so : HostsAreCalled) where
   unfolding Calls
   by_call xs a b c q r serving (inl k) rest again = absurd (cc (sym serving.going ∙ k.0))
   by_call xs a b c q r serving (inr k) rest again =
-      by_reply xs a b c q r k.1.1.0 k.1.1.1.0.attends.fed (serves_so (host_of a) (schedule_of a) q (after b k.1.1.0) serving.fresh serving.whole k.1.1.1.0) k.1.1.1.1.0 k.1.1.1.1.1 rest again
+      by_reply xs a b c q r k.1.1.0 k.1.1.1.0.attends.fed (serves_so (host_of a) (schedule_of a) q (after b k.1.1.0) serving.fresh serving.whole k.1.1.1.0) k.1.1.1.1.0 k.1.1.1.1.1.0 rest again
 
   serve_list : (xs : List (Request × Reply)) (a c : LocalLink) → IsServing a → AnswersAll a xs c → ServesList a (asks_of xs) (replies_of xs) c
   serve_list [] a c serving k = record {

@@ -1,9 +1,11 @@
 -- What a call of a link to a host in the tracer's own process may do.
-use Rattle.std.specs.Prelude.{◌≡◌, ◌⊎◌, ℕ, ◌^◌, Bool, true, false, cond, is_none, Option, Result, Ok, Err}
+use Rattle.std.specs.Prelude.{◌≡◌, ◌⊎◌, ℕ, ◌^◌, Bool, true, false, cond, is_none, List, Option, Result, Ok, Err}
 use Rattle.lx_abi.specs.declared.ptrace.Reply.{Reply}
 use Rattle.lx_abi.specs.declared.ptrace.Reply.TheVariants.{OutOfTurns as Out_of_turns}
 use Rattle.lx_abi.specs.declared.ptrace.Request.{Request}
+use Rattle.lx_abi.specs.declared.schedule.Event.{Event}
 use Rattle.pt_kernel.specs.Hosts.{HostState, is_boot}
+use Rattle.pt_kernel.specs.Noted.{noting}
 use Rattle.pt_schedule.specs.declared.schedule.Schedule.{Schedule}
 use Rattle.pt_model.specs.Ptrace.{is_there}
 use Rattle.host_link.specs.declared.fault.LinkFault.{LinkFault}
@@ -16,6 +18,10 @@ host_of l = l.host
 
 abbrev pub schedule_of : LocalLink → Schedule
 schedule_of l = l.schedule
+
+-- the events so far, where they are noted
+abbrev pub noted_of : LocalLink → Option (List Event)
+noted_of l = l.noted
 
 abbrev pub given_of : LocalLink → ℕ
 given_of l = l.given
@@ -36,12 +42,14 @@ IsUntouched a b = (b.host ≡ a.host) × (b.schedule ≡ a.schedule)
 
 unfoldable pub Calls : LocalLink → Request → Result Reply LinkFault → LocalLink → Type 0
 Calls a q (Ok r) b =
-    ((a.over ≡ true) × ((r ≡ Out_of_turns) × ((b.host ≡ a.host) × ((b.schedule ≡ a.schedule) × (b.over ≡ true)))))
+    ((a.over ≡ true)
+    × ((r ≡ Out_of_turns)
+    × ((b.host ≡ a.host) × ((b.schedule ≡ a.schedule) × ((b.over ≡ true) × (b.noted ≡ a.noted))))))
     ⊎ ((a.over ≡ false)
     × ((is_boot q ≡ false)
     × ((x : Option Reply)
-    × (Serves a.host a.schedule q (record { host = b.host; schedule = b.schedule; reply = x })
-    × ((r ≡ reply_or_over x) × (b.over ≡ is_none x))))))
+    × ((serves : Serves a.host a.schedule q (record { host = b.host; schedule = b.schedule; reply = x }))
+    × ((r ≡ reply_or_over x) × ((b.over ≡ is_none x) × (b.noted ≡ noting a.noted serves.attends.fed)))))))
 Calls a q (Err Ended) b = IsUntouched a b × ((a.is_broken ≡ true) ⊎ (is_boot q ≡ true))
 Calls a q (Err TooMany) b = IsUntouched a b × (a.given ≡ 2 ^ 40)
 Calls a q (Err Memory) b = b.host.failed ≡ true

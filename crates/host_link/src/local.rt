@@ -1,7 +1,7 @@
 //! A link to a host in the tracer's own process.
 
 ghost use Rattle.std.specs.Prelude.{◌≡◌, ◌≤◌, ◌^◌, true, false, is_none, Option, IfOk, IfErr, OnOk};
-ghost use Rattle.host_link.specs.Locals.{Serves, reply_or_over};
+ghost use Rattle.host_link.specs.Locals.{ServesNoting, reply_or_over};
 ghost use Rattle.pt_kernel.specs.Hosts.{is_boot};
 ghost use Rattle.lx_abi.specs.declared.ptrace.Reply.{Reply};
 ghost use Rattle.pt_model.specs.Ptrace.{is_there};
@@ -9,7 +9,8 @@ ghost use Rattle.pt_model.specs.Ptrace.{is_there};
 use crate::fault::LinkFault;
 use crate::link::{Link, MOST_REPLIES};
 use lx_abi::{Reply, Request};
-use pt_kernel::{Host, Schedule, attend};
+use pt_kernel::{Events, Host, Schedule, attend};
+use std::alloc::Global;
 
 /// A request that would boot a host again.
 fn is_boot(request: &Request) -> bool
@@ -27,22 +28,24 @@ enum Unserved {
     Failed,
 }
 
-/// Puts the request, and makes the events of the schedule until it is answered; none where the schedule has ended.
+/// Puts the request, and makes the events of the schedule until it is answered, which are noted; none where the schedule
+/// has ended.
 fn serve(
     host: &mut Host,
     schedule: &mut Schedule,
+    noted: &mut Events,
     request: Request,
 ) -> Result<Option<Reply>, Unserved>
     requires { is_boot request ≡ false }
-    ensures served { IfOk result (λ x. Serves host.old schedule.old request
-        (record { host = host.new; schedule = schedule.new; reply = x })) }
+    ensures served { IfOk result (λ x. ServesNoting host.old schedule.old noted.old request
+        (record { host = host.new; schedule = schedule.new; reply = x }) noted.new) }
     ensures busy { result ≡ Err Unserved.Busy → is_there host.old.hosting.pending ≡ true }
     ensures untouched { result ≡ Err Unserved.Busy → (host.new ≡ host.old) × (schedule.new ≡ schedule.old) }
     ensures failed { result ≡ Err Unserved.Failed → host.new.failed ≡ true }
 {
     match host.ask(request) {
         Err(_) => Err(Unserved::Busy),
-        Ok(()) => match attend(host, schedule) {
+        Ok(()) => match attend(host, schedule, noted) {
             Ok(reply) => Ok(reply),
             Err(_) => Err(Unserved::Failed),
         },
@@ -54,6 +57,7 @@ fn serve(
 pub struct LocalLink {
     host: Host,
     schedule: Schedule,
+    noted: Events,
     /// The schedule has ended.
     over: bool,
     given: u64,
@@ -62,11 +66,13 @@ pub struct LocalLink {
 }
 
 impl LocalLink {
-    ghost use Rattle.host_link.specs.LocalLinks.{host_of, schedule_of, given_of, faults_of, is_over};
+    ghost use Rattle.std.specs.Prelude.{None, Some, []};
+    ghost use Rattle.host_link.specs.LocalLinks.{host_of, schedule_of, noted_of, given_of, faults_of, is_over};
 
-    pub fn new(host: Host, schedule: Schedule) -> Self
+    fn with(host: Host, schedule: Schedule, noted: Events) -> Self
         ensures host { host_of result ≡ host }
         ensures schedule { schedule_of result ≡ schedule }
+        ensures noted { noted_of result ≡ noted }
         ensures given { given_of result ≡ 0 }
         ensures whole { faults_of result ≡ 0 }
         ensures going { is_over result ≡ false }
@@ -74,10 +80,34 @@ impl LocalLink {
         LocalLink {
             host,
             schedule,
+            noted,
             over: false,
             given: 0,
             is_broken: false,
         }
+    }
+
+    pub fn new(host: Host, schedule: Schedule) -> Self
+        ensures host { host_of result ≡ host }
+        ensures schedule { schedule_of result ≡ schedule }
+        ensures noted { noted_of result ≡ None }
+        ensures given { given_of result ≡ 0 }
+        ensures whole { faults_of result ≡ 0 }
+        ensures going { is_over result ≡ false }
+    {
+        LocalLink::with(host, schedule, Events::none())
+    }
+
+    /// The same, which notes the events of the run.
+    pub fn noting(alloc: Global, host: Host, schedule: Schedule) -> Self
+        ensures host { host_of result ≡ host }
+        ensures schedule { schedule_of result ≡ schedule }
+        ensures noted { noted_of result ≡ Some [] }
+        ensures given { given_of result ≡ 0 }
+        ensures whole { faults_of result ≡ 0 }
+        ensures going { is_over result ≡ false }
+    {
+        LocalLink::with(host, schedule, Events::noted(alloc))
     }
 
     /// The host as the run left it.
@@ -92,6 +122,14 @@ impl LocalLink {
         ensures { result ≡ host_of self }
     {
         self.host
+    }
+
+    /// And the events of the run, where they were noted.
+    pub fn into_parts(self) -> (Host, Events)
+        ensures host { result.0 ≡ host_of self }
+        ensures noted { result.1 ≡ noted_of self }
+    {
+        (self.host, self.noted)
     }
 }
 
@@ -121,7 +159,7 @@ impl Link for LocalLink {
             self.given += 1;
             return Ok(Reply::OutOfTurns);
         }
-        match serve(&mut self.host, &mut self.schedule, request) {
+        match serve(&mut self.host, &mut self.schedule, &mut self.noted, request) {
             Ok(Some(reply)) => {
                 self.given += 1;
                 Ok(reply)

@@ -8,6 +8,7 @@ pub mod Keeping
 pub mod NextAble
 pub mod Advancing
 pub mod Alike
+pub mod Noting
 pub mod Feeding
 pub mod Called
 pub mod Sights

@@ -6,6 +6,7 @@ use Rattle.pt_schedule.specs.declared.schedule.Schedule.{Schedule}
 use Rattle.pt_schedule.specs.Schedules.{next_of}
 use Rattle.pt_kernel.specs.Hosts.{HostState, readiness_of, event_of}
 use Rattle.pt_kernel.specs.Bursts.{after}
+use Rattle.pt_kernel.specs.Noted.{noting}
 
 -- where host and schedule stand in the end, and what was answered: none where the schedule ended before
 pub record Attended : Type 0 where
@@ -33,3 +34,9 @@ pub record Attends (h : HostState) (s : Schedule) (z : Attended) : Type 0 where
   -- the events that the schedule gave
   pub fed : List Event
   pub is_fed : IsFed h s fed z
+
+-- and they are noted
+pub record Notes (h : HostState) (s : Schedule) (noted : Option (List Event)) (z : Attended) (noted' : Option (List Event)) :
+    Type 0 where
+  pub attends : Attends h s z
+  pub noted_are : noted' ≡ noting noted attends.fed

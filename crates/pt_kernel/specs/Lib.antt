@@ -6,6 +6,7 @@ pub mod Asking
 pub mod Hosts
 pub mod Bursts
 pub mod Advances
+pub mod Noted
 pub mod Attends
 pub mod Seen
 pub mod Eager

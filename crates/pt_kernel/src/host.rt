@@ -175,6 +175,13 @@ impl Host {
         Ok(advanced.turns - 1)
     }
 
+    /// Memory was refused elsewhere: the host does nothing any more.
+    pub(crate) fn fail(&mut self)
+        ensures { IsTrue self.new.failed }
+    {
+        self.failed = true;
+    }
+
     /// The process stands where it runs instructions.
     fn is_in_run(&self, pid: u32) -> bool
         ensures { IsTrue result → mode_at self.now pid ≡ Some modes.Run }
@@ -263,6 +270,13 @@ impl Host {
         ensures { result ≡ (readiness_of self.now).able pid }
     {
         !self.failed && is_able(&self.kernel, &self.tracees, pid)
+    }
+
+    /// The kernel as it stands.
+    pub fn kernel(&self) -> &Kernel
+        ensures { result.now.running ≡ self.now.hosting.running }
+    {
+        &self.kernel
     }
 
     /// The effective turns so far.

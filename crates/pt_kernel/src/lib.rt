@@ -4,6 +4,7 @@
 pub mod answers;
 pub mod attending;
 pub mod eager;
+pub mod events;
 pub mod host;
 pub mod laws;
 pub mod pending;
@@ -13,6 +14,7 @@ pub mod stops;
 pub mod tracees;
 
 pub use attending::attend;
+pub use events::{EventRow, Events};
 pub use host::{Busy, Host};
 pub use pt_schedule::{Schedule, TurnRun};
 pub use turn_rows::Turns;

@@ -4,6 +4,8 @@ ghost use Rattle.std.specs.Prelude.{Ok, IfOk, IsSome, OnErr, OnOk, option_map};
 ghost use Rattle.trace_run.specs.Writers.{writer_of};
 ghost use Rattle.trace_command.specs.Tracing.{Takes, Traces, TracesHere};
 
+use crate::again::Again;
+use crate::behind::{Behind, are_noted, keep_host};
 use crate::fault::host_fault;
 use containers::Seq;
 use front_end::{Fault, refuse_boot};
@@ -15,7 +17,7 @@ use pt_kernel::Schedule;
 use std::alloc::Global;
 use std::process::{OpenProcess, Processes};
 use tr_core::Options;
-use trace_run::{Ended, RunFault, run, trace_local};
+use trace_run::{Ended, Local, RunFault, run, trace_local};
 
 /// A kernel that takes its boot.
 #[derive(Drop)]
@@ -106,33 +108,48 @@ fn run_here<W: Sink>(
     schedule: Schedule,
     script: Script,
     options: Options,
+    again: &mut Option<Again>,
     lines: &mut W,
 ) -> Result<Ended, RunFault>
     ensures { TracesHere options script boot schedule result
         (writer_of W.contents W.puts W.broken lines.old) (writer_of W.contents W.puts W.broken lines.new) }
 {
-    match trace_local(alloc, boot, schedule, script, options, lines) {
-        Ok(ended) => ended,
+    let notes = are_noted(again);
+    match trace_local(alloc, boot, schedule, notes, script, options, lines) {
+        Ok(
+            Local {
+                ended,
+                host,
+                events,
+            },
+        ) => {
+            keep_host(again, host, events);
+            ended
+        }
         Err(_) => Err(RunFault::Link(LinkFault::Memory)),
     }
 }
 
-/// Runs the tracer on a kernel.
+/// Runs the tracer on a kernel. What it leaves stays behind.
 pub fn run_kernel<P: OpenProcess + Drop, W: Sink>(
     alloc: Global,
     kernel: Kernel<P>,
     script: Script,
     options: Options,
+    behind: &mut Behind<P>,
     lines: &mut W,
 ) -> Result<Ended, RunFault>
     ensures { Traces P.Stdout.remaining P.Stdin.contents options script kernel result
         (writer_of W.contents W.puts W.broken lines.old) (writer_of W.contents W.puts W.broken lines.new) }
 {
     match kernel {
-        Kernel::Here(boot, schedule) => run_here(alloc, boot, schedule, script, options, lines),
+        Kernel::Here(boot, schedule) => {
+            let again = &mut behind.again;
+            run_here(alloc, boot, schedule, script, options, again, lines)
+        }
         Kernel::There(mut link) => {
             let ended = run(alloc, &mut link, lines, script, options);
-            drop(link);
+            behind.link = Some(link);
             ended
         }
     }

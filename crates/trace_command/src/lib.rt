@@ -2,6 +2,7 @@
 #![tactic(auto)]
 
 mod again;
+mod behind;
 mod entry;
 mod fault;
 mod kernel;

@@ -7,6 +7,7 @@ ghost use Rattle.trace_command.specs.Faults.{IsFaultOf};
 ghost use Rattle.trace_command.specs.Tracing.{EndsLine, IsFile, Puts, Reaches, RunsTo, Settles, Traces, Unmade};
 ghost use Rattle.trace_command.specs.Tracing.{WritesFile, WritesTo};
 
+use crate::behind::Behind;
 use crate::fault::host_fault;
 use crate::kernel::{Kernel, run_kernel};
 use crate::lines::{LineSink, Lines};
@@ -114,12 +115,13 @@ fn trace_as_it_comes<P: OpenProcess + Drop, F: Write + Drop>(
     kernel: Kernel<P>,
     script: Script,
     options: Options,
+    behind: &mut Behind<P>,
     file: F,
 ) -> Result<Ended, RunFault>
     ensures { WritesFile F.contents (Traces P.Stdout.remaining P.Stdin.contents options script kernel) result }
 {
     let mut lines = Lines::new(file);
-    let ended = run_kernel(alloc, kernel, script, options, &mut lines);
+    let ended = run_kernel(alloc, kernel, script, options, behind, &mut lines);
     drop(lines);
     ended
 }
@@ -130,6 +132,7 @@ fn trace_whole_lines<P: OpenProcess + Drop, F: Write + Drop>(
     kernel: Kernel<P>,
     script: Script,
     options: Options,
+    behind: &mut Behind<P>,
     file: F,
 ) -> Result<Result<Ended, RunFault>, Fault>
     ensures { IfOk result (λ ended. WritesFile F.contents
@@ -144,7 +147,7 @@ fn trace_whole_lines<P: OpenProcess + Drop, F: Write + Drop>(
             return Err(Fault::Memory);
         }
     };
-    let ended = run_kernel(alloc, kernel, script, options, &mut lines);
+    let ended = run_kernel(alloc, kernel, script, options, behind, &mut lines);
     let (file, rest) = lines.into_inner().into_parts();
     drop(file);
     Ok(ended_but_for(ended, rest))
@@ -164,6 +167,7 @@ fn trace_to_file<R: Files + AllocGlobal, P: OpenProcess + Drop>(
     kernel: Kernel<P>,
     script: Script,
     options: Options,
+    behind: &mut Behind<P>,
     path: &str,
 ) -> Result<Result<Ended, RunFault>, Fault>
     ensures { IfOk result (λ ended. WritesFile R.File.contents
@@ -179,9 +183,10 @@ fn trace_to_file<R: Files + AllocGlobal, P: OpenProcess + Drop>(
         }
     };
     if may_keep_back(&kernel, &file) {
-        trace_whole_lines(rt.alloc(), kernel, script, options, file)
+        trace_whole_lines(rt.alloc(), kernel, script, options, behind, file)
     } else {
-        Ok(trace_as_it_comes(rt.alloc(), kernel, script, options, file))
+        let alloc = rt.alloc();
+        Ok(trace_as_it_comes(alloc, kernel, script, options, behind, file))
     }
 }
 
@@ -191,6 +196,7 @@ fn trace_to_place<R: Files + AllocGlobal, P: OpenProcess + Drop, O: Sink, E: Sin
     kernel: Kernel<P>,
     script: Script,
     options: Options,
+    behind: &mut Behind<P>,
     place: Place<'_>,
     out: &mut O,
     err: &mut E,
@@ -204,9 +210,9 @@ fn trace_to_place<R: Files + AllocGlobal, P: OpenProcess + Drop, O: Sink, E: Sin
         (writer_of E.contents E.puts E.broken err.old) (writer_of E.contents E.puts E.broken err.new)) }
 {
     match place {
-        Place::Error => Ok(run_kernel(rt.alloc(), kernel, script, options, err)),
-        Place::Output => Ok(run_kernel(rt.alloc(), kernel, script, options, out)),
-        Place::File(path) => trace_to_file(rt, kernel, script, options, path),
+        Place::Error => Ok(run_kernel(rt.alloc(), kernel, script, options, behind, err)),
+        Place::Output => Ok(run_kernel(rt.alloc(), kernel, script, options, behind, out)),
+        Place::File(path) => trace_to_file(rt, kernel, script, options, behind, path),
     }
 }
 
@@ -217,6 +223,7 @@ pub fn trace_kernel<R: Files + AllocGlobal, P: OpenProcess + Drop, O: Sink, E: L
     kernel: Kernel<P>,
     script: Script,
     options: Options,
+    behind: &mut Behind<P>,
     place: Place<'_>,
     out: &mut O,
     err: &mut E,
@@ -228,7 +235,7 @@ pub fn trace_kernel<R: Files + AllocGlobal, P: OpenProcess + Drop, O: Sink, E: L
         (writer_of O.contents O.puts O.broken out.old) (writer_of O.contents O.puts O.broken out.new)
         (writer_of E.contents E.puts E.broken err.old) (writer_of E.contents E.puts E.broken err.new) }
 {
-    match trace_to_place(rt, kernel, script, options, place, out, &mut *err) {
+    match trace_to_place(rt, kernel, script, options, behind, place, out, &mut *err) {
         Ok(ended) => settle(rt.alloc(), ended, place, err),
         Err(fault) => Err(fault),
     }

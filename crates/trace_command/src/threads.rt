@@ -7,6 +7,7 @@ ghost use Rattle.trace_command.specs.Tracing.{PutsTrace, RunsTo, Settles, Traces
 ghost use Rattle.trace_command.specs.Tracing.{WritesFile, WritesTo};
 
 use crate::again::Again;
+use crate::behind::are_noted;
 use crate::fault::threads_fault;
 use crate::lines::{LineSink, Lines};
 use crate::place::{Place, create};
@@ -18,13 +19,14 @@ use front_end::Fault;
 use host_shared::Gate;
 use host_wire::{Broken, Sink};
 use lx_abi::Outcome;
+use pt_kernel::Events;
 use std::alloc::Global;
 use std::rt::Files;
 use std::sync::Wait;
 use std::thread::Threads;
 use trace_run::local::Run;
 use trace_run::{Ended, RunFault};
-use trace_threads::run_threads;
+use trace_threads::run_threads_noting;
 use turn_rows::Turns;
 
 /// Each thread makes its turns as soon as it can.
@@ -42,6 +44,7 @@ fn run_on_threads<R: Threads + Wait + Sync + AllocGlobal>(
     rt: &R,
     plan: Plan,
     workers: Workers,
+    noted: &mut Events,
 ) -> Result<Run, Fault>
     ensures { IfOk result (λ run. ThreadRun plan.boot workers.limit plan.script plan.options run) }
 {
@@ -53,7 +56,9 @@ fn run_on_threads<R: Threads + Wait + Sync + AllocGlobal>(
         turns: _turns,
     } = plan;
     let (count, limit) = (workers.count, workers.limit);
-    match run_threads(rt, alloc, boot, count, limit, script, options, &Always) {
+    match run_threads_noting(
+        rt, alloc, boot, count, limit, script, options, &Always, noted,
+    ) {
         Ok(run) => Ok(run),
         Err(fault) => Err(threads_fault(alloc, fault)),
     }
@@ -73,11 +78,21 @@ fn write_trace<W: Sink>(ended: Ended, trace: &Bytes, writer: &mut W) -> Result<E
     }
 }
 
-/// How a run ended that is written, and its effective turns.
+/// How a run ended that is written, its effective turns, and its events where they are asked for.
 #[derive(Drop)]
 struct Threaded {
     ended: Result<Ended, RunFault>,
     turns: Turns,
+    events: Events,
+}
+
+/// What notes the events, where they are asked for.
+fn noting(alloc: Global, notes: bool) -> Events {
+    if notes {
+        Events::noted(alloc)
+    } else {
+        Events::none()
+    }
 }
 
 /// Makes the run, and writes its trace at the end.
@@ -85,6 +100,7 @@ fn trace_to<R: Threads + Wait + Sync + AllocGlobal, W: Sink>(
     rt: &R,
     plan: Plan,
     workers: Workers,
+    notes: bool,
     writer: &mut W,
 ) -> Result<Threaded, Fault>
     ensures written { IfOk result (λ run. TracesOnThreads plan workers.limit run.ended
@@ -92,9 +108,13 @@ fn trace_to<R: Threads + Wait + Sync + AllocGlobal, W: Sink>(
     ensures unmade { OnErr result (writer_of W.contents W.puts W.broken writer.new
         ≡ writer_of W.contents W.puts W.broken writer.old) }
 {
-    let run = match run_on_threads(rt, plan, workers) {
+    let mut events = noting(rt.alloc(), notes);
+    let run = match run_on_threads(rt, plan, workers, &mut events) {
         Ok(run) => run,
-        Err(fault) => return Err(fault),
+        Err(fault) => {
+            drop(events);
+            return Err(fault);
+        }
     };
     let Run {
         trace,
@@ -105,7 +125,11 @@ fn trace_to<R: Threads + Wait + Sync + AllocGlobal, W: Sink>(
     drop(outcome);
     let ended = write_trace(ended, &trace, writer);
     drop(trace);
-    Ok(Threaded { ended, turns })
+    Ok(Threaded {
+        ended,
+        turns,
+        events,
+    })
 }
 
 /// The same, to a file that is made before the run.
@@ -113,6 +137,7 @@ fn trace_to_file<R: Files + Threads + Wait + Sync + AllocGlobal>(
     rt: &R,
     plan: Plan,
     workers: Workers,
+    notes: bool,
     path: &str,
 ) -> Result<Threaded, Fault>
     ensures { IfOk result (λ run. WritesFile R.File.contents (TracesOnThreads plan workers.limit) run.ended) }
@@ -124,7 +149,7 @@ fn trace_to_file<R: Files + Threads + Wait + Sync + AllocGlobal>(
             return Err(fault);
         }
     };
-    match trace_to(rt, plan, workers, &mut lines) {
+    match trace_to(rt, plan, workers, notes, &mut lines) {
         Ok(run) => {
             drop(lines);
             Ok(run)
@@ -141,6 +166,7 @@ fn trace_to_place<R: Files + Threads + Wait + Sync + AllocGlobal, O: Sink, E: Si
     rt: &R,
     plan: Plan,
     workers: Workers,
+    notes: bool,
     place: Place<'_>,
     out: &mut O,
     err: &mut E,
@@ -154,20 +180,24 @@ fn trace_to_place<R: Files + Threads + Wait + Sync + AllocGlobal, O: Sink, E: Si
         (writer_of E.contents E.puts E.broken err.old) (writer_of E.contents E.puts E.broken err.new)) }
 {
     match place {
-        Place::Error => trace_to(rt, plan, workers, err),
-        Place::Output => trace_to(rt, plan, workers, out),
-        Place::File(path) => trace_to_file(rt, plan, workers, path),
+        Place::Error => trace_to(rt, plan, workers, notes, err),
+        Place::Output => trace_to(rt, plan, workers, notes, out),
+        Place::File(path) => trace_to_file(rt, plan, workers, notes, path),
     }
 }
 
-/// The turns of a run are known where it may be made again.
-fn know_turns(again: &mut Option<Again>, turns: Turns) {
-    if let Some(again) = again {
-        again.know(turns);
+/// Keeps what a run leaves, where it is asked for.
+fn keep_turns(again: &mut Option<Again>, turns: Turns, events: Events) {
+    match again {
+        Some(again) => again.know_turns(turns, events),
+        None => {
+            drop(turns);
+            drop(events);
+        }
     }
 }
 
-/// What comes of a run that was written; its turns are then known.
+/// What comes of a run that was written; what it leaves is kept.
 fn settle_threaded<E: LineSink>(
     alloc: Global,
     run: Threaded,
@@ -178,12 +208,16 @@ fn settle_threaded<E: LineSink>(
     ensures { Settles place.entry run.ended result
         (writer_of E.contents E.puts E.broken err.old) (writer_of E.contents E.puts E.broken err.new) }
 {
-    let Threaded { ended, turns } = run;
-    know_turns(again, turns);
+    let Threaded {
+        ended,
+        turns,
+        events,
+    } = run;
+    keep_turns(again, turns, events);
     settle(alloc, ended, place, err)
 }
 
-/// Makes the run, and writes its trace, to a place that is opened before, at the end; its turns are then known. Where
+/// Makes the run, and writes its trace, to a place that is opened before, at the end; what it leaves is kept. Where
 /// it is out of turns, a line that stands open on `err` is ended.
 pub fn trace_on_threads<R: Files + Threads + Wait + Sync + AllocGlobal, O: Sink, E: LineSink>(
     rt: &R,
@@ -201,7 +235,8 @@ pub fn trace_on_threads<R: Files + Threads + Wait + Sync + AllocGlobal, O: Sink,
         (writer_of O.contents O.puts O.broken out.old) (writer_of O.contents O.puts O.broken out.new)
         (writer_of E.contents E.puts E.broken err.old) (writer_of E.contents E.puts E.broken err.new) }
 {
-    match trace_to_place(rt, plan, workers, place, out, &mut *err) {
+    let notes = are_noted(again);
+    match trace_to_place(rt, plan, workers, notes, place, out, &mut *err) {
         Ok(run) => settle_threaded(rt.alloc(), run, place, again, err),
         Err(fault) => Err(fault),
     }

@@ -8,6 +8,7 @@ ghost use Rattle.trace_command.specs.Tracing.{TracesOut, TracesPlan, TracesWords
 ghost use Rattle.trace_command.specs.Tracing.{asks_for_files, status_in, value_of};
 
 use crate::again::Again;
+use crate::behind::Behind;
 use crate::fault::{host_fault, unwritable};
 use crate::kernel::{Kernel, boot_kernel};
 use crate::lines::{LineSink, Lines};
@@ -52,6 +53,7 @@ fn run_plan<R: Files + Processes + AllocGlobal, O: Sink, E: LineSink>(
     matches: &ArgMatches,
     plan: Plan,
     limit: u64,
+    behind: &mut Behind<R::Started>,
     place: Place<'_>,
     out: &mut O,
     err: &mut E,
@@ -78,7 +80,7 @@ fn run_plan<R: Files + Processes + AllocGlobal, O: Sink, E: LineSink>(
             return Err(fault);
         }
     };
-    trace_kernel(rt, kernel, script, options, place, out, err)
+    trace_kernel(rt, kernel, script, options, behind, place, out, err)
 }
 
 /// Makes the run, on threads where the words ask for them.
@@ -87,8 +89,8 @@ fn run_as_asked<R: Files + Processes + Threads + Wait + Sync + AllocGlobal, O: S
     matches: &ArgMatches,
     options: TraceOptions,
     plan: Plan,
+    behind: &mut Behind<R::Started>,
     place: Place<'_>,
-    again: &mut Option<Again>,
     out: &mut O,
     err: &mut E,
 ) -> Result<Outcome, Fault>
@@ -101,8 +103,11 @@ fn run_as_asked<R: Files + Processes + Threads + Wait + Sync + AllocGlobal, O: S
         (writer_of E.contents E.puts E.broken err.old) (writer_of E.contents E.puts E.broken err.new) }
 {
     match options.workers {
-        None => run_plan(rt, matches, plan, options.limit, place, out, err),
-        Some(workers) => trace_on_threads(rt, plan, workers, place, again, out, err),
+        None => run_plan(rt, matches, plan, options.limit, behind, place, out, err),
+        Some(workers) => {
+            let again = &mut behind.again;
+            trace_on_threads(rt, plan, workers, place, again, out, err)
+        }
     }
 }
 
@@ -210,14 +215,14 @@ fn leave_turns<W: Write + Drop>(
     }
     match (matches.get_str("turns-out"), file, again) {
         (Some(path), Some(file), Some(again)) => {
-            let turns = match again.turns(alloc, matches) {
-                Ok(turns) => turns,
+            let events = match again.events(alloc, matches) {
+                Ok(events) => events,
                 Err(fault) => {
                     drop(file);
                     return Err(fault);
                 }
             };
-            write_turns(alloc, path, file, turns)
+            write_turns(alloc, path, file, events)
         }
         _ => Ok(()),
     }
@@ -259,7 +264,7 @@ fn trace_plan<R: Files + Processes + Threads + Wait + Sync + AllocGlobal, O: Sin
     matches: &ArgMatches,
     options: TraceOptions,
     plan: Plan,
-    again: &mut Option<Again>,
+    behind: &mut Behind<R::Started>,
     out: &mut O,
     err: &mut E,
 ) -> Result<u8, Fault>
@@ -276,8 +281,8 @@ fn trace_plan<R: Files + Processes + Threads + Wait + Sync + AllocGlobal, O: Sin
             return Err(fault);
         }
     };
-    let made = run_as_asked(rt, matches, options, plan, place, again, &mut *out, err);
-    leave(rt, matches, again, made, file, out)
+    let made = run_as_asked(rt, matches, options, plan, behind, place, &mut *out, err);
+    leave(rt, matches, &mut behind.again, made, file, out)
 }
 
 /// What comes of a run, and its outputs behind it.
@@ -293,7 +298,7 @@ fn trace_to<R: Files + Processes + Threads + Wait + Sync + AllocGlobal, O: Write
     matches: &ArgMatches,
     options: TraceOptions,
     plan: Plan,
-    again: &mut Option<Again>,
+    behind: &mut Behind<R::Started>,
     out: O,
     err: E,
 ) -> Traced<O, E>
@@ -303,7 +308,7 @@ fn trace_to<R: Files + Processes + Threads + Wait + Sync + AllocGlobal, O: Write
 {
     let mut out = Lines::new(out);
     let mut err = Lines::new(err);
-    let status = trace_plan(rt, matches, options, plan, again, &mut out, &mut err);
+    let status = trace_plan(rt, matches, options, plan, behind, &mut out, &mut err);
     Traced {
         status,
         out: out.into_inner(),
@@ -377,8 +382,9 @@ fn prepare<R: Files + AllocGlobal, I: Read + IsTerminal, E: Write + IsTerminal>(
     err: &mut E,
 ) -> Result<Prepared, Fault> {
     let plan = read_plan(rt, matches, options, input, err)?;
-    let again = if options.explain || matches.get_str("turns-out").is_some() {
-        Some(Again::of(rt.alloc(), &plan, options.limit)?)
+    let notes = matches.get_str("turns-out").is_some();
+    let again = if options.explain || notes {
+        Some(Again::of(rt.alloc(), &plan, options.limit, notes)?)
     } else {
         None
     };
@@ -394,7 +400,8 @@ fn prepare<R: Files + AllocGlobal, I: Read + IsTerminal, E: Write + IsTerminal>(
     })
 }
 
-/// Makes the run, and gives the exit status. The console goes to `out` once the run is whole.
+/// Makes the run, and gives the exit status. The console goes to `out` once the run is whole, before a host in a process
+/// of its own is waited for.
 pub fn trace<
     R: Files + Processes + Threads + Wait + Sync + AllocGlobal,
     I: Read + IsTerminal,
@@ -414,7 +421,7 @@ pub fn trace<
 {
     let Prepared {
         plan,
-        mut again,
+        again,
         program,
     } = match prepare(rt, matches, options, input, &mut err) {
         Ok(prepared) => prepared,
@@ -426,12 +433,15 @@ pub fn trace<
             };
         }
     };
-    let traced = trace_to(rt, matches, options, plan, &mut again, out, err);
+    let mut behind = Behind { again, link: None };
+    let traced = trace_to(rt, matches, options, plan, &mut behind, out, err);
     let Traced {
         status,
         out,
         mut err,
     } = traced;
+    let Behind { again, link } = behind;
     let status = explain(rt.alloc(), matches, again, program, status, &mut err);
+    drop(link);
     Traced { status, out, err }
 }

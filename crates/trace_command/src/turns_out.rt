@@ -1,36 +1,51 @@
-//! The turns of a run, written as a schedule.
+//! The events of a run, written as a schedule that gives them.
 
 ghost use Rattle.std.specs.Prelude.{IfOk, IsSome, OnErr, codes};
 ghost use Rattle.trace_command.specs.Tracing.{value_of};
 
 use clap::ArgMatches;
 use front_end::{Fault, Shown};
+use lx_abi::Event;
+use pt_kernel::{EventRow, Events};
+use pt_schedule::{event_word, write_word};
 use std::alloc::Global;
 use std::fs;
 use std::io::{self, BufWriter, ErrorKind, Write};
 use std::rt::Files;
-use turn_rows::{TurnRow, Turns};
 
-/// A word for each turn.
-fn write_pids<W: Write>(writer: &mut W, pids: &[u32]) -> io::Result<()> {
-    for pid in pids {
-        writeln!(writer, "{pid}")?;
+/// The requests until process 1 is resumed for the first time: a schedule by words serves them before its first word.
+const SERVED_FIRST: u64 = 3;
+
+fn write_row<W: Write>(writer: &mut W, event: Event, times: u64) -> io::Result<()> {
+    for _ in 0..times {
+        write_word(writer, event_word(event))?;
     }
     Ok(())
 }
 
-fn write_row<W: Write>(writer: &mut W, row: &TurnRow) -> io::Result<()> {
-    for _ in 0..row.rounds() {
-        write_pids(writer, row.round())?;
+/// So many of the first events are served before the first word.
+fn served_first(row: &EventRow) -> u64 {
+    match row.event {
+        Event::Serve => row.times.min(SERVED_FIRST),
+        Event::Turn { .. } => 0,
     }
-    write_pids(writer, row.rest())
 }
 
-fn write_words<W: Write + Drop>(alloc: Global, file: W, turns: &Turns) -> io::Result<()> {
-    let mut writer = BufWriter::new(alloc, file)?;
-    for row in turns.rows() {
-        write_row(&mut writer, row)?;
+fn write_rows<W: Write>(writer: &mut W, rows: &[EventRow]) -> io::Result<()> {
+    let Some((first, rows)) = rows.split_first() else {
+        return Ok(());
+    };
+    let times = first.times.saturating_sub(served_first(first));
+    write_row(writer, first.event, times)?;
+    for row in rows {
+        write_row(writer, row.event, row.times)?;
     }
+    Ok(())
+}
+
+fn write_words<W: Write + Drop>(alloc: Global, file: W, events: &Events) -> io::Result<()> {
+    let mut writer = BufWriter::new(alloc, file)?;
+    write_rows(&mut writer, events.rows())?;
     writer.flush()
 }
 
@@ -62,14 +77,14 @@ pub fn create_turns<R: Files + AllocGlobal>(
     }
 }
 
-/// Writes the turns to the file of this name, a word a line as `--turns` reads them.
+/// Writes the events to the file of this name, a word a line as `--turns` reads them.
 pub fn write_turns<W: Write + Drop>(
     alloc: Global,
     path: &str,
     file: W,
-    turns: &Turns,
+    events: &Events,
 ) -> Result<(), Fault> {
-    match write_words(alloc, file, turns) {
+    match write_words(alloc, file, events) {
         Ok(()) => Ok(()),
         Err(error) => Err(unwritten(alloc, path, error)),
     }

@@ -33,7 +33,7 @@ use Rattle.trace_run.specs.declared.running.Ended.{Ended}
 use Rattle.trace_run.specs.declared.running.RunFault.{RunFault}
 use Rattle.trace_run.specs.declared.running.RunFault.TheVariants.{Link, Trace, Output}
 
-is_going : HostsBeginAlike Shared UserState → (link : LocalLink) (s : Shared) (b : UserState) → (host_of link).hosting ≡ first_hosting s b → (host_of link).failed ≡ false → faults_of link ≡ 0 → is_over link ≡ false → IsGoing link
+pub is_going : HostsBeginAlike Shared UserState → (link : LocalLink) (s : Shared) (b : UserState) → (host_of link).hosting ≡ first_hosting s b → (host_of link).failed ≡ false → faults_of link ≡ 0 → is_over link ≡ false → IsGoing link
 is_going begin link s b hosting whole unbroken going = record {
   fresh = subst (λ (v : Linux_host). IsFresh v) (sym hosting) (begin s b).1;
   whole = whole;

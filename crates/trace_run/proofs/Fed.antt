@@ -9,6 +9,8 @@ use Rattle.lx_abi.specs.declared.schedule.Event.{Event}
 use Rattle.lx_abi.specs.declared.schedule.Event.TheVariants.{Turn, Serve}
 use Rattle.lx_model.specs.Kernel.{Script}
 use Rattle.lx_model.specs.Machine.{Machine}
+use Rattle.pt_kernel.specs.Noted.{noting}
+use Rattle.pt_kernel.proofs.Noting.{noting_nothing, noting_on}
 use Rattle.pt_model.specs.Attending.{answered_by, called, reply_or, left_pending, Schedules, Gives}
 use Rattle.pt_model.specs.Calls.{attends, TalksOver, WorldsCall, RunsAppend, OutOfTurnsShowsNothing}
 use Rattle.pt_model.specs.Parts as parts
@@ -70,6 +72,7 @@ module _ {L X S B : Type 0} (answers : Answers L) (i : InMemory L X S B) (choose
     pub given : Feeds choose m outcome t.options t.script (i.schedule a) (at_link t a printed) events
     pub host : (world_run m outcome t.options t.script (at_link t a printed) events).host ≡ i.host b
     pub turned : i.turns b ≡ i.turns a ++ effective m outcome t.options t.script (at_link t a printed) events
+    pub noted : i.noted b ≡ noting (i.noted a) events
     pub over : TalksOver choose m outcome t.options t.script t.tracer (i.schedule a) (i.host a) events xs
 
   -- a call, and what comes after it
@@ -132,6 +135,7 @@ module _ {L X S B : Type 0} (answers : Answers L) (i : InMemory L X S B) (choose
             ih.turned ∙ ap (λ l. l ++ effective m outcome t.options t.script w2 ih.events) ran.gave
             ∙ append_assoc (i.turns a) (effective m outcome t.options t.script w c.fed) (effective m outcome t.options t.script w2 ih.events)
             ∙ ap (λ l. i.turns a ++ l) (sym (app.2 ∙ ap (λ z. effective m outcome t.options t.script w c.fed ++ effective m outcome t.options t.script z ih.events) there));
+        noted = ih.noted ∙ ap (λ l. noting l ih.events) c.noted ∙ noting_on (i.noted a) c.fed ih.events;
         over = (c.fed, (ih.events, (c.left, (i.host mid, (refl, f, c.call, subst (λ x. TalksOver choose m outcome t.options t.script (heard t r).tracer x (i.host mid) ih.events xs) on_from ih.over)))));
       }
 
@@ -150,6 +154,7 @@ module _ {L X S B : Type 0} (answers : Answers L) (i : InMemory L X S B) (choose
         given = feeds_on choose m outcome t.options t.script w q f c.fed [] (i.schedule a) c.left c.call.gives c.call.left (subst (λ z. Feeds choose m outcome t.options t.script c.left z []) (sym stays) (inr over));
         host = ap (λ (z : World S B). z.host) (ap (world_run m outcome t.options t.script w) app ∙ ran.ran ∙ stays) ∙ ap i.host (sym here);
         turned = ap i.turns here ∙ ran.gave ∙ ap (λ l. i.turns a ++ effective m outcome t.options t.script w l) (sym app);
+        noted = ap i.noted here ∙ c.noted ∙ ap (noting (i.noted a)) (sym app);
         over = (c.fed, ([], (c.left, (i.host mid, (refl, f, c.call, refl)))));
       }
 
@@ -170,6 +175,7 @@ module _ {L X S B : Type 0} (answers : Answers L) (i : InMemory L X S B) (choose
     given = inl over;
     host = ap i.host (sym led);
     turned = ap i.turns led ∙ sym (append-nil (i.turns a));
+    noted = ap i.noted led ∙ sym (noting_nothing (i.noted a));
     over = refl;
   }
   is_fed (x ∷ xs) t a b printed is_sound led asked over =

@@ -21,9 +21,10 @@ use Rattle.pt_model.specs.Tracer.{first_tracer}
 use Rattle.pt_model.specs.World.{World, first_world}
 use Rattle.pt_kernel.specs.Attends.{Attended}
 use Rattle.pt_kernel.specs.Hosts.{HostState, Linux_host}
+use Rattle.pt_kernel.specs.Noted.{noting}
 use Rattle.pt_kernel.specs.Seen.{next_of_host, IsCalled, HostsAreCalled}
 use Rattle.pt_schedule.specs.declared.schedule.Schedule.{Schedule}
-use Rattle.host_link.specs.LocalLinks.{Calls, host_of, schedule_of, faults_of, is_over}
+use Rattle.host_link.specs.LocalLinks.{Calls, host_of, schedule_of, noted_of, faults_of, is_over}
 use Rattle.host_link.specs.Locals.{Serves, reply_or_over}
 use Rattle.host_link.specs.declared.local.LocalLink.{LocalLink}
 use Rattle.tr_core.specs.Settings.{options_by, first_pen}
@@ -80,10 +81,10 @@ module _ (called_so : HostsAreCalled) where
 
   -- a request that was put to a host whose schedule goes on
   put_call : (a : LocalLink) (q : Request) (r : Reply) (b : LocalLink) (x : Option Reply) → IsGoing a
-      → Serves (host_of a) (schedule_of a) q (record { host = host_of b; schedule = schedule_of b; reply = x })
-      → r ≡ reply_or_over x → is_over b ≡ is_none x → faults_of b ≡ faults_of a
+      → (sv : Serves (host_of a) (schedule_of a) q (record { host = host_of b; schedule = schedule_of b; reply = x }))
+      → r ≡ reply_or_over x → is_over b ≡ is_none x → noted_of b ≡ noting (noted_of a) sv.attends.fed → faults_of b ≡ faults_of a
       → SoundCall IsGoing in_process next_of_host linux outcome_in a q r b
-  put_call a q r b x going sv said over kept =
+  put_call a q r b x going sv said over noted kept =
       let c : IsCalled (host_of a).hosting (schedule_of a) q (record { host = host_of b; schedule = schedule_of b; reply = x }) sv.attends.fed =
       serves_so (host_of a) (schedule_of a) q (record { host = host_of b; schedule = schedule_of b; reply = x }) going.fresh going.whole sv in
       record {
@@ -98,6 +99,7 @@ module _ (called_so : HostsAreCalled) where
             ended = λ e. c.ended (sym c.reply ∙ e);
           };
           turned = c.turned;
+          noted = noted;
           goes_on = λ h. c.goes_on (ap is_there (sym c.reply) ∙ h);
         };
         stays = λ h. record {
@@ -112,7 +114,7 @@ module _ (called_so : HostsAreCalled) where
 by_calls : HostsAreCalled → (a : LocalLink) (q : Request) (r : Reply) (b : LocalLink) → IsGoing a → faults_of b ≡ faults_of a → Calls a q (Ok r) b → SoundCall IsGoing in_process next_of_host linux outcome_in a q r b
 unfolding Calls
 by_calls called_so a q r b going kept (inl ended) = absurd (cc (ended.0, going.going))
-by_calls called_so a q r b going kept (inr h) = put_call called_so a q r b h.1.1.0 going h.1.1.1.0 h.1.1.1.1.0 h.1.1.1.1.1 kept
+by_calls called_so a q r b going kept (inr h) = put_call called_so a q r b h.1.1.0 going h.1.1.1.0 h.1.1.1.1.0 h.1.1.1.1.1.0 h.1.1.1.1.1.1 kept
 
 pub local_links_serve : HostsAreCalled → LocalLinksServe
 unfolding LocalLinksServe

@@ -7,6 +7,7 @@ pub mod Few
 pub mod InProcess
 pub mod Locals
 pub mod Owed
+pub mod Records
 pub mod Refused
 pub mod Resulting
 pub mod Rounds

@@ -29,11 +29,11 @@ use Rattle.trace_run.specs.Local.{InMemory, SoundCall, Feeds, LocalRun, LocalRun
 use Rattle.trace_run.proofs.Fed.{IsFed, is_fed}
 
 -- it asks nothing more, and its link stays
-record IsLast {L : Type 0} (s : State) (rs : List Reply) (a : L) (b : Ends L) : Type 0 where
+pub record IsLast {L : Type 0} (s : State) (rs : List Reply) (a : L) (b : Ends L) : Type 0 where
   pub asks_none : request_of (told s rs) ≡ None
   pub link : b.link ≡ a
 
-last_link : {L : Type 0} (answers : Answers L) (s : State) (rs : List Reply) (old : Writer) (a : L) (b : Ends L) → Last answers s rs old a (Ok tt) b → IsLast s rs a b
+pub last_link : {L : Type 0} (answers : Answers L) (s : State) (rs : List Reply) (old : Writer) (a : L) (b : Ends L) → Last answers s rs old a (Ok tt) b → IsLast s rs a b
 unfolding Last
 last_link answers s rs old a b h = record { asks_none = h.3; link = h.4 }
 

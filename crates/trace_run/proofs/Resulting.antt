@@ -79,7 +79,7 @@ left_of y (Some x) = x.1
 
 module _ {X S B : Type 0} (choose : Schedules X S B) (m : Machine S B) (outcome : S → Outcome) (o : parts_of.Options) (script : Script) where
   -- it gives one list of events
-  one_feed : (es fs : List Event) (x : X) (w : World S B) → Feeds choose m outcome o script x w es → Feeds choose m outcome o script x w fs → es ≡ fs
+  pub one_feed : (es fs : List Event) (x : X) (w : World S B) → Feeds choose m outcome o script x w es → Feeds choose m outcome o script x w fs → es ≡ fs
   unfolding event_of left_of
   one_feed [] [] x w g h = refl
   one_feed [] (f ∷ fs) x w (inl none) h = absurd (cc (sym h.1.0 ∙ ap is_there none))

@@ -3,6 +3,7 @@ pub mod Claims
 pub mod Local
 pub mod LocalRuns
 pub mod Owed
+pub mod Records
 pub mod Results
 pub mod Runs
 pub mod Tells

@@ -1,11 +1,12 @@
 -- A run over a host in memory that a schedule feeds, by the untraced kernel.
-use Rattle.std.specs.Prelude.{◌≡◌, ◌⊎◌, ℕ, ◌≤◌, ◌<◌, Bool, true, List, [], ◌∷◌, ◌++◌, Some, None, Ok}
+use Rattle.std.specs.Prelude.{◌≡◌, ◌⊎◌, ℕ, ◌≤◌, ◌<◌, Bool, true, List, [], ◌∷◌, ◌++◌, Option, Some, None, Ok}
 use Rattle.lx_abi.specs.declared.outcome.Outcome.{Outcome}
 use Rattle.lx_abi.specs.declared.ptrace.Reply.{Reply}
 use Rattle.lx_abi.specs.declared.ptrace.Request.{Request}
 use Rattle.lx_abi.specs.declared.schedule.Event.{Event}
 use Rattle.lx_model.specs.Kernel.{Script, traces}
 use Rattle.lx_model.specs.Machine.{Machine, IsMachine}
+use Rattle.pt_kernel.specs.Noted.{noting}
 use Rattle.pt_model.specs.Attending.{called, Schedules}
 use Rattle.pt_model.specs.Calls.{CallsOver, attends}
 use Rattle.pt_model.specs.Headline.{IsTold, traced_run, plain_run}
@@ -23,11 +24,13 @@ use Rattle.trace_run.specs.Runs.{Answers, RunsWhole}
 use Rattle.trace_run.specs.Tells.{view_text, shown_text}
 use Rattle.trace_run.specs.Writers.{Writer}
 
--- What a link in memory is: a host, a schedule that feeds it, and the turns that it gave to the kernel
+-- What a link in memory is: a host, a schedule that feeds it, the turns that it gave to the kernel, and the events that
+-- it noted
 pub record InMemory (L X S B : Type 0) : Type 0 where
   pub host : L → Host S B
   pub schedule : L → X
   pub turns : L → List ℕ
+  pub noted : L → Option (List Event)
 
 -- the schedule gave these events until the request was answered, or it ended and the answer is OutOfTurns
 pub record CallServed {L X S B : Type 0} (i : InMemory L X S B) (choose : Schedules X S B) (m : Machine S B)
@@ -37,6 +40,7 @@ pub record CallServed {L X S B : Type 0} (i : InMemory L X S B) (choose : Schedu
   pub left : X
   pub call : CallsOver choose m outcome (i.schedule a) (i.host a) q fed r left (i.host b)
   pub turned : i.turns b ≡ i.turns a ++ (called m outcome (i.host a) q fed).turns
+  pub noted : i.noted b ≡ noting (i.noted a) fed
   pub goes_on : is_there (called m outcome (i.host a) q fed).reply ≡ true → i.schedule b ≡ left
 
 abbrev pub ServesCalls : {L X S B : Type 0} → InMemory L X S B → Schedules X S B → Machine S B → (S → Outcome)

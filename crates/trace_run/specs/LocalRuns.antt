@@ -16,7 +16,7 @@ use Rattle.pt_model.specs.World.{first_world}
 use Rattle.pt_kernel.specs.Seen.{next_of_host}
 use Rattle.pt_schedule.specs.Schedules.{events_left}
 use Rattle.pt_schedule.specs.declared.schedule.Schedule.{Schedule}
-use Rattle.host_link.specs.LocalLinks.{Calls, host_of, schedule_of, given_of, faults_of, is_over}
+use Rattle.host_link.specs.LocalLinks.{Calls, host_of, schedule_of, noted_of, given_of, faults_of, is_over}
 use Rattle.host_link.specs.declared.local.LocalLink.{LocalLink}
 use Rattle.tr_core.specs.Settings.{options_by, first_pen}
 use Rattle.tr_core.specs.States.{new_state, heard, request_of, told}
@@ -31,12 +31,13 @@ use Rattle.trace_run.specs.declared.running.RunFault.TheVariants.{Link, Trace, O
 use Rattle.host_link.specs.declared.fault.LinkFault.TheVariants.{Memory as NoMemory, TooMany}
 use Rattle.tr_core.specs.declared.tracing.TraceFault.TheVariants.{Memory as OutOfMemory}
 
--- its host, as a function of pids, its schedule, and the turns that it gave to the kernel
+-- its host, as a function of pids, its schedule, the turns that it gave to the kernel, and the events that it noted
 abbrev pub in_process : InMemory LocalLink Schedule Shared UserState
 in_process = record {
   host = λ l. host_in (host_of l).hosting;
   schedule = λ l. schedule_of l;
   turns = λ l. (host_of l).hosting.turns;
+  noted = λ l. noted_of l;
 }
 
 -- no memory was refused, no request is pending, and the schedule has not ended

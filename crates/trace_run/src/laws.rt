@@ -9,6 +9,7 @@ ghost use Rattle.trace_run.specs.LocalRuns.{LocalLinksTell, LocalLinksTellParts}
 ghost use Rattle.trace_run.specs.Owed.{ResumesBeforeItWaits, StopsWithItsWriter, TracesWriteBeforeTheyWait};
 ghost use Rattle.trace_run.specs.Owed.{WaitsOnceItResumed, WritesBeforeItAsks, WritesBeforeItWaits};
 ghost use Rattle.trace_run.specs.Owed.{WritesBeforeTheLinkFails};
+ghost use Rattle.trace_run.specs.Records.{BootedRunsLeave, RunsReplay};
 ghost use Rattle.trace_run.specs.Results.{JoinedRuns, KilledRuns, PlainRuns, ReplacedRuns};
 ghost use Rattle.trace_run.specs.Results.{RunsAreOne, TracesAreRuns, TracesTellLog};
 ghost use Rattle.trace_run.specs.Runs.{calls_of};
@@ -152,6 +153,24 @@ pub fn booted_runs_tell()
     local_links_tell_parts();
     local_links_fail();
     hosts_run_alike::<Shared, UserState>();
+}
+
+/// What it leaves behind its trace, where it doesn't fail: the host as the events of the run led it, and these, where
+/// they are noted.
+pub fn booted_runs_leave()
+    ensures { BootedRunsLeave }
+{
+    local_links_serve();
+    worlds_attend::<Shared, UserState>();
+    own_replies_tell::<Shared, UserState>();
+    hosts_run_alike::<Shared, UserState>();
+}
+
+/// By its own events, as a list, a run is made again.
+pub fn runs_replay()
+    ensures { RunsReplay }
+{
+    events_are_few();
 }
 
 /// Before it asks, a run has written what it owes: all that the replies before brought, by one put for each, whatever

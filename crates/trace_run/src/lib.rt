@@ -6,6 +6,6 @@ pub mod local;
 pub mod running;
 mod written;
 
-pub use local::{run_local, trace_local};
+pub use local::{Local, run_local, trace_local};
 pub use running::{Ended, RunFault, run, run_tracer};
 pub use written::Written;

@@ -1,14 +1,16 @@
 //! A whole run in one process.
 
-ghost use Rattle.std.specs.Prelude.{◌≡◌, None, Some, Err, IfErr, IfOk, OnErr, OnOk};
+ghost use Rattle.std.specs.Prelude.{◌≡◌, None, Some, Err, IfErr, IfOk, OnErr, OnOk, [], false};
 ghost use Rattle.lx_boot.specs.Boots.{Refuses, fault_of};
 ghost use Rattle.lx_boot.specs.declared.boots.BootFault.{BootFault};
 ghost use Rattle.trace_run.specs.BootedRuns.{IsBooted, IsLeft, KeptRun, RunOf, TraceOf};
 ghost use Rattle.pt_schedule.specs.Schedules.{events_left};
 ghost use Rattle.trace_run.specs.LocalRuns.{FailsBy, IsLocalFault};
+ghost use Rattle.trace_run.specs.Records.{Leaves, noted_if};
+ghost use Rattle.host_link.specs.LocalLinks.{faults_of, given_of, host_of, is_over, noted_of, schedule_of};
 ghost use Rattle.trace_run.specs.Writers.{writer_of};
 
-use crate::laws::booted_runs_tell;
+use crate::laws::{booted_runs_leave, booted_runs_tell};
 use crate::running::{Ended, RunFault, run};
 use crate::written::Written;
 use containers::Bytes;
@@ -16,7 +18,7 @@ use host_link::{LinkFault, LocalLink};
 use host_wire::Sink;
 use lx_abi::{Boot, Outcome, Script};
 use lx_boot::BootFault;
-use pt_kernel::{Host, Schedule};
+use pt_kernel::{Events, Host, Schedule};
 use std::alloc::{AllocError, Global};
 use tr_core::{Options, TraceFault};
 use turn_rows::Turns;
@@ -32,6 +34,15 @@ pub struct Run {
     pub turns: Turns,
 }
 
+/// How a run in one process ended whose trace is written as it comes, and what it leaves.
+#[derive(Drop)]
+pub struct Local {
+    pub ended: Result<Ended, RunFault>,
+    pub host: Host,
+    /// The events of the run, where they were to be noted.
+    pub events: Events,
+}
+
 /// What a boot answers for a run that failed, where the trace is kept in memory.
 fn refusal(fault: RunFault) -> BootFault
     requires { IsLocalFault fault }
@@ -45,15 +56,37 @@ fn refusal(fault: RunFault) -> BootFault
     }
 }
 
-/// A link to a host that this boot began.
-fn booted_link(alloc: Global, boot: Boot, schedule: Schedule) -> Result<LocalLink, BootFault>
+/// A link to a host, which notes the events of the run if they are asked for.
+fn link_to(alloc: Global, host: Host, schedule: Schedule, notes: bool) -> LocalLink
+    ensures host { host_of result ≡ host }
+    ensures schedule { schedule_of result ≡ schedule }
+    ensures noted { noted_of result ≡ noted_if notes [] }
+    ensures given { given_of result ≡ 0 }
+    ensures whole { faults_of result ≡ 0 }
+    ensures going { is_over result ≡ false }
+{
+    if notes {
+        LocalLink::noting(alloc, host, schedule)
+    } else {
+        LocalLink::new(host, schedule)
+    }
+}
+
+/// A link to a host that this boot began, which notes the events of the run if they are asked for.
+fn booted_link(
+    alloc: Global,
+    boot: Boot,
+    schedule: Schedule,
+    notes: bool,
+) -> Result<LocalLink, BootFault>
     ensures link { IfOk result (IsBooted boot schedule) }
+    ensures noted { IfOk result (λ link. noted_of link ≡ noted_if notes []) }
     ensures accepted { OnOk result (fault_of boot ≡ None) }
     ensures fault { IfErr result (Refuses boot) }
     ensures refused { (e : BootFault) → fault_of boot ≡ Some e → result ≡ Err e }
 {
     let host = Host::boot(alloc, boot)?;
-    let link = LocalLink::new(host, schedule);
+    let link = link_to(alloc, host, schedule, notes);
     Ok(link)
 }
 
@@ -111,7 +144,7 @@ pub fn run_local(
 {
     let mut options = options;
     options.follow = boot.follow;
-    let mut link = booted_link(alloc, boot, schedule)?;
+    let mut link = booted_link(alloc, boot, schedule, false)?;
     booted_runs_tell();
     let mut trace = Written::new(alloc);
     match kept_run(alloc, &mut link, &mut trace, script, options) {
@@ -127,23 +160,27 @@ pub fn run_local(
     }
 }
 
-/// Boots a guest, and traces it in this process to any writer, as the trace comes. The boot's follow counts, not that
-/// of the options. The outer fault is the boot's, or Memory where memory runs out in booting.
+/// Boots a guest, and traces it in this process to any writer, as the trace comes; notes the events of the run if they are
+/// asked for. The boot's follow counts, not that of the options. The outer fault is the boot's, or Memory where memory
+/// runs out in booting.
 pub fn trace_local<W: Sink>(
     alloc: Global,
     boot: Boot,
     schedule: Schedule,
+    notes: bool,
     script: Script,
     options: Options,
     writer: &mut W,
-) -> Result<Result<Ended, RunFault>, BootFault>
+) -> Result<Local, BootFault>
     ensures trace { IfOk result
-        (λ ended. TraceOf boot schedule script options ended (writer_of W.contents W.puts W.broken writer.old)
+        (λ local. TraceOf boot schedule script options local.ended (writer_of W.contents W.puts W.broken writer.old)
         (writer_of W.contents W.puts W.broken writer.new)) }
 
     // Memory was refused or the writer failed; or the schedule had 2^40 - 1 events to come, and those of `Schedule`'s
     // own functions have 2^39 at most.
-    ensures fails { IfOk result (λ ended. IfErr ended (FailsBy (events_left schedule) (W.broken writer.new))) }
+    ensures fails { IfOk result (λ local. IfErr local.ended (FailsBy (events_left schedule) (W.broken writer.new))) }
+    ensures left { IfOk result
+        (λ local. OnOk local.ended (Leaves boot schedule script options notes local.host local.events)) }
     ensures unwritten { OnErr result (writer_of W.contents W.puts W.broken writer.new
         ≡ writer_of W.contents W.puts W.broken writer.old) }
     ensures accepted { OnOk result (fault_of boot ≡ None) }
@@ -154,9 +191,14 @@ pub fn trace_local<W: Sink>(
 {
     let mut options = options;
     options.follow = boot.follow;
-    let mut local = booted_link(alloc, boot, schedule)?;
+    let mut local = booted_link(alloc, boot, schedule, notes)?;
     booted_runs_tell();
+    booted_runs_leave();
     let ended = run(alloc, &mut local, writer, script, options);
-    drop(local);
-    Ok(ended)
+    let (host, events) = local.into_parts();
+    Ok(Local {
+        ended,
+        host,
+        events,
+    })
 }

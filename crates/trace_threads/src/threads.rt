@@ -5,6 +5,7 @@ ghost use Rattle.lx_boot.specs.Boots.{fault_of};
 ghost use Rattle.lx_boot.specs.declared.boots.BootFault.{BootFault};
 ghost use Rattle.trace_threads.specs.ThreadRuns.{Faults, ThreadRun};
 
+use crate::events::note_journal;
 use crate::fault::ThreadsFault;
 use crate::finish::finish;
 use crate::traced::trace_on_threads;
@@ -15,6 +16,7 @@ use lx_copies::Copied;
 use lx_proc::{Shared, UserState};
 use lx_turn::laws::linux_is_a_machine;
 use pt_journal::laws::journals_tell;
+use pt_kernel::Events;
 use pt_kernel::laws::linux_is_told;
 use pt_model::laws::tracing_is_transparent;
 use std::alloc::Global;
@@ -26,7 +28,8 @@ use trace_run::local::Run;
 
 /// Boots a guest and traces it, its turns made by so many threads, one under each holding of a lock; a worker asks the
 /// gate before each. The boot's follow counts, not that of the options. At most `limit` turns and requests are made.
-pub fn run_threads<G: Gate, R: Threads + Wait + Sync>(
+/// The events of its journal are noted.
+pub fn run_threads_noting<G: Gate, R: Threads + Wait + Sync>(
     rt: &R,
     alloc: Global,
     boot: Boot,
@@ -35,6 +38,7 @@ pub fn run_threads<G: Gate, R: Threads + Wait + Sync>(
     script: Script,
     options: Options,
     gate: &G,
+    noted: &mut Events,
 ) -> Result<Run, ThreadsFault>
     requires some_workers { 1 ≤ workers }
     requires few_workers { workers ≤ 8 }
@@ -71,7 +75,50 @@ pub fn run_threads<G: Gate, R: Threads + Wait + Sync>(
         return Err(ThreadsFault::Boot(BootFault::Memory));
     };
     let traced = trace_on_threads(rt, alloc, &held, workers, script, options, gate);
-    let result = finish(&boot, limit, held.into_inner(), traced);
+    let held = held.into_inner();
+    if note_journal(held.journal(), noted).is_err() {
+        drop(held);
+        drop(traced);
+        drop(boot);
+        return Err(ThreadsFault::Boot(BootFault::Memory));
+    }
+    let result = finish(&boot, limit, held, traced);
     drop(boot);
     result
+}
+
+/// Boots a guest and traces it, its turns made by so many threads, one under each holding of a lock; a worker asks the
+/// gate before each. The boot's follow counts, not that of the options. At most `limit` turns and requests are made.
+pub fn run_threads<G: Gate, R: Threads + Wait + Sync>(
+    rt: &R,
+    alloc: Global,
+    boot: Boot,
+    workers: u8,
+    limit: u64,
+    script: Script,
+    options: Options,
+    gate: &G,
+) -> Result<Run, ThreadsFault>
+    requires some_workers { 1 ≤ workers }
+    requires few_workers { workers ≤ 8 }
+    requires some { 1 ≤ limit }
+    requires most { limit ≤ 2 ^ 39 }
+    ensures run { IfOk result (λ run. ThreadRun boot limit script options run) }
+    ensures accepted { OnOk result (fault_of boot ≡ None) }
+    ensures fault { IfErr result (λ fault. Faults boot fault) }
+
+    // A boot with a fault is refused with it, whatever the memory.
+    ensures refused { (e : BootFault) → fault_of boot ≡ Some e → result ≡ Err (ThreadsFault.Boot e) }
+{
+    run_threads_noting(
+        rt,
+        alloc,
+        boot,
+        workers,
+        limit,
+        script,
+        options,
+        gate,
+        &mut Events::none(),
+    )
 }

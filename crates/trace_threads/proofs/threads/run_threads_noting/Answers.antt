@@ -5,7 +5,7 @@ use Rattle.tr_core.specs.declared.settings.Options.{Options}
 use Rattle.trace_run.specs.BootedRuns.{following}
 use Rattle.trace_threads.specs.ThreadRuns.{Faults, IsTraced}
 use Rattle.trace_threads.proofs.Journalled.{finished, limits_are_one, on_ok}
-use Rattle.trace_threads.proofs.threads.run_threads.Goals as goal
+use Rattle.trace_threads.proofs.threads.run_threads_noting.Goals as goal
 
 pub returns-clause-run : goal.returns-clause-run
 returns-clause-run g c =
@@ -17,7 +17,7 @@ returns-clause-run g c =
       machine = c.linux_is_a_machine.ensures;
       told = c.linux_is_told.ensures;
     })
-    c.args.boot c.in-Ok-copy.boot c.args.limit c.args.script c.args.options c.into_inner.result c.trace_on_threads-traced.result.given.items c.trace_on_threads-traced.result.trace c.trace_on_threads-traced.result.ended
+    c.args.boot c.in-Ok-copy.boot c.args.limit c.args.script c.args.options c.into_inner-held.result c.trace_on_threads-traced.result.given.items c.trace_on_threads-traced.result.trace c.trace_on_threads-traced.result.ended
     c.in-Ok-copy.ensures
     (subst (λ (x : Options). IfOk c.trace_on_threads-traced.result.ended (λ ended. IsTraced c.args.script x ended c.trace_on_threads-traced.result.given.items c.trace_on_threads-traced.result.trace))
     (limits_are_one (following c.args.options c.args.boot.follow) _) c.trace_on_threads-traced.ensures)
