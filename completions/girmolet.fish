@@ -89,7 +89,7 @@ complete -c strace_cli -l host -r -F -d 'Run the kernel by this program, as gues
 complete -c strace_cli -l host-arg -x -d 'Hand a word to the host'
 complete -c strace_cli -l turns -r -F -d 'A schedule by words'
 complete -c strace_cli -l workers -x -d 'Make the turns on so many threads'
-complete -c strace_cli -l turns-out -r -F -d 'Write the turns that the run took'
+complete -c strace_cli -l turns-out -r -F -d 'Write the events of the run, as a schedule'
 complete -c strace_cli -l limit -x -d 'End after so many events'
 complete -c strace_cli -l file -x -a '(__girmolet_file)' -d 'A file of the guest'
 complete -c strace_cli -l dir -x -a '(__girmolet_file)' -d 'A directory of files for the guest'

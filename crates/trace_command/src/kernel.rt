@@ -4,9 +4,8 @@ ghost use Rattle.std.specs.Prelude.{Ok, IfOk, IsSome, OnErr, OnOk, option_map};
 ghost use Rattle.trace_run.specs.Writers.{writer_of};
 ghost use Rattle.trace_command.specs.Tracing.{Takes, Traces, TracesHere};
 
-use crate::again::Again;
-use crate::behind::{Behind, are_noted, keep_host};
 use crate::fault::host_fault;
+use crate::kept::{Behind, Kept, Record, waits_in};
 use containers::Seq;
 use front_end::{Fault, refuse_boot};
 use host_link::{ChildLink, Link, LinkFault};
@@ -101,21 +100,22 @@ pub fn boot_kernel<R: Processes + AllocGlobal>(
     }
 }
 
-/// Runs the tracer with the kernel in this process. A boot without a fault is refused only for memory.
-fn run_here<W: Sink>(
+/// Runs the tracer with the kernel in this process, and keeps what is asked for beside the trace. A boot without a fault
+/// is refused only for memory.
+pub fn run_here<W: Sink>(
     alloc: Global,
     boot: Boot,
     schedule: Schedule,
     script: Script,
     options: Options,
-    again: &mut Option<Again>,
+    kept: &mut Kept,
     lines: &mut W,
 ) -> Result<Ended, RunFault>
     ensures { TracesHere options script boot schedule result
         (writer_of W.contents W.puts W.broken lines.old) (writer_of W.contents W.puts W.broken lines.new) }
 {
-    let notes = are_noted(again);
-    match trace_local(alloc, boot, schedule, notes, script, options, lines) {
+    let asked = kept.asked;
+    match trace_local(alloc, boot, schedule, asked.events, script, options, lines) {
         Ok(
             Local {
                 ended,
@@ -123,7 +123,9 @@ fn run_here<W: Sink>(
                 events,
             },
         ) => {
-            keep_host(again, host, events);
+            let waits = waits_in(alloc, asked, &ended, host.kernel());
+            drop(host);
+            kept.record = Record { events, waits };
             ended
         }
         Err(_) => Err(RunFault::Link(LinkFault::Memory)),
@@ -144,8 +146,8 @@ pub fn run_kernel<P: OpenProcess + Drop, W: Sink>(
 {
     match kernel {
         Kernel::Here(boot, schedule) => {
-            let again = &mut behind.again;
-            run_here(alloc, boot, schedule, script, options, again, lines)
+            let kept = &mut behind.kept;
+            run_here(alloc, boot, schedule, script, options, kept, lines)
         }
         Kernel::There(mut link) => {
             let ended = run(alloc, &mut link, lines, script, options);

@@ -1,15 +1,16 @@
 //! The command that traces a run: its words, where the kernel runs, where the trace and the console go.
 #![tactic(auto)]
 
-mod again;
-mod behind;
 mod entry;
 mod fault;
+mod kept;
 mod kernel;
 mod lines;
 mod place;
 mod plan;
+mod prepared;
 mod running;
+mod second;
 mod threads;
 mod tracing;
 mod turns_out;

@@ -3,10 +3,12 @@
 use crate::words::TraceOptions;
 use clap::ArgMatches;
 use front_end::{
-    BootWords, Fault, Leavings, boot_of, check_boot, check_outputs, read_expressions, read_turns,
+    BootWords, Expressions, Fault, Leavings, boot_of, check_boot, check_outputs, read_expressions,
+    read_turns,
 };
 use lx_abi::{Boot, Script, Word};
-use std::alloc::Global;
+use lx_copies::Copied;
+use std::alloc::{AllocError, Global};
 use std::io::{IsTerminal, Read, Write};
 use std::rt::Files;
 use tr_core::Options;
@@ -18,6 +20,34 @@ pub struct Plan {
     pub options: Options,
     /// The words of the schedule.
     pub turns: Vec<Word>,
+}
+
+fn copy_words(alloc: Global, words: &[Word]) -> Result<Vec<Word>, AllocError> {
+    let mut copy = Vec::new(alloc);
+    for word in words {
+        copy.push(*word)?;
+    }
+    Ok(copy)
+}
+
+impl Plan {
+    /// Another that is alike.
+    pub fn again(&self, alloc: Global, matches: &ArgMatches) -> Result<Plan, Fault> {
+        let boot = self.boot.copy(alloc)?;
+        let turns = copy_words(alloc, self.turns.as_slice())?;
+        let Expressions { shown, script } = read_expressions(alloc, matches)?;
+        Ok(Plan {
+            boot,
+            script,
+            options: Options {
+                follow: self.options.follow,
+                shown,
+                string_limit: self.options.string_limit,
+                width: self.options.width,
+            },
+            turns,
+        })
+    }
 }
 
 fn boot<R: Files + AllocGlobal, I: Read + IsTerminal, E: Write + IsTerminal>(

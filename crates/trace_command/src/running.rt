@@ -7,8 +7,8 @@ ghost use Rattle.trace_command.specs.Faults.{IsFaultOf};
 ghost use Rattle.trace_command.specs.Tracing.{EndsLine, IsFile, Puts, Reaches, RunsTo, Settles, Traces, Unmade};
 ghost use Rattle.trace_command.specs.Tracing.{WritesFile, WritesTo};
 
-use crate::behind::Behind;
 use crate::fault::host_fault;
+use crate::kept::Behind;
 use crate::kernel::{Kernel, run_kernel};
 use crate::lines::{LineSink, Lines};
 use crate::place::{Place, create};

@@ -6,13 +6,13 @@ ghost use Rattle.trace_threads.specs.ThreadRuns.{ThreadRun};
 ghost use Rattle.trace_command.specs.Tracing.{PutsTrace, RunsTo, Settles, TracesOnThreads, Unmade};
 ghost use Rattle.trace_command.specs.Tracing.{WritesFile, WritesTo};
 
-use crate::again::Again;
-use crate::behind::are_noted;
 use crate::fault::threads_fault;
+use crate::kept::Kept;
 use crate::lines::{LineSink, Lines};
 use crate::place::{Place, create};
 use crate::plan::Plan;
 use crate::running::{settle, write};
+use crate::second::keep_threaded;
 use crate::words::Workers;
 use containers::Bytes;
 use front_end::Fault;
@@ -186,23 +186,12 @@ fn trace_to_place<R: Files + Threads + Wait + Sync + AllocGlobal, O: Sink, E: Si
     }
 }
 
-/// Keeps what a run leaves, where it is asked for.
-fn keep_turns(again: &mut Option<Again>, turns: Turns, events: Events) {
-    match again {
-        Some(again) => again.know_turns(turns, events),
-        None => {
-            drop(turns);
-            drop(events);
-        }
-    }
-}
-
 /// What comes of a run that was written; what it leaves is kept.
 fn settle_threaded<E: LineSink>(
     alloc: Global,
     run: Threaded,
     place: Place<'_>,
-    again: &mut Option<Again>,
+    kept: &mut Kept,
     err: &mut E,
 ) -> Result<Outcome, Fault>
     ensures { Settles place.entry run.ended result
@@ -213,7 +202,7 @@ fn settle_threaded<E: LineSink>(
         turns,
         events,
     } = run;
-    keep_turns(again, turns, events);
+    keep_threaded(alloc, &ended, turns, events, kept);
     settle(alloc, ended, place, err)
 }
 
@@ -224,7 +213,7 @@ pub fn trace_on_threads<R: Files + Threads + Wait + Sync + AllocGlobal, O: Sink,
     plan: Plan,
     workers: Workers,
     place: Place<'_>,
-    again: &mut Option<Again>,
+    kept: &mut Kept,
     out: &mut O,
     err: &mut E,
 ) -> Result<Outcome, Fault>
@@ -235,9 +224,9 @@ pub fn trace_on_threads<R: Files + Threads + Wait + Sync + AllocGlobal, O: Sink,
         (writer_of O.contents O.puts O.broken out.old) (writer_of O.contents O.puts O.broken out.new)
         (writer_of E.contents E.puts E.broken err.old) (writer_of E.contents E.puts E.broken err.new) }
 {
-    let notes = are_noted(again);
+    let notes = kept.asked.events;
     match trace_to_place(rt, plan, workers, notes, place, out, &mut *err) {
-        Ok(run) => settle_threaded(rt.alloc(), run, place, again, err),
+        Ok(run) => settle_threaded(rt.alloc(), run, place, kept, err),
         Err(fault) => Err(fault),
     }
 }

@@ -1,23 +1,24 @@
 //! A traced run.
 
-ghost use Rattle.std.specs.Prelude.{◌≡◌, ◌⊎◌, None, Ok, IsSome, IfOk, OnErr, codes, is_some, true};
+ghost use Rattle.std.specs.Prelude.{◌≡◌, ◌⊎◌, None, Ok, IsSome, IfOk, OnErr, codes, true};
 ghost use Rattle.trace_run.specs.Writers.{writer_of};
 ghost use Rattle.trace_command.specs.Faults.{has_ended};
 ghost use Rattle.trace_command.specs.Tracing.{Leaves, Left, MayLack, PutsConsole, Runs, Takes, Unmade};
 ghost use Rattle.trace_command.specs.Tracing.{TracesOut, TracesPlan, TracesWords};
 ghost use Rattle.trace_command.specs.Tracing.{asks_for_files, status_in, value_of};
 
-use crate::again::Again;
-use crate::behind::Behind;
 use crate::fault::{host_fault, unwritable};
+use crate::kept::{Behind, Kept};
 use crate::kernel::{Kernel, boot_kernel};
 use crate::lines::{LineSink, Lines};
 use crate::place::Place;
-use crate::plan::{Plan, read_plan};
+use crate::plan::Plan;
+use crate::prepared::{Prepared, prepare};
 use crate::running::{trace_kernel, write};
+use crate::second::make_again;
 use crate::threads::trace_on_threads;
 use crate::turns_out::{create_turns, write_turns};
-use crate::words::TraceOptions;
+use crate::words::{TraceOptions, is_given};
 use clap::ArgMatches;
 use front_end::{Fault, Leavings, Program};
 use host_link::LinkFault;
@@ -105,8 +106,8 @@ fn run_as_asked<R: Files + Processes + Threads + Wait + Sync + AllocGlobal, O: S
     match options.workers {
         None => run_plan(rt, matches, plan, options.limit, behind, place, out, err),
         Some(workers) => {
-            let again = &mut behind.again;
-            trace_on_threads(rt, plan, workers, place, again, out, err)
+            let kept = &mut behind.kept;
+            trace_on_threads(rt, plan, workers, place, kept, out, err)
         }
     }
 }
@@ -136,16 +137,6 @@ fn write_console<O: Sink>(alloc: Global, outcome: &Outcome, out: &mut O) -> Resu
         Err(Broken) => Err(unwritable(format!(in alloc;
             "the console could not be written to standard output"
         ))),
-    }
-}
-
-/// The option has a value.
-fn is_given(matches: &ArgMatches, name: &str) -> bool
-    ensures { result ≡ is_some (value_of matches.now name.now) }
-{
-    match matches.get_str(name) {
-        Some(_) => true,
-        None => false,
     }
 }
 
@@ -204,7 +195,7 @@ fn has_ended(made: &Result<Outcome, Fault>) -> bool
 fn leave_turns<W: Write + Drop>(
     alloc: Global,
     matches: &ArgMatches,
-    again: &mut Option<Again>,
+    kept: &mut Kept,
     made: &Result<Outcome, Fault>,
     file: Option<W>,
 ) -> Result<(), Fault>
@@ -213,17 +204,14 @@ fn leave_turns<W: Write + Drop>(
     if !has_ended(made) {
         return Ok(());
     }
-    match (matches.get_str("turns-out"), file, again) {
-        (Some(path), Some(file), Some(again)) => {
-            let events = match again.events(alloc, matches) {
-                Ok(events) => events,
-                Err(fault) => {
-                    drop(file);
-                    return Err(fault);
-                }
-            };
-            write_turns(alloc, path, file, events)
-        }
+    match (matches.get_str("turns-out"), file) {
+        (Some(path), Some(file)) => match make_again(alloc, kept) {
+            Ok(()) => write_turns(alloc, path, file, &kept.record.events),
+            Err(fault) => {
+                drop(file);
+                Err(fault)
+            }
+        },
         _ => Ok(()),
     }
 }
@@ -232,7 +220,7 @@ fn leave_turns<W: Write + Drop>(
 fn leave<R: Files + AllocGlobal, W: Write + Drop, O: Sink>(
     rt: &R,
     matches: &ArgMatches,
-    again: &mut Option<Again>,
+    kept: &mut Kept,
     made: Result<Outcome, Fault>,
     file: Option<W>,
     out: &mut O,
@@ -240,7 +228,7 @@ fn leave<R: Files + AllocGlobal, W: Write + Drop, O: Sink>(
     ensures { Leaves matches.now (IsSome file) made result
         (writer_of O.contents O.puts O.broken out.old) (writer_of O.contents O.puts O.broken out.new) }
 {
-    match leave_turns(rt.alloc(), matches, again, &made, file) {
+    match leave_turns(rt.alloc(), matches, kept, &made, file) {
         Ok(()) => (),
         Err(fault) => {
             drop(made);
@@ -282,7 +270,7 @@ fn trace_plan<R: Files + Processes + Threads + Wait + Sync + AllocGlobal, O: Sin
         }
     };
     let made = run_as_asked(rt, matches, options, plan, behind, place, &mut *out, err);
-    leave(rt, matches, &mut behind.again, made, file, out)
+    leave(rt, matches, &mut behind.kept, made, file, out)
 }
 
 /// What comes of a run, and its outputs behind it.
@@ -331,13 +319,16 @@ fn explain_program<E: Write>(
 }
 
 /// The fault of a run, which for the end of the turns says who waits.
-fn explain_fault(alloc: Global, matches: &ArgMatches, again: Option<Again>, fault: Fault) -> Fault {
-    match (fault, again) {
-        (Fault::OutOfTurns(_), Some(mut again)) => match again.waits(alloc, matches) {
-            Ok(waits) => Fault::OutOfTurns(Some(waits)),
+fn explain_fault(alloc: Global, kept: &mut Kept, fault: Fault) -> Fault {
+    match fault {
+        Fault::OutOfTurns(_) => match make_again(alloc, kept) {
+            Ok(()) => match kept.record.waits.take() {
+                Some(waits) => Fault::OutOfTurns(Some(waits)),
+                None => Fault::Memory,
+            },
             Err(fault) => fault,
         },
-        (fault, _) => fault,
+        fault => fault,
     }
 }
 
@@ -345,8 +336,7 @@ fn explain_fault(alloc: Global, matches: &ArgMatches, again: Option<Again>, faul
 /// in the fault.
 fn explain<E: Write>(
     alloc: Global,
-    matches: &ArgMatches,
-    again: Option<Again>,
+    kept: &mut Kept,
     program: Option<Program>,
     ended: Result<u8, Fault>,
     err: &mut E,
@@ -361,43 +351,8 @@ fn explain<E: Write>(
             Ok(()) => Ok(status),
             Err(fault) => Err(fault),
         },
-        Err(fault) => Err(explain_fault(alloc, matches, again, fault)),
+        Err(fault) => Err(explain_fault(alloc, kept, fault)),
     }
-}
-
-/// A run that is to be made.
-#[derive(Drop)]
-struct Prepared {
-    plan: Plan,
-    again: Option<Again>,
-    /// The guest's program, where the run's end is explained.
-    program: Option<Program>,
-}
-
-fn prepare<R: Files + AllocGlobal, I: Read + IsTerminal, E: Write + IsTerminal>(
-    rt: &R,
-    matches: &ArgMatches,
-    options: TraceOptions,
-    input: &mut I,
-    err: &mut E,
-) -> Result<Prepared, Fault> {
-    let plan = read_plan(rt, matches, options, input, err)?;
-    let notes = matches.get_str("turns-out").is_some();
-    let again = if options.explain || notes {
-        Some(Again::of(rt.alloc(), &plan, options.limit, notes)?)
-    } else {
-        None
-    };
-    let program = if options.explain {
-        Some(Program::of(rt.alloc(), &plan.boot)?)
-    } else {
-        None
-    };
-    Ok(Prepared {
-        plan,
-        again,
-        program,
-    })
 }
 
 /// Makes the run, and gives the exit status. The console goes to `out` once the run is whole, before a host in a process
@@ -421,7 +376,7 @@ pub fn trace<
 {
     let Prepared {
         plan,
-        again,
+        kept,
         program,
     } = match prepare(rt, matches, options, input, &mut err) {
         Ok(prepared) => prepared,
@@ -433,15 +388,14 @@ pub fn trace<
             };
         }
     };
-    let mut behind = Behind { again, link: None };
+    let mut behind = Behind { kept, link: None };
     let traced = trace_to(rt, matches, options, plan, &mut behind, out, err);
     let Traced {
         status,
         out,
         mut err,
     } = traced;
-    let Behind { again, link } = behind;
-    let status = explain(rt.alloc(), matches, again, program, status, &mut err);
-    drop(link);
+    let status = explain(rt.alloc(), &mut behind.kept, program, status, &mut err);
+    drop(behind);
     Traced { status, out, err }
 }

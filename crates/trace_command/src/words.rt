@@ -1,6 +1,7 @@
 //! What the command line asks for.
 
-ghost use Rattle.std.specs.Prelude.{◌≤◌, ◌^◌, IfOk, IfSome};
+ghost use Rattle.std.specs.Prelude.{◌≡◌, ◌≤◌, ◌^◌, IfOk, IfSome, is_some};
+ghost use Rattle.trace_command.specs.Tracing.{value_of};
 
 use clap::{Arg, ArgAction, ArgMatches, Command, Error};
 use front_end::{
@@ -87,6 +88,16 @@ pub struct TraceOptions {
     pub workers: Option<Workers>,
     /// Faults are explained.
     pub explain: bool,
+}
+
+/// The option has a value.
+pub fn is_given(matches: &ArgMatches, name: &str) -> bool
+    ensures { result ≡ is_some (value_of matches.now name.now) }
+{
+    match matches.get_str(name) {
+        Some(_) => true,
+        None => false,
+    }
 }
 
 /// Adds an option with a letter, a name and a value.
@@ -221,7 +232,7 @@ fn with_kernel<'a>(alloc: Global, command: Command<'a>) -> Result<Command<'a>, A
         command,
         "turns-out",
         "FILE",
-        "Writes the turns of the run to this file, as --turns takes them",
+        "Writes the events of the run to this file, as --turns takes them",
     )?;
     with_limit(
         alloc,
