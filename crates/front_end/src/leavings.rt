@@ -172,14 +172,27 @@ fn write_file<R: Files + AllocGlobal>(
     }
 }
 
+/// A fault behind which so many files and directories of all were written.
+fn cut_short(alloc: Global, fault: Fault, written: usize, all: usize) -> Fault {
+    match fault {
+        Fault::Output(text) => Fault::output(format!(in alloc;
+            "{text}; {written} of {all} files and directories were written"
+        )),
+        fault => fault,
+    }
+}
+
 /// Makes each file and directory. Paths come in the order of their bytes, so a directory comes before what is in it.
 fn write_files<R: Files + AllocGlobal>(
     rt: &R,
     directory: &str,
     files: &[OutcomeFile],
 ) -> Result<(), Fault> {
-    for file in files {
-        write_file(rt, directory, file)?;
+    for (written, file) in files.iter().enumerate() {
+        match write_file(rt, directory, file) {
+            Ok(()) => {}
+            Err(fault) => return Err(cut_short(rt.alloc(), fault, written, files.len())),
+        }
     }
     Ok(())
 }
