@@ -1,7 +1,7 @@
 //! Input that is looked at while a request is served, so that its end is noticed.
 
 use std::alloc::Global;
-use std::io::{self, BufRead, BufReader, Read};
+use std::io::{self, BufRead, BufReader, ErrorKind, Read};
 use std::os::unix::process::parent_id;
 use std::rt::Process;
 use std::sync::{Arc, Condvar, Mutex, Wait};
@@ -33,7 +33,7 @@ impl<I: Read> Watched<I> {
     fn has_ended(&mut self) -> bool {
         match self.input.fill_buf() {
             Ok(bytes) => bytes.is_empty(),
-            Err(_) => true,
+            Err(error) => error.kind() != ErrorKind::Interrupted,
         }
     }
 }
