@@ -1,14 +1,15 @@
 //! Readers and writers of std as ends of a stream.
 
-ghost use Rattle.std.specs.Prelude.{◌≡◌, [], OnOk, OnErr};
-ghost use Rattle.std.specs.Io.KnownBytes.{Appends};
+ghost use Rattle.std.specs.Prelude.{◌≡◌, ◌≤◌, [], length, IfOk, OnOk, OnErr};
+ghost use Rattle.std.specs.Io.KnownBytes.{Appends, Keeps, ReadConsumes};
 ghost use Rattle.host_wire.specs.Ends.{AppendsPart};
 
 use crate::ends::{Broken, Sink, Source};
 use history::History;
 use std::io::{ErrorKind, Read, Write};
 
-/// A reader or writer of std that counts its failure, and fails for good once it has.
+/// A reader or writer of std that counts its failure, and fails for good once it has. What a signal interrupts is no
+/// failure.
 #[derive(Drop)]
 pub struct Counted<T> {
     inner: T,
@@ -39,6 +40,24 @@ impl<T> Counted<T> {
     }
 }
 
+/// Reads some bytes. A read that a signal interrupts is made again.
+fn read_again<R: Read>(reader: &mut R, into: &mut [u8]) -> Result<usize, Broken>
+    ensures within { IfOk result (λ n. n ≤ length into.old) }
+    ensures bytes { ReadConsumes (R.remaining reader.old) (R.remaining reader.new) result into.new }
+{
+    for _ in 0..u64::MAX {
+        match reader.read(into) {
+            Ok(count) => return Ok(count),
+            Err(fault) => {
+                if fault.kind() != ErrorKind::Interrupted {
+                    return Err(Broken);
+                }
+            }
+        }
+    }
+    Err(Broken)
+}
+
 impl<R: Read> Source for Counted<R> {
     ghost use Rattle.host_wire.specs.Counting.{input_of};
 
@@ -49,12 +68,12 @@ impl<R: Read> Source for Counted<R> {
             self.calls = self.calls.and(&0);
             return Err(Broken);
         }
-        match self.inner.read(into) {
+        match read_again(&mut self.inner, into) {
             Ok(count) => {
                 self.calls = self.calls.and(&count);
                 Ok(count)
             }
-            Err(_) => {
+            Err(Broken) => {
                 self.broken = true;
                 self.calls = self.calls.and(&0);
                 Err(Broken)
@@ -90,16 +109,30 @@ fn write_whole<W: Write>(writer: &mut W, bytes: &[u8]) -> Result<(), Broken>
     Err(Broken)
 }
 
+/// Hands on what was kept back. A flush that a signal interrupts is made again.
+fn flush_again<W: Write>(writer: &mut W) -> Result<(), Broken>
+    ensures { Keeps (W.contents writer.old) (W.contents writer.new) }
+{
+    for _ in 0..u64::MAX {
+        match writer.flush() {
+            Ok(()) => return Ok(()),
+            Err(fault) => {
+                if fault.kind() != ErrorKind::Interrupted {
+                    return Err(Broken);
+                }
+            }
+        }
+    }
+    Err(Broken)
+}
+
 /// Writes all of the bytes, and hands on what was kept back.
 fn write_out<W: Write>(writer: &mut W, bytes: &[u8]) -> Result<(), Broken>
     ensures whole { OnOk result (Appends (W.contents writer.old) (W.contents writer.new) bytes.now) }
     ensures part { OnErr result (AppendsPart (W.contents writer.old) (W.contents writer.new) bytes.now) }
 {
     match write_whole(writer, bytes) {
-        Ok(()) => match writer.flush() {
-            Ok(()) => Ok(()),
-            Err(_) => Err(Broken),
-        },
+        Ok(()) => flush_again(writer),
         Err(Broken) => Err(Broken),
     }
 }
