@@ -3,6 +3,7 @@
 
 mod entry;
 mod fault;
+mod given;
 mod kept;
 mod kernel;
 mod lines;

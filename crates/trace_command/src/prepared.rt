@@ -1,8 +1,9 @@
 //! What is made ready before a run.
 
+use crate::given::is_given;
 use crate::kept::{Asked, Kept, Record};
 use crate::plan::{Plan, read_plan};
-use crate::words::{TraceOptions, is_given};
+use crate::words::TraceOptions;
 use clap::ArgMatches;
 use front_end::{Fault, Program};
 use std::alloc::Global;

@@ -8,6 +8,7 @@ ghost use Rattle.trace_command.specs.Tracing.{TracesOut, TracesPlan, TracesWords
 ghost use Rattle.trace_command.specs.Tracing.{asks_for_files, status_in, value_of};
 
 use crate::fault::{host_fault, unwritable};
+use crate::given::is_given;
 use crate::kept::{Behind, Kept};
 use crate::kernel::{Kernel, boot_kernel};
 use crate::lines::{LineSink, Lines};
@@ -18,7 +19,7 @@ use crate::running::{trace_kernel, write};
 use crate::second::make_again;
 use crate::threads::trace_on_threads;
 use crate::turns_out::{create_turns, write_turns};
-use crate::words::{TraceOptions, is_given};
+use crate::words::TraceOptions;
 use clap::ArgMatches;
 use front_end::{Fault, Leavings, Program};
 use host_link::LinkFault;

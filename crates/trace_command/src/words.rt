@@ -1,7 +1,6 @@
 //! What the command line asks for.
 
-ghost use Rattle.std.specs.Prelude.{◌≡◌, ◌≤◌, ◌^◌, IfOk, IfSome, is_some};
-ghost use Rattle.trace_command.specs.Tracing.{value_of};
+ghost use Rattle.std.specs.Prelude.{◌≤◌, ◌^◌, IfOk, IfSome};
 
 use clap::{Arg, ArgAction, ArgMatches, Command, Error};
 use front_end::{
@@ -88,16 +87,6 @@ pub struct TraceOptions {
     pub workers: Option<Workers>,
     /// Faults are explained.
     pub explain: bool,
-}
-
-/// The option has a value.
-pub fn is_given(matches: &ArgMatches, name: &str) -> bool
-    ensures { result ≡ is_some (value_of matches.now name.now) }
-{
-    match matches.get_str(name) {
-        Some(_) => true,
-        None => false,
-    }
 }
 
 /// Adds an option with a letter, a name and a value.
