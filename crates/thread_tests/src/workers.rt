@@ -54,6 +54,14 @@ fn is_seen(flag: &AtomicBool) -> bool {
 }
 
 impl Gate for Meeting {
+    ghost use Rattle.std.specs.Prelude.{true};
+
+    ghost shuts = { λ _. true };
+
+    fn may_shut(&self) -> bool {
+        true
+    }
+
     fn pass(&self, worker: u8) -> bool {
         let (mine, other) = if worker == 0 { (0, 1) } else { (1, 0) };
         if self.came[mine].load(Ordering::SeqCst) {
