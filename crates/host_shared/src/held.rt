@@ -313,7 +313,8 @@ impl<J: Naming> Held<J> {
             return Err(Memory);
         }
         if self.closed {
-            return self.end(record, mine, self.cut);
+            let cut = self.cut;
+            return self.end(record, mine, cut);
         }
         if self.limit <= self.events {
             return self.end(record, mine, Some(Cut::Limit));
