@@ -55,7 +55,7 @@ module _ (journal : List Entry) (said : List Said) where
       let same : pairs (said ++ Asked q ∷ []) ≡ pairs said = ap (λ (s : List Said). pairs (s ++ Asked q ∷ [])) whole ∙ pairs_asked (pairs said) q in (
         ap (λ s. s ++ Asked q ∷ []) whole ∙ ap (λ (g : Given). spoken g ++ Asked q ∷ []) (sym same),
         subst (λ (g : Given). Leads (journal ++ Ask q ∷ []) g (Some q)) (sym same)
-        (λ more x rest of told.
+            (λ more x rest of told.
             subst (λ (j : List Entry). Told j (pairs said ++ x ∷ rest)) (sym (append_assoc journal (Ask q ∷ []) more))
             (h.1 (Ask q ∷ more) x rest tt (of, told))),
       )
@@ -84,7 +84,7 @@ module _ (journal : List Entry) (said : List Said) where
     heard_served = (
       whole_now ∙ sym (append-nil (spoken (pairs (said ++ Answered r ∷ [])))),
       subst (λ (g : Given). Leads (journal ++ Did Serve (Some r) ∷ []) g None) (sym more_pairs)
-      (λ more x rest of told.
+          (λ more x rest of told.
           subst (λ (g : Given). Told ((journal ++ Did Serve (Some r) ∷ []) ++ more) g) (sym (append_assoc (pairs said) ((q, r) ∷ []) (x ∷ rest)))
           (subst (λ (j : List Entry). Told j (pairs said ++ (q, r) ∷ x ∷ rest)) (sym (append_assoc journal (Did Serve (Some r) ∷ []) more))
           (h.1 (Did Serve (Some r) ∷ more) (q, r) (x ∷ rest) refl (refl, told)))),
@@ -95,7 +95,7 @@ module _ (journal : List Entry) (said : List Said) where
     heard_last = (
       whole_now,
       subst (λ (g : Given). Told (journal ++ Did Serve (Some r) ∷ []) g) (sym more_pairs)
-      (h.1 (Did Serve (Some r) ∷ []) (q, r) [] refl (refl, inl refl)),
+          (h.1 (Did Serve (Some r) ∷ []) (q, r) [] refl (refl, inl refl)),
     )
 
     pub heard_over : (over : Bool) → IsHeard over (journal ++ Did Serve (Some r) ∷ []) (said ++ Answered r ∷ []) None
@@ -107,8 +107,8 @@ module _ (journal : List Entry) (said : List Said) where
   heard_end q h pending = (
     whole_now q Out_of_turns h,
     subst (λ (g : Given). Told journal g) (sym (more_pairs q Out_of_turns h))
-    (subst (λ (j : List Entry). Told j (pairs said ++ (q, Out_of_turns) ∷ [])) (append-nil journal)
-    (h.1 [] (q, Out_of_turns) [] refl (inr (q, refl)))),
+        (subst (λ (j : List Entry). Told j (pairs said ++ (q, Out_of_turns) ∷ [])) (append-nil journal)
+        (h.1 [] (q, Out_of_turns) [] refl (inr (q, refl)))),
   )
 
   pub heard_refused : (q : Request) → IsHeard false journal said None → (pending : Option Request) → IsHeard true journal (said ++ Asked q ∷ Answered Out_of_turns ∷ []) pending
@@ -118,6 +118,6 @@ module _ (journal : List Entry) (said : List Said) where
       let is : pairs (said ++ Asked q ∷ Answered Out_of_turns ∷ []) ≡ pairs said ++ (q, Out_of_turns) ∷ [] = pairs_added (pairs said) (said ++ Asked q ∷ Answered Out_of_turns ∷ []) q Out_of_turns parts' in (
         parts' ∙ sym (spoken_more (pairs said) q Out_of_turns) ∙ ap spoken (sym is),
         subst (λ (g : Given). Told journal g) (sym is)
-        (subst (λ (j : List Entry). Told j (pairs said ++ (q, Out_of_turns) ∷ [])) (append-nil journal)
-        (h.1 [] (q, Out_of_turns) [] tt (inr (q, refl)))),
+            (subst (λ (j : List Entry). Told j (pairs said ++ (q, Out_of_turns) ∷ [])) (append-nil journal)
+            (h.1 [] (q, Out_of_turns) [] tt (inr (q, refl)))),
       )

@@ -18,8 +18,7 @@ ghost use Rattle.host_shared.specs.HeldStates.{CanPut, CanRefuse, CanServe, CanS
 use crate::cut::Cut;
 use crate::exchanges::Exchanges;
 use crate::roster::Roster;
-use crate::saying;
-use crate::steps;
+use crate::{saying, steps};
 use lx_abi::{Boot, Reply, Request};
 use lx_boot::BootFault;
 use lx_copies::Copied;
@@ -133,7 +132,7 @@ impl<J: Naming> Held<J> {
     /// Puts a request, which will be served: an Ask.
     pub fn put(
         &mut self,
-        record: &Record<J>,
+        book: &Record<J>,
         mine: &mut Transcript<J>,
         request: Request,
     ) -> Result<(), Memory>
@@ -150,7 +149,7 @@ impl<J: Naming> Held<J> {
         match steps::put(
             &mut self.host,
             &mut self.journal,
-            record,
+            book,
             &mut self.said,
             mine,
             request,
@@ -170,7 +169,7 @@ impl<J: Naming> Held<J> {
     /// Refuses a request, where this is closed: it is out of turns.
     pub fn refuse(
         &mut self,
-        record: &Record<J>,
+        book: &Record<J>,
         mine: &mut Transcript<J>,
         request: &Request,
     ) -> Result<(), Memory>
@@ -183,7 +182,7 @@ impl<J: Naming> Held<J> {
         if self.failed {
             return Err(Memory);
         }
-        match saying::refuse(record, &mut self.said, mine, request) {
+        match saying::refuse(book, &mut self.said, mine, request) {
             Ok(()) => {
                 self.over = true;
                 Ok(())
@@ -235,7 +234,7 @@ impl<J: Naming> Held<J> {
     /// It is out of turns, for this reason: nothing more is said.
     fn end(
         &mut self,
-        record: &Record<J>,
+        book: &Record<J>,
         mine: &mut Transcript<J>,
         cut: Option<Cut>,
     ) -> Result<Option<Reply>, Memory>
@@ -245,7 +244,7 @@ impl<J: Naming> Held<J> {
         ensures failed { OnErr result (Stopped self.new) }
     {
         let reply = Reply::OutOfTurns;
-        match saying::answer(record, &mut self.said, mine, &reply) {
+        match saying::answer(book, &mut self.said, mine, &reply) {
             Ok(()) => {
                 self.closed = true;
                 self.cut = cut;
@@ -264,7 +263,7 @@ impl<J: Naming> Held<J> {
     /// Serves the pending request, which is ready.
     fn serve_ready(
         &mut self,
-        record: &Record<J>,
+        book: &Record<J>,
         mine: &mut Transcript<J>,
     ) -> Result<Option<Reply>, Memory>
         requires can { CanServeNow self.old }
@@ -277,7 +276,7 @@ impl<J: Naming> Held<J> {
             &mut self.host,
             &mut self.journal,
             &mut self.noted,
-            record,
+            book,
             &mut self.said,
             mine,
         ) {
@@ -300,7 +299,7 @@ impl<J: Naming> Held<J> {
     /// its limit, or where no process is able and the request waits; none where a turn may yet answer it.
     pub fn serve(
         &mut self,
-        record: &Record<J>,
+        book: &Record<J>,
         mine: &mut Transcript<J>,
     ) -> Result<Option<Reply>, Memory>
         requires { CanServe self.old }
@@ -314,18 +313,18 @@ impl<J: Naming> Held<J> {
         }
         if self.closed {
             let cut = self.cut;
-            return self.end(record, mine, cut);
+            return self.end(book, mine, cut);
         }
         if self.limit <= self.events {
-            return self.end(record, mine, Some(Cut::Limit));
+            return self.end(book, mine, Some(Cut::Limit));
         }
         if self.host.ready() {
-            return self.serve_ready(record, mine);
+            return self.serve_ready(book, mine);
         }
         if self.host.next(self.last).is_some() {
             return Ok(None);
         }
-        self.end(record, mine, Some(Cut::Nobody))
+        self.end(book, mine, Some(Cut::Nobody))
     }
 
     /// Nothing more is done.

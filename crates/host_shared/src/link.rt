@@ -24,7 +24,7 @@ fn is_boot(request: &Request) -> bool
 /// Refuses a request, under the lock, where no turns are made any more.
 fn refuse<J: Naming>(
     held: &mut Held<J>,
-    record: &Record<J>,
+    book: &Record<J>,
     mine: &mut Transcript<J>,
     request: Request,
 ) -> Result<Reply, LinkFault>
@@ -35,7 +35,7 @@ fn refuse<J: Naming>(
     if held.is_over() || held.is_pending() {
         return Err(LinkFault::Sequence);
     }
-    match held.refuse(record, mine, &request) {
+    match held.refuse(book, mine, &request) {
         Ok(()) => Ok(Reply::OutOfTurns),
         Err(_) => Err(LinkFault::Memory),
     }
@@ -44,7 +44,7 @@ fn refuse<J: Naming>(
 /// Puts a request, under the lock: what it is answered at once, where it isn't put.
 fn put<J: Naming>(
     held: &mut Held<J>,
-    record: &Record<J>,
+    book: &Record<J>,
     mine: &mut Transcript<J>,
     request: Request,
 ) -> Option<Result<Reply, LinkFault>>
@@ -56,12 +56,12 @@ fn put<J: Naming>(
         return Some(Err(LinkFault::Memory));
     }
     if held.is_closed() {
-        return Some(refuse(held, record, mine, request));
+        return Some(refuse(held, book, mine, request));
     }
     if held.is_pending() {
         return Some(Err(LinkFault::Sequence));
     }
-    match held.put(record, mine, request) {
+    match held.put(book, mine, request) {
         Ok(()) => None,
         Err(_) => Some(Err(LinkFault::Memory)),
     }
@@ -70,7 +70,7 @@ fn put<J: Naming>(
 /// Tries to serve the pending request, under the lock: none where it waits.
 fn attempt<J: Naming>(
     held: &mut Held<J>,
-    record: &Record<J>,
+    book: &Record<J>,
     mine: &mut Transcript<J>,
 ) -> Option<Result<Reply, LinkFault>>
     ensures tried { Tries held.old result held.new }
@@ -82,7 +82,7 @@ fn attempt<J: Naming>(
     if held.is_over() || !held.is_pending() {
         return Some(Err(LinkFault::Sequence));
     }
-    match held.serve(record, mine) {
+    match held.serve(book, mine) {
         Ok(None) => None,
         Ok(Some(reply)) => Some(Ok(reply)),
         Err(_) => Some(Err(LinkFault::Memory)),
@@ -101,11 +101,11 @@ fn ask<J: Naming, R: Wait>(
     ensures fault { IfErr result IsSharedFault }
 {
     let mut guard = shared.held.lock(rt);
-    if let Some(answer) = put(&mut guard, &shared.record, mine, request) {
+    if let Some(answer) = put(&mut guard, &shared.book, mine, request) {
         return answer;
     }
     let mut guard = shared.news.wait_while(rt, guard, |held| held.waits());
-    let answer = attempt(&mut guard, &shared.record, mine);
+    let answer = attempt(&mut guard, &shared.book, mine);
     let able = guard.is_able();
     drop(guard);
     if able {

@@ -10,7 +10,7 @@ use transcript::{Naming, Record, Transcript};
 
 /// A request is said, where both know the same.
 pub fn ask<J: Naming>(
-    record: &Record<J>,
+    book: &Record<J>,
     said: &mut Transcript<J>,
     mine: &mut Transcript<J>,
     request: &Request,
@@ -18,7 +18,7 @@ pub fn ask<J: Naming>(
     ensures said { OnOk result (said.new ≡ said.old ++ Asked request.now ∷ []) }
     ensures mine { OnOk result (mine.new ≡ mine.old ++ Asked request.now ∷ []) }
 {
-    if !mine.agrees(said) || !mine.ask(record, request) {
+    if !mine.agrees(said) || !mine.ask(book, request) {
         return Err(Memory);
     }
     *said = mine.again();
@@ -27,7 +27,7 @@ pub fn ask<J: Naming>(
 
 /// A reply is said, where both know the same.
 pub fn answer<J: Naming>(
-    record: &Record<J>,
+    book: &Record<J>,
     said: &mut Transcript<J>,
     mine: &mut Transcript<J>,
     reply: &Reply,
@@ -35,7 +35,7 @@ pub fn answer<J: Naming>(
     ensures said { OnOk result (said.new ≡ said.old ++ Answered reply.now ∷ []) }
     ensures mine { OnOk result (mine.new ≡ mine.old ++ Answered reply.now ∷ []) }
 {
-    if !mine.agrees(said) || !mine.answer(record, reply) {
+    if !mine.agrees(said) || !mine.answer(book, reply) {
         return Err(Memory);
     }
     *said = mine.again();
@@ -44,7 +44,7 @@ pub fn answer<J: Naming>(
 
 /// A request is said, and that it is out of turns.
 pub fn refuse<J: Naming>(
-    record: &Record<J>,
+    book: &Record<J>,
     said: &mut Transcript<J>,
     mine: &mut Transcript<J>,
     request: &Request,
@@ -53,11 +53,11 @@ pub fn refuse<J: Naming>(
     ensures mine { OnOk result (mine.new ≡ mine.old ++ Asked request.now ∷ Answered Out_of_turns ∷ []) }
 {
     let reply = Reply::OutOfTurns;
-    if ask(record, said, mine, request).is_err() {
+    if ask(book, said, mine, request).is_err() {
         drop(reply);
         return Err(Memory);
     }
-    let answered = answer(record, said, mine, &reply);
+    let answered = answer(book, said, mine, &reply);
     drop(reply);
     answered
 }

@@ -8,7 +8,7 @@ use transcript::{Naming, Record};
 #[derive(Drop)]
 pub struct SharedHost<J: Naming> {
     pub(crate) held: Mutex<Held<J>>,
-    pub(crate) record: Record<J>,
+    pub(crate) book: Record<J>,
     /// The request that waits may be answered now. The tracer waits for it.
     pub(crate) news: Condvar,
     /// A process may be able now, or nothing more is done. Workers wait for it.
@@ -16,10 +16,10 @@ pub struct SharedHost<J: Naming> {
 }
 
 impl<J: Naming> SharedHost<J> {
-    pub fn new(held: Held<J>, record: Record<J>) -> Self {
+    pub fn new(held: Held<J>, book: Record<J>) -> Self {
         SharedHost {
             held: Mutex::new(held),
-            record,
+            book,
             news: Condvar::new(),
             able: Condvar::new(),
         }

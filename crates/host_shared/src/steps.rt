@@ -21,7 +21,7 @@ use transcript::{Naming, Record, Transcript};
 pub fn put<J: Naming>(
     host: &mut Roster,
     journal: &mut Journal,
-    record: &Record<J>,
+    book: &Record<J>,
     said: &mut Transcript<J>,
     mine: &mut Transcript<J>,
     request: Request,
@@ -34,7 +34,7 @@ pub fn put<J: Naming>(
     ensures said { OnOk result (said.new ≡ said.old ++ Asked request ∷ []) }
     ensures mine { OnOk result (mine.new ≡ mine.old ++ Asked request ∷ []) }
 {
-    if ask(record, said, mine, &request).is_err() {
+    if ask(book, said, mine, &request).is_err() {
         return Err(Memory);
     }
     journal.ask(&request);
@@ -89,7 +89,7 @@ pub fn serve<J: Naming>(
     host: &mut Roster,
     journal: &mut Journal,
     noted: &mut Events,
-    record: &Record<J>,
+    book: &Record<J>,
     said: &mut Transcript<J>,
     mine: &mut Transcript<J>,
 ) -> Result<Reply, Memory>
@@ -104,7 +104,7 @@ pub fn serve<J: Naming>(
         return Err(Memory);
     }
     match served(host, journal) {
-        Ok(reply) => match answer(record, said, mine, &reply) {
+        Ok(reply) => match answer(book, said, mine, &reply) {
             Ok(()) => Ok(reply),
             Err(Memory) => {
                 drop(reply);

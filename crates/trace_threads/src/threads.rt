@@ -59,14 +59,14 @@ fn run_in_record<J: Naming + Send + Sync, G: Gate, R: Threads + Wait + Sync>(
     let mut options = options;
     options.follow = boot.follow;
     let copy = boot.copy(alloc);
-    let (record, said) = opened.named::<J>();
+    let (book, said) = opened.named::<J>();
     let mine = said.again();
     let events = mem::replace(&mut noted.events, Events::none());
     let shared = match Held::new(alloc, boot, limit, said, events) {
-        Ok(held) => SharedHost::new(held, record),
+        Ok(held) => SharedHost::new(held, book),
         Err(fault) => {
             drop(copy);
-            drop(record);
+            drop(book);
             drop(mine);
             drop(script);
             drop(options);
@@ -81,7 +81,14 @@ fn run_in_record<J: Naming + Send + Sync, G: Gate, R: Threads + Wait + Sync>(
         return Err(ThreadsFault::Boot(BootFault::Memory));
     };
     let traced = trace_on_threads(rt, alloc, &shared, mine, workers, script, options, gate);
-    let result = finish(&boot, limit, gate.may_shut(), shared.into_held(), traced, noted);
+    let result = finish(
+        &boot,
+        limit,
+        gate.may_shut(),
+        shared.into_held(),
+        traced,
+        noted,
+    );
     drop(boot);
     result
 }

@@ -191,18 +191,22 @@ impl<J: Naming> Transcript<J> {
     }
 
     /// Says a request, where all that was said is known.
-    pub fn ask(&mut self, record: &Record<J>, request: &Request) -> bool
+    pub fn ask(&mut self, book: &Record<J>, request: &Request) -> bool
         ensures { result ≡ true → self.new ≡ self.old ++ Asked request.now ∷ [] }
     {
-        let mut offer: Offer<Said, u64, Law, Nothing> = self.seen.plain::<Nothing, Request, Says>(request);
-        say(&record.head, &mut self.lines, &mut self.seen, &mut offer)
+        let mut offer: Offer<Said, u64, Law, Nothing> = self
+            .seen
+            .plain::<Nothing, Request, Says>(request);
+        say(&book.head, &mut self.lines, &mut self.seen, &mut offer)
     }
 
     /// Says a reply, where all that was said is known.
-    pub fn answer(&mut self, record: &Record<J>, reply: &Reply) -> bool
+    pub fn answer(&mut self, book: &Record<J>, reply: &Reply) -> bool
         ensures { result ≡ true → self.new ≡ self.old ++ Answered reply.now ∷ [] }
     {
-        let mut offer: Offer<Said, u64, Law, Nothing> = self.seen.plain::<Nothing, Reply, Says>(reply);
-        say(&record.head, &mut self.lines, &mut self.seen, &mut offer)
+        let mut offer: Offer<Said, u64, Law, Nothing> = self
+            .seen
+            .plain::<Nothing, Reply, Says>(reply);
+        say(&book.head, &mut self.lines, &mut self.seen, &mut offer)
     }
 }
