@@ -74,6 +74,23 @@ impl Gate for Meeting {
     }
 }
 
+/// It lets nobody through.
+struct Shut;
+
+impl Gate for Shut {
+    ghost use Rattle.std.specs.Prelude.{true};
+
+    ghost shuts = { λ _. true };
+
+    fn may_shut(&self) -> bool {
+        true
+    }
+
+    fn pass(&self, _worker: u8) -> bool {
+        false
+    }
+}
+
 fn content(alloc: Global) -> Result<Bytes, Fail> {
     let image = assemble(alloc, HELLO)?;
     Ok(Bytes::from_vec(elf_image::write(alloc, &image)?))
@@ -138,6 +155,16 @@ fn two_workers_meet(rt: HostRuntime) -> Result<(), Fail> {
     assert!(rt; is_whole(&run));
     assert_eq!(rt; run.outcome.console.as_slice(), b"hi\n".as_slice());
     assert!(rt; meeting.was_held());
+    drop(run);
+    Ok(())
+}
+
+#[test]
+fn a_shut_gate_ends_the_run(rt: HostRuntime) -> Result<(), Fail> {
+    let alloc = rt.alloc();
+    let run = traced(&rt, alloc, boot(alloc)?, 2, &Shut)?;
+    assert!(rt; matches!(run.ended, Ended::OutOfTurns));
+    assert_eq!(rt; run.turns.rows().len(), 0);
     drop(run);
     Ok(())
 }

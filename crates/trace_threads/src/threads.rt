@@ -43,7 +43,7 @@ fn run_in_record<J: Naming + Send + Sync, G: Gate, R: Threads + Wait + Sync>(
     gate: &G,
     noted: &mut Noted,
 ) -> Result<Run, ThreadsFault>
-    requires record { book_of opened ≡ J.book }
+    requires book { book_of opened ≡ J.book }
     requires some { 1 ≤ limit }
     requires most { limit ≤ 2 ^ 39 }
     ensures run { IfOk result (λ run. ThreadRun boot limit script options (G.shuts gate.now) run) }
