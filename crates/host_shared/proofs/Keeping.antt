@@ -41,6 +41,14 @@ pub can_go : (h : HeldState) → CanPut h → h.failed ≡ false → (h.closed �
 can_go h (inl failed) whole = absurd (cc (failed, whole))
 can_go h (inr can) whole = can
 
+pub can_refuse : (h : HeldState) → CanRefuse h → h.failed ≡ false → (h.closed ≡ true) × (h.over ≡ false) × (is_there h.host.hosting.pending ≡ false)
+can_refuse h (inl failed) whole = absurd (cc (failed, whole))
+can_refuse h (inr can) whole = can
+
+pub can_serve : (h : HeldState) → CanServe h → h.failed ≡ false → (h.over ≡ false) × (is_there h.host.hosting.pending ≡ true)
+can_serve h (inl failed) whole = absurd (cc (failed, whole))
+can_serve h (inr can) whole = can
+
 there_is : (p : Option Request) → is_there p ≡ true → (q : Request) × (p ≡ Some q)
 there_is None e = absurd (cc e)
 there_is (Some q) e = (q, refl)

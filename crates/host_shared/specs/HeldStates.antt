@@ -139,12 +139,6 @@ CanRefuse h =
 abbrev pub CanServe : HeldState → Type 0
 CanServe h = (h.failed ≡ true) ⊎ ((h.over ≡ false) × (is_there h.host.hosting.pending ≡ true))
 
--- the request that is pending is ready, and may be served
-abbrev pub CanServeNow : HeldState → Type 0
-CanServeNow h =
-    (h.failed ≡ false) × (h.closed ≡ false) × (nat_le h.limit (length (events_of h.journal)) ≡ false)
-    × ((readiness_of h.host).ready ≡ true)
-
 -- it may be out of turns for this reason
 abbrev pub CanEnd : HeldState → Option Cut → Type 0
 CanEnd h c = (h.failed ≡ false) × (h.over ≡ false) × (is_there h.host.hosting.pending ≡ true) × IsCut h c

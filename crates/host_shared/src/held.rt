@@ -3,17 +3,16 @@
 ghost use Rattle.std.specs.Prelude.{◌≡◌, ◌≤◌, ◌^◌, ◌++◌, ◌∷◌, [], true, false, None, Some, Err, IfOk, IfErr, OnOk, OnErr};
 ghost use Rattle.std.specs.Prelude.{IsErr, IsTrue, is_some, ◌&&◌, not};
 ghost use Rattle.lx_abi.specs.declared.ptrace.Reply.TheVariants.{OutOfTurns as Out_of_turns};
-ghost use Rattle.lx_abi.specs.declared.schedule.Event.TheVariants as event;
 ghost use Rattle.lx_boot.specs.Boots.{fault_of, Refuses};
 ghost use Rattle.lx_boot.specs.declared.boots.BootFault.{BootFault};
 ghost use Rattle.pt_model.specs.Ptrace.{is_there};
-ghost use Rattle.pt_kernel.specs.Hosts.{is_boot, event_of, readiness_of};
+ghost use Rattle.pt_kernel.specs.Hosts.{is_boot, readiness_of};
 ghost use Rattle.pt_journal.specs.Told.{Told};
 ghost use Rattle.pt_journal.specs.Journals.{is_outcome as is_outcome_of};
 ghost use Rattle.transcript.specs.declared.said.Said.TheVariants.{Asked, Answered};
 ghost use Rattle.host_shared.specs.HeldStates.{first_held, asked, refused, next_turn, Turned, serve_of, hearing};
-ghost use Rattle.host_shared.specs.HeldStates.{out_of_turns, served_by, shut_of, IsKept, Stopped};
-ghost use Rattle.host_shared.specs.HeldStates.{CanPut, CanRefuse, CanServe, CanServeNow, CanEnd};
+ghost use Rattle.host_shared.specs.HeldStates.{out_of_turns, shut_of, IsKept, Stopped};
+ghost use Rattle.host_shared.specs.HeldStates.{CanPut, CanRefuse, CanServe, CanEnd};
 
 use crate::cut::Cut;
 use crate::exchanges::Exchanges;
@@ -260,41 +259,6 @@ impl<J: Naming> Held<J> {
         }
     }
 
-    /// Serves the pending request, which is ready.
-    fn serve_ready(
-        &mut self,
-        book: &Record<J>,
-        mine: &mut Transcript<J>,
-    ) -> Result<Option<Reply>, Memory>
-        requires can { CanServeNow self.old }
-        ensures served { IfOk result (λ reply. served_by self.old (event_of self.old.host event.Serve).reply
-            ≡ record { held = self.new; reply = reply }) }
-        ensures mine { IfOk result (λ reply. mine.new ≡ hearing mine.old reply) }
-        ensures failed { OnErr result (Stopped self.new) }
-    {
-        match steps::serve(
-            &mut self.host,
-            &mut self.journal,
-            &mut self.noted,
-            book,
-            &mut self.said,
-            mine,
-        ) {
-            Ok(reply) => {
-                self.events += 1;
-                self.pending = false;
-                self.closed = is_outcome(&reply);
-                self.over = self.closed;
-                Ok(Some(reply))
-            }
-            Err(Memory) => {
-                self.failed = true;
-                self.closed = true;
-                Err(Memory)
-            }
-        }
-    }
-
     /// Serves the pending request where it can be: its reply. It is out of turns, for good, where this is closed or at
     /// its limit, or where no process is able and the request waits; none where a turn may yet answer it.
     pub fn serve(
@@ -318,13 +282,33 @@ impl<J: Naming> Held<J> {
         if self.limit <= self.events {
             return self.end(book, mine, Some(Cut::Limit));
         }
-        if self.host.ready() {
-            return self.serve_ready(book, mine);
+        if !self.host.ready() {
+            if self.host.next(self.last).is_some() {
+                return Ok(None);
+            }
+            return self.end(book, mine, Some(Cut::Nobody));
         }
-        if self.host.next(self.last).is_some() {
-            return Ok(None);
+        match steps::serve(
+            &mut self.host,
+            &mut self.journal,
+            &mut self.noted,
+            book,
+            &mut self.said,
+            mine,
+        ) {
+            Ok(reply) => {
+                self.events += 1;
+                self.pending = false;
+                self.closed = is_outcome(&reply);
+                self.over = self.closed;
+                Ok(Some(reply))
+            }
+            Err(Memory) => {
+                self.failed = true;
+                self.closed = true;
+                Err(Memory)
+            }
         }
-        self.end(book, mine, Some(Cut::Nobody))
     }
 
     /// Nothing more is done.
