@@ -42,6 +42,16 @@ is_out_of_turns the.Memory = false
 abbrev pub IsUnwritable : Fault → Type 0
 IsUnwritable fault = (is_output fault ≡ true) ⊎ (fault ≡ the.Memory)
 
+-- a file can't be made, or memory ran out
+abbrev pub is_unopened : Fault → Bool
+is_unopened (the.Usage text) = true
+is_unopened (the.Expression fault reason) = false
+is_unopened (the.Listing line kind) = false
+is_unopened (the.Host number reason) = false
+is_unopened (the.OutOfTurns text) = false
+is_unopened (the.Output text) = false
+is_unopened the.Memory = true
+
 -- a host's fault has its number
 abbrev pub IsHostFault : LinkFault → Fault → Type 0
 IsHostFault link.Ended fault = host_number fault ≡ Some 1

@@ -1,10 +1,12 @@
 //! Faults of a host.
 
-ghost use Rattle.trace_command.specs.Faults.{IsHostFault, IsUnwritable};
+ghost use Rattle.std.specs.Prelude.{◌≡◌, true};
+ghost use Rattle.trace_command.specs.Faults.{IsHostFault, IsUnwritable, is_unopened};
 
 use front_end::{Fault, refuse_boot};
 use host_link::LinkFault;
 use std::alloc::{AllocError, Global};
+use std::io::{self, ErrorKind};
 use trace_threads::ThreadsFault;
 
 /// A host's fault in words.
@@ -41,6 +43,22 @@ pub fn unwritable(text: Result<String, AllocError>) -> Fault
 {
     match text {
         Ok(text) => Fault::Output(text),
+        Err(_) => Fault::Memory,
+    }
+}
+
+/// The fault of a file that can't be made, if there is memory to say which.
+pub fn unopened(alloc: Global, what: Result<String, AllocError>, error: io::Error) -> Fault
+    ensures { is_unopened result ≡ true }
+{
+    let Ok(what) = what else {
+        return Fault::Memory;
+    };
+    if error.kind() == ErrorKind::OutOfMemory {
+        return Fault::Memory;
+    }
+    match format!(in alloc; "{what}: {error}") {
+        Ok(text) => Fault::Usage(text),
         Err(_) => Fault::Memory,
     }
 }

@@ -1,6 +1,9 @@
 //! The place that the trace goes to.
 
-use crate::fault::unwritable;
+ghost use Rattle.std.specs.Prelude.{◌≡◌, true, IfErr};
+ghost use Rattle.trace_command.specs.Faults.{is_unopened};
+
+use crate::fault::{unopened, unwritable};
 use clap::ArgMatches;
 use front_end::{Fault, Shown};
 use std::alloc::Global;
@@ -50,12 +53,14 @@ impl<'a> Place<'a> {
 }
 
 /// Makes a file for the trace anew.
-pub fn create<R: Files + AllocGlobal>(rt: &R, path: &str) -> Result<R::File, Fault> {
+pub fn create<R: Files + AllocGlobal>(rt: &R, path: &str) -> Result<R::File, Fault>
+    ensures { IfErr result (λ fault. is_unopened fault ≡ true) }
+{
     match fs::create(rt, path) {
         Ok(file) => Ok(file),
         Err(error) => {
-            let what = format!(in rt.alloc(); "-o {}", Shown(path))?;
-            Err(Fault::file(rt.alloc(), what, error))
+            let what = format!(in rt.alloc(); "-o {}", Shown(path));
+            Err(unopened(rt.alloc(), what, error))
         }
     }
 }

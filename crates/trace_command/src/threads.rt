@@ -1,6 +1,6 @@
 //! A run whose turns are made by threads.
 
-ghost use Rattle.std.specs.Prelude.{◌≡◌, ◌⊎◌, IfOk, OnErr};
+ghost use Rattle.std.specs.Prelude.{◌≡◌, ◌⊎◌, ⊤, IfOk, OnErr};
 ghost use Rattle.trace_run.specs.Writers.{writer_of};
 ghost use Rattle.trace_threads.specs.ThreadRuns.{ThreadRun};
 ghost use Rattle.trace_command.specs.Tracing.{PutsTrace, RunsTo, Settles, TracesOnThreads, Unmade};
@@ -175,7 +175,7 @@ fn trace_to_place<R: Files + Threads + Wait + Sync + AllocGlobal, O: Sink, E: Si
         (TracesOnThreads plan workers.limit) run.ended place.entry
         (writer_of O.contents O.puts O.broken out.old) (writer_of O.contents O.puts O.broken out.new)
         (writer_of E.contents E.puts E.broken err.old) (writer_of E.contents E.puts E.broken err.new)) }
-    ensures unmade { OnErr result (Unmade result
+    ensures unmade { OnErr result (Unmade (λ fault. ⊤) result
         (writer_of O.contents O.puts O.broken out.old) (writer_of O.contents O.puts O.broken out.new)
         (writer_of E.contents E.puts E.broken err.old) (writer_of E.contents E.puts E.broken err.new)) }
 {
@@ -217,7 +217,7 @@ pub fn trace_on_threads<R: Files + Threads + Wait + Sync + AllocGlobal, O: Sink,
     out: &mut O,
     err: &mut E,
 ) -> Result<Outcome, Fault>
-    ensures { Unmade result
+    ensures { Unmade (λ fault. ⊤) result
         (writer_of O.contents O.puts O.broken out.old) (writer_of O.contents O.puts O.broken out.new)
         (writer_of E.contents E.puts E.broken err.old) (writer_of E.contents E.puts E.broken err.new)
         ⊎ RunsTo R.File.contents (TracesOnThreads plan workers.limit) place.entry result

@@ -3,7 +3,7 @@
 ghost use Rattle.std.specs.Prelude.{◌≡◌, ◌⊎◌, None, Ok, IsSome, IfOk, OnErr, codes, true};
 ghost use Rattle.trace_run.specs.Writers.{writer_of};
 ghost use Rattle.trace_command.specs.Faults.{has_ended};
-ghost use Rattle.trace_command.specs.Tracing.{Leaves, Left, MayLack, PutsConsole, Runs, Takes, Unmade};
+ghost use Rattle.trace_command.specs.Tracing.{IsFile, Lacks, Leaves, Left, PutsConsole, Runs, Takes, Unmade};
 ghost use Rattle.trace_command.specs.Tracing.{TracesOut, TracesPlan, TracesWords};
 ghost use Rattle.trace_command.specs.Tracing.{asks_for_files, status_in, value_of};
 
@@ -59,9 +59,9 @@ fn run_plan<R: Files + Processes + AllocGlobal, O: Sink, E: LineSink>(
     out: &mut O,
     err: &mut E,
 ) -> Result<Outcome, Fault>
-    ensures { (MayLack (value_of matches.now (codes "host")) None place.entry × Unmade result
+    ensures { Unmade (Lacks (value_of matches.now (codes "host")) None (IsFile place.entry)) result
         (writer_of O.contents O.puts O.broken out.old) (writer_of O.contents O.puts O.broken out.new)
-        (writer_of E.contents E.puts E.broken err.old) (writer_of E.contents E.puts E.broken err.new))
+        (writer_of E.contents E.puts E.broken err.old) (writer_of E.contents E.puts E.broken err.new)
         ⊎ Runs R.Started R.Started.Stderr R.File.contents R.Started.Stdout.remaining R.Started.Stdin.contents
         (value_of matches.now (codes "host")) plan limit None place.entry result
         (writer_of O.contents O.puts O.broken out.old) (writer_of O.contents O.puts O.broken out.new)
@@ -95,9 +95,9 @@ fn run_as_asked<R: Files + Processes + Threads + Wait + Sync + AllocGlobal, O: S
     out: &mut O,
     err: &mut E,
 ) -> Result<Outcome, Fault>
-    ensures { (MayLack (value_of matches.now (codes "host")) options.workers place.entry × Unmade result
+    ensures { Unmade (Lacks (value_of matches.now (codes "host")) options.workers (IsFile place.entry)) result
         (writer_of O.contents O.puts O.broken out.old) (writer_of O.contents O.puts O.broken out.new)
-        (writer_of E.contents E.puts E.broken err.old) (writer_of E.contents E.puts E.broken err.new))
+        (writer_of E.contents E.puts E.broken err.old) (writer_of E.contents E.puts E.broken err.new)
         ⊎ Runs R.Started R.Started.Stderr R.File.contents R.Started.Stdout.remaining R.Started.Stdin.contents
         (value_of matches.now (codes "host")) plan options.limit options.workers place.entry result
         (writer_of O.contents O.puts O.broken out.old) (writer_of O.contents O.puts O.broken out.new)

@@ -1,8 +1,10 @@
 //! The events of a run, written as a schedule that gives them.
 
-ghost use Rattle.std.specs.Prelude.{IfOk, IsSome, OnErr, codes};
+ghost use Rattle.std.specs.Prelude.{◌≡◌, true, IfErr, IfOk, IsSome, codes};
+ghost use Rattle.trace_command.specs.Faults.{is_unopened};
 ghost use Rattle.trace_command.specs.Tracing.{value_of};
 
+use crate::fault::unopened;
 use clap::ArgMatches;
 use front_end::{Fault, Shown};
 use lx_abi::Event;
@@ -63,7 +65,8 @@ pub fn create_turns<R: Files + AllocGlobal>(
 ) -> Result<Option<R::File>, Fault>
     ensures asked { IfOk result (λ file. IsSome file → IsSome (value_of matches.now (codes "turns-out"))) }
     ensures file { IfOk result (λ file. IsSome (value_of matches.now (codes "turns-out")) → IsSome file) }
-    ensures fault { OnErr result (IsSome (value_of matches.now (codes "turns-out"))) }
+    ensures fault { IfErr result
+        (λ fault. IsSome (value_of matches.now (codes "turns-out")) × (is_unopened fault ≡ true)) }
 {
     let Some(path) = matches.get_str("turns-out") else {
         return Ok(None);
@@ -71,8 +74,8 @@ pub fn create_turns<R: Files + AllocGlobal>(
     match fs::create(rt, path) {
         Ok(file) => Ok(Some(file)),
         Err(error) => {
-            let what = format!(in rt.alloc(); "--turns-out {}", Shown(path))?;
-            Err(Fault::file(rt.alloc(), what, error))
+            let what = format!(in rt.alloc(); "--turns-out {}", Shown(path));
+            Err(unopened(rt.alloc(), what, error))
         }
     }
 }
