@@ -5,8 +5,6 @@ mod asm;
 mod drill_words;
 mod drills;
 mod entry;
-mod line;
-mod log;
 mod plain;
 mod plan;
 mod serving;
@@ -14,4 +12,3 @@ mod together;
 mod words;
 
 pub use entry::{command, tell};
-pub use log::Log;
