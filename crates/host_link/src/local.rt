@@ -28,8 +28,8 @@ enum Unserved {
     Failed,
 }
 
-/// Puts the request, and makes the events of the schedule until it is answered, which are noted; none where the schedule
-/// has ended.
+/// Puts the request, and makes the events of the schedule until it is answered, which are noted; none where the
+/// schedule has ended.
 fn serve(
     host: &mut Host,
     schedule: &mut Schedule,

@@ -14,8 +14,8 @@ pub struct EventRow {
     pub times: u64,
 }
 
-/// Events, which contracts see as a list, or nothing where none are noted. They take room where another event comes than
-/// the one before.
+/// Events, which contracts see as a list, or nothing where none are noted. They take room where another event comes
+/// than the one before.
 #[derive(Drop)]
 pub struct Events {
     rows: Option<Vec<EventRow>>,

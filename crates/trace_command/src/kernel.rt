@@ -100,8 +100,8 @@ pub fn boot_kernel<R: Processes + AllocGlobal>(
     }
 }
 
-/// Runs the tracer with the kernel in this process, and keeps what is asked for beside the trace. A boot without a fault
-/// is refused only for memory.
+/// Runs the tracer with the kernel in this process, and keeps what is asked for beside the trace. A boot without a
+/// fault is refused only for memory.
 pub fn run_here<W: Sink>(
     alloc: Global,
     boot: Boot,

@@ -333,8 +333,8 @@ fn explain_fault(alloc: Global, kept: &mut Kept, fault: Fault) -> Fault {
     }
 }
 
-/// A run that ended so. Where its end is explained, a program that couldn't be run is on `err`, and the end of the turns
-/// in the fault.
+/// A run that ended so. Where its end is explained, a program that couldn't be run is on `err`, and the end of the
+/// turns in the fault.
 fn explain<E: Write>(
     alloc: Global,
     kept: &mut Kept,
@@ -356,8 +356,8 @@ fn explain<E: Write>(
     }
 }
 
-/// Makes the run, and gives the exit status. The console goes to `out` once the run is whole, before a host in a process
-/// of its own is waited for.
+/// Makes the run, and gives the exit status. The console goes to `out` once the run is whole, before a host in a
+/// process of its own is waited for.
 pub fn trace<
     R: Files + Processes + Threads + Wait + Sync + AllocGlobal,
     I: Read + IsTerminal,

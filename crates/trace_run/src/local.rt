@@ -160,9 +160,9 @@ pub fn run_local(
     }
 }
 
-/// Boots a guest, and traces it in this process to any writer, as the trace comes; notes the events of the run if they are
-/// asked for. The boot's follow counts, not that of the options. The outer fault is the boot's, or Memory where memory
-/// runs out in booting.
+/// Boots a guest, and traces it in this process to any writer, as the trace comes; notes the events of the run if they
+/// are asked for. The boot's follow counts, not that of the options. The outer fault is the boot's, or Memory where
+/// memory runs out in booting.
 pub fn trace_local<W: Sink>(
     alloc: Global,
     boot: Boot,
