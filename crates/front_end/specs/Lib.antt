@@ -1,1 +1,3 @@
 pub mod Directories
+pub mod Leavings
+pub mod Statuses

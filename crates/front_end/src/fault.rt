@@ -1,5 +1,8 @@
 //! Why a command isn't carried out, or not wholly.
 
+ghost use Rattle.std.specs.Prelude.{◌≡◌};
+ghost use Rattle.front_end.specs.Statuses.{status_of};
+
 use std::alloc::{AllocError, AllocFailed, Global};
 use std::fmt::Display;
 use std::io::{self, ErrorKind};
@@ -59,7 +62,9 @@ impl Fault {
     }
 
     /// The exit status.
-    pub fn status(&self) -> u8 {
+    pub fn status(&self) -> u8
+        ensures { result ≡ status_of self.now }
+    {
         match self {
             Fault::Usage(_) | Fault::Expression { .. } | Fault::Listing { .. } => USAGE,
             Fault::Host { .. } | Fault::Output(_) | Fault::Memory => HOST,

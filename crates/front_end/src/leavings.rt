@@ -1,5 +1,9 @@
 //! What a run leaves in the guest's files: written to a directory, and listed.
 
+ghost use Rattle.std.specs.Prelude.{◌≡◌, ◌++◌, ◌==◌, true, IfOk, IfSome, string_bytes};
+ghost use Rattle.std.specs.List.{list_any, slice_split};
+ghost use Rattle.front_end.specs.Leavings as spec;
+
 use crate::fault::Fault;
 use crate::replacing::{check_file, replace_file};
 use crate::shown::Shown;
@@ -119,14 +123,53 @@ fn check_list<R: Files + AllocGlobal>(rt: &R, path: &str) -> Result<(), Fault> {
     }
 }
 
+/// A name that leads nowhere, or up.
+#[tactic(auto, unfolding(crate::specs::Leavings::is_no_name))]
+fn is_no_name(part: &[u8]) -> bool
+    ensures { result ≡ spec.is_no_name part.now }
+{
+    part == b"".as_slice() || part == b".".as_slice() || part == b"..".as_slice()
+}
+
+fn has_no_name(parts: &[u8]) -> bool
+    ensures { result ≡ list_any spec.is_no_name (slice_split (λ c. c == 47) parts.now) }
+{
+    parts
+        .split(|byte| *byte == b'/')
+        .any(|part| is_no_name(part))
+}
+
+fn has_nul(path: &[u8]) -> bool
+    ensures { result ≡ list_any (λ c. c == 0) path.now }
+{
+    path.iter().any(|byte| *byte == 0)
+}
+
 /// A path that leads from a directory to a place below it.
-fn is_below(path: &str) -> bool {
-    match path.strip_prefix('/') {
-        Some(rest) => {
-            !path.contains('\0') && rest.split('/').all(|part| !matches!(part, "" | "." | ".."))
-        }
-        None => false,
+#[tactic(auto, unfolding(crate::specs::Leavings::is_below))]
+fn is_below(path: &[u8]) -> bool
+    ensures { result ≡ spec.is_below path.now }
+{
+    match path.split_first() {
+        Some((b'/', rest)) => !has_no_name(rest) && !has_nul(rest),
+        _ => false,
     }
+}
+
+/// The place of a guest's path below a directory, if it leads there.
+fn place_of(alloc: Global, directory: &str, path: &[u8]) -> Result<Option<String>, AllocError>
+    ensures below { IfOk result (λ place. IfSome place (λ _. spec.is_below path.now ≡ true)) }
+    ensures place { IfOk result (λ place. IfSome place (λ place. string_bytes place ≡ directory.now ++ path.now)) }
+{
+    if !is_below(path) {
+        return Ok(None);
+    }
+    let Ok(path) = str::from_utf8(path) else {
+        return Ok(None);
+    };
+    let mut place = String::from_str(alloc, directory)?;
+    place.push_str(path)?;
+    Ok(Some(place))
 }
 
 /// Makes what isn't there yet, through no link.
@@ -154,21 +197,30 @@ fn write_file<R: Files + AllocGlobal>(
     file: &OutcomeFile,
 ) -> Result<(), Fault> {
     let alloc = rt.alloc();
-    let path = match str::from_utf8(file.path.as_slice()) {
-        Ok("/") => return Ok(()),
-        Ok(path) if is_below(path) => path,
-        _ => {
-            let escaped = escaped(alloc, &file.path)?;
-            return Err(Fault::output(format!(in alloc;
-                "--files-out {}: the guest's path {escaped} can't be written there",
-                Shown(directory)
-            )));
-        }
+    let path = file.path.as_slice();
+    if path == b"/".as_slice() {
+        return Ok(());
+    }
+    let Some(there) = place_of(alloc, directory, path)? else {
+        let escaped = escaped(alloc, &file.path)?;
+        return Err(Fault::output(format!(in alloc;
+            "--files-out {}: the guest's path {escaped} can't be written there",
+            Shown(directory)
+        )));
     };
-    let there = format!(in alloc; "{directory}{path}")?;
     match make(rt, there.as_str(), &file.node) {
         Ok(()) => Ok(()),
         Err(error) => Err(unwritten(alloc, "--files-out", there.as_str(), error)),
+    }
+}
+
+/// A fault behind which so many files and directories of all were written.
+fn cut_short(alloc: Global, fault: Fault, written: usize, all: usize) -> Fault {
+    match fault {
+        Fault::Output(text) => Fault::output(format!(in alloc;
+            "{text}; {written} of {all} files and directories were written"
+        )),
+        fault => fault,
     }
 }
 
@@ -178,8 +230,11 @@ fn write_files<R: Files + AllocGlobal>(
     directory: &str,
     files: &[OutcomeFile],
 ) -> Result<(), Fault> {
-    for file in files {
-        write_file(rt, directory, file)?;
+    for (written, file) in files.iter().enumerate() {
+        match write_file(rt, directory, file) {
+            Ok(()) => {}
+            Err(fault) => return Err(cut_short(rt.alloc(), fault, written, files.len())),
+        }
     }
     Ok(())
 }

@@ -38,6 +38,7 @@ pub use outputs::check_outputs;
 pub use parser::{refusal, shown_words};
 pub use program::Program;
 pub use reading::{read_input, read_text};
+pub use replacing::{NewFile, check_file, create_file, replace_file};
 pub use reporting::{print_help, report};
 pub use shown::Shown;
 pub use start::{Begun, begin};

@@ -1,5 +1,8 @@
 //! What a program says of its faults, and of itself.
 
+ghost use Rattle.std.specs.Prelude.{◌≡◌, ◌⊎◌};
+ghost use Rattle.front_end.specs.Statuses.{status_of};
+
 use crate::fault::{Fault, HOST};
 use clap::Error;
 use std::alloc::Global;
@@ -31,16 +34,34 @@ impl Display for Line<'_> {
     }
 }
 
+/// Writes a fault's reason, if it has one. False where that can't be written.
+fn tell_reason<E: Write>(program: &str, fault: &Fault, err: &mut E) -> bool {
+    match fault.reason() {
+        Some(reason) => writeln!(err, "{program}: {reason}").is_ok(),
+        None => true,
+    }
+}
+
+/// Writes a fault, and its reason where it is to be explained. False where they can't be written.
+fn tell<E: Write>(program: &str, fault: &Fault, explained: bool, err: &mut E) -> bool {
+    writeln!(err, "{}", Line { program, fault }).is_ok()
+        && (!explained || tell_reason(program, fault, err))
+}
+
+/// The status of a fault, or that of an output that can't be written where the fault wasn't told.
+fn status_of_told(fault: &Fault, is_told: bool) -> u8
+    ensures { (result ≡ status_of fault.now) ⊎ (result ≡ 3) }
+{
+    if is_told { fault.status() } else { HOST }
+}
+
 /// Reports a program's fault in one line on `err`, and in another its reason where it is to be explained. Gives its
 /// status.
-pub fn report<E: Write>(program: &str, fault: &Fault, explained: bool, err: &mut E) -> u8 {
-    if writeln!(err, "{}", Line { program, fault }).is_err() {
-        return HOST;
-    }
-    match fault.reason() {
-        Some(reason) if explained && writeln!(err, "{program}: {reason}").is_err() => HOST,
-        _ => fault.status(),
-    }
+pub fn report<E: Write>(program: &str, fault: &Fault, explained: bool, err: &mut E) -> u8
+    ensures { (result ≡ status_of fault.now) ⊎ (result ≡ 3) }
+{
+    let is_told = tell(program, fault, explained, err);
+    status_of_told(fault, is_told)
 }
 
 /// Writes the help, or the version.

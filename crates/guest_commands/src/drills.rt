@@ -12,7 +12,7 @@ use std::alloc::{AllocError, Global};
 /// What is done to the reply of a number, the first being 1.
 #[derive(Debug, Drop)]
 pub enum Drill {
-    /// Of the reply's frame so many bytes are written, and the host ends.
+    /// Of the reply's frame so many bytes are written, fewer than it has, and the host ends.
     Cut { reply: u64, length: usize },
     /// The frame bears another number.
     Renumber { reply: u64, number: u64 },
@@ -28,6 +28,16 @@ impl Drill {
             Drill::Cut { reply, .. } => *reply,
             Drill::Renumber { reply, .. } => *reply,
             Drill::Replace { reply, .. } => *reply,
+        }
+    }
+
+    /// It cuts a reply of so many bytes behind its end.
+    fn is_unfit(&self, size: usize) -> bool
+        ensures { result ≡ spec.is_unfit self.now size }
+    {
+        match self {
+            Drill::Cut { length, .. } => *length >= size,
+            Drill::Renumber { .. } | Drill::Replace { .. } => false,
         }
     }
 
@@ -58,12 +68,13 @@ fn renumber(alloc: Global, frame: &[u8], number: u64) -> Result<Vec<u8>, AllocEr
     Ok(bytes)
 }
 
-/// What is written for a reply in the place of its frame.
+/// What is written for a reply in the place of its frame: nothing where that is to be cut behind its end.
 fn spoil(alloc: Global, drill: &Drill, frame: &[u8]) -> Result<Vec<u8>, AllocError>
     ensures { IfOk result (λ bytes. bytes.items ≡ spec.spoiled drill.now frame.now) }
 {
     match drill {
-        Drill::Cut { length, .. } => cut(alloc, frame, *length),
+        Drill::Cut { length, .. } if *length < frame.len() => cut(alloc, frame, *length),
+        Drill::Cut { .. } => Ok(Vec::new(alloc)),
         Drill::Renumber { number, .. } => renumber(alloc, frame, *number),
         Drill::Replace { frame, .. } => {
             let frame = frame.as_slice();
@@ -102,6 +113,8 @@ pub struct Drilled<S> {
     drills: Vec<Drill>,
     replies: u64,
     is_stopped: bool,
+    /// The reply that was to be cut behind its end, and how many bytes it has.
+    unfit: Option<(u64, usize)>,
     /// How many bytes each put was of.
     puts: History<usize>,
 }
@@ -114,8 +127,14 @@ impl<S> Drilled<S> {
             drills,
             replies: 0,
             is_stopped: false,
+            unfit: None,
             puts: History::new(),
         }
+    }
+
+    /// The reply that was to be cut behind its end, and how many bytes it has.
+    pub fn unfit(&self) -> Option<(u64, usize)> {
+        self.unfit
     }
 }
 
@@ -137,10 +156,15 @@ impl<S: Sink> Sink for Drilled<S> {
         self.replies = self.replies.saturating_add(1);
         let sent = match drill_of(self.drills.as_slice(), self.replies) {
             None => self.sink.put(bytes),
-            Some(drill) => match put_spoiled(self.alloc, &mut self.sink, drill, bytes) {
-                Ok(()) if !drill.is_last() => Ok(()),
-                Ok(()) | Err(Broken) => Err(Broken),
-            },
+            Some(drill) => {
+                if drill.is_unfit(bytes.len()) {
+                    self.unfit = Some((self.replies, bytes.len()));
+                }
+                match put_spoiled(self.alloc, &mut self.sink, drill, bytes) {
+                    Ok(()) if !drill.is_last() => Ok(()),
+                    Ok(()) | Err(Broken) => Err(Broken),
+                }
+            }
         };
         if sent.is_err() {
             self.is_stopped = true;

@@ -4,28 +4,29 @@ use crate::drill_words::read_drills;
 use crate::{asm, plain, serving, words};
 use clap::ArgMatches;
 use front_end::{Fault, print_help, report};
-use std::alloc::Global;
 use std::io::{IsTerminal, Read, Write};
-use std::rt::Files;
+use std::rt::{Files, Process};
+use std::sync::Wait;
+use std::thread::Threads;
+use std::time::Clock;
 
 /// The program in its messages.
 const NAME: &str = "guest_host";
 
 /// Does what the words ask for, the program's name first, and gives the exit status. A fault is one line on `err`; at a
 /// terminal, and where the words ask for it, others explain it.
-pub fn command<R: Files + AllocGlobal, I: Read + IsTerminal, O: Write, E: Write + IsTerminal>(
-    rt: &R,
-    words: &[String],
-    input: &mut I,
-    out: &mut O,
-    err: &mut E,
-) -> u8 {
+pub fn command<
+    R: Files + Threads + Wait + Clock + AllocGlobal + Copy + Send + 'static,
+    I: Read + IsTerminal + Send + Drop + 'static,
+    O: Write + Send + Drop + 'static,
+    E: Write + IsTerminal + Send + Drop + 'static,
+>(rt: R, process: Process, words: &[String], input: I, mut out: O, mut err: E) -> u8 {
     match words::parse(rt.alloc(), words) {
-        Ok(matches) => choose(rt, &matches, input, out, err),
+        Ok(matches) => choose(rt, process, &matches, input, out, err),
         Err(error) if error.use_stderr() => {
-            tell(words::refusal(rt.alloc(), error.kind(), words), err)
+            tell(words::refusal(rt.alloc(), error.kind(), words), &mut err)
         }
-        Err(help) => ended(print_help(rt.alloc(), help, out), err),
+        Err(help) => ended(print_help(rt.alloc(), help, &mut out), &mut err),
     }
 }
 
@@ -59,31 +60,32 @@ fn run_plain<R: Files + AllocGlobal, I: Read + IsTerminal, O: Write, E: Write + 
 }
 
 /// Serves a tracer, by the drills that the words ask for.
-fn run_serve<I: Read, O: Write, E: Write + IsTerminal>(
-    alloc: Global,
-    matches: &ArgMatches,
-    input: &mut I,
-    out: &mut O,
-    err: &mut E,
-) -> u8 {
-    match read_drills(alloc, matches.get_strs("drill").unwrap_or(&[])) {
-        Ok(drills) => serving::run(alloc, drills, input, out, err),
-        Err(fault) => tell(fault, err),
+fn run_serve<
+    R: Threads + Wait + Clock + AllocGlobal + Copy + Send + 'static,
+    I: Read + Send + Drop + 'static,
+    O: Write + Send + Drop + 'static,
+    E: Write + IsTerminal + Send + Drop + 'static,
+>(rt: R, process: Process, matches: &ArgMatches, input: I, out: O, mut err: E) -> u8 {
+    match read_drills(rt.alloc(), matches.get_strs("drill").unwrap_or(&[])) {
+        Ok(drills) => serving::run(rt, process, drills, input, out, err),
+        Err(fault) => tell(fault, &mut err),
     }
 }
 
 /// Runs the subcommand.
-fn choose<R: Files + AllocGlobal, I: Read + IsTerminal, O: Write, E: Write + IsTerminal>(
-    rt: &R,
-    matches: &ArgMatches,
-    input: &mut I,
-    out: &mut O,
-    err: &mut E,
-) -> u8 {
+fn choose<
+    R: Files + Threads + Wait + Clock + AllocGlobal + Copy + Send + 'static,
+    I: Read + IsTerminal + Send + Drop + 'static,
+    O: Write + Send + Drop + 'static,
+    E: Write + IsTerminal + Send + Drop + 'static,
+>(rt: R, process: Process, matches: &ArgMatches, mut input: I, mut out: O, mut err: E) -> u8 {
     match matches.subcommand() {
-        Some(("plain", matches)) => run_plain(rt, matches, input, out, err),
-        Some(("asm", matches)) => ended(asm::run(rt, matches), err),
-        Some(("serve", matches)) => run_serve(rt.alloc(), matches, input, out, err),
-        _ => tell(Fault::usage(format!(in rt.alloc(); "no such command")), err),
+        Some(("plain", matches)) => run_plain(&rt, matches, &mut input, &mut out, &mut err),
+        Some(("asm", matches)) => ended(asm::run(&rt, matches), &mut err),
+        Some(("serve", matches)) => run_serve(rt, process, matches, input, out, err),
+        _ => tell(
+            Fault::usage(format!(in rt.alloc(); "no such command")),
+            &mut err,
+        ),
     }
 }

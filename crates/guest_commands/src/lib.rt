@@ -11,6 +11,7 @@ mod plain;
 mod plan;
 mod serving;
 mod together;
+mod watched;
 mod words;
 
 pub use entry::{command, tell};

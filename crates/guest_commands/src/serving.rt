@@ -2,12 +2,17 @@
 
 use crate::drills::{Drill, Drilled};
 use crate::together::{Replies, Requests};
+use crate::watched::{Requested, Shared, watch};
 use host_serve::{ServeFault, serve};
 use host_wire::Counted;
 use lx_abi::Outcome;
 use std::alloc::Global;
 use std::cell::Cell;
 use std::io::{BufReader, Read, Write};
+use std::rt::Process;
+use std::sync::{Arc, Wait};
+use std::thread::{self, Threads};
+use std::time::Clock;
 
 /// The status where a tracer is served no longer.
 const SERVING: u8 = 1;
@@ -26,19 +31,28 @@ fn serve_over<I: Read, O: Write>(
     served
 }
 
+/// How a conversation ended with replies that drills spoil.
+#[derive(Drop)]
+struct ServedByDrills {
+    served: Result<Outcome, ServeFault>,
+    /// The reply that was to be cut behind its end, and how many bytes it has.
+    unfit: Option<(u64, usize)>,
+}
+
 /// The same with replies that drills spoil.
 fn serve_drilled<I: Read, O: Write>(
     alloc: Global,
     drills: Vec<Drill>,
     input: &mut I,
     out: &mut O,
-) -> Result<Outcome, ServeFault> {
+) -> ServedByDrills {
     let mut source = Counted::new(input);
     let mut sink = Drilled::new(alloc, Counted::new(out), drills);
     let served = serve(alloc, &mut source, &mut sink);
+    let unfit = sink.unfit();
     drop(source);
     drop(sink);
-    served
+    ServedByDrills { served, unfit }
 }
 
 /// Answers the frames on `input` by frames to `out`, until the end of input. Requests that came together are answered
@@ -67,19 +81,32 @@ fn answer<I: Read, O: Write>(alloc: Global, input: &mut I, out: &mut O) -> Resul
 
 /// The same by drills. A host that fails on purpose says nothing of it.
 #[inline(never)]
-fn drill<I: Read, O: Write>(alloc: Global, drills: Vec<Drill>, input: &mut I, out: &mut O) -> u8 {
+fn drill<I: Read, O: Write, E: Write>(
+    alloc: Global,
+    drills: Vec<Drill>,
+    input: &mut I,
+    out: &mut O,
+    err: &mut E,
+) -> u8 {
     let Ok(mut input) = BufReader::new(alloc, input) else {
         return SERVING;
     };
-    match serve_drilled(alloc, drills, &mut input, out) {
+    let drilled = serve_drilled(alloc, drills, &mut input, out);
+    if let Some((reply, size)) = drilled.unfit {
+        let _written = writeln!(
+            err,
+            "guest_host: cut:{reply}:BYTES: the reply has {size} bytes, and fewer are to be written"
+        );
+    }
+    match drilled.served {
         Ok(_) => 0,
         Err(_) => SERVING,
     }
 }
 
-/// Serves a tracer, and gives the exit status. A fault is one line on `err`, and its status the same whether that could
-/// be written or not.
-pub fn run<I: Read, O: Write, E: Write>(
+/// Serves a tracer in this thread, and gives the exit status. A fault is one line on `err`, and its status the same
+/// whether that could be written or not.
+fn serve_here<I: Read, O: Write, E: Write>(
     alloc: Global,
     drills: Vec<Drill>,
     input: &mut I,
@@ -87,7 +114,7 @@ pub fn run<I: Read, O: Write, E: Write>(
     err: &mut E,
 ) -> u8 {
     if !drills.is_empty() {
-        return drill(alloc, drills, input, out);
+        return drill(alloc, drills, input, out, err);
     }
     match answer(alloc, input, out) {
         Ok(()) => 0,
@@ -96,4 +123,81 @@ pub fn run<I: Read, O: Write, E: Write>(
             SERVING
         }
     }
+}
+
+/// Starts the thread that serves; where there is none, serves in this one.
+fn start_serving<
+    R: Threads + Wait + Copy + Send + 'static,
+    I: Read + Send + Drop + 'static,
+    O: Write + Send + Drop + 'static,
+    E: Write + Send + Drop + 'static,
+>(
+    rt: R,
+    alloc: Global,
+    shared: Arc<Shared<I>, Global>,
+    drills: Vec<Drill>,
+    mut input: Requested<I, R>,
+    mut out: O,
+    mut err: E,
+) {
+    let serves = move || {
+        let status = serve_here(alloc, drills, &mut input, &mut out, &mut err);
+        shared.end(&rt, status);
+    };
+    match thread::spawn(&rt, serves) {
+        Ok(handle) => drop(handle),
+        Err(refused) => {
+            let serves = refused.value;
+            serves();
+        }
+    }
+}
+
+/// Starts the thread that looks at the input; where there is none, its end is noticed between requests alone.
+fn start_watching<
+    R: Threads + Wait + Clock + Copy + Send + 'static,
+    I: Read + Send + Drop + 'static,
+>(rt: R, process: Process, shared: Arc<Shared<I>, Global>) {
+    if let Ok(handle) = thread::spawn(&rt, move || watch(&rt, process, &shared, 0)) {
+        drop(handle);
+    }
+}
+
+/// Says that there is no memory to serve a tracer.
+fn failed<E: Write + Drop>(mut err: E) -> u8 {
+    let fault = ServeFault::Failed;
+    let _written = writeln!(err, "guest_host: serve fault {}: {fault}", fault.number());
+    SERVING
+}
+
+/// Serves a tracer, and gives the exit status: when the conversation ends, or the tracer is gone, whatever the guest
+/// does then.
+pub fn run<
+    R: Threads + Wait + Clock + AllocGlobal + Copy + Send + 'static,
+    I: Read + Send + Drop + 'static,
+    O: Write + Send + Drop + 'static,
+    E: Write + Send + Drop + 'static,
+>(rt: R, process: Process, drills: Vec<Drill>, input: I, out: O, err: E) -> u8 {
+    let alloc = rt.alloc();
+    let Ok(shared) = Shared::new(alloc, input) else {
+        return failed(err);
+    };
+    let (Ok(served), Ok(watched), Ok(read)) = (
+        Arc::try_clone(&shared),
+        Arc::try_clone(&shared),
+        Arc::try_clone(&shared),
+    ) else {
+        return failed(err);
+    };
+    start_watching(rt, process, watched);
+    start_serving(
+        rt,
+        alloc,
+        served,
+        drills,
+        Requested::new(rt, read),
+        out,
+        err,
+    );
+    shared.wait(&rt)
 }

@@ -5,11 +5,16 @@ use guest_commands::{command, tell};
 use std::process::ExitCode;
 
 fn main(rt: HostRuntime) -> ExitCode {
-    let mut input = rt.stdin();
-    let mut out = rt.stdout();
     let mut err = rt.stderr();
     let status = match front_end::begin(&rt) {
-        Ok(begun) => command(&rt, begun.words.as_slice(), &mut input, &mut out, &mut err),
+        Ok(begun) => command(
+            rt,
+            rt.process(),
+            begun.words.as_slice(),
+            rt.stdin(),
+            rt.stdout(),
+            err,
+        ),
         Err(fault) => tell(fault, &mut err),
     };
     ExitCode::from(status)

@@ -54,9 +54,14 @@ asks_for_files words = is_some (value_of words (codes "files-out")) || is_some (
 
 -- the place that this value of `-o` names
 abbrev pub IsPlace : Option (List ℕ) → Place → Type 0
-IsPlace named Error = named ≡ None
-IsPlace named Output = named ≡ Some (codes "/dev/stdout")
-IsPlace named (File path) = (named ≡ Some path.now) × (path.now ≢ codes "/dev/stdout")
+IsPlace named Error =
+    (named ≡ None) ⊎ ((named ≡ Some (codes "/dev/stderr")) ⊎ (named ≡ Some (codes "/dev/fd/2")))
+IsPlace named Output = (named ≡ Some (codes "/dev/stdout")) ⊎ (named ≡ Some (codes "/dev/fd/1"))
+IsPlace named (File path) =
+    (named ≡ Some path.now)
+    × ((path.now ≢ codes "/dev/stderr")
+    × ((path.now ≢ codes "/dev/fd/2")
+    × ((path.now ≢ codes "/dev/stdout") × (path.now ≢ codes "/dev/fd/1"))))
 
 -- ---- where the kernel runs
 

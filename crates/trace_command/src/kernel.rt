@@ -7,7 +7,7 @@ ghost use Rattle.trace_command.specs.Tracing.{Takes, Traces, TracesHere};
 use crate::fault::host_fault;
 use crate::kept::{Behind, Kept, Record, waits_in};
 use containers::Seq;
-use front_end::{Fault, refuse_boot};
+use front_end::Fault;
 use host_link::{ChildLink, Link, LinkFault};
 use host_wire::Sink;
 use lx_abi::{Boot, Boxed, Reply, Request, Script, Word};
@@ -27,18 +27,14 @@ pub enum Kernel<P: OpenProcess + Drop> {
     There(ChildLink<P>),
 }
 
-/// The fault of a boot that a host refuses with this number.
-fn refused_boot(alloc: Global, number: u8) -> Fault {
-    let fault = match number {
-        1 => BootFault::BadPath,
-        2 => BootFault::Duplicate,
-        3 => BootFault::NoProgram,
-        4 => BootFault::TooLarge,
-        5 => BootFault::Memory,
-        6 => BootFault::BadLimit,
-        _ => return host_fault(LinkFault::Inadmissible),
-    };
-    refuse_boot(alloc, fault)
+/// The fault of a boot, in which none was found before, that a host refuses with this number: a host that has memory
+/// has no cause.
+fn refused_boot(number: u8) -> Fault {
+    if number == BootFault::Memory.number() {
+        Fault::Memory
+    } else {
+        host_fault(LinkFault::Inadmissible)
+    }
 }
 
 /// Boots the host at the other end of a link, which is to follow a schedule by these words.
@@ -61,7 +57,7 @@ fn boot_over<L: Link>(
     };
     match link.call(request) {
         Ok(Reply::Done) => Ok(()),
-        Ok(Reply::Refused { fault }) => Err(refused_boot(alloc, fault)),
+        Ok(Reply::Refused { fault }) => Err(refused_boot(fault)),
         Ok(_) => Err(host_fault(LinkFault::Inadmissible)),
         Err(fault) => Err(host_fault(fault)),
     }

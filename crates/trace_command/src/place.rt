@@ -2,13 +2,9 @@
 
 use crate::fault::unwritable;
 use clap::ArgMatches;
-use front_end::{Fault, Shown};
+use front_end::{Fault, Shown, create_file};
 use std::alloc::Global;
-use std::fs;
 use std::rt::Files;
-
-/// The name of standard output as a file, which this program writes without opening it again.
-const STANDARD_OUTPUT: &str = "/dev/stdout";
 
 /// Where the trace goes.
 #[derive(Clone, Copy, Debug, PartialEq, Eq)]
@@ -23,13 +19,13 @@ impl<'a> Place<'a> {
     ghost use Rattle.trace_command.specs.Faults.{IsUnwritable};
     ghost use Rattle.trace_command.specs.Tracing.{IsPlace, value_of};
 
-    /// The place that `-o` names.
+    /// The place that `-o` names. A standard stream is written without opening it again.
     pub fn of(matches: &ArgMatches<'a>) -> Self
         ensures { IsPlace (value_of matches.now (codes "output")) result }
     {
         match matches.get_str("output") {
-            None => Place::Error,
-            Some(STANDARD_OUTPUT) => Place::Output,
+            None | Some("/dev/stderr" | "/dev/fd/2") => Place::Error,
+            Some("/dev/stdout" | "/dev/fd/1") => Place::Output,
             Some(path) => Place::File(path),
         }
     }
@@ -49,9 +45,9 @@ impl<'a> Place<'a> {
     }
 }
 
-/// Makes a file for the trace anew.
+/// Makes a file for the trace anew. A stream or a device is appended to.
 pub fn create<R: Files + AllocGlobal>(rt: &R, path: &str) -> Result<R::File, Fault> {
-    match fs::create(rt, path) {
+    match create_file(rt, path) {
         Ok(file) => Ok(file),
         Err(error) => {
             let what = format!(in rt.alloc(); "-o {}", Shown(path))?;

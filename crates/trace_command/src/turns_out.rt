@@ -4,12 +4,11 @@ ghost use Rattle.std.specs.Prelude.{IfOk, IsSome, OnErr, codes};
 ghost use Rattle.trace_command.specs.Tracing.{value_of};
 
 use clap::ArgMatches;
-use front_end::{Fault, Shown};
+use front_end::{Fault, NewFile, Shown};
 use lx_abi::Event;
 use pt_kernel::{EventRow, Events};
 use pt_schedule::{event_word, write_word};
 use std::alloc::Global;
-use std::fs;
 use std::io::{self, BufWriter, ErrorKind, Write};
 use std::rt::Files;
 
@@ -56,11 +55,12 @@ fn unwritten(alloc: Global, path: &str, error: io::Error) -> Fault {
     Fault::output(format!(in alloc; "--turns-out {}: {error}", Shown(path)))
 }
 
-/// Makes the file that `--turns-out` names, where it names one, anew.
-pub fn create_turns<R: Files + AllocGlobal>(
-    rt: &R,
+/// The file that `--turns-out` names, where it names one. It can be written; an older one stays until the turns are
+/// whole.
+pub fn create_turns<'r, R: Files + AllocGlobal>(
+    rt: &'r R,
     matches: &ArgMatches,
-) -> Result<Option<R::File>, Fault>
+) -> Result<Option<NewFile<'r, R>>, Fault>
     ensures asked { IfOk result (λ file. IsSome file → IsSome (value_of matches.now (codes "turns-out"))) }
     ensures file { IfOk result (λ file. IsSome (value_of matches.now (codes "turns-out")) → IsSome file) }
     ensures fault { OnErr result (IsSome (value_of matches.now (codes "turns-out"))) }
@@ -68,7 +68,7 @@ pub fn create_turns<R: Files + AllocGlobal>(
     let Some(path) = matches.get_str("turns-out") else {
         return Ok(None);
     };
-    match fs::create(rt, path) {
+    match NewFile::new(rt, path) {
         Ok(file) => Ok(Some(file)),
         Err(error) => {
             let what = format!(in rt.alloc(); "--turns-out {}", Shown(path))?;
