@@ -1,10 +1,9 @@
 -- What is written where no run was made.
-use Rattle.std.proofs.Common.{◌≡◌, ◌⊎◌, ℕ, Result, Ok, Err, OnErr, inl, inr, sym, subst, ◌∙◌, true}
+use Rattle.std.proofs.Common.{◌≡◌, ◌⊎◌, ℕ, Result, Ok, Err, inl, inr, sym, subst, ◌∙◌}
 use Rattle.clap.specs.declared.parser.matches.ArgMatches.{ArgMatches}
 use Rattle.lx_abi.specs.declared.outcome.Outcome.{Outcome}
 use Rattle.front_end.specs.declared.fault.Fault.{Fault}
 use Rattle.trace_run.specs.Writers.{Writer}
-use Rattle.trace_command.specs.Faults.{has_ended}
 use Rattle.trace_command.specs.Tracing.{Leaves, LeavesAfter, Unmade}
 
 pub over_sum : {A B C D : Type 0} → (A → C) → (B → D) → A ⊎ B → C ⊎ D
@@ -26,23 +25,11 @@ left_after words (Ok u) (Err e) result out middle out' err err' h l =
     failed (Err e) e result out middle out' err err' h l
 
 -- a run that wasn't made leaves nothing
-pub leaves_nothing : (words : ArgMatches) (asked : Type 0) (made : Result Outcome Fault) (result : Result ℕ Fault)
-    (out middle out' err err' : Writer) → Unmade made out middle err err' → Leaves words asked made result middle out'
+pub leaves_nothing : (words : ArgMatches) (made : Result Outcome Fault) (result : Result ℕ Fault)
+    (out middle out' err err' : Writer) → Unmade made out middle err err' → Leaves words made result middle out'
     → Unmade result out out' err err'
-leaves_nothing words asked made result out middle out' err err' h l =
+leaves_nothing words made result out middle out' err err' h l =
     left_after words l.0 made result out middle out' err err' h l.1.1
-
-over_fault : (asked asked' ended : Type 0) (turned : Result (Unit {0}) Fault) → (asked → asked')
-    → OnErr turned (asked × ended) → OnErr turned (asked' × ended)
-over_fault asked asked' ended (Ok u) f h = h
-over_fault asked asked' ended (Err t) f h = (f h.0, h.1)
-
--- turns are asked for, by another word
-pub leaves_for : (words : ArgMatches) (asked asked' : Type 0) (made : Result Outcome Fault) (result : Result ℕ Fault)
-    (old new : Writer) → (asked → asked') → Leaves words asked made result old new
-    → Leaves words asked' made result old new
-leaves_for words asked asked' made result old new f l =
-    (l.0, (over_fault asked asked' (has_ended made ≡ true) l.0 f l.1.0, l.1.1))
 
 pub over_both : {A B : Type 0} (P : A → B → Type 0) {a a' : A} {b b' : B} → a ≡ a' → b ≡ b' → P a b → P a' b'
 over_both P {a} {a'} {b} {b'} e f h = subst (λ z. P z b') e (subst (λ z. P a z) f h)

@@ -237,10 +237,11 @@ LeavesAfter words (Ok u) (Err fault) result old new = (result ≡ Err fault) × 
 LeavesAfter words (Ok u) (Ok outcome) result old new = Left words outcome result old new
 
 -- whatever came of writing its turns, which fails only where they are asked for and the run has ended
-abbrev pub Leaves : ArgMatches → Type 0 → Result Outcome Fault → Result ℕ Fault → Writer → Writer → Type 0
-Leaves words asked made result old new =
+abbrev pub Leaves : ArgMatches → Result Outcome Fault → Result ℕ Fault → Writer → Writer → Type 0
+Leaves words made result old new =
     (turned : Result (Unit {0}) Fault)
-    × (OnErr turned (asked × (has_ended made ≡ true)) × LeavesAfter words turned made result old new)
+    × (OnErr turned (IsSome (value_of words (codes "turns-out")) × (has_ended made ≡ true))
+    × LeavesAfter words turned made result old new)
 
 -- All of it: the run writes its trace, then its turns are written where that is asked for, and then standard output is
 -- given what it leaves.
@@ -252,10 +253,7 @@ pub record Completes (P E : Type 0) {F I O : Type 0} (held : F → Option (List 
   pub traced : Writer
   pub runs : Runs P E held remaining contents (value_of words (codes "host")) plan limit workers place made out traced
       err err'
-  -- a file is made for the turns where they are asked for
-  pub turns : Option F
-  pub filed : IsSome (value_of words (codes "turns-out")) → IsSome turns
-  pub leaves : Leaves words (IsSome (value_of words (codes "turns-out"))) made result traced out'
+  pub leaves : Leaves words made result traced out'
 
 -- A run of this plan, with its trace at the place that the words name, completes. Or it lacks a file, a host or threads
 -- that it needs, and nothing is written.

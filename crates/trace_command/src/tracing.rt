@@ -18,7 +18,7 @@ use crate::prepared::{Prepared, prepare};
 use crate::running::{trace_kernel, write};
 use crate::second::make_again;
 use crate::threads::trace_on_threads;
-use crate::turns_out::{create_turns, write_turns};
+use crate::turns_out::{check_turns, write_turns};
 use crate::words::TraceOptions;
 use clap::ArgMatches;
 use front_end::{Fault, Leavings, Program};
@@ -192,44 +192,39 @@ fn has_ended(made: &Result<Outcome, Fault>) -> bool
     }
 }
 
-/// Writes the turns of a run that has ended to this file, where the words ask for them.
-fn leave_turns<W: Write + Drop>(
-    alloc: Global,
+/// Writes the turns of a run that has ended, where the words ask for them.
+fn leave_turns<R: Files + AllocGlobal>(
+    rt: &R,
     matches: &ArgMatches,
     kept: &mut Kept,
     made: &Result<Outcome, Fault>,
-    file: Option<W>,
 ) -> Result<(), Fault>
-    ensures { OnErr result (IsSome file × (has_ended made.now ≡ true)) }
+    ensures { OnErr result (IsSome (value_of matches.now (codes "turns-out")) × (has_ended made.now ≡ true)) }
 {
     if !has_ended(made) {
         return Ok(());
     }
-    match (matches.get_str("turns-out"), file) {
-        (Some(path), Some(file)) => match make_again(alloc, kept) {
-            Ok(()) => write_turns(alloc, path, file, &kept.record.events),
-            Err(fault) => {
-                drop(file);
-                Err(fault)
-            }
-        },
-        _ => Ok(()),
+    let Some(path) = matches.get_str("turns-out") else {
+        return Ok(());
+    };
+    match make_again(rt.alloc(), kept) {
+        Ok(()) => write_turns(rt, path, &kept.record.events),
+        Err(fault) => Err(fault),
     }
 }
 
-/// Writes what a run that was made leaves, its turns to this file. Gives the exit status.
-fn leave<R: Files + AllocGlobal, W: Write + Drop, O: Sink>(
+/// Writes what a run that was made leaves. Gives the exit status.
+fn leave<R: Files + AllocGlobal, O: Sink>(
     rt: &R,
     matches: &ArgMatches,
     kept: &mut Kept,
     made: Result<Outcome, Fault>,
-    file: Option<W>,
     out: &mut O,
 ) -> Result<u8, Fault>
-    ensures { Leaves matches.now (IsSome file) made result
+    ensures { Leaves matches.now made result
         (writer_of O.contents O.puts O.broken out.old) (writer_of O.contents O.puts O.broken out.new) }
 {
-    match leave_turns(rt.alloc(), matches, kept, &made, file) {
+    match leave_turns(rt, matches, kept, &made) {
         Ok(()) => (),
         Err(fault) => {
             drop(made);
@@ -246,8 +241,7 @@ fn leave<R: Files + AllocGlobal, W: Write + Drop, O: Sink>(
     }
 }
 
-/// Makes the run, its trace at the place that the words name, and writes what it leaves, its turns to a file that is
-/// made before. Gives the exit status.
+/// Makes the run, its trace at the place that the words name, and writes what it leaves. Gives the exit status.
 fn trace_plan<R: Files + Processes + Threads + Wait + Sync + AllocGlobal, O: Sink, E: LineSink>(
     rt: &R,
     matches: &ArgMatches,
@@ -263,15 +257,15 @@ fn trace_plan<R: Files + Processes + Threads + Wait + Sync + AllocGlobal, O: Sin
         (writer_of E.contents E.puts E.broken err.old) (writer_of E.contents E.puts E.broken err.new) }
 {
     let place = Place::of(matches);
-    let file = match create_turns(rt, matches) {
-        Ok(file) => file,
+    match check_turns(rt, matches) {
+        Ok(()) => (),
         Err(fault) => {
             drop(plan);
             return Err(fault);
         }
-    };
+    }
     let made = run_as_asked(rt, matches, options, plan, behind, place, &mut *out, err);
-    leave(rt, matches, &mut behind.kept, made, file, out)
+    leave(rt, matches, &mut behind.kept, made, out)
 }
 
 /// What comes of a run, and its outputs behind it.

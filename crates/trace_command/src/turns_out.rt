@@ -1,10 +1,10 @@
 //! The events of a run, written as a schedule that gives them.
 
-ghost use Rattle.std.specs.Prelude.{IfOk, IsSome, OnErr, codes};
+ghost use Rattle.std.specs.Prelude.{IsSome, OnErr, codes};
 ghost use Rattle.trace_command.specs.Tracing.{value_of};
 
 use clap::ArgMatches;
-use front_end::{Fault, NewFile, Shown};
+use front_end::{Fault, NewFile, Shown, check_file};
 use lx_abi::Event;
 use pt_kernel::{EventRow, Events};
 use pt_schedule::{event_word, write_word};
@@ -42,8 +42,10 @@ fn write_rows<W: Write>(writer: &mut W, rows: &[EventRow]) -> io::Result<()> {
     Ok(())
 }
 
-fn write_words<W: Write + Drop>(alloc: Global, file: W, events: &Events) -> io::Result<()> {
-    let mut writer = BufWriter::new(alloc, file)?;
+/// Writes the events to the file of this name. An older one stays until they are whole.
+fn write_words<R: Files + AllocGlobal>(rt: &R, path: &str, events: &Events) -> io::Result<()> {
+    let file = NewFile::new(rt, path)?;
+    let mut writer = BufWriter::new(rt.alloc(), file)?;
     write_rows(&mut writer, events.rows())?;
     writer.flush()
 }
@@ -55,21 +57,15 @@ fn unwritten(alloc: Global, path: &str, error: io::Error) -> Fault {
     Fault::output(format!(in alloc; "--turns-out {}: {error}", Shown(path)))
 }
 
-/// The file that `--turns-out` names, where it names one. It can be written; an older one stays until the turns are
-/// whole.
-pub fn create_turns<'r, R: Files + AllocGlobal>(
-    rt: &'r R,
-    matches: &ArgMatches,
-) -> Result<Option<NewFile<'r, R>>, Fault>
-    ensures asked { IfOk result (λ file. IsSome file → IsSome (value_of matches.now (codes "turns-out"))) }
-    ensures file { IfOk result (λ file. IsSome (value_of matches.now (codes "turns-out")) → IsSome file) }
-    ensures fault { OnErr result (IsSome (value_of matches.now (codes "turns-out"))) }
+/// The file that `--turns-out` names, where it names one, can be written. Nothing is changed yet.
+pub fn check_turns<R: Files + AllocGlobal>(rt: &R, matches: &ArgMatches) -> Result<(), Fault>
+    ensures { OnErr result (IsSome (value_of matches.now (codes "turns-out"))) }
 {
     let Some(path) = matches.get_str("turns-out") else {
-        return Ok(None);
+        return Ok(());
     };
-    match NewFile::new(rt, path) {
-        Ok(file) => Ok(Some(file)),
+    match check_file(rt, path) {
+        Ok(()) => Ok(()),
         Err(error) => {
             let what = format!(in rt.alloc(); "--turns-out {}", Shown(path))?;
             Err(Fault::file(rt.alloc(), what, error))
@@ -78,14 +74,13 @@ pub fn create_turns<'r, R: Files + AllocGlobal>(
 }
 
 /// Writes the events to the file of this name, a word a line as `--turns` reads them.
-pub fn write_turns<W: Write + Drop>(
-    alloc: Global,
+pub fn write_turns<R: Files + AllocGlobal>(
+    rt: &R,
     path: &str,
-    file: W,
     events: &Events,
 ) -> Result<(), Fault> {
-    match write_words(alloc, file, events) {
+    match write_words(rt, path, events) {
         Ok(()) => Ok(()),
-        Err(error) => Err(unwritten(alloc, path, error)),
+        Err(error) => Err(unwritten(rt.alloc(), path, error)),
     }
 }
