@@ -2,6 +2,7 @@
 //! what is told of them.
 #![tactic(auto)]
 
+mod blocks;
 mod calls;
 mod entry;
 mod keeping;
@@ -9,9 +10,11 @@ mod orders;
 mod plan;
 mod progress;
 mod reference;
+mod report;
 mod shell;
+mod sites;
 mod sweeping;
-mod table;
+mod texts;
 mod told;
 mod traced;
 mod wanted;

@@ -4,8 +4,8 @@ use crate::calls::error_name;
 use clap::ArgMatches;
 use lx_abi::calls::call_name;
 use std::alloc::{AllocError, Global};
-use sweep_rows::Kind;
-use sweep_runs::Case;
+use sweep_rows::Verdict;
+use sweep_runs::{Case, Setup};
 
 /// The last occurrence that `when=` takes.
 const LAST_OCCURRENCE: u64 = 65_535;
@@ -45,10 +45,10 @@ fn push_each(
 }
 
 /// The limit on events for a limit on turns. A run that is out of turns is out of as many events.
-fn limit(kind: Kind, digits: &str) -> u64 {
+fn limit(verdict: Verdict, digits: &str) -> u64 {
     let turns: u64 = digits.parse().unwrap_or(u64::MAX);
-    match kind {
-        Kind::Hung => turns,
+    match verdict {
+        Verdict::Hung => turns,
         _ => turns.saturating_mul(EVENTS_OF_A_TURN),
     }
 }
@@ -58,11 +58,11 @@ fn push_limit(
     alloc: Global,
     words: &mut Vec<String>,
     matches: &ArgMatches,
-    kind: Kind,
+    verdict: Verdict,
 ) -> Result<(), AllocError> {
     if let Some(digits) = matches.get_str("limit") {
         push(alloc, words, "--limit")?;
-        words.push(format!(in alloc; "{}", limit(kind, digits))?)?;
+        words.push(format!(in alloc; "{}", limit(verdict, digits))?)?;
     }
     Ok(())
 }
@@ -72,14 +72,14 @@ pub fn failure_words(
     alloc: Global,
     matches: &ArgMatches,
     case: &Case,
-    kind: Kind,
+    verdict: Verdict,
 ) -> Result<Vec<String>, AllocError> {
     let mut words = Vec::new(alloc);
     let Some(expression) = expression(alloc, case)? else {
         return Ok(words);
     };
     push_each(alloc, &mut words, "-e", &[expression.as_str()])?;
-    push_limit(alloc, &mut words, matches, kind)?;
+    push_limit(alloc, &mut words, matches, verdict)?;
     Ok(words)
 }
 
@@ -153,23 +153,21 @@ pub fn order_words(
     alloc: Global,
     matches: &ArgMatches,
     path: &str,
-    kind: Kind,
+    verdict: Verdict,
 ) -> Result<Vec<String>, AllocError> {
     let mut words = Vec::new(alloc);
     push_each(alloc, &mut words, "--turns", &[path])?;
-    push_limit(alloc, &mut words, matches, kind)?;
+    push_limit(alloc, &mut words, matches, verdict)?;
     Ok(words)
 }
 
-/// What all runs are shown by, with dots in the place of the words of each.
-pub fn common(alloc: Global, matches: &ArgMatches) -> Result<String, AllocError> {
-    let mut start = Vec::new(alloc);
-    push_start(alloc, &mut start, matches)?;
-    let mut rest = Vec::new(alloc);
-    push_rest(alloc, &mut rest, matches)?;
-    let start = typed(alloc, start.as_slice())?;
-    let rest = typed(alloc, rest.as_slice())?;
-    format!(in alloc; "{start} .. {rest}")
+/// Where the input of a run comes from, as it is typed.
+pub fn input_text(setup: &Setup) -> &'static str {
+    if setup.boot.input.is_empty() {
+        " </dev/null"
+    } else {
+        " <INPUT"
+    }
 }
 
 /// A word that a shell takes as it is.

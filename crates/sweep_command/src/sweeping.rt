@@ -3,22 +3,24 @@
 use crate::orders::orders_reported;
 use crate::plan::{Plan, read_plan};
 use crate::progress::ShownProgress;
-use crate::reference::reference;
-use crate::table::{Counts, Reported, objects, table};
+use crate::reference::{explain_case, reference};
+use crate::report::{Reported, counts_of, objects, table, verdicts_of};
+use crate::sites::{is_kept, place_of};
 use crate::told::{Told, tell_row};
-use crate::traced::traced_calls;
+use crate::traced::{TracedCalls, traced_calls};
 use crate::words::{Format, Words, words_of};
 use clap::ArgMatches;
 use front_end::{Fault, Program, Shown};
 use lx_abi::Status;
 use std::alloc::{AllocError, Global};
+use std::env::{self, Env};
 use std::fs;
 use std::io::{IsTerminal, Read, Write};
 use std::rt::Files;
 use std::thread::Threads;
 use std::time::Clock;
-use sweep_rows::{Kind, first_word};
-use sweep_runs::{Reference, Row};
+use sweep_rows::{Reached, Verdict, first_word, status};
+use sweep_runs::{Case, Row, cases};
 use sweep_threads::rows_on_threads;
 
 /// The name of standard output as a file, which this program writes without opening it.
@@ -42,7 +44,7 @@ fn open<R: Files + AllocGlobal>(rt: &R, path: Option<&str>) -> Result<Option<R::
 fn explain<E: Write>(
     alloc: Global,
     plan: &Plan,
-    reference: &Reference,
+    reference: &Reached,
     err: &mut E,
 ) -> Result<(), Fault> {
     let Some(word) = first_word(&reference.ending.outcome) else {
@@ -61,7 +63,8 @@ fn swept<R: Threads + Sync + AllocGlobal, C: Clock, E: Write>(
     rt: &R,
     jobs: u8,
     plan: &Plan,
-    reference: &Reference,
+    reference: &Reached,
+    cases: &[Case],
     progress: &mut ShownProgress<C, E>,
 ) -> Result<Vec<Row>, AllocError> {
     rows_on_threads(
@@ -70,7 +73,7 @@ fn swept<R: Threads + Sync + AllocGlobal, C: Clock, E: Write>(
         jobs,
         &plan.setup,
         reference,
-        plan.wanted.as_slice(),
+        cases,
         progress,
     )
 }
@@ -80,75 +83,91 @@ fn make<R: Clock + Threads + Sync + AllocGlobal, E: Write + IsTerminal>(
     rt: &R,
     jobs: u8,
     plan: &Plan,
-    reference: &Reference,
+    reference: &Reached,
+    cases: &[Case],
     err: &mut E,
-) -> Result<Vec<Row>, Fault> {
+) -> Result<Vec<Row>, AllocError> {
     let is_shown = err.is_terminal();
     let mut progress = ShownProgress::new(rt, err, is_shown);
-    let made = swept(rt, jobs, plan, reference, &mut progress);
+    let made = swept(rt, jobs, plan, reference, cases, &mut progress);
     progress.end();
-    Ok(made?)
+    made
 }
 
-/// The place of a kind under `--summary`.
-pub fn place(kind: Kind) -> u8 {
-    match kind {
-        Kind::Lost => 0,
-        Kind::Killed => 1,
-        Kind::Hung => 2,
-        Kind::Reported | Kind::Same => 3,
+/// The cases that the words ask for. An error tells of no loss where the file is gone at the reference's end.
+fn wanted_cases(
+    alloc: Global,
+    plan: &Plan,
+    reference: &Reached,
+    calls: &TracedCalls,
+) -> Result<Vec<Case>, AllocError> {
+    let log = reference.log.as_slice();
+    let mut cases = cases(alloc, log, plan.wanted.as_slice(), plan.setup.boot.follow)?;
+    for case in cases.iter_mut() {
+        case.tells = case.tells && is_kept(calls, reference, &case.occurrence);
     }
+    Ok(cases)
 }
 
-/// The rows as they are told, the worst first where the words ask for it.
+/// Why the run of a row did not end.
+fn why_hung(alloc: Global, plan: &Plan, row: &Row) -> Result<Option<String>, AllocError> {
+    if row.verdict != Verdict::Hung {
+        return Ok(None);
+    }
+    let reason = explain_case(alloc, &plan.setup, row.case)?;
+    if reason.starts_with("every") {
+        return Ok(Some(reason));
+    }
+    Ok(Some(format!(in alloc; "runs on")?))
+}
+
+/// The rows as they are told.
 fn all_told(
     alloc: Global,
     matches: &ArgMatches,
     plan: &Plan,
-    rows: &mut Vec<Row>,
-) -> Result<Vec<Told>, Fault> {
-    if matches.get_flag("summary") {
-        rows.sort_by_key(|row| place(row.kind))?;
-    }
-    let calls = traced_calls(alloc, &plan.setup)?;
+    reference: &Reached,
+    calls: &TracedCalls,
+    rows: &[Row],
+) -> Result<Vec<Told>, AllocError> {
     let mut all = Vec::new(alloc);
-    for row in rows.iter() {
-        all.push(tell_row(alloc, matches, &calls, row)?)?;
+    for row in rows {
+        let hung = why_hung(alloc, plan, row)?;
+        let place = place_of(alloc, calls, reference, &row.case.occurrence)?;
+        let hung = hung.as_ref().map(|reason| reason.as_str());
+        all.push(tell_row(alloc, matches, reference, row, place, hung)?)?;
     }
     Ok(all)
 }
 
-fn report(
-    alloc: Global,
-    matches: &ArgMatches,
-    format: Format,
-    told: &[Told],
-    counts: Counts,
-) -> Result<String, AllocError> {
-    match format {
-        Format::Table => table(alloc, matches, told, counts),
-        Format::Json => match objects(alloc, told, counts) {
-            Ok(report) => Ok(report),
-            Err(_) => Err(AllocError),
-        },
-    }
-}
-
-/// The report on the runs with a failure, and how many came to what.
+/// The report on the runs with a failure, and the exit status.
 fn failures<R: Clock + Threads + Sync + AllocGlobal, E: Write + IsTerminal>(
     rt: &R,
     matches: &ArgMatches,
     words: Words,
     plan: &Plan,
-    reference: &Reference,
+    reference: &Reached,
     err: &mut E,
 ) -> Result<Reported, Fault> {
     let alloc = rt.alloc();
-    let mut rows = make(rt, words.jobs, plan, reference, err)?;
-    let counts = Counts::of(rows.as_slice());
-    let told = all_told(alloc, matches, plan, &mut rows)?;
-    let text = report(alloc, matches, words.format, told.as_slice(), counts)?;
-    Ok(Reported { text, counts })
+    let calls = traced_calls(alloc, &plan.setup)?;
+    let cases = wanted_cases(alloc, plan, reference, &calls)?;
+    let rows = make(rt, words.jobs, plan, reference, cases.as_slice(), err)?;
+    let verdicts = verdicts_of(alloc, rows.as_slice())?;
+    let counts = counts_of(alloc, verdicts.as_slice())?;
+    let told = all_told(alloc, matches, plan, reference, &calls, rows.as_slice())?;
+    let told = told.as_slice();
+    let text = match words.format {
+        Format::Table => table(alloc, &plan.setup, reference, told, &counts, words.style)?,
+        Format::Json => match objects(alloc, told, &counts) {
+            Ok(report) => report,
+            Err(_) => return Err(Fault::Memory),
+        },
+    };
+    Ok(Reported {
+        text,
+        status: status(verdicts.as_slice()),
+    })
 }
 
 /// The report on the orders of turns, or else on the runs with a failure.
@@ -157,7 +176,7 @@ fn reported<R: Files + Clock + Threads + Sync + AllocGlobal, E: Write + IsTermin
     matches: &ArgMatches,
     words: Words,
     plan: &Plan,
-    reference: &Reference,
+    reference: &Reached,
     err: &mut E,
 ) -> Result<Reported, Fault> {
     match words.orders {
@@ -188,11 +207,19 @@ fn write<F: Write + Drop, O: Write>(
     }
 }
 
+/// The environment asks for no colors (no-color.org).
+fn is_plain<R: Env + AllocGlobal>(rt: &R) -> bool {
+    match env::var(rt, "NO_COLOR") {
+        Ok(value) => !value.is_empty(),
+        Err(_) => false,
+    }
+}
+
 /// Makes the sweep that the words ask for, and gives the exit status. The report is written once all runs are made.
 pub fn sweep<
-    R: Files + Clock + Threads + Sync + AllocGlobal,
+    R: Env + Files + Clock + Threads + Sync + AllocGlobal,
     I: Read + IsTerminal,
-    O: Write,
+    O: Write + IsTerminal,
     E: Write + IsTerminal,
 >(
     rt: &R,
@@ -203,7 +230,7 @@ pub fn sweep<
     err: &mut E,
 ) -> Result<u8, Fault> {
     let alloc = rt.alloc();
-    let words = words_of(alloc, matches)?;
+    let words = words_of(alloc, matches, out.is_terminal() && !is_plain(rt))?;
     let plan = read_plan(rt, matches, input, err)?;
     let file = open(rt, matches.get_str("output"))?;
     let reference = reference(alloc, &plan.setup, explained)?;
@@ -212,5 +239,5 @@ pub fn sweep<
     }
     let report = reported(rt, matches, words, &plan, &reference, err)?;
     write(alloc, report.text.as_str(), file, out)?;
-    Ok(report.counts.status())
+    Ok(report.status)
 }

@@ -8,14 +8,13 @@ use lx_boot::BootFault;
 use lx_copies::Copied;
 use pt_kernel::Schedule;
 use std::alloc::{AllocError, Global};
-use sweep_rows::Occurrence;
 use sweep_runs::Setup;
 use tr_core::Options;
 use trace_run::local::Run;
 use trace_run::run_local;
 
 /// The most bytes of a string that are shown.
-const STRING_LIMIT: u32 = 32;
+const STRING_LIMIT: u32 = 24;
 
 /// How many events a turn is counted as at most: itself, and the requests that come of it.
 const EVENTS_OF_A_TURN: u64 = 1000;
@@ -122,11 +121,9 @@ impl TracedCalls {
     }
 
     /// What the trace shows of an occurrence of a call.
-    pub fn text_of(&self, occurrence: &Occurrence) -> Option<&str> {
+    pub fn text_of(&self, pid: u32, number: u64, n: u64) -> Option<&str> {
         let call = self.calls.iter().find(|call| {
-            call.pid == occurrence.pid
-                && call.number == occurrence.call.number
-                && call.n == occurrence.n
+            call.pid == pid && call.number == number && call.n == n
         })?;
         Some(call.text.as_str())
     }

@@ -6,7 +6,7 @@ use containers::Seq;
 use front_end::{Fault, Shown, expression_words, read_expression};
 use lx_abi::{Errno, Rule, Set};
 use std::alloc::{AllocError, Global};
-use sweep_runs::Wanted;
+use sweep_runs::{Errors, Wanted};
 use tr_expr::Expr;
 
 /// A set's text, and the names of errors behind it.
@@ -75,7 +75,10 @@ fn named(alloc: Global, set: &str, names: &str) -> Result<Wanted, Fault> {
         }
         calls = rule.calls;
     }
-    Ok(Wanted { calls, errors })
+    Ok(Wanted {
+        calls,
+        errors: Errors::These(errors),
+    })
 }
 
 /// A call with the errors that the table has for it.
@@ -90,7 +93,7 @@ fn usual(alloc: Global, number: u64) -> Result<Wanted, AllocError> {
     }
     Ok(Wanted {
         calls: Set::Only(calls),
-        errors,
+        errors: Errors::These(errors),
     })
 }
 
@@ -104,8 +107,30 @@ fn add_usual(alloc: Global, wanted: &mut Vec<Wanted>, set: &Set) -> Result<(), A
     Ok(())
 }
 
+/// Adds the calls of a set, each with the errors that an occurrence can have, or with all that the table has.
+fn add_set(
+    alloc: Global,
+    wanted: &mut Vec<Wanted>,
+    calls: Set,
+    every_error: bool,
+) -> Result<(), AllocError> {
+    if every_error {
+        return add_usual(alloc, wanted, &calls);
+    }
+    wanted.push(Wanted {
+        calls,
+        errors: Errors::Possible,
+    })?;
+    Ok(())
+}
+
 /// Adds what an expression asks for.
-fn add(alloc: Global, wanted: &mut Vec<Wanted>, text: &str) -> Result<(), Fault> {
+fn add(
+    alloc: Global,
+    wanted: &mut Vec<Wanted>,
+    text: &str,
+    every_error: bool,
+) -> Result<(), Fault> {
     let Some(pieces) = cut(text) else {
         return Err(refuse(alloc, text));
     };
@@ -113,21 +138,35 @@ fn add(alloc: Global, wanted: &mut Vec<Wanted>, text: &str) -> Result<(), Fault>
         Some(names) => wanted.push(named(alloc, pieces.set, names)?)?,
         None => {
             let rule = rule(alloc, pieces.set, None)?;
-            add_usual(alloc, wanted, &rule.calls)?;
+            add_set(alloc, wanted, rule.calls, every_error)?;
         }
     }
     Ok(())
 }
 
-/// What the expressions ask for, in their order; every call with its errors, where there are none.
+/// Whether all errors of a call are tried, or those alone that an occurrence can have.
+fn every_error(alloc: Global, matches: &ArgMatches) -> Result<bool, Fault> {
+    match matches.get_str("errors") {
+        None | Some("possible") => Ok(false),
+        Some("all") => Ok(true),
+        Some(other) => Err(Fault::usage(format!(in alloc;
+            "--errors {}: not possible or all",
+            Shown(other)
+        ))),
+    }
+}
+
+/// What the expressions ask for, in their order; every call, where there are none.
 pub fn read_wanted(alloc: Global, matches: &ArgMatches) -> Result<Vec<Wanted>, Fault> {
+    let every_error = every_error(alloc, matches)?;
     let words = expression_words(alloc, matches)?;
     let mut wanted = Vec::new(alloc);
     for word in &words {
-        add(alloc, &mut wanted, word.as_str())?;
+        add(alloc, &mut wanted, word.as_str(), every_error)?;
     }
     if words.is_empty() {
-        add_usual(alloc, &mut wanted, &Set::AllBut(Seq::new(alloc)))?;
+        let every_call = Set::AllBut(Seq::new(alloc));
+        add_set(alloc, &mut wanted, every_call, every_error)?;
     }
     Ok(wanted)
 }

@@ -1,5 +1,6 @@
 //! What the command line asks for.
 
+use crate::report::Style;
 use clap::{Arg, ArgAction, ArgMatches, Command, Error};
 use front_end::{
     Fault, Shown, expression_words, number, with_calls, with_environment, with_explain,
@@ -8,27 +9,32 @@ use front_end::{
 use std::alloc::{AllocError, Global};
 
 const NOTES: &str = "Which calls are to fail, after -e:
-  fault=SET               with each error that the manual page of the call gives, but for those of faulty arguments
+  fault=SET               with each error that the call can have there, by its descriptor and its flags
   fault=SET:error=E,..    with these errors (a name, or 1 to 4095)
   SET    names joined by commas, as write or ?name; %file, %desc, %process, %signal, %memory; /REGEX; all; none;
          a ! in front takes all others
-Without -e it is fault=all. The first execve counts.
+Without -e it is fault=all.
 
-Each line is a run in which one occurrence of one call fails, and nothing else:
-  same      process 1 ended as without the failure, and so are the console and the files
-  reported  process 1 ended with another exit code
-  lost      it ended as without the failure, and the console or the files differ
-  killed    a signal ended it
-  hung      it was out of turns
-then the words for strace_cli that make the call fail, the call without the failure, and in brackets what differs. The
-first line has the words of strace_cli that show a run, with dots in the place of those.
+In each run one occurrence of one call fails, and nothing else. What came of it, the findings first, in capitals:
+  HUNG       a process did not end
+  KILLED     a signal ended process 1
+  TORN       a file that was there is destroyed
+  LOST       something else is missing or other, and nothing said so
+  DROPPED    an error of close, which tells that data was lost, had no effect
+  damaged    a file that was there is destroyed, and another has its content
+  warned     something is missing or other, or nothing is, and something was said
+  reported   process 1 ended with another code
+  recovered  all is as without the failure, by other calls
+  ignored    and by the same calls
+The report has the calls with findings, damaged and warned runs: each with its occurrences, what came of which errors,
+and the words of strace_cli by which the first of these runs is had. The last line shows the first finding.
 
 With --orders no call fails, and each run has its own order of turns: the default one, then those with one switch to
 another process where a call returned, those with two, and then some by chance. Each line is a result, with how many
 orders had it and the words of --turns by which a shortest of them has it.
 
-The status is 0 where no run was lost, killed or hung, else 1; 2 for words, files or a boot at fault, 3 for an output or
-for memory, 4 where the run without a failure is out of turns.
+The status is 0 where no run is a finding, else 1 (with --orders where a run did not end); 2 for words, files or a boot
+at fault, 3 for an output or for memory, 4 where the run without a failure is out of turns.
 
 Examples: make each write fail with EINTR; try 100 orders of turns
   strace_sweep -e fault=write:error=EINTR --file /p=hello -- /p </dev/null
@@ -86,13 +92,18 @@ fn with_output<'a>(alloc: Global, command: Command<'a>) -> Result<Command<'a>, A
     )
 }
 
-/// Adds `--summary`.
-fn with_summary<'a>(alloc: Global, command: Command<'a>) -> Result<Command<'a>, AllocError> {
+/// Adds an option without a value.
+fn with_flag<'a>(
+    alloc: Global,
+    command: Command<'a>,
+    name: &'a str,
+    help: &'a str,
+) -> Result<Command<'a>, AllocError> {
     command.arg(
-        Arg::new(alloc, "summary")
-            .long("summary")
+        Arg::new(alloc, name)
+            .long(name)
             .action(ArgAction::SetTrue)
-            .help("Tells the runs that were lost, killed or hung first"),
+            .help(help),
     )
 }
 
@@ -104,7 +115,18 @@ fn with_report<'a>(alloc: Global, command: Command<'a>) -> Result<Command<'a>, A
         "FORMAT",
         "table, or json: an object a line [default: table]",
     )?;
-    let command = with_summary(alloc, command)?;
+    let command = with_flag(
+        alloc,
+        command,
+        "each",
+        "Tells each run in a line of its own",
+    )?;
+    let command = with_flag(
+        alloc,
+        command,
+        "all",
+        "Tells also of runs that were reported, recovered or ignored",
+    )?;
     with_output(alloc, command)
 }
 
@@ -114,12 +136,19 @@ fn with_sets<'a>(alloc: Global, command: Command<'a>) -> Result<Command<'a>, All
         command,
         "Which calls are to fail, as fault=write or fault=write:error=EIO,ENOSPC [default: fault=all]",
     )?;
-    with_calls(
+    let command = with_calls(
         alloc,
         command,
         "fault",
         "SET[:error=E,..]",
         "The same as -e fault=SET[:error=E,..]",
+    )?;
+    with_name(
+        alloc,
+        command,
+        "errors",
+        "WHICH",
+        "possible, or all that the manual page of a call gives but for faulty arguments [default: possible]",
     )
 }
 
@@ -289,13 +318,20 @@ fn orders_of(alloc: Global, matches: &ArgMatches) -> Result<Option<Orders>, Faul
 #[derive(Clone, Copy, Debug, PartialEq, Eq)]
 pub struct Words {
     pub format: Format,
+    pub style: Style,
     pub jobs: u8,
     pub orders: Option<Orders>,
 }
 
-pub fn words_of(alloc: Global, matches: &ArgMatches) -> Result<Words, Fault> {
+/// `colors`: the report may have them.
+pub fn words_of(alloc: Global, matches: &ArgMatches, colors: bool) -> Result<Words, Fault> {
     Ok(Words {
         format: format_of(alloc, matches)?,
+        style: Style {
+            each: matches.get_flag("each"),
+            all: matches.get_flag("all"),
+            colors,
+        },
         jobs: jobs_of(alloc, matches)?,
         orders: orders_of(alloc, matches)?,
     })

@@ -2,18 +2,26 @@
 
 ghost use Rattle.std.specs.Prelude.{◌≡◌, ◌++◌, IfOk, OnOk};
 ghost use Rattle.std.specs.List.{flat_map};
-ghost use Rattle.sweep_runs.specs.Cases.{cases_of, cases_at, wanted_at, all_at};
+ghost use Rattle.sweep_runs.specs.Cases.{cases_of, case_of, cases_at, wanted_at, all_at};
 
 use containers::Seq;
 use lx_abi::{Errno, Item, Set};
 use std::alloc::{AllocError, Global};
-use sweep_rows::{Occurrence, occurrences};
+use sweep_rows::{Occurrence, occurrences, possible_errors, tells_of_loss};
+
+/// The errors that calls are to fail with.
+#[derive(Drop)]
+pub enum Errors {
+    /// Those that an occurrence can have.
+    Possible,
+    These(Vec<Errno>),
+}
 
 /// Calls that are to fail, and the errors that they are to fail with.
 #[derive(Drop)]
 pub struct Wanted {
     pub calls: Set,
-    pub errors: Vec<Errno>,
+    pub errors: Errors,
 }
 
 /// An occurrence of a call, and the error that it fails with.
@@ -21,64 +29,87 @@ pub struct Wanted {
 pub struct Case {
     pub occurrence: Occurrence,
     pub error: Errno,
+    /// The error tells that data was lost.
+    pub tells: bool,
 }
 
 /// Adds a case for each error.
 fn add_errors(
     cases: &mut Vec<Case>,
+    log: &[Item],
     occurrence: Occurrence,
     errors: &[Errno],
 ) -> Result<(), AllocError>
-    ensures { OnOk result (cases.new.items ≡ cases.old.items ++ cases_at occurrence errors.now) }
+    ensures { OnOk result (cases.new.items ≡ cases.old.items ++ cases_at log.now occurrence errors.now) }
 {
     let mut left = errors;
     while let Some((error, rest)) = left.split_first() {
         let error = *error;
-        cases.push(Case { occurrence, error })?;
+        let tells = tells_of_loss(log, &occurrence, error);
+        cases.push(Case {
+            occurrence,
+            error,
+            tells,
+        })?;
         left = rest;
     }
     Ok(())
 }
 
-/// Adds the cases of an occurrence whose call is wanted so.
+/// Adds the cases of an occurrence whose call is wanted.
 fn add_wanted(
+    alloc: Global,
     cases: &mut Vec<Case>,
+    log: &[Item],
     occurrence: Occurrence,
     wanted: &Wanted,
 ) -> Result<(), AllocError>
-    ensures { OnOk result (cases.new.items ≡ cases.old.items ++ wanted_at occurrence wanted.now) }
+    ensures { OnOk result (cases.new.items ≡ cases.old.items ++ wanted_at log.now occurrence wanted.now) }
 {
-    if wanted.calls.contains(occurrence.call.number) {
-        add_errors(cases, occurrence, wanted.errors.as_slice())
-    } else {
-        Ok(())
+    if !wanted.calls.contains(occurrence.call.number) {
+        return Ok(());
     }
+    match &wanted.errors {
+        Errors::These(errors) => add_errors(cases, log, occurrence, errors.as_slice())?,
+        Errors::Possible => {
+            let errors = possible_errors(alloc, log, &occurrence)?;
+            add_errors(cases, log, occurrence, errors.as_slice())?;
+        }
+    }
+    Ok(())
 }
 
 /// Adds the cases of an occurrence.
 fn add_all(
+    alloc: Global,
     cases: &mut Vec<Case>,
+    log: &[Item],
     occurrence: Occurrence,
     wanted: &[Wanted],
 ) -> Result<(), AllocError>
-    ensures { OnOk result (cases.new.items ≡ cases.old.items ++ all_at wanted.now occurrence) }
+    ensures { OnOk result (cases.new.items ≡ cases.old.items ++ all_at wanted.now log.now occurrence) }
 {
     let mut left = wanted;
     while let Some((one, rest)) = left.split_first() {
-        add_wanted(cases, occurrence, one)?;
+        add_wanted(alloc, cases, log, occurrence, one)?;
         left = rest;
     }
     Ok(())
 }
 
 /// The cases of these occurrences.
-fn cases_by(alloc: Global, found: &[Occurrence], wanted: &[Wanted]) -> Result<Vec<Case>, AllocError>
-    ensures { IfOk result (λ cases. cases.items ≡ flat_map (all_at wanted.now) found.now) }
+fn cases_by(
+    alloc: Global,
+    log: &[Item],
+    found: &[Occurrence],
+    wanted: &[Wanted],
+) -> Result<Vec<Case>, AllocError>
+    ensures { IfOk result (λ cases. cases.items ≡ flat_map (all_at wanted.now log.now) found.now) }
 {
     let mut cases = Vec::new(alloc);
     let mut left = found;
     while let Some((occurrence, rest)) = left.split_first() {
-        add_all(&mut cases, *occurrence, wanted)?;
+        add_all(alloc, &mut cases, log, *occurrence, wanted)?;
         left = rest;
     }
     Ok(cases)
@@ -96,5 +127,5 @@ pub fn cases(
 {
     let every_call = Set::AllBut(Seq::new(alloc));
     let found = occurrences(alloc, log, &every_call, follow)?;
-    cases_by(alloc, found.as_slice(), wanted)
+    cases_by(alloc, log, found.as_slice(), wanted)
 }

@@ -1,0 +1,378 @@
+//! The report: the run without a failure, the calls to look at, and how many runs came to what.
+
+use crate::blocks::{Block, Line, blocks_of, first_in, first_of};
+use crate::shell::{input_text, typed};
+use crate::texts::{COLUMNS, push_column, push_part, push_wrapped, quoted_bytes, ranges};
+use crate::told::{Told, ToldFile, end_text};
+use clap::ArgMatches;
+use front_end::escaped;
+use lx_abi::{Item, Node, OutcomeFile};
+use serde::Serialize;
+use std::alloc::{AllocError, Global};
+use sweep_rows::{Reached, Verdict, count, first_word, name_of, rank, status};
+use sweep_runs::{Row, Setup};
+
+/// So many columns hold the word of a line; what is behind it begins there.
+const WORD: usize = 10;
+
+const BEHIND: usize = 12;
+
+/// All verdicts, the worst first.
+const VERDICTS: [Verdict; 10] = [
+    Verdict::Hung,
+    Verdict::Killed,
+    Verdict::Torn,
+    Verdict::Lost,
+    Verdict::Dropped,
+    Verdict::Damaged,
+    Verdict::Warned,
+    Verdict::Reported,
+    Verdict::Recovered,
+    Verdict::Ignored,
+];
+
+/// How many runs came to what.
+#[derive(Drop, Serialize)]
+pub struct Counts {
+    pub runs: usize,
+    pub findings: usize,
+    pub verdicts: Vec<(&'static str, usize)>,
+}
+
+/// What is told of all runs, and the exit status.
+#[derive(Drop)]
+pub struct Reported {
+    pub text: String,
+    pub status: u8,
+}
+
+/// How a report is written.
+#[derive(Clone, Copy, Debug, PartialEq, Eq)]
+pub struct Style {
+    /// A line a run.
+    pub each: bool,
+    /// With what is no more than reported.
+    pub all: bool,
+    pub colors: bool,
+}
+
+/// The verdicts of rows.
+pub fn verdicts_of(alloc: Global, rows: &[Row]) -> Result<Vec<Verdict>, AllocError> {
+    let mut verdicts = Vec::new(alloc);
+    for row in rows {
+        verdicts.push(row.verdict)?;
+    }
+    Ok(verdicts)
+}
+
+pub fn counts_of(alloc: Global, verdicts: &[Verdict]) -> Result<Counts, AllocError> {
+    let mut counts = Vec::new(alloc);
+    let mut findings = 0usize;
+    for verdict in VERDICTS {
+        let runs = count(verdicts, verdict);
+        if status(&[verdict]) == 1 {
+            findings = findings.saturating_add(runs);
+        }
+        if runs > 0 {
+            counts.push((name_of(verdict), runs))?;
+        }
+    }
+    Ok(Counts {
+        runs: verdicts.len(),
+        findings,
+        verdicts: counts,
+    })
+}
+
+/// What the reference makes of a file, if it changes it.
+fn made_text(
+    alloc: Global,
+    setup: &Setup,
+    file: &OutcomeFile,
+) -> Result<Option<String>, AllocError> {
+    let Node::File(now) = &file.node else {
+        return Ok(None);
+    };
+    let path = escaped(alloc, &file.path)?;
+    let given = setup.boot.files.as_slice();
+    let before = given
+        .iter()
+        .find(|one| one.path.as_slice() == file.path.as_slice());
+    match before {
+        None => Ok(Some(format!(in alloc; "{path} made ({})", now.len())?)),
+        Some(one) if one.content.as_slice() == now.as_slice() => Ok(None),
+        Some(_) => Ok(Some(format!(in alloc; "{path} written ({})", now.len())?)),
+    }
+}
+
+/// Adds the files that the reference removes.
+fn push_removed(
+    text: &mut String,
+    alloc: Global,
+    setup: &Setup,
+    left: &[OutcomeFile],
+) -> Result<(), AllocError> {
+    for given in setup.boot.files.as_slice() {
+        let path = given.path.as_slice();
+        if !left.iter().any(|file| file.path.as_slice() == path) {
+            let removed = format!(in alloc; "{} removed", escaped(alloc, &given.path)?)?;
+            push_part(text, removed.as_str(), ", ")?;
+        }
+    }
+    Ok(())
+}
+
+/// How the run without a failure came to its end.
+fn reference_text(alloc: Global, setup: &Setup, reference: &Reached) -> Result<String, AllocError> {
+    let mut text = String::new(alloc);
+    if let Some(word) = first_word(&reference.ending.outcome) {
+        text.push_str(end_text(alloc, word)?.as_str())?;
+    }
+    let streams = [
+        ("says", &reference.streams.err),
+        ("prints", &reference.streams.out),
+    ];
+    for (verb, stream) in streams {
+        if !stream.is_empty() {
+            let said = quoted_bytes(alloc, stream.as_slice(), 30)?;
+            push_part(
+                &mut text,
+                format!(in alloc; "{verb} {said}")?.as_str(),
+                ", ",
+            )?;
+        }
+    }
+    for file in reference.ending.outcome.files.as_slice() {
+        if let Some(made) = made_text(alloc, setup, file)? {
+            push_part(&mut text, made.as_str(), ", ")?;
+        }
+    }
+    push_removed(
+        &mut text,
+        alloc,
+        setup,
+        reference.ending.outcome.files.as_slice(),
+    )?;
+    Ok(text)
+}
+
+/// The calls and runs, and the run without a failure.
+fn push_head(
+    text: &mut String,
+    alloc: Global,
+    setup: &Setup,
+    reference: &Reached,
+    runs: usize,
+) -> Result<(), AllocError> {
+    let calls = reference
+        .log
+        .iter()
+        .filter(|item| matches!(item, Item::Enter { .. }))
+        .count();
+    text.push_str(format!(in alloc; "{calls} calls, {runs} runs\nwithout a failure: ")?.as_str())?;
+    let end = reference_text(alloc, setup, reference)?;
+    push_wrapped(text, end.as_str(), 19, 2)?;
+    text.push('\n')
+}
+
+/// The word of a verdict, a finding's in capitals.
+fn verdict_text(alloc: Global, told: &Told) -> Result<String, AllocError> {
+    let mut word = format!(in alloc; "{}", told.verdict)?;
+    if told.finding {
+        word.make_ascii_uppercase();
+    }
+    Ok(word)
+}
+
+/// A run is told without being asked for.
+fn is_noticed(rank_of: u8) -> bool {
+    rank_of <= rank(Verdict::Warned)
+}
+
+/// Adds the word of a verdict: red of a finding, and yellow of others to notice.
+fn push_verdict(
+    text: &mut String,
+    alloc: Global,
+    told: &Told,
+    width: usize,
+    colors: bool,
+) -> Result<(), AllocError> {
+    let word = verdict_text(alloc, told)?;
+    if !colors || !is_noticed(told.rank) {
+        return push_column(text, word.as_str(), width);
+    }
+    text.push_str(if told.finding { "\x1b[31m" } else { "\x1b[33m" })?;
+    push_column(text, word.as_str(), width)?;
+    text.push_str("\x1b[0m")
+}
+
+/// The errors of a line's runs, each once.
+fn errors_text(alloc: Global, rows: &[Told], line: &Line) -> Result<String, AllocError> {
+    let mut text = String::new(alloc);
+    for place in line.places.iter().copied() {
+        let error = rows.get(place).map_or("", |row| row.error.as_str());
+        if !text.as_str().split(' ').any(|one| one == error) {
+            push_part(&mut text, error, " ")?;
+        }
+    }
+    Ok(text)
+}
+
+/// Adds a line of a block whose calls have these occurrences.
+fn push_line(
+    text: &mut String,
+    alloc: Global,
+    rows: &[Told],
+    line: &Line,
+    all: &[u64],
+    colors: bool,
+) -> Result<(), AllocError> {
+    let Some(first) = first_of(rows, line) else {
+        return Ok(());
+    };
+    let mut told = errors_text(alloc, rows, line)?;
+    let own = line.occurrences(alloc, rows)?;
+    if own.as_slice() != all {
+        told.push_str(format!(in alloc; " at #{}", ranges(alloc, own.as_slice())?)?.as_str())?;
+    }
+    told.push_str(": ")?;
+    told.push_str(first.told.as_str())?;
+    text.push_str("  ")?;
+    push_verdict(text, alloc, first, WORD, colors)?;
+    push_wrapped(text, told.as_str().trim_end(), BEHIND, BEHIND)?;
+    text.push('\n')
+}
+
+/// Adds a call, and its occurrences at the right.
+fn push_call(
+    text: &mut String,
+    alloc: Global,
+    call: &str,
+    occurrences: &[u64],
+) -> Result<(), AllocError> {
+    let number = format!(in alloc; "  #{}", ranges(alloc, occurrences)?)?;
+    let room = COLUMNS.saturating_sub(number.len());
+    match call.get(..room.saturating_sub(4)) {
+        Some(front) if call.len() > room => {
+            push_column(text, format!(in alloc; "{front} ...")?.as_str(), room)?;
+        }
+        _ => push_column(text, call, room)?,
+    }
+    text.push_str(number.as_str())?;
+    text.push('\n')
+}
+
+/// Adds the call of a block, its outcomes, and the words by which the first one is had.
+fn push_block(
+    text: &mut String,
+    alloc: Global,
+    rows: &[Told],
+    block: &Block,
+    style: Style,
+) -> Result<(), AllocError> {
+    let Some(first) = first_in(rows, block) else {
+        return Ok(());
+    };
+    let all = block.occurrences(alloc, rows)?;
+    push_call(text, alloc, first.text.as_str(), all.as_slice())?;
+    for line in &block.lines {
+        if style.all || is_noticed(line.rank) {
+            push_line(text, alloc, rows, line, all.as_slice(), style.colors)?;
+        }
+    }
+    if !first.failure.is_empty() {
+        text.push_str(format!(in alloc; "  {}\n", first.failure)?.as_str())?;
+    }
+    Ok(())
+}
+
+/// Adds a line for a run.
+fn push_row(text: &mut String, alloc: Global, told: &Told, colors: bool) -> Result<(), AllocError> {
+    push_verdict(text, alloc, told, WORD, colors)?;
+    let row = if told.failure.is_empty() {
+        format!(in alloc; "{} {}#{}  {}", told.error, told.text, told.n, told.told)?
+    } else {
+        format!(in alloc; "{}  {}  {}", told.failure, told.text, told.told)?
+    };
+    text.push_str(row.as_str().trim_end())?;
+    text.push('\n')
+}
+
+/// Adds how many runs came to what.
+fn push_counts(text: &mut String, alloc: Global, counts: &Counts) -> Result<(), AllocError> {
+    let mut line = String::new(alloc);
+    for (name, runs) in counts.verdicts.iter().copied() {
+        push_part(
+            &mut line,
+            format!(in alloc; "{runs} {name}")?.as_str(),
+            ", ",
+        )?;
+    }
+    if counts.runs > 0 {
+        line.push_str(" of ")?;
+    }
+    line.push_str(format!(in alloc; "{} runs", counts.runs)?.as_str())?;
+    push_wrapped(text, line.as_str(), 0, 2)?;
+    text.push('\n')
+}
+
+/// Adds the whole command that shows a finding.
+fn push_command(
+    text: &mut String,
+    alloc: Global,
+    setup: &Setup,
+    told: Option<&Told>,
+) -> Result<(), AllocError> {
+    let Some(told) = told else {
+        return Ok(());
+    };
+    if !told.finding || told.words.is_empty() {
+        return Ok(());
+    }
+    let command = typed(alloc, told.words.as_slice())?;
+    text.push_str(format!(in alloc; "{command}{}\n", input_text(setup))?.as_str())
+}
+
+/// The report as a table.
+pub fn table(
+    alloc: Global,
+    setup: &Setup,
+    reference: &Reached,
+    rows: &[Told],
+    counts: &Counts,
+    style: Style,
+) -> Result<String, AllocError> {
+    let mut text = String::new(alloc);
+    push_head(&mut text, alloc, setup, reference, counts.runs)?;
+    let blocks = blocks_of(alloc, rows)?;
+    if style.each {
+        for told in rows {
+            push_row(&mut text, alloc, told, style.colors)?;
+        }
+    } else {
+        for block in &blocks {
+            if style.all || is_noticed(block.worst) {
+                push_block(&mut text, alloc, rows, block, style)?;
+            }
+        }
+    }
+    push_counts(&mut text, alloc, counts)?;
+    let worst = match blocks.first() {
+        Some(block) => first_in(rows, block),
+        None => None,
+    };
+    push_command(&mut text, alloc, setup, worst)?;
+    Ok(text)
+}
+
+/// The report as objects, a line each.
+pub fn objects(alloc: Global, rows: &[Told], counts: &Counts) -> Result<String, serde_json::Error> {
+    let mut report = String::new(alloc);
+    for told in rows {
+        report.push_str(serde_json::to_string(alloc, told)?.as_str())?;
+        report.push('\n')?;
+    }
+    report.push_str(serde_json::to_string(alloc, counts)?.as_str())?;
+    report.push('\n')?;
+    Ok(report)
+}
