@@ -1,7 +1,6 @@
 //! The program as a function of its words, its input and its outputs.
 
 use crate::sweeping::sweep;
-use crate::words;
 use clap::ArgMatches;
 use clap::error::ErrorKind;
 use front_end::{Fault, print_help, refusal, report, shown_words};
@@ -11,6 +10,7 @@ use std::io::{IsTerminal, Read, Write};
 use std::rt::Files;
 use std::thread::Threads;
 use std::time::Clock;
+use sweep_words::words;
 
 /// The program in its messages.
 const NAME: &str = "strace_sweep";

@@ -1,13 +1,7 @@
 //! The report on orders of turns: a line for each result.
 
 use crate::keeping::{keep, path_of, text_of};
-use crate::plan::Plan;
 use crate::progress::ShownProgress;
-use crate::report::Reported;
-use crate::shell::{order_words, typed, words_with};
-use crate::texts::{push_part, push_wrapped, quoted_bytes};
-use crate::told::end_text;
-use crate::words::{Format, Orders, Words};
 use clap::ArgMatches;
 use front_end::{Fault, escaped};
 use lx_abi::{Node, OutcomeFile, Status, Word};
@@ -18,7 +12,13 @@ use std::rt::Files;
 use std::thread::Threads;
 use std::time::Clock;
 use sweep_orders::{Found, explore_on_threads};
+use sweep_report::report::Reported;
+use sweep_report::texts::{push_part, push_wrapped, quoted_bytes};
+use sweep_report::told::end_text;
 use sweep_rows::{Ending, Reached, Verdict, first_word};
+use sweep_words::plan::Plan;
+use sweep_words::shell::{order_words, typed, words_with};
+use sweep_words::words::{Format, Orders, Words};
 
 /// So many words of an order are shown where it isn't kept.
 const MOST_SHOWN: usize = 12;

@@ -1,14 +1,15 @@
 //! A sweep, from its words to its report.
 
+ghost use Rattle.std.specs.Prelude.{◌≡◌, IfOk};
+ghost use Rattle.sweep_report.specs.Tallies.{verdicts_in};
+ghost use Rattle.sweep_rows.specs.Summary.{status};
+ghost use Rattle.sweep_runs.specs.Rows.{AreRows};
+ghost use Rattle.sweep_command.specs.Reports.{IsOfRows};
+
 use crate::orders::orders_reported;
-use crate::plan::{Plan, read_plan};
 use crate::progress::ShownProgress;
 use crate::reference::{explain_case, reference};
-use crate::report::{Reported, counts_of, objects, table, verdicts_of};
-use crate::sites::{is_kept, place_of};
-use crate::told::{Told, tell_row};
-use crate::traced::{TracedCalls, traced_calls};
-use crate::words::{Format, Words, words_of};
+use crate::tracing::traced_calls;
 use clap::ArgMatches;
 use front_end::{Fault, Program, Shown};
 use lx_abi::Status;
@@ -19,9 +20,16 @@ use std::io::{IsTerminal, Read, Write};
 use std::rt::Files;
 use std::thread::Threads;
 use std::time::Clock;
+use sweep_report::report::{Reported, objects, table};
+use sweep_report::sites::{is_kept, place_of};
+use sweep_report::tally::{Tally, tally_of, verdicts_of};
+use sweep_report::told::{Told, tell_row};
+use sweep_report::traced::TracedCalls;
 use sweep_rows::{Reached, Verdict, first_word, status};
 use sweep_runs::{Case, Row, cases};
 use sweep_threads::rows_on_threads;
+use sweep_words::plan::{Plan, read_plan};
+use sweep_words::words::{Format, Words, words_of};
 
 /// The name of standard output as a file, which this program writes without opening it.
 const STANDARD_OUTPUT: &str = "/dev/stdout";
@@ -66,7 +74,9 @@ fn swept<R: Threads + Sync + AllocGlobal, C: Clock, E: Write>(
     reference: &Reached,
     cases: &[Case],
     progress: &mut ShownProgress<C, E>,
-) -> Result<Vec<Row>, AllocError> {
+) -> Result<Vec<Row>, AllocError>
+    ensures { IfOk result (λ rows. AreRows plan.now.setup reference.now cases.now rows.items) }
+{
     rows_on_threads(
         rt,
         rt.alloc(),
@@ -86,7 +96,9 @@ fn make<R: Clock + Threads + Sync + AllocGlobal, E: Write + IsTerminal>(
     reference: &Reached,
     cases: &[Case],
     err: &mut E,
-) -> Result<Vec<Row>, AllocError> {
+) -> Result<Vec<Row>, AllocError>
+    ensures { IfOk result (λ rows. AreRows plan.now.setup reference.now cases.now rows.items) }
+{
     let is_shown = err.is_terminal();
     let mut progress = ShownProgress::new(rt, err, is_shown);
     let made = swept(rt, jobs, plan, reference, cases, &mut progress);
@@ -121,6 +133,24 @@ fn why_hung(alloc: Global, plan: &Plan, row: &Row) -> Result<Option<String>, All
     Ok(Some(format!(in alloc; "runs on")?))
 }
 
+/// The rows in the format that the words ask for.
+fn text_of(
+    alloc: Global,
+    words: Words,
+    plan: &Plan,
+    reference: &Reached,
+    told: &[Told],
+    tally: &Tally,
+) -> Result<String, Fault> {
+    match words.format {
+        Format::Table => Ok(table(alloc, &plan.setup, reference, told, tally, words.style)?),
+        Format::Json => match objects(alloc, told, tally) {
+            Ok(report) => Ok(report),
+            Err(_) => Err(Fault::Memory),
+        },
+    }
+}
+
 /// The rows as they are told.
 fn all_told(
     alloc: Global,
@@ -140,6 +170,29 @@ fn all_told(
     Ok(all)
 }
 
+/// The report on these rows, and the exit status.
+fn report_on(
+    alloc: Global,
+    matches: &ArgMatches,
+    words: Words,
+    plan: &Plan,
+    reference: &Reached,
+    calls: &TracedCalls,
+    rows: &[Row],
+) -> Result<Reported, Fault>
+    ensures { IfOk result (λ r. r.status ≡ status (verdicts_in rows.now)) }
+{
+    let verdicts = verdicts_of(alloc, rows)?;
+    let verdicts = verdicts.as_slice();
+    let tally = tally_of(alloc, verdicts)?;
+    let told = all_told(alloc, matches, plan, reference, calls, rows)?;
+    let text = text_of(alloc, words, plan, reference, told.as_slice(), &tally)?;
+    Ok(Reported {
+        text,
+        status: status(verdicts),
+    })
+}
+
 /// The report on the runs with a failure, and the exit status.
 fn failures<R: Clock + Threads + Sync + AllocGlobal, E: Write + IsTerminal>(
     rt: &R,
@@ -148,26 +201,22 @@ fn failures<R: Clock + Threads + Sync + AllocGlobal, E: Write + IsTerminal>(
     plan: &Plan,
     reference: &Reached,
     err: &mut E,
-) -> Result<Reported, Fault> {
+) -> Result<Reported, Fault>
+    ensures { IfOk result (IsOfRows plan.now.setup reference.now) }
+{
     let alloc = rt.alloc();
-    let calls = traced_calls(alloc, &plan.setup)?;
+    let calls = traced_calls(alloc, &plan.setup, reference.log.as_slice())?;
     let cases = wanted_cases(alloc, plan, reference, &calls)?;
     let rows = make(rt, words.jobs, plan, reference, cases.as_slice(), err)?;
-    let verdicts = verdicts_of(alloc, rows.as_slice())?;
-    let counts = counts_of(alloc, verdicts.as_slice())?;
-    let told = all_told(alloc, matches, plan, reference, &calls, rows.as_slice())?;
-    let told = told.as_slice();
-    let text = match words.format {
-        Format::Table => table(alloc, &plan.setup, reference, told, &counts, words.style)?,
-        Format::Json => match objects(alloc, told, &counts) {
-            Ok(report) => report,
-            Err(_) => return Err(Fault::Memory),
-        },
-    };
-    Ok(Reported {
-        text,
-        status: status(verdicts.as_slice()),
-    })
+    report_on(
+        alloc,
+        matches,
+        words,
+        plan,
+        reference,
+        &calls,
+        rows.as_slice(),
+    )
 }
 
 /// The report on the orders of turns, or else on the runs with a failure.

@@ -1,6 +1,5 @@
 //! What the command line asks for.
 
-use crate::report::Style;
 use clap::{Arg, ArgAction, ArgMatches, Command, Error};
 use front_end::{
     Fault, Shown, expression_words, number, with_calls, with_environment, with_explain,
@@ -50,6 +49,16 @@ const MOST_ORDERS: u64 = 1_000_000;
 pub enum Format {
     Table,
     Json,
+}
+
+/// How a report is written.
+#[derive(Clone, Copy, Debug, PartialEq, Eq)]
+pub struct Style {
+    /// A line a run.
+    pub each: bool,
+    /// With what is no more than reported.
+    pub all: bool,
+    pub colors: bool,
 }
 
 /// Adds an option with a name and a value.

@@ -1,87 +1,28 @@
 //! The report: the run without a failure, the calls to look at, and how many runs came to what.
 
 use crate::blocks::{Block, Line, blocks_of, first_in, first_of};
-use crate::shell::{input_text, typed};
+use crate::tally::Tally;
 use crate::texts::{COLUMNS, push_column, push_part, push_wrapped, quoted_bytes, ranges};
-use crate::told::{Told, ToldFile, end_text};
-use clap::ArgMatches;
+use crate::told::{Told, end_text};
 use front_end::escaped;
 use lx_abi::{Item, Node, OutcomeFile};
 use serde::Serialize;
 use std::alloc::{AllocError, Global};
-use sweep_rows::{Reached, Verdict, count, first_word, name_of, rank, status};
-use sweep_runs::{Row, Setup};
+use sweep_rows::{Reached, Verdict, first_word, name_of, rank};
+use sweep_runs::Setup;
+use sweep_words::shell::{input_text, typed};
+use sweep_words::words::Style;
 
 /// So many columns hold the word of a line; what is behind it begins there.
 const WORD: usize = 10;
 
 const BEHIND: usize = 12;
 
-/// All verdicts, the worst first.
-const VERDICTS: [Verdict; 10] = [
-    Verdict::Hung,
-    Verdict::Killed,
-    Verdict::Torn,
-    Verdict::Lost,
-    Verdict::Dropped,
-    Verdict::Damaged,
-    Verdict::Warned,
-    Verdict::Reported,
-    Verdict::Recovered,
-    Verdict::Ignored,
-];
-
-/// How many runs came to what.
-#[derive(Drop, Serialize)]
-pub struct Counts {
-    pub runs: usize,
-    pub findings: usize,
-    pub verdicts: Vec<(&'static str, usize)>,
-}
-
 /// What is told of all runs, and the exit status.
 #[derive(Drop)]
 pub struct Reported {
     pub text: String,
     pub status: u8,
-}
-
-/// How a report is written.
-#[derive(Clone, Copy, Debug, PartialEq, Eq)]
-pub struct Style {
-    /// A line a run.
-    pub each: bool,
-    /// With what is no more than reported.
-    pub all: bool,
-    pub colors: bool,
-}
-
-/// The verdicts of rows.
-pub fn verdicts_of(alloc: Global, rows: &[Row]) -> Result<Vec<Verdict>, AllocError> {
-    let mut verdicts = Vec::new(alloc);
-    for row in rows {
-        verdicts.push(row.verdict)?;
-    }
-    Ok(verdicts)
-}
-
-pub fn counts_of(alloc: Global, verdicts: &[Verdict]) -> Result<Counts, AllocError> {
-    let mut counts = Vec::new(alloc);
-    let mut findings = 0usize;
-    for verdict in VERDICTS {
-        let runs = count(verdicts, verdict);
-        if status(&[verdict]) == 1 {
-            findings = findings.saturating_add(runs);
-        }
-        if runs > 0 {
-            counts.push((name_of(verdict), runs))?;
-        }
-    }
-    Ok(Counts {
-        runs: verdicts.len(),
-        findings,
-        verdicts: counts,
-    })
 }
 
 /// What the reference makes of a file, if it changes it.
@@ -299,19 +240,16 @@ fn push_row(text: &mut String, alloc: Global, told: &Told, colors: bool) -> Resu
 }
 
 /// Adds how many runs came to what.
-fn push_counts(text: &mut String, alloc: Global, counts: &Counts) -> Result<(), AllocError> {
+fn push_counts(text: &mut String, alloc: Global, tally: &Tally) -> Result<(), AllocError> {
     let mut line = String::new(alloc);
-    for (name, runs) in counts.verdicts.iter().copied() {
-        push_part(
-            &mut line,
-            format!(in alloc; "{runs} {name}")?.as_str(),
-            ", ",
-        )?;
+    for kind in &tally.kinds {
+        let part = format!(in alloc; "{} {}", kind.runs, name_of(kind.verdict))?;
+        push_part(&mut line, part.as_str(), ", ")?;
     }
-    if counts.runs > 0 {
+    if tally.runs > 0 {
         line.push_str(" of ")?;
     }
-    line.push_str(format!(in alloc; "{} runs", counts.runs)?.as_str())?;
+    line.push_str(format!(in alloc; "{} runs", tally.runs)?.as_str())?;
     push_wrapped(text, line.as_str(), 0, 2)?;
     text.push('\n')
 }
@@ -339,11 +277,11 @@ pub fn table(
     setup: &Setup,
     reference: &Reached,
     rows: &[Told],
-    counts: &Counts,
+    tally: &Tally,
     style: Style,
 ) -> Result<String, AllocError> {
     let mut text = String::new(alloc);
-    push_head(&mut text, alloc, setup, reference, counts.runs)?;
+    push_head(&mut text, alloc, setup, reference, tally.runs)?;
     let blocks = blocks_of(alloc, rows)?;
     if style.each {
         for told in rows {
@@ -356,7 +294,7 @@ pub fn table(
             }
         }
     }
-    push_counts(&mut text, alloc, counts)?;
+    push_counts(&mut text, alloc, tally)?;
     let worst = match blocks.first() {
         Some(block) => first_in(rows, block),
         None => None,
@@ -365,14 +303,35 @@ pub fn table(
     Ok(text)
 }
 
+/// How many runs came to what, as an object.
+#[derive(Drop, Serialize)]
+struct Counts {
+    runs: usize,
+    findings: usize,
+    verdicts: Vec<(&'static str, usize)>,
+}
+
+fn counts_of(alloc: Global, tally: &Tally) -> Result<Counts, AllocError> {
+    let mut verdicts = Vec::new(alloc);
+    for kind in &tally.kinds {
+        verdicts.push((name_of(kind.verdict), kind.runs))?;
+    }
+    Ok(Counts {
+        runs: tally.runs,
+        findings: tally.findings,
+        verdicts,
+    })
+}
+
 /// The report as objects, a line each.
-pub fn objects(alloc: Global, rows: &[Told], counts: &Counts) -> Result<String, serde_json::Error> {
+pub fn objects(alloc: Global, rows: &[Told], tally: &Tally) -> Result<String, serde_json::Error> {
     let mut report = String::new(alloc);
     for told in rows {
         report.push_str(serde_json::to_string(alloc, told)?.as_str())?;
         report.push('\n')?;
     }
-    report.push_str(serde_json::to_string(alloc, counts)?.as_str())?;
+    let counts = counts_of(alloc, tally)?;
+    report.push_str(serde_json::to_string(alloc, &counts)?.as_str())?;
     report.push('\n')?;
     Ok(report)
 }

@@ -1,7 +1,5 @@
 //! A run as it is told.
 
-use crate::calls::{error_name, name_of};
-use crate::shell::{failure_words, typed, words_with};
 use crate::sites::{Place, site_of};
 use crate::texts::{own_part, push_part, quoted_bytes, without_numbers};
 use clap::ArgMatches;
@@ -13,6 +11,8 @@ use sweep_rows::{
     FileNote, Reached, Verdict, Word, first_word, is_finding, name_of as verdict_name, rank,
 };
 use sweep_runs::Row;
+use sweep_words::calls::{error_name, name_of};
+use sweep_words::shell::{failure_words, typed, words_with};
 
 /// So many bytes are shown of what a run says, and of what it prints.
 const MOST_SAID: usize = 44;

@@ -1,11 +1,11 @@
 //! The place of a call: what a trace shows of it, and what its descriptor stands for.
 
-use crate::calls::raw_text;
 use crate::texts::without_numbers;
 use crate::traced::TracedCalls;
 use lx_abi::{Item, sys};
 use std::alloc::{AllocError, Global};
 use sweep_rows::{Occurrence, Reached, Target, use_at};
+use sweep_words::calls::raw_text;
 
 #[derive(Drop)]
 pub struct Place {
@@ -39,20 +39,7 @@ fn first_quoted(text: &str) -> Option<&str> {
 
 /// The path that the openat was for whose end stands here in the log.
 fn opened_path<'a>(calls: &'a TracedCalls, log: &[Item], at: usize) -> Option<&'a str> {
-    let past = log.get(..at)?;
-    let Item::Done { pid, call, .. } = log.get(at)? else {
-        return None;
-    };
-    let (pid, number) = (*pid, call.number);
-    let is_entry = |item: &Item| match item {
-        Item::Enter {
-            pid: entering,
-            call,
-        } => *entering == pid && call.number == number,
-        _ => false,
-    };
-    let n = past.iter().filter(|item| is_entry(*item)).count();
-    first_quoted(calls.text_of(pid, number, n as u64)?)
+    first_quoted(calls.text_at(log, at)?)
 }
 
 /// What a descriptor stands for, as it is told.
