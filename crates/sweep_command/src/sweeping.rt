@@ -208,15 +208,9 @@ fn failures<R: Clock + Threads + Sync + AllocGlobal, E: Write + IsTerminal>(
     let calls = traced_calls(alloc, &plan.setup, reference.log.as_slice())?;
     let cases = wanted_cases(alloc, plan, reference, &calls)?;
     let rows = make(rt, words.jobs, plan, reference, cases.as_slice(), err)?;
-    report_on(
-        alloc,
-        matches,
-        words,
-        plan,
-        reference,
-        &calls,
-        rows.as_slice(),
-    )
+    let rows = rows.as_slice();
+    let reported = report_on(alloc, matches, words, plan, reference, &calls, rows)?;
+    Ok(reported)
 }
 
 /// The report on the orders of turns, or else on the runs with a failure.

@@ -8,7 +8,8 @@ use lx_abi::{Ended, Signal, Status};
 use serde::Serialize;
 use std::alloc::{AllocError, Global};
 use sweep_rows::{
-    FileNote, Reached, Verdict, Word, first_word, is_finding, name_of as verdict_name, rank,
+    FileNote, Reached, Streams, Verdict, Word, first_word, is_finding, name_of as verdict_name,
+    rank,
 };
 use sweep_runs::Row;
 use sweep_words::calls::{error_name, name_of};
@@ -177,6 +178,24 @@ fn push_end(
     Ok(())
 }
 
+/// Adds what a run says and prints otherwise than the reference.
+fn push_streams(
+    text: &mut String,
+    alloc: Global,
+    expected: &Streams,
+    streams: &Streams,
+) -> Result<(), AllocError> {
+    if expected.err.as_slice() != streams.err.as_slice() {
+        let part = said(alloc, expected.err.as_slice(), streams.err.as_slice())?;
+        push_part(text, part.as_str(), "; ")?;
+    }
+    if expected.out.as_slice() != streams.out.as_slice() {
+        let part = printed(alloc, expected.out.as_slice(), streams.out.as_slice())?;
+        push_part(text, part.as_str(), "; ")?;
+    }
+    Ok(())
+}
+
 /// What came of a run; `hung` tells why it did not end.
 fn told_text(
     alloc: Global,
@@ -193,21 +212,52 @@ fn told_text(
         let ended = reference.ending.outcome.ended.as_slice();
         push_children(&mut text, alloc, ended, row.ended.as_slice())?;
     }
-    let (expected, streams) = (&reference.streams, &row.streams);
-    if expected.err.as_slice() != streams.err.as_slice() {
-        let part = said(alloc, expected.err.as_slice(), streams.err.as_slice())?;
-        push_part(&mut text, part.as_str(), "; ")?;
-    }
-    if expected.out.as_slice() != streams.out.as_slice() {
-        let part = printed(alloc, expected.out.as_slice(), streams.out.as_slice())?;
-        push_part(&mut text, part.as_str(), "; ")?;
-    }
+    push_streams(&mut text, alloc, &reference.streams, &row.streams)?;
     let mut between = "; ";
     for file in files {
         push_part(&mut text, file_text(alloc, file)?.as_str(), between)?;
         between = ", ";
     }
     Ok(text)
+}
+
+/// Words that show a run, and those of them that make the call fail as they are typed.
+#[derive(Drop)]
+struct Shown {
+    words: Vec<String>,
+    failure: String,
+}
+
+fn shown(alloc: Global, matches: &ArgMatches, row: &Row) -> Result<Shown, AllocError> {
+    let failure = failure_words(alloc, matches, &row.case, row.verdict)?;
+    let words = words_with(alloc, matches, failure.as_slice())?;
+    let failure = typed(alloc, failure.as_slice())?;
+    Ok(Shown { words, failure })
+}
+
+/// What came of a run, and what of it is the same in all runs with its outcome.
+#[derive(Drop)]
+struct Came {
+    files: Vec<ToldFile>,
+    told: String,
+    outcome: String,
+}
+
+fn came(
+    alloc: Global,
+    reference: &Reached,
+    row: &Row,
+    hung: Option<&str>,
+) -> Result<Came, AllocError> {
+    let files = told_files(alloc, row.files.as_slice())?;
+    let told = told_text(alloc, reference, row, files.as_slice(), hung)?;
+    let masked = without_numbers(alloc, told.as_str(), false)?;
+    let outcome = format!(in alloc; "{} {masked}", verdict_name(row.verdict))?;
+    Ok(Came {
+        files,
+        told,
+        outcome,
+    })
 }
 
 /// A row as it is told, of a call in this place.
@@ -220,25 +270,26 @@ pub fn tell_row(
     hung: Option<&str>,
 ) -> Result<Told, AllocError> {
     let occurrence = &row.case.occurrence;
-    let failure = failure_words(alloc, matches, &row.case, row.verdict)?;
-    let files = told_files(alloc, row.files.as_slice())?;
-    let told = told_text(alloc, reference, row, files.as_slice(), hung)?;
-    let masked = without_numbers(alloc, told.as_str(), false)?;
+    let site = site_of(alloc, &place)?;
+    let call = name_of(alloc, occurrence.call.number)?;
+    let error = error_name(alloc, row.case.error)?;
+    let shown = shown(alloc, matches, row)?;
+    let came = came(alloc, reference, row, hung)?;
     Ok(Told {
         verdict: verdict_name(row.verdict),
         finding: is_finding(row.verdict),
         pid: occurrence.pid,
-        call: name_of(alloc, occurrence.call.number)?,
+        call,
         n: occurrence.n,
-        error: error_name(alloc, row.case.error)?,
-        status: row.word.map(|word| Status { word }.shell_status()),
-        words: words_with(alloc, matches, failure.as_slice())?,
-        failure: typed(alloc, failure.as_slice())?,
-        rank: rank(row.verdict),
-        site: site_of(alloc, &place)?,
-        outcome: format!(in alloc; "{} {masked}", verdict_name(row.verdict))?,
+        error,
         text: place.text,
-        told,
-        files,
+        status: row.word.map(|word| Status { word }.shell_status()),
+        told: came.told,
+        files: came.files,
+        words: shown.words,
+        failure: shown.failure,
+        rank: rank(row.verdict),
+        site,
+        outcome: came.outcome,
     })
 }

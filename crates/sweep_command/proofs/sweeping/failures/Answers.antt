@@ -1,0 +1,9 @@
+use Rattle.sweep_command.proofs.sweeping.failures.Goals as goal
+
+pub returns : goal.returns
+returns c = record {
+  cases = c.in_ok-cases.cases.items;
+  rows = c.in_ok-rows.rows.items;
+  made = c.in_ok-rows.ensures;
+  status_is = c.in_ok-reported.ensures;
+}
