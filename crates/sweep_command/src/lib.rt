@@ -8,6 +8,5 @@ mod orders;
 mod progress;
 mod reference;
 mod sweeping;
-mod tracing;
 
 pub use entry::{command, tell};

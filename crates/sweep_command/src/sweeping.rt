@@ -9,7 +9,6 @@ ghost use Rattle.sweep_command.specs.Reports.{IsOfRows};
 use crate::orders::orders_reported;
 use crate::progress::ShownProgress;
 use crate::reference::{explain_case, reference};
-use crate::tracing::traced_calls;
 use clap::ArgMatches;
 use front_end::{Fault, Program, Shown};
 use lx_abi::Status;
@@ -28,6 +27,7 @@ use sweep_report::traced::TracedCalls;
 use sweep_rows::{Reached, Verdict, first_word, status};
 use sweep_runs::{Case, Row, cases};
 use sweep_threads::rows_on_threads;
+use sweep_trace::traced_calls;
 use sweep_words::plan::{Plan, read_plan};
 use sweep_words::words::{Format, Words, words_of};
 
