@@ -1,5 +1,5 @@
 -- How many runs came to what.
-use Rattle.std.specs.Prelude.{ℕ, nat_lt, cond, List, [], ◌∷◌, map, length, filter}
+use Rattle.std.specs.Prelude.{ℕ, ◌+◌, nat_lt, cond, List, [], ◌∷◌, map}
 use Rattle.std.specs.List.{flat_map}
 use Rattle.sweep_rows.specs.Summary.{count}
 use Rattle.sweep_rows.specs.Verdicts.{is_finding}
@@ -12,7 +12,8 @@ abbrev pub verdicts_in : List Row → List Verdict
 verdicts_in rows = map (λ r. r.verdict) rows
 
 abbrev pub findings_in : List Verdict → ℕ
-findings_in verdicts = length (filter is_finding verdicts)
+findings_in [] = 0
+findings_in (v ∷ vs) = cond (is_finding v) 1 0 + findings_in vs
 
 -- the worst first
 abbrev pub all_verdicts : List Verdict

@@ -1,7 +1,7 @@
 //! How many runs came to what.
 
-ghost use Rattle.std.specs.Prelude.{◌≡◌, IfOk, map, length};
-ghost use Rattle.sweep_report.specs.Tallies.{verdicts_in, findings_in, kinds_of};
+ghost use Rattle.std.specs.Prelude.{◌≡◌, ◌++◌, IfOk, OnOk, length};
+ghost use Rattle.sweep_report.specs.Tallies.{verdicts_in, findings_in, kind_of, kinds_of};
 
 use std::alloc::{AllocError, Global};
 use sweep_rows::{Verdict, count, is_finding};
@@ -49,19 +49,43 @@ pub fn verdicts_of(alloc: Global, rows: &[Row]) -> Result<Vec<Verdict>, AllocErr
     Ok(verdicts)
 }
 
+/// Adds a verdict with its runs, if some run has it.
+fn add_kind(kinds: &mut Vec<Kind>, verdicts: &[Verdict], verdict: Verdict) -> Result<(), AllocError>
+    ensures { OnOk result (kinds.new.items ≡ kinds.old.items ++ kind_of verdicts.now verdict) }
+{
+    let runs = count(verdicts, verdict);
+    if runs > 0 {
+        kinds.push(Kind { verdict, runs })?;
+    }
+    Ok(())
+}
+
+/// The verdicts that some run has, with their runs.
 fn kinds_of(alloc: Global, verdicts: &[Verdict]) -> Result<Vec<Kind>, AllocError>
     ensures { IfOk result (λ kinds. kinds.items ≡ kinds_of verdicts.now) }
 {
     let mut kinds = Vec::new(alloc);
     let mut left: &[Verdict] = &VERDICTS;
     while let Some((verdict, rest)) = left.split_first() {
-        let (verdict, runs) = (*verdict, count(verdicts, *verdict));
-        if runs > 0 {
-            kinds.push(Kind { verdict, runs })?;
-        }
+        add_kind(&mut kinds, verdicts, *verdict)?;
         left = rest;
     }
     Ok(kinds)
+}
+
+/// How many of these are findings.
+fn findings_in(verdicts: &[Verdict]) -> usize
+    ensures { result ≡ findings_in verdicts.now }
+{
+    let mut findings = 0;
+    let mut left = verdicts;
+    while let Some((verdict, rest)) = left.split_first() {
+        if is_finding(*verdict) {
+            findings += 1;
+        }
+        left = rest;
+    }
+    findings
 }
 
 /// How many runs came to what.
@@ -70,14 +94,10 @@ pub fn tally_of(alloc: Global, verdicts: &[Verdict]) -> Result<Tally, AllocError
     ensures findings { IfOk result (λ tally. tally.findings ≡ findings_in verdicts.now) }
     ensures kinds { IfOk result (λ tally. tally.kinds.items ≡ kinds_of verdicts.now) }
 {
-    let findings = verdicts
-        .iter()
-        .filter(|verdict| is_finding(**verdict))
-        .count();
     let kinds = kinds_of(alloc, verdicts)?;
     Ok(Tally {
         runs: verdicts.len(),
-        findings,
+        findings: findings_in(verdicts),
         kinds,
     })
 }

@@ -56,33 +56,35 @@ impl Process {
 
     /// What the lines show of its calls with this number.
     fn texts(&self, number: u64) -> Option<&[String]> {
-        Some(self.entered.get(self.place(number)?)?.texts.as_slice())
-    }
-
-    fn texts_mut(&mut self, number: u64) -> Option<&mut Vec<String>> {
         let place = self.place(number)?;
-        Some(&mut self.entered.get_mut(place)?.texts)
+        Some(self.entered.get(place)?.texts.as_slice())
     }
 
     /// It enters a call, of which the line shows this.
     fn enter(&mut self, alloc: Global, number: u64, text: &str) -> Result<(), AllocError> {
         self.latest = number;
-        if self.place(number).is_none() {
-            self.entered.push(Entered {
-                number,
-                texts: Vec::new(alloc),
-            })?;
+        let text = format!(in alloc; "{text}")?;
+        if let Some(place) = self.place(number) {
+            if let Some(entered) = self.entered.get_mut(place) {
+                entered.texts.push(text)?;
+            }
+            return Ok(());
         }
-        if let Some(texts) = self.texts_mut(number) {
-            texts.push(format!(in alloc; "{text}")?)?;
-        }
+        let mut texts = Vec::new(alloc);
+        texts.push(text)?;
+        self.entered.push(Entered { number, texts })?;
         Ok(())
     }
 
     /// The rest of its latest call.
     fn resume(&mut self, rest: &str) -> Result<(), AllocError> {
-        let number = self.latest;
-        match self.texts_mut(number).and_then(|texts| texts.last_mut()) {
+        let Some(place) = self.place(self.latest) else {
+            return Ok(());
+        };
+        let Some(entered) = self.entered.get_mut(place) else {
+            return Ok(());
+        };
+        match entered.texts.last_mut() {
             Some(text) => text.push_str(rest),
             None => Ok(()),
         }
