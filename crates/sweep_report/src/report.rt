@@ -176,11 +176,12 @@ fn push_line(
     if own.as_slice() != all {
         told.push_str(format!(in alloc; " at #{}", ranges(alloc, own.as_slice())?)?.as_str())?;
     }
-    told.push_str(": ")?;
-    told.push_str(first.told.as_str())?;
+    if !first.told.is_empty() {
+        push_part(&mut told, first.told.as_str(), ": ")?;
+    }
     text.push_str("  ")?;
     push_verdict(text, alloc, first, WORD, colors)?;
-    push_wrapped(text, told.as_str().trim_end(), BEHIND, BEHIND)?;
+    push_wrapped(text, told.as_str(), BEHIND, BEHIND)?;
     text.push('\n')
 }
 

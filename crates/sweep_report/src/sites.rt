@@ -30,11 +30,22 @@ fn has_descriptor(number: u64) -> bool {
     )
 }
 
+/// How long a text is that a quote ends.
+fn quoted_length(text: &str) -> Option<usize> {
+    let mut escapes = false;
+    for (at, byte) in text.bytes().enumerate() {
+        if byte == b'"' && !escapes {
+            return Some(at);
+        }
+        escapes = byte == b'\\' && !escapes;
+    }
+    None
+}
+
 /// The first text in quotes.
 fn first_quoted(text: &str) -> Option<&str> {
     let (_, rest) = text.split_once('"')?;
-    let (quoted, _) = rest.split_once('"')?;
-    Some(quoted)
+    rest.get(..quoted_length(rest)?)
 }
 
 /// The path that the openat was for whose end stands here in the log.
@@ -104,7 +115,17 @@ pub fn site_of(alloc: Global, place: &Place) -> Result<String, AllocError> {
     without_numbers(alloc, call, true)
 }
 
-/// The file that a descriptor stands for is there when the reference has ended.
+/// The last name of a path is this.
+fn is_named(path: &[u8], name: &[u8]) -> bool {
+    match path.len().checked_sub(name.len()) {
+        None => false,
+        Some(0) => path == name,
+        Some(front) => path.get(..front).unwrap_or(&[]).ends_with(b"/") && path.ends_with(name),
+    }
+}
+
+/// When the reference has ended, a file is there with the last name of the path by which a descriptor was opened; or
+/// that name has bytes that a trace doesn't show as they are.
 pub fn is_kept(calls: &TracedCalls, reference: &Reached, occurrence: &Occurrence) -> bool {
     let log = reference.log.as_slice();
     let Target::File(at) = use_at(log, occurrence).target else {
@@ -113,9 +134,13 @@ pub fn is_kept(calls: &TracedCalls, reference: &Reached, occurrence: &Occurrence
     let Some(path) = opened_path(calls, log, at) else {
         return true;
     };
-    let path = path.as_bytes();
+    let name = match path.rsplit_once('/') {
+        Some((_, name)) => name,
+        None => path,
+    };
     let files = reference.ending.outcome.files.as_slice();
-    files
-        .iter()
-        .any(|file| file.path.as_slice().ends_with(path))
+    name.contains('\\')
+        || files
+            .iter()
+            .any(|file| is_named(file.path.as_slice(), name.as_bytes()))
 }
