@@ -223,37 +223,37 @@ fn told_text(
 
 /// Words that show a run, and those of them that make the call fail as they are typed.
 #[derive(Drop)]
-struct Shown {
+struct RunWords {
     words: Vec<String>,
     failure: String,
 }
 
-fn shown(alloc: Global, matches: &ArgMatches, row: &Row) -> Result<Shown, AllocError> {
+fn words_of(alloc: Global, matches: &ArgMatches, row: &Row) -> Result<RunWords, AllocError> {
     let failure = failure_words(alloc, matches, &row.case, row.verdict)?;
     let words = words_with(alloc, matches, failure.as_slice())?;
     let failure = typed(alloc, failure.as_slice())?;
-    Ok(Shown { words, failure })
+    Ok(RunWords { words, failure })
 }
 
 /// What came of a run, and what of it is the same in all runs with its outcome.
 #[derive(Drop)]
-struct Came {
+struct ToldOutcome {
     files: Vec<ToldFile>,
     told: String,
     outcome: String,
 }
 
-fn came(
+fn outcome_of(
     alloc: Global,
     reference: &Reached,
     row: &Row,
     hung: Option<&str>,
-) -> Result<Came, AllocError> {
+) -> Result<ToldOutcome, AllocError> {
     let files = told_files(alloc, row.files.as_slice())?;
     let told = told_text(alloc, reference, row, files.as_slice(), hung)?;
     let masked = without_numbers(alloc, told.as_str(), false)?;
     let outcome = format!(in alloc; "{} {masked}", verdict_name(row.verdict))?;
-    Ok(Came {
+    Ok(ToldOutcome {
         files,
         told,
         outcome,
@@ -273,8 +273,8 @@ pub fn tell_row(
     let site = site_of(alloc, &place)?;
     let call = name_of(alloc, occurrence.call.number)?;
     let error = error_name(alloc, row.case.error)?;
-    let shown = shown(alloc, matches, row)?;
-    let came = came(alloc, reference, row, hung)?;
+    let words = words_of(alloc, matches, row)?;
+    let outcome = outcome_of(alloc, reference, row, hung)?;
     Ok(Told {
         verdict: verdict_name(row.verdict),
         finding: is_finding(row.verdict),
@@ -284,12 +284,12 @@ pub fn tell_row(
         error,
         text: place.text,
         status: row.word.map(|word| Status { word }.shell_status()),
-        told: came.told,
-        files: came.files,
-        words: shown.words,
-        failure: shown.failure,
+        told: outcome.told,
+        files: outcome.files,
+        words: words.words,
+        failure: words.failure,
         rank: rank(row.verdict),
         site,
-        outcome: came.outcome,
+        outcome: outcome.outcome,
     })
 }
