@@ -10,11 +10,10 @@ use crate::orders::orders_reported;
 use crate::progress::ShownProgress;
 use crate::reference::{explain_case, reference};
 use clap::ArgMatches;
-use front_end::{Fault, Program, Shown};
+use front_end::{Fault, NewFile, Program, Shown};
 use lx_abi::Status;
 use std::alloc::{AllocError, Global};
 use std::env::{self, Env};
-use std::fs;
 use std::io::{IsTerminal, Read, Write};
 use std::rt::Files;
 use std::thread::Threads;
@@ -31,14 +30,14 @@ use sweep_trace::traced_calls;
 use sweep_words::plan::{Plan, read_plan};
 use sweep_words::words::{Format, Words, words_of};
 
-/// The name of standard output as a file, which this program writes without opening it.
-const STANDARD_OUTPUT: &str = "/dev/stdout";
-
-/// The file of `-o`, made anew.
-fn open<R: Files + AllocGlobal>(rt: &R, path: Option<&str>) -> Result<Option<R::File>, Fault> {
+/// The file of `-o`. An older one stays until the report is whole. Standard output is written without opening it.
+fn open<'r, R: Files + AllocGlobal>(
+    rt: &'r R,
+    path: Option<&str>,
+) -> Result<Option<NewFile<'r, R>>, Fault> {
     match path {
-        None | Some(STANDARD_OUTPUT) => Ok(None),
-        Some(path) => match fs::create(rt, path) {
+        None | Some("/dev/stdout" | "/dev/fd/1") => Ok(None),
+        Some(path) => match NewFile::new(rt, path) {
             Ok(file) => Ok(Some(file)),
             Err(error) => {
                 let what = format!(in rt.alloc(); "-o {}", Shown(path))?;

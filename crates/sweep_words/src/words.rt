@@ -300,6 +300,9 @@ fn check_orders(alloc: Global, matches: &ArgMatches) -> Result<(), Fault> {
     if !expression_words(alloc, matches)?.is_empty() {
         return Err(Fault::usage(format!(in alloc; "--orders excludes -e: no call fails")));
     }
+    if matches.get_str("keep") == Some("") {
+        return Err(Fault::usage(format!(in alloc; "--keep: the name of the directory is empty")));
+    }
     Ok(())
 }
 
