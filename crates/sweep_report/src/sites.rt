@@ -4,7 +4,7 @@ use crate::texts::without_numbers;
 use crate::traced::TracedCalls;
 use lx_abi::{Item, sys};
 use std::alloc::{AllocError, Global};
-use sweep_rows::{Occurrence, Reached, Target, use_at};
+use sweep_rows::{Occurrence, Reached, Target};
 use sweep_words::calls::raw_text;
 
 #[derive(Drop)]
@@ -90,7 +90,7 @@ pub fn place_of(
         return Ok(Place { text, name: None });
     }
     let log = reference.log.as_slice();
-    let target = target_text(calls, log, use_at(log, occurrence).target);
+    let target = target_text(calls, log, occurrence.used.target);
     let target = target.unwrap_or("pipe");
     let name = match text.as_str().split_once('(') {
         Some((name, _)) => format!(in alloc; "{name} {target}")?,
@@ -127,11 +127,10 @@ fn is_named(path: &[u8], name: &[u8]) -> bool {
 /// When the reference has ended, a file is there with the last name of the path by which a descriptor was opened; or
 /// that name has bytes that a trace doesn't show as they are.
 pub fn is_kept(calls: &TracedCalls, reference: &Reached, occurrence: &Occurrence) -> bool {
-    let log = reference.log.as_slice();
-    let Target::File(at) = use_at(log, occurrence).target else {
+    let Target::File(at) = occurrence.used.target else {
         return true;
     };
-    let Some(path) = opened_path(calls, log, at) else {
+    let Some(path) = opened_path(calls, reference.log.as_slice(), at) else {
         return true;
     };
     let name = match path.rsplit_once('/') {

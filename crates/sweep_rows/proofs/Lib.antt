@@ -1,3 +1,4 @@
 pub mod Counting
 pub mod Alone
-pub mod Seeking
+pub mod Holding
+pub mod Knowing

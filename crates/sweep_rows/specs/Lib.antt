@@ -1,6 +1,7 @@
 pub mod Entries
 pub mod Counts
 pub mod Descriptors
+pub mod Known
 pub mod Streams
 pub mod Calls
 pub mod Endings

@@ -1,26 +1,20 @@
 -- Which errors an occurrence of a call can have, by what it is called for: those that a sound program on a sound
 -- machine can meet there (the manual page of the call, ERRORS).
-use Rattle.std.specs.Prelude.{ℕ, suc, ◌-◌, ◌==◌, ◌%◌, ◌/◌, ◌&&◌, ◌||◌, nat_le, min, Bool, true, false, not, cond, if◌then◌else◌, List, [], ◌∷◌, ◌++◌, length, take, Option, Some, None}
-use Rattle.std.specs.List.{list_any, flat_map}
+use Rattle.std.specs.Prelude.{ℕ, ◌==◌, ◌%◌, ◌/◌, ◌&&◌, ◌||◌, Bool, true, false, not, cond, if◌then◌else◌, List, [], ◌∷◌, ◌++◌, length, Option, Some, None}
+use Rattle.std.specs.List.{flat_map}
 use Rattle.lx_abi.specs.Errnos.{enoent, esrch, eintr, eio, eagain, enomem, eacces, emfile, enospc, epipe}
 use Rattle.lx_abi.specs.Errors.{errno_numbered}
-use Rattle.lx_abi.specs.Log.{is_entry}
-use Rattle.lx_abi.specs.Sys.{sys_openat, sys_read, sys_write, sys_close, sys_brk, sys_mmap, sys_clone, sys_pipe2, sys_dup, sys_dup3, sys_unlinkat, sys_mkdirat, sys_execve, sys_newfstatat, sys_chdir, sys_getcwd, sys_ftruncate, sys_kill, sys_wait4, sys_rt_sigaction}
+use Rattle.lx_abi.specs.Sys.{sys_openat, sys_read, sys_write, sys_close, sys_brk, sys_mmap, sys_clone, sys_pipe2, sys_dup, sys_dup3, sys_unlinkat, sys_mkdirat, sys_execve, sys_newfstatat, sys_chdir, sys_getcwd, sys_ftruncate, sys_kill, sys_wait4}
 use Rattle.lx_abi.specs.declared.errno.Errno.{Errno}
 use Rattle.lx_abi.specs.declared.log.Call.{Call}
-use Rattle.lx_abi.specs.declared.log.Item.{Item}
-use Rattle.lx_abi.specs.declared.log.Item.TheVariants.{Enter, Done, Taken, Stopped, Exit}
-use Rattle.sweep_rows.specs.Descriptors.{argument, is_dup, use_of}
+use Rattle.sweep_rows.specs.Descriptors.{argument, descriptor, is_dup}
 use Rattle.sweep_rows.specs.declared.descriptors.Target.{Target}
 use Rattle.sweep_rows.specs.declared.descriptors.Target.TheVariants.{Input, Output, Error, File, Other}
 use Rattle.sweep_rows.specs.declared.descriptors.Use.{Use}
-use Rattle.sweep_rows.specs.declared.entries.Occurrence.{Occurrence}
+use Rattle.sweep_rows.specs.declared.known.Occurrence.{Occurrence}
 
 abbrev pub erofs : ℕ
 erofs = 30
-
-abbrev pub sigpipe : ℕ
-sigpipe = 13
 
 -- openat that may make a file, that opens one for writing, and any other
 unfoldable pub opened : ℕ → List ℕ
@@ -81,7 +75,7 @@ unfoldable pub by_use : Call → Use → Bool → List ℕ
 by_use call used piped =
     if call.number == sys_openat then opened (argument call 2)
     else (if call.number == sys_read then read used.target
-    else (if call.number == sys_write then written used.target (argument call 0) piped
+    else (if call.number == sys_write then written used.target (descriptor call) piped
     else (if call.number == sys_close then closed used else usual call)))
 
 abbrev pub read_may_wait : Target → Bool
@@ -104,36 +98,9 @@ may_wait number target =
     if number == sys_read then read_may_wait target
     else (if number == sys_write then write_may_wait target else number == sys_wait4)
 
--- rt_sigaction has set what SIGPIPE does, or what another signal does
-unfoldable pub sets_action : Bool → Item → Bool
-sets_action pipe (Enter pid call) = false
-sets_action pipe (Done pid call word replaced) =
-    not replaced && ((word == 0) && ((call.number == sys_rt_sigaction) && (not (argument call 1 == 0)
-    && cond pipe (argument call 0 == sigpipe) (not (argument call 0 == sigpipe)))))
-sets_action pipe (Taken pid signal cause) = false
-sets_action pipe (Stopped pid signal) = false
-sets_action pipe (Exit pid word left) = false
-
--- the place of a process's nth entry into a call, where the first item has this place
-abbrev pub place_of : ℕ → ℕ → ℕ → ℕ → List Item → ℕ
-place_of pid number n at [] = at
-place_of pid number n at (i ∷ is) =
-    if is_entry pid number i then (if nat_le n 1 then at else place_of pid number (n - 1) (suc at) is)
-    else place_of pid number n (suc at) is
-
 -- the tool's own
 abbrev pub is_first_execve : Occurrence → Bool
 is_first_execve o = (o.pid == 1) && ((o.call.number == sys_execve) && (o.n == 1))
-
--- what the descriptor stands for that an occurrence has as its first argument
-unfoldable pub use_at : List Item → Occurrence → Use
-use_at log o =
-    use_of log (place_of o.pid o.call.number o.n 0 log)
-    (record { pid = o.pid; number = argument o.call 0; wrote = false })
-
-unfoldable pub has_set : List Item → Occurrence → Bool → Bool
-has_set log o pipe =
-    list_any (sets_action pipe) (take (min (place_of o.pid o.call.number o.n 0 log) (length log)) log)
 
 abbrev pub errors_in : Option Errno → List Errno
 errors_in None = []
@@ -145,20 +112,19 @@ errors_numbered n = errors_in (errno_numbered n)
 abbrev pub interrupted : Bool → List Errno
 interrupted b = cond b (errors_numbered eintr) []
 
-unfoldable pub errors_of_use : List Item → Occurrence → Use → List Errno
-errors_of_use log o used =
-    flat_map errors_numbered (by_use o.call used (has_set log o true))
-    ++ interrupted (may_wait o.call.number used.target && has_set log o false)
+unfoldable pub errors_of_use : Occurrence → List Errno
+errors_of_use o =
+    flat_map errors_numbered (by_use o.call o.used o.piped)
+    ++ interrupted (may_wait o.call.number o.used.target && o.handled)
 
--- the errors that an occurrence can have, in the run that has this log
-unfoldable pub possible_errors : List Item → Occurrence → List Errno
-possible_errors log o = cond (is_first_execve o) [] (errors_of_use log o (use_at log o))
+-- the errors that an occurrence can have
+unfoldable pub possible_errors : Occurrence → List Errno
+possible_errors o = cond (is_first_execve o) [] (errors_of_use o)
 
 -- EIO, ENOSPC and EDQUOT
 abbrev pub is_of_loss : Errno → Bool
 is_of_loss e = (5 == e.number) || ((28 == e.number) || (122 == e.number))
 
 -- an occurrence that has this error tells that data was lost: it closes what was written to
-unfoldable pub tells_of_loss : List Item → Occurrence → Errno → Bool
-tells_of_loss log o e =
-    (o.call.number == sys_close) && (is_of_loss e && not (length (closed (use_at log o)) == 0))
+unfoldable pub tells_of_loss : Occurrence → Errno → Bool
+tells_of_loss o e = (o.call.number == sys_close) && (is_of_loss e && not (length (closed o.used) == 0))

@@ -1,12 +1,11 @@
 //! Which errors an occurrence of a call can have, by what it is called for.
 
 ghost use Rattle.std.specs.Prelude.{◌≡◌, ◌++◌, IfOk, OnOk};
-ghost use Rattle.lx_abi.specs.Log.{is_entry};
-ghost use Rattle.sweep_rows.specs.Possible.{opened, read, written, closed, usual, by_use, may_wait, sets_action, place_of, is_first_execve, use_at, has_set, errors_numbered, interrupted, errors_of_use, possible_errors, is_of_loss, tells_of_loss};
+ghost use Rattle.sweep_rows.specs.Possible.{opened, read, written, closed, usual, by_use, may_wait, is_first_execve, errors_numbered, interrupted, errors_of_use, possible_errors, is_of_loss, tells_of_loss};
 
-use crate::descriptors::{Target, Use, use_of};
-use crate::entries::Occurrence;
-use lx_abi::{Call, Errno, Item, sys};
+use crate::descriptors::{Target, Use, descriptor};
+use crate::known::Occurrence;
+use lx_abi::{Call, Errno, sys};
 use std::alloc::{AllocError, Global};
 
 // Numbers of errors, by their names in errno(3).
@@ -38,8 +37,6 @@ const O_ACCMODE: u64 = 3;
 
 const O_CREAT: u64 = 0x40;
 
-const SIGPIPE: u64 = 13;
-
 /// Errors of openat, by its flags.
 #[tactic(auto, unfolding(crate::specs::Possible::opened))]
 fn opened(flags: u64) -> &'static [u16]
@@ -68,7 +65,7 @@ fn read(target: Target) -> &'static [u16]
 /// Errors of write. Where what tells errors fails, nobody can be told; a pipe without readers kills a process that
 /// hasn't done something about SIGPIPE.
 #[tactic(auto, unfolding(crate::specs::Possible::written))]
-fn written(target: Target, number: u64, piped: bool) -> &'static [u16]
+fn written(target: Target, number: u32, piped: bool) -> &'static [u16]
     ensures { result.now ≡ written target number piped }
 {
     match target {
@@ -129,7 +126,7 @@ fn by_use(call: &Call, used: Use, piped: bool) -> &'static [u16]
     } else if call.number == sys::SYS_READ {
         read(used.target)
     } else if call.number == sys::SYS_WRITE {
-        written(used.target, call.arguments[0], piped)
+        written(used.target, descriptor(call), piped)
     } else if call.number == sys::SYS_CLOSE {
         closed(used)
     } else {
@@ -151,84 +148,11 @@ fn may_wait(number: u64, target: Target) -> bool
     number == sys::SYS_WAIT4
 }
 
-/// A process has set what SIGPIPE does, or another signal.
-#[tactic(auto, unfolding(crate::specs::Possible::sets_action))]
-fn sets_action(item: &Item, pipe: bool) -> bool
-    ensures { result ≡ sets_action pipe item.now }
-{
-    match item {
-        Item::Done {
-            call,
-            result: word,
-            replaced,
-            ..
-        } => {
-            !*replaced
-                && *word == 0
-                && call.number == sys::SYS_RT_SIGACTION
-                && call.arguments[1] != 0
-                && (call.arguments[0] == SIGPIPE) == pipe
-        }
-        _ => false,
-    }
-}
-
-fn is_entry(item: &Item, pid: u32, number: u64) -> bool
-    ensures { result ≡ is_entry pid number item.now }
-{
-    match item {
-        Item::Enter {
-            pid: entering,
-            call,
-        } => pid == *entering && number == call.number,
-        _ => false,
-    }
-}
-
-/// The place of a process's nth entry into a call, in its log; the log's end, where there is none.
-pub fn place_of(log: &[Item], pid: u32, number: u64, n: u64) -> usize
-    ensures { result ≡ place_of pid number n 0 log.now }
-{
-    let mut at = 0;
-    let mut more = n;
-    let mut left = log;
-    while let Some((item, rest)) = left.split_first() {
-        if is_entry(item, pid, number) {
-            if more <= 1 {
-                return at;
-            }
-            more -= 1;
-        }
-        at += 1;
-        left = rest;
-    }
-    at
-}
-
 /// The program's own execve, which is the tool's.
 fn is_first_execve(one: &Occurrence) -> bool
     ensures { result ≡ is_first_execve one.now }
 {
     one.pid == 1 && one.call.number == sys::SYS_EXECVE && one.n == 1
-}
-
-/// What the descriptor stands for that an occurrence of a call has as its first argument.
-#[tactic(auto, unfolding(crate::specs::Possible::use_at))]
-pub fn use_at(log: &[Item], one: &Occurrence) -> Use
-    ensures { result ≡ use_at log.now one.now }
-{
-    let at = place_of(log, one.pid, one.call.number, one.n);
-    use_of(log, at, one.pid, one.call.arguments[0])
-}
-
-/// Some process has set what a signal does before an occurrence.
-#[tactic(auto, unfolding(crate::specs::Possible::has_set))]
-fn has_set(log: &[Item], one: &Occurrence, pipe: bool) -> bool
-    ensures { result ≡ has_set log.now one.now pipe }
-{
-    let at = place_of(log, one.pid, one.call.number, one.n);
-    let (past, _) = log.split_at(at.min(log.len()));
-    past.iter().any(|item| sets_action(item, pipe))
 }
 
 fn add(errors: &mut Vec<Errno>, number: u16) -> Result<(), AllocError>
@@ -250,40 +174,30 @@ fn add_interrupt(errors: &mut Vec<Errno>, interrupts: bool) -> Result<(), AllocE
     Ok(())
 }
 
-/// The errors that an occurrence can have whose descriptor stands for this.
 #[tactic(auto, unfolding(crate::specs::Possible::errors_of_use))]
-fn errors_of_use(
-    alloc: Global,
-    log: &[Item],
-    one: &Occurrence,
-    used: Use,
-) -> Result<Vec<Errno>, AllocError>
-    ensures { IfOk result (λ errors. errors.items ≡ errors_of_use log.now one.now used) }
+fn errors_of_use(alloc: Global, one: &Occurrence) -> Result<Vec<Errno>, AllocError>
+    ensures { IfOk result (λ errors. errors.items ≡ errors_of_use one.now) }
 {
     let mut errors = Vec::new(alloc);
-    let mut left = by_use(&one.call, used, has_set(log, one, true));
+    let mut left = by_use(&one.call, one.used, one.piped);
     while let Some((number, rest)) = left.split_first() {
         add(&mut errors, *number)?;
         left = rest;
     }
-    let interrupts = may_wait(one.call.number, used.target) && has_set(log, one, false);
+    let interrupts = may_wait(one.call.number, one.used.target) && one.handled;
     add_interrupt(&mut errors, interrupts)?;
     Ok(errors)
 }
 
-/// The errors that an occurrence can have, in the run that has this log.
+/// The errors that an occurrence can have.
 #[tactic(auto, unfolding(crate::specs::Possible::possible_errors))]
-pub fn possible_errors(
-    alloc: Global,
-    log: &[Item],
-    one: &Occurrence,
-) -> Result<Vec<Errno>, AllocError>
-    ensures { IfOk result (λ errors. errors.items ≡ possible_errors log.now one.now) }
+pub fn possible_errors(alloc: Global, one: &Occurrence) -> Result<Vec<Errno>, AllocError>
+    ensures { IfOk result (λ errors. errors.items ≡ possible_errors one.now) }
 {
     if is_first_execve(one) {
         return Ok(Vec::new(alloc));
     }
-    let errors = errors_of_use(alloc, log, one, use_at(log, one))?;
+    let errors = errors_of_use(alloc, one)?;
     Ok(errors)
 }
 
@@ -296,8 +210,8 @@ fn is_of_loss(error: Errno) -> bool
 
 /// An occurrence that has this error tells that data was lost: it closes what was written to.
 #[tactic(auto, unfolding(crate::specs::Possible::tells_of_loss))]
-pub fn tells_of_loss(log: &[Item], one: &Occurrence, error: Errno) -> bool
-    ensures { result ≡ tells_of_loss log.now one.now error }
+pub fn tells_of_loss(one: &Occurrence, error: Errno) -> bool
+    ensures { result ≡ tells_of_loss one.now error }
 {
-    one.call.number == sys::SYS_CLOSE && is_of_loss(error) && !closed(use_at(log, one)).is_empty()
+    one.call.number == sys::SYS_CLOSE && is_of_loss(error) && !closed(one.used).is_empty()
 }

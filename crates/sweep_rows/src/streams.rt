@@ -1,9 +1,10 @@
 //! What a run has written to the console, parted by where it was said.
 
 ghost use Rattle.std.specs.Prelude.{◌≡◌, IfOk, OnOk};
+ghost use Rattle.sweep_rows.specs.Descriptors.{uses_in};
 ghost use Rattle.sweep_rows.specs.Streams.{no_piece, piece_to, piece_of, with_piece, streams_of};
 
-use crate::descriptors::{Target, is_failure, use_of};
+use crate::descriptors::{Descriptors, Target, descriptor, is_failure};
 use containers::Bytes;
 use lx_abi::{Item, sys};
 use std::alloc::{AllocError, Global};
@@ -28,7 +29,7 @@ const NO_PIECE: Piece = Piece {
 };
 
 /// So many bytes written by this descriptor.
-fn piece_to(target: Target, number: u64, length: u64) -> Piece
+fn piece_to(target: Target, number: u32, length: u64) -> Piece
     ensures { result ≡ piece_to target number length }
 {
     match target {
@@ -44,10 +45,10 @@ fn piece_to(target: Target, number: u64, length: u64) -> Piece
     }
 }
 
-/// What the item of the log at this place has written.
+/// What an item has written, where descriptors stand for this.
 #[tactic(auto, unfolding(crate::specs::Streams::piece_of))]
-fn piece_of(log: &[Item], at: usize, item: &Item) -> Piece
-    ensures { result ≡ piece_of log.now at item.now }
+fn piece_of(descriptors: &Descriptors, item: &Item) -> Piece
+    ensures { result ≡ piece_of (uses_in descriptors.now) item.now }
 {
     let Item::Done {
         pid,
@@ -61,8 +62,8 @@ fn piece_of(log: &[Item], at: usize, item: &Item) -> Piece
     if *replaced || is_failure(*length) || call.number != sys::SYS_WRITE {
         return NO_PIECE;
     }
-    let number = call.arguments[0];
-    piece_to(use_of(log, at, *pid, number).target, number, *length)
+    let number = descriptor(call);
+    piece_to(descriptors.use_of(*pid, number).target, number, *length)
 }
 
 impl Streams {
@@ -88,13 +89,15 @@ pub fn streams_of(alloc: Global, log: &[Item], console: &[u8]) -> Result<Streams
         out: Bytes::new(alloc),
         err: Bytes::new(alloc),
     };
+    let mut descriptors = Descriptors::new(alloc);
     let mut text = console;
     let mut left = log;
     while let Some((item, rest)) = left.split_first() {
-        let piece = piece_of(log, log.len() - left.len(), item);
+        let piece = piece_of(&descriptors, item);
         let length = piece.length.min(text.len() as u64) as usize;
         let (said, more) = text.split_at(length);
         streams.add(piece.error, said)?;
+        descriptors.add(item)?;
         text = more;
         left = rest;
     }

@@ -36,16 +36,15 @@ pub struct Case {
 /// Adds a case for each error.
 fn add_errors(
     cases: &mut Vec<Case>,
-    log: &[Item],
     occurrence: Occurrence,
     errors: &[Errno],
 ) -> Result<(), AllocError>
-    ensures { OnOk result (cases.new.items ≡ cases.old.items ++ cases_at log.now occurrence errors.now) }
+    ensures { OnOk result (cases.new.items ≡ cases.old.items ++ cases_at occurrence errors.now) }
 {
     let mut left = errors;
     while let Some((error, rest)) = left.split_first() {
         let error = *error;
-        let tells = tells_of_loss(log, &occurrence, error);
+        let tells = tells_of_loss(&occurrence, error);
         cases.push(Case {
             occurrence,
             error,
@@ -60,20 +59,19 @@ fn add_errors(
 fn add_wanted(
     alloc: Global,
     cases: &mut Vec<Case>,
-    log: &[Item],
     occurrence: Occurrence,
     wanted: &Wanted,
 ) -> Result<(), AllocError>
-    ensures { OnOk result (cases.new.items ≡ cases.old.items ++ wanted_at log.now occurrence wanted.now) }
+    ensures { OnOk result (cases.new.items ≡ cases.old.items ++ wanted_at occurrence wanted.now) }
 {
     if !wanted.calls.contains(occurrence.call.number) {
         return Ok(());
     }
     match &wanted.errors {
-        Errors::These(errors) => add_errors(cases, log, occurrence, errors.as_slice())?,
+        Errors::These(errors) => add_errors(cases, occurrence, errors.as_slice())?,
         Errors::Possible => {
-            let errors = possible_errors(alloc, log, &occurrence)?;
-            add_errors(cases, log, occurrence, errors.as_slice())?;
+            let errors = possible_errors(alloc, &occurrence)?;
+            add_errors(cases, occurrence, errors.as_slice())?;
         }
     }
     Ok(())
@@ -83,33 +81,27 @@ fn add_wanted(
 fn add_all(
     alloc: Global,
     cases: &mut Vec<Case>,
-    log: &[Item],
     occurrence: Occurrence,
     wanted: &[Wanted],
 ) -> Result<(), AllocError>
-    ensures { OnOk result (cases.new.items ≡ cases.old.items ++ all_at wanted.now log.now occurrence) }
+    ensures { OnOk result (cases.new.items ≡ cases.old.items ++ all_at wanted.now occurrence) }
 {
     let mut left = wanted;
     while let Some((one, rest)) = left.split_first() {
-        add_wanted(alloc, cases, log, occurrence, one)?;
+        add_wanted(alloc, cases, occurrence, one)?;
         left = rest;
     }
     Ok(())
 }
 
 /// The cases of these occurrences.
-fn cases_by(
-    alloc: Global,
-    log: &[Item],
-    found: &[Occurrence],
-    wanted: &[Wanted],
-) -> Result<Vec<Case>, AllocError>
-    ensures { IfOk result (λ cases. cases.items ≡ flat_map (all_at wanted.now log.now) found.now) }
+fn cases_by(alloc: Global, found: &[Occurrence], wanted: &[Wanted]) -> Result<Vec<Case>, AllocError>
+    ensures { IfOk result (λ cases. cases.items ≡ flat_map (all_at wanted.now) found.now) }
 {
     let mut cases = Vec::new(alloc);
     let mut left = found;
     while let Some((occurrence, rest)) = left.split_first() {
-        add_all(alloc, &mut cases, log, *occurrence, wanted)?;
+        add_all(alloc, &mut cases, *occurrence, wanted)?;
         left = rest;
     }
     Ok(cases)
@@ -127,5 +119,5 @@ pub fn cases(
 {
     let every_call = Set::AllBut(Seq::new(alloc));
     let found = occurrences(alloc, log, &every_call, follow)?;
-    cases_by(alloc, log, found.as_slice(), wanted)
+    cases_by(alloc, found.as_slice(), wanted)
 }

@@ -4,7 +4,7 @@ use Rattle.sweep_runs.specs.Cases.{all_at}
 use Rattle.sweep_runs.proofs.chosen.cases_by.Given as goal
 
 abbrev pub invariant-loop-occurrence : goal.invariant-loop-occurrence
-invariant-loop-occurrence l = l.cases.items ++ flat_map (all_at l.wanted l.log) l.left ≡ flat_map (all_at l.wanted l.log) l.found
+invariant-loop-occurrence l = l.cases.items ++ flat_map (all_at l.wanted) l.left ≡ flat_map (all_at l.wanted) l.found
 
 abbrev pub decreases-loop-occurrence : goal.decreases-loop-occurrence
 decreases-loop-occurrence l = length l.left
