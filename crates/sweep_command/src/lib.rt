@@ -5,8 +5,11 @@
 mod entry;
 mod keeping;
 mod orders;
+mod outputs;
 mod progress;
 mod reference;
+mod rows;
 mod sweeping;
+mod telling;
 
 pub use entry::{command, tell};

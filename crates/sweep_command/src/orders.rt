@@ -1,6 +1,7 @@
 //! The report on orders of turns: a line for each result.
 
 use crate::keeping::{keep, path_of, text_of};
+use crate::outputs::write;
 use crate::progress::ShownProgress;
 use clap::ArgMatches;
 use front_end::{Fault, escaped};
@@ -12,7 +13,6 @@ use std::rt::Files;
 use std::thread::Threads;
 use std::time::Clock;
 use sweep_orders::{Found, explore_on_threads};
-use sweep_report::report::Reported;
 use sweep_report::texts::{push_part, push_wrapped, quoted_bytes};
 use sweep_report::told::end_text;
 use sweep_rows::{Ending, Reached, Verdict, first_word};
@@ -57,7 +57,7 @@ fn find<R: Clock + Threads + Sync + AllocGlobal, E: Write + IsTerminal>(
     err: &mut E,
 ) -> Result<Vec<Found>, AllocError> {
     let is_shown = err.is_terminal();
-    let mut progress = ShownProgress::new(rt, err, is_shown);
+    let mut progress = ShownProgress::new(rt.alloc(), rt, err, is_shown);
     let log = reference.log.as_slice();
     let found = explore_on_threads(
         rt,
@@ -247,17 +247,44 @@ fn keep_all<R: Files + AllocGlobal>(
     Ok(())
 }
 
+/// The report on the results.
+fn text_of_all(
+    alloc: Global,
+    matches: &ArgMatches,
+    format: Format,
+    orders: Orders,
+    found: &[Found],
+) -> Result<String, Fault> {
+    let mut told = Vec::new(alloc);
+    for (place, result) in found.iter().enumerate() {
+        told.push(tell(alloc, matches, found, result, place.saturating_add(1))?)?;
+    }
+    let told = told.as_slice();
+    match format {
+        Format::Table => Ok(table(alloc, told, orders.count as u64)?),
+        Format::Json => match objects(alloc, told) {
+            Ok(report) => Ok(report),
+            Err(_) => Err(Fault::Memory),
+        },
+    }
+}
+
 /// Tries the orders of turns, and reports each result; the status is 1 where a run did not end. Orders that are kept are
 /// files before the runs begin.
-pub fn orders_reported<R: Files + Clock + Threads + Sync + AllocGlobal, E: Write + IsTerminal>(
+pub fn orders_reported<
+    R: Files + Clock + Threads + Sync + AllocGlobal,
+    W: Write,
+    E: Write + IsTerminal,
+>(
     rt: &R,
     matches: &ArgMatches,
     words: Words,
     orders: Orders,
     plan: &Plan,
     reference: &Reached,
+    writer: &mut W,
     err: &mut E,
-) -> Result<Reported, Fault> {
+) -> Result<u8, Fault> {
     let alloc = rt.alloc();
     if let Some(folder) = matches.get_str("keep") {
         keep(rt, folder, 1, &[])?;
@@ -265,20 +292,7 @@ pub fn orders_reported<R: Files + Clock + Threads + Sync + AllocGlobal, E: Write
     let found = find(rt, words.jobs, orders, plan, reference, err)?;
     let found = found.as_slice();
     keep_all(rt, matches, found)?;
-    let mut told = Vec::new(alloc);
-    for (place, result) in found.iter().enumerate() {
-        told.push(tell(alloc, matches, found, result, place.saturating_add(1))?)?;
-    }
-    let told = told.as_slice();
-    let text = match words.format {
-        Format::Table => table(alloc, told, orders.count as u64)?,
-        Format::Json => match objects(alloc, told) {
-            Ok(report) => report,
-            Err(_) => return Err(Fault::Memory),
-        },
-    };
-    Ok(Reported {
-        text,
-        status: u8::from(found.iter().any(|one| one.ending.alive)),
-    })
+    let text = text_of_all(alloc, matches, words.format, orders, found)?;
+    write(alloc, text.as_str(), writer)?;
+    Ok(u8::from(found.iter().any(|one| one.ending.alive)))
 }

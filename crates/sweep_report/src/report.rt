@@ -18,13 +18,6 @@ const WORD: usize = 10;
 
 const BEHIND: usize = 12;
 
-/// What is told of all runs, and the exit status.
-#[derive(Drop)]
-pub struct Reported {
-    pub text: String,
-    pub status: u8,
-}
-
 /// What the reference makes of a file, if it changes it.
 fn made_text(
     alloc: Global,
@@ -98,22 +91,22 @@ fn reference_text(alloc: Global, setup: &Setup, reference: &Reached) -> Result<S
 }
 
 /// The calls and runs, and the run without a failure.
-fn push_head(
-    text: &mut String,
+pub fn head(
     alloc: Global,
     setup: &Setup,
     reference: &Reached,
     runs: usize,
-) -> Result<(), AllocError> {
+) -> Result<String, AllocError> {
     let calls = reference
         .log
         .iter()
         .filter(|item| matches!(item, Item::Enter { .. }))
         .count();
-    text.push_str(format!(in alloc; "{calls} calls, {runs} runs\nwithout a failure: ")?.as_str())?;
+    let mut text = format!(in alloc; "{calls} calls, {runs} runs\nwithout a failure: ")?;
     let end = reference_text(alloc, setup, reference)?;
-    push_wrapped(text, end.as_str(), 19, 2)?;
-    text.push('\n')
+    push_wrapped(&mut text, end.as_str(), 19, 2)?;
+    text.push('\n')?;
+    Ok(text)
 }
 
 /// The word of a verdict, a finding's in capitals.
@@ -228,16 +221,18 @@ fn push_block(
     Ok(())
 }
 
-/// Adds a line for a run.
-fn push_row(text: &mut String, alloc: Global, told: &Told, colors: bool) -> Result<(), AllocError> {
-    push_verdict(text, alloc, told, WORD, colors)?;
+/// A run in a line.
+pub fn line(alloc: Global, told: &Told, colors: bool) -> Result<String, AllocError> {
+    let mut text = String::new(alloc);
+    push_verdict(&mut text, alloc, told, WORD, colors)?;
     let row = if told.failure.is_empty() {
         format!(in alloc; "{} {}#{}  {}", told.error, told.text, told.n, told.told)?
     } else {
         format!(in alloc; "{}  {}  {}", told.failure, told.text, told.told)?
     };
     text.push_str(row.as_str().trim_end())?;
-    text.push('\n')
+    text.push('\n')?;
+    Ok(text)
 }
 
 /// Adds how many runs came to what.
@@ -272,6 +267,19 @@ fn push_command(
     text.push_str(format!(in alloc; "{command}{}\n", input_text(setup))?.as_str())
 }
 
+/// What stands below the runs: the whole command of a finding, and how many came to what.
+pub fn foot(
+    alloc: Global,
+    setup: &Setup,
+    worst: Option<&Told>,
+    tally: &Tally,
+) -> Result<String, AllocError> {
+    let mut text = String::new(alloc);
+    push_command(&mut text, alloc, setup, worst)?;
+    push_counts(&mut text, alloc, tally)?;
+    Ok(text)
+}
+
 /// The report as a table.
 pub fn table(
     alloc: Global,
@@ -281,26 +289,18 @@ pub fn table(
     tally: &Tally,
     style: Style,
 ) -> Result<String, AllocError> {
-    let mut text = String::new(alloc);
-    push_head(&mut text, alloc, setup, reference, tally.runs)?;
+    let mut text = head(alloc, setup, reference, tally.runs)?;
     let blocks = blocks_of(alloc, rows)?;
-    if style.each {
-        for told in rows {
-            push_row(&mut text, alloc, told, style.colors)?;
-        }
-    } else {
-        for block in &blocks {
-            if style.all || is_noticed(block.worst) {
-                push_block(&mut text, alloc, rows, block, style)?;
-            }
+    for block in &blocks {
+        if style.all || is_noticed(block.worst) {
+            push_block(&mut text, alloc, rows, block, style)?;
         }
     }
-    push_counts(&mut text, alloc, tally)?;
     let worst = match blocks.first() {
         Some(block) => first_in(rows, block),
         None => None,
     };
-    push_command(&mut text, alloc, setup, worst)?;
+    text.push_str(foot(alloc, setup, worst, tally)?.as_str())?;
     Ok(text)
 }
 
@@ -324,15 +324,19 @@ fn counts_of(alloc: Global, tally: &Tally) -> Result<Counts, AllocError> {
     })
 }
 
-/// The report as objects, a line each.
-pub fn objects(alloc: Global, rows: &[Told], tally: &Tally) -> Result<String, serde_json::Error> {
-    let mut report = String::new(alloc);
-    for told in rows {
-        report.push_str(serde_json::to_string(alloc, told)?.as_str())?;
-        report.push('\n')?;
-    }
+fn object_line<T: Serialize>(alloc: Global, value: &T) -> Result<String, serde_json::Error> {
+    let mut line = serde_json::to_string(alloc, value)?;
+    line.push('\n')?;
+    Ok(line)
+}
+
+/// A run as an object.
+pub fn object(alloc: Global, told: &Told) -> Result<String, serde_json::Error> {
+    object_line(alloc, told)
+}
+
+/// How many runs came to what, as an object.
+pub fn counts_object(alloc: Global, tally: &Tally) -> Result<String, serde_json::Error> {
     let counts = counts_of(alloc, tally)?;
-    report.push_str(serde_json::to_string(alloc, &counts)?.as_str())?;
-    report.push('\n')?;
-    Ok(report)
+    object_line(alloc, &counts)
 }

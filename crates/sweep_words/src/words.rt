@@ -26,7 +26,8 @@ In each run one occurrence of one call fails, and nothing else. What came of it,
   recovered  all is as without the failure, by other calls
   ignored    and by the same calls
 The report has the calls with findings, damaged and warned runs: each with its occurrences, what came of which errors,
-and the words of strace_cli by which the first of these runs is had. The last line shows the first finding.
+and the words of strace_cli by which the first of these runs is had. Below stand the command that shows the first
+finding, and in the last line how many runs came to what: a report without it was cut.
 
 With --orders no call fails, and each run has its own order of turns: the default one, then those with one switch to
 another process where a call returned, those with two, and then some by chance. Each line is a result, with how many
@@ -128,7 +129,7 @@ fn with_report<'a>(alloc: Global, command: Command<'a>) -> Result<Command<'a>, A
         alloc,
         command,
         "each",
-        "Tells each run in a line of its own",
+        "Tells each run in a line of its own, as soon as it is made",
     )?;
     let command = with_flag(
         alloc,
@@ -333,6 +334,13 @@ pub struct Words {
     pub style: Style,
     pub jobs: u8,
     pub orders: Option<Orders>,
+}
+
+impl Words {
+    /// Each run is written as soon as it is made.
+    pub fn is_streamed(self) -> bool {
+        self.orders.is_none() && (self.style.each || self.format == Format::Json)
+    }
 }
 
 /// `colors`: the report may have them.
