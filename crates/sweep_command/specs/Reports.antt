@@ -1,5 +1,5 @@
 -- The report on a sweep of failures.
-use Rattle.std.specs.Prelude.{◌≡◌, ℕ, zero, suc, ◌&&◌, not, nat_lt, Bool, true, false, List, [], ◌∷◌, ◌++◌, Option, Some, None, map}
+use Rattle.std.specs.Prelude.{◌≡◌, ℕ, ◌-◌, ◌==◌, ◌&&◌, not, cond, nat_lt, Bool, true, false, List, [], ◌∷◌, ◌++◌, Option, Some, None, map}
 use Rattle.sweep_report.specs.Tallies.{unmarked}
 use Rattle.sweep_rows.specs.Summary.{status}
 use Rattle.sweep_rows.specs.declared.verdicts.Reached.{Reached}
@@ -12,11 +12,17 @@ use Rattle.sweep_words.specs.declared.plan.Plan.{Plan}
 use Rattle.sweep_words.specs.declared.words.Shard.{Shard}
 use Rattle.sweep_words.specs.declared.words.Words.{Words}
 
+-- a case is taken where none is waited for, and then so many are left out
+abbrev pub taken : ℕ → Case → List Case
+taken wait c = cond (wait == 0) (c ∷ []) []
+
+abbrev pub waits : ℕ → ℕ → ℕ
+waits between wait = cond (wait == 0) between (wait - 1)
+
 -- so many are left out before the first of these cases, and so many between two
 abbrev pub every : ℕ → ℕ → List Case → List Case
-every between before [] = []
-every between zero (c ∷ cs) = c ∷ every between between cs
-every between (suc before) (c ∷ cs) = every between before cs
+every between wait [] = []
+every between wait (c ∷ cs) = taken wait c ++ every between (waits between wait) cs
 
 abbrev pub part_of : Option Shard → List Case → List Case
 part_of None cases = cases

@@ -1,8 +1,8 @@
 //! The runs with a failure, and what is written of them as they are made.
 
-ghost use Rattle.std.specs.Prelude.{◌≡◌, map, IfOk};
+ghost use Rattle.std.specs.Prelude.{◌≡◌, ◌++◌, map, IfOk, OnOk};
 ghost use Rattle.sweep_runs.specs.Rows.{failure_of};
-ghost use Rattle.sweep_command.specs.Reports.{every, part_of, goes_on, AreWanted, AreBegun};
+ghost use Rattle.sweep_command.specs.Reports.{taken, waits, every, part_of, goes_on, AreWanted, AreBegun};
 
 use crate::knowing::findings;
 use crate::outputs::write;
@@ -45,7 +45,24 @@ fn by_the_end(
     Ok(all)
 }
 
-/// Every so many-th of these cases.
+/// Takes a case for which no other is waited for.
+fn take(part: &mut Vec<Case>, wait: usize, case: Case) -> Result<(), AllocError>
+    ensures { OnOk result (part.new.items ≡ part.old.items ++ taken wait case) }
+{
+    if wait == 0 {
+        part.push(case)?;
+    }
+    Ok(())
+}
+
+/// How many cases are left out behind one, before the next is taken.
+fn waits(between: usize, wait: usize) -> usize
+    ensures { result ≡ waits between wait }
+{
+    if wait == 0 { between } else { wait - 1 }
+}
+
+/// Those of these cases that are a part's.
 fn every(alloc: Global, shard: Shard, cases: &[Case]) -> Result<Vec<Case>, AllocError>
     ensures { IfOk result (λ r. r.items ≡ every shard.between shard.before cases.now) }
 {
@@ -53,13 +70,9 @@ fn every(alloc: Global, shard: Shard, cases: &[Case]) -> Result<Vec<Case>, Alloc
     let mut wait = shard.before;
     let mut left = cases;
     while let Some((case, rest)) = left.split_first() {
+        take(&mut part, wait, *case)?;
+        wait = waits(shard.between, wait);
         left = rest;
-        if wait > 0 {
-            wait -= 1;
-        } else {
-            part.push(*case)?;
-            wait = shard.between;
-        }
     }
     Ok(part)
 }
@@ -170,8 +183,7 @@ fn make_batches<R: Threads + Sync + AllocGlobal, C: Clock, W: Write, E: Write>(
     while goes_on(left, words.fail_fast, found) {
         let (first, rest) = left.split_at(size.min(left.len()));
         let (setup, jobs) = (&plan.setup, words.jobs);
-        let silent = &mut Silent;
-        let mut more = rows_on_threads(rt, rt.alloc(), jobs, setup, reference, first, silent)?;
+        let mut more = rows_on_threads(rt, rt.alloc(), jobs, setup, reference, first, &mut Silent)?;
         let made = more.as_slice();
         found = findings(rt.alloc(), plan, reference, calls, made)?;
         progress.found(found);

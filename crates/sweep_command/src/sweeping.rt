@@ -195,7 +195,7 @@ fn report_to_file<R: Files + Clock + Threads + Sync + AllocGlobal, E: Write + Is
         let mut file = create(rt, path)?;
         return report(rt, matches, words, plan, reference, &mut file, err);
     }
-    let mut text = Vec::new(rt.alloc());
+    let mut text: Vec<u8> = Vec::new(rt.alloc());
     let status = report(rt, matches, words, plan, reference, &mut text, err)?;
     replace(rt, "-o", path, text.as_slice())?;
     Ok(status)

@@ -63,7 +63,8 @@ pub fn unmarked(alloc: Global, rows: &[Row], marks: &[bool]) -> Result<Vec<Verdi
     ensures { IfOk result (λ verdicts. verdicts.items ≡ unmarked marks.now rows.now) }
 {
     let mut verdicts = Vec::new(alloc);
-    let (mut left, mut more) = (rows, marks);
+    let mut more = marks;
+    let mut left: &[Row] = rows;
     while let Some((row, rest)) = left.split_first() {
         if !is_marked(more) {
             verdicts.push(row.verdict)?;

@@ -432,8 +432,10 @@ pub struct Words {
 impl Words {
     /// Each run is written as soon as it is made.
     pub fn is_streamed(self) -> bool {
+        if self.orders.is_some() {
+            return false;
+        }
         match self.format {
-            _ if self.orders.is_some() => false,
             Format::Table => self.style.each,
             Format::Json => true,
             Format::Junit => false,
