@@ -82,6 +82,17 @@ impl Tracer {
         let Core { focus, .. } = core;
         outcome(focus)
     }
+
+    /// The same, and how often each tracee entered each call.
+    #[tactic(auto, unfolding(crate::specs::Tracers::state_of))]
+    pub fn into_parts(self) -> (Option<Outcome>, Occurrences)
+        ensures { result.0 ≡ outcome_of (state_of self) }
+    {
+        let Tracer { core, .. } = self;
+        let Core { focus, session, .. } = core;
+        let Session { counts, .. } = session;
+        (outcome(focus), counts)
+    }
 }
 
 impl Tracing for Tracer {

@@ -96,5 +96,9 @@ pub fn keep_threaded(
         _ => None,
     };
     drop(turns);
-    kept.record = Record { events, waits };
+    kept.record = Record {
+        events,
+        waits,
+        counts: None,
+    };
 }

@@ -13,7 +13,7 @@ ghost use Rattle.lx_abi.specs.Scripts.{choice_of};
 use containers::Bytes;
 use host_link::{Link, LinkFault};
 use host_wire::{Broken, Sink};
-use lx_abi::{Ask, Outcome, Reply, Request, Script};
+use lx_abi::{Ask, Occurrences, Outcome, Reply, Request, Script};
 use std::alloc::Global;
 use thiserror::Error;
 use tr_core::{Act, Options, TraceFault, Tracer, Tracing};
@@ -158,6 +158,31 @@ fn end_by(outcome: Option<Outcome>) -> Ended
     }
 }
 
+/// Runs the tracer over a link whose Boot was answered Done. Gives also how often each tracee entered each call.
+pub fn run_counting<L: Link, W: Sink>(
+    alloc: Global,
+    link: &mut L,
+    writer: &mut W,
+    script: Script,
+    options: Options,
+) -> (Result<Ended, RunFault>, Occurrences)
+    ensures { RunsWhole (calls_of L.answers L.given L.broken)
+        (new_state (options_by options) (choice_of script) (first_pen options)) link.old
+        (writer_of W.contents W.puts W.broken writer.old) result.0 link.new
+        (writer_of W.contents W.puts W.broken writer.new) }
+{
+    let mut tracer = Tracer::new(alloc, script, options);
+    let ran = run_tracer(link, writer, &mut tracer);
+    let (outcome, counts) = tracer.into_parts();
+    match ran {
+        Ok(()) => (Ok(end_by(outcome)), counts),
+        Err(fault) => {
+            drop(outcome);
+            (Err(fault), counts)
+        }
+    }
+}
+
 /// Runs the tracer over a link whose Boot was answered Done.
 pub fn run<L: Link, W: Sink>(
     alloc: Global,
@@ -171,9 +196,7 @@ pub fn run<L: Link, W: Sink>(
         (writer_of W.contents W.puts W.broken writer.old) result link.new
         (writer_of W.contents W.puts W.broken writer.new) }
 {
-    let mut tracer = Tracer::new(alloc, script, options);
-    match run_tracer(link, writer, &mut tracer) {
-        Ok(()) => Ok(end_by(tracer.into_outcome())),
-        Err(fault) => Err(fault),
-    }
+    let (ended, counts) = run_counting(alloc, link, writer, script, options);
+    drop(counts);
+    ended
 }
