@@ -77,16 +77,16 @@ impl Entered {
     /// How often a call was entered.
     fn explain_count(&self, alloc: Global, number: u64) -> Result<String, AllocError> {
         let name = call_name(number).unwrap_or("a call that isn't here");
-        let bound = if self.several {
-            " by one process at most"
-        } else {
-            ""
+        let times = match self.most(number) {
+            0 => return format!(in alloc; "{name} was never entered"),
+            1 => format!(in alloc; "once")?,
+            2 => format!(in alloc; "twice")?,
+            count => format!(in alloc; "{count} times")?,
         };
-        match self.most(number) {
-            0 => format!(in alloc; "{name} was never entered"),
-            1 => format!(in alloc; "{name} was entered once{bound}"),
-            2 => format!(in alloc; "{name} was entered twice{bound}"),
-            count => format!(in alloc; "{name} was entered {count} times{bound}"),
+        if self.several {
+            format!(in alloc; "no process entered {name} more than {times}")
+        } else {
+            format!(in alloc; "{name} was entered {times}")
         }
     }
 

@@ -1,7 +1,7 @@
 //! The calls of Linux for this machine that aren't here (include/uapi/asm-generic/unistd.h).
 
 /// Each number, rising, and its name.
-const CALLS: [(u64, &str); 272] = [
+const CALLS: [(u64, &str); 274] = [
     (0, "io_setup"),
     (1, "io_destroy"),
     (2, "io_submit"),
@@ -218,6 +218,8 @@ const CALLS: [(u64, &str); 272] = [
     (261, "prlimit64"),
     (262, "fanotify_init"),
     (263, "fanotify_mark"),
+    (264, "name_to_handle_at"),
+    (265, "open_by_handle_at"),
     (266, "clock_adjtime"),
     (267, "syncfs"),
     (268, "setns"),

@@ -340,7 +340,14 @@ pub fn trace<
         out,
         mut err,
     } = traced;
-    let status = explain(rt.alloc(), matches, &mut behind.kept, program, status, &mut err);
+    let status = explain(
+        rt.alloc(),
+        matches,
+        &mut behind.kept,
+        program,
+        status,
+        &mut err,
+    );
     drop(behind);
     Traced { status, out, err }
 }

@@ -1,0 +1,4 @@
+use Rattle.trace_run.proofs.running.run.Goals as goal
+
+pub returns : goal.returns
+returns g c = c.run_counting-ended.ensures.run
