@@ -4,6 +4,7 @@
 mod entry;
 mod fault;
 mod given;
+mod heard;
 mod kept;
 mod kernel;
 mod lines;
