@@ -220,7 +220,8 @@ impl<O, E> Replies<O, E> {
         O: Drop,
         E: Drop,
     {
-        match self.hearing {
+        let Replies { hearing, .. } = self;
+        match hearing {
             Some(hearing) => hearing.text,
             None => Vec::new(alloc),
         }
