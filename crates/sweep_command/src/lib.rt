@@ -4,6 +4,7 @@
 
 mod entry;
 mod keeping;
+mod knowing;
 mod orders;
 mod outputs;
 mod progress;

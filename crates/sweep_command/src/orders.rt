@@ -261,7 +261,7 @@ fn text_of_all(
     }
     let told = told.as_slice();
     match format {
-        Format::Table => Ok(table(alloc, told, orders.count as u64)?),
+        Format::Table | Format::Junit => Ok(table(alloc, told, orders.count as u64)?),
         Format::Json => match objects(alloc, told) {
             Ok(report) => Ok(report),
             Err(_) => Err(Fault::Memory),

@@ -14,8 +14,8 @@ pub fn path_of<'m>(matches: &'m ArgMatches) -> Option<&'m str> {
     }
 }
 
-fn refused(alloc: Global, path: &str, error: io::Error) -> Fault {
-    match format!(in alloc; "-o {}", Shown(path)) {
+fn refused(alloc: Global, option: &str, path: &str, error: io::Error) -> Fault {
+    match format!(in alloc; "{option} {}", Shown(path)) {
         Ok(what) => Fault::file(alloc, what, error),
         Err(error) => Fault::from(error),
     }
@@ -25,14 +25,18 @@ fn unwritten(alloc: Global) -> Fault {
     Fault::output(format!(in alloc; "the report could not be written"))
 }
 
-/// The file can be written. Nothing is changed.
-pub fn check<R: Files + AllocGlobal>(rt: &R, path: Option<&str>) -> Result<(), Fault> {
+/// The file that an option names can be written. Nothing is changed.
+pub fn check<R: Files + AllocGlobal>(
+    rt: &R,
+    option: &str,
+    path: Option<&str>,
+) -> Result<(), Fault> {
     let Some(path) = path else {
         return Ok(());
     };
     match check_file(rt, path) {
         Ok(()) => Ok(()),
-        Err(error) => Err(refused(rt.alloc(), path, error)),
+        Err(error) => Err(refused(rt.alloc(), option, path, error)),
     }
 }
 
@@ -40,15 +44,24 @@ pub fn check<R: Files + AllocGlobal>(rt: &R, path: Option<&str>) -> Result<(), F
 pub fn create<R: Files + AllocGlobal>(rt: &R, path: &str) -> Result<R::File, Fault> {
     match create_file(rt, path) {
         Ok(file) => Ok(file),
-        Err(error) => Err(refused(rt.alloc(), path, error)),
+        Err(error) => Err(refused(rt.alloc(), "-o", path, error)),
     }
 }
 
-/// A whole report takes the place of an older.
-pub fn replace<R: Files + AllocGlobal>(rt: &R, path: &str, report: &[u8]) -> Result<(), Fault> {
-    match replace_file(rt, path, report) {
+/// A whole text takes the place of the older file that an option names.
+pub fn replace<R: Files + AllocGlobal>(
+    rt: &R,
+    option: &str,
+    path: &str,
+    text: &[u8],
+) -> Result<(), Fault> {
+    let alloc = rt.alloc();
+    match replace_file(rt, path, text) {
         Ok(()) => Ok(()),
-        Err(_) => Err(unwritten(rt.alloc())),
+        Err(_) => Err(Fault::output(format!(in alloc;
+            "{option} {} could not be written",
+            Shown(path)
+        ))),
     }
 }
 

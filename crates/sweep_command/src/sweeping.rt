@@ -1,10 +1,11 @@
 //! A sweep, from its words to its report.
 
 ghost use Rattle.std.specs.Prelude.{◌≡◌, IfOk};
-ghost use Rattle.sweep_report.specs.Tallies.{verdicts_in};
+ghost use Rattle.sweep_report.specs.Tallies.{unmarked};
 ghost use Rattle.sweep_rows.specs.Summary.{status};
 ghost use Rattle.sweep_command.specs.Reports.{IsOfRows};
 
+use crate::knowing::{check_known, finish_known, marks_of};
 use crate::orders::orders_reported;
 use crate::outputs::{check, create, path_of, replace, write};
 use crate::reference::reference;
@@ -19,8 +20,9 @@ use std::io::{IsTerminal, Read, Write};
 use std::rt::Files;
 use std::thread::Threads;
 use std::time::Clock;
+use sweep_report::junit::junit;
 use sweep_report::report::{counts_object, foot, head, table};
-use sweep_report::tally::{Tally, tally_of, verdicts_of};
+use sweep_report::tally::{Tally, tally_of, unmarked, verdicts_of};
 use sweep_report::traced::TracedCalls;
 use sweep_rows::{Reached, first_word, status};
 use sweep_runs::Row;
@@ -97,12 +99,15 @@ fn rest_of(
             Err(_) => Err(Fault::Memory),
         };
     }
-    if words.style.each {
+    if words.is_streamed() {
         return foot_of(alloc, matches, plan, reference, calls, rows, tally);
     }
     let told = all_told(alloc, matches, plan, reference, calls, rows)?;
     let told = told.as_slice();
-    Ok(table(alloc, &plan.setup, reference, told, tally, words.style)?)
+    match words.format {
+        Format::Junit => Ok(junit(alloc, &plan.setup, told)?),
+        _ => Ok(table(alloc, &plan.setup, reference, told, tally, words.style)?),
+    }
 }
 
 /// Writes the rest of the report on these rows, and gives the exit status.
@@ -114,20 +119,22 @@ fn finish<W: Write>(
     reference: &Reached,
     calls: &TracedCalls,
     rows: &[Row],
+    marks: &[bool],
     writer: &mut W,
 ) -> Result<u8, Fault>
-    ensures { IfOk result (λ s. s ≡ status (verdicts_in rows.now)) }
+    ensures { IfOk result (λ s. s ≡ status (unmarked marks.now rows.now)) }
 {
     let verdicts = verdicts_of(alloc, rows)?;
-    let verdicts = verdicts.as_slice();
-    let tally = tally_of(alloc, verdicts)?;
+    let counted = unmarked(alloc, rows, marks)?;
+    let counted = counted.as_slice();
+    let tally = tally_of(alloc, verdicts.as_slice(), counted)?;
     let rest = rest_of(alloc, matches, words, plan, reference, calls, rows, &tally)?;
     write(alloc, rest.as_str(), writer)?;
-    Ok(status(verdicts))
+    Ok(status(counted))
 }
 
 /// Makes the runs with a failure, and reports them; gives the exit status.
-fn failures<R: Clock + Threads + Sync + AllocGlobal, W: Write, E: Write + IsTerminal>(
+fn failures<R: Files + Clock + Threads + Sync + AllocGlobal, W: Write, E: Write + IsTerminal>(
     rt: &R,
     matches: &ArgMatches,
     words: Words,
@@ -136,18 +143,23 @@ fn failures<R: Clock + Threads + Sync + AllocGlobal, W: Write, E: Write + IsTerm
     writer: &mut W,
     err: &mut E,
 ) -> Result<u8, Fault>
-    ensures { IfOk result (IsOfRows plan.now reference.now) }
+    ensures { IfOk result (IsOfRows plan.now words reference.now) }
 {
     let alloc = rt.alloc();
     let calls = traced_calls(alloc, &plan.setup, reference.log.as_slice())?;
-    let cases = wanted_cases(alloc, plan, reference, &calls)?;
+    let cases = wanted_cases(alloc, plan, words.shard, reference, &calls)?;
     let cases = cases.as_slice();
     write_head(alloc, words, plan, reference, cases.len(), writer)?;
     let rows = make(
         rt, matches, words, plan, reference, &calls, cases, writer, err,
     )?;
     let rows = rows.as_slice();
-    let status = finish(alloc, matches, words, plan, reference, &calls, rows, writer)?;
+    let marks = marks_of(alloc, plan, reference, &calls, rows)?;
+    let marks = marks.as_slice();
+    let status = finish(
+        alloc, matches, words, plan, reference, &calls, rows, marks, writer,
+    )?;
+    finish_known(rt, matches, plan, reference, &calls, rows, err)?;
     Ok(status)
 }
 
@@ -183,9 +195,9 @@ fn report_to_file<R: Files + Clock + Threads + Sync + AllocGlobal, E: Write + Is
         let mut file = create(rt, path)?;
         return report(rt, matches, words, plan, reference, &mut file, err);
     }
-    let mut text = Vec::new(rt.alloc());
+    let mut text: Vec<u8> = Vec::new(rt.alloc());
     let status = report(rt, matches, words, plan, reference, &mut text, err)?;
-    replace(rt, path, text.as_slice())?;
+    replace(rt, "-o", path, text.as_slice())?;
     Ok(status)
 }
 
@@ -215,7 +227,8 @@ pub fn sweep<
     let words = words_of(alloc, matches, out.is_terminal() && !is_plain(rt))?;
     let plan = read_plan(rt, matches, input, err)?;
     let path = path_of(matches);
-    check(rt, path)?;
+    check(rt, "-o", path)?;
+    check_known(rt, matches)?;
     let reference = reference(alloc, &plan.setup, explained)?;
     if explained {
         explain(alloc, &plan, &reference, err)?;

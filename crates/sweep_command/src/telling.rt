@@ -1,5 +1,6 @@
 //! What came of each run, as it is told.
 
+use crate::knowing::is_mark;
 use crate::reference::explain_case;
 use clap::ArgMatches;
 use std::alloc::{AllocError, Global};
@@ -34,7 +35,8 @@ pub fn told(
     let hung = why_hung(alloc, plan, row)?;
     let place = place_of(alloc, calls, reference, &row.case.occurrence)?;
     let hung = hung.as_ref().map(|reason| reason.as_str());
-    tell_row(alloc, matches, reference, row, place, hung)
+    let known = is_mark(alloc, plan, reference, calls, row)?;
+    tell_row(alloc, matches, reference, row, place, hung, known)
 }
 
 /// The rows as they are told.

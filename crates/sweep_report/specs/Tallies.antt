@@ -1,5 +1,5 @@
 -- How many runs came to what.
-use Rattle.std.specs.Prelude.{ℕ, ◌+◌, nat_lt, cond, List, [], ◌∷◌, map}
+use Rattle.std.specs.Prelude.{ℕ, ◌+◌, nat_lt, Bool, true, false, cond, List, [], ◌∷◌, map}
 use Rattle.std.specs.List.{flat_map}
 use Rattle.sweep_rows.specs.Summary.{count}
 use Rattle.sweep_rows.specs.Verdicts.{is_finding}
@@ -10,6 +10,20 @@ use Rattle.sweep_report.specs.declared.tally.Kind.{Kind}
 
 abbrev pub verdicts_in : List Row → List Verdict
 verdicts_in rows = map (λ r. r.verdict) rows
+
+abbrev pub is_marked : List Bool → Bool
+is_marked [] = false
+is_marked (m ∷ ms) = m
+
+abbrev pub behind : List Bool → List Bool
+behind [] = []
+behind (m ∷ ms) = ms
+
+-- the verdicts of rows that aren't marked
+abbrev pub unmarked : List Bool → List Row → List Verdict
+unmarked marks [] = []
+unmarked marks (r ∷ rs) =
+    cond (is_marked marks) (unmarked (behind marks) rs) (r.verdict ∷ unmarked (behind marks) rs)
 
 abbrev pub findings_in : List Verdict → ℕ
 findings_in [] = 0

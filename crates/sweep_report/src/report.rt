@@ -110,7 +110,7 @@ pub fn head(
 }
 
 /// The word of a verdict, a finding's in capitals.
-fn verdict_text(alloc: Global, told: &Told) -> Result<String, AllocError> {
+pub fn verdict_text(alloc: Global, told: &Told) -> Result<String, AllocError> {
     let mut word = format!(in alloc; "{}", told.verdict)?;
     if told.finding {
         word.make_ascii_uppercase();
@@ -152,6 +152,28 @@ fn errors_text(alloc: Global, rows: &[Told], line: &Line) -> Result<String, Allo
     Ok(text)
 }
 
+/// What came of which errors and, where they aren't all of these, of which occurrences.
+pub fn outcome_text(
+    alloc: Global,
+    rows: &[Told],
+    line: &Line,
+    first: &Told,
+    all: &[u64],
+) -> Result<String, AllocError> {
+    let mut told = errors_text(alloc, rows, line)?;
+    if first.known {
+        push_part(&mut told, "(known)", " ")?;
+    }
+    let own = line.occurrences(alloc, rows)?;
+    if own.as_slice() != all {
+        told.push_str(format!(in alloc; " at #{}", ranges(alloc, own.as_slice())?)?.as_str())?;
+    }
+    if !first.told.is_empty() {
+        push_part(&mut told, first.told.as_str(), ": ")?;
+    }
+    Ok(told)
+}
+
 /// Adds a line of a block whose calls have these occurrences.
 fn push_line(
     text: &mut String,
@@ -164,14 +186,7 @@ fn push_line(
     let Some(first) = first_of(rows, line) else {
         return Ok(());
     };
-    let mut told = errors_text(alloc, rows, line)?;
-    let own = line.occurrences(alloc, rows)?;
-    if own.as_slice() != all {
-        told.push_str(format!(in alloc; " at #{}", ranges(alloc, own.as_slice())?)?.as_str())?;
-    }
-    if !first.told.is_empty() {
-        push_part(&mut told, first.told.as_str(), ": ")?;
-    }
+    let told = outcome_text(alloc, rows, line, first, all)?;
     text.push_str("  ")?;
     push_verdict(text, alloc, first, WORD, colors)?;
     push_wrapped(text, told.as_str(), BEHIND, BEHIND)?;
@@ -246,12 +261,15 @@ fn push_counts(text: &mut String, alloc: Global, tally: &Tally) -> Result<(), Al
         line.push_str(" of ")?;
     }
     line.push_str(format!(in alloc; "{} runs", tally.runs)?.as_str())?;
+    if tally.known > 0 {
+        line.push_str(format!(in alloc; ", {} known", tally.known)?.as_str())?;
+    }
     push_wrapped(text, line.as_str(), 0, 2)?;
     text.push('\n')
 }
 
 /// Adds the whole command that shows a finding.
-fn push_command(
+pub fn push_command(
     text: &mut String,
     alloc: Global,
     setup: &Setup,
@@ -309,6 +327,7 @@ pub fn table(
 struct Counts {
     runs: usize,
     findings: usize,
+    known: usize,
     verdicts: Vec<(&'static str, usize)>,
 }
 
@@ -320,6 +339,7 @@ fn counts_of(alloc: Global, tally: &Tally) -> Result<Counts, AllocError> {
     Ok(Counts {
         runs: tally.runs,
         findings: tally.findings,
+        known: tally.known,
         verdicts,
     })
 }

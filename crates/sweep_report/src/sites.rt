@@ -4,7 +4,7 @@ use crate::texts::without_numbers;
 use crate::traced::TracedCalls;
 use lx_abi::{Item, sys};
 use std::alloc::{AllocError, Global};
-use sweep_rows::{Occurrence, Reached, Target};
+use sweep_rows::{Occurrence, Reached, Target, Verdict, name_of};
 use sweep_words::calls::raw_text;
 
 #[derive(Drop)]
@@ -113,6 +113,13 @@ pub fn site_of(alloc: Global, place: &Place) -> Result<String, AllocError> {
         None => text,
     };
     without_numbers(alloc, call, true)
+}
+
+/// A finding in a line of its own: its word, and the place of its call.
+pub fn key_of(alloc: Global, verdict: Verdict, place: &Place) -> Result<String, AllocError> {
+    let mut word = String::from_str(alloc, name_of(verdict))?;
+    word.make_ascii_uppercase();
+    format!(in alloc; "{word} {}", site_of(alloc, place)?)
 }
 
 /// The last name of a path is this.

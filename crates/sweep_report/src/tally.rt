@@ -1,7 +1,7 @@
 //! How many runs came to what.
 
 ghost use Rattle.std.specs.Prelude.{◌≡◌, ◌++◌, IfOk, OnOk, length};
-ghost use Rattle.sweep_report.specs.Tallies.{verdicts_in, findings_in, kind_of, kinds_of};
+ghost use Rattle.sweep_report.specs.Tallies.{verdicts_in, is_marked, behind, unmarked, findings_in, kind_of, kinds_of};
 
 use std::alloc::{AllocError, Global};
 use sweep_rows::{Verdict, count, is_finding};
@@ -31,9 +31,48 @@ pub struct Kind {
 #[derive(Drop)]
 pub struct Tally {
     pub runs: usize,
+    /// The findings that aren't known.
     pub findings: usize,
+    pub known: usize,
     /// The verdicts that some run has, the worst first.
     pub kinds: Vec<Kind>,
+}
+
+/// The first is a mark.
+fn is_marked(marks: &[bool]) -> bool
+    ensures { result ≡ is_marked marks.now }
+{
+    match marks.first() {
+        Some(mark) => *mark,
+        None => false,
+    }
+}
+
+/// Those behind the first.
+fn behind(marks: &[bool]) -> &[bool]
+    ensures { result.now ≡ behind marks.now }
+{
+    match marks.split_first() {
+        Some((_, rest)) => rest,
+        None => &[],
+    }
+}
+
+/// The verdicts of those rows that aren't marked; rows behind the last mark aren't.
+pub fn unmarked(alloc: Global, rows: &[Row], marks: &[bool]) -> Result<Vec<Verdict>, AllocError>
+    ensures { IfOk result (λ verdicts. verdicts.items ≡ unmarked marks.now rows.now) }
+{
+    let mut verdicts = Vec::new(alloc);
+    let mut more = marks;
+    let mut left: &[Row] = rows;
+    while let Some((row, rest)) = left.split_first() {
+        if !is_marked(more) {
+            verdicts.push(row.verdict)?;
+        }
+        left = rest;
+        more = behind(more);
+    }
+    Ok(verdicts)
 }
 
 /// The verdicts of rows.
@@ -88,16 +127,21 @@ fn findings_in(verdicts: &[Verdict]) -> usize
     findings
 }
 
-/// How many runs came to what.
-pub fn tally_of(alloc: Global, verdicts: &[Verdict]) -> Result<Tally, AllocError>
+/// How many runs came to what, of which those in the second list count.
+pub fn tally_of(
+    alloc: Global,
+    verdicts: &[Verdict],
+    counted: &[Verdict],
+) -> Result<Tally, AllocError>
     ensures runs { IfOk result (λ tally. tally.runs ≡ length verdicts.now) }
-    ensures findings { IfOk result (λ tally. tally.findings ≡ findings_in verdicts.now) }
+    ensures findings { IfOk result (λ tally. tally.findings ≡ findings_in counted.now) }
     ensures kinds { IfOk result (λ tally. tally.kinds.items ≡ kinds_of verdicts.now) }
 {
     let kinds = kinds_of(alloc, verdicts)?;
     Ok(Tally {
         runs: verdicts.len(),
-        findings: findings_in(verdicts),
+        findings: findings_in(counted),
+        known: verdicts.len().saturating_sub(counted.len()),
         kinds,
     })
 }

@@ -33,7 +33,9 @@ pub struct ToldFile {
 #[derive(Drop, Serialize)]
 pub struct Told {
     pub verdict: &'static str,
+    /// It is one, and isn't known.
     pub finding: bool,
+    pub known: bool,
     pub pid: u32,
     pub call: String,
     pub n: u64,
@@ -260,7 +262,16 @@ fn outcome_of(
     })
 }
 
-/// A row as it is told, of a call in this place.
+/// The rank of a row: one that is known is not to be noticed.
+fn rank_of(verdict: Verdict, known: bool) -> u8 {
+    if known {
+        rank(Verdict::Reported)
+    } else {
+        rank(verdict)
+    }
+}
+
+/// A row as it is told, of a call in this place; `known`: that it is a finding is known.
 pub fn tell_row(
     alloc: Global,
     matches: &ArgMatches,
@@ -268,6 +279,7 @@ pub fn tell_row(
     row: &Row,
     place: Place,
     hung: Option<&str>,
+    known: bool,
 ) -> Result<Told, AllocError> {
     let occurrence = &row.case.occurrence;
     let site = site_of(alloc, &place)?;
@@ -277,7 +289,8 @@ pub fn tell_row(
     let outcome = outcome_of(alloc, reference, row, hung)?;
     Ok(Told {
         verdict: verdict_name(row.verdict),
-        finding: is_finding(row.verdict),
+        finding: is_finding(row.verdict) && !known,
+        known,
         pid: occurrence.pid,
         call,
         n: occurrence.n,
@@ -288,7 +301,7 @@ pub fn tell_row(
         files: outcome.files,
         words: words.words,
         failure: words.failure,
-        rank: rank(row.verdict),
+        rank: rank_of(row.verdict, known),
         site,
         outcome: outcome.outcome,
     })

@@ -83,4 +83,4 @@ module _ (old new : Descriptors) where
     uses_inherited = fun_ext (λ p. fun_ext (λ n. at_child p n))
 
 pub uses_first : (d : Descriptors) → d.processes ≡ maps.empty → uses_in d ≡ at_boot
-uses_first d none = fun_ext (λ p. fun_ext (λ n. ap (λ m. used_at (maps.get m p) n) none ∙ ap (λ o. used_at o n) (maps.get-empty p)))
+uses_first d none = fun_ext (λ p. fun_ext (λ n. ap (λ m. used_at (maps.get m p) n) none ∙ ap (λ o. used_at o n) (maps.get-empty nat_cmp p)))

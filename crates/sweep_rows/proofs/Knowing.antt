@@ -10,9 +10,11 @@ use Rattle.sweep_rows.specs.declared.descriptors.Use.{Use}
 use Rattle.sweep_rows.specs.declared.known.Known.{Known}
 
 after_all : (past : List Item) (at : ℕ) (uses : ℕ → ℕ → Use) (item : Item) → uses_after at uses (past ++ item ∷ []) ≡ after_item (length past + at) item (uses_after at uses past)
-after_all [] at uses item = refl
+after_all [] at uses item =
+    let place : at ≡ 0 + at = omega arith in
+    ap (λ n. after_item n item uses) place
 after_all (i ∷ past) at uses item =
-    let place : length past + suc at ≡ suc (length past + at) = omega arith in
+    let place : length past + suc at ≡ suc (length past) + at = omega arith in
     after_all past (suc at) (after_item at i uses) item
     ∙ ap (λ n. after_item n item (uses_after (suc at) (after_item at i uses) past)) place
 

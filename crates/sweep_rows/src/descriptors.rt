@@ -61,11 +61,18 @@ fn is_dup(number: u64) -> bool
     number == sys::SYS_DUP || number == sys::SYS_DUP3
 }
 
+/// A descriptor has the low 32 bits of a word.
+fn low(word: u64) -> u32
+    ensures { result ≡ low word }
+{
+    (word % (1 << 32)) as u32
+}
+
 /// The descriptor that a call has as its first argument.
 pub fn descriptor(call: &Call) -> u32
     ensures { result ≡ descriptor call.now }
 {
-    call.arguments[0] as u32
+    low(call.arguments[0])
 }
 
 /// What a descriptor stands for when a run begins.
@@ -208,12 +215,12 @@ impl Descriptors {
     {
         let number = descriptor(call);
         if call.number == sys::SYS_OPENAT {
-            self.set(pid, word as u32, unwritten(Target::File(self.at)))?;
+            self.set(pid, low(word), unwritten(Target::File(self.at)))?;
             return Ok(());
         }
         if is_dup(call.number) {
             let used = self.use_of(pid, number);
-            self.set(pid, word as u32, used)?;
+            self.set(pid, low(word), used)?;
             return Ok(());
         }
         if call.number == sys::SYS_CLOSE {
@@ -227,7 +234,7 @@ impl Descriptors {
             return Ok(());
         }
         if call.number == sys::SYS_CLONE {
-            self.inherit(pid, word as u32)?;
+            self.inherit(pid, low(word))?;
         }
         Ok(())
     }

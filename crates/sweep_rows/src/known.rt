@@ -56,6 +56,13 @@ fn sets_action(item: &Item, pipe: bool) -> bool
     }
 }
 
+/// A process has, or had before.
+fn or_sets(before: bool, item: &Item, pipe: bool) -> bool
+    ensures { result ≡ (before || sets_action pipe item.now) }
+{
+    before || sets_action(item, pipe)
+}
+
 impl Known {
     /// What is known when a run begins.
     pub(crate) fn new(alloc: Global) -> Self
@@ -86,8 +93,8 @@ impl Known {
         ensures { OnOk result ((past : List LogItem) → IsKnown past self.old → IsKnown (past ++ item.now ∷ []) self.new) }
     {
         self.descriptors.add(item)?;
-        self.piped = self.piped || sets_action(item, true);
-        self.handled = self.handled || sets_action(item, false);
+        self.piped = or_sets(self.piped, item, true);
+        self.handled = or_sets(self.handled, item, false);
         Ok(())
     }
 }

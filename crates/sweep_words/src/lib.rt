@@ -2,6 +2,7 @@
 #![tactic(auto)]
 
 pub mod calls;
+pub mod known;
 pub mod plan;
 pub mod shell;
 pub mod wanted;

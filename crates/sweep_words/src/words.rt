@@ -40,16 +40,19 @@ Examples: make each write fail with EINTR; try 100 orders of turns
   strace_sweep -e fault=write:error=EINTR --file /p=hello -- /p </dev/null
   strace_sweep --orders 100 --keep . --file /p=letters -- /p </dev/null";
 
-/// The most threads, and the most orders of turns.
+/// The most threads, orders of turns, and parts of a sweep.
 const MOST_JOBS: u64 = 8;
 
 const MOST_ORDERS: u64 = 1_000_000;
+
+const MOST_SHARDS: u64 = 65_536;
 
 /// How the report is written.
 #[derive(Clone, Copy, Debug, PartialEq, Eq)]
 pub enum Format {
     Table,
     Json,
+    Junit,
 }
 
 /// How a report is written.
@@ -123,7 +126,7 @@ fn with_report<'a>(alloc: Global, command: Command<'a>) -> Result<Command<'a>, A
         command,
         "format",
         "FORMAT",
-        "table, or json: an object a line [default: table]",
+        "table, json: an object a line, or junit: a case a call [default: table]",
     )?;
     let command = with_flag(
         alloc,
@@ -187,6 +190,37 @@ fn with_orders<'a>(alloc: Global, command: Command<'a>) -> Result<Command<'a>, A
     )
 }
 
+/// Adds what a CI asks for.
+fn with_gate<'a>(alloc: Global, command: Command<'a>) -> Result<Command<'a>, AllocError> {
+    let command = with_name(
+        alloc,
+        command,
+        "known",
+        "FILE",
+        "A line a finding that is known, and doesn't count: its word and its call, as LOST write /b; * is any text",
+    )?;
+    let command = with_name(
+        alloc,
+        command,
+        "known-out",
+        "FILE",
+        "Writes such a line for each finding to this file",
+    )?;
+    let command = with_name(
+        alloc,
+        command,
+        "shard",
+        "K/N",
+        "Makes every Nth of the runs, from the Kth on",
+    )?;
+    with_flag(
+        alloc,
+        command,
+        "fail-fast",
+        "Makes no more runs once one is a finding",
+    )
+}
+
 fn with_runs<'a>(alloc: Global, command: Command<'a>) -> Result<Command<'a>, AllocError> {
     let command = with_name(
         alloc,
@@ -196,6 +230,7 @@ fn with_runs<'a>(alloc: Global, command: Command<'a>) -> Result<Command<'a>, All
         "A schedule by words, as 1 2 1. [default: turns in rounds]",
     )?;
     let command = with_orders(alloc, command)?;
+    let command = with_gate(alloc, command)?;
     let command = with_name(
         alloc,
         command,
@@ -244,8 +279,9 @@ fn format_of(alloc: Global, matches: &ArgMatches) -> Result<Format, Fault> {
     match matches.get_str("format") {
         None | Some("table") => Ok(Format::Table),
         Some("json") => Ok(Format::Json),
+        Some("junit") => Ok(Format::Junit),
         Some(other) => Err(Fault::usage(format!(in alloc;
-            "--format {}: not table or json",
+            "--format {}: not table, json or junit",
             Shown(other)
         ))),
     }
@@ -291,6 +327,60 @@ pub struct Orders {
     pub seed: u64,
 }
 
+/// The runs of a part of a sweep: so many are left out before the first of them, and between two.
+#[derive(Clone, Copy, Debug, PartialEq, Eq)]
+pub struct Shard {
+    pub before: usize,
+    pub between: usize,
+}
+
+/// The shard of `K/N`.
+fn shard_in(text: &str) -> Option<Shard> {
+    let (number, all) = text.split_once('/')?;
+    let (number, all) = (count_in(number)?, count_in(all)?);
+    if number > all || all > MOST_SHARDS {
+        return None;
+    }
+    Some(Shard {
+        before: number.saturating_sub(1) as usize,
+        between: all.saturating_sub(1) as usize,
+    })
+}
+
+/// The part of the sweep that the words ask for, if they don't ask for all.
+fn shard_of(alloc: Global, matches: &ArgMatches) -> Result<Option<Shard>, Fault> {
+    let Some(text) = matches.get_str("shard") else {
+        return Ok(None);
+    };
+    match shard_in(text) {
+        Some(shard) => Ok(Some(shard)),
+        None => Err(Fault::usage(format!(in alloc;
+            "--shard {}: not K/N, with K from 1 to N, and N to {MOST_SHARDS}",
+            Shown(text)
+        ))),
+    }
+}
+
+/// Options that have no meaning where no call fails.
+fn check_failures(alloc: Global, matches: &ArgMatches) -> Result<(), Fault> {
+    for option in ["known", "known-out", "shard"] {
+        if matches.get_str(option).is_some() {
+            return Err(Fault::usage(format!(in alloc;
+                "--orders excludes --{option}: no call fails"
+            )));
+        }
+    }
+    if matches.get_str("format") == Some("junit") {
+        return Err(Fault::usage(format!(in alloc;
+            "--orders excludes --format junit: no call fails"
+        )));
+    }
+    if matches.get_flag("fail-fast") {
+        return Err(Fault::usage(format!(in alloc; "--orders excludes --fail-fast: no call fails")));
+    }
+    Ok(())
+}
+
 /// What `--orders` stands in the place of.
 fn check_orders(alloc: Global, matches: &ArgMatches) -> Result<(), Fault> {
     if matches.get_str("turns").is_some() {
@@ -304,7 +394,7 @@ fn check_orders(alloc: Global, matches: &ArgMatches) -> Result<(), Fault> {
     if matches.get_str("keep") == Some("") {
         return Err(Fault::usage(format!(in alloc; "--keep: the name of the directory is empty")));
     }
-    Ok(())
+    check_failures(alloc, matches)
 }
 
 /// The orders of turns that the words ask for, if they do.
@@ -334,12 +424,22 @@ pub struct Words {
     pub style: Style,
     pub jobs: u8,
     pub orders: Option<Orders>,
+    pub shard: Option<Shard>,
+    /// No more runs are made once one is a finding.
+    pub fail_fast: bool,
 }
 
 impl Words {
     /// Each run is written as soon as it is made.
     pub fn is_streamed(self) -> bool {
-        self.orders.is_none() && (self.style.each || self.format == Format::Json)
+        if self.orders.is_some() {
+            return false;
+        }
+        match self.format {
+            Format::Table => self.style.each,
+            Format::Json => true,
+            Format::Junit => false,
+        }
     }
 }
 
@@ -354,5 +454,7 @@ pub fn words_of(alloc: Global, matches: &ArgMatches, colors: bool) -> Result<Wor
         },
         jobs: jobs_of(alloc, matches)?,
         orders: orders_of(alloc, matches)?,
+        shard: shard_of(alloc, matches)?,
+        fail_fast: matches.get_flag("fail-fast"),
     })
 }
