@@ -178,16 +178,23 @@ impl<P: OpenProcess + Drop> ChildLink<P> {
             Ok(child) => child,
             Err(error) => return Err(fault_of(error)),
         };
-        let (Some(replies), Some(requests), Some(said)) =
-            (child.stdout.take(), child.stdin.take(), child.stderr.take())
-        else {
+        let (Some(replies), Some(requests), Some(said)) = (
+            child.stdout.take(),
+            child.stdin.take(),
+            child.stderr.take(),
+        ) else {
             end(child, true);
             return Err(LinkFault::Ended);
         };
         let numbers = (P::replies(&replies), P::said(&said));
         let number = P::requests(&requests);
         let replies = Replies::heard(rt.alloc(), replies, said, numbers, limit);
-        Self::over(rt.alloc(), child, replies, Requests::within(requests, number, limit))
+        Self::over(
+            rt.alloc(),
+            child,
+            replies,
+            Requests::within(requests, number, limit),
+        )
     }
 
     /// Ends the link as a drop does, and tells what the host leaves.

@@ -220,7 +220,14 @@ impl<O, E> Replies<O, E> {
         O: Drop,
         E: Drop,
     {
-        match self.hearing {
+        let Replies {
+            stream,
+            hearing,
+            limit: _,
+            is_late: _,
+        } = self;
+        drop(stream);
+        match hearing {
             Some(hearing) => hearing.text,
             None => Vec::new(alloc),
         }

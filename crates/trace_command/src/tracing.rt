@@ -50,7 +50,15 @@ where
     ensures fault { OnErr result (IsSome (value_of matches.now (codes "host"))) }
 {
     let words = matches.get_strs("host-arg").unwrap_or(&[]);
-    boot_kernel(rt, matches.get_str("host"), words, boot, turns, limit, behind)
+    boot_kernel(
+        rt,
+        matches.get_str("host"),
+        words,
+        boot,
+        turns,
+        limit,
+        behind,
+    )
 }
 
 /// Boots the kernel and runs the tracer.
