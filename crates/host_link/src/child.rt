@@ -94,6 +94,7 @@ fn leave<P: OpenProcess + Drop>(
 ) -> Left {
     let is_late = replies.is_late() || requests.is_late();
     drop(requests);
+    replies.hear();
     let kills = kills || replies.stay();
     let said = replies.into_said(alloc);
     end(child, kills);

@@ -151,7 +151,7 @@ fn wait<E: Read>(hearing: &mut Option<Hearing<E>>, limit: Option<u32>) -> bool {
     }
 }
 
-/// Behind the last reply.
+/// Hears what was said already.
 fn hear_rest<E: Read>(hearing: &mut Option<Hearing<E>>) {
     if let Some(hearing) = hearing {
         hearing.hear_rest();
@@ -229,6 +229,11 @@ impl<O, E> Replies<O, E> {
 }
 
 impl<O, E: Read> Replies<O, E> {
+    /// Hears what was said already.
+    pub fn hear(&mut self) {
+        hear_rest(&mut self.hearing);
+    }
+
     /// They go on for longer than they are waited for.
     pub fn stay(&mut self) -> bool {
         self.limit.is_some() && !wait(&mut self.hearing, self.limit)

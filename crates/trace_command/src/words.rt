@@ -48,7 +48,7 @@ strace: boot fault N: TEXT (status 2)
   4  a file, or the words and the environment, are too large
   6  how many processes there may be, or the last pid, is out of its range
 strace: host fault N (status 3)
-  1  the host did not start, or has ended
+  1  the host did not start, has ended, or was silent for too long
   2  its replies could not be read
   3  a request could not be written to it
   4  its reply is malformed
