@@ -5,6 +5,7 @@ use crate::{asm, plain, serving, words};
 use clap::ArgMatches;
 use front_end::{Fault, print_help, report};
 use std::io::{IsTerminal, Read, Write};
+use std::os::fd::AsRawFd;
 use std::rt::{Files, Process};
 use std::sync::Wait;
 use std::thread::Threads;
@@ -17,7 +18,7 @@ const NAME: &str = "guest_host";
 /// terminal, and where the words ask for it, others explain it.
 pub fn command<
     R: Files + Threads + Wait + Clock + AllocGlobal + Copy + Send + 'static,
-    I: Read + IsTerminal + Send + Drop + 'static,
+    I: Read + IsTerminal + AsRawFd + Send + Drop + 'static,
     O: Write + Send + Drop + 'static,
     E: Write + IsTerminal + Send + Drop + 'static,
 >(rt: R, process: Process, words: &[String], input: I, mut out: O, mut err: E) -> u8 {
@@ -62,7 +63,7 @@ fn run_plain<R: Files + AllocGlobal, I: Read + IsTerminal, O: Write, E: Write + 
 /// Serves a tracer, by the drills that the words ask for.
 fn run_serve<
     R: Threads + Wait + Clock + AllocGlobal + Copy + Send + 'static,
-    I: Read + Send + Drop + 'static,
+    I: Read + AsRawFd + Send + Drop + 'static,
     O: Write + Send + Drop + 'static,
     E: Write + IsTerminal + Send + Drop + 'static,
 >(rt: R, process: Process, matches: &ArgMatches, input: I, out: O, mut err: E) -> u8 {
@@ -75,7 +76,7 @@ fn run_serve<
 /// Runs the subcommand.
 fn choose<
     R: Files + Threads + Wait + Clock + AllocGlobal + Copy + Send + 'static,
-    I: Read + IsTerminal + Send + Drop + 'static,
+    I: Read + IsTerminal + AsRawFd + Send + Drop + 'static,
     O: Write + Send + Drop + 'static,
     E: Write + IsTerminal + Send + Drop + 'static,
 >(rt: R, process: Process, matches: &ArgMatches, mut input: I, mut out: O, mut err: E) -> u8 {

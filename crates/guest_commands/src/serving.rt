@@ -9,6 +9,7 @@ use lx_abi::Outcome;
 use std::alloc::Global;
 use std::cell::Cell;
 use std::io::{BufReader, Read, Write};
+use std::os::fd::{AsRawFd, RawFd};
 use std::rt::Process;
 use std::sync::{Arc, Wait};
 use std::thread::{self, Threads};
@@ -157,8 +158,8 @@ fn start_serving<
 fn start_watching<
     R: Threads + Wait + Clock + Copy + Send + 'static,
     I: Read + Send + Drop + 'static,
->(rt: R, process: Process, shared: Arc<Shared<I>, Global>) {
-    if let Ok(handle) = thread::spawn(&rt, move || watch(&rt, process, &shared, 0)) {
+>(rt: R, process: Process, input: RawFd, shared: Arc<Shared<I>, Global>) {
+    if let Ok(handle) = thread::spawn(&rt, move || watch(&rt, process, input, &shared, 0)) {
         drop(handle);
     }
 }
@@ -174,11 +175,12 @@ fn failed<E: Write + Drop>(mut err: E) -> u8 {
 /// does then.
 pub fn run<
     R: Threads + Wait + Clock + AllocGlobal + Copy + Send + 'static,
-    I: Read + Send + Drop + 'static,
+    I: Read + AsRawFd + Send + Drop + 'static,
     O: Write + Send + Drop + 'static,
     E: Write + Send + Drop + 'static,
 >(rt: R, process: Process, drills: Vec<Drill>, input: I, out: O, err: E) -> u8 {
     let alloc = rt.alloc();
+    let number = input.as_raw_fd();
     let Ok(shared) = Shared::new(alloc, input) else {
         return failed(err);
     };
@@ -189,7 +191,7 @@ pub fn run<
     ) else {
         return failed(err);
     };
-    start_watching(rt, process, watched);
+    start_watching(rt, process, number, watched);
     start_serving(
         rt,
         alloc,

@@ -1,18 +1,18 @@
 //! Input that is looked at while a request is served, so that its end is noticed.
 
+use libc::net::{POLLIN, poll};
+use libc::types::pollfd;
 use std::alloc::Global;
 use std::io::{self, BufRead, BufReader, ErrorKind, Read};
+use std::os::fd::RawFd;
 use std::os::unix::process::parent_id;
 use std::rt::Process;
 use std::sync::{Arc, Condvar, Mutex, Wait};
 use std::thread;
-use std::time::{Clock, Duration, Instant};
+use std::time::{Clock, Duration};
 
 /// How long a request is served before the input is looked at, and how long the host then has to end by itself.
 const PAUSE: u64 = 250;
-
-/// Input that was waited for so long, and ends, is that of a tracer that is gone.
-const WAITED: u64 = 50;
 
 /// The input, and how often it was read.
 #[derive(Drop)]
@@ -110,16 +110,18 @@ enum Look {
     Gone,
 }
 
-/// The clock has gone on by so many milliseconds.
-fn is_over<C: Clock>(clock: &C, start: Instant, milliseconds: u64) -> bool {
-    match start.elapsed(clock) {
-        Ok(time) => time >= Duration::from_millis(milliseconds),
-        Err(_) => false,
-    }
+/// The input of this number has bytes, or has ended: it isn't waited for.
+fn is_ready(input: RawFd) -> bool {
+    let mut looked = [pollfd {
+        fd: input,
+        events: POLLIN,
+        revents: 0,
+    }];
+    poll(&mut looked, 0) != 0
 }
 
-/// Looks at the input where it wasn't read since the last look, when it had been read so often.
-fn look_at<I: Read, R: Wait + Clock>(rt: &R, shared: &Shared<I>, seen: &mut u64) -> Look {
+/// Looks at the input of this number where it wasn't read since the last look, when it had been read so often.
+fn look_at<I: Read>(input: RawFd, shared: &Shared<I>, seen: &mut u64) -> Look {
     let Some(mut watched) = shared.input.try_lock() else {
         return Look::There;
     };
@@ -128,25 +130,28 @@ fn look_at<I: Read, R: Wait + Clock>(rt: &R, shared: &Shared<I>, seen: &mut u64)
         *seen = watched.reads;
         return Look::There;
     }
-    let start = Instant::now(rt);
+    let is_ready = is_ready(input);
     if !watched.has_ended() {
         return Look::There;
     }
-    match start {
-        Ok(start) if is_over(rt, start, WAITED) => Look::Gone,
-        _ => Look::Ended,
-    }
+    if is_ready { Look::Ended } else { Look::Gone }
 }
 
-/// Looks at the input again and again, and ends the host with this status where the tracer is gone in the middle of a
+/// Looks at the input of this number again and again, and ends the host with this status where the tracer is gone in the middle of a
 /// request: the input is waited for, and ends; or it has ended, and the process that started this one has, too. What
 /// ends before that with all its requests has an answer to each.
-pub fn watch<I: Read, R: Wait + Clock>(rt: &R, process: Process, shared: &Shared<I>, status: u8) {
+pub fn watch<I: Read, R: Wait + Clock>(
+    rt: &R,
+    process: Process,
+    input: RawFd,
+    shared: &Shared<I>,
+    status: u8,
+) {
     let parent = parent_id(process);
     let mut seen = 0;
     for _ in rt.forever() {
         thread::sleep(rt, Duration::from_millis(PAUSE));
-        let is_gone = match look_at(rt, shared, &mut seen) {
+        let is_gone = match look_at(input, shared, &mut seen) {
             Look::There => false,
             Look::Ended => parent_id(process) != parent,
             Look::Gone => true,

@@ -21,6 +21,8 @@ mod ends;
 #[cfg(test)]
 mod frames;
 #[cfg(test)]
+mod interrupted;
+#[cfg(test)]
 mod kernels;
 #[cfg(test)]
 mod limits;

@@ -8,7 +8,7 @@ use crate::fault::host_fault;
 use crate::kept::{Behind, Kept, Record, waits_in};
 use containers::Seq;
 use front_end::Fault;
-use host_link::{ChildLink, Link, LinkFault};
+use host_link::{ChildLink, Link, LinkFault, Streams};
 use host_wire::Sink;
 use lx_abi::{Boot, Boxed, Reply, Request, Script, Word};
 use lx_boot::BootFault;
@@ -16,7 +16,7 @@ use pt_kernel::Schedule;
 use std::alloc::Global;
 use std::process::{OpenProcess, Processes};
 use tr_core::Options;
-use trace_run::{Ended, Local, RunFault, run, trace_local};
+use trace_run::{Ended, Local, RunFault, run_counting, trace_local};
 
 /// A kernel that takes its boot.
 #[derive(Drop)]
@@ -64,7 +64,7 @@ fn boot_over<L: Link>(
 }
 
 /// A kernel for a boot that has no fault: in this process, or in one that the program at the path `host` serves, with
-/// these words after `serve`.
+/// these words after `serve`. A host that doesn't take it stays behind.
 pub fn boot_kernel<R: Processes + AllocGlobal>(
     rt: &R,
     host: Option<&str>,
@@ -72,7 +72,10 @@ pub fn boot_kernel<R: Processes + AllocGlobal>(
     boot: Boot,
     turns: Vec<Word>,
     limit: u64,
+    behind: &mut Behind<R::Started>,
 ) -> Result<Kernel<R::Started>, Fault>
+where
+    R::Started: Streams,
     ensures takes { IfOk result
         (λ kernel. Takes R.Started.Stdout.remaining R.Started.Stdin.contents (option_map (λ path. path.now) host.entry)
         boot limit turns.items kernel) }
@@ -83,14 +86,15 @@ pub fn boot_kernel<R: Processes + AllocGlobal>(
     let Some(path) = host else {
         return Ok(Kernel::Here(boot, Schedule::words(turns, limit)));
     };
-    let mut link = match ChildLink::start(rt, path, words) {
+    let patience = behind.kept.asked.patience;
+    let mut link = match ChildLink::start_heard(rt, path, words, patience) {
         Ok(link) => link,
         Err(fault) => return Err(host_fault(fault)),
     };
     match boot_over(rt.alloc(), &mut link, boot, limit, turns) {
         Ok(()) => Ok(Kernel::There(link)),
         Err(fault) => {
-            drop(link);
+            behind.link = Some(link);
             Err(fault)
         }
     }
@@ -117,11 +121,16 @@ pub fn run_here<W: Sink>(
                 ended,
                 host,
                 events,
+                counts,
             },
         ) => {
             let waits = waits_in(alloc, asked, &ended, host.kernel());
             drop(host);
-            kept.record = Record { events, waits };
+            kept.record = Record {
+                events,
+                waits,
+                counts: Some(counts),
+            };
             ended
         }
         Err(_) => Err(RunFault::Link(LinkFault::Memory)),
@@ -146,7 +155,8 @@ pub fn run_kernel<P: OpenProcess + Drop, W: Sink>(
             run_here(alloc, boot, schedule, script, options, kept, lines)
         }
         Kernel::There(mut link) => {
-            let ended = run(alloc, &mut link, lines, script, options);
+            let (ended, counts) = run_counting(alloc, &mut link, lines, script, options);
+            behind.kept.record.counts = Some(counts);
             behind.link = Some(link);
             ended
         }

@@ -2,8 +2,10 @@
 #![tactic(auto)]
 
 mod entry;
+mod explaining;
 mod fault;
 mod given;
+mod heard;
 mod kept;
 mod kernel;
 mod lines;

@@ -7,8 +7,10 @@ ghost use Rattle.trace_command.specs.Tracing.{Leaves, Left, MayLack, PutsConsole
 ghost use Rattle.trace_command.specs.Tracing.{TracesOut, TracesPlan, TracesWords};
 ghost use Rattle.trace_command.specs.Tracing.{asks_for_files, status_in, value_of};
 
+use crate::explaining::explain;
 use crate::fault::{host_fault, unwritable};
 use crate::given::is_given;
+use crate::heard::{Heard, hear};
 use crate::kept::{Behind, Kept};
 use crate::kernel::{Kernel, boot_kernel};
 use crate::lines::{LineSink, Lines};
@@ -21,8 +23,8 @@ use crate::threads::trace_on_threads;
 use crate::turns_out::{check_turns, write_turns};
 use crate::words::TraceOptions;
 use clap::ArgMatches;
-use front_end::{Fault, Leavings, Program};
-use host_link::LinkFault;
+use front_end::{Fault, Leavings};
+use host_link::{LinkFault, Streams};
 use host_wire::{Broken, Sink};
 use lx_abi::{Boot, Outcome, Status, Word};
 use std::alloc::Global;
@@ -39,14 +41,25 @@ fn booted_kernel<R: Processes + AllocGlobal>(
     boot: Boot,
     turns: Vec<Word>,
     limit: u64,
+    behind: &mut Behind<R::Started>,
 ) -> Result<Kernel<R::Started>, Fault>
+where
+    R::Started: Streams,
     ensures takes { IfOk result
         (λ kernel. Takes R.Started.Stdout.remaining R.Started.Stdin.contents (value_of matches.now (codes "host")) boot
         limit turns.items kernel) }
     ensures fault { OnErr result (IsSome (value_of matches.now (codes "host"))) }
 {
     let words = matches.get_strs("host-arg").unwrap_or(&[]);
-    boot_kernel(rt, matches.get_str("host"), words, boot, turns, limit)
+    boot_kernel(
+        rt,
+        matches.get_str("host"),
+        words,
+        boot,
+        turns,
+        limit,
+        behind,
+    )
 }
 
 /// Boots the kernel and runs the tracer.
@@ -60,6 +73,8 @@ fn run_plan<R: Files + Processes + AllocGlobal, O: Sink, E: LineSink>(
     out: &mut O,
     err: &mut E,
 ) -> Result<Outcome, Fault>
+where
+    R::Started: Streams,
     ensures { (MayLack (value_of matches.now (codes "host")) None place.entry × Unmade result
         (writer_of O.contents O.puts O.broken out.old) (writer_of O.contents O.puts O.broken out.new)
         (writer_of E.contents E.puts E.broken err.old) (writer_of E.contents E.puts E.broken err.new))
@@ -74,7 +89,7 @@ fn run_plan<R: Files + Processes + AllocGlobal, O: Sink, E: LineSink>(
         options,
         turns,
     } = plan;
-    let kernel = match booted_kernel(rt, matches, boot, turns, limit) {
+    let kernel = match booted_kernel(rt, matches, boot, turns, limit, &mut *behind) {
         Ok(kernel) => kernel,
         Err(fault) => {
             drop(script);
@@ -96,6 +111,8 @@ fn run_as_asked<R: Files + Processes + Threads + Wait + Sync + AllocGlobal, O: S
     out: &mut O,
     err: &mut E,
 ) -> Result<Outcome, Fault>
+where
+    R::Started: Streams,
     ensures { (MayLack (value_of matches.now (codes "host")) options.workers place.entry × Unmade result
         (writer_of O.contents O.puts O.broken out.old) (writer_of O.contents O.puts O.broken out.new)
         (writer_of E.contents E.puts E.broken err.old) (writer_of E.contents E.puts E.broken err.new))
@@ -251,6 +268,8 @@ fn trace_plan<R: Files + Processes + Threads + Wait + Sync + AllocGlobal, O: Sin
     out: &mut O,
     err: &mut E,
 ) -> Result<u8, Fault>
+where
+    R::Started: Streams,
     ensures { TracesPlan R.Started R.Started.Stderr R.File.contents R.Started.Stdout.remaining R.Started.Stdin.contents
         matches.now plan options.limit options.workers result
         (writer_of O.contents O.puts O.broken out.old) (writer_of O.contents O.puts O.broken out.new)
@@ -273,6 +292,8 @@ pub struct Traced<O, E> {
     pub status: Result<u8, Fault>,
     pub out: O,
     pub err: E,
+    /// What a host in a process of its own has said beside its replies.
+    pub said: Option<String>,
 }
 
 /// The same, to writers of std.
@@ -285,6 +306,8 @@ fn trace_to<R: Files + Processes + Threads + Wait + Sync + AllocGlobal, O: Write
     out: O,
     err: E,
 ) -> Traced<O, E>
+where
+    R::Started: Streams,
     ensures { TracesOut R.Started R.Started.Stderr R.File.contents R.Started.Stdout.remaining R.Started.Stdin.contents
         matches.now plan options.limit options.workers result.status (O.contents out) (O.contents result.out)
         (E.contents err) (E.contents result.err) }
@@ -296,57 +319,7 @@ fn trace_to<R: Files + Processes + Threads + Wait + Sync + AllocGlobal, O: Write
         status,
         out: out.into_inner(),
         err: err.into_inner(),
-    }
-}
-
-/// Says on `err` why a program couldn't be run, where it ended so.
-fn explain_program<E: Write>(
-    alloc: Global,
-    program: Program,
-    status: u8,
-    err: &mut E,
-) -> Result<(), Fault> {
-    if let Some(reason) = program.reason(alloc, status)? {
-        // The run is whole, whether this can be written or not.
-        let _written = writeln!(err, "strace: {reason}");
-    }
-    Ok(())
-}
-
-/// The fault of a run, which for the end of the turns says who waits.
-fn explain_fault(alloc: Global, kept: &mut Kept, fault: Fault) -> Fault {
-    match fault {
-        Fault::OutOfTurns(_) => match make_again(alloc, kept) {
-            Ok(()) => match kept.record.waits.take() {
-                Some(waits) => Fault::OutOfTurns(Some(waits)),
-                None => Fault::Memory,
-            },
-            Err(fault) => fault,
-        },
-        fault => fault,
-    }
-}
-
-/// A run that ended so. Where its end is explained, a program that couldn't be run is on `err`, and the end of the
-/// turns in the fault.
-fn explain<E: Write>(
-    alloc: Global,
-    kept: &mut Kept,
-    program: Option<Program>,
-    ended: Result<u8, Fault>,
-    err: &mut E,
-) -> Result<u8, Fault>
-    ensures { IfOk result (λ status. ended ≡ Ok status) }
-{
-    let Some(program) = program else {
-        return ended;
-    };
-    match ended {
-        Ok(status) => match explain_program(alloc, program, status, err) {
-            Ok(()) => Ok(status),
-            Err(fault) => Err(fault),
-        },
-        Err(fault) => Err(explain_fault(alloc, kept, fault)),
+        said: None,
     }
 }
 
@@ -365,6 +338,8 @@ pub fn trace<
     out: O,
     mut err: E,
 ) -> Traced<O, E>
+where
+    R::Started: Streams,
     ensures { TracesWords R.Started R.Started.Stderr R.File.contents R.Started.Stdout.remaining
         R.Started.Stdin.contents matches.now options.limit options.workers result.status (O.contents out)
         (O.contents result.out) }
@@ -380,6 +355,7 @@ pub fn trace<
                 status: Err(fault),
                 out,
                 err,
+                said: None,
             };
         }
     };
@@ -389,8 +365,24 @@ pub fn trace<
         status,
         out,
         mut err,
+        said: _,
     } = traced;
-    let status = explain(rt.alloc(), &mut behind.kept, program, status, &mut err);
-    drop(behind);
-    Traced { status, out, err }
+    let Behind { mut kept, link } = behind;
+    let Heard { is_late, said } = hear(rt.alloc(), link);
+    let status = explain(
+        rt.alloc(),
+        matches,
+        &mut kept,
+        is_late,
+        program,
+        status,
+        &mut err,
+    );
+    drop(kept);
+    Traced {
+        status,
+        out,
+        err,
+        said,
+    }
 }
