@@ -1,5 +1,5 @@
 -- The report on a sweep of failures.
-use Rattle.std.specs.Prelude.{◌≡◌, ℕ, ◌-◌, ◌==◌, ◌&&◌, not, cond, nat_lt, Bool, true, false, List, [], ◌∷◌, ◌++◌, Option, Some, None, map}
+use Rattle.std.specs.Prelude.{◌≡◌, ℕ, ◌-◌, ◌==◌, cond, Bool, false, List, [], ◌∷◌, ◌++◌, Option, Some, None, map}
 use Rattle.sweep_report.specs.Tallies.{unmarked}
 use Rattle.sweep_rows.specs.Summary.{status}
 use Rattle.sweep_rows.specs.declared.verdicts.Reached.{Reached}
@@ -33,13 +33,6 @@ abbrev pub AreWanted : Plan → Option Shard → Reached → List Case → Type 
 AreWanted plan shard reference cases =
     map failure_of cases
     ≡ map failure_of (part_of shard (cases_of plan.wanted.items plan.setup.boot.follow reference.log.items))
-
-abbrev pub is_none : List Case → Bool
-is_none [] = true
-is_none (c ∷ cs) = false
-
-abbrev pub goes_on : List Case → Bool → ℕ → Bool
-goes_on left fail_fast found = not (is_none left) && not (fail_fast && nat_lt 0 found)
 
 -- rows of the first of these cases, and of all of them but where the first finding ends the sweep
 pub record AreBegun (setup : Setup) (reference : Reached) (fail_fast : Bool) (cases : List Case) (rows : List Row)

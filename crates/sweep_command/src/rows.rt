@@ -1,8 +1,8 @@
 //! The runs with a failure, and what is written of them as they are made.
 
-ghost use Rattle.std.specs.Prelude.{◌≡◌, ◌++◌, map, IfOk, OnOk};
+ghost use Rattle.std.specs.Prelude.{◌≡◌, ◌<◌, ◌++◌, [], true, false, length, map, IfOk, OnOk};
 ghost use Rattle.sweep_runs.specs.Rows.{failure_of};
-ghost use Rattle.sweep_command.specs.Reports.{taken, waits, every, part_of, goes_on, AreWanted, AreBegun};
+ghost use Rattle.sweep_command.specs.Reports.{taken, waits, every, part_of, AreWanted, AreBegun};
 
 use crate::knowing::findings;
 use crate::outputs::write;
@@ -107,18 +107,28 @@ pub fn wanted_cases(
 }
 
 /// How many runs are made before their rows are written.
-fn batch_size(jobs: u8) -> usize {
-    match jobs {
-        0 | 1 => 1,
-        jobs => usize::from(jobs).saturating_mul(RUNS_A_THREAD),
+fn batch_size(jobs: u8) -> usize
+    ensures { 0 < result }
+{
+    if jobs < 2 {
+        1
+    } else {
+        usize::from(jobs) * RUNS_A_THREAD
     }
 }
 
 /// There are runs to make, and no reason to stop.
 fn goes_on(left: &[Case], fail_fast: bool, found: usize) -> bool
-    ensures { result ≡ goes_on left.now fail_fast found }
+    ensures some { result ≡ true → 0 < length left.now }
+    ensures none { result ≡ false → fail_fast ≡ false → left.now ≡ [] }
 {
-    !left.is_empty() && !(fail_fast && found > 0)
+    if left.is_empty() {
+        return false;
+    }
+    if fail_fast {
+        return found == 0;
+    }
+    true
 }
 
 /// A row in a line, in the format that the words ask for.

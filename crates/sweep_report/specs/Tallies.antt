@@ -1,5 +1,5 @@
 -- How many runs came to what.
-use Rattle.std.specs.Prelude.{ℕ, ◌+◌, nat_lt, Bool, true, false, cond, List, [], ◌∷◌, map}
+use Rattle.std.specs.Prelude.{ℕ, ◌+◌, nat_lt, Bool, true, false, cond, List, [], ◌∷◌, ◌++◌, map}
 use Rattle.std.specs.List.{flat_map}
 use Rattle.sweep_rows.specs.Summary.{count}
 use Rattle.sweep_rows.specs.Verdicts.{is_finding}
@@ -19,11 +19,13 @@ abbrev pub behind : List Bool → List Bool
 behind [] = []
 behind (m ∷ ms) = ms
 
+abbrev pub unless : Bool → Row → List Verdict
+unless marked r = cond marked [] (r.verdict ∷ [])
+
 -- the verdicts of rows that aren't marked
 abbrev pub unmarked : List Bool → List Row → List Verdict
 unmarked marks [] = []
-unmarked marks (r ∷ rs) =
-    cond (is_marked marks) (unmarked (behind marks) rs) (r.verdict ∷ unmarked (behind marks) rs)
+unmarked marks (r ∷ rs) = unless (is_marked marks) r ++ unmarked (behind marks) rs
 
 abbrev pub findings_in : List Verdict → ℕ
 findings_in [] = 0

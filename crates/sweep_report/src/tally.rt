@@ -1,7 +1,7 @@
 //! How many runs came to what.
 
 ghost use Rattle.std.specs.Prelude.{◌≡◌, ◌++◌, IfOk, OnOk, length};
-ghost use Rattle.sweep_report.specs.Tallies.{verdicts_in, is_marked, behind, unmarked, findings_in, kind_of, kinds_of};
+ghost use Rattle.sweep_report.specs.Tallies.{verdicts_in, is_marked, behind, unless, unmarked, findings_in, kind_of, kinds_of};
 
 use std::alloc::{AllocError, Global};
 use sweep_rows::{Verdict, count, is_finding};
@@ -58,6 +58,15 @@ fn behind(marks: &[bool]) -> &[bool]
     }
 }
 
+fn add_unmarked(verdicts: &mut Vec<Verdict>, row: &Row, marked: bool) -> Result<(), AllocError>
+    ensures { OnOk result (verdicts.new.items ≡ verdicts.old.items ++ unless marked row.now) }
+{
+    if !marked {
+        verdicts.push(row.verdict)?;
+    }
+    Ok(())
+}
+
 /// The verdicts of those rows that aren't marked; rows behind the last mark aren't.
 pub fn unmarked(alloc: Global, rows: &[Row], marks: &[bool]) -> Result<Vec<Verdict>, AllocError>
     ensures { IfOk result (λ verdicts. verdicts.items ≡ unmarked marks.now rows.now) }
@@ -66,9 +75,7 @@ pub fn unmarked(alloc: Global, rows: &[Row], marks: &[bool]) -> Result<Vec<Verdi
     let mut more = marks;
     let mut left: &[Row] = rows;
     while let Some((row, rest)) = left.split_first() {
-        if !is_marked(more) {
-            verdicts.push(row.verdict)?;
-        }
+        add_unmarked(&mut verdicts, row, is_marked(more))?;
         left = rest;
         more = behind(more);
     }

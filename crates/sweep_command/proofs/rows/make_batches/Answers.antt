@@ -20,3 +20,12 @@ loop-left-preserved g c =
       subst (λ (all : List Row). AreRows s r (done ++ batch) all) (sym items)
           (rows_are_joined s r done batch l.rows.items more l.invariant.2 c.in_ok-more.ensures),
     )
+
+pub returns : goal.returns
+returns g c = record {
+  done = c.loop-left.invariant.0;
+  rest = c.loop-left.left;
+  all = c.loop-left.invariant.1;
+  made = c.loop-left.invariant.2;
+  whole = c.goes_on.ensures.none c.loop-left-test.false;
+}
