@@ -5,7 +5,7 @@ _girmolet_errors='E2BIG EACCES EADDRINUSE EADDRNOTAVAIL EADV EAFNOSUPPORT EAGAIN
 _girmolet_signals='HUP INT QUIT ILL TRAP ABRT BUS FPE KILL USR1 SEGV USR2 PIPE ALRM TERM STKFLT CHLD CONT STOP TSTP TTIN TTOU URG XCPU XFSZ VTALRM PROF WINCH IO PWR SYS'
 _girmolet_options='-e --trace --inject --fault -f --follow-forks -o --output -s --string-limit -a --columns -E --env --host --host-arg --host-timeout --turns --workers --turns-out --limit --file --dir --files-out --files-list --explain -h --help -V --version --'
 _girmolet_plain_options='-e --inject --fault -E --env --turns --limit --file --dir --files-out --files-list --explain -h --help --'
-_girmolet_sweep_options='-e --fault -f --follow-forks -o --output --format --summary -E --env --turns --limit --jobs --orders --seed --keep --file --dir --explain -h --help -V --version --'
+_girmolet_sweep_options='-e --fault -f --follow-forks -o --output --format --each --all --errors -E --env --turns --limit --jobs --orders --seed --keep --known --known-out --shard --fail-fast --file --dir --explain -h --help -V --version --'
 
 # Candidates for a set, with its qualifier or without.
 _girmolet_set() {
@@ -80,16 +80,17 @@ _girmolet() {
     esac
     case $before in
         --) found=$(_girmolet_guests "$word") ;;
-        -o | --output | --host | --turns | --turns-out | --files-list) found=$(compgen -f -- "$word") ;;
+        -o | --output | --host | --turns | --turns-out | --known | --known-out | --files-list) found=$(compgen -f -- "$word") ;;
         --keep | --files-out) found=$(compgen -d -- "$word") ;;
         -e) found=$($expression "$word") ;;
         --trace) found=$(_girmolet_expression "trace=$word" | sed s/^trace=//) ;;
         --inject) found=$(_girmolet_expression "inject=$word" | sed s/^inject=//) ;;
         --fault) found=$($expression "fault=$word" | sed s/^fault=//) ;;
-        --format) found=$(compgen -W 'table json' -- "$word") ;;
+        --format) found=$(compgen -W 'table json junit' -- "$word") ;;
+        --errors) found=$(compgen -W 'possible all' -- "$word") ;;
         --file) case $word in *=*) found=$(compgen -P "${word%%=*}=" -f -- "${word#*=}") ;; esac ;;
         --dir) case $word in *=*) found=$(compgen -P "${word%%=*}=" -d -- "${word#*=}") ;; esac ;;
-        -s | --string-limit | -a | --columns | -E | --env | --host-timeout | --workers | --limit | --jobs | --orders | --seed) ;;
+        -s | --string-limit | -a | --columns | -E | --env | --host-timeout | --workers | --limit | --jobs | --orders | --seed | --shard) ;;
         *)
             case $program:${all[1]}:$word in
                 strace_sweep:*) found=$(compgen -W "$_girmolet_sweep_options" -- "$word") ;;

@@ -1,5 +1,5 @@
--- The exit status of a program that ends in a fault.
-use Rattle.std.specs.Prelude.{ℕ}
+-- The exit status of a program that ends in a fault, and of what kind a fault is.
+use Rattle.std.specs.Prelude.{ℕ, Bool, true, false}
 use Rattle.front_end.specs.declared.fault.Fault.{Fault}
 use Rattle.front_end.specs.declared.fault.Fault.TheVariants as the
 
@@ -11,3 +11,23 @@ status_of (the.Host number reason) = 3
 status_of (the.OutOfTurns text) = 4
 status_of (the.Output text) = 3
 status_of the.Memory = 3
+
+-- the words, the schedule, a file, the input or the boot, or want of memory
+abbrev pub is_usage_or_memory : Fault → Bool
+is_usage_or_memory (the.Usage text) = true
+is_usage_or_memory (the.Expression fault reason) = false
+is_usage_or_memory (the.Listing line kind) = false
+is_usage_or_memory (the.Host number reason) = false
+is_usage_or_memory (the.OutOfTurns text) = false
+is_usage_or_memory (the.Output text) = false
+is_usage_or_memory the.Memory = true
+
+-- an output that can't be written, or want of memory
+abbrev pub is_output_or_memory : Fault → Bool
+is_output_or_memory (the.Usage text) = false
+is_output_or_memory (the.Expression fault reason) = false
+is_output_or_memory (the.Listing line kind) = false
+is_output_or_memory (the.Host number reason) = false
+is_output_or_memory (the.OutOfTurns text) = false
+is_output_or_memory (the.Output text) = true
+is_output_or_memory the.Memory = true

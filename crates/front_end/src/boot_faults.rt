@@ -1,5 +1,8 @@
 //! Why a boot is refused, and for which of its files or limits.
 
+ghost use Rattle.std.specs.Prelude.{◌≡◌, true};
+ghost use Rattle.front_end.specs.Statuses.{is_usage_or_memory};
+
 use crate::fault::Fault;
 use crate::shown::Shown;
 use lx_abi::limits::{LARGEST_FILE, LONGEST_NAME, LONGEST_PATH, MOST_CONTENTS};
@@ -119,7 +122,9 @@ pub fn check_boot(alloc: Global, boot: &Boot) -> Result<(), Fault> {
     }
 }
 
-fn refuse(alloc: Global, fault: BootFault, culprit: &str) -> Fault {
+fn refuse(alloc: Global, fault: BootFault, culprit: &str) -> Fault
+    ensures { is_usage_or_memory result ≡ true }
+{
     match fault {
         BootFault::Memory => Fault::Memory,
         fault => Fault::usage(format!(in alloc; "boot fault {}: {fault}{culprit}", fault.number())),
@@ -127,6 +132,8 @@ fn refuse(alloc: Global, fault: BootFault, culprit: &str) -> Fault {
 }
 
 /// Why a boot is refused.
-pub fn refuse_boot(alloc: Global, fault: BootFault) -> Fault {
+pub fn refuse_boot(alloc: Global, fault: BootFault) -> Fault
+    ensures { is_usage_or_memory result ≡ true }
+{
     refuse(alloc, fault, "")
 }

@@ -1,7 +1,7 @@
 //! Why a command isn't carried out, or not wholly.
 
-ghost use Rattle.std.specs.Prelude.{◌≡◌};
-ghost use Rattle.front_end.specs.Statuses.{status_of};
+ghost use Rattle.std.specs.Prelude.{◌≡◌, true};
+ghost use Rattle.front_end.specs.Statuses.{is_output_or_memory, is_usage_or_memory, status_of};
 
 use std::alloc::{AllocError, AllocFailed, Global};
 use std::fmt::Display;
@@ -38,23 +38,29 @@ pub enum Fault {
 
 impl Fault {
     /// A fault with this text, if there is memory for it.
-    pub fn usage(text: Result<String, AllocError>) -> Self {
+    pub fn usage(text: Result<String, AllocError>) -> Self
+        ensures { is_usage_or_memory result ≡ true }
+    {
         match text {
             Ok(text) => Fault::Usage(text),
-            Err(error) => Fault::from(error),
+            Err(_) => Fault::Memory,
         }
     }
 
     /// An output that can't be written, if there is memory to say which.
-    pub fn output(text: Result<String, AllocError>) -> Self {
+    pub fn output(text: Result<String, AllocError>) -> Self
+        ensures { is_output_or_memory result ≡ true }
+    {
         match text {
             Ok(text) => Fault::Output(text),
-            Err(error) => Fault::from(error),
+            Err(_) => Fault::Memory,
         }
     }
 
     /// What can't be read or written, named by `what`.
-    pub fn file<D: Display + Drop>(alloc: Global, what: D, error: io::Error) -> Self {
+    pub fn file<D: Display + Drop>(alloc: Global, what: D, error: io::Error) -> Self
+        ensures { is_usage_or_memory result ≡ true }
+    {
         if error.kind() == ErrorKind::OutOfMemory {
             return Fault::Memory;
         }

@@ -8,8 +8,10 @@ mod directories;
 mod explanation;
 mod expressions;
 mod fault;
+mod hints;
 mod leavings;
 mod left_out;
+mod linux_calls;
 mod names;
 mod offered;
 mod options;
@@ -28,6 +30,7 @@ pub use boot::{BootWords, boot_of, read_files};
 pub use boot_faults::{check_boot, refuse_boot};
 pub use expressions::{Expressions, expression_words, read_expression, read_expressions};
 pub use fault::Fault;
+pub use hints::Entered;
 pub use leavings::{Leavings, escaped, with_leavings};
 pub use offered::{
     with_calls, with_environment, with_explain, with_expressions, with_files, with_limit,

@@ -220,13 +220,7 @@ impl<O, E> Replies<O, E> {
         O: Drop,
         E: Drop,
     {
-        let Replies {
-            stream,
-            hearing,
-            limit: _,
-            is_late: _,
-        } = self;
-        drop(stream);
+        let Replies { hearing, .. } = self;
         match hearing {
             Some(hearing) => hearing.text,
             None => Vec::new(alloc),

@@ -1,8 +1,9 @@
 //! The tracer.
 
-ghost use Rattle.std.specs.Prelude.{◌≡◌, false};
+ghost use Rattle.std.specs.Prelude.{◌≡◌, ℕ, false};
 ghost use Rattle.std.specs.Coded.{→_prop};
 ghost use Rattle.tr_core.specs.Held.{Holds, Holds-prop};
+ghost use Rattle.tr_core.specs.Hearings.{counts_at};
 ghost use Rattle.tr_core.specs.Settings.{first_pen, options_by};
 ghost use Rattle.tr_core.specs.Outcomes.{outcome_in as outcome_kept, outcome_of};
 ghost use Rattle.tr_core.specs.States.{new_state};
@@ -73,14 +74,16 @@ impl Tracer {
         }
     }
 
-    /// The outcome of a whole run.
+    /// The outcome of a whole run, and how often each tracee entered each call.
     #[tactic(auto, unfolding(crate::specs::Tracers::state_of))]
-    pub fn into_outcome(self) -> Option<Outcome>
-        ensures { result ≡ outcome_of (state_of self) }
+    pub fn into_parts(self) -> (Option<Outcome>, Occurrences)
+        ensures outcome { result.0 ≡ outcome_of (state_of self) }
+        ensures counts { (pid : ℕ) → ((state_of self).tracer.known pid).counts ≡ counts_at result.1 pid }
     {
         let Tracer { core, .. } = self;
-        let Core { focus, .. } = core;
-        outcome(focus)
+        let Core { focus, session, .. } = core;
+        let Session { counts, .. } = session;
+        (outcome(focus), counts)
     }
 }
 

@@ -3,6 +3,7 @@
 use crate::plan::Plan;
 use front_end::explain_turns;
 use host_link::ChildLink;
+use lx_abi::Occurrences;
 use lx_kernel::Kernel;
 use pt_kernel::Events;
 use std::alloc::Global;
@@ -27,6 +28,8 @@ pub struct Record {
     pub events: Events,
     /// None where it isn't asked for, and where memory ran out.
     pub waits: Option<String>,
+    /// How often each tracee entered each call, where the tracer was in the program's own thread.
+    pub counts: Option<Occurrences>,
 }
 
 impl Record {
@@ -35,6 +38,7 @@ impl Record {
         Record {
             events: Events::none(),
             waits: None,
+            counts: None,
         }
     }
 }

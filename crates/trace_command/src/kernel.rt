@@ -16,7 +16,7 @@ use pt_kernel::Schedule;
 use std::alloc::Global;
 use std::process::{OpenProcess, Processes};
 use tr_core::Options;
-use trace_run::{Ended, Local, RunFault, run, trace_local};
+use trace_run::{Ended, Local, RunFault, run_counting, trace_local};
 
 /// A kernel that takes its boot.
 #[derive(Drop)]
@@ -121,11 +121,16 @@ pub fn run_here<W: Sink>(
                 ended,
                 host,
                 events,
+                counts,
             },
         ) => {
             let waits = waits_in(alloc, asked, &ended, host.kernel());
             drop(host);
-            kept.record = Record { events, waits };
+            kept.record = Record {
+                events,
+                waits,
+                counts: Some(counts),
+            };
             ended
         }
         Err(_) => Err(RunFault::Link(LinkFault::Memory)),
@@ -150,7 +155,8 @@ pub fn run_kernel<P: OpenProcess + Drop, W: Sink>(
             run_here(alloc, boot, schedule, script, options, kept, lines)
         }
         Kernel::There(mut link) => {
-            let ended = run(alloc, &mut link, lines, script, options);
+            let (ended, counts) = run_counting(alloc, &mut link, lines, script, options);
+            behind.kept.record.counts = Some(counts);
             behind.link = Some(link);
             ended
         }

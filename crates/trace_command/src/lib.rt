@@ -2,6 +2,7 @@
 #![tactic(auto)]
 
 mod entry;
+mod explaining;
 mod fault;
 mod given;
 mod heard;

@@ -10,7 +10,7 @@ use std::alloc::Global;
 use trace_run::{Ended, RunFault, Written};
 use turn_rows::{TurnRow, Turns};
 
-/// Makes the run once more in this process, where a host elsewhere made it, and keeps what it leaves.
+/// Makes the run once more in this process, where a host elsewhere made it, and keeps what it leaves beside the counts.
 pub fn make_again(alloc: Global, kept: &mut Kept) -> Result<(), Fault> {
     let Some(plan) = kept.second.take() else {
         return Ok(());
@@ -23,7 +23,9 @@ pub fn make_again(alloc: Global, kept: &mut Kept) -> Result<(), Fault> {
     } = plan;
     let schedule = Schedule::words(turns, kept.asked.limit);
     let mut trace = Written::new(alloc);
+    let counts = kept.record.counts.take();
     let ended = run_here(alloc, boot, schedule, script, options, kept, &mut trace);
+    kept.record.counts = counts;
     drop(trace);
     match ended {
         Ok(_) => Ok(()),
@@ -96,5 +98,9 @@ pub fn keep_threaded(
         _ => None,
     };
     drop(turns);
-    kept.record = Record { events, waits };
+    kept.record = Record {
+        events,
+        waits,
+        counts: None,
+    };
 }

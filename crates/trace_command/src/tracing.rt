@@ -7,9 +7,10 @@ ghost use Rattle.trace_command.specs.Tracing.{Leaves, Left, MayLack, PutsConsole
 ghost use Rattle.trace_command.specs.Tracing.{TracesOut, TracesPlan, TracesWords};
 ghost use Rattle.trace_command.specs.Tracing.{asks_for_files, status_in, value_of};
 
+use crate::explaining::explain;
 use crate::fault::{host_fault, unwritable};
 use crate::given::is_given;
-use crate::heard::{Heard, explain_host, hear};
+use crate::heard::{Heard, hear};
 use crate::kept::{Behind, Kept};
 use crate::kernel::{Kernel, boot_kernel};
 use crate::lines::{LineSink, Lines};
@@ -22,7 +23,7 @@ use crate::threads::trace_on_threads;
 use crate::turns_out::{check_turns, write_turns};
 use crate::words::TraceOptions;
 use clap::ArgMatches;
-use front_end::{Fault, Leavings, Program};
+use front_end::{Fault, Leavings};
 use host_link::{LinkFault, Streams};
 use host_wire::{Broken, Sink};
 use lx_abi::{Boot, Outcome, Status, Word};
@@ -322,58 +323,6 @@ where
     }
 }
 
-/// Says on `err` why a program couldn't be run, where it ended so.
-fn explain_program<E: Write>(
-    alloc: Global,
-    program: Program,
-    status: u8,
-    err: &mut E,
-) -> Result<(), Fault> {
-    if let Some(reason) = program.reason(alloc, status)? {
-        // The run is whole, whether this can be written or not.
-        let _written = writeln!(err, "strace: {reason}");
-    }
-    Ok(())
-}
-
-/// The fault of a run, which for the end of the turns says who waits, and for a host whether it was late.
-fn explain_fault(alloc: Global, kept: &mut Kept, is_late: bool, fault: Fault) -> Fault {
-    match explain_host(fault, is_late) {
-        Fault::OutOfTurns(_) => match make_again(alloc, kept) {
-            Ok(()) => match kept.record.waits.take() {
-                Some(waits) => Fault::OutOfTurns(Some(waits)),
-                None => Fault::Memory,
-            },
-            Err(fault) => fault,
-        },
-        fault => fault,
-    }
-}
-
-/// A run that ended so, whose host may have been late. Where its end is explained, a program that couldn't be run is on
-/// `err`, and the end of the turns in the fault.
-fn explain<E: Write>(
-    alloc: Global,
-    kept: &mut Kept,
-    is_late: bool,
-    program: Option<Program>,
-    ended: Result<u8, Fault>,
-    err: &mut E,
-) -> Result<u8, Fault>
-    ensures { IfOk result (λ status. ended ≡ Ok status) }
-{
-    let Some(program) = program else {
-        return ended;
-    };
-    match ended {
-        Ok(status) => match explain_program(alloc, program, status, err) {
-            Ok(()) => Ok(status),
-            Err(fault) => Err(fault),
-        },
-        Err(fault) => Err(explain_fault(alloc, kept, is_late, fault)),
-    }
-}
-
 /// Makes the run, and gives the exit status. The console goes to `out` once the run is whole, before a host in a
 /// process of its own is waited for.
 pub fn trace<
@@ -420,7 +369,15 @@ where
     } = traced;
     let Behind { mut kept, link } = behind;
     let Heard { is_late, said } = hear(rt.alloc(), link);
-    let status = explain(rt.alloc(), &mut kept, is_late, program, status, &mut err);
+    let status = explain(
+        rt.alloc(),
+        matches,
+        &mut kept,
+        is_late,
+        program,
+        status,
+        &mut err,
+    );
     drop(kept);
     Traced {
         status,

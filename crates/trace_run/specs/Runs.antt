@@ -2,6 +2,7 @@
 use Rattle.std.specs.Prelude.{◌≡◌, ℕ, ◌+◌, Bool, true, false, List, [], ◌∷◌, ◌++◌, length, Option, Some, None}
 use Rattle.std.specs.Prelude.{Result, Ok, Err, is_ok, map, ⊤, if◌then◌else◌}
 use Rattle.std.specs.Io.KnownBytes.{Appends}
+use Rattle.lx_abi.specs.declared.occurrences.Occurrences.{Occurrences}
 use Rattle.lx_abi.specs.declared.ptrace.Ask.{Ask}
 use Rattle.lx_abi.specs.declared.ptrace.Ask.TheVariants.{Seize, SetOptions, GetRegs, SetRegs, Peek, Syscall, EventMsg}
 use Rattle.lx_abi.specs.declared.ptrace.Ask.TheVariants.{SigInfo, Listen}
@@ -12,6 +13,7 @@ use Rattle.lx_abi.specs.declared.ptrace.Request.TheVariants.{Boot, Wait, To, Out
 use Rattle.host_link.specs.declared.fault.LinkFault.{LinkFault}
 use Rattle.tr_core.specs.declared.tracing.TraceFault.TheVariants.{Inadmissible, Memory}
 use Rattle.tr_core.specs.States.{State, heard, said, request_of, is_faulted, admitted, told, text}
+use Rattle.tr_core.specs.Hearings.{counts_at}
 use Rattle.tr_core.specs.Outcomes.{outcome_of}
 use Rattle.trace_run.specs.declared.running.Ended.{Ended}
 use Rattle.trace_run.specs.declared.running.Ended.TheVariants.{Whole, OutOfTurns}
@@ -152,3 +154,9 @@ pub record RunsWhole {L : Type 0} (answers : Answers L) (first : State) (link : 
   pub runs : Runs answers (record { link = link; writer = old; state = first }) (forgets result)
       (record { link = link'; writer = new; state = state })
   pub ends : EndsAs result state
+
+-- the same, and how often each tracee entered each call
+pub record RunsCounting {L : Type 0} (answers : Answers L) (first : State) (link : L) (old : Writer)
+    (result : Result Ended RunFault) (counts : Occurrences) (link' : L) (new : Writer) : Type 0 where
+  pub run : RunsWhole answers first link old result link' new
+  pub counted : (pid : ℕ) → (run.state.tracer.known pid).counts ≡ counts_at counts pid

@@ -7,5 +7,5 @@ pub mod running;
 mod written;
 
 pub use local::{Local, run_local, trace_local};
-pub use running::{Ended, RunFault, run, run_tracer};
+pub use running::{Ended, RunFault, run, run_counting, run_tracer};
 pub use written::Written;

@@ -11,12 +11,12 @@ ghost use Rattle.host_link.specs.LocalLinks.{faults_of, given_of, host_of, is_ov
 ghost use Rattle.trace_run.specs.Writers.{writer_of};
 
 use crate::laws::{booted_runs_leave, booted_runs_tell};
-use crate::running::{Ended, RunFault, run};
+use crate::running::{Ended, RunFault, run, run_counting};
 use crate::written::Written;
 use containers::Bytes;
 use host_link::{LinkFault, LocalLink};
 use host_wire::Sink;
-use lx_abi::{Boot, Outcome, Script};
+use lx_abi::{Boot, Occurrences, Outcome, Script};
 use lx_boot::BootFault;
 use pt_kernel::{Events, Host, Schedule};
 use std::alloc::{AllocError, Global};
@@ -41,6 +41,8 @@ pub struct Local {
     pub host: Host,
     /// The events of the run, where they were to be noted.
     pub events: Events,
+    /// How often each tracee entered each call.
+    pub counts: Occurrences,
 }
 
 /// What a boot answers for a run that failed, where the trace is kept in memory.
@@ -194,11 +196,12 @@ pub fn trace_local<W: Sink>(
     let mut local = booted_link(alloc, boot, schedule, notes)?;
     booted_runs_tell();
     booted_runs_leave();
-    let ended = run(alloc, &mut local, writer, script, options);
+    let (ended, counts) = run_counting(alloc, &mut local, writer, script, options);
     let (host, events) = local.into_parts();
     Ok(Local {
         ended,
         host,
         events,
+        counts,
     })
 }

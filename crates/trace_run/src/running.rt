@@ -4,7 +4,7 @@ ghost use Rattle.std.specs.Prelude.{◌≡◌, ◌+◌, ◌≤◌, ◌^◌, fals
 ghost use Rattle.std.specs.Io.KnownBytes.{Appends};
 ghost use Rattle.host_wire.specs.Ends.{AppendsPart, IsPut};
 ghost use Rattle.tr_core.specs.States.{State, new_state, taken_of};
-ghost use Rattle.trace_run.specs.Runs.{calls_of, Ends, EndsAs, Round, Runs, RunsWhole, resumes};
+ghost use Rattle.trace_run.specs.Runs.{calls_of, Ends, EndsAs, Round, Runs, RunsCounting, RunsWhole, forgets, resumes};
 ghost use Rattle.trace_run.specs.Writers.{writer_of};
 ghost use Rattle.tr_core.specs.Settings.{first_pen, options_by};
 ghost use Rattle.tr_core.specs.Outcomes.{outcome_of};
@@ -13,7 +13,7 @@ ghost use Rattle.lx_abi.specs.Scripts.{choice_of};
 use containers::Bytes;
 use host_link::{Link, LinkFault};
 use host_wire::{Broken, Sink};
-use lx_abi::{Ask, Outcome, Reply, Request, Script};
+use lx_abi::{Ask, Occurrences, Outcome, Reply, Request, Script};
 use std::alloc::Global;
 use thiserror::Error;
 use tr_core::{Act, Options, TraceFault, Tracer, Tracing};
@@ -149,13 +149,40 @@ pub enum Ended {
     OutOfTurns,
 }
 
-fn end_by(outcome: Option<Outcome>) -> Ended
-    ensures { (s : State) → outcome_of s ≡ outcome → EndsAs (Ok result) s }
+/// How a run ended that ran so, by its outcome if it is whole.
+fn end_by(ran: Result<(), RunFault>, outcome: Option<Outcome>) -> Result<Ended, RunFault>
+    ensures ran { forgets result ≡ ran }
+    ensures ends { (s : State) → outcome_of s ≡ outcome → EndsAs result s }
 {
-    match outcome {
-        Some(outcome) => Ended::Whole(outcome),
-        None => Ended::OutOfTurns,
+    match ran {
+        Ok(()) => match outcome {
+            Some(outcome) => Ok(Ended::Whole(outcome)),
+            None => Ok(Ended::OutOfTurns),
+        },
+        Err(fault) => {
+            drop(outcome);
+            Err(fault)
+        }
     }
+}
+
+/// Runs the tracer over a link whose Boot was answered Done. Also gives how often each tracee entered each call.
+pub fn run_counting<L: Link, W: Sink>(
+    alloc: Global,
+    link: &mut L,
+    writer: &mut W,
+    script: Script,
+    options: Options,
+) -> (Result<Ended, RunFault>, Occurrences)
+    ensures { RunsCounting (calls_of L.answers L.given L.broken)
+        (new_state (options_by options) (choice_of script) (first_pen options)) link.old
+        (writer_of W.contents W.puts W.broken writer.old) result.0 result.1 link.new
+        (writer_of W.contents W.puts W.broken writer.new) }
+{
+    let mut tracer = Tracer::new(alloc, script, options);
+    let ran = run_tracer(link, writer, &mut tracer);
+    let (outcome, counts) = tracer.into_parts();
+    (end_by(ran, outcome), counts)
 }
 
 /// Runs the tracer over a link whose Boot was answered Done.
@@ -171,9 +198,7 @@ pub fn run<L: Link, W: Sink>(
         (writer_of W.contents W.puts W.broken writer.old) result link.new
         (writer_of W.contents W.puts W.broken writer.new) }
 {
-    let mut tracer = Tracer::new(alloc, script, options);
-    match run_tracer(link, writer, &mut tracer) {
-        Ok(()) => Ok(end_by(tracer.into_outcome())),
-        Err(fault) => Err(fault),
-    }
+    let (ended, counts) = run_counting(alloc, link, writer, script, options);
+    drop(counts);
+    ended
 }

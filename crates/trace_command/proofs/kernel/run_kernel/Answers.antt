@@ -6,8 +6,8 @@ use Rattle.trace_command.proofs.kernel.run_kernel.Goals as goal
 pub returns-in-There : goal.returns-in-There
 returns-in-There g c =
     subst
-    (λ k. Traces g.P.Stdout.Read.remaining g.P.Stdin.Write.contents c.args.options c.args.script k c.run-ended.result
+    (λ k. Traces g.P.Stdout.Read.remaining g.P.Stdin.Write.contents c.args.options c.args.script k c.run_counting-ended.result.0
     (writer_of g.W.Sink.contents g.W.Sink.puts g.W.Sink.broken c.args.lines.now)
-    (writer_of g.W.Sink.contents g.W.Sink.puts g.W.Sink.broken c.run-ended.new.writer))
+    (writer_of g.W.Sink.contents g.W.Sink.puts g.W.Sink.broken c.run_counting-ended.new.writer))
     (sym c.in-There.is)
-    (c.run-ended.new.link, c.run-ended.ensures)
+    (c.run_counting-ended.new.link, c.run_counting-ended.ensures.run)

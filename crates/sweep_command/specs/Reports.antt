@@ -1,0 +1,61 @@
+-- The report on a sweep of failures.
+use Rattle.std.specs.Prelude.{◌≡◌, ℕ, ◌-◌, ◌==◌, ◌&&◌, not, cond, nat_lt, Bool, true, false, List, [], ◌∷◌, ◌++◌, Option, Some, None, map}
+use Rattle.sweep_report.specs.Tallies.{unmarked}
+use Rattle.sweep_rows.specs.Summary.{status}
+use Rattle.sweep_rows.specs.declared.verdicts.Reached.{Reached}
+use Rattle.sweep_runs.specs.Cases.{cases_of}
+use Rattle.sweep_runs.specs.Rows.{failure_of, AreRows}
+use Rattle.sweep_runs.specs.declared.chosen.Case.{Case}
+use Rattle.sweep_runs.specs.declared.runs.Setup.{Setup}
+use Rattle.sweep_runs.specs.declared.sweeping.Row.{Row}
+use Rattle.sweep_words.specs.declared.plan.Plan.{Plan}
+use Rattle.sweep_words.specs.declared.words.Shard.{Shard}
+use Rattle.sweep_words.specs.declared.words.Words.{Words}
+
+-- a case is taken where none is waited for, and then so many are left out
+abbrev pub taken : ℕ → Case → List Case
+taken wait c = cond (wait == 0) (c ∷ []) []
+
+abbrev pub waits : ℕ → ℕ → ℕ
+waits between wait = cond (wait == 0) between (wait - 1)
+
+-- so many are left out before the first of these cases, and so many between two
+abbrev pub every : ℕ → ℕ → List Case → List Case
+every between wait [] = []
+every between wait (c ∷ cs) = taken wait c ++ every between (waits between wait) cs
+
+abbrev pub part_of : Option Shard → List Case → List Case
+part_of None cases = cases
+part_of (Some s) cases = every s.between s.before cases
+
+-- the failures are those that the words ask for, in the run without a failure
+abbrev pub AreWanted : Plan → Option Shard → Reached → List Case → Type 0
+AreWanted plan shard reference cases =
+    map failure_of cases
+    ≡ map failure_of (part_of shard (cases_of plan.wanted.items plan.setup.boot.follow reference.log.items))
+
+abbrev pub is_none : List Case → Bool
+is_none [] = true
+is_none (c ∷ cs) = false
+
+abbrev pub goes_on : List Case → Bool → ℕ → Bool
+goes_on left fail_fast found = not (is_none left) && not (fail_fast && nat_lt 0 found)
+
+-- rows of the first of these cases, and of all of them but where the first finding ends the sweep
+pub record AreBegun (setup : Setup) (reference : Reached) (fail_fast : Bool) (cases : List Case) (rows : List Row)
+    : Type 0 where
+  pub done : List Case
+  pub rest : List Case
+  pub all : done ++ rest ≡ cases
+  pub made : AreRows setup reference done rows
+  pub whole : fail_fast ≡ false → rest ≡ []
+
+-- the status is that of a row for each of these failures, but for those that are known
+pub record IsOfRows (plan : Plan) (words : Words) (reference : Reached) (s : ℕ) : Type 0 where
+  pub cases : List Case
+  pub rows : List Row
+  pub marks : List Bool
+  pub wanted : AreWanted plan words.shard reference cases
+  pub made : AreBegun plan.setup reference words.fail_fast cases rows
+  pub none_known : plan.known.items ≡ [] → marks ≡ []
+  pub status_is : s ≡ status (unmarked marks rows)

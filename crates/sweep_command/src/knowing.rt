@@ -1,0 +1,139 @@
+//! Findings that are known.
+
+ghost use Rattle.std.specs.Prelude.{◌≡◌, [], IfOk};
+
+use crate::outputs::{check, replace};
+use clap::ArgMatches;
+use front_end::Fault;
+use std::alloc::{AllocError, Global};
+use std::io::Write;
+use std::rt::Files;
+use sweep_report::sites::{key_of, place_of};
+use sweep_report::traced::TracedCalls;
+use sweep_rows::{Reached, is_finding};
+use sweep_runs::Row;
+use sweep_words::known::{is_known, is_like};
+use sweep_words::plan::Plan;
+
+/// A finding's line.
+fn key(
+    alloc: Global,
+    reference: &Reached,
+    calls: &TracedCalls,
+    row: &Row,
+) -> Result<String, AllocError> {
+    let place = place_of(alloc, calls, reference, &row.case.occurrence)?;
+    key_of(alloc, row.verdict, &place)
+}
+
+/// The row is a finding that is known.
+pub fn is_mark(
+    alloc: Global,
+    plan: &Plan,
+    reference: &Reached,
+    calls: &TracedCalls,
+    row: &Row,
+) -> Result<bool, AllocError> {
+    if plan.known.is_empty() || !is_finding(row.verdict) {
+        return Ok(false);
+    }
+    let key = key(alloc, reference, calls, row)?;
+    Ok(is_known(plan.known.as_slice(), key.as_str()))
+}
+
+/// Which rows are findings that are known; none is, where the words name none.
+pub fn marks_of(
+    alloc: Global,
+    plan: &Plan,
+    reference: &Reached,
+    calls: &TracedCalls,
+    rows: &[Row],
+) -> Result<Vec<bool>, AllocError>
+    ensures { IfOk result (λ marks. plan.now.known.items ≡ [] → marks.items ≡ []) }
+{
+    let mut marks = Vec::new(alloc);
+    if plan.known.is_empty() {
+        return Ok(marks);
+    }
+    for row in rows {
+        marks.push(is_mark(alloc, plan, reference, calls, row)?)?;
+    }
+    Ok(marks)
+}
+
+/// How many rows are findings that aren't known.
+pub fn findings(
+    alloc: Global,
+    plan: &Plan,
+    reference: &Reached,
+    calls: &TracedCalls,
+    rows: &[Row],
+) -> Result<usize, AllocError> {
+    let mut count: usize = 0;
+    for row in rows {
+        if is_finding(row.verdict) && !is_mark(alloc, plan, reference, calls, row)? {
+            count = count.saturating_add(1);
+        }
+    }
+    Ok(count)
+}
+
+/// The lines of all findings, each once.
+fn keys(
+    alloc: Global,
+    reference: &Reached,
+    calls: &TracedCalls,
+    rows: &[Row],
+) -> Result<Vec<String>, AllocError> {
+    let mut keys = Vec::new(alloc);
+    for row in rows {
+        if is_finding(row.verdict) {
+            keys.push(key(alloc, reference, calls, row)?)?;
+        }
+    }
+    keys.sort()?;
+    keys.dedup();
+    Ok(keys)
+}
+
+/// Tells of lines that no finding is like.
+fn tell_unmet<E: Write>(plan: &Plan, keys: &[String], err: &mut E) {
+    for line in &plan.known {
+        if !keys.iter().any(|key| is_like(key.as_str(), line.as_str())) {
+            // The sweep is done, whether this can be written or not.
+            let _written = writeln!(err, "strace_sweep: --known: no run is {line}");
+        }
+    }
+}
+
+/// The file of `--known-out` can be written. Nothing is changed.
+pub fn check_known<R: Files + AllocGlobal>(rt: &R, matches: &ArgMatches) -> Result<(), Fault> {
+    check(rt, "--known-out", matches.get_str("known-out"))
+}
+
+/// Writes the lines of all findings, where the words ask for them, and tells of known lines that none is like.
+pub fn finish_known<R: Files + AllocGlobal, E: Write>(
+    rt: &R,
+    matches: &ArgMatches,
+    plan: &Plan,
+    reference: &Reached,
+    calls: &TracedCalls,
+    rows: &[Row],
+    err: &mut E,
+) -> Result<(), Fault> {
+    let alloc = rt.alloc();
+    if matches.get_str("known").is_none() && matches.get_str("known-out").is_none() {
+        return Ok(());
+    }
+    let keys = keys(alloc, reference, calls, rows)?;
+    tell_unmet(plan, keys.as_slice(), err);
+    let Some(path) = matches.get_str("known-out") else {
+        return Ok(());
+    };
+    let mut text = String::new(alloc);
+    for key in &keys {
+        text.push_str(key.as_str())?;
+        text.push('\n')?;
+    }
+    replace(rt, "--known-out", path, text.as_bytes())
+}

@@ -1,0 +1,237 @@
+//! The runs with a failure, and what is written of them as they are made.
+
+ghost use Rattle.std.specs.Prelude.{◌≡◌, ◌++◌, map, IfOk, OnOk};
+ghost use Rattle.sweep_runs.specs.Rows.{failure_of};
+ghost use Rattle.sweep_command.specs.Reports.{taken, waits, every, part_of, goes_on, AreWanted, AreBegun};
+
+use crate::knowing::findings;
+use crate::outputs::write;
+use crate::progress::ShownProgress;
+use crate::telling::told;
+use clap::ArgMatches;
+use front_end::Fault;
+use std::alloc::{AllocError, Global};
+use std::io::{IsTerminal, Write};
+use std::thread::Threads;
+use std::time::Clock;
+use sweep_report::report::{line, object};
+use sweep_report::sites::is_kept;
+use sweep_report::traced::TracedCalls;
+use sweep_rows::Reached;
+use sweep_runs::{Case, Progress, Row, Silent, cases};
+use sweep_threads::rows_on_threads;
+use sweep_words::plan::Plan;
+use sweep_words::words::{Format, Shard, Words};
+
+/// So many runs a thread are made before their rows are written.
+const RUNS_A_THREAD: usize = 16;
+
+/// These cases, of which one tells of no loss where its file is gone at the reference's end.
+fn by_the_end(
+    alloc: Global,
+    reference: &Reached,
+    calls: &TracedCalls,
+    cases: &[Case],
+) -> Result<Vec<Case>, AllocError>
+    ensures { IfOk result (λ r. map failure_of r.items ≡ map failure_of cases.now) }
+{
+    let mut all = Vec::new(alloc);
+    let mut left = cases;
+    while let Some((case, rest)) = left.split_first() {
+        let tells = case.tells && is_kept(calls, reference, &case.occurrence);
+        all.push(Case { tells, ..*case })?;
+        left = rest;
+    }
+    Ok(all)
+}
+
+/// Takes a case for which no other is waited for.
+fn take(part: &mut Vec<Case>, wait: usize, case: Case) -> Result<(), AllocError>
+    ensures { OnOk result (part.new.items ≡ part.old.items ++ taken wait case) }
+{
+    if wait == 0 {
+        part.push(case)?;
+    }
+    Ok(())
+}
+
+/// How many cases are left out behind one, before the next is taken.
+fn waits(between: usize, wait: usize) -> usize
+    ensures { result ≡ waits between wait }
+{
+    if wait == 0 { between } else { wait - 1 }
+}
+
+/// Those of these cases that are a part's.
+fn every(alloc: Global, shard: Shard, cases: &[Case]) -> Result<Vec<Case>, AllocError>
+    ensures { IfOk result (λ r. r.items ≡ every shard.between shard.before cases.now) }
+{
+    let mut part = Vec::new(alloc);
+    let mut wait = shard.before;
+    let mut left = cases;
+    while let Some((case, rest)) = left.split_first() {
+        take(&mut part, wait, *case)?;
+        wait = waits(shard.between, wait);
+        left = rest;
+    }
+    Ok(part)
+}
+
+fn part_of(alloc: Global, shard: Option<Shard>, cases: &[Case]) -> Result<Vec<Case>, AllocError>
+    ensures { IfOk result (λ r. r.items ≡ part_of shard cases.now) }
+{
+    if let Some(shard) = shard {
+        let part = every(alloc, shard, cases)?;
+        return Ok(part);
+    }
+    let mut all = Vec::new(alloc);
+    all.extend_from_slice(cases)?;
+    Ok(all)
+}
+
+/// The cases that the words ask for.
+pub fn wanted_cases(
+    alloc: Global,
+    plan: &Plan,
+    shard: Option<Shard>,
+    reference: &Reached,
+    calls: &TracedCalls,
+) -> Result<Vec<Case>, AllocError>
+    ensures { IfOk result (λ r. AreWanted plan.now shard reference.now r.items) }
+{
+    let log = reference.log.as_slice();
+    let cases = cases(alloc, log, plan.wanted.as_slice(), plan.setup.boot.follow)?;
+    let cases = part_of(alloc, shard, cases.as_slice())?;
+    let cases = by_the_end(alloc, reference, calls, cases.as_slice())?;
+    Ok(cases)
+}
+
+/// How many runs are made before their rows are written.
+fn batch_size(jobs: u8) -> usize {
+    match jobs {
+        0 | 1 => 1,
+        jobs => usize::from(jobs).saturating_mul(RUNS_A_THREAD),
+    }
+}
+
+/// There are runs to make, and no reason to stop.
+fn goes_on(left: &[Case], fail_fast: bool, found: usize) -> bool
+    ensures { result ≡ goes_on left.now fail_fast found }
+{
+    !left.is_empty() && !(fail_fast && found > 0)
+}
+
+/// A row in a line, in the format that the words ask for.
+fn line_of(
+    alloc: Global,
+    matches: &ArgMatches,
+    words: Words,
+    plan: &Plan,
+    reference: &Reached,
+    calls: &TracedCalls,
+    row: &Row,
+) -> Result<String, Fault> {
+    let told = told(alloc, matches, plan, reference, calls, row)?;
+    match words.format {
+        Format::Table | Format::Junit => Ok(line(alloc, &told, words.style.colors)?),
+        Format::Json => match object(alloc, &told) {
+            Ok(object) => Ok(object),
+            Err(_) => Err(Fault::Memory),
+        },
+    }
+}
+
+/// Writes a batch of rows, where rows are written one by one.
+fn write_rows<W: Write>(
+    alloc: Global,
+    matches: &ArgMatches,
+    words: Words,
+    plan: &Plan,
+    reference: &Reached,
+    calls: &TracedCalls,
+    rows: &[Row],
+    writer: &mut W,
+) -> Result<(), Fault> {
+    if !words.is_streamed() {
+        return Ok(());
+    }
+    for row in rows {
+        let line = line_of(alloc, matches, words, plan, reference, calls, row)?;
+        write(alloc, line.as_str(), writer)?;
+    }
+    Ok(())
+}
+
+/// Makes the runs, batch by batch, and writes the rows of each.
+fn make_batches<R: Threads + Sync + AllocGlobal, C: Clock, W: Write, E: Write>(
+    rt: &R,
+    matches: &ArgMatches,
+    words: Words,
+    plan: &Plan,
+    reference: &Reached,
+    calls: &TracedCalls,
+    cases: &[Case],
+    writer: &mut W,
+    progress: &mut ShownProgress<C, E>,
+) -> Result<Vec<Row>, Fault>
+    ensures { IfOk result (λ rows. AreBegun plan.now.setup reference.now words.fail_fast cases.now rows.items) }
+{
+    let size = batch_size(words.jobs);
+    let mut rows = Vec::new(rt.alloc());
+    let mut found = 0;
+    let mut left = cases;
+    while goes_on(left, words.fail_fast, found) {
+        let (first, rest) = left.split_at(size.min(left.len()));
+        let (setup, jobs) = (&plan.setup, words.jobs);
+        let mut more = rows_on_threads(rt, rt.alloc(), jobs, setup, reference, first, &mut Silent)?;
+        let made = more.as_slice();
+        found = findings(rt.alloc(), plan, reference, calls, made)?;
+        progress.found(found);
+        write_rows(
+            rt.alloc(),
+            matches,
+            words,
+            plan,
+            reference,
+            calls,
+            made,
+            writer,
+        )?;
+        rows.append(&mut more)?;
+        progress.tell(rows.len(), cases.len());
+        left = rest;
+    }
+    Ok(rows)
+}
+
+/// Makes the runs, and writes each row as it is known, where the words ask for it. Where `err` is a terminal it shows
+/// how far they are.
+pub fn make<R: Clock + Threads + Sync + AllocGlobal, W: Write, E: Write + IsTerminal>(
+    rt: &R,
+    matches: &ArgMatches,
+    words: Words,
+    plan: &Plan,
+    reference: &Reached,
+    calls: &TracedCalls,
+    cases: &[Case],
+    writer: &mut W,
+    err: &mut E,
+) -> Result<Vec<Row>, Fault>
+    ensures { IfOk result (λ rows. AreBegun plan.now.setup reference.now words.fail_fast cases.now rows.items) }
+{
+    let is_shown = err.is_terminal();
+    let mut progress = ShownProgress::new(rt.alloc(), rt, err, is_shown);
+    let made = make_batches(
+        rt,
+        matches,
+        words,
+        plan,
+        reference,
+        calls,
+        cases,
+        writer,
+        &mut progress,
+    );
+    progress.end();
+    made
+}

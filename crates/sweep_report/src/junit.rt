@@ -1,0 +1,128 @@
+//! The report as JUnit has it: a case a call, which fails where a run of it is a finding.
+
+use crate::blocks::{Block, blocks_of, first_in, first_of};
+use crate::report::{outcome_text, push_command, verdict_text};
+use crate::told::Told;
+use std::alloc::{AllocError, Global};
+use sweep_runs::Setup;
+
+/// A text as XML has it within quotes.
+fn escaped_text(alloc: Global, text: &str) -> Result<String, AllocError> {
+    let mut escaped = String::new(alloc);
+    for c in text.chars() {
+        match c {
+            '&' => escaped.push_str("&amp;")?,
+            '<' => escaped.push_str("&lt;")?,
+            '>' => escaped.push_str("&gt;")?,
+            '"' => escaped.push_str("&quot;")?,
+            _ => escaped.push(c)?,
+        }
+    }
+    Ok(escaped)
+}
+
+/// The findings of a block, a line each; none, where it has none.
+fn findings_of(
+    alloc: Global,
+    rows: &[Told],
+    block: &Block,
+    all: &[u64],
+) -> Result<String, AllocError> {
+    let mut text = String::new(alloc);
+    for line in &block.lines {
+        if let Some(first) = first_of(rows, line) {
+            if first.finding {
+                let told = outcome_text(alloc, rows, line, first, all)?;
+                let verdict = verdict_text(alloc, first)?;
+                text.push_str(format!(in alloc; "{verdict} {told}\n")?.as_str())?;
+            }
+        }
+    }
+    Ok(text)
+}
+
+/// What a case says beside its name.
+fn body_of(
+    alloc: Global,
+    setup: &Setup,
+    rows: &[Told],
+    block: &Block,
+    first: &Told,
+) -> Result<String, AllocError> {
+    let all = block.occurrences(alloc, rows)?;
+    let findings = findings_of(alloc, rows, block, all.as_slice())?;
+    let Some((message, _)) = findings.as_str().split_once('\n') else {
+        return Ok(String::new(alloc));
+    };
+    let message = escaped_text(alloc, message)?;
+    let mut text = format!(in alloc; "{}\n{findings}", first.text)?;
+    push_command(&mut text, alloc, setup, Some(first))?;
+    let text = escaped_text(alloc, text.as_str())?;
+    format!(in alloc; "    <failure message=\"{message}\">{text}</failure>\n")
+}
+
+fn has_finding(rows: &[Told], block: &Block) -> bool {
+    block.lines.iter().any(|line| match first_of(rows, line) {
+        Some(first) => first.finding,
+        None => false,
+    })
+}
+
+/// A known finding is among the runs of a block, and no other.
+fn is_skipped(rows: &[Told], block: &Block) -> bool {
+    let has_known = block.lines.iter().any(|line| match first_of(rows, line) {
+        Some(first) => first.known,
+        None => false,
+    });
+    has_known && !has_finding(rows, block)
+}
+
+/// A case.
+fn case_of(
+    alloc: Global,
+    setup: &Setup,
+    rows: &[Told],
+    block: &Block,
+) -> Result<String, AllocError> {
+    let Some(first) = first_in(rows, block) else {
+        return Ok(String::new(alloc));
+    };
+    let name = escaped_text(alloc, first.site.as_str())?;
+    let mut body = body_of(alloc, setup, rows, block, first)?;
+    if is_skipped(rows, block) {
+        body.push_str("    <skipped message=\"known\"/>\n")?;
+    }
+    format!(in alloc;
+        "  <testcase classname=\"strace_sweep\" name=\"{name}\">\n{body}  </testcase>\n"
+    )
+}
+
+/// What stands before the cases.
+fn head(alloc: Global, rows: &[Told], blocks: &[Block]) -> Result<String, AllocError> {
+    let failed = blocks
+        .iter()
+        .filter(|block| has_finding(rows, *block))
+        .count();
+    let skipped = blocks
+        .iter()
+        .filter(|block| is_skipped(rows, *block))
+        .count();
+    let mut text = String::from_str(alloc, "<?xml version=\"1.0\" encoding=\"UTF-8\"?>\n")?;
+    let counts = format!(in alloc;
+        "tests=\"{}\" failures=\"{failed}\" skipped=\"{skipped}\"",
+        blocks.len()
+    )?;
+    text.push_str(format!(in alloc; "<testsuite name=\"strace_sweep\" {counts}>\n")?.as_str())?;
+    Ok(text)
+}
+
+/// The whole report.
+pub fn junit(alloc: Global, setup: &Setup, rows: &[Told]) -> Result<String, AllocError> {
+    let blocks = blocks_of(alloc, rows)?;
+    let mut text = head(alloc, rows, blocks.as_slice())?;
+    for block in &blocks {
+        text.push_str(case_of(alloc, setup, rows, block)?.as_str())?;
+    }
+    text.push_str("</testsuite>\n")?;
+    Ok(text)
+}

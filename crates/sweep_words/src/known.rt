@@ -1,0 +1,63 @@
+//! Findings that are known, as a file names them: a line each, of the verdict and the place of the call.
+
+use clap::ArgMatches;
+use front_end::{Fault, read_text};
+use std::alloc::{AllocError, Global};
+use std::rt::Files;
+
+/// The most bytes of a file of known findings.
+const MOST_KNOWN: u64 = 1_048_576;
+
+/// The text is the pattern's, in which a `*` stands for any text.
+pub fn is_like(text: &str, pattern: &str) -> bool {
+    let mut pieces = pattern.split('*');
+    let Some(first) = pieces.next() else {
+        return text.is_empty();
+    };
+    let Some(mut left) = text.strip_prefix(first) else {
+        return false;
+    };
+    let mut last = None;
+    for piece in pieces {
+        if let Some(before) = last {
+            match left.split_once(before) {
+                Some((_, rest)) => left = rest,
+                None => return false,
+            }
+        }
+        last = Some(piece);
+    }
+    match last {
+        None => left.is_empty(),
+        Some(piece) => left.ends_with(piece),
+    }
+}
+
+/// Some line is like this text.
+pub fn is_known(known: &[String], text: &str) -> bool {
+    known.iter().any(|line| is_like(text, line.as_str()))
+}
+
+/// The lines of a text but for blank ones and those that begin with a `#`.
+fn lines_of(alloc: Global, text: &str) -> Result<Vec<String>, AllocError> {
+    let mut lines = Vec::new(alloc);
+    for line in text.lines() {
+        let line = line.trim();
+        if !line.is_empty() && !line.starts_with('#') {
+            lines.push(String::from_str(alloc, line)?)?;
+        }
+    }
+    Ok(lines)
+}
+
+/// The findings that the words name as known.
+pub fn read_known<R: Files + AllocGlobal>(
+    rt: &R,
+    matches: &ArgMatches,
+) -> Result<Vec<String>, Fault> {
+    let Some(path) = matches.get_str("known") else {
+        return Ok(Vec::new(rt.alloc()));
+    };
+    let text = read_text(rt, "--known ", path, MOST_KNOWN)?;
+    Ok(lines_of(rt.alloc(), text.as_str())?)
+}
