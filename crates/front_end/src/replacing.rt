@@ -2,7 +2,7 @@
 
 ghost use Rattle.std.specs.Io.{WritesAtMost};
 
-use std::alloc::{AllocError, Global};
+use std::alloc::Global;
 use std::fs::{File, OpenOptions};
 use std::io::{self, ErrorKind, Write};
 use std::os::fd::RawFd;
@@ -11,8 +11,8 @@ use std::rt::Files;
 /// What is written to for a path.
 #[derive(Drop)]
 enum Target {
-    /// A file that is replaced, or made: its path, with links followed.
-    File(String),
+    /// A file that is replaced, or made: its path, with links followed, and the name that it has until it is whole.
+    File { path: String, part: String },
     /// What can't be replaced, by its path: a pipe, a device.
     Device(String),
     /// A stream that stands open in this process under this number.
@@ -36,6 +36,12 @@ fn number_of(path: &str) -> Option<RawFd> {
     digits.parse().ok()
 }
 
+/// A file that is replaced, or made.
+fn file_target(alloc: Global, path: String) -> io::Result<Target> {
+    let part = format!(in alloc; "{}.part", path.as_str())?;
+    Ok(Target::File { path, part })
+}
+
 fn target_of<R: Files + AllocGlobal>(rt: &R, path: &str) -> io::Result<Target> {
     if let Some(number) = number_of(path) {
         return Ok(Target::Stream(number));
@@ -46,18 +52,13 @@ fn target_of<R: Files + AllocGlobal>(rt: &R, path: &str) -> io::Result<Target> {
         }
         Ok(_) => {
             let whole = rt.canonicalize(rt.alloc(), path)?;
-            Ok(Target::File(whole.into_string()))
+            file_target(rt.alloc(), whole.into_string())
         }
         Err(error) if error.kind() == ErrorKind::NotFound => {
-            Ok(Target::File(String::from_str(rt.alloc(), path)?))
+            file_target(rt.alloc(), String::from_str(rt.alloc(), path)?)
         }
         Err(error) => Err(error),
     }
-}
-
-/// The name that a file has until it is whole.
-fn name_of_part(alloc: Global, path: &str) -> Result<String, AllocError> {
-    format!(in alloc; "{path}.part")
 }
 
 /// Writes some bytes to the stream of this number, where it stands.
@@ -107,7 +108,7 @@ impl<'r, R: Files + AllocGlobal> Write for NewFile<'r, R> {
     fn write(&mut self, buf: &[u8]) -> io::Result<usize> {
         match self.target {
             Target::Stream(number) => write_stream(number, buf),
-            Target::File(_) | Target::Device(_) => self.file()?.write(buf),
+            Target::File { .. } | Target::Device(_) => self.file()?.write(buf),
         }
     }
 
@@ -116,8 +117,7 @@ impl<'r, R: Files + AllocGlobal> Write for NewFile<'r, R> {
             return Ok(());
         }
         self.file()?.flush()?;
-        if let Target::File(path) = &self.target {
-            let part = name_of_part(self.rt.alloc(), path.as_str())?;
+        if let Target::File { path, part } = &self.target {
             self.rt.rename(part.as_str(), path.as_str())?;
         }
         self.is_whole = true;
@@ -141,12 +141,10 @@ impl<'r, R: Files + AllocGlobal> Drop for NewFile<'r, R> {
     }
 }
 
-fn remove_part<R: Files + AllocGlobal>(rt: &R, target: &Target) {
-    if let Target::File(path) = target {
-        if let Ok(part) = name_of_part(rt.alloc(), path.as_str()) {
-            // The fault that counts is the first.
-            let _removed = rt.remove_file(part.as_str());
-        }
+fn remove_part<R: Files>(rt: &R, target: &Target) {
+    if let Target::File { path: _, part } = target {
+        // The fault that counts is the first.
+        let _removed = rt.remove_file(part.as_str());
     }
 }
 
@@ -171,13 +169,10 @@ fn open_target<R: Files + AllocGlobal>(rt: &R, target: &Target) -> io::Result<R:
     match target {
         Target::Stream(_) => Err(io::Error::from(ErrorKind::AlreadyExists)),
         Target::Device(path) => open_device(rt, path.as_str()),
-        Target::File(path) => {
-            let part = name_of_part(rt.alloc(), path.as_str())?;
-            match File::create_new(rt, part.as_str()) {
-                Ok(file) => Ok(file),
-                Err(error) => Err(part_error(error)),
-            }
-        }
+        Target::File { path: _, part } => match File::create_new(rt, part.as_str()) {
+            Ok(file) => Ok(file),
+            Err(error) => Err(part_error(error)),
+        },
     }
 }
 
@@ -190,10 +185,7 @@ fn check_target<R: Files + AllocGlobal>(rt: &R, target: &Target) -> io::Result<(
     drop(file);
     match target {
         Target::Stream(_) | Target::Device(_) => Ok(()),
-        Target::File(path) => {
-            let part = name_of_part(rt.alloc(), path.as_str())?;
-            rt.remove_file(part.as_str())
-        }
+        Target::File { path: _, part } => rt.remove_file(part.as_str()),
     }
 }
 
@@ -208,7 +200,7 @@ pub fn create_file<R: Files + AllocGlobal>(rt: &R, path: &str) -> io::Result<R::
     match target_of(rt, path)? {
         Target::Stream(_) => open_device(rt, path),
         Target::Device(path) => open_device(rt, path.as_str()),
-        Target::File(path) => File::create(rt, path.as_str()),
+        Target::File { path, part: _ } => File::create(rt, path.as_str()),
     }
 }
 
