@@ -8,6 +8,17 @@ use std::rt::Files;
 /// The most bytes of a file of known findings.
 const MOST_KNOWN: u64 = 1_048_576;
 
+/// What is behind a piece in a text, if the text has it.
+fn behind<'t>(text: &'t str, piece: Option<&str>) -> Option<&'t str> {
+    match piece {
+        None => Some(text),
+        Some(piece) => match text.split_once(piece) {
+            Some((_, rest)) => Some(rest),
+            None => None,
+        },
+    }
+}
+
 /// The text is the pattern's, in which a `*` stands for any text.
 pub fn is_like(text: &str, pattern: &str) -> bool {
     let mut pieces = pattern.split('*');
@@ -19,12 +30,10 @@ pub fn is_like(text: &str, pattern: &str) -> bool {
     };
     let mut last = None;
     for piece in pieces {
-        if let Some(before) = last {
-            match left.split_once(before) {
-                Some((_, rest)) => left = rest,
-                None => return false,
-            }
-        }
+        let Some(rest) = behind(left, last) else {
+            return false;
+        };
+        left = rest;
         last = Some(piece);
     }
     match last {
