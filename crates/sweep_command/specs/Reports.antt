@@ -43,12 +43,16 @@ pub record AreBegun (setup : Setup) (reference : Reached) (fail_fast : Bool) (ca
   pub made : AreRows setup reference done rows
   pub whole : fail_fast ≡ false → rest ≡ []
 
--- the status is that of a row for each of these failures, but for those that are known
+-- the status is that of these rows, but for those that are known
+pub record IsCounted (plan : Plan) (rows : List Row) (s : ℕ) : Type 0 where
+  pub marks : List Bool
+  pub none_known : plan.known.items ≡ [] → marks ≡ []
+  pub status_is : s ≡ status (unmarked marks rows)
+
+-- .. which are a row for each failure
 pub record IsOfRows (plan : Plan) (words : Words) (reference : Reached) (s : ℕ) : Type 0 where
   pub cases : List Case
   pub rows : List Row
-  pub marks : List Bool
   pub wanted : AreWanted plan words.shard reference cases
   pub made : AreBegun plan.setup reference words.fail_fast cases rows
-  pub none_known : plan.known.items ≡ [] → marks ≡ []
-  pub status_is : s ≡ status (unmarked marks rows)
+  pub counted : IsCounted plan rows s

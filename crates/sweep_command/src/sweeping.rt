@@ -3,7 +3,7 @@
 ghost use Rattle.std.specs.Prelude.{◌≡◌, IfOk};
 ghost use Rattle.sweep_report.specs.Tallies.{unmarked};
 ghost use Rattle.sweep_rows.specs.Summary.{status};
-ghost use Rattle.sweep_command.specs.Reports.{IsOfRows};
+ghost use Rattle.sweep_command.specs.Reports.{IsCounted, IsOfRows};
 
 use crate::knowing::{check_known, finish_known, marks_of};
 use crate::orders::orders_reported;
@@ -133,6 +133,30 @@ fn finish<W: Write>(
     Ok(status(counted))
 }
 
+/// Writes the rest of the report on these rows, and what is known of findings; gives the exit status.
+fn conclude<R: Files + AllocGlobal, W: Write, E: Write>(
+    rt: &R,
+    matches: &ArgMatches,
+    words: Words,
+    plan: &Plan,
+    reference: &Reached,
+    calls: &TracedCalls,
+    rows: &[Row],
+    writer: &mut W,
+    err: &mut E,
+) -> Result<u8, Fault>
+    ensures { IfOk result (IsCounted plan.now rows.now) }
+{
+    let alloc = rt.alloc();
+    let marks = marks_of(alloc, plan, reference, calls, rows)?;
+    let marks = marks.as_slice();
+    let status = finish(
+        alloc, matches, words, plan, reference, calls, rows, marks, writer,
+    )?;
+    finish_known(rt, matches, plan, reference, calls, rows, err)?;
+    Ok(status)
+}
+
 /// Makes the runs with a failure, and reports them; gives the exit status.
 fn failures<R: Files + Clock + Threads + Sync + AllocGlobal, W: Write, E: Write + IsTerminal>(
     rt: &R,
@@ -154,12 +178,9 @@ fn failures<R: Files + Clock + Threads + Sync + AllocGlobal, W: Write, E: Write 
         rt, matches, words, plan, reference, &calls, cases, writer, err,
     )?;
     let rows = rows.as_slice();
-    let marks = marks_of(alloc, plan, reference, &calls, rows)?;
-    let marks = marks.as_slice();
-    let status = finish(
-        alloc, matches, words, plan, reference, &calls, rows, marks, writer,
+    let status = conclude(
+        rt, matches, words, plan, reference, &calls, rows, writer, err,
     )?;
-    finish_known(rt, matches, plan, reference, &calls, rows, err)?;
     Ok(status)
 }
 

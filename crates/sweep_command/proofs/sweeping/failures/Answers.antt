@@ -4,9 +4,7 @@ pub returns : goal.returns
 returns g c = record {
   cases = c.in_ok-cases.cases.items;
   rows = c.in_ok-rows.rows.items;
-  marks = c.in_ok-marks.marks.items;
   wanted = c.in_ok-cases.ensures;
   made = c.in_ok-rows.ensures;
-  none_known = c.in_ok-marks.ensures;
-  status_is = c.in_ok-status.ensures;
+  counted = c.in_ok-status.ensures;
 }

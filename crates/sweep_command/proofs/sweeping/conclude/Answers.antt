@@ -1,0 +1,8 @@
+use Rattle.sweep_command.proofs.sweeping.conclude.Goals as goal
+
+pub returns : goal.returns
+returns g c = record {
+  marks = c.in_ok-marks.marks.items;
+  none_known = c.in_ok-marks.ensures;
+  status_is = c.in_ok-status.ensures;
+}
