@@ -10,27 +10,22 @@ const MOST_KNOWN: u64 = 1_048_576;
 
 /// The text is the pattern's, in which a `*` stands for any text.
 pub fn is_like(text: &str, pattern: &str) -> bool {
-    let mut pieces = pattern.split('*');
-    let Some(first) = pieces.next() else {
-        return text.is_empty();
+    let Some((first, others)) = pattern.split_once('*') else {
+        return text == pattern;
     };
     let Some(mut left) = text.strip_prefix(first) else {
         return false;
     };
-    let mut last = None;
-    for piece in pieces {
-        if let Some(before) = last {
-            match left.split_once(before) {
-                Some((_, rest)) => left = rest,
-                None => return false,
-            }
-        }
-        last = Some(piece);
+    let Some((middle, last)) = others.rsplit_once('*') else {
+        return left.ends_with(others);
+    };
+    for piece in middle.split('*') {
+        let Some((_, rest)) = left.split_once(piece) else {
+            return false;
+        };
+        left = rest;
     }
-    match last {
-        None => left.is_empty(),
-        Some(piece) => left.ends_with(piece),
-    }
+    left.ends_with(last)
 }
 
 /// Some line is like this text.
