@@ -73,21 +73,19 @@ pub fn push_wrapped(
     indent: usize,
 ) -> Result<(), AllocError> {
     let mut column = start;
-    let mut between = "";
+    let mut blanks = 0;
     for word in text.split(' ') {
-        let after = column
-            .saturating_add(between.len())
-            .saturating_add(word.len());
-        if after > COLUMNS && !between.is_empty() {
+        let after = column.saturating_add(blanks).saturating_add(word.len());
+        if after > COLUMNS && blanks > 0 {
             line.push('\n')?;
             push_column(line, "", indent)?;
             column = indent.saturating_add(word.len());
         } else {
-            line.push_str(between)?;
+            push_column(line, "", blanks)?;
             column = after;
         }
         line.push_str(word)?;
-        between = " ";
+        blanks = 1;
     }
     Ok(())
 }

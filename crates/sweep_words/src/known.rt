@@ -8,38 +8,24 @@ use std::rt::Files;
 /// The most bytes of a file of known findings.
 const MOST_KNOWN: u64 = 1_048_576;
 
-/// What is behind a piece in a text, if the text has it.
-fn behind<'t>(text: &'t str, piece: Option<&str>) -> Option<&'t str> {
-    match piece {
-        None => Some(text),
-        Some(piece) => match text.split_once(piece) {
-            Some((_, rest)) => Some(rest),
-            None => None,
-        },
-    }
-}
-
 /// The text is the pattern's, in which a `*` stands for any text.
 pub fn is_like(text: &str, pattern: &str) -> bool {
-    let mut pieces = pattern.split('*');
-    let Some(first) = pieces.next() else {
-        return text.is_empty();
+    let Some((first, others)) = pattern.split_once('*') else {
+        return text == pattern;
     };
     let Some(mut left) = text.strip_prefix(first) else {
         return false;
     };
-    let mut last = None;
-    for piece in pieces {
-        let Some(rest) = behind(left, last) else {
+    let Some((middle, last)) = others.rsplit_once('*') else {
+        return left.ends_with(others);
+    };
+    for piece in middle.split('*') {
+        let Some((_, rest)) = left.split_once(piece) else {
             return false;
         };
         left = rest;
-        last = Some(piece);
     }
-    match last {
-        None => left.is_empty(),
-        Some(piece) => left.ends_with(piece),
-    }
+    left.ends_with(last)
 }
 
 /// Some line is like this text.
