@@ -215,9 +215,10 @@ fn told_text(
         push_children(&mut text, alloc, ended, row.ended.as_slice())?;
     }
     push_streams(&mut text, alloc, &reference.streams, &row.streams)?;
-    for (place, file) in files.iter().enumerate() {
-        let between = if place == 0 { "; " } else { ", " };
+    let mut between = "; ";
+    for file in files {
         push_part(&mut text, file_text(alloc, file)?.as_str(), between)?;
+        between = ", ";
     }
     Ok(text)
 }
