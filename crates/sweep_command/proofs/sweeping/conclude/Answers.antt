@@ -1,8 +1,11 @@
+use Rattle.std.proofs.Common.{ap, ◌∙◌}
+use Rattle.sweep_report.specs.Tallies.{unmarked}
+use Rattle.sweep_rows.specs.Summary.{status}
 use Rattle.sweep_command.proofs.sweeping.conclude.Goals as goal
 
 pub returns : goal.returns
 returns g c = record {
   marks = c.in_ok-marks.marks.items;
   none_known = c.in_ok-marks.ensures;
-  status_is = c.in_ok-status.ensures;
+  status_is = c.in_ok-status.ensures ∙ ap (λ ms. status (unmarked ms c.args.rows.now)) c.as_slice-marks.ensures;
 }

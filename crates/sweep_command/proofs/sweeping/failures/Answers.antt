@@ -1,3 +1,5 @@
+use Rattle.std.proofs.Common.{subst}
+use Rattle.sweep_command.specs.Reports.{AreBegun, IsCounted}
 use Rattle.sweep_command.proofs.sweeping.failures.Goals as goal
 
 pub returns : goal.returns
@@ -5,6 +7,7 @@ returns g c = record {
   cases = c.in_ok-cases.cases.items;
   rows = c.in_ok-rows.rows.items;
   wanted = c.in_ok-cases.ensures;
-  made = c.in_ok-rows.ensures;
-  counted = c.in_ok-status.ensures;
+  made = subst (λ cs. AreBegun c.args.plan.now.setup c.args.reference.now c.args.words.fail_fast cs c.in_ok-rows.rows.items)
+      c.as_slice-cases.ensures c.in_ok-rows.ensures;
+  counted = subst (λ rs. IsCounted c.args.plan.now rs c.in_ok-status.status) c.as_slice-rows.ensures c.in_ok-status.ensures;
 }
