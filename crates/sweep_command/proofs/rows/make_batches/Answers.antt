@@ -24,7 +24,7 @@ loop-left-preserved g c =
 pub returns : goal.returns
 returns g c = record {
   done = c.loop-left.invariant.0;
-  rest = c.loop-left.left;
+  rest = c.loop-left.left.now;
   all = c.loop-left.invariant.1;
   made = c.loop-left.invariant.2;
   whole = c.goes_on.ensures.none c.loop-left-test.false;

@@ -7,5 +7,5 @@ pub returns : goal.returns
 returns g c = record {
   marks = c.in_ok-marks.marks.items;
   none_known = c.in_ok-marks.ensures;
-  status_is = c.in_ok-status.ensures ∙ ap (λ ms. status (unmarked ms c.args.rows.now)) c.as_slice-marks.ensures;
+  status_is = c.in_ok-status.ensures ∙ ap (λ ms. status (unmarked ms c.args.rows.now)) c.as_slice-marks.ensures.value;
 }

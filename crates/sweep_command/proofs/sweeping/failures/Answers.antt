@@ -8,6 +8,6 @@ returns g c = record {
   rows = c.in_ok-rows.rows.items;
   wanted = c.in_ok-cases.ensures;
   made = subst (λ cs. AreBegun c.args.plan.now.setup c.args.reference.now c.args.words.fail_fast cs c.in_ok-rows.rows.items)
-      c.as_slice-cases.ensures c.in_ok-rows.ensures;
-  counted = subst (λ rs. IsCounted c.args.plan.now rs c.in_ok-status.status) c.as_slice-rows.ensures c.in_ok-status.ensures;
+      c.as_slice-cases.ensures.value c.in_ok-rows.ensures;
+  counted = subst (λ rs. IsCounted c.args.plan.now rs c.in_ok-status.status) c.as_slice-rows.ensures.value c.in_ok-status.ensures;
 }
