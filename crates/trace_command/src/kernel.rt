@@ -1,7 +1,8 @@
 //! Where the kernel runs.
 
-ghost use Rattle.std.specs.Prelude.{Ok, IfOk, IsSome, OnErr, OnOk, option_map};
+ghost use Rattle.std.specs.Prelude.{Ok, IfErr, IfOk, IsSome, OnOk, option_map};
 ghost use Rattle.trace_run.specs.Writers.{writer_of};
+ghost use Rattle.trace_command.specs.Faults.{IsUnhosted};
 ghost use Rattle.trace_command.specs.Tracing.{Takes, Traces, TracesHere};
 
 use crate::fault::host_fault;
@@ -29,7 +30,9 @@ pub enum Kernel<P: OpenProcess + Drop> {
 
 /// The fault of a boot, in which none was found before, that a host refuses with this number: a host that has memory
 /// has no cause.
-fn refused_boot(number: u8) -> Fault {
+fn refused_boot(number: u8) -> Fault
+    ensures { IsUnhosted result }
+{
     if number == BootFault::Memory.number() {
         Fault::Memory
     } else {
@@ -45,7 +48,8 @@ fn boot_over<L: Link>(
     limit: u64,
     turns: Vec<Word>,
 ) -> Result<(), Fault>
-    ensures { OnOk result (L.answers link.old (Request.Boot boot limit turns.items) (Ok Reply.Done) link.new) }
+    ensures booted { OnOk result (L.answers link.old (Request.Boot boot limit turns.items) (Ok Reply.Done) link.new) }
+    ensures fault { IfErr result (λ fault. IsUnhosted fault) }
 {
     let Ok(boot) = Boxed::new(alloc, boot) else {
         return Err(Fault::Memory);
@@ -78,7 +82,7 @@ pub fn boot_kernel<R: Processes + AllocGlobal>(
         boot limit turns.items kernel) }
 
     // A kernel in this process is always there.
-    ensures fault { OnErr result (IsSome (option_map (λ path. path.now) host.entry)) }
+    ensures fault { IfErr result (λ fault. IsSome (option_map (λ path. path.now) host.entry) × IsUnhosted fault) }
 {
     let Some(path) = host else {
         return Ok(Kernel::Here(boot, Schedule::words(turns, limit)));

@@ -1,14 +1,14 @@
 //! A traced run.
 
-ghost use Rattle.std.specs.Prelude.{◌≡◌, ◌⊎◌, None, Ok, IsSome, IfOk, OnErr, codes, true};
+ghost use Rattle.std.specs.Prelude.{◌≡◌, ◌⊎◌, None, Ok, IsSome, IfErr, IfOk, OnErr, codes, true};
 ghost use Rattle.trace_run.specs.Writers.{writer_of};
-ghost use Rattle.trace_command.specs.Faults.{has_ended};
-ghost use Rattle.trace_command.specs.Tracing.{Leaves, Left, MayLack, PutsConsole, Runs, Takes, Unmade};
+ghost use Rattle.trace_command.specs.Faults.{IsUnhosted, has_ended};
+ghost use Rattle.trace_command.specs.Tracing.{IsFile, Lacks, Leaves, Left, PutsConsole, Runs, Takes, Unmade};
 ghost use Rattle.trace_command.specs.Tracing.{TracesOut, TracesPlan, TracesWords};
 ghost use Rattle.trace_command.specs.Tracing.{asks_for_files, status_in, value_of};
 
 use crate::explaining::explain;
-use crate::fault::{host_fault, unwritable};
+use crate::fault::host_fault;
 use crate::given::is_given;
 use crate::kept::{Behind, Kept};
 use crate::kernel::{Kernel, boot_kernel};
@@ -44,7 +44,7 @@ fn booted_kernel<R: Processes + AllocGlobal>(
     ensures takes { IfOk result
         (λ kernel. Takes R.Started.Stdout.remaining R.Started.Stdin.contents (value_of matches.now (codes "host")) boot
         limit turns.items kernel) }
-    ensures fault { OnErr result (IsSome (value_of matches.now (codes "host"))) }
+    ensures fault { IfErr result (λ fault. IsSome (value_of matches.now (codes "host")) × IsUnhosted fault) }
 {
     let words = matches.get_strs("host-arg").unwrap_or(&[]);
     boot_kernel(rt, matches.get_str("host"), words, boot, turns, limit)
@@ -61,9 +61,9 @@ fn run_plan<R: Files + Processes + AllocGlobal, O: Sink, E: LineSink>(
     out: &mut O,
     err: &mut E,
 ) -> Result<Outcome, Fault>
-    ensures { (MayLack (value_of matches.now (codes "host")) None place.entry × Unmade result
+    ensures { Unmade (Lacks (value_of matches.now (codes "host")) None (IsFile place.entry)) result
         (writer_of O.contents O.puts O.broken out.old) (writer_of O.contents O.puts O.broken out.new)
-        (writer_of E.contents E.puts E.broken err.old) (writer_of E.contents E.puts E.broken err.new))
+        (writer_of E.contents E.puts E.broken err.old) (writer_of E.contents E.puts E.broken err.new)
         ⊎ Runs R.Started R.Started.Stderr R.File.contents R.Started.Stdout.remaining R.Started.Stdin.contents
         (value_of matches.now (codes "host")) plan limit None place.entry result
         (writer_of O.contents O.puts O.broken out.old) (writer_of O.contents O.puts O.broken out.new)
@@ -97,9 +97,9 @@ fn run_as_asked<R: Files + Processes + Threads + Wait + Sync + AllocGlobal, O: S
     out: &mut O,
     err: &mut E,
 ) -> Result<Outcome, Fault>
-    ensures { (MayLack (value_of matches.now (codes "host")) options.workers place.entry × Unmade result
+    ensures { Unmade (Lacks (value_of matches.now (codes "host")) options.workers (IsFile place.entry)) result
         (writer_of O.contents O.puts O.broken out.old) (writer_of O.contents O.puts O.broken out.new)
-        (writer_of E.contents E.puts E.broken err.old) (writer_of E.contents E.puts E.broken err.new))
+        (writer_of E.contents E.puts E.broken err.old) (writer_of E.contents E.puts E.broken err.new)
         ⊎ Runs R.Started R.Started.Stderr R.File.contents R.Started.Stdout.remaining R.Started.Stdin.contents
         (value_of matches.now (codes "host")) plan options.limit options.workers place.entry result
         (writer_of O.contents O.puts O.broken out.old) (writer_of O.contents O.puts O.broken out.new)
@@ -136,7 +136,7 @@ fn write_console<O: Sink>(alloc: Global, outcome: &Outcome, out: &mut O) -> Resu
     };
     match write(out, outcome.console.as_slice()) {
         Ok(()) => Ok(status),
-        Err(Broken) => Err(unwritable(format!(in alloc;
+        Err(Broken) => Err(Fault::output(format!(in alloc;
             "the console could not be written to standard output"
         ))),
     }
