@@ -10,14 +10,13 @@ use crate::kept::{Behind, Kept, Record, waits_in};
 use containers::Seq;
 use front_end::Fault;
 use host_link::{ChildLink, Link, LinkFault};
-use host_wire::Sink;
 use lx_abi::{Boot, Boxed, Reply, Request, Script, Word};
 use lx_boot::BootFault;
 use pt_kernel::Schedule;
 use std::alloc::Global;
 use std::process::{OpenProcess, Processes};
 use tr_core::Options;
-use trace_run::{Ended, Local, RunFault, run_counting, trace_local};
+use trace_run::{Ended, Local, RunFault, TraceSink, run_counting, trace_local};
 
 /// A kernel that takes its boot.
 #[derive(Drop)]
@@ -102,7 +101,7 @@ pub fn boot_kernel<R: Processes + AllocGlobal>(
 
 /// Runs the tracer with the kernel in this process, and keeps what is asked for beside the trace. A boot without a
 /// fault is refused only for memory.
-pub fn run_here<W: Sink>(
+pub fn run_here<W: TraceSink>(
     alloc: Global,
     boot: Boot,
     schedule: Schedule,
@@ -138,7 +137,7 @@ pub fn run_here<W: Sink>(
 }
 
 /// Runs the tracer on a kernel. What it leaves stays behind.
-pub fn run_kernel<P: OpenProcess + Drop, W: Sink>(
+pub fn run_kernel<P: OpenProcess + Drop, W: TraceSink>(
     alloc: Global,
     kernel: Kernel<P>,
     script: Script,

@@ -18,12 +18,13 @@ use host_link::LinkFault;
 use host_wire::{Broken, Sink};
 use lx_abi::{Outcome, Script};
 use std::alloc::Global;
+use std::cell::Cell;
 use std::fs::OpenFile;
 use std::io::Write;
 use std::process::OpenProcess;
 use std::rt::Files;
 use tr_core::{Options, TraceFault};
-use trace_run::{Ended, RunFault};
+use trace_run::{Ended, RunFault, TraceSink};
 
 /// Writes all of the bytes.
 pub fn write<W: Sink>(writer: &mut W, bytes: &[u8]) -> Result<(), Broken>
@@ -139,8 +140,9 @@ fn trace_whole_lines<P: OpenProcess + Drop, F: Write + Drop>(
         (Traces P.Stdout.remaining P.Stdin.contents options script kernel) ended) }
     ensures fault { IfErr result (λ fault. IsUnopened fault) }
 {
-    let mut lines = match WholeLines::new(alloc, file) {
-        Ok(lines) => Lines::new(lines),
+    let holds = Cell::new(false);
+    let mut lines = match WholeLines::new(alloc, file, &holds) {
+        Ok(lines) => lines,
         Err(_) => {
             drop(kernel);
             drop(script);
@@ -149,7 +151,7 @@ fn trace_whole_lines<P: OpenProcess + Drop, F: Write + Drop>(
         }
     };
     let ended = run_kernel(alloc, kernel, script, options, behind, &mut lines);
-    let (file, rest) = lines.into_inner().into_parts();
+    let (file, rest) = lines.into_parts();
     drop(file);
     Ok(ended_but_for(ended, rest))
 }
@@ -193,7 +195,7 @@ fn trace_to_file<R: Files + AllocGlobal, P: OpenProcess + Drop>(
 }
 
 /// The same, to a place.
-fn trace_to_place<R: Files + AllocGlobal, P: OpenProcess + Drop, O: Sink, E: Sink>(
+fn trace_to_place<R: Files + AllocGlobal, P: OpenProcess + Drop, O: TraceSink, E: TraceSink>(
     rt: &R,
     kernel: Kernel<P>,
     script: Script,
@@ -220,7 +222,7 @@ fn trace_to_place<R: Files + AllocGlobal, P: OpenProcess + Drop, O: Sink, E: Sin
 
 /// Runs the tracer on a kernel, with its trace to a place. Where the run ends in a fault, a line that stands open on
 /// `err` is ended.
-pub fn trace_kernel<R: Files + AllocGlobal, P: OpenProcess + Drop, O: Sink, E: LineSink>(
+pub fn trace_kernel<R: Files + AllocGlobal, P: OpenProcess + Drop, O: TraceSink, E: LineSink>(
     rt: &R,
     kernel: Kernel<P>,
     script: Script,

@@ -32,6 +32,7 @@ use std::process::Processes;
 use std::rt::Files;
 use std::sync::Wait;
 use std::thread::Threads;
+use trace_run::TraceSink;
 
 /// A kernel that takes this boot, in the process that the words ask for.
 fn booted_kernel<R: Processes + AllocGlobal>(
@@ -51,7 +52,7 @@ fn booted_kernel<R: Processes + AllocGlobal>(
 }
 
 /// Boots the kernel and runs the tracer.
-fn run_plan<R: Files + Processes + AllocGlobal, O: Sink, E: LineSink>(
+fn run_plan<R: Files + Processes + AllocGlobal, O: TraceSink, E: LineSink>(
     rt: &R,
     matches: &ArgMatches,
     plan: Plan,
@@ -87,7 +88,11 @@ fn run_plan<R: Files + Processes + AllocGlobal, O: Sink, E: LineSink>(
 }
 
 /// Makes the run, on threads where the words ask for them.
-fn run_as_asked<R: Files + Processes + Threads + Wait + Sync + AllocGlobal, O: Sink, E: LineSink>(
+fn run_as_asked<
+    R: Files + Processes + Threads + Wait + Sync + AllocGlobal,
+    O: TraceSink,
+    E: LineSink,
+>(
     rt: &R,
     matches: &ArgMatches,
     options: TraceOptions,
@@ -243,7 +248,11 @@ fn leave<R: Files + AllocGlobal, O: Sink>(
 }
 
 /// Makes the run, its trace at the place that the words name, and writes what it leaves. Gives the exit status.
-fn trace_plan<R: Files + Processes + Threads + Wait + Sync + AllocGlobal, O: Sink, E: LineSink>(
+fn trace_plan<
+    R: Files + Processes + Threads + Wait + Sync + AllocGlobal,
+    O: TraceSink,
+    E: LineSink,
+>(
     rt: &R,
     matches: &ArgMatches,
     options: TraceOptions,
