@@ -165,10 +165,18 @@ impl Walk<'_> {
     }
 }
 
-/// The names of a directory, each ended by a NUL.
+/// The names of a directory, each ended by a NUL. Each read has room for the longest.
 fn listing<R: Files + AllocGlobal>(rt: &R, path: &str) -> io::Result<Vec<u8>> {
     let mut listed = Vec::new(rt.alloc());
-    let _ = rt.open_dir(path)?.read_to_end(&mut listed)?;
+    let mut names = rt.open_dir(path)?;
+    let mut room = [0u8; 4096];
+    for _ in 0..u64::MAX {
+        let count = names.read(&mut room)?;
+        if count == 0 {
+            break;
+        }
+        listed.extend_from_slice(&room[..count])?;
+    }
     Ok(listed)
 }
 

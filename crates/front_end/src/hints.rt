@@ -29,8 +29,8 @@ fn last_pid(counts: &Occurrences) -> u32 {
         if pid > last {
             break;
         }
-        let children = counts.latest(pid, SYS_CLONE).min(u64::from(MOST_PROCESSES));
-        last = (last + children as u32).min(MOST_PROCESSES);
+        let children = u32::try_from(counts.latest(pid, SYS_CLONE)).unwrap_or(MOST_PROCESSES);
+        last = last.saturating_add(children).min(MOST_PROCESSES);
     }
     last
 }

@@ -77,7 +77,7 @@ pub fn read_plan<R: Files + AllocGlobal, I: Read + IsTerminal, E: Write + IsTerm
     let limit = front_end::limit(rt.alloc(), matches)?;
     let script = read_expressions(rt.alloc(), matches)?.script;
     let schedule = schedule(rt, matches, limit)?;
-    check_outputs(rt.alloc(), matches)?;
+    check_outputs(rt, matches)?;
     Leavings::of(matches).check(rt)?;
     let boot = boot(rt, matches, input, err)?;
     check_boot(rt.alloc(), &boot)?;

@@ -8,3 +8,4 @@ pub mod PipeLinks
 pub mod Pipes
 pub mod Recordings
 pub mod RequestLists
+pub mod Streams

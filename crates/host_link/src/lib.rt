@@ -9,10 +9,12 @@ pub mod link;
 pub mod local;
 pub mod pipe;
 pub mod recorded;
+pub mod streams;
 
-pub use child::ChildLink;
+pub use child::{ChildLink, Left};
 pub use fault::LinkFault;
 pub use link::Link;
 pub use local::LocalLink;
 pub use pipe::PipeLink;
 pub use recorded::Recorded;
+pub use streams::Streams;

@@ -234,6 +234,11 @@ impl<R: Source, W: Sink> PipeLink<R, W> {
         self.waits
     }
 
+    /// The reader and the writer.
+    pub(crate) fn into_parts(self) -> (R, W) {
+        (self.reader, self.writer)
+    }
+
     /// The reply to a frame that is sent now, with Wait's behind it where that goes ahead; or was sent before.
     fn reply_to(&mut self, sent: &Frame, ahead: bool) -> Result<Reply, LinkFault>
         requires broken { faults_of self.old ≡ 1 }

@@ -1,15 +1,16 @@
 //! The program as a function of its words, its input and its outputs.
 
 use crate::sweeping::sweep;
-use crate::words;
 use clap::ArgMatches;
 use clap::error::ErrorKind;
 use front_end::{Fault, print_help, refusal, report, shown_words};
 use std::alloc::Global;
+use std::env::Env;
 use std::io::{IsTerminal, Read, Write};
 use std::rt::Files;
 use std::thread::Threads;
 use std::time::Clock;
+use sweep_words::words;
 
 /// The program in its messages.
 const NAME: &str = "strace_sweep";
@@ -17,9 +18,9 @@ const NAME: &str = "strace_sweep";
 /// Makes the sweep that the words ask for, the program's name first, and gives the exit status. A fault is one line on
 /// `err`; at a terminal, and where the words ask for it, another explains it.
 pub fn command<
-    R: Files + Clock + Threads + Sync + AllocGlobal,
+    R: Env + Files + Clock + Threads + Sync + AllocGlobal,
     I: Read + IsTerminal,
-    O: Write,
+    O: Write + IsTerminal,
     E: Write + IsTerminal,
 >(rt: &R, words: &[String], input: &mut I, out: &mut O, err: &mut E) -> u8 {
     let alloc = rt.alloc();
@@ -39,9 +40,9 @@ pub fn tell<E: Write>(fault: Fault, err: &mut E) -> u8 {
 }
 
 fn run<
-    R: Files + Clock + Threads + Sync + AllocGlobal,
+    R: Env + Files + Clock + Threads + Sync + AllocGlobal,
     I: Read + IsTerminal,
-    O: Write,
+    O: Write + IsTerminal,
     E: Write + IsTerminal,
 >(rt: &R, matches: &ArgMatches, input: &mut I, out: &mut O, err: &mut E) -> u8 {
     let explained = matches.get_flag("explain") || err.is_terminal();

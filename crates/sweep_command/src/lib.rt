@@ -1,20 +1,15 @@
-//! The command that makes each call of a guest fail in turn, or tries orders of its turns: its words, the runs, and
-//! what is told of them.
+//! The command that makes each call of a guest fail in turn, or tries orders of its turns: the runs, and how far they
+//! are.
 #![tactic(auto)]
 
-mod calls;
 mod entry;
 mod keeping;
 mod orders;
-mod plan;
+mod outputs;
 mod progress;
 mod reference;
-mod shell;
+mod rows;
 mod sweeping;
-mod table;
-mod told;
-mod traced;
-mod wanted;
-mod words;
+mod telling;
 
 pub use entry::{command, tell};

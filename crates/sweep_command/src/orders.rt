@@ -1,16 +1,11 @@
 //! The report on orders of turns: a line for each result.
 
 use crate::keeping::{keep, path_of, text_of};
-use crate::plan::Plan;
+use crate::outputs::write;
 use crate::progress::ShownProgress;
-use crate::shell::{common, order_words, typed, words_with};
-use crate::sweeping::place;
-use crate::table::{Counts, Reported, differences, push_column, push_differences};
-use crate::told::{ToldConsole, ToldFile, kind_name, told_console, told_files};
-use crate::words::{Format, Orders, Words};
 use clap::ArgMatches;
-use front_end::Fault;
-use lx_abi::{Status, Word};
+use front_end::{Fault, escaped};
+use lx_abi::{Node, OutcomeFile, Status, Word};
 use serde::Serialize;
 use std::alloc::{AllocError, Global};
 use std::io::{IsTerminal, Write};
@@ -18,22 +13,31 @@ use std::rt::Files;
 use std::thread::Threads;
 use std::time::Clock;
 use sweep_orders::{Found, explore_on_threads};
-use sweep_rows::{Ending, Kind, console_difference, file_differences, first_word, kind_of};
-use sweep_runs::Reference;
+use sweep_report::texts::{push_part, push_wrapped, quoted_bytes};
+use sweep_report::told::end_text;
+use sweep_rows::{Ending, Reached, Verdict, first_word};
+use sweep_words::plan::Plan;
+use sweep_words::shell::{order_words, typed, words_with};
+use sweep_words::words::{Format, Orders, Words};
 
 /// So many words of an order are shown where it isn't kept.
 const MOST_SHOWN: usize = 12;
 
+/// So many bytes are shown of the console and of a file.
+const MOST_BYTES: usize = 40;
+
 /// A result, as it is told.
 #[derive(Drop, Serialize)]
 struct ToldOrder {
-    kind: &'static str,
+    /// The default order has this result.
+    default: bool,
     /// How many orders had it.
     orders: u64,
+    ended: bool,
     /// Process 1's exit code, or 128 and the signal that ended it.
     status: Option<u8>,
-    console: Option<ToldConsole>,
-    files: Vec<ToldFile>,
+    /// What the result is.
+    told: String,
     /// The words of a shortest of these orders.
     turns: String,
     /// The words of `strace_cli` that show a run by that order, where it is kept.
@@ -49,11 +53,11 @@ fn find<R: Clock + Threads + Sync + AllocGlobal, E: Write + IsTerminal>(
     jobs: u8,
     orders: Orders,
     plan: &Plan,
-    reference: &Reference,
+    reference: &Reached,
     err: &mut E,
 ) -> Result<Vec<Found>, AllocError> {
     let is_shown = err.is_terminal();
-    let mut progress = ShownProgress::new(rt, err, is_shown);
+    let mut progress = ShownProgress::new(rt.alloc(), rt, err, is_shown);
     let log = reference.log.as_slice();
     let found = explore_on_threads(
         rt,
@@ -72,12 +76,12 @@ fn find<R: Clock + Threads + Sync + AllocGlobal, E: Write + IsTerminal>(
 /// The first words of an order.
 fn shown(alloc: Global, words: &[Word]) -> Result<String, AllocError> {
     if words.is_empty() {
-        return format!(in alloc; "no words");
+        return Ok(String::new(alloc));
     }
     let first = text_of(alloc, words.get(..MOST_SHOWN).unwrap_or(words), ' ')?;
     match words.len().checked_sub(MOST_SHOWN) {
-        Some(more) if more > 0 => format!(in alloc; "{first} and {more} more"),
-        _ => Ok(first),
+        Some(more) if more > 0 => format!(in alloc; "--turns {first} and {more} more"),
+        _ => format!(in alloc; "--turns {first}"),
     }
 }
 
@@ -86,34 +90,104 @@ fn own_words(
     alloc: Global,
     matches: &ArgMatches,
     number: usize,
-    kind: Kind,
+    alive: bool,
 ) -> Result<Vec<String>, AllocError> {
-    match matches.get_str("keep") {
-        Some(folder) => {
-            let path = path_of(alloc, folder, number)?;
-            order_words(alloc, matches, path.as_str(), kind)
-        }
-        None => Ok(Vec::new(alloc)),
+    let Some(folder) = matches.get_str("keep") else {
+        return Ok(Vec::new(alloc));
+    };
+    let path = path_of(alloc, folder, number)?;
+    let verdict = if alive {
+        Verdict::Hung
+    } else {
+        Verdict::Ignored
+    };
+    order_words(alloc, matches, path.as_str(), verdict)
+}
+
+fn content_at<'a>(files: &'a [OutcomeFile], path: &[u8]) -> Option<&'a [u8]> {
+    match &files.iter().find(|file| file.path.as_slice() == path)?.node {
+        Node::File(bytes) => Some(bytes.as_slice()),
+        Node::Directory => Some(&[]),
     }
+}
+
+/// Some result has another content of this file.
+fn is_parted(all: &[Found], path: &[u8], content: Option<&[u8]>) -> bool {
+    all.iter().any(|one| {
+        let other = content_at(one.ending.outcome.files.as_slice(), path);
+        other.unwrap_or(&[]) != content.unwrap_or(&[]) || other.is_some() != content.is_some()
+    })
+}
+
+/// Adds a file in which results differ, if they do.
+fn push_file(
+    text: &mut String,
+    alloc: Global,
+    all: &[Found],
+    file: &OutcomeFile,
+    ending: &Ending,
+) -> Result<(), AllocError> {
+    let path = file.path.as_slice();
+    let content = content_at(ending.outcome.files.as_slice(), path);
+    if !is_parted(all, path, content) {
+        return Ok(());
+    }
+    let name = escaped(alloc, &file.path)?;
+    let part = match content {
+        None => format!(in alloc; "{name} absent")?,
+        Some(bytes) => format!(in alloc; "{name} {}", quoted_bytes(alloc, bytes, MOST_BYTES)?)?,
+    };
+    push_part(text, part.as_str(), "; ")
+}
+
+/// What a result is: how process 1 ended, the console, and the files in which results differ.
+fn result_text(alloc: Global, all: &[Found], ending: &Ending) -> Result<String, AllocError> {
+    let mut text = if ending.alive {
+        format!(in alloc; "never ends")?
+    } else {
+        match first_word(&ending.outcome) {
+            Some(word) => end_text(alloc, word)?,
+            None => String::new(alloc),
+        }
+    };
+    let console = ending.outcome.console.as_slice();
+    if !console.is_empty() {
+        let console = quoted_bytes(alloc, console, MOST_BYTES)?;
+        push_part(
+            &mut text,
+            format!(in alloc; "prints {console}")?.as_str(),
+            "; ",
+        )?;
+    }
+    let Some(first) = all.first() else {
+        return Ok(text);
+    };
+    for file in first.ending.outcome.files.as_slice() {
+        push_file(&mut text, alloc, all, file, ending)?;
+    }
+    for file in ending.outcome.files.as_slice() {
+        let path = file.path.as_slice();
+        if content_at(first.ending.outcome.files.as_slice(), path).is_none() {
+            push_file(&mut text, alloc, all, file, ending)?;
+        }
+    }
+    Ok(text)
 }
 
 fn tell(
     alloc: Global,
     matches: &ArgMatches,
-    reference: &Ending,
+    all: &[Found],
     found: &Found,
     number: usize,
 ) -> Result<ToldOrder, AllocError> {
-    let kind = kind_of(reference, &found.ending);
-    let own = own_words(alloc, matches, number, kind)?;
-    let (expected, left) = (&reference.outcome, &found.ending.outcome);
-    let console = console_difference(expected.console.as_slice(), left.console.as_slice());
+    let own = own_words(alloc, matches, number, found.ending.alive)?;
     Ok(ToldOrder {
-        kind: kind_name(kind),
+        default: number == 1,
         orders: found.times,
-        status: first_word(left).map(|word| Status { word }.shell_status()),
-        console: console.map(|difference| told_console(difference)),
-        files: told_files(alloc, file_differences(alloc, expected, left)?.as_slice())?,
+        ended: !found.ending.alive,
+        status: first_word(&found.ending.outcome).map(|word| Status { word }.shell_status()),
+        told: result_text(alloc, all, &found.ending)?,
         turns: text_of(alloc, found.words.as_slice(), ' ')?,
         words: words_with(alloc, matches, own.as_slice())?,
         shown: if own.is_empty() {
@@ -124,76 +198,39 @@ fn tell(
     })
 }
 
-fn width_of(told: &[ToldOrder]) -> usize {
-    told.iter()
-        .map(|order| order.shown.len())
-        .max()
-        .unwrap_or(0)
+/// The name of a result: a letter, and a number behind the letters.
+fn name_of(alloc: Global, place: usize) -> Result<String, AllocError> {
+    match b"ABCDEFGHIJKLMNOPQRSTUVWXYZ".get(place) {
+        Some(letter) => format!(in alloc; "{}", char::from(*letter)),
+        None => format!(in alloc; "{place}"),
+    }
 }
 
-fn line_of(alloc: Global, told: &ToldOrder, runs: u64, width: usize) -> Result<String, AllocError> {
-    let mut line = String::new(alloc);
-    push_column(&mut line, told.kind, 8)?;
-    let times = format!(in alloc; "{} of {runs}", told.orders)?;
-    let widest = format!(in alloc; "{runs} of {runs}")?;
-    push_column(&mut line, times.as_str(), widest.len())?;
-    let pieces = differences(
-        alloc,
-        told.kind,
-        told.status,
-        told.console.as_ref(),
-        told.files.as_slice(),
-    )?;
-    if pieces.is_empty() {
-        line.push_str(told.shown.as_str())?;
-    } else {
-        push_column(&mut line, told.shown.as_str(), width.saturating_sub(2))?;
+fn table(alloc: Global, told: &[ToldOrder], orders: u64) -> Result<String, AllocError> {
+    let mut report = format!(in alloc; "{orders} orders, {} results\n", told.len())?;
+    for (place, order) in told.iter().enumerate() {
+        let name = name_of(alloc, place)?;
+        let mut line = format!(in alloc; "  {name:<3} {:>7}  ", order.orders)?;
+        push_wrapped(&mut line, order.told.as_str(), 15, 15)?;
+        if order.default {
+            line.push_str("  (the default order)")?;
+        }
+        report.push_str(line.as_str())?;
+        report.push('\n')?;
+        if !order.shown.is_empty() {
+            report.push_str(format!(in alloc; "{:15}{}\n", "", order.shown)?.as_str())?;
+        }
     }
-    push_differences(&mut line, pieces.as_slice())?;
-    line.push('\n')?;
-    Ok(line)
-}
-
-fn table(
-    alloc: Global,
-    matches: &ArgMatches,
-    told: &[ToldOrder],
-    counts: Counts,
-) -> Result<String, AllocError> {
-    let width = width_of(told);
-    let mut report = format!(in alloc; "# {}\n", common(alloc, matches)?)?;
-    for order in told {
-        report.push_str(line_of(alloc, order, counts.runs, width)?.as_str())?;
-    }
-    report.push_str(counts.line(alloc, "orders")?.as_str())?;
     Ok(report)
 }
 
-fn objects(alloc: Global, told: &[ToldOrder], counts: Counts) -> Result<String, serde_json::Error> {
+fn objects(alloc: Global, told: &[ToldOrder]) -> Result<String, serde_json::Error> {
     let mut report = String::new(alloc);
     for order in told {
         report.push_str(serde_json::to_string(alloc, order)?.as_str())?;
         report.push('\n')?;
     }
-    report.push_str(serde_json::to_string(alloc, &counts)?.as_str())?;
-    report.push('\n')?;
     Ok(report)
-}
-
-fn report(
-    alloc: Global,
-    matches: &ArgMatches,
-    format: Format,
-    told: &[ToldOrder],
-    counts: Counts,
-) -> Result<String, AllocError> {
-    match format {
-        Format::Table => table(alloc, matches, told, counts),
-        Format::Json => match objects(alloc, told, counts) {
-            Ok(report) => Ok(report),
-            Err(_) => Err(AllocError),
-        },
-    }
 }
 
 /// Writes the order of each result to its file, where the words ask for it.
@@ -210,40 +247,52 @@ fn keep_all<R: Files + AllocGlobal>(
     Ok(())
 }
 
-/// How many orders came to what.
-fn counts_of(reference: &Ending, found: &[Found]) -> Counts {
-    let mut counts = Counts::default();
-    for result in found {
-        counts.add(kind_of(reference, &result.ending), result.times);
+/// The report on the results.
+fn text_of_all(
+    alloc: Global,
+    matches: &ArgMatches,
+    format: Format,
+    orders: Orders,
+    found: &[Found],
+) -> Result<String, Fault> {
+    let mut told = Vec::new(alloc);
+    for (place, result) in found.iter().enumerate() {
+        told.push(tell(alloc, matches, found, result, place.saturating_add(1))?)?;
     }
-    counts
+    let told = told.as_slice();
+    match format {
+        Format::Table => Ok(table(alloc, told, orders.count as u64)?),
+        Format::Json => match objects(alloc, told) {
+            Ok(report) => Ok(report),
+            Err(_) => Err(Fault::Memory),
+        },
+    }
 }
 
-/// Tries the orders of turns, and reports each result. Orders that are kept are files before the runs begin.
-pub fn orders_reported<R: Files + Clock + Threads + Sync + AllocGlobal, E: Write + IsTerminal>(
+/// Tries the orders of turns, and reports each result; the status is 1 where a run did not end. Orders that are kept are
+/// files before the runs begin.
+pub fn orders_reported<
+    R: Files + Clock + Threads + Sync + AllocGlobal,
+    W: Write,
+    E: Write + IsTerminal,
+>(
     rt: &R,
     matches: &ArgMatches,
     words: Words,
     orders: Orders,
     plan: &Plan,
-    reference: &Reference,
+    reference: &Reached,
+    writer: &mut W,
     err: &mut E,
-) -> Result<Reported, Fault> {
+) -> Result<u8, Fault> {
     let alloc = rt.alloc();
     if let Some(folder) = matches.get_str("keep") {
         keep(rt, folder, 1, &[])?;
     }
-    let mut found = find(rt, words.jobs, orders, plan, reference, err)?;
-    if matches.get_flag("summary") {
-        found.sort_by_key(|one| place(kind_of(&reference.ending, &one.ending)))?;
-    }
-    keep_all(rt, matches, found.as_slice())?;
-    let counts = counts_of(&reference.ending, found.as_slice());
-    let mut told = Vec::new(alloc);
-    for (place, result) in found.iter().enumerate() {
-        let number = place.saturating_add(1);
-        told.push(tell(alloc, matches, &reference.ending, result, number)?)?;
-    }
-    let text = report(alloc, matches, words.format, told.as_slice(), counts)?;
-    Ok(Reported { text, counts })
+    let found = find(rt, words.jobs, orders, plan, reference, err)?;
+    let found = found.as_slice();
+    keep_all(rt, matches, found)?;
+    let text = text_of_all(alloc, matches, words.format, orders, found)?;
+    write(alloc, text.as_str(), writer)?;
+    Ok(u8::from(found.iter().any(|one| one.ending.alive)))
 }

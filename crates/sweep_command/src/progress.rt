@@ -1,5 +1,6 @@
 //! How far a sweep is, on a terminal.
 
+use std::alloc::{AllocError, Global};
 use std::io::Write;
 use std::time::{Clock, Duration, Instant};
 use sweep_runs::Progress;
@@ -7,11 +8,13 @@ use sweep_runs::Progress;
 /// Shows how far a sweep is in one line, which it writes again and again.
 #[derive(Drop)]
 pub struct ShownProgress<'s, C, E> {
+    alloc: Global,
     clock: &'s C,
     err: &'s mut E,
     is_shown: bool,
     /// When the sweep began, if the clock says so.
     start: Option<Instant>,
+    findings: usize,
 }
 
 /// The line is written again after a hundredth of the runs.
@@ -19,34 +22,53 @@ fn is_due(made: usize, all: usize) -> bool {
     made.checked_rem(all / 100).map_or(true, |rest| rest == 0)
 }
 
-/// How many runs were made a second.
-fn rate(made: usize, took: Duration) -> Option<u64> {
-    let milliseconds = u64::try_from(took.as_millis()).ok()?;
-    (made as u64).saturating_mul(1000).checked_div(milliseconds)
+/// How fast the runs are made, and how many seconds the others take.
+fn speed(alloc: Global, made: usize, all: usize, took: Duration) -> Result<String, AllocError> {
+    let milliseconds = u64::try_from(took.as_millis()).unwrap_or(u64::MAX);
+    let (made, left) = (made as u64, all.saturating_sub(made) as u64);
+    let rate = made.saturating_mul(1000).checked_div(milliseconds);
+    let seconds = (left.saturating_mul(milliseconds) / 1000).checked_div(made);
+    match (rate, seconds) {
+        (Some(rate), Some(left)) => {
+            format!(in alloc; ", {rate} a second, {}:{:02} left", left / 60, left % 60)
+        }
+        _ => Ok(String::new(alloc)),
+    }
 }
 
 impl<'s, C: Clock, E: Write> ShownProgress<'s, C, E> {
-    pub fn new(clock: &'s C, err: &'s mut E, is_shown: bool) -> Self {
+    pub fn new(alloc: Global, clock: &'s C, err: &'s mut E, is_shown: bool) -> Self {
         ShownProgress {
+            alloc,
             clock,
             err,
             is_shown,
             start: Instant::now(clock).ok(),
+            findings: 0,
         }
     }
 
-    /// How many runs were made a second, if the clock tells it.
-    fn rate(&self, made: usize) -> Option<u64> {
-        let start = self.start?;
-        rate(made, start.elapsed(self.clock).ok()?)
+    /// So many findings more.
+    pub fn found(&mut self, findings: usize) {
+        self.findings = self.findings.saturating_add(findings);
+    }
+
+    /// How fast the runs are made, if the clock tells it.
+    fn speed(&self, made: usize, all: usize) -> Option<String> {
+        let took = self.start?.elapsed(self.clock).ok()?;
+        speed(self.alloc, made, all, took).ok()
     }
 
     fn show(&mut self, made: usize, all: usize) {
-        let rate = self.rate(made);
+        let speed = self.speed(made, all);
+        let speed = speed.as_ref().map_or("", |speed| speed.as_str());
         // The runs go on, whether this can be written or not.
-        let _written = match rate {
-            Some(rate) => write!(self.err, "\r{made} of {all} runs, {rate} a second\x1b[K"),
-            None => write!(self.err, "\r{made} of {all} runs\x1b[K"),
+        let _written = match self.findings {
+            0 => write!(self.err, "\r{made} of {all} runs{speed}\x1b[K"),
+            found => write!(
+                self.err,
+                "\r{made} of {all} runs, {found} findings{speed}\x1b[K"
+            ),
         };
     }
 

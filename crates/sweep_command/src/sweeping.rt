@@ -1,48 +1,38 @@
 //! A sweep, from its words to its report.
 
+ghost use Rattle.std.specs.Prelude.{◌≡◌, IfOk};
+ghost use Rattle.sweep_report.specs.Tallies.{verdicts_in};
+ghost use Rattle.sweep_rows.specs.Summary.{status};
+ghost use Rattle.sweep_command.specs.Reports.{IsOfRows};
+
 use crate::orders::orders_reported;
-use crate::plan::{Plan, read_plan};
-use crate::progress::ShownProgress;
+use crate::outputs::{check, create, path_of, replace, write};
 use crate::reference::reference;
-use crate::table::{Counts, Reported, objects, table};
-use crate::told::{Told, tell_row};
-use crate::traced::traced_calls;
-use crate::words::{Format, Words, words_of};
+use crate::rows::{make, wanted_cases};
+use crate::telling::{all_told, told, worst};
 use clap::ArgMatches;
-use front_end::{Fault, Program, Shown};
+use front_end::{Fault, Program};
 use lx_abi::Status;
-use std::alloc::{AllocError, Global};
-use std::fs;
+use std::alloc::Global;
+use std::env::{self, Env};
 use std::io::{IsTerminal, Read, Write};
 use std::rt::Files;
 use std::thread::Threads;
 use std::time::Clock;
-use sweep_rows::{Kind, first_word};
-use sweep_runs::{Reference, Row};
-use sweep_threads::rows_on_threads;
-
-/// The name of standard output as a file, which this program writes without opening it.
-const STANDARD_OUTPUT: &str = "/dev/stdout";
-
-/// The file of `-o`, made anew.
-fn open<R: Files + AllocGlobal>(rt: &R, path: Option<&str>) -> Result<Option<R::File>, Fault> {
-    match path {
-        None | Some(STANDARD_OUTPUT) => Ok(None),
-        Some(path) => match fs::create(rt, path) {
-            Ok(file) => Ok(Some(file)),
-            Err(error) => {
-                let what = format!(in rt.alloc(); "-o {}", Shown(path))?;
-                Err(Fault::file(rt.alloc(), what, error))
-            }
-        },
-    }
-}
+use sweep_report::report::{counts_object, foot, head, table};
+use sweep_report::tally::{Tally, tally_of, verdicts_of};
+use sweep_report::traced::TracedCalls;
+use sweep_rows::{Reached, first_word, status};
+use sweep_runs::Row;
+use sweep_trace::traced_calls;
+use sweep_words::plan::{Plan, read_plan};
+use sweep_words::words::{Format, Words, words_of};
 
 /// Why a program that can't be run wasn't, on `err`.
 fn explain<E: Write>(
     alloc: Global,
     plan: &Plan,
-    reference: &Reference,
+    reference: &Reached,
     err: &mut E,
 ) -> Result<(), Fault> {
     let Some(word) = first_word(&reference.ending.outcome) else {
@@ -56,143 +46,162 @@ fn explain<E: Write>(
     Ok(())
 }
 
-/// The rows, by so many threads.
-fn swept<R: Threads + Sync + AllocGlobal, C: Clock, E: Write>(
-    rt: &R,
-    jobs: u8,
-    plan: &Plan,
-    reference: &Reference,
-    progress: &mut ShownProgress<C, E>,
-) -> Result<Vec<Row>, AllocError> {
-    rows_on_threads(
-        rt,
-        rt.alloc(),
-        jobs,
-        &plan.setup,
-        reference,
-        plan.wanted.as_slice(),
-        progress,
-    )
-}
-
-/// The rows; where `err` is a terminal it shows how far they are.
-fn make<R: Clock + Threads + Sync + AllocGlobal, E: Write + IsTerminal>(
-    rt: &R,
-    jobs: u8,
-    plan: &Plan,
-    reference: &Reference,
-    err: &mut E,
-) -> Result<Vec<Row>, Fault> {
-    let is_shown = err.is_terminal();
-    let mut progress = ShownProgress::new(rt, err, is_shown);
-    let made = swept(rt, jobs, plan, reference, &mut progress);
-    progress.end();
-    Ok(made?)
-}
-
-/// The place of a kind under `--summary`.
-pub fn place(kind: Kind) -> u8 {
-    match kind {
-        Kind::Lost => 0,
-        Kind::Killed => 1,
-        Kind::Hung => 2,
-        Kind::Reported | Kind::Same => 3,
-    }
-}
-
-/// The rows as they are told, the worst first where the words ask for it.
-fn all_told(
+/// Writes what stands above the runs, where each of them is a line.
+fn write_head<W: Write>(
     alloc: Global,
-    matches: &ArgMatches,
-    plan: &Plan,
-    rows: &mut Vec<Row>,
-) -> Result<Vec<Told>, Fault> {
-    if matches.get_flag("summary") {
-        rows.sort_by_key(|row| place(row.kind))?;
-    }
-    let calls = traced_calls(alloc, &plan.setup)?;
-    let mut all = Vec::new(alloc);
-    for row in rows.iter() {
-        all.push(tell_row(alloc, matches, &calls, row)?)?;
-    }
-    Ok(all)
-}
-
-fn report(
-    alloc: Global,
-    matches: &ArgMatches,
-    format: Format,
-    told: &[Told],
-    counts: Counts,
-) -> Result<String, AllocError> {
-    match format {
-        Format::Table => table(alloc, matches, told, counts),
-        Format::Json => match objects(alloc, told, counts) {
-            Ok(report) => Ok(report),
-            Err(_) => Err(AllocError),
-        },
-    }
-}
-
-/// The report on the runs with a failure, and how many came to what.
-fn failures<R: Clock + Threads + Sync + AllocGlobal, E: Write + IsTerminal>(
-    rt: &R,
-    matches: &ArgMatches,
     words: Words,
     plan: &Plan,
-    reference: &Reference,
-    err: &mut E,
-) -> Result<Reported, Fault> {
-    let alloc = rt.alloc();
-    let mut rows = make(rt, words.jobs, plan, reference, err)?;
-    let counts = Counts::of(rows.as_slice());
-    let told = all_told(alloc, matches, plan, &mut rows)?;
-    let text = report(alloc, matches, words.format, told.as_slice(), counts)?;
-    Ok(Reported { text, counts })
-}
-
-/// The report on the orders of turns, or else on the runs with a failure.
-fn reported<R: Files + Clock + Threads + Sync + AllocGlobal, E: Write + IsTerminal>(
-    rt: &R,
-    matches: &ArgMatches,
-    words: Words,
-    plan: &Plan,
-    reference: &Reference,
-    err: &mut E,
-) -> Result<Reported, Fault> {
-    match words.orders {
-        Some(orders) => orders_reported(rt, matches, words, orders, plan, reference, err),
-        None => failures(rt, matches, words, plan, reference, err),
-    }
-}
-
-fn write_flushed<W: Write>(text: &str, writer: &mut W) -> bool {
-    writer.write_all(text.as_bytes()).is_ok() && writer.flush().is_ok()
-}
-
-/// Writes the report to the file, or else to `out`.
-fn write<F: Write + Drop, O: Write>(
-    alloc: Global,
-    text: &str,
-    file: Option<F>,
-    out: &mut O,
+    reference: &Reached,
+    runs: usize,
+    writer: &mut W,
 ) -> Result<(), Fault> {
-    let written = match file {
-        Some(mut file) => write_flushed(text, &mut file),
-        None => write_flushed(text, out),
+    if !words.is_streamed() || words.format == Format::Json {
+        return Ok(());
+    }
+    let head = head(alloc, &plan.setup, reference, runs)?;
+    write(alloc, head.as_str(), writer)
+}
+
+/// The command that shows the first of the worst runs, and how many runs came to what.
+fn foot_of(
+    alloc: Global,
+    matches: &ArgMatches,
+    plan: &Plan,
+    reference: &Reached,
+    calls: &TracedCalls,
+    rows: &[Row],
+    tally: &Tally,
+) -> Result<String, Fault> {
+    let worst = match worst(rows) {
+        Some(row) => Some(told(alloc, matches, plan, reference, calls, row)?),
+        None => None,
     };
-    if written {
-        Ok(())
-    } else {
-        Err(Fault::output(format!(in alloc; "the report could not be written")))
+    Ok(foot(alloc, &plan.setup, worst.as_ref(), tally)?)
+}
+
+/// What is left to write once the runs are made: the counts, and the calls with their outcomes, where runs weren't
+/// written one by one.
+fn rest_of(
+    alloc: Global,
+    matches: &ArgMatches,
+    words: Words,
+    plan: &Plan,
+    reference: &Reached,
+    calls: &TracedCalls,
+    rows: &[Row],
+    tally: &Tally,
+) -> Result<String, Fault> {
+    if words.format == Format::Json {
+        return match counts_object(alloc, tally) {
+            Ok(counts) => Ok(counts),
+            Err(_) => Err(Fault::Memory),
+        };
+    }
+    if words.style.each {
+        return foot_of(alloc, matches, plan, reference, calls, rows, tally);
+    }
+    let told = all_told(alloc, matches, plan, reference, calls, rows)?;
+    let told = told.as_slice();
+    Ok(table(alloc, &plan.setup, reference, told, tally, words.style)?)
+}
+
+/// Writes the rest of the report on these rows, and gives the exit status.
+fn finish<W: Write>(
+    alloc: Global,
+    matches: &ArgMatches,
+    words: Words,
+    plan: &Plan,
+    reference: &Reached,
+    calls: &TracedCalls,
+    rows: &[Row],
+    writer: &mut W,
+) -> Result<u8, Fault>
+    ensures { IfOk result (λ s. s ≡ status (verdicts_in rows.now)) }
+{
+    let verdicts = verdicts_of(alloc, rows)?;
+    let verdicts = verdicts.as_slice();
+    let tally = tally_of(alloc, verdicts)?;
+    let rest = rest_of(alloc, matches, words, plan, reference, calls, rows, &tally)?;
+    write(alloc, rest.as_str(), writer)?;
+    Ok(status(verdicts))
+}
+
+/// Makes the runs with a failure, and reports them; gives the exit status.
+fn failures<R: Clock + Threads + Sync + AllocGlobal, W: Write, E: Write + IsTerminal>(
+    rt: &R,
+    matches: &ArgMatches,
+    words: Words,
+    plan: &Plan,
+    reference: &Reached,
+    writer: &mut W,
+    err: &mut E,
+) -> Result<u8, Fault>
+    ensures { IfOk result (IsOfRows plan.now reference.now) }
+{
+    let alloc = rt.alloc();
+    let calls = traced_calls(alloc, &plan.setup, reference.log.as_slice())?;
+    let cases = wanted_cases(alloc, plan, reference, &calls)?;
+    let cases = cases.as_slice();
+    write_head(alloc, words, plan, reference, cases.len(), writer)?;
+    let rows = make(
+        rt, matches, words, plan, reference, &calls, cases, writer, err,
+    )?;
+    let rows = rows.as_slice();
+    let status = finish(alloc, matches, words, plan, reference, &calls, rows, writer)?;
+    Ok(status)
+}
+
+/// Reports the orders of turns, or else the runs with a failure; gives the exit status.
+fn report<R: Files + Clock + Threads + Sync + AllocGlobal, W: Write, E: Write + IsTerminal>(
+    rt: &R,
+    matches: &ArgMatches,
+    words: Words,
+    plan: &Plan,
+    reference: &Reached,
+    writer: &mut W,
+    err: &mut E,
+) -> Result<u8, Fault> {
+    match words.orders {
+        Some(orders) => {
+            orders_reported(rt, matches, words, orders, plan, reference, writer, err)
+        }
+        None => failures(rt, matches, words, plan, reference, writer, err),
     }
 }
 
-/// Makes the sweep that the words ask for, and gives the exit status. The report is written once all runs are made.
+/// Reports to a file: line by line, or what takes the place of an older report once it is whole.
+fn report_to_file<R: Files + Clock + Threads + Sync + AllocGlobal, E: Write + IsTerminal>(
+    rt: &R,
+    matches: &ArgMatches,
+    words: Words,
+    plan: &Plan,
+    reference: &Reached,
+    path: &str,
+    err: &mut E,
+) -> Result<u8, Fault> {
+    if words.is_streamed() {
+        let mut file = create(rt, path)?;
+        return report(rt, matches, words, plan, reference, &mut file, err);
+    }
+    let mut text = Vec::new(rt.alloc());
+    let status = report(rt, matches, words, plan, reference, &mut text, err)?;
+    replace(rt, path, text.as_slice())?;
+    Ok(status)
+}
+
+/// The environment asks for no colors (no-color.org).
+fn is_plain<R: Env + AllocGlobal>(rt: &R) -> bool {
+    match env::var(rt, "NO_COLOR") {
+        Ok(value) => !value.is_empty(),
+        Err(_) => false,
+    }
+}
+
+/// Makes the sweep that the words ask for, and gives the exit status.
 pub fn sweep<
-    R: Files + Clock + Threads + Sync + AllocGlobal,
+    R: Env + Files + Clock + Threads + Sync + AllocGlobal,
     I: Read + IsTerminal,
-    O: Write,
+    O: Write + IsTerminal,
     E: Write + IsTerminal,
 >(
     rt: &R,
@@ -203,14 +212,16 @@ pub fn sweep<
     err: &mut E,
 ) -> Result<u8, Fault> {
     let alloc = rt.alloc();
-    let words = words_of(alloc, matches)?;
+    let words = words_of(alloc, matches, out.is_terminal() && !is_plain(rt))?;
     let plan = read_plan(rt, matches, input, err)?;
-    let file = open(rt, matches.get_str("output"))?;
+    let path = path_of(matches);
+    check(rt, path)?;
     let reference = reference(alloc, &plan.setup, explained)?;
     if explained {
         explain(alloc, &plan, &reference, err)?;
     }
-    let report = reported(rt, matches, words, &plan, &reference, err)?;
-    write(alloc, report.text.as_str(), file, out)?;
-    Ok(report.counts.status())
+    match path {
+        Some(path) => report_to_file(rt, matches, words, &plan, &reference, path, err),
+        None => report(rt, matches, words, &plan, &reference, out, err),
+    }
 }

@@ -2,8 +2,8 @@
 use Rattle.std.specs.Prelude.{◌≡◌, ℕ, suc, ◌-◌, ◌^◌, nat_lt, min, if◌then◌else◌, List, [], ◌∷◌, ◌++◌, length, set, All, Option, Some, None}
 use Rattle.std.specs.List.{slice_get}
 use Rattle.lx_abi.specs.declared.schedule.Word.{Word}
-use Rattle.sweep_rows.specs.Kinds.{EndsAs, Leaves}
-use Rattle.sweep_rows.specs.declared.kinds.Ending.{Ending}
+use Rattle.sweep_rows.specs.Endings.{EndsAs, Leaves}
+use Rattle.sweep_rows.specs.declared.endings.Ending.{Ending}
 use Rattle.sweep_orders.specs.declared.found.Found.{Found}
 
 -- both have come to their end or neither, with one status, console and files

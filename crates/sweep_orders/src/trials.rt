@@ -26,7 +26,6 @@ pub(crate) fn run_plan(alloc: Global, setup: &Setup, plan: &Plan) -> Result<Kern
         plan.words.as_slice(),
         setup.limit,
         Script::empty(alloc),
-        true,
     ) {
         Ok(kernel) => Ok(kernel),
         Err(_) => Err(AllocError),

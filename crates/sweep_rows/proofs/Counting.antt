@@ -11,10 +11,13 @@ use Rattle.lx_abi.specs.Log.{is_entry, entries}
 use Rattle.lx_abi.specs.Occurrences.{count_of}
 use Rattle.lx_abi.specs.Scripts.{includes}
 use Rattle.lx_model.specs.Kernel.{traces}
-use Rattle.sweep_rows.specs.declared.entries.Occurrence.{Occurrence}
+use Rattle.sweep_rows.specs.declared.known.Occurrence.{Occurrence}
+use Rattle.sweep_rows.specs.declared.known.Known.{Known}
 use Rattle.sweep_rows.specs.declared.entries.Rows.{Rows}
 use Rattle.sweep_rows.specs.Entries.{is_nth, has, more}
 use Rattle.sweep_rows.specs.Counts.{Counted, is_new, IsTold, IsAdded}
+use Rattle.sweep_rows.specs.Known.{occurrence_at, occurrence_in, IsKnown}
+use Rattle.sweep_rows.proofs.Knowing.{known_there}
 
 -- Entries of a log and an item
 
@@ -102,7 +105,7 @@ module _ (set : Set) (follow : Bool) (past : List Item) (pid : ℕ) (call : Call
   pub entry_of_others : r1.found ≡ r.found → r1.told ≡ r.told → (includes set call.number && traces follow pid) ≡ false → IsAdded set follow past item r r1
   entry_of_others found told other = record {
     found = ap (λ v. v.items) found ∙ sym (append-nil r.found.items)
-        ∙ ap (λ b. r.found.items ++ cond (b && not (has r.found.items call.number (suc (entries pid call.number past)))) (record { pid = pid; call = call; n = suc (entries pid call.number past) } ∷ []) []) (sym other);
+        ∙ ap (λ b. r.found.items ++ cond (b && not (has r.found.items call.number (suc (entries pid call.number past)))) (occurrence_at past pid call (suc (entries pid call.number past)) ∷ []) []) (sym other);
     counted = record {
       entered = counted_entry;
       told = λ number n. ap (λ v. has v.items number n) found ∙ c.told number n ∙ ap (λ t. nat_lt 0 n && nat_le n (count_of t 0 number)) (sym told);
@@ -114,7 +117,8 @@ module _ (set : Set) (follow : Bool) (past : List Item) (pid : ℕ) (call : Call
   }
 
   -- that is meant
-  module _ (r' : Rows) (meant : (includes set call.number && traces follow pid) ≡ true) (found : r1.found ≡ r.found) (told : r1.told ≡ r.told) (t : IsTold r1 pid call r') where
+  module _ (r' : Rows) (meant : (includes set call.number && traces follow pid) ≡ true) (found : r1.found ≡ r.found) (told : r1.told ≡ r.told)
+      (known : Known) (k : IsKnown past known) (t : IsTold known r1 pid call r') where
     e : ℕ
     e = entries pid call.number past
 
@@ -138,22 +142,24 @@ module _ (set : Set) (follow : Bool) (past : List Item) (pid : ℕ) (call : Call
         of false b d f g h = absurd (grind (arith, nat_tests, f))
 
     new_row : List Occurrence
-    new_row = record { pid = pid; call = call; n = suc (entries pid call.number past) } ∷ []
+    new_row = occurrence_at past pid call (suc (entries pid call.number past)) ∷ []
 
-    adds : more set follow past r.found.items item ≡ cond new (record { pid = pid; call = call; n = suc (entries pid call.number past) } ∷ []) []
+    adds : more set follow past r.found.items item ≡ cond new (occurrence_at past pid call (suc (entries pid call.number past)) ∷ []) []
     adds =
-        ap₂ (λ a b. cond (a && not b) (record { pid = pid; call = call; n = suc (entries pid call.number past) } ∷ []) []) meant (c.told call.number (suc (entries pid call.number past)))
-        ∙ ap (λ b. cond b (record { pid = pid; call = call; n = suc (entries pid call.number past) } ∷ []) []) (lacks (entries pid call.number past) (count_of r.told 0 call.number) ∙ sym new_is)
+        ap₂ (λ a b. cond (a && not b) (occurrence_at past pid call (suc (entries pid call.number past)) ∷ []) []) meant (c.told call.number (suc (entries pid call.number past)))
+        ∙ ap (λ b. cond b (occurrence_at past pid call (suc (entries pid call.number past)) ∷ []) []) (lacks (entries pid call.number past) (count_of r.told 0 call.number) ∙ sym new_is)
 
-    found_is : r'.found.items ≡ r.found.items ++ cond new (record { pid = pid; call = call; n = suc (entries pid call.number past) } ∷ []) []
-    found_is = t.found ∙ ap₂ (λ v n. v.items ++ cond new (record { pid = pid; call = call; n = n } ∷ []) []) found here
+    found_is : r'.found.items ≡ r.found.items ++ cond new (occurrence_at past pid call (suc (entries pid call.number past)) ∷ []) []
+    found_is =
+        t.found ∙ ap₂ (λ v n. v.items ++ cond new (occurrence_in known pid call n ∷ []) []) found here
+        ∙ ap (λ o. r.found.items ++ cond new (o ∷ []) []) (known_there past known k pid call (suc (entries pid call.number past)))
 
     -- how many occurrences are told of a call by now
     told_is : (number : ℕ) → count_of r'.told 0 number ≡ (if new && (number == call.number) then 1 else 0) + count_of r.told 0 number
     told_is number = t.told number ∙ ap (λ x. (if new && (number == call.number) then 1 else 0) + count_of x 0 number) told
 
     has_by : (number n x : ℕ) (b : Bool) → b ≡ nat_lt (count_of r.told 0 call.number) (suc (entries pid call.number past)) → entries pid call.number past ≤ count_of r.told 0 call.number → count_of r.told 0 number ≡ x →
-        ((nat_lt 0 n && nat_le n x) || has (cond b (record { pid = pid; call = call; n = suc (entries pid call.number past) } ∷ []) []) number n)
+        ((nat_lt 0 n && nat_le n x) || has (cond b (occurrence_at past pid call (suc (entries pid call.number past)) ∷ []) []) number n)
         ≡ (nat_lt 0 n && nat_le n ((if b && (number == call.number) then 1 else 0) + x))
     has_by number n x false is l e = or_none (nat_lt 0 n && nat_le n x) ∙ ap (λ y. nat_lt 0 n && nat_le n y) (sym (no_more x))
       where
@@ -223,8 +229,8 @@ module _ (set : Set) (follow : Bool) (past : List Item) (pid : ℕ) (call : Call
             entered = λ p n. ap (λ x. count_of x p n) t.entered ∙ counted_entry p n;
             told = λ number n.
                 ap (λ rows. has rows number n) found_is
-                ∙ list_any-append (is_nth number n) r.found.items (cond new (record { pid = pid; call = call; n = suc (entries pid call.number past) } ∷ []) [])
-                ∙ ap (λ b. b || has (cond new (record { pid = pid; call = call; n = suc (entries pid call.number past) } ∷ []) []) number n) (c.told number n)
+                ∙ list_any-append (is_nth number n) r.found.items (cond new (occurrence_at past pid call (suc (entries pid call.number past)) ∷ []) [])
+                ∙ ap (λ b. b || has (cond new (occurrence_at past pid call (suc (entries pid call.number past)) ∷ []) []) number n) (c.told number n)
                 ∙ has_by number n (count_of r.told 0 number) new new_is least refl
                 ∙ ap (λ x. nat_lt 0 n && nat_le n x) (sym (told_is number));
             below = λ p number it.

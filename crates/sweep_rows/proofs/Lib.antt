@@ -1,2 +1,4 @@
 pub mod Counting
 pub mod Alone
+pub mod Holding
+pub mod Knowing

@@ -8,7 +8,9 @@ use Rattle.lx_abi.specs.Occurrences.{count_of}
 use Rattle.lx_abi.specs.Scripts.{includes}
 use Rattle.lx_model.specs.Kernel.{traces}
 use Rattle.sweep_rows.specs.declared.entries.Rows.{Rows}
+use Rattle.sweep_rows.specs.declared.known.Known.{Known}
 use Rattle.sweep_rows.specs.Entries.{has, more}
+use Rattle.sweep_rows.specs.Known.{occurrence_in}
 
 -- the counts are those of this log
 pub record Counted (set : Set) (follow : Bool) (past : List Item) (r : Rows) : Type 0 where
@@ -23,10 +25,10 @@ pub record Counted (set : Set) (follow : Bool) (past : List Item) (r : Rows) : T
 abbrev pub is_new : Rows → ℕ → ℕ → Bool
 is_new r p number = nat_lt (count_of r.told 0 number) (count_of r.entered p number)
 
-pub record IsTold (r : Rows) (p : ℕ) (call : Call) (r' : Rows) : Type 0 where
+pub record IsTold (known : Known) (r : Rows) (p : ℕ) (call : Call) (r' : Rows) : Type 0 where
   pub entered : r'.entered ≡ r.entered
   pub found : r'.found.items ≡ r.found.items
-      ++ cond (is_new r p call.number) (record { pid = p; call = call; n = count_of r.entered p call.number } ∷ []) []
+      ++ cond (is_new r p call.number) (occurrence_in known p call (count_of r.entered p call.number) ∷ []) []
   pub told : (number : ℕ) → count_of r'.told 0 number
       ≡ (if is_new r p call.number && (number == call.number) then 1 else 0) + count_of r.told 0 number
 

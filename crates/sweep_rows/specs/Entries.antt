@@ -8,7 +8,8 @@ use Rattle.lx_abi.specs.declared.script.Set.{Set}
 use Rattle.lx_abi.specs.Log.{entries}
 use Rattle.lx_abi.specs.Scripts.{includes}
 use Rattle.lx_model.specs.Kernel.{traces}
-use Rattle.sweep_rows.specs.declared.entries.Occurrence.{Occurrence}
+use Rattle.sweep_rows.specs.Known.{occurrence_at}
+use Rattle.sweep_rows.specs.declared.known.Occurrence.{Occurrence}
 
 -- the nth occurrence of the call with this number
 abbrev pub is_nth : ℕ → ℕ → Occurrence → Bool
@@ -25,7 +26,7 @@ more set follow past rows (Enter pid call) =
     cond
     ((includes set call.number && traces follow pid)
     && not (has rows call.number (suc (entries pid call.number past))))
-    (record { pid = pid; call = call; n = suc (entries pid call.number past) } ∷ []) []
+    (occurrence_at past pid call (suc (entries pid call.number past)) ∷ []) []
 more set follow past rows (Done pid call result replaced) = []
 more set follow past rows (Taken pid signal cause) = []
 more set follow past rows (Stopped pid signal) = []

@@ -1,5 +1,12 @@
 pub mod Entries
 pub mod Counts
-pub mod Kinds
+pub mod Descriptors
+pub mod Known
+pub mod Streams
+pub mod Calls
+pub mod Endings
+pub mod Files
+pub mod Verdicts
+pub mod Summary
+pub mod Possible
 pub mod Failures
-pub mod Differences

@@ -7,18 +7,11 @@ ghost use Rattle.lx_abi.specs.declared.log.Item.{Item as LogItem};
 ghost use Rattle.lx_model.specs.Kernel.{traces};
 ghost use Rattle.sweep_rows.specs.Entries.{rows_of};
 ghost use Rattle.sweep_rows.specs.Counts.{Counted, IsTold, IsAdded};
+ghost use Rattle.sweep_rows.specs.Known.{IsKnown};
 
+use crate::known::{Known, Occurrence};
 use lx_abi::{Call, Item, Occurrences, Set};
 use std::alloc::{AllocError, Global};
-
-/// The nth entry of a process into a call, counted from 1.
-#[derive(Clone, Copy, Debug, PartialEq, Eq)]
-pub struct Occurrence {
-    /// The first process that has entered the call so often.
-    pub pid: u32,
-    pub call: Call,
-    pub n: u64,
-}
 
 /// Occurrences so far, and what they are counted by.
 #[derive(Drop)]
@@ -39,21 +32,21 @@ fn is_meant(set: &Set, follow: bool, pid: u32, number: u64) -> bool
 
 impl Rows {
     /// The latest entry of a process into a call is found, if no process has entered the call so often before.
-    fn tell(&mut self, pid: u32, call: Call) -> Result<(), AllocError>
-        ensures { OnOk result (IsTold self.old pid call self.new) }
+    fn tell(&mut self, pid: u32, call: Call, known: &Known) -> Result<(), AllocError>
+        ensures { OnOk result (IsTold known.now self.old pid call self.new) }
     {
         let n = self.entered.latest(pid, call.number);
         if n <= self.told.latest(0, call.number) {
             return Ok(());
         }
         self.told.count(0, call.number)?;
-        self.found.push(Occurrence { pid, call, n })?;
+        self.found.push(known.occurrence(pid, call, n))?;
         Ok(())
     }
 
-    /// One item more of the log.
-    fn add(&mut self, set: &Set, follow: bool, item: &Item) -> Result<(), AllocError>
-        ensures { OnOk result ((past : List LogItem) → Counted set.now follow past self.old
+    /// One item more of a log that tells this.
+    fn add(&mut self, set: &Set, follow: bool, item: &Item, known: &Known) -> Result<(), AllocError>
+        ensures { OnOk result ((past : List LogItem) → IsKnown past known.now → Counted set.now follow past self.old
             → IsAdded set.now follow past item.now self.old self.new) }
     {
         let Item::Enter { pid, call } = item else {
@@ -61,7 +54,7 @@ impl Rows {
         };
         self.entered.count(*pid, call.number)?;
         if is_meant(set, follow, *pid, call.number) {
-            self.tell(*pid, *call)?;
+            self.tell(*pid, *call, known)?;
         }
         Ok(())
     }
@@ -82,9 +75,11 @@ pub fn occurrences(
         entered: Occurrences::new(alloc),
         told: Occurrences::new(alloc),
     };
+    let mut known = Known::new(alloc);
     let mut left = log;
     while let Some((item, rest)) = left.split_first() {
-        rows.add(set, follow, item)?;
+        rows.add(set, follow, item, &known)?;
+        known.add(item)?;
         left = rest;
     }
     Ok(rows.found)

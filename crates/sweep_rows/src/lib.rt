@@ -1,15 +1,26 @@
-//! What a sweep is made of, beside its runs: which occurrences of calls a log has, the script by which one of them
-//! fails, what came of a run beside another, and what differs.
+//! What a sweep is made of, beside its runs: which occurrences of calls a log has, which errors they can have, the
+//! script by which one of them fails, and what came of a run beside another.
 #![tactic(auto)]
 
-pub mod differences;
+pub mod calls;
+pub mod descriptors;
+pub mod endings;
 pub mod entries;
 pub mod failures;
-pub mod kinds;
+pub mod files;
+pub mod known;
+pub mod possible;
+pub mod streams;
+pub mod summary;
+pub mod verdicts;
 
-pub use differences::{
-    Change, ConsoleDifference, FileDifference, console_difference, file_differences,
-};
-pub use entries::{Occurrence, occurrences};
+pub use descriptors::{Descriptors, Target, Use};
+pub use endings::{Ending, ends_as, first_word, leaves_the_same};
+pub use entries::occurrences;
 pub use failures::{Failure, failing};
-pub use kinds::{Ending, Kind, ends_as, first_word, kind_of, leaves_the_same};
+pub use files::{FileNote, Word, file_notes};
+pub use known::Occurrence;
+pub use possible::{possible_errors, tells_of_loss};
+pub use streams::{Streams, streams_of};
+pub use summary::{count, name_of, rank, status};
+pub use verdicts::{Facts, Reached, Verdict, facts_of, is_finding, verdict_of};

@@ -7,18 +7,25 @@ use Rattle.lx_abi.specs.declared.script.Set.{Set}
 use Rattle.lx_abi.specs.declared.script.Set.TheVariants.{AllBut}
 use Rattle.lx_abi.specs.Scripts.{includes}
 use Rattle.sweep_rows.specs.Entries.{rows_of}
-use Rattle.sweep_rows.specs.declared.entries.Occurrence.{Occurrence}
+use Rattle.sweep_rows.specs.Possible.{possible_errors, tells_of_loss}
+use Rattle.sweep_rows.specs.declared.known.Occurrence.{Occurrence}
 use Rattle.sweep_runs.specs.declared.chosen.Case.{Case}
+use Rattle.sweep_runs.specs.declared.chosen.Errors.{Errors}
+use Rattle.sweep_runs.specs.declared.chosen.Errors.TheVariants.{Possible, These}
 use Rattle.sweep_runs.specs.declared.chosen.Wanted.{Wanted}
 
 abbrev pub case_of : Occurrence → Errno → Case
-case_of o e = record { occurrence = o; error = e }
+case_of o error = record { occurrence = o; error = error; tells = tells_of_loss o error }
 
 abbrev pub cases_at : Occurrence → List Errno → List Case
 cases_at o errors = map (case_of o) errors
 
+abbrev pub errors_at : Occurrence → Errors → List Errno
+errors_at o Possible = possible_errors o
+errors_at o (These errors) = errors.items
+
 abbrev pub wanted_at : Occurrence → Wanted → List Case
-wanted_at o w = cond (includes w.calls o.call.number) (cases_at o w.errors.items) []
+wanted_at o w = cond (includes w.calls o.call.number) (cases_at o (errors_at o w.errors)) []
 
 abbrev pub all_at : List Wanted → Occurrence → List Case
 all_at wanted o = flat_map (wanted_at o) wanted

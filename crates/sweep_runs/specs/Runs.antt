@@ -8,8 +8,9 @@ use Rattle.lx_kernel.specs.Outcomes.{outcome_in}
 use Rattle.lx_kernel.specs.Runs.{Run, mode_in}
 use Rattle.pt_schedule.specs.Schedules.{worded}
 use Rattle.plain_run.specs.Runs.{RunsTo}
-use Rattle.sweep_rows.specs.declared.kinds.Ending.{Ending}
-use Rattle.sweep_runs.specs.declared.runs.Reference.{Reference}
+use Rattle.sweep_rows.specs.Streams.{streams_of}
+use Rattle.sweep_rows.specs.declared.endings.Ending.{Ending}
+use Rattle.sweep_rows.specs.declared.verdicts.Reached.{Reached}
 use Rattle.sweep_runs.specs.declared.runs.Setup.{Setup}
 
 -- some process has not ended
@@ -24,12 +25,14 @@ ending_of k = record { outcome = outcome_in k.running.shared; alive = is_alive k
 abbrev pub ComesTo : Setup → List Rule → Run → Type 0
 ComesTo setup script k = RunsTo (first_run setup.boot script) (worded setup.turns.items setup.limit) k
 
--- the same, with its log kept or not
-abbrev pub ComesWith : Bool → Setup → List Rule → Run → Type 0
-ComesWith keeps setup script k =
-    RunsTo (record (first_run setup.boot script) { keeps_log = keeps }) (worded setup.turns.items setup.limit) k
-
--- what a run left and logged
-pub record IsReference (k : Run) (r : Reference) : Type 0 where
+-- what a run left, logged and said
+pub record IsReached (k : Run) (r : Reached) : Type 0 where
   pub ending : r.ending ≡ ending_of k
   pub log : r.log.items ≡ k.running.log
+  pub streams : r.streams ≡ streams_of r.log.items r.ending.outcome.console
+
+-- what the run under a script came to
+pub record Reaches (setup : Setup) (script : List Rule) (r : Reached) : Type 0 where
+  pub kernel : Run
+  pub run : ComesTo setup script kernel
+  pub reached : IsReached kernel r

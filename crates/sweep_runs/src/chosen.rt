@@ -2,18 +2,26 @@
 
 ghost use Rattle.std.specs.Prelude.{◌≡◌, ◌++◌, IfOk, OnOk};
 ghost use Rattle.std.specs.List.{flat_map};
-ghost use Rattle.sweep_runs.specs.Cases.{cases_of, cases_at, wanted_at, all_at};
+ghost use Rattle.sweep_runs.specs.Cases.{cases_of, case_of, cases_at, wanted_at, all_at};
 
 use containers::Seq;
 use lx_abi::{Errno, Item, Set};
 use std::alloc::{AllocError, Global};
-use sweep_rows::{Occurrence, occurrences};
+use sweep_rows::{Occurrence, occurrences, possible_errors, tells_of_loss};
+
+/// The errors that calls are to fail with.
+#[derive(Drop)]
+pub enum Errors {
+    /// Those that an occurrence can have.
+    Possible,
+    These(Vec<Errno>),
+}
 
 /// Calls that are to fail, and the errors that they are to fail with.
 #[derive(Drop)]
 pub struct Wanted {
     pub calls: Set,
-    pub errors: Vec<Errno>,
+    pub errors: Errors,
 }
 
 /// An occurrence of a call, and the error that it fails with.
@@ -21,6 +29,8 @@ pub struct Wanted {
 pub struct Case {
     pub occurrence: Occurrence,
     pub error: Errno,
+    /// The error tells that data was lost.
+    pub tells: bool,
 }
 
 /// Adds a case for each error.
@@ -34,29 +44,42 @@ fn add_errors(
     let mut left = errors;
     while let Some((error, rest)) = left.split_first() {
         let error = *error;
-        cases.push(Case { occurrence, error })?;
+        let tells = tells_of_loss(&occurrence, error);
+        cases.push(Case {
+            occurrence,
+            error,
+            tells,
+        })?;
         left = rest;
     }
     Ok(())
 }
 
-/// Adds the cases of an occurrence whose call is wanted so.
+/// Adds the cases of an occurrence whose call is wanted.
 fn add_wanted(
+    alloc: Global,
     cases: &mut Vec<Case>,
     occurrence: Occurrence,
     wanted: &Wanted,
 ) -> Result<(), AllocError>
     ensures { OnOk result (cases.new.items ≡ cases.old.items ++ wanted_at occurrence wanted.now) }
 {
-    if wanted.calls.contains(occurrence.call.number) {
-        add_errors(cases, occurrence, wanted.errors.as_slice())
-    } else {
-        Ok(())
+    if !wanted.calls.contains(occurrence.call.number) {
+        return Ok(());
     }
+    match &wanted.errors {
+        Errors::These(errors) => add_errors(cases, occurrence, errors.as_slice())?,
+        Errors::Possible => {
+            let errors = possible_errors(alloc, &occurrence)?;
+            add_errors(cases, occurrence, errors.as_slice())?;
+        }
+    }
+    Ok(())
 }
 
 /// Adds the cases of an occurrence.
 fn add_all(
+    alloc: Global,
     cases: &mut Vec<Case>,
     occurrence: Occurrence,
     wanted: &[Wanted],
@@ -65,7 +88,7 @@ fn add_all(
 {
     let mut left = wanted;
     while let Some((one, rest)) = left.split_first() {
-        add_wanted(cases, occurrence, one)?;
+        add_wanted(alloc, cases, occurrence, one)?;
         left = rest;
     }
     Ok(())
@@ -78,7 +101,7 @@ fn cases_by(alloc: Global, found: &[Occurrence], wanted: &[Wanted]) -> Result<Ve
     let mut cases = Vec::new(alloc);
     let mut left = found;
     while let Some((occurrence, rest)) = left.split_first() {
-        add_all(&mut cases, *occurrence, wanted)?;
+        add_all(alloc, &mut cases, *occurrence, wanted)?;
         left = rest;
     }
     Ok(cases)

@@ -34,12 +34,3 @@ pub fn ending(kernel: &Kernel) -> Result<Ending, AllocError>
         alive: is_alive(kernel),
     })
 }
-
-/// What a kernel has left, which is not run on.
-pub fn ended(kernel: Kernel) -> Result<Ending, AllocError>
-    ensures { IfOk result (λ e. e ≡ ending_of kernel) }
-{
-    let ending = ending(&kernel);
-    drop(kernel);
-    ending
-}

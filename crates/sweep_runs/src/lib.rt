@@ -7,8 +7,8 @@ pub mod progress;
 pub mod runs;
 pub mod sweeping;
 
-pub use chosen::{Case, Wanted, cases};
+pub use chosen::{Case, Errors, Wanted, cases};
 pub use ends::ending;
 pub use progress::{Progress, Silent};
-pub use runs::{Reference, Setup, refer, run_accepted, run_by, run_under};
-pub use sweeping::{Report, Row, rows, run_cases, sweep};
+pub use runs::{Setup, reach, refer, run_accepted, run_by, run_under};
+pub use sweeping::{Report, Row, run_cases, script_of, sweep};

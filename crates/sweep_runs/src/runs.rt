@@ -1,23 +1,22 @@
 //! Whole runs from their boot on.
 
-ghost use Rattle.std.specs.Prelude.{◌≡◌, [], true, IfOk, IfErr, OnOk, None, Some, Err};
+ghost use Rattle.std.specs.Prelude.{◌≡◌, true, [], IfOk, IfErr, OnOk, None, Some, Err};
 ghost use Rattle.lx_boot.specs.Boots.{Refuses, fault_of};
 ghost use Rattle.lx_boot.specs.declared.boots.BootFault.{BootFault as BootRefusal};
 ghost use Rattle.lx_kernel.specs.First.{first_run};
-ghost use Rattle.lx_kernel.specs.Runs.{Run as KernelRun};
 ghost use Rattle.plain_run.specs.Runs.{RunsTo};
 ghost use Rattle.pt_schedule.specs.Schedules.{worded};
-ghost use Rattle.sweep_runs.specs.Runs.{ComesTo, ComesWith, IsReference};
+ghost use Rattle.sweep_runs.specs.Runs.{ComesTo, IsReached, Reaches};
 
 use crate::ends::ending;
-use lx_abi::{Boot, Item, Script, Word};
+use lx_abi::{Boot, Script, Word};
 use lx_boot::{BootFault, boot_fault};
 use lx_copies::Copied;
 use lx_kernel::Kernel;
 use plain_run::{Unwatched, run};
 use pt_schedule::Schedule;
 use std::alloc::{AllocError, Global};
-use sweep_rows::Ending;
+use sweep_rows::{Reached, streams_of};
 
 /// What all runs of a sweep begin with: a boot, the words of a schedule, and the most turns of each.
 #[derive(Drop)]
@@ -35,34 +34,21 @@ fn copy<T: Copy + Drop>(alloc: Global, items: &[T]) -> Result<Vec<T>, AllocError
     Ok(copy)
 }
 
-/// The kernel of a boot under a script, with its log kept or not.
-fn booted(alloc: Global, boot: Boot, script: Script, keeps_log: bool) -> Result<Kernel, BootFault>
-    ensures { IfOk result (λ k. k ≡ record (first_run boot script) { keeps_log = keeps_log }) }
-{
-    if keeps_log {
-        Kernel::boot(alloc, boot, script)
-    } else {
-        Kernel::boot_without_log(alloc, boot, script)
-    }
-}
-
-/// The kernel at the end of the run of a boot under a script, by these words, with its log or without. The fault is the
-/// boot's, or Memory where memory runs out, in the run too.
+/// The kernel at the end of the run of a boot under a script, by these words. The fault is the boot's, or Memory where
+/// memory runs out, in the run too.
 pub fn run_by(
     alloc: Global,
     boot: &Boot,
     words: &[Word],
     limit: u64,
     script: Script,
-    keeps_log: bool,
 ) -> Result<Kernel, BootFault>
-    ensures { IfOk result (RunsTo (record (first_run boot.now script) { keeps_log = keeps_log })
-        (worded words.now limit)) }
+    ensures { IfOk result (RunsTo (first_run boot.now script) (worded words.now limit)) }
 {
     let boot = boot.copy(alloc)?;
     let words = copy(alloc, words)?;
     let mut schedule = Schedule::words(words, limit);
-    let mut kernel = match booted(alloc, boot, script, keeps_log) {
+    let mut kernel = match Kernel::boot(alloc, boot, script) {
         Ok(kernel) => kernel,
         Err(fault) => return Err(fault),
     };
@@ -77,74 +63,69 @@ pub fn run_by(
 
 /// The kernel at the end of the run under a script. The fault is the boot's, or Memory where memory runs out, in the
 /// run too.
-pub fn run_under(
-    alloc: Global,
-    setup: &Setup,
-    script: Script,
-    keeps_log: bool,
-) -> Result<Kernel, BootFault>
-    ensures to { IfOk result (ComesWith keeps_log setup.now script) }
+pub fn run_under(alloc: Global, setup: &Setup, script: Script) -> Result<Kernel, BootFault>
+    ensures { IfOk result (ComesTo setup.now script) }
 {
     let words = setup.turns.as_slice();
-    let kernel = run_by(alloc, &setup.boot, words, setup.limit, script, keeps_log)?;
+    let kernel = run_by(alloc, &setup.boot, words, setup.limit, script)?;
     Ok(kernel)
 }
 
 /// The kernel at the end of the run under a script, of a boot that is accepted.
-pub fn run_accepted(
-    alloc: Global,
-    setup: &Setup,
-    script: Script,
-    keeps_log: bool,
-) -> Result<Kernel, AllocError>
-    ensures { IfOk result (ComesWith keeps_log setup.now script) }
+pub fn run_accepted(alloc: Global, setup: &Setup, script: Script) -> Result<Kernel, AllocError>
+    ensures { IfOk result (ComesTo setup.now script) }
 {
-    match run_under(alloc, setup, script, keeps_log) {
+    match run_under(alloc, setup, script) {
         Ok(kernel) => Ok(kernel),
         Err(_) => Err(AllocError),
     }
 }
 
-/// The run without a failure.
-#[derive(Drop)]
-pub struct Reference {
-    pub ending: Ending,
-    pub log: Vec<Item>,
-}
-
-/// What a run left and logged.
-fn reference_of(alloc: Global, kernel: &Kernel) -> Result<Reference, AllocError>
+/// What a run left, logged and said.
+pub fn reached(alloc: Global, kernel: &Kernel) -> Result<Reached, AllocError>
     requires { kernel.now.keeps_log ≡ true }
-    ensures { IfOk result (IsReference kernel.now) }
+    ensures { IfOk result (IsReached kernel.now) }
 {
-    Ok(Reference {
-        ending: ending(kernel)?,
-        log: copy(alloc, kernel.log())?,
+    let ending = ending(kernel)?;
+    let log = copy(alloc, kernel.log())?;
+    let streams = streams_of(alloc, log.as_slice(), ending.outcome.console.as_slice())?;
+    Ok(Reached {
+        ending,
+        log,
+        streams,
     })
 }
 
-/// What the run without a failure left and logged.
-fn referred(alloc: Global, kernel: Kernel) -> Result<Reference, AllocError>
+/// What a run left, logged and said, which does not go on.
+fn reached_by(alloc: Global, kernel: Kernel) -> Result<Reached, AllocError>
     requires { kernel.keeps_log ≡ true }
-    ensures { IfOk result (IsReference kernel) }
+    ensures { IfOk result (IsReached kernel) }
 {
-    let reference = reference_of(alloc, &kernel);
+    let reached = reached(alloc, &kernel);
     drop(kernel);
-    reference
+    reached
+}
+
+/// What the run under a script came to, of a boot that is accepted.
+pub fn reach(alloc: Global, setup: &Setup, script: Script) -> Result<Reached, AllocError>
+    ensures { IfOk result (Reaches setup.now script) }
+{
+    let kernel = run_accepted(alloc, setup, script)?;
+    let reached = reached_by(alloc, kernel)?;
+    Ok(reached)
 }
 
 /// The run without a failure, of a boot that is accepted.
-fn refer_accepted(alloc: Global, setup: &Setup) -> Result<Reference, AllocError>
-    ensures { IfOk result (λ r. (k : KernelRun) × ComesTo setup.now [] k × IsReference k r) }
+fn refer_accepted(alloc: Global, setup: &Setup) -> Result<Reached, AllocError>
+    ensures { IfOk result (Reaches setup.now []) }
 {
-    let kernel = run_accepted(alloc, setup, Script::empty(alloc), true)?;
-    let reference = referred(alloc, kernel)?;
-    Ok(reference)
+    let reached = reach(alloc, setup, Script::empty(alloc))?;
+    Ok(reached)
 }
 
 /// The run without a failure.
-pub fn refer(alloc: Global, setup: &Setup) -> Result<Reference, BootFault>
-    ensures reference { IfOk result (λ r. (k : KernelRun) × ComesTo setup.now [] k × IsReference k r) }
+pub fn refer(alloc: Global, setup: &Setup) -> Result<Reached, BootFault>
+    ensures reference { IfOk result (Reaches setup.now []) }
     ensures accepted { OnOk result (fault_of setup.now.boot ≡ None) }
     ensures fault { IfErr result (Refuses setup.now.boot) }
 

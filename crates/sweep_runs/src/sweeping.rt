@@ -3,37 +3,43 @@
 ghost use Rattle.std.specs.Prelude.{◌≡◌, None, Some, Err, IfOk, IfErr, OnOk};
 ghost use Rattle.lx_boot.specs.Boots.{Refuses, fault_of};
 ghost use Rattle.lx_boot.specs.declared.boots.BootFault.{BootFault as BootRefusal};
+ghost use Rattle.sweep_rows.specs.Endings.{first_word};
+ghost use Rattle.sweep_rows.specs.Failures.{FailsAlone};
 ghost use Rattle.sweep_runs.specs.Cases.{cases_of};
-ghost use Rattle.sweep_runs.specs.Rows.{failure_of, IsCompared, IsRow, AreRows, IsReport};
+ghost use Rattle.sweep_rows.specs.Files.{file_notes};
+ghost use Rattle.sweep_rows.specs.Verdicts.{facts_of, verdict_of};
+ghost use Rattle.sweep_runs.specs.Rows.{failure_of, IsRow, AreRows, IsReport};
 
 use crate::chosen::{Case, Wanted, cases};
-use crate::ends::ended;
 use crate::progress::Progress;
-use crate::runs::{Reference, Setup, refer, run_accepted};
+use crate::runs::{Setup, reach, refer};
+use containers::Seq;
+use lx_abi::{Boot, Ended, Outcome, Script};
 use lx_boot::BootFault;
 use std::alloc::{AllocError, Global};
 use sweep_rows::{
-    ConsoleDifference, Ending, Failure, FileDifference, Kind, console_difference, failing,
-    file_differences, first_word, kind_of,
+    Ending, Failure, FileNote, Reached, Streams, Verdict, facts_of, failing, file_notes,
+    first_word, verdict_of,
 };
 
 /// A case, and what came of its run.
 #[derive(Drop)]
 pub struct Row {
     pub case: Case,
-    pub kind: Kind,
+    pub verdict: Verdict,
     /// The wait word of process 1, if it ended.
     pub word: Option<u32>,
-    /// How the console differs from the reference's.
-    pub console: Option<ConsoleDifference>,
-    /// The files that differ from the reference's.
-    pub files: Vec<FileDifference>,
+    /// The processes that ended.
+    pub ended: Seq<Ended>,
+    /// The files that the run leaves otherwise than the reference.
+    pub files: Vec<FileNote>,
+    pub streams: Streams,
 }
 
 /// The run without a failure, and a row for each case.
 #[derive(Drop)]
 pub struct Report {
-    pub reference: Reference,
+    pub reference: Reached,
     pub rows: Vec<Row>,
 }
 
@@ -47,33 +53,104 @@ fn failure(case: Case) -> Failure
     }
 }
 
-/// What a run left, beside the reference.
-fn compare(alloc: Global, reference: &Ending, ended: &Ending, case: Case) -> Result<Row, AllocError>
-    ensures row { IfOk result (IsCompared reference.now ended.now) }
-    ensures case { IfOk result (λ r. r.case ≡ case) }
+/// The script by which a case's call fails.
+pub fn script_of(alloc: Global, case: Case) -> Result<Script, AllocError>
+    ensures { IfOk result (FailsAlone (failure_of case)) }
 {
-    let files = file_differences(alloc, &reference.outcome, &ended.outcome)?;
-    Ok(Row {
+    failing(alloc, failure(case))
+}
+
+/// What of a run is told.
+fn row_of(case: Case, verdict: Verdict, files: Vec<FileNote>, run: Reached) -> Row
+    ensures case { result.case ≡ case }
+    ensures verdict { result.verdict ≡ verdict }
+    ensures files { result.files ≡ files }
+    ensures word { result.word ≡ first_word run.ending.outcome }
+    ensures ended { result.ended ≡ run.ending.outcome.ended }
+    ensures streams { result.streams ≡ run.streams }
+{
+    let word = first_word(&run.ending.outcome);
+    let Reached {
+        ending,
+        streams,
+        ..
+    } = run;
+    let Ending { outcome, .. } = ending;
+    let Outcome { ended, .. } = outcome;
+    Row {
         case,
-        kind: kind_of(reference, ended),
-        word: first_word(&ended.outcome),
-        console: console_difference(
-            reference.outcome.console.as_slice(),
-            ended.outcome.console.as_slice(),
-        ),
+        verdict,
+        word,
+        ended,
         files,
-    })
+        streams,
+    }
+}
+
+/// The files that a run leaves otherwise than the reference.
+fn notes_of(
+    alloc: Global,
+    boot: &Boot,
+    reference: &Reached,
+    run: &Reached,
+) -> Result<Vec<FileNote>, AllocError>
+    ensures { IfOk result (λ notes. notes.items
+        ≡ file_notes boot.now.files reference.now.ending.outcome.files run.now.ending.outcome.files) }
+{
+    let given = boot.files.as_slice();
+    let expected = reference.ending.outcome.files.as_slice();
+    file_notes(alloc, given, expected, run.ending.outcome.files.as_slice())
+}
+
+/// What came of a run that leaves these files otherwise.
+fn judge(
+    alloc: Global,
+    reference: &Reached,
+    run: &Reached,
+    notes: &[FileNote],
+    tells: bool,
+) -> Result<Verdict, AllocError>
+    ensures { IfOk result (λ v. v ≡ verdict_of (facts_of reference.now run.now notes.now tells)) }
+{
+    let facts = facts_of(alloc, reference, run, notes, tells)?;
+    Ok(verdict_of(facts))
+}
+
+/// What a run came to, beside the reference.
+fn compare(
+    alloc: Global,
+    boot: &Boot,
+    reference: &Reached,
+    run: Reached,
+    case: Case,
+) -> Result<Row, AllocError>
+    ensures case { IfOk result (λ r. r.case ≡ case) }
+    ensures files { IfOk result (λ r. r.files.items
+        ≡ file_notes boot.now.files reference.now.ending.outcome.files run.ending.outcome.files) }
+    ensures verdict { IfOk result (λ r. r.verdict
+        ≡ verdict_of (facts_of reference.now run r.files.items case.tells)) }
+    ensures word { IfOk result (λ r. r.word ≡ first_word run.ending.outcome) }
+    ensures ended { IfOk result (λ r. r.ended ≡ run.ending.outcome.ended) }
+    ensures streams { IfOk result (λ r. r.streams ≡ run.streams) }
+{
+    let files = notes_of(alloc, boot, reference, &run)?;
+    let verdict = judge(alloc, reference, &run, files.as_slice(), case.tells)?;
+    Ok(row_of(case, verdict, files, run))
 }
 
 /// Makes the run of a case, of a boot that is accepted.
-fn run_case(alloc: Global, setup: &Setup, reference: &Ending, case: Case) -> Result<Row, AllocError>
+fn run_case(
+    alloc: Global,
+    setup: &Setup,
+    reference: &Reached,
+    case: Case,
+) -> Result<Row, AllocError>
     ensures row { IfOk result (IsRow setup.now reference.now) }
     ensures case { IfOk result (λ r. r.case ≡ case) }
 {
-    let script = failing(alloc, failure(case))?;
-    let kernel = run_accepted(alloc, setup, script, false)?;
-    let ended = ended(kernel)?;
-    let row = compare(alloc, reference, &ended, case)?;
+    let script = script_of(alloc, case)?;
+    let reached = reach(alloc, setup, script)?;
+    let row = compare(alloc, &setup.boot, reference, reached, case)?;
     Ok(row)
 }
 
@@ -81,7 +158,7 @@ fn run_case(alloc: Global, setup: &Setup, reference: &Ending, case: Case) -> Res
 pub fn run_cases<P: Progress>(
     alloc: Global,
     setup: &Setup,
-    reference: &Ending,
+    reference: &Reached,
     cases: &[Case],
     progress: &mut P,
 ) -> Result<Vec<Row>, AllocError>
@@ -98,21 +175,21 @@ pub fn run_cases<P: Progress>(
     Ok(rows)
 }
 
-/// Makes a run for each occurrence in the reference's log of a call that is wanted and each error that is wanted of it.
-/// The boot is that of the reference, so no run is refused but for want of memory.
-pub fn rows<P: Progress>(
+/// Makes the run of each case that is wanted of the reference's log. The boot is that of the reference, so no run is
+/// refused but for want of memory.
+fn rows<P: Progress>(
     alloc: Global,
     setup: &Setup,
-    reference: &Reference,
+    reference: &Reached,
     wanted: &[Wanted],
     progress: &mut P,
 ) -> Result<Vec<Row>, AllocError>
-    ensures { IfOk result (λ rows. AreRows setup.now reference.now.ending
+    ensures { IfOk result (λ rows. AreRows setup.now reference.now
         (cases_of wanted.now setup.now.boot.follow reference.now.log.items) rows.items) }
 {
     let log = reference.log.as_slice();
     let cases = cases(alloc, log, wanted, setup.boot.follow)?;
-    let rows = run_cases(alloc, setup, &reference.ending, cases.as_slice(), progress)?;
+    let rows = run_cases(alloc, setup, reference, cases.as_slice(), progress)?;
     Ok(rows)
 }
 

@@ -6,8 +6,8 @@ use lx_boot::BootFault;
 use rv_asm::assemble;
 use std::alloc::Global;
 use std::test::Fail;
-use sweep_rows::Kind;
-use sweep_runs::{Report, Setup, Silent, Wanted, sweep};
+use sweep_rows::Verdict;
+use sweep_runs::{Errors, Report, Setup, Silent, Wanted, sweep};
 use tr_expr::parse_trace;
 
 /// Writes twice whatever comes of it, and exits.
@@ -67,7 +67,7 @@ fn wanted(alloc: Global, calls: &str) -> Result<Vec<Wanted>, Fail> {
     let mut wanted = Vec::new(alloc);
     wanted.push(Wanted {
         calls: parse_trace(alloc, calls)?,
-        errors,
+        errors: Errors::These(errors),
     })?;
     Ok(wanted)
 }
@@ -77,13 +77,18 @@ fn swept(alloc: Global, setup: &Setup, wanted: &[Wanted]) -> Result<Report, Boot
     sweep(alloc, setup, wanted, &mut Silent)
 }
 
-fn letter(kind: Kind) -> char {
-    match kind {
-        Kind::Same => 's',
-        Kind::Reported => 'r',
-        Kind::Lost => 'l',
-        Kind::Killed => 'k',
-        Kind::Hung => 'h',
+fn letter(verdict: Verdict) -> char {
+    match verdict {
+        Verdict::Hung => 'h',
+        Verdict::Killed => 'k',
+        Verdict::Torn => 't',
+        Verdict::Lost => 'l',
+        Verdict::Dropped => 'd',
+        Verdict::Damaged => 'a',
+        Verdict::Warned => 'w',
+        Verdict::Reported => 'r',
+        Verdict::Recovered => 'c',
+        Verdict::Ignored => 'i',
     }
 }
 
@@ -95,7 +100,7 @@ fn letters(alloc: Global, listing: &str, calls: &str) -> Result<String, Fail> {
     match swept(alloc, &setup, wanted.as_slice()) {
         Ok(report) => {
             for row in report.rows.as_slice() {
-                letters.push(letter(row.kind))?;
+                letters.push(letter(row.verdict))?;
             }
         }
         Err(_) => letters.push('?')?,
@@ -109,7 +114,7 @@ fn sweeps_tell_what_came(rt: HostRuntime) -> Result<(), Fail> {
     let rows = [
         (HEEDLESS, "write", "llll"),
         (CAREFUL, "write", "rr"),
-        (PATIENT, "write", "ss"),
+        (PATIENT, "write", "cc"),
         (STUBBORN, "write", "hh"),
         (FRAGILE, "write", "kk"),
         (CAREFUL, "read", ""),

@@ -6,7 +6,7 @@ ghost use Rattle.sweep_runs.specs.Rows.{AreRows};
 
 use std::alloc::{AllocError, Global};
 use std::thread::{Threads, join};
-use sweep_rows::Ending;
+use sweep_rows::Reached;
 use sweep_runs::{Case, Row, Setup, Silent, run_cases};
 
 /// Makes the run of each case, of a boot that is accepted, in so many threads: those of the first cases in one, and the
@@ -18,7 +18,7 @@ pub fn run_split<R: Threads + Sync>(
     alloc: Global,
     jobs: u8,
     setup: &Setup,
-    reference: &Ending,
+    reference: &Reached,
     cases: &[Case],
 ) -> Result<Vec<Row>, AllocError>
     ensures { IfOk result (λ rows. AreRows setup.now reference.now cases.now rows.items) }

@@ -20,6 +20,7 @@ use Rattle.pt_schedule.specs.declared.schedule.Schedule.{Schedule}
 use Rattle.host_wire.specs.Counting.{calls_of, faults_of as faults_of_end, input_of, inner_of}
 use Rattle.host_link.specs.Children.{pipe_of}
 use Rattle.host_link.specs.PipeLinks.{Asks, given_of, faults_of}
+use Rattle.host_link.specs.Streams.{left_in, taken_by}
 use Rattle.host_link.specs.declared.child.ChildLink.{ChildLink}
 use Rattle.host_link.specs.declared.fault.LinkFault.TheVariants.{Inadmissible, Memory}
 use Rattle.tr_core.specs.Settings.{options_by, first_pen}
@@ -69,8 +70,8 @@ IsPlace named (File path) =
 abbrev pub child_answers : {P I O E : Type 0} → (O → Option (List ℕ)) → (I → Option (List ℕ))
     → Answers (ChildLink P I O E)
 child_answers remaining contents a q r b =
-    Asks (λ e. input_of (λ out. reader_remaining remaining out) e) (λ e. contents (inner_of e)) (λ e. calls_of e)
-    (λ e. faults_of_end e) (pipe_of a) q r (pipe_of b)
+    Asks (λ e. input_of (λ out. reader_remaining (λ r. left_in remaining r) out) e)
+    (λ e. taken_by contents (inner_of e)) (λ e. calls_of e) (λ e. faults_of_end e) (pipe_of a) q r (pipe_of b)
 
 abbrev pub child_calls : {P I O E : Type 0} → (O → Option (List ℕ)) → (I → Option (List ℕ))
     → Answers (ChildLink P I O E)

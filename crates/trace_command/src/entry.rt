@@ -5,6 +5,7 @@ use crate::{tracing, words};
 use clap::ArgMatches;
 use clap::error::ErrorKind;
 use front_end::{Fault, print_help, refusal, report, shown_words};
+use host_link::Streams;
 use std::alloc::Global;
 use std::io::{IsTerminal, Read, Write};
 use std::process::Processes;
@@ -22,7 +23,10 @@ pub fn command<
     I: Read + IsTerminal,
     O: Write + Drop,
     E: Write + IsTerminal + Drop,
->(rt: &R, words: &[String], input: &mut I, mut out: O, mut err: E) -> u8 {
+>(rt: &R, words: &[String], input: &mut I, mut out: O, mut err: E) -> u8
+where
+    R::Started: Streams,
+{
     let alloc = rt.alloc();
     match words::parse(alloc, words) {
         Ok(matches) => {
@@ -47,7 +51,10 @@ fn run<
     I: Read + IsTerminal,
     O: Write + Drop,
     E: Write + IsTerminal + Drop,
->(rt: &R, matches: &ArgMatches, explained: bool, input: &mut I, out: O, mut err: E) -> u8 {
+>(rt: &R, matches: &ArgMatches, explained: bool, input: &mut I, out: O, mut err: E) -> u8
+where
+    R::Started: Streams,
+{
     let mut options = match words::trace_options(rt.alloc(), matches) {
         Ok(options) => options,
         Err(fault) => return report(NAME, &fault, explained, &mut err),
@@ -58,12 +65,23 @@ fn run<
         status,
         out,
         mut err,
+        said,
     } = traced;
     drop(out);
-    match status {
+    let status = match status {
         Ok(status) => status,
         Err(fault) => report(NAME, &fault, explained, &mut err),
+    };
+    match said {
+        Some(said) if explained => tell_said(said.as_str(), &mut err),
+        _ => (),
     }
+    status
+}
+
+/// Tells what a host has said. The status is the same, whether this can be written or not.
+fn tell_said<E: Write>(said: &str, err: &mut E) {
+    let _written = writeln!(err, "{NAME}: the host said: {said}");
 }
 
 /// What is wrong with words that the parser refuses for a fault of this kind.

@@ -2,6 +2,7 @@
 
 ghost use Rattle.std.specs.Prelude.{◌≡◌, Ok, IfOk};
 
+use crate::heard::explain_host;
 use crate::kept::Kept;
 use crate::second::make_again;
 use clap::ArgMatches;
@@ -86,9 +87,15 @@ fn out_of_turns(
     }
 }
 
-/// The fault of a run, which for the end of the turns says who waits.
-fn explain_fault(alloc: Global, matches: &ArgMatches, kept: &mut Kept, fault: Fault) -> Fault {
-    match fault {
+/// The fault of a run, which for the end of the turns says who waits, and for a host whether it was late.
+fn explain_fault(
+    alloc: Global,
+    matches: &ArgMatches,
+    kept: &mut Kept,
+    is_late: bool,
+    fault: Fault,
+) -> Fault {
+    match explain_host(fault, is_late) {
         Fault::OutOfTurns(_) => match make_again(alloc, kept) {
             Ok(()) => match kept.record.waits.take() {
                 Some(waits) => out_of_turns(alloc, matches, waits, &kept.record.counts),
@@ -113,12 +120,13 @@ fn explain_status<E: Write>(
     tell_known_hints(alloc, matches, kept, err)
 }
 
-/// A run that ended so. Where its end is explained, a program that couldn't be run and the hints are on `err`, and the
-/// end of the turns in the fault.
+/// A run that ended so, whose host may have been late. Where its end is explained, a program that couldn't be run and
+/// the hints are on `err`, and the end of the turns in the fault.
 pub fn explain<E: Write>(
     alloc: Global,
     matches: &ArgMatches,
     kept: &mut Kept,
+    is_late: bool,
     program: Option<Program>,
     ended: Result<u8, Fault>,
     err: &mut E,
@@ -133,6 +141,6 @@ pub fn explain<E: Write>(
             Ok(()) => Ok(status),
             Err(fault) => Err(fault),
         },
-        Err(fault) => Err(explain_fault(alloc, matches, kept, fault)),
+        Err(fault) => Err(explain_fault(alloc, matches, kept, is_late, fault)),
     }
 }

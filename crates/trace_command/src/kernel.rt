@@ -9,7 +9,7 @@ use crate::fault::host_fault;
 use crate::kept::{Behind, Kept, Record, waits_in};
 use containers::Seq;
 use front_end::Fault;
-use host_link::{ChildLink, Link, LinkFault};
+use host_link::{ChildLink, Link, LinkFault, Streams};
 use lx_abi::{Boot, Boxed, Reply, Request, Script, Word};
 use lx_boot::BootFault;
 use pt_kernel::Schedule;
@@ -67,7 +67,7 @@ fn boot_over<L: Link>(
 }
 
 /// A kernel for a boot that has no fault: in this process, or in one that the program at the path `host` serves, with
-/// these words after `serve`.
+/// these words after `serve`. A host that doesn't take it stays behind.
 pub fn boot_kernel<R: Processes + AllocGlobal>(
     rt: &R,
     host: Option<&str>,
@@ -75,7 +75,10 @@ pub fn boot_kernel<R: Processes + AllocGlobal>(
     boot: Boot,
     turns: Vec<Word>,
     limit: u64,
+    behind: &mut Behind<R::Started>,
 ) -> Result<Kernel<R::Started>, Fault>
+where
+    R::Started: Streams,
     ensures takes { IfOk result
         (λ kernel. Takes R.Started.Stdout.remaining R.Started.Stdin.contents (option_map (λ path. path.now) host.entry)
         boot limit turns.items kernel) }
@@ -86,14 +89,15 @@ pub fn boot_kernel<R: Processes + AllocGlobal>(
     let Some(path) = host else {
         return Ok(Kernel::Here(boot, Schedule::words(turns, limit)));
     };
-    let mut link = match ChildLink::start(rt, path, words) {
+    let patience = behind.kept.asked.patience;
+    let mut link = match ChildLink::start_heard(rt, path, words, patience) {
         Ok(link) => link,
         Err(fault) => return Err(host_fault(fault)),
     };
     match boot_over(rt.alloc(), &mut link, boot, limit, turns) {
         Ok(()) => Ok(Kernel::There(link)),
         Err(fault) => {
-            drop(link);
+            behind.link = Some(link);
             Err(fault)
         }
     }

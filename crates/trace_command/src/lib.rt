@@ -5,6 +5,7 @@ mod entry;
 mod explaining;
 mod fault;
 mod given;
+mod heard;
 mod kept;
 mod kernel;
 mod lines;

@@ -78,7 +78,7 @@ pub fn read_plan<R: Files + AllocGlobal, I: Read + IsTerminal, E: Write + IsTerm
 ) -> Result<Plan, Fault> {
     let expressions = read_expressions(rt.alloc(), matches)?;
     let turns = read_turns(rt, matches.get_str("turns"))?;
-    check_outputs(rt.alloc(), matches)?;
+    check_outputs(rt, matches)?;
     Leavings::of(matches).check(rt)?;
     let boot = boot(rt, matches, options.follow, input, err)?;
     check_boot(rt.alloc(), &boot)?;

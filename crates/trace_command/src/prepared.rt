@@ -25,6 +25,7 @@ fn asked_by(matches: &ArgMatches, options: TraceOptions) -> Asked {
         events: is_given(matches, "turns-out"),
         waits: options.explain,
         limit: options.limit,
+        patience: options.patience,
     }
 }
 

@@ -10,6 +10,7 @@ ghost use Rattle.trace_command.specs.Tracing.{asks_for_files, status_in, value_o
 use crate::explaining::explain;
 use crate::fault::host_fault;
 use crate::given::is_given;
+use crate::heard::{Heard, hear};
 use crate::kept::{Behind, Kept};
 use crate::kernel::{Kernel, boot_kernel};
 use crate::lines::{LineSink, Lines};
@@ -23,7 +24,7 @@ use crate::turns_out::{check_turns, write_turns};
 use crate::words::TraceOptions;
 use clap::ArgMatches;
 use front_end::{Fault, Leavings};
-use host_link::LinkFault;
+use host_link::{LinkFault, Streams};
 use host_wire::{Broken, Sink};
 use lx_abi::{Boot, Outcome, Status, Word};
 use std::alloc::Global;
@@ -41,14 +42,25 @@ fn booted_kernel<R: Processes + AllocGlobal>(
     boot: Boot,
     turns: Vec<Word>,
     limit: u64,
+    behind: &mut Behind<R::Started>,
 ) -> Result<Kernel<R::Started>, Fault>
+where
+    R::Started: Streams,
     ensures takes { IfOk result
         (λ kernel. Takes R.Started.Stdout.remaining R.Started.Stdin.contents (value_of matches.now (codes "host")) boot
         limit turns.items kernel) }
     ensures fault { IfErr result (λ fault. IsSome (value_of matches.now (codes "host")) × IsUnhosted fault) }
 {
     let words = matches.get_strs("host-arg").unwrap_or(&[]);
-    boot_kernel(rt, matches.get_str("host"), words, boot, turns, limit)
+    boot_kernel(
+        rt,
+        matches.get_str("host"),
+        words,
+        boot,
+        turns,
+        limit,
+        behind,
+    )
 }
 
 /// Boots the kernel and runs the tracer.
@@ -62,6 +74,8 @@ fn run_plan<R: Files + Processes + AllocGlobal, O: TraceSink, E: LineSink>(
     out: &mut O,
     err: &mut E,
 ) -> Result<Outcome, Fault>
+where
+    R::Started: Streams,
     ensures { Unmade (Lacks (value_of matches.now (codes "host")) None (IsFile place.entry)) result
         (writer_of O.contents O.puts O.broken out.old) (writer_of O.contents O.puts O.broken out.new)
         (writer_of E.contents E.puts E.broken err.old) (writer_of E.contents E.puts E.broken err.new)
@@ -76,7 +90,7 @@ fn run_plan<R: Files + Processes + AllocGlobal, O: TraceSink, E: LineSink>(
         options,
         turns,
     } = plan;
-    let kernel = match booted_kernel(rt, matches, boot, turns, limit) {
+    let kernel = match booted_kernel(rt, matches, boot, turns, limit, &mut *behind) {
         Ok(kernel) => kernel,
         Err(fault) => {
             drop(script);
@@ -102,6 +116,8 @@ fn run_as_asked<
     out: &mut O,
     err: &mut E,
 ) -> Result<Outcome, Fault>
+where
+    R::Started: Streams,
     ensures { Unmade (Lacks (value_of matches.now (codes "host")) options.workers (IsFile place.entry)) result
         (writer_of O.contents O.puts O.broken out.old) (writer_of O.contents O.puts O.broken out.new)
         (writer_of E.contents E.puts E.broken err.old) (writer_of E.contents E.puts E.broken err.new)
@@ -261,6 +277,8 @@ fn trace_plan<
     out: &mut O,
     err: &mut E,
 ) -> Result<u8, Fault>
+where
+    R::Started: Streams,
     ensures { TracesPlan R.Started R.Started.Stderr R.File.contents R.Started.Stdout.remaining R.Started.Stdin.contents
         matches.now plan options.limit options.workers result
         (writer_of O.contents O.puts O.broken out.old) (writer_of O.contents O.puts O.broken out.new)
@@ -283,6 +301,8 @@ pub struct Traced<O, E> {
     pub status: Result<u8, Fault>,
     pub out: O,
     pub err: E,
+    /// What a host in a process of its own has said beside its replies.
+    pub said: Option<String>,
 }
 
 /// The same, to writers of std.
@@ -295,6 +315,8 @@ fn trace_to<R: Files + Processes + Threads + Wait + Sync + AllocGlobal, O: Write
     out: O,
     err: E,
 ) -> Traced<O, E>
+where
+    R::Started: Streams,
     ensures { TracesOut R.Started R.Started.Stderr R.File.contents R.Started.Stdout.remaining R.Started.Stdin.contents
         matches.now plan options.limit options.workers result.status (O.contents out) (O.contents result.out)
         (E.contents err) (E.contents result.err) }
@@ -306,6 +328,7 @@ fn trace_to<R: Files + Processes + Threads + Wait + Sync + AllocGlobal, O: Write
         status,
         out: out.into_inner(),
         err: err.into_inner(),
+        said: None,
     }
 }
 
@@ -324,6 +347,8 @@ pub fn trace<
     out: O,
     mut err: E,
 ) -> Traced<O, E>
+where
+    R::Started: Streams,
     ensures { TracesWords R.Started R.Started.Stderr R.File.contents R.Started.Stdout.remaining
         R.Started.Stdin.contents matches.now options.limit options.workers result.status (O.contents out)
         (O.contents result.out) }
@@ -339,6 +364,7 @@ pub fn trace<
                 status: Err(fault),
                 out,
                 err,
+                said: None,
             };
         }
     };
@@ -348,15 +374,24 @@ pub fn trace<
         status,
         out,
         mut err,
+        said: _,
     } = traced;
+    let Behind { mut kept, link } = behind;
+    let Heard { is_late, said } = hear(rt.alloc(), link);
     let status = explain(
         rt.alloc(),
         matches,
-        &mut behind.kept,
+        &mut kept,
+        is_late,
         program,
         status,
         &mut err,
     );
-    drop(behind);
-    Traced { status, out, err }
+    drop(kept);
+    Traced {
+        status,
+        out,
+        err,
+        said,
+    }
 }

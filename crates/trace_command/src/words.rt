@@ -16,6 +16,9 @@ const MOST_STRING: u32 = 4096;
 /// The highest column of results.
 const MOST_COLUMN: u32 = 200;
 
+/// The most seconds that a host is waited for: a day.
+const MOST_SECONDS: u32 = 86_400;
+
 const NOTES: &str = "Expressions, after -e:
   trace=SET (or t=SET, or SET alone)   which calls are shown; the last one counts
   inject=SET:PARTS                     what is done to calls, also to those that aren't shown
@@ -85,6 +88,8 @@ pub struct TraceOptions {
     pub limit: u64,
     /// Threads, where they make the turns.
     pub workers: Option<Workers>,
+    /// For how many milliseconds a host is waited for.
+    pub patience: Option<u32>,
     /// Faults are explained.
     pub explain: bool,
 }
@@ -187,7 +192,8 @@ fn with_sets<'a>(alloc: Global, command: Command<'a>) -> Result<Command<'a>, All
     )
 }
 
-fn with_kernel<'a>(alloc: Global, command: Command<'a>) -> Result<Command<'a>, AllocError> {
+/// Adds the options about a host.
+fn with_host<'a>(alloc: Global, command: Command<'a>) -> Result<Command<'a>, AllocError> {
     let command = with_name(
         alloc,
         command,
@@ -202,6 +208,17 @@ fn with_kernel<'a>(alloc: Global, command: Command<'a>) -> Result<Command<'a>, A
         "WORD",
         "Hands this word to the host after serve, any number of times",
     )?;
+    with_name(
+        alloc,
+        command,
+        "host-timeout",
+        "SECONDS",
+        "Ends the run where the host says nothing for so long [default: waits]",
+    )
+}
+
+fn with_kernel<'a>(alloc: Global, command: Command<'a>) -> Result<Command<'a>, AllocError> {
+    let command = with_host(alloc, command)?;
     let command = with_name(
         alloc,
         command,
@@ -276,13 +293,46 @@ fn small_number(
     Ok(u32::try_from(value).unwrap_or(most).min(most))
 }
 
-/// Words for a host only where there is one.
+/// Words for a host, and a time for it, only where there is one.
 fn check_host(alloc: Global, matches: &ArgMatches) -> Result<(), Fault> {
-    match (matches.get_str("host"), matches.get_strs("host-arg")) {
-        (None, Some(words)) if !words.is_empty() => Err(Fault::usage(format!(in alloc;
+    if matches.get_str("host").is_some() {
+        return Ok(());
+    }
+    if !matches.get_strs("host-arg").unwrap_or(&[]).is_empty() {
+        return Err(Fault::usage(format!(in alloc;
             "--host-arg: without --host there is no host to hand words to"
+        )));
+    }
+    match matches.get_str("host-timeout") {
+        Some(_) => Err(Fault::usage(format!(in alloc;
+            "--host-timeout: without --host there is no host to wait for"
         ))),
-        _ => Ok(()),
+        None => Ok(()),
+    }
+}
+
+/// A number in decimal digits, from 1 to the most seconds that a host is waited for.
+fn seconds_in(digits: &str) -> Option<u32> {
+    if digits.starts_with('+') {
+        return None;
+    }
+    match digits.parse::<u32>() {
+        Ok(seconds) if (1..=MOST_SECONDS).contains(&seconds) => Some(seconds),
+        Ok(_) | Err(_) => None,
+    }
+}
+
+/// For how many milliseconds a host is waited for.
+fn patience(alloc: Global, matches: &ArgMatches) -> Result<Option<u32>, Fault> {
+    let Some(digits) = matches.get_str("host-timeout") else {
+        return Ok(None);
+    };
+    match seconds_in(digits) {
+        Some(seconds) => Ok(Some(seconds.saturating_mul(1000))),
+        None => Err(Fault::usage(format!(in alloc;
+            "--host-timeout {}: not a number from 1 to {MOST_SECONDS}",
+            Shown(digits)
+        ))),
     }
 }
 
@@ -365,6 +415,7 @@ pub fn trace_options(alloc: Global, matches: &ArgMatches) -> Result<TraceOptions
         column: small_number(alloc, "-a", matches.get_str("columns"), MOST_COLUMN, 40)?,
         limit,
         workers: read_workers(alloc, matches, limit)?,
+        patience: patience(alloc, matches)?,
         explain: matches.get_flag("explain"),
     })
 }

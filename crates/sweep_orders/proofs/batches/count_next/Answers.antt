@@ -1,6 +1,6 @@
 use Rattle.std.proofs.Common.{List, ap, subst, ◌∙◌}
 use Rattle.lx_abi.specs.declared.log.Item.{Item}
-use Rattle.sweep_rows.specs.declared.kinds.Ending.{Ending}
+use Rattle.sweep_rows.specs.declared.endings.Ending.{Ending}
 use Rattle.sweep_runs.specs.Runs.{ending_of}
 use Rattle.sweep_orders.specs.Found.{Counts}
 use Rattle.sweep_orders.specs.Orders.{Ahead, ahead_of, next_of, with_more}

@@ -2,7 +2,7 @@ use Rattle.std.proofs.Common.{[], ap, subst, ◌∙◌}
 use Rattle.lx_kernel.specs.First.{first_run}
 use Rattle.plain_run.specs.Runs.{RunsTo}
 use Rattle.pt_schedule.specs.Schedules.{worded}
-use Rattle.sweep_rows.specs.declared.kinds.Ending.{Ending}
+use Rattle.sweep_rows.specs.declared.endings.Ending.{Ending}
 use Rattle.sweep_runs.specs.Runs.{ending_of}
 use Rattle.sweep_orders.specs.Found.{Counts}
 use Rattle.sweep_orders.specs.Orders.{Ahead, ahead_of, next_of, with_more}

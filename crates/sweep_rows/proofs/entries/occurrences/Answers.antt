@@ -8,7 +8,10 @@ unfolding rows_of
 loop-item-init c = (
   [],
   (
-    counted_first c.args.set.now c.args.follow _ c.new.ensures.items c.new-2.ensures c.new-3.ensures,
-    ap (λ rows. rows_after c.args.set.now c.args.follow [] rows c.args.log.now) c.new.ensures.items,
+    c.new-4.ensures,
+    (
+      counted_first c.args.set.now c.args.follow _ c.new.ensures.items c.new-2.ensures c.new-3.ensures,
+      ap (λ rows. rows_after c.args.set.now c.args.follow [] rows c.args.log.now) c.new.ensures.items,
+    ),
   ),
 )

@@ -9,7 +9,7 @@ use Rattle.sweep_runs.proofs.runs.run_by.Goals as goal
 pub returns-in-Ok-run : goal.returns-in-Ok-run
 returns-in-Ok-run c =
     subst (λ (k : Run). RunsTo k (worded c.args.words.now c.args.limit) c.run.new.kernel)
-    (c.in-Ok.ensures ∙ ap (λ boot. record (first_run boot c.args.script) { keeps_log = c.args.keeps_log }) c.in_ok-boot.ensures)
+    (c.in-Ok.ensures.first ∙ ap (λ boot. first_run boot c.args.script) c.in_ok-boot.ensures)
     (subst (λ (s : Schedule). RunsTo c.in-Ok.kernel s c.run.new.kernel)
     (c.words-schedule.ensures ∙ ap (λ words. worded words c.args.limit) c.in_ok-words.ensures)
     c.in-Ok-run.ensures.to)

@@ -1,4 +1,4 @@
-use Rattle.std.proofs.Common.{refl, sym, ◌∙◌}
+use Rattle.std.proofs.Common.{sym, ◌∙◌}
 use Rattle.tr_core.specs.Tracers.{state_of}
 use Rattle.tr_core.proofs.Ending.{outcome-is}
 use Rattle.tr_core.proofs.tracer.Tracer.into_parts.Goals as goal

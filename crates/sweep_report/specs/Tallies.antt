@@ -1,0 +1,29 @@
+-- How many runs came to what.
+use Rattle.std.specs.Prelude.{ℕ, ◌+◌, nat_lt, cond, List, [], ◌∷◌, map}
+use Rattle.std.specs.List.{flat_map}
+use Rattle.sweep_rows.specs.Summary.{count}
+use Rattle.sweep_rows.specs.Verdicts.{is_finding}
+use Rattle.sweep_rows.specs.declared.verdicts.Verdict.{Verdict}
+use Rattle.sweep_rows.specs.declared.verdicts.Verdict.TheVariants.{Hung, Killed, Torn, Lost, Dropped, Damaged, Warned, Reported, Recovered, Ignored}
+use Rattle.sweep_runs.specs.declared.sweeping.Row.{Row}
+use Rattle.sweep_report.specs.declared.tally.Kind.{Kind}
+
+abbrev pub verdicts_in : List Row → List Verdict
+verdicts_in rows = map (λ r. r.verdict) rows
+
+abbrev pub findings_in : List Verdict → ℕ
+findings_in [] = 0
+findings_in (v ∷ vs) = cond (is_finding v) 1 0 + findings_in vs
+
+-- the worst first
+abbrev pub all_verdicts : List Verdict
+all_verdicts =
+    Hung ∷ Killed ∷ Torn ∷ Lost ∷ Dropped ∷ Damaged ∷ Warned ∷ Reported ∷ Recovered ∷ Ignored ∷ []
+
+abbrev pub kind_of : List Verdict → Verdict → List Kind
+kind_of verdicts v =
+    cond (nat_lt 0 (count v verdicts)) (record { verdict = v; runs = count v verdicts } ∷ []) []
+
+-- the verdicts that some run has
+abbrev pub kinds_of : List Verdict → List Kind
+kinds_of verdicts = flat_map (kind_of verdicts) all_verdicts

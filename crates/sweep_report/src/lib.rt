@@ -1,0 +1,10 @@
+//! What is printed of a sweep's runs.
+#![tactic(auto)]
+
+pub mod blocks;
+pub mod report;
+pub mod sites;
+pub mod tally;
+pub mod texts;
+pub mod told;
+pub mod traced;

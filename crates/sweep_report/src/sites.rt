@@ -1,0 +1,145 @@
+//! The place of a call: what a trace shows of it, and what its descriptor stands for.
+
+use crate::texts::without_numbers;
+use crate::traced::TracedCalls;
+use lx_abi::{Item, sys};
+use std::alloc::{AllocError, Global};
+use sweep_rows::{Occurrence, Reached, Target};
+use sweep_words::calls::raw_text;
+
+#[derive(Drop)]
+pub struct Place {
+    /// What a trace shows of the call, with what its descriptor stands for behind the number.
+    pub text: String,
+    /// The call's name, where a descriptor tells it from others.
+    name: Option<String>,
+}
+
+/// The call has a descriptor as its first argument.
+fn has_descriptor(number: u64) -> bool {
+    matches!(
+        number,
+        sys::SYS_READ
+            | sys::SYS_WRITE
+            | sys::SYS_CLOSE
+            | sys::SYS_LSEEK
+            | sys::SYS_FSTAT
+            | sys::SYS_FTRUNCATE
+            | sys::SYS_DUP
+            | sys::SYS_DUP3
+    )
+}
+
+/// How long a text is that a quote ends.
+fn quoted_length(text: &str) -> Option<usize> {
+    let mut escapes = false;
+    for (at, byte) in text.bytes().enumerate() {
+        if byte == b'"' && !escapes {
+            return Some(at);
+        }
+        escapes = byte == b'\\' && !escapes;
+    }
+    None
+}
+
+/// The first text in quotes.
+fn first_quoted(text: &str) -> Option<&str> {
+    let (_, rest) = text.split_once('"')?;
+    rest.get(..quoted_length(rest)?)
+}
+
+/// The path that the openat was for whose end stands here in the log.
+fn opened_path<'a>(calls: &'a TracedCalls, log: &[Item], at: usize) -> Option<&'a str> {
+    first_quoted(calls.text_at(log, at)?)
+}
+
+/// What a descriptor stands for, as it is told.
+fn target_text<'a>(calls: &'a TracedCalls, log: &[Item], target: Target) -> Option<&'a str> {
+    match target {
+        Target::Input => Some("input"),
+        Target::Output | Target::Error => Some("console"),
+        Target::File(at) => opened_path(calls, log, at),
+        Target::Other => None,
+    }
+}
+
+/// A call's text with what its descriptor stands for.
+fn with_target(alloc: Global, text: &str, target: &str) -> Result<String, AllocError> {
+    let Some((name, rest)) = text.split_once('(') else {
+        return format!(in alloc; "{text}");
+    };
+    let digits = rest.chars().take_while(|c| c.is_ascii_digit()).count();
+    let number = rest.get(..digits).unwrap_or("");
+    let more = rest.get(digits..).unwrap_or("");
+    format!(in alloc; "{name}({number}<{target}>{more}")
+}
+
+/// The place of an occurrence of a call in the reference.
+pub fn place_of(
+    alloc: Global,
+    calls: &TracedCalls,
+    reference: &Reached,
+    occurrence: &Occurrence,
+) -> Result<Place, AllocError> {
+    let number = occurrence.call.number;
+    let text = match calls.text_of(occurrence.pid, number, occurrence.n) {
+        Some(text) => format!(in alloc; "{text}")?,
+        None => raw_text(alloc, &occurrence.call)?,
+    };
+    if !has_descriptor(number) {
+        return Ok(Place { text, name: None });
+    }
+    let log = reference.log.as_slice();
+    let target = target_text(calls, log, occurrence.used.target);
+    let target = target.unwrap_or("pipe");
+    let name = match text.as_str().split_once('(') {
+        Some((name, _)) => format!(in alloc; "{name} {target}")?,
+        None => format!(in alloc; "{target}")?,
+    };
+    Ok(Place {
+        text: with_target(alloc, text.as_str(), target)?,
+        name: Some(name),
+    })
+}
+
+/// Calls of one site have the same name and are for the same file, or else the same words but for numbers.
+pub fn site_of(alloc: Global, place: &Place) -> Result<String, AllocError> {
+    if let Some(name) = &place.name {
+        return format!(in alloc; "{name}");
+    }
+    let text = place.text.as_str();
+    let call = match text.split_once(" = ") {
+        Some((call, _)) => call,
+        None => text,
+    };
+    without_numbers(alloc, call, true)
+}
+
+/// The last name of a path is this.
+fn is_named(path: &[u8], name: &[u8]) -> bool {
+    match path.len().checked_sub(name.len()) {
+        None => false,
+        Some(0) => path == name,
+        Some(front) => path.get(..front).unwrap_or(&[]).ends_with(b"/") && path.ends_with(name),
+    }
+}
+
+/// When the reference has ended, a file is there with the last name of the path by which a descriptor was opened; or
+/// that name has bytes that a trace doesn't show as they are.
+pub fn is_kept(calls: &TracedCalls, reference: &Reached, occurrence: &Occurrence) -> bool {
+    let Target::File(at) = occurrence.used.target else {
+        return true;
+    };
+    let Some(path) = opened_path(calls, reference.log.as_slice(), at) else {
+        return true;
+    };
+    let name = match path.rsplit_once('/') {
+        Some((_, name)) => name,
+        None => path,
+    };
+    let files = reference.ending.outcome.files.as_slice();
+    name.contains('\\')
+        || files
+            .iter()
+            .any(|file| is_named(file.path.as_slice(), name.as_bytes()))
+}

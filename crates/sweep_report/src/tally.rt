@@ -1,0 +1,103 @@
+//! How many runs came to what.
+
+ghost use Rattle.std.specs.Prelude.{◌≡◌, ◌++◌, IfOk, OnOk, length};
+ghost use Rattle.sweep_report.specs.Tallies.{verdicts_in, findings_in, kind_of, kinds_of};
+
+use std::alloc::{AllocError, Global};
+use sweep_rows::{Verdict, count, is_finding};
+use sweep_runs::Row;
+
+/// All verdicts, the worst first.
+const VERDICTS: [Verdict; 10] = [
+    Verdict::Hung,
+    Verdict::Killed,
+    Verdict::Torn,
+    Verdict::Lost,
+    Verdict::Dropped,
+    Verdict::Damaged,
+    Verdict::Warned,
+    Verdict::Reported,
+    Verdict::Recovered,
+    Verdict::Ignored,
+];
+
+/// How many runs came to this.
+#[derive(Clone, Copy, Debug, PartialEq, Eq)]
+pub struct Kind {
+    pub verdict: Verdict,
+    pub runs: usize,
+}
+
+#[derive(Drop)]
+pub struct Tally {
+    pub runs: usize,
+    pub findings: usize,
+    /// The verdicts that some run has, the worst first.
+    pub kinds: Vec<Kind>,
+}
+
+/// The verdicts of rows.
+pub fn verdicts_of(alloc: Global, rows: &[Row]) -> Result<Vec<Verdict>, AllocError>
+    ensures { IfOk result (λ verdicts. verdicts.items ≡ verdicts_in rows.now) }
+{
+    let mut verdicts = Vec::new(alloc);
+    let mut left = rows;
+    while let Some((row, rest)) = left.split_first() {
+        verdicts.push(row.verdict)?;
+        left = rest;
+    }
+    Ok(verdicts)
+}
+
+/// Adds a verdict with its runs, if some run has it.
+fn add_kind(kinds: &mut Vec<Kind>, verdicts: &[Verdict], verdict: Verdict) -> Result<(), AllocError>
+    ensures { OnOk result (kinds.new.items ≡ kinds.old.items ++ kind_of verdicts.now verdict) }
+{
+    let runs = count(verdicts, verdict);
+    if runs > 0 {
+        kinds.push(Kind { verdict, runs })?;
+    }
+    Ok(())
+}
+
+/// The verdicts that some run has, with their runs.
+fn kinds_of(alloc: Global, verdicts: &[Verdict]) -> Result<Vec<Kind>, AllocError>
+    ensures { IfOk result (λ kinds. kinds.items ≡ kinds_of verdicts.now) }
+{
+    let mut kinds = Vec::new(alloc);
+    let mut left: &[Verdict] = &VERDICTS;
+    while let Some((verdict, rest)) = left.split_first() {
+        add_kind(&mut kinds, verdicts, *verdict)?;
+        left = rest;
+    }
+    Ok(kinds)
+}
+
+/// How many of these are findings.
+fn findings_in(verdicts: &[Verdict]) -> usize
+    ensures { result ≡ findings_in verdicts.now }
+{
+    let mut findings = 0;
+    let mut left = verdicts;
+    while let Some((verdict, rest)) = left.split_first() {
+        if is_finding(*verdict) {
+            findings += 1;
+        }
+        left = rest;
+    }
+    findings
+}
+
+/// How many runs came to what.
+pub fn tally_of(alloc: Global, verdicts: &[Verdict]) -> Result<Tally, AllocError>
+    ensures runs { IfOk result (λ tally. tally.runs ≡ length verdicts.now) }
+    ensures findings { IfOk result (λ tally. tally.findings ≡ findings_in verdicts.now) }
+    ensures kinds { IfOk result (λ tally. tally.kinds.items ≡ kinds_of verdicts.now) }
+{
+    let kinds = kinds_of(alloc, verdicts)?;
+    Ok(Tally {
+        runs: verdicts.len(),
+        findings: findings_in(verdicts),
+        kinds,
+    })
+}

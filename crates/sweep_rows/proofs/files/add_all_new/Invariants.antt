@@ -1,0 +1,12 @@
+use Rattle.std.proofs.Common.{◌≡◌, ◌++◌, length}
+use Rattle.std.specs.List.{flat_map}
+use Rattle.sweep_rows.specs.Files.{note_new}
+use Rattle.sweep_rows.proofs.files.add_all_new.Given as goal
+
+abbrev pub invariant-loop-file : goal.invariant-loop-file
+invariant-loop-file l =
+    l.notes.items ++ flat_map (λ f. note_new l.boot l.reference l.run f.path) l.left
+    ≡ l.initial.notes.items ++ flat_map (λ f. note_new l.boot l.reference l.run f.path) l.run
+
+abbrev pub decreases-loop-file : goal.decreases-loop-file
+decreases-loop-file l = length l.left

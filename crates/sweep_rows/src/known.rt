@@ -1,0 +1,93 @@
+//! What is known where a call begins: what its process's descriptors stand for, and whether signals have handlers.
+
+ghost use Rattle.std.specs.Prelude.{◌≡◌, ◌++◌, ◌∷◌, ◌||◌, [], List, OnOk, true, false};
+ghost use Rattle.lx_abi.specs.declared.log.Item.{Item as LogItem};
+ghost use Rattle.sweep_rows.specs.Descriptors.{after_item, uses_in};
+ghost use Rattle.sweep_rows.specs.Known.{sets_action, occurrence_in, IsKnown};
+
+use crate::descriptors::{Descriptors, Use, descriptor};
+use lx_abi::{Call, Item, sys};
+use std::alloc::{AllocError, Global};
+
+const SIGPIPE: u64 = 13;
+
+/// The nth entry of a process into a call, counted from 1.
+#[derive(Clone, Copy, Debug, PartialEq, Eq)]
+pub struct Occurrence {
+    /// The first process that has entered the call so often.
+    pub pid: u32,
+    pub call: Call,
+    pub n: u64,
+    /// What the descriptor stands for that is its first argument.
+    pub used: Use,
+    /// Some process has set what SIGPIPE does.
+    pub piped: bool,
+    /// Some process has set what another signal does.
+    pub handled: bool,
+}
+
+/// What a log tells.
+#[derive(Drop)]
+pub(crate) struct Known {
+    descriptors: Descriptors,
+    piped: bool,
+    handled: bool,
+}
+
+/// A process has set what SIGPIPE does, or another signal.
+#[tactic(auto, unfolding(crate::specs::Known::sets_action))]
+fn sets_action(item: &Item, pipe: bool) -> bool
+    ensures { result ≡ sets_action pipe item.now }
+{
+    match item {
+        Item::Done {
+            call,
+            result: word,
+            replaced,
+            ..
+        } => {
+            !*replaced
+                && *word == 0
+                && call.number == sys::SYS_RT_SIGACTION
+                && call.arguments[1] != 0
+                && (call.arguments[0] == SIGPIPE) == pipe
+        }
+        _ => false,
+    }
+}
+
+impl Known {
+    /// What is known when a run begins.
+    pub(crate) fn new(alloc: Global) -> Self
+        ensures { IsKnown [] result }
+    {
+        Known {
+            descriptors: Descriptors::new(alloc),
+            piped: false,
+            handled: false,
+        }
+    }
+
+    pub(crate) fn occurrence(&self, pid: u32, call: Call, n: u64) -> Occurrence
+        ensures { result ≡ occurrence_in self.now pid call n }
+    {
+        Occurrence {
+            pid,
+            call,
+            n,
+            used: self.descriptors.use_of(pid, descriptor(&call)),
+            piped: self.piped,
+            handled: self.handled,
+        }
+    }
+
+    /// One item more of the log.
+    pub(crate) fn add(&mut self, item: &Item) -> Result<(), AllocError>
+        ensures { OnOk result ((past : List LogItem) → IsKnown past self.old → IsKnown (past ++ item.now ∷ []) self.new) }
+    {
+        self.descriptors.add(item)?;
+        self.piped = self.piped || sets_action(item, true);
+        self.handled = self.handled || sets_action(item, false);
+        Ok(())
+    }
+}

@@ -1,0 +1,71 @@
+//! What a sweep tells of all its runs: names of verdicts, how many there are of each, and the exit status.
+
+ghost use Rattle.std.specs.Prelude.{◌≡◌};
+ghost use Rattle.std.specs.List.{list_any};
+ghost use Rattle.sweep_rows.specs.Verdicts.{is_finding};
+ghost use Rattle.sweep_rows.specs.Summary.{rank, name_of, count, status};
+
+use crate::verdicts::{Verdict, is_finding};
+
+/// A verdict's place among all, the worst being 0.
+pub fn rank(verdict: Verdict) -> u8
+    ensures { result ≡ rank verdict }
+{
+    match verdict {
+        Verdict::Hung => 0,
+        Verdict::Killed => 1,
+        Verdict::Torn => 2,
+        Verdict::Lost => 3,
+        Verdict::Dropped => 4,
+        Verdict::Damaged => 5,
+        Verdict::Warned => 6,
+        Verdict::Reported => 7,
+        Verdict::Recovered => 8,
+        Verdict::Ignored => 9,
+    }
+}
+
+pub fn name_of(verdict: Verdict) -> &'static str
+    ensures { result.now ≡ name_of verdict }
+{
+    match verdict {
+        Verdict::Hung => "hung",
+        Verdict::Killed => "killed",
+        Verdict::Torn => "torn",
+        Verdict::Lost => "lost",
+        Verdict::Dropped => "dropped",
+        Verdict::Damaged => "damaged",
+        Verdict::Warned => "warned",
+        Verdict::Reported => "reported",
+        Verdict::Recovered => "recovered",
+        Verdict::Ignored => "ignored",
+    }
+}
+
+/// How many of these are this one.
+pub fn count(verdicts: &[Verdict], verdict: Verdict) -> usize
+    ensures { result ≡ count verdict verdicts.now }
+{
+    let mut count = 0;
+    let mut left = verdicts;
+    while let Some((one, rest)) = left.split_first() {
+        if rank(*one) == rank(verdict) {
+            count += 1;
+        }
+        left = rest;
+    }
+    count
+}
+
+fn has_finding(verdicts: &[Verdict]) -> bool
+    ensures { result ≡ list_any is_finding verdicts.now }
+{
+    verdicts.iter().any(|verdict| is_finding(*verdict))
+}
+
+/// The exit status: 0 only where none is a finding.
+pub fn status(verdicts: &[Verdict]) -> u8
+    ensures { result ≡ status verdicts.now }
+{
+    if has_finding(verdicts) { 1 } else { 0 }
+}

@@ -1,0 +1,8 @@
+//! What a sweep's command line asks for, and the words of `strace_cli` that show one of its runs.
+#![tactic(auto)]
+
+pub mod calls;
+pub mod plan;
+pub mod shell;
+pub mod wanted;
+pub mod words;

@@ -1,0 +1,358 @@
+//! What the command line asks for.
+
+use clap::{Arg, ArgAction, ArgMatches, Command, Error};
+use front_end::{
+    Fault, Shown, expression_words, number, with_calls, with_environment, with_explain,
+    with_expressions, with_files, with_limit, with_program,
+};
+use std::alloc::{AllocError, Global};
+
+const NOTES: &str = "Which calls are to fail, after -e:
+  fault=SET               with each error that the call can have there, by its descriptor and its flags
+  fault=SET:error=E,..    with these errors (a name, or 1 to 4095)
+  SET    names joined by commas, as write or ?name; %file, %desc, %process, %signal, %memory; /REGEX; all; none;
+         a ! in front takes all others
+Without -e it is fault=all.
+
+In each run one occurrence of one call fails, and nothing else. What came of it, the findings first, in capitals:
+  HUNG       a process did not end
+  KILLED     a signal ended process 1
+  TORN       a file that was there is destroyed
+  LOST       something else is missing or other, and nothing said so
+  DROPPED    an error of close, which tells that data was lost, had no effect
+  damaged    a file that was there is destroyed, and another has its content
+  warned     something is missing or other, or nothing is, and something was said
+  reported   process 1 ended with another code
+  recovered  all is as without the failure, by other calls
+  ignored    and by the same calls
+The report has the calls with findings, damaged and warned runs: each with its occurrences, what came of which errors,
+and the words of strace_cli by which the first of these runs is had. Below stand the command that shows the first
+finding, and in the last line how many runs came to what: a report without it was cut.
+
+With --orders no call fails, and each run has its own order of turns: the default one, then those with one switch to
+another process where a call returned, those with two, and then some by chance. Each line is a result, with how many
+orders had it and the words of --turns by which a shortest of them has it.
+
+The status is 0 where no run is a finding, else 1 (with --orders where a run did not end); 2 for words, files or a boot
+at fault, 3 for an output or for memory, 4 where the run without a failure is out of turns.
+
+Examples: make each write fail with EINTR; try 100 orders of turns
+  strace_sweep -e fault=write:error=EINTR --file /p=hello -- /p </dev/null
+  strace_sweep --orders 100 --keep . --file /p=letters -- /p </dev/null";
+
+/// The most threads, and the most orders of turns.
+const MOST_JOBS: u64 = 8;
+
+const MOST_ORDERS: u64 = 1_000_000;
+
+/// How the report is written.
+#[derive(Clone, Copy, Debug, PartialEq, Eq)]
+pub enum Format {
+    Table,
+    Json,
+}
+
+/// How a report is written.
+#[derive(Clone, Copy, Debug, PartialEq, Eq)]
+pub struct Style {
+    /// A line a run.
+    pub each: bool,
+    /// With what is no more than reported.
+    pub all: bool,
+    pub colors: bool,
+}
+
+/// Adds an option with a name and a value.
+fn with_name<'a>(
+    alloc: Global,
+    command: Command<'a>,
+    name: &'a str,
+    value: &'a str,
+    help: &'a str,
+) -> Result<Command<'a>, AllocError> {
+    command.arg(
+        Arg::new(alloc, name)
+            .long(name)
+            .value_name(value)
+            .help(help),
+    )
+}
+
+/// Adds `-f`.
+fn with_follow<'a>(alloc: Global, command: Command<'a>) -> Result<Command<'a>, AllocError> {
+    command.arg(
+        Arg::new(alloc, "follow")
+            .short('f')
+            .long("follow-forks")
+            .action(ArgAction::SetTrue)
+            .help(
+                "Makes the calls of children fail too; without it those of the first process alone",
+            ),
+    )
+}
+
+/// Adds `-o FILE`.
+fn with_output<'a>(alloc: Global, command: Command<'a>) -> Result<Command<'a>, AllocError> {
+    command.arg(
+        Arg::new(alloc, "output")
+            .short('o')
+            .long("output")
+            .value_name("FILE")
+            .help("Writes the report to this file [default: standard output]"),
+    )
+}
+
+/// Adds an option without a value.
+fn with_flag<'a>(
+    alloc: Global,
+    command: Command<'a>,
+    name: &'a str,
+    help: &'a str,
+) -> Result<Command<'a>, AllocError> {
+    command.arg(
+        Arg::new(alloc, name)
+            .long(name)
+            .action(ArgAction::SetTrue)
+            .help(help),
+    )
+}
+
+fn with_report<'a>(alloc: Global, command: Command<'a>) -> Result<Command<'a>, AllocError> {
+    let command = with_name(
+        alloc,
+        command,
+        "format",
+        "FORMAT",
+        "table, or json: an object a line [default: table]",
+    )?;
+    let command = with_flag(
+        alloc,
+        command,
+        "each",
+        "Tells each run in a line of its own, as soon as it is made",
+    )?;
+    let command = with_flag(
+        alloc,
+        command,
+        "all",
+        "Tells also of runs that were reported, recovered or ignored",
+    )?;
+    with_output(alloc, command)
+}
+
+fn with_sets<'a>(alloc: Global, command: Command<'a>) -> Result<Command<'a>, AllocError> {
+    let command = with_expressions(
+        alloc,
+        command,
+        "Which calls are to fail, as fault=write or fault=write:error=EIO,ENOSPC [default: fault=all]",
+    )?;
+    let command = with_calls(
+        alloc,
+        command,
+        "fault",
+        "SET[:error=E,..]",
+        "The same as -e fault=SET[:error=E,..]",
+    )?;
+    with_name(
+        alloc,
+        command,
+        "errors",
+        "WHICH",
+        "possible, or all that the manual page of a call gives but for faulty arguments [default: possible]",
+    )
+}
+
+/// Adds `--orders N` with `--seed N` and `--keep DIR`.
+fn with_orders<'a>(alloc: Global, command: Command<'a>) -> Result<Command<'a>, AllocError> {
+    let command = with_name(
+        alloc,
+        command,
+        "orders",
+        "N",
+        "Tries N orders of turns, 1 to 1000000, without a failure, and tells each result once",
+    )?;
+    let command = with_name(
+        alloc,
+        command,
+        "seed",
+        "N",
+        "Draws orders by chance from this number on [default: 0]",
+    )?;
+    with_name(
+        alloc,
+        command,
+        "keep",
+        "DIR",
+        "Writes an order of each result to a file of this directory, as --turns takes it",
+    )
+}
+
+fn with_runs<'a>(alloc: Global, command: Command<'a>) -> Result<Command<'a>, AllocError> {
+    let command = with_name(
+        alloc,
+        command,
+        "turns",
+        "FILE",
+        "A schedule by words, as 1 2 1. [default: turns in rounds]",
+    )?;
+    let command = with_orders(alloc, command)?;
+    let command = with_name(
+        alloc,
+        command,
+        "jobs",
+        "N",
+        "Makes the runs on N threads, 1 to 8 [default: 1]; the report is the same",
+    )?;
+    with_limit(
+        alloc,
+        command,
+        "Ends each run after N turns [default: 10000000]",
+    )
+}
+
+fn with_guest<'a>(alloc: Global, command: Command<'a>) -> Result<Command<'a>, AllocError> {
+    let command = with_files(
+        alloc,
+        command,
+        "A file of the guest's, and the file that holds its content; the program too",
+    )?;
+    let command = with_environment(alloc, command)?;
+    with_program(alloc, command)
+}
+
+fn sweep_command<'a>(alloc: Global) -> Result<Command<'a>, AllocError> {
+    let command = Command::new(alloc, "strace_sweep")
+        .about("Makes each call of a modelled RV64I guest fail in turn, and tells what came of it")
+        .version("0.1.0")
+        .args_override_self(true)
+        .after_help(NOTES);
+    let command = with_follow(alloc, command)?;
+    let command = with_sets(alloc, command)?;
+    let command = with_report(alloc, command)?;
+    let command = with_runs(alloc, command)?;
+    let command = with_explain(alloc, command)?;
+    with_guest(alloc, command)
+}
+
+/// Parses the words, the program's name first.
+pub fn parse<'a>(alloc: Global, words: &'a [String]) -> Result<ArgMatches<'a>, Error> {
+    sweep_command(alloc)?.try_get_matches_from(words)
+}
+
+/// The format that the words ask for.
+fn format_of(alloc: Global, matches: &ArgMatches) -> Result<Format, Fault> {
+    match matches.get_str("format") {
+        None | Some("table") => Ok(Format::Table),
+        Some("json") => Ok(Format::Json),
+        Some(other) => Err(Fault::usage(format!(in alloc;
+            "--format {}: not table or json",
+            Shown(other)
+        ))),
+    }
+}
+
+/// A number in decimal digits alone, which isn't 0.
+fn count_in(digits: &str) -> Option<u64> {
+    if digits.starts_with('+') {
+        return None;
+    }
+    digits.parse().ok().filter(|count: &u64| *count > 0)
+}
+
+/// The number that an option gives, from 1 to the most.
+fn count_of(
+    alloc: Global,
+    option: &str,
+    digits: Option<&str>,
+    most: u64,
+) -> Result<Option<u64>, Fault> {
+    let Some(digits) = digits else {
+        return Ok(None);
+    };
+    match count_in(digits) {
+        Some(count) if count <= most => Ok(Some(count)),
+        Some(_) | None => Err(Fault::usage(format!(in alloc;
+            "{option} {}: not a number from 1 to {most}",
+            Shown(digits)
+        ))),
+    }
+}
+
+/// On how many threads the runs are made.
+fn jobs_of(alloc: Global, matches: &ArgMatches) -> Result<u8, Fault> {
+    let count = count_of(alloc, "--jobs", matches.get_str("jobs"), MOST_JOBS)?;
+    Ok(u8::try_from(count.unwrap_or(1)).unwrap_or(1))
+}
+
+/// How many orders of turns are tried, and from which seed.
+#[derive(Clone, Copy, Debug, PartialEq, Eq)]
+pub struct Orders {
+    pub count: usize,
+    pub seed: u64,
+}
+
+/// What `--orders` stands in the place of.
+fn check_orders(alloc: Global, matches: &ArgMatches) -> Result<(), Fault> {
+    if matches.get_str("turns").is_some() {
+        return Err(Fault::usage(format!(in alloc;
+            "--orders excludes --turns: each run has an order of its own"
+        )));
+    }
+    if !expression_words(alloc, matches)?.is_empty() {
+        return Err(Fault::usage(format!(in alloc; "--orders excludes -e: no call fails")));
+    }
+    if matches.get_str("keep") == Some("") {
+        return Err(Fault::usage(format!(in alloc; "--keep: the name of the directory is empty")));
+    }
+    Ok(())
+}
+
+/// The orders of turns that the words ask for, if they do.
+fn orders_of(alloc: Global, matches: &ArgMatches) -> Result<Option<Orders>, Fault> {
+    let seed = number(alloc, "--seed", matches.get_str("seed"), u64::MAX, 0)?;
+    let Some(count) = count_of(alloc, "--orders", matches.get_str("orders"), MOST_ORDERS)? else {
+        for option in ["seed", "keep"] {
+            if matches.get_str(option).is_some() {
+                return Err(Fault::usage(format!(in alloc;
+                    "--{option}: without --orders no order of turns is tried"
+                )));
+            }
+        }
+        return Ok(None);
+    };
+    check_orders(alloc, matches)?;
+    Ok(Some(Orders {
+        count: count as usize,
+        seed,
+    }))
+}
+
+/// What the words ask for beside the runs' setup.
+#[derive(Clone, Copy, Debug, PartialEq, Eq)]
+pub struct Words {
+    pub format: Format,
+    pub style: Style,
+    pub jobs: u8,
+    pub orders: Option<Orders>,
+}
+
+impl Words {
+    /// Each run is written as soon as it is made.
+    pub fn is_streamed(self) -> bool {
+        self.orders.is_none() && (self.style.each || self.format == Format::Json)
+    }
+}
+
+/// `colors`: the report may have them.
+pub fn words_of(alloc: Global, matches: &ArgMatches, colors: bool) -> Result<Words, Fault> {
+    Ok(Words {
+        format: format_of(alloc, matches)?,
+        style: Style {
+            each: matches.get_flag("each"),
+            all: matches.get_flag("all"),
+            colors,
+        },
+        jobs: jobs_of(alloc, matches)?,
+        orders: orders_of(alloc, matches)?,
+    })
+}
