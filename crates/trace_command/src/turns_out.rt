@@ -38,7 +38,7 @@ fn write_event<W: Write>(writer: &mut W, event: Event, left: u64) -> io::Result<
         (words_text (map event_word (kept left event)))) }
 {
     if is_first(event, left) {
-        return Ok(left - 1);
+        return Ok(left.saturating_sub(1));
     }
     write_word(writer, event_word(event))?;
     Ok(0)
