@@ -18,7 +18,6 @@ use host_link::LinkFault;
 use host_wire::{Broken, Sink};
 use lx_abi::{Outcome, Script};
 use std::alloc::Global;
-use std::cell::Cell;
 use std::fs::OpenFile;
 use std::io::Write;
 use std::process::OpenProcess;
@@ -140,8 +139,7 @@ fn trace_whole_lines<P: OpenProcess + Drop, F: Write + Drop>(
         (Traces P.Stdout.remaining P.Stdin.contents options script kernel) ended) }
     ensures fault { IfErr result (λ fault. IsUnopened fault) }
 {
-    let holds = Cell::new(false);
-    let mut lines = match WholeLines::new(alloc, file, &holds) {
+    let mut lines = match WholeLines::new(alloc, file) {
         Ok(lines) => lines,
         Err(_) => {
             drop(kernel);

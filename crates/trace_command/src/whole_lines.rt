@@ -5,17 +5,18 @@ ghost use Rattle.std.specs.Prelude.{◌≡◌};
 use host_wire::{Broken, Counted, Sink};
 use std::alloc::Global;
 use std::cell::Cell;
-use std::io::{self, BufWriter, Write};
+use std::io::{self, BufWriter, ErrorKind, Write};
+use std::rc::Rc;
 use trace_run::TraceSink;
 
 /// A writer that keeps what is written while it is told to.
 #[derive(Drop)]
-pub struct Held<'a, W: Write + Drop> {
+pub struct Held<W: Write + Drop> {
     out: BufWriter<W>,
-    holds: &'a Cell<bool>,
+    holds: Rc<Cell<bool>>,
 }
 
-impl<'a, W: Write + Drop> Write for Held<'a, W> {
+impl<W: Write + Drop> Write for Held<W> {
     ghost use Rattle.trace_command.specs.Writers.{held_contents};
 
     ghost contents = { λ held. held_contents W.contents held };
@@ -34,28 +35,29 @@ impl<'a, W: Write + Drop> Write for Held<'a, W> {
 
 /// A writer of std that keeps back what more of a line follows at once.
 #[derive(Drop)]
-pub struct WholeLines<'a, W: Write + Drop> {
-    sink: Counted<Held<'a, W>>,
-    holds: &'a Cell<bool>,
+pub struct WholeLines<W: Write + Drop> {
+    sink: Counted<Held<W>>,
+    holds: Rc<Cell<bool>>,
 }
 
-impl<'a, W: Write + Drop> WholeLines<'a, W> {
+impl<W: Write + Drop> WholeLines<W> {
     ghost use Rattle.std.specs.Prelude.{◌≡◌, IfOk};
     ghost use Rattle.std.specs.Io.KnownBytes.{Keeps, append_known};
     ghost use Rattle.trace_run.specs.Writers.{writer_of};
     ghost use Rattle.trace_command.specs.Tracing.{unused};
     ghost use Rattle.trace_command.specs.Writers.{whole_broken, whole_contents, whole_puts};
 
-    /// Lines that say by `holds` what is to be kept back.
-    pub fn new(alloc: Global, out: W, holds: &'a Cell<bool>) -> io::Result<Self>
+    pub fn new(alloc: Global, out: W) -> io::Result<Self>
         ensures { IfOk result
             (λ lines. writer_of (whole_contents W.contents) whole_puts whole_broken lines ≡ unused (W.contents out)) }
     {
+        let Ok(holds) = Rc::new(alloc, Cell::new(false)) else {
+            return Err(io::Error::from(ErrorKind::OutOfMemory));
+        };
+        let told = holds.clone()?;
         let out = BufWriter::new(alloc, out)?;
-        Ok(WholeLines {
-            sink: Counted::new(Held { out, holds }),
-            holds,
-        })
+        let sink = Counted::new(Held { out, holds: told });
+        Ok(WholeLines { sink, holds })
     }
 
     /// Writes what was kept back. Gives the writer, and the bytes that can't be written.
@@ -69,7 +71,7 @@ impl<'a, W: Write + Drop> WholeLines<'a, W> {
     }
 }
 
-impl<'a, W: Write + Drop> Sink for WholeLines<'a, W> {
+impl<W: Write + Drop> Sink for WholeLines<W> {
     ghost use Rattle.trace_command.specs.Writers.{whole_broken, whole_contents, whole_puts};
 
     ghost contents = { λ l. whole_contents W.contents l };
@@ -88,7 +90,7 @@ impl<'a, W: Write + Drop> Sink for WholeLines<'a, W> {
     }
 }
 
-impl<'a, W: Write + Drop> TraceSink for WholeLines<'a, W> {
+impl<W: Write + Drop> TraceSink for WholeLines<W> {
     fn put_ahead(&mut self, bytes: &[u8]) -> Result<(), Broken> {
         self.holds.set(true);
         self.sink.put(bytes)
