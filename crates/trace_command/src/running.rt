@@ -21,7 +21,6 @@ use host_link::{LinkFault, Streams};
 use host_wire::{Broken, Sink};
 use lx_abi::{Boot, Outcome, Script, Word};
 use std::alloc::Global;
-use std::cell::Cell;
 use std::fs::OpenFile;
 use std::process::{OpenProcess, Processes};
 use std::rt::Files;
@@ -174,8 +173,7 @@ fn run_to_file<R: Files + Threads + Wait + Sync + AllocGlobal, P: OpenProcess + 
         }
     };
     let may_hold = may_keep_back(&kernel, &file);
-    let holds = Cell::new(false);
-    let mut lines = match TraceFile::new(rt.alloc(), file, &holds, may_hold) {
+    let mut lines = match TraceFile::new(rt.alloc(), file, may_hold) {
         Ok(lines) => lines,
         Err(_) => {
             drop(kernel);

@@ -5,17 +5,18 @@ ghost use Rattle.std.specs.Prelude.{◌≡◌};
 use host_wire::{Broken, Counted, Sink};
 use std::alloc::Global;
 use std::cell::Cell;
-use std::io::{self, BufWriter, Write};
+use std::io::{self, BufWriter, ErrorKind, Write};
+use std::rc::Rc;
 use trace_run::TraceSink;
 
 /// A writer that keeps what is written while it is told to.
 #[derive(Drop)]
-pub struct Held<'a, W: Write + Drop> {
+pub struct Held<W: Write + Drop> {
     out: BufWriter<W>,
-    holds: &'a Cell<bool>,
+    holds: Rc<Cell<bool>>,
 }
 
-impl<'a, W: Write + Drop> Write for Held<'a, W> {
+impl<W: Write + Drop> Write for Held<W> {
     ghost use Rattle.trace_command.specs.Writers.{held_contents};
 
     ghost contents = { λ held. held_contents W.contents held };
@@ -34,27 +35,32 @@ impl<'a, W: Write + Drop> Write for Held<'a, W> {
 
 /// The file of a trace. Where nobody reads along, the line of a call that can't wait is written whole.
 #[derive(Drop)]
-pub struct TraceFile<'a, W: Write + Drop> {
-    sink: Counted<Held<'a, W>>,
-    holds: &'a Cell<bool>,
+pub struct TraceFile<W: Write + Drop> {
+    sink: Counted<Held<W>>,
+    holds: Rc<Cell<bool>>,
     may_hold: bool,
 }
 
-impl<'a, W: Write + Drop> TraceFile<'a, W> {
+impl<W: Write + Drop> TraceFile<W> {
     ghost use Rattle.std.specs.Prelude.{◌≡◌, IfOk};
     ghost use Rattle.std.specs.Io.KnownBytes.{Keeps, append_known};
     ghost use Rattle.trace_run.specs.Writers.{writer_of};
     ghost use Rattle.trace_command.specs.Tracing.{unused};
     ghost use Rattle.trace_command.specs.Writers.{file_broken, file_contents, file_puts};
 
-    /// A file that keeps back what it may, as `holds` says it from put to put.
-    pub fn new(alloc: Global, out: W, holds: &'a Cell<bool>, may_hold: bool) -> io::Result<Self>
+    /// A file that nobody reads along, if it may hold lines back.
+    pub fn new(alloc: Global, out: W, may_hold: bool) -> io::Result<Self>
         ensures { IfOk result
             (λ file. writer_of (file_contents W.contents) file_puts file_broken file ≡ unused (W.contents out)) }
     {
+        let Ok(holds) = Rc::new(alloc, Cell::new(false)) else {
+            return Err(io::Error::from(ErrorKind::OutOfMemory));
+        };
+        let told = holds.clone()?;
         let out = BufWriter::new(alloc, out)?;
+        let sink = Counted::new(Held { out, holds: told });
         Ok(TraceFile {
-            sink: Counted::new(Held { out, holds }),
+            sink,
             holds,
             may_hold,
         })
@@ -71,7 +77,7 @@ impl<'a, W: Write + Drop> TraceFile<'a, W> {
     }
 }
 
-impl<'a, W: Write + Drop> Sink for TraceFile<'a, W> {
+impl<W: Write + Drop> Sink for TraceFile<W> {
     ghost use Rattle.trace_command.specs.Writers.{file_broken, file_contents, file_puts};
 
     ghost contents = { λ f. file_contents W.contents f };
@@ -90,7 +96,7 @@ impl<'a, W: Write + Drop> Sink for TraceFile<'a, W> {
     }
 }
 
-impl<'a, W: Write + Drop> TraceSink for TraceFile<'a, W> {
+impl<W: Write + Drop> TraceSink for TraceFile<W> {
     fn put_ahead(&mut self, bytes: &[u8]) -> Result<(), Broken> {
         self.holds.set(self.may_hold);
         self.sink.put(bytes)
