@@ -1,5 +1,5 @@
 -- What a traced run writes, where it writes it, and what it leaves.
-use Rattle.std.specs.Prelude.{◌≡◌, ◌≢◌, ◌⊎◌, ℕ, ◌==◌, Bool, true, ◌||◌, ⊤, List, [], ◌∷◌, codes}
+use Rattle.std.specs.Prelude.{◌≡◌, ◌≢◌, ◌⊎◌, ℕ, ◌==◌, Bool, true, false, ◌||◌, ⊤, List, [], ◌∷◌, codes}
 use Rattle.std.specs.Prelude.{Option, None, Some, IsSome, is_some, option_map, find, Result, Ok, Err, IsErr, IfOk, IfErr, OnErr}
 use Rattle.std.specs.Io.Buffered.{reader_remaining}
 use Rattle.std.specs.Io.KnownBytes.{Keeps, append_known}
@@ -128,7 +128,7 @@ PutsTrace ended trace (Err fault) old new = (fault ≡ Unwritable) × PutsPart o
 abbrev pub TracesOnThreads : Plan → ℕ → Result Ended RunFault → Writer → Writer → Type 0
 TracesOnThreads plan limit result old new =
     (run : Run)
-    × (ThreadRun plan.boot limit plan.script plan.options run × PutsTrace run.ended run.trace result old new)
+    × (ThreadRun plan.boot limit plan.script plan.options false run × PutsTrace run.ended run.trace result old new)
 
 -- ---- where the trace goes
 

@@ -1,6 +1,6 @@
 //! A run whose turns are made by threads.
 
-ghost use Rattle.std.specs.Prelude.{◌≡◌, ◌⊎◌, IfOk, OnErr};
+ghost use Rattle.std.specs.Prelude.{◌≡◌, ◌⊎◌, false, IfOk, OnErr};
 ghost use Rattle.trace_run.specs.Writers.{writer_of};
 ghost use Rattle.trace_threads.specs.ThreadRuns.{ThreadRun};
 ghost use Rattle.trace_command.specs.Tracing.{PutsTrace, RunsTo, Settles, TracesOnThreads, Unmade};
@@ -26,7 +26,7 @@ use std::sync::Wait;
 use std::thread::Threads;
 use trace_run::local::Run;
 use trace_run::{Ended, RunFault};
-use trace_threads::run_threads_noting;
+use trace_threads::{Noted, run_threads_noting};
 use turn_rows::Turns;
 
 /// Each thread makes its turns as soon as it can.
@@ -34,8 +34,16 @@ use turn_rows::Turns;
 struct Always;
 
 impl Gate for Always {
+    ghost use Rattle.std.specs.Prelude.{false};
+
+    ghost shuts = { λ _. false };
+
     fn pass(&self, _worker: u8) -> bool {
         true
+    }
+
+    fn may_shut(&self) -> bool {
+        false
     }
 }
 
@@ -44,9 +52,9 @@ fn run_on_threads<R: Threads + Wait + Sync + AllocGlobal>(
     rt: &R,
     plan: Plan,
     workers: Workers,
-    noted: &mut Events,
+    noted: &mut Noted,
 ) -> Result<Run, Fault>
-    ensures { IfOk result (λ run. ThreadRun plan.boot workers.limit plan.script plan.options run) }
+    ensures { IfOk result (λ run. ThreadRun plan.boot workers.limit plan.script plan.options false run) }
 {
     let alloc = rt.alloc();
     let Plan {
@@ -108,11 +116,11 @@ fn trace_to<R: Threads + Wait + Sync + AllocGlobal, W: Sink>(
     ensures unmade { OnErr result (writer_of W.contents W.puts W.broken writer.new
         ≡ writer_of W.contents W.puts W.broken writer.old) }
 {
-    let mut events = noting(rt.alloc(), notes);
-    let run = match run_on_threads(rt, plan, workers, &mut events) {
+    let mut noted = Noted::by(noting(rt.alloc(), notes));
+    let run = match run_on_threads(rt, plan, workers, &mut noted) {
         Ok(run) => run,
         Err(fault) => {
-            drop(events);
+            drop(noted);
             return Err(fault);
         }
     };
@@ -128,7 +136,7 @@ fn trace_to<R: Threads + Wait + Sync + AllocGlobal, W: Sink>(
     Ok(Threaded {
         ended,
         turns,
-        events,
+        events: noted.events,
     })
 }
 
