@@ -7,18 +7,18 @@ ghost use Rattle.trace_command.specs.Tracing.{PutsTrace, RunsTo, Settles, Traces
 ghost use Rattle.trace_command.specs.Tracing.{WritesFile, WritesTo};
 
 use crate::fault::threads_fault;
-use crate::kept::Kept;
+use crate::kept::{Asked, Kept, Record};
 use crate::lines::{LineSink, Lines};
 use crate::place::{Place, create};
 use crate::plan::Plan;
 use crate::running::{settle, write};
-use crate::second::keep_threaded;
 use crate::words::Workers;
 use containers::Bytes;
-use front_end::Fault;
-use host_shared::Gate;
+use front_end::{Fault, explain_limit, explain_waits};
+use host_shared::{Cut, Gate};
 use host_wire::{Broken, Sink};
 use lx_abi::Outcome;
+use lx_kernel::Kernel;
 use pt_kernel::Events;
 use std::alloc::Global;
 use std::rt::Files;
@@ -26,8 +26,7 @@ use std::sync::Wait;
 use std::thread::Threads;
 use trace_run::local::Run;
 use trace_run::{Ended, RunFault};
-use trace_threads::{Noted, run_threads_noting};
-use turn_rows::Turns;
+use trace_threads::{Onlooker, run_threads_noting};
 
 /// Each thread makes its turns as soon as it can.
 #[derive(Clone, Copy)]
@@ -47,12 +46,52 @@ impl Gate for Always {
     }
 }
 
+/// What notes the events, where they are asked for.
+fn noting(alloc: Global, notes: bool) -> Events {
+    if notes {
+        Events::noted(alloc)
+    } else {
+        Events::none()
+    }
+}
+
+/// Why a run is out of turns that left this kernel, where it is and that is asked for.
+fn waits_by(alloc: Global, asked: Asked, kernel: &Kernel, cut: Option<Cut>) -> Option<String> {
+    if !asked.waits {
+        return None;
+    }
+    let text = match cut {
+        Some(Cut::Limit) => explain_limit(alloc, asked.limit, "events"),
+        Some(Cut::Nobody) => explain_waits(alloc, kernel),
+        _ => return None,
+    };
+    match text {
+        Ok(text) => Some(text),
+        Err(_) => None,
+    }
+}
+
+/// Keeps what is asked for of a run.
+#[derive(Drop)]
+struct Keeper {
+    alloc: Global,
+    asked: Asked,
+    record: Record,
+}
+
+impl Onlooker for Keeper {
+    fn look(&mut self, kernel: &Kernel, cut: Option<Cut>, events: Events) {
+        let waits = waits_by(self.alloc, self.asked, kernel, cut);
+        self.record = Record { events, waits };
+    }
+}
+
 /// Makes the run, its trace in memory.
 fn run_on_threads<R: Threads + Wait + Sync + AllocGlobal>(
     rt: &R,
     plan: Plan,
     workers: Workers,
-    noted: &mut Noted,
+    keeper: &mut Keeper,
 ) -> Result<Run, Fault>
     ensures { IfOk result (λ run. ThreadRun plan.boot workers.limit plan.script plan.options false run) }
 {
@@ -64,8 +103,9 @@ fn run_on_threads<R: Threads + Wait + Sync + AllocGlobal>(
         turns: _turns,
     } = plan;
     let (count, limit) = (workers.count, workers.limit);
+    let events = noting(alloc, keeper.asked.events);
     match run_threads_noting(
-        rt, alloc, boot, count, limit, script, options, &Always, noted,
+        rt, alloc, boot, count, limit, script, options, &Always, events, keeper,
     ) {
         Ok(run) => Ok(run),
         Err(fault) => Err(threads_fault(alloc, fault)),
@@ -86,21 +126,11 @@ fn write_trace<W: Sink>(ended: Ended, trace: &Bytes, writer: &mut W) -> Result<E
     }
 }
 
-/// How a run ended that is written, its effective turns, and its events where they are asked for.
+/// How a run ended that is written, and what is kept of it.
 #[derive(Drop)]
 struct Threaded {
     ended: Result<Ended, RunFault>,
-    turns: Turns,
-    events: Events,
-}
-
-/// What notes the events, where they are asked for.
-fn noting(alloc: Global, notes: bool) -> Events {
-    if notes {
-        Events::noted(alloc)
-    } else {
-        Events::none()
-    }
+    record: Record,
 }
 
 /// Makes the run, and writes its trace at the end.
@@ -108,7 +138,7 @@ fn trace_to<R: Threads + Wait + Sync + AllocGlobal, W: Sink>(
     rt: &R,
     plan: Plan,
     workers: Workers,
-    notes: bool,
+    asked: Asked,
     writer: &mut W,
 ) -> Result<Threaded, Fault>
     ensures written { IfOk result (λ run. TracesOnThreads plan workers.limit run.ended
@@ -116,11 +146,15 @@ fn trace_to<R: Threads + Wait + Sync + AllocGlobal, W: Sink>(
     ensures unmade { OnErr result (writer_of W.contents W.puts W.broken writer.new
         ≡ writer_of W.contents W.puts W.broken writer.old) }
 {
-    let mut noted = Noted::by(noting(rt.alloc(), notes));
-    let run = match run_on_threads(rt, plan, workers, &mut noted) {
+    let mut keeper = Keeper {
+        alloc: rt.alloc(),
+        asked,
+        record: Record::none(),
+    };
+    let run = match run_on_threads(rt, plan, workers, &mut keeper) {
         Ok(run) => run,
         Err(fault) => {
-            drop(noted);
+            drop(keeper);
             return Err(fault);
         }
     };
@@ -131,12 +165,12 @@ fn trace_to<R: Threads + Wait + Sync + AllocGlobal, W: Sink>(
         turns,
     } = run;
     drop(outcome);
+    drop(turns);
     let ended = write_trace(ended, &trace, writer);
     drop(trace);
     Ok(Threaded {
         ended,
-        turns,
-        events: noted.events,
+        record: keeper.record,
     })
 }
 
@@ -145,7 +179,7 @@ fn trace_to_file<R: Files + Threads + Wait + Sync + AllocGlobal>(
     rt: &R,
     plan: Plan,
     workers: Workers,
-    notes: bool,
+    asked: Asked,
     path: &str,
 ) -> Result<Threaded, Fault>
     ensures { IfOk result (λ run. WritesFile R.File.contents (TracesOnThreads plan workers.limit) run.ended) }
@@ -157,7 +191,7 @@ fn trace_to_file<R: Files + Threads + Wait + Sync + AllocGlobal>(
             return Err(fault);
         }
     };
-    match trace_to(rt, plan, workers, notes, &mut lines) {
+    match trace_to(rt, plan, workers, asked, &mut lines) {
         Ok(run) => {
             drop(lines);
             Ok(run)
@@ -174,7 +208,7 @@ fn trace_to_place<R: Files + Threads + Wait + Sync + AllocGlobal, O: Sink, E: Si
     rt: &R,
     plan: Plan,
     workers: Workers,
-    notes: bool,
+    asked: Asked,
     place: Place<'_>,
     out: &mut O,
     err: &mut E,
@@ -188,9 +222,9 @@ fn trace_to_place<R: Files + Threads + Wait + Sync + AllocGlobal, O: Sink, E: Si
         (writer_of E.contents E.puts E.broken err.old) (writer_of E.contents E.puts E.broken err.new)) }
 {
     match place {
-        Place::Error => trace_to(rt, plan, workers, notes, err),
-        Place::Output => trace_to(rt, plan, workers, notes, out),
-        Place::File(path) => trace_to_file(rt, plan, workers, notes, path),
+        Place::Error => trace_to(rt, plan, workers, asked, err),
+        Place::Output => trace_to(rt, plan, workers, asked, out),
+        Place::File(path) => trace_to_file(rt, plan, workers, asked, path),
     }
 }
 
@@ -205,12 +239,8 @@ fn settle_threaded<E: LineSink>(
     ensures { Settles place.entry run.ended result
         (writer_of E.contents E.puts E.broken err.old) (writer_of E.contents E.puts E.broken err.new) }
 {
-    let Threaded {
-        ended,
-        turns,
-        events,
-    } = run;
-    keep_threaded(alloc, &ended, turns, events, kept);
+    let Threaded { ended, record } = run;
+    kept.record = record;
     settle(alloc, ended, place, err)
 }
 
@@ -232,8 +262,8 @@ pub fn trace_on_threads<R: Files + Threads + Wait + Sync + AllocGlobal, O: Sink,
         (writer_of O.contents O.puts O.broken out.old) (writer_of O.contents O.puts O.broken out.new)
         (writer_of E.contents E.puts E.broken err.old) (writer_of E.contents E.puts E.broken err.new) }
 {
-    let notes = kept.asked.events;
-    match trace_to_place(rt, plan, workers, notes, place, out, &mut *err) {
+    let asked = kept.asked;
+    match trace_to_place(rt, plan, workers, asked, place, out, &mut *err) {
         Ok(run) => settle_threaded(rt.alloc(), run, place, kept, err),
         Err(fault) => Err(fault),
     }
