@@ -1,5 +1,6 @@
 -- What a host that fails on purpose writes for its replies, which are counted from 1.
-use Rattle.std.specs.Prelude.{ℕ, ◌==◌, Bool, true, false, List, [], ◌++◌, Option, find, length, take, drop, cond, nat_le, nat_lt, if◌then◌else◌}
+use Rattle.std.specs.Prelude.{ℕ, ◌==◌, Bool, true, false, List, [], ◌++◌, Option, find, length, take, drop, cond}
+use Rattle.std.specs.Prelude.{nat_le, nat_lt, if◌then◌else◌}
 use Rattle.byteorder.specs.Endian.{big_bytes}
 use Rattle.guest_commands.specs.declared.drills.Drill.{Drill}
 use Rattle.guest_commands.specs.declared.drills.Drill.TheVariants.{Cut, Renumber, Replace}

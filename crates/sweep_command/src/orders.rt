@@ -269,8 +269,8 @@ fn text_of_all(
     }
 }
 
-/// Tries the orders of turns, and reports each result; the status is 1 where a run did not end. Orders that are kept are
-/// files before the runs begin.
+/// Tries the orders of turns, and reports each result; the status is 1 where a run did not end. Orders that are kept
+/// are files before the runs begin.
 pub fn orders_reported<
     R: Files + Clock + Threads + Sync + AllocGlobal,
     W: Write,

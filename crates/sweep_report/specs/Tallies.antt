@@ -4,7 +4,8 @@ use Rattle.std.specs.List.{flat_map}
 use Rattle.sweep_rows.specs.Summary.{count}
 use Rattle.sweep_rows.specs.Verdicts.{is_finding}
 use Rattle.sweep_rows.specs.declared.verdicts.Verdict.{Verdict}
-use Rattle.sweep_rows.specs.declared.verdicts.Verdict.TheVariants.{Hung, Killed, Torn, Lost, Dropped, Damaged, Warned, Reported, Recovered, Ignored}
+use Rattle.sweep_rows.specs.declared.verdicts.Verdict.TheVariants.{Hung, Killed, Torn, Lost, Dropped, Damaged, Warned}
+use Rattle.sweep_rows.specs.declared.verdicts.Verdict.TheVariants.{Reported, Recovered, Ignored}
 use Rattle.sweep_runs.specs.declared.sweeping.Row.{Row}
 use Rattle.sweep_report.specs.declared.tally.Kind.{Kind}
 

@@ -1,7 +1,8 @@
 //! How many runs came to what.
 
 ghost use Rattle.std.specs.Prelude.{◌≡◌, ◌++◌, IfOk, OnOk, length};
-ghost use Rattle.sweep_report.specs.Tallies.{verdicts_in, is_marked, behind, unless, unmarked, findings_in, kind_of, kinds_of};
+ghost use Rattle.sweep_report.specs.Tallies.{verdicts_in, is_marked, behind, unless, unmarked, findings_in, kind_of};
+ghost use Rattle.sweep_report.specs.Tallies.{kinds_of};
 
 use std::alloc::{AllocError, Global};
 use sweep_rows::{Verdict, count, is_finding};

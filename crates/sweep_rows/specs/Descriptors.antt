@@ -1,5 +1,6 @@
 -- What each descriptor of each process stands for, as a log tells it (open(2), dup(2), close(2), fork(2)).
-use Rattle.std.specs.Prelude.{ℕ, suc, ◌-◌, ◌^◌, ◌%◌, ◌==◌, ◌&&◌, ◌||◌, nat_lt, Bool, true, false, cond, if◌then◌else◌, List, [], ◌∷◌, slice_index, Option, Some, None}
+use Rattle.std.specs.Prelude.{ℕ, suc, ◌-◌, ◌^◌, ◌%◌, ◌==◌, ◌&&◌, ◌||◌, nat_lt, Bool, true, false, cond, if◌then◌else◌}
+use Rattle.std.specs.Prelude.{List, [], ◌∷◌, slice_index, Option, Some, None}
 use Rattle.std.specs.FinMap as maps
 use Rattle.lx_abi.specs.Sys.{sys_openat, sys_close, sys_dup, sys_dup3, sys_write, sys_clone}
 use Rattle.lx_abi.specs.declared.log.Call.{Call}

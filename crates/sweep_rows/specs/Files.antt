@@ -1,5 +1,6 @@
 -- What became of a run's files.
-use Rattle.std.specs.Prelude.{ℕ, ◌==◌, ◌&&◌, ◌||◌, Bool, true, false, not, cond, if◌then◌else◌, List, [], ◌∷◌, ◌++◌, length, Option, Some, None, option_map, find, codes}
+use Rattle.std.specs.Prelude.{ℕ, ◌==◌, ◌&&◌, ◌||◌, Bool, true, false, not, cond, if◌then◌else◌, List, [], ◌∷◌, ◌++◌}
+use Rattle.std.specs.Prelude.{length, Option, Some, None, option_map, find, codes}
 use Rattle.std.specs.List.{flat_map, list_any, starts_with}
 use Rattle.std.specs.Option.{is_some}
 use Rattle.std.specs.Str.{bytes_eq}

@@ -1,5 +1,6 @@
 -- What a run has written to the console, parted by where it was said.
-use Rattle.std.specs.Prelude.{ℕ, suc, ◌==◌, ◌||◌, min, Bool, true, false, not, cond, List, [], ◌∷◌, ◌++◌, length, take, drop}
+use Rattle.std.specs.Prelude.{ℕ, suc, ◌==◌, ◌||◌, min, Bool, true, false, not, cond, List, [], ◌∷◌, ◌++◌, length}
+use Rattle.std.specs.Prelude.{take, drop}
 use Rattle.lx_abi.specs.Sys.{sys_write}
 use Rattle.lx_abi.specs.declared.log.Call.{Call}
 use Rattle.lx_abi.specs.declared.log.Item.{Item}

@@ -3,7 +3,8 @@ use Rattle.std.specs.Prelude.{ℕ, ◌+◌, ◌==◌, Bool, cond, List, [], ◌�
 use Rattle.std.specs.List.{list_any}
 use Rattle.sweep_rows.specs.Verdicts.{is_finding}
 use Rattle.sweep_rows.specs.declared.verdicts.Verdict.{Verdict}
-use Rattle.sweep_rows.specs.declared.verdicts.Verdict.TheVariants.{Hung, Killed, Torn, Lost, Dropped, Damaged, Warned, Reported, Recovered, Ignored}
+use Rattle.sweep_rows.specs.declared.verdicts.Verdict.TheVariants.{Hung, Killed, Torn, Lost, Dropped, Damaged, Warned}
+use Rattle.sweep_rows.specs.declared.verdicts.Verdict.TheVariants.{Reported, Recovered, Ignored}
 
 -- the worst first
 abbrev pub rank : Verdict → ℕ

@@ -1,5 +1,6 @@
 -- What came of a run with a failure, beside the run without one.
-use Rattle.std.specs.Prelude.{ℕ, ◌==◌, ◌%◌, ◌&&◌, ◌||◌, nat_lt, Bool, true, false, not, cond, if◌then◌else◌, List, [], ◌∷◌, length, Option, Some, None}
+use Rattle.std.specs.Prelude.{ℕ, ◌==◌, ◌%◌, ◌&&◌, ◌||◌, nat_lt, Bool, true, false, not, cond, if◌then◌else◌, List, []}
+use Rattle.std.specs.Prelude.{◌∷◌, length, Option, Some, None}
 use Rattle.std.specs.List.{list_any}
 use Rattle.std.specs.Str.{bytes_eq}
 use Rattle.sweep_rows.specs.Calls.{same_calls}
@@ -13,7 +14,8 @@ use Rattle.sweep_rows.specs.declared.verdicts.Left.{Left}
 use Rattle.sweep_rows.specs.declared.verdicts.Reached.{Reached}
 use Rattle.sweep_rows.specs.declared.verdicts.Said.{Said}
 use Rattle.sweep_rows.specs.declared.verdicts.Verdict.{Verdict}
-use Rattle.sweep_rows.specs.declared.verdicts.Verdict.TheVariants.{Hung, Killed, Torn, Lost, Dropped, Damaged, Warned, Reported, Recovered, Ignored}
+use Rattle.sweep_rows.specs.declared.verdicts.Verdict.TheVariants.{Hung, Killed, Torn, Lost, Dropped, Damaged, Warned}
+use Rattle.sweep_rows.specs.declared.verdicts.Verdict.TheVariants.{Reported, Recovered, Ignored}
 
 -- with a file destroyed that was there
 abbrev pub worst : Facts → Verdict → Verdict

@@ -2,7 +2,9 @@
 
 ghost use Rattle.std.specs.Prelude.{◌≡◌, ◌++◌, ◌∷◌, ◌==◌, [], ℕ, suc, not, filter, IfOk, OnOk};
 ghost use Rattle.std.specs.FinMap as maps;
-ghost use Rattle.sweep_rows.specs.Descriptors.{low, descriptor, is_failure, is_dup, unwritten, standard, at_boot, with_use, with_child, after_call, after_item, use_in, held_of, uses_in};
+ghost use Rattle.sweep_rows.specs.Descriptors.{low, descriptor, is_failure, is_dup, unwritten, standard, at_boot};
+ghost use Rattle.sweep_rows.specs.Descriptors.{with_use, with_child, after_call, after_item, use_in, held_of};
+ghost use Rattle.sweep_rows.specs.Descriptors.{uses_in};
 
 use containers::Map;
 use lx_abi::{Call, Item, sys};

@@ -3,7 +3,10 @@
 ghost use Rattle.std.specs.Prelude.{◌≡◌, ◌++◌, IfOk, OnOk, option_map};
 ghost use Rattle.std.specs.List.{flat_map};
 ghost use Rattle.std.specs.Option.{option_copied};
-ghost use Rattle.sweep_rows.specs.Files.{content_of, left_at, given_at, begins, same_content, holds, is_cut, there_word, changed_word, word_of, is_bad, is_whole, is_elsewhere, stands_elsewhere, is_null, note_of, note_at, note_given, note_new, file_notes};
+ghost use Rattle.sweep_rows.specs.Files.{content_of, left_at, given_at, begins, same_content, holds, is_cut};
+ghost use Rattle.sweep_rows.specs.Files.{there_word, changed_word, word_of, is_bad, is_whole, is_elsewhere};
+ghost use Rattle.sweep_rows.specs.Files.{stands_elsewhere, is_null, note_of, note_at, note_given, note_new};
+ghost use Rattle.sweep_rows.specs.Files.{file_notes};
 
 use containers::Bytes;
 use lx_abi::{GuestFile, Node, OutcomeFile};

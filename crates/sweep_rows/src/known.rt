@@ -90,7 +90,8 @@ impl Known {
 
     /// One item more of the log.
     pub(crate) fn add(&mut self, item: &Item) -> Result<(), AllocError>
-        ensures { OnOk result ((past : List LogItem) → IsKnown past self.old → IsKnown (past ++ item.now ∷ []) self.new) }
+        ensures { OnOk result
+            ((past : List LogItem) → IsKnown past self.old → IsKnown (past ++ item.now ∷ []) self.new) }
     {
         self.descriptors.add(item)?;
         self.piped = or_sets(self.piped, item, true);

@@ -1,7 +1,9 @@
 //! Which errors an occurrence of a call can have, by what it is called for.
 
 ghost use Rattle.std.specs.Prelude.{◌≡◌, ◌++◌, IfOk, OnOk};
-ghost use Rattle.sweep_rows.specs.Possible.{opened, read, written, closed, usual, by_use, may_wait, is_first_execve, errors_numbered, interrupted, errors_of_use, possible_errors, is_of_loss, tells_of_loss};
+ghost use Rattle.sweep_rows.specs.Possible.{opened, read, written, closed, usual, by_use, may_wait, is_first_execve};
+ghost use Rattle.sweep_rows.specs.Possible.{errors_numbered, interrupted, errors_of_use, possible_errors, is_of_loss};
+ghost use Rattle.sweep_rows.specs.Possible.{tells_of_loss};
 
 use crate::descriptors::{Target, Use, descriptor};
 use crate::known::Occurrence;

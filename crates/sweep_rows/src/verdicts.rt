@@ -1,7 +1,9 @@
 //! What came of a run, beside the reference.
 
 ghost use Rattle.std.specs.Prelude.{◌≡◌, IfOk};
-ghost use Rattle.sweep_rows.specs.Verdicts.{same_word, is_killed, is_torn, end_of, differs, said_of, has_torn, has_saved, left_of, speaks, worst, ended_otherwise, ended_so, verdict_of, is_finding, facts_of};
+ghost use Rattle.sweep_rows.specs.Verdicts.{same_word, is_killed, is_torn, end_of, differs, said_of, has_torn};
+ghost use Rattle.sweep_rows.specs.Verdicts.{has_saved, left_of, speaks, worst, ended_otherwise, ended_so, verdict_of};
+ghost use Rattle.sweep_rows.specs.Verdicts.{is_finding, facts_of};
 
 use crate::calls::same_calls;
 use crate::endings::{Ending, first_word};

@@ -40,7 +40,8 @@ fn run_batches<R: Threads + Sync, P: Progress>(
     Ok(rows)
 }
 
-/// Makes the run of each case, of a boot that is accepted, in so many threads: the rows are those that one thread makes.
+/// Makes the run of each case, of a boot that is accepted, in so many threads: the rows are those that one thread
+/// makes.
 pub fn rows_on_threads<R: Threads + Sync, P: Progress>(
     rt: &R,
     alloc: Global,

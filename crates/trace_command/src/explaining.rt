@@ -117,7 +117,9 @@ fn explain_status<E: Write>(
     err: &mut E,
 ) -> Result<(), Fault> {
     explain_program(alloc, program, status, err)?;
-    tell_known_hints(alloc, matches, kept, err)
+    // Where memory has run out there are no hints.
+    let _told = tell_known_hints(alloc, matches, kept, err);
+    Ok(())
 }
 
 /// A run that ended so, whose host may have been late. Where its end is explained, a program that couldn't be run and
