@@ -137,9 +137,9 @@ fn look_at<I: Read>(input: RawFd, shared: &Shared<I>, seen: &mut u64) -> Look {
     if is_ready { Look::Ended } else { Look::Gone }
 }
 
-/// Looks at the input of this number again and again, and ends the host with this status where the tracer is gone in the
-/// middle of a request: the input is waited for, and ends; or it has ended, and the process that started this one has,
-/// too. What ends before that with all its requests has an answer to each.
+/// Looks at the input of this number again and again, and ends the host with this status where the tracer is gone in
+/// the middle of a request: the input is waited for, and ends; or it has ended, and the process that started this one
+/// has, too. What ends before that with all its requests has an answer to each.
 pub fn watch<I: Read, R: Wait + Clock>(
     rt: &R,
     process: Process,
