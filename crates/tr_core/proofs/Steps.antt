@@ -17,7 +17,8 @@ use Rattle.tr_core.specs.Settings.{options_of, script_of}
 use Rattle.tr_core.specs.Known.{known_of, new_tracee, place_of}
 use Rattle.lx_abi.specs.Occurrences.{count_of}
 use Rattle.tr_core.specs.Pens.{wrote, pen_after}
-use Rattle.tr_core.specs.States.{moved, said, heard, is_faulted, is_faulted_at, admitted, act_of, request_of, taken_of, Hears}
+use Rattle.tr_line.specs.Printing.{open_call}
+use Rattle.tr_core.specs.States.{moved, said, heard, is_faulted, is_faulted_at, admitted, act_of, request_of, may_rest, rests_at, taken_of, Hears}
 use Rattle.tr_core.specs.Admitted.{told_status, says_childless, says_out, told_outcome, waits_by, serves_by, ends_by, next_by, tracees_by, tracees_by_reply}
 use Rattle.tr_core.specs.Admitted.{waits, resumes, resumed, focus_after_resuming, lets_go, is_seizing}
 use Rattle.tr_core.specs.Tracers.{Goes, Steps, focus_of, known_in, tracer_in, admits_in, state_in}
@@ -234,12 +235,20 @@ by_focus old new r (Ok b) f here is g = subst (λ x. GoesBy old x r b old new) i
 
 pub hears_ok : (taken : ℕ) (old new : Core) (failed : Bool) (r : Reply) (bytes : List ℕ) (act : Act) → failed ≡ false
     → Steps taken old r (Some bytes) new
-    → act ≡ act_of (tracer.request (options_of new.session.settings) (focus_of new.focus)) bytes
+    → act ≡ act_of (tracer.request (options_of new.session.settings) (focus_of new.focus))
+    (rests_at (open_call new.session.printer)) bytes
     → Hears (state_in old taken failed) r (Ok act) (state_in new (taken + 1) failed)
-unfolding Hears request_of
+unfolding Hears request_of may_rest
 hears_ok taken old new failed r bytes act e h is =
-    subst (λ b. Hears (state_in old taken b) r (Ok act) (state_in new (taken + 1) b)) (sym e)
-    (refl, h.0, h.1, h.2, is ∙ ap (act_of (tracer.request (options_of new.session.settings) (focus_of new.focus))) h.3)
+    subst (λ b. Hears (state_in old taken b) r (Ok act) (state_in new (taken + 1) b)) (sym e) (
+      refl,
+      h.0,
+      h.1,
+      h.2,
+      is
+          ∙ ap (act_of (tracer.request (options_of new.session.settings) (focus_of new.focus))
+          (rests_at (open_call new.session.printer))) h.3,
+    )
 
 pub hears_refusal : (taken : ℕ) (old new : Core) (failed : Bool) (r : Reply) → failed ≡ false
     → Steps taken old r None new → Hears (state_in old taken failed) r (Err Inadmissible) (state_in new taken failed)

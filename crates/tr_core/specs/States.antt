@@ -1,5 +1,7 @@
 -- What a tracer is to its callers, and what each reply makes of it. Its meaning is pt_model's tracer.
 use Rattle.std.specs.Prelude.{◌≡◌, ℕ, Bool, true, false, List, [], ◌∷◌, ◌++◌, Option, Some, None, Result, Ok, Err}
+use Rattle.lx_abi.specs.Calls.{has_effects}
+use Rattle.lx_abi.specs.Effects.{waits}
 use Rattle.lx_abi.specs.declared.ptrace.Reply.{Reply}
 use Rattle.lx_abi.specs.declared.ptrace.Request.{Request}
 use Rattle.lx_model.specs.Kernel.{Script}
@@ -7,6 +9,7 @@ use Rattle.pt_model.specs.Parts.{Options}
 use Rattle.pt_model.specs.Tracer.{Focus, Booting, Waiting, Serving, Asking_outcome, Over, Turns_over, Faulted}
 use Rattle.pt_model.specs.Tracer.{Tracer, Moved, request, next, new_tracer}
 use Rattle.pt_model.specs.Replies.{admits}
+use Rattle.tr_line.specs.Printing.{open_call}
 use Rattle.tr_core.specs.Pens.{Pen, wrote, pen_after}
 use Rattle.tr_core.specs.declared.tracing.Act.{Act}
 use Rattle.tr_core.specs.declared.tracing.Act.TheVariants.{Ask, Finished}
@@ -63,9 +66,17 @@ is_faulted s = is_faulted_at s.tracer.focus
 unfoldable pub taken_of : State → ℕ
 taken_of s = s.tracer.taken
 
-abbrev pub act_of : Option Request → List ℕ → Act
-act_of (Some q) text = Ask text q
-act_of None text = Finished text
+-- The trace may rest: no line is open, or that of a call that may wait. Else more of the line comes at once.
+abbrev pub rests_at : Option ℕ → Bool
+rests_at None = true
+rests_at (Some number) = has_effects number waits
+
+unfoldable pub may_rest : State → Bool
+may_rest s = rests_at (open_call s.pen)
+
+abbrev pub act_of : Option Request → Bool → List ℕ → Act
+act_of (Some q) rests text = Ask text q rests
+act_of None rests text = Finished text
 
 -- the reply is one that a host may give
 unfoldable pub admitted : State → Reply → Bool
@@ -74,7 +85,7 @@ admitted s r = admits s.options s.tracer r
 -- what a call of next answers and leaves
 unfoldable pub Hears : State → Reply → Result Act TraceFault → State → Type 0
 Hears s r (Ok act) t = (s.failed ≡ false) × (t ≡ heard s r) × (admitted s r ≡ true) × (is_faulted t ≡ false)
-    × (act ≡ act_of (request_of t) (said s r))
+    × (act ≡ act_of (request_of t) (may_rest t) (said s r))
 Hears s r (Err Inadmissible) t = (s.failed ≡ false) × (t ≡ heard s r) × (admitted s r ≡ false)
 Hears s r (Err Memory) t = (s.failed ≡ false → admitted s r ≡ true) × (taken_of t ≡ taken_of s) × (t.failed ≡ true)
 

@@ -5,15 +5,18 @@ ghost use Rattle.pt_model.specs.Tracer.{asked_options as options_asked, asks, re
 ghost use Rattle.tr_core.specs.Settings.{options_of};
 ghost use Rattle.tr_core.specs.Known.{place_of};
 ghost use Rattle.tr_core.specs.Tracers.{focus_of};
-ghost use Rattle.tr_core.specs.States.{act_of};
+ghost use Rattle.tr_core.specs.States.{act_of, rests_at};
+ghost use Rattle.tr_line.specs.Printing.{open_call};
 
 use crate::place::{Awaiting, Focus};
 use crate::settings::Settings;
 use crate::stepping::Core;
 use crate::tracing::Act;
 use containers::Bytes;
+use lx_abi::calls::may_wait;
 use lx_abi::{Ask, RegisterSet, Request, TraceOptions};
 use std::alloc::AllocError;
+use tr_line::Printer;
 
 /// The options of each tracee.
 fn asked_options(follow: bool) -> TraceOptions
@@ -48,10 +51,22 @@ fn ask_of(settings: &Settings, place: &Awaiting) -> Result<Ask, AllocError>
     Ok(ask)
 }
 
+/// No line is open, or that of a call that may wait.
+fn rests(printer: &Printer) -> bool
+    ensures { result ≡ rests_at (open_call printer.now) }
+{
+    match printer.open_call() {
+        None => true,
+        Some(number) => may_wait(number),
+    }
+}
+
 /// What was printed, and what is asked next.
 pub fn act(core: &Core, bytes: Bytes) -> Result<Act, AllocError>
     ensures { IfOk result
-        (λ act. act ≡ act_of (request (options_of core.now.session.settings) (focus_of core.now.focus)) bytes) }
+        (λ act. act
+        ≡ act_of (request (options_of core.now.session.settings) (focus_of core.now.focus))
+        (rests_at (open_call core.now.session.printer)) bytes) }
 {
     let request = match &core.focus {
         Focus::Waiting => Request::Wait,
@@ -64,5 +79,10 @@ pub fn act(core: &Core, bytes: Bytes) -> Result<Act, AllocError>
             return Ok(Act::Finished { bytes });
         }
     };
-    Ok(Act::Ask { bytes, request })
+    let rests = rests(&core.session.printer);
+    Ok(Act::Ask {
+        bytes,
+        request,
+        rests,
+    })
 }

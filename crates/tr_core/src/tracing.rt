@@ -11,8 +11,16 @@ use thiserror::Error;
 /// What to print, and what to ask then.
 #[derive(Drop)]
 pub enum Act {
-    Ask { bytes: Bytes, request: Request },
-    Finished { bytes: Bytes },
+    Ask {
+        bytes: Bytes,
+        request: Request,
+        /// The trace may rest behind the bytes; else they end in the entry of a call that can't wait, and more of its
+        /// line comes at once.
+        rests: bool,
+    },
+    Finished {
+        bytes: Bytes,
+    },
 }
 
 /// Why a tracer goes on no more. It answers the same from then on.

@@ -98,6 +98,14 @@ pub record Printing : Type 0 where
   -- the number of the open call of each process that has one
   pub calls : FinMap nat_cmp ℕ
 
+-- the number of the call whose line is open
+abbrev pub call_on : Option Open → (ℕ → Option ℕ) → Option ℕ
+call_on None calls = None
+call_on (Some o) calls = calls o.pid
+
+abbrev pub open_call : Printing → Option ℕ
+open_call s = call_on s.line (maps.get s.calls)
+
 abbrev pub entered : Printing → ℕ → ℕ → List ℕ → Printing
 entered s p number text = record {
   layout = s.layout;

@@ -73,6 +73,16 @@ impl Printer {
         self.calls.get(pid).is_some()
     }
 
+    /// The number of the call whose line is open.
+    pub fn open_call(&self) -> Option<u64>
+        ensures { result ≡ spec.open_call self.now }
+    {
+        match self.line {
+            None => None,
+            Some(open) => self.calls.get(open.pid).copied(),
+        }
+    }
+
     /// The rest of the text of this call of the process, and its result.
     pub fn leave(
         &mut self,

@@ -10,7 +10,7 @@ use host_wire::{Counted, Feed, Frame, Payload, Sink, Source, WireFault, encode};
 use lx_abi::{Boxed, Reply, Request, Script, parse_words};
 use std::alloc::Global;
 use std::test::Fail;
-use trace_run::{RunFault, run};
+use trace_run::{RunFault, TraceSink, run};
 
 /// A run, by what strace_cli is given, and its trace.
 pub struct Row {
@@ -103,7 +103,7 @@ fn is_over<L: Link>(link: &mut L) -> bool {
 }
 
 /// Traces over a link whose boot was answered Done.
-fn trace<L: Link, W: Sink>(
+fn trace<L: Link, W: TraceSink>(
     alloc: Global,
     row: &Row,
     link: &mut L,
@@ -117,7 +117,7 @@ fn trace<L: Link, W: Sink>(
 }
 
 /// Boots, and traces.
-fn boot_and_trace<L: Link, W: Sink>(
+fn boot_and_trace<L: Link, W: TraceSink>(
     alloc: Global,
     row: &Row,
     boot: &[u8],
@@ -133,7 +133,7 @@ fn boot_and_trace<L: Link, W: Sink>(
 }
 
 /// How a run over these pipes ended, how many faults its link counted, and whether it answers no more.
-fn over_pipes<R: Source + Drop, W: Sink + Drop, O: Sink>(
+fn over_pipes<R: Source + Drop, W: Sink + Drop, O: TraceSink>(
     alloc: Global,
     row: &Row,
     boot: &[u8],

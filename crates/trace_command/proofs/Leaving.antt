@@ -1,35 +1,85 @@
 -- What is written where no run was made.
-use Rattle.std.proofs.Common.{◌≡◌, ◌⊎◌, ℕ, Result, Ok, Err, inl, inr, sym, subst, ◌∙◌}
+use Rattle.std.proofs.Common.{◌≡◌, ◌⊎◌, ℕ, List, Option, Result, Ok, Err, OnErr, inl, inr, sym, subst, ◌∙◌, true}
+use Rattle.std.proofs.Common.{true≢false}
 use Rattle.clap.specs.declared.parser.matches.ArgMatches.{ArgMatches}
 use Rattle.lx_abi.specs.declared.outcome.Outcome.{Outcome}
 use Rattle.front_end.specs.declared.fault.Fault.{Fault}
+use Rattle.front_end.specs.declared.fault.Fault.TheVariants as the
 use Rattle.trace_run.specs.Writers.{Writer}
-use Rattle.trace_command.specs.Tracing.{Leaves, LeavesAfter, Unmade}
+use Rattle.trace_command.specs.Faults.{IsUnhosted, IsUnopened, is_out_of_turns}
+use Rattle.trace_command.specs.Tracing.{Lacks, Leaves, LeavesAfter, Unmade}
+use Rattle.trace_command.specs.declared.words.Workers.{Workers}
 
 pub over_sum : {A B C D : Type 0} → (A → C) → (B → D) → A ⊎ B → C ⊎ D
 over_sum f g (inl a) = inl (f a)
 over_sum f g (inr b) = inr (g b)
 
-failed : (made : Result Outcome Fault) (fault : Fault) (result : Result ℕ Fault) (out middle out' err err' : Writer)
-    → Unmade made out middle err err' → (result ≡ Err fault) × (out' ≡ middle) → Unmade result out out' err err'
-failed (Ok outcome) fault result out middle out' err err' h l = absurd h
-failed (Err e) fault result out middle out' err err' h l =
-    subst (λ z. Unmade z out out' err err') (sym l.0) (l.1 ∙ h.0, h.1)
+-- ---- of such a fault no run ends
 
-left_after : (words : ArgMatches) (turned : Result (Unit {0}) Fault) (made : Result Outcome Fault)
-    (result : Result ℕ Fault) (out middle out' err err' : Writer) → Unmade made out middle err err'
-    → LeavesAfter words turned made result middle out' → Unmade result out out' err err'
-left_after words (Err t) made result out middle out' err err' h l = failed made t result out middle out' err err' h l
-left_after words (Ok u) (Ok outcome) result out middle out' err err' h l = absurd h
-left_after words (Ok u) (Err e) result out middle out' err err' h l =
-    failed (Err e) e result out middle out' err err' h l
+unhosted : (fault : Fault) → IsUnhosted fault → is_out_of_turns fault ≡ true → ⊥
+unhosted (the.Usage text) u e = true≢false (sym u)
+unhosted (the.Expression fault reason) u e = true≢false (sym u)
+unhosted (the.Listing line kind) u e = true≢false (sym u)
+unhosted (the.Host number reason) u e = true≢false (sym e)
+unhosted (the.OutOfTurns text) u e = true≢false (sym u)
+unhosted (the.Output text) u e = true≢false (sym u)
+unhosted the.Memory u e = true≢false (sym e)
 
--- a run that wasn't made leaves nothing
-pub leaves_nothing : (words : ArgMatches) (made : Result Outcome Fault) (result : Result ℕ Fault)
-    (out middle out' err err' : Writer) → Unmade made out middle err err' → Leaves words made result middle out'
-    → Unmade result out out' err err'
-leaves_nothing words made result out middle out' err err' h l =
-    left_after words l.0 made result out middle out' err err' h l.1.1
+unopened : (fault : Fault) → IsUnopened fault → is_out_of_turns fault ≡ true → ⊥
+unopened (the.Usage text) u e = true≢false (sym e)
+unopened (the.Expression fault reason) u e = true≢false (sym u)
+unopened (the.Listing line kind) u e = true≢false (sym u)
+unopened (the.Host number reason) u e = true≢false (sym u)
+unopened (the.OutOfTurns text) u e = true≢false (sym u)
+unopened (the.Output text) u e = true≢false (sym u)
+unopened the.Memory u e = true≢false (sym e)
+
+not_ended : (host : Option (List ℕ)) (workers : Option Workers) (files : Type 0) (fault : Fault)
+    → Lacks host workers files fault → is_out_of_turns fault ≡ true → ⊥
+not_ended host workers files fault (inl (h, u)) e = unhosted fault u e
+not_ended host workers files fault (inr (inl (w, inl u))) e = unhosted fault u e
+not_ended host workers files fault (inr (inl (w, inr u))) e = unopened fault u e
+not_ended host workers files fault (inr (inr (f, u))) e = unopened fault u e
+
+-- ---- a run that wasn't made leaves nothing
+
+failed : (lacks : Fault → Type 0) (fault : Fault) (result : Result ℕ Fault) (out middle out' err err' : Writer)
+    → Unmade {Outcome} lacks (Err fault) out middle err err' → (result ≡ Err fault) × (out' ≡ middle)
+    → Unmade lacks result out out' err err'
+failed lacks fault result out middle out' err err' h l =
+    subst (λ z. Unmade lacks z out out' err err') (sym l.0) (h.0, (l.1 ∙ h.1.0, h.1.1))
+
+left_after : (host : Option (List ℕ)) (workers : Option Workers) (files : Type 0) (words : ArgMatches) (asked : Type 0)
+    (turned : Result (Unit {0}) Fault) (fault : Fault) (result : Result ℕ Fault) (out middle out' err err' : Writer)
+    → Unmade {Outcome} (Lacks host workers files) (Err fault) out middle err err'
+    → OnErr turned (asked × (is_out_of_turns fault ≡ true)) → LeavesAfter words turned (Err fault) result middle out'
+    → Unmade (Lacks host workers files) result out out' err err'
+left_after host workers files words asked (Err t) fault result out middle out' err err' h o l =
+    absurd (not_ended host workers files fault h.0 o.1)
+left_after host workers files words asked (Ok u) fault result out middle out' err err' h o l =
+    failed (Lacks host workers files) fault result out middle out' err err' h l
+
+pub leaves_nothing : (host : Option (List ℕ)) (workers : Option Workers) (files : Type 0) (words : ArgMatches)
+    (made : Result Outcome Fault) (result : Result ℕ Fault) (out middle out' err err' : Writer)
+    → Unmade (Lacks host workers files) made out middle err err' → Leaves words made result middle out'
+    → Unmade (Lacks host workers files) result out out' err err'
+leaves_nothing host workers files words (Ok outcome) result out middle out' err err' h l = absurd h
+leaves_nothing host workers files words (Err fault) result out middle out' err err' h l =
+    left_after host workers files words _ l.0 fault result out middle out' err err' h l.1.0 l.1.1
+
+-- ---- by another cause
+
+pub unmade_for : {A : Type 0} (lacks lacks' : Fault → Type 0) (result : Result A Fault) (out out' err err' : Writer)
+    → ((fault : Fault) → lacks fault → lacks' fault) → Unmade lacks result out out' err err'
+    → Unmade lacks' result out out' err err'
+unmade_for lacks lacks' (Ok x) out out' err err' g h = absurd h
+unmade_for lacks lacks' (Err fault) out out' err err' g h = (g fault h.0, h.1)
+
+pub lacks_more : (host : Option (List ℕ)) (workers : Option Workers) (files files' : Type 0) → (files → files')
+    → (fault : Fault) → Lacks host workers files fault → Lacks host workers files' fault
+lacks_more host workers files files' g fault (inl h) = inl h
+lacks_more host workers files files' g fault (inr (inl w)) = inr (inl w)
+lacks_more host workers files files' g fault (inr (inr f)) = inr (inr (g f.0, f.1))
 
 pub over_both : {A B : Type 0} (P : A → B → Type 0) {a a' : A} {b b' : B} → a ≡ a' → b ≡ b' → P a b → P a' b'
 over_both P {a} {a'} {b} {b'} e f h = subst (λ z. P z b') e (subst (λ z. P a z) f h)

@@ -3,6 +3,7 @@ use Rattle.std.specs.Prelude.{◌≡◌, ◌⊎◌, ℕ, Bool, true, false, Opti
 use Rattle.lx_abi.specs.declared.outcome.Outcome.{Outcome}
 use Rattle.front_end.specs.declared.fault.Fault.{Fault}
 use Rattle.front_end.specs.declared.fault.Fault.TheVariants as the
+use Rattle.front_end.specs.Statuses.{is_output_or_memory, is_usage_or_memory}
 use Rattle.host_link.specs.declared.fault.LinkFault.{LinkFault}
 use Rattle.host_link.specs.declared.fault.LinkFault.TheVariants as link
 use Rattle.tr_core.specs.declared.tracing.TraceFault.TheVariants.{Inadmissible, Memory}
@@ -20,15 +21,6 @@ host_number (the.OutOfTurns text) = None
 host_number (the.Output text) = None
 host_number the.Memory = None
 
-abbrev pub is_output : Fault → Bool
-is_output (the.Usage text) = false
-is_output (the.Expression fault reason) = false
-is_output (the.Listing line kind) = false
-is_output (the.Host number reason) = false
-is_output (the.OutOfTurns text) = false
-is_output (the.Output text) = true
-is_output the.Memory = false
-
 abbrev pub is_out_of_turns : Fault → Bool
 is_out_of_turns (the.Usage text) = false
 is_out_of_turns (the.Expression fault reason) = false
@@ -40,7 +32,24 @@ is_out_of_turns the.Memory = false
 
 -- an output can't be written, or there is no memory to say which
 abbrev pub IsUnwritable : Fault → Type 0
-IsUnwritable fault = (is_output fault ≡ true) ⊎ (fault ≡ the.Memory)
+IsUnwritable fault = is_output_or_memory fault ≡ true
+
+-- a file can't be made, or there is no memory to do it or to say which
+abbrev pub IsUnopened : Fault → Type 0
+IsUnopened fault = is_usage_or_memory fault ≡ true
+
+-- a host fails, or memory is wanted
+abbrev pub is_host_or_memory : Fault → Bool
+is_host_or_memory (the.Usage text) = false
+is_host_or_memory (the.Expression fault reason) = false
+is_host_or_memory (the.Listing line kind) = false
+is_host_or_memory (the.Host number reason) = true
+is_host_or_memory (the.OutOfTurns text) = false
+is_host_or_memory (the.Output text) = false
+is_host_or_memory the.Memory = true
+
+abbrev pub IsUnhosted : Fault → Type 0
+IsUnhosted fault = is_host_or_memory fault ≡ true
 
 -- a host's fault has its number
 abbrev pub IsHostFault : LinkFault → Fault → Type 0

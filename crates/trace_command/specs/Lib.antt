@@ -1,4 +1,3 @@
 pub mod Faults
 pub mod Tracing
-pub mod Waiting
 pub mod Writers

@@ -36,7 +36,7 @@ use Rattle.trace_run.specs.declared.running.Ended.TheVariants.{Whole}
 use Rattle.trace_run.specs.declared.running.RunFault.{RunFault}
 use Rattle.trace_run.specs.declared.running.RunFault.TheVariants.{Link, Output as Unwritable}
 use Rattle.trace_threads.specs.ThreadRuns.{ThreadRun}
-use Rattle.trace_command.specs.Faults.{IsFaultOf, IsHostFault, IsUnwritable, has_ended}
+use Rattle.trace_command.specs.Faults.{IsFaultOf, IsHostFault, IsUnhosted, IsUnopened, IsUnwritable, has_ended}
 use Rattle.trace_command.specs.declared.kernel.Kernel.{Kernel}
 use Rattle.trace_command.specs.declared.kernel.Kernel.TheVariants.{Here, There}
 use Rattle.trace_command.specs.declared.place.Place.{Place}
@@ -183,20 +183,23 @@ RunsTo held writes place result out out' err err' =
     × ((middle : Writer)
     × (WritesTo held writes ended place out out' err middle × Settles place ended result middle err'))
 
--- none was made, and nothing is written
-abbrev pub Unmade : {A : Type 0} → Result A Fault → Writer → Writer → Writer → Writer → Type 0
-Unmade (Ok x) out out' err err' = ⊥
-Unmade (Err fault) out out' err err' = (out' ≡ out) × (err' ≡ err)
+-- none was made, for such a fault, and nothing is written
+abbrev pub Unmade : {A : Type 0} → (Fault → Type 0) → Result A Fault → Writer → Writer → Writer → Writer → Type 0
+Unmade lacks (Ok x) out out' err err' = ⊥
+Unmade lacks (Err fault) out out' err err' = lacks fault × ((out' ≡ out) × (err' ≡ err))
 
--- A run that needs neither a host, nor threads, nor a file for its trace is always made.
+-- A run that needs neither a host, nor threads, nor a file is always made. The fault of another is that this host, these
+-- threads (a boot that they refuse among them) or this file can't be had, or want of memory.
 
 abbrev pub IsFile : Place → Type 0
 IsFile Error = ⊥
 IsFile Output = ⊥
 IsFile (File path) = ⊤
 
-abbrev pub MayLack : Option (List ℕ) → Option Workers → Place → Type 0
-MayLack host workers place = IsSome host ⊎ (IsSome workers ⊎ IsFile place)
+abbrev pub Lacks : Option (List ℕ) → Option Workers → Type 0 → Fault → Type 0
+Lacks host workers files fault =
+    (IsSome host × IsUnhosted fault)
+    ⊎ ((IsSome workers × (IsUnhosted fault ⊎ IsUnopened fault)) ⊎ (files × IsUnopened fault))
 
 -- ---- the program
 
@@ -257,15 +260,16 @@ pub record Completes (P E : Type 0) {F I O : Type 0} (held : F → Option (List 
   pub leaves : Leaves words made result traced out'
 
 -- A run of this plan, with its trace at the place that the words name, completes. Or it lacks a file, a host or threads
--- that it needs, and nothing is written.
+-- that it needs, with such a fault, and nothing is written.
 abbrev pub TracesPlan : (P E : Type 0) → {F I O : Type 0} → (F → Option (List ℕ)) → (O → Option (List ℕ))
     → (I → Option (List ℕ)) → ArgMatches → Plan → ℕ → Option Workers → Result ℕ Fault
     → Writer → Writer → Writer → Writer → Type 0
 TracesPlan P E held remaining contents words plan limit workers result out out' err err' =
     (place : Place)
     × (IsPlace (value_of words (codes "output")) place
-    × (((IsSome (value_of words (codes "turns-out")) ⊎ MayLack (value_of words (codes "host")) workers place)
-    × Unmade result out out' err err')
+    × (Unmade
+    (Lacks (value_of words (codes "host")) workers (IsSome (value_of words (codes "turns-out")) ⊎ IsFile place)) result
+    out out' err err'
     ⊎ Completes P E held remaining contents words plan limit workers place result out out' err err'))
 
 -- The same to writers of std, by what they hold where that is known: standard output and standard error are written to

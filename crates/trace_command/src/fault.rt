@@ -1,10 +1,12 @@
 //! Faults of a host.
 
-ghost use Rattle.trace_command.specs.Faults.{IsHostFault, IsUnwritable};
+ghost use Rattle.std.specs.Prelude.{◌⊎◌};
+ghost use Rattle.trace_command.specs.Faults.{IsHostFault, IsUnhosted, IsUnopened};
 
 use front_end::{Fault, refuse_boot};
 use host_link::LinkFault;
 use std::alloc::{AllocError, Global};
+use std::io;
 use trace_threads::ThreadsFault;
 
 /// A host's fault in words.
@@ -24,7 +26,8 @@ fn reason(fault: LinkFault) -> &'static str {
 
 /// The fault of a run whose link has this one.
 pub fn host_fault(fault: LinkFault) -> Fault
-    ensures { IsHostFault fault result }
+    ensures number { IsHostFault fault result }
+    ensures kind { IsUnhosted result }
 {
     match fault {
         LinkFault::Memory => Fault::Memory,
@@ -35,18 +38,20 @@ pub fn host_fault(fault: LinkFault) -> Fault
     }
 }
 
-/// The fault of an output that can't be written, if there is memory to say which.
-pub fn unwritable(text: Result<String, AllocError>) -> Fault
-    ensures { IsUnwritable result }
+/// The fault of a file that can't be made, if there is memory to say which.
+pub fn unopened(alloc: Global, what: Result<String, AllocError>, error: io::Error) -> Fault
+    ensures { IsUnopened result }
 {
-    match text {
-        Ok(text) => Fault::Output(text),
+    match what {
+        Ok(what) => Fault::file(alloc, what, error),
         Err(_) => Fault::Memory,
     }
 }
 
 /// The fault of a run on threads that gives none.
-pub fn threads_fault(alloc: Global, fault: ThreadsFault) -> Fault {
+pub fn threads_fault(alloc: Global, fault: ThreadsFault) -> Fault
+    ensures { IsUnhosted result ⊎ IsUnopened result }
+{
     match fault {
         ThreadsFault::Boot(fault) => refuse_boot(alloc, fault),
         ThreadsFault::Start => Fault::Host {

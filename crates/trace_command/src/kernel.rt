@@ -1,7 +1,8 @@
 //! Where the kernel runs.
 
-ghost use Rattle.std.specs.Prelude.{Ok, IfOk, IsSome, OnErr, OnOk, option_map};
+ghost use Rattle.std.specs.Prelude.{Ok, IfErr, IfOk, IsSome, OnOk, option_map};
 ghost use Rattle.trace_run.specs.Writers.{writer_of};
+ghost use Rattle.trace_command.specs.Faults.{IsUnhosted};
 ghost use Rattle.trace_command.specs.Tracing.{Takes, Traces, TracesHere};
 
 use crate::fault::host_fault;
@@ -9,14 +10,13 @@ use crate::kept::{Behind, Kept, Record, waits_in};
 use containers::Seq;
 use front_end::Fault;
 use host_link::{ChildLink, Link, LinkFault, Streams};
-use host_wire::Sink;
 use lx_abi::{Boot, Boxed, Reply, Request, Script, Word};
 use lx_boot::BootFault;
 use pt_kernel::Schedule;
 use std::alloc::Global;
 use std::process::{OpenProcess, Processes};
 use tr_core::Options;
-use trace_run::{Ended, Local, RunFault, run_counting, trace_local};
+use trace_run::{Ended, Local, RunFault, TraceSink, run_counting, trace_local};
 
 /// A kernel that takes its boot.
 #[derive(Drop)]
@@ -29,7 +29,9 @@ pub enum Kernel<P: OpenProcess + Drop> {
 
 /// The fault of a boot, in which none was found before, that a host refuses with this number: a host that has memory
 /// has no cause.
-fn refused_boot(number: u8) -> Fault {
+fn refused_boot(number: u8) -> Fault
+    ensures { IsUnhosted result }
+{
     if number == BootFault::Memory.number() {
         Fault::Memory
     } else {
@@ -45,7 +47,8 @@ fn boot_over<L: Link>(
     limit: u64,
     turns: Vec<Word>,
 ) -> Result<(), Fault>
-    ensures { OnOk result (L.answers link.old (Request.Boot boot limit turns.items) (Ok Reply.Done) link.new) }
+    ensures booted { OnOk result (L.answers link.old (Request.Boot boot limit turns.items) (Ok Reply.Done) link.new) }
+    ensures fault { IfErr result (λ fault. IsUnhosted fault) }
 {
     let Ok(boot) = Boxed::new(alloc, boot) else {
         return Err(Fault::Memory);
@@ -81,7 +84,7 @@ where
         boot limit turns.items kernel) }
 
     // A kernel in this process is always there.
-    ensures fault { OnErr result (IsSome (option_map (λ path. path.now) host.entry)) }
+    ensures fault { IfErr result (λ fault. IsSome (option_map (λ path. path.now) host.entry) × IsUnhosted fault) }
 {
     let Some(path) = host else {
         return Ok(Kernel::Here(boot, Schedule::words(turns, limit)));
@@ -102,7 +105,7 @@ where
 
 /// Runs the tracer with the kernel in this process, and keeps what is asked for beside the trace. A boot without a
 /// fault is refused only for memory.
-pub fn run_here<W: Sink>(
+pub fn run_here<W: TraceSink>(
     alloc: Global,
     boot: Boot,
     schedule: Schedule,
@@ -138,7 +141,7 @@ pub fn run_here<W: Sink>(
 }
 
 /// Runs the tracer on a kernel. What it leaves stays behind.
-pub fn run_kernel<P: OpenProcess + Drop, W: Sink>(
+pub fn run_kernel<P: OpenProcess + Drop, W: TraceSink>(
     alloc: Global,
     kernel: Kernel<P>,
     script: Script,

@@ -1,6 +1,9 @@
 //! The place that the trace goes to.
 
-use crate::fault::unwritable;
+ghost use Rattle.std.specs.Prelude.{IfErr};
+ghost use Rattle.trace_command.specs.Faults.{IsUnopened};
+
+use crate::fault::unopened;
 use clap::ArgMatches;
 use front_end::{Fault, Shown, create_file};
 use std::alloc::Global;
@@ -41,17 +44,19 @@ impl<'a> Place<'a> {
                 format!(in alloc; "the trace could not be written to {}", Shown(path))
             }
         };
-        unwritable(text)
+        Fault::output(text)
     }
 }
 
 /// Makes a file for the trace anew. A stream or a device is appended to.
-pub fn create<R: Files + AllocGlobal>(rt: &R, path: &str) -> Result<R::File, Fault> {
+pub fn create<R: Files + AllocGlobal>(rt: &R, path: &str) -> Result<R::File, Fault>
+    ensures { IfErr result (λ fault. IsUnopened fault) }
+{
     match create_file(rt, path) {
         Ok(file) => Ok(file),
         Err(error) => {
-            let what = format!(in rt.alloc(); "-o {}", Shown(path))?;
-            Err(Fault::file(rt.alloc(), what, error))
+            let what = format!(in rt.alloc(); "-o {}", Shown(path));
+            Err(unopened(rt.alloc(), what, error))
         }
     }
 }

@@ -3,7 +3,7 @@
 ghost use Rattle.std.specs.Prelude.{◌≡◌, ◌⊎◌, ℕ, List, Option, Ok, Err, IfOk, IfErr, OnErr};
 ghost use Rattle.std.specs.Io.KnownBytes.{Keeps, append_known};
 ghost use Rattle.trace_run.specs.Writers.{writer_of};
-ghost use Rattle.trace_command.specs.Faults.{IsFaultOf};
+ghost use Rattle.trace_command.specs.Faults.{IsFaultOf, IsUnopened};
 ghost use Rattle.trace_command.specs.Tracing.{EndsLine, IsFile, Puts, Reaches, RunsTo, Settles, Traces, Unmade};
 ghost use Rattle.trace_command.specs.Tracing.{WritesFile, WritesTo};
 
@@ -23,7 +23,7 @@ use std::io::Write;
 use std::process::OpenProcess;
 use std::rt::Files;
 use tr_core::{Options, TraceFault};
-use trace_run::{Ended, RunFault};
+use trace_run::{Ended, RunFault, TraceSink};
 
 /// Writes all of the bytes.
 pub fn write<W: Sink>(writer: &mut W, bytes: &[u8]) -> Result<(), Broken>
@@ -135,11 +135,12 @@ fn trace_whole_lines<P: OpenProcess + Drop, F: Write + Drop>(
     behind: &mut Behind<P>,
     file: F,
 ) -> Result<Result<Ended, RunFault>, Fault>
-    ensures { IfOk result (λ ended. WritesFile F.contents
+    ensures written { IfOk result (λ ended. WritesFile F.contents
         (Traces P.Stdout.remaining P.Stdin.contents options script kernel) ended) }
+    ensures fault { IfErr result (λ fault. IsUnopened fault) }
 {
     let mut lines = match WholeLines::new(alloc, file) {
-        Ok(lines) => Lines::new(lines),
+        Ok(lines) => lines,
         Err(_) => {
             drop(kernel);
             drop(script);
@@ -148,7 +149,7 @@ fn trace_whole_lines<P: OpenProcess + Drop, F: Write + Drop>(
         }
     };
     let ended = run_kernel(alloc, kernel, script, options, behind, &mut lines);
-    let (file, rest) = lines.into_inner().into_parts();
+    let (file, rest) = lines.into_parts();
     drop(file);
     Ok(ended_but_for(ended, rest))
 }
@@ -170,8 +171,9 @@ fn trace_to_file<R: Files + AllocGlobal, P: OpenProcess + Drop>(
     behind: &mut Behind<P>,
     path: &str,
 ) -> Result<Result<Ended, RunFault>, Fault>
-    ensures { IfOk result (λ ended. WritesFile R.File.contents
+    ensures written { IfOk result (λ ended. WritesFile R.File.contents
         (Traces P.Stdout.remaining P.Stdin.contents options script kernel) ended) }
+    ensures fault { IfErr result (λ fault. IsUnopened fault) }
 {
     let file = match create(rt, path) {
         Ok(file) => file,
@@ -191,7 +193,7 @@ fn trace_to_file<R: Files + AllocGlobal, P: OpenProcess + Drop>(
 }
 
 /// The same, to a place.
-fn trace_to_place<R: Files + AllocGlobal, P: OpenProcess + Drop, O: Sink, E: Sink>(
+fn trace_to_place<R: Files + AllocGlobal, P: OpenProcess + Drop, O: TraceSink, E: TraceSink>(
     rt: &R,
     kernel: Kernel<P>,
     script: Script,
@@ -205,7 +207,7 @@ fn trace_to_place<R: Files + AllocGlobal, P: OpenProcess + Drop, O: Sink, E: Sin
         (Traces P.Stdout.remaining P.Stdin.contents options script kernel) ended place.entry
         (writer_of O.contents O.puts O.broken out.old) (writer_of O.contents O.puts O.broken out.new)
         (writer_of E.contents E.puts E.broken err.old) (writer_of E.contents E.puts E.broken err.new)) }
-    ensures unmade { OnErr result (IsFile place.entry × Unmade result
+    ensures unmade { OnErr result (Unmade (λ fault. IsFile place.entry × IsUnopened fault) result
         (writer_of O.contents O.puts O.broken out.old) (writer_of O.contents O.puts O.broken out.new)
         (writer_of E.contents E.puts E.broken err.old) (writer_of E.contents E.puts E.broken err.new)) }
 {
@@ -218,7 +220,7 @@ fn trace_to_place<R: Files + AllocGlobal, P: OpenProcess + Drop, O: Sink, E: Sin
 
 /// Runs the tracer on a kernel, with its trace to a place. Where the run ends in a fault, a line that stands open on
 /// `err` is ended.
-pub fn trace_kernel<R: Files + AllocGlobal, P: OpenProcess + Drop, O: Sink, E: LineSink>(
+pub fn trace_kernel<R: Files + AllocGlobal, P: OpenProcess + Drop, O: TraceSink, E: LineSink>(
     rt: &R,
     kernel: Kernel<P>,
     script: Script,
@@ -228,9 +230,9 @@ pub fn trace_kernel<R: Files + AllocGlobal, P: OpenProcess + Drop, O: Sink, E: L
     out: &mut O,
     err: &mut E,
 ) -> Result<Outcome, Fault>
-    ensures { (IsFile place.entry × Unmade result
+    ensures { Unmade (λ fault. IsFile place.entry × IsUnopened fault) result
         (writer_of O.contents O.puts O.broken out.old) (writer_of O.contents O.puts O.broken out.new)
-        (writer_of E.contents E.puts E.broken err.old) (writer_of E.contents E.puts E.broken err.new))
+        (writer_of E.contents E.puts E.broken err.old) (writer_of E.contents E.puts E.broken err.new)
         ⊎ RunsTo R.File.contents (Traces P.Stdout.remaining P.Stdin.contents options script kernel) place.entry result
         (writer_of O.contents O.puts O.broken out.old) (writer_of O.contents O.puts O.broken out.new)
         (writer_of E.contents E.puts E.broken err.old) (writer_of E.contents E.puts E.broken err.new) }

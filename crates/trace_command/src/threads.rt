@@ -1,8 +1,9 @@
 //! A run whose turns are made by threads.
 
-ghost use Rattle.std.specs.Prelude.{◌≡◌, ◌⊎◌, IfOk, OnErr};
+ghost use Rattle.std.specs.Prelude.{◌≡◌, ◌⊎◌, IfErr, IfOk, OnErr};
 ghost use Rattle.trace_run.specs.Writers.{writer_of};
 ghost use Rattle.trace_threads.specs.ThreadRuns.{ThreadRun};
+ghost use Rattle.trace_command.specs.Faults.{IsUnhosted, IsUnopened};
 ghost use Rattle.trace_command.specs.Tracing.{PutsTrace, RunsTo, Settles, TracesOnThreads, Unmade};
 ghost use Rattle.trace_command.specs.Tracing.{WritesFile, WritesTo};
 
@@ -46,7 +47,8 @@ fn run_on_threads<R: Threads + Wait + Sync + AllocGlobal>(
     workers: Workers,
     noted: &mut Events,
 ) -> Result<Run, Fault>
-    ensures { IfOk result (λ run. ThreadRun plan.boot workers.limit plan.script plan.options run) }
+    ensures run { IfOk result (λ run. ThreadRun plan.boot workers.limit plan.script plan.options run) }
+    ensures fault { IfErr result (λ fault. IsUnhosted fault ⊎ IsUnopened fault) }
 {
     let alloc = rt.alloc();
     let Plan {
@@ -107,6 +109,7 @@ fn trace_to<R: Threads + Wait + Sync + AllocGlobal, W: Sink>(
         (writer_of W.contents W.puts W.broken writer.old) (writer_of W.contents W.puts W.broken writer.new)) }
     ensures unmade { OnErr result (writer_of W.contents W.puts W.broken writer.new
         ≡ writer_of W.contents W.puts W.broken writer.old) }
+    ensures fault { IfErr result (λ fault. IsUnhosted fault ⊎ IsUnopened fault) }
 {
     let mut events = noting(rt.alloc(), notes);
     let run = match run_on_threads(rt, plan, workers, &mut events) {
@@ -140,7 +143,9 @@ fn trace_to_file<R: Files + Threads + Wait + Sync + AllocGlobal>(
     notes: bool,
     path: &str,
 ) -> Result<Threaded, Fault>
-    ensures { IfOk result (λ run. WritesFile R.File.contents (TracesOnThreads plan workers.limit) run.ended) }
+    ensures written { IfOk result
+        (λ run. WritesFile R.File.contents (TracesOnThreads plan workers.limit) run.ended) }
+    ensures fault { IfErr result (λ fault. IsUnhosted fault ⊎ IsUnopened fault) }
 {
     let mut lines = match create(rt, path) {
         Ok(file) => Lines::new(file),
@@ -175,7 +180,7 @@ fn trace_to_place<R: Files + Threads + Wait + Sync + AllocGlobal, O: Sink, E: Si
         (TracesOnThreads plan workers.limit) run.ended place.entry
         (writer_of O.contents O.puts O.broken out.old) (writer_of O.contents O.puts O.broken out.new)
         (writer_of E.contents E.puts E.broken err.old) (writer_of E.contents E.puts E.broken err.new)) }
-    ensures unmade { OnErr result (Unmade result
+    ensures unmade { OnErr result (Unmade (λ fault. IsUnhosted fault ⊎ IsUnopened fault) result
         (writer_of O.contents O.puts O.broken out.old) (writer_of O.contents O.puts O.broken out.new)
         (writer_of E.contents E.puts E.broken err.old) (writer_of E.contents E.puts E.broken err.new)) }
 {
@@ -217,7 +222,7 @@ pub fn trace_on_threads<R: Files + Threads + Wait + Sync + AllocGlobal, O: Sink,
     out: &mut O,
     err: &mut E,
 ) -> Result<Outcome, Fault>
-    ensures { Unmade result
+    ensures { Unmade (λ fault. IsUnhosted fault ⊎ IsUnopened fault) result
         (writer_of O.contents O.puts O.broken out.old) (writer_of O.contents O.puts O.broken out.new)
         (writer_of E.contents E.puts E.broken err.old) (writer_of E.contents E.puts E.broken err.new)
         ⊎ RunsTo R.File.contents (TracesOnThreads plan workers.limit) place.entry result

@@ -1,14 +1,14 @@
 //! A traced run.
 
-ghost use Rattle.std.specs.Prelude.{◌≡◌, ◌⊎◌, None, Ok, IsSome, IfOk, OnErr, codes, true};
+ghost use Rattle.std.specs.Prelude.{◌≡◌, ◌⊎◌, None, Ok, IsSome, IfErr, IfOk, OnErr, codes, true};
 ghost use Rattle.trace_run.specs.Writers.{writer_of};
-ghost use Rattle.trace_command.specs.Faults.{has_ended};
-ghost use Rattle.trace_command.specs.Tracing.{Leaves, Left, MayLack, PutsConsole, Runs, Takes, Unmade};
+ghost use Rattle.trace_command.specs.Faults.{IsUnhosted, has_ended};
+ghost use Rattle.trace_command.specs.Tracing.{IsFile, Lacks, Leaves, Left, PutsConsole, Runs, Takes, Unmade};
 ghost use Rattle.trace_command.specs.Tracing.{TracesOut, TracesPlan, TracesWords};
 ghost use Rattle.trace_command.specs.Tracing.{asks_for_files, status_in, value_of};
 
 use crate::explaining::explain;
-use crate::fault::{host_fault, unwritable};
+use crate::fault::host_fault;
 use crate::given::is_given;
 use crate::heard::{Heard, hear};
 use crate::kept::{Behind, Kept};
@@ -33,6 +33,7 @@ use std::process::Processes;
 use std::rt::Files;
 use std::sync::Wait;
 use std::thread::Threads;
+use trace_run::TraceSink;
 
 /// A kernel that takes this boot, in the process that the words ask for.
 fn booted_kernel<R: Processes + AllocGlobal>(
@@ -48,7 +49,7 @@ where
     ensures takes { IfOk result
         (λ kernel. Takes R.Started.Stdout.remaining R.Started.Stdin.contents (value_of matches.now (codes "host")) boot
         limit turns.items kernel) }
-    ensures fault { OnErr result (IsSome (value_of matches.now (codes "host"))) }
+    ensures fault { IfErr result (λ fault. IsSome (value_of matches.now (codes "host")) × IsUnhosted fault) }
 {
     let words = matches.get_strs("host-arg").unwrap_or(&[]);
     boot_kernel(
@@ -63,7 +64,7 @@ where
 }
 
 /// Boots the kernel and runs the tracer.
-fn run_plan<R: Files + Processes + AllocGlobal, O: Sink, E: LineSink>(
+fn run_plan<R: Files + Processes + AllocGlobal, O: TraceSink, E: LineSink>(
     rt: &R,
     matches: &ArgMatches,
     plan: Plan,
@@ -75,9 +76,9 @@ fn run_plan<R: Files + Processes + AllocGlobal, O: Sink, E: LineSink>(
 ) -> Result<Outcome, Fault>
 where
     R::Started: Streams,
-    ensures { (MayLack (value_of matches.now (codes "host")) None place.entry × Unmade result
+    ensures { Unmade (Lacks (value_of matches.now (codes "host")) None (IsFile place.entry)) result
         (writer_of O.contents O.puts O.broken out.old) (writer_of O.contents O.puts O.broken out.new)
-        (writer_of E.contents E.puts E.broken err.old) (writer_of E.contents E.puts E.broken err.new))
+        (writer_of E.contents E.puts E.broken err.old) (writer_of E.contents E.puts E.broken err.new)
         ⊎ Runs R.Started R.Started.Stderr R.File.contents R.Started.Stdout.remaining R.Started.Stdin.contents
         (value_of matches.now (codes "host")) plan limit None place.entry result
         (writer_of O.contents O.puts O.broken out.old) (writer_of O.contents O.puts O.broken out.new)
@@ -101,7 +102,11 @@ where
 }
 
 /// Makes the run, on threads where the words ask for them.
-fn run_as_asked<R: Files + Processes + Threads + Wait + Sync + AllocGlobal, O: Sink, E: LineSink>(
+fn run_as_asked<
+    R: Files + Processes + Threads + Wait + Sync + AllocGlobal,
+    O: TraceSink,
+    E: LineSink,
+>(
     rt: &R,
     matches: &ArgMatches,
     options: TraceOptions,
@@ -113,9 +118,9 @@ fn run_as_asked<R: Files + Processes + Threads + Wait + Sync + AllocGlobal, O: S
 ) -> Result<Outcome, Fault>
 where
     R::Started: Streams,
-    ensures { (MayLack (value_of matches.now (codes "host")) options.workers place.entry × Unmade result
+    ensures { Unmade (Lacks (value_of matches.now (codes "host")) options.workers (IsFile place.entry)) result
         (writer_of O.contents O.puts O.broken out.old) (writer_of O.contents O.puts O.broken out.new)
-        (writer_of E.contents E.puts E.broken err.old) (writer_of E.contents E.puts E.broken err.new))
+        (writer_of E.contents E.puts E.broken err.old) (writer_of E.contents E.puts E.broken err.new)
         ⊎ Runs R.Started R.Started.Stderr R.File.contents R.Started.Stdout.remaining R.Started.Stdin.contents
         (value_of matches.now (codes "host")) plan options.limit options.workers place.entry result
         (writer_of O.contents O.puts O.broken out.old) (writer_of O.contents O.puts O.broken out.new)
@@ -152,7 +157,7 @@ fn write_console<O: Sink>(alloc: Global, outcome: &Outcome, out: &mut O) -> Resu
     };
     match write(out, outcome.console.as_slice()) {
         Ok(()) => Ok(status),
-        Err(Broken) => Err(unwritable(format!(in alloc;
+        Err(Broken) => Err(Fault::output(format!(in alloc;
             "the console could not be written to standard output"
         ))),
     }
@@ -259,7 +264,11 @@ fn leave<R: Files + AllocGlobal, O: Sink>(
 }
 
 /// Makes the run, its trace at the place that the words name, and writes what it leaves. Gives the exit status.
-fn trace_plan<R: Files + Processes + Threads + Wait + Sync + AllocGlobal, O: Sink, E: LineSink>(
+fn trace_plan<
+    R: Files + Processes + Threads + Wait + Sync + AllocGlobal,
+    O: TraceSink,
+    E: LineSink,
+>(
     rt: &R,
     matches: &ArgMatches,
     options: TraceOptions,

@@ -1,8 +1,10 @@
 //! The events of a run, written as a schedule that gives them.
 
-ghost use Rattle.std.specs.Prelude.{IsSome, OnErr, codes};
+ghost use Rattle.std.specs.Prelude.{IfErr, IsSome, codes};
+ghost use Rattle.trace_command.specs.Faults.{IsUnopened};
 ghost use Rattle.trace_command.specs.Tracing.{value_of};
 
+use crate::fault::unopened;
 use clap::ArgMatches;
 use front_end::{Fault, NewFile, Shown, check_file};
 use lx_abi::Event;
@@ -59,7 +61,7 @@ fn unwritten(alloc: Global, path: &str, error: io::Error) -> Fault {
 
 /// The file that `--turns-out` names, where it names one, can be written. Nothing is changed yet.
 pub fn check_turns<R: Files + AllocGlobal>(rt: &R, matches: &ArgMatches) -> Result<(), Fault>
-    ensures { OnErr result (IsSome (value_of matches.now (codes "turns-out"))) }
+    ensures { IfErr result (λ fault. IsSome (value_of matches.now (codes "turns-out")) × IsUnopened fault) }
 {
     let Some(path) = matches.get_str("turns-out") else {
         return Ok(());
@@ -67,8 +69,8 @@ pub fn check_turns<R: Files + AllocGlobal>(rt: &R, matches: &ArgMatches) -> Resu
     match check_file(rt, path) {
         Ok(()) => Ok(()),
         Err(error) => {
-            let what = format!(in rt.alloc(); "--turns-out {}", Shown(path))?;
-            Err(Fault::file(rt.alloc(), what, error))
+            let what = format!(in rt.alloc(); "--turns-out {}", Shown(path));
+            Err(unopened(rt.alloc(), what, error))
         }
     }
 }

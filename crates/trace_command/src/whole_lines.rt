@@ -1,80 +1,98 @@
-//! Lines of calls that can't wait, written whole.
+//! A trace whose lines are written whole where their calls can't wait.
 
 ghost use Rattle.std.specs.Prelude.{◌≡◌};
-ghost use Rattle.trace_command.specs.Waiting.{may_wait_by};
 
+use host_wire::{Broken, Counted, Sink};
 use std::alloc::Global;
-use std::io::{self, BufWriter, Write};
+use std::cell::Cell;
+use std::io::{self, BufWriter, ErrorKind, Write};
+use std::rc::Rc;
+use trace_run::TraceSink;
 
-/// The name in the entry of a call, behind the process where that is named.
-fn name_in(line: &[u8]) -> Option<&[u8]> {
-    let end = line.iter().position(|byte| *byte == b'(')?;
-    line[..end].rsplit(|byte| *byte == b' ').next()
+/// A writer that keeps what is written while it is told to.
+#[derive(Drop)]
+pub struct Held<W: Write + Drop> {
+    out: BufWriter<W>,
+    holds: Rc<Cell<bool>>,
 }
 
-/// A call with this name may wait.
-#[tactic(auto, unfolding(lx_abi::specs::Calls::calls))]
-fn may_wait(name: &[u8]) -> bool
-    ensures { result ≡ may_wait_by name.now }
-{
-    matches!(name, b"read" | b"write" | b"wait4")
+impl<W: Write + Drop> Write for Held<W> {
+    ghost use Rattle.trace_command.specs.Writers.{held_contents};
+
+    ghost contents = { λ held. held_contents W.contents held };
+
+    fn write(&mut self, buf: &[u8]) -> io::Result<usize> {
+        self.out.write(buf)
+    }
+
+    fn flush(&mut self) -> io::Result<()> {
+        if self.holds.get() {
+            return Ok(());
+        }
+        self.out.flush()
+    }
 }
 
-/// The last line is the entry of a call that can't wait.
-fn ends_at_once(lines: &[u8]) -> bool {
-    lines
-        .rsplit(|byte| *byte == b'\n')
-        .next()
-        .and_then(name_in)
-        .is_some_and(|name| !may_wait(name))
-}
-
-/// A writer that keeps the entry of a call back until the call returns, unless the call may wait.
+/// A writer of std that keeps back what more of a line follows at once.
 #[derive(Drop)]
 pub struct WholeLines<W: Write + Drop> {
-    out: BufWriter<W>,
-    /// What was written goes out at the next flush.
-    owes: bool,
+    sink: Counted<Held<W>>,
+    holds: Rc<Cell<bool>>,
 }
 
 impl<W: Write + Drop> WholeLines<W> {
     ghost use Rattle.std.specs.Prelude.{◌≡◌, IfOk};
     ghost use Rattle.std.specs.Io.KnownBytes.{Keeps, append_known};
-    ghost use Rattle.trace_command.specs.Writers.{whole_contents};
+    ghost use Rattle.trace_run.specs.Writers.{writer_of};
+    ghost use Rattle.trace_command.specs.Tracing.{unused};
+    ghost use Rattle.trace_command.specs.Writers.{whole_broken, whole_contents, whole_puts};
 
     pub fn new(alloc: Global, out: W) -> io::Result<Self>
-        ensures { IfOk result (λ lines. whole_contents W.contents lines ≡ W.contents out) }
+        ensures { IfOk result
+            (λ lines. writer_of (whole_contents W.contents) whole_puts whole_broken lines ≡ unused (W.contents out)) }
     {
+        let Ok(holds) = Rc::new(alloc, Cell::new(false)) else {
+            return Err(io::Error::from(ErrorKind::OutOfMemory));
+        };
+        let told = holds.clone()?;
         let out = BufWriter::new(alloc, out)?;
-        Ok(WholeLines { out, owes: false })
+        let sink = Counted::new(Held { out, holds: told });
+        Ok(WholeLines { sink, holds })
     }
 
     /// Writes what was kept back. Gives the writer, and the bytes that can't be written.
-    pub fn into_parts(mut self) -> (W, Vec<u8>)
+    pub fn into_parts(self) -> (W, Vec<u8>)
         ensures { Keeps (whole_contents W.contents self) (append_known (W.contents result.0) result.1.items) }
     {
+        let mut held = self.sink.into_inner();
         // What isn't written stays in the buffer.
-        let _flushed = self.out.flush();
-        self.out.into_parts()
+        let _flushed = held.out.flush();
+        held.out.into_parts()
     }
 }
 
-impl<W: Write + Drop> Write for WholeLines<W> {
-    ghost use Rattle.trace_command.specs.Writers.{whole_contents};
+impl<W: Write + Drop> Sink for WholeLines<W> {
+    ghost use Rattle.trace_command.specs.Writers.{whole_broken, whole_contents, whole_puts};
 
-    ghost contents = { λ lines. whole_contents W.contents lines };
+    ghost contents = { λ l. whole_contents W.contents l };
 
-    fn write(&mut self, buf: &[u8]) -> io::Result<usize> {
-        let count = self.out.write(buf)?;
-        self.owes = !ends_at_once(self.out.buffer());
-        Ok(count)
+    ghost puts = { λ l. whole_puts l };
+
+    ghost broken = { λ l. whole_broken l };
+
+    fn put(&mut self, bytes: &[u8]) -> Result<(), Broken> {
+        self.holds.set(false);
+        self.sink.put(bytes)
     }
 
-    fn flush(&mut self) -> io::Result<()> {
-        if self.owes {
-            self.out.flush()?;
-            self.owes = false;
-        }
-        Ok(())
+    fn faults(&self) -> u64 {
+        self.sink.faults()
+    }
+}
+
+impl<W: Write + Drop> TraceSink for WholeLines<W> {
+    fn put_ahead(&mut self, bytes: &[u8]) -> Result<(), Broken> {
+        self.holds.set(true);
+        self.sink.put(bytes)
     }
 }

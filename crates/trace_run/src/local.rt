@@ -12,10 +12,10 @@ ghost use Rattle.trace_run.specs.Writers.{writer_of};
 
 use crate::laws::{booted_runs_leave, booted_runs_tell};
 use crate::running::{Ended, RunFault, run, run_counting};
+use crate::trace_sink::TraceSink;
 use crate::written::Written;
 use containers::Bytes;
 use host_link::{LinkFault, LocalLink};
-use host_wire::Sink;
 use lx_abi::{Boot, Occurrences, Outcome, Script};
 use lx_boot::BootFault;
 use pt_kernel::{Events, Host, Schedule};
@@ -165,7 +165,7 @@ pub fn run_local(
 /// Boots a guest, and traces it in this process to any writer, as the trace comes; notes the events of the run if they
 /// are asked for. The boot's follow counts, not that of the options. The outer fault is the boot's, or Memory where
 /// memory runs out in booting.
-pub fn trace_local<W: Sink>(
+pub fn trace_local<W: TraceSink>(
     alloc: Global,
     boot: Boot,
     schedule: Schedule,

@@ -1,6 +1,6 @@
 //! The loop between a tracer and a link.
 
-ghost use Rattle.std.specs.Prelude.{◌≡◌, ◌+◌, ◌≤◌, ◌^◌, false, Ok, IfOk, IfErr, IfSome, OnOk, OnErr};
+ghost use Rattle.std.specs.Prelude.{◌≡◌, ◌+◌, ◌≤◌, ◌^◌, false, Ok, IfOk, IfErr, IfSome, OnOk, OnErr, is_ok, if◌then◌else◌};
 ghost use Rattle.std.specs.Io.KnownBytes.{Appends};
 ghost use Rattle.host_wire.specs.Ends.{AppendsPart, IsPut};
 ghost use Rattle.tr_core.specs.States.{State, new_state, taken_of};
@@ -10,9 +10,10 @@ ghost use Rattle.tr_core.specs.Settings.{first_pen, options_by};
 ghost use Rattle.tr_core.specs.Outcomes.{outcome_of};
 ghost use Rattle.lx_abi.specs.Scripts.{choice_of};
 
+use crate::trace_sink::TraceSink;
 use containers::Bytes;
 use host_link::{Link, LinkFault};
-use host_wire::{Broken, Sink};
+use host_wire::Broken;
 use lx_abi::{Ask, Occurrences, Outcome, Reply, Request, Script};
 use std::alloc::Global;
 use thiserror::Error;
@@ -29,8 +30,22 @@ pub enum RunFault {
     Output,
 }
 
+/// Puts the bytes, behind which more of their line comes at once unless the trace may rest.
+fn put<W: TraceSink>(writer: &mut W, bytes: &[u8], rests: bool) -> Result<(), Broken>
+    ensures whole { OnOk result (Appends (W.contents writer.old) (W.contents writer.new) bytes.now) }
+    ensures part { OnErr result (AppendsPart (W.contents writer.old) (W.contents writer.new) bytes.now) }
+    ensures counted { IsPut (W.puts writer.old) (W.puts writer.new) bytes.now }
+    ensures faults { W.broken writer.new ≡ (if is_ok result then W.broken writer.old else 1) }
+{
+    if rests {
+        writer.put(bytes)
+    } else {
+        writer.put_ahead(bytes)
+    }
+}
+
 /// Writes what a round prints.
-fn write<W: Sink>(writer: &mut W, bytes: &Bytes) -> Result<(), RunFault>
+fn write<W: TraceSink>(writer: &mut W, bytes: &Bytes, rests: bool) -> Result<(), RunFault>
     ensures whole { OnOk result (Appends (W.contents writer.old) (W.contents writer.new) bytes.now) }
     ensures fault { IfErr result (λ fault. fault ≡ RunFault.Output) }
     ensures part { OnErr result (AppendsPart (W.contents writer.old) (W.contents writer.new) bytes.now) }
@@ -38,7 +53,7 @@ fn write<W: Sink>(writer: &mut W, bytes: &Bytes) -> Result<(), RunFault>
     ensures unbroken { OnOk result (W.broken writer.new ≡ W.broken writer.old) }
     ensures broken { OnErr result (W.broken writer.new ≡ 1) }
 {
-    match writer.put(bytes.as_slice()) {
+    match put(writer, bytes.as_slice(), rests) {
         Ok(()) => Ok(()),
         Err(Broken) => Err(RunFault::Output),
     }
@@ -71,7 +86,7 @@ fn ask<L: Link>(link: &mut L, request: Request) -> Result<Reply, LinkFault>
 }
 
 /// The tracer hears a reply; what it prints is written, and what it asks is asked. None at the end.
-fn round<L: Link, W: Sink, T: Tracing>(
+fn round<L: Link, W: TraceSink, T: Tracing>(
     link: &mut L,
     writer: &mut W,
     tracer: &mut T,
@@ -97,12 +112,16 @@ fn round<L: Link, W: Sink, T: Tracing>(
         Err(fault) => return Err(RunFault::Trace(fault)),
     };
     match act {
-        Act::Finished { bytes } => match write(writer, &bytes) {
+        Act::Finished { bytes } => match write(writer, &bytes, true) {
             Ok(()) => Ok(None),
             Err(fault) => Err(fault),
         },
-        Act::Ask { bytes, request } => {
-            if let Err(fault) = write(writer, &bytes) {
+        Act::Ask {
+            bytes,
+            request,
+            rests,
+        } => {
+            if let Err(fault) = write(writer, &bytes, rests) {
                 return Err(fault);
             }
             match ask(link, request) {
@@ -114,7 +133,7 @@ fn round<L: Link, W: Sink, T: Tracing>(
 }
 
 /// Runs a tracer over a link whose Boot was answered Done.
-pub fn run_tracer<L: Link, W: Sink, T: Tracing>(
+pub fn run_tracer<L: Link, W: TraceSink, T: Tracing>(
     link: &mut L,
     writer: &mut W,
     tracer: &mut T,
@@ -167,7 +186,7 @@ fn end_by(ran: Result<(), RunFault>, outcome: Option<Outcome>) -> Result<Ended, 
 }
 
 /// Runs the tracer over a link whose Boot was answered Done. Also gives how often each tracee entered each call.
-pub fn run_counting<L: Link, W: Sink>(
+pub fn run_counting<L: Link, W: TraceSink>(
     alloc: Global,
     link: &mut L,
     writer: &mut W,
@@ -186,7 +205,7 @@ pub fn run_counting<L: Link, W: Sink>(
 }
 
 /// Runs the tracer over a link whose Boot was answered Done.
-pub fn run<L: Link, W: Sink>(
+pub fn run<L: Link, W: TraceSink>(
     alloc: Global,
     link: &mut L,
     writer: &mut W,
