@@ -9,7 +9,9 @@ use Rattle.trace_run.specs.Writers.{Writer}
 use Rattle.trace_run.specs.declared.running.Ended.{Ended}
 use Rattle.trace_run.specs.declared.running.RunFault.{RunFault}
 use Rattle.trace_run.specs.declared.running.RunFault.TheVariants.{Output as Unwritable}
-use Rattle.trace_command.specs.Tracing.{Reaches, WritesFile, unused}
+use Rattle.trace_command.specs.Tracing.{Reaches, WritesFile, WritesTo, unused}
+use Rattle.trace_command.specs.declared.place.Place.{Place}
+use Rattle.trace_command.specs.declared.place.Place.TheVariants as place
 
 append_known-nil : (known : Option (List ℕ)) → append_known known [] ≡ known
 append_known-nil None = refl
@@ -40,3 +42,15 @@ pub writes_file : {F : Type 0} (held : F → Option (List ℕ)) (writes : Result
     → writes ended first last → Reaches ended result last.contents (held new) → WritesFile held writes result
 writes_file held writes ended result old new first last e written reaches =
     (old, (new, (ended, (last, (subst (λ w. writes ended w last) e written, reaches)))))
+
+-- a run that writes so writes so too
+pub writes_to_more : {F : Type 0} (held : F → Option (List ℕ))
+    (writes writes' : Result Ended RunFault → Writer → Writer → Type 0) (result : Result Ended RunFault) (at : Place)
+    (out out' err err' : Writer)
+    → ((ended : Result Ended RunFault) (old new : Writer) → writes ended old new → writes' ended old new)
+    → WritesTo held writes result at out out' err err' → WritesTo held writes' result at out out' err err'
+writes_to_more held writes writes' result place.Error out out' err err' g h = (h.0, g result err err' h.1)
+writes_to_more held writes writes' result place.Output out out' err err' g h = (h.0, g result out out' h.1)
+writes_to_more held writes writes' result (place.File path) out out' err err' g h =
+    let f = h.1.1 in
+    (h.0, (h.1.0, (f.0, (f.1.0, (f.1.1.0, (f.1.1.1.0, (g f.1.1.0 (unused (held f.0)) f.1.1.1.0 f.1.1.1.1.0, f.1.1.1.1.1)))))))

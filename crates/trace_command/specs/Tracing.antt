@@ -38,7 +38,7 @@ use Rattle.trace_run.specs.declared.running.RunFault.TheVariants.{Link, Output a
 use Rattle.trace_threads.specs.ThreadRuns.{ThreadRun}
 use Rattle.trace_command.specs.Faults.{IsFaultOf, IsHostFault, IsUnhosted, IsUnopened, IsUnwritable, has_ended}
 use Rattle.trace_command.specs.declared.kernel.Kernel.{Kernel}
-use Rattle.trace_command.specs.declared.kernel.Kernel.TheVariants.{Here, There}
+use Rattle.trace_command.specs.declared.kernel.Kernel.TheVariants.{Here, OnThreads, There}
 use Rattle.trace_command.specs.declared.place.Place.{Place}
 use Rattle.trace_command.specs.declared.place.Place.TheVariants.{Error, Output, File}
 use Rattle.trace_command.specs.declared.plan.Plan.{Plan}
@@ -78,18 +78,34 @@ abbrev pub child_calls : {P I O E : Type 0} → (O → Option (List ℕ)) → (I
 child_calls remaining contents =
     calls_of_link (child_answers remaining contents) (λ l. given_of (pipe_of l)) (λ l. faults_of (pipe_of l))
 
--- The kernel takes this boot, under these words of a schedule: it is in this process where no host is named, else that
--- host, of which nothing was asked before, has taken it.
-abbrev pub Takes : {P I O E : Type 0} → (O → Option (List ℕ)) → (I → Option (List ℕ)) → Option (List ℕ) → Boot → ℕ
+-- A kernel of one thread takes this boot, under these words of a schedule: it is in this process where no host is named,
+-- else that host, of which nothing was asked before, has taken it.
+abbrev pub TakesAlone : {P I O E : Type 0} → (O → Option (List ℕ)) → (I → Option (List ℕ)) → Option (List ℕ) → Boot → ℕ
     → List Word → Kernel P I O E → Type 0
-Takes remaining contents None boot limit words (Here b schedule) = (b ≡ boot) × (schedule ≡ worded words limit)
-Takes remaining contents None boot limit words (There link) = ⊥
-Takes remaining contents (Some host) boot limit words (Here b schedule) = ⊥
-Takes {P} {I} {O} {E} remaining contents (Some host) boot limit words (There link) =
+TakesAlone remaining contents None boot limit words (Here b schedule) = (b ≡ boot) × (schedule ≡ worded words limit)
+TakesAlone remaining contents None boot limit words (There link) = ⊥
+TakesAlone remaining contents None boot limit words (OnThreads b workers) = ⊥
+TakesAlone remaining contents (Some host) boot limit words (Here b schedule) = ⊥
+TakesAlone {P} {I} {O} {E} remaining contents (Some host) boot limit words (There link) =
     (first : ChildLink P I O E)
     × ((given_of (pipe_of first) ≡ 0)
     × ((faults_of (pipe_of first) ≡ 0)
     × child_answers remaining contents first (Boot_with boot limit words) (Ok Done) link))
+TakesAlone remaining contents (Some host) boot limit words (OnThreads b workers) = ⊥
+
+-- the same, or one whose turns are made by threads, where these are asked for
+abbrev pub Takes : {P I O E : Type 0} → (O → Option (List ℕ)) → (I → Option (List ℕ)) → Option (List ℕ)
+    → Option Workers → Boot → ℕ → List Word → Kernel P I O E → Type 0
+Takes remaining contents host None boot limit words kernel =
+    TakesAlone remaining contents host boot limit words kernel
+Takes remaining contents host (Some workers) boot limit words (Here b schedule) = ⊥
+Takes remaining contents host (Some workers) boot limit words (There link) = ⊥
+Takes remaining contents host (Some workers) boot limit words (OnThreads b w) = (b ≡ boot) × (w ≡ workers)
+
+abbrev pub IsOnThreads : {P I O E : Type 0} → Kernel P I O E → Type 0
+IsOnThreads (Here b schedule) = ⊥
+IsOnThreads (There link) = ⊥
+IsOnThreads (OnThreads b workers) = ⊤
 
 -- ---- a run, and what it writes to a writer
 
@@ -108,13 +124,6 @@ TracesThere {P} {I} {O} {E} remaining contents o script link result old new =
     × RunsWhole (child_calls remaining contents) (new_state (options_by o) (choice_of script) (first_pen o)) link old
     result last new
 
-abbrev pub Traces : {P I O E : Type 0} → (O → Option (List ℕ)) → (I → Option (List ℕ)) → Options → List Rule
-    → Kernel P I O E → Result Ended RunFault → Writer → Writer → Type 0
-Traces remaining contents o script (Here boot schedule) result old new =
-    TracesHere o script boot schedule result old new
-Traces remaining contents o script (There link) result old new =
-    TracesThere remaining contents o script link result old new
-
 -- one put, of these bytes, or of a first part of them where it fails
 abbrev pub Puts : {A X : Type 0} → List ℕ → Result A X → Writer → Writer → Type 0
 Puts bytes (Ok x) old new = PutsWhole old new bytes
@@ -126,10 +135,18 @@ PutsTrace ended trace (Ok result) old new = (result ≡ ended) × PutsWhole old 
 PutsTrace ended trace (Err fault) old new = (fault ≡ Unwritable) × PutsPart old new trace
 
 -- on threads: the run is the untraced kernel's by the journal of its host
-abbrev pub TracesOnThreads : Plan → ℕ → Result Ended RunFault → Writer → Writer → Type 0
-TracesOnThreads plan limit result old new =
-    (run : Run)
-    × (ThreadRun plan.boot limit plan.script plan.options run × PutsTrace run.ended run.trace result old new)
+abbrev pub TracesOnThreads : Options → List Rule → Boot → ℕ → Result Ended RunFault → Writer → Writer → Type 0
+TracesOnThreads o script boot limit result old new =
+    (run : Run) × (ThreadRun boot limit script o run × PutsTrace run.ended run.trace result old new)
+
+abbrev pub Traces : {P I O E : Type 0} → (O → Option (List ℕ)) → (I → Option (List ℕ)) → Options → List Rule
+    → Kernel P I O E → Result Ended RunFault → Writer → Writer → Type 0
+Traces remaining contents o script (Here boot schedule) result old new =
+    TracesHere o script boot schedule result old new
+Traces remaining contents o script (There link) result old new =
+    TracesThere remaining contents o script link result old new
+Traces remaining contents o script (OnThreads boot workers) result old new =
+    TracesOnThreads o script boot workers.limit result old new
 
 -- ---- where the trace goes
 
@@ -201,18 +218,20 @@ Lacks host workers files fault =
     (IsSome host × IsUnhosted fault)
     ⊎ ((IsSome workers × (IsUnhosted fault ⊎ IsUnopened fault)) ⊎ (files × IsUnopened fault))
 
+-- the same of a run over this kernel
+abbrev pub LacksAt : {P I O E : Type 0} → Kernel P I O E → Type 0 → Fault → Type 0
+LacksAt kernel files fault =
+    (IsOnThreads kernel × (IsUnhosted fault ⊎ IsUnopened fault)) ⊎ (files × IsUnopened fault)
+
 -- ---- the program
 
--- The run that was asked for: over a kernel that took the boot, or on threads.
-abbrev pub Runs : (P E : Type 0) → {F I O : Type 0} → (F → Option (List ℕ)) → (O → Option (List ℕ))
-    → (I → Option (List ℕ)) → Option (List ℕ) → Plan → ℕ → Option Workers → Place → Result Outcome Fault
-    → Writer → Writer → Writer → Writer → Type 0
-Runs P E {F} {I} {O} held remaining contents host plan limit None place result out out' err err' =
+-- The run of a plan as it was asked for: over a kernel that took the boot.
+abbrev pub Runs : (P E : Type 0) → {I O : Type 0} → (O → Option (List ℕ)) → (I → Option (List ℕ)) → Option (List ℕ)
+    → Option Workers → ℕ → Plan → Result Ended RunFault → Writer → Writer → Type 0
+Runs P E {I} {O} remaining contents host workers limit plan result old new =
     (kernel : Kernel P I O E)
-    × (Takes remaining contents host plan.boot limit plan.turns.items kernel
-    × RunsTo held (Traces remaining contents plan.options plan.script kernel) place result out out' err err')
-Runs P E held remaining contents host plan limit (Some workers) place result out out' err err' =
-    RunsTo held (TracesOnThreads plan workers.limit) place result out out' err err'
+    × (Takes remaining contents host workers plan.boot limit plan.turns.items kernel
+    × Traces remaining contents plan.options plan.script kernel result old new)
 
 -- what a shell shows of the end of process 1
 abbrev pub status_in : List End → Option ℕ
@@ -247,53 +266,50 @@ Leaves words made result old new =
     × (OnErr turned (IsSome (value_of words (codes "turns-out")) × (has_ended made ≡ true))
     × LeavesAfter words turned made result old new)
 
--- All of it: the run writes its trace, then its turns are written where that is asked for, and then standard output is
--- given what it leaves.
-pub record Completes (P E : Type 0) {F I O : Type 0} (held : F → Option (List ℕ)) (remaining : O → Option (List ℕ))
-    (contents : I → Option (List ℕ)) (words : ArgMatches) (plan : Plan) (limit : ℕ) (workers : Option Workers)
-    (place : Place) (result : Result ℕ Fault) (out out' err err' : Writer) : Type 0 where
+-- All of it: a run that writes so writes its trace, then its turns are written where that is asked for, and then standard
+-- output is given what it leaves.
+pub record Completes {F : Type 0} (held : F → Option (List ℕ))
+    (runs : Result Ended RunFault → Writer → Writer → Type 0) (words : ArgMatches) (place : Place)
+    (result : Result ℕ Fault) (out out' err err' : Writer) : Type 0 where
   pub made : Result Outcome Fault
   -- standard output before the console
   pub traced : Writer
-  pub runs : Runs P E held remaining contents (value_of words (codes "host")) plan limit workers place made out traced
-      err err'
+  pub run : RunsTo held runs place made out traced err err'
   pub leaves : Leaves words made result traced out'
 
--- A run of this plan, with its trace at the place that the words name, completes. Or it lacks a file, a host or threads
--- that it needs, with such a fault, and nothing is written.
-abbrev pub TracesPlan : (P E : Type 0) → {F I O : Type 0} → (F → Option (List ℕ)) → (O → Option (List ℕ))
-    → (I → Option (List ℕ)) → ArgMatches → Plan → ℕ → Option Workers → Result ℕ Fault
-    → Writer → Writer → Writer → Writer → Type 0
-TracesPlan P E held remaining contents words plan limit workers result out out' err err' =
+-- Such a run, with its trace at the place that the words name, completes. Or it lacks a file, a host or threads that it
+-- needs, with such a fault, and nothing is written.
+abbrev pub TracesPlan : {F : Type 0} → (F → Option (List ℕ)) → (Result Ended RunFault → Writer → Writer → Type 0)
+    → ArgMatches → Option Workers → Result ℕ Fault → Writer → Writer → Writer → Writer → Type 0
+TracesPlan held runs words workers result out out' err err' =
     (place : Place)
     × (IsPlace (value_of words (codes "output")) place
     × (Unmade
     (Lacks (value_of words (codes "host")) workers (IsSome (value_of words (codes "turns-out")) ⊎ IsFile place)) result
     out out' err err'
-    ⊎ Completes P E held remaining contents words plan limit workers place result out out' err err'))
+    ⊎ Completes held runs words place result out out' err err'))
 
 -- The same to writers of std, by what they hold where that is known: standard output and standard error are written to
 -- so, and by nothing else.
-abbrev pub TracesOut : (P E : Type 0) → {F I O : Type 0} → (F → Option (List ℕ)) → (O → Option (List ℕ))
-    → (I → Option (List ℕ)) → ArgMatches → Plan → ℕ → Option Workers → Result ℕ Fault
+abbrev pub TracesOut : {F : Type 0} → (F → Option (List ℕ)) → (Result Ended RunFault → Writer → Writer → Type 0)
+    → ArgMatches → Option Workers → Result ℕ Fault
     → Option (List ℕ) → Option (List ℕ) → Option (List ℕ) → Option (List ℕ) → Type 0
-TracesOut P E held remaining contents words plan limit workers result out out' err err' =
+TracesOut held runs words workers result out out' err err' =
     (o : Writer)
     × ((e : Writer)
     × ((o.contents ≡ out')
-    × ((e.contents ≡ err')
-    × TracesPlan P E held remaining contents words plan limit workers result (unused out) o (unused err) e)))
+    × ((e.contents ≡ err') × TracesPlan held runs words workers result (unused out) o (unused err) e)))
 
 -- What is written to standard output is that of a run of some plan, and a status is that of this run. Or there was no
 -- plan, and nothing is written to it.
-abbrev pub TracesWords : (P E : Type 0) → {F I O : Type 0} → (F → Option (List ℕ)) → (O → Option (List ℕ))
-    → (I → Option (List ℕ)) → ArgMatches → ℕ → Option Workers → Result ℕ Fault
+abbrev pub TracesWords : {F : Type 0} → (F → Option (List ℕ))
+    → (Plan → Result Ended RunFault → Writer → Writer → Type 0) → ArgMatches → Option Workers → Result ℕ Fault
     → Option (List ℕ) → Option (List ℕ) → Type 0
-TracesWords P E held remaining contents words limit workers result out out' =
+TracesWords held runs words workers result out out' =
     (IsErr result × (out' ≡ out))
     ⊎ ((plan : Plan)
     × ((ended : Result ℕ Fault)
     × ((err : Option (List ℕ))
     × ((err' : Option (List ℕ))
     × (IfOk result (λ status. ended ≡ Ok status)
-    × TracesOut P E held remaining contents words plan limit workers ended out out' err err')))))
+    × TracesOut held (runs plan) words workers ended out out' err err')))))

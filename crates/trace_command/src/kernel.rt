@@ -1,12 +1,14 @@
 //! Where the kernel runs.
 
-ghost use Rattle.std.specs.Prelude.{Ok, IfErr, IfOk, IsSome, OnOk, option_map};
+ghost use Rattle.std.specs.Prelude.{◌≡◌, ◌⊎◌, Ok, IfErr, IfOk, IsSome, OnErr, OnOk, option_map};
 ghost use Rattle.trace_run.specs.Writers.{writer_of};
-ghost use Rattle.trace_command.specs.Faults.{IsUnhosted};
-ghost use Rattle.trace_command.specs.Tracing.{Takes, Traces, TracesHere};
+ghost use Rattle.trace_command.specs.Faults.{IsUnhosted, IsUnopened};
+ghost use Rattle.trace_command.specs.Tracing.{IsOnThreads, TakesAlone, Traces, TracesHere};
 
 use crate::fault::host_fault;
 use crate::kept::{Behind, Kept, Record, waits_in};
+use crate::threads::run_on_threads;
+use crate::words::Workers;
 use containers::Seq;
 use front_end::Fault;
 use host_link::{ChildLink, Link, LinkFault, Streams};
@@ -15,6 +17,8 @@ use lx_boot::BootFault;
 use pt_kernel::Schedule;
 use std::alloc::Global;
 use std::process::{OpenProcess, Processes};
+use std::sync::Wait;
+use std::thread::Threads;
 use tr_core::Options;
 use trace_run::{Ended, Local, RunFault, TraceSink, run_counting, trace_local};
 
@@ -25,6 +29,8 @@ pub enum Kernel<P: OpenProcess + Drop> {
     Here(Boot, Schedule),
     /// In a process of its own, where it was booted.
     There(ChildLink<P>),
+    /// In this process, where threads make its turns.
+    OnThreads(Boot, Workers),
 }
 
 /// The fault of a boot, in which none was found before, that a host refuses with this number: a host that has memory
@@ -80,7 +86,7 @@ pub fn boot_kernel<R: Processes + AllocGlobal>(
 where
     R::Started: Streams,
     ensures takes { IfOk result
-        (λ kernel. Takes R.Started.Stdout.remaining R.Started.Stdin.contents (option_map (λ path. path.now) host.entry)
+        (λ kernel. TakesAlone R.Started.Stdout.remaining R.Started.Stdin.contents (option_map (λ path. path.now) host.entry)
         boot limit turns.items kernel) }
 
     // A kernel in this process is always there.
@@ -141,27 +147,34 @@ pub fn run_here<W: TraceSink>(
 }
 
 /// Runs the tracer on a kernel. What it leaves stays behind.
-pub fn run_kernel<P: OpenProcess + Drop, W: TraceSink>(
-    alloc: Global,
+pub fn run_kernel<R: Threads + Wait + Sync + AllocGlobal, P: OpenProcess + Drop, W: TraceSink>(
+    rt: &R,
     kernel: Kernel<P>,
     script: Script,
     options: Options,
     behind: &mut Behind<P>,
     lines: &mut W,
-) -> Result<Ended, RunFault>
-    ensures { Traces P.Stdout.remaining P.Stdin.contents options script kernel result
-        (writer_of W.contents W.puts W.broken lines.old) (writer_of W.contents W.puts W.broken lines.new) }
+) -> Result<Result<Ended, RunFault>, Fault>
+    ensures made { IfOk result (λ ended. Traces P.Stdout.remaining P.Stdin.contents options script kernel ended
+        (writer_of W.contents W.puts W.broken lines.old) (writer_of W.contents W.puts W.broken lines.new)) }
+    ensures fault { IfErr result (λ fault. IsOnThreads kernel × (IsUnhosted fault ⊎ IsUnopened fault)) }
+    ensures unwritten { OnErr result (writer_of W.contents W.puts W.broken lines.new
+        ≡ writer_of W.contents W.puts W.broken lines.old) }
 {
     match kernel {
         Kernel::Here(boot, schedule) => {
             let kept = &mut behind.kept;
-            run_here(alloc, boot, schedule, script, options, kept, lines)
+            Ok(run_here(rt.alloc(), boot, schedule, script, options, kept, lines))
         }
         Kernel::There(mut link) => {
-            let (ended, counts) = run_counting(alloc, &mut link, lines, script, options);
+            let (ended, counts) = run_counting(rt.alloc(), &mut link, lines, script, options);
             behind.kept.record.counts = Some(counts);
             behind.link = Some(link);
-            ended
+            Ok(ended)
+        }
+        Kernel::OnThreads(boot, workers) => {
+            let kept = &mut behind.kept;
+            run_on_threads(rt, boot, workers, script, options, kept, lines)
         }
     }
 }

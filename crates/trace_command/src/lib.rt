@@ -15,9 +15,9 @@ mod prepared;
 mod running;
 mod second;
 mod threads;
+mod trace_file;
 mod tracing;
 mod turns_out;
-mod whole_lines;
 mod words;
 
 pub use entry::{command, tell};

@@ -1,27 +1,31 @@
-//! A run on a kernel, with its trace to its place.
+//! A run, with its trace to its place.
 
-ghost use Rattle.std.specs.Prelude.{◌≡◌, ◌⊎◌, ℕ, List, Option, Ok, Err, IfOk, IfErr, OnErr};
+ghost use Rattle.std.specs.Prelude.{◌≡◌, ◌⊎◌, ℕ, ⊤, List, Option, Ok, Err, IfOk, IfErr, IsSome, OnErr, codes};
 ghost use Rattle.std.specs.Io.KnownBytes.{Keeps, append_known};
 ghost use Rattle.trace_run.specs.Writers.{writer_of};
-ghost use Rattle.trace_command.specs.Faults.{IsFaultOf, IsUnopened};
-ghost use Rattle.trace_command.specs.Tracing.{EndsLine, IsFile, Puts, Reaches, RunsTo, Settles, Traces, Unmade};
-ghost use Rattle.trace_command.specs.Tracing.{WritesFile, WritesTo};
+ghost use Rattle.trace_command.specs.Faults.{IsFaultOf, IsUnhosted};
+ghost use Rattle.trace_command.specs.Tracing.{EndsLine, IsFile, Lacks, LacksAt, Puts, Reaches, Runs, RunsTo, Settles};
+ghost use Rattle.trace_command.specs.Tracing.{Takes, Traces, Unmade, WritesFile, WritesTo, value_of};
 
 use crate::fault::host_fault;
 use crate::kept::Behind;
-use crate::kernel::{Kernel, run_kernel};
-use crate::lines::{LineSink, Lines};
+use crate::kernel::{Kernel, boot_kernel, run_kernel};
+use crate::lines::LineSink;
 use crate::place::{Place, create};
-use crate::whole_lines::WholeLines;
+use crate::plan::Plan;
+use crate::trace_file::TraceFile;
+use crate::words::TraceOptions;
+use clap::ArgMatches;
 use front_end::Fault;
-use host_link::LinkFault;
+use host_link::{LinkFault, Streams};
 use host_wire::{Broken, Sink};
-use lx_abi::{Outcome, Script};
+use lx_abi::{Boot, Outcome, Script, Word};
 use std::alloc::Global;
 use std::fs::OpenFile;
-use std::io::Write;
-use std::process::OpenProcess;
+use std::process::{OpenProcess, Processes};
 use std::rt::Files;
+use std::sync::Wait;
+use std::thread::Threads;
 use tr_core::{Options, TraceFault};
 use trace_run::{Ended, RunFault, TraceSink};
 
@@ -82,7 +86,7 @@ fn end_line<E: LineSink>(alloc: Global, fault: Fault, place: Place<'_>, err: &mu
 }
 
 /// What comes of a run that ended so. Where that is a fault, a line that stands open on `err` is ended.
-pub fn settle<E: LineSink>(
+fn settle<E: LineSink>(
     alloc: Global,
     ended: Result<Ended, RunFault>,
     place: Place<'_>,
@@ -109,52 +113,36 @@ fn ended_but_for(ended: Result<Ended, RunFault>, rest: Vec<u8>) -> Result<Ended,
     Err(RunFault::Output)
 }
 
-/// Runs the tracer on a kernel, with its trace to this file as it comes.
-fn trace_as_it_comes<P: OpenProcess + Drop, F: Write + Drop>(
-    alloc: Global,
-    kernel: Kernel<P>,
-    script: Script,
-    options: Options,
-    behind: &mut Behind<P>,
-    file: F,
-) -> Result<Ended, RunFault>
-    ensures { WritesFile F.contents (Traces P.Stdout.remaining P.Stdin.contents options script kernel) result }
+/// A kernel that takes this boot, where the words ask for it.
+fn booted_kernel<R: Processes + AllocGlobal>(
+    rt: &R,
+    matches: &ArgMatches,
+    options: TraceOptions,
+    boot: Boot,
+    turns: Vec<Word>,
+    behind: &mut Behind<R::Started>,
+) -> Result<Kernel<R::Started>, Fault>
+where
+    R::Started: Streams,
+    ensures takes { IfOk result
+        (λ kernel. Takes R.Started.Stdout.remaining R.Started.Stdin.contents (value_of matches.now (codes "host"))
+        options.workers boot options.limit turns.items kernel) }
+    ensures fault { IfErr result (λ fault. IsSome (value_of matches.now (codes "host")) × IsUnhosted fault) }
 {
-    let mut lines = Lines::new(file);
-    let ended = run_kernel(alloc, kernel, script, options, behind, &mut lines);
-    drop(lines);
-    ended
-}
-
-/// The same, with the lines of calls that can't wait written whole.
-fn trace_whole_lines<P: OpenProcess + Drop, F: Write + Drop>(
-    alloc: Global,
-    kernel: Kernel<P>,
-    script: Script,
-    options: Options,
-    behind: &mut Behind<P>,
-    file: F,
-) -> Result<Result<Ended, RunFault>, Fault>
-    ensures written { IfOk result (λ ended. WritesFile F.contents
-        (Traces P.Stdout.remaining P.Stdin.contents options script kernel) ended) }
-    ensures fault { IfErr result (λ fault. IsUnopened fault) }
-{
-    let mut lines = match WholeLines::new(alloc, file) {
-        Ok(lines) => lines,
-        Err(_) => {
-            drop(kernel);
-            drop(script);
-            drop(options);
-            return Err(Fault::Memory);
+    match options.workers {
+        None => {
+            let host = matches.get_str("host");
+            let words = matches.get_strs("host-arg").unwrap_or(&[]);
+            boot_kernel(rt, host, words, boot, turns, options.limit, behind)
         }
-    };
-    let ended = run_kernel(alloc, kernel, script, options, behind, &mut lines);
-    let (file, rest) = lines.into_parts();
-    drop(file);
-    Ok(ended_but_for(ended, rest))
+        Some(workers) => {
+            drop(turns);
+            Ok(Kernel::OnThreads(boot, workers))
+        }
+    }
 }
 
-/// The kernel runs in this process, and the file is a regular one, where nobody reads along.
+/// The kernel is in this process, and the file is a regular one, where nobody reads along.
 fn may_keep_back<P: OpenProcess + Drop, F: OpenFile>(kernel: &Kernel<P>, file: &F) -> bool {
     match (kernel, file.metadata()) {
         (Kernel::Here(_, _), Ok(metadata)) => metadata.is_file(),
@@ -163,7 +151,7 @@ fn may_keep_back<P: OpenProcess + Drop, F: OpenFile>(kernel: &Kernel<P>, file: &
 }
 
 /// Runs the tracer on a kernel, with its trace to a file that is made now.
-fn trace_to_file<R: Files + AllocGlobal, P: OpenProcess + Drop>(
+fn run_to_file<R: Files + Threads + Wait + Sync + AllocGlobal, P: OpenProcess + Drop>(
     rt: &R,
     kernel: Kernel<P>,
     script: Script,
@@ -173,7 +161,7 @@ fn trace_to_file<R: Files + AllocGlobal, P: OpenProcess + Drop>(
 ) -> Result<Result<Ended, RunFault>, Fault>
     ensures written { IfOk result (λ ended. WritesFile R.File.contents
         (Traces P.Stdout.remaining P.Stdin.contents options script kernel) ended) }
-    ensures fault { IfErr result (λ fault. IsUnopened fault) }
+    ensures fault { IfErr result (λ fault. LacksAt kernel ⊤ fault) }
 {
     let file = match create(rt, path) {
         Ok(file) => file,
@@ -184,16 +172,36 @@ fn trace_to_file<R: Files + AllocGlobal, P: OpenProcess + Drop>(
             return Err(fault);
         }
     };
-    if may_keep_back(&kernel, &file) {
-        trace_whole_lines(rt.alloc(), kernel, script, options, behind, file)
-    } else {
-        let alloc = rt.alloc();
-        Ok(trace_as_it_comes(alloc, kernel, script, options, behind, file))
+    let may_hold = may_keep_back(&kernel, &file);
+    let mut lines = match TraceFile::new(rt.alloc(), file, may_hold) {
+        Ok(lines) => lines,
+        Err(_) => {
+            drop(kernel);
+            drop(script);
+            drop(options);
+            return Err(Fault::Memory);
+        }
+    };
+    match run_kernel(rt, kernel, script, options, behind, &mut lines) {
+        Ok(ended) => {
+            let (file, rest) = lines.into_parts();
+            drop(file);
+            Ok(ended_but_for(ended, rest))
+        }
+        Err(fault) => {
+            drop(lines);
+            Err(fault)
+        }
     }
 }
 
-/// The same, to a place.
-fn trace_to_place<R: Files + AllocGlobal, P: OpenProcess + Drop, O: TraceSink, E: TraceSink>(
+/// The same, with the trace to a place.
+fn run_to_place<
+    R: Files + Threads + Wait + Sync + AllocGlobal,
+    P: OpenProcess + Drop,
+    O: TraceSink,
+    E: TraceSink,
+>(
     rt: &R,
     kernel: Kernel<P>,
     script: Script,
@@ -207,37 +215,59 @@ fn trace_to_place<R: Files + AllocGlobal, P: OpenProcess + Drop, O: TraceSink, E
         (Traces P.Stdout.remaining P.Stdin.contents options script kernel) ended place.entry
         (writer_of O.contents O.puts O.broken out.old) (writer_of O.contents O.puts O.broken out.new)
         (writer_of E.contents E.puts E.broken err.old) (writer_of E.contents E.puts E.broken err.new)) }
-    ensures unmade { OnErr result (Unmade (λ fault. IsFile place.entry × IsUnopened fault) result
+    ensures unmade { OnErr result (Unmade (LacksAt kernel (IsFile place.entry)) result
         (writer_of O.contents O.puts O.broken out.old) (writer_of O.contents O.puts O.broken out.new)
         (writer_of E.contents E.puts E.broken err.old) (writer_of E.contents E.puts E.broken err.new)) }
 {
     match place {
-        Place::Error => Ok(run_kernel(rt.alloc(), kernel, script, options, behind, err)),
-        Place::Output => Ok(run_kernel(rt.alloc(), kernel, script, options, behind, out)),
-        Place::File(path) => trace_to_file(rt, kernel, script, options, behind, path),
+        Place::Error => run_kernel(rt, kernel, script, options, behind, err),
+        Place::Output => run_kernel(rt, kernel, script, options, behind, out),
+        Place::File(path) => run_to_file(rt, kernel, script, options, behind, path),
     }
 }
 
-/// Runs the tracer on a kernel, with its trace to a place. Where the run ends in a fault, a line that stands open on
-/// `err` is ended.
-pub fn trace_kernel<R: Files + AllocGlobal, P: OpenProcess + Drop, O: TraceSink, E: LineSink>(
+/// Makes the run as the words ask for it, with its trace to a place. Where the run ends in a fault, a line that stands
+/// open on `err` is ended.
+pub fn run_at<
+    R: Files + Processes + Threads + Wait + Sync + AllocGlobal,
+    O: TraceSink,
+    E: LineSink,
+>(
     rt: &R,
-    kernel: Kernel<P>,
-    script: Script,
-    options: Options,
-    behind: &mut Behind<P>,
+    matches: &ArgMatches,
+    options: TraceOptions,
+    plan: Plan,
+    behind: &mut Behind<R::Started>,
     place: Place<'_>,
     out: &mut O,
     err: &mut E,
 ) -> Result<Outcome, Fault>
-    ensures { Unmade (λ fault. IsFile place.entry × IsUnopened fault) result
+where
+    R::Started: Streams,
+    ensures { Unmade (Lacks (value_of matches.now (codes "host")) options.workers (IsFile place.entry)) result
         (writer_of O.contents O.puts O.broken out.old) (writer_of O.contents O.puts O.broken out.new)
         (writer_of E.contents E.puts E.broken err.old) (writer_of E.contents E.puts E.broken err.new)
-        ⊎ RunsTo R.File.contents (Traces P.Stdout.remaining P.Stdin.contents options script kernel) place.entry result
+        ⊎ RunsTo R.File.contents
+        (Runs R.Started R.Started.Stderr R.Started.Stdout.remaining R.Started.Stdin.contents
+        (value_of matches.now (codes "host")) options.workers options.limit plan) place.entry result
         (writer_of O.contents O.puts O.broken out.old) (writer_of O.contents O.puts O.broken out.new)
         (writer_of E.contents E.puts E.broken err.old) (writer_of E.contents E.puts E.broken err.new) }
 {
-    match trace_to_place(rt, kernel, script, options, behind, place, out, &mut *err) {
+    let Plan {
+        boot,
+        script,
+        options: shown,
+        turns,
+    } = plan;
+    let kernel = match booted_kernel(rt, matches, options, boot, turns, &mut *behind) {
+        Ok(kernel) => kernel,
+        Err(fault) => {
+            drop(script);
+            drop(shown);
+            return Err(fault);
+        }
+    };
+    match run_to_place(rt, kernel, script, shown, behind, place, out, &mut *err) {
         Ok(ended) => settle(rt.alloc(), ended, place, err),
         Err(fault) => Err(fault),
     }

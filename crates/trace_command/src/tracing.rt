@@ -1,9 +1,9 @@
 //! A traced run.
 
-ghost use Rattle.std.specs.Prelude.{◌≡◌, ◌⊎◌, None, Ok, IsSome, IfErr, IfOk, OnErr, codes, true};
+ghost use Rattle.std.specs.Prelude.{◌≡◌, Ok, IsSome, IfOk, OnErr, codes, true};
 ghost use Rattle.trace_run.specs.Writers.{writer_of};
-ghost use Rattle.trace_command.specs.Faults.{IsUnhosted, has_ended};
-ghost use Rattle.trace_command.specs.Tracing.{IsFile, Lacks, Leaves, Left, PutsConsole, Runs, Takes, Unmade};
+ghost use Rattle.trace_command.specs.Faults.{has_ended};
+ghost use Rattle.trace_command.specs.Tracing.{Leaves, Left, PutsConsole, Runs};
 ghost use Rattle.trace_command.specs.Tracing.{TracesOut, TracesPlan, TracesWords};
 ghost use Rattle.trace_command.specs.Tracing.{asks_for_files, status_in, value_of};
 
@@ -12,21 +12,19 @@ use crate::fault::host_fault;
 use crate::given::is_given;
 use crate::heard::{Heard, hear};
 use crate::kept::{Behind, Kept};
-use crate::kernel::{Kernel, boot_kernel};
 use crate::lines::{LineSink, Lines};
 use crate::place::Place;
 use crate::plan::Plan;
 use crate::prepared::{Prepared, prepare};
-use crate::running::{trace_kernel, write};
+use crate::running::{run_at, write};
 use crate::second::make_again;
-use crate::threads::trace_on_threads;
 use crate::turns_out::{check_turns, write_turns};
 use crate::words::TraceOptions;
 use clap::ArgMatches;
 use front_end::{Fault, Leavings};
 use host_link::{LinkFault, Streams};
 use host_wire::{Broken, Sink};
-use lx_abi::{Boot, Outcome, Status, Word};
+use lx_abi::{Outcome, Status};
 use std::alloc::Global;
 use std::io::{IsTerminal, Read, Write};
 use std::process::Processes;
@@ -34,106 +32,6 @@ use std::rt::Files;
 use std::sync::Wait;
 use std::thread::Threads;
 use trace_run::TraceSink;
-
-/// A kernel that takes this boot, in the process that the words ask for.
-fn booted_kernel<R: Processes + AllocGlobal>(
-    rt: &R,
-    matches: &ArgMatches,
-    boot: Boot,
-    turns: Vec<Word>,
-    limit: u64,
-    behind: &mut Behind<R::Started>,
-) -> Result<Kernel<R::Started>, Fault>
-where
-    R::Started: Streams,
-    ensures takes { IfOk result
-        (λ kernel. Takes R.Started.Stdout.remaining R.Started.Stdin.contents (value_of matches.now (codes "host")) boot
-        limit turns.items kernel) }
-    ensures fault { IfErr result (λ fault. IsSome (value_of matches.now (codes "host")) × IsUnhosted fault) }
-{
-    let words = matches.get_strs("host-arg").unwrap_or(&[]);
-    boot_kernel(
-        rt,
-        matches.get_str("host"),
-        words,
-        boot,
-        turns,
-        limit,
-        behind,
-    )
-}
-
-/// Boots the kernel and runs the tracer.
-fn run_plan<R: Files + Processes + AllocGlobal, O: TraceSink, E: LineSink>(
-    rt: &R,
-    matches: &ArgMatches,
-    plan: Plan,
-    limit: u64,
-    behind: &mut Behind<R::Started>,
-    place: Place<'_>,
-    out: &mut O,
-    err: &mut E,
-) -> Result<Outcome, Fault>
-where
-    R::Started: Streams,
-    ensures { Unmade (Lacks (value_of matches.now (codes "host")) None (IsFile place.entry)) result
-        (writer_of O.contents O.puts O.broken out.old) (writer_of O.contents O.puts O.broken out.new)
-        (writer_of E.contents E.puts E.broken err.old) (writer_of E.contents E.puts E.broken err.new)
-        ⊎ Runs R.Started R.Started.Stderr R.File.contents R.Started.Stdout.remaining R.Started.Stdin.contents
-        (value_of matches.now (codes "host")) plan limit None place.entry result
-        (writer_of O.contents O.puts O.broken out.old) (writer_of O.contents O.puts O.broken out.new)
-        (writer_of E.contents E.puts E.broken err.old) (writer_of E.contents E.puts E.broken err.new) }
-{
-    let Plan {
-        boot,
-        script,
-        options,
-        turns,
-    } = plan;
-    let kernel = match booted_kernel(rt, matches, boot, turns, limit, &mut *behind) {
-        Ok(kernel) => kernel,
-        Err(fault) => {
-            drop(script);
-            drop(options);
-            return Err(fault);
-        }
-    };
-    trace_kernel(rt, kernel, script, options, behind, place, out, err)
-}
-
-/// Makes the run, on threads where the words ask for them.
-fn run_as_asked<
-    R: Files + Processes + Threads + Wait + Sync + AllocGlobal,
-    O: TraceSink,
-    E: LineSink,
->(
-    rt: &R,
-    matches: &ArgMatches,
-    options: TraceOptions,
-    plan: Plan,
-    behind: &mut Behind<R::Started>,
-    place: Place<'_>,
-    out: &mut O,
-    err: &mut E,
-) -> Result<Outcome, Fault>
-where
-    R::Started: Streams,
-    ensures { Unmade (Lacks (value_of matches.now (codes "host")) options.workers (IsFile place.entry)) result
-        (writer_of O.contents O.puts O.broken out.old) (writer_of O.contents O.puts O.broken out.new)
-        (writer_of E.contents E.puts E.broken err.old) (writer_of E.contents E.puts E.broken err.new)
-        ⊎ Runs R.Started R.Started.Stderr R.File.contents R.Started.Stdout.remaining R.Started.Stdin.contents
-        (value_of matches.now (codes "host")) plan options.limit options.workers place.entry result
-        (writer_of O.contents O.puts O.broken out.old) (writer_of O.contents O.puts O.broken out.new)
-        (writer_of E.contents E.puts E.broken err.old) (writer_of E.contents E.puts E.broken err.new) }
-{
-    match options.workers {
-        None => run_plan(rt, matches, plan, options.limit, behind, place, out, err),
-        Some(workers) => {
-            let kept = &mut behind.kept;
-            trace_on_threads(rt, plan, workers, place, kept, out, err)
-        }
-    }
-}
 
 /// Process 1's exit code, or 128 and the signal that ended it.
 fn status_of(outcome: &Outcome) -> Option<u8>
@@ -279,8 +177,10 @@ fn trace_plan<
 ) -> Result<u8, Fault>
 where
     R::Started: Streams,
-    ensures { TracesPlan R.Started R.Started.Stderr R.File.contents R.Started.Stdout.remaining R.Started.Stdin.contents
-        matches.now plan options.limit options.workers result
+    ensures { TracesPlan R.File.contents
+        (Runs R.Started R.Started.Stderr R.Started.Stdout.remaining
+        R.Started.Stdin.contents (value_of matches.now (codes "host")) options.workers options.limit plan)
+        matches.now options.workers result
         (writer_of O.contents O.puts O.broken out.old) (writer_of O.contents O.puts O.broken out.new)
         (writer_of E.contents E.puts E.broken err.old) (writer_of E.contents E.puts E.broken err.new) }
 {
@@ -292,7 +192,7 @@ where
             return Err(fault);
         }
     }
-    let made = run_as_asked(rt, matches, options, plan, behind, place, &mut *out, err);
+    let made = run_at(rt, matches, options, plan, behind, place, &mut *out, err);
     leave(rt, matches, &mut behind.kept, made, out)
 }
 
@@ -317,8 +217,10 @@ fn trace_to<R: Files + Processes + Threads + Wait + Sync + AllocGlobal, O: Write
 ) -> Traced<O, E>
 where
     R::Started: Streams,
-    ensures { TracesOut R.Started R.Started.Stderr R.File.contents R.Started.Stdout.remaining R.Started.Stdin.contents
-        matches.now plan options.limit options.workers result.status (O.contents out) (O.contents result.out)
+    ensures { TracesOut R.File.contents
+        (Runs R.Started R.Started.Stderr R.Started.Stdout.remaining
+        R.Started.Stdin.contents (value_of matches.now (codes "host")) options.workers options.limit plan)
+        matches.now options.workers result.status (O.contents out) (O.contents result.out)
         (E.contents err) (E.contents result.err) }
 {
     let mut out = Lines::new(out);
@@ -349,9 +251,10 @@ pub fn trace<
 ) -> Traced<O, E>
 where
     R::Started: Streams,
-    ensures { TracesWords R.Started R.Started.Stderr R.File.contents R.Started.Stdout.remaining
-        R.Started.Stdin.contents matches.now options.limit options.workers result.status (O.contents out)
-        (O.contents result.out) }
+    ensures { TracesWords R.File.contents
+        (Runs R.Started R.Started.Stderr R.Started.Stdout.remaining R.Started.Stdin.contents
+        (value_of matches.now (codes "host")) options.workers options.limit)
+        matches.now options.workers result.status (O.contents out) (O.contents result.out) }
 {
     let Prepared {
         plan,

@@ -3,8 +3,8 @@ use Rattle.trace_run.specs.Writers.{writer_of}
 use Rattle.trace_command.specs.Tracing.{Traces}
 use Rattle.trace_command.proofs.kernel.run_kernel.Goals as goal
 
-pub returns-in-There : goal.returns-in-There
-returns-in-There g c =
+pub returns-in-There-clause-made : goal.returns-in-There-clause-made
+returns-in-There-clause-made g c =
     subst
     (λ k. Traces g.P.Stdout.Read.remaining g.P.Stdin.Write.contents c.args.options c.args.script k c.run_counting-ended.result.0
     (writer_of g.W.Sink.contents g.W.Sink.puts g.W.Sink.broken c.args.lines.now)

@@ -18,12 +18,12 @@ returns g c =
             unmade_for (Lacks host workers file) (Lacks host workers files) _ _ _ _ _
             (lacks_more host workers file files inr)
             (leaves_nothing host workers file _ _ _ _ _ _ _ _ u c.leave.ensures))
-            (λ runs. record {
-              made = c.run_as_asked-made.result;
-              traced = writer_of g.O.Sink.contents g.O.Sink.puts g.O.Sink.broken c.run_as_asked-made.new.out;
-              runs = runs;
+            (λ run. record {
+              made = c.run_at-made.result;
+              traced = writer_of g.O.Sink.contents g.O.Sink.puts g.O.Sink.broken c.run_at-made.new.out;
+              run = run;
               leaves = c.leave.ensures;
             })
-            c.run_as_asked-made.ensures,
+            c.run_at-made.ensures,
       ),
     )

@@ -1,6 +1,6 @@
-use Rattle.std.proofs.Common.{sym}
+use Rattle.std.proofs.Common.{codes, sym}
 use Rattle.trace_run.specs.Writers.{writer_of}
-use Rattle.trace_command.specs.Tracing.{TracesPlan}
+use Rattle.trace_command.specs.Tracing.{Runs, TracesPlan, value_of}
 use Rattle.trace_command.specs.Writers.{broken_of, contents_of, puts_of}
 use Rattle.trace_command.proofs.Leaving.{over_both}
 use Rattle.trace_command.proofs.tracing.trace_to.Goals as goal
@@ -19,9 +19,11 @@ returns g c =
           (
             sym c.into_inner-2.ensures,
             over_both
-                (λ x y. TracesPlan g.row.R-Started.Denot g.row.R-Started-Stderr.Denot g.R.File.Write.contents
-                g.R.Started.Stdout.Read.remaining g.R.Started.Stdin.Write.contents c.args.matches.now c.args.plan
-                c.args.options.limit c.args.options.workers c.trace_plan-status.result x out y err)
+                (λ x y. TracesPlan g.R.File.Write.contents
+                (Runs g.row.R-Started.Denot g.row.R-Started-Stderr.Denot g.R.Started.Stdout.Read.remaining
+                g.R.Started.Stdin.Write.contents (value_of c.args.matches.now (codes "host")) c.args.options.workers
+                c.args.options.limit c.args.plan) c.args.matches.now c.args.options.workers
+                c.trace_plan-status.result x out y err)
                 c.new-out.ensures c.new-err.ensures c.trace_plan-status.ensures,
           ),
         ),

@@ -1,4 +1,4 @@
-//! A trace whose lines are written whole where their calls can't wait.
+//! The file that a trace is written to.
 
 ghost use Rattle.std.specs.Prelude.{◌≡◌};
 
@@ -33,23 +33,25 @@ impl<W: Write + Drop> Write for Held<W> {
     }
 }
 
-/// A writer of std that keeps back what more of a line follows at once.
+/// The file of a trace. Where nobody reads along, the line of a call that can't wait is written whole.
 #[derive(Drop)]
-pub struct WholeLines<W: Write + Drop> {
+pub struct TraceFile<W: Write + Drop> {
     sink: Counted<Held<W>>,
     holds: Rc<Cell<bool>>,
+    may_hold: bool,
 }
 
-impl<W: Write + Drop> WholeLines<W> {
+impl<W: Write + Drop> TraceFile<W> {
     ghost use Rattle.std.specs.Prelude.{◌≡◌, IfOk};
     ghost use Rattle.std.specs.Io.KnownBytes.{Keeps, append_known};
     ghost use Rattle.trace_run.specs.Writers.{writer_of};
     ghost use Rattle.trace_command.specs.Tracing.{unused};
-    ghost use Rattle.trace_command.specs.Writers.{whole_broken, whole_contents, whole_puts};
+    ghost use Rattle.trace_command.specs.Writers.{file_broken, file_contents, file_puts};
 
-    pub fn new(alloc: Global, out: W) -> io::Result<Self>
+    /// A file that nobody reads along, if it may hold lines back.
+    pub fn new(alloc: Global, out: W, may_hold: bool) -> io::Result<Self>
         ensures { IfOk result
-            (λ lines. writer_of (whole_contents W.contents) whole_puts whole_broken lines ≡ unused (W.contents out)) }
+            (λ file. writer_of (file_contents W.contents) file_puts file_broken file ≡ unused (W.contents out)) }
     {
         let Ok(holds) = Rc::new(alloc, Cell::new(false)) else {
             return Err(io::Error::from(ErrorKind::OutOfMemory));
@@ -57,12 +59,16 @@ impl<W: Write + Drop> WholeLines<W> {
         let told = holds.clone()?;
         let out = BufWriter::new(alloc, out)?;
         let sink = Counted::new(Held { out, holds: told });
-        Ok(WholeLines { sink, holds })
+        Ok(TraceFile {
+            sink,
+            holds,
+            may_hold,
+        })
     }
 
     /// Writes what was kept back. Gives the writer, and the bytes that can't be written.
     pub fn into_parts(self) -> (W, Vec<u8>)
-        ensures { Keeps (whole_contents W.contents self) (append_known (W.contents result.0) result.1.items) }
+        ensures { Keeps (file_contents W.contents self) (append_known (W.contents result.0) result.1.items) }
     {
         let mut held = self.sink.into_inner();
         // What isn't written stays in the buffer.
@@ -71,14 +77,14 @@ impl<W: Write + Drop> WholeLines<W> {
     }
 }
 
-impl<W: Write + Drop> Sink for WholeLines<W> {
-    ghost use Rattle.trace_command.specs.Writers.{whole_broken, whole_contents, whole_puts};
+impl<W: Write + Drop> Sink for TraceFile<W> {
+    ghost use Rattle.trace_command.specs.Writers.{file_broken, file_contents, file_puts};
 
-    ghost contents = { λ l. whole_contents W.contents l };
+    ghost contents = { λ f. file_contents W.contents f };
 
-    ghost puts = { λ l. whole_puts l };
+    ghost puts = { λ f. file_puts f };
 
-    ghost broken = { λ l. whole_broken l };
+    ghost broken = { λ f. file_broken f };
 
     fn put(&mut self, bytes: &[u8]) -> Result<(), Broken> {
         self.holds.set(false);
@@ -90,9 +96,9 @@ impl<W: Write + Drop> Sink for WholeLines<W> {
     }
 }
 
-impl<W: Write + Drop> TraceSink for WholeLines<W> {
+impl<W: Write + Drop> TraceSink for TraceFile<W> {
     fn put_ahead(&mut self, bytes: &[u8]) -> Result<(), Broken> {
-        self.holds.set(true);
+        self.holds.set(self.may_hold);
         self.sink.put(bytes)
     }
 }

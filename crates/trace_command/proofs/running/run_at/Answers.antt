@@ -1,0 +1,36 @@
+use Rattle.std.proofs.Common.{codes, inl, inr}
+use Rattle.trace_run.specs.Writers.{writer_of}
+use Rattle.trace_command.specs.Tracing.{IsFile, Runs, Traces, value_of}
+use Rattle.trace_command.proofs.Leaving.{lacks_at}
+use Rattle.trace_command.proofs.Reaching.{writes_to_more}
+use Rattle.trace_command.proofs.running.run_at.Goals as goal
+
+pub returns-in-Ok-run_to_place : goal.returns-in-Ok-run_to_place
+returns-in-Ok-run_to_place g c =
+    let kernel = c.in-Ok.kernel in
+    let remaining = g.R.Started.Stdout.Read.remaining in
+    let contents = g.R.Started.Stdin.Write.contents in
+    inr (
+      c.in-Ok-run_to_place.ended,
+      (
+        writer_of g.E.Sink.contents g.E.Sink.puts g.E.Sink.broken c.run_to_place.new.err,
+        (
+          writes_to_more g.R.File.Write.contents
+              (Traces remaining contents c.args.plan.options c.args.plan.script kernel)
+              (Runs g.row.R-Started.Denot g.row.R-Started-Stderr.Denot remaining contents
+              (value_of c.args.matches.now (codes "host")) c.args.options.workers c.args.options.limit c.args.plan)
+              _ _ _ _ _ _ (λ ended old new h. (kernel, (c.in-Ok.ensures.takes, h))) c.in-Ok-run_to_place.ensures.written,
+          c.settle.ensures,
+        ),
+      ),
+    )
+
+pub returns-in-Err-run_to_place : goal.returns-in-Err-run_to_place
+returns-in-Err-run_to_place g c =
+    let u = c.in-Err-run_to_place.ensures.unmade in
+    inl (
+      lacks_at g.R.Started.Stdout.Read.remaining g.R.Started.Stdin.Write.contents
+          (value_of c.args.matches.now (codes "host")) c.args.options.workers c.args.plan.boot c.args.options.limit
+          c.args.plan.turns.items c.in-Ok.kernel (IsFile c.args.place) c.in-Ok.ensures.takes _ u.0,
+      u.1,
+    )
