@@ -1,3 +1,4 @@
 pub mod Faults
 pub mod Tracing
 pub mod Writers
+pub mod TurnsOut

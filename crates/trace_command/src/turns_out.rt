@@ -1,8 +1,12 @@
 //! The events of a run, written as a schedule that gives them.
 
-ghost use Rattle.std.specs.Prelude.{IfErr, IsSome, codes};
+ghost use Rattle.std.specs.Prelude.{◌≡◌, IfErr, IfOk, IsSome, OnOk, codes, map};
+ghost use Rattle.std.specs.Io.KnownBytes.{Appends};
+ghost use Rattle.pt_kernel.specs.Noted.{all_events, events_in};
+ghost use Rattle.pt_schedule.specs.Written.{event_word, words_text};
 ghost use Rattle.trace_command.specs.Faults.{IsUnopened};
 ghost use Rattle.trace_command.specs.Tracing.{value_of};
+ghost use Rattle.trace_command.specs.TurnsOut.{is_first, kept, left_after, left_behind, text_behind, turns_text};
 
 use crate::fault::unopened;
 use clap::ArgMatches;
@@ -17,29 +21,48 @@ use std::rt::Files;
 /// The requests until process 1 is resumed for the first time: a schedule by words serves them before its first word.
 const SERVED_FIRST: u64 = 3;
 
-fn write_row<W: Write>(writer: &mut W, event: Event, times: u64) -> io::Result<()> {
-    for _ in 0..times {
-        write_word(writer, event_word(event))?;
-    }
-    Ok(())
-}
-
-/// So many of the first events are served before the first word.
-fn served_first(row: &EventRow) -> u64 {
-    match row.event {
-        Event::Serve => row.times.min(SERVED_FIRST),
-        Event::Turn { .. } => 0,
+/// The event is served before the first word, as long as so many still are.
+fn is_first(event: Event, left: u64) -> bool
+    ensures { result ≡ is_first left event }
+{
+    match event {
+        Event::Turn { .. } => false,
+        Event::Serve => left > 0,
     }
 }
 
-fn write_rows<W: Write>(writer: &mut W, rows: &[EventRow]) -> io::Result<()> {
-    let Some((first, rows)) = rows.split_first() else {
-        return Ok(());
-    };
-    let times = first.times.saturating_sub(served_first(first));
-    write_row(writer, first.event, times)?;
+/// Writes the word of an event that isn't served before the first word. Gives how many still are behind it.
+fn write_event<W: Write>(writer: &mut W, event: Event, left: u64) -> io::Result<u64>
+    ensures left { IfOk result (λ rest. rest ≡ left_after left event) }
+    ensures text { OnOk result (Appends (W.contents writer.old) (W.contents writer.new)
+        (words_text (map event_word (kept left event)))) }
+{
+    if is_first(event, left) {
+        return Ok(left.saturating_sub(1));
+    }
+    write_word(writer, event_word(event))?;
+    Ok(0)
+}
+
+/// The same of a row.
+fn write_row<W: Write>(writer: &mut W, row: &EventRow, left: u64) -> io::Result<u64>
+    ensures left { IfOk result (λ rest. rest ≡ left_behind left (events_in row.now)) }
+    ensures text { OnOk result (Appends (W.contents writer.old) (W.contents writer.new)
+        (text_behind left (events_in row.now))) }
+{
+    let mut rest = left;
+    for _ in 0..row.times {
+        rest = write_event(writer, row.event, rest)?;
+    }
+    Ok(rest)
+}
+
+fn write_rows<W: Write>(writer: &mut W, rows: &[EventRow]) -> io::Result<()>
+    ensures { OnOk result (Appends (W.contents writer.old) (W.contents writer.new) (turns_text (all_events rows.now))) }
+{
+    let mut left = SERVED_FIRST;
     for row in rows {
-        write_row(writer, row.event, row.times)?;
+        left = write_row(writer, row, left)?;
     }
     Ok(())
 }

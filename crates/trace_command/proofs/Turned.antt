@@ -1,0 +1,56 @@
+-- Words of events that are written one after the other.
+use Rattle.std.proofs.Common.{◌≡◌, ◌∙◌, ℕ, ◌+◌, ◌-◌, ◌<◌, ◌==◌, Bool, true, false, cond, List, [], ◌∷◌, ◌++◌, length, map, drop, replicate, get_or}
+use Rattle.std.proofs.Common.{Option, codes, refl, sym, ap, subst, append_assoc}
+use Rattle.std.specs.Io.KnownBytes.{Appends}
+use Rattle.std.proofs.KnownBytes.{Appends-trans}
+use Rattle.std.proofs.lemmas.List.{map-append}
+use Rattle.lx_abi.specs.declared.schedule.Event.{Event}
+use Rattle.lx_abi.specs.declared.schedule.Word.{Word}
+use Rattle.pt_kernel.specs.Noted.{all_events, events_in}
+use Rattle.pt_kernel.specs.declared.events.EventRow.{EventRow}
+use Rattle.pt_schedule.specs.Written.{event_word, word_text, words_text}
+use Rattle.trace_command.specs.TurnsOut.{behind, kept, left_after, left_behind, text_behind}
+
+words_append : (ws vs : List Word) → words_text (ws ++ vs) ≡ words_text ws ++ words_text vs
+words_append [] vs = refl
+words_append (w ∷ ws) vs =
+    ap (λ l. word_text w ++ (codes "\n" ++ l)) (words_append ws vs)
+    ∙ sym (append_assoc (word_text w) (codes "\n" ++ words_text ws) (words_text vs))
+
+text_of : List Event → List ℕ
+text_of xs = words_text (map event_word xs)
+
+text_append : (xs ys : List Event) → words_text (map event_word (xs ++ ys)) ≡ words_text (map event_word xs) ++ words_text (map event_word ys)
+text_append xs ys = ap words_text (map-append event_word xs ys) ∙ words_append (map event_word xs) (map event_word ys)
+
+-- behind one event, and behind several
+
+behind_append : (left : ℕ) (xs ys : List Event) → behind left (xs ++ ys) ≡ behind left xs ++ behind (left_behind left xs) ys
+behind_append left [] ys = refl
+behind_append left (x ∷ xs) ys =
+    ap (λ l. kept left x ++ l) (behind_append (left_after left x) xs ys)
+    ∙ sym (append_assoc (kept left x) (behind (left_after left x) xs) (behind (left_behind (left_after left x) xs) ys))
+
+pub behind_several : (left : ℕ) (xs ys : List Event)
+    → text_behind left (xs ++ ys) ≡ text_behind left xs ++ text_behind (left_behind left xs) ys
+behind_several left xs ys =
+    ap (λ l. words_text (map event_word l)) (behind_append left xs ys)
+    ∙ text_append (behind left xs) (behind (left_behind left xs) ys)
+
+pub behind_one : (left : ℕ) (x : Event) (ys : List Event)
+    → text_behind left (x ∷ ys) ≡ words_text (map event_word (kept left x)) ++ text_behind (left_after left x) ys
+behind_one left x ys = text_append (kept left x) (behind (left_after left x) ys)
+
+-- What is written so far, and what comes.
+pub record Writes (start here : Option (List ℕ)) (all rest : List ℕ) : Type 0 where
+  pub done : List ℕ
+  pub whole : done ++ rest ≡ all
+  pub written : Appends start here done
+
+pub writes_more : (start here there : Option (List ℕ)) (all rest piece rest' : List ℕ) → rest ≡ piece ++ rest'
+    → Writes start here all rest → Appends here there piece → Writes start there all rest'
+writes_more start here there all rest piece rest' e w a = record {
+  done = w.done ++ piece;
+  whole = append_assoc w.done piece rest' ∙ ap (λ l. w.done ++ l) (sym e) ∙ w.whole;
+  written = Appends-trans start here there w.done piece w.written a;
+}
