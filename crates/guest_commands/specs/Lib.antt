@@ -1,3 +1,2 @@
 pub mod Drills
-pub mod Logs
 pub mod Statuses

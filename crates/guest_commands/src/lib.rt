@@ -5,8 +5,6 @@ mod asm;
 mod drill_words;
 mod drills;
 mod entry;
-mod line;
-mod log;
 mod plain;
 mod plan;
 mod serving;
@@ -15,4 +13,3 @@ mod watched;
 mod words;
 
 pub use entry::{command, tell};
-pub use log::Log;

@@ -3,18 +3,15 @@
 ghost use Rattle.std.specs.Prelude.{◌≡◌, OnOk, IfOk};
 ghost use Rattle.lx_abi.specs.Modes.{lives_in};
 ghost use Rattle.plain_run.specs.Runs.{RunsTo};
-ghost use Rattle.plain_run.specs.Watched.{Tells};
-ghost use Rattle.guest_commands.specs.Logs.{told_by};
+ghost use Rattle.plain_log.specs.Logged.{IsLogged};
 ghost use Rattle.guest_commands.specs.Statuses.{is_alive as is_alive_in, first_status, status_in};
 
-use crate::log::Log;
 use crate::plan::{Plan, read_plan};
 use clap::ArgMatches;
 use front_end::{Fault, Leavings, explain_turns};
 use lx_abi::{Ended, Mode, Status};
 use lx_kernel::Kernel;
-use plain_run::Halt;
-use pt_schedule::Schedule;
+use plain_log::LogFault;
 use std::alloc::{AllocError, Global};
 use std::io::{self, IsTerminal, Read, Write};
 use std::rt::Files;
@@ -58,43 +55,18 @@ fn status(kernel: &Kernel) -> Result<u8, AllocError>
     Ok(status_of(ended.as_slice()))
 }
 
-/// Turns by a schedule until it has ended, each item printed.
-fn turns<E: Write>(
-    kernel: &mut Kernel,
-    schedule: &mut Schedule,
-    log: &mut Log<E>,
-) -> Result<(), Fault>
-    ensures to { OnOk result (RunsTo kernel.old schedule.old kernel.new) }
-    ensures told { Tells kernel.old (told_by log.old) kernel.new (told_by log.new) }
-{
-    match plain_run::run(kernel, schedule, log) {
-        Ok(()) => Ok(()),
-        Err(Halt::Memory) => Err(Fault::Memory),
-        Err(Halt::Weary) => Err(log.fault()),
-    }
-}
-
-/// The same. The log is written, also where the turns end in a fault.
-fn logged_turns<E: Write>(
-    kernel: &mut Kernel,
-    schedule: &mut Schedule,
-    log: &mut Log<E>,
-) -> Result<(), Fault>
-    ensures to { OnOk result (RunsTo kernel.old schedule.old kernel.new) }
-    ensures told { Tells kernel.old (told_by log.old) kernel.new (told_by log.new) }
-{
-    let ended = turns(kernel, schedule, log);
-    let logged = log.flush();
-    ended?;
-    logged
-}
-
-/// The same, with the log to a writer.
+/// Turns by the plan's schedule until it has ended, with the log to a writer.
 fn log_turns<E: Write>(alloc: Global, plan: &mut Plan, err: &mut E) -> Result<(), Fault>
-    ensures { OnOk result (RunsTo plan.old.kernel plan.old.schedule plan.new.kernel) }
+    ensures to { OnOk result (RunsTo plan.old.kernel plan.old.schedule plan.new.kernel) }
+    ensures printed { OnOk result (IsLogged (E.contents err.old) plan.old.kernel plan.new.kernel (E.contents err.new)) }
 {
-    let mut log = Log::new(alloc, err)?;
-    logged_turns(&mut plan.kernel, &mut plan.schedule, &mut log)
+    match plain_log::run(alloc, &mut plan.kernel, &mut plan.schedule, err) {
+        Ok(()) => Ok(()),
+        Err(LogFault::Memory) => Err(Fault::Memory),
+        Err(LogFault::Output(error)) => {
+            Err(Fault::output(format!(in alloc; "the log: {error}")))
+        }
+    }
 }
 
 fn write_flushed<O: Write>(bytes: &[u8], out: &mut O) -> io::Result<()> {
@@ -136,6 +108,7 @@ fn run_plan<R: Files + AllocGlobal, O: Write, E: Write>(
     err: &mut E,
 ) -> Result<u8, Fault>
     ensures to { OnOk result (RunsTo plan.old.kernel plan.old.schedule plan.new.kernel) }
+    ensures printed { OnOk result (IsLogged (E.contents err.old) plan.old.kernel plan.new.kernel (E.contents err.new)) }
     ensures status { IfOk result (λ status. status ≡ status_in plan.new.kernel) }
 {
     let ended = log_turns(rt.alloc(), plan, err);

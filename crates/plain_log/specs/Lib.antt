@@ -1,0 +1,4 @@
+pub mod Lines
+pub mod Logged
+pub mod Logs
+pub mod Rooms
