@@ -1,6 +1,6 @@
 //! The log of calls as it is printed: a line an item.
 
-ghost use Rattle.std.specs.Prelude.{◌≡◌, ◌++◌, ◌∷◌, [], None, OnOk, OnErr, IfOk, IsTrue, is_some};
+ghost use Rattle.std.specs.Prelude.{◌≡◌, ◌++◌, ◌∷◌, [], None, Ok, OnOk, OnErr, IfOk, IsTrue, is_some};
 ghost use Rattle.plain_run.specs.Runs.{RunsTo};
 ghost use Rattle.plain_log.specs.Logs.{HasPrinted, first_contents};
 ghost use Rattle.plain_log.specs.Logged.{IsLogged};
@@ -84,7 +84,6 @@ impl<W: Write> Log<W> {
         ensures told { self.new.told.items ≡ self.old.told.items }
         ensures begun { self.new.begun.items ≡ self.old.begun.items }
         ensures written { self.new.lines.items ≡ [] }
-        ensures lost { self.new.fault ≡ None → self.old.fault ≡ None }
     {
         let lost = match self.out.write_all(self.lines.as_slice()) {
             Ok(()) => None,
@@ -109,22 +108,29 @@ impl<W: Write> Log<W> {
     }
 
     /// Writes what is held back. Ok where all lines were written.
-    pub fn end(&mut self) -> Result<(), Weary>
+    fn end(&mut self) -> Result<(), Weary>
         ensures told { self.new.told.items ≡ self.old.told.items }
         ensures written { OnOk result (HasPrinted (first_contents W.contents self.old.begun.items) self.old.told.items
             (W.contents self.new.out) []) }
-        ensures lost { OnOk result (self.old.fault ≡ None) }
     {
         self.flush();
         self.wants_more()
     }
+}
 
-    /// Why some lines were lost.
-    fn into_fault(self) -> LogFault
-    where
-        W: Drop,
-    {
-        self.fault.unwrap_or(LogFault::Memory)
+/// A run that ended so, with its lines written so, is whole, or why not.
+fn whole(
+    ran: Result<(), Halt>,
+    written: Result<(), Weary>,
+    fault: Option<LogFault>,
+) -> Result<(), LogFault>
+    ensures ran { OnOk result (ran ≡ Ok tt) }
+    ensures written { OnOk result (written ≡ Ok tt) }
+{
+    match (ran, written) {
+        (Ok(()), Ok(())) => Ok(()),
+        (Err(Halt::Memory), _) => Err(LogFault::Memory),
+        _ => Err(fault.unwrap_or(LogFault::Memory)),
     }
 }
 
@@ -134,6 +140,8 @@ impl<W: Write> Watch for Log<W> {
     ghost told = { λ l. l.told.items };
 
     ghost weary = { λ l. is_some l.fault };
+
+    ghost begun = { λ l. first_contents W.contents l.begun.items };
 
     fn patience(&self) -> u64 {
         if self.lines.is_empty() {
@@ -177,9 +185,6 @@ pub fn run<W: Write>(
     };
     let ran = plain_run::run(kernel, schedule, &mut log);
     let written = log.end();
-    match (ran, written) {
-        (Ok(()), Ok(())) => Ok(()),
-        (Err(Halt::Memory), _) => Err(LogFault::Memory),
-        (Ok(()) | Err(Halt::Weary), _) => Err(log.into_fault()),
-    }
+    let Log { fault, .. } = log;
+    whole(ran, written, fault)
 }

@@ -42,6 +42,7 @@ fn tell<W: Watch>(
     watch: &mut W,
 ) -> Result<(), Halt>
     ensures told { W.told watch.new ≡ W.told watch.old ++ option_to_list item.now }
+    ensures begun { W.begun watch.new ≡ W.begun watch.old }
     ensures cause { IfErr result (IsCause kernel.now.failed (W.weary watch.new)) }
 {
     let told = match item {
@@ -67,6 +68,7 @@ fn advance<W: Watch>(
     ensures within { IfOk result (λ a. a.turns ≤ most) }
     ensures after { IfOk result (λ a. a.after ≡ mode_in kernel.new pid) }
     ensures told { Tells kernel.old (W.told watch.old) kernel.new (W.told watch.new) }
+    ensures begun { W.begun watch.new ≡ W.begun watch.old }
     ensures cause { IfErr result (IsCause kernel.new.failed (W.weary watch.new)) }
 {
     let mut item = None;
@@ -117,6 +119,7 @@ fn turn_row<W: Watch>(kernel: &mut Kernel, pid: u32, more: u64, watch: &mut W) -
     ensures row { IfOk result (λ n. InRow kernel.old pid n kernel.new) }
     ensures within { IfOk result (λ n. n ≤ more) }
     ensures told { Tells kernel.old (W.told watch.old) kernel.new (W.told watch.new) }
+    ensures begun { W.begun watch.new ≡ W.begun watch.old }
     ensures cause { IfErr result (IsCause kernel.new.failed (W.weary watch.new)) }
 {
     let mut made = 0;
@@ -148,6 +151,7 @@ fn turn<W: Watch>(
         ((z : KernelRun) → RunsTo kernel.new schedule.new z → RunsTo (after_turn kernel.old pid) schedule.old z) }
     ensures fewer { OnOk result (events_left schedule.new ≤ events_left schedule.old) }
     ensures told { Tells kernel.old (W.told watch.old) kernel.new (W.told watch.new) }
+    ensures begun { W.begun watch.new ≡ W.begun watch.old }
     ensures cause { IfErr result (IsCause kernel.new.failed (W.weary watch.new)) }
 {
     let more = turns_in_row(schedule, pid);
@@ -169,6 +173,7 @@ pub fn run<W: Watch>(
 
     // What was logged was told, in order, also where the run ended before its schedule.
     ensures told { Tells kernel.old (W.told watch.old) kernel.new (W.told watch.new) }
+    ensures begun { W.begun watch.new ≡ W.begun watch.old }
     ensures cause { IfErr result (IsCause kernel.new.failed (W.weary watch.new)) }
 {
     'turns: loop {

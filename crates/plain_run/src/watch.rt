@@ -12,7 +12,7 @@ pub struct Weary;
 
 /// Is told what a kernel logs, as it is logged. What it does with that changes nothing of the run but where it ends.
 pub trait Watch {
-    ghost use Rattle.std.specs.Prelude.{◌≡◌, ◌++◌, Bool, List, [], ◌∷◌};
+    ghost use Rattle.std.specs.Prelude.{◌≡◌, ◌++◌, ℕ, Bool, List, [], ◌∷◌, Option};
     ghost use Rattle.lx_abi.specs.declared.log.Item.{Item as Logged};
 
     /// What it was told, in order.
@@ -21,17 +21,22 @@ pub trait Watch {
     /// It has said that it wants no more.
     ghost weary: { Self → Bool };
 
+    /// What its output, if it has one, had before it.
+    ghost begun: { Self → Option (List ℕ) };
+
     /// How many turns may pass before it is told of them.
     fn patience(&self) -> u64;
 
     /// So many turns have logged nothing.
     fn pass(&mut self, turns: u64) -> Result<(), Weary>
         ensures told { told self.new ≡ told self.old }
+        ensures begun { begun self.new ≡ begun self.old }
         ensures weary { OnErr result (IsTrue (weary self.new)) };
 
     /// The kernel has logged this in its last turn. What wants no more was told it all the same.
     fn see(&mut self, kernel: &Kernel, item: &Item) -> Result<(), Weary>
         ensures told { told self.new ≡ told self.old ++ item.now ∷ [] }
+        ensures begun { begun self.new ≡ begun self.old }
         ensures weary { OnErr result (IsTrue (weary self.new)) };
 }
 
@@ -54,12 +59,14 @@ impl Unwatched {
 }
 
 impl Watch for Unwatched {
-    ghost use Rattle.std.specs.Prelude.{false};
+    ghost use Rattle.std.specs.Prelude.{false, None};
     ghost use Rattle.plain_run.specs.Watched.{told_to};
 
     ghost told = { told_to };
 
     ghost weary = { λ _. false };
+
+    ghost begun = { λ _. None };
 
     fn patience(&self) -> u64 {
         u64::MAX

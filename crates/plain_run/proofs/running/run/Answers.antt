@@ -1,4 +1,4 @@
-use Rattle.std.proofs.Common.{refl}
+use Rattle.std.proofs.Common.{◌∙◌, refl}
 use Rattle.pt_schedule.specs.Schedules.{events_left}
 use Rattle.pt_schedule.specs.Untraced.{readiness_of}
 use Rattle.lx_kernel.specs.Runs.{after_turn}
@@ -21,4 +21,5 @@ turns-preserved g c = (
       (turn_is c.turns.kernel c.turns.schedule c.in-Some.pid c.next_plain.new.self (after_turn c.turns.kernel c.in-Some.pid) z c.in-Some.ensures refl
       (c.in_default-turn.ensures.on z rest)),
   told_both _ _ _ _ _ _ c.turns.invariant.1 c.in_default-turn.ensures.told,
+  c.in_default-turn.ensures.begun ∙ c.turns.invariant.2,
 )

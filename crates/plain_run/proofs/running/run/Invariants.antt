@@ -1,3 +1,4 @@
+use Rattle.std.specs.Prelude.{◌≡◌}
 use Rattle.lx_kernel.specs.Runs.{Run}
 use Rattle.pt_schedule.specs.Schedules.{events_left}
 use Rattle.plain_run.specs.Runs.{RunsTo}
@@ -9,6 +10,7 @@ abbrev pub invariant-turns : goal.invariant-turns
 invariant-turns g l =
     ((z : Run) → RunsTo l.kernel l.schedule z → RunsTo l.initial.kernel l.initial.schedule z)
     × Tells l.initial.kernel (g.W.Watch.told l.initial.watch) l.kernel (g.W.Watch.told l.watch)
+    × (g.W.Watch.begun l.watch ≡ g.W.Watch.begun l.initial.watch)
 
 abbrev pub decreases-turns : goal.decreases-turns
 decreases-turns g l = events_left l.schedule

@@ -1,4 +1,4 @@
-use Rattle.std.proofs.Common.{◌-◌, ◌+◌, refl, arith}
+use Rattle.std.proofs.Common.{◌-◌, ◌+◌, ◌∙◌, refl, arith}
 use Rattle.plain_run.proofs.Turning.{made_more, made_now, told_both}
 use Rattle.plain_run.proofs.running.turn_row.Goals as goal
 
@@ -19,4 +19,5 @@ row-preserved g c =
           (made_more c.row.made (c.in-Ok.advanced.turns - 1) c.args.kernel.now c.row.kernel c.advance.new.kernel c.args.pid c.row.invariant.1 c.in-Ok.ensures.row)
           (c.goes_on.ensures c.if-not-goes_on.false),
       told_both _ _ _ _ _ _ c.row.invariant.2 c.in-Ok.ensures.told,
+      c.in-Ok.ensures.begun ∙ c.row.invariant.3,
     )

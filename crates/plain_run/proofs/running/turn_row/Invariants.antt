@@ -1,4 +1,4 @@
-use Rattle.std.specs.Prelude.{◌≤◌, ◌-◌}
+use Rattle.std.specs.Prelude.{◌≡◌, ◌≤◌, ◌-◌}
 use Rattle.plain_run.specs.Watched.{Tells}
 use Rattle.plain_run.proofs.Turning.{Made}
 use Rattle.plain_run.proofs.running.turn_row.Given as goal
@@ -8,6 +8,7 @@ abbrev pub invariant-row : goal.invariant-row
 invariant-row g l =
     (l.made ≤ l.fn.more) × Made l.initial.kernel l.fn.pid l.made l.kernel
     × Tells l.initial.kernel (g.W.Watch.told l.initial.watch) l.kernel (g.W.Watch.told l.watch)
+    × (g.W.Watch.begun l.watch ≡ g.W.Watch.begun l.initial.watch)
 
 abbrev pub decreases-row : goal.decreases-row
 decreases-row g l = l.fn.more - l.made
