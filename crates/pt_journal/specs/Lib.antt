@@ -1,4 +1,4 @@
 pub mod Journals
 pub mod Told
 pub mod Telling
-pub mod Marks
+pub mod Notes

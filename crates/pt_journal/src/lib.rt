@@ -5,8 +5,8 @@
 pub mod entry;
 pub mod journal;
 pub mod laws;
-pub mod mark;
+pub mod note;
 
 pub use entry::Entry;
 pub use journal::Journal;
-pub use mark::{Deed, Mark};
+pub use note::Note;
