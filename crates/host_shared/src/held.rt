@@ -1,23 +1,31 @@
-//! A host, and the journal of what was done to it.
+//! A host, the journal of what was done to it, and the transcript of what it and its tracer said.
 
-ghost use Rattle.std.specs.Prelude.{◌≡◌, ◌≤◌, ◌^◌, true, false, None, Err, IfOk, IfErr, OnOk, OnErr, IsErr, IsTrue};
+ghost use Rattle.std.specs.Prelude.{◌≡◌, ◌≤◌, ◌^◌, ◌++◌, ◌∷◌, [], true, false, None, Some, Err, IfOk, IfErr, OnOk, OnErr};
+ghost use Rattle.std.specs.Prelude.{IsErr, IsTrue, is_some, ◌&&◌, not};
+ghost use Rattle.lx_abi.specs.declared.ptrace.Reply.TheVariants.{OutOfTurns as Out_of_turns};
 ghost use Rattle.lx_boot.specs.Boots.{fault_of, Refuses};
 ghost use Rattle.lx_boot.specs.declared.boots.BootFault.{BootFault};
 ghost use Rattle.pt_model.specs.Ptrace.{is_there};
 ghost use Rattle.pt_kernel.specs.Hosts.{is_boot, readiness_of};
+ghost use Rattle.pt_journal.specs.Told.{Told};
 ghost use Rattle.pt_journal.specs.Journals.{is_outcome as is_outcome_of};
-ghost use Rattle.host_shared.specs.HeldStates.{first_held, asked, next_turn, Turned, serve_of, CanPut, CanServe, IsKept, Stopped};
+ghost use Rattle.transcript.specs.declared.said.Said.TheVariants.{Asked, Answered};
+ghost use Rattle.host_shared.specs.HeldStates.{first_held, asked, refused, next_turn, Turned, serve_of, hearing};
+ghost use Rattle.host_shared.specs.HeldStates.{out_of_turns, shut_of, IsKept, Stopped};
+ghost use Rattle.host_shared.specs.HeldStates.{CanPut, CanRefuse, CanServe, CanEnd};
 
+use crate::cut::Cut;
+use crate::exchanges::Exchanges;
 use crate::roster::Roster;
-use crate::steps;
+use crate::{saying, steps};
 use lx_abi::{Boot, Reply, Request};
 use lx_boot::BootFault;
 use lx_copies::Copied;
 use pt_journal::Journal;
-use pt_kernel::Host;
+use pt_kernel::{Events, Host};
 use std::alloc::Global;
 use std::marker::Model;
-use std::sync::{Arc, Condvar};
+use transcript::{Naming, Record, Transcript};
 
 /// The most events that a journal may be given.
 pub const MOST_EVENTS: u64 = 1 << 39;
@@ -26,13 +34,15 @@ pub const MOST_EVENTS: u64 = 1 << 39;
 #[derive(Clone, Copy, Debug, PartialEq, Eq)]
 pub struct Memory;
 
-/// A boot, its host, and the journal that replays to it.
+/// A boot, its host, the journal that replays to it, and what it and its tracer said to each other.
 #[derive(Drop)]
-pub struct Held {
-    alloc: Global,
+pub struct Held<J: Naming> {
     boot: Boot,
     host: Roster,
     journal: Journal,
+    said: Transcript<J>,
+    /// The events, where they are asked for.
+    noted: Events,
     /// The most events that the journal may have, and how many it has.
     limit: u64,
     events: u64,
@@ -44,11 +54,13 @@ pub struct Held {
     closed: bool,
     /// Memory was refused.
     failed: bool,
-    /// A request may be answered now that waited before.
-    news: Arc<Condvar>,
+    /// Why it is out of turns, where it is.
+    cut: Option<Cut>,
+    /// The last reply was given: that to Outcome, or OutOfTurns.
+    over: bool,
 }
 
-impl Model for Held {
+impl<J: Naming> Model for Held<J> {
     ghost use Rattle.std.specs.Coded.{codes};
     ghost use Rattle.std.specs.FinMap as maps;
     ghost use Rattle.host_shared.specs.HeldStates.{HeldState, held_by, Keeps};
@@ -57,9 +69,10 @@ impl Model for Held {
 
     ghost coded = { Prim.hlevel (codes, maps.code) };
 
-    ghost view = { λ h. held_by h.boot h.host h.journal h.limit h.closed h.failed };
+    ghost view = { λ h. held_by h.boot h.host h.journal h.said h.limit h.closed h.failed h.cut h.over };
 
-    ghost invariant = { λ h. Keeps h.boot h.host h.journal h.limit h.events h.last h.pending h.closed h.failed };
+    ghost invariant = { λ h. Keeps (held_by h.boot h.host h.journal h.said h.limit h.closed h.failed h.cut h.over)
+        h.events h.last h.pending };
 }
 
 fn is_outcome(reply: &Reply) -> bool
@@ -68,11 +81,18 @@ fn is_outcome(reply: &Reply) -> bool
     matches!(reply, Reply::Outcome { .. })
 }
 
-impl Held {
+impl<J: Naming> Held<J> {
     /// A host that was booted, with an empty journal.
-    pub fn new(alloc: Global, boot: Boot, limit: u64) -> Result<Self, BootFault>
+    pub fn new(
+        alloc: Global,
+        boot: Boot,
+        limit: u64,
+        said: Transcript<J>,
+        noted: Events,
+    ) -> Result<Self, BootFault>
         requires some { 1 ≤ limit }
         requires most { limit ≤ 2 ^ 39 }
+        requires nothing { said ≡ [] }
         ensures first { IfOk result (λ h. h ≡ first_held boot limit) }
         ensures accepted { OnOk result (fault_of boot ≡ None) }
         ensures fault { IfErr result (Refuses boot) }
@@ -82,24 +102,26 @@ impl Held {
     {
         let kept = boot.copy(alloc);
         let host = Host::boot(alloc, boot)?;
-        match (kept, Arc::new(alloc, Condvar::new())) {
-            (Ok(boot), Ok(news)) => Ok(Held {
-                alloc,
+        match kept {
+            Ok(boot) => Ok(Held {
                 boot,
                 host: Roster::of(host),
-                journal: Journal::new(alloc),
+                journal: Journal::new(),
+                said,
+                noted,
                 limit,
                 events: 0,
                 last: 0,
                 pending: false,
                 closed: false,
                 failed: false,
-                news,
+                cut: None,
+                over: false,
             }),
-            (kept, news) => {
+            Err(_) => {
                 // An implicit drop of these takes the prover many minutes.
-                drop(kept);
-                drop(news);
+                drop(said);
+                drop(noted);
                 drop(host);
                 Err(BootFault::Memory)
             }
@@ -107,19 +129,61 @@ impl Held {
     }
 
     /// Puts a request, which will be served: an Ask.
-    pub fn put(&mut self, request: Request) -> Result<(), Memory>
+    pub fn put(
+        &mut self,
+        book: &Record<J>,
+        mine: &mut Transcript<J>,
+        request: Request,
+    ) -> Result<(), Memory>
         requires can { CanPut self.old }
         requires no_boot { is_boot request ≡ false }
         ensures put { OnOk result (self.new ≡ asked self.old request) }
+        ensures mine { OnOk result (mine.new ≡ mine.old ++ Asked request ∷ []) }
         ensures failed { OnErr result (Stopped self.new) }
         ensures failed_before { IsTrue self.old.failed → IsErr result }
     {
         if self.failed {
             return Err(Memory);
         }
-        match steps::put(self.alloc, &mut self.host, &mut self.journal, request) {
+        match steps::put(
+            &mut self.host,
+            &mut self.journal,
+            book,
+            &mut self.said,
+            mine,
+            request,
+        ) {
             Ok(()) => {
                 self.pending = true;
+                Ok(())
+            }
+            Err(Memory) => {
+                self.failed = true;
+                self.closed = true;
+                Err(Memory)
+            }
+        }
+    }
+
+    /// Refuses a request, where this is closed: it is out of turns.
+    pub fn refuse(
+        &mut self,
+        book: &Record<J>,
+        mine: &mut Transcript<J>,
+        request: &Request,
+    ) -> Result<(), Memory>
+        requires can { CanRefuse self.old }
+        ensures refused { OnOk result (self.new ≡ refused self.old request.now) }
+        ensures mine { OnOk result (mine.new ≡ mine.old ++ Asked request.now ∷ Answered Out_of_turns ∷ []) }
+        ensures failed { OnErr result (Stopped self.new) }
+        ensures failed_before { IsTrue self.old.failed → IsErr result }
+    {
+        if self.failed {
+            return Err(Memory);
+        }
+        match saying::refuse(book, &mut self.said, mine, request) {
+            Ok(()) => {
+                self.over = true;
                 Ok(())
             }
             Err(Memory) => {
@@ -146,7 +210,13 @@ impl Held {
         let Some(pid) = self.host.next(self.last) else {
             return Ok(false);
         };
-        match steps::turn(&mut self.host, &mut self.journal, self.last, pid) {
+        match steps::turn(
+            &mut self.host,
+            &mut self.journal,
+            &mut self.noted,
+            self.last,
+            pid,
+        ) {
             Ok(()) => {
                 self.events += 1;
                 self.last = pid;
@@ -160,33 +230,77 @@ impl Held {
         }
     }
 
+    /// It is out of turns, for this reason: nothing more is said.
+    fn end(
+        &mut self,
+        book: &Record<J>,
+        mine: &mut Transcript<J>,
+        cut: Option<Cut>,
+    ) -> Result<Option<Reply>, Memory>
+        requires can { CanEnd self.old cut }
+        ensures served { IfOk result (λ reply. out_of_turns self.old cut ≡ record { held = self.new; reply = reply }) }
+        ensures mine { IfOk result (λ reply. mine.new ≡ hearing mine.old reply) }
+        ensures failed { OnErr result (Stopped self.new) }
+    {
+        let reply = Reply::OutOfTurns;
+        match saying::answer(book, &mut self.said, mine, &reply) {
+            Ok(()) => {
+                self.closed = true;
+                self.cut = cut;
+                self.over = true;
+                Ok(Some(reply))
+            }
+            Err(Memory) => {
+                drop(reply);
+                self.failed = true;
+                self.closed = true;
+                Err(Memory)
+            }
+        }
+    }
+
     /// Serves the pending request where it can be: its reply. It is out of turns, for good, where this is closed or at
     /// its limit, or where no process is able and the request waits; none where a turn may yet answer it.
-    pub fn serve(&mut self) -> Result<Option<Reply>, Memory>
+    pub fn serve(
+        &mut self,
+        book: &Record<J>,
+        mine: &mut Transcript<J>,
+    ) -> Result<Option<Reply>, Memory>
         requires { CanServe self.old }
         ensures served { IfOk result (λ reply. serve_of self.old ≡ record { held = self.new; reply = reply }) }
+        ensures mine { IfOk result (λ reply. mine.new ≡ hearing mine.old reply) }
         ensures failed { OnErr result (Stopped self.new) }
         ensures failed_before { IsTrue self.old.failed → IsErr result }
     {
         if self.failed {
             return Err(Memory);
         }
-        if self.closed || self.limit <= self.events {
-            self.closed = true;
-            return Ok(Some(Reply::OutOfTurns));
+        if self.closed {
+            let cut = self.cut;
+            return self.end(book, mine, cut);
+        }
+        if self.limit <= self.events {
+            return self.end(book, mine, Some(Cut::Limit));
         }
         if !self.host.ready() {
             if self.host.next(self.last).is_some() {
                 return Ok(None);
             }
-            self.closed = true;
-            return Ok(Some(Reply::OutOfTurns));
+            return self.end(book, mine, Some(Cut::Nobody));
         }
-        match steps::serve(self.alloc, &mut self.host, &mut self.journal) {
+        match steps::serve(
+            &mut self.host,
+            &mut self.journal,
+            &mut self.noted,
+            book,
+            &mut self.said,
+            mine,
+        ) {
             Ok(reply) => {
                 self.events += 1;
                 self.pending = false;
                 self.closed = is_outcome(&reply);
+                self.over = self.closed;
                 Ok(Some(reply))
             }
             Err(Memory) => {
@@ -198,17 +312,41 @@ impl Held {
     }
 
     /// Nothing more is done.
-    #[tactic(auto, using(crate::proofs::Keeping::keeps_closed))]
     pub fn close(&mut self)
         ensures { self.new ≡ record self.old { closed = true } }
     {
         self.closed = true;
     }
 
+    /// Nothing more is done, since a worker's gate was shut.
+    pub fn shut(&mut self)
+        ensures { self.new ≡ shut_of self.old }
+    {
+        if self.closed {
+            return;
+        }
+        self.closed = true;
+        self.cut = Some(Cut::Gate);
+    }
+
+    /// Why it is out of turns, where it is.
+    pub fn cut(&self) -> Option<Cut>
+        ensures { result ≡ self.now.cut }
+    {
+        self.cut
+    }
+
     pub fn is_closed(&self) -> bool
         ensures { result ≡ self.now.closed }
     {
         self.closed
+    }
+
+    /// The last reply was given: that to Outcome, or OutOfTurns.
+    pub fn is_over(&self) -> bool
+        ensures { result ≡ self.now.over }
+    {
+        self.over
     }
 
     /// Memory was refused.
@@ -225,21 +363,25 @@ impl Held {
         self.pending
     }
 
-    /// What wakes the thread that waits for a reply.
-    pub(crate) fn news(&self) -> Result<Arc<Condvar>, Memory> {
-        Arc::try_clone(&self.news).map_err(|_| Memory)
-    }
-
-    /// Wakes the thread that waits for a reply, if it sleeps.
-    pub(crate) fn wake(&self) {
-        self.news.notify_one();
-    }
-
     /// A request is pending, and would be answered.
     pub fn is_ready(&self) -> bool
         ensures { result ≡ (readiness_of self.now.host).ready }
     {
         self.host.ready()
+    }
+
+    /// A process may have a turn.
+    pub fn is_able(&self) -> bool
+        ensures { self.now.failed ≡ false → result ≡ is_some (next_turn self.now) }
+    {
+        !self.closed && self.events < self.limit && self.host.next(self.last).is_some()
+    }
+
+    /// The pending request waits for a turn.
+    pub fn waits(&self) -> bool
+        ensures { self.now.failed ≡ false → result ≡ (is_some (next_turn self.now) && not (readiness_of self.now.host).ready) }
+    {
+        self.is_able() && !self.host.ready()
     }
 
     /// The most events that the journal may have.
@@ -255,12 +397,12 @@ impl Held {
         &self.boot
     }
 
-    /// What was done, which replays to the host.
-    pub fn journal(&self) -> &Journal
-        ensures value { result.now ≡ self.now.journal }
+    /// The last reply was given, and the journal tells of these exchanges and of no others.
+    pub fn tells(&self, known: &Exchanges<J>) -> bool
+        ensures told { result ≡ true → self.now.failed ≡ false → Told self.now.journal known.now }
         ensures kept { IsKept self.now }
     {
-        &self.journal
+        self.over && self.said.agrees(known.transcript())
     }
 
     pub fn host(&self) -> &Host
@@ -269,10 +411,10 @@ impl Held {
         self.host.host()
     }
 
-    /// The host, where the rest is used no more.
-    pub fn into_host(self) -> Host
-        ensures { result ≡ self.host }
+    /// The host and the events that were noted, where the rest is used no more.
+    pub fn into_parts(self) -> (Host, Events)
+        ensures { result.0 ≡ self.host }
     {
-        self.host.into_host()
+        (self.host.into_host(), self.noted)
     }
 }

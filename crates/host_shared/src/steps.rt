@@ -6,20 +6,24 @@ ghost use Rattle.pt_model.specs.Hosting.{with_pending};
 ghost use Rattle.pt_kernel.specs.Hosts.{readiness_of, event_of, is_boot};
 ghost use Rattle.pt_kernel.specs.Bursts.{after};
 ghost use Rattle.pt_journal.specs.declared.entry.Entry.TheVariants as entry;
+ghost use Rattle.transcript.specs.declared.said.Said.TheVariants.{Asked, Answered};
 ghost use Rattle.host_shared.specs.Following.{Follows};
 
 use crate::held::Memory;
 use crate::roster::Roster;
-use lx_abi::{Reply, Request};
-use lx_copies::Copied;
+use crate::saying::{answer, ask};
+use lx_abi::{Event, Reply, Request};
 use pt_journal::Journal;
-use std::alloc::Global;
+use pt_kernel::Events;
+use transcript::{Naming, Record, Transcript};
 
 /// Puts a request, where none is pending.
-pub fn put(
-    alloc: Global,
+pub fn put<J: Naming>(
     host: &mut Roster,
     journal: &mut Journal,
+    book: &Record<J>,
+    said: &mut Transcript<J>,
+    mine: &mut Transcript<J>,
     request: Request,
 ) -> Result<(), Memory>
     requires free { host.old.hosting.pending ≡ None }
@@ -27,13 +31,13 @@ pub fn put(
     ensures host { OnOk result
         (host.new ≡ record host.old { hosting = with_pending host.old.hosting (Some request) }) }
     ensures journal { OnOk result (journal.new ≡ journal.old ++ entry.Ask request ∷ []) }
+    ensures said { OnOk result (said.new ≡ said.old ++ Asked request ∷ []) }
+    ensures mine { OnOk result (mine.new ≡ mine.old ++ Asked request ∷ []) }
 {
-    let Ok(kept) = request.copy(alloc) else {
-        return Err(Memory);
-    };
-    if journal.ask(kept).is_err() {
+    if ask(book, said, mine, &request).is_err() {
         return Err(Memory);
     }
+    journal.ask(&request);
     match host.ask(request) {
         Ok(()) => Ok(()),
         Err(_) => Err(Memory),
@@ -41,12 +45,19 @@ pub fn put(
 }
 
 /// A turn of the process that comes next after the last one.
-pub fn turn(host: &mut Roster, journal: &mut Journal, last: u32, pid: u32) -> Result<(), Memory>
+pub fn turn(
+    host: &mut Roster,
+    journal: &mut Journal,
+    noted: &mut Events,
+    last: u32,
+    pid: u32,
+) -> Result<(), Memory>
     requires { Follows host.old last pid }
     ensures host { OnOk result (host.new ≡ after host.old (event.Turn pid)) }
     ensures journal { OnOk result (journal.new ≡ journal.old ++ entry.Did (event.Turn pid) None ∷ []) }
 {
-    if journal.turn(pid).is_err() {
+    journal.turn(pid);
+    if noted.note(Event::Turn { pid }, 1).is_err() {
         return Err(Memory);
     }
     match host.turn(last, pid) {
@@ -57,21 +68,49 @@ pub fn turn(host: &mut Roster, journal: &mut Journal, last: u32, pid: u32) -> Re
 
 /// A Serve of a request that is ready.
 #[tactic(auto, using(crate::proofs::Growing::ready_answers))]
-pub fn serve(alloc: Global, host: &mut Roster, journal: &mut Journal) -> Result<Reply, Memory>
+fn served(host: &mut Roster, journal: &mut Journal) -> Result<Reply, Memory>
     requires ready { (readiness_of host.old).ready ≡ true }
     ensures host { OnOk result (host.new ≡ after host.old event.Serve) }
     ensures reply { IfOk result (λ r. (event_of host.old event.Serve).reply ≡ Some r) }
     ensures journal { IfOk result (λ r. journal.new ≡ journal.old ++ entry.Did event.Serve (Some r) ∷ []) }
 {
     match host.serve() {
-        Ok(Some(reply)) => match reply.copy(alloc) {
-            Ok(kept) => match journal.serve(kept) {
-                Ok(()) => Ok(reply),
-                Err(_) => Err(Memory),
-            },
-            Err(_) => Err(Memory),
-        },
+        Ok(Some(reply)) => {
+            journal.serve(&reply);
+            Ok(reply)
+        }
         Ok(None) => unreachable!(),
         Err(_) => Err(Memory),
+    }
+}
+
+/// The same, and its reply is said.
+pub fn serve<J: Naming>(
+    host: &mut Roster,
+    journal: &mut Journal,
+    noted: &mut Events,
+    book: &Record<J>,
+    said: &mut Transcript<J>,
+    mine: &mut Transcript<J>,
+) -> Result<Reply, Memory>
+    requires ready { (readiness_of host.old).ready ≡ true }
+    ensures host { OnOk result (host.new ≡ after host.old event.Serve) }
+    ensures reply { IfOk result (λ r. (event_of host.old event.Serve).reply ≡ Some r) }
+    ensures journal { IfOk result (λ r. journal.new ≡ journal.old ++ entry.Did event.Serve (Some r) ∷ []) }
+    ensures said { IfOk result (λ r. said.new ≡ said.old ++ Answered r ∷ []) }
+    ensures mine { IfOk result (λ r. mine.new ≡ mine.old ++ Answered r ∷ []) }
+{
+    if noted.note(Event::Serve, 1).is_err() {
+        return Err(Memory);
+    }
+    match served(host, journal) {
+        Ok(reply) => match answer(book, said, mine, &reply) {
+            Ok(()) => Ok(reply),
+            Err(Memory) => {
+                drop(reply);
+                Err(Memory)
+            }
+        },
+        Err(Memory) => Err(Memory),
     }
 }
