@@ -1,7 +1,7 @@
 -- From the journal under the lock to what a run is.
 use Rattle.std.specs.Prelude.{IfOk, IfErr, OnOk}
 use Rattle.std.proofs.Math.Bridge.{le_prop}
-use Rattle.std.proofs.Common.{Result, Err, ◌≡◌, ℕ, ◌≤◌, ◌<◌, Bool, true, List, [], ◌∷◌, ◌++◌, length, map, Some, Ok, refl, sym, ap, subst, ◌∙◌, inr, append-nil}
+use Rattle.std.proofs.Common.{◌⊎◌, inl, Option, None, false, Result, Err, ◌≡◌, ℕ, ◌≤◌, ◌<◌, Bool, true, List, [], ◌∷◌, ◌++◌, length, map, Some, Ok, refl, sym, ap, subst, ◌∙◌, inr, append-nil}
 use Rattle.lx_abi.specs.declared.boot.Boot.{Boot}
 use Rattle.lx_abi.specs.declared.outcome.Outcome.{Outcome}
 use Rattle.lx_abi.specs.declared.ptrace.Reply.{Reply}
@@ -30,7 +30,11 @@ use Rattle.pt_journal.specs.Telling.{Asks, AsksAtEach, JournalsTell, JournalRun}
 use Rattle.pt_journal.specs.declared.entry.Entry.{Entry}
 use Rattle.pt_model.specs.Calls.{IsOwn}
 use Rattle.pt_model.specs.Hosting.{Hosting, first_hosting}
-use Rattle.host_shared.specs.HeldStates.{HeldState, Kept, first_of}
+use Rattle.host_shared.specs.HeldStates.{HeldState, Kept, first_of, host_by, InCycle, IsCut, IsStuck}
+use Rattle.host_shared.specs.declared.cut.Cut.{Cut}
+use Rattle.host_shared.specs.declared.cut.Cut.TheVariants.{Limit, Nobody, Gate}
+use Rattle.pt_journal.specs.Journals.{last_turn}
+use Rattle.pt_kernel.specs.Hosts.{HostState, Linux_host}
 use Rattle.tr_core.specs.Laws.{TextsAreWhole}
 use Rattle.tr_core.specs.Settings.{options_by}
 use Rattle.tr_core.specs.declared.settings.Options.{Options}
@@ -45,7 +49,7 @@ use Rattle.host_link.specs.declared.fault.LinkFault.{LinkFault}
 use Rattle.host_link.specs.declared.fault.LinkFault.TheVariants as cause
 use Rattle.tr_core.specs.declared.tracing.TraceFault.TheVariants.{Inadmissible, Memory}
 use Rattle.trace_run.specs.declared.running.RunFault.TheVariants.{Link, Trace, Output}
-use Rattle.trace_threads.specs.ThreadRuns.{Faults, fault_by, IsFaultOf, IsFinished, IsTraced, ThreadRun}
+use Rattle.trace_threads.specs.ThreadRuns.{IsCutBy, Faults, fault_by, IsFaultOf, IsFinished, IsTraced, ThreadRun}
 use Rattle.trace_threads.specs.declared.fault.ThreadsFault.{ThreadsFault}
 
 module _ {S B : Type 0} (m : Machine S B) (outcome : S → Outcome) where
@@ -133,18 +137,39 @@ pub record Cited : Type 0 where
   pub told : IsTold linux
 
 -- what is under the lock, of a boot that is this one
-pub record Lies_under (boot : Boot) (limit : ℕ) (given : List (Request × Reply)) (held : HeldState) : Type 0 where
+pub record Lies_under (boot : Boot) (limit : ℕ) (shuts : Bool) (ended : Ended) (given : List (Request × Reply)) (held : HeldState) : Type 0 where
+  pub cut : ended ≡ OutOfTurns → IsCutBy shuts held.cut
   pub kept : Kept held
   pub boot_is : held.boot ≡ boot
   pub limit_is : held.limit ≡ limit
   pub told : Told held.journal given
 
-pub thread_run : Cited → (boot : Boot) (limit : ℕ) (script : List Rule) (o : Options) (given : List (Request × Reply)) (run : Run) (held : HeldState) → Lies_under boot limit given held
+-- the host under the lock is that one
+same_host : (h : HostState) (follow : Bool) → h.follow ≡ follow → h.failed ≡ false → host_by h.hosting follow ≡ h
+same_host h follow e f = ap (λ (b : Bool). host_by h.hosting b) (sym e) ∙ ap (λ (b : Bool). record { hosting = h.hosting; follow = h.follow; failed = b }) (sym f)
+
+-- why it is out of turns
+reason : (h : HeldState) (limit : ℕ) (shuts : Bool) (host : HostState) (c : Option Cut) → h.limit ≡ limit → host ≡ h.host → IsCut h c → IsCutBy shuts c
+    → (length (events_of h.journal) ≡ limit) ⊎ (IsStuck host (last_turn h.journal) ⊎ (shuts ≡ true))
+reason h limit shuts host None l e so by = absurd by
+reason h limit shuts host (Some Limit) l e so by = inl (so ∙ l)
+reason h limit shuts host (Some Nobody) l e so by = inr (inl (subst (λ x. IsStuck x (last_turn h.journal)) (sym e) so))
+reason h limit shuts host (Some Gate) l e so by = inr (inr by)
+
+pub thread_run : Cited → (boot : Boot) (limit : ℕ) (script : List Rule) (o : Options) (shuts : Bool) (given : List (Request × Reply)) (run : Run) (held : HeldState) → Lies_under boot limit shuts run.ended given held
     → IsTraced script (following o boot.follow) run.ended given run.trace
     → run.outcome ≡ outcome_in held.host.hosting.running.shared → run.turns ≡ held.host.hosting.turns
-    → ThreadRun boot limit script o run
-thread_run cited boot limit script o given run held lies traced left turned = record {
-  journal = events_of held.journal;
+    → ThreadRun boot limit script o shuts run
+thread_run cited boot limit script o shuts given run held lies traced left turned = record {
+  entries = held.journal;
+  hosting = held.host.hosting;
+  given = given;
+  replayed = subst (λ (x : Boot). Replays linux outcome_in x.follow (first_of x) held.journal held.host.hosting) lies.boot_is lies.kept.replayed;
+  cycled = subst (λ (x : Boot). InCycle x.follow (first_of x) 0 held.journal) lies.boot_is lies.kept.cycled;
+  told = lies.told;
+  asked = traced.asked;
+  cut = λ out. reason held limit shuts (host_by held.host.hosting boot.follow) held.cut lies.limit_is
+      (same_host held.host boot.follow (lies.kept.follow ∙ ap (λ (x : Boot). x.follow) lies.boot_is) lies.kept.whole) lies.kept.cut_so (lies.cut out);
   few = subst (λ n. length (events_of held.journal) ≤ n) lies.limit_is lies.kept.few;
   run_of =
       told_run cited.journals cited.transparent cited.texts linux cited.machine cited.told outcome_in boot.follow (following o boot.follow) (choice_of script)
@@ -153,12 +178,13 @@ thread_run cited boot limit script o given run held lies traced left turned = re
       lies.told traced.asked (λ events own. traced.tells boot events own) left turned;
 }
 
-pub finished : Cited → (boot kept : Boot) (limit : ℕ) (script : List Rule) (o : Options) (held : HeldState) (given : List (Request × Reply)) (trace : List ℕ) (ended : Result Ended RunFault)
+pub finished : Cited → (boot kept : Boot) (limit : ℕ) (script : List Rule) (o : Options) (shuts : Bool) (held : HeldState) (given : List (Request × Reply)) (trace : List ℕ) (ended : Result Ended RunFault)
     → kept ≡ boot → IfOk ended (λ e. IsTraced script (following o boot.follow) e given trace)
-    → (result : Result Run ThreadsFault) → IfOk result (IsFinished kept limit held given trace ended) → IfOk result (λ run. ThreadRun boot limit script o run)
-finished cited boot kept limit script o held given trace ended same traced (Ok run) f =
-    thread_run cited boot limit script o given run held
+    → (result : Result Run ThreadsFault) → IfOk result (IsFinished kept limit shuts held given trace ended) → IfOk result (λ run. ThreadRun boot limit script o shuts run)
+finished cited boot kept limit script o shuts held given trace ended same traced (Ok run) f =
+    thread_run cited boot limit script o shuts given run held
     (record {
+      cut = f.cut;
       kept = f.kept;
       boot_is = f.boot_is ∙ same;
       limit_is = f.limit_is;
@@ -167,7 +193,7 @@ finished cited boot kept limit script o held given trace ended same traced (Ok r
     (subst (λ t. IsTraced script (following o boot.follow) run.ended given t) (sym f.trace_is)
     (subst (λ e. IfOk e (λ x. IsTraced script (following o boot.follow) x given trace)) f.ended_is traced))
     f.left f.turned
-finished cited boot kept limit script o held given trace ended same traced (Err fault) f = tt
+finished cited boot kept limit script o shuts held given trace ended same traced (Err fault) f = tt
 
 -- a fault of the copy is the boot's
 pub same_faults : (boot kept : Boot) → kept ≡ boot → (result : Result Run ThreadsFault) → IfErr result (λ fault. Faults kept fault) → IfErr result (λ fault. Faults boot fault)
@@ -190,12 +216,13 @@ run_fault boot (Trace Memory) = λ other. absurd (other refl)
 run_fault boot Output = λ other. absurd (other refl)
 
 -- how the end is put together
-pub record Left (boot : Boot) (limit : ℕ) (held : HeldState) (given : List (Request × Reply)) (left : Result Outcome ThreadsFault) : Type 0 where
+pub record Left (boot : Boot) (limit : ℕ) (shuts : Bool) (held : HeldState) (given : List (Request × Reply)) (ended : Result Ended RunFault) (left : Result Outcome ThreadsFault) : Type 0 where
   pub outcome : IfOk left (λ outcome. outcome ≡ outcome_in held.host.hosting.running.shared)
   pub kept : OnOk left (Kept held)
   pub boot_is : OnOk left (held.boot ≡ boot)
   pub limit_is : OnOk left (held.limit ≡ limit)
   pub told : OnOk left (Told held.journal given)
+  pub cut : OnOk left (ended ≡ Ok OutOfTurns → IsCutBy shuts held.cut)
   pub fault : IfErr left (λ fault. Faults boot fault)
 
 pub record Put_together (ended : Result Ended RunFault) (left : Result Outcome ThreadsFault) (trace turns : List ℕ) (result : Result Run ThreadsFault) : Type 0 where
@@ -205,11 +232,11 @@ pub record Put_together (ended : Result Ended RunFault) (left : Result Outcome T
   pub turns_are : IfOk result (λ run. run.turns ≡ turns)
   pub fault : IfErr result (IsFaultOf ended left)
 
-pub is_finished : (boot : Boot) (limit : ℕ) (held : HeldState) (given : List (Request × Reply)) (trace turns : List ℕ) (ended : Result Ended RunFault) (left : Result Outcome ThreadsFault)
-    → turns ≡ held.host.hosting.turns → Left boot limit held given left → (result : Result Run ThreadsFault) → Put_together ended left trace turns result
-    → IfOk result (IsFinished boot limit held given trace ended)
-is_finished boot limit held given trace turns ended left same l (Ok run) p =
-    let at : Left boot limit held given (Ok run.outcome) = subst (λ x. Left boot limit held given x) p.outcome l in
+pub is_finished : (boot : Boot) (limit : ℕ) (shuts : Bool) (held : HeldState) (given : List (Request × Reply)) (trace turns : List ℕ) (ended : Result Ended RunFault) (left : Result Outcome ThreadsFault)
+    → turns ≡ held.host.hosting.turns → Left boot limit shuts held given ended left → (result : Result Run ThreadsFault) → Put_together ended left trace turns result
+    → IfOk result (IsFinished boot limit shuts held given trace ended)
+is_finished boot limit shuts held given trace turns ended left same l (Ok run) p =
+    let at : Left boot limit shuts held given ended (Ok run.outcome) = subst (λ x. Left boot limit shuts held given ended x) p.outcome l in
     record {
       ended_is = p.ended_is;
       trace_is = p.trace_is;
@@ -219,15 +246,16 @@ is_finished boot limit held given trace turns ended left same l (Ok run) p =
       boot_is = at.boot_is;
       limit_is = at.limit_is;
       told = at.told;
+      cut = λ out. at.cut (p.ended_is ∙ ap (λ (e : Ended). Ok e) out);
     }
-is_finished boot limit held given trace turns ended left same l (Err fault) p = tt
+is_finished boot limit shuts held given trace turns ended left same l (Err fault) p = tt
 
-pub is_a_fault : (boot : Boot) (limit : ℕ) (held : HeldState) (given : List (Request × Reply)) (trace turns : List ℕ) (ended : Result Ended RunFault) (left : Result Outcome ThreadsFault)
-    → Left boot limit held given left → (result : Result Run ThreadsFault) → Put_together ended left trace turns result
+pub is_a_fault : (boot : Boot) (limit : ℕ) (shuts : Bool) (held : HeldState) (given : List (Request × Reply)) (trace turns : List ℕ) (ended : Result Ended RunFault) (left : Result Outcome ThreadsFault)
+    → Left boot limit shuts held given ended left → (result : Result Run ThreadsFault) → Put_together ended left trace turns result
     → IfErr result (λ fault. Faults boot fault)
-is_a_fault boot limit held given trace turns ended left l (Ok run) p = tt
-is_a_fault boot limit held given trace turns (Ok e) left l (Err fault) p = (subst (λ x. Left boot limit held given x) p.fault l).fault
-is_a_fault boot limit held given trace turns (Err f) left l (Err fault) p = subst (λ x. Faults boot x) (sym p.fault) (run_fault boot f)
+is_a_fault boot limit shuts held given trace turns ended left l (Ok run) p = tt
+is_a_fault boot limit shuts held given trace turns (Ok e) left l (Err fault) p = (subst (λ x. Left boot limit shuts held given (Ok e) x) p.fault l).fault
+is_a_fault boot limit shuts held given trace turns (Err f) left l (Err fault) p = subst (λ x. Faults boot x) (sym p.fault) (run_fault boot f)
 
 pub on_ok : {A E P : Type 0} (result : Result A E) → P → OnOk result P
 on_ok (Ok x) p = p

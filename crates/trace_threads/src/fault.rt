@@ -1,6 +1,7 @@
 //! Why a run on threads gives none.
 
 ghost use Rattle.std.specs.Prelude.{◌≡◌};
+ghost use Rattle.trace_threads.specs.Idle.{NoneIsIdle};
 ghost use Rattle.trace_threads.specs.ThreadRuns.{fault_by};
 
 use host_link::LinkFault;
@@ -32,3 +33,8 @@ pub fn threads_fault(fault: RunFault) -> ThreadsFault
         RunFault::Link(_) | RunFault::Trace(_) => ThreadsFault::Unlike,
     }
 }
+
+/// A run that is out of turns, by a gate that is never shut, has made an event.
+pub fn none_is_idle()
+    ensures { NoneIsIdle }
+{}

@@ -1,50 +1,70 @@
 //! A run's end, by the journal of its host.
 
-ghost use Rattle.std.specs.Prelude.{◌≡◌, true, IfOk, IfErr, OnOk, Ok};
+ghost use Rattle.std.specs.Prelude.{◌≡◌, true, false, IfOk, IfErr, OnOk, Ok};
 ghost use Rattle.lx_kernel.specs.Outcomes.{outcome_in};
 ghost use Rattle.pt_journal.specs.Told.{Told};
 ghost use Rattle.host_shared.specs.HeldStates.{IsKept, Kept};
-ghost use Rattle.trace_threads.specs.ThreadRuns.{Faults, IsFaultOf, IsFinished};
+ghost use Rattle.trace_run.specs.declared.running.Ended.TheVariants.{OutOfTurns};
+ghost use Rattle.trace_threads.specs.ThreadRuns.{Faults, IsCutBy, IsFaultOf, IsFinished};
 
 use crate::fault::{ThreadsFault, threads_fault};
+use crate::noted::Noted;
 use crate::traced::Traced;
 use containers::Bytes;
-use host_shared::Held;
-use lx_abi::{Boot, Outcome, Reply, Request};
+use host_shared::{Cut, Exchanges, Held};
+use lx_abi::{Boot, Outcome};
 use lx_boot::BootFault;
 use lx_copies::Same;
 use trace_run::local::Run;
 use trace_run::{Ended, RunFault};
+use transcript::Naming;
 use turn_rows::Turns;
 
-/// What is under the lock has this boot, this limit, and these requests and replies.
-fn is_told(boot: &Boot, limit: u64, held: &Held, given: &[(Request, Reply)]) -> bool
+/// What is under the lock has this boot, this limit, and these exchanges.
+fn is_told<J: Naming>(boot: &Boot, limit: u64, held: &Held<J>, known: &Exchanges<J>) -> bool
     ensures boot { result ≡ true → held.now.boot ≡ boot.now }
     ensures limit { result ≡ true → held.now.limit ≡ limit }
-    ensures told { result ≡ true → Told held.now.journal given.now }
+    ensures told { result ≡ true → held.now.failed ≡ false → Told held.now.journal known.now }
     ensures kept { result ≡ true → IsKept held.now }
 {
-    held.limit() == limit && held.boot().same(boot) && held.journal().tells(given)
+    held.limit() == limit && held.boot().same(boot) && held.tells(known)
 }
 
-/// What the host leaves, where its journal tells of these requests and replies.
-fn left_by(
+/// A run that is out of turns was cut, by a gate only where that may be shut.
+fn is_cut(ended: &Result<Ended, RunFault>, cut: Option<Cut>, shuts: bool) -> bool
+    ensures { result ≡ true → ended.now ≡ Ok OutOfTurns → IsCutBy shuts cut }
+{
+    match ended {
+        Ok(Ended::OutOfTurns) => match cut {
+            Some(Cut::Limit) | Some(Cut::Nobody) => true,
+            Some(Cut::Gate) => shuts,
+            None => false,
+        },
+        _ => true,
+    }
+}
+
+/// What the host leaves, where its journal tells of these exchanges.
+fn left_by<J: Naming>(
     boot: &Boot,
     limit: u64,
-    held: &Held,
-    given: &[(Request, Reply)],
+    shuts: bool,
+    held: &Held<J>,
+    known: &Exchanges<J>,
+    ended: &Result<Ended, RunFault>,
 ) -> Result<Outcome, ThreadsFault>
     ensures outcome { IfOk result (λ outcome. outcome ≡ outcome_in held.now.host.hosting.running.shared) }
     ensures kept { OnOk result (Kept held.now) }
     ensures boot { OnOk result (held.now.boot ≡ boot.now) }
     ensures limit { OnOk result (held.now.limit ≡ limit) }
-    ensures told { OnOk result (Told held.now.journal given.now) }
+    ensures told { OnOk result (Told held.now.journal known.now) }
+    ensures cut { OnOk result (ended.now ≡ Ok OutOfTurns → IsCutBy shuts held.now.cut) }
     ensures fault { IfErr result (λ fault. Faults boot.now fault) }
 {
     if held.has_failed() {
         return Err(ThreadsFault::Boot(BootFault::Memory));
     }
-    if !is_told(boot, limit, held, given) {
+    if !is_told(boot, limit, held, known) || !is_cut(ended, held.cut(), shuts) {
         return Err(ThreadsFault::Unlike);
     }
     match held.host().outcome() {
@@ -78,19 +98,30 @@ fn run_of(
     }
 }
 
-/// What a run leaves, where the journal under the lock tells of it.
-pub fn finish(boot: &Boot, limit: u64, held: Held, traced: Traced) -> Result<Run, ThreadsFault>
-    ensures run { IfOk result (IsFinished boot.now limit held traced.given.items traced.trace traced.ended) }
+/// What a run leaves, where the journal under the lock tells of it; its events and why it was cut are noted.
+pub fn finish<J: Naming>(
+    boot: &Boot,
+    limit: u64,
+    shuts: bool,
+    held: Held<J>,
+    traced: Traced<J>,
+    noted: &mut Noted,
+) -> Result<Run, ThreadsFault>
+    ensures run { IfOk result (IsFinished boot.now limit shuts held traced.known traced.trace traced.ended) }
     ensures fault { IfErr result (λ fault. Faults boot.now fault) }
 {
     let Traced {
         started,
         ended,
-        given,
+        known,
         trace,
     } = traced;
-    let left = left_by(boot, limit, &held, given.as_slice());
-    let turns = held.into_host().into_turns();
+    let left = left_by(boot, limit, shuts, &held, &known, &ended);
+    drop(known);
+    noted.cut = held.cut();
+    let (host, events) = held.into_parts();
+    noted.events = events;
+    let turns = host.into_turns();
     if !started {
         return Err(ThreadsFault::Start);
     }

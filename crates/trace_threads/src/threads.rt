@@ -3,13 +3,14 @@
 ghost use Rattle.std.specs.Prelude.{◌≡◌, ◌≤◌, ◌^◌, Some, None, Err, IfOk, IfErr, OnOk};
 ghost use Rattle.lx_boot.specs.Boots.{fault_of};
 ghost use Rattle.lx_boot.specs.declared.boots.BootFault.{BootFault};
+ghost use Rattle.transcript.specs.Books.{book_of};
 ghost use Rattle.trace_threads.specs.ThreadRuns.{Faults, ThreadRun};
 
-use crate::events::note_journal;
 use crate::fault::ThreadsFault;
 use crate::finish::finish;
+use crate::noted::Noted;
 use crate::traced::trace_on_threads;
-use host_shared::{Gate, Held};
+use host_shared::{Gate, Held, SharedHost};
 use lx_abi::{Boot, Script};
 use lx_boot::BootFault;
 use lx_copies::Copied;
@@ -20,35 +21,34 @@ use pt_kernel::Events;
 use pt_kernel::laws::linux_is_told;
 use pt_model::laws::tracing_is_transparent;
 use std::alloc::Global;
-use std::sync::{Mutex, Wait};
+use std::marker::Brand;
+use std::mem;
+use std::sync::Wait;
 use std::thread::Threads;
 use tr_core::Options;
 use tr_core::laws::texts_are_whole;
 use trace_run::local::Run;
+use transcript::{Naming, Opened};
 
-/// Boots a guest and traces it, its turns made by so many threads, one under each holding of a lock; a worker asks the
-/// gate before each. The boot's follow counts, not that of the options. At most `limit` turns and requests are made.
-/// The events of its journal are noted.
-pub fn run_threads_noting<G: Gate, R: Threads + Wait + Sync>(
+/// The run, over a record of what is said.
+fn run_in_record<J: Naming + Send + Sync, G: Gate, R: Threads + Wait + Sync>(
     rt: &R,
     alloc: Global,
+    opened: Opened,
     boot: Boot,
     workers: u8,
     limit: u64,
     script: Script,
     options: Options,
     gate: &G,
-    noted: &mut Events,
+    noted: &mut Noted,
 ) -> Result<Run, ThreadsFault>
-    requires some_workers { 1 ≤ workers }
-    requires few_workers { workers ≤ 8 }
+    requires book { book_of opened ≡ J.book }
     requires some { 1 ≤ limit }
     requires most { limit ≤ 2 ^ 39 }
-    ensures run { IfOk result (λ run. ThreadRun boot limit script options run) }
+    ensures run { IfOk result (λ run. ThreadRun boot limit script options (G.shuts gate.now) run) }
     ensures accepted { OnOk result (fault_of boot ≡ None) }
     ensures fault { IfErr result (λ fault. Faults boot fault) }
-
-    // A boot with a fault is refused with it, whatever the memory.
     ensures refused { (e : BootFault) → fault_of boot ≡ Some e → result ≡ Err (ThreadsFault.Boot e) }
 {
     journals_tell::<Shared, UserState>();
@@ -59,36 +59,80 @@ pub fn run_threads_noting<G: Gate, R: Threads + Wait + Sync>(
     let mut options = options;
     options.follow = boot.follow;
     let copy = boot.copy(alloc);
-    let held = match Held::new(alloc, boot, limit) {
-        Ok(held) => Mutex::new(held),
+    let (book, said) = opened.named::<J>();
+    let mine = said.again();
+    let events = mem::replace(&mut noted.events, Events::none());
+    let shared = match Held::new(alloc, boot, limit, said, events) {
+        Ok(held) => SharedHost::new(held, book),
         Err(fault) => {
             drop(copy);
+            drop(book);
+            drop(mine);
             drop(script);
             drop(options);
             return Err(ThreadsFault::Boot(fault));
         }
     };
     let Ok(boot) = copy else {
-        drop(held);
+        drop(shared);
+        drop(mine);
         drop(script);
         drop(options);
         return Err(ThreadsFault::Boot(BootFault::Memory));
     };
-    let traced = trace_on_threads(rt, alloc, &held, workers, script, options, gate);
-    let held = held.into_inner();
-    if note_journal(held.journal(), noted).is_err() {
-        drop(held);
-        drop(traced);
-        drop(boot);
-        return Err(ThreadsFault::Boot(BootFault::Memory));
-    }
-    let result = finish(&boot, limit, held, traced);
+    let traced = trace_on_threads(rt, alloc, &shared, mine, workers, script, options, gate);
+    let result = finish(
+        &boot,
+        limit,
+        gate.may_shut(),
+        shared.into_held(),
+        traced,
+        noted,
+    );
     drop(boot);
     result
 }
 
 /// Boots a guest and traces it, its turns made by so many threads, one under each holding of a lock; a worker asks the
 /// gate before each. The boot's follow counts, not that of the options. At most `limit` turns and requests are made.
+/// Its events are noted, where they are asked for, and why it is out of turns.
+pub fn run_threads_noting<G: Gate, R: Threads + Wait + Sync>(
+    rt: &R,
+    alloc: Global,
+    boot: Boot,
+    workers: u8,
+    limit: u64,
+    script: Script,
+    options: Options,
+    gate: &G,
+    noted: &mut Noted,
+) -> Result<Run, ThreadsFault>
+    requires some_workers { 1 ≤ workers }
+    requires few_workers { workers ≤ 8 }
+    requires some { 1 ≤ limit }
+    requires most { limit ≤ 2 ^ 39 }
+    ensures run { IfOk result (λ run. ThreadRun boot limit script options (G.shuts gate.now) run) }
+    ensures accepted { OnOk result (fault_of boot ≡ None) }
+    ensures fault { IfErr result (λ fault. Faults boot fault) }
+
+    // A boot with a fault is refused with it, whatever the memory.
+    ensures refused { (e : BootFault) → fault_of boot ≡ Some e → result ≡ Err (ThreadsFault.Boot e) }
+{
+    run_in_record::<Brand, G, R>(
+        rt,
+        alloc,
+        Opened::new(),
+        boot,
+        workers,
+        limit,
+        script,
+        options,
+        gate,
+        noted,
+    )
+}
+
+/// The same, where nothing is noted.
 pub fn run_threads<G: Gate, R: Threads + Wait + Sync>(
     rt: &R,
     alloc: Global,
@@ -103,22 +147,15 @@ pub fn run_threads<G: Gate, R: Threads + Wait + Sync>(
     requires few_workers { workers ≤ 8 }
     requires some { 1 ≤ limit }
     requires most { limit ≤ 2 ^ 39 }
-    ensures run { IfOk result (λ run. ThreadRun boot limit script options run) }
+    ensures run { IfOk result (λ run. ThreadRun boot limit script options (G.shuts gate.now) run) }
     ensures accepted { OnOk result (fault_of boot ≡ None) }
     ensures fault { IfErr result (λ fault. Faults boot fault) }
 
     // A boot with a fault is refused with it, whatever the memory.
     ensures refused { (e : BootFault) → fault_of boot ≡ Some e → result ≡ Err (ThreadsFault.Boot e) }
 {
+    let mut noted = Noted::by(Events::none());
     run_threads_noting(
-        rt,
-        alloc,
-        boot,
-        workers,
-        limit,
-        script,
-        options,
-        gate,
-        &mut Events::none(),
+        rt, alloc, boot, workers, limit, script, options, gate, &mut noted,
     )
 }

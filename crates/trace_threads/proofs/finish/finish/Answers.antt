@@ -1,22 +1,19 @@
-use Rattle.std.proofs.Common.{List, ap, subst, ◌∙◌}
-use Rattle.std.specs.Prelude.{OnOk}
-use Rattle.lx_abi.specs.declared.ptrace.Reply.{Reply}
-use Rattle.lx_abi.specs.declared.ptrace.Request.{Request}
-use Rattle.pt_journal.specs.Told.{Told}
+use Rattle.std.proofs.Common.{ap, ◌∙◌}
 use Rattle.pt_kernel.specs.Hosts.{HostState}
 use Rattle.trace_threads.proofs.Journalled.{is_finished, is_a_fault}
 use Rattle.trace_threads.proofs.finish.finish.Goals as goal
 
 pub returns-clause-run : goal.returns-clause-run
-returns-clause-run c =
-    is_finished c.args.boot.now c.args.limit c.args.held c.args.traced.given.items c.args.traced.trace c.into_turns-turns.result c.args.traced.ended c.left_by-left.result
-    (c.into_turns-turns.ensures ∙ ap (λ (h : HostState). h.hosting.turns) c.into_host.ensures)
+returns-clause-run g c =
+    is_finished c.args.boot.now c.args.limit c.args.shuts c.args.held c.args.traced.known c.args.traced.trace c.into_turns-turns.result c.args.traced.ended c.left_by-left.result
+    (c.into_turns-turns.ensures ∙ ap (λ (h : HostState). h.hosting.turns) c.into_parts.ensures)
     (record {
       outcome = c.left_by-left.ensures.outcome;
       kept = c.left_by-left.ensures.kept;
       boot_is = c.left_by-left.ensures.boot;
       limit_is = c.left_by-left.ensures.limit;
-      told = subst (λ (ys : List (Request × Reply)). OnOk c.left_by-left.result (Told c.args.held.journal ys)) c.as_slice.ensures.value c.left_by-left.ensures.told;
+      told = c.left_by-left.ensures.told;
+      cut = c.left_by-left.ensures.cut;
       fault = c.left_by-left.ensures.fault;
     })
     c.run_of.result
@@ -29,14 +26,15 @@ returns-clause-run c =
     })
 
 pub returns-clause-fault : goal.returns-clause-fault
-returns-clause-fault c =
-    is_a_fault c.args.boot.now c.args.limit c.args.held c.args.traced.given.items c.args.traced.trace c.into_turns-turns.result c.args.traced.ended c.left_by-left.result
+returns-clause-fault g c =
+    is_a_fault c.args.boot.now c.args.limit c.args.shuts c.args.held c.args.traced.known c.args.traced.trace c.into_turns-turns.result c.args.traced.ended c.left_by-left.result
     (record {
       outcome = c.left_by-left.ensures.outcome;
       kept = c.left_by-left.ensures.kept;
       boot_is = c.left_by-left.ensures.boot;
       limit_is = c.left_by-left.ensures.limit;
-      told = subst (λ (ys : List (Request × Reply)). OnOk c.left_by-left.result (Told c.args.held.journal ys)) c.as_slice.ensures.value c.left_by-left.ensures.told;
+      told = c.left_by-left.ensures.told;
+      cut = c.left_by-left.ensures.cut;
       fault = c.left_by-left.ensures.fault;
     })
     c.run_of.result
