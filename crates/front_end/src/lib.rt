@@ -46,4 +46,4 @@ pub use reporting::{print_help, report};
 pub use shown::Shown;
 pub use start::{Begun, begin};
 pub use turns::read_turns;
-pub use waits::explain_turns;
+pub use waits::{explain_limit, explain_turns, explain_waits};

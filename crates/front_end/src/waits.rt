@@ -26,7 +26,7 @@ fn explain_wait(alloc: Global, kernel: &Kernel, pid: u32) -> Result<Option<Strin
 }
 
 /// Which processes wait, and in which calls, or that they are stopped.
-fn explain_waits(alloc: Global, kernel: &Kernel) -> Result<String, AllocError> {
+pub fn explain_waits(alloc: Global, kernel: &Kernel) -> Result<String, AllocError> {
     let mut text = format!(in alloc; "every process waits:")?;
     let mut mark = "";
     for pid in 1..kernel.next_pid() {
@@ -40,7 +40,7 @@ fn explain_waits(alloc: Global, kernel: &Kernel) -> Result<String, AllocError> {
 }
 
 /// That the run was cut at the limit on what is counted, its events or its turns.
-fn explain_limit(alloc: Global, limit: u64, counted: &str) -> Result<String, AllocError> {
+pub fn explain_limit(alloc: Global, limit: u64, counted: &str) -> Result<String, AllocError> {
     format!(in alloc; "the limit of {limit} {counted} was reached; --limit N sets another")
 }
 

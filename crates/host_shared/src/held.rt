@@ -101,7 +101,16 @@ impl<J: Naming> Held<J> {
         ensures refused { (e : BootFault) → fault_of boot ≡ Some e → result ≡ Err e }
     {
         let kept = boot.copy(alloc);
-        let host = Host::boot(alloc, boot)?;
+        let host = match Host::boot(alloc, boot) {
+            Ok(host) => host,
+            Err(fault) => {
+                // An implicit drop of these takes the prover many minutes.
+                drop(kept);
+                drop(said);
+                drop(noted);
+                return Err(fault);
+            }
+        };
         match kept {
             Ok(boot) => Ok(Held {
                 boot,
@@ -119,7 +128,6 @@ impl<J: Naming> Held<J> {
                 over: false,
             }),
             Err(_) => {
-                // An implicit drop of these takes the prover many minutes.
                 drop(said);
                 drop(noted);
                 drop(host);
@@ -374,7 +382,10 @@ impl<J: Naming> Held<J> {
     pub fn is_able(&self) -> bool
         ensures { self.now.failed ≡ false → result ≡ is_some (next_turn self.now) }
     {
-        !self.closed && self.events < self.limit && self.host.next(self.last).is_some()
+        if self.closed || self.limit <= self.events {
+            return false;
+        }
+        self.host.next(self.last).is_some()
     }
 
     /// The pending request waits for a turn.

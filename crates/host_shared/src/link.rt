@@ -1,6 +1,6 @@
 //! A link to a host that other threads turn.
 
-ghost use Rattle.std.specs.Prelude.{◌≡◌, ◌++◌, ◌∷◌, [], ◌≤◌, ◌<◌, ◌^◌, false, IfOk, IfErr, OnErr, length};
+ghost use Rattle.std.specs.Prelude.{◌≡◌, ◌++◌, ◌∷◌, [], ◌≤◌, ◌<◌, ◌^◌, true, false, IfOk, IfErr, OnErr, length};
 ghost use Rattle.pt_kernel.specs.Hosts.{is_boot};
 ghost use Rattle.transcript.specs.declared.said.Said.TheVariants.{Asked, Answered};
 ghost use Rattle.host_shared.specs.Sharing.{Puts, PutSays, Tries, TrySays, IsSharedFault};

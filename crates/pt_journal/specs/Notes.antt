@@ -6,10 +6,11 @@ use Rattle.pt_journal.specs.declared.entry.Entry.TheVariants.{Ask, Did}
 use Rattle.pt_journal.specs.declared.note.Note.{Note}
 use Rattle.pt_journal.specs.declared.note.Note.TheVariants.{Asked, Served, Turned}
 
-abbrev pub entry_of : Note → Entry
-entry_of (Asked request) = Ask request.value
-entry_of (Served reply) = Did Serve (Some reply.value)
-entry_of (Turned pid) = Did (Turn pid) None
+abbrev pub noted_by : Note → List Entry
+noted_by (Asked requests) = map (λ q. Ask q) requests.items
+noted_by (Served replies) = map (λ r. Did Serve (Some r)) replies.items
+noted_by (Turned pid) = Did (Turn pid) None ∷ []
 
 abbrev pub entries_of : List Note → List Entry
-entries_of notes = map entry_of notes
+entries_of [] = []
+entries_of (x ∷ xs) = noted_by x ++ entries_of xs

@@ -3,13 +3,12 @@
 ghost use Rattle.std.specs.Prelude.{◌≡◌, ◌++◌, [], ◌∷◌, None, Some};
 ghost use Rattle.lx_abi.specs.declared.schedule.Event.TheVariants as event;
 ghost use Rattle.pt_journal.specs.declared.entry.Entry.TheVariants as entry;
-ghost use Rattle.pt_journal.specs.Notes.{entry_of};
+ghost use Rattle.pt_journal.specs.Notes.{noted_by};
 
 use crate::note::Note;
 use history::History;
 use lx_abi::{Reply, Request};
 use std::marker::Model;
-use std::snapshot::Snapshot;
 
 /// What was done to a host, which contracts see as the list of its entries. Proofs alone read it: it takes no memory.
 #[derive(Drop)]
@@ -37,7 +36,7 @@ impl Journal {
     }
 
     fn note(&mut self, note: Note)
-        ensures { self.new ≡ self.old ++ entry_of note ∷ [] }
+        ensures { self.new ≡ self.old ++ noted_by note }
     {
         self.notes = self.notes.and(&note);
     }
@@ -46,14 +45,16 @@ impl Journal {
     pub fn ask(&mut self, request: &Request)
         ensures { self.new ≡ self.old ++ entry.Ask request.now ∷ [] }
     {
-        self.note(Note::Asked(Snapshot::of(request)));
+        let none: History<Request> = History::new();
+        self.note(Note::Asked(none.and(request)));
     }
 
     /// A Serve was answered.
     pub fn serve(&mut self, reply: &Reply)
         ensures { self.new ≡ self.old ++ entry.Did event.Serve (Some reply.now) ∷ [] }
     {
-        self.note(Note::Served(Snapshot::of(reply)));
+        let none: History<Reply> = History::new();
+        self.note(Note::Served(none.and(reply)));
     }
 
     /// A process had a turn.

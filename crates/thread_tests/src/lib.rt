@@ -1,11 +1,9 @@
-//! Tests of copies, of journals, of turns as they are kept and of runs on threads. A crate with tests of its own is
+//! Tests of copies, of turns as they are kept and of runs on threads. A crate with tests of its own is
 //! proved twice, so they stand here alone.
 #![tactic(auto)]
 
 #[cfg(test)]
 mod copies;
-#[cfg(test)]
-mod journals;
 #[cfg(test)]
 mod turns;
 #[cfg(test)]

@@ -54,6 +54,14 @@ fn is_seen(flag: &AtomicBool) -> bool {
 }
 
 impl Gate for Meeting {
+    ghost use Rattle.std.specs.Prelude.{true};
+
+    ghost shuts = { λ _. true };
+
+    fn may_shut(&self) -> bool {
+        true
+    }
+
     fn pass(&self, worker: u8) -> bool {
         let (mine, other) = if worker == 0 { (0, 1) } else { (1, 0) };
         if self.came[mine].load(Ordering::SeqCst) {
@@ -63,6 +71,23 @@ impl Gate for Meeting {
         let seen = is_seen(&self.came[other]);
         self.saw[mine].store(seen, Ordering::SeqCst);
         seen
+    }
+}
+
+/// It lets nobody through.
+struct Shut;
+
+impl Gate for Shut {
+    ghost use Rattle.std.specs.Prelude.{true};
+
+    ghost shuts = { λ _. true };
+
+    fn may_shut(&self) -> bool {
+        true
+    }
+
+    fn pass(&self, _worker: u8) -> bool {
+        false
     }
 }
 
@@ -130,6 +155,16 @@ fn two_workers_meet(rt: HostRuntime) -> Result<(), Fail> {
     assert!(rt; is_whole(&run));
     assert_eq!(rt; run.outcome.console.as_slice(), b"hi\n".as_slice());
     assert!(rt; meeting.was_held());
+    drop(run);
+    Ok(())
+}
+
+#[test]
+fn a_shut_gate_ends_the_run(rt: HostRuntime) -> Result<(), Fail> {
+    let alloc = rt.alloc();
+    let run = traced(&rt, alloc, boot(alloc)?, 2, &Shut)?;
+    assert!(rt; matches!(run.ended, Ended::OutOfTurns));
+    assert_eq!(rt; run.turns.rows().len(), 0);
     drop(run);
     Ok(())
 }

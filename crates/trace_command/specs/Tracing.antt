@@ -1,5 +1,5 @@
 -- What a traced run writes, where it writes it, and what it leaves.
-use Rattle.std.specs.Prelude.{◌≡◌, ◌≢◌, ◌⊎◌, ℕ, ◌==◌, Bool, true, ◌||◌, ⊤, List, [], ◌∷◌, codes}
+use Rattle.std.specs.Prelude.{◌≡◌, ◌≢◌, ◌⊎◌, ℕ, ◌==◌, Bool, true, false, ◌||◌, ⊤, List, [], ◌∷◌, codes}
 use Rattle.std.specs.Prelude.{Option, None, Some, IsSome, is_some, option_map, find, Result, Ok, Err, IsErr, IfOk, IfErr, OnErr}
 use Rattle.std.specs.Io.Buffered.{reader_remaining}
 use Rattle.std.specs.Io.KnownBytes.{Keeps, append_known}
@@ -137,7 +137,7 @@ PutsTrace ended trace (Err fault) old new = (fault ≡ Unwritable) × PutsPart o
 -- on threads: the run is the untraced kernel's by the journal of its host
 abbrev pub TracesOnThreads : Options → List Rule → Boot → ℕ → Result Ended RunFault → Writer → Writer → Type 0
 TracesOnThreads o script boot limit result old new =
-    (run : Run) × (ThreadRun boot limit script o run × PutsTrace run.ended run.trace result old new)
+    (run : Run) × (ThreadRun boot limit script o false run × PutsTrace run.ended run.trace result old new)
 
 abbrev pub Traces : {P I O E : Type 0} → (O → Option (List ℕ)) → (I → Option (List ℕ)) → Options → List Rule
     → Kernel P I O E → Result Ended RunFault → Writer → Writer → Type 0

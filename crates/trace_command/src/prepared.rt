@@ -31,10 +31,7 @@ fn asked_by(matches: &ArgMatches, options: TraceOptions) -> Asked {
 
 /// What is asked for is known by a second run alone.
 fn needs_second(matches: &ArgMatches, options: TraceOptions, asked: Asked) -> bool {
-    match options.workers {
-        Some(_) => asked.waits,
-        None => is_given(matches, "host") && (asked.waits || asked.events),
-    }
+    options.workers.is_none() && is_given(matches, "host") && (asked.waits || asked.events)
 }
 
 /// Before the run.

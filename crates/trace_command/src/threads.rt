@@ -1,21 +1,21 @@
 //! A run whose turns are made by threads.
 
-ghost use Rattle.std.specs.Prelude.{◌≡◌, ◌⊎◌, IfErr, IfOk, OnErr};
+ghost use Rattle.std.specs.Prelude.{◌≡◌, ◌⊎◌, false, IfErr, IfOk, OnErr};
 ghost use Rattle.trace_run.specs.Writers.{writer_of};
 ghost use Rattle.trace_threads.specs.ThreadRuns.{ThreadRun};
 ghost use Rattle.trace_command.specs.Faults.{IsUnhosted, IsUnopened};
 ghost use Rattle.trace_command.specs.Tracing.{PutsTrace, TracesOnThreads};
 
 use crate::fault::threads_fault;
-use crate::kept::Kept;
+use crate::kept::{Asked, Kept, Record};
 use crate::running::write;
-use crate::second::keep_threaded;
 use crate::words::Workers;
 use containers::Bytes;
-use front_end::Fault;
-use host_shared::Gate;
+use front_end::{Fault, explain_limit, explain_waits};
+use host_shared::{Cut, Gate};
 use host_wire::{Broken, Sink};
 use lx_abi::{Boot, Script};
+use lx_kernel::Kernel;
 use pt_kernel::Events;
 use std::alloc::Global;
 use std::sync::Wait;
@@ -23,15 +23,67 @@ use std::thread::Threads;
 use tr_core::Options;
 use trace_run::local::Run;
 use trace_run::{Ended, RunFault};
-use trace_threads::run_threads_noting;
+use trace_threads::{Onlooker, run_threads_noting};
 
 /// Each thread makes its turns as soon as it can.
 #[derive(Clone, Copy)]
 struct Always;
 
 impl Gate for Always {
+    ghost use Rattle.std.specs.Prelude.{false};
+
+    ghost shuts = { λ _. false };
+
     fn pass(&self, _worker: u8) -> bool {
         true
+    }
+
+    fn may_shut(&self) -> bool {
+        false
+    }
+}
+
+/// What notes the events, where they are asked for.
+fn noting(alloc: Global, notes: bool) -> Events {
+    if notes {
+        Events::noted(alloc)
+    } else {
+        Events::none()
+    }
+}
+
+/// Why a run is out of turns that left this kernel, where it is and that is asked for.
+fn waits_by(alloc: Global, asked: Asked, kernel: &Kernel, cut: Option<Cut>) -> Option<String> {
+    if !asked.waits {
+        return None;
+    }
+    let text = match cut {
+        Some(Cut::Limit) => explain_limit(alloc, asked.limit, "events"),
+        Some(Cut::Nobody) => explain_waits(alloc, kernel),
+        _ => return None,
+    };
+    match text {
+        Ok(text) => Some(text),
+        Err(_) => None,
+    }
+}
+
+/// Keeps what is asked for of a run.
+#[derive(Drop)]
+struct Keeper {
+    alloc: Global,
+    asked: Asked,
+    record: Record,
+}
+
+impl Onlooker for Keeper {
+    fn look(&mut self, kernel: &Kernel, cut: Option<Cut>, events: Events) {
+        let waits = waits_by(self.alloc, self.asked, kernel, cut);
+        self.record = Record {
+            events,
+            waits,
+            counts: None,
+        };
     }
 }
 
@@ -42,15 +94,16 @@ fn make_on_threads<R: Threads + Wait + Sync + AllocGlobal>(
     workers: Workers,
     script: Script,
     options: Options,
-    noted: &mut Events,
+    keeper: &mut Keeper,
 ) -> Result<Run, Fault>
-    ensures run { IfOk result (λ run. ThreadRun boot workers.limit script options run) }
+    ensures run { IfOk result (λ run. ThreadRun boot workers.limit script options false run) }
     ensures fault { IfErr result (λ fault. IsUnhosted fault ⊎ IsUnopened fault) }
 {
     let alloc = rt.alloc();
     let (count, limit) = (workers.count, workers.limit);
+    let events = noting(alloc, keeper.asked.events);
     match run_threads_noting(
-        rt, alloc, boot, count, limit, script, options, &Always, noted,
+        rt, alloc, boot, count, limit, script, options, &Always, events, keeper,
     ) {
         Ok(run) => Ok(run),
         Err(fault) => Err(threads_fault(alloc, fault)),
@@ -71,15 +124,6 @@ fn write_trace<W: Sink>(ended: Ended, trace: &Bytes, writer: &mut W) -> Result<E
     }
 }
 
-/// What notes the events, where they are asked for.
-fn noting(alloc: Global, notes: bool) -> Events {
-    if notes {
-        Events::noted(alloc)
-    } else {
-        Events::none()
-    }
-}
-
 /// Makes the run, and writes its trace at the end. What it leaves is kept.
 pub fn run_on_threads<R: Threads + Wait + Sync + AllocGlobal, W: Sink>(
     rt: &R,
@@ -96,11 +140,15 @@ pub fn run_on_threads<R: Threads + Wait + Sync + AllocGlobal, W: Sink>(
     ensures unwritten { OnErr result (writer_of W.contents W.puts W.broken writer.new
         ≡ writer_of W.contents W.puts W.broken writer.old) }
 {
-    let mut events = noting(rt.alloc(), kept.asked.events);
-    let run = match make_on_threads(rt, boot, workers, script, options, &mut events) {
+    let mut keeper = Keeper {
+        alloc: rt.alloc(),
+        asked: kept.asked,
+        record: Record::none(),
+    };
+    let run = match make_on_threads(rt, boot, workers, script, options, &mut keeper) {
         Ok(run) => run,
         Err(fault) => {
-            drop(events);
+            drop(keeper);
             return Err(fault);
         }
     };
@@ -111,8 +159,9 @@ pub fn run_on_threads<R: Threads + Wait + Sync + AllocGlobal, W: Sink>(
         turns,
     } = run;
     drop(outcome);
+    drop(turns);
     let ended = write_trace(ended, &trace, writer);
     drop(trace);
-    keep_threaded(rt.alloc(), &ended, turns, events, kept);
+    kept.record = keeper.record;
     Ok(ended)
 }

@@ -8,7 +8,7 @@ ghost use Rattle.trace_run.specs.declared.running.Ended.TheVariants.{OutOfTurns}
 ghost use Rattle.trace_threads.specs.ThreadRuns.{Faults, IsCutBy, IsFaultOf, IsFinished};
 
 use crate::fault::{ThreadsFault, threads_fault};
-use crate::noted::Noted;
+use crate::onlooker::Onlooker;
 use crate::traced::Traced;
 use containers::Bytes;
 use host_shared::{Cut, Exchanges, Held};
@@ -98,14 +98,14 @@ fn run_of(
     }
 }
 
-/// What a run leaves, where the journal under the lock tells of it; its events and why it was cut are noted.
-pub fn finish<J: Naming>(
+/// What a run leaves, where the journal under the lock tells of it. The onlooker sees it first.
+pub fn finish<J: Naming, O: Onlooker>(
     boot: &Boot,
     limit: u64,
     shuts: bool,
     held: Held<J>,
     traced: Traced<J>,
-    noted: &mut Noted,
+    onlooker: &mut O,
 ) -> Result<Run, ThreadsFault>
     ensures run { IfOk result (IsFinished boot.now limit shuts held traced.known traced.trace traced.ended) }
     ensures fault { IfErr result (λ fault. Faults boot.now fault) }
@@ -118,9 +118,9 @@ pub fn finish<J: Naming>(
     } = traced;
     let left = left_by(boot, limit, shuts, &held, &known, &ended);
     drop(known);
-    noted.cut = held.cut();
+    let cut = held.cut();
     let (host, events) = held.into_parts();
-    noted.events = events;
+    onlooker.look(host.kernel(), cut, events);
     let turns = host.into_turns();
     if !started {
         return Err(ThreadsFault::Start);

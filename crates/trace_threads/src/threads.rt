@@ -8,7 +8,7 @@ ghost use Rattle.trace_threads.specs.ThreadRuns.{Faults, ThreadRun};
 
 use crate::fault::ThreadsFault;
 use crate::finish::finish;
-use crate::noted::Noted;
+use crate::onlooker::{Blind, Onlooker};
 use crate::traced::trace_on_threads;
 use host_shared::{Gate, Held, SharedHost};
 use lx_abi::{Boot, Script};
@@ -22,7 +22,6 @@ use pt_kernel::laws::linux_is_told;
 use pt_model::laws::tracing_is_transparent;
 use std::alloc::Global;
 use std::marker::Brand;
-use std::mem;
 use std::sync::Wait;
 use std::thread::Threads;
 use tr_core::Options;
@@ -31,7 +30,7 @@ use trace_run::local::Run;
 use transcript::{Naming, Opened};
 
 /// The run, over a record of what is said.
-fn run_in_record<J: Naming + Send + Sync, G: Gate, R: Threads + Wait + Sync>(
+fn run_in_record<J: Naming + Send + Sync, G: Gate, O: Onlooker, R: Threads + Wait + Sync>(
     rt: &R,
     alloc: Global,
     opened: Opened,
@@ -41,7 +40,8 @@ fn run_in_record<J: Naming + Send + Sync, G: Gate, R: Threads + Wait + Sync>(
     script: Script,
     options: Options,
     gate: &G,
-    noted: &mut Noted,
+    events: Events,
+    onlooker: &mut O,
 ) -> Result<Run, ThreadsFault>
     requires book { book_of opened ≡ J.book }
     requires some { 1 ≤ limit }
@@ -61,7 +61,6 @@ fn run_in_record<J: Naming + Send + Sync, G: Gate, R: Threads + Wait + Sync>(
     let copy = boot.copy(alloc);
     let (book, said) = opened.named::<J>();
     let mine = said.again();
-    let events = mem::replace(&mut noted.events, Events::none());
     let shared = match Held::new(alloc, boot, limit, said, events) {
         Ok(held) => SharedHost::new(held, book),
         Err(fault) => {
@@ -87,7 +86,7 @@ fn run_in_record<J: Naming + Send + Sync, G: Gate, R: Threads + Wait + Sync>(
         gate.may_shut(),
         shared.into_held(),
         traced,
-        noted,
+        onlooker,
     );
     drop(boot);
     result
@@ -95,8 +94,8 @@ fn run_in_record<J: Naming + Send + Sync, G: Gate, R: Threads + Wait + Sync>(
 
 /// Boots a guest and traces it, its turns made by so many threads, one under each holding of a lock; a worker asks the
 /// gate before each. The boot's follow counts, not that of the options. At most `limit` turns and requests are made.
-/// Its events are noted, where they are asked for, and why it is out of turns.
-pub fn run_threads_noting<G: Gate, R: Threads + Wait + Sync>(
+/// Its events are noted in `events`, and the onlooker sees what it left, also where it isn't the one that is told of.
+pub fn run_threads_noting<G: Gate, O: Onlooker, R: Threads + Wait + Sync>(
     rt: &R,
     alloc: Global,
     boot: Boot,
@@ -105,7 +104,8 @@ pub fn run_threads_noting<G: Gate, R: Threads + Wait + Sync>(
     script: Script,
     options: Options,
     gate: &G,
-    noted: &mut Noted,
+    events: Events,
+    onlooker: &mut O,
 ) -> Result<Run, ThreadsFault>
     requires some_workers { 1 ≤ workers }
     requires few_workers { workers ≤ 8 }
@@ -118,7 +118,7 @@ pub fn run_threads_noting<G: Gate, R: Threads + Wait + Sync>(
     // A boot with a fault is refused with it, whatever the memory.
     ensures refused { (e : BootFault) → fault_of boot ≡ Some e → result ≡ Err (ThreadsFault.Boot e) }
 {
-    run_in_record::<Brand, G, R>(
+    run_in_record::<Brand, G, O, R>(
         rt,
         alloc,
         Opened::new(),
@@ -128,11 +128,12 @@ pub fn run_threads_noting<G: Gate, R: Threads + Wait + Sync>(
         script,
         options,
         gate,
-        noted,
+        events,
+        onlooker,
     )
 }
 
-/// The same, where nothing is noted.
+/// The same, where nothing is noted and nobody looks.
 pub fn run_threads<G: Gate, R: Threads + Wait + Sync>(
     rt: &R,
     alloc: Global,
@@ -154,8 +155,17 @@ pub fn run_threads<G: Gate, R: Threads + Wait + Sync>(
     // A boot with a fault is refused with it, whatever the memory.
     ensures refused { (e : BootFault) → fault_of boot ≡ Some e → result ≡ Err (ThreadsFault.Boot e) }
 {
-    let mut noted = Noted::by(Events::none());
+    let mut blind = Blind;
     run_threads_noting(
-        rt, alloc, boot, workers, limit, script, options, gate, &mut noted,
+        rt,
+        alloc,
+        boot,
+        workers,
+        limit,
+        script,
+        options,
+        gate,
+        Events::none(),
+        &mut blind,
     )
 }

@@ -6,7 +6,7 @@ use Rattle.trace_threads.proofs.finish.finish.Goals as goal
 pub returns-clause-run : goal.returns-clause-run
 returns-clause-run g c =
     is_finished c.args.boot.now c.args.limit c.args.shuts c.args.held c.args.traced.known c.args.traced.trace c.into_turns-turns.result c.args.traced.ended c.left_by-left.result
-    (c.into_turns-turns.ensures ∙ ap (λ (h : HostState). h.hosting.turns) c.into_parts.ensures)
+    (c.into_turns-turns.ensures ∙ ap (λ (h : HostState). h.hosting.turns) c.into_parts-host.ensures)
     (record {
       outcome = c.left_by-left.ensures.outcome;
       kept = c.left_by-left.ensures.kept;

@@ -12,3 +12,6 @@ invariant_of-self g c =
     let s = c.self.inside in
     added (pairs s.transcript) c.args.transcript s.count c.self.invariant.1
     (subst (λ (l : List (Request × Reply)). (q : Request) × (r : Reply) × (c.args.transcript ≡ spoken l ++ Asked q ∷ Answered r ∷ [])) (sym c.self.view_is) c.requires.more)
+
+pub returns : goal.returns
+returns g c q r e = pairs_added _ c.args.transcript q r e
