@@ -23,6 +23,7 @@ mod replacing;
 mod reporting;
 mod shown;
 mod start;
+mod streams;
 mod turns;
 mod waits;
 
@@ -45,5 +46,6 @@ pub use replacing::{NewFile, check_file, create_file, replace_file};
 pub use reporting::{print_help, report};
 pub use shown::Shown;
 pub use start::{Begun, begin};
+pub use streams::Opened;
 pub use turns::read_turns;
 pub use waits::{explain_limit, explain_turns, explain_waits};

@@ -1,7 +1,7 @@
 //! Where a report goes.
 
 use clap::ArgMatches;
-use front_end::{Fault, Shown, check_file, create_file, replace_file};
+use front_end::{Fault, Opened, Shown, check_file, create_file, replace_file};
 use std::alloc::Global;
 use std::io::{self, Write};
 use std::rt::Files;
@@ -44,7 +44,7 @@ pub fn check<R: Files + AllocGlobal>(
 }
 
 /// Makes the file anew, which is written as the report comes.
-pub fn create<R: Files + AllocGlobal>(rt: &R, path: &str) -> Result<R::File, Fault> {
+pub fn create<R: Files + AllocGlobal>(rt: &R, path: &str) -> Result<Opened<R::File>, Fault> {
     match create_file(rt, path) {
         Ok(file) => Ok(file),
         Err(error) => Err(refused(rt.alloc(), "-o", path, error)),
