@@ -14,6 +14,7 @@ mod left_out;
 mod linux_calls;
 mod names;
 mod offered;
+mod option_table;
 mod options;
 mod outputs;
 mod parser;
@@ -32,11 +33,9 @@ pub use boot_faults::{check_boot, refuse_boot};
 pub use expressions::{Expressions, expression_words, read_expression, read_expressions};
 pub use fault::Fault;
 pub use hints::Entered;
-pub use leavings::{Leavings, escaped, with_leavings};
-pub use offered::{
-    with_calls, with_environment, with_explain, with_expressions, with_files, with_limit,
-    with_program,
-};
+pub use leavings::{Leavings, escaped};
+pub use offered::{with_options, with_program};
+pub use option_table::Tool;
 pub use options::{limit, number};
 pub use outputs::check_outputs;
 pub use parser::{refusal, shown_words};
