@@ -9,10 +9,11 @@ use std::io;
 use std::rt::Files;
 
 /// The options that name one: in the parser, and as they are typed.
-const OUTPUTS: [(&str, &str); 3] = [
+const OUTPUTS: [(&str, &str); 4] = [
     ("output", "-o"),
     ("turns-out", "--turns-out"),
     ("files-list", "--files-list"),
+    ("known-out", "--known-out"),
 ];
 
 /// The folder of a path, and the name in it.

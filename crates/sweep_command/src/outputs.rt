@@ -34,9 +34,6 @@ pub fn check<R: Files + AllocGlobal>(
     let Some(path) = path else {
         return Ok(());
     };
-    if path.is_empty() {
-        return Err(Fault::usage(format!(in rt.alloc(); "{option}: the name of the file is empty")));
-    }
     match check_file(rt, path) {
         Ok(()) => Ok(()),
         Err(error) => Err(refused(rt.alloc(), option, path, error)),
