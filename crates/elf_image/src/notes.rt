@@ -23,8 +23,9 @@ fn header_of(bytes: &[u8], kind: u32) -> Option<usize>
     if bytes.len() < HEADER_SIZE {
         return None;
     }
+    let count = half_at(bytes, 56);
     let mut at = double_at(bytes, 32) as usize;
-    for _ in 0..half_at(bytes, 56) {
+    for _ in 0..count {
         if bytes.len() < at || bytes.len() - at < headers::SIZE {
             return None;
         }

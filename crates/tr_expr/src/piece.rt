@@ -1,9 +1,9 @@
 //! The piece of an expression that is refused by itself.
 
-ghost use Rattle.std.specs.Prelude.{◌≡◌, IfOk, None, option_map};
+ghost use Rattle.std.specs.Prelude.{◌≡◌, IfOk, Some, option_map};
 ghost use Rattle.tr_expr.specs.Pieces as spec;
-ghost use Rattle.tr_expr.specs.Pieces.{IsRefusedItem, IsRefusedPiece, Pieces, pieces_of, piece_shown};
-ghost use Rattle.tr_expr.specs.Sets.{items};
+ghost use Rattle.tr_expr.specs.Pieces.{IsRefusedItem, IsRefusedPiece, pieces_of, piece_shown};
+ghost use Rattle.tr_expr.specs.Sets.{items, pieces};
 ghost use Rattle.tr_expr.specs.Exprs.{word_of, Traced, Tampered};
 
 use crate::fault::ExprFault;
@@ -57,7 +57,7 @@ fn with_parts(form: InjectParts, text: &str) -> Cut<'_>
     }
 }
 
-fn cut(text: &str) -> Cut<'_>
+fn cut_word(text: &str) -> Cut<'_>
     ensures { spec.shown result ≡ pieces_of (word_of text.now) }
 {
     if let Some(set) = text.strip_prefix("trace=") {
@@ -82,15 +82,14 @@ fn is_kind(kind: ExprFault, found: Option<ExprFault>) -> bool
     }
 }
 
-/// The first item that is refused with the kind by itself.
-fn refused_item<'a>(
+/// The first of the items of a list that is refused with the kind by itself.
+fn refused_among<'a>(
     alloc: Global,
     kind: ExprFault,
-    set: &'a str,
+    list: &'a str,
 ) -> Result<Option<&'a str>, AllocError>
-    ensures { IfOk result (λ item. IsRefusedItem kind (items set.now) (option_map (λ x. x.now) item)) }
+    ensures { IfOk result (λ item. IsRefusedItem kind (pieces 44 list.now) (option_map (λ x. x.now) item)) }
 {
-    let (_, list) = negation(set);
     for item in list.split(',') {
         let picks = read_item(alloc, item)?;
         if is_kind(kind, picks.fault()) {
@@ -100,13 +99,35 @@ fn refused_item<'a>(
     Ok(None)
 }
 
-/// The first part that is refused with the kind by itself.
-fn refused_part<'a>(kind: ExprFault, form: InjectParts, parts: Option<&'a str>) -> Option<&'a str>
-    ensures { option_map (λ x. x.now) result ≡ spec.refused_part kind form (option_map (λ x. x.now) parts) }
+/// The first item of a set that is refused with the kind by itself.
+fn refused_item<'a>(
+    alloc: Global,
+    kind: ExprFault,
+    set: &'a str,
+) -> Result<Option<&'a str>, AllocError>
+    ensures { IfOk result (λ item. IsRefusedItem kind (items set.now) (option_map (λ x. x.now) item)) }
 {
-    parts?
+    let (_, list) = negation(set);
+    refused_among(alloc, kind, list)
+}
+
+/// The first of these parts that is refused with the kind by itself.
+fn find_part<'a>(kind: ExprFault, form: InjectParts, parts: &'a str) -> Option<&'a str>
+    ensures { option_map (λ x. x.now) result ≡ spec.refused_part kind form (Some parts.now) }
+{
+    parts
         .split(':')
         .find(|part| is_kind(kind, part_fault(form, part)))
+}
+
+/// The first part that is refused with the kind by itself, if there are parts.
+fn refused_part<'a>(kind: ExprFault, form: InjectParts, parts: Option<&'a str>) -> Option<&'a str>
+    ensures { option_map (λ x. x.now) result ≡ spec.refused_part kind form (option_map (λ x. x.now) parts.entry) }
+{
+    match parts {
+        Some(parts) => find_part(kind, form, parts),
+        None => None,
+    }
 }
 
 fn first_piece<'a>(
@@ -115,7 +136,7 @@ fn first_piece<'a>(
     part: Option<&'a str>,
 ) -> Option<RefusedPiece<'a>>
     ensures { option_map piece_shown result
-        ≡ spec.first_piece form (option_map (λ x. x.now) item) (option_map (λ x. x.now) part) }
+        ≡ spec.first_piece form (option_map (λ x. x.now) item.entry) (option_map (λ x. x.now) part.entry) }
 {
     match (item, part) {
         (Some(item), _) => Some(RefusedPiece::Item(item)),
@@ -133,7 +154,7 @@ pub fn refused_piece(
     ensures { IfOk result (λ piece.
         IsRefusedPiece kind (pieces_of (word_of text.now)) (option_map piece_shown piece)) }
 {
-    let cut = cut(text);
+    let cut = cut_word(text);
     let item = refused_item(alloc, kind, cut.set)?;
     let part = refused_part(kind, cut.form, cut.parts);
     Ok(first_piece(cut.form, item, part))
