@@ -47,6 +47,14 @@ IsOpenedFor (Some number) (opened.Stream n) = n ≡ number
 IsOpenedFor None (opened.File file) = ⊤
 IsOpenedFor None (opened.Stream n) = ⊥
 
+abbrev pub IsOpenedAt : {F : Type 0} → Target → Opened F → Type 0
+IsOpenedAt (target.File path part) (opened.File file) = ⊤
+IsOpenedAt (target.File path part) (opened.Stream n) = ⊥
+IsOpenedAt (target.Device path) (opened.File file) = ⊤
+IsOpenedAt (target.Device path) (opened.Stream n) = ⊥
+IsOpenedAt (target.Stream number) (opened.File file) = ⊥
+IsOpenedAt (target.Stream number) (opened.Stream n) = n ≡ number
+
 -- what is known of what was written
 abbrev pub opened_contents : {F : Type 0} → (F → Option (List ℕ)) → Opened F → Option (List ℕ)
 opened_contents contents (opened.File file) = contents file

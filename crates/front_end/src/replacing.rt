@@ -1,7 +1,7 @@
 //! Files that are written whole, or left as they are.
 
 ghost use Rattle.std.specs.Prelude.{◌≡◌, IfOk, None};
-ghost use Rattle.front_end.specs.Streams.{IsOpenedFor, IsTargetOf, stream_of};
+ghost use Rattle.front_end.specs.Streams.{IsOpenedAt, IsOpenedFor, IsTargetOf, stream_of};
 
 use crate::streams::{Opened, check_stream, number_of};
 use std::alloc::Global;
@@ -68,8 +68,14 @@ pub struct NewFile<'r, R: Files + AllocGlobal> {
 }
 
 impl<'r, R: Files + AllocGlobal> NewFile<'r, R> {
+    ghost use Rattle.std.specs.Prelude.{◌≡◌, IfOk, None, false};
+    ghost use Rattle.front_end.specs.Streams.{IsTargetOf, stream_of};
+
     /// What is written for this path. It can be written, and nothing is changed yet.
-    pub fn new(rt: &'r R, path: &str) -> io::Result<Self> {
+    pub fn new(rt: &'r R, path: &str) -> io::Result<Self>
+        ensures target { IfOk result (λ file. IsTargetOf (stream_of path.now) file.target) }
+        ensures unopened { IfOk result (λ file. (file.file ≡ None) × (file.is_whole ≡ false)) }
+    {
         let target = target_of(rt, path)?;
         check_target(rt, &target)?;
         Ok(NewFile {
@@ -148,7 +154,9 @@ fn open_device<R: Files>(rt: &R, path: &str) -> io::Result<R::File> {
 }
 
 /// Opens what is written: the part of a file, which isn't there yet, or a device. A stream stands open.
-fn open_target<R: Files + AllocGlobal>(rt: &R, target: &Target) -> io::Result<Opened<R::File>> {
+fn open_target<R: Files + AllocGlobal>(rt: &R, target: &Target) -> io::Result<Opened<R::File>>
+    ensures { IfOk result (IsOpenedAt target.now) }
+{
     match target {
         Target::Stream(number) => Ok(Opened::Stream(*number)),
         Target::Device(path) => Ok(Opened::File(open_device(rt, path.as_str())?)),

@@ -6,7 +6,6 @@ ghost use Rattle.front_end.specs.Streams as spec;
 
 use std::fs::OpenFile;
 use std::io::{self, ErrorKind, Write};
-use std::os::fd::RawFd;
 
 /// The highest number that a stream can have.
 const HIGHEST: u64 = 2_147_483_647;
@@ -66,7 +65,7 @@ pub fn number_of(path: &str) -> Option<u64>
 fn write_stream(number: u64, bytes: &[u8]) -> io::Result<usize>
     ensures { WritesAtMost result bytes.now }
 {
-    let Ok(number) = RawFd::try_from(number) else {
+    let Ok(number) = i32::try_from(number) else {
         return Err(io::Error::from(ErrorKind::NotFound));
     };
     match usize::try_from(os::write_no_sigpipe(number, bytes)) {
