@@ -224,9 +224,18 @@ fn run_to_place<
         (writer_of E.contents E.puts E.broken err.old) (writer_of E.contents E.puts E.broken err.new)) }
 {
     match place {
-        Place::Error => run_kernel(rt, kernel, script, options, behind, err),
-        Place::Output => run_kernel(rt, kernel, script, options, behind, out),
-        Place::File(path) => run_to_file(rt, kernel, script, options, behind, path),
+        Place::Error => match run_kernel(rt, kernel, script, options, behind, err) {
+            Ok(ended) => Ok(ended),
+            Err(fault) => Err(fault),
+        },
+        Place::Output => match run_kernel(rt, kernel, script, options, behind, out) {
+            Ok(ended) => Ok(ended),
+            Err(fault) => Err(fault),
+        },
+        Place::File(path) => match run_to_file(rt, kernel, script, options, behind, path) {
+            Ok(ended) => Ok(ended),
+            Err(fault) => Err(fault),
+        },
     }
 }
 
