@@ -19,8 +19,8 @@ use Rattle.lx_model.specs.declared.stage.Stage.TheVariants.{Born}
 use Rattle.lx_model.specs.declared.stage.Task.TheVariants.{Alive}
 use Rattle.pt_model.specs.Calls.{world_replies, out_of_turns_if}
 use Rattle.pt_model.specs.Hosting.{Hosting, host_in, ready_in}
-use Rattle.pt_model.specs.Parts.{Options, Part}
-use Rattle.pt_model.specs.Ptrace.{Host, Proc, Report, is_there}
+use Rattle.pt_model.specs.Parts.{Options}
+use Rattle.pt_model.specs.Ptrace.{Host, Proc, is_there}
 use Rattle.pt_model.specs.Replies.{reply_to, replies}
 use Rattle.pt_model.specs.Requests.{Answered, answer, answered, take_report, told}
 use Rattle.pt_model.specs.Tracer.{Seizing, Resuming, Serving, Waiting, Moved, Tracer, asked_options, options_word, admits_stop, faults, next_from, request, takes, took_status, took_stop}
