@@ -1,5 +1,5 @@
 -- What a world comes to while no turn is made.
-use Rattle.std.proofs.Common.{◌≡◌, ◌≤◌, ℕ, suc, ◌+◌, Bool, true, false, cond, List, [], ◌∷◌, ◌++◌, length, Option, Some, None, refl, sym, ap, subst, ◌∙◌, arith}
+use Rattle.std.proofs.Common.{◌≡◌, ◌≤◌, ℕ, ◌+◌, Bool, true, false, cond, List, [], ◌∷◌, ◌++◌, length, Option, Some, None, refl, sym, ap, subst, ◌∙◌, arith}
 use Rattle.std.proofs.lemmas.List.{length-append}
 use Rattle.std.specs.Prelude.{◌&&◌, ◌||◌}
 use Rattle.std.specs.Option.{option_to_list}
@@ -19,11 +19,11 @@ use Rattle.lx_model.specs.declared.stage.Stage.TheVariants.{Born}
 use Rattle.lx_model.specs.declared.stage.Task.TheVariants.{Alive}
 use Rattle.pt_model.specs.Calls.{world_replies, out_of_turns_if}
 use Rattle.pt_model.specs.Hosting.{Hosting, host_in, ready_in}
-use Rattle.pt_model.specs.Parts.{Options, Part}
-use Rattle.pt_model.specs.Ptrace.{Host, Proc, Report, is_there}
+use Rattle.pt_model.specs.Parts.{Options}
+use Rattle.pt_model.specs.Ptrace.{Host, Proc, is_there}
 use Rattle.pt_model.specs.Replies.{reply_to, replies}
 use Rattle.pt_model.specs.Requests.{Answered, answer, answered, take_report, told}
-use Rattle.pt_model.specs.Tracer.{Seizing, Resuming, Serving, Waiting, Moved, Tracer, asked_options, options_word, admits_stop, faults, next_from, request, takes, took_status, took_stop}
+use Rattle.pt_model.specs.Tracer.{Seizing, Resuming, Serving, Waiting, Moved, asked_options, options_word, admits_stop, faults, request, takes, took_status}
 use Rattle.pt_model.specs.World.{World, first_world, happens, met, world_run}
 
 -- none of the events is a turn

@@ -1,6 +1,6 @@
 -- A run that is out of turns has made an event, and a turn.
-use Rattle.std.proofs.Common.{◌≡◌, ◌⊎◌, ℕ, suc, ◌+◌, ◌-◌, ◌≤◌, min, Bool, true, false, cond, not, List, [], ◌∷◌, ◌++◌, length, map, Option, Some, None, refl, sym, ap, subst, ◌∙◌, inl, inr, arith}
-use Rattle.std.specs.Prelude.{◌&&◌, nat_le}
+use Rattle.std.proofs.Common.{◌≡◌, ◌⊎◌, ℕ, suc, ◌+◌, ◌-◌, ◌≤◌, Bool, true, false, cond, not, List, [], ◌∷◌, ◌++◌, length, map, Some, None, refl, sym, ap, subst, ◌∙◌, inl, inr, arith}
+use Rattle.std.specs.Prelude.{◌&&◌, min, nat_le}
 use Rattle.std.proofs.Math.Nat.{zero-min}
 use Rattle.std.proofs.lemmas.Bool.Decides.{nat_tests}
 use Rattle.std.proofs.lemmas.List.{length-append, length-map}
@@ -28,7 +28,7 @@ use Rattle.lx_proc.specs.declared.state.Shared.{Shared}
 use Rattle.lx_proc.specs.declared.state.UserState.{UserState}
 use Rattle.lx_turn.specs.Linux.{linux}
 use Rattle.pt_model.specs.Calls.{world_replies}
-use Rattle.pt_model.specs.Hosting.{Hosting, host_in, no_script, proc_in, ready_in}
+use Rattle.pt_model.specs.Hosting.{host_in, no_script, proc_in, ready_in}
 use Rattle.pt_model.specs.Parts as parts
 use Rattle.pt_model.specs.Ptrace.{Host, Proc, is_effective, is_there}
 use Rattle.pt_model.specs.Tracer.{first_tracer}
@@ -46,7 +46,6 @@ use Rattle.tr_core.specs.Settings.{options_by}
 use Rattle.tr_core.specs.declared.settings.Options.{Options}
 use Rattle.trace_run.specs.BootedRuns.{following}
 use Rattle.trace_run.specs.declared.local.Run.{Run}
-use Rattle.trace_run.specs.declared.running.Ended.TheVariants.{OutOfTurns}
 use Rattle.trace_threads.specs.Idle.{NoneIsIdle, NoneIsStill, turns_among}
 use Rattle.trace_threads.specs.ThreadRuns.{ThreadRun}
 use Rattle.trace_threads.proofs.Serving.{AreServes, few_replies, fourth, frees}
