@@ -43,6 +43,7 @@ fn spelled(digits: &str) -> Option<u64>
 }
 
 /// The number of a stream that is named by it.
+#[tactic(auto, unfolding(crate::specs::Streams::numbered))]
 fn numbered(path: &str) -> Option<u64>
     ensures { result ≡ spec.numbered path.now }
 {
@@ -53,6 +54,7 @@ fn numbered(path: &str) -> Option<u64>
 }
 
 /// The number of a stream of this process, by one of the names that it has as a file.
+#[tactic(auto, unfolding(crate::specs::Streams::stream_of))]
 pub fn number_of(path: &str) -> Option<u64>
     ensures { result ≡ spec.stream_of path.now }
 {
