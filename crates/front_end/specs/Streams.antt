@@ -1,5 +1,5 @@
 -- Streams that stand open in this process, by the names that they have as files, and what is opened for a path.
-use Rattle.std.specs.Prelude.{◌≡◌, ℕ, List, Option, Some, None, ⊤, ⊥, nat_eq, if◌then◌else◌, bytes_eq, codes, drop}
+use Rattle.std.specs.Prelude.{◌≡◌, ℕ, List, Option, Some, None, ⊤, nat_eq, if◌then◌else◌, bytes_eq, codes, drop}
 use Rattle.std.specs.List.{starts_with}
 use Rattle.tr_expr.specs.Numbers.{number}
 use Rattle.front_end.specs.declared.replacing.Target.{Target}

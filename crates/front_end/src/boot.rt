@@ -105,7 +105,7 @@ fn last_places<'a>(alloc: Global, words: &[&'a str]) -> Result<BTreeMap<&'a str,
 }
 
 /// No word behind the one at this place sets its variable.
-fn is_last(last: &BTreeMap<&str, usize>, word: &str, place: usize) -> bool {
+fn is_last<'a>(last: &BTreeMap<&'a str, usize>, word: &'a str, place: usize) -> bool {
     match name_of(word) {
         Some(name) => last.get(&name).copied() == Some(place),
         None => false,
@@ -113,7 +113,7 @@ fn is_last(last: &BTreeMap<&str, usize>, word: &str, place: usize) -> bool {
 }
 
 /// The environment. Of words that set one variable the last counts.
-fn environment(alloc: Global, words: &[&str]) -> Result<Seq<Bytes>, Fault> {
+fn environment<'a>(alloc: Global, words: &[&'a str]) -> Result<Seq<Bytes>, Fault> {
     let last = last_places(alloc, words)?;
     let mut set = Seq::new(alloc);
     for (place, word) in words.iter().copied().enumerate() {

@@ -23,7 +23,10 @@ fn digits_of(path: &str) -> Option<&str>
     if let Some(digits) = path.strip_prefix("/dev/fd/") {
         return Some(digits);
     }
-    path.strip_prefix("/proc/self/fd/")
+    if let Some(digits) = path.strip_prefix("/proc/self/fd/") {
+        return Some(digits);
+    }
+    None
 }
 
 /// The number that decimal digits alone spell.
