@@ -1,5 +1,5 @@
 -- A run whose log was printed.
-use Rattle.std.proofs.Common.{◌≡◌, ◌∙◌, ℕ, List, [], ◌++◌, Option, Result, Ok, Err, OnOk, sym, ap, subst}
+use Rattle.std.proofs.Common.{◌≡◌, ◌∙◌, ℕ, List, [], ◌++◌, Option, Result, Ok, Err, OnOk, ap, subst}
 use Rattle.lx_abi.specs.declared.log.Item.{Item}
 use Rattle.lx_kernel.specs.Runs.{Run}
 use Rattle.plain_run.specs.Watched.{Tells}

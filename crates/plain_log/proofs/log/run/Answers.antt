@@ -1,4 +1,3 @@
-use Rattle.plain_log.specs.Logs.{first_contents}
 use Rattle.plain_log.proofs.Printed.{is_logged}
 use Rattle.plain_log.proofs.log.run.Goals as goal
 
