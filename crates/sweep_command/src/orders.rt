@@ -1,6 +1,6 @@
 //! The report on orders of turns: a line for each result.
 
-use crate::keeping::{keep, path_of, text_of};
+use crate::keeping::{check_kept, keep, path_of, text_of};
 use crate::outputs::write;
 use crate::progress::ShownProgress;
 use clap::ArgMatches;
@@ -287,7 +287,7 @@ pub fn orders_reported<
 ) -> Result<u8, Fault> {
     let alloc = rt.alloc();
     if let Some(folder) = matches.get_str("keep") {
-        keep(rt, folder, 1, &[])?;
+        check_kept(rt, folder)?;
     }
     let found = find(rt, words.jobs, orders, plan, reference, err)?;
     let found = found.as_slice();
