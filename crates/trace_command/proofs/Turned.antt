@@ -1,9 +1,9 @@
 -- Words of events that are written one after the other.
-use Rattle.std.proofs.Common.{◌≡◌, ◌∙◌, ℕ, ◌+◌, ◌-◌, ◌<◌, ◌==◌, Bool, true, false, cond, List, [], ◌∷◌, ◌++◌, length, map, drop, replicate, get_or}
-use Rattle.std.proofs.Common.{Option, codes, refl, sym, ap, subst, append_assoc}
+use Rattle.std.proofs.Common.{◌≡◌, ◌∙◌, ℕ, suc, ◌+◌, ◌-◌, ◌<◌, List, [], ◌∷◌, ◌++◌, length, map, drop, replicate, get_or}
+use Rattle.std.proofs.Common.{Option, codes, refl, sym, ap, append_assoc, arith}
 use Rattle.std.specs.Io.KnownBytes.{Appends}
 use Rattle.std.proofs.KnownBytes.{Appends-trans}
-use Rattle.std.proofs.lemmas.List.{map-append}
+use Rattle.std.proofs.lemmas.List.{at_drop_more, map-append}
 use Rattle.lx_abi.specs.declared.schedule.Event.{Event}
 use Rattle.lx_abi.specs.declared.schedule.Word.{Word}
 use Rattle.pt_kernel.specs.Noted.{all_events, events_in}
@@ -54,3 +54,40 @@ writes_more start here there all rest piece rest' e w a = record {
   whole = append_assoc w.done piece rest' ∙ ap (λ l. w.done ++ l) (sym e) ∙ w.whole;
   written = Appends-trans start here there w.done piece w.written a;
 }
+
+-- one event more of a row
+count_down : (n k : ℕ) → k < n → n - k ≡ suc (n - (k + 1))
+count_down n k lt = omega (arith, lt)
+
+pub row_more : (times k left rest rest' : ℕ) (x : Event) (start here there : Option (List ℕ)) → k < times
+    → rest' ≡ left_after rest x
+    → (left_behind rest (replicate (times - k) x) ≡ left_behind left (replicate times x))
+    × Writes start here (text_behind left (replicate times x)) (text_behind rest (replicate (times - k) x))
+    → Appends here there (words_text (map event_word (kept rest x)))
+    → (left_behind rest' (replicate (times - (k + 1)) x) ≡ left_behind left (replicate times x))
+    × Writes start there (text_behind left (replicate times x)) (text_behind rest' (replicate (times - (k + 1)) x))
+row_more times k left rest rest' x start here there lt e h a =
+    let m = times - (k + 1) in
+    let more : replicate (times - k) x ≡ x ∷ replicate m x = ap (λ n. replicate n x) (count_down times k lt) in (
+      ap (λ r. left_behind r (replicate m x)) e ∙ sym (ap (λ l. left_behind rest l) more) ∙ h.0,
+      writes_more start here there (text_behind left (replicate times x)) (text_behind rest (replicate (times - k) x))
+          (words_text (map event_word (kept rest x))) (text_behind rest' (replicate m x))
+          (ap (λ l. text_behind rest l) more ∙ behind_one rest x (replicate m x)
+          ∙ ap (λ r. words_text (map event_word (kept rest x)) ++ text_behind r (replicate m x)) (sym e))
+          h.1 a,
+    )
+
+-- one row more
+pub rows_more : (rows : List EventRow) (i left left' : ℕ) (row : EventRow) (start here there : Option (List ℕ))
+    (all : List ℕ) → i < length rows → row ≡ get_or rows i row → left' ≡ left_behind left (events_in row)
+    → Writes start here all (text_behind left (all_events (drop i rows)))
+    → Appends here there (text_behind left (events_in row))
+    → Writes start there all (text_behind left' (all_events (drop (i + 1) rows)))
+rows_more rows i left left' row start here there all lt is e w a =
+    let step : all_events (drop i rows) ≡ events_in row ++ all_events (drop (i + 1) rows) =
+    at_drop_more all_events rows i row lt ∙ ap (λ r. events_in r ++ all_events (drop (i + 1) rows)) (sym is) in
+    writes_more start here there all (text_behind left (all_events (drop i rows))) (text_behind left (events_in row))
+        (text_behind left' (all_events (drop (i + 1) rows)))
+        (ap (λ l. text_behind left l) step ∙ behind_several left (events_in row) (all_events (drop (i + 1) rows))
+        ∙ ap (λ r. text_behind left (events_in row) ++ text_behind r (all_events (drop (i + 1) rows))) (sym e))
+        w a
