@@ -6,5 +6,5 @@ use Rattle.trace_command.proofs.turns_out.write_row.Goals as goal
 pub loop-preserved : goal.loop-preserved
 loop-preserved g c =
     row_more c.args.row.now.times c.loop.counter c.args.left c.loop.rest _ c.args.row.now.event _ _ _
-    (grind (arith, nat_tests, c.loop-test.true)) c.in_ok-write_event.ensures.left c.loop.invariant
-    c.in_ok-write_event.ensures.text
+    (grind (arith, nat_tests, c.loop-test.true)) c.in_ok-rest.ensures.left c.loop.invariant
+    c.in_ok-rest.ensures.text
