@@ -1,5 +1,5 @@
 -- What is written where no run was made.
-use Rattle.std.proofs.Common.{◌≡◌, ◌⊎◌, ℕ, List, Option, Some, None, IsSome, Result, Ok, Err, OnErr, inl, inr, sym, subst, ◌∙◌, true}
+use Rattle.std.proofs.Common.{◌≡◌, ◌⊎◌, ℕ, List, Option, Some, None, IsSome, Result, Ok, Err, OnErr, inl, inr, refl, sym, subst, ◌∙◌, true}
 use Rattle.std.proofs.Common.{true≢false}
 use Rattle.clap.specs.declared.parser.matches.ArgMatches.{ArgMatches}
 use Rattle.lx_abi.specs.declared.boot.Boot.{Boot}
@@ -48,14 +48,14 @@ not_ended host workers files fault (inr (inr (f, u))) e = unopened fault u e
 -- ---- a run that wasn't made leaves nothing
 
 failed : (lacks : Fault → Type 0) (fault : Fault) (result : Result ℕ Fault) (out middle out' err err' : Writer)
-    → Unmade {Outcome} lacks (Err fault) out middle err err' → (result ≡ Err fault) × (out' ≡ middle)
+    → Unmade {A = Outcome} lacks (Err fault) out middle err err' → (result ≡ Err fault) × (out' ≡ middle)
     → Unmade lacks result out out' err err'
 failed lacks fault result out middle out' err err' h l =
     subst (λ z. Unmade lacks z out out' err err') (sym l.0) (h.0, (l.1 ∙ h.1.0, h.1.1))
 
 left_after : (host : Option (List ℕ)) (workers : Option Workers) (files : Type 0) (words : ArgMatches) (asked : Type 0)
     (turned : Result (Unit {0}) Fault) (fault : Fault) (result : Result ℕ Fault) (out middle out' err err' : Writer)
-    → Unmade {Outcome} (Lacks host workers files) (Err fault) out middle err err'
+    → Unmade {A = Outcome} (Lacks host workers files) (Err fault) out middle err err'
     → OnErr turned (asked × (is_out_of_turns fault ≡ true)) → LeavesAfter words turned (Err fault) result middle out'
     → Unmade (Lacks host workers files) result out out' err err'
 left_after host workers files words asked (Err t) fault result out middle out' err err' h o l =
@@ -94,7 +94,7 @@ asked_for remaining contents host workers boot limit words (Here b schedule) h t
 asked_for remaining contents host workers boot limit words (There link) h t = absurd t
 asked_for remaining contents None None boot limit words (OnThreads b w) h t = absurd h
 asked_for remaining contents (Some path) None boot limit words (OnThreads b w) h t = absurd h
-asked_for remaining contents host (Some workers) boot limit words (OnThreads b w) h t = tt
+asked_for remaining contents host (Some workers) boot limit words (OnThreads b w) h t = refl
 
 pub lacks_at : {P I O E : Type 0} (remaining : O → Option (List ℕ)) (contents : I → Option (List ℕ))
     (host : Option (List ℕ)) (workers : Option Workers) (boot : Boot) (limit : ℕ) (words : List Word)
