@@ -78,14 +78,14 @@ row_more times k left rest rest' x start here there lt e h a =
     )
 
 -- one row more
-pub rows_more : (rows : List EventRow) (i left left' : ℕ) (d : EventRow) (start here there : Option (List ℕ))
-    (all : List ℕ) → i < length rows → left' ≡ left_behind left (events_in (get_or rows i d))
+pub rows_more : (rows : List EventRow) (i left left' : ℕ) (row : EventRow) (start here there : Option (List ℕ))
+    (all : List ℕ) → i < length rows → row ≡ get_or rows i row → left' ≡ left_behind left (events_in row)
     → Writes start here all (text_behind left (all_events (drop i rows)))
-    → Appends here there (text_behind left (events_in (get_or rows i d)))
+    → Appends here there (text_behind left (events_in row))
     → Writes start there all (text_behind left' (all_events (drop (i + 1) rows)))
-rows_more rows i left left' d start here there all lt e w a =
-    let row = get_or rows i d in
-    let step : all_events (drop i rows) ≡ events_in row ++ all_events (drop (i + 1) rows) = at_drop_more all_events rows i d lt in
+rows_more rows i left left' row start here there all lt is e w a =
+    let step : all_events (drop i rows) ≡ events_in row ++ all_events (drop (i + 1) rows) =
+    at_drop_more all_events rows i row lt ∙ ap (λ r. events_in r ++ all_events (drop (i + 1) rows)) (sym is) in
     writes_more start here there all (text_behind left (all_events (drop i rows))) (text_behind left (events_in row))
         (text_behind left' (all_events (drop (i + 1) rows)))
         (ap (λ l. text_behind left l) step ∙ behind_several left (events_in row) (all_events (drop (i + 1) rows))
