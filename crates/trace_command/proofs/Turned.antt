@@ -87,7 +87,7 @@ rows_more rows i left left' row start here there all lt is e w a =
     let step : all_events (drop i rows) ≡ events_in row ++ all_events (drop (i + 1) rows) =
     at_drop_more all_events rows i row lt ∙ ap (λ r. events_in r ++ all_events (drop (i + 1) rows)) (sym is) in
     writes_more start here there all (text_behind left (all_events (drop i rows))) (text_behind left (events_in row))
-        (text_behind left' (all_events (drop (i + 1) rows)))
-        (ap (λ l. text_behind left l) step ∙ behind_several left (events_in row) (all_events (drop (i + 1) rows))
-        ∙ ap (λ r. text_behind left (events_in row) ++ text_behind r (all_events (drop (i + 1) rows))) (sym e))
-        w a
+    (text_behind left' (all_events (drop (i + 1) rows)))
+    (ap (λ l. text_behind left l) step ∙ behind_several left (events_in row) (all_events (drop (i + 1) rows))
+    ∙ ap (λ r. text_behind left (events_in row) ++ text_behind r (all_events (drop (i + 1) rows))) (sym e))
+    w a
