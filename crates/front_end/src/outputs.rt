@@ -103,8 +103,8 @@ fn check_output<R: Files + AllocGlobal>(
     }
 }
 
-/// Each output has a name, and a file of its own. A stream that is named by its number was given to the program: this is
-/// asked before any is opened.
+/// Each output has a name, and a file of its own. A stream that is named by its number was given to the program: this
+/// is asked before any is opened.
 pub fn check_outputs<R: Files + AllocGlobal>(rt: &R, matches: &ArgMatches) -> Result<(), Fault> {
     for (place, (name, option)) in OUTPUTS.iter().enumerate() {
         if let Some(path) = matches.get_str(name) {

@@ -124,8 +124,8 @@ fn ended<R: Files + AllocGlobal>(
     Ok(status)
 }
 
-/// Runs the kernel by its schedule. The log goes to `err`, which is given back, and then the console to `out`, both also
-/// where the run ends in a fault.
+/// Runs the kernel by its schedule. The log goes to `err`, which is given back, and then the console to `out`, both
+/// also where the run ends in a fault.
 fn run_plan<R: Files + AllocGlobal, O: Write, E: Write>(
     rt: &R,
     leavings: Leavings<'_>,

@@ -34,8 +34,9 @@ abbrev pub Leads : List Entry → List (Request × Reply) → Option Request →
 Leads journal given pending = (more : List Entry) (x : Request × Reply) (rest : List (Request × Reply))
     → IsOf pending x → Told more (x ∷ rest) → Told (journal ++ more) (given ++ x ∷ rest)
 
--- exchanges were said, and a request that is pending; the journal tells of them, and of no more where the last reply was
--- given
+-- exchanges were said, and a request that is pending; the journal tells of them, and of no more where the last reply
+-- was given
 abbrev pub IsHeard : Bool → List Entry → List Said → Option Request → Type 0
 IsHeard true journal said pending = (said ≡ spoken (pairs said)) × Told journal (pairs said)
-IsHeard false journal said pending = (said ≡ spoken (pairs said) ++ asked_of pending) × Leads journal (pairs said) pending
+IsHeard false journal said pending =
+    (said ≡ spoken (pairs said) ++ asked_of pending) × Leads journal (pairs said) pending

@@ -390,7 +390,8 @@ impl<J: Naming> Held<J> {
 
     /// The pending request waits for a turn.
     pub fn waits(&self) -> bool
-        ensures { self.now.failed ≡ false → result ≡ (is_some (next_turn self.now) && not (readiness_of self.now.host).ready) }
+        ensures { self.now.failed ≡ false
+            → result ≡ (is_some (next_turn self.now) && not (readiness_of self.now.host).ready) }
     {
         self.is_able() && !self.host.ready()
     }

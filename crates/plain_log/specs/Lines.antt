@@ -19,7 +19,8 @@ mark replaced = if replaced then codes " r" else codes ""
 
 unfoldable pub line_of : Item → List ℕ
 line_of (Enter pid call) =
-    codes "E " ++ (decimal pid ++ (codes " " ++ (decimal call.number ++ (flat_map argument_text call.arguments ++ codes "\n"))))
+    codes "E " ++ (decimal pid ++ (codes " " ++ (decimal call.number
+    ++ (flat_map argument_text call.arguments ++ codes "\n"))))
 line_of (Done pid call result replaced) =
     codes "D " ++ (decimal pid ++ (codes " " ++ (result_text result ++ (mark replaced ++ codes "\n"))))
 line_of (Taken pid signal cause) = codes "S " ++ (decimal pid ++ (codes " " ++ (decimal signal.number ++ codes "\n")))

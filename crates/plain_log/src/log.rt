@@ -173,8 +173,8 @@ impl<W: Write> Watch for Log<W> {
     }
 }
 
-/// Makes the turns that a schedule gives, up to its end, and prints what is logged, also where they end in a fault. Gives
-/// the writer back.
+/// Makes the turns that a schedule gives, up to its end, and prints what is logged, also where they end in a fault.
+/// Gives the writer back.
 pub fn run<W: Write>(
     alloc: Global,
     kernel: &mut Kernel,

@@ -65,7 +65,8 @@ fn numbers_and_texts(rt: HostRuntime) -> Result<(), Fail> {
     Ok(())
 }
 
-/// The piece of a word that is refused as the word is, and whether it's an item, a part of `fault=` or one of `inject=`.
+/// The piece of a word that is refused as the word is, and whether it's an item, a part of `fault=` or one of
+/// `inject=`.
 fn piece_of(alloc: Global, word: &str) -> Result<Option<(&'static str, &str)>, ExprFault> {
     let Err(fault) = parse_expr(alloc, word) else {
         return Ok(None);

@@ -78,8 +78,8 @@ abbrev pub child_calls : {P I O E : Type 0} → (O → Option (List ℕ)) → (I
 child_calls remaining contents =
     calls_of_link (child_answers remaining contents) (λ l. given_of (pipe_of l)) (λ l. faults_of (pipe_of l))
 
--- A kernel of one thread takes this boot, under these words of a schedule: it is in this process where no host is named,
--- else that host, of which nothing was asked before, has taken it.
+-- A kernel of one thread takes this boot, under these words of a schedule: it is in this process where no host is
+-- named, else that host, of which nothing was asked before, has taken it.
 abbrev pub TakesAlone : {P I O E : Type 0} → (O → Option (List ℕ)) → (I → Option (List ℕ)) → Option (List ℕ) → Boot → ℕ
     → List Word → Kernel P I O E → Type 0
 TakesAlone remaining contents None boot limit words (Here b schedule) = (b ≡ boot) × (schedule ≡ worded words limit)
@@ -205,8 +205,8 @@ abbrev pub Unmade : {A : Type 0} → (Fault → Type 0) → Result A Fault → W
 Unmade lacks (Ok x) out out' err err' = ⊥
 Unmade lacks (Err fault) out out' err err' = lacks fault × ((out' ≡ out) × (err' ≡ err))
 
--- A run that needs neither a host, nor threads, nor a file is always made. The fault of another is that this host, these
--- threads (a boot that they refuse among them) or this file can't be had, or want of memory.
+-- A run that needs neither a host, nor threads, nor a file is always made. The fault of another is that this host,
+-- these threads (a boot that they refuse among them) or this file can't be had, or want of memory.
 
 abbrev pub IsFile : Place → Type 0
 IsFile Error = ⊥
@@ -266,8 +266,8 @@ Leaves words made result old new =
     × (OnErr turned (IsSome (value_of words (codes "turns-out")) × (has_ended made ≡ true))
     × LeavesAfter words turned made result old new)
 
--- All of it: a run that writes so writes its trace, then its turns are written where that is asked for, and then standard
--- output is given what it leaves.
+-- All of it: a run that writes so writes its trace, then its turns are written where that is asked for, and then
+-- standard output is given what it leaves.
 pub record Completes {F : Type 0} (held : F → Option (List ℕ))
     (runs : Result Ended RunFault → Writer → Writer → Type 0) (words : ArgMatches) (place : Place)
     (result : Result ℕ Fault) (out out' err err' : Writer) : Type 0 where

@@ -86,8 +86,8 @@ pub fn boot_kernel<R: Processes + AllocGlobal>(
 where
     R::Started: Streams,
     ensures takes { IfOk result
-        (λ kernel. TakesAlone R.Started.Stdout.remaining R.Started.Stdin.contents (option_map (λ path. path.now) host.entry)
-        boot limit turns.items kernel) }
+        (λ kernel. TakesAlone R.Started.Stdout.remaining R.Started.Stdin.contents
+        (option_map (λ path. path.now) host.entry) boot limit turns.items kernel) }
 
     // A kernel in this process is always there.
     ensures fault { IfErr result (λ fault. IsSome (option_map (λ path. path.now) host.entry) × IsUnhosted fault) }

@@ -1,7 +1,7 @@
 //! One record of what was said, and what each thread knows of it.
 //!
-//! A value under a lock is known by its type alone. A transcript carries what was said out of the lock: two of them that
-//! are as long as each other are the same, since both are beginnings of one record, which only grows.
+//! A value under a lock is known by its type alone. A transcript carries what was said out of the lock: two of them
+//! that are as long as each other are the same, since both are beginnings of one record, which only grows.
 
 ghost use Rattle.std.specs.Prelude.{◌≡◌, ◌++◌, ◌∷◌, [], true, length, None, option_map};
 ghost use Rattle.transcript.specs.Records.{head_of};
