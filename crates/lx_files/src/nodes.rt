@@ -11,23 +11,25 @@ ghost use Rattle.lx_files.specs.Contents.{padded_to, overwritten as overwritten_
 ghost use Rattle.lx_files.specs.Contents.{length_after as length_after_of};
 ghost use Rattle.std.specs.Prelude.{◌≤◌, ◌+◌, OnErr, [], ◌++◌, replicate, ◌-◌};
 
-use containers::{Bytes, Map};
+use containers::Bytes;
 use lx_abi::Node;
+use shelves::Numbered;
 use std::alloc::{AllocError, Global};
 use std::marker::Model;
 
-/// Files and directories by number, with how many bytes all files have and a number below which none is vacant.
+/// Files and directories by number, with how many bytes all files have.
 #[derive(Drop)]
 pub struct Nodes {
-    map: Map<Node>,
+    map: Numbered<Node>,
     contents: u64,
-    full_below: u32,
 }
 
 impl Model for Nodes {
     ghost use Rattle.std.specs.Coded.{codes};
     ghost use Rattle.std.specs.FinMap as maps;
-    ghost use Rattle.lx_files.specs.Kinds.{NodeMap, AreKept};
+    ghost use Rattle.std.specs.Prelude.{◌≡◌};
+    ghost use Rattle.lx_files.specs.Kinds.{NodeMap, size_of};
+    ghost use Rattle.lx_files.specs.Tallies.{total};
 
     ghost Value = { NodeMap };
 
@@ -35,7 +37,7 @@ impl Model for Nodes {
 
     ghost view = { λ n. n.map };
 
-    ghost invariant = { λ n. AreKept n.map n.contents n.full_below };
+    ghost invariant = { λ n. n.contents ≡ total size_of n.map };
 }
 
 fn size(node: &Node) -> u64
@@ -48,7 +50,7 @@ fn size(node: &Node) -> u64
 }
 
 /// How many bytes stand at a number.
-fn size_at(map: &Map<Node>, node: u32) -> u64
+fn size_at(map: &Numbered<Node>, node: u32) -> u64
     ensures { result ≡ weight size_of (maps.get map.now node) }
 {
     match map.get(node) {
@@ -62,9 +64,8 @@ impl Nodes {
         ensures { result ≡ maps.empty }
     {
         Nodes {
-            map: Map::new(alloc),
+            map: Numbered::new(alloc),
             contents: 0,
-            full_below: 0,
         }
     }
 
@@ -84,7 +85,7 @@ impl Nodes {
     pub fn vacant(&self) -> Result<u32, AllocError>
         ensures { IfOk result (λ n. n ≡ vacant self.now) }
     {
-        self.map.vacant(self.full_below)
+        self.map.vacant()
     }
 
     /// How many bytes all files have.
@@ -101,7 +102,6 @@ impl Nodes {
             None => {}
             Some(old) => {
                 self.contents = self.contents.saturating_sub(size(&old));
-                self.full_below = self.full_below.min(node);
             }
         }
     }
@@ -121,9 +121,6 @@ impl Nodes {
         };
         self.map.insert(node, value)?;
         self.contents = contents;
-        if self.full_below == node {
-            self.full_below = node.saturating_add(1);
-        }
         Ok(())
     }
 

@@ -3,8 +3,6 @@ use Rattle.std.specs.Prelude.{OnSome}
 use Rattle.std.specs.FinMap as maps
 use Rattle.lx_files.specs.Kinds.{changed_file}
 use Rattle.lx_files.proofs.Sizes.{kept_cleared}
-use Rattle.containers.specs.Vacant.{IsFullBelow}
-use Rattle.lx_files.proofs.Full.{full_insert}
 use Rattle.lx_files.proofs.nodes.Nodes.clear.Goals as goal
 
 pub invariant_of-self-2 : goal.invariant_of-self-2
@@ -12,7 +10,7 @@ invariant_of-self-2 c =
     let m = c.self.inside.map in
     let w = c.clear_node.new.node in
     let h = subst (λ r. OnSome r (c.get_mut.follows.lender w ≡ maps.insert m c.args.node w)) c.in-Some.is (c.get_mut.follows.holds w) in
-    record { sum = (kept_cleared m _ c.args.node c.in-Some.value.now w _ c.size-before.result _ c.in-Some.ensures.value c.self.invariant.sum c.size-before.ensures c.clear_node.ensures c.saturating_sub-self-inside.ensures h); full = subst (λ t. IsFullBelow t c.self.inside.full_below) (sym h) (full_insert m c.self.inside.full_below c.args.node w c.self.invariant.full) }
+    (kept_cleared m _ c.args.node c.in-Some.value.now w _ c.size-before.result _ c.in-Some.ensures.value c.self.invariant c.size-before.ensures c.clear_node.ensures c.saturating_sub-self-inside.ensures h)
 
 pub returns : goal.returns
 returns c =
