@@ -7,11 +7,11 @@ ghost use Rattle.containers.specs.Vacant.{vacant};
 ghost use Rattle.lx_abi.specs.Limits.{largest_file};
 ghost use Rattle.lx_files.specs.Tallies.{total, weight};
 ghost use Rattle.lx_files.specs.Kinds.{size_of, changed_file, changed_node};
-ghost use Rattle.lx_files.specs.Contents.{padded_to, overwritten as overwritten_of, reaching};
+ghost use Rattle.lx_files.specs.Contents.{padded_to, overwritten as overwritten_of};
 ghost use Rattle.lx_files.specs.Contents.{length_after as length_after_of};
-ghost use Rattle.std.specs.Prelude.{◌≤◌, ◌+◌, OnErr, [], ◌++◌, replicate, ◌-◌};
+ghost use Rattle.std.specs.Prelude.{◌≤◌, ◌+◌, OnErr, []};
 
-use containers::Bytes;
+use containers::Content;
 use lx_abi::Node;
 use shelves::Numbered;
 use std::alloc::{AllocError, Global};
@@ -20,6 +20,7 @@ use std::marker::Model;
 /// Files and directories by number, with how many bytes all files have.
 #[derive(Drop)]
 pub struct Nodes {
+    alloc: Global,
     map: Numbered<Node>,
     contents: u64,
 }
@@ -64,6 +65,7 @@ impl Nodes {
         ensures { result ≡ maps.empty }
     {
         Nodes {
+            alloc,
             map: Numbered::new(alloc),
             contents: 0,
         }
@@ -125,15 +127,17 @@ impl Nodes {
     }
 
     /// A file has no bytes from now on. A node that is no file is left.
-    pub fn clear(&mut self, node: u32)
-        ensures { self.new ≡ changed_file self.old node (λ old. []) (maps.get self.old node) }
+    pub fn clear(&mut self, node: u32) -> Result<(), AllocError>
+        ensures ok { OnOk result (self.new ≡ changed_file self.old node (λ old. []) (maps.get self.old node)) }
+        ensures err { OnErr result (self.new ≡ self.old) }
     {
         let Some(value) = self.map.get_mut(node) else {
-            return;
+            return Ok(());
         };
         let before = size(value);
-        clear_node(value);
+        clear_node(self.alloc, value)?;
         self.contents = self.contents.saturating_sub(before);
+        Ok(())
     }
 
     /// Writes bytes to a file from an offset on. A node that is no file is left.
@@ -152,7 +156,7 @@ impl Nodes {
         let Some(contents) = self.contents.saturating_sub(before).checked_add(after) else {
             return Err(AllocError);
         };
-        overwrite_node(value, at, bytes)?;
+        overwrite_node(self.alloc, value, at, bytes)?;
         self.contents = contents;
         Ok(())
     }
@@ -171,18 +175,18 @@ impl Nodes {
         let Some(contents) = self.contents.saturating_sub(before).checked_add(after) else {
             return Err(AllocError);
         };
-        resize_node(value, len)?;
+        resize_node(self.alloc, value, len)?;
         self.contents = contents;
         Ok(())
     }
 }
 
-fn resize_node(node: &mut Node, len: usize) -> Result<(), AllocError>
+fn resize_node(alloc: Global, node: &mut Node, len: usize) -> Result<(), AllocError>
     ensures ok { OnOk result (node.new ≡ changed_node (padded_to len) node.old) }
     ensures err { OnErr result (node.new ≡ node.old) }
 {
     match node {
-        Node::File(content) => content.resize(len),
+        Node::File(content) => content.resize(alloc, len),
         Node::Directory => Ok(()),
     }
 }
@@ -197,21 +201,14 @@ fn size_resized(node: &Node, len: usize) -> u64
     }
 }
 
-/// The bytes reach to an end at least, with zeros.
-fn reach(content: &mut Bytes, end: usize) -> Result<(), AllocError>
-    ensures ok { OnOk result (content.new ≡ reaching end content.old) }
-    ensures err { OnErr result (content.new ≡ content.old) }
-{
-    if content.len() < end {
-        content.resize(end)?;
-        return Ok(());
-    }
-    Ok(())
-}
-
 /// Writes bytes from an offset on, all of them or none.
 #[tactic(auto, unfolding(crate::specs::Contents::overwritten))]
-fn overwrite_bytes(content: &mut Bytes, at: usize, bytes: &[u8]) -> Result<(), AllocError>
+fn overwrite_content(
+    alloc: Global,
+    content: &mut Content,
+    at: usize,
+    bytes: &[u8],
+) -> Result<(), AllocError>
     requires { at + length bytes.now ≤ largest_file }
     ensures ok { OnOk result (content.new ≡ overwritten_of content.old at bytes.now) }
     ensures err { OnErr result (content.new ≡ content.old) }
@@ -219,18 +216,16 @@ fn overwrite_bytes(content: &mut Bytes, at: usize, bytes: &[u8]) -> Result<(), A
     if bytes.len() == 0 {
         return Ok(());
     }
-    reach(content, at + bytes.len())?;
-    content.put(at, bytes);
-    Ok(())
+    content.write(alloc, at, bytes)
 }
 
-fn overwrite_node(node: &mut Node, at: usize, bytes: &[u8]) -> Result<(), AllocError>
+fn overwrite_node(alloc: Global, node: &mut Node, at: usize, bytes: &[u8]) -> Result<(), AllocError>
     requires { at + length bytes.now ≤ largest_file }
     ensures ok { OnOk result (node.new ≡ changed_node (λ old. overwritten_of old at bytes.now) node.old) }
     ensures err { OnErr result (node.new ≡ node.old) }
 {
     match node {
-        Node::File(content) => overwrite_bytes(content, at, bytes),
+        Node::File(content) => overwrite_content(alloc, content, at, bytes),
         Node::Directory => Ok(()),
     }
 }
@@ -258,11 +253,12 @@ pub fn length_after(len: usize, at: usize, written: usize) -> usize
     }
 }
 
-fn clear_node(node: &mut Node)
-    ensures { node.new ≡ changed_node (λ old. []) node.old }
+fn clear_node(alloc: Global, node: &mut Node) -> Result<(), AllocError>
+    ensures ok { OnOk result (node.new ≡ changed_node (λ old. []) node.old) }
+    ensures err { OnErr result (node.new ≡ node.old) }
 {
     match node {
-        Node::File(content) => content.clear(),
-        Node::Directory => {}
+        Node::File(content) => content.clear(alloc),
+        Node::Directory => Ok(()),
     }
 }
