@@ -1,10 +1,10 @@
 //! Numbers by path, in folders.
 //!
 //! A path is looked up name by name from the top, each in the folder above it, so it takes time with its names, and a
-//! part of it from its folder one look-up; from the directory above the last path that was made, whose folder is known,
-//! what is below is looked up without those above. A name is kept twice: in the folder above, and where its own folder stands.
-//! Whole paths are made where they are listed, and for `any_under` where a folder without a number is all there is in
-//! another, as is so only where a path was given a number before the path above it.
+//! part of it from its folder one look-up. Of the directory above the path that was made last the folder is known: what
+//! is in it, or below, is looked up from there. A name is kept twice: in the folder above, and where its own folder
+//! stands. Whole paths are made where they are listed, and for `any_under` where a folder without a number is all there
+//! is in another, as is so only where a path was given a number before the path above it.
 
 ghost use Rattle.std.specs.Prelude.{◌≡◌, ◌<◌, ◌≤◌, take, length, is_some, true, OnOk, OnErr, IfOk, map, []};
 ghost use Rattle.std.specs.FinMap as maps;
