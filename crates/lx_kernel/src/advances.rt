@@ -355,9 +355,7 @@ pub fn advance_at(
     match tasks.get_mut(pid) {
         None => Ok(none(mode_of_gone(shared, pid))),
         Some(task) => {
-            let advanced = advance_task(
-                alloc, shared, injection, child, pid, limit, task, item,
-            )?;
+            let advanced = advance_task(alloc, shared, injection, child, pid, limit, task, item)?;
             Ok(advanced)
         }
     }

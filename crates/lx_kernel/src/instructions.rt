@@ -12,10 +12,7 @@ use rv_hart::{Progress, Step};
 use std::alloc::AllocError;
 
 /// Runs instructions, at most so many.
-fn run_instructions(
-    user: &mut UserState,
-    limit: u64,
-) -> Result<Progress, AllocError>
+fn run_instructions(user: &mut UserState, limit: u64) -> Result<Progress, AllocError>
     requires { user.old.interrupted ≡ None }
     ensures follows { IfOk result (λ p. Follows p.ran user.old user.new) }
     ensures within { IfOk result (λ p. p.ran ≤ limit) }
@@ -26,10 +23,7 @@ fn run_instructions(
 }
 
 /// Turns of a body in Run, at most so many: how many there were, and whether the next comes to a call.
-pub fn run_user(
-    user: &mut UserState,
-    limit: u64,
-) -> Result<Progress, AllocError>
+pub fn run_user(user: &mut UserState, limit: u64) -> Result<Progress, AllocError>
     ensures follows { IfOk result (λ p. Follows p.ran user.old user.new) }
     ensures within { IfOk result (λ p. p.ran ≤ limit) }
     ensures calls { IfOk result (λ p. p.step ≡ Step.Call → IsAtCall user.new) }
