@@ -5,7 +5,7 @@ _girmolet_errors='E2BIG EACCES EADDRINUSE EADDRNOTAVAIL EADV EAFNOSUPPORT EAGAIN
 _girmolet_signals='HUP INT QUIT ILL TRAP ABRT BUS FPE KILL USR1 SEGV USR2 PIPE ALRM TERM STKFLT CHLD CONT STOP TSTP TTIN TTOU URG XCPU XFSZ VTALRM PROF WINCH IO PWR SYS'
 _girmolet_options='-e --trace --inject --fault -f --follow-forks -o --output -s --string-limit -a --columns -E --env --host --host-arg --host-timeout --turns --workers --turns-out --limit --file --dir --files-out --files-list --explain -h --help -V --version --'
 _girmolet_plain_options='-e --inject --fault -E --env --turns --limit --file --dir --files-out --files-list --explain -h --help --'
-_girmolet_sweep_options='-e --fault -f --follow-forks -o --output --format --each --all --errors -E --env --turns --limit --jobs --orders --seed --keep --known --known-out --shard --fail-fast --file --dir --explain -h --help -V --version --'
+_girmolet_sweep_options='-e --fault -f --follow-forks -o --output --format --each --all --errors -E --env --turns --limit --jobs --orders --seed --keep --one --known --known-out --shard --fail-fast --file --dir --explain -h --help -V --version --'
 
 # Candidates for a set, with its qualifier or without.
 _girmolet_set() {

@@ -1,5 +1,9 @@
--- The report on a sweep of failures.
-use Rattle.std.specs.Prelude.{◌≡◌, ℕ, ◌-◌, ◌==◌, cond, Bool, false, List, [], ◌∷◌, ◌++◌, Option, Some, None, map}
+-- The report on a sweep.
+use Rattle.std.specs.Prelude.{◌≡◌, ℕ, ◌-◌, ◌==◌, ◌&&◌, ◌||◌, nat_lt, cond, Bool, false, List, [], ◌∷◌, ◌++◌, length, Option, Some, None, map}
+use Rattle.std.specs.List.{list_any}
+use Rattle.sweep_orders.specs.Orders.{AreOrders}
+use Rattle.sweep_orders.specs.declared.exploring.Explored.{Explored}
+use Rattle.sweep_orders.specs.declared.found.Found.{Found}
 use Rattle.sweep_report.specs.Tallies.{unmarked}
 use Rattle.sweep_rows.specs.Summary.{status}
 use Rattle.sweep_rows.specs.declared.verdicts.Reached.{Reached}
@@ -9,6 +13,7 @@ use Rattle.sweep_runs.specs.declared.chosen.Case.{Case}
 use Rattle.sweep_runs.specs.declared.runs.Setup.{Setup}
 use Rattle.sweep_runs.specs.declared.sweeping.Row.{Row}
 use Rattle.sweep_words.specs.declared.plan.Plan.{Plan}
+use Rattle.sweep_words.specs.declared.words.Orders.{Orders}
 use Rattle.sweep_words.specs.declared.words.Shard.{Shard}
 use Rattle.sweep_words.specs.declared.words.Words.{Words}
 
@@ -56,3 +61,16 @@ pub record IsOfRows (plan : Plan) (words : Words) (reference : Reached) (s : ℕ
   pub wanted : AreWanted plan words.shard reference cases
   pub made : AreBegun plan.setup reference words.fail_fast cases rows
   pub counted : IsCounted plan rows s
+
+-- The report on orders of turns.
+
+-- the status is 1 where a run did not end, or where there is more than one result and there is to be one
+abbrev pub orders_status : Bool → List Found → ℕ
+orders_status one found =
+    cond (list_any (λ f. f.ending.alive) found || (one && nat_lt 1 (length found))) 1 0
+
+-- the status is that of the results of so many orders
+pub record IsOfOrders (plan : Plan) (orders : Orders) (reference : Reached) (s : ℕ) : Type 0 where
+  pub explored : Explored
+  pub tried : AreOrders plan.setup reference.log.items orders.count orders.seed explored
+  pub status_is : s ≡ orders_status orders.one explored.found.items
