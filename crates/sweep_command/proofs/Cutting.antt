@@ -52,3 +52,16 @@ module _ (setup : Setup) (reference : Reached) where
       let few : length rows ≡ min (length rows) (length batch) = ap length cut ∙ length-take (length rows) batch in
       let short : length first ≡ min n (length left) = ap length is ∙ length-take n left in
       omega (arith, many, few, short)
+
+  -- what is told of a batch isn't empty
+  pub some_told : (fail_fast ended : Bool) (n : ℕ) (left first : List Case) (batch rows : List Row) → first ≡ take n left → 0 < n → 0 < length left
+      → AreRows setup reference first batch → IsCut fail_fast batch rows ended → 0 < length rows
+  some_told fail_fast ended n left first batch rows is size some made cut =
+      let many : length batch ≡ length first = sym (length-map batch (λ (r : Row). r.case)) ∙ ap length made.cases_are in
+      let short : length first ≡ min n (length left) = ap length is ∙ length-take n left in
+      cut.some (omega (arith, many, short, size, some))
+
+-- the rows before it change nothing of how the sweep ends
+pub ended_behind : (fail_fast : Bool) (before rows : List Row) → 0 < length rows → (fail_fast && ends_found false rows) ≡ true
+    → (fail_fast && ends_found false (before ++ rows)) ≡ true
+ended_behind fail_fast before rows some e = ap (λ b. fail_fast && b) (ends_behind before rows false some) ∙ e

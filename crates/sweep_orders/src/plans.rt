@@ -81,6 +81,7 @@ pub fn words_of(alloc: Global, pids: &[u32]) -> Result<Seq<Word>, AllocError>
 }
 
 /// Whose the steps of an order with a switch are, up to the switch.
+#[tactic(auto, using(crate::proofs::Lists::take_least))]
 pub fn switched(alloc: Global, steps: &Steps, switch: Switch) -> Result<Vec<u32>, AllocError>
     ensures { IfOk result (λ pids. pids.items ≡ switched steps.now switch) }
 {
