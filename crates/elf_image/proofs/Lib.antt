@@ -3,3 +3,4 @@ pub mod Lists
 pub mod Pages
 pub mod RoundTrip
 pub mod Spelled
+pub mod Typed

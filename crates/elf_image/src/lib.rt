@@ -4,14 +4,18 @@
 #![tactic(auto)]
 
 pub mod fault;
+pub mod faulty;
 mod fields;
 mod headers;
 pub mod image;
 mod layout;
+mod notes;
 mod reading;
 mod writing;
 
 pub use fault::ElfFault;
+pub use faulty::{FaultyField, faulty_field};
 pub use image::{Image, Rights, Segment, Segments};
+pub use notes::{content_of, is_compressed};
 pub use reading::read;
 pub use writing::write;

@@ -16,13 +16,13 @@ use containers::Bytes;
 use std::alloc::{AllocError, Global};
 
 /// The size of the ELF header.
-const HEADER_SIZE: usize = 64;
+pub const HEADER_SIZE: usize = 64;
 
 /// 7F 45 4C 46, the lowest byte first.
 const MAGIC: u32 = 0x464c_457f;
 
 /// The most program headers that a file may have.
-const MOST_HEADERS: usize = 64;
+pub const MOST_HEADERS: usize = 64;
 
 #[tactic(auto, unfolding(crate::specs::Checks::has_no_magic))]
 fn lacks_magic(bytes: &[u8]) -> bool

@@ -4,7 +4,7 @@ use crate::expressions::RefusedExpression;
 use crate::names::{Names, call_of, nearest};
 use crate::shown::{Escaped, Shown};
 use std::alloc::{AllocError, Global};
-use tr_expr::{ExprFault, parse_expr};
+use tr_expr::{ExprFault, InjectParts, RefusedPiece, refused_piece};
 
 /// What strace takes after `-e`, or in a part, and this program doesn't.
 const ABSENT: [&str; 14] = [
@@ -27,85 +27,6 @@ const ABSENT: [&str; 14] = [
 /// What may stand after `when=`.
 const WHEN: &str = "FIRST or FIRST..LAST, alone or with + or +STEP after it; \
 FIRST and STEP are from 1 to 65535, LAST from 1 to 65534";
-
-/// The set's text and the parts' of an expression.
-#[derive(Clone, Copy)]
-struct Pieces<'a> {
-    /// `trace=` or what else it begins with, if anything.
-    start: &'a str,
-    set: &'a str,
-    parts: Option<&'a str>,
-}
-
-fn cut(text: &str) -> Pieces<'_> {
-    if let Some(set) = text.strip_prefix("trace=") {
-        return Pieces {
-            start: "trace=",
-            set,
-            parts: None,
-        };
-    }
-    let (start, rule) = match (text.strip_prefix("inject="), text.strip_prefix("fault=")) {
-        (Some(rule), _) => ("inject=", rule),
-        (None, Some(rule)) => ("fault=", rule),
-        (None, None) => return Pieces {
-            start: "",
-            set: text,
-            parts: None,
-        },
-    };
-    match rule.split_once(':') {
-        Some((set, parts)) => Pieces {
-            start,
-            set,
-            parts: Some(parts),
-        },
-        None => Pieces {
-            start,
-            set: rule,
-            parts: None,
-        },
-    }
-}
-
-/// An expression is refused so.
-fn is_refused(alloc: Global, text: &str, fault: ExprFault) -> Result<bool, AllocError> {
-    match parse_expr(alloc, text) {
-        Ok(_) => Ok(false),
-        Err(ExprFault::Memory) => Err(AllocError),
-        Err(found) => Ok(found == fault),
-    }
-}
-
-/// The first item of the set that is refused so by itself.
-fn faulty_item<'a>(
-    alloc: Global,
-    cut: Pieces<'a>,
-    fault: ExprFault,
-) -> Result<Option<&'a str>, AllocError> {
-    let set = cut.set.strip_prefix('!').unwrap_or(cut.set);
-    for item in set.split(',') {
-        if is_refused(alloc, item, fault)? {
-            return Ok(Some(item));
-        }
-    }
-    Ok(None)
-}
-
-/// The first part that is refused so in an expression with no other.
-fn faulty_part<'a>(
-    alloc: Global,
-    cut: Pieces<'a>,
-    fault: ExprFault,
-) -> Result<Option<&'a str>, AllocError> {
-    for part in cut.parts.unwrap_or("").split(':') {
-        let text = format!(in alloc; "{}all:{part}", cut.start)?;
-        if is_refused(alloc, text.as_str(), fault)? {
-            return Ok(Some(part));
-        }
-    }
-    Ok(None)
-}
 
 /// `; NAME is`, where a name is near.
 fn near(alloc: Global, names: Names, word: &str, start: &str) -> Result<String, AllocError> {
@@ -225,7 +146,7 @@ fn explain_part_of_fault(
     format!(in alloc; "no part is named {}{near}", Shown(key))
 }
 
-fn explain_part(alloc: Global, cut: Pieces<'_>, part: &str) -> Result<String, AllocError> {
+fn explain_part(alloc: Global, form: InjectParts, part: &str) -> Result<String, AllocError> {
     let key = part.split_once('=').map_or(part, |(key, _)| key);
     if matches!(
         key,
@@ -234,7 +155,7 @@ fn explain_part(alloc: Global, cut: Pieces<'_>, part: &str) -> Result<String, Al
         return format!(in alloc; "{key}= is strace's and not here");
     }
     let near = near(alloc, Names::Parts, key, "")?;
-    if cut.start == "fault=" {
+    if form == InjectParts::Fault {
         return explain_part_of_fault(alloc, key, part, near.as_str());
     }
     if matches!(key, "error" | "retval" | "signal" | "when") {
@@ -246,29 +167,53 @@ fn explain_part(alloc: Global, cut: Pieces<'_>, part: &str) -> Result<String, Al
     )
 }
 
-/// Why the expression is refused, and where.
-fn reason(alloc: Global, refused: RefusedExpression<'_>) -> Result<String, AllocError> {
-    let RefusedExpression { text, fault } = refused;
-    let cut = cut(text);
-    let item = faulty_item(alloc, cut, fault)?.unwrap_or(cut.set);
-    let part = faulty_part(alloc, cut, fault)?.unwrap_or(cut.parts.unwrap_or(""));
-    match fault {
-        ExprFault::UnknownCall => explain_call(alloc, text, item),
+fn explain_item(
+    alloc: Global,
+    refused: RefusedExpression<'_>,
+    item: &str,
+) -> Result<String, AllocError> {
+    match refused.fault {
+        ExprFault::UnknownCall => explain_call(alloc, refused.text, item),
         ExprFault::UnknownClass => explain_class(alloc, item),
+        _ => format!(in alloc;
+            "{}: not a regular expression; no comma or colon may stand in one",
+            Shown(item)
+        ),
+    }
+}
+
+fn explain_value(
+    alloc: Global,
+    fault: ExprFault,
+    form: InjectParts,
+    part: &str,
+) -> Result<String, AllocError> {
+    match fault {
         ExprFault::UnknownErrno => explain_error(alloc, part),
         ExprFault::UnknownSignal => explain_signal(alloc, part),
         ExprFault::BadNumber => explain_number(alloc, part),
         ExprFault::BadWhen => explain_when(alloc, part),
-        ExprFault::UnknownPart => explain_part(alloc, cut, part),
-        ExprFault::BadPattern => format!(in alloc;
-            "{}: not a regular expression; no comma or colon may stand in one",
-            Shown(item)
-        ),
+        _ => explain_part(alloc, form, part),
+    }
+}
+
+/// Why the expression is refused as a whole.
+fn explain_whole(alloc: Global, fault: ExprFault) -> Result<String, AllocError> {
+    match fault {
         ExprFault::BothResults => format!(in alloc; "error= and retval= exclude each other"),
         ExprFault::NothingToDo => format!(in alloc;
             "nothing is to be done; inject= needs error=, retval= or signal="
         ),
-        ExprFault::Memory => format!(in alloc; "{fault}"),
+        _ => format!(in alloc; "{fault}"),
+    }
+}
+
+/// Why the expression is refused, and where.
+fn reason(alloc: Global, refused: RefusedExpression<'_>) -> Result<String, AllocError> {
+    match refused_piece(alloc, refused.text, refused.fault)? {
+        Some(RefusedPiece::Item(item)) => explain_item(alloc, refused, item),
+        Some(RefusedPiece::Part(form, part)) => explain_value(alloc, refused.fault, form, part),
+        None => explain_whole(alloc, refused.fault),
     }
 }
 

@@ -1,7 +1,7 @@
 //! What is known of a guest's program before it runs, for whoever asks why it didn't.
 
 use crate::shown::Shown;
-use elf_image::ElfFault;
+use elf_image::{ElfFault, FaultyField, content_of, faulty_field, is_compressed};
 use lx_abi::{Boot, GuestFile};
 use std::alloc::{AllocError, Global};
 
@@ -15,30 +15,11 @@ const MISALIGNED: u8 = 135;
 
 const BAD_ADDRESS: u8 = 139;
 
-/// Where `e_type`, `e_machine`, `e_phoff`, `e_flags` and `e_phnum` stand in the header of an ELF file.
-const TYPE: usize = 16;
-
-const MACHINE: usize = 18;
-
-const HEADERS: usize = 32;
-
-const FLAGS: usize = 48;
-
-const HEADER_COUNT: usize = 56;
-
-/// The bytes of a program header, which begins with its type.
-const HEADER_SIZE: usize = 56;
-
 /// The type of the program header that names a loader, PT_INTERP.
 const LOADER: u32 = 3;
 
 /// The type of the program header that leads to the file's attributes, PT_RISCV_ATTRIBUTES.
 const ATTRIBUTES: u32 = 0x7000_0003;
-
-/// Where the place and the size of what a program header leads to stand in it.
-const PLACE: usize = 8;
-
-const SIZE: usize = 32;
 
 /// What the file of a program is.
 #[derive(Clone, Copy, Debug, PartialEq, Eq)]
@@ -73,42 +54,14 @@ fn path_of(alloc: Global, word: &str) -> Result<String, AllocError> {
     }
 }
 
-/// The two bytes at a place, the least first.
-fn half_word(content: &[u8], at: usize) -> u16 {
-    match content.get(at..at.saturating_add(2)) {
-        Some([low, high]) => u16::from(*low) + 256 * u16::from(*high),
-        _ => 0,
-    }
-}
-
-/// The four bytes at a place, the least first.
-fn word(content: &[u8], at: usize) -> u32 {
-    let high = half_word(content, at.saturating_add(2));
-    u32::from(half_word(content, at)) + 65_536 * u32::from(high)
-}
-
-/// The place of the first program header of this type.
-fn header_of(content: &[u8], kind: u32) -> Option<usize> {
-    let table = word(content, HEADERS) as usize;
-    let count = usize::from(half_word(content, HEADER_COUNT));
-    (0..count)
-        .map(|header| table.saturating_add(header.saturating_mul(HEADER_SIZE)))
-        .find(|at| word(content, *at) == kind)
-}
-
 /// A program header names a loader.
 fn wants_loader(content: &[u8]) -> bool {
-    header_of(content, LOADER).is_some()
+    content_of(content, LOADER).is_some()
 }
 
 /// The file's attributes name extensions of RV64I, as `_m2p0` in `rv64i2p1_m2p0`.
 fn has_extensions(content: &[u8]) -> bool {
-    let Some(header) = header_of(content, ATTRIBUTES) else {
-        return false;
-    };
-    let from = word(content, header.saturating_add(PLACE)) as usize;
-    let size = word(content, header.saturating_add(SIZE)) as usize;
-    let attributes = content.get(from..from.saturating_add(size)).unwrap_or(&[]);
+    let attributes = content_of(content, ATTRIBUTES).unwrap_or(&[]);
     attributes.split(|byte| *byte == 0).any(|text| {
         let text = str::from_utf8(text).unwrap_or("");
         match text.split_once("rv64i") {
@@ -118,29 +71,36 @@ fn has_extensions(content: &[u8]) -> bool {
     })
 }
 
-fn machine(content: &[u8]) -> &'static str {
-    match half_word(content, MACHINE) {
-        62 => "is built for x86-64, not for RV64I",
-        3 => "is built for i386, not for RV64I",
-        183 => "is built for AArch64, not for RV64I",
-        40 => "is built for Arm, not for RV64I",
+/// Why a file that isn't of RISC-V isn't run, by the field that says so.
+fn machine(field: Option<FaultyField>) -> &'static str {
+    match field {
+        Some(FaultyField::Machine(62)) => "is built for x86-64, not for RV64I",
+        Some(FaultyField::Machine(3)) => "is built for i386, not for RV64I",
+        Some(FaultyField::Machine(183)) => "is built for AArch64, not for RV64I",
+        Some(FaultyField::Machine(40)) => "is built for Arm, not for RV64I",
         _ => "is not a 64-bit RISC-V file",
+    }
+}
+
+/// Why a file that is no executable isn't run.
+fn other_file(content: &[u8], field: Option<FaultyField>) -> &'static str {
+    match field {
+        Some(FaultyField::FileType(3)) if wants_loader(content) => {
+            "is dynamic and position-independent; link it with -static -no-pie"
+        }
+        Some(FaultyField::FileType(3)) => "is position-independent; link it with -static -no-pie",
+        _ => "is not an executable; link it",
     }
 }
 
 /// Why a file isn't run, behind its path.
 fn refusal_of(content: &[u8], fault: ElfFault) -> Result<&'static str, AllocError> {
+    let field = faulty_field(content, fault);
     Ok(match fault {
         ElfFault::NotElf if content.starts_with(b"#!") => "is a script, and scripts aren't run",
         ElfFault::NotElf => "is not an ELF file",
-        ElfFault::NotRiscv => machine(content),
-        ElfFault::NotExec if half_word(content, TYPE) == 3 && wants_loader(content) => {
-            "is dynamic and position-independent; link it with -static -no-pie"
-        }
-        ElfFault::NotExec if half_word(content, TYPE) == 3 => {
-            "is position-independent; link it with -static -no-pie"
-        }
-        ElfFault::NotExec => "is not an executable; link it",
+        ElfFault::NotRiscv => machine(field),
+        ElfFault::NotExec => other_file(content, field),
         ElfFault::Truncated => "is cut off or malformed",
         ElfFault::Overlap => "has segments that overlap, or that hold more than their size",
         ElfFault::TooLarge => "is too large",
@@ -152,7 +112,7 @@ fn kind_of(alloc: Global, content: &[u8]) -> Result<Kind, AllocError> {
     Ok(match elf_image::read(alloc, content) {
         Err(fault) => Kind::Refused(refusal_of(content, fault)?),
         Ok(_) if wants_loader(content) => Kind::Dynamic,
-        Ok(_) if half_word(content, FLAGS) % 2 == 1 => Kind::Compressed,
+        Ok(_) if is_compressed(content) => Kind::Compressed,
         Ok(_) if has_extensions(content) => Kind::Extended,
         Ok(_) => Kind::Usual,
     })

@@ -1,6 +1,6 @@
 //! A run on the untraced kernel.
 
-ghost use Rattle.std.specs.Prelude.{◌≡◌, OnOk, IfOk};
+ghost use Rattle.std.specs.Prelude.{◌≡◌, Ok, OnOk, IfOk};
 ghost use Rattle.lx_abi.specs.Modes.{lives_in};
 ghost use Rattle.plain_run.specs.Runs.{RunsTo};
 ghost use Rattle.plain_log.specs.Logged.{IsLogged};
@@ -55,18 +55,26 @@ fn status(kernel: &Kernel) -> Result<u8, AllocError>
     Ok(status_of(ended.as_slice()))
 }
 
-/// Turns by the plan's schedule until it has ended, with the log to a writer.
-fn log_turns<E: Write>(alloc: Global, plan: &mut Plan, err: &mut E) -> Result<(), Fault>
-    ensures to { OnOk result (RunsTo plan.old.kernel plan.old.schedule plan.new.kernel) }
-    ensures printed { OnOk result (IsLogged (E.contents err.old) plan.old.kernel plan.new.kernel (E.contents err.new)) }
+/// A run whose log ended so.
+fn logged(alloc: Global, ended: Result<(), LogFault>) -> Result<(), Fault>
+    ensures { OnOk result (ended ≡ Ok tt) }
 {
-    match plain_log::run(alloc, &mut plan.kernel, &mut plan.schedule, err) {
+    match ended {
         Ok(()) => Ok(()),
         Err(LogFault::Memory) => Err(Fault::Memory),
         Err(LogFault::Output(error)) => {
             Err(Fault::output(format!(in alloc; "the log: {error}")))
         }
     }
+}
+
+/// Turns by the plan's schedule until it has ended, with the log to a writer, which is given back.
+fn log_turns<E: Write>(alloc: Global, plan: &mut Plan, err: E) -> (E, Result<(), Fault>)
+    ensures to { OnOk result.1 (RunsTo plan.old.kernel plan.old.schedule plan.new.kernel) }
+    ensures printed { OnOk result.1 (IsLogged (E.contents err) plan.old.kernel plan.new.kernel (E.contents result.0)) }
+{
+    let (err, ended) = plain_log::run(alloc, &mut plan.kernel, &mut plan.schedule, err);
+    (err, logged(alloc, ended))
 }
 
 fn write_flushed<O: Write>(bytes: &[u8], out: &mut O) -> io::Result<()> {
@@ -98,26 +106,40 @@ fn write_leavings<R: Files + AllocGlobal>(
     Ok(written?)
 }
 
-/// Runs the kernel by its schedule. The log goes to `err`, and then the console to `out`, both also where the run ends
-/// in a fault.
+/// What comes of a run whose log and console were written so: its exit status.
+fn ended<R: Files + AllocGlobal>(
+    rt: &R,
+    leavings: Leavings<'_>,
+    kernel: &Kernel,
+    logged: Result<(), Fault>,
+    shown: Result<(), Fault>,
+) -> Result<u8, Fault>
+    ensures logged { OnOk result (logged ≡ Ok tt) }
+    ensures status { IfOk result (λ status. status ≡ status_in kernel.now) }
+{
+    logged?;
+    shown?;
+    let status = status(kernel)?;
+    write_leavings(rt, leavings, kernel, status)?;
+    Ok(status)
+}
+
+/// Runs the kernel by its schedule. The log goes to `err`, which is given back, and then the console to `out`, both also
+/// where the run ends in a fault.
 fn run_plan<R: Files + AllocGlobal, O: Write, E: Write>(
     rt: &R,
     leavings: Leavings<'_>,
     plan: &mut Plan,
     out: &mut O,
-    err: &mut E,
-) -> Result<u8, Fault>
-    ensures to { OnOk result (RunsTo plan.old.kernel plan.old.schedule plan.new.kernel) }
-    ensures printed { OnOk result (IsLogged (E.contents err.old) plan.old.kernel plan.new.kernel (E.contents err.new)) }
-    ensures status { IfOk result (λ status. status ≡ status_in plan.new.kernel) }
+    err: E,
+) -> (E, Result<u8, Fault>)
+    ensures to { OnOk result.1 (RunsTo plan.old.kernel plan.old.schedule plan.new.kernel) }
+    ensures printed { OnOk result.1 (IsLogged (E.contents err) plan.old.kernel plan.new.kernel (E.contents result.0)) }
+    ensures status { IfOk result.1 (λ status. status ≡ status_in plan.new.kernel) }
 {
-    let ended = log_turns(rt.alloc(), plan, err);
+    let (err, logged) = log_turns(rt.alloc(), plan, err);
     let shown = write_console(rt.alloc(), &plan.kernel, out);
-    ended?;
-    shown?;
-    let status = status(&plan.kernel)?;
-    write_leavings(rt, leavings, &plan.kernel, status)?;
-    Ok(status)
+    (err, ended(rt, leavings, &plan.kernel, logged, shown))
 }
 
 /// Why a run ended so, if its turns or its program say it.
@@ -150,7 +172,8 @@ pub fn run<R: Files + AllocGlobal, I: Read + IsTerminal, O: Write, E: Write + Is
     err: &mut E,
 ) -> Result<u8, Fault> {
     let mut plan = read_plan(rt, matches, explained, input, err)?;
-    let status = match run_plan(rt, Leavings::of(matches), &mut plan, out, err) {
+    let (err, ended) = run_plan(rt, Leavings::of(matches), &mut plan, out, err);
+    let status = match ended {
         Ok(status) if explained => explain(rt.alloc(), &plan, status, err),
         ended => ended,
     };

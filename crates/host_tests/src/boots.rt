@@ -3,6 +3,7 @@
 use crate::kernels::fault_of;
 use containers::{Bytes, Seq};
 use lx_abi::{Boot, GuestFile, Limits};
+use lx_boot::{Culprit, boot_fault, find_culprit};
 use std::alloc::{AllocError, Global};
 use std::test::Fail;
 
@@ -64,6 +65,51 @@ fn boots_are_refused(rt: HostRuntime) -> Result<(), Fail> {
     ];
     for (paths, argv, number) in rows {
         assert_eq!(rt; fault(rt.alloc(), paths, argv)?, number);
+    }
+    Ok(())
+}
+
+/// What the fault of a boot is found in, if it has one.
+fn culprit(alloc: Global, boot: &Boot) -> Option<Culprit> {
+    find_culprit(boot, boot_fault(alloc, boot)?)
+}
+
+/// The first file that is at fault, in the boot's order.
+#[test]
+fn culprits(rt: HostRuntime) -> Result<(), Fail> {
+    let rows = [
+        ("/p", None),
+        ("/p q /a//b", Some(Culprit::Path(1))),
+        ("/p /a//b q", Some(Culprit::Path(1))),
+        ("/p/q /p", Some(Culprit::Under(0, 1))),
+        ("/a /p/q/r /p /p/q", Some(Culprit::Under(1, 2))),
+        ("/p/q /r/ /p", Some(Culprit::Under(0, 2))),
+        ("/p /q /q /p", Some(Culprit::Repeated(2))),
+    ];
+    for (paths, wanted) in rows {
+        assert_eq!(rt;
+            culprit(rt.alloc(), &boot(rt.alloc(), paths, "/p")?),
+            wanted,
+            "{paths}"
+        );
+    }
+    Ok(())
+}
+
+/// Limits are the culprits of boots within none.
+#[test]
+fn culprits_among_limits(rt: HostRuntime) -> Result<(), Fail> {
+    let rows = [
+        (0, 255, Some(Culprit::Live)),
+        (1025, 0, Some(Culprit::Live)),
+        (64, 0, Some(Culprit::LastPid)),
+        (64, 32_768, Some(Culprit::LastPid)),
+        (64, 255, None),
+    ];
+    for (live, last_pid, wanted) in rows {
+        let mut boot = boot(rt.alloc(), "/p", "/p")?;
+        boot.limits = Limits { live, last_pid };
+        assert_eq!(rt; culprit(rt.alloc(), &boot), wanted, "{live} {last_pid}");
     }
     Ok(())
 }

@@ -1,4 +1,5 @@
 pub mod Boots
+pub mod Culprits
 pub mod Paths
 pub mod First
 pub mod Limits

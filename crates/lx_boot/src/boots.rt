@@ -71,7 +71,7 @@ fn has_bad_part(parts: &[u8]) -> bool
 }
 
 #[tactic(auto, unfolding(crate::specs::Boots::is_bad_path))]
-fn is_bad_path(path: &[u8]) -> bool
+pub(crate) fn is_bad_path(path: &[u8]) -> bool
     ensures { result ≡ is_bad_path_of path.now }
 {
     match path.split_first() {
@@ -115,7 +115,7 @@ fn has_bad_path(files: &[GuestFile], told: &Told) -> bool
     has_plain_fault(files) || has_under(files, told.under)
 }
 
-fn is_among(path: &[u8], files: &[GuestFile]) -> bool
+pub(crate) fn is_among(path: &[u8], files: &[GuestFile]) -> bool
     ensures { result ≡ list_any (λ g. bytes_eq path.now g.path) files.now }
 {
     files.iter().any(|other| path == other.path.as_slice())

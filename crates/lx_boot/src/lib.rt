@@ -2,9 +2,11 @@
 #![tactic(auto)]
 
 pub mod boots;
+pub mod culprits;
 mod first;
 mod limits;
 pub mod neighbours;
 
 pub use boots::{BootFault, boot_fault};
+pub use culprits::{Culprit, find_culprit};
 pub use first::{first_shared, first_tasks};

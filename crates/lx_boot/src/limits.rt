@@ -15,7 +15,7 @@ fn name_fits(name: &[u8]) -> bool
     name.len() <= LONGEST_NAME
 }
 
-fn names_fit(path: &[u8]) -> bool
+pub fn names_fit(path: &[u8]) -> bool
     ensures { result ≡ list_all name_fits_of (slice_split (λ c. c == 47) path.now) }
 {
     path.split(|b| *b == b'/').all(|name| name_fits(name))

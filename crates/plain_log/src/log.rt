@@ -1,6 +1,6 @@
 //! The log of calls as it is printed: a line an item.
 
-ghost use Rattle.std.specs.Prelude.{◌≡◌, ◌++◌, ◌∷◌, [], None, Ok, OnOk, OnErr, IfOk, IsTrue, is_some};
+ghost use Rattle.std.specs.Prelude.{◌≡◌, ◌++◌, ◌∷◌, [], None, Ok, OnOk, OnErr, IsTrue, is_some};
 ghost use Rattle.plain_run.specs.Runs.{RunsTo};
 ghost use Rattle.plain_log.specs.Logs.{HasPrinted, first_contents};
 ghost use Rattle.plain_log.specs.Logged.{IsLogged};
@@ -13,7 +13,7 @@ use lx_abi::Item;
 use lx_kernel::Kernel;
 use plain_run::{Halt, Watch, Weary};
 use pt_schedule::Schedule;
-use std::alloc::{AllocError, Global};
+use std::alloc::Global;
 use std::io::Write;
 
 /// Bytes of lines that are held back at most.
@@ -42,22 +42,22 @@ pub struct Log<W: Write> {
 }
 
 impl<W: Write> Log<W> {
-    pub fn new(alloc: Global, out: W) -> Result<Self, AllocError>
-    where
-        W: Drop,
-        ensures begun { IfOk result (λ log. first_contents W.contents log.begun.items ≡ W.contents out) }
-        ensures told { IfOk result (λ log. log.told.items ≡ []) }
+    /// No line yet, in this room for lines.
+    pub fn new(lines: Vec<u8>, out: W) -> Self
+        requires { lines.items ≡ [] }
+        ensures begun { first_contents W.contents result.begun.items ≡ W.contents out }
+        ensures told { result.told.items ≡ [] }
     {
         let begun = History::new().and(&out);
-        Ok(Log {
-            lines: Vec::with_capacity(alloc, ROOM)?,
+        Log {
+            lines,
             line: Line::new(),
             quiet: 0,
             out,
             fault: None,
             told: History::new(),
             begun,
-        })
+        }
     }
 
     /// Whether it wants more.
@@ -65,7 +65,11 @@ impl<W: Write> Log<W> {
         ensures lost { OnErr result (IsTrue (is_some self.now.fault)) }
         ensures whole { OnOk result (self.now.fault ≡ None) }
     {
-        if self.fault.is_some() { Err(Weary) } else { Ok(()) }
+        if self.fault.is_some() {
+            Err(Weary)
+        } else {
+            Ok(())
+        }
     }
 
     /// Keeps the first fault.
@@ -169,22 +173,24 @@ impl<W: Write> Watch for Log<W> {
     }
 }
 
-/// Makes the turns that a schedule gives, up to its end, and prints what is logged, also where they end in a fault.
+/// Makes the turns that a schedule gives, up to its end, and prints what is logged, also where they end in a fault. Gives
+/// the writer back.
 pub fn run<W: Write>(
     alloc: Global,
     kernel: &mut Kernel,
     schedule: &mut Schedule,
-    out: &mut W,
-) -> Result<(), LogFault>
-    ensures to { OnOk result (RunsTo kernel.old schedule.old kernel.new) }
-    ensures printed { OnOk result (IsLogged (W.contents out.old) kernel.old kernel.new (W.contents out.new)) }
+    out: W,
+) -> (W, Result<(), LogFault>)
+    ensures to { OnOk result.1 (RunsTo kernel.old schedule.old kernel.new) }
+    ensures printed { OnOk result.1 (IsLogged (W.contents out) kernel.old kernel.new (W.contents result.0)) }
 {
-    let mut log = match Log::new(alloc, out) {
-        Ok(log) => log,
-        Err(_) => return Err(LogFault::Memory),
+    let lines = match Vec::with_capacity(alloc, ROOM) {
+        Ok(lines) => lines,
+        Err(_) => return (out, Err(LogFault::Memory)),
     };
+    let mut log = Log::new(lines, out);
     let ran = plain_run::run(kernel, schedule, &mut log);
     let written = log.end();
-    let Log { fault, .. } = log;
-    whole(ran, written, fault)
+    let Log { out, fault, .. } = log;
+    (out, whole(ran, written, fault))
 }

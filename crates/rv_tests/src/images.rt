@@ -1,4 +1,4 @@
-use elf_image::{Image, Rights, read, write};
+use elf_image::{FaultyField, Image, Rights, content_of, faulty_field, is_compressed, read, write};
 use std::alloc::Global;
 use std::test::Fail;
 
@@ -79,6 +79,71 @@ fn changed_bytes_are_refused(rt: HostRuntime) -> Result<(), Fail> {
         assert!(rt; place < file.len());
         file[place] = value;
         assert_eq!(rt; fault_in(&rt, &file), wanted, "{value} at {place}");
+    }
+    Ok(())
+}
+
+/// The field that a file is refused for, if it is refused for one.
+fn field_of(alloc: Global, file: &[u8]) -> Option<FaultyField> {
+    match read(alloc, file) {
+        Ok(_) => None,
+        Err(fault) => faulty_field(file, fault),
+    }
+}
+
+/// Fields with the values that files of other systems and linkers have there.
+#[test]
+fn faulty_fields(rt: HostRuntime) -> Result<(), Fail> {
+    let changes = [
+        (0, 0x7e, None),
+        (18, 62, Some(FaultyField::Machine(62))),
+        (19, 1, Some(FaultyField::Machine(499))),
+        (4, 1, Some(FaultyField::Class(1))),
+        (5, 2, Some(FaultyField::Encoding(2))),
+        (16, 3, Some(FaultyField::FileType(3))),
+        (54, 32, Some(FaultyField::HeaderSize(32))),
+        (56, 0, Some(FaultyField::HeaderCount(0))),
+        (56, 65, Some(FaultyField::HeaderCount(65))),
+        (33, 1, Some(FaultyField::HeaderTable(320))),
+        (64, 2, None),
+        (96, 160, None),
+        (104, 158, None),
+    ];
+    for (place, value, wanted) in changes {
+        let mut file = FILE.to_vec(rt.alloc())?;
+        assert!(rt; place < file.len());
+        file[place] = value;
+        assert_eq!(rt; field_of(rt.alloc(), &file), wanted, "{value} at {place}");
+    }
+    Ok(())
+}
+
+/// A bit of `e_flags`.
+#[test]
+fn compressed_programs_say_so(rt: HostRuntime) -> Result<(), Fail> {
+    for (flags, wanted) in [(0, false), (1, true), (4, false), (5, true)] {
+        let mut file = FILE.to_vec(rt.alloc())?;
+        assert!(rt; file.len() > 48);
+        file[48] = flags;
+        assert_eq!(rt; is_compressed(&file), wanted, "{flags}");
+    }
+    Ok(())
+}
+
+/// What the program header of a type leads to: the last 3 bytes of the file, nothing past its end.
+#[test]
+fn contents_of_headers(rt: HostRuntime) -> Result<(), Fail> {
+    let rows: [(u32, u8, Option<&[u8]>); 3] = [
+        (1, 3, Some(b"hi\n")),
+        (1, 4, Some(b"")),
+        (3, 3, None),
+    ];
+    for (kind, size, wanted) in rows {
+        let mut file = FILE.to_vec(rt.alloc())?;
+        assert!(rt; file.len() > 96);
+        file[72] = 156;
+        file[96] = size;
+        assert_eq!(rt; content_of(&file, kind), wanted, "{kind} {size}");
     }
     Ok(())
 }

@@ -1,9 +1,9 @@
 //! Orders of turns as files.
 
-use front_end::{Fault, Shown};
+use front_end::{Fault, Shown, check_file, replace_file};
 use lx_abi::Word;
 use std::alloc::{AllocError, Global};
-use std::fs;
+use std::io;
 use std::rt::Files;
 
 /// The file of the result with this number, the first being 1.
@@ -34,7 +34,23 @@ pub fn text_of(alloc: Global, words: &[Word], between: char) -> Result<String, A
     Ok(text)
 }
 
-/// Writes the words of a schedule to the file of a result, a word a line.
+fn unkept(alloc: Global, path: &str, error: io::Error) -> Fault {
+    match format!(in alloc; "--keep {}", Shown(path)) {
+        Ok(what) => Fault::file(alloc, what, error),
+        Err(error) => Fault::from(error),
+    }
+}
+
+/// The file of the first result can be written. Nothing is changed.
+pub fn check_kept<R: Files + AllocGlobal>(rt: &R, folder: &str) -> Result<(), Fault> {
+    let path = path_of(rt.alloc(), folder, 1)?;
+    match check_file(rt, path.as_str()) {
+        Ok(()) => Ok(()),
+        Err(error) => Err(unkept(rt.alloc(), path.as_str(), error)),
+    }
+}
+
+/// Writes the words of a schedule to the file of a result, a word a line, in the place of an older one.
 pub fn keep<R: Files + AllocGlobal>(
     rt: &R,
     folder: &str,
@@ -45,11 +61,8 @@ pub fn keep<R: Files + AllocGlobal>(
     let path = path_of(alloc, folder, number)?;
     let mut text = text_of(alloc, words, '\n')?;
     text.push('\n')?;
-    match fs::write(rt, path.as_str(), text.as_bytes()) {
+    match replace_file(rt, path.as_str(), text.as_bytes()) {
         Ok(()) => Ok(()),
-        Err(error) => {
-            let what = format!(in alloc; "--keep {}", Shown(path.as_str()))?;
-            Err(Fault::file(alloc, what, error))
-        }
+        Err(error) => Err(unkept(alloc, path.as_str(), error)),
     }
 }

@@ -4,7 +4,7 @@ ghost use Rattle.std.specs.Prelude.{◌≡◌, IfOk};
 ghost use Rattle.sweep_orders.specs.Orders.{AreOrders};
 ghost use Rattle.sweep_command.specs.Reports.{orders_status, IsOfOrders};
 
-use crate::keeping::{keep, path_of, text_of};
+use crate::keeping::{check_kept, keep, path_of, text_of};
 use crate::outputs::write;
 use crate::progress::ShownProgress;
 use clap::ArgMatches;
@@ -368,7 +368,7 @@ pub fn orders_reported<
     ensures { IfOk result (IsOfOrders plan.now orders reference.now) }
 {
     if let Some(folder) = matches.get_str("keep") {
-        keep(rt, folder, 1, &[])?;
+        check_kept(rt, folder)?;
     }
     let explored = find(rt, words.jobs, orders, plan, reference, err)?;
     write_all(rt, matches, words.format, orders, &explored, writer)?;

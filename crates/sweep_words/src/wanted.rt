@@ -4,10 +4,10 @@ use call_errors::{errors_of, rows};
 use clap::ArgMatches;
 use containers::Seq;
 use front_end::{Fault, Shown, expression_words, read_expression};
-use lx_abi::{Errno, Rule, Set};
+use lx_abi::{Errno, Set};
 use std::alloc::{AllocError, Global};
 use sweep_runs::{Errors, Wanted};
-use tr_expr::Expr;
+use tr_expr::{ExprFault, errno, parse_trace};
 
 /// A set's text, and the names of errors behind it.
 #[derive(Clone, Copy)]
@@ -46,34 +46,40 @@ fn cut(text: &str) -> Option<Pieces<'_>> {
     })
 }
 
-/// The rule by which the calls of a set fail with an error.
-fn rule(alloc: Global, set: &str, error: Option<&str>) -> Result<Rule, Fault> {
-    let text = match error {
-        Some(error) => format!(in alloc; "fault={set}:error={error}")?,
-        None => format!(in alloc; "fault={set}")?,
-    };
-    match read_expression(alloc, text.as_str())? {
-        Expr::Inject(rule) => Ok(rule),
-        Expr::Trace(_) => Err(refuse(alloc, text.as_str())),
+/// The fault of the expression with this set and error.
+fn refuse_error(alloc: Global, set: &str, name: &str) -> Fault {
+    match format!(in alloc; "fault={set}:error={name}") {
+        Ok(text) => refuse(alloc, text.as_str()),
+        Err(_) => Fault::Memory,
     }
 }
 
-/// The error that a rule's calls fail with.
-fn error_of(rule: &Rule) -> Option<Errno> {
-    let result = rule.choice.result?;
-    Errno::from_number(u64::try_from(result.checked_neg()?).ok()?)
+/// The calls that a set names, unless it is refused.
+fn calls_of(alloc: Global, set: &str) -> Result<Option<Set>, AllocError> {
+    match parse_trace(alloc, set) {
+        Ok(calls) => Ok(Some(calls)),
+        Err(ExprFault::Memory) => Err(AllocError),
+        Err(_) => Ok(None),
+    }
 }
 
-/// Calls with the errors that are named.
+/// An error by its name or number.
+fn error_of(name: &str) -> Option<Errno> {
+    Errno::from_number(errno(name).ok()?)
+}
+
+/// Calls with the errors that are named. A fault names the one error that it is found beside.
 fn named(alloc: Global, set: &str, names: &str) -> Result<Wanted, Fault> {
+    let (first, _) = names.split_once(',').unwrap_or((names, ""));
+    let Some(calls) = calls_of(alloc, set)? else {
+        return Err(refuse_error(alloc, set, first));
+    };
     let mut errors = Vec::new(alloc);
-    let mut calls = Set::Only(Seq::new(alloc));
     for name in names.split(',') {
-        let rule = rule(alloc, set, Some(name))?;
-        if let Some(error) = error_of(&rule) {
-            errors.push(error)?;
+        match error_of(name) {
+            Some(error) => errors.push(error)?,
+            None => return Err(refuse_error(alloc, set, name)),
         }
-        calls = rule.calls;
     }
     Ok(Wanted {
         calls,
@@ -136,10 +142,10 @@ fn add(
     };
     match pieces.errors {
         Some(names) => wanted.push(named(alloc, pieces.set, names)?)?,
-        None => {
-            let rule = rule(alloc, pieces.set, None)?;
-            add_set(alloc, wanted, rule.calls, every_error)?;
-        }
+        None => match calls_of(alloc, pieces.set)? {
+            Some(calls) => add_set(alloc, wanted, calls, every_error)?,
+            None => return Err(refuse(alloc, text)),
+        },
     }
     Ok(())
 }

@@ -6,3 +6,4 @@ pub mod Readings
 pub mod Refusals
 pub mod Rows
 pub mod Runs
+pub mod Seeking

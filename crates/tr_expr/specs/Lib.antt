@@ -3,6 +3,7 @@ pub mod Faults
 pub mod Items
 pub mod Numbers
 pub mod Parts
+pub mod Pieces
 pub mod Picks
 pub mod Rules
 pub mod Saids

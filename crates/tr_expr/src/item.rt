@@ -1,12 +1,13 @@
 //! One item of a set.
 
-ghost use Rattle.std.specs.Prelude.{◌≡◌, ◌==◌, ◌||◌, ◌&&◌, ℕ, IfOk, OnOk};
+ghost use Rattle.std.specs.Prelude.{◌≡◌, ◌==◌, ◌||◌, ◌&&◌, ℕ, None, IfOk, OnOk};
 ghost use Rattle.lx_abi.specs.Calls.{calls, call_number, class_named};
 ghost use Rattle.lx_abi.specs.Scripts.{among};
 ghost use Rattle.regex.specs.Strings.{regex_pattern};
 ghost use Rattle.tr_expr.specs.Items as spec;
 ghost use Rattle.tr_expr.specs.Items.{classed, is_found, named, perhaps_named, some_row};
-ghost use Rattle.tr_expr.specs.Picks.{IsItem, IsSearched, Shows};
+ghost use Rattle.tr_expr.specs.Picks.{IsItem, IsSearched, Shows, causes_of};
+ghost use Rattle.tr_expr.specs.Faults.{found};
 
 use crate::fault::ExprFault;
 use crate::text;
@@ -23,6 +24,17 @@ pub(crate) enum Picks {
     Call(u64),
     Calls(Vec<u64>),
     Refused(ExprFault),
+}
+
+impl Picks {
+    pub(crate) fn fault(&self) -> Option<ExprFault>
+        ensures { result ≡ found None (causes_of self.now) }
+    {
+        match self {
+            Picks::Refused(fault) => Some(*fault),
+            _ => None,
+        }
+    }
 }
 
 /// The call of this name.

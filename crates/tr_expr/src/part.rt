@@ -49,9 +49,9 @@ pub(crate) fn read_part(form: InjectParts, text: &str) -> Part<'_>
     }
 }
 
-/// A name, or a number from 1 to 4095.
+/// The number of an error that is named, or given by a number from 1 to 4095.
 #[tactic(auto, unfolding(crate::specs::Parts::errno_value))]
-pub(crate) fn errno(text: &str) -> Result<u64, ExprFault>
+pub fn errno(text: &str) -> Result<u64, ExprFault>
     ensures value { result ≡ spec.errno_value text.now }
     ensures small { IfOk result (λ n. n ≤ 4095) }
 {

@@ -1,6 +1,6 @@
 //! What the parts of a tampering expression say together.
 
-ghost use Rattle.std.specs.Prelude.{◌≡◌, map, option_map};
+ghost use Rattle.std.specs.Prelude.{◌≡◌, map, option_map, None};
 ghost use Rattle.std.specs.Option.{option_or};
 ghost use Rattle.tr_expr.specs.Parts.{part_of, part_causes, error_in, retval_in, signal_in, when_in};
 ghost use Rattle.tr_expr.specs.Sets.{pieces};
@@ -94,4 +94,13 @@ pub(crate) fn said_by(form: InjectParts, parts: &str) -> Said
         said.take(read_part(form, part));
     }
     said
+}
+
+/// Why a part is refused by itself.
+pub(crate) fn part_fault(form: InjectParts, part: &str) -> Option<ExprFault>
+    ensures { result ≡ found None (part_causes (part_of form part.now)) }
+{
+    let mut said = Said::NOTHING;
+    said.take(read_part(form, part));
+    said.fault
 }

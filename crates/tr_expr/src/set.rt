@@ -70,7 +70,7 @@ fn picked_of(alloc: Global, list: &str) -> Result<Picked, AllocError>
 }
 
 /// Whether the text is negated, and the items without that mark.
-fn negation(text: &str) -> (bool, &str)
+pub(crate) fn negation(text: &str) -> (bool, &str)
     ensures negated { result.0 ≡ is_some (after 33 text.now) }
     ensures list { result.1.now ≡ spec.without_mark text.now (after 33 text.now) }
 {

@@ -3,7 +3,7 @@
 
 use std::alloc::Global;
 use std::test::Fail;
-use tr_expr::{Expr, ExprFault, parse_expr};
+use tr_expr::{Expr, ExprFault, InjectParts, RefusedPiece, errno, parse_expr, refused_piece};
 
 const WRITE: u64 = 64;
 
@@ -63,4 +63,59 @@ fn numbers_and_texts(rt: HostRuntime) -> Result<(), Fail> {
         );
     }
     Ok(())
+}
+
+/// The piece of a word that is refused as the word is, and whether it's an item, a part of `fault=` or one of `inject=`.
+fn piece_of(alloc: Global, word: &str) -> Result<Option<(&'static str, &str)>, ExprFault> {
+    let Err(fault) = parse_expr(alloc, word) else {
+        return Ok(None);
+    };
+    Ok(match refused_piece(alloc, word, fault)? {
+        Some(RefusedPiece::Item(item)) => Some(("item", item)),
+        Some(RefusedPiece::Part(InjectParts::Fault, part)) => Some(("fault", part)),
+        Some(RefusedPiece::Part(InjectParts::Inject, part)) => Some(("inject", part)),
+        None => None,
+    })
+}
+
+/// The first piece of the kind that is reported; none, where all of them are at fault together.
+#[test]
+fn refused_pieces(rt: HostRuntime) {
+    for (word, wanted) in [
+        ("trace=read,writ,wrote", Some(("item", "writ"))),
+        ("!read,,write", Some(("item", ""))),
+        ("%net,wrote:error=EIO", Some(("item", "wrote:error=EIO"))),
+        ("fault=%net,wrote:error=EWHAT", Some(("item", "wrote"))),
+        ("fault=%net,read:error=EWHAT", Some(("item", "%net"))),
+        ("inject=/(,read:signal=32", Some(("inject", "signal=32"))),
+        ("fault=/(:when=1", Some(("item", "/("))),
+        (
+            "inject=read:error=EIO:error=EWHAT:error=EWHY",
+            Some(("inject", "error=EWHAT")),
+        ),
+        ("fault=read:when=1:when=0", Some(("fault", "when=0"))),
+        ("fault=read:retval=1", Some(("fault", "retval=1"))),
+        ("fault=read:", Some(("fault", ""))),
+        ("inject=read:error=EIO:retval=1", None),
+        ("inject=read:when=1", None),
+        ("fault=read", None),
+    ] {
+        assert_eq!(rt; piece_of(rt.alloc(), word), Ok(wanted), "{word}");
+    }
+}
+
+/// An error by its name, or by a number from 1 to 4095.
+#[test]
+fn errors_by_name_and_number(rt: HostRuntime) {
+    for (word, wanted) in [
+        ("EIO", Ok(5)),
+        ("28", Ok(28)),
+        ("4095", Ok(4095)),
+        ("0", Err(ExprFault::BadNumber)),
+        ("4096", Err(ExprFault::BadNumber)),
+        ("EWHAT", Err(ExprFault::UnknownErrno)),
+        ("", Err(ExprFault::UnknownErrno)),
+    ] {
+        assert_eq!(rt; errno(word), wanted, "{word}");
+    }
 }

@@ -1,6 +1,7 @@
 //! The events of a run, written as a schedule that gives them.
 
-ghost use Rattle.std.specs.Prelude.{◌≡◌, IfErr, IfOk, IsSome, OnOk, codes, map};
+ghost use Rattle.std.specs.Prelude.{◌≡◌, [], IfErr, IfOk, IfSome, IsSome, OnOk, codes, map};
+ghost use Rattle.std.specs.Io.Buffered.{writer_buffer, writer_contents};
 ghost use Rattle.std.specs.Io.KnownBytes.{Appends};
 ghost use Rattle.pt_kernel.specs.Noted.{all_events, events_in};
 ghost use Rattle.pt_schedule.specs.Written.{event_word, words_text};
@@ -67,12 +68,21 @@ fn write_rows<W: Write>(writer: &mut W, rows: &[EventRow]) -> io::Result<()>
     Ok(())
 }
 
+/// Writes the events to a writer, and keeps nothing back.
+fn write_events<W: Write + Drop>(writer: &mut BufWriter<W>, events: &Events) -> io::Result<()>
+    ensures text { OnOk result (IfSome events.now (λ all. Appends (writer_contents W.contents writer.old)
+        (writer_contents W.contents writer.new) (turns_text all))) }
+    ensures whole { OnOk result (writer_buffer writer.new ≡ []) }
+{
+    write_rows(writer, events.rows())?;
+    writer.flush()
+}
+
 /// Writes the events to the file of this name. An older one stays until they are whole.
 fn write_words<R: Files + AllocGlobal>(rt: &R, path: &str, events: &Events) -> io::Result<()> {
     let file = NewFile::new(rt, path)?;
     let mut writer = BufWriter::new(rt.alloc(), file)?;
-    write_rows(&mut writer, events.rows())?;
-    writer.flush()
+    write_events(&mut writer, events)
 }
 
 fn unwritten(alloc: Global, path: &str, error: io::Error) -> Fault {
