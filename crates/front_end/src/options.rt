@@ -35,9 +35,9 @@ pub fn number(
     default: u64,
 ) -> Result<u64, Fault>
     ensures value { IfOk result
-        (λ value. spec.given_or most default (option_map (λ text. text.now) digits) ≡ Some value) }
+        (λ value. spec.given_or most default (option_map (λ text. text.now) digits.entry) ≡ Some value) }
     ensures fault { IfErr result (λ fault. (is_usage_or_memory fault ≡ true)
-        × (spec.given_or most default (option_map (λ text. text.now) digits) ≡ None)) }
+        × (spec.given_or most default (option_map (λ text. text.now) digits.entry) ≡ None)) }
 {
     let Some(digits) = digits else {
         return Ok(default);
