@@ -3,9 +3,9 @@
 _girmolet_calls='all none %file %desc %process %signal %memory brk chdir clone close dup dup3 execve exit exit_group fstat ftruncate getcwd getpid getppid gettid kill lseek mkdirat mmap munmap newfstatat openat pipe2 read rt_sigaction rt_sigprocmask rt_sigreturn sched_yield unlinkat wait4 write'
 _girmolet_errors='E2BIG EACCES EADDRINUSE EADDRNOTAVAIL EADV EAFNOSUPPORT EAGAIN EALREADY EBADE EBADF EBADFD EBADMSG EBADR EBADRQC EBADSLT EBFONT EBUSY ECANCELED ECHILD ECHRNG ECOMM ECONNABORTED ECONNREFUSED ECONNRESET EDEADLK EDEADLOCK EDESTADDRREQ EDOM EDOTDOT EDQUOT EEXIST EFAULT EFBIG EHOSTDOWN EHOSTUNREACH EHWPOISON EIDRM EILSEQ EINPROGRESS EINTR EINVAL EIO EISCONN EISDIR EISNAM EKEYEXPIRED EKEYREJECTED EKEYREVOKED EL2HLT EL2NSYNC EL3HLT EL3RST ELIBACC ELIBBAD ELIBEXEC ELIBMAX ELIBSCN ELNRNG ELOOP EMEDIUMTYPE EMFILE EMLINK EMSGSIZE EMULTIHOP ENAMETOOLONG ENAVAIL ENETDOWN ENETRESET ENETUNREACH ENFILE ENOANO ENOBUFS ENOCSI ENODATA ENODEV ENOENT ENOEXEC ENOKEY ENOLCK ENOLINK ENOMEDIUM ENOMEM ENOMSG ENONET ENOPKG ENOPROTOOPT ENOSPC ENOSR ENOSTR ENOSYS ENOTBLK ENOTCONN ENOTDIR ENOTEMPTY ENOTNAM ENOTRECOVERABLE ENOTSOCK ENOTSUP ENOTTY ENOTUNIQ ENXIO EOPNOTSUPP EOVERFLOW EOWNERDEAD EPERM EPFNOSUPPORT EPIPE EPROTO EPROTONOSUPPORT EPROTOTYPE ERANGE EREMCHG EREMOTE EREMOTEIO ERESTART ERFKILL EROFS ESHUTDOWN ESOCKTNOSUPPORT ESPIPE ESRCH ESRMNT ESTALE ESTRPIPE ETIME ETIMEDOUT ETOOMANYREFS ETXTBSY EUCLEAN EUNATCH EUSERS EWOULDBLOCK EXDEV EXFULL'
 _girmolet_signals='HUP INT QUIT ILL TRAP ABRT BUS FPE KILL USR1 SEGV USR2 PIPE ALRM TERM STKFLT CHLD CONT STOP TSTP TTIN TTOU URG XCPU XFSZ VTALRM PROF WINCH IO PWR SYS'
-_girmolet_options='-e --trace --inject --fault -f --follow-forks -o --output -s --string-limit -a --columns -E --env --host --host-arg --host-timeout --turns --workers --turns-out --limit --file --dir --files-out --files-list --explain -h --help -V --version --'
-_girmolet_plain_options='-e --inject --fault -E --env --turns --limit --file --dir --files-out --files-list --explain -h --help --'
-_girmolet_sweep_options='-e --fault -f --follow-forks -o --output --format --each --all --errors -E --env --turns --limit --jobs --orders --seed --keep --known --known-out --shard --fail-fast --file --dir --explain -h --help -V --version --'
+_girmolet_options='-f --follow-forks -e --trace --inject --fault -o --output -s --string-limit -a --columns --host --host-arg --host-timeout --turns --workers --turns-out --limit --explain --file --dir -E --env --files-out --files-list -h --help -V --version --'
+_girmolet_plain_options='-e --inject --fault --turns --limit --explain --file --dir -E --env --files-out --files-list -h --help --'
+_girmolet_sweep_options='-f --follow-forks -e --fault --errors --format --each --all -o --output --turns --orders --seed --keep --known --known-out --shard --fail-fast --jobs --limit --explain --file --dir -E --env -h --help -V --version --'
 
 # Candidates for a set, with its qualifier or without.
 _girmolet_set() {
@@ -90,7 +90,7 @@ _girmolet() {
         --errors) found=$(compgen -W 'possible all' -- "$word") ;;
         --file) case $word in *=*) found=$(compgen -P "${word%%=*}=" -f -- "${word#*=}") ;; esac ;;
         --dir) case $word in *=*) found=$(compgen -P "${word%%=*}=" -d -- "${word#*=}") ;; esac ;;
-        -s | --string-limit | -a | --columns | -E | --env | --host-timeout | --workers | --limit | --jobs | --orders | --seed | --shard) ;;
+        -s | --string-limit | -a | --columns | --host-timeout | --workers | --orders | --seed | --shard | --jobs | --limit | -E | --env) ;;
         *)
             case $program:${all[1]}:$word in
                 strace_sweep:*) found=$(compgen -W "$_girmolet_sweep_options" -- "$word") ;;

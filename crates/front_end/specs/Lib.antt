@@ -1,3 +1,4 @@
 pub mod Directories
 pub mod Leavings
 pub mod Statuses
+pub mod Streams

@@ -7,7 +7,8 @@ use crate::shown::Shown;
 use containers::{Bytes, Seq};
 use lx_abi::limits::{LARGEST_FILE, MOST_CONTENTS};
 use lx_abi::{Boot, GuestFile, Limits};
-use std::alloc::Global;
+use std::alloc::{AllocError, Global};
+use std::collections::BTreeMap;
 use std::io::{IsTerminal, Read, Write};
 use std::rt::Files;
 
@@ -81,34 +82,45 @@ fn name_of(word: &str) -> Option<&str> {
     }
 }
 
-/// One of the words sets this variable.
-fn is_set_by(name: &str, words: &[&str]) -> bool {
-    words.iter().any(|word| name_of(word) == Some(name))
+/// Keeps the place of a word that sets this variable, in that of any before.
+fn keep_place<'a>(
+    last: &mut BTreeMap<&'a str, usize>,
+    name: &'a str,
+    place: usize,
+) -> Result<(), AllocError> {
+    last.insert(name, place)?;
+    Ok(())
 }
 
-/// Adds the variable of a word, if none of the words after it sets the same.
-fn put_variable(
-    alloc: Global,
-    set: &mut Seq<Bytes>,
-    word: &str,
-    later: &[&str],
-) -> Result<(), Fault> {
-    let Some(name) = name_of(word) else {
-        return Err(Fault::usage(format!(in alloc; "-E {}: not NAME=VALUE", Shown(word))));
-    };
-    if !is_set_by(name, later) {
-        let variable = Bytes::from_slice(alloc, word.as_bytes())?;
-        set.push(variable)?;
+/// The place of the last word that sets each variable.
+fn last_places<'a>(alloc: Global, words: &[&'a str]) -> Result<BTreeMap<&'a str, usize>, Fault> {
+    let mut last = BTreeMap::new(alloc);
+    for (place, word) in words.iter().copied().enumerate() {
+        let Some(name) = name_of(word) else {
+            return Err(Fault::usage(format!(in alloc; "-E {}: not NAME=VALUE", Shown(word))));
+        };
+        keep_place(&mut last, name, place)?;
     }
-    Ok(())
+    Ok(last)
+}
+
+/// No word behind the one at this place sets its variable.
+fn is_last(last: &BTreeMap<&str, usize>, word: &str, place: usize) -> bool {
+    match name_of(word) {
+        Some(name) => last.get(&name).copied() == Some(place),
+        None => false,
+    }
 }
 
 /// The environment. Of words that set one variable the last counts.
 fn environment(alloc: Global, words: &[&str]) -> Result<Seq<Bytes>, Fault> {
+    let last = last_places(alloc, words)?;
     let mut set = Seq::new(alloc);
-    for (at, word) in words.iter().copied().enumerate() {
-        let later = words.get(at.saturating_add(1)..).unwrap_or(&[]);
-        put_variable(alloc, &mut set, word, later)?;
+    for (place, word) in words.iter().copied().enumerate() {
+        if is_last(&last, word, place) {
+            let variable = Bytes::from_slice(alloc, word.as_bytes())?;
+            set.push(variable)?;
+        }
     }
     Ok(set)
 }

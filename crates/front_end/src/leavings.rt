@@ -7,7 +7,7 @@ ghost use Rattle.front_end.specs.Leavings as spec;
 use crate::fault::Fault;
 use crate::replacing::{check_file, replace_file};
 use crate::shown::Shown;
-use clap::{Arg, ArgMatches, Command};
+use clap::ArgMatches;
 use containers::Bytes;
 use lx_abi::{Node, Outcome, OutcomeFile};
 use std::alloc::{AllocError, Global};
@@ -20,22 +20,6 @@ use std::rt::Files;
 pub struct Leavings<'a> {
     directory: Option<&'a str>,
     list: Option<&'a str>,
-}
-
-/// Adds `--files-out DIR` and `--files-list FILE`.
-pub fn with_leavings<'a>(alloc: Global, command: Command<'a>) -> Result<Command<'a>, AllocError> {
-    let command = command.arg(
-        Arg::new(alloc, "files-out")
-            .long("files-out")
-            .value_name("DIR")
-            .help("Writes the files that a complete run leaves to this directory, which is empty"),
-    )?;
-    command.arg(
-        Arg::new(alloc, "files-list")
-            .long("files-list")
-            .value_name("FILE")
-            .help("Lists the files that a complete run leaves, each as its length and its path"),
-    )
 }
 
 impl<'a> Leavings<'a> {

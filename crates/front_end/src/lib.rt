@@ -14,6 +14,7 @@ mod left_out;
 mod linux_calls;
 mod names;
 mod offered;
+mod option_table;
 mod options;
 mod outputs;
 mod parser;
@@ -23,6 +24,7 @@ mod replacing;
 mod reporting;
 mod shown;
 mod start;
+mod streams;
 mod turns;
 mod waits;
 
@@ -31,11 +33,9 @@ pub use boot_faults::{check_boot, refuse_boot};
 pub use expressions::{Expressions, expression_words, read_expression, read_expressions};
 pub use fault::Fault;
 pub use hints::Entered;
-pub use leavings::{Leavings, escaped, with_leavings};
-pub use offered::{
-    with_calls, with_environment, with_explain, with_expressions, with_files, with_limit,
-    with_program,
-};
+pub use leavings::{Leavings, escaped};
+pub use offered::{with_options, with_program};
+pub use option_table::Tool;
 pub use options::{limit, number};
 pub use outputs::check_outputs;
 pub use parser::{refusal, shown_words};
@@ -45,5 +45,6 @@ pub use replacing::{NewFile, check_file, create_file, replace_file};
 pub use reporting::{print_help, report};
 pub use shown::Shown;
 pub use start::{Begun, begin};
+pub use streams::Opened;
 pub use turns::read_turns;
 pub use waits::{explain_limit, explain_turns, explain_waits};

@@ -2,15 +2,18 @@
 
 use crate::fault::Fault;
 use crate::shown::Shown;
+use crate::streams::check_given_stream;
 use clap::ArgMatches;
 use std::alloc::{AllocError, Global};
+use std::io;
 use std::rt::Files;
 
 /// The options that name one: in the parser, and as they are typed.
-const OUTPUTS: [(&str, &str); 3] = [
+const OUTPUTS: [(&str, &str); 4] = [
     ("output", "-o"),
     ("turns-out", "--turns-out"),
     ("files-list", "--files-list"),
+    ("known-out", "--known-out"),
 ];
 
 /// The folder of a path, and the name in it.
@@ -70,6 +73,14 @@ fn no_name(alloc: Global, option: &str) -> Fault {
     Fault::usage(format!(in alloc; "{option}: the name of the file is empty"))
 }
 
+/// An output that can't be written.
+fn unwritable(alloc: Global, option: &str, path: &str, error: io::Error) -> Fault {
+    match format!(in alloc; "{option} {}", Shown(path)) {
+        Ok(what) => Fault::file(alloc, what, error),
+        Err(error) => Fault::from(error),
+    }
+}
+
 fn check_output<R: Files + AllocGlobal>(
     rt: &R,
     matches: &ArgMatches,
@@ -80,6 +91,9 @@ fn check_output<R: Files + AllocGlobal>(
     if path.is_empty() {
         return Err(no_name(rt.alloc(), option));
     }
+    if let Err(error) = check_given_stream(path) {
+        return Err(unwritable(rt.alloc(), option, path, error));
+    }
     match same_file(rt, matches, place, path)? {
         None => Ok(()),
         Some(other) => Err(Fault::usage(format!(in rt.alloc();
@@ -89,7 +103,8 @@ fn check_output<R: Files + AllocGlobal>(
     }
 }
 
-/// Each output has a name, and a file of its own.
+/// Each output has a name, and a file of its own. A stream that is named by its number was given to the program: this is
+/// asked before any is opened.
 pub fn check_outputs<R: Files + AllocGlobal>(rt: &R, matches: &ArgMatches) -> Result<(), Fault> {
     for (place, (name, option)) in OUTPUTS.iter().enumerate() {
         if let Some(path) = matches.get_str(name) {

@@ -1,51 +1,37 @@
 //! Files that are written whole, or left as they are.
 
-ghost use Rattle.std.specs.Io.{WritesAtMost};
+ghost use Rattle.std.specs.Prelude.{◌≡◌, IfOk, None};
+ghost use Rattle.front_end.specs.Streams.{IsOpenedAt, IsOpenedFor, IsTargetOf, stream_of};
 
+use crate::streams::{Opened, check_stream, number_of};
 use std::alloc::Global;
 use std::fs::{File, OpenOptions};
 use std::io::{self, ErrorKind, Write};
-use std::os::fd::RawFd;
 use std::rt::Files;
 
 /// What is written to for a path.
 #[derive(Drop)]
-enum Target {
+pub enum Target {
     /// A file that is replaced, or made: its path, with links followed, and the name that it has until it is whole.
     File { path: String, part: String },
     /// What can't be replaced, by its path: a pipe, a device.
     Device(String),
     /// A stream that stands open in this process under this number.
-    Stream(RawFd),
-}
-
-/// The number of a stream of this process, by one of the names that it has as a file.
-fn number_of(path: &str) -> Option<RawFd> {
-    let digits = match path {
-        "/dev/stdin" => return Some(0),
-        "/dev/stdout" => return Some(1),
-        "/dev/stderr" => return Some(2),
-        _ => match path.strip_prefix("/dev/fd/") {
-            Some(digits) => digits,
-            None => path.strip_prefix("/proc/self/fd/")?,
-        },
-    };
-    if !digits.bytes().all(|byte| byte.is_ascii_digit()) {
-        return None;
-    }
-    digits.parse().ok()
+    Stream(u64),
 }
 
 /// A file that is replaced, or made.
-fn file_target(alloc: Global, path: String) -> io::Result<Target> {
+fn file_target(alloc: Global, path: String) -> io::Result<Target>
+    ensures { IfOk result (IsTargetOf None) }
+{
     let part = format!(in alloc; "{}.part", path.as_str())?;
     Ok(Target::File { path, part })
 }
 
-fn target_of<R: Files + AllocGlobal>(rt: &R, path: &str) -> io::Result<Target> {
-    if let Some(number) = number_of(path) {
-        return Ok(Target::Stream(number));
-    }
+/// What is written to for a path that is no stream's.
+fn other_target<R: Files + AllocGlobal>(rt: &R, path: &str) -> io::Result<Target>
+    ensures { IfOk result (IsTargetOf None) }
+{
     match rt.metadata(path) {
         Ok(metadata) if !metadata.is_file() => {
             Ok(Target::Device(String::from_str(rt.alloc(), path)?))
@@ -61,13 +47,13 @@ fn target_of<R: Files + AllocGlobal>(rt: &R, path: &str) -> io::Result<Target> {
     }
 }
 
-/// Writes some bytes to the stream of this number, where it stands.
-fn write_stream(number: RawFd, bytes: &[u8]) -> io::Result<usize>
-    ensures { WritesAtMost result bytes.now }
+/// What is written to for a path.
+fn target_of<R: Files + AllocGlobal>(rt: &R, path: &str) -> io::Result<Target>
+    ensures { IfOk result (IsTargetOf (stream_of path.now)) }
 {
-    match usize::try_from(os::write_no_sigpipe(number, bytes)) {
-        Ok(count) => Ok(count.min(bytes.len())),
-        Err(_) => Err(io::Error::from_raw_os_error(os::errno())),
+    match number_of(path) {
+        Some(number) => Ok(Target::Stream(number)),
+        None => other_target(rt, path),
     }
 }
 
@@ -77,13 +63,19 @@ pub struct NewFile<'r, R: Files + AllocGlobal> {
     rt: &'r R,
     target: Target,
     /// Made when the first piece comes.
-    file: Option<R::File>,
+    file: Option<Opened<R::File>>,
     is_whole: bool,
 }
 
 impl<'r, R: Files + AllocGlobal> NewFile<'r, R> {
+    ghost use Rattle.std.specs.Prelude.{◌≡◌, IfOk, None, false};
+    ghost use Rattle.front_end.specs.Streams.{IsTargetOf, stream_of};
+
     /// What is written for this path. It can be written, and nothing is changed yet.
-    pub fn new(rt: &'r R, path: &str) -> io::Result<Self> {
+    pub fn new(rt: &'r R, path: &str) -> io::Result<Self>
+        ensures target { IfOk result (λ file. IsTargetOf (stream_of path.now) file.target) }
+        ensures unopened { IfOk result (λ file. (file.file ≡ None) × (file.is_whole ≡ false)) }
+    {
         let target = target_of(rt, path)?;
         check_target(rt, &target)?;
         Ok(NewFile {
@@ -94,7 +86,7 @@ impl<'r, R: Files + AllocGlobal> NewFile<'r, R> {
         })
     }
 
-    fn file(&mut self) -> io::Result<&mut R::File> {
+    fn file(&mut self) -> io::Result<&mut Opened<R::File>> {
         if self.file.is_none() {
             self.file = Some(open_target(self.rt, &self.target)?);
         }
@@ -106,14 +98,11 @@ impl<'r, R: Files + AllocGlobal> NewFile<'r, R> {
 
 impl<'r, R: Files + AllocGlobal> Write for NewFile<'r, R> {
     fn write(&mut self, buf: &[u8]) -> io::Result<usize> {
-        match self.target {
-            Target::Stream(number) => write_stream(number, buf),
-            Target::File { .. } | Target::Device(_) => self.file()?.write(buf),
-        }
+        self.file()?.write(buf)
     }
 
     fn flush(&mut self) -> io::Result<()> {
-        if self.is_whole || matches!(self.target, Target::Stream(_)) {
+        if self.is_whole {
             return Ok(());
         }
         self.file()?.flush()?;
@@ -165,12 +154,14 @@ fn open_device<R: Files>(rt: &R, path: &str) -> io::Result<R::File> {
 }
 
 /// Opens what is written: the part of a file, which isn't there yet, or a device. A stream stands open.
-fn open_target<R: Files + AllocGlobal>(rt: &R, target: &Target) -> io::Result<R::File> {
+fn open_target<R: Files + AllocGlobal>(rt: &R, target: &Target) -> io::Result<Opened<R::File>>
+    ensures { IfOk result (IsOpenedAt target.now) }
+{
     match target {
-        Target::Stream(_) => Err(io::Error::from(ErrorKind::AlreadyExists)),
-        Target::Device(path) => open_device(rt, path.as_str()),
+        Target::Stream(number) => Ok(Opened::Stream(*number)),
+        Target::Device(path) => Ok(Opened::File(open_device(rt, path.as_str())?)),
         Target::File { path: _, part } => match File::create_new(rt, part.as_str()) {
-            Ok(file) => Ok(file),
+            Ok(file) => Ok(Opened::File(file)),
             Err(error) => Err(part_error(error)),
         },
     }
@@ -179,10 +170,10 @@ fn open_target<R: Files + AllocGlobal>(rt: &R, target: &Target) -> io::Result<R:
 /// It can be written. Nothing is changed.
 fn check_target<R: Files + AllocGlobal>(rt: &R, target: &Target) -> io::Result<()> {
     if let Target::Stream(number) = target {
-        return write_stream(*number, b"").map(|_| ());
+        return check_stream(*number);
     }
-    let file = open_target(rt, target)?;
-    drop(file);
+    let opened = open_target(rt, target)?;
+    drop(opened);
     match target {
         Target::Stream(_) | Target::Device(_) => Ok(()),
         Target::File { path: _, part } => rt.remove_file(part.as_str()),
@@ -195,12 +186,14 @@ pub fn check_file<R: Files + AllocGlobal>(rt: &R, path: &str) -> io::Result<()> 
     check_target(rt, &target)
 }
 
-/// Makes a file anew, which is written as it comes; a stream or a device is appended to.
-pub fn create_file<R: Files + AllocGlobal>(rt: &R, path: &str) -> io::Result<R::File> {
+/// Makes a file anew, which is written as it comes. A stream is written where it stands, and a device is appended to.
+pub fn create_file<R: Files + AllocGlobal>(rt: &R, path: &str) -> io::Result<Opened<R::File>>
+    ensures { IfOk result (IsOpenedFor (stream_of path.now)) }
+{
     match target_of(rt, path)? {
-        Target::Stream(_) => open_device(rt, path),
-        Target::Device(path) => open_device(rt, path.as_str()),
-        Target::File { path, part: _ } => File::create(rt, path.as_str()),
+        Target::Stream(number) => Ok(Opened::Stream(number)),
+        Target::Device(path) => Ok(Opened::File(open_device(rt, path.as_str())?)),
+        Target::File { path, part: _ } => Ok(Opened::File(File::create(rt, path.as_str())?)),
     }
 }
 

@@ -2,10 +2,7 @@
 
 use clap::error::ErrorKind;
 use clap::{Arg, ArgAction, ArgMatches, Command, Error};
-use front_end::{
-    Fault, shown_words, with_calls, with_environment, with_explain, with_expressions, with_files,
-    with_leavings, with_limit, with_program,
-};
+use front_end::{Fault, Tool, shown_words, with_options, with_program};
 use std::alloc::{AllocError, Global};
 
 /// What is written of faulty listings, kind by kind.
@@ -51,53 +48,11 @@ The status is 0 at the end of input. A conversation that can't go on is reported
   4  a frame came out of order
   5  memory ran out";
 
-/// Adds `--turns FILE`.
-fn with_turns<'a>(alloc: Global, command: Command<'a>) -> Result<Command<'a>, AllocError> {
-    command.arg(
-        Arg::new(alloc, "turns")
-            .long("turns")
-            .value_name("FILE")
-            .help("A schedule by words, as 1 2 1. [default: turns in rounds]"),
-    )
-}
-
 fn plain_command<'a>(alloc: Global) -> Result<Command<'a>, AllocError> {
     let command = Command::new(alloc, "plain")
         .about("Runs a program on the untraced kernel, and prints its calls on standard error")
         .after_help(NOTES);
-    let command = with_expressions(
-        alloc,
-        command,
-        "A tampering expression, as fault=write:error=EIO",
-    )?;
-    let command = with_calls(
-        alloc,
-        command,
-        "inject",
-        "SET:PARTS",
-        "The same as -e inject=SET:PARTS",
-    )?;
-    let command = with_calls(
-        alloc,
-        command,
-        "fault",
-        "SET[:PARTS]",
-        "The same as -e fault=SET[:PARTS]",
-    )?;
-    let command = with_turns(alloc, command)?;
-    let command = with_limit(
-        alloc,
-        command,
-        "Ends the run after N turns [default: 10000000]",
-    )?;
-    let command = with_files(
-        alloc,
-        command,
-        "A file of the guest's, and the file that holds its content; the program too",
-    )?;
-    let command = with_environment(alloc, command)?;
-    let command = with_explain(alloc, command)?;
-    let command = with_leavings(alloc, command)?;
+    let command = with_options(alloc, command, Tool::Plain)?;
     with_program(alloc, command)
 }
 

@@ -335,7 +335,7 @@ module _ (boot : Boot) (host : HostState) (journal : List Entry) (said : List Sa
                 over = λ e. ends ∙ sym (over_more journal (Did Serve (Some r)) free) ∙ e;
                 if_open = λ _. uncut;
                 cut_so = none_is_so (held_by boot (after host Serve) (journal ++ Did Serve (Some r) ∷ []) (said ++ Answered r ∷ []) limit closed' failed cut over') cut uncut;
-                cycled = in_cycle_more boot.follow journal (Did Serve (Some r)) (first_of boot) host.hosting 0 d.kept.replayed d.kept.cycled tt;
+                cycled = in_cycle_more boot.follow journal (Did Serve (Some r)) (first_of boot) host.hosting 0 d.kept.replayed d.kept.cycled refl;
                 shut = λ e. sym same ∙ e;
                 heard =
                     subst (λ (z : Option Request). IsHeard over' (journal ++ Did Serve (Some r) ∷ []) (said ++ Answered r ∷ []) z) (sym gone)

@@ -80,10 +80,10 @@ IsCut h (Some Gate) = Unit {0}
 abbrev pub host_by : Linux_host → Bool → HostState
 host_by hosting follow = record { hosting = hosting; follow = follow; failed = false }
 
--- a turn is that of the next able process in the cycle
+-- a turn is that of the next able process in the cycle, and a Serve is answered
 abbrev pub IsNext : Bool → Linux_host → ℕ → Entry → Type 0
 IsNext follow v n (Ask q) = Unit {0}
-IsNext follow v n (Did Serve r) = Unit {0}
+IsNext follow v n (Did Serve r) = is_there r ≡ true
 IsNext follow v n (Did (Turn p) r) =
     next_able (readiness_of (host_by v follow)).able (readiness_of (host_by v follow)).last_pid n ≡ Some p
 
@@ -108,7 +108,7 @@ pub record Kept (h : HeldState) : Type 0 where
   pub shut : h.over ≡ true → h.closed ≡ true
   -- the journal tells of what was said
   pub heard : IsHeard h.over h.journal h.said h.host.hosting.pending
-  -- each turn was of the next able process
+  -- each turn was of the next able process, and each Serve was answered
   pub cycled : InCycle h.boot.follow (first_of h.boot) 0 h.journal
 
 abbrev pub IsKept : HeldState → Type 0

@@ -49,10 +49,11 @@ powers m =
 pub puts_more : (number made rest : ℕ) (old text : List ℕ) → made < 16 → 0 < rest / 16 → Puts number made rest old text
     → Puts number (made + 1) (rest / 16) old (digit_glyph false (rest % 16) ∷ text)
 puts_more number made rest old text lt some p = record {
-    same = p.same ∙ ap (λ k. digits_onto k 16 false rest text) (fuel made lt) ∙ more_digits (63 - made) rest text some
-        ∙ ap (λ k. digits_onto k 16 false (rest / 16) (digit_glyph false (rest % 16) ∷ text)) (omega (arith, lt));
-    quotient = ap (λ q. q / 16) p.quotient ∙ div-div-eq-div-mul number (16 ^ made) 16 ∙ ap (λ q. number / q) (powers made);
-    some = inr some }
+  same = p.same ∙ ap (λ k. digits_onto k 16 false rest text) (fuel made lt) ∙ more_digits (63 - made) rest text some
+      ∙ ap (λ k. digits_onto k 16 false (rest / 16) (digit_glyph false (rest % 16) ∷ text)) (omega (arith, lt));
+  quotient = ap (λ q. q / 16) p.quotient ∙ div-div-eq-div-mul number (16 ^ made) 16 ∙ ap (λ q. number / q) (powers made);
+  some = inr some;
+}
 
 pub puts_last : (number made rest : ℕ) (old text : List ℕ) → made < 16 → rest / 16 ≡ 0 → Puts number made rest old text
     → digit_glyph false (rest % 16) ∷ text ≡ digits 16 false number ++ old

@@ -65,7 +65,11 @@ impl<W: Write> Log<W> {
         ensures lost { OnErr result (IsTrue (is_some self.now.fault)) }
         ensures whole { OnOk result (self.now.fault ≡ None) }
     {
-        if self.fault.is_some() { Err(Weary) } else { Ok(()) }
+        if self.fault.is_some() {
+            Err(Weary)
+        } else {
+            Ok(())
+        }
     }
 
     /// Keeps the first fault.

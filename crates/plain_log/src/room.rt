@@ -15,7 +15,11 @@ fn glyph(digit: u64) -> u8
     ensures { result ≡ digit_glyph false digit }
 {
     let digit = digit as u8;
-    if digit < 10 { b'0' + digit } else { b'a' - 10 + digit }
+    if digit < 10 {
+        b'0' + digit
+    } else {
+        b'a' - 10 + digit
+    }
 }
 
 /// A text, at the end of a place that is used again and again.

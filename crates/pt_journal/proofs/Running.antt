@@ -48,6 +48,7 @@ module _ {S B : Type 0} (m : Machine S B) (outcome : S → Outcome) (follow : Bo
     pub more : List Reply
     pub own : rs ++ more ≡ world_replies m outcome o script w events
     pub asked : AsksAtEach m outcome o script w events
+    pub pending : is_there g.pending ≡ true → g.pending ≡ request o (world_run m outcome o script w events).tracer.focus
 
   -- an event of both
   record Stepped (v v' : Hosting S B) (w w' : World S B) (e : Event) (r : Option Reply) : Type 0 where
@@ -77,6 +78,7 @@ module _ {S B : Type 0} (m : Machine S B) (outcome : S → Outcome) (follow : Bo
             ∙ ap (λ z. option_to_list z ++ world_replies m outcome o script (happens m outcome o script w e) es) (sym s.replied)
             ∙ sym (append_assoc (option_to_list (reply_to m outcome w (request o w.tracer.focus) e)) (replies m outcome o script (happens m outcome o script w e) es) (out (happens m outcome o script w e)));
         asked = (s.asked, subst (λ (u : World S B). AsksAtEach m outcome o script u es) (sym s.went) x.asked);
+        pending = λ there. x.pending there ∙ ap (λ (u : World S B). request o (world_run m outcome o script u es).tracer.focus) (sym s.went);
       }
 
   abbrev after_turn : World S B → ℕ → World S B
@@ -138,16 +140,28 @@ module _ {S B : Type 0} (m : Machine S B) (outcome : S → Outcome) (follow : Bo
   none_next : (v : Hosting S B) (xs : List (Request × Reply)) → v.pending ≡ None → IsNext v.pending xs
   none_next v xs e = subst (λ z. IsNext z xs) (sym e) tt
 
-  at_end : (v g : Hosting S B) (w : World S B) (xs : List (Request × Reply)) → w.host ≡ host_in v → g ≡ v → Asks o script w.tracer xs
+  -- what is pending is asked
+  pending_asked : (w : World S B) (p : Option Request) (xs : List (Request × Reply)) → IsNext p xs → Asks o script w.tracer xs → is_there p ≡ true → p ≡ request o w.tracer.focus
+  pending_asked w None xs due asks there = absurd (cc there)
+  pending_asked w (Some q) [] due asks there = absurd due
+  pending_asked w (Some q) (x ∷ xs) due asks there = ap (λ z. Some z) due ∙ sym asks.0
+
+  pending_at : (v g : Hosting S B) (w : World S B) (xs : List (Request × Reply)) → g ≡ v → IsNext v.pending xs → Asks o script w.tracer xs → is_there g.pending ≡ true → g.pending ≡ request o w.tracer.focus
+  pending_at v g w xs same due asks there =
+      let is = ap (λ (u : Hosting S B). u.pending) same in
+      is ∙ pending_asked w v.pending xs due asks (ap is_there (sym is) ∙ there)
+
+  at_end : (v g : Hosting S B) (w : World S B) (xs : List (Request × Reply)) → w.host ≡ host_in v → g ≡ v → IsNext v.pending xs → Asks o script w.tracer xs
       → (xs ≡ []) ⊎ ((q : Request) × (xs ≡ (q, Out_of_turns) ∷ [])) → Ran v w [] g (answers_in xs)
-  at_end v g w xs h same asks (inl none) = record {
+  at_end v g w xs h same due asks (inl none) = record {
     host = h ∙ ap host_in (sym same);
     turned = ap (λ (u : Hosting S B). u.turns) same ∙ sym (append-nil v.turns);
     more = world_replies m outcome o script w [];
     own = ap (λ l. answers_in l ++ world_replies m outcome o script w []) none;
     asked = tt;
+    pending = pending_at v g w xs same due asks;
   }
-  at_end v g w xs h same asks (inr out) =
+  at_end v g w xs h same due asks (inr out) =
       let asked : request o w.tracer.focus ≡ Some out.0 = (subst (λ l. Asks o script w.tracer l) out.1 asks).0 in
       record {
         host = h ∙ ap host_in (sym same);
@@ -155,15 +169,16 @@ module _ {S B : Type 0} (m : Machine S B) (outcome : S → Outcome) (follow : Bo
         more = [];
         own = ap (λ l. answers_in l ++ []) out.1 ∙ ap (λ z. out_of_turns_if (is_there z)) (sym asked);
         asked = tt;
+        pending = pending_at v g w xs same due asks;
       }
 
   run : (es : List Entry) (v g : Hosting S B) (w : World S B) (xs : List (Request × Reply)) → IsFresh v → w.host ≡ host_in v → IsNext v.pending xs
       → Replays m outcome follow v es g → Told es xs → Asks o script w.tracer xs → Ran v w (events_of es) g (answers_in xs)
-  run [] v g w xs fresh h due rep told asks = at_end v g w xs h rep asks told
+  run [] v g w xs fresh h due rep told asks = at_end v g w xs h rep due asks told
   run (Ask q ∷ es) v g w [] fresh h due rep told asks = absurd told
   run (Ask q ∷ es) v g w (x ∷ xs) fresh h due rep told asks =
       let again : Ran (with_pending v (Some q)) w (events_of es) g (answers_in (x ∷ xs)) = run es (with_pending v (Some q)) g w (x ∷ xs) fresh h told.0 rep.2 told.1 asks in
-      record { host = again.host; turned = again.turned; more = again.more; own = again.own; asked = again.asked }
+      record { host = again.host; turned = again.turned; more = again.more; own = again.own; asked = again.asked; pending = again.pending }
   run (Did (Turn p) None ∷ es) v g w [] fresh h due rep told asks = absurd told
   run (Did (Turn p) None ∷ es) v g w (x ∷ xs) fresh h due rep told asks =
       let like = alike m outcome follow v (Turn p) fresh in
@@ -195,4 +210,4 @@ module _ {S B : Type 0} (m : Machine S B) (outcome : S → Outcome) (follow : Bo
 pub journals_tell : {S B : Type 0} → HostsAttendAlike S B → HostsBeginAlike S B → JournalsTell S B
 journals_tell {S} {B} alike begin m outcome follow o script s b journal g xs rep told asks =
     let x = run m outcome follow o script alike journal (first_hosting s b) g (first_world s b) xs (begin s b).1 (sym (begin s b).0) tt rep told asks in
-    record { own = record { more = x.more; begins = x.own }; host = x.host; turned = x.turned; asked = x.asked }
+    record { own = record { more = x.more; begins = x.own }; host = x.host; turned = x.turned; asked = x.asked; pending = x.pending }

@@ -38,6 +38,9 @@ pub record JournalRun {S B : Type 0} (m : Machine S B) (outcome : S → Outcome)
   -- the effective turns
   pub turned : g.turns ≡ effective m outcome o script (first_world s b) events
   pub asked : AsksAtEach m outcome o script (first_world s b) events
+  -- what is pending in the end is what the tracer asks then
+  pub pending : is_there g.pending ≡ true
+      → g.pending ≡ request o (traced_run m outcome o script s b events).tracer.focus
 
 abbrev pub JournalsTell : Type 0 → Type 0 → Type 0
 JournalsTell S B = (m : Machine S B) (outcome : S → Outcome) (follow : Bool) (o : Options) (script : Script) (s : S)

@@ -1,7 +1,7 @@
 //! Where a report goes.
 
 use clap::ArgMatches;
-use front_end::{Fault, Shown, check_file, create_file, replace_file};
+use front_end::{Fault, Opened, Shown, check_file, create_file, replace_file};
 use std::alloc::Global;
 use std::io::{self, Write};
 use std::rt::Files;
@@ -34,9 +34,6 @@ pub fn check<R: Files + AllocGlobal>(
     let Some(path) = path else {
         return Ok(());
     };
-    if path.is_empty() {
-        return Err(Fault::usage(format!(in rt.alloc(); "{option}: the name of the file is empty")));
-    }
     match check_file(rt, path) {
         Ok(()) => Ok(()),
         Err(error) => Err(refused(rt.alloc(), option, path, error)),
@@ -44,7 +41,7 @@ pub fn check<R: Files + AllocGlobal>(
 }
 
 /// Makes the file anew, which is written as the report comes.
-pub fn create<R: Files + AllocGlobal>(rt: &R, path: &str) -> Result<R::File, Fault> {
+pub fn create<R: Files + AllocGlobal>(rt: &R, path: &str) -> Result<Opened<R::File>, Fault> {
     match create_file(rt, path) {
         Ok(file) => Ok(file),
         Err(error) => Err(refused(rt.alloc(), "-o", path, error)),

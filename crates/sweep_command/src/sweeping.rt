@@ -12,7 +12,7 @@ use crate::reference::reference;
 use crate::rows::{make, wanted_cases};
 use crate::telling::{all_told, told, worst};
 use clap::ArgMatches;
-use front_end::{Fault, Program};
+use front_end::{Fault, Program, check_outputs};
 use lx_abi::Status;
 use std::alloc::Global;
 use std::env::{self, Env};
@@ -248,6 +248,7 @@ pub fn sweep<
     let words = words_of(alloc, matches, out.is_terminal() && !is_plain(rt))?;
     let plan = read_plan(rt, matches, input, err)?;
     let path = path_of(matches);
+    check_outputs(rt, matches)?;
     check(rt, "-o", path)?;
     check_known(rt, matches)?;
     let reference = reference(alloc, &plan.setup, explained)?;

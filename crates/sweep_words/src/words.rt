@@ -1,10 +1,7 @@
 //! What the command line asks for.
 
-use clap::{Arg, ArgAction, ArgMatches, Command, Error};
-use front_end::{
-    Fault, Shown, expression_words, number, with_calls, with_environment, with_explain,
-    with_expressions, with_files, with_limit, with_program,
-};
+use clap::{ArgMatches, Command, Error};
+use front_end::{Fault, Shown, Tool, expression_words, number, with_options, with_program};
 use std::alloc::{AllocError, Global};
 
 const NOTES: &str = "Which calls are to fail, after -e:
@@ -65,208 +62,14 @@ pub struct Style {
     pub colors: bool,
 }
 
-/// Adds an option with a name and a value.
-fn with_name<'a>(
-    alloc: Global,
-    command: Command<'a>,
-    name: &'a str,
-    value: &'a str,
-    help: &'a str,
-) -> Result<Command<'a>, AllocError> {
-    command.arg(
-        Arg::new(alloc, name)
-            .long(name)
-            .value_name(value)
-            .help(help),
-    )
-}
-
-/// Adds `-f`.
-fn with_follow<'a>(alloc: Global, command: Command<'a>) -> Result<Command<'a>, AllocError> {
-    command.arg(
-        Arg::new(alloc, "follow")
-            .short('f')
-            .long("follow-forks")
-            .action(ArgAction::SetTrue)
-            .help(
-                "Makes the calls of children fail too; without it those of the first process alone",
-            ),
-    )
-}
-
-/// Adds `-o FILE`.
-fn with_output<'a>(alloc: Global, command: Command<'a>) -> Result<Command<'a>, AllocError> {
-    command.arg(
-        Arg::new(alloc, "output")
-            .short('o')
-            .long("output")
-            .value_name("FILE")
-            .help("Writes the report to this file [default: standard output]"),
-    )
-}
-
-/// Adds an option without a value.
-fn with_flag<'a>(
-    alloc: Global,
-    command: Command<'a>,
-    name: &'a str,
-    help: &'a str,
-) -> Result<Command<'a>, AllocError> {
-    command.arg(
-        Arg::new(alloc, name)
-            .long(name)
-            .action(ArgAction::SetTrue)
-            .help(help),
-    )
-}
-
-fn with_report<'a>(alloc: Global, command: Command<'a>) -> Result<Command<'a>, AllocError> {
-    let command = with_name(
-        alloc,
-        command,
-        "format",
-        "FORMAT",
-        "table, json: an object a line, or junit: a case a call [default: table]",
-    )?;
-    let command = with_flag(
-        alloc,
-        command,
-        "each",
-        "Tells each run in a line of its own, as soon as it is made",
-    )?;
-    let command = with_flag(
-        alloc,
-        command,
-        "all",
-        "Tells also of runs that were reported, recovered or ignored",
-    )?;
-    with_output(alloc, command)
-}
-
-fn with_sets<'a>(alloc: Global, command: Command<'a>) -> Result<Command<'a>, AllocError> {
-    let command = with_expressions(
-        alloc,
-        command,
-        "Which calls are to fail, as fault=write or fault=write:error=EIO,ENOSPC [default: fault=all]",
-    )?;
-    let command = with_calls(
-        alloc,
-        command,
-        "fault",
-        "SET[:error=E,..]",
-        "The same as -e fault=SET[:error=E,..]",
-    )?;
-    with_name(
-        alloc,
-        command,
-        "errors",
-        "WHICH",
-        "possible, or all that the manual page of a call gives but for faulty arguments [default: possible]",
-    )
-}
-
-/// Adds `--orders N` with `--seed N` and `--keep DIR`.
-fn with_orders<'a>(alloc: Global, command: Command<'a>) -> Result<Command<'a>, AllocError> {
-    let command = with_name(
-        alloc,
-        command,
-        "orders",
-        "N",
-        "Tries N orders of turns, 1 to 1000000, without a failure, and tells each result once",
-    )?;
-    let command = with_name(
-        alloc,
-        command,
-        "seed",
-        "N",
-        "Draws orders by chance from this number on [default: 0]",
-    )?;
-    with_name(
-        alloc,
-        command,
-        "keep",
-        "DIR",
-        "Writes an order of each result to a file of this directory, as --turns takes it",
-    )
-}
-
-/// Adds what a CI asks for.
-fn with_gate<'a>(alloc: Global, command: Command<'a>) -> Result<Command<'a>, AllocError> {
-    let command = with_name(
-        alloc,
-        command,
-        "known",
-        "FILE",
-        "A line a finding that is known, and doesn't count: its word and its call, as LOST write /b; * is any text",
-    )?;
-    let command = with_name(
-        alloc,
-        command,
-        "known-out",
-        "FILE",
-        "Writes such a line for each finding to this file",
-    )?;
-    let command = with_name(
-        alloc,
-        command,
-        "shard",
-        "K/N",
-        "Makes every Nth of the runs, from the Kth on",
-    )?;
-    with_flag(
-        alloc,
-        command,
-        "fail-fast",
-        "Makes no more runs once one is a finding",
-    )
-}
-
-fn with_runs<'a>(alloc: Global, command: Command<'a>) -> Result<Command<'a>, AllocError> {
-    let command = with_name(
-        alloc,
-        command,
-        "turns",
-        "FILE",
-        "A schedule by words, as 1 2 1. [default: turns in rounds]",
-    )?;
-    let command = with_orders(alloc, command)?;
-    let command = with_gate(alloc, command)?;
-    let command = with_name(
-        alloc,
-        command,
-        "jobs",
-        "N",
-        "Makes the runs on N threads, 1 to 8 [default: 1]; the report is the same",
-    )?;
-    with_limit(
-        alloc,
-        command,
-        "Ends each run after N turns [default: 10000000]",
-    )
-}
-
-fn with_guest<'a>(alloc: Global, command: Command<'a>) -> Result<Command<'a>, AllocError> {
-    let command = with_files(
-        alloc,
-        command,
-        "A file of the guest's, and the file that holds its content; the program too",
-    )?;
-    let command = with_environment(alloc, command)?;
-    with_program(alloc, command)
-}
-
 fn sweep_command<'a>(alloc: Global) -> Result<Command<'a>, AllocError> {
     let command = Command::new(alloc, "strace_sweep")
         .about("Makes each call of a modelled RV64I guest fail in turn, and tells what came of it")
         .version("0.1.0")
         .args_override_self(true)
         .after_help(NOTES);
-    let command = with_follow(alloc, command)?;
-    let command = with_sets(alloc, command)?;
-    let command = with_report(alloc, command)?;
-    let command = with_runs(alloc, command)?;
-    let command = with_explain(alloc, command)?;
-    with_guest(alloc, command)
+    let command = with_options(alloc, command, Tool::Sweep)?;
+    with_program(alloc, command)
 }
 
 /// Parses the words, the program's name first.

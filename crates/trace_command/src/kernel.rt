@@ -179,7 +179,10 @@ pub fn run_kernel<R: Threads + Wait + Sync + AllocGlobal, P: OpenProcess + Drop,
         }
         Kernel::OnThreads(boot, workers) => {
             let kept = &mut behind.kept;
-            run_on_threads(rt, boot, workers, script, options, kept, lines)
+            match run_on_threads(rt, boot, workers, script, options, kept, lines) {
+                Ok(ended) => Ok(ended),
+                Err(fault) => Err(fault),
+            }
         }
     }
 }

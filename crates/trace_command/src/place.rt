@@ -5,7 +5,7 @@ ghost use Rattle.trace_command.specs.Faults.{IsUnopened};
 
 use crate::fault::unopened;
 use clap::ArgMatches;
-use front_end::{Fault, Shown, create_file};
+use front_end::{Fault, Opened, Shown, create_file};
 use std::alloc::Global;
 use std::rt::Files;
 
@@ -48,8 +48,8 @@ impl<'a> Place<'a> {
     }
 }
 
-/// Makes a file for the trace anew. A stream or a device is appended to.
-pub fn create<R: Files + AllocGlobal>(rt: &R, path: &str) -> Result<R::File, Fault>
+/// Makes a file for the trace anew. A stream is written where it stands, and a device is appended to.
+pub fn create<R: Files + AllocGlobal>(rt: &R, path: &str) -> Result<Opened<R::File>, Fault>
     ensures { IfErr result (λ fault. IsUnopened fault) }
 {
     match create_file(rt, path) {

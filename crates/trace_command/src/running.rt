@@ -2,6 +2,7 @@
 
 ghost use Rattle.std.specs.Prelude.{◌≡◌, ◌⊎◌, ℕ, ⊤, List, Option, Ok, Err, IfOk, IfErr, IsSome, OnErr, OnOk, codes, true};
 ghost use Rattle.std.specs.Io.KnownBytes.{Keeps, append_known};
+ghost use Rattle.front_end.specs.Streams.{opened_contents};
 ghost use Rattle.trace_run.specs.Writers.{writer_of};
 ghost use Rattle.trace_command.specs.Faults.{IsFaultOf, IsUnhosted, has_ended};
 ghost use Rattle.trace_command.specs.Noting.{Notes, NotesOf};
@@ -17,7 +18,7 @@ use crate::plan::Plan;
 use crate::trace_file::TraceFile;
 use crate::words::TraceOptions;
 use clap::ArgMatches;
-use front_end::Fault;
+use front_end::{Fault, Opened};
 use host_link::{ChildLink, LinkFault, Streams};
 use host_wire::{Broken, Sink};
 use lx_abi::{Boot, Outcome, Script, Word};
@@ -145,10 +146,13 @@ where
 }
 
 /// The kernel is in this process, and the file is a regular one, where nobody reads along.
-fn may_keep_back<P: OpenProcess + Drop, F: OpenFile>(kernel: &Kernel<P>, file: &F) -> bool {
-    match (kernel, file.metadata()) {
-        (Kernel::Here(_, _), Ok(metadata)) => metadata.is_file(),
-        _ => false,
+fn may_keep_back<P: OpenProcess + Drop, F: OpenFile + Drop>(
+    kernel: &Kernel<P>,
+    file: &Opened<F>,
+) -> bool {
+    match kernel {
+        Kernel::Here(_, _) => file.is_regular(),
+        Kernel::There(_) | Kernel::OnThreads(_, _) => false,
     }
 }
 
@@ -161,7 +165,7 @@ fn run_to_file<R: Files + Threads + Wait + Sync + AllocGlobal, P: OpenProcess + 
     behind: &mut Behind<P>,
     path: &str,
 ) -> Result<Result<Ended, RunFault>, Fault>
-    ensures written { IfOk result (λ ended. WritesFile R.File.contents
+    ensures written { IfOk result (λ ended. WritesFile (opened_contents R.File.contents)
         (Traces P.Stdout.remaining P.Stdin.contents options script kernel) ended) }
     ensures notes { IfOk result (λ ended. OnOk ended
         (Notes options script kernel behind.old.kept.asked.events behind.new.kept.record.events)) }
@@ -215,7 +219,7 @@ fn run_to_place<
     out: &mut O,
     err: &mut E,
 ) -> Result<Result<Ended, RunFault>, Fault>
-    ensures written { IfOk result (λ ended. WritesTo R.File.contents
+    ensures written { IfOk result (λ ended. WritesTo (opened_contents R.File.contents)
         (Traces P.Stdout.remaining P.Stdin.contents options script kernel) ended place.entry
         (writer_of O.contents O.puts O.broken out.old) (writer_of O.contents O.puts O.broken out.new)
         (writer_of E.contents E.puts E.broken err.old) (writer_of E.contents E.puts E.broken err.new)) }
@@ -226,9 +230,18 @@ fn run_to_place<
         (writer_of E.contents E.puts E.broken err.old) (writer_of E.contents E.puts E.broken err.new)) }
 {
     match place {
-        Place::Error => run_kernel(rt, kernel, script, options, behind, err),
-        Place::Output => run_kernel(rt, kernel, script, options, behind, out),
-        Place::File(path) => run_to_file(rt, kernel, script, options, behind, path),
+        Place::Error => match run_kernel(rt, kernel, script, options, behind, err) {
+            Ok(ended) => Ok(ended),
+            Err(fault) => Err(fault),
+        },
+        Place::Output => match run_kernel(rt, kernel, script, options, behind, out) {
+            Ok(ended) => Ok(ended),
+            Err(fault) => Err(fault),
+        },
+        Place::File(path) => match run_to_file(rt, kernel, script, options, behind, path) {
+            Ok(ended) => Ok(ended),
+            Err(fault) => Err(fault),
+        },
     }
 }
 
@@ -253,7 +266,7 @@ where
     ensures made { Unmade (Lacks (value_of matches.now (codes "host")) options.workers (IsFile place.entry)) result
         (writer_of O.contents O.puts O.broken out.old) (writer_of O.contents O.puts O.broken out.new)
         (writer_of E.contents E.puts E.broken err.old) (writer_of E.contents E.puts E.broken err.new)
-        ⊎ RunsTo R.File.contents
+        ⊎ RunsTo (opened_contents R.File.contents)
         (Runs R.Started R.Started.Stderr R.Started.Stdout.remaining R.Started.Stdin.contents
         (value_of matches.now (codes "host")) options.workers options.limit plan) place.entry result
         (writer_of O.contents O.puts O.broken out.old) (writer_of O.contents O.puts O.broken out.new)

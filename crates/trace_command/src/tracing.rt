@@ -1,6 +1,7 @@
 //! A traced run.
 
 ghost use Rattle.std.specs.Prelude.{◌≡◌, Ok, IsSome, IfOk, OnErr, codes, true};
+ghost use Rattle.front_end.specs.Streams.{opened_contents};
 ghost use Rattle.trace_run.specs.Writers.{writer_of};
 ghost use Rattle.trace_command.specs.Faults.{has_ended};
 ghost use Rattle.trace_command.specs.Tracing.{Leaves, Left, PutsConsole, Runs};
@@ -177,7 +178,7 @@ fn trace_plan<
 ) -> Result<u8, Fault>
 where
     R::Started: Streams,
-    ensures { TracesPlan R.File.contents
+    ensures { TracesPlan (opened_contents R.File.contents)
         (Runs R.Started R.Started.Stderr R.Started.Stdout.remaining
         R.Started.Stdin.contents (value_of matches.now (codes "host")) options.workers options.limit plan)
         matches.now options.workers result
@@ -217,7 +218,7 @@ fn trace_to<R: Files + Processes + Threads + Wait + Sync + AllocGlobal, O: Write
 ) -> Traced<O, E>
 where
     R::Started: Streams,
-    ensures { TracesOut R.File.contents
+    ensures { TracesOut (opened_contents R.File.contents)
         (Runs R.Started R.Started.Stderr R.Started.Stdout.remaining
         R.Started.Stdin.contents (value_of matches.now (codes "host")) options.workers options.limit plan)
         matches.now options.workers result.status (O.contents out) (O.contents result.out)
@@ -251,7 +252,7 @@ pub fn trace<
 ) -> Traced<O, E>
 where
     R::Started: Streams,
-    ensures { TracesWords R.File.contents
+    ensures { TracesWords (opened_contents R.File.contents)
         (Runs R.Started R.Started.Stderr R.Started.Stdout.remaining R.Started.Stdin.contents
         (value_of matches.now (codes "host")) options.workers options.limit)
         matches.now options.workers result.status (O.contents out) (O.contents result.out) }

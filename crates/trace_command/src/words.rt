@@ -2,11 +2,8 @@
 
 ghost use Rattle.std.specs.Prelude.{◌≤◌, ◌^◌, IfOk, IfSome};
 
-use clap::{Arg, ArgAction, ArgMatches, Command, Error};
-use front_end::{
-    Fault, Shown, limit, number, with_calls, with_environment, with_explain, with_expressions,
-    with_files, with_leavings, with_limit, with_program,
-};
+use clap::{ArgMatches, Command, Error};
+use front_end::{Fault, Shown, Tool, limit, number, with_options, with_program};
 use host_shared::MOST_EVENTS;
 use std::alloc::{AllocError, Global};
 
@@ -94,170 +91,6 @@ pub struct TraceOptions {
     pub explain: bool,
 }
 
-/// Adds an option with a letter, a name and a value.
-fn with_letter<'a>(
-    alloc: Global,
-    command: Command<'a>,
-    letter: char,
-    name: &'a str,
-    value: &'a str,
-    help: &'a str,
-) -> Result<Command<'a>, AllocError> {
-    command.arg(
-        Arg::new(alloc, name)
-            .short(letter)
-            .long(name)
-            .value_name(value)
-            .help(help),
-    )
-}
-
-/// Adds an option with a name and a value.
-fn with_name<'a>(
-    alloc: Global,
-    command: Command<'a>,
-    name: &'a str,
-    value: &'a str,
-    help: &'a str,
-) -> Result<Command<'a>, AllocError> {
-    command.arg(
-        Arg::new(alloc, name)
-            .long(name)
-            .value_name(value)
-            .help(help),
-    )
-}
-
-/// Adds `-f`.
-fn with_follow<'a>(alloc: Global, command: Command<'a>) -> Result<Command<'a>, AllocError> {
-    command.arg(
-        Arg::new(alloc, "follow")
-            .short('f')
-            .long("follow-forks")
-            .action(ArgAction::Count)
-            .help(
-                "Traces children too, each line with its pid; without it the first process alone",
-            ),
-    )
-}
-
-fn with_lines<'a>(alloc: Global, command: Command<'a>) -> Result<Command<'a>, AllocError> {
-    let command = with_letter(
-        alloc,
-        command,
-        'o',
-        "output",
-        "FILE",
-        "Writes the trace to this file [default: standard error]",
-    )?;
-    let command = with_letter(
-        alloc,
-        command,
-        's',
-        "string-limit",
-        "N",
-        "The most bytes of a string that are shown, 0 to 4096 [default: 32]",
-    )?;
-    with_letter(
-        alloc,
-        command,
-        'a',
-        "columns",
-        "N",
-        "The column of results, 0 to 200 [default: 40]",
-    )
-}
-
-/// Adds the options that name calls.
-fn with_sets<'a>(alloc: Global, command: Command<'a>) -> Result<Command<'a>, AllocError> {
-    let command = with_expressions(
-        alloc,
-        command,
-        "Which calls are shown or tampered with, as trace=write or fault=write:error=EIO [default: trace=all]",
-    )?;
-    let command = with_calls(alloc, command, "trace", "SET", "The same as -e trace=SET")?;
-    let command = with_calls(
-        alloc,
-        command,
-        "inject",
-        "SET:PARTS",
-        "The same as -e inject=SET:PARTS",
-    )?;
-    with_calls(
-        alloc,
-        command,
-        "fault",
-        "SET[:PARTS]",
-        "The same as -e fault=SET[:PARTS]",
-    )
-}
-
-/// Adds the options about a host.
-fn with_host<'a>(alloc: Global, command: Command<'a>) -> Result<Command<'a>, AllocError> {
-    let command = with_name(
-        alloc,
-        command,
-        "host",
-        "PATH",
-        "Starts this program, as guest_host, with the word serve to run the kernel [default: this process runs it]",
-    )?;
-    let command = with_calls(
-        alloc,
-        command,
-        "host-arg",
-        "WORD",
-        "Hands this word to the host after serve, any number of times",
-    )?;
-    with_name(
-        alloc,
-        command,
-        "host-timeout",
-        "SECONDS",
-        "Ends the run where the host says nothing for so long [default: waits]",
-    )
-}
-
-fn with_kernel<'a>(alloc: Global, command: Command<'a>) -> Result<Command<'a>, AllocError> {
-    let command = with_host(alloc, command)?;
-    let command = with_name(
-        alloc,
-        command,
-        "turns",
-        "FILE",
-        "A schedule by words, as 1 -2 s 1. [default: turns in rounds]",
-    )?;
-    let command = with_name(
-        alloc,
-        command,
-        "workers",
-        "N",
-        "Makes the turns on N threads, 1 to 8, in an order of their own; the trace comes at the end",
-    )?;
-    let command = with_name(
-        alloc,
-        command,
-        "turns-out",
-        "FILE",
-        "Writes the events of the run to this file, as --turns takes them",
-    )?;
-    with_limit(
-        alloc,
-        command,
-        "Ends the run after N events, turns and requests [default: 10000000]",
-    )
-}
-
-fn with_guest<'a>(alloc: Global, command: Command<'a>) -> Result<Command<'a>, AllocError> {
-    let command = with_files(
-        alloc,
-        command,
-        "A file of the guest's, and the file that holds its content; the program too",
-    )?;
-    let command = with_environment(alloc, command)?;
-    let command = with_leavings(alloc, command)?;
-    with_program(alloc, command)
-}
-
 fn tracer_command<'a>(alloc: Global) -> Result<Command<'a>, AllocError> {
     let command = Command::new(alloc, "strace_cli")
         .about(
@@ -266,12 +99,8 @@ fn tracer_command<'a>(alloc: Global) -> Result<Command<'a>, AllocError> {
         .version("0.1.0")
         .args_override_self(true)
         .after_help(NOTES);
-    let command = with_follow(alloc, command)?;
-    let command = with_sets(alloc, command)?;
-    let command = with_lines(alloc, command)?;
-    let command = with_kernel(alloc, command)?;
-    let command = with_explain(alloc, command)?;
-    with_guest(alloc, command)
+    let command = with_options(alloc, command, Tool::Trace)?;
+    with_program(alloc, command)
 }
 
 /// Parses the words, the program's name first.

@@ -1,3 +1,4 @@
 pub mod Exchanges
 pub mod Journalled
+pub mod Serving
 pub mod Working

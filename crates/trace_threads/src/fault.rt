@@ -1,11 +1,13 @@
 //! Why a run on threads gives none.
 
 ghost use Rattle.std.specs.Prelude.{◌≡◌};
-ghost use Rattle.trace_threads.specs.Idle.{NoneIsIdle};
+ghost use Rattle.trace_threads.specs.Idle.{NoneIsIdle, NoneIsStill};
 ghost use Rattle.trace_threads.specs.ThreadRuns.{fault_by};
 
 use host_link::LinkFault;
 use lx_boot::BootFault;
+use lx_proc::{Shared, UserState};
+use pt_journal::laws::journals_tell;
 use thiserror::Error;
 use tr_core::TraceFault;
 use trace_run::RunFault;
@@ -34,7 +36,10 @@ pub fn threads_fault(fault: RunFault) -> ThreadsFault
     }
 }
 
-/// A run that is out of turns, by a gate that is never shut, has made an event.
+/// A run that is out of turns, by a gate that is never shut, has made an event, and where its limit let it, a turn.
 pub fn none_is_idle()
-    ensures { NoneIsIdle }
-{}
+    ensures event { NoneIsIdle }
+    ensures turn { NoneIsStill }
+{
+    journals_tell::<Shared, UserState>();
+}

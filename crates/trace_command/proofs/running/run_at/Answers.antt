@@ -1,4 +1,5 @@
 use Rattle.std.proofs.Common.{codes, inl, inr}
+use Rattle.front_end.specs.Streams.{opened_contents}
 use Rattle.trace_run.specs.Writers.{writer_of}
 use Rattle.trace_command.specs.Tracing.{IsFile, Runs, Traces, value_of}
 use Rattle.trace_command.specs.Noting.{NotesOf}
@@ -17,7 +18,7 @@ returns-in-Ok-run_to_place-clause-made g c =
       (
         writer_of g.E.Sink.contents g.E.Sink.puts g.E.Sink.broken c.run_to_place.new.err,
         (
-          writes_to_more g.R.File.Write.contents
+          writes_to_more (opened_contents g.R.File.Write.contents)
               (Traces remaining contents c.args.plan.options c.args.plan.script kernel)
               (Runs g.row.R-Started.Denot g.row.R-Started-Stderr.Denot remaining contents
               (value_of c.args.matches.now (codes "host")) c.args.options.workers c.args.options.limit c.args.plan)

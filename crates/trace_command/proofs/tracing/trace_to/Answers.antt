@@ -1,4 +1,5 @@
 use Rattle.std.proofs.Common.{codes, sym}
+use Rattle.front_end.specs.Streams.{opened_contents}
 use Rattle.trace_run.specs.Writers.{writer_of}
 use Rattle.trace_command.specs.Tracing.{Runs, TracesPlan, value_of}
 use Rattle.trace_command.specs.Writers.{broken_of, contents_of, puts_of}
@@ -19,7 +20,7 @@ returns g c =
           (
             sym c.into_inner-2.ensures,
             over_both
-                (λ x y. TracesPlan g.R.File.Write.contents
+                (λ x y. TracesPlan (opened_contents g.R.File.Write.contents)
                 (Runs g.row.R-Started.Denot g.row.R-Started-Stderr.Denot g.R.Started.Stdout.Read.remaining
                 g.R.Started.Stdin.Write.contents (value_of c.args.matches.now (codes "host")) c.args.options.workers
                 c.args.options.limit c.args.plan) c.args.matches.now c.args.options.workers

@@ -15,14 +15,15 @@ pub loop-preserved : goal.loop-preserved
 loop-preserved c =
     let some : 0 < c.loop.left / 16 = grind (arith, nat_tests, c.if-left-eq0.false) in
     let room : c.loop.counter < 16 = grind (arith, nat_tests, c.loop-test.true) in
-    let text = c.put.ensures.text ∙ ap (λ g. g ∷ c.loop.self.text) c.glyph.ensures in
-    (subst (λ (t : List ℕ). Puts c.args.number (c.loop.counter + 1) (c.loop.left / 16) c.args.self.now.text t) (sym text)
-        (puts_more c.args.number c.loop.counter c.loop.left c.args.self.now.text c.loop.self.text room some c.loop.invariant.0),
-     (omega (arith, c.put.ensures.room, c.loop.invariant.1), omega (arith, room)))
+    let text = c.put.ensures.text ∙ ap (λ g. g ∷ c.loop.self.text) c.glyph.ensures in (
+      subst (λ (t : List ℕ). Puts c.args.number (c.loop.counter + 1) (c.loop.left / 16) c.args.self.now.text t) (sym text)
+          (puts_more c.args.number c.loop.counter c.loop.left c.args.self.now.text c.loop.self.text room some c.loop.invariant.0),
+      (omega (arith, c.put.ensures.room, c.loop.invariant.1), omega (arith, room)),
+    )
 
 pub returns-clause-text : goal.returns-clause-text
 returns-clause-text c =
     let end : c.loop.counter ≡ 16 = grind (arith, nat_tests, c.loop-test.false, c.loop.auto) in
     let none = puts_end c.args.number c.loop.left c.args.self.now.text c.loop.self.text (omega (arith, c.ranges))
-        (subst (λ (k : ℕ). Puts c.args.number k c.loop.left c.args.self.now.text c.loop.self.text) end c.loop.invariant.0) in
+    (subst (λ (k : ℕ). Puts c.args.number k c.loop.left c.args.self.now.text c.loop.self.text) end c.loop.invariant.0) in
     absurd (⊎_elim (λ e. omega (arith, e, end)) (λ some. omega (arith, some, none)) c.loop.invariant.0.some)
