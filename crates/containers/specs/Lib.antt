@@ -1,3 +1,4 @@
+pub mod Contents
 pub mod Keys
 pub mod Lending
 pub mod Vacant

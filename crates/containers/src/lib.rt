@@ -2,9 +2,11 @@
 #![tactic(auto)]
 
 pub mod bytes;
+pub mod content;
 pub mod map;
 pub mod seq;
 
 pub use bytes::Bytes;
+pub use content::Content;
 pub use map::Map;
 pub use seq::Seq;

@@ -4,7 +4,7 @@ use crate::directories::add_directory;
 use crate::fault::Fault;
 use crate::reading::{MOST_INPUT, read_file, read_input};
 use crate::shown::Shown;
-use containers::{Bytes, Seq};
+use containers::{Bytes, Content, Seq};
 use lx_abi::limits::{LARGEST_FILE, MOST_CONTENTS};
 use lx_abi::{Boot, GuestFile, Limits};
 use std::alloc::{AllocError, Global};
@@ -39,7 +39,7 @@ fn file<R: Files + AllocGlobal>(rt: &R, word: &str, limit: u64) -> Result<GuestF
     match read_file(rt, path, limit) {
         Ok(content) => Ok(GuestFile {
             path: Bytes::from_slice(alloc, guest.as_bytes())?,
-            content: Bytes::from_vec(content),
+            content: Content::from_bytes(alloc, Bytes::from_vec(content))?,
         }),
         Err(error) => Err(Fault::file(alloc, format!(in alloc; "--file {shown}")?, error)),
     }

@@ -6,7 +6,7 @@ ghost use Rattle.std.specs.Prelude.{◌≡◌, IfOk, option_map, string_bytes};
 use crate::fault::Fault;
 use crate::reading::read_file;
 use crate::shown::Shown;
-use containers::{Bytes, Seq};
+use containers::{Bytes, Content, Seq};
 use lx_abi::GuestFile;
 use lx_abi::limits::{LARGEST_FILE, MOST_NODES};
 use std::alloc::{AllocError, Global};
@@ -220,7 +220,7 @@ pub fn add_directory<R: Files + AllocGlobal>(
         *left = left.saturating_sub(content.len() as u64);
         files.push(GuestFile {
             path: Bytes::from_slice(alloc, place.guest.as_bytes())?,
-            content: Bytes::from_vec(content),
+            content: Content::from_bytes(alloc, Bytes::from_vec(content))?,
         })?;
     }
     Ok(())

@@ -1,7 +1,7 @@
 //! Boots of files by their paths, and what they are refused for.
 
 use crate::kernels::fault_of;
-use containers::{Bytes, Seq};
+use containers::{Bytes, Content, Seq};
 use lx_abi::{Boot, GuestFile, Limits};
 use lx_boot::{Culprit, boot_fault, find_culprit};
 use std::alloc::{AllocError, Global};
@@ -22,7 +22,7 @@ fn words(alloc: Global, text: &str) -> Result<Seq<Bytes>, AllocError> {
 fn file(alloc: Global, path: &str) -> Result<GuestFile, AllocError> {
     Ok(GuestFile {
         path: Bytes::from_slice(alloc, path.as_bytes())?,
-        content: Bytes::new(alloc),
+        content: Content::new(alloc)?,
     })
 }
 

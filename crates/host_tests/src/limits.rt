@@ -2,7 +2,7 @@
 
 use crate::kernels;
 use crate::kernels::booted;
-use containers::{Bytes, Seq};
+use containers::{Bytes, Content, Seq};
 use lx_abi::{Boot, GuestFile, Limits};
 use std::alloc::{AllocError, Global};
 use std::test::Fail;
@@ -24,7 +24,7 @@ fn boot(alloc: Global) -> Result<Boot, AllocError> {
     for number in 0..63 {
         files.push(GuestFile {
             path: path(alloc, number)?,
-            content: Bytes::new(alloc),
+            content: Content::new(alloc)?,
         })?;
     }
     let mut argv = Seq::new(alloc);

@@ -11,7 +11,7 @@ ghost use Rattle.host_values.specs.Spelling as spell;
 use crate::cursor::{byte_at, text_of, word_at};
 use crate::fault::Bad;
 use crate::fields::{put_byte, put_length, put_text, put_word, spend_text};
-use containers::{Bytes, Seq};
+use containers::{Bytes, Content, Seq};
 use lx_abi::{Ended, GuestFile, Node, OutcomeFile, Word};
 use std::alloc::{AllocError, Global};
 
@@ -128,7 +128,8 @@ impl Item for GuestFile {
     #[tactic(auto, unfolding(crate::specs::Reading::guest_file_at))]
     fn take(alloc: Global, bytes: &[u8]) -> Result<(GuestFile, &[u8]), Bad> {
         let (path, rest) = text_of(alloc, bytes)?;
-        let (content, rest) = text_of(alloc, rest)?;
+        let (text, rest) = text_of(alloc, rest)?;
+        let content = Content::from_bytes(alloc, text)?;
         Ok((GuestFile { path, content }, rest))
     }
 }
@@ -179,7 +180,7 @@ impl Item for Word {
     }
 }
 
-fn node_of(kind: u8, content: Bytes) -> Option<Node>
+fn node_of(kind: u8, content: Content) -> Option<Node>
     ensures { result ≡ spec.node_of kind content }
 {
     match kind {
@@ -237,7 +238,8 @@ impl Item for OutcomeFile {
     fn take(alloc: Global, bytes: &[u8]) -> Result<(OutcomeFile, &[u8]), Bad> {
         let (path, rest) = text_of(alloc, bytes)?;
         let (kind, rest) = byte_at(rest)?;
-        let (content, rest) = text_of(alloc, rest)?;
+        let (text, rest) = text_of(alloc, rest)?;
+        let content = Content::from_bytes(alloc, text)?;
         match node_of(kind, content) {
             Some(node) => Ok((OutcomeFile { path, node }, rest)),
             None => Err(Bad::Payload),

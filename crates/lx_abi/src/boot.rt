@@ -1,12 +1,12 @@
 //! What a run begins with.
 
-use containers::{Bytes, Seq};
+use containers::{Bytes, Content, Seq};
 
 /// A file by its absolute path.
 #[derive(Drop)]
 pub struct GuestFile {
     pub path: Bytes,
-    pub content: Bytes,
+    pub content: Content,
 }
 
 /// How many processes there may be, as a boot asks for it.

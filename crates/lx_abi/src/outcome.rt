@@ -1,11 +1,11 @@
 //! What is left of a run.
 
-use containers::{Bytes, Seq};
+use containers::{Bytes, Content, Seq};
 
 /// What stands at a path.
 #[derive(Drop)]
 pub enum Node {
-    File(Bytes),
+    File(Content),
     Directory,
 }
 

@@ -2,7 +2,7 @@
 
 ghost use Rattle.std.specs.Prelude.{◌≡◌, true};
 
-use containers::Bytes;
+use containers::{Bytes, Content};
 use lx_abi::Boxed;
 
 /// Values that can be compared.
@@ -15,6 +15,12 @@ pub trait Same {
 
 impl Same for Bytes {
     fn same(&self, other: &Bytes) -> bool {
+        self.as_slice() == other.as_slice()
+    }
+}
+
+impl Same for Content {
+    fn same(&self, other: &Content) -> bool {
         self.as_slice() == other.as_slice()
     }
 }

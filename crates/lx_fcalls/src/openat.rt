@@ -1,15 +1,16 @@
 //! openat(dirfd, path, flags, mode)
 
-ghost use Rattle.std.specs.Prelude.{◌≡◌, IfOk, OnErr};
+ghost use Rattle.std.specs.Prelude.{◌≡◌, IfOk, OnOk, OnErr};
 ghost use Rattle.lx_proc.specs.Answers.{answer_of, Kept};
 ghost use Rattle.lx_fcalls.specs.Openat.{openat as meaning, opens_new, opens_file, opens_at, opening as opening_of};
+ghost use Rattle.lx_fcalls.specs.Openat.{emptied_if};
 
 use crate::arguments::place_at;
 use crate::flags::{O_APPEND, O_CLOEXEC, O_CREAT, O_EXCL, O_TRUNC, OPEN_FLAGS, has};
-use containers::Bytes;
+use containers::Content;
 use lx_abi::{Call, Errno, Node};
-use lx_files::Place;
 use lx_files::places::{Lookup, look, path};
+use lx_files::{Place, Tree};
 use lx_open::{Description, Object};
 use lx_proc::{CallReply, Shared, UserState};
 use lx_sig::low_argument;
@@ -56,18 +57,28 @@ fn open_new(
         return Ok(CallReply::Refused(Errno::ENOSPC));
     }
     let node = shared.tree.nodes.vacant()?;
+    let content = Content::new(alloc)?;
     shared
         .fds
         .open(pid, fd, opening(node, flags), has(flags, O_CLOEXEC))?;
-    match shared
-        .tree
-        .create(alloc, path, Node::File(Bytes::new(alloc)))
-    {
+    match shared.tree.create(alloc, path, Node::File(content)) {
         Ok(_) => Ok(CallReply::Returned(u64::from(fd))),
         Err(error) => {
             shared.fds.take_back(pid, fd);
             Err(error)
         }
+    }
+}
+
+/// A file is emptied, or isn't.
+fn empty_if(tree: &mut Tree, empties: bool, node: u32) -> Result<(), AllocError>
+    ensures ok { OnOk result (tree.new ≡ emptied_if empties tree.old node) }
+    ensures err { OnErr result (tree.new ≡ tree.old) }
+{
+    if empties {
+        tree.nodes.clear(node)
+    } else {
+        Ok(())
     }
 }
 
@@ -97,10 +108,11 @@ fn open_file(
     shared
         .fds
         .open(pid, fd, opening(node, flags), has(flags, O_CLOEXEC))?;
-    if has(flags, O_TRUNC) {
-        shared.tree.nodes.clear(node);
-    }
-    Ok(CallReply::Returned(u64::from(fd)))
+    let Err(error) = empty_if(&mut shared.tree, has(flags, O_TRUNC), node) else {
+        return Ok(CallReply::Returned(u64::from(fd)));
+    };
+    shared.fds.take_back(pid, fd);
+    Err(error)
 }
 
 fn open_at(

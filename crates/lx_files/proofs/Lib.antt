@@ -11,6 +11,7 @@ pub mod Flattening
 pub mod Under
 pub mod Pruned
 pub mod Walking
+pub mod Ways
 pub mod Knowing
 pub mod Adding
 pub mod Fresh

@@ -10,7 +10,7 @@ use Rattle.std.specs.FinMap as maps
 use Rattle.lx_files.specs.Paths.{Path, slash, has_slash, parent}
 use Rattle.lx_files.specs.Kinds.{NodeMap, NameMap, IsAny}
 use Rattle.lx_files.specs.Trees.{node_at}
-use Rattle.lx_files.specs.Folders.{Children, Standings, Numbers, first_slash, split, turned, child, child_of, led, names_of, at, top, above_in, IsTree, AreThere, named, Stays, IsAnyChild}
+use Rattle.lx_files.specs.Folders.{Children, Standings, Numbers, first_slash, split, turned, child, child_of, led, names_of, at, top, above_in, IsTree, AreThere, named, Stays, IsAnyChild, Entered}
 use Rattle.lx_files.specs.declared.folder.Standing.{Standing}
 use Rattle.lx_files.specs.Places.{beyond, is_dot, is_dot_dot}
 use Rattle.lx_files.proofs.Cutting.{cut, uncut}
@@ -31,8 +31,6 @@ module _ (children : Children) (folder : ℕ) (text : List ℕ) where
   walked_in h = sym (ap (led children (Some folder)) (split-bare text (uncut text h)) ∙ led-step children (Some folder) text [] ∙ led-end children (child children folder text))
 
 -- names entered one after the other
-pub Entered : Children → ℕ → List ℕ → Path → Type 0
-Entered children folder rest path = (above : List (List ℕ)) × (at children above ≡ Some folder) × (turned (split rest) above ≡ names_of path)
 
 pub first_entered : (children : Children) (path : Path) → Entered children top path path
 unfolding Entered names_of

@@ -120,6 +120,11 @@ abbrev pub Keeps : Standings → Standings → Type 0
 Keeps old new =
     (numbers : Numbers) → AreThere old numbers → AreThere new numbers × (named new numbers ≡ named old numbers)
 
+-- the names of a path before those of a text lead to the folder
+unfoldable pub Entered : Children → ℕ → List ℕ → Path → Type 0
+Entered children folder rest path =
+    (above : List (List ℕ)) × (at children above ≡ Some folder) × (turned (split rest) above ≡ names_of path)
+
 -- names that lead to a folder lead there still
 abbrev pub Stays : Children → Children → Type 0
 Stays old new = (names : List (List ℕ)) (i : ℕ) → at old names ≡ Some i → at new names ≡ Some i

@@ -5,8 +5,6 @@ use Rattle.std.specs.FinMap as maps
 use Rattle.std.specs.FinMap.{FinMap}
 use Rattle.lx_abi.specs.declared.outcome.Node.{Node}
 use Rattle.lx_abi.specs.declared.outcome.Node.TheVariants.{File, Directory}
-use Rattle.containers.specs.Vacant.{IsFullBelow}
-use Rattle.lx_files.specs.Tallies.{total}
 use Rattle.lx_files.specs.Paths.{path_cmp}
 
 -- the nodes that paths name; two paths may name one
@@ -36,11 +34,6 @@ changed_file nodes node f (Some x) = maps.insert nodes node (changed_node f x)
 
 abbrev pub is_number : ℕ → ℕ → Bool
 is_number n x = x == n
-
--- the sum of the sizes, and a number below which none is vacant
-pub record AreKept (nodes : NodeMap) (contents full_below : ℕ) : Type 0 where
-  pub sum : contents ≡ total size_of nodes
-  pub full : IsFullBelow nodes full_below
 
 -- some path has the number
 abbrev pub IsAny : NameMap → Option ℕ → Type 0

@@ -7,3 +7,4 @@ pub mod Places
 pub mod Contents
 pub mod Boots
 pub mod Listing
+pub mod Ways

@@ -5,7 +5,6 @@ ghost use Rattle.lx_files.specs.Boots.{rooted, HasParents, with_directory, with_
 ghost use Rattle.lx_files.specs.Boots.{tree_of};
 
 use crate::tree::Tree;
-use containers::Bytes;
 use lx_abi::{GuestFile, Node};
 use std::alloc::{AllocError, Global};
 
@@ -49,7 +48,7 @@ fn add_file(alloc: Global, tree: &mut Tree, file: &GuestFile) -> Result<(), Allo
 {
     let path = file.path.as_slice();
     add_directories(alloc, tree, path)?;
-    let content = Bytes::from_slice(alloc, file.content.as_slice())?;
+    let content = file.content.share()?;
     tree.create(alloc, path, Node::File(content))?;
     Ok(())
 }

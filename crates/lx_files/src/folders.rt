@@ -6,7 +6,7 @@ ghost use Rattle.std.specs.FinMap as maps;
 ghost use Rattle.containers.specs.Vacant.{vacant, IsFullBelow};
 ghost use Rattle.lx_files.specs.Paths.{has_slash};
 ghost use Rattle.lx_files.specs.Folders.{first_slash as first_slash_of, top, child as child_in, led, split, names_of};
-ghost use Rattle.lx_files.specs.Folders.{at as at_names, depth_below, stands, IsTree, HasMore, Keeps, Stays};
+ghost use Rattle.lx_files.specs.Folders.{at as at_names, depth_below, stands, IsTree, HasMore, Keeps, Stays, Entered};
 
 use crate::folder::{Folders, Standing};
 use crate::path_map::PathMap;
@@ -223,16 +223,24 @@ fn enter(alloc: Global, folders: &mut Folders, folder: u32, name: &[u8]) -> Resu
     }
 }
 
-/// The folder of a path, with those above it that were not there.
-pub fn enter_path(alloc: Global, folders: &mut Folders, path: &[u8]) -> Result<u32, AllocError>
-    requires { IsTree folders.old.children folders.old.standings folders.old.full_below }
+/// The folder to which a text leads from one, with those above it that were not there: that of each path of which the
+/// names before the text were entered.
+pub fn enter_path(
+    alloc: Global,
+    folders: &mut Folders,
+    start: u32,
+    text: &[u8],
+) -> Result<u32, AllocError>
+    requires tree { IsTree folders.old.children folders.old.standings folders.old.full_below }
+    requires there { stands folders.old.standings start ≡ true }
     ensures tree { IsTree folders.new.children folders.new.standings folders.new.full_below }
     ensures keeps { Keeps folders.old.standings folders.new.standings }
-    ensures leads { IfOk result (λ k. at_names folders.new.children (names_of path.now) ≡ Some k) }
+    ensures leads { IfOk result (λ k. (path : List ℕ) → Entered folders.old.children start text.now path
+        → at_names folders.new.children (names_of path) ≡ Some k) }
     ensures there { IfOk result (λ k. stands folders.new.standings k ≡ true) }
 {
-    let mut folder = TOP;
-    let mut rest = path;
+    let mut folder = start;
+    let mut rest = text;
     'names: loop {
         match first_slash(rest) {
             None => return enter(alloc, folders, folder, rest),

@@ -6,6 +6,7 @@ pub mod counts;
 mod flat;
 pub mod folder;
 pub mod folders;
+pub mod known;
 mod listing;
 pub mod name_tree;
 pub mod names;

@@ -13,21 +13,22 @@ use lx_abi::{Node, OutcomeFile};
 use std::alloc::{AllocError, Global};
 use std::collections::BTreeMap;
 
-fn copy_node(alloc: Global, node: &Node) -> Result<Node, AllocError>
+/// A file's content is shared.
+fn copy_node(node: &Node) -> Result<Node, AllocError>
     ensures { IfOk result (λ n. n ≡ node.now) }
 {
     match node {
-        Node::File(content) => Ok(Node::File(Bytes::from_slice(alloc, content.as_slice())?)),
+        Node::File(content) => Ok(Node::File(content.share()?)),
         Node::Directory => Ok(Node::Directory),
     }
 }
 
 /// A copy of the node with this number; a directory where there is none.
-fn copy_numbered(alloc: Global, nodes: &Nodes, number: u32) -> Result<Node, AllocError>
+fn copy_numbered(nodes: &Nodes, number: u32) -> Result<Node, AllocError>
     ensures { IfOk result (λ n. n ≡ unwrap_or (maps.get nodes.now number) node_is.Directory) }
 {
     match nodes.get(number) {
-        Some(node) => copy_node(alloc, node),
+        Some(node) => copy_node(node),
         None => Ok(Node::Directory),
     }
 }
@@ -42,7 +43,7 @@ fn outcome_file(
 {
     Ok(OutcomeFile {
         path: Bytes::from_slice(alloc, path)?,
-        node: copy_numbered(alloc, nodes, number)?,
+        node: copy_numbered(nodes, number)?,
     })
 }
 

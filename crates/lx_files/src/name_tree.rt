@@ -1,9 +1,10 @@
 //! Numbers by path, in folders.
 //!
 //! A path is looked up name by name from the top, each in the folder above it, so it takes time with its names, and a
-//! part of it from its folder one look-up. A name is kept twice: in the folder above, and where its own folder stands.
-//! Whole paths are made where they are listed, and for `any_under` where a folder without a number is all there is in
-//! another, as is so only where a path was given a number before the path above it.
+//! part of it from its folder one look-up. Of the directory above the path that was made last the folder is known: what
+//! is in it, or below, is looked up from there. A name is kept twice: in the folder above, and where its own folder
+//! stands. Whole paths are made where they are listed, and for `any_under` where a folder without a number is all there
+//! is in another, as is so only where a path was given a number before the path above it.
 
 ghost use Rattle.std.specs.Prelude.{◌≡◌, ◌<◌, ◌≤◌, take, length, is_some, true, OnOk, OnErr, IfOk, map, []};
 ghost use Rattle.std.specs.FinMap as maps;
@@ -14,7 +15,8 @@ ghost use Rattle.lx_files.specs.Places.{numbered, parts as parts_of, reached};
 
 use crate::flat::{any_under, flatten};
 use crate::folder::Folders;
-use crate::folders::{TOP, enter_path, known_part, walk};
+use crate::folders::{enter_path, known_part};
+use crate::known::{Known, find, learn, way_to};
 use crate::nodes::Nodes;
 use crate::places::Place;
 use crate::pruning::prune;
@@ -30,6 +32,7 @@ use std::marker::Model;
 pub struct NameTree {
     folders: Folders,
     numbers: Shelf<u32>,
+    known: Option<Known>,
 }
 
 impl Model for NameTree {
@@ -37,6 +40,7 @@ impl Model for NameTree {
     ghost use Rattle.std.specs.FinMap as maps;
     ghost use Rattle.lx_files.specs.Kinds.{NameMap};
     ghost use Rattle.lx_files.specs.Folders.{named, IsTree, AreThere};
+    ghost use Rattle.lx_files.specs.Ways.{IsKnown};
 
     ghost Value = { NameMap };
 
@@ -45,7 +49,8 @@ impl Model for NameTree {
     ghost view = { λ n. named n.folders.standings n.numbers };
 
     ghost invariant = { λ n. IsTree n.folders.children n.folders.standings n.folders.full_below
-        × AreThere n.folders.standings n.numbers };
+        × AreThere n.folders.standings n.numbers
+        × IsKnown n.folders.children n.folders.standings n.known };
 }
 
 impl NameTree {
@@ -59,13 +64,14 @@ impl NameTree {
                 full_below: 0,
             },
             numbers: Shelf::new(alloc),
+            known: None,
         }
     }
 
     pub fn get(&self, path: &[u8]) -> Option<u32>
         ensures { result ≡ maps.get self.now path.now }
     {
-        match walk(&self.folders.children, TOP, path) {
+        match find(&self.folders, &self.known, path) {
             None => None,
             Some(folder) => self.numbers.get(folder).copied(),
         }
@@ -91,9 +97,12 @@ impl NameTree {
         ensures ok { OnOk result (self.new ≡ maps.insert self.old path.now number) }
         ensures err { OnErr result (self.new ≡ self.old) }
     {
-        let folder = enter_path(alloc, &mut self.folders, path)?;
+        let way = way_to(&self.known, path);
+        self.known = None;
+        let folder = enter_path(alloc, &mut self.folders, way.folder, way.rest)?;
         let was = self.numbers.get(folder).copied();
         self.numbers.insert(folder, number)?;
+        self.known = learn(alloc, &self.folders, folder, path);
         Ok(was)
     }
 
@@ -101,10 +110,11 @@ impl NameTree {
         ensures value { result ≡ maps.get self.old path.now }
         ensures rest { self.new ≡ maps.remove self.old path.now }
     {
-        match walk(&self.folders.children, TOP, path) {
+        match find(&self.folders, &self.known, path) {
             None => None,
             Some(folder) => {
                 let number = self.numbers.remove(folder);
+                self.known = None;
                 prune(&mut self.folders, folder);
                 number
             }
@@ -141,6 +151,7 @@ impl NameTree {
         reach(
             alloc,
             &self.folders,
+            &self.known,
             &self.numbers,
             nodes,
             slashed,

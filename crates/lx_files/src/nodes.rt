@@ -7,27 +7,30 @@ ghost use Rattle.containers.specs.Vacant.{vacant};
 ghost use Rattle.lx_abi.specs.Limits.{largest_file};
 ghost use Rattle.lx_files.specs.Tallies.{total, weight};
 ghost use Rattle.lx_files.specs.Kinds.{size_of, changed_file, changed_node};
-ghost use Rattle.lx_files.specs.Contents.{padded_to, overwritten as overwritten_of, reaching};
+ghost use Rattle.lx_files.specs.Contents.{padded_to, overwritten as overwritten_of};
 ghost use Rattle.lx_files.specs.Contents.{length_after as length_after_of};
-ghost use Rattle.std.specs.Prelude.{◌≤◌, ◌+◌, OnErr, [], ◌++◌, replicate, ◌-◌};
+ghost use Rattle.std.specs.Prelude.{◌≤◌, ◌+◌, OnErr, []};
 
-use containers::{Bytes, Map};
+use containers::Content;
 use lx_abi::Node;
+use shelves::Numbered;
 use std::alloc::{AllocError, Global};
 use std::marker::Model;
 
-/// Files and directories by number, with how many bytes all files have and a number below which none is vacant.
+/// Files and directories by number, with how many bytes all files have.
 #[derive(Drop)]
 pub struct Nodes {
-    map: Map<Node>,
+    alloc: Global,
+    map: Numbered<Node>,
     contents: u64,
-    full_below: u32,
 }
 
 impl Model for Nodes {
     ghost use Rattle.std.specs.Coded.{codes};
     ghost use Rattle.std.specs.FinMap as maps;
-    ghost use Rattle.lx_files.specs.Kinds.{NodeMap, AreKept};
+    ghost use Rattle.std.specs.Prelude.{◌≡◌};
+    ghost use Rattle.lx_files.specs.Kinds.{NodeMap, size_of};
+    ghost use Rattle.lx_files.specs.Tallies.{total};
 
     ghost Value = { NodeMap };
 
@@ -35,7 +38,7 @@ impl Model for Nodes {
 
     ghost view = { λ n. n.map };
 
-    ghost invariant = { λ n. AreKept n.map n.contents n.full_below };
+    ghost invariant = { λ n. n.contents ≡ total size_of n.map };
 }
 
 fn size(node: &Node) -> u64
@@ -48,7 +51,7 @@ fn size(node: &Node) -> u64
 }
 
 /// How many bytes stand at a number.
-fn size_at(map: &Map<Node>, node: u32) -> u64
+fn size_at(map: &Numbered<Node>, node: u32) -> u64
     ensures { result ≡ weight size_of (maps.get map.now node) }
 {
     match map.get(node) {
@@ -62,9 +65,9 @@ impl Nodes {
         ensures { result ≡ maps.empty }
     {
         Nodes {
-            map: Map::new(alloc),
+            alloc,
+            map: Numbered::new(alloc),
             contents: 0,
-            full_below: 0,
         }
     }
 
@@ -84,7 +87,7 @@ impl Nodes {
     pub fn vacant(&self) -> Result<u32, AllocError>
         ensures { IfOk result (λ n. n ≡ vacant self.now) }
     {
-        self.map.vacant(self.full_below)
+        self.map.vacant()
     }
 
     /// How many bytes all files have.
@@ -101,7 +104,6 @@ impl Nodes {
             None => {}
             Some(old) => {
                 self.contents = self.contents.saturating_sub(size(&old));
-                self.full_below = self.full_below.min(node);
             }
         }
     }
@@ -121,22 +123,21 @@ impl Nodes {
         };
         self.map.insert(node, value)?;
         self.contents = contents;
-        if self.full_below == node {
-            self.full_below = node.saturating_add(1);
-        }
         Ok(())
     }
 
     /// A file has no bytes from now on. A node that is no file is left.
-    pub fn clear(&mut self, node: u32)
-        ensures { self.new ≡ changed_file self.old node (λ old. []) (maps.get self.old node) }
+    pub fn clear(&mut self, node: u32) -> Result<(), AllocError>
+        ensures ok { OnOk result (self.new ≡ changed_file self.old node (λ old. []) (maps.get self.old node)) }
+        ensures err { OnErr result (self.new ≡ self.old) }
     {
         let Some(value) = self.map.get_mut(node) else {
-            return;
+            return Ok(());
         };
         let before = size(value);
-        clear_node(value);
+        clear_node(self.alloc, value)?;
         self.contents = self.contents.saturating_sub(before);
+        Ok(())
     }
 
     /// Writes bytes to a file from an offset on. A node that is no file is left.
@@ -155,7 +156,7 @@ impl Nodes {
         let Some(contents) = self.contents.saturating_sub(before).checked_add(after) else {
             return Err(AllocError);
         };
-        overwrite_node(value, at, bytes)?;
+        overwrite_node(self.alloc, value, at, bytes)?;
         self.contents = contents;
         Ok(())
     }
@@ -174,18 +175,18 @@ impl Nodes {
         let Some(contents) = self.contents.saturating_sub(before).checked_add(after) else {
             return Err(AllocError);
         };
-        resize_node(value, len)?;
+        resize_node(self.alloc, value, len)?;
         self.contents = contents;
         Ok(())
     }
 }
 
-fn resize_node(node: &mut Node, len: usize) -> Result<(), AllocError>
+fn resize_node(alloc: Global, node: &mut Node, len: usize) -> Result<(), AllocError>
     ensures ok { OnOk result (node.new ≡ changed_node (padded_to len) node.old) }
     ensures err { OnErr result (node.new ≡ node.old) }
 {
     match node {
-        Node::File(content) => content.resize(len),
+        Node::File(content) => content.resize(alloc, len),
         Node::Directory => Ok(()),
     }
 }
@@ -200,21 +201,14 @@ fn size_resized(node: &Node, len: usize) -> u64
     }
 }
 
-/// The bytes reach to an end at least, with zeros.
-fn reach(content: &mut Bytes, end: usize) -> Result<(), AllocError>
-    ensures ok { OnOk result (content.new ≡ reaching end content.old) }
-    ensures err { OnErr result (content.new ≡ content.old) }
-{
-    if content.len() < end {
-        content.resize(end)?;
-        return Ok(());
-    }
-    Ok(())
-}
-
 /// Writes bytes from an offset on, all of them or none.
 #[tactic(auto, unfolding(crate::specs::Contents::overwritten))]
-fn overwrite_bytes(content: &mut Bytes, at: usize, bytes: &[u8]) -> Result<(), AllocError>
+fn overwrite_content(
+    alloc: Global,
+    content: &mut Content,
+    at: usize,
+    bytes: &[u8],
+) -> Result<(), AllocError>
     requires { at + length bytes.now ≤ largest_file }
     ensures ok { OnOk result (content.new ≡ overwritten_of content.old at bytes.now) }
     ensures err { OnErr result (content.new ≡ content.old) }
@@ -222,18 +216,16 @@ fn overwrite_bytes(content: &mut Bytes, at: usize, bytes: &[u8]) -> Result<(), A
     if bytes.len() == 0 {
         return Ok(());
     }
-    reach(content, at + bytes.len())?;
-    content.put(at, bytes);
-    Ok(())
+    content.write(alloc, at, bytes)
 }
 
-fn overwrite_node(node: &mut Node, at: usize, bytes: &[u8]) -> Result<(), AllocError>
+fn overwrite_node(alloc: Global, node: &mut Node, at: usize, bytes: &[u8]) -> Result<(), AllocError>
     requires { at + length bytes.now ≤ largest_file }
     ensures ok { OnOk result (node.new ≡ changed_node (λ old. overwritten_of old at bytes.now) node.old) }
     ensures err { OnErr result (node.new ≡ node.old) }
 {
     match node {
-        Node::File(content) => overwrite_bytes(content, at, bytes),
+        Node::File(content) => overwrite_content(alloc, content, at, bytes),
         Node::Directory => Ok(()),
     }
 }
@@ -261,11 +253,12 @@ pub fn length_after(len: usize, at: usize, written: usize) -> usize
     }
 }
 
-fn clear_node(node: &mut Node)
-    ensures { node.new ≡ changed_node (λ old. []) node.old }
+fn clear_node(alloc: Global, node: &mut Node) -> Result<(), AllocError>
+    ensures ok { OnOk result (node.new ≡ changed_node (λ old. []) node.old) }
+    ensures err { OnErr result (node.new ≡ node.old) }
 {
     match node {
-        Node::File(content) => content.clear(),
-        Node::Directory => {}
+        Node::File(content) => content.clear(alloc),
+        Node::Directory => Ok(()),
     }
 }

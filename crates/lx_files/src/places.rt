@@ -33,7 +33,7 @@ pub enum Lookup {
 
 /// Takes the last name of a path away.
 #[tactic(auto, unfolding(crate::specs::Paths::parent))]
-fn ascend(path: &mut Vec<u8>)
+pub fn ascend(path: &mut Vec<u8>)
     ensures { path.new.items ≡ parent_of path.old.items }
 {
     while let Some(byte) = path.pop() {

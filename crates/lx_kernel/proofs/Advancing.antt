@@ -310,27 +310,27 @@ Awake stage = (s : Shared) (p : ℕ) (b : UserState) (task : Task UserState) →
 
 awake_born : Awake stages.Born
 unfolding can_turn
-awake_born s p b task = (λ e. absurd (cc e), λ e. absurd (cc e))
+awake_born s p b task = (λ e. absurd (cc e), λ e. absurd (cc e), λ e. absurd (cc e))
 
 pub awake_run : Awake stages.Run
 unfolding can_turn
-awake_run s p b task = (λ e. absurd (cc e), λ e. absurd (cc e))
+awake_run s p b task = (λ e. absurd (cc e), λ e. absurd (cc e), λ e. absurd (cc e))
 
 awake_finished : Awake stages.Finished
 unfolding can_turn
-awake_finished s p b task = (λ e. absurd (cc e), λ e. absurd (cc e))
+awake_finished s p b task = (λ e. absurd (cc e), λ e. absurd (cc e), λ e. absurd (cc e))
 
 awake_woken : Awake stages.Woken
 unfolding can_turn
-awake_woken s p b task = (λ e. absurd (cc e), λ e. absurd (cc e))
+awake_woken s p b task = (λ e. absurd (cc e), λ e. absurd (cc e), λ e. absurd (cc e))
 
 pub awake_entered : (joined : Option Signal) → Awake (stages.Entered joined)
 unfolding can_turn
-awake_entered joined s p b task = (λ e. absurd (cc e), λ e. absurd (cc e))
+awake_entered joined s p b task = (λ e. absurd (cc e), λ e. absurd (cc e), λ e. absurd (cc e))
 
 pub awake_acted : (call : Call) (x : ℕ) (replaced : Bool) → Awake (stages.Acted call x replaced)
 unfolding can_turn
-awake_acted call x replaced s p b task = (λ e. absurd (cc e), λ e. absurd (cc e))
+awake_acted call x replaced s p b task = (λ e. absurd (cc e), λ e. absurd (cc e), λ e. absurd (cc e))
 
 pub awake_start : (stage : Stage) → Starts stage → Awake stage
 awake_start stage (inl is) = subst Awake (sym is) awake_born
@@ -354,4 +354,4 @@ put_leads t s child p n task item task' leads k fits tasks tasks' here there put
     (leads k fits (ap (λ (m : Tasks). maps.get m p) here ∙ sym there))
 
 pub kept_same : (s : Shared) (p : ℕ) (task : Task UserState) → IsKept s p task task
-kept_same s p task = (λ e. e, λ e. e)
+kept_same s p task = (λ e. e, λ e. e, λ e. refl)

@@ -177,6 +177,10 @@ changed_spared m p q f (Some e) there h = put_spared m p q (f e) (subst (λ o. I
 pub signalled_spared : (m : Entries) (p q : ℕ) (g : Entry → Signals) → AreSpared m (changed m p (λ e. with_signals e (g e))) q
 signalled_spared m p q g = changed_spared m p q (λ e. with_signals e (g e)) (maps.get m p) refl (λ e there. signals_spared q p e (g e))
 
+-- nor does its working directory
+pub directory_spared : (m : Entries) (p q : ℕ) (path : List ℕ) → AreSpared m (changed m p (λ e. record e { directory = path })) q
+directory_spared m p q path = changed_spared m p q (λ e. record e { directory = path }) (maps.get m p) refl (λ e there wanted. (λ h. h, λ options h. h))
+
 pub twice_spared : (m : Entries) (p q : ℕ) (g h : Entry → Signals)
     → AreSpared m (changed (changed m p (λ e. with_signals e (g e))) p (λ e. with_signals e (h e))) q
 twice_spared m p q g h =

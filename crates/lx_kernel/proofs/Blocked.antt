@@ -4,6 +4,7 @@ use Rattle.std.specs.Prelude.{◌==◌, ◌&&◌, ◌||◌, not, nat_lt, min, if
 use Rattle.std.specs.Ordering.{nat_cmp, eq_by_cmp}
 use Rattle.std.specs.Cmp.{nat_cmp_total}
 use Rattle.std.specs.List.{range_with_len}
+use Rattle.std.specs.Option.{option_and_then}
 use Rattle.std.specs.FinMap as maps
 use Rattle.lx_abi.specs.declared.log.Call.{Call}
 use Rattle.lx_abi.specs.Limits.{most_moved}
@@ -26,6 +27,7 @@ use Rattle.lx_pcalls.specs.Interruption.{is_interrupted}
 use Rattle.lx_pcalls.specs.Stops.{is_continued_at}
 use Rattle.lx_turn.specs.Reactions.{is_killed}
 use Rattle.lx_kernel.specs.Blocking.{IsBlocked, can_turn, would_block as blocks}
+use Rattle.lx_kernel.specs.Pipes.{pipe_in, pipe_at}
 use Rattle.lx_kernel.proofs.Placed.{other_put}
 
 pub both : (a b : Bool) → (a && b) ≡ true → (a ≡ true) × (b ≡ true)
@@ -36,9 +38,10 @@ join : (a b : Bool) → a ≡ true → b ≡ true → (a && b) ≡ true
 join true b e h = h
 join false b e h = absurd (cc e)
 
-either_kept : (a b a' b' : Bool) → a' ≡ a → (b ≡ true → b' ≡ true) → (a || b) ≡ true → (a' || b') ≡ true
-either_kept true b a' b' is kept e = ap (λ x. x || b') is
-either_kept false b a' b' is kept e = ap (λ x. x || b') is ∙ kept e
+either_kept : (a b a' b' : Bool) → (a ≡ true → a' ≡ true) → (b ≡ true → b' ≡ true) → (a || b) ≡ true → (a' || b') ≡ true
+either_kept true b a' b' first second e = ap (λ x. x || b') (first refl)
+either_kept false b true b' first second e = refl
+either_kept false b false b' first second e = second e
 
 -- what ends a stop, and what ends a wait in a call
 abbrev pub is_stirred : Bool → Option Entry → Bool
@@ -79,16 +82,16 @@ then_no_waking false true e = absurd (cc e)
 then_no_waking false false e = refl
 
 -- a process stays blocked where its call still waits and no signal has come
-pub blocked_on : (s s' : Shared) (q : ℕ) → ((call : Call) (b : UserState) → would_block s' q call b ≡ would_block s q call b)
+pub blocked_still : (s s' : Shared) (q : ℕ) (task : Task UserState) → ((call : Call) (b : UserState) → task ≡ Alive b (Doing call) → would_block s q call b ≡ true → would_block s' q call b ≡ true)
     → ((call : Call) → process_would_block s q call ≡ true → process_would_block s' q call ≡ true)
     → StaysQuiet (maps.get s.entries q) (maps.get s'.entries q)
-    → (task : Task UserState) → IsBlocked s q task → IsBlocked s' q task
+    → IsBlocked s q task → IsBlocked s' q task
 unfolding can_turn blocks
-blocked_on s s' q waits awaits quiet (Alive b Born) e = absurd (cc e)
-blocked_on s s' q waits awaits quiet (Alive b Run) e = absurd (cc e)
-blocked_on s s' q waits awaits quiet (Alive b (Faulting signal cause)) e = absurd (cc e)
-blocked_on s s' q waits awaits quiet (Alive b (Entered joined)) e = absurd (cc e)
-blocked_on s s' q waits awaits quiet (Alive b (Doing call)) e =
+blocked_still s s' q (Alive b Born) waits awaits quiet e = absurd (cc e)
+blocked_still s s' q (Alive b Run) waits awaits quiet e = absurd (cc e)
+blocked_still s s' q (Alive b (Faulting signal cause)) waits awaits quiet e = absurd (cc e)
+blocked_still s s' q (Alive b (Entered joined)) waits awaits quiet e = absurd (cc e)
+blocked_still s s' q (Alive b (Doing call)) waits awaits quiet e =
     let file = would_block s q call b in
     let file' = would_block s' q call b in
     let process = process_would_block s q call in
@@ -97,20 +100,27 @@ blocked_on s s' q waits awaits quiet (Alive b (Doing call)) e =
     let entry' = maps.get s'.entries q in
     let h = both (file || process) (is_quiet false entry) (no_turn (file || process) (is_killed entry) (is_interrupted entry) e) in
     then_no_turn (file' || process') (is_killed entry') (is_interrupted entry')
-    (join (file' || process') (is_quiet false entry') (either_kept file process file' process' (waits call b) (awaits call) h.0) (quiet false h.1))
-blocked_on s s' q waits awaits quiet (Alive b (Replaced call x)) e = absurd (cc e)
-blocked_on s s' q waits awaits quiet (Alive b (Acted call x replaced)) e = absurd (cc e)
-blocked_on s s' q waits awaits quiet (Alive b Finished) e = absurd (cc e)
-blocked_on s s' q waits awaits quiet (Alive b (Taken signal cause)) e = absurd (cc e)
-blocked_on s s' q waits awaits quiet (Alive b Dropped) e = absurd (cc e)
-blocked_on s s' q waits awaits quiet (Alive b (Stopped signal)) e =
+    (join (file' || process') (is_quiet false entry') (either_kept file process file' process' (waits call b refl) (awaits call) h.0) (quiet false h.1))
+blocked_still s s' q (Alive b (Replaced call x)) waits awaits quiet e = absurd (cc e)
+blocked_still s s' q (Alive b (Acted call x replaced)) waits awaits quiet e = absurd (cc e)
+blocked_still s s' q (Alive b Finished) waits awaits quiet e = absurd (cc e)
+blocked_still s s' q (Alive b (Taken signal cause)) waits awaits quiet e = absurd (cc e)
+blocked_still s s' q (Alive b Dropped) waits awaits quiet e = absurd (cc e)
+blocked_still s s' q (Alive b (Stopped signal)) waits awaits quiet e =
     let entry = maps.get s.entries q in
     let entry' = maps.get s'.entries q in
     then_no_waking (is_killed entry') (is_continued_at entry') (quiet true (no_waking (is_killed entry) (is_continued_at entry) e))
-blocked_on s s' q waits awaits quiet (Alive b Released) e = absurd (cc e)
-blocked_on s s' q waits awaits quiet (Alive b Woken) e = absurd (cc e)
-blocked_on s s' q waits awaits quiet (Dying w) e = absurd (cc e)
-blocked_on s s' q waits awaits quiet Gone e = refl
+blocked_still s s' q (Alive b Released) waits awaits quiet e = absurd (cc e)
+blocked_still s s' q (Alive b Woken) waits awaits quiet e = absurd (cc e)
+blocked_still s s' q (Dying w) waits awaits quiet e = absurd (cc e)
+blocked_still s s' q Gone waits awaits quiet e = refl
+
+-- so where each call waits as before
+pub blocked_on : (s s' : Shared) (q : ℕ) → ((call : Call) (b : UserState) → would_block s' q call b ≡ would_block s q call b)
+    → ((call : Call) → process_would_block s q call ≡ true → process_would_block s' q call ≡ true)
+    → StaysQuiet (maps.get s.entries q) (maps.get s'.entries q)
+    → (task : Task UserState) → IsBlocked s q task → IsBlocked s' q task
+blocked_on s s' q waits awaits quiet task e = blocked_still s s' q task (λ call b is h. waits call b ∙ h) awaits quiet e
 
 -- Descriptors
 
@@ -129,16 +139,21 @@ waits_alike s s' q slots is same call b =
     else if call.number == 64 then passes (λ named. passes (write_waits s.fds b.memory (argument call 1) n) (description s.fds named.description)) o
     else false) (same fd)
 
+-- and a descriptor is of the same pipe
+pub pipe_alike : (fds : FdTable) (slots : SlotMap) (q fd : ℕ) → slot (record fds { slots = slots }) q fd ≡ slot fds q fd → pipe_at (record fds { slots = slots }) q fd ≡ pipe_at fds q fd
+unfolding pipe_at
+pipe_alike fds slots q fd same = ap (option_and_then (λ (named : Slot). pipe_in (description fds named.description))) same
+
 pub waits_same : (s s' : Shared) (q : ℕ) → s'.fds ≡ s.fds → (call : Call) (b : UserState) → would_block s' q call b ≡ would_block s q call b
 waits_same s s' q is = waits_alike s s' q s.fds.slots is (λ fd. refl)
 
 -- A child's descriptors are no other's.
 
-abbrev AllSmall : List ℕ → Type 0
+abbrev pub AllSmall : List ℕ → Type 0
 AllSmall [] = Unit {0}
 AllSmall (n ∷ ns) = (n < 256) × AllSmall ns
 
-small_range : (a n : ℕ) → a + n ≤ 256 → AllSmall (range_with_len a n)
+pub small_range : (a n : ℕ) → a + n ≤ 256 → AllSmall (range_with_len a n)
 small_range a zero le = tt
 small_range a (suc n) le = (omega (arith, le), small_range (a + 1) n (omega (arith, le)))
 

@@ -13,7 +13,6 @@ use Rattle.lx_abi.specs.Effects as effect
 use Rattle.lx_abi.specs.Errnos.{enosys}
 use Rattle.lx_abi.specs.declared.log.Call.{Call}
 use Rattle.lx_abi.specs.declared.log.Cause.{Cause}
-use Rattle.lx_abi.specs.declared.log.Item.{Item}
 use Rattle.lx_abi.specs.declared.signal.Signal.{Signal}
 use Rattle.lx_abi.specs.Signals.{is_stop}
 use Rattle.lx_abi.specs.declared.script.Choice.{Choice}
@@ -57,11 +56,10 @@ use Rattle.lx_pcalls.specs.Wait4.{told_child, told_entry, first_child}
 use Rattle.lx_turn.specs.Calls.{does, called}
 use Rattle.lx_turn.specs.Linux.{linux}
 use Rattle.lx_turn.specs.Reactions.{next_of, runs, resumed, ran_by, is_killed}
-use Rattle.lx_turn.specs.Turned.{Turned, turned}
-use Rattle.lx_kernel.specs.Waking.{is_calm_number, is_calm_task, calm_after, IsCalm, Calms, CalmTurnsWakeNobody, aimed_at, told_by, told_by_call, told_by_signal, told_at, told_in}
+use Rattle.lx_kernel.specs.Waking.{is_calm_number, IsCalm, Calms, CalmTurnsWakeNobody, aimed_at, told_by, told_by_call, told_by_signal, told_at, told_in}
 use Rattle.lx_turn.proofs.CallsFit.{reaction_stops}
 use Rattle.lx_kernel.proofs.Awaiting.{awaits_on, signalled_spared, twice_spared, killed_spared, reaped_spared, born_spared}
-use Rattle.lx_kernel.proofs.Blocked.{is_quiet, StaysQuiet, both, blocked_on, waits_same, waits_alike, inherited_alike, entry_other, quiet_same, quiet_left}
+use Rattle.lx_kernel.proofs.Blocked.{is_quiet, StaysQuiet, both, blocked_on, waits_same, waits_alike, pipe_alike, inherited_alike, entry_other, quiet_same, quiet_left}
 use Rattle.lx_pcalls.proofs.ProcessAnswers.{OfProcesses, processes_hold}
 use Rattle.lx_kernel.proofs.Ending.{end_calm, burial_calm, stop_calm, wake_calm}
 use Rattle.lx_kernel.proofs.Placed.{either, get_put, other_put}
@@ -94,36 +92,45 @@ module _ (s : Shared) (child p told : ℕ) where
 
   -- nothing is changed
   pub same_calm : (event : PtraceEvent UserState) → Calm s event
-  same_calm event = λ q up ne still unborn task h. h
+  same_calm event = record { blocked = λ q up ne still unborn task h. h; pipes = λ q fd ne unborn. refl }
 
   -- the signals of the process's own entry are
   pub entry_calm : (g : Entry → Signals) (event : PtraceEvent UserState) → Calm (with_entries s (changed s.entries p (λ e. with_signals e (g e)))) event
-  entry_calm g event = λ q up ne still unborn task h.
-      let f = λ (e : Entry). with_signals e (g e) in
-      let t : Shared = with_entries s (changed s.entries p f) in
-      blocked_on s t q (waits_same s t q refl)
-      (awaits_on s t q (signalled_spared s.entries p q g))
-      (quiet_same (maps.get s.entries q) (maps.get t.entries q) (entry_other s.entries p q f (maps.get s.entries p) ne)) task h
+  entry_calm g event = record {
+    blocked = λ q up ne still unborn task h.
+        let f = λ (e : Entry). with_signals e (g e) in
+        let t : Shared = with_entries s (changed s.entries p f) in
+        blocked_on s t q (waits_same s t q refl)
+        (awaits_on s t q (signalled_spared s.entries p q g))
+        (quiet_same (maps.get s.entries q) (maps.get t.entries q) (entry_other s.entries p q f (maps.get s.entries p) ne)) task h;
+    pipes = λ q fd ne unborn. refl;
+  }
 
   entries_calm : (g i : Entry → Signals) (event : PtraceEvent UserState)
       → Calm (with_entries s (changed (changed s.entries p (λ e. with_signals e (g e))) p (λ e. with_signals e (i e)))) event
-  entries_calm g i event = λ q up ne still unborn task h.
-      let f = λ (e : Entry). with_signals e (g e) in
-      let j = λ (e : Entry). with_signals e (i e) in
-      let t : Shared = with_entries s (changed (changed s.entries p f) p j) in
-      blocked_on s t q (waits_same s t q refl)
-      (awaits_on s t q (twice_spared s.entries p q g i))
-      (quiet_same (maps.get s.entries q) (maps.get t.entries q)
-      (entry_other (changed s.entries p f) p q j (maps.get (changed s.entries p f) p) ne ∙ entry_other s.entries p q f (maps.get s.entries p) ne)) task h
+  entries_calm g i event = record {
+    blocked = λ q up ne still unborn task h.
+        let f = λ (e : Entry). with_signals e (g e) in
+        let j = λ (e : Entry). with_signals e (i e) in
+        let t : Shared = with_entries s (changed (changed s.entries p f) p j) in
+        blocked_on s t q (waits_same s t q refl)
+        (awaits_on s t q (twice_spared s.entries p q g i))
+        (quiet_same (maps.get s.entries q) (maps.get t.entries q)
+        (entry_other (changed s.entries p f) p q j (maps.get (changed s.entries p f) p) ne ∙ entry_other s.entries p q f (maps.get s.entries p) ne)) task h;
+    pipes = λ q fd ne unborn. refl;
+  }
 
   -- a signal is sent to the one that is told
   sent_calm : (signal : Signal) (event : PtraceEvent UserState) → Calm (with_entries s (changed s.entries told (λ e. sent_to e e.life p signal))) event
-  sent_calm signal event = λ q up ne still unborn task h.
-      let f = λ (e : Entry). sent_to e e.life p signal in
-      let t : Shared = with_entries s (changed s.entries told f) in
-      blocked_on s t q (waits_same s t q refl)
-      (awaits_on s t q (killed_spared s.entries p told q signal))
-      (quiet_same (maps.get s.entries q) (maps.get t.entries q) (entry_other s.entries told q f (maps.get s.entries told) still)) task h
+  sent_calm signal event = record {
+    blocked = λ q up ne still unborn task h.
+        let f = λ (e : Entry). sent_to e e.life p signal in
+        let t : Shared = with_entries s (changed s.entries told f) in
+        blocked_on s t q (waits_same s t q refl)
+        (awaits_on s t q (killed_spared s.entries p told q signal))
+        (quiet_same (maps.get s.entries q) (maps.get t.entries q) (entry_other s.entries told q f (maps.get s.entries told) still)) task h;
+    pipes = λ q fd ne unborn. refl;
+  }
 
   sends_calm : (signal : Option Signal) (event : PtraceEvent UserState) → Calm (sends s p told signal) event
   sends_calm None event = same_calm event
@@ -131,22 +138,28 @@ module _ (s : Shared) (child p told : ℕ) where
 
   -- a child that was told of leaves the table, or has no news
   pub told_calm : (wanted options n : ℕ) (event : PtraceEvent UserState) → first_child s.entries p wanted (Some options) ≡ Some n → Calm (told_child s n) event
-  told_calm wanted options n event found = λ q up ne still unborn task h.
-      let t : Shared = told_child s n in
-      blocked_on s t q (waits_same s t q refl)
-      (awaits_on s t q (reaped_spared s.entries p q wanted options n ne found))
-      (quiet_told s.entries n q (maps.get s.entries n)) task h
+  told_calm wanted options n event found = record {
+    blocked = λ q up ne still unborn task h.
+        let t : Shared = told_child s n in
+        blocked_on s t q (waits_same s t q refl)
+        (awaits_on s t q (reaped_spared s.entries p q wanted options n ne found))
+        (quiet_told s.entries n q (maps.get s.entries n)) task h;
+    pipes = λ q fd ne unborn. refl;
+  }
 
   -- a child is born under a pid that is free
   born_calm : (e : Entry) (newborn : UserState) → e.parent ≡ p → maps.get s.entries child ≡ None
       → Calm (record s { fds = inherited s.fds p child; entries = maps.insert s.entries child e }) (Forked newborn)
   unfolding inherited
-  born_calm e newborn parent free = λ q up ne still unborn task h.
-      let t : Shared = record s { fds = inherited s.fds p child; entries = maps.insert s.entries child e } in
-      let other = unborn tt in
-      blocked_on s t q (waits_alike s t q (inherited s.fds p child).slots refl (inherited_alike s.fds p child q other))
-      (awaits_on s t q (born_spared s.entries p child q e ne parent free))
-      (quiet_same (maps.get s.entries q) (maps.get t.entries q) (other_put s.entries child q other e)) task h
+  born_calm e newborn parent free = record {
+    blocked = λ q up ne still unborn task h.
+        let t : Shared = record s { fds = inherited s.fds p child; entries = maps.insert s.entries child e } in
+        let other = unborn tt in
+        blocked_on s t q (waits_alike s t q (inherited s.fds p child).slots refl (inherited_alike s.fds p child q other))
+        (awaits_on s t q (born_spared s.entries p child q e ne parent free))
+        (quiet_same (maps.get s.entries q) (maps.get t.entries q) (other_put s.entries child q other e)) task h;
+    pipes = λ q fd ne unborn. pipe_alike s.fds (inherited s.fds p child).slots q fd (inherited_alike s.fds p child q (unborn tt) fd);
+  }
 
   -- Answers
 
@@ -176,7 +189,7 @@ module _ (s : Shared) (child p told : ℕ) where
   interrupted_calm b Blocks h = blocked_calm b (is_interrupted (maps.get s.entries p))
   interrupted_calm b (Ends w) h = h
 
-or_else : (P : Type 0) (a b : Bool) → (a || b) ≡ true → (a ≡ true → P) → (b ≡ true → P) → P
+pub or_else : (P : Type 0) (a b : Bool) → (a || b) ≡ true → (a ≡ true → P) → (b ≡ true → P) → P
 or_else P true b e left right = left refl
 or_else P false b e left right = right e
 
@@ -260,7 +273,7 @@ module _ (s : Shared) (child p : ℕ) (call : Call) (b : UserState) where
       subst (λ o. AnswerCalms s child p told (unwrap_or o (unwrap_or (process_call s child p call b) (Refused enosys)))) (sym (no_file e))
       (processes_hold s child p call b CalmIf process_calm (Refused enosys) (λ e. tt) e)
 
-  does_calm : is_calm_number s child call.number ≡ true → AnswerCalms s child p told (does s child p call b)
+  pub does_calm : is_calm_number s child call.number ≡ true → AnswerCalms s child p told (does s child p call b)
   unfolding does
   does_calm e = interrupted_calm s child p told b (called s child p call b) (called_calm e)
 
@@ -271,8 +284,10 @@ abbrev OutCalms : Shared → ℕ → ℕ → Task UserState → Out Shared UserS
 OutCalms s child p task o = IsCalm s child task o.shared o.task → Calms s o.shared child p (told_in s p task) o.event
 
 -- an end tells nobody
-ends_calm : (s : Shared) (child p who w : ℕ) → AreEndsKept s.fds (dies s p w).fds → Calms s (dies s p w) child p who Plain
-ends_calm s child p who w kept = λ q up ne still unborn. end_calm s child p w kept q up ne ne unborn
+pub ends_calm : (s : Shared) (child p who w : ℕ) → AreEndsKept s.fds (dies s p w).fds → Calms s (dies s p w) child p who Plain
+ends_calm s child p who w kept =
+    let end = end_calm s child p w kept in
+    record { blocked = λ q up ne still unborn. end.blocked q up ne ne unborn; pipes = end.pipes }
 
 ran_calm : (s : Shared) (child p : ℕ) (b : UserState) (o : Outcome) (st : Step) → OutCalms s child p (Alive b Run) (stepped linux s p b (ran_by b o st))
 ran_calm s child p b o step.Ran = λ e. same_calm s child p p Plain
@@ -345,7 +360,7 @@ wakes_calm : (s : Shared) (child p : ℕ) (b : UserState) (signal : Signal) (con
 wakes_calm s child p b signal true = λ e. wake_calm s child p
 wakes_calm s child p b signal false = λ e. same_calm s child p (told_by p (maps.get s.entries p)) Plain
 
-lives_calm : (c : Choice) (s : Shared) (child p : ℕ) (b : UserState) (stage : Stage) → OutCalms s child p (Alive b stage) (lives linux c s child p b stage)
+pub lives_calm : (c : Choice) (s : Shared) (child p : ℕ) (b : UserState) (stage : Stage) → OutCalms s child p (Alive b stage) (lives linux c s child p b stage)
 lives_calm c s child p b Born = λ e. same_calm s child p p Plain
 lives_calm c s child p b Run = runs_calm s child p b (next_of (maps.get s.entries p))
 lives_calm c s child p b (Faulting signal cause) = λ e. same_calm s child p p Plain
@@ -368,15 +383,3 @@ pub turn_calm : CalmTurnsWakeNobody
 turn_calm c s child p (Alive b stage) = killed_calm (is_killed (maps.get s.entries p)) c s child p b stage
 turn_calm c s child p (Dying w) = λ e. burial_calm s child p w
 turn_calm c s child p Gone = λ e. same_calm s child p p Plain
-
--- what code looks at before a turn and after it
-pub calm_is : (s s' : Shared) (child : ℕ) (task task' : Task UserState) (calm ends_kept : Bool) → calm ≡ is_calm_task s child task → (ends_kept ≡ true → AreEndsKept s.fds s'.fds)
-    → calm_after task' calm ends_kept ≡ true → IsCalm s child task s' task'
-calm_is s s' child task (Alive c next) calm ends_kept is kept e = sym is ∙ e
-calm_is s s' child task (Dying w) calm ends_kept is kept e = kept e
-calm_is s s' child task Gone calm ends_kept is kept e = tt
-
-pub taken_calm : (c : Choice) (s s' : Shared) (child p : ℕ) (task task' : Task UserState) (item : Option Item) (event : PtraceEvent UserState) → turned (turn linux c s child p task) ≡ record { shared = s'; task = task'; item = item; event = event }
-    → IsCalm s child task s' task' → Calms s s' child p (told_in s p task) event
-taken_calm c s s' child p task task' item event is =
-    subst (λ (x : Turned). IsCalm s child task x.shared x.task → Calms s x.shared child p (told_in s p task) x.event) is (turn_calm c s child p task)

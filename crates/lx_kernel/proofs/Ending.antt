@@ -25,9 +25,10 @@ use Rattle.lx_proc.specs.declared.state.Life.TheVariants.{Zombie}
 use Rattle.lx_pcalls.specs.Ends.{dies, buried, buried_entry, orphan, orphaned, released, released_entry, retired_by, told, told_of, wants_no_news, with_life}
 use Rattle.lx_pcalls.specs.Stops.{heard_by, stopped as stops, stop_entry, wake_entry, woken}
 use Rattle.lx_proc.specs.Families.{is_zombie}
+use Rattle.lx_kernel.specs.Pipes.{pipe_at}
 use Rattle.lx_kernel.specs.Waking.{Calms, told_by}
 use Rattle.lx_kernel.proofs.Awaiting.{awaits_on, died_spared, buried_spared, stopped_spared, woken_spared}
-use Rattle.lx_kernel.proofs.Blocked.{is_quiet, other_pair, blocked_on, waits_same, waits_alike, entry_other, quiet_same, quiet_left, quiet_orphan}
+use Rattle.lx_kernel.proofs.Blocked.{is_quiet, other_pair, blocked_on, waits_same, waits_alike, pipe_alike, entry_other, quiet_same, quiet_left, quiet_orphan}
 use Rattle.lx_kernel.proofs.Placed.{either, get_put, other_put, other_left}
 
 -- its descriptors are no other's
@@ -86,13 +87,18 @@ all_other tree fds p q fd ne false e = refl
 
 -- where each description stays, each other process stays blocked
 pub end_calm : (s : Shared) (child p w : ℕ) → AreEndsKept s.fds (dies s p w).fds → Calms s (dies s p w) child p p Plain
-end_calm s child p w kept = λ q up ne still unborn task h.
+end_calm s child p w kept =
     let t : Shared = dies s p w in
-    blocked_on s t q
-    (waits_alike s t q t.fds.slots (λ i. record { slots = t.fds.slots; descriptions = kept.0 i; pipes = kept.1 i }) (λ fd. all_other s.tree s.fds p q fd ne (nat_lt fd 256) refl))
-    (awaits_on s t q (died_spared s.entries p q w))
-    (quiet_same (maps.get s.entries q) (maps.get t.entries q)
-    (entry_other (changed s.entries p (λ e. with_news e None)) p q _ (maps.get (changed s.entries p (λ e. with_news e None)) p) ne ∙ entry_other s.entries p q _ (maps.get s.entries p) ne)) task h
+    let same : t.fds ≡ record s.fds { slots = t.fds.slots } = λ i. record { slots = t.fds.slots; descriptions = kept.0 i; pipes = kept.1 i } in
+    record {
+      blocked = λ q up ne still unborn task h.
+          blocked_on s t q
+          (waits_alike s t q t.fds.slots same (λ fd. all_other s.tree s.fds p q fd ne (nat_lt fd 256) refl))
+          (awaits_on s t q (died_spared s.entries p q w))
+          (quiet_same (maps.get s.entries q) (maps.get t.entries q)
+          (entry_other (changed s.entries p (λ e. with_news e None)) p q _ (maps.get (changed s.entries p (λ e. with_news e None)) p) ne ∙ entry_other s.entries p q _ (maps.get s.entries p) ne)) task h;
+      pipes = λ q fd ne unborn. ap (λ (f : FdTable). pipe_at f q fd) same ∙ pipe_alike s.fds t.fds.slots q fd (all_other s.tree s.fds p q fd ne (nat_lt fd 256) refl);
+    }
 
 -- Burial
 
@@ -145,11 +151,14 @@ module _ (stopped : Bool) where
 -- who isn't told of a burial stays blocked
 pub burial_calm : (s : Shared) (child p w : ℕ) → Calms s (buried s p w) child p (told_by p (maps.get s.entries p)) Plain
 unfolding buried
-burial_calm s child p w = λ q up ne other unborn task h.
-    let t : Shared = with_entries s (buried_entry s.entries p w (maps.get s.entries p)) in
-    blocked_on s t q (waits_same s t q refl)
-    (awaits_on s t q (buried_spared p q ne up s.entries w (maps.get s.entries p) refl other))
-    (λ stopped. buried_quiet stopped s.entries p w q (maps.get s.entries p) ne other) task h
+burial_calm s child p w = record {
+  blocked = λ q up ne other unborn task h.
+      let t : Shared = with_entries s (buried_entry s.entries p w (maps.get s.entries p)) in
+      blocked_on s t q (waits_same s t q refl)
+      (awaits_on s t q (buried_spared p q ne up s.entries w (maps.get s.entries p) refl other))
+      (λ stopped. buried_quiet stopped s.entries p w q (maps.get s.entries p) ne other) task h;
+  pipes = λ q fd ne unborn. refl;
+}
 
 -- Group stops
 
@@ -182,16 +191,22 @@ woken_other m p q (Some e) ne other =
 -- who isn't told of a stop, or of its end, stays blocked
 pub stop_calm : (s : Shared) (child p : ℕ) (signal : Signal) → Calms s (stops s p signal) child p (told_by p (maps.get s.entries p)) Plain
 unfolding stops
-stop_calm s child p signal = λ q up ne other unborn task h.
-    let t : Shared = with_entries s (stop_entry s.entries p signal (maps.get s.entries p)) in
-    blocked_on s t q (waits_same s t q refl)
-    (awaits_on s t q (stopped_spared s.entries p q signal (maps.get s.entries p) refl other))
-    (quiet_same (maps.get s.entries q) (maps.get t.entries q) (stopped_other s.entries p q signal (maps.get s.entries p) ne other)) task h
+stop_calm s child p signal = record {
+  blocked = λ q up ne other unborn task h.
+      let t : Shared = with_entries s (stop_entry s.entries p signal (maps.get s.entries p)) in
+      blocked_on s t q (waits_same s t q refl)
+      (awaits_on s t q (stopped_spared s.entries p q signal (maps.get s.entries p) refl other))
+      (quiet_same (maps.get s.entries q) (maps.get t.entries q) (stopped_other s.entries p q signal (maps.get s.entries p) ne other)) task h;
+  pipes = λ q fd ne unborn. refl;
+}
 
 pub wake_calm : (s : Shared) (child p : ℕ) → Calms s (woken s p) child p (told_by p (maps.get s.entries p)) Plain
 unfolding woken
-wake_calm s child p = λ q up ne other unborn task h.
-    let t : Shared = with_entries s (wake_entry s.entries p (maps.get s.entries p)) in
-    blocked_on s t q (waits_same s t q refl)
-    (awaits_on s t q (woken_spared s.entries p q (maps.get s.entries p) refl other))
-    (quiet_same (maps.get s.entries q) (maps.get t.entries q) (woken_other s.entries p q (maps.get s.entries p) ne other)) task h
+wake_calm s child p = record {
+  blocked = λ q up ne other unborn task h.
+      let t : Shared = with_entries s (wake_entry s.entries p (maps.get s.entries p)) in
+      blocked_on s t q (waits_same s t q refl)
+      (awaits_on s t q (woken_spared s.entries p q (maps.get s.entries p) refl other))
+      (quiet_same (maps.get s.entries q) (maps.get t.entries q) (woken_other s.entries p q (maps.get s.entries p) ne other)) task h;
+  pipes = λ q fd ne unborn. refl;
+}

@@ -6,7 +6,10 @@ pub mod Calming
 pub mod Choices
 pub mod Continuing
 pub mod Ending
+pub mod Few
+pub mod Filing
 pub mod Moving
+pub mod Narrowing
 pub mod NextAble
 pub mod OwnCalls
 pub mod Placed

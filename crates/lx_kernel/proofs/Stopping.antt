@@ -119,7 +119,7 @@ module _ (s : Shared) (child p told : ℕ) where
   Leaves t event = LeavesStopped s t child p told event
 
   calm_leaves : (t : Shared) (event : PtraceEvent UserState) → Calms s t child p told event → Leaves t event
-  calm_leaves t event calm = λ q up ne still unborn task r e. calm q up ne still unborn task e
+  calm_leaves t event calm = λ q up ne still unborn task r e. calm.blocked q up ne still unborn task e
 
   apart_leaves : (t : Shared) (event : PtraceEvent UserState) → IsApart p s t → Leaves t event
   apart_leaves t event apart = λ q up ne still unborn task r e. stopped_on s t q (apart q ne) task r e

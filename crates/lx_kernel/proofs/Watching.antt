@@ -23,8 +23,9 @@ use Rattle.lx_fcalls.specs.Blocking.{would_block, read_would_block, write_would_
 use Rattle.lx_turn.specs.Linux.{linux}
 use Rattle.lx_kernel.specs.Scheduling.{Tasks}
 use Rattle.lx_kernel.specs.Blocking.{can_turn, IsBlocked, rests, would_block as blocks}
-use Rattle.lx_kernel.specs.Waking.{Calms, LeavesStopped}
-use Rattle.lx_kernel.specs.Sleeping.{IsKept, IsSameBut, IsWatched, AreWatched, AreOthersListed, Watch, welcomed}
+use Rattle.lx_kernel.specs.Pipes.{used, IsApart}
+use Rattle.lx_kernel.specs.Waking.{WakesFew, LeavesStopped}
+use Rattle.lx_kernel.specs.Sleeping.{IsKept, IsSameBut, IsWatched, AreWatched, AreOthersListed, Watch, IsFiled, AreFiled, Filing, welcomed}
 use Rattle.lx_kernel.specs.Tracing.{with_regs, with_part_at}
 use Rattle.lx_turn.specs.Turned.{turned, Turned, unboxed, IsBirth}
 use Rattle.lx_kernel.specs.Turns.{tasks_with}
@@ -35,10 +36,11 @@ use Rattle.lx_kernel.proofs.Placed.{get_put}
 use Rattle.lx_kernel.proofs.Placing.{at_placed}
 use Rattle.lx_kernel.proofs.Placed.{either, other_put, other_left}
 use Rattle.lx_kernel.proofs.Sleeping.{put_there, gone_blocked, watched_but}
+use Rattle.lx_kernel.proofs.Filing.{rests_by, used_same, filed_beside, watched_beside, filed_but, filed_on}
 use Rattle.lx_kernel.proofs.Stopping.{still_turn}
 
 kept_same : (s : Shared) (q : ℕ) (task : Task UserState) → IsKept s q task task
-kept_same s q task = (λ e. e, λ e. e)
+kept_same s q task = (λ e. e, λ e. e, λ e. refl)
 
 -- a table whose parts keep
 pub watch_kept : (sets : RunQueue) (s : Shared) (tasks tasks' : Tasks) → ((q : ℕ) → IsKept s q (at Gone tasks q) (at Gone tasks' q)) → Watch sets s tasks → Watch sets s tasks'
@@ -81,7 +83,7 @@ regs_blocked s p b r stage.Released e = e
 regs_blocked s p b r stage.Woken e = e
 
 pub regs_kept : (s : Shared) (p : ℕ) (r : Regs) (task : Task UserState) → PartKept s p task (with_regs r task)
-regs_kept s p r (Alive b at) = (regs_blocked s p b r at, λ e. e)
+regs_kept s p r (Alive b at) = (regs_blocked s p b r at, λ e. e, λ e. refl)
 regs_kept s p r (Dying w) = tt
 regs_kept s p r Gone = tt
 
@@ -92,6 +94,10 @@ module _ (sets sets' : RunQueue) (s : Shared) (tasks : Tasks) (p : ℕ) (same : 
   pub wake_watch : Watch sets s tasks → Watch sets' s tasks
   wake_watch watch = λ known. watched_but sets sets' s tasks p (same known) (λ unwatched. absurd (awake known unwatched)) (λ q up ne. watch (same known).0 q up)
 
+  -- and is filed
+  pub wake_filing : Filing sets s tasks → Filing sets' s tasks
+  wake_filing filing = λ known. filed_but sets sets' s p (same known) tasks (λ unwatched. absurd (awake known unwatched)) (λ q up ne. filing (same known).0 q up)
+
 awake_placed : (sets : RunQueue) (s : Shared) (tasks : Tasks) (p : ℕ) (task : Task UserState) → (maps.get sets.awake p ≡ None → ⊥) → AreWatched sets s tasks → AreWatched sets s (placed tasks p task)
 awake_placed sets s tasks p task awake watched = λ q up. either q p (IsWatched sets s q (at Gone (placed tasks p task) q)) (q == p) refl
     (λ e unwatched. absurd (awake (subst (λ n. maps.get sets.awake n ≡ None) e unwatched)))
@@ -100,6 +106,15 @@ awake_placed sets s tasks p task awake watched = λ q up. either q p (IsWatched 
 pub awake_kept : (sets : RunQueue) (s : Shared) (tasks : Tasks) (p : ℕ) (x : Option (Task UserState)) → (maps.get sets.awake p ≡ None → ⊥) → AreWatched sets s tasks → AreWatched sets s (with_part_at tasks p x)
 awake_kept sets s tasks p None awake watched = watched
 awake_kept sets s tasks p (Some task) awake watched = awake_placed sets s tasks p task awake watched
+
+filed_placed : (sets : RunQueue) (s : Shared) (tasks : Tasks) (p : ℕ) (task : Task UserState) → (maps.get sets.awake p ≡ None → ⊥) → AreFiled sets s tasks → AreFiled sets s (placed tasks p task)
+filed_placed sets s tasks p task awake filed = λ q up. either q p (IsFiled sets s q (at Gone (placed tasks p task) q)) (q == p) refl
+    (λ e unwatched. absurd (awake (subst (λ n. maps.get sets.awake n ≡ None) e unwatched)))
+    (λ ne. subst (IsFiled sets s q) (sym (placed_other tasks p q task ne)) (filed q up))
+
+pub awake_filed : (sets : RunQueue) (s : Shared) (tasks : Tasks) (p : ℕ) (x : Option (Task UserState)) → (maps.get sets.awake p ≡ None → ⊥) → AreFiled sets s tasks → AreFiled sets s (with_part_at tasks p x)
+awake_filed sets s tasks p None awake filed = filed
+awake_filed sets s tasks p (Some task) awake filed = filed_placed sets s tasks p task awake filed
 
 -- Turns in a row
 
@@ -117,6 +132,11 @@ first_watch sets s tasks awake alone = λ known q up unwatched.
     either q 1 (IsBlocked s q (at Gone tasks q) × (maps.get sets.asleep q ≡ None → rests (at Gone tasks q) ≡ true)) (q == 1) refl
     (λ e. put_there maps.empty sets.awake 1 tt (awake known) (subst (λ n. maps.get sets.awake n ≡ None) e unwatched))
     (λ ne. (gone_blocked s q (at Gone tasks q) (alone q ne), λ unslept. ap rests (alone q ne)))
+
+pub first_filing : (sets : RunQueue) (s : Shared) (tasks : Tasks) → (sets.known ≡ true → sets.awake ≡ maps.insert maps.empty 1 tt) → ((q : ℕ) → (q ≡ 1 → ⊥) → at Gone tasks q ≡ Gone) → Filing sets s tasks
+first_filing sets s tasks awake alone = λ known q up. either q 1 (IsFiled sets s q (at Gone tasks q)) (q == 1) refl
+    (λ e unwatched. put_there maps.empty sets.awake 1 tt (awake known) (subst (λ n. maps.get sets.awake n ≡ None) e unwatched))
+    (λ ne unwatched. rests_by sets.by_pipe s q (at Gone tasks q) (ap rests (alone q ne)))
 
 -- a table of process 1 alone
 pub alone : (task : Task UserState) (q : ℕ) → (q ≡ 1 → ⊥) → at Gone (maps.insert maps.empty 1 task) q ≡ Gone
@@ -187,21 +207,42 @@ module _ (v : Running Shared UserState) (rules : List Rule) (follow : Bool) (p :
         subst (Still s q) (sym (with_child tasks v.child q event other))
         (stays_still q up untold other (h.0, h.1 (unslept_before sets v.child q event other unslept)))
 
-  -- after a calm turn the others are watched
-  pub turn_watched : (told : ℕ) → Calms v.shared s v.child p told event → (q : ℕ) → 0 < q → (q ≡ p → ⊥) → (q ≡ told → ⊥) → IsWatched (welcomed sets v.child event) s q (at Gone (tasks_with tasks v.child event) q)
-  turn_watched told calms = λ q up ne still unwatched.
-      let other = unwelcomed sets v.child q event unwatched in
-      let h = watched q up (unwatched_before sets v.child q event other unwatched) in
-      let same : at Gone (tasks_with tasks v.child event) q ≡ at Gone v.tasks q = with_child tasks v.child q event other ∙ other_is q ne in (
-        ap (can_turn s q) same ∙ calms q up ne still other (at Gone v.tasks q) h.0,
-        λ unslept. ap rests same ∙ h.1 (unslept_before sets v.child q event other unslept),
-      )
+  -- the others are in calls on the same pipes
+  module _ (told : ℕ) (changed : Option ℕ) (few : WakesFew v.shared s v.child p told changed event) where
+    task_same : (q : ℕ) → (q ≡ p → ⊥) → (IsBirth event → q ≡ v.child → ⊥) → at Gone (tasks_with tasks v.child event) q ≡ at Gone v.tasks q
+    task_same q ne other = with_child tasks v.child q event other ∙ other_is q ne
 
--- after one that was told is looked at, beside the others
-pub told_watched : (sets sets' : RunQueue) (s : Shared) (tasks : Tasks) (p told : ℕ) → IsSameBut sets sets' told → ((told ≡ p → ⊥) → IsWatched sets' s told (at Gone tasks told))
-    → ((q : ℕ) → 0 < q → (q ≡ p → ⊥) → (q ≡ told → ⊥) → IsWatched sets s q (at Gone tasks q)) → (q : ℕ) → 0 < q → (q ≡ p → ⊥) → IsWatched sets' s q (at Gone tasks q)
-told_watched sets sets' s tasks p told same itself others q up ne = either q told (IsWatched sets' s q (at Gone tasks q)) (q == told) refl
-    (λ e. subst (λ n. IsWatched sets' s n (at Gone tasks n)) (sym e) (itself (λ is. ne (e ∙ is))))
-    (λ apart unwatched.
-    let h = others q up ne apart (sym (same.1 q apart).0 ∙ unwatched) in
-    (h.0, λ unslept. h.1 (sym (same.1 q apart).1 ∙ unslept)))
+    uses_same : (q : ℕ) → (q ≡ p → ⊥) → (IsBirth event → q ≡ v.child → ⊥) → used s q (at Gone (tasks_with tasks v.child event) q) ≡ used v.shared q (at Gone v.tasks q)
+    uses_same q ne other = ap (used s q) (task_same q ne other) ∙ used_same v.shared s q (λ fd. few.pipes q fd ne other) (at Gone v.tasks q)
+
+    -- after a turn that wakes few, all but those on the pipe that was changed are watched
+    pub turn_watched : (q : ℕ) → 0 < q → (q ≡ p → ⊥) → (q ≡ told → ⊥) → IsApart changed s q (at Gone (tasks_with tasks v.child event) q)
+        → IsWatched (welcomed sets v.child event) s q (at Gone (tasks_with tasks v.child event) q)
+    turn_watched q up ne still apart unwatched =
+        let other = unwelcomed sets v.child q event unwatched in
+        let h = watched q up (unwatched_before sets v.child q event other unwatched) in (
+          ap (can_turn s q) (task_same q ne other) ∙ few.blocked q up ne still other (at Gone v.tasks q) (λ n c u. apart n c (uses_same q ne other ∙ u)) h.0,
+          λ unslept. ap rests (task_same q ne other) ∙ h.1 (unslept_before sets v.child q event other unslept),
+        )
+
+    -- and filed
+    pub turn_filed : AreFiled sets v.shared v.tasks → (q : ℕ) → 0 < q → (q ≡ p → ⊥) → IsFiled (welcomed sets v.child event) s q (at Gone (tasks_with tasks v.child event) q)
+    turn_filed filed q up ne unwatched =
+        let other = unwelcomed sets v.child q event unwatched in
+        filed_on sets v.child event v.shared s q (at Gone v.tasks q) (at Gone (tasks_with tasks v.child event) q)
+        (λ unwatched. filed q up (unwatched_before sets v.child q event other unwatched)) (task_same q ne other) (used_same v.shared s q (λ fd. few.pipes q fd ne other) (at Gone v.tasks q)) unwatched
+
+module _ (sets sets' : RunQueue) (s : Shared) (tasks : Tasks) (p told : ℕ) (same : IsSameBut sets sets' told) where
+  -- after one that was told is looked at, beside the others
+  pub told_watched : (changed : Option ℕ) → ((told ≡ p → ⊥) → IsWatched sets' s told (at Gone tasks told))
+      → ((q : ℕ) → 0 < q → (q ≡ p → ⊥) → (q ≡ told → ⊥) → IsApart changed s q (at Gone tasks q) → IsWatched sets s q (at Gone tasks q))
+      → (q : ℕ) → 0 < q → (q ≡ p → ⊥) → IsApart changed s q (at Gone tasks q) → IsWatched sets' s q (at Gone tasks q)
+  told_watched changed itself others q up ne apart = either q told (IsWatched sets' s q (at Gone tasks q)) (q == told) refl
+      (λ e. subst (λ n. IsWatched sets' s n (at Gone tasks n)) (sym e) (itself (λ is. ne (e ∙ is))))
+      (λ still. watched_beside sets sets' s told same q still (at Gone tasks q) (others q up ne still apart))
+
+  pub told_filed : ((told ≡ p → ⊥) → IsFiled sets' s told (at Gone tasks told))
+      → ((q : ℕ) → 0 < q → (q ≡ p → ⊥) → IsFiled sets s q (at Gone tasks q)) → (q : ℕ) → 0 < q → (q ≡ p → ⊥) → IsFiled sets' s q (at Gone tasks q)
+  told_filed itself others q up ne = either q told (IsFiled sets' s q (at Gone tasks q)) (q == told) refl
+      (λ e. subst (λ n. IsFiled sets' s n (at Gone tasks n)) (sym e) (itself (λ is. ne (e ∙ is))))
+      (λ still. filed_beside sets sets' s told same q still (at Gone tasks q) (others q up ne))

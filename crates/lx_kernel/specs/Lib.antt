@@ -4,6 +4,7 @@ pub mod Choices
 pub mod First
 pub mod Occurrences
 pub mod Outcomes
+pub mod Pipes
 pub mod Runs
 pub mod Turns
 pub mod Tracing

@@ -1,4 +1,5 @@
--- Which turns wake no other process that is blocked, and that none wakes another that is stopped.
+-- Which turns wake no other process that is blocked, which ones wake those alone who are in a call on a pipe, and that
+-- none wakes another that is stopped.
 use Rattle.std.specs.Prelude.{◌≡◌, ℕ, Bool, true, ◌&&◌, ◌||◌, ◌==◌, ◌<◌, is_none, Option, Some, None, if◌then◌else◌}
 use Rattle.std.specs.FinMap as maps
 use Rattle.lx_abi.specs.Calls.{has_effects}
@@ -22,6 +23,7 @@ use Rattle.lx_proc.specs.declared.state.UserState.{UserState}
 use Rattle.lx_turn.specs.Linux.{linux}
 use Rattle.lx_turn.specs.Turned.{IsBirth}
 use Rattle.lx_kernel.specs.Blocking.{IsBlocked, rests}
+use Rattle.lx_kernel.specs.Pipes.{is_narrow, changed_in, pipe_at, IsApart}
 
 -- From where a process stands.
 
@@ -94,28 +96,74 @@ told_in s p Gone = p
 
 -- a turn is calm that leaves its process alive, where it was calm from where it stood, one that ends it, where each
 -- description stays, and each that leaves it gone
+abbrev pub LeavesSo : Bool → Shared → Shared → Task UserState → Type 0
+LeavesSo alive s s' (Alive c next) = alive ≡ true
+LeavesSo alive s s' (Dying w) = AreEndsKept s.fds s'.fds
+LeavesSo alive s s' Gone = Unit {0}
+
 abbrev pub IsCalm : Shared → ℕ → Task UserState → Shared → Task UserState → Type 0
-IsCalm s child task s' (Alive c next) = is_calm_task s child task ≡ true
-IsCalm s child task s' (Dying w) = AreEndsKept s.fds s'.fds
-IsCalm s child task s' Gone = Unit {0}
+IsCalm s child task s' task' = LeavesSo (is_calm_task s child task) s s' task'
 
--- the same, as it is looked at
-abbrev pub calm_after : Task UserState → Bool → Bool → Bool
-calm_after (Alive c next) calm ends_kept = calm
-calm_after (Dying w) calm ends_kept = ends_kept
-calm_after Gone calm ends_kept = true
-
--- each other process that was blocked is blocked, but for one that is told, and a child that is born
-abbrev pub Calms : Shared → Shared → ℕ → ℕ → ℕ → PtraceEvent UserState → Type 0
-Calms s s' child p told event =
-    (q : ℕ) → 0 < q → (q ≡ p → ⊥) → (q ≡ told → ⊥) → (IsBirth event → q ≡ child → ⊥) → (task : Task UserState)
-    → IsBlocked s q task
-    → IsBlocked s' q task
+-- each other process that was blocked is blocked, but for one that is told, and a child that is born; the descriptors
+-- of each but the child name the ends of pipes as before
+pub record Calms (s s' : Shared) (child p told : ℕ) (event : PtraceEvent UserState) : Type 0 where
+  pub blocked : (q : ℕ) → 0 < q → (q ≡ p → ⊥) → (q ≡ told → ⊥) → (IsBirth event → q ≡ child → ⊥)
+      → (task : Task UserState) → IsBlocked s q task → IsBlocked s' q task
+  pub pipes : (q fd : ℕ) → (q ≡ p → ⊥) → (IsBirth event → q ≡ child → ⊥) → pipe_at s'.fds q fd ≡ pipe_at s.fds q fd
 
 abbrev pub CalmTurnsWakeNobody : Type 0
 CalmTurnsWakeNobody = (c : Choice) (s : Shared) (child p : ℕ) (task : Task UserState) →
     let o : Out Shared UserState = turn linux c s child p task in
     IsCalm s child task o.shared o.task → Calms s o.shared child p (told_in s p task) o.event
+
+-- Of those that change a pipe at most.
+
+-- a call that leaves every pipe but one, or that is calm
+abbrev pub is_few_number : Shared → ℕ → ℕ → Bool
+is_few_number s child n = is_narrow n || is_calm_number s child n
+
+abbrev pub is_few_at : Shared → ℕ → Stage → Bool
+is_few_at s child Born = true
+is_few_at s child Run = true
+is_few_at s child (Faulting signal cause) = true
+is_few_at s child (Entered joined) = true
+is_few_at s child (Doing call) = is_few_number s child call.number
+is_few_at s child (Replaced call x) = true
+is_few_at s child (Acted call x replaced) = true
+is_few_at s child Finished = true
+is_few_at s child (Taken signal cause) = true
+is_few_at s child Dropped = true
+is_few_at s child (Stopped signal) = true
+is_few_at s child Released = true
+is_few_at s child Woken = true
+
+abbrev pub is_few_task : Shared → ℕ → Task UserState → Bool
+is_few_task s child (Alive b stage) = is_few_at s child stage
+is_few_task s child (Dying w) = true
+is_few_task s child Gone = true
+
+abbrev pub IsFew : Shared → ℕ → Task UserState → Shared → Task UserState → Type 0
+IsFew s child task s' task' = LeavesSo (is_few_task s child task) s s' task'
+
+-- the same, as it is looked at
+abbrev pub few_after : Task UserState → Bool → Bool → Bool
+few_after (Alive c next) few ends_kept = few
+few_after (Dying w) few ends_kept = ends_kept
+few_after Gone few ends_kept = true
+
+-- each other process that was blocked is blocked, but for one that is told, a child that is born, and those that are in
+-- a call on the pipe that was changed; the descriptors of each but the child name the ends of pipes as before
+pub record WakesFew (s s' : Shared) (child p told : ℕ) (changed : Option ℕ) (event : PtraceEvent UserState)
+    : Type 0 where
+  pub blocked : (q : ℕ) → 0 < q → (q ≡ p → ⊥) → (q ≡ told → ⊥) → (IsBirth event → q ≡ child → ⊥)
+      → (task : Task UserState) → IsApart changed s q task → IsBlocked s q task → IsBlocked s' q task
+  pub pipes : (q fd : ℕ) → (q ≡ p → ⊥) → (IsBirth event → q ≡ child → ⊥) → pipe_at s'.fds q fd ≡ pipe_at s.fds q fd
+
+abbrev pub FewTurnsWakeFew : Type 0
+FewTurnsWakeFew = (c : Choice) (s : Shared) (child p : ℕ) (task : Task UserState) →
+    let o : Out Shared UserState = turn linux c s child p task in
+    IsFew s child task o.shared o.task
+    → WakesFew s o.shared child p (told_in s p task) (changed_in s p task) o.event
 
 -- Of any turn, calm or not.
 

@@ -26,7 +26,7 @@ ghost use Rattle.lx_kernel.specs.Scheduling.{IsNextOf};
 ghost use Rattle.lx_kernel.specs.Tracing.{task_in, regs_of, peek_of, call_of, signal_of, listens_of};
 ghost use Rattle.lx_kernel.specs.Tracing.{with_regs, with_change, with_part};
 ghost use Rattle.lx_kernel.specs.Turns.{Turns, without_gone, tasks_with, next_child};
-ghost use Rattle.lx_kernel.specs.Waking.{Calms, LeavesStopped};
+ghost use Rattle.lx_kernel.specs.Waking.{WakesFew, LeavesStopped};
 
 use crate::advances::advance_at;
 use crate::choosing::always;
@@ -116,7 +116,8 @@ fn turn_at(
         ≡ task_mode_of (maps.get shared.old.entries pid) (at Gone tasks.old pid)) }
     ensures after { IfOk result
         (λ t. t.after ≡ task_mode_of (maps.get shared.new.entries pid) (at Gone tasks.new pid)) }
-    ensures calm { IfOk result (λ t. IsTrue t.calm → Calms shared.old shared.new child pid t.told (unboxed t.done)) }
+    ensures few { IfOk result (λ t. IsTrue t.wakes.few
+        → WakesFew shared.old shared.new child pid t.told t.wakes.changed (unboxed t.done)) }
     ensures stopped { IfOk result (λ t. LeavesStopped shared.old shared.new child pid t.told (unboxed t.done)) }
     ensures absent { at Gone tasks.old pid ≡ Gone
         → IsOkAnd result (λ t. (item.new ≡ None) × (unboxed t.done ≡ Plain)) }
@@ -196,7 +197,7 @@ impl Model for Kernel {
     ghost use Rattle.std.specs.FinMap as maps;
     ghost use Rattle.lx_kernel.specs.Runs.{Run};
     ghost use Rattle.lx_kernel.specs.Occurrences.{Agree};
-    ghost use Rattle.lx_kernel.specs.Sleeping.{Watch};
+    ghost use Rattle.lx_kernel.specs.Sleeping.{Watch, Filing};
 
     ghost Value = { Run };
 
@@ -210,7 +211,8 @@ impl Model for Kernel {
       keeps_log = k.log.keeps;
     } };
 
-    ghost invariant = { λ k. k.failed ≡ false → Agree k.occurrences k.log.items × Watch k.run_queue k.shared k.tasks };
+    ghost invariant = { λ k. k.failed ≡ false → Agree k.occurrences k.log.items
+        × Watch k.run_queue k.shared k.tasks × Filing k.run_queue k.shared k.tasks };
 }
 
 /// Where a process stands.
@@ -350,7 +352,7 @@ impl Kernel {
             after,
             done,
             gone,
-            calm,
+            wakes,
             told,
             may_wait,
         } = taken;
@@ -363,7 +365,7 @@ impl Kernel {
             &self.shared,
             &self.tasks,
             pid,
-            calm,
+            wakes,
             Hints { may_wait, gone },
         );
         log_item(&mut self.log, &mut self.occurrences, item)?;

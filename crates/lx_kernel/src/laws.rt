@@ -3,7 +3,7 @@
 ghost use Rattle.lx_kernel.specs.Laws.{BootsAreFirst, TurnsAreSteps, BootsRunAlike, LogsAreApart};
 ghost use Rattle.lx_kernel.specs.Laws.{TurnsLogWords, BootsLogWords, KernelsLogWords};
 ghost use Rattle.lx_kernel.specs.Choices.{TurnsChoose};
-ghost use Rattle.lx_kernel.specs.Waking.{CalmTurnsWakeNobody, TurnsLeaveStopped};
+ghost use Rattle.lx_kernel.specs.Waking.{CalmTurnsWakeNobody, FewTurnsWakeFew, TurnsLeaveStopped};
 
 use lx_model::laws::kernels_run_alike;
 use lx_proc::{Shared, UserState};
@@ -32,6 +32,12 @@ pub fn words_are_logged()
 /// and a child that is born.
 pub fn calm_turns_wake_nobody()
     ensures { CalmTurnsWakeNobody }
+{}
+
+/// A turn that is calm, or in which a call leaves every pipe but one, leaves each other process blocked that was, but
+/// for the one that is told, a child that is born, and those that read or write that pipe.
+pub fn few_turns_wake_few()
+    ensures { FewTurnsWakeFew }
 {}
 
 /// Every turn, calm or not, leaves each other process blocked that was by a stop, but for the one that is told and a

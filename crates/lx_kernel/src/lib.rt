@@ -10,6 +10,7 @@ pub mod kernel;
 pub mod laws;
 mod log;
 mod outcome;
+mod pipes;
 mod run_queue;
 mod scheduling;
 pub mod tracing;

@@ -9,12 +9,14 @@ ghost use Rattle.lx_turn.specs.Injection.{choice_of_task};
 ghost use Rattle.lx_turn.specs.Linux.{linux};
 ghost use Rattle.lx_turn.specs.Modes.{task_mode as task_mode_of};
 ghost use Rattle.lx_turn.specs.Turned.{turned, unboxed, is_gone};
-ghost use Rattle.lx_kernel.specs.Waking.{is_calm_number as is_calm_number_of, is_calm_task, calm_after, Calms};
-ghost use Rattle.lx_kernel.specs.Waking.{LeavesStopped};
+ghost use Rattle.lx_kernel.specs.Waking.{is_calm_number as is_calm_number_of, is_few_number, is_few_task, few_after};
+ghost use Rattle.lx_kernel.specs.Waking.{LeavesStopped, WakesFew};
 ghost use Rattle.lx_kernel.specs.Waking.{told_by, told_in, aimed_at, told_by_call, told_by_signal};
 ghost use Rattle.lx_kernel.specs.Waking.{told_at as told_at_of};
 ghost use Rattle.lx_sig.specs.Kill.{aim as aim_of};
 
+use crate::pipes::{changed_in, is_narrow};
+use crate::run_queue::Wakes;
 use lx_abi::{Call, Item, Mode, Signal, calls, sys};
 use lx_model::{PtraceEvent, Stage, Task};
 use lx_proc::{Shared, UserState};
@@ -31,8 +33,8 @@ pub struct TurnTaken {
     pub done: PtraceEvent<Box<UserState>>,
     /// The process is gone.
     pub gone: bool,
-    /// No other process that was blocked can take a turn now, but for one that is told.
-    pub calm: bool,
+    /// Which others that were blocked can take a turn now, beside one that is told.
+    pub wakes: Wakes,
     /// Whom a kill was sent to, or the parent of a process that has ended, or may have been stopped or continued; the
     /// process itself where nobody is told.
     pub told: u32,
@@ -48,7 +50,7 @@ impl TurnTaken {
           after = mode;
           done = PtraceEvent.Plain;
           gone = true;
-          calm = true;
+          wakes = record { few = true; changed = None };
           told = pid;
           may_wait = false;
         } }
@@ -58,7 +60,10 @@ impl TurnTaken {
             after: mode,
             done: PtraceEvent::Plain,
             gone: true,
-            calm: true,
+            wakes: Wakes {
+                few: true,
+                changed: None,
+            },
             told: pid,
             may_wait: false,
         }
@@ -82,15 +87,22 @@ fn leaves_others(shared: &Shared, child: u32, number: u64) -> bool
         || (number == sys::SYS_CLONE && is_free(shared, child))
 }
 
-/// A turn from where the process stands wakes no other, where it lives on.
-fn is_calm(shared: &Shared, child: u32, task: &Task<UserState>) -> bool
-    ensures { result ≡ is_calm_task shared.now child task.now }
+/// A call that wakes none but one that is told and those who read or write the pipe that it changes.
+fn wakes_few(shared: &Shared, child: u32, number: u64) -> bool
+    ensures { result ≡ is_few_number shared.now child number }
+{
+    is_narrow(number) || leaves_others(shared, child, number)
+}
+
+/// So does a turn from where the process stands, where it lives on.
+fn is_few(shared: &Shared, child: u32, task: &Task<UserState>) -> bool
+    ensures { result ≡ is_few_task shared.now child task.now }
 {
     match task {
         Task::Alive {
             stage: Stage::Doing { call },
             ..
-        } => leaves_others(shared, child, call.number),
+        } => wakes_few(shared, child, call.number),
         _ => true,
     }
 }
@@ -160,12 +172,12 @@ fn told_of(shared: &Shared, pid: u32, task: &Task<UserState>) -> u32
     }
 }
 
-/// A turn was calm that left its process so.
-fn was_calm(task: &Task<UserState>, calm: bool, ends_kept: bool) -> bool
-    ensures { result ≡ calm_after task.now calm ends_kept }
+/// So did a turn that left its process so.
+fn woke_few(task: &Task<UserState>, few: bool, ends_kept: bool) -> bool
+    ensures { result ≡ few_after task.now few ends_kept }
 {
     match task {
-        Task::Alive { .. } => calm,
+        Task::Alive { .. } => few,
         Task::Dying { .. } => ends_kept,
         Task::Gone => true,
     }
@@ -203,12 +215,14 @@ pub fn take_turn(
     ensures before { IfOk result (λ t. t.before ≡ task_mode_of (maps.get shared.old.entries pid) task.old) }
     ensures after { IfOk result (λ t. t.after ≡ task_mode_of (maps.get shared.new.entries pid) task.new) }
     ensures gone { IfOk result (λ t. t.gone ≡ is_gone task.new) }
-    ensures calm { IfOk result (λ t. IsTrue t.calm → Calms shared.old shared.new child pid t.told (unboxed t.done)) }
+    ensures few { IfOk result (λ t. IsTrue t.wakes.few
+        → WakesFew shared.old shared.new child pid t.told t.wakes.changed (unboxed t.done)) }
     ensures stopped { IfOk result (λ t. LeavesStopped shared.old shared.new child pid t.told (unboxed t.done)) }
     ensures absent { task.old ≡ Gone → IsOkAnd result (λ t. (item.new ≡ None) × (unboxed t.done ≡ Plain)) }
     ensures console { OnErr result (shared.new.console ≡ shared.old.console) }
 {
-    let calm = is_calm(shared, child, task);
+    let few = is_few(shared, child, task);
+    let changed = changed_in(shared, pid, task);
     let told = told_of(shared, pid, task);
     let transition = turn_task(alloc, shared, injection, child, pid, task, item)?;
     let Transition {
@@ -223,7 +237,10 @@ pub fn take_turn(
         after,
         done,
         gone,
-        calm: was_calm(task, calm, ends_kept),
+        wakes: Wakes {
+            few: woke_few(task, few, ends_kept),
+            changed,
+        },
         told,
         may_wait: may_wait(task),
     })

@@ -17,8 +17,8 @@ use crate::description::{Description, Slot};
 use crate::descriptions::Descriptions;
 use crate::queue::PipeBuffer;
 use crate::slots::Slots;
-use containers::Map;
 use lx_abi::limits::MOST_FDS;
+use shelves::Numbered;
 use std::alloc::{AllocError, Global};
 
 /// Slots by process and descriptor, descriptions and pipes by number.
@@ -26,7 +26,7 @@ use std::alloc::{AllocError, Global};
 pub struct FdTable {
     pub(crate) slots: Slots,
     pub(crate) descriptions: Descriptions,
-    pub(crate) pipes: Map<PipeBuffer>,
+    pub(crate) pipes: Numbered<PipeBuffer>,
 }
 
 /// A process and a descriptor as one number.
@@ -70,7 +70,7 @@ impl FdTable {
         FdTable {
             slots: Slots::new(alloc),
             descriptions: Descriptions::new(alloc),
-            pipes: Map::new(alloc),
+            pipes: Numbered::new(alloc),
         }
     }
 
@@ -154,7 +154,7 @@ impl FdTable {
     pub fn vacant_pipe(&self) -> Result<u32, AllocError>
         ensures { IfOk result (λ n. n ≡ vacant self.now.pipes) }
     {
-        self.pipes.vacant(0)
+        self.pipes.vacant()
     }
 
     /// An empty pipe by this number.

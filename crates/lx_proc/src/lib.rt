@@ -3,7 +3,7 @@
 
 mod entries;
 mod families;
-mod pairs;
+pub mod pairs;
 mod registers;
 pub mod reply;
 mod sending;
@@ -13,6 +13,7 @@ pub mod texts;
 pub mod wait_words;
 
 pub use entries::{directory, set_signals, signals};
+pub use pairs::Pairs;
 pub use registers::{a0, call, make_again, registers_of, return_from_call, set_registers};
 pub use reply::CallReply;
 pub use sending::send;

@@ -1,6 +1,6 @@
 //! Sweeps of small programs, with ample memory: which runs they have, and what came of each.
 
-use containers::{Bytes, Seq};
+use containers::{Bytes, Content, Seq};
 use lx_abi::{Boot, Errno, GuestFile, Limits};
 use lx_boot::BootFault;
 use rv_asm::assemble;
@@ -40,7 +40,7 @@ fn setup(alloc: Global, listing: &str) -> Result<Setup, Fail> {
     let mut files = Seq::new(alloc);
     files.push(GuestFile {
         path: Bytes::from_slice(alloc, b"/p")?,
-        content: Bytes::from_vec(elf_image::write(alloc, &image)?),
+        content: Content::from_bytes(alloc, Bytes::from_vec(elf_image::write(alloc, &image)?))?,
     })?;
     let mut argv = Seq::new(alloc);
     argv.push(Bytes::from_slice(alloc, b"/p")?)?;

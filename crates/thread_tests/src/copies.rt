@@ -1,6 +1,6 @@
 //! Copies of boots, requests and replies of every kind: each is the same as what it is a copy of, and no other.
 
-use containers::{Bytes, Seq};
+use containers::{Bytes, Content, Seq};
 use lx_abi::{
     Ask, Boot, Boxed, Ended, GuestFile, Info, Limits, Node, Outcome, OutcomeFile, RegisterSet,
     Reply, Request, Status, Word,
@@ -22,7 +22,7 @@ fn alone<T: Drop>(alloc: Global, value: T) -> Result<Seq<T>, AllocError> {
 
 fn file(alloc: Global, content: &str) -> Result<GuestFile, AllocError> {
     let path = bytes(alloc, "/p")?;
-    let content = bytes(alloc, content)?;
+    let content = Content::from_bytes(alloc, bytes(alloc, content)?)?;
     Ok(GuestFile { path, content })
 }
 
@@ -113,7 +113,7 @@ fn request(alloc: Global, number: usize) -> Result<Request, AllocError> {
 fn left(alloc: Global, content: Option<&str>) -> Result<OutcomeFile, AllocError> {
     let path = bytes(alloc, "/f")?;
     let node = match content {
-        Some(content) => Node::File(bytes(alloc, content)?),
+        Some(content) => Node::File(Content::from_bytes(alloc, bytes(alloc, content)?)?),
         None => Node::Directory,
     };
     Ok(OutcomeFile { path, node })

@@ -2,7 +2,7 @@
 
 ghost use Rattle.std.specs.Prelude.{◌≤◌};
 
-use containers::{Bytes, Seq};
+use containers::{Bytes, Content, Seq};
 use host_shared::Gate;
 use lx_abi::{Boot, GuestFile, Limits, Script, Set};
 use rv_asm::assemble;
@@ -91,9 +91,10 @@ impl Gate for Shut {
     }
 }
 
-fn content(alloc: Global) -> Result<Bytes, Fail> {
+fn content(alloc: Global) -> Result<Content, Fail> {
     let image = assemble(alloc, HELLO)?;
-    Ok(Bytes::from_vec(elf_image::write(alloc, &image)?))
+    let bytes = Bytes::from_vec(elf_image::write(alloc, &image)?);
+    Ok(Content::from_bytes(alloc, bytes)?)
 }
 
 fn boot(alloc: Global) -> Result<Boot, Fail> {

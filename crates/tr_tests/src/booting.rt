@@ -1,6 +1,6 @@
 //! What the tests of whole runs begin with.
 
-use containers::{Bytes, Seq};
+use containers::{Bytes, Content, Seq};
 use lx_abi::{Boot, GuestFile, Limits, Script};
 use lx_boot::BootFault;
 use pt_kernel::Schedule;
@@ -18,7 +18,7 @@ pub(crate) fn boot(alloc: Global, path: &str, listing: &str, follow: bool) -> Re
     let mut files = Seq::new(alloc);
     files.push(GuestFile {
         path: Bytes::from_slice(alloc, path.as_bytes())?,
-        content: Bytes::from_vec(elf_image::write(alloc, &image)?),
+        content: Content::from_bytes(alloc, Bytes::from_vec(elf_image::write(alloc, &image)?))?,
     })?;
     let mut argv = Seq::new(alloc);
     argv.push(Bytes::from_slice(alloc, b"/p")?)?;

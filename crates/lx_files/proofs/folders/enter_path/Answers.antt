@@ -1,13 +1,13 @@
-use Rattle.std.proofs.Common.{◌≡◌, Some, sym, subst, ◌∙◌}
+use Rattle.std.proofs.Common.{◌≡◌, ℕ, List, Some, sym, subst, ◌∙◌}
 use Rattle.std.proofs.Common.{refl}
-use Rattle.lx_files.specs.Folders.{child, at, names_of}
+use Rattle.lx_files.specs.Folders.{child, at, names_of, Entered}
 use Rattle.lx_files.proofs.Cutting.{cut, uncut, cut_rest}
 use Rattle.lx_files.proofs.Adding.{keeps_itself, keeps_both}
-use Rattle.lx_files.proofs.Walking.{Entered, first_entered, next_entered, last_entered, if_ok}
+use Rattle.lx_files.proofs.Walking.{next_entered, last_entered, if_ok}
 use Rattle.lx_files.proofs.folders.enter_path.Goals as goal
 
 pub names-init : goal.names-init
-names-init c = (c.requires, keeps_itself c.args.folders.now.standings c.args.folders.now.standings refl, refl, first_entered c.args.folders.now.children c.args.path.now)
+names-init c = (c.requires.tree, keeps_itself c.args.folders.now.standings c.args.folders.now.standings refl, c.requires.there, λ path e. e)
 
 pub enter-requires-clause-bare : goal.enter-requires-clause-bare
 enter-requires-clause-bare c = uncut c.names.rest.now c.in-None.ensures
@@ -23,8 +23,8 @@ names-preserved c = (
   c.in_ok-folder-in-Some.ensures.tree,
   keeps_both c.args.folders.now.standings c.names.folders.standings c.enter-in-Some.new.folders.standings c.names.invariant.1 c.enter-in-Some.ensures.keeps,
   c.in_ok-folder-in-Some.ensures.there,
-  subst (λ r. Entered c.enter-in-Some.new.folders.children c.in_ok-folder-in-Some.folder r c.args.path.now) (sym (c.after_first-rest.ensures ∙ cut_rest c.names.rest.now c.in-Some.end))
-      (next_entered c.names.folders.children c.enter-in-Some.new.folders.children c.names.folder c.in_ok-folder-in-Some.folder c.in-Some.end c.names.rest.now c.args.path.now c.in-Some.ensures c.in_ok-folder-in-Some.ensures.stays c.in_ok-folder-in-Some.ensures.leads c.names.invariant.3),
+  λ path e. subst (λ r. Entered c.enter-in-Some.new.folders.children c.in_ok-folder-in-Some.folder r path) (sym (c.after_first-rest.ensures ∙ cut_rest c.names.rest.now c.in-Some.end))
+      (next_entered c.names.folders.children c.enter-in-Some.new.folders.children c.names.folder c.in_ok-folder-in-Some.folder c.in-Some.end c.names.rest.now path c.in-Some.ensures c.in_ok-folder-in-Some.ensures.stays c.in_ok-folder-in-Some.ensures.leads (c.names.invariant.3 path e)),
 )
 
 pub returns-in-None-clause-keeps : goal.returns-in-None-clause-keeps
@@ -32,6 +32,6 @@ returns-in-None-clause-keeps c = keeps_both c.args.folders.now.standings c.names
 
 pub returns-in-None-clause-leads : goal.returns-in-None-clause-leads
 returns-in-None-clause-leads c =
-    if_ok c.enter.result (λ k. child c.enter.new.folders.children c.names.folder c.names.rest.now ≡ Some k) (λ k. at c.enter.new.folders.children (names_of c.args.path.now) ≡ Some k)
-    (λ k leads. last_entered c.names.folders.children c.enter.new.folders.children c.names.folder k c.names.rest.now c.args.path.now c.in-None.ensures c.enter.ensures.stays leads c.names.invariant.3)
+    if_ok c.enter.result (λ k. child c.enter.new.folders.children c.names.folder c.names.rest.now ≡ Some k) (λ k. (path : List ℕ) → Entered c.args.folders.now.children c.args.start c.args.text.now path → at c.enter.new.folders.children (names_of path) ≡ Some k)
+    (λ k leads path e. last_entered c.names.folders.children c.enter.new.folders.children c.names.folder k c.names.rest.now path c.in-None.ensures c.enter.ensures.stays leads (c.names.invariant.3 path e))
     c.enter.ensures.leads

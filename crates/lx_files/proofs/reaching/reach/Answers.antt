@@ -6,7 +6,6 @@ use Rattle.std.proofs.Math.ListN.{drop_of_length-le}
 use Rattle.lx_files.specs.Trees.{Tree, node_at}
 use Rattle.lx_files.specs.Folders.{at, names_of, named}
 use Rattle.lx_files.specs.Places.{reached, parts, bar, beyond}
-use Rattle.lx_files.proofs.Naming.{led-top}
 use Rattle.lx_files.proofs.Walking.{stands_at}
 use Rattle.lx_files.proofs.Walks.{reached_none, reached_stop, reached_step, parts_part, texts}
 use Rattle.lx_files.proofs.reaching.reach.Goals as goal
@@ -18,7 +17,7 @@ pub loop-part-init : goal.loop-part-init
 loop-part-init c =
     let tree : Tree = record { names = named c.args.folders.now.standings c.args.numbers.now; nodes = c.args.nodes.now } in
     let empty : c.as_slice-last.result.now ≡ [] = search rules in (
-      c.walk-folder.ensures ∙ led-top c.args.folders.now.children c.as_slice.result.now ∙ ap (λ p. at c.args.folders.now.children (names_of p)) c.as_slice.ensures.value,
+      c.find-folder.ensures ∙ ap (λ p. at c.args.folders.now.children (names_of p)) c.as_slice.ensures.value,
       ap (λ l. reached tree c.args.slashed c.args.start.items l (parts (texts c.args.pieces.now))) empty,
     )
 

@@ -9,6 +9,7 @@ use Rattle.lx_kernel.specs.Turns.{without_gone}
 use Rattle.lx_model.specs.Finite.{at, placed}
 use Rattle.lx_model.specs.declared.stage.Task.TheVariants.{Gone}
 use Rattle.lx_turn.specs.Modes.{task_mode}
+use Rattle.lx_kernel.proofs.Few.{same_few}
 use Rattle.lx_kernel.proofs.Placing.{somebody, nobody, placed_by, at_placed}
 use Rattle.lx_kernel.proofs.kernel.turn_at.Goals as goal
 
@@ -16,6 +17,9 @@ pub returns-in-None-clause-turns : goal.returns-in-None-clause-turns
 returns-in-None-clause-turns c =
     nobody (λ task. turned (turn linux (choice_of_task c.args.injection.now c.args.pid task) c.args.shared.now c.args.child c.args.pid task)) c.args.tasks.now c.get_mut.follows.lender-at-none c.args.pid c.args.item.now c.absent.result.done c.args.shared.now
     c.in-None.ensures.value refl c.get_mut.follows.holds-at-none c.requires (ap (λ t. t.done) c.absent.ensures)
+
+pub returns-in-None-clause-few : goal.returns-in-None-clause-few
+returns-in-None-clause-few c = λ e. same_few c.args.shared.now c.args.child c.args.pid _ _ _
 
 pub returns-clause-turns : goal.returns-clause-turns
 returns-clause-turns c =

@@ -1,24 +1,41 @@
 use Rattle.std.proofs.Common.{◌≡◌, ap, sym, subst, ◌∙◌, []}
+use Rattle.std.proofs.lemmas.Result.{err_from_is_err_and}
 use Rattle.std.specs.Prelude.{OnSome}
+use Rattle.std.specs.Cmp.{nat_cmp_total}
 use Rattle.std.specs.FinMap as maps
-use Rattle.lx_files.specs.Kinds.{changed_file}
+use Rattle.lx_files.specs.Kinds.{size_of, changed_file}
 use Rattle.lx_files.proofs.Sizes.{kept_cleared}
-use Rattle.containers.specs.Vacant.{IsFullBelow}
-use Rattle.lx_files.proofs.Full.{full_insert}
+use Rattle.lx_files.proofs.Totals.{kept_alike, insert-same}
 use Rattle.lx_files.proofs.nodes.Nodes.clear.Goals as goal
+
+pub invariant_of-self-in_err-clear_node : goal.invariant_of-self-in_err-clear_node
+invariant_of-self-in_err-clear_node c =
+    let m = c.self.inside.map in
+    let w = c.clear_node.new.node in
+    let h = subst (λ r. OnSome r (c.get_mut.follows.lender w ≡ maps.insert m c.args.node w)) c.in-Some.is (c.get_mut.follows.holds w) in
+    (kept_alike nat_cmp_total maps.nat_cmp-IsAntisymmetric size_of m _ c.args.node c.in-Some.value.now w _ c.in-Some.ensures.value c.self.invariant c.in_err-clear_node.ensures.err h)
 
 pub invariant_of-self-2 : goal.invariant_of-self-2
 invariant_of-self-2 c =
     let m = c.self.inside.map in
     let w = c.clear_node.new.node in
     let h = subst (λ r. OnSome r (c.get_mut.follows.lender w ≡ maps.insert m c.args.node w)) c.in-Some.is (c.get_mut.follows.holds w) in
-    record { sum = (kept_cleared m _ c.args.node c.in-Some.value.now w _ c.size-before.result _ c.in-Some.ensures.value c.self.invariant.sum c.size-before.ensures c.clear_node.ensures c.saturating_sub-self-inside.ensures h); full = subst (λ t. IsFullBelow t c.self.inside.full_below) (sym h) (full_insert m c.self.inside.full_below c.args.node w c.self.invariant.full) }
+    (kept_cleared m _ c.args.node c.in-Some.value.now w _ c.size-before.result _ c.in-Some.ensures.value c.self.invariant c.size-before.ensures c.in_ok-clear_node.ensures.ok c.saturating_sub-self-inside.ensures h)
 
-pub returns : goal.returns
-returns c =
+pub returns-clause-ok : goal.returns-clause-ok
+returns-clause-ok c =
     let m = c.self.inside.map in
     let w = c.clear_node.new.node in
     let h = subst (λ r. OnSome r (c.get_mut.follows.lender w ≡ maps.insert m c.args.node w)) c.in-Some.is (c.get_mut.follows.holds w) in
-    h ∙ ap (maps.insert m c.args.node) c.clear_node.ensures
+    h ∙ ap (maps.insert m c.args.node) c.in_ok-clear_node.ensures.ok
     ∙ ap (changed_file m c.args.node (λ old. [])) c.in-Some.ensures.value
     ∙ ap (λ t. changed_file t c.args.node (λ old. []) (maps.get t c.args.node)) c.self.view_is
+
+pub returns-in_err-clear_node-clause-err : goal.returns-in_err-clear_node-clause-err
+returns-in_err-clear_node-clause-err c =
+    let m = c.self.inside.map in
+    let w = c.clear_node.new.node in
+    let h = subst (λ r. OnSome r (c.get_mut.follows.lender w ≡ maps.insert m c.args.node w)) c.in-Some.is (c.get_mut.follows.holds w) in
+    let p = err_from_is_err_and c.from_residual.result c.from_residual.ensures.1 in
+    rw p.1 (h ∙ ap (maps.insert m c.args.node) c.in_err-clear_node.ensures.err
+    ∙ insert-same nat_cmp_total maps.nat_cmp-IsAntisymmetric size_of m c.args.node c.in-Some.value.now (sym c.in-Some.ensures.value) ∙ c.self.view_is)

@@ -6,8 +6,6 @@ use Rattle.std.specs.FinMap as maps
 use Rattle.lx_files.specs.Kinds.{size_of, changed_file}
 use Rattle.lx_files.specs.Contents.{padded_to}
 use Rattle.lx_files.proofs.Totals.{kept_alike, kept_changed, insert-same}
-use Rattle.containers.specs.Vacant.{IsFullBelow}
-use Rattle.lx_files.proofs.Full.{full_insert}
 use Rattle.lx_files.proofs.nodes.Nodes.resize.Goals as goal
 
 pub invariant_of-self-in_default-checked_add : goal.invariant_of-self-in_default-checked_add
@@ -15,26 +13,23 @@ invariant_of-self-in_default-checked_add c =
     let m = c.self.inside.map in
     let w = c.in-Some.value.now in
     let h = subst (λ r. OnSome r (c.get_mut.follows.lender w ≡ maps.insert m c.args.node w)) c.in-Some.is (c.get_mut.follows.holds w) in
-    record { sum = (kept_alike nat_cmp_total maps.nat_cmp-IsAntisymmetric size_of m _ c.args.node c.in-Some.value.now w _ c.in-Some.ensures.value c.self.invariant.sum (let same : w ≡ w = search rules in same) h); full = subst (λ t. IsFullBelow t c.self.inside.full_below) (sym h) (full_insert m c.self.inside.full_below c.args.node w c.self.invariant.full) }
+    (kept_alike nat_cmp_total maps.nat_cmp-IsAntisymmetric size_of m _ c.args.node c.in-Some.value.now w _ c.in-Some.ensures.value c.self.invariant (let same : w ≡ w = search rules in same) h)
 
 pub invariant_of-self-in_err-resize_node : goal.invariant_of-self-in_err-resize_node
 invariant_of-self-in_err-resize_node c =
     let m = c.self.inside.map in
     let w = c.resize_node.new.node in
     let h = subst (λ r. OnSome r (c.get_mut.follows.lender w ≡ maps.insert m c.args.node w)) c.in-Some.is (c.get_mut.follows.holds w) in
-    record { sum = (kept_alike nat_cmp_total maps.nat_cmp-IsAntisymmetric size_of m _ c.args.node c.in-Some.value.now w _ c.in-Some.ensures.value c.self.invariant.sum c.in_err-resize_node.ensures.err h); full = subst (λ t. IsFullBelow t c.self.inside.full_below) (sym h) (full_insert m c.self.inside.full_below c.args.node w c.self.invariant.full) }
+    (kept_alike nat_cmp_total maps.nat_cmp-IsAntisymmetric size_of m _ c.args.node c.in-Some.value.now w _ c.in-Some.ensures.value c.self.invariant c.in_err-resize_node.ensures.err h)
 
 pub invariant_of-self-2 : goal.invariant_of-self-2
 invariant_of-self-2 c =
     let m = c.self.inside.map in
     let w = c.resize_node.new.node in
     let h = subst (λ r. OnSome r (c.get_mut.follows.lender w ≡ maps.insert m c.args.node w)) c.in-Some.is (c.get_mut.follows.holds w) in
-    record {
-      sum = (kept_changed nat_cmp_total maps.nat_cmp-IsAntisymmetric size_of m _ c.args.node c.in-Some.value.now w _ c.size-before.result c.size_resized-after.result _ c.in-Some.ensures.value c.self.invariant.sum c.size-before.ensures
-          (c.size_resized-after.ensures ∙ ap size_of (sym c.in_ok-resize_node.ensures.ok))
-          (let more : c.in-Some-checked_add.contents ≡ c.self.inside.contents - c.size-before.result + c.size_resized-after.result = search rules in more) h);
-      full = subst (λ t. IsFullBelow t c.self.inside.full_below) (sym h) (full_insert m c.self.inside.full_below c.args.node w c.self.invariant.full);
-    }
+    (kept_changed nat_cmp_total maps.nat_cmp-IsAntisymmetric size_of m _ c.args.node c.in-Some.value.now w _ c.size-before.result c.size_resized-after.result _ c.in-Some.ensures.value c.self.invariant c.size-before.ensures
+    (c.size_resized-after.ensures ∙ ap size_of (sym c.in_ok-resize_node.ensures.ok))
+    (let more : c.in-Some-checked_add.contents ≡ c.self.inside.contents - c.size-before.result + c.size_resized-after.result = search rules in more) h)
 
 pub returns-clause-ok : goal.returns-clause-ok
 returns-clause-ok c =

@@ -3,7 +3,8 @@ use Rattle.lx_model.specs.declared.event.PtraceEvent.TheVariants.{Plain}
 use Rattle.lx_proc.specs.declared.state.Shared.{Shared}
 use Rattle.lx_kernel.specs.Advances.{Leads}
 use Rattle.lx_kernel.specs.Runs.{Run}
-use Rattle.lx_kernel.specs.Sleeping.{Watch}
+use Rattle.lx_kernel.specs.Sleeping.{Watch, Filing}
+use Rattle.lx_kernel.proofs.Filing.{filing_kept}
 use Rattle.lx_kernel.proofs.Watching.{watch_kept}
 use Rattle.lx_kernel.proofs.kernel.Kernel.advance_in_place.Goals as goal
 
@@ -40,4 +41,6 @@ invariant_of-self-2 c = λ e.
       c.in_ok-log_item.ensures.counted h.0,
       subst (λ (s : Shared). Watch k.run_queue s c.advance_at.new.tasks) (sym c.in_ok-advanced.ensures.same)
           (watch_kept k.run_queue k.shared k.tasks c.advance_at.new.tasks c.in_ok-advanced.ensures.kept h.1),
+      subst (λ (s : Shared). Filing k.run_queue s c.advance_at.new.tasks) (sym c.in_ok-advanced.ensures.same)
+          (λ known. filing_kept k.run_queue k.shared k.tasks c.advance_at.new.tasks (h.1 known) c.in_ok-advanced.ensures.kept (h.2 known)),
     )

@@ -8,7 +8,8 @@ use Rattle.lx_kernel.proofs.Reaching.{whole}
 use Rattle.lx_model.specs.Finite.{at}
 use Rattle.lx_model.specs.declared.stage.Task.TheVariants.{Gone}
 use Rattle.lx_kernel.specs.Scheduling.{Tasks}
-use Rattle.lx_kernel.specs.Sleeping.{Watch}
+use Rattle.lx_kernel.specs.Sleeping.{Watch, Filing}
+use Rattle.lx_kernel.proofs.Filing.{filing_kept}
 use Rattle.lx_kernel.proofs.Watching.{watch_kept, part_kept, regs_kept}
 use Rattle.lx_kernel.proofs.kernel.Kernel.set_regs.Goals as goal
 
@@ -29,4 +30,6 @@ invariant_of-self c = λ e.
       h.0,
       subst (λ (o : Tasks). Watch k.run_queue k.shared o) (sym c.set_regs.ensures.part)
           (watch_kept k.run_queue k.shared k.tasks (with_part_at k.tasks c.args.pid x) (part_kept k.shared k.tasks c.args.pid x (regs_kept k.shared c.args.pid c.args.registers.now (at Gone k.tasks c.args.pid))) h.1),
+      subst (λ (o : Tasks). Filing k.run_queue k.shared o) (sym c.set_regs.ensures.part)
+          (λ known. filing_kept k.run_queue k.shared k.tasks (with_part_at k.tasks c.args.pid x) (h.1 known) (part_kept k.shared k.tasks c.args.pid x (regs_kept k.shared c.args.pid c.args.registers.now (at Gone k.tasks c.args.pid))) (h.2 known)),
     )

@@ -8,8 +8,8 @@ use Rattle.lx_kernel.proofs.Reaching.{whole}
 use Rattle.lx_model.specs.Finite.{at}
 use Rattle.lx_model.specs.declared.stage.Task.TheVariants.{Gone}
 use Rattle.lx_kernel.specs.Scheduling.{Tasks}
-use Rattle.lx_kernel.specs.Sleeping.{AreWatched}
-use Rattle.lx_kernel.proofs.Watching.{awake_kept, wake_watch}
+use Rattle.lx_kernel.specs.Sleeping.{AreWatched, AreFiled}
+use Rattle.lx_kernel.proofs.Watching.{awake_kept, wake_watch, awake_filed, wake_filing}
 use Rattle.lx_kernel.proofs.kernel.Kernel.set_stage.Goals as goal
 
 pub returns-clause-part : goal.returns-clause-part
@@ -31,4 +31,8 @@ invariant_of-self c = λ e.
           subst (λ (o : Tasks). AreWatched c.keep_awake.new.self k.shared o) (sym c.set_stage.ensures.part)
           (awake_kept c.keep_awake.new.self k.shared k.tasks c.args.pid x (c.keep_awake.ensures.itself known)
           (wake_watch k.run_queue c.keep_awake.new.self k.shared k.tasks c.args.pid c.keep_awake.ensures.others c.keep_awake.ensures.itself h.1 known)),
+      λ known.
+          subst (λ (o : Tasks). AreFiled c.keep_awake.new.self k.shared o) (sym c.set_stage.ensures.part)
+          (awake_filed c.keep_awake.new.self k.shared k.tasks c.args.pid x (c.keep_awake.ensures.itself known)
+          (wake_filing k.run_queue c.keep_awake.new.self k.shared k.tasks c.args.pid c.keep_awake.ensures.others c.keep_awake.ensures.itself h.2 known)),
     )

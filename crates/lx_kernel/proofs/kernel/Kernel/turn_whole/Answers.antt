@@ -9,11 +9,12 @@ use Rattle.lx_abi.specs.Occurrences.{count_of}
 use Rattle.lx_kernel.specs.Runs.{Run, turn_in, after_turn, mode_in}
 use Rattle.lx_turn.proofs.Consoles.{on_err}
 use Rattle.lx_kernel.proofs.Turning.{kernel_item, kernel_event, kernel_left, kernel_born, kernel_console, kernel_turned}
-use Rattle.lx_kernel.specs.Sleeping.{AreOthersListed, IsWatched, welcomed}
+use Rattle.lx_kernel.specs.Sleeping.{AreOthersListed, IsWatched, IsFiled, welcomed}
+use Rattle.lx_kernel.specs.Pipes.{IsApart}
 use Rattle.lx_kernel.specs.Scheduling.{Tasks}
 use Rattle.lx_turn.specs.Turned.{unboxed}
 use Rattle.lx_kernel.specs.declared.run_queue.RunQueue.{RunQueue}
-use Rattle.lx_kernel.proofs.Watching.{turn_listed, turn_watched, told_watched}
+use Rattle.lx_kernel.proofs.Watching.{turn_listed, turn_watched, turn_filed, told_watched, told_filed}
 use Rattle.lx_kernel.proofs.kernel.Kernel.turn_whole.Goals as goal
 
 pub place_child-requires : goal.place_child-requires
@@ -84,18 +85,40 @@ wake_told-requires c = λ known.
     (turn_listed v k.script k.follow c.args.pid (λ n. count_of k.occurrences c.args.pid n) c.turn_at.new.item c.in_ok-taken.taken.done c.turn_at.new.shared c.turn_at.new.tasks c.in_ok-taken.ensures.turns k.run_queue watch
     told c.in_ok-taken.ensures.stopped))
 
-pub pass-requires-clause-others : goal.pass-requires-clause-others
-pass-requires-clause-others c = λ calm known q up ne.
+pub pass-requires-clause-watched : goal.pass-requires-clause-watched
+pass-requires-clause-watched c = λ few known q up ne apart.
     let k = c.self.inside in
     let v : Running Shared UserState = record { shared = k.shared; tasks = k.tasks; child = k.child; log = k.log.items } in
     let same = c.wake_told.ensures.others known in
     let watch = (c.self.invariant c.if-self.false).1 (c.welcome.ensures.known same.0) in
     let event = unboxed c.in_ok-taken.taken.done in
     let told = c.in_ok-taken.taken.told in
-    told_watched c.welcome.new.self c.wake_told.new.self c.turn_at.new.shared c.place_child.new.tasks c.args.pid told same (c.wake_told.ensures.itself known)
+    let changed = c.in_ok-taken.taken.wakes.changed in
+    let s' = c.turn_at.new.shared in
+    told_watched c.welcome.new.self c.wake_told.new.self s' c.place_child.new.tasks c.args.pid told same changed (c.wake_told.ensures.itself known)
     (λ q up ne still.
-    subst (λ (sets : RunQueue). IsWatched sets c.turn_at.new.shared q (at Gone c.place_child.new.tasks q)) (sym (c.welcome.ensures.sets same.0))
-    (subst (λ (tasks : Tasks). IsWatched (welcomed k.run_queue k.child event) c.turn_at.new.shared q (at Gone tasks q)) (sym c.in_ok-place_child.ensures.tasks)
-    (turn_watched v k.script k.follow c.args.pid (λ n. count_of k.occurrences c.args.pid n) c.turn_at.new.item c.in_ok-taken.taken.done c.turn_at.new.shared c.turn_at.new.tasks c.in_ok-taken.ensures.turns k.run_queue watch
-    told (c.in_ok-taken.ensures.calm calm) q up ne still)))
+    subst (λ (sets : RunQueue). IsApart changed s' q (at Gone c.place_child.new.tasks q) → IsWatched sets s' q (at Gone c.place_child.new.tasks q)) (sym (c.welcome.ensures.sets same.0))
+    (subst (λ (tasks : Tasks). IsApart changed s' q (at Gone tasks q) → IsWatched (welcomed k.run_queue k.child event) s' q (at Gone tasks q)) (sym c.in_ok-place_child.ensures.tasks)
+    (turn_watched v k.script k.follow c.args.pid (λ n. count_of k.occurrences c.args.pid n) c.turn_at.new.item c.in_ok-taken.taken.done s' c.turn_at.new.tasks c.in_ok-taken.ensures.turns k.run_queue watch
+    told changed (c.in_ok-taken.ensures.few few) q up ne still)))
+    q up ne apart
+
+pub pass-requires-clause-filed : goal.pass-requires-clause-filed
+pass-requires-clause-filed c = λ few known q up ne.
+    let k = c.self.inside in
+    let v : Running Shared UserState = record { shared = k.shared; tasks = k.tasks; child = k.child; log = k.log.items } in
+    let same = c.wake_told.ensures.others known in
+    let kept = c.welcome.ensures.known same.0 in
+    let watch = (c.self.invariant c.if-self.false).1 kept in
+    let filed = (c.self.invariant c.if-self.false).2 kept in
+    let event = unboxed c.in_ok-taken.taken.done in
+    let told = c.in_ok-taken.taken.told in
+    let changed = c.in_ok-taken.taken.wakes.changed in
+    let s' = c.turn_at.new.shared in
+    told_filed c.welcome.new.self c.wake_told.new.self s' c.place_child.new.tasks c.args.pid told same (c.wake_told.ensures.filed known)
+    (λ q up ne.
+    subst (λ (sets : RunQueue). IsFiled sets s' q (at Gone c.place_child.new.tasks q)) (sym (c.welcome.ensures.sets same.0))
+    (subst (λ (tasks : Tasks). IsFiled (welcomed k.run_queue k.child event) s' q (at Gone tasks q)) (sym c.in_ok-place_child.ensures.tasks)
+    (turn_filed v k.script k.follow c.args.pid (λ n. count_of k.occurrences c.args.pid n) c.turn_at.new.item c.in_ok-taken.taken.done s' c.turn_at.new.tasks c.in_ok-taken.ensures.turns k.run_queue watch
+    told changed (c.in_ok-taken.ensures.few few) filed q up ne)))
     q up ne
