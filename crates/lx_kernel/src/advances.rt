@@ -22,7 +22,7 @@ use lx_model::{PtraceEvent, Stage, Task};
 use lx_pcalls::process_call;
 use lx_proc::{CallReply, Shared, UserState, call, return_from_call};
 use lx_turn::{Injection, mode_of_gone};
-use rv_hart::{DecodedCode, Step};
+use rv_hart::Step;
 use shelves::Shelf;
 use std::alloc::{AllocError, Global};
 
@@ -146,7 +146,6 @@ fn go_into_call(
 
 /// Turns of a process that runs instructions, to its next call if that comes in time: how many there were.
 fn run_to_call(
-    decoder: &mut DecodedCode,
     pid: u32,
     limit: u64,
     user: &mut UserState,
@@ -158,7 +157,7 @@ fn run_to_call(
     ensures leads { IfOk result (λ n. RunLeads pid n user.old item.new (Alive user.new stage.new)) }
     ensures within { IfOk result (λ n. n ≤ limit) }
 {
-    let progress = run_user(user, decoder, limit)?;
+    let progress = run_user(user, limit)?;
     match progress.step {
         Step::Call if progress.ran < limit => {
             let call = call(user);
@@ -172,7 +171,6 @@ fn run_to_call(
 
 /// Turns of a process that goes on into Run, and then runs instructions: how many there were.
 fn go_to_call(
-    decoder: &mut DecodedCode,
     pid: u32,
     limit: u64,
     user: &mut UserState,
@@ -186,7 +184,7 @@ fn go_to_call(
     ensures within { IfOk result (λ n. n ≤ limit) }
 {
     *stage = Stage::Run;
-    let ran = run_to_call(decoder, pid, limit - 1, user, stage, item)?;
+    let ran = run_to_call(pid, limit - 1, user, stage, item)?;
     Ok(ran + 1)
 }
 
@@ -194,7 +192,6 @@ fn go_to_call(
 fn go_on(
     alloc: Global,
     shared: &mut Shared,
-    decoder: &mut DecodedCode,
     injection: &Injection,
     child: u32,
     pid: u32,
@@ -215,11 +212,11 @@ fn go_on(
 {
     match *stage {
         Stage::Run => {
-            let ran = run_to_call(decoder, pid, limit, user, stage, item)?;
+            let ran = run_to_call(pid, limit, user, stage, item)?;
             Ok(ran)
         }
         Stage::Born | Stage::Finished | Stage::Woken if limit > 0 => {
-            let ran = go_to_call(decoder, pid, limit, user, stage, item)?;
+            let ran = go_to_call(pid, limit, user, stage, item)?;
             Ok(ran)
         }
         Stage::Entered { joined: None } if limit > 0 => {
@@ -250,7 +247,6 @@ fn go_on(
 fn advance_alive(
     alloc: Global,
     shared: &mut Shared,
-    decoder: &mut DecodedCode,
     injection: &Injection,
     child: u32,
     pid: u32,
@@ -271,7 +267,7 @@ fn advance_alive(
         return Ok(0);
     }
     let turns = go_on(
-        alloc, shared, decoder, injection, child, pid, limit, user, stage, item,
+        alloc, shared, injection, child, pid, limit, user, stage, item,
     )?;
     Ok(turns)
 }
@@ -295,7 +291,6 @@ fn none(mode: Option<Mode>) -> Advanced
 fn advance_task(
     alloc: Global,
     shared: &mut Shared,
-    decoder: &mut DecodedCode,
     injection: &Injection,
     child: u32,
     pid: u32,
@@ -318,7 +313,7 @@ fn advance_task(
         Task::Alive { user, stage } => {
             let before = Some(stage.mode());
             let turns = advance_alive(
-                alloc, shared, decoder, injection, child, pid, limit, user, stage, item,
+                alloc, shared, injection, child, pid, limit, user, stage, item,
             )?;
             Ok(Advanced {
                 turns,
@@ -337,7 +332,6 @@ pub fn advance_at(
     alloc: Global,
     shared: &mut Shared,
     tasks: &mut Shelf<Task<UserState>>,
-    decoder: &mut DecodedCode,
     injection: &Injection,
     child: u32,
     pid: u32,
@@ -361,9 +355,7 @@ pub fn advance_at(
     match tasks.get_mut(pid) {
         None => Ok(none(mode_of_gone(shared, pid))),
         Some(task) => {
-            let advanced = advance_task(
-                alloc, shared, decoder, injection, child, pid, limit, task, item,
-            )?;
+            let advanced = advance_task(alloc, shared, injection, child, pid, limit, task, item)?;
             Ok(advanced)
         }
     }

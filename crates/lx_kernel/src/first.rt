@@ -12,7 +12,6 @@ ghost use Rattle.std.specs.declared.result.Result.TheVariants.{Err};
 use crate::kernel::Kernel;
 use lx_abi::{Boot, Script};
 use lx_boot::{BootFault, boot_fault, first_shared, first_tasks};
-use rv_hart::DecodedCode;
 use std::alloc::{AllocError, Global};
 
 /// The kernel of an accepted boot.
@@ -30,9 +29,8 @@ fn first(alloc: Global, boot: Boot, script: Script, keeps_log: bool) -> Result<K
         follow,
     } = boot;
     let tasks = first_tasks(alloc, argv.as_slice(), env.as_slice())?;
-    let decoder = DecodedCode::new(alloc)?;
     let shared = first_shared(alloc, limits, files.as_slice(), input)?;
-    Ok(Kernel::new(alloc, shared, tasks, decoder, script, follow, keeps_log))
+    Ok(Kernel::new(alloc, shared, tasks, script, follow, keeps_log))
 }
 
 impl Kernel {

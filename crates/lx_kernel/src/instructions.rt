@@ -8,43 +8,35 @@ ghost use Rattle.lx_kernel.specs.Advances.{Follows, IsAtCall};
 
 use lx_proc::{Shared, UserState, make_again};
 use lx_sig::{is_pending, next};
-use rv_hart::{DecodedCode, Progress, Step};
+use rv_hart::{Progress, Step};
 use std::alloc::AllocError;
 
 /// Runs instructions, at most so many.
-fn run_instructions(
-    user: &mut UserState,
-    decoder: &mut DecodedCode,
-    limit: u64,
-) -> Result<Progress, AllocError>
+fn run_instructions(user: &mut UserState, limit: u64) -> Result<Progress, AllocError>
     requires { user.old.interrupted ≡ None }
     ensures follows { IfOk result (λ p. Follows p.ran user.old user.new) }
     ensures within { IfOk result (λ p. p.ran ≤ limit) }
     ensures calls { IfOk result (λ p. p.step ≡ Step.Call → IsAtCall user.new) }
 {
-    let progress = rv_hart::run(&mut user.hart, &mut user.memory, decoder, limit)?;
+    let progress = rv_hart::run(&mut user.hart, &mut user.memory, limit)?;
     Ok(progress)
 }
 
 /// Turns of a body in Run, at most so many: how many there were, and whether the next comes to a call.
-pub fn run_user(
-    user: &mut UserState,
-    decoder: &mut DecodedCode,
-    limit: u64,
-) -> Result<Progress, AllocError>
+pub fn run_user(user: &mut UserState, limit: u64) -> Result<Progress, AllocError>
     ensures follows { IfOk result (λ p. Follows p.ran user.old user.new) }
     ensures within { IfOk result (λ p. p.ran ≤ limit) }
     ensures calls { IfOk result (λ p. p.step ≡ Step.Call → IsAtCall user.new) }
 {
     match user.interrupted {
-        None => run_instructions(user, decoder, limit),
+        None => run_instructions(user, limit),
         Some(_) if limit == 0 => Ok(Progress {
             ran: 0,
             step: Step::Ran,
         }),
         Some(at) => {
             make_again(user, at);
-            let progress = run_instructions(user, decoder, limit - 1)?;
+            let progress = run_instructions(user, limit - 1)?;
             Ok(Progress {
                 ran: progress.ran + 1,
                 step: progress.step,

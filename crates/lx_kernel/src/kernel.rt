@@ -45,7 +45,6 @@ use lx_abi::{
 use lx_model::{PtraceEvent, Stage, Task};
 use lx_proc::{ProcessLimits, Shared, UserState};
 use lx_turn::{Injection, is_killed, mode_of_gone};
-use rv_hart::DecodedCode;
 use shelves::Shelf;
 use std::alloc::{AllocError, Global};
 use std::marker::Model;
@@ -184,8 +183,6 @@ pub struct Kernel {
     child: u32,
     log: Log,
     occurrences: Occurrences,
-    /// The instructions that were met lately, of any process.
-    decoder: DecodedCode,
     script: Script,
     follow: bool,
     failed: bool,
@@ -280,7 +277,6 @@ impl Kernel {
         alloc: Global,
         shared: Shared,
         tasks: Shelf<Task<UserState>>,
-        decoder: DecodedCode,
         script: Script,
         follow: bool,
         keeps_log: bool,
@@ -305,7 +301,6 @@ impl Kernel {
             child: 2,
             log: Log::new(alloc, keeps_log),
             occurrences: Occurrences::new(alloc),
-            decoder,
             script,
             follow,
             failed: false,
@@ -411,7 +406,6 @@ impl Kernel {
             self.alloc,
             &mut self.shared,
             &mut self.tasks,
-            &mut self.decoder,
             &injection,
             self.child,
             pid,

@@ -1,4 +1,4 @@
-mod Apart
+mod Forms
 mod InPage
 mod Prefixes
 mod Refusals

@@ -5,13 +5,9 @@
 #![tactic(auto)]
 
 mod control;
-mod decoded;
-mod decoder;
 mod did;
 mod execute;
-mod fields;
 mod hart;
-mod mnemonic;
 mod near;
 mod operate;
 mod outcome;
@@ -22,7 +18,6 @@ mod straight;
 mod tests;
 mod transfer;
 
-pub use decoder::DecodedCode;
 pub use execute::step;
 pub use hart::Hart;
 pub use outcome::{FaultKind, Step};
