@@ -39,7 +39,7 @@ pub struct OptionRow {
 }
 
 /// Completions are made of these rows, and the documents are compared with them.
-pub const OPTIONS: [OptionRow; 41] = [
+pub const OPTIONS: [OptionRow; 42] = [
     OptionRow {
         tools: &[Tool::Trace],
         id: "follow",
@@ -255,6 +255,14 @@ pub const OPTIONS: [OptionRow; 41] = [
         long: Some("keep"),
         takes: Takes::Value("DIR"),
         help: "Writes an order of each result to a file of this directory, as --turns takes it",
+    },
+    OptionRow {
+        tools: &[Tool::Sweep],
+        id: "one",
+        short: None,
+        long: Some("one"),
+        takes: Takes::Nothing,
+        help: "Asks that all orders of --orders have one result: with two the status is 1",
     },
     OptionRow {
         tools: &[Tool::Sweep],

@@ -1,7 +1,12 @@
--- The report on a sweep of failures.
-use Rattle.std.specs.Prelude.{◌≡◌, ℕ, ◌-◌, ◌==◌, cond, Bool, false, List, [], ◌∷◌, ◌++◌, Option, Some, None, map}
+-- The report on a sweep.
+use Rattle.std.specs.Prelude.{◌≡◌, ◌⊎◌, ⊤, ℕ, ◌-◌, ◌<◌, ◌==◌, ◌&&◌, ◌||◌, nat_lt, take, cond, Bool, true, false, List, [], ◌∷◌, ◌++◌, length, Option, Some, None, map}
+use Rattle.std.specs.List.{list_any, slice_get}
+use Rattle.sweep_orders.specs.Orders.{AreOrders}
+use Rattle.sweep_orders.specs.declared.exploring.Explored.{Explored}
+use Rattle.sweep_orders.specs.declared.found.Found.{Found}
 use Rattle.sweep_report.specs.Tallies.{unmarked}
 use Rattle.sweep_rows.specs.Summary.{status}
+use Rattle.sweep_rows.specs.Verdicts.{is_finding}
 use Rattle.sweep_rows.specs.declared.verdicts.Reached.{Reached}
 use Rattle.sweep_runs.specs.Cases.{cases_of}
 use Rattle.sweep_runs.specs.Rows.{failure_of, AreRows}
@@ -9,6 +14,7 @@ use Rattle.sweep_runs.specs.declared.chosen.Case.{Case}
 use Rattle.sweep_runs.specs.declared.runs.Setup.{Setup}
 use Rattle.sweep_runs.specs.declared.sweeping.Row.{Row}
 use Rattle.sweep_words.specs.declared.plan.Plan.{Plan}
+use Rattle.sweep_words.specs.declared.words.Orders.{Orders}
 use Rattle.sweep_words.specs.declared.words.Shard.{Shard}
 use Rattle.sweep_words.specs.declared.words.Words.{Words}
 
@@ -34,14 +40,34 @@ AreWanted plan shard reference cases =
     map failure_of cases
     ≡ map failure_of (part_of shard (cases_of plan.wanted.items plan.setup.boot.follow reference.log.items))
 
--- rows of the first of these cases, and of all of them but where the first finding ends the sweep
+-- the last of these rows is a finding
+abbrev pub ends_found : Bool → List Row → Bool
+ends_found found [] = found
+ends_found found (r ∷ rs) = ends_found (is_finding r.verdict) rs
+
+-- one of these rows, if any, is a finding
+abbrev pub IsFound : List Row → Option ℕ → Type 0
+IsFound rows None = ⊤
+IsFound rows (Some i) = (r : Row) × (slice_get rows i ≡ Some r) × (is_finding r.verdict ≡ true)
+
+-- what is told of a batch of rows: all of them, or the first ones, with which the sweep ends
+pub record IsCut (fail_fast : Bool) (batch rows : List Row) (ended : Bool) : Type 0 where
+  pub first : rows ≡ take (length rows) batch
+  pub some : 0 < length batch → 0 < length rows
+  pub found : ended ≡ true → (fail_fast && ends_found false rows) ≡ true
+
+-- the sweep ends with these rows: the last is a finding, and one is to end it, or no case is left
+abbrev pub IsEnd : Bool → List Row → List Case → Type 0
+IsEnd fail_fast rows rest = ((fail_fast && ends_found false rows) ≡ true) ⊎ (rest ≡ [])
+
+-- rows of the first of these cases, up to the end of the sweep
 pub record AreBegun (setup : Setup) (reference : Reached) (fail_fast : Bool) (cases : List Case) (rows : List Row)
     : Type 0 where
   pub done : List Case
   pub rest : List Case
   pub all : done ++ rest ≡ cases
   pub made : AreRows setup reference done rows
-  pub whole : fail_fast ≡ false → rest ≡ []
+  pub ended : IsEnd fail_fast rows rest
 
 -- the status is that of these rows, but for those that are known
 pub record IsCounted (plan : Plan) (rows : List Row) (s : ℕ) : Type 0 where
@@ -56,3 +82,16 @@ pub record IsOfRows (plan : Plan) (words : Words) (reference : Reached) (s : ℕ
   pub wanted : AreWanted plan words.shard reference cases
   pub made : AreBegun plan.setup reference words.fail_fast cases rows
   pub counted : IsCounted plan rows s
+
+-- The report on orders of turns.
+
+-- the status is 1 where a run did not end, or where there is more than one result and there is to be one
+abbrev pub orders_status : Bool → List Found → ℕ
+orders_status one found =
+    cond (list_any (λ f. f.ending.alive) found || (one && nat_lt 1 (length found))) 1 0
+
+-- the status is that of the results of so many orders
+pub record IsOfOrders (plan : Plan) (orders : Orders) (reference : Reached) (s : ℕ) : Type 0 where
+  pub explored : Explored
+  pub tried : AreOrders plan.setup reference.log.items orders.count orders.seed explored
+  pub status_is : s ≡ orders_status orders.one explored.found.items

@@ -1,6 +1,7 @@
 //! Findings that are known.
 
-ghost use Rattle.std.specs.Prelude.{◌≡◌, [], IfOk};
+ghost use Rattle.std.specs.Prelude.{◌≡◌, [], true, IfOk};
+ghost use Rattle.sweep_rows.specs.Verdicts.{is_finding};
 
 use crate::outputs::{check, replace};
 use clap::ArgMatches;
@@ -61,6 +62,23 @@ pub fn marks_of(
     Ok(marks)
 }
 
+/// The row is a finding that isn't known.
+pub fn is_new(
+    alloc: Global,
+    plan: &Plan,
+    reference: &Reached,
+    calls: &TracedCalls,
+    row: &Row,
+) -> Result<bool, AllocError>
+    ensures { IfOk result (λ new. new ≡ true → is_finding row.now.verdict ≡ true) }
+{
+    if !is_finding(row.verdict) {
+        return Ok(false);
+    }
+    let known = is_mark(alloc, plan, reference, calls, row)?;
+    Ok(!known)
+}
+
 /// How many rows are findings that aren't known.
 pub fn findings(
     alloc: Global,
@@ -71,7 +89,7 @@ pub fn findings(
 ) -> Result<usize, AllocError> {
     let mut count: usize = 0;
     for row in rows {
-        if is_finding(row.verdict) && !is_mark(alloc, plan, reference, calls, row)? {
+        if is_new(alloc, plan, reference, calls, row)? {
             count = count.saturating_add(1);
         }
     }

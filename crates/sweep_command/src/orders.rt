@@ -1,5 +1,9 @@
 //! The report on orders of turns: a line for each result.
 
+ghost use Rattle.std.specs.Prelude.{◌≡◌, IfOk};
+ghost use Rattle.sweep_orders.specs.Orders.{AreOrders};
+ghost use Rattle.sweep_command.specs.Reports.{orders_status, IsOfOrders};
+
 use crate::keeping::{check_kept, keep, path_of, text_of};
 use crate::outputs::write;
 use crate::progress::ShownProgress;
@@ -12,7 +16,7 @@ use std::io::{IsTerminal, Write};
 use std::rt::Files;
 use std::thread::Threads;
 use std::time::Clock;
-use sweep_orders::{Found, explore_on_threads};
+use sweep_orders::{Explored, Found, explore_on_threads};
 use sweep_report::texts::{push_part, push_wrapped, quoted_bytes};
 use sweep_report::told::end_text;
 use sweep_rows::{Ending, Reached, Verdict, first_word};
@@ -31,7 +35,7 @@ const MOST_BYTES: usize = 40;
 struct ToldOrder {
     /// The default order has this result.
     default: bool,
-    /// How many orders had it.
+    /// How many different orders had it.
     orders: u64,
     ended: bool,
     /// Process 1's exit code, or 128 and the signal that ended it.
@@ -55,7 +59,9 @@ fn find<R: Clock + Threads + Sync + AllocGlobal, E: Write + IsTerminal>(
     plan: &Plan,
     reference: &Reached,
     err: &mut E,
-) -> Result<Vec<Found>, AllocError> {
+) -> Result<Explored, AllocError>
+    ensures { IfOk result (AreOrders plan.now.setup reference.now.log.items orders.count orders.seed) }
+{
     let is_shown = err.is_terminal();
     let mut progress = ShownProgress::new(rt.alloc(), rt, err, is_shown);
     let log = reference.log.as_slice();
@@ -206,8 +212,31 @@ fn name_of(alloc: Global, place: usize) -> Result<String, AllocError> {
     }
 }
 
-fn table(alloc: Global, told: &[ToldOrder], orders: u64) -> Result<String, AllocError> {
-    let mut report = format!(in alloc; "{orders} orders, {} results\n", told.len())?;
+/// How many there are of a kind.
+fn many(alloc: Global, count: usize, what: &str) -> Result<String, AllocError> {
+    let end = if count == 1 { "" } else { "s" };
+    format!(in alloc; "{count} {what}{end}")
+}
+
+/// What is said of all orders together.
+fn head(alloc: Global, orders: usize, explored: &Explored) -> Result<String, AllocError> {
+    format!(in alloc;
+        "{}, {} different, {}; {} of {} with one switch tried\n",
+        many(alloc, orders, "order")?,
+        explored.different,
+        many(alloc, explored.found.len(), "result")?,
+        explored.switched,
+        many(alloc, explored.switches, "order")?
+    )
+}
+
+fn table(
+    alloc: Global,
+    told: &[ToldOrder],
+    orders: usize,
+    explored: &Explored,
+) -> Result<String, AllocError> {
+    let mut report = head(alloc, orders, explored)?;
     for (place, order) in told.iter().enumerate() {
         let name = name_of(alloc, place)?;
         let mut line = format!(in alloc; "  {name:<3} {:>7}  ", order.orders)?;
@@ -224,12 +253,38 @@ fn table(alloc: Global, told: &[ToldOrder], orders: u64) -> Result<String, Alloc
     Ok(report)
 }
 
-fn objects(alloc: Global, told: &[ToldOrder]) -> Result<String, serde_json::Error> {
+/// What is told of all orders together.
+#[derive(Drop, Serialize)]
+struct ToldOrders {
+    orders: u64,
+    /// How many of them were different.
+    different: u64,
+    results: u64,
+    /// How many had one switch, of how many such orders.
+    switched: u64,
+    switches: u64,
+}
+
+fn objects(
+    alloc: Global,
+    told: &[ToldOrder],
+    orders: usize,
+    explored: &Explored,
+) -> Result<String, serde_json::Error> {
     let mut report = String::new(alloc);
     for order in told {
         report.push_str(serde_json::to_string(alloc, order)?.as_str())?;
         report.push('\n')?;
     }
+    let all = ToldOrders {
+        orders: orders as u64,
+        different: explored.different as u64,
+        results: explored.found.len() as u64,
+        switched: explored.switched as u64,
+        switches: explored.switches as u64,
+    };
+    report.push_str(serde_json::to_string(alloc, &all)?.as_str())?;
+    report.push('\n')?;
     Ok(report)
 }
 
@@ -253,24 +308,49 @@ fn text_of_all(
     matches: &ArgMatches,
     format: Format,
     orders: Orders,
-    found: &[Found],
+    explored: &Explored,
 ) -> Result<String, Fault> {
+    let found = explored.found.as_slice();
     let mut told = Vec::new(alloc);
     for (place, result) in found.iter().enumerate() {
         told.push(tell(alloc, matches, found, result, place.saturating_add(1))?)?;
     }
     let told = told.as_slice();
     match format {
-        Format::Table | Format::Junit => Ok(table(alloc, told, orders.count as u64)?),
-        Format::Json => match objects(alloc, told) {
+        Format::Table | Format::Junit => Ok(table(alloc, told, orders.count, explored)?),
+        Format::Json => match objects(alloc, told, orders.count, explored) {
             Ok(report) => Ok(report),
             Err(_) => Err(Fault::Memory),
         },
     }
 }
 
-/// Tries the orders of turns, and reports each result; the status is 1 where a run did not end. Orders that are kept
-/// are files before the runs begin.
+/// 1 where a run did not end, or where there is more than one result and there is to be one.
+fn status_of(found: &[Found], one: bool) -> u8
+    ensures { result ≡ orders_status one found.now }
+{
+    if found.iter().any(|one| one.ending.alive) {
+        return 1;
+    }
+    if one && found.len() > 1 { 1 } else { 0 }
+}
+
+/// Writes what is told of orders.
+fn write_all<R: Files + AllocGlobal, W: Write>(
+    rt: &R,
+    matches: &ArgMatches,
+    format: Format,
+    orders: Orders,
+    explored: &Explored,
+    writer: &mut W,
+) -> Result<(), Fault> {
+    keep_all(rt, matches, explored.found.as_slice())?;
+    let text = text_of_all(rt.alloc(), matches, format, orders, explored)?;
+    write(rt.alloc(), text.as_str(), writer)
+}
+
+/// Tries the orders of turns, and reports each result; gives the exit status. Orders that are kept are files before the
+/// runs begin.
 pub fn orders_reported<
     R: Files + Clock + Threads + Sync + AllocGlobal,
     W: Write,
@@ -284,15 +364,13 @@ pub fn orders_reported<
     reference: &Reached,
     writer: &mut W,
     err: &mut E,
-) -> Result<u8, Fault> {
-    let alloc = rt.alloc();
+) -> Result<u8, Fault>
+    ensures { IfOk result (IsOfOrders plan.now orders reference.now) }
+{
     if let Some(folder) = matches.get_str("keep") {
         check_kept(rt, folder)?;
     }
-    let found = find(rt, words.jobs, orders, plan, reference, err)?;
-    let found = found.as_slice();
-    keep_all(rt, matches, found)?;
-    let text = text_of_all(alloc, matches, words.format, orders, found)?;
-    write(alloc, text.as_str(), writer)?;
-    Ok(u8::from(found.iter().any(|one| one.ending.alive)))
+    let explored = find(rt, words.jobs, orders, plan, reference, err)?;
+    write_all(rt, matches, words.format, orders, &explored, writer)?;
+    Ok(status_of(explored.found.as_slice(), orders.one))
 }

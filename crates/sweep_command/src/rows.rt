@@ -1,10 +1,10 @@
 //! The runs with a failure, and what is written of them as they are made.
 
-ghost use Rattle.std.specs.Prelude.{◌≡◌, ◌<◌, ◌++◌, [], true, false, length, map, IfOk, OnOk};
+ghost use Rattle.std.specs.Prelude.{◌≡◌, ◌<◌, ◌≤◌, ◌++◌, [], true, false, length, map, take, IfOk, OnOk};
 ghost use Rattle.sweep_runs.specs.Rows.{failure_of};
-ghost use Rattle.sweep_command.specs.Reports.{taken, waits, every, part_of, AreWanted, AreBegun};
+ghost use Rattle.sweep_command.specs.Reports.{taken, waits, every, part_of, AreWanted, AreBegun, IsFound, IsCut};
 
-use crate::knowing::findings;
+use crate::knowing::{findings, is_new};
 use crate::outputs::write;
 use crate::progress::ShownProgress;
 use crate::telling::told;
@@ -117,18 +117,64 @@ fn batch_size(jobs: u8) -> usize
     }
 }
 
-/// There are runs to make, and no reason to stop.
-fn goes_on(left: &[Case], fail_fast: bool, found: usize) -> bool
-    ensures some { result ≡ true → 0 < length left.now }
-    ensures none { result ≡ false → fail_fast ≡ false → left.now ≡ [] }
+/// The first of these rows that is a finding and isn't known.
+fn first_finding(
+    alloc: Global,
+    plan: &Plan,
+    reference: &Reached,
+    calls: &TracedCalls,
+    rows: &[Row],
+) -> Result<Option<usize>, AllocError>
+    ensures { IfOk result (IsFound rows.now) }
 {
-    if left.is_empty() {
-        return false;
+    let mut place = 0;
+    while place < rows.len() {
+        if is_new(alloc, plan, reference, calls, &rows[place])? {
+            return Ok(Some(place));
+        }
+        place += 1;
     }
-    if fail_fast {
-        return found == 0;
+    Ok(None)
+}
+
+/// Leaves out the rows of a batch behind the first finding that isn't known, where one ends the sweep; whether it does.
+fn cut(
+    alloc: Global,
+    plan: &Plan,
+    reference: &Reached,
+    calls: &TracedCalls,
+    fail_fast: bool,
+    batch: &mut Vec<Row>,
+) -> Result<bool, AllocError>
+    ensures { IfOk result (IsCut fail_fast batch.old.items batch.new.items) }
+{
+    if !fail_fast {
+        return Ok(false);
     }
-    true
+    match first_finding(alloc, plan, reference, calls, batch.as_slice())? {
+        Some(place) => {
+            batch.truncate(place.saturating_add(1));
+            Ok(true)
+        }
+        None => Ok(false),
+    }
+}
+
+/// The cases behind so many.
+fn behind(cases: &[Case], count: usize) -> &[Case]
+    requires { count ≤ length cases.now }
+    ensures { take count cases.now ++ result.now ≡ cases.now }
+{
+    let (_, rest) = cases.split_at(count);
+    rest
+}
+
+/// There are runs to make, and the sweep isn't at its end.
+fn goes_on(left: &[Case], ended: bool) -> bool
+    ensures some { result ≡ true → 0 < length left.now }
+    ensures none { result ≡ false → ended ≡ false → left.now ≡ [] }
+{
+    !ended && !left.is_empty()
 }
 
 /// A row in a line, in the format that the words ask for.
@@ -188,15 +234,22 @@ fn make_batches<R: Threads + Sync + AllocGlobal, C: Clock, W: Write, E: Write>(
 {
     let size = batch_size(words.jobs);
     let mut rows = Vec::new(rt.alloc());
-    let mut found = 0;
+    let mut ended = false;
     let mut left = cases;
-    while goes_on(left, words.fail_fast, found) {
-        let (first, rest) = left.split_at(size.min(left.len()));
+    while goes_on(left, ended) {
+        let (first, _) = left.split_at(size.min(left.len()));
         let (setup, jobs) = (&plan.setup, words.jobs);
         let mut more = rows_on_threads(rt, rt.alloc(), jobs, setup, reference, first, &mut Silent)?;
+        ended = cut(
+            rt.alloc(),
+            plan,
+            reference,
+            calls,
+            words.fail_fast,
+            &mut more,
+        )?;
         let made = more.as_slice();
-        found = findings(rt.alloc(), plan, reference, calls, made)?;
-        progress.found(found);
+        progress.found(findings(rt.alloc(), plan, reference, calls, made)?);
         write_rows(
             rt.alloc(),
             matches,
@@ -207,9 +260,9 @@ fn make_batches<R: Threads + Sync + AllocGlobal, C: Clock, W: Write, E: Write>(
             made,
             writer,
         )?;
+        left = behind(left, more.len());
         rows.append(&mut more)?;
         progress.tell(rows.len(), cases.len());
-        left = rest;
     }
     Ok(rows)
 }

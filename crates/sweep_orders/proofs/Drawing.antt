@@ -1,26 +1,20 @@
--- Orders by chance, word by word.
-use Rattle.std.proofs.Common.{◌≡◌, ◌<◌, ◌-◌, ◌++◌, ℕ, zero, suc, List, [], ◌∷◌, ap, ◌∙◌, arith}
-use Rattle.lx_abi.specs.declared.schedule.Word.{Word}
-use Rattle.lx_abi.specs.declared.schedule.Word.TheVariants.{UntilReturn}
+-- Orders that are drawn, step by step.
+use Rattle.std.proofs.Common.{◌≡◌, ◌<◌, ◌++◌, ◌×◌, ℕ, List, [], ◌∷◌, length, ap, sym, subst, ◌∙◌}
+use Rattle.lx_kernel.specs.Runs.{Run}
 use Rattle.rand_pcg.specs.Lcg.{Lcg}
 use Rattle.rand_pcg.specs.Pcg.{pcg32}
-use Rattle.sweep_orders.specs.Draws.{chosen, drawn}
-use Rattle.sweep_orders.proofs.Room.{snoc_append}
+use Rattle.sweep_orders.specs.Draws.{chosen, AreAble, IsStep, IsDrawn}
+use Rattle.sweep_orders.proofs.Lists.{snoc_append}
 
--- a word more, and then the others
-pub words_on : (pids : List ℕ) (n w : ℕ) (chance later : Lcg) (words : List Word) → 0 < n → (w, later) ≡ pcg32 chance
-    → (words ++ UntilReturn (chosen pids w) ∷ []) ++ (drawn pids (n - 1) later).words ≡ words ++ (drawn pids n chance).words
-words_on pids zero w chance later words h e = absurd (omega (arith, h))
-words_on pids (suc n) w chance later words h e =
-    let less : suc n - 1 ≡ n = omega arith in
-    ap (λ k. (words ++ UntilReturn (chosen pids w) ∷ []) ++ (drawn pids k later).words) less
-    ∙ snoc_append words (UntilReturn (chosen pids w)) (drawn pids n later).words
-    ∙ ap (λ (x : ℕ × Lcg). words ++ UntilReturn (chosen pids x.0) ∷ (drawn pids n x.1).words) e
+-- a step is drawn, and then the others
+pub one_drawn : (ps : List ℕ) (left : ℕ) (k k' z : Run) (chance later : Lcg) (able : List ℕ) (word p after : ℕ) → AreAble k 0 able → 0 < length able
+    → p ≡ chosen able word → (word, later) ≡ pcg32 chance → IsStep left k p after k' → IsDrawn ps after k' later z → IsDrawn (p ∷ ps) left k chance z
+one_drawn ps left k k' z chance later able word p after are some is next step rest = (
+  after,
+  k',
+  record { able = able; are_able = are; some = some; drawn = is ∙ ap (λ (x : ℕ × Lcg). chosen able x.0) next; step = step },
+  subst (λ (x : ℕ × Lcg). IsDrawn ps after k' x.1 z) next rest,
+)
 
-pub chance_on : (pids : List ℕ) (n w : ℕ) (chance later : Lcg) → 0 < n → (w, later) ≡ pcg32 chance
-    → (drawn pids (n - 1) later).chance ≡ (drawn pids n chance).chance
-chance_on pids zero w chance later h e = absurd (omega (arith, h))
-chance_on pids (suc n) w chance later h e =
-    let less : suc n - 1 ≡ n = omega arith in
-    ap (λ k. (drawn pids k later).chance) less
-    ∙ ap (λ (x : ℕ × Lcg). (drawn pids n x.1).chance) e
+pub pushed : (pids more ps : List ℕ) (p : ℕ) → more ≡ pids ++ p ∷ [] → pids ++ p ∷ ps ≡ more ++ ps
+pushed pids more ps p e = sym (ap (λ xs. xs ++ ps) e ∙ snoc_append pids p ps)

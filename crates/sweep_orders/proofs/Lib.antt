@@ -1,6 +1,8 @@
-pub mod Room
-pub mod Drawing
+pub mod Spreading
+pub mod Lists
+pub mod Able
 pub mod Stepping
-pub mod Trying
-pub mod Batching
-pub mod Early
+pub mod Drawing
+pub mod Wording
+pub mod Meeting
+pub mod Joined

@@ -1,41 +1,42 @@
--- Schedules with one switch more: where a step of a run begins, another process goes on.
-use Rattle.std.specs.Prelude.{ℕ, suc, ◌==◌, ◌&&◌, nat_lt, nat_le, Bool, not, cond, List, [], ◌∷◌, ◌++◌, length, map, take}
-use Rattle.std.specs.List.{list_any, filter}
+-- Which order comes when: the default one first, and then by turns one by chance and one with a switch, those first that
+-- are far from the others; where none is left, by chance.
+use Rattle.std.specs.Prelude.{◌≡◌, ℕ, ◌==◌, ◌-◌, ◌/◌, ◌%◌, min, cond, List, [], ◌∷◌, ◌++◌, Option, Some, None, map, take, length}
+use Rattle.std.specs.List.{slice_get}
 use Rattle.lx_abi.specs.declared.log.Item.{Item}
+use Rattle.lx_abi.specs.declared.schedule.Word.{Word}
 use Rattle.lx_abi.specs.declared.schedule.Word.TheVariants.{UntilReturn}
-use Rattle.sweep_orders.specs.Steps.{begins, doer, no_steps, steps_with}
-use Rattle.sweep_orders.specs.declared.steps.Steps.{Steps}
+use Rattle.sweep_orders.specs.Steps.{steps_of}
+use Rattle.sweep_orders.specs.Switches.{switches_of, spread_out}
 use Rattle.sweep_orders.specs.declared.plans.Plan.{Plan}
+use Rattle.sweep_orders.specs.declared.plans.Plan.TheVariants.{Default, Switched, ByChance}
+use Rattle.sweep_orders.specs.declared.plans.Source.{Source}
+use Rattle.sweep_orders.specs.declared.steps.Steps.{Steps}
+use Rattle.sweep_orders.specs.declared.switches.Switch.{Switch}
 
--- the process still does something
-abbrev pub acts : List Item → ℕ → Bool
-acts log p = list_any (λ i. doer i == p) log
+-- orders are made from the log of the run by the default one
+pub record IsSource (log : List Item) (seed : ℕ) (o : Source) : Type 0 where
+  pub steps : o.steps ≡ steps_of log
+  pub switches : o.switches.items ≡ spread_out (switches_of log)
+  pub seed_is : o.seed ≡ seed
 
--- another process than this one, which still does something
-abbrev pub might : ℕ → List Item → ℕ → Bool
-might p later q = not (q == p) && acts later q
+abbrev pub switched_or : ℕ → Option Switch → Plan
+switched_or n None = ByChance n
+switched_or n (Some s) = Switched s
 
--- after these steps q goes on
-abbrev pub switched : Steps → ℕ → ℕ → Plan
-switched s switches q = record { words = s.words ++ UntilReturn q ∷ []; switches = switches }
+-- the order with this number, the first being 0
+abbrev pub plan_of : List Switch → ℕ → Plan
+plan_of switches n =
+    cond (n == 0) Default
+    (cond (n % 2 == 1) (ByChance n) (switched_or n (slice_get switches ((n - 1) / 2))))
 
--- the switches where a step begins that is not among the first `least`
-abbrev pub switches_at : ℕ → ℕ → Steps → Item → List Item → List Plan
-switches_at least switches s i later =
-    cond (begins s.current (doer i) && nat_le least (length s.words))
-    (map (switched s switches) (filter (might (doer i) later) s.born)) []
+-- among so many orders there are so many with a switch
+abbrev pub switched_of : ℕ → ℕ → ℕ
+switched_of orders switches = min ((orders - 1) / 2) switches
 
-abbrev pub switches_in : ℕ → ℕ → Steps → List Item → List Plan
-switches_in least switches s [] = []
-switches_in least switches s (i ∷ is) =
-    switches_at least switches s i is ++ switches_in least switches (steps_with s i) is
+-- a word for each step, by the default schedule behind them
+abbrev pub words_of : List ℕ → List Word
+words_of pids = map (λ p. UntilReturn p) pids
 
--- so many switches has a schedule that isn't drawn by chance
-abbrev pub most_switches : ℕ
-most_switches = 2
-
--- at most so many schedules with one switch more than a plan, behind its words, in the run by it that has this log
-unfoldable pub plans_after : ℕ → Plan → List Item → List Plan
-plans_after room p log =
-    cond (nat_lt p.switches most_switches)
-    (take room (switches_in (length p.words) (suc p.switches) no_steps log)) []
+-- behind the first steps of a run another process goes on
+abbrev pub switched : Steps → Switch → List ℕ
+switched s w = take w.steps s.pids ++ w.pid ∷ []

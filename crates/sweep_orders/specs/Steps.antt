@@ -4,7 +4,6 @@ use Rattle.std.specs.Prelude.{ℕ, ◌==◌, ◌^◌, ◌&&◌, nat_lt, Bool, tr
 use Rattle.lx_abi.specs.Sys.{sys_clone}
 use Rattle.lx_abi.specs.declared.log.Item.{Item}
 use Rattle.lx_abi.specs.declared.log.Item.TheVariants.{Enter, Done, Taken, Stopped, Exit}
-use Rattle.lx_abi.specs.declared.schedule.Word.TheVariants.{UntilReturn}
 use Rattle.sweep_orders.specs.declared.steps.Steps.{Steps}
 
 -- who did what an item tells
@@ -39,12 +38,12 @@ births (Exit pid word left) = []
 
 -- before a log: no step, and the first process alone
 abbrev pub no_steps : Steps
-no_steps = record { words = []; born = 1 ∷ []; current = None }
+no_steps = record { pids = []; born = 1 ∷ []; current = None }
 
--- a word for each step
+-- whose each step is
 abbrev pub steps_with : Steps → Item → Steps
 steps_with s i = record {
-  words = s.words ++ cond (begins s.current (doer i)) (UntilReturn (doer i) ∷ []) [];
+  pids = s.pids ++ cond (begins s.current (doer i)) (doer i ∷ []) [];
   born = s.born ++ births i;
   current = current_after i;
 }

@@ -2,18 +2,22 @@
 
 ghost use Rattle.std.specs.Prelude.{◌≡◌, OnOk};
 ghost use Rattle.std.specs.Bool.{Decides};
-ghost use Rattle.sweep_orders.specs.Found.{IsSame, Counts, IsPlace, more};
+ghost use Rattle.sweep_orders.specs.Found.{IsSame, CountsIn, Counts, CountsAll, IsPlace, more, times_after, none_told};
+ghost use Rattle.sweep_orders.specs.Orders.{told_of};
 
+use crate::met::Met;
+use crate::trials::Trial;
 use containers::Seq;
 use lx_abi::Word;
-use std::alloc::AllocError;
+use std::alloc::{AllocError, Global};
+use std::collections::VecDeque;
 use sweep_rows::{Ending, ends_as, leaves_the_same};
 
 /// A result, and a schedule by which a run has it.
 #[derive(Drop)]
 pub struct Found {
     pub ending: Ending,
-    /// How many runs had it.
+    /// How many different orders had it.
     pub times: u64,
     /// The schedule's words, as few as any that was tried.
     pub words: Seq<Word>,
@@ -40,28 +44,36 @@ fn place_of(found: &[Found], ending: &Ending) -> Option<usize>
     None
 }
 
+/// How many different orders have a result, of which there was one more run, by a new order or not.
+fn times_after(times: u64, new: bool) -> u64
+    ensures { result ≡ times_after times new }
+{
+    if new { times.saturating_add(1) } else { times }
+}
+
 impl Found {
-    /// Once more, by these words where they are fewer.
-    fn again(&mut self, words: Seq<Word>)
-        ensures { self.new ≡ more self.old words }
+    /// Once more, by a new order or not, and by these words where they are fewer.
+    fn again(&mut self, new: bool, words: Seq<Word>)
+        ensures { self.new ≡ more self.old new words }
     {
-        self.times = self.times.saturating_add(1);
+        self.times = times_after(self.times, new);
         if words.as_slice().len() < self.words.as_slice().len() {
             self.words = words;
         }
     }
 }
 
-/// Counts a run by these words that left this.
-pub(crate) fn count(
+/// Counts a run by these words that left this, by a new order or not.
+fn count(
     found: &mut Vec<Found>,
+    new: bool,
     ending: Ending,
     words: Seq<Word>,
 ) -> Result<(), AllocError>
-    ensures { OnOk result (Counts found.old.items ending words found.new.items) }
+    ensures { OnOk result (CountsIn found.old.items new ending words found.new.items) }
 {
     match place_of(found.as_slice(), &ending) {
-        Some(place) => found[place].again(words),
+        Some(place) => found[place].again(new, words),
         None => found.push(Found {
             ending,
             times: 1,
@@ -69,4 +81,46 @@ pub(crate) fn count(
         })?,
     }
     Ok(())
+}
+
+/// What is told of runs: their results, and the orders that they had.
+#[derive(Drop)]
+pub struct Results {
+    pub found: Vec<Found>,
+    pub met: Met,
+}
+
+impl Results {
+    pub fn new(alloc: Global) -> Self
+        ensures { told_of result ≡ none_told }
+    {
+        Results {
+            found: Vec::new(alloc),
+            met: Met::new(alloc),
+        }
+    }
+
+    /// Counts a run.
+    fn count(&mut self, trial: Trial) -> Result<(), AllocError>
+        ensures { OnOk result (Counts (told_of self.old) trial (told_of self.new)) }
+    {
+        let Trial {
+            words,
+            ending,
+            order,
+        } = trial;
+        let new = self.met.add(order)?;
+        count(&mut self.found, new, ending, words)?;
+        Ok(())
+    }
+
+    /// Counts the runs by the plans from a number on.
+    pub fn count_all(&mut self, trials: &mut VecDeque<Trial>) -> Result<(), AllocError>
+        ensures { OnOk result (CountsAll trials.old.items (told_of self.old) (told_of self.new)) }
+    {
+        while let Some(trial) = trials.pop_front() {
+            self.count(trial)?;
+        }
+        Ok(())
+    }
 }

@@ -1,156 +1,94 @@
-//! Schedules with one switch more than another.
+//! Which order comes when.
 
-ghost use Rattle.std.specs.Prelude.{◌≡◌, ◌++◌, [], ◌∷◌, map, take, IfOk, OnOk};
-ghost use Rattle.std.specs.List.{filter};
-ghost use Rattle.lx_abi.specs.declared.schedule.Word.TheVariants.{UntilReturn};
-ghost use Rattle.sweep_orders.specs.Steps.{no_steps};
-ghost use Rattle.sweep_orders.specs.Plans.{acts, might, switched, switches_at, switches_in, plans_after};
+ghost use Rattle.std.specs.Prelude.{◌≡◌, IfOk};
+ghost use Rattle.sweep_orders.specs.Plans.{IsSource, plan_of, switched_of, words_of, switched};
 
-use crate::steps::{Steps, begins, doer};
+use crate::steps::{Steps, steps_of};
+use crate::switches::{Switch, spread_out, switches_of};
 use containers::Seq;
 use lx_abi::{Item, Word};
 use std::alloc::{AllocError, Global};
 
-/// The most switches of a schedule that isn't drawn by chance.
-pub const MOST_SWITCHES: u8 = 2;
-
-/// The words of a schedule, and how many switches they have.
+/// What orders are made from.
 #[derive(Drop)]
-pub struct Plan {
-    pub words: Seq<Word>,
-    pub switches: u8,
+pub struct Source {
+    /// The steps of the run by the default order.
+    pub steps: Steps,
+    /// The switches that it can have, those first that are far from the others.
+    pub switches: Vec<Switch>,
+    /// Where the generator begins.
+    pub seed: u64,
 }
 
-/// The process still does something.
-fn acts(log: &[Item], pid: u32) -> bool
-    ensures { result ≡ acts log.now pid }
-{
-    log.iter().any(|item| doer(item) == pid)
-}
-
-/// Another process than this one, which still does something.
-fn might(pid: u32, later: &[Item], other: u32) -> bool
-    ensures { result ≡ might pid later.now other }
-{
-    other != pid && acts(later, other)
-}
-
-/// The words of these steps, behind which another process goes on.
-fn words_with(alloc: Global, steps: &[Word], pid: u32) -> Result<Seq<Word>, AllocError>
-    ensures { IfOk result (λ words. words ≡ steps.now ++ UntilReturn pid ∷ []) }
-{
-    let mut words = Vec::new(alloc);
-    words.extend_from_slice(steps)?;
-    words.push(Word::UntilReturn { pid })?;
-    Ok(Seq::from_vec(words))
-}
-
-/// What plans are made of where a step begins: so many of them at most, of so many switches.
-#[derive(Clone, Copy)]
-struct Bounds {
-    room: usize,
-    switches: u8,
-    /// How many steps come before the first switch.
-    least: usize,
-}
-
-/// Adds the plan that has a switch to this process, if there is room.
-fn add_switch(
-    alloc: Global,
-    plans: &mut Vec<Plan>,
-    bounds: Bounds,
-    steps: &Steps,
-    pid: u32,
-) -> Result<(), AllocError>
-    ensures { OnOk result (take bounds.room plans.new.items
-        ≡ take bounds.room (plans.old.items ++ switched steps.now bounds.switches pid ∷ [])) }
-{
-    if plans.len() >= bounds.room {
-        return Ok(());
+impl Source {
+    /// By the log of the run by the default order.
+    pub fn new(alloc: Global, log: &[Item], seed: u64) -> Result<Self, AllocError>
+        ensures { IfOk result (IsSource log.now seed) }
+    {
+        let steps = steps_of(alloc, log)?;
+        let switches = switches_of(alloc, log)?;
+        Ok(Source {
+            steps,
+            switches: spread_out(alloc, switches.as_slice())?,
+            seed,
+        })
     }
-    let words = words_with(alloc, steps.words.as_slice(), pid)?;
-    plans.push(Plan {
-        words,
-        switches: bounds.switches,
-    })?;
-    Ok(())
 }
 
-/// Adds the plans that have a switch where this process begins a step.
-fn add_switches(
-    alloc: Global,
-    plans: &mut Vec<Plan>,
-    bounds: Bounds,
-    steps: &Steps,
-    pid: u32,
-    later: &[Item],
-) -> Result<(), AllocError>
-    ensures { OnOk result (take bounds.room plans.new.items ≡ take bounds.room
-        (plans.old.items ++ map (switched steps.now bounds.switches) (filter (might pid later.now) steps.now.born))) }
+/// How an order comes about.
+#[derive(Clone, Copy, Debug, PartialEq, Eq)]
+pub enum Plan {
+    Default,
+    Switched(Switch),
+    /// By chance, as the generator's stream with this number says.
+    ByChance(u64),
+}
+
+/// The order with this number, the first being 0.
+pub fn plan_of(switches: &[Switch], number: usize) -> Plan
+    ensures { result ≡ plan_of switches.now number }
 {
-    let mut left = steps.born.as_slice();
-    while let Some((other, rest)) = left.split_first() {
-        if might(pid, later, *other) {
-            add_switch(alloc, plans, bounds, steps, *other)?;
-        }
+    if number == 0 {
+        return Plan::Default;
+    }
+    if number % 2 == 1 {
+        return Plan::ByChance(number as u64);
+    }
+    match switches.get((number - 1) / 2) {
+        Some(switch) => Plan::Switched(*switch),
+        None => Plan::ByChance(number as u64),
+    }
+}
+
+/// How many of so many orders have a switch, where there are so many switches.
+pub fn switched_of(orders: usize, switches: usize) -> usize
+    ensures { result ≡ switched_of orders switches }
+{
+    (orders.saturating_sub(1) / 2).min(switches)
+}
+
+/// A word for each step.
+pub fn words_of(alloc: Global, pids: &[u32]) -> Result<Seq<Word>, AllocError>
+    ensures { IfOk result (λ words. words ≡ words_of pids.now) }
+{
+    let mut words = Seq::new(alloc);
+    let mut left = pids;
+    while let Some((pid, rest)) = left.split_first() {
+        words.push(Word::UntilReturn { pid: *pid })?;
         left = rest;
     }
-    Ok(())
+    Ok(words)
 }
 
-/// Adds the plans that have a switch before this item.
-fn add_before(
-    alloc: Global,
-    plans: &mut Vec<Plan>,
-    bounds: Bounds,
-    steps: &Steps,
-    item: &Item,
-    later: &[Item],
-) -> Result<(), AllocError>
-    ensures { OnOk result (take bounds.room plans.new.items ≡ take bounds.room
-        (plans.old.items ++ switches_at bounds.least bounds.switches steps.now item.now later.now)) }
+/// Whose the steps of an order with a switch are, up to the switch.
+#[tactic(auto, using(crate::proofs::Lists::take_least))]
+pub fn switched(alloc: Global, steps: &Steps, switch: Switch) -> Result<Vec<u32>, AllocError>
+    ensures { IfOk result (λ pids. pids.items ≡ switched steps.now switch) }
 {
-    if begins(steps.current, doer(item)) && bounds.least <= steps.words.as_slice().len() {
-        add_switches(alloc, plans, bounds, steps, doer(item), later)
-    } else {
-        Ok(())
-    }
-}
-
-/// The plans that have a switch before an item of the log, as many as there is room for.
-fn switches_in(alloc: Global, bounds: Bounds, log: &[Item]) -> Result<Vec<Plan>, AllocError>
-    ensures { IfOk result (λ plans. plans.items
-        ≡ take bounds.room (switches_in bounds.least bounds.switches no_steps log.now)) }
-{
-    let mut plans = Vec::new(alloc);
-    let mut steps = Steps::none(alloc)?;
-    let mut left = log;
-    while let Some((item, rest)) = left.split_first() {
-        add_before(alloc, &mut plans, bounds, &steps, item, rest)?;
-        steps.add(item)?;
-        left = rest;
-    }
-    plans.truncate(bounds.room);
-    Ok(plans)
-}
-
-/// At most so many plans with one switch more than this one, behind its words, in the run by it that has this log.
-#[tactic(auto, unfolding(crate::specs::Plans::plans_after))]
-pub fn plans_after(
-    alloc: Global,
-    room: usize,
-    plan: &Plan,
-    log: &[Item],
-) -> Result<Vec<Plan>, AllocError>
-    ensures { IfOk result (λ plans. plans.items ≡ plans_after room plan.now log.now) }
-{
-    if plan.switches >= MOST_SWITCHES || room == 0 {
-        return Ok(Vec::new(alloc));
-    }
-    let bounds = Bounds {
-        room,
-        switches: plan.switches + 1,
-        least: plan.words.as_slice().len(),
-    };
-    switches_in(alloc, bounds, log)
+    let all = steps.pids.as_slice();
+    let (first, _) = all.split_at(switch.steps.min(all.len()));
+    let mut pids = Vec::new(alloc);
+    pids.extend_from_slice(first)?;
+    pids.push(switch.pid)?;
+    Ok(pids)
 }

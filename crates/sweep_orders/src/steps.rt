@@ -2,19 +2,18 @@
 
 ghost use Rattle.std.specs.Prelude.{◌≡◌, ◌++◌, [], ◌∷◌, cond, IfOk, OnOk};
 ghost use Rattle.std.specs.Option.{option_to_list};
-ghost use Rattle.lx_abi.specs.declared.schedule.Word.TheVariants.{UntilReturn};
 ghost use Rattle.sweep_orders.specs.Steps.{doer, current_after, begins, births, no_steps, steps_with, steps_of};
 
 use containers::Seq;
+use lx_abi::Item;
 use lx_abi::sys::SYS_CLONE;
-use lx_abi::{Item, Word};
 use std::alloc::{AllocError, Global};
 
 /// What a log tells so far.
 #[derive(Drop)]
 pub struct Steps {
-    /// A word for each step.
-    pub words: Seq<Word>,
+    /// Whose each step is.
+    pub pids: Seq<u32>,
     /// The processes, in the order of their births.
     pub born: Seq<u32>,
     /// The process whose step is under way.
@@ -75,7 +74,7 @@ impl Steps {
         let mut born = Seq::new(alloc);
         born.push(1)?;
         Ok(Steps {
-            words: Seq::new(alloc),
+            pids: Seq::new(alloc),
             born,
             current: None,
         })
@@ -83,12 +82,12 @@ impl Steps {
 
     /// A process does something: a step begins, if its own isn't under way.
     fn step(&mut self, pid: u32) -> Result<(), AllocError>
-        ensures words { OnOk result (self.new.words
-            ≡ self.old.words ++ cond (begins self.old.current pid) (UntilReturn pid ∷ []) []) }
+        ensures pids { OnOk result (self.new.pids
+            ≡ self.old.pids ++ cond (begins self.old.current pid) (pid ∷ []) []) }
         ensures born { self.new.born ≡ self.old.born }
     {
         if begins(self.current, pid) {
-            self.words.push(Word::UntilReturn { pid })?;
+            self.pids.push(pid)?;
         }
         Ok(())
     }
@@ -96,7 +95,7 @@ impl Steps {
     /// A child is born, if there is one.
     fn bear(&mut self, child: Option<u32>) -> Result<(), AllocError>
         ensures born { OnOk result (self.new.born ≡ self.old.born ++ option_to_list child) }
-        ensures words { self.new.words ≡ self.old.words }
+        ensures pids { self.new.pids ≡ self.old.pids }
     {
         if let Some(child) = child {
             self.born.push(child)?;

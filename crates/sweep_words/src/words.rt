@@ -26,12 +26,14 @@ The report has the calls with findings, damaged and warned runs: each with its o
 and the words of strace_cli by which the first of these runs is had. Below stand the command that shows the first
 finding, and in the last line how many runs came to what: a report without it was cut.
 
-With --orders no call fails, and each run has its own order of turns: the default one, then those with one switch to
-another process where a call returned, those with two, and then some by chance. Each line is a result, with how many
-orders had it and the words of --turns by which a shortest of them has it.
+With --orders no call fails, and each run has its own order of turns: the default one, and then by turns one that is
+drawn, step by step until the run ends, and one with a switch to another process where a call returned, those first
+that are far apart. Each line is a result, with how many different orders had it and the words of --turns by which a
+shortest of them has it.
 
-The status is 0 where no run is a finding, else 1 (with --orders where a run did not end); 2 for words, files or a boot
-at fault, 3 for an output or for memory, 4 where the run without a failure is out of turns.
+The status is 0 where no run is a finding, else 1 (with --orders where a run did not end, with --one where there are two
+results); 2 for words, files or a boot at fault, 3 for an output or for memory, 4 where the run without a failure is
+out of turns.
 
 Examples: make each write fail with EINTR; try 100 orders of turns
   strace_sweep -e fault=write:error=EINTR --file /p=hello -- /p </dev/null
@@ -128,6 +130,8 @@ fn jobs_of(alloc: Global, matches: &ArgMatches) -> Result<u8, Fault> {
 pub struct Orders {
     pub count: usize,
     pub seed: u64,
+    /// There is to be one result.
+    pub one: bool,
 }
 
 /// The runs of a part of a sweep: so many are left out before the first of them, and between two.
@@ -200,23 +204,40 @@ fn check_orders(alloc: Global, matches: &ArgMatches) -> Result<(), Fault> {
     check_failures(alloc, matches)
 }
 
+/// Options that have no meaning without `--orders`.
+fn check_no_orders(alloc: Global, matches: &ArgMatches) -> Result<(), Fault> {
+    let one = if matches.get_flag("one") {
+        Some("")
+    } else {
+        None
+    };
+    let options = [
+        ("seed", matches.get_str("seed")),
+        ("keep", matches.get_str("keep")),
+        ("one", one),
+    ];
+    for (option, value) in options {
+        if value.is_some() {
+            return Err(Fault::usage(format!(in alloc;
+                "--{option}: without --orders no order of turns is tried"
+            )));
+        }
+    }
+    Ok(())
+}
+
 /// The orders of turns that the words ask for, if they do.
 fn orders_of(alloc: Global, matches: &ArgMatches) -> Result<Option<Orders>, Fault> {
     let seed = number(alloc, "--seed", matches.get_str("seed"), u64::MAX, 0)?;
     let Some(count) = count_of(alloc, "--orders", matches.get_str("orders"), MOST_ORDERS)? else {
-        for option in ["seed", "keep"] {
-            if matches.get_str(option).is_some() {
-                return Err(Fault::usage(format!(in alloc;
-                    "--{option}: without --orders no order of turns is tried"
-                )));
-            }
-        }
+        check_no_orders(alloc, matches)?;
         return Ok(None);
     };
     check_orders(alloc, matches)?;
     Ok(Some(Orders {
         count: count as usize,
         seed,
+        one: matches.get_flag("one"),
     }))
 }
 

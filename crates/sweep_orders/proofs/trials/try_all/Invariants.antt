@@ -1,11 +1,10 @@
-use Rattle.std.proofs.Common.{◌≡◌, ◌++◌, List, length}
-use Rattle.std.specs.List.{AllZip}
-use Rattle.sweep_orders.specs.Batches.{IsTrial}
-use Rattle.sweep_orders.specs.declared.plans.Plan.{Plan}
+use Rattle.std.proofs.Common.{◌≡◌, ◌+◌, ◌≤◌, ◌-◌, length}
+use Rattle.sweep_orders.specs.Trials.{AreTrials}
 use Rattle.sweep_orders.proofs.trials.try_all.Given as goal
 
-abbrev pub invariant-loop-plan : goal.invariant-loop-plan
-invariant-loop-plan l = (tried : List Plan) × (tried ++ l.left ≡ l.plans) × AllZip (IsTrial l.setup l.room) tried l.trials.items
+abbrev pub invariant-loop-number : goal.invariant-loop-number
+invariant-loop-number l =
+    (l.number ≡ l.first + length l.trials.items) × (l.number ≤ l.end) × AreTrials l.setup l.source l.first l.trials.items
 
-abbrev pub decreases-loop-plan : goal.decreases-loop-plan
-decreases-loop-plan l = length l.left
+abbrev pub decreases-loop-number : goal.decreases-loop-number
+decreases-loop-number l = l.end - l.number

@@ -1,0 +1,67 @@
+-- Batches of rows, and those that are told of them.
+use Rattle.std.proofs.Common.{◌≡◌, ◌<◌, ◌≤◌, ℕ, zero, suc, Bool, true, false, List, [], ◌∷◌, ◌++◌, length, map, take, refl, sym, ap, subst, ◌∙◌, arith}
+use Rattle.std.specs.Prelude.{◌&&◌, Some, min}
+use Rattle.std.specs.List.{All, slice_get}
+use Rattle.std.proofs.lemmas.List.{take-map, length-take, length-map}
+use Rattle.std.proofs.lemmas.List.Elements.{All-take}
+use Rattle.sweep_rows.specs.Verdicts.{is_finding}
+use Rattle.sweep_rows.specs.declared.verdicts.Reached.{Reached}
+use Rattle.sweep_runs.specs.Rows.{AreRows, IsRow}
+use Rattle.sweep_runs.specs.declared.chosen.Case.{Case}
+use Rattle.sweep_runs.specs.declared.runs.Setup.{Setup}
+use Rattle.sweep_runs.specs.declared.sweeping.Row.{Row}
+use Rattle.sweep_command.specs.Reports.{ends_found, IsCut}
+
+-- the first rows end with this one
+pub ends_at : (rows : List Row) (i : ℕ) (r : Row) (b : Bool) → slice_get rows i ≡ Some r → ends_found b (take (suc i) rows) ≡ is_finding r.verdict
+ends_at [] i r b e = absurd (cc e)
+ends_at (x ∷ xs) zero r b e = let same : x ≡ r = cc e in ap (λ (y : Row). is_finding y.verdict) same
+ends_at (x ∷ xs) (suc i) r b e = ends_at xs i r (is_finding x.verdict) e
+
+-- more rows behind others
+pub ends_behind : (rows more : List Row) (b : Bool) → 0 < length more → ends_found b (rows ++ more) ≡ ends_found false more
+ends_behind [] [] b h = absurd (omega (arith, h))
+ends_behind [] (m ∷ ms) b h = refl
+ends_behind (r ∷ rs) more b h = ends_behind rs more (is_finding r.verdict) h
+
+take_twice : {X : Type 0} (m n : ℕ) (xs : List X) → m ≤ n → take m (take n xs) ≡ take m xs
+take_twice zero n xs l = refl
+take_twice (suc m) zero xs l = absurd (omega (arith, l))
+take_twice (suc m) (suc n) [] l = refl
+take_twice (suc m) (suc n) (x ∷ xs) l = ap (λ ys. x ∷ ys) (take_twice m n xs (omega (arith, l)))
+
+module _ (setup : Setup) (reference : Reached) where
+  -- rows of the first of these cases are those of the first of others
+  pub first_rows : (n : ℕ) (left first : List Case) (batch rows : List Row) → first ≡ take n left → rows ≡ take (length rows) batch
+      → AreRows setup reference first batch → AreRows setup reference (take (length rows) left) rows
+  first_rows n left first batch rows is cut made =
+      let many : length batch ≡ length first = sym (length-map batch (λ (r : Row). r.case)) ∙ ap length made.cases_are in
+      let few : length rows ≡ min (length rows) (length batch) = ap length cut ∙ length-take (length rows) batch in
+      let short : length first ≡ min n (length left) = ap length is ∙ length-take n left in
+      let within : length rows ≤ n = omega (arith, many, few, short) in
+      record {
+        cases_are = ap (map (λ (r : Row). r.case)) cut ∙ sym (take-map (λ (r : Row). r.case) (length rows) batch) ∙ ap (take (length rows)) (made.cases_are ∙ is) ∙ take_twice (length rows) n left within;
+        each = subst (λ (rs : List Row). All (IsRow setup reference) rs) (sym cut) (All-take (IsRow setup reference) (length rows) batch made.each);
+      }
+
+  -- so many are within
+  pub rows_within : (n : ℕ) (left first : List Case) (batch rows : List Row) → first ≡ take n left → rows ≡ take (length rows) batch
+      → AreRows setup reference first batch → length rows ≤ length left
+  rows_within n left first batch rows is cut made =
+      let many : length batch ≡ length first = sym (length-map batch (λ (r : Row). r.case)) ∙ ap length made.cases_are in
+      let few : length rows ≡ min (length rows) (length batch) = ap length cut ∙ length-take (length rows) batch in
+      let short : length first ≡ min n (length left) = ap length is ∙ length-take n left in
+      omega (arith, many, few, short)
+
+  -- what is told of a batch isn't empty
+  pub some_told : (fail_fast ended : Bool) (n : ℕ) (left first : List Case) (batch rows : List Row) → first ≡ take n left → 0 < n → 0 < length left
+      → AreRows setup reference first batch → IsCut fail_fast batch rows ended → 0 < length rows
+  some_told fail_fast ended n left first batch rows is size some made cut =
+      let many : length batch ≡ length first = sym (length-map batch (λ (r : Row). r.case)) ∙ ap length made.cases_are in
+      let short : length first ≡ min n (length left) = ap length is ∙ length-take n left in
+      cut.some (omega (arith, many, short, size, some))
+
+-- the rows before it change nothing of how the sweep ends
+pub ended_behind : (fail_fast : Bool) (before rows : List Row) → 0 < length rows → (fail_fast && ends_found false rows) ≡ true
+    → (fail_fast && ends_found false (before ++ rows)) ≡ true
+ended_behind fail_fast before rows some e = ap (λ b. fail_fast && b) (ends_behind before rows false some) ∙ e
