@@ -1,4 +1,5 @@
 pub mod Directories
 pub mod Leavings
+pub mod Numbers
 pub mod Statuses
 pub mod Streams

@@ -1,7 +1,7 @@
 -- Streams that stand open in this process, by the names that they have as files, and what is opened for a path.
 use Rattle.std.specs.Prelude.{◌≡◌, ℕ, List, Option, Some, None, ⊤, nat_eq, if◌then◌else◌, bytes_eq, codes, drop}
 use Rattle.std.specs.List.{starts_with}
-use Rattle.tr_expr.specs.Numbers.{number}
+use Rattle.front_end.specs.Numbers.{decimal}
 use Rattle.front_end.specs.declared.replacing.Target.{Target}
 use Rattle.front_end.specs.declared.replacing.Target.TheVariants as target
 use Rattle.front_end.specs.declared.streams.Opened.{Opened}
@@ -13,13 +13,10 @@ digits_of path =
     if starts_with nat_eq path (codes "/dev/fd/") then Some (drop 8 path)
     else (if starts_with nat_eq path (codes "/proc/self/fd/") then Some (drop 14 path) else None)
 
--- the number that decimal digits alone spell, where a stream can have it
-abbrev pub spelled : List ℕ → Option ℕ
-spelled digits = number 10 0 2147483647 digits
-
+-- the number that they spell, where a stream can have it
 abbrev pub numbered_by : Option (List ℕ) → Option ℕ
 numbered_by None = None
-numbered_by (Some digits) = spelled digits
+numbered_by (Some digits) = decimal 2147483647 digits
 
 unfoldable pub numbered : List ℕ → Option ℕ
 numbered path = numbered_by (digits_of path)

@@ -1,5 +1,7 @@
 //! What a run begins with.
 
+ghost use Rattle.std.specs.Prelude.{◌≡◌, IfOk, map};
+
 use crate::directories::add_directory;
 use crate::fault::Fault;
 use crate::reading::{MOST_INPUT, read_file, read_input};
@@ -66,9 +68,11 @@ pub fn read_files<R: Files + AllocGlobal>(
 }
 
 /// The program's words.
-fn argv(alloc: Global, words: &[&str]) -> Result<Seq<Bytes>, Fault> {
+fn argv(alloc: Global, words: &[&str]) -> Result<Seq<Bytes>, AllocError>
+    ensures { IfOk result (λ argv. argv ≡ map (λ word. word.now) words.now) }
+{
     let mut argv = Seq::new(alloc);
-    for word in words.iter().copied() {
+    for word in words {
         argv.push(Bytes::from_slice(alloc, word.as_bytes())?)?;
     }
     Ok(argv)
@@ -143,17 +147,22 @@ pub fn boot_of<R: Files + AllocGlobal, I: Read + IsTerminal, E: Write + IsTermin
     words: BootWords,
     input: &mut I,
     err: &mut E,
-) -> Result<Boot, Fault> {
+) -> Result<Boot, Fault>
+    ensures program { IfOk result (λ boot. boot.argv ≡ map (λ word. word.now) words.program.now) }
+    ensures follow { IfOk result (λ boot. boot.follow ≡ words.follow) }
+{
     let alloc = rt.alloc();
     let env = environment(alloc, words.environment)?;
     let files = read_files(rt, words.files, words.directories)?;
     announce_input(program, input, err);
+    let argv = argv(alloc, words.program)?;
+    let input = read_input(alloc, input, MOST_INPUT)?;
     Ok(Boot {
         limits: Limits::WIDEST,
         files,
-        argv: argv(alloc, words.program)?,
+        argv,
         env,
-        input: Bytes::from_vec(read_input(alloc, input, MOST_INPUT)?),
+        input: Bytes::from_vec(input),
         follow: words.follow,
     })
 }

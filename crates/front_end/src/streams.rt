@@ -4,6 +4,7 @@ ghost use Rattle.std.specs.Prelude.{◌≡◌, option_map};
 ghost use Rattle.std.specs.Io.{WritesAtMost};
 ghost use Rattle.front_end.specs.Streams as spec;
 
+use crate::options::decimal;
 use std::fs::OpenFile;
 use std::io::{self, ErrorKind, Write};
 
@@ -29,26 +30,13 @@ fn digits_of(path: &str) -> Option<&str>
     None
 }
 
-/// The number that decimal digits alone spell.
-fn spelled(digits: &str) -> Option<u64>
-    ensures { result ≡ spec.spelled digits.now }
-{
-    if digits.starts_with('+') {
-        return None;
-    }
-    match u64::from_str_radix(digits, 10) {
-        Ok(number) => (number <= HIGHEST).then_some(number),
-        Err(_) => None,
-    }
-}
-
 /// The number of a stream that is named by it.
 #[tactic(auto, unfolding(crate::specs::Streams::numbered))]
 fn numbered(path: &str) -> Option<u64>
     ensures { result ≡ spec.numbered path.now }
 {
     match digits_of(path) {
-        Some(digits) => spelled(digits),
+        Some(digits) => decimal(digits, HIGHEST),
         None => None,
     }
 }

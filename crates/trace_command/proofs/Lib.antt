@@ -1,3 +1,4 @@
 mod Leaving
 mod Reaching
 mod Turned
+mod Noted

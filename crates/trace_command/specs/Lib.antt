@@ -2,3 +2,4 @@ pub mod Faults
 pub mod Tracing
 pub mod Writers
 pub mod TurnsOut
+pub mod Noting

@@ -18,8 +18,6 @@ pub struct Asked {
     pub waits: bool,
     /// The most events that the run may have.
     pub limit: u64,
-    /// For how many milliseconds its host is waited for.
-    pub patience: Option<u32>,
 }
 
 /// What a run has left of that.

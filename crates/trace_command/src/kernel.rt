@@ -3,6 +3,7 @@
 ghost use Rattle.std.specs.Prelude.{◌≡◌, ◌⊎◌, Ok, IfErr, IfOk, IsSome, OnErr, OnOk, option_map};
 ghost use Rattle.trace_run.specs.Writers.{writer_of};
 ghost use Rattle.trace_command.specs.Faults.{IsUnhosted, IsUnopened};
+ghost use Rattle.trace_command.specs.Noting.{Notes, NotesHere};
 ghost use Rattle.trace_command.specs.Tracing.{IsOnThreads, TakesAlone, Traces, TracesHere};
 
 use crate::fault::host_fault;
@@ -81,7 +82,8 @@ pub fn boot_kernel<R: Processes + AllocGlobal>(
     boot: Boot,
     turns: Vec<Word>,
     limit: u64,
-    behind: &mut Behind<R::Started>,
+    patience: Option<u32>,
+    behind: &mut Option<ChildLink<R::Started>>,
 ) -> Result<Kernel<R::Started>, Fault>
 where
     R::Started: Streams,
@@ -95,7 +97,6 @@ where
     let Some(path) = host else {
         return Ok(Kernel::Here(boot, Schedule::words(turns, limit)));
     };
-    let patience = behind.kept.asked.patience;
     let mut link = match ChildLink::start_heard(rt, path, words, patience) {
         Ok(link) => link,
         Err(fault) => return Err(host_fault(fault)),
@@ -103,7 +104,7 @@ where
     match boot_over(rt.alloc(), &mut link, boot, limit, turns) {
         Ok(()) => Ok(Kernel::There(link)),
         Err(fault) => {
-            behind.link = Some(link);
+            *behind = Some(link);
             Err(fault)
         }
     }
@@ -120,8 +121,10 @@ pub fn run_here<W: TraceSink>(
     kept: &mut Kept,
     lines: &mut W,
 ) -> Result<Ended, RunFault>
-    ensures { TracesHere options script boot schedule result
+    ensures traces { TracesHere options script boot schedule result
         (writer_of W.contents W.puts W.broken lines.old) (writer_of W.contents W.puts W.broken lines.new) }
+    ensures notes { OnOk result
+        (NotesHere options script boot schedule kept.old.asked.events kept.new.record.events) }
 {
     let asked = kept.asked;
     match trace_local(alloc, boot, schedule, asked.events, script, options, lines) {
@@ -157,6 +160,8 @@ pub fn run_kernel<R: Threads + Wait + Sync + AllocGlobal, P: OpenProcess + Drop,
 ) -> Result<Result<Ended, RunFault>, Fault>
     ensures made { IfOk result (λ ended. Traces P.Stdout.remaining P.Stdin.contents options script kernel ended
         (writer_of W.contents W.puts W.broken lines.old) (writer_of W.contents W.puts W.broken lines.new)) }
+    ensures notes { IfOk result (λ ended. OnOk ended
+        (Notes options script kernel behind.old.kept.asked.events behind.new.kept.record.events)) }
     ensures fault { IfErr result (λ fault. IsOnThreads kernel × (IsUnhosted fault ⊎ IsUnopened fault)) }
     ensures unwritten { OnErr result (writer_of W.contents W.puts W.broken lines.new
         ≡ writer_of W.contents W.puts W.broken lines.old) }

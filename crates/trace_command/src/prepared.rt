@@ -25,7 +25,6 @@ fn asked_by(matches: &ArgMatches, options: TraceOptions) -> Asked {
         events: is_given(matches, "turns-out"),
         waits: options.explain,
         limit: options.limit,
-        patience: options.patience,
     }
 }
 

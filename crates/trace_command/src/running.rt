@@ -1,10 +1,11 @@
 //! A run, with its trace to its place.
 
-ghost use Rattle.std.specs.Prelude.{◌≡◌, ◌⊎◌, ℕ, ⊤, List, Option, Ok, Err, IfOk, IfErr, IsSome, OnErr, codes};
+ghost use Rattle.std.specs.Prelude.{◌≡◌, ◌⊎◌, ℕ, ⊤, List, Option, Ok, Err, IfOk, IfErr, IsSome, OnErr, OnOk, codes, true};
 ghost use Rattle.std.specs.Io.KnownBytes.{Keeps, append_known};
 ghost use Rattle.front_end.specs.Streams.{opened_contents};
 ghost use Rattle.trace_run.specs.Writers.{writer_of};
-ghost use Rattle.trace_command.specs.Faults.{IsFaultOf, IsUnhosted};
+ghost use Rattle.trace_command.specs.Faults.{IsFaultOf, IsUnhosted, has_ended};
+ghost use Rattle.trace_command.specs.Noting.{Notes, NotesOf};
 ghost use Rattle.trace_command.specs.Tracing.{EndsLine, IsFile, Lacks, LacksAt, Puts, Reaches, Runs, RunsTo, Settles};
 ghost use Rattle.trace_command.specs.Tracing.{Takes, Traces, Unmade, WritesFile, WritesTo, value_of};
 
@@ -18,7 +19,7 @@ use crate::trace_file::TraceFile;
 use crate::words::TraceOptions;
 use clap::ArgMatches;
 use front_end::{Fault, Opened};
-use host_link::{LinkFault, Streams};
+use host_link::{ChildLink, LinkFault, Streams};
 use host_wire::{Broken, Sink};
 use lx_abi::{Boot, Outcome, Script, Word};
 use std::alloc::Global;
@@ -121,7 +122,7 @@ fn booted_kernel<R: Processes + AllocGlobal>(
     options: TraceOptions,
     boot: Boot,
     turns: Vec<Word>,
-    behind: &mut Behind<R::Started>,
+    behind: &mut Option<ChildLink<R::Started>>,
 ) -> Result<Kernel<R::Started>, Fault>
 where
     R::Started: Streams,
@@ -134,7 +135,8 @@ where
         None => {
             let host = matches.get_str("host");
             let words = matches.get_strs("host-arg").unwrap_or(&[]);
-            boot_kernel(rt, host, words, boot, turns, options.limit, behind)
+            let (limit, patience) = (options.limit, options.patience);
+            boot_kernel(rt, host, words, boot, turns, limit, patience, behind)
         }
         Some(workers) => {
             drop(turns);
@@ -165,6 +167,8 @@ fn run_to_file<R: Files + Threads + Wait + Sync + AllocGlobal, P: OpenProcess + 
 ) -> Result<Result<Ended, RunFault>, Fault>
     ensures written { IfOk result (λ ended. WritesFile (opened_contents R.File.contents)
         (Traces P.Stdout.remaining P.Stdin.contents options script kernel) ended) }
+    ensures notes { IfOk result (λ ended. OnOk ended
+        (Notes options script kernel behind.old.kept.asked.events behind.new.kept.record.events)) }
     ensures fault { IfErr result (λ fault. LacksAt kernel ⊤ fault) }
 {
     let file = match create(rt, path) {
@@ -219,6 +223,8 @@ fn run_to_place<
         (Traces P.Stdout.remaining P.Stdin.contents options script kernel) ended place.entry
         (writer_of O.contents O.puts O.broken out.old) (writer_of O.contents O.puts O.broken out.new)
         (writer_of E.contents E.puts E.broken err.old) (writer_of E.contents E.puts E.broken err.new)) }
+    ensures notes { IfOk result (λ ended. OnOk ended
+        (Notes options script kernel behind.old.kept.asked.events behind.new.kept.record.events)) }
     ensures unmade { OnErr result (Unmade (LacksAt kernel (IsFile place.entry)) result
         (writer_of O.contents O.puts O.broken out.old) (writer_of O.contents O.puts O.broken out.new)
         (writer_of E.contents E.puts E.broken err.old) (writer_of E.contents E.puts E.broken err.new)) }
@@ -257,7 +263,7 @@ pub fn run_at<
 ) -> Result<Outcome, Fault>
 where
     R::Started: Streams,
-    ensures { Unmade (Lacks (value_of matches.now (codes "host")) options.workers (IsFile place.entry)) result
+    ensures made { Unmade (Lacks (value_of matches.now (codes "host")) options.workers (IsFile place.entry)) result
         (writer_of O.contents O.puts O.broken out.old) (writer_of O.contents O.puts O.broken out.new)
         (writer_of E.contents E.puts E.broken err.old) (writer_of E.contents E.puts E.broken err.new)
         ⊎ RunsTo (opened_contents R.File.contents)
@@ -265,6 +271,9 @@ where
         (value_of matches.now (codes "host")) options.workers options.limit plan) place.entry result
         (writer_of O.contents O.puts O.broken out.old) (writer_of O.contents O.puts O.broken out.new)
         (writer_of E.contents E.puts E.broken err.old) (writer_of E.contents E.puts E.broken err.new) }
+    ensures notes { has_ended result ≡ true
+        → NotesOf (value_of matches.now (codes "host")) options.workers options.limit plan
+        behind.old.kept.asked.events behind.new.kept.record.events }
 {
     let Plan {
         boot,
@@ -272,7 +281,7 @@ where
         options: shown,
         turns,
     } = plan;
-    let kernel = match booted_kernel(rt, matches, options, boot, turns, &mut *behind) {
+    let kernel = match booted_kernel(rt, matches, options, boot, turns, &mut behind.link) {
         Ok(kernel) => kernel,
         Err(fault) => {
             drop(script);

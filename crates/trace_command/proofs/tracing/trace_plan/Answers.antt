@@ -24,6 +24,6 @@ returns g c =
               run = run;
               leaves = c.leave.ensures;
             })
-            c.run_at-made.ensures,
+            c.run_at-made.ensures.made,
       ),
     )

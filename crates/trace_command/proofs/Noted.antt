@@ -1,0 +1,117 @@
+-- What a run notes that comes to its end.
+use Rattle.std.proofs.Common.{◌≡◌, ◌⊎◌, ℕ, Bool, true, false, List, Option, Some, None, IsSome, Result, Ok, Err, IsErr, OnOk, inl, inr, refl, sym, ap, subst, ◌∙◌}
+use Rattle.std.proofs.Common.{true≢false}
+use Rattle.lx_abi.specs.declared.boot.Boot.{Boot}
+use Rattle.lx_abi.specs.declared.outcome.Outcome.{Outcome}
+use Rattle.lx_abi.specs.declared.schedule.Event.{Event}
+use Rattle.lx_abi.specs.declared.schedule.Word.{Word}
+use Rattle.lx_abi.specs.declared.script.Rule.{Rule}
+use Rattle.front_end.specs.declared.fault.Fault.{Fault}
+use Rattle.front_end.specs.declared.fault.Fault.TheVariants as the
+use Rattle.host_link.specs.declared.fault.LinkFault.{LinkFault}
+use Rattle.host_link.specs.declared.fault.LinkFault.TheVariants as link
+use Rattle.pt_schedule.specs.Schedules.{worded}
+use Rattle.tr_core.specs.declared.settings.Options.{Options}
+use Rattle.tr_core.specs.declared.tracing.TraceFault.TheVariants.{Inadmissible, Memory}
+use Rattle.trace_run.specs.Writers.{Writer}
+use Rattle.trace_run.specs.declared.running.Ended.{Ended}
+use Rattle.trace_run.specs.declared.running.RunFault.{RunFault}
+use Rattle.trace_run.specs.declared.running.RunFault.TheVariants as run
+use Rattle.trace_command.specs.Faults.{IsFaultOf, IsHostFault, IsUnwritable, has_ended, host_number, is_out_of_turns}
+use Rattle.trace_command.specs.Noting.{Notes, NotesHere, NotesOf}
+use Rattle.trace_command.specs.Tracing.{EndsLine, Reaches, Settles, Takes}
+use Rattle.trace_command.specs.declared.kernel.Kernel.{Kernel}
+use Rattle.trace_command.specs.declared.kernel.Kernel.TheVariants.{Here, OnThreads, There}
+use Rattle.trace_command.specs.declared.place.Place.{Place}
+use Rattle.trace_command.specs.declared.place.Place.TheVariants as place
+use Rattle.trace_command.specs.declared.plan.Plan.{Plan}
+use Rattle.trace_command.specs.declared.words.Workers.{Workers}
+
+pub on_ok_more : {A X : Type 0} {P Q : Type 0} (r : Result A X) → (P → Q) → OnOk r P → OnOk r Q
+on_ok_more (Ok x) f p = f p
+on_ok_more (Err e) f p = p
+
+-- where the file of a trace holds it
+pub reached_too : (ended result : Result Ended RunFault) (written held : Option (List ℕ)) (P : Type 0)
+    → Reaches ended result written held → OnOk ended P → OnOk result P
+reached_too ended result written held P (inl (e, k)) p = subst (λ r. OnOk r P) (sym e) p
+reached_too ended result written held P (inr (e, k)) p = subst (λ r. OnOk r P) (sym e) tt
+
+-- ---- a run that has ended didn't fail
+
+ok_is_no_fault : (f : RunFault) (x : Ended) → Err f ≡ Ok x → ⊥
+ok_is_no_fault f x h = subst (λ r. IsErr r) h tt
+
+not_of_a_host : (fault : Fault) → is_out_of_turns fault ≡ true → host_number fault ≡ None
+not_of_a_host (the.Usage text) e = absurd (true≢false (sym e))
+not_of_a_host (the.Expression fault reason) e = absurd (true≢false (sym e))
+not_of_a_host (the.Listing line kind) e = absurd (true≢false (sym e))
+not_of_a_host (the.Host number reason) e = absurd (true≢false (sym e))
+not_of_a_host (the.OutOfTurns text) e = refl
+not_of_a_host (the.Output text) e = absurd (true≢false (sym e))
+not_of_a_host the.Memory e = absurd (true≢false (sym e))
+
+unwritable : (fault : Fault) → IsUnwritable fault → is_out_of_turns fault ≡ true → ⊥
+unwritable (the.Usage text) u e = true≢false (sym u)
+unwritable (the.Expression fault reason) u e = true≢false (sym u)
+unwritable (the.Listing line kind) u e = true≢false (sym u)
+unwritable (the.Host number reason) u e = true≢false (sym u)
+unwritable (the.OutOfTurns text) u e = true≢false (sym u)
+unwritable (the.Output text) u e = true≢false (sym e)
+unwritable the.Memory u e = true≢false (sym e)
+
+numbered : (fault : Fault) (n : ℕ) → host_number fault ≡ Some n → is_out_of_turns fault ≡ true → ⊥
+numbered fault n h e = subst (λ o. IsSome o) (sym h ∙ not_of_a_host fault e) tt
+
+of_memory : (fault : Fault) → fault ≡ the.Memory → is_out_of_turns fault ≡ true → ⊥
+of_memory fault h e = true≢false (sym e ∙ ap (λ f. is_out_of_turns f) h)
+
+of_a_link : (f : LinkFault) (fault : Fault) → IsHostFault f fault → is_out_of_turns fault ≡ true → ⊥
+of_a_link link.Ended fault h e = numbered fault 1 h e
+of_a_link link.Read fault h e = numbered fault 2 h e
+of_a_link link.Write fault h e = numbered fault 3 h e
+of_a_link link.Malformed fault h e = numbered fault 4 h e
+of_a_link link.Sequence fault h e = numbered fault 5 h e
+of_a_link link.Inadmissible fault h e = numbered fault 6 h e
+of_a_link link.Memory fault h e = of_memory fault h e
+of_a_link link.TooMany fault h e = numbered fault 8 h e
+
+of_a_fault : (f : RunFault) (fault : Fault) → IsFaultOf (Err f) fault → is_out_of_turns fault ≡ true → ⊥
+of_a_fault (run.Link f) fault h e = of_a_link f fault h e
+of_a_fault (run.Trace Inadmissible) fault h e = numbered fault 6 h e
+of_a_fault (run.Trace Memory) fault h e = of_memory fault h e
+of_a_fault run.Output fault h e = unwritable fault h e
+
+own_or_unwritable : (at : Place) (own fault : Fault) (err err' : Writer) → EndsLine at own fault err err'
+    → (fault ≡ own) ⊎ IsUnwritable fault
+own_or_unwritable place.Error own fault err err' (inl h) = inl h.0
+own_or_unwritable place.Error own fault err err' (inr h) = inr h.0
+own_or_unwritable place.Output own fault err err' h = inl h.0
+own_or_unwritable (place.File path) own fault err err' h = inl h.0
+
+failed : (f : RunFault) (own fault : Fault) → IsFaultOf (Err f) own → (fault ≡ own) ⊎ IsUnwritable fault
+    → is_out_of_turns fault ≡ true → ⊥
+failed f own fault h (inl same) e = of_a_fault f own h (sym (ap (λ x. is_out_of_turns x) same) ∙ e)
+failed f own fault h (inr u) e = unwritable fault u e
+
+pub settled_well : (at : Place) (ended : Result Ended RunFault) (result : Result Outcome Fault) (err err' : Writer)
+    (P : Type 0) → Settles at ended result err err' → has_ended result ≡ true → OnOk ended P → P
+settled_well at (Ok x) result err err' P h e p = p
+settled_well at (Err f) (Ok outcome) err err' P h e p = absurd (ok_is_no_fault f _ h.0)
+settled_well at (Err f) (Err fault) err err' P h e p =
+    absurd (failed f h.0 fault h.1.0 (own_or_unwritable at h.0 fault err err' h.1.1) e)
+
+-- ---- by a plan
+
+pub plan_notes : {P I O E : Type 0} (remaining : O → Option (List ℕ)) (contents : I → Option (List ℕ))
+    (host : Option (List ℕ)) (workers : Option Workers) (limit : ℕ) (plan : Plan) (kernel : Kernel P I O E)
+    (asked : Bool) (noted : Option (List Event))
+    → Takes remaining contents host workers plan.boot limit plan.turns.items kernel
+    → Notes plan.options plan.script kernel asked noted → NotesOf host workers limit plan asked noted
+plan_notes remaining contents None None limit plan (Here boot schedule) asked noted t h =
+    subst (λ s. NotesHere plan.options plan.script plan.boot s asked noted) t.1
+    (subst (λ b. NotesHere plan.options plan.script b schedule asked noted) t.0 h)
+plan_notes remaining contents None None limit plan (There link) asked noted t h = absurd t
+plan_notes remaining contents None None limit plan (OnThreads boot workers) asked noted t h = absurd t
+plan_notes remaining contents None (Some workers) limit plan kernel asked noted t h = tt
+plan_notes remaining contents (Some host) workers limit plan kernel asked noted t h = tt
