@@ -2,8 +2,7 @@
 use Rattle.std.proofs.Common.{◌≡◌, ℕ, true, List, [], ◌∷◌, ◌++◌, take, drop, length, Option, Some, None, refl, ap, sym, subst, ◌∙◌}
 use Rattle.std.specs.Prelude.{IfSome, nat_eq}
 use Rattle.std.specs.Option.{unwrap_or}
-use Rattle.std.specs.Cmp.Derive.{pointwise}
-use Rattle.std.specs.Cmp.Lexicographic.{same_text}
+use Rattle.std.specs.Cmp.Lexicographic.{pointwise, same_text}
 use Rattle.std.proofs.lemmas.List.{take-append-drop}
 use Rattle.lx_files.specs.Paths.{Path, slash}
 use Rattle.lx_files.specs.Folders.{Children, Standings, child_of, split, turned, led, at, names_of, top, stands, IsTree, Entered}

@@ -12,4 +12,4 @@ returns-in-None-below c = λ children standings known. from_top children standin
 
 pub returns-in-Some-below : goal.returns-in-Some-below
 returns-in-Some-below c = λ children standings known.
-    from_known children standings c.in-Some.known.now c.in-Some-below.rest.now c.args.path.now (c.in-Some-below.ensures ∙ ap (λ t. t ++ slash ∷ c.in-Some-below.rest.now) c.as_slice.ensures) (subst (IsKnown children standings) c.in-Some.is known)
+    from_known children standings c.in-Some.known c.in-Some-below.rest.now c.args.path.now (c.in-Some-below.ensures ∙ ap (λ t. t ++ slash ∷ c.in-Some-below.rest.now) c.as_slice.ensures) (subst (IsKnown children standings) c.in-Some.is known)
