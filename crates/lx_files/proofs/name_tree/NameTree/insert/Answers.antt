@@ -5,7 +5,10 @@ use Rattle.lx_files.proofs.Numbering.{got, put_there, put_named}
 use Rattle.lx_files.proofs.name_tree.NameTree.insert.Goals as goal
 
 pub invariant_of-self-2 : goal.invariant_of-self-2
-invariant_of-self-2 c = (c.enter_path.ensures.tree, subst (λ n. AreThere c.enter_path.new.folders.standings n) (sym c.in_ok-insert.ensures.ok) (put_there c.enter_path.new.folders.children c.enter_path.new.folders.standings c.enter_path.new.folders.full_below c.enter_path.ensures.tree c.args.path.now c.self.inside.numbers (c.enter_path.ensures.keeps c.self.inside.numbers c.self.invariant.1).0 c.in_ok-folder.folder (c.in_ok-folder.ensures.leads c.args.path.now (c.way_to-way.ensures c.self.inside.folders.children c.self.inside.folders.standings c.self.invariant.2).0) c.args.number), c.learn-self-inside.ensures (c.in_ok-folder.ensures.leads c.args.path.now (c.way_to-way.ensures c.self.inside.folders.children c.self.inside.folders.standings c.self.invariant.2).0))
+invariant_of-self-2 c = (c.enter_path.ensures.tree, subst (λ n. AreThere c.enter_path.new.folders.standings n) (sym c.in_ok-insert.ensures.ok) (put_there c.enter_path.new.folders.children c.enter_path.new.folders.standings c.enter_path.new.folders.full_below c.enter_path.ensures.tree c.args.path.now c.self.inside.numbers (c.enter_path.ensures.keeps c.self.inside.numbers c.self.invariant.1).0 c.in_ok-folder.folder (c.in_ok-folder.ensures.leads c.args.path.now (c.way_to-way.ensures c.self.inside.folders.children c.self.inside.folders.standings c.self.invariant.2).0) c.args.number), c.learn.ensures (c.in_ok-folder.ensures.leads c.args.path.now (c.way_to-way.ensures c.self.inside.folders.children c.self.inside.folders.standings c.self.invariant.2).0))
+
+pub enter_path-requires-clause-there : goal.enter_path-requires-clause-there
+enter_path-requires-clause-there c = (c.way_to-way.ensures c.self.inside.folders.children c.self.inside.folders.standings c.self.invariant.2).1
 
 pub returns-clause-ok : goal.returns-clause-ok
 returns-clause-ok c =

@@ -9,3 +9,6 @@ invariant_of-self c = kept_same nat_cmp_total maps.nat_cmp-IsAntisymmetric size_
 
 pub invariant_of-self-in-Some : goal.invariant_of-self-in-Some
 invariant_of-self-in-Some c = kept_less nat_cmp_total maps.nat_cmp-IsAntisymmetric size_of _ _ c.args.node c.in-Some.old _ _ _ c.in-Some.ensures.value c.self.invariant c.size.ensures c.saturating_sub-self-inside.ensures c.remove.ensures.rest
+
+pub invariant_of-self-in-Some-2 : goal.invariant_of-self-in-Some-2
+invariant_of-self-in-Some-2 c = kept_less nat_cmp_total maps.nat_cmp-IsAntisymmetric size_of _ _ c.args.node c.in-Some.old _ _ _ c.in-Some.ensures.value c.self.invariant c.size.ensures c.saturating_sub-self-inside.ensures c.remove.ensures.rest
