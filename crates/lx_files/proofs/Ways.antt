@@ -5,7 +5,7 @@ use Rattle.std.specs.Option.{unwrap_or}
 use Rattle.std.specs.Cmp.Lexicographic.{pointwise, same_text}
 use Rattle.std.proofs.lemmas.List.{take-append-drop}
 use Rattle.lx_files.specs.Paths.{Path, slash}
-use Rattle.lx_files.specs.Folders.{Children, Standings, child_of, split, turned, led, at, names_of, top, stands, IsTree, Entered}
+use Rattle.lx_files.specs.Folders.{Children, Standings, child_of, split, led, at, names_of, top, stands, IsTree, Entered}
 use Rattle.lx_files.specs.Ways.{IsKnown, IsWay}
 use Rattle.lx_files.specs.declared.known.Known.{Known}
 use Rattle.lx_files.proofs.Naming.{names_of-append, led-at, at-next, at-top}
