@@ -62,50 +62,44 @@ fn target_of<R: Files + AllocGlobal>(rt: &R, path: &str) -> io::Result<Target>
 pub struct NewFile<'r, R: Files + AllocGlobal> {
     rt: &'r R,
     target: Target,
-    /// Made when the first piece comes.
-    file: Option<Opened<R::File>>,
+    file: Opened<R::File>,
     is_whole: bool,
 }
 
 impl<'r, R: Files + AllocGlobal> NewFile<'r, R> {
-    ghost use Rattle.std.specs.Prelude.{◌≡◌, IfOk, None, false};
-    ghost use Rattle.front_end.specs.Streams.{IsTargetOf, stream_of};
+    ghost use Rattle.std.specs.Prelude.{◌≡◌, IfOk, false};
+    ghost use Rattle.front_end.specs.Streams.{IsOpenedFor, stream_of};
 
-    /// What is written for this path. It can be written, and nothing is changed yet.
+    /// What is written for this path. An older file stays.
     pub fn new(rt: &'r R, path: &str) -> io::Result<Self>
-        ensures target { IfOk result (λ file. IsTargetOf (stream_of path.now) file.target) }
-        ensures unopened { IfOk result (λ file. (file.file ≡ None) × (file.is_whole ≡ false)) }
+        ensures opened { IfOk result (λ new. IsOpenedFor (stream_of path.now) new.file) }
+        ensures part { IfOk result (λ new. new.is_whole ≡ false) }
     {
         let target = target_of(rt, path)?;
-        check_target(rt, &target)?;
+        let file = open_target(rt, &target)?;
         Ok(NewFile {
             rt,
             target,
-            file: None,
+            file,
             is_whole: false,
         })
-    }
-
-    fn file(&mut self) -> io::Result<&mut Opened<R::File>> {
-        if self.file.is_none() {
-            self.file = Some(open_target(self.rt, &self.target)?);
-        }
-        self.file
-            .as_mut()
-            .ok_or_else(|| io::Error::from(ErrorKind::Other))
     }
 }
 
 impl<'r, R: Files + AllocGlobal> Write for NewFile<'r, R> {
+    ghost use Rattle.front_end.specs.Streams.{opened_contents};
+
+    ghost contents = { λ new. opened_contents R.File.contents new.file };
+
     fn write(&mut self, buf: &[u8]) -> io::Result<usize> {
-        self.file()?.write(buf)
+        self.file.write(buf)
     }
 
     fn flush(&mut self) -> io::Result<()> {
         if self.is_whole {
             return Ok(());
         }
-        self.file()?.flush()?;
+        self.file.flush()?;
         if let Target::File { path, part } = &self.target {
             self.rt.rename(part.as_str(), path.as_str())?;
         }
@@ -123,7 +117,7 @@ impl<'r, R: Files + AllocGlobal> Drop for NewFile<'r, R> {
             file,
             is_whole,
         } = self;
-        if file.is_some() && !is_whole {
+        if !is_whole {
             remove_part(rt, &target);
         }
         drop(file);
@@ -158,7 +152,10 @@ fn open_target<R: Files + AllocGlobal>(rt: &R, target: &Target) -> io::Result<Op
     ensures { IfOk result (IsOpenedAt target.now) }
 {
     match target {
-        Target::Stream(number) => Ok(Opened::Stream(*number)),
+        Target::Stream(number) => {
+            check_stream(*number)?;
+            Ok(Opened::Stream(*number))
+        }
         Target::Device(path) => Ok(Opened::File(open_device(rt, path.as_str())?)),
         Target::File { path: _, part } => match File::create_new(rt, part.as_str()) {
             Ok(file) => Ok(Opened::File(file)),
@@ -169,9 +166,6 @@ fn open_target<R: Files + AllocGlobal>(rt: &R, target: &Target) -> io::Result<Op
 
 /// It can be written. Nothing is changed.
 fn check_target<R: Files + AllocGlobal>(rt: &R, target: &Target) -> io::Result<()> {
-    if let Target::Stream(number) = target {
-        return check_stream(*number);
-    }
     let opened = open_target(rt, target)?;
     drop(opened);
     match target {
@@ -200,12 +194,7 @@ pub fn create_file<R: Files + AllocGlobal>(rt: &R, path: &str) -> io::Result<Ope
 /// Writes a file: a new one takes the place of an older once it is whole. A stream is written where it stands, and a
 /// device is appended to.
 pub fn replace_file<R: Files + AllocGlobal>(rt: &R, path: &str, content: &[u8]) -> io::Result<()> {
-    let mut file = NewFile {
-        rt,
-        target: target_of(rt, path)?,
-        file: None,
-        is_whole: false,
-    };
+    let mut file = NewFile::new(rt, path)?;
     file.write_all(content)?;
     file.flush()
 }

@@ -14,6 +14,8 @@ use trace_run::TraceSink;
 pub struct Held<W: Write + Drop> {
     out: BufWriter<W>,
     holds: Rc<Cell<bool>>,
+    /// Something was written behind the last flush.
+    owes: bool,
 }
 
 impl<W: Write + Drop> Write for Held<W> {
@@ -22,14 +24,17 @@ impl<W: Write + Drop> Write for Held<W> {
     ghost contents = { λ held. held_contents W.contents held };
 
     fn write(&mut self, buf: &[u8]) -> io::Result<usize> {
+        self.owes = true;
         self.out.write(buf)
     }
 
     fn flush(&mut self) -> io::Result<()> {
-        if self.holds.get() {
+        if !self.owes || self.holds.get() {
             return Ok(());
         }
-        self.out.flush()
+        self.out.flush()?;
+        self.owes = false;
+        Ok(())
     }
 }
 
@@ -58,7 +63,11 @@ impl<W: Write + Drop> TraceFile<W> {
         };
         let told = holds.clone()?;
         let out = BufWriter::new(alloc, out)?;
-        let sink = Counted::new(Held { out, holds: told });
+        let sink = Counted::new(Held {
+            out,
+            holds: told,
+            owes: false,
+        });
         Ok(TraceFile {
             sink,
             holds,
