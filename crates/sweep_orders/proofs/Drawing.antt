@@ -4,7 +4,7 @@ use Rattle.lx_kernel.specs.Runs.{Run}
 use Rattle.rand_pcg.specs.Lcg.{Lcg}
 use Rattle.rand_pcg.specs.Pcg.{pcg32}
 use Rattle.sweep_orders.specs.Draws.{chosen, AreAble, IsStep, IsDrawn}
-use Rattle.sweep_orders.proofs.Lists.{snoc_append}
+use Rattle.turn_orders.proofs.Lists.{snoc_append}
 
 -- a step is drawn, and then the others
 pub one_drawn : (ps : List ℕ) (left : ℕ) (k k' z : Run) (chance later : Lcg) (able : List ℕ) (word p after : ℕ) → AreAble k 0 able → 0 < length able

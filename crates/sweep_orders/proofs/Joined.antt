@@ -3,9 +3,9 @@ use Rattle.std.proofs.Common.{◌≡◌, ⊤, tt, ◌<◌, ◌-◌, ◌+◌, ℕ
 use Rattle.sweep_runs.specs.declared.runs.Setup.{Setup}
 use Rattle.sweep_orders.specs.Found.{Told, Counts, CountsAll}
 use Rattle.sweep_orders.specs.Orders.{AreMade, Explores}
-use Rattle.sweep_orders.specs.Plans.{plan_of}
+use Rattle.turn_orders.specs.Plans.{plan_of}
 use Rattle.sweep_orders.specs.Trials.{IsTrial, AreTrials}
-use Rattle.sweep_orders.specs.declared.plans.Source.{Source}
+use Rattle.turn_orders.specs.declared.plans.Source.{Source}
 use Rattle.sweep_orders.specs.declared.trials.Trial.{Trial}
 
 module _ (setup : Setup) (o : Source) where

@@ -19,7 +19,7 @@ use Rattle.plain_run.proofs.Turning.{turn_is}
 use Rattle.rand_pcg.specs.Lcg.{Lcg}
 use Rattle.rand_pcg.specs.Pcg.{pcg32}
 use Rattle.sweep_orders.specs.Draws.{AreAble, IsDraw, IsDrawn, is_over, ends, Turns}
-use Rattle.sweep_orders.specs.Plans.{words_of}
+use Rattle.turn_orders.specs.Plans.{words_of}
 use Rattle.sweep_orders.proofs.Able.{chosen_above}
 use Rattle.sweep_orders.proofs.Stepping.{some_more}
 

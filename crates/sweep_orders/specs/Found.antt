@@ -4,7 +4,7 @@ use Rattle.std.specs.List.{slice_get}
 use Rattle.lx_abi.specs.declared.schedule.Word.{Word}
 use Rattle.sweep_rows.specs.Endings.{EndsAs, Leaves}
 use Rattle.sweep_rows.specs.declared.endings.Ending.{Ending}
-use Rattle.sweep_orders.specs.Met.{has, with_order}
+use Rattle.turn_orders.specs.Met.{has, with_order}
 use Rattle.sweep_orders.specs.declared.found.Found.{Found}
 use Rattle.sweep_orders.specs.declared.trials.Trial.{Trial}
 

@@ -1,9 +1,4 @@
-pub mod Places
-pub mod Steps
-pub mod Switches
-pub mod Plans
 pub mod Draws
-pub mod Met
 pub mod Trials
 pub mod Found
 pub mod Orders

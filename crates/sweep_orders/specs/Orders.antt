@@ -3,11 +3,11 @@ use Rattle.std.specs.Prelude.{◌≡◌, ℕ, zero, suc, List, length}
 use Rattle.lx_abi.specs.declared.log.Item.{Item}
 use Rattle.sweep_runs.specs.declared.runs.Setup.{Setup}
 use Rattle.sweep_orders.specs.Found.{Told, none_told, CountsAll}
-use Rattle.sweep_orders.specs.Plans.{IsSource, switched_of}
+use Rattle.turn_orders.specs.Plans.{IsSource, switched_of}
 use Rattle.sweep_orders.specs.Trials.{AreTrials}
 use Rattle.sweep_orders.specs.declared.exploring.Explored.{Explored}
 use Rattle.sweep_orders.specs.declared.found.Results.{Results}
-use Rattle.sweep_orders.specs.declared.plans.Source.{Source}
+use Rattle.turn_orders.specs.declared.plans.Source.{Source}
 use Rattle.sweep_orders.specs.declared.trials.Trial.{Trial}
 
 abbrev pub told_of : Results → Told

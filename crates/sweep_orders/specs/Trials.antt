@@ -9,12 +9,12 @@ use Rattle.rand_pcg.specs.Lcg.{Lcg}
 use Rattle.sweep_runs.specs.Runs.{ending_of}
 use Rattle.sweep_runs.specs.declared.runs.Setup.{Setup}
 use Rattle.sweep_orders.specs.Draws.{chance_of, IsDrawn}
-use Rattle.sweep_orders.specs.Plans.{plan_of, switched, words_of}
-use Rattle.sweep_orders.specs.Steps.{steps_of}
-use Rattle.sweep_orders.specs.declared.plans.Plan.{Plan}
-use Rattle.sweep_orders.specs.declared.plans.Plan.TheVariants.{Default, Switched, ByChance}
-use Rattle.sweep_orders.specs.declared.plans.Source.{Source}
-use Rattle.sweep_orders.specs.declared.switches.Switch.{Switch}
+use Rattle.turn_orders.specs.Plans.{plan_of, switched, words_of}
+use Rattle.turn_orders.specs.Steps.{steps_of}
+use Rattle.turn_orders.specs.declared.plans.Plan.{Plan}
+use Rattle.turn_orders.specs.declared.plans.Plan.TheVariants.{Default, Switched, ByChance}
+use Rattle.turn_orders.specs.declared.plans.Source.{Source}
+use Rattle.turn_orders.specs.declared.switches.Switch.{Switch}
 use Rattle.sweep_orders.specs.declared.trials.Trial.{Trial}
 
 -- all runs begin here, under no script

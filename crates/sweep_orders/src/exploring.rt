@@ -6,13 +6,13 @@ ghost use Rattle.sweep_orders.specs.Found.{none_told};
 ghost use Rattle.sweep_orders.specs.Orders.{told_of, AreMade, Explores, AreOrders};
 
 use crate::found::{Found, Results};
-use crate::plans::{Source, switched_of};
 use crate::trials::{Trial, try_all};
 use lx_abi::Item;
 use std::alloc::{AllocError, Global};
 use std::collections::VecDeque;
 use std::thread::{Threads, join};
 use sweep_runs::{Progress, Setup};
+use turn_orders::{Source, switched_of};
 
 /// A thread makes so many runs of a batch.
 const RUNS: usize = 8;

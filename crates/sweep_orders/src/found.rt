@@ -5,13 +5,13 @@ ghost use Rattle.std.specs.Bool.{Decides};
 ghost use Rattle.sweep_orders.specs.Found.{IsSame, CountsIn, Counts, CountsAll, IsPlace, more, times_after, none_told};
 ghost use Rattle.sweep_orders.specs.Orders.{told_of};
 
-use crate::met::Met;
 use crate::trials::Trial;
 use containers::Seq;
 use lx_abi::Word;
 use std::alloc::{AllocError, Global};
 use std::collections::VecDeque;
 use sweep_rows::{Ending, ends_as, leaves_the_same};
+use turn_orders::Met;
 
 /// A result, and a schedule by which a run has it.
 #[derive(Drop)]

@@ -5,14 +5,12 @@ ghost use Rattle.lx_kernel.specs.Runs.{Run};
 ghost use Rattle.plain_run.specs.Runs.{RunsTo};
 ghost use Rattle.pt_schedule.specs.Schedules.{worded, most_events};
 ghost use Rattle.sweep_orders.specs.Draws.{chance_of, IsDrawn};
-ghost use Rattle.sweep_orders.specs.Plans.{plan_of, words_of};
-ghost use Rattle.sweep_orders.specs.Steps.{steps_of};
+ghost use Rattle.turn_orders.specs.Plans.{plan_of, words_of};
+ghost use Rattle.turn_orders.specs.Steps.{steps_of};
 ghost use Rattle.sweep_orders.specs.Trials.{first_of, IsPlanned, IsLeft, IsTrial, IsRunBy, IsRunDrawn};
 ghost use Rattle.sweep_orders.specs.Orders.{AreMade};
 
 use crate::draws::draw;
-use crate::plans::{Plan, Source, plan_of, switched, words_of};
-use crate::steps::steps_of;
 use containers::Seq;
 use lx_abi::{Item, Script, Word};
 use lx_copies::Copied;
@@ -21,6 +19,7 @@ use rand_pcg::Pcg32;
 use std::alloc::{AllocError, Global};
 use sweep_rows::Ending;
 use sweep_runs::{Setup, ending, run_by};
+use turn_orders::{Plan, Source, plan_of, steps_of, switched, words_of};
 
 /// No schedule gives more turns.
 const MOST_TURNS: u64 = 1 << 39;

@@ -1,0 +1,5 @@
+pub mod Places
+pub mod Steps
+pub mod Switches
+pub mod Plans
+pub mod Met
