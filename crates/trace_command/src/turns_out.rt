@@ -7,7 +7,9 @@ ghost use Rattle.pt_kernel.specs.Noted.{all_events, events_in};
 ghost use Rattle.pt_schedule.specs.Written.{event_word, words_text};
 ghost use Rattle.trace_command.specs.Faults.{IsUnopened};
 ghost use Rattle.trace_command.specs.Tracing.{value_of};
-ghost use Rattle.trace_command.specs.TurnsOut.{is_first, kept, left_after, left_behind, text_behind, turns_text};
+ghost use Rattle.trace_command.specs.TurnsOut.{is_first, kept, left_after, left_behind, text_behind};
+ghost use Rattle.trace_command.specs.TurnsOut.{WritesTurns, turns_text};
+ghost use Rattle.front_end.specs.Streams.{opened_contents};
 
 use crate::fault::unopened;
 use clap::ArgMatches;
@@ -79,7 +81,9 @@ fn write_events<W: Write + Drop>(writer: &mut BufWriter<W>, events: &Events) -> 
 }
 
 /// Writes the events to the file of this name. An older one stays until they are whole.
-fn write_words<R: Files + AllocGlobal>(rt: &R, path: &str, events: &Events) -> io::Result<()> {
+fn write_words<R: Files + AllocGlobal>(rt: &R, path: &str, events: &Events) -> io::Result<()>
+    ensures { OnOk result (IfSome events.now (WritesTurns (opened_contents R.File.contents) path.now)) }
+{
     let file = NewFile::new(rt, path)?;
     let mut writer = BufWriter::new(rt.alloc(), file)?;
     write_events(&mut writer, events)
@@ -113,7 +117,9 @@ pub fn write_turns<R: Files + AllocGlobal>(
     rt: &R,
     path: &str,
     events: &Events,
-) -> Result<(), Fault> {
+) -> Result<(), Fault>
+    ensures { OnOk result (IfSome events.now (WritesTurns (opened_contents R.File.contents) path.now)) }
+{
     match write_words(rt, path, events) {
         Ok(()) => Ok(()),
         Err(error) => Err(unwritten(rt.alloc(), path, error)),
