@@ -73,10 +73,15 @@ WritesNoted held (Some path) kept =
     kept.second ≡ None → IfSome kept.known.events (λ events. WritesTurns held path events)
 
 -- It is written the words of the run's events. Of a run by a host in a child, or by threads, nothing is said.
+
+abbrev pub WritesEventsTo : {F : Type 0} → (Opened F → Option (List ℕ)) → Option (List ℕ) → Option Workers → ℕ → Plan
+    → List ℕ → Type 0
+WritesEventsTo held None None limit plan path =
+    (events : List Event) → EventsOf limit plan events → WritesTurns held path events
+WritesEventsTo held None (Some workers) limit plan path = ⊤
+WritesEventsTo held (Some host) workers limit plan path = ⊤
+
 abbrev pub WritesEvents : {F : Type 0} → (Opened F → Option (List ℕ)) → Option (List ℕ) → Option Workers → ℕ → Plan
     → Option (List ℕ) → Type 0
 WritesEvents held host workers limit plan None = ⊤
-WritesEvents held None None limit plan (Some path) =
-    (events : List Event) → EventsOf limit plan events → WritesTurns held path events
-WritesEvents held None (Some workers) limit plan (Some path) = ⊤
-WritesEvents held (Some host) workers limit plan (Some path) = ⊤
+WritesEvents held host workers limit plan (Some path) = WritesEventsTo held host workers limit plan path
