@@ -46,7 +46,7 @@ reached_too ended result written held P (inr (e, k)) p = subst (λ r. OnOk r P) 
 -- ---- a run that has ended didn't fail
 
 ok_is_no_fault : (f : RunFault) (x : Ended) → Err f ≡ Ok x → ⊥
-ok_is_no_fault f x h = subst (λ r. IsErr r) h tt
+ok_is_no_fault f x h = true≢false (sym (subst (λ r. IsErr r) h refl))
 
 not_of_a_host : (fault : Fault) → is_out_of_turns fault ≡ true → host_number fault ≡ None
 not_of_a_host (the.Usage text) e = absurd (true≢false (sym e))
@@ -67,7 +67,7 @@ unwritable (the.Output text) u e = true≢false (sym e)
 unwritable the.Memory u e = true≢false (sym e)
 
 numbered : (fault : Fault) (n : ℕ) → host_number fault ≡ Some n → is_out_of_turns fault ≡ true → ⊥
-numbered fault n h e = subst (λ o. IsSome o) (sym h ∙ not_of_a_host fault e) tt
+numbered fault n h e = true≢false (sym (subst (λ o. IsSome o) (sym h ∙ not_of_a_host fault e) refl))
 
 of_memory : (fault : Fault) → fault ≡ the.Memory → is_out_of_turns fault ≡ true → ⊥
 of_memory fault h e = true≢false (sym e ∙ ap (λ f. is_out_of_turns f) h)

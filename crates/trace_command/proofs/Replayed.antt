@@ -55,7 +55,6 @@ abbrev Begins : {W : Type 0} → (W → Readiness) → (W → Event → W) → �
 Begins sight after zero w = (sight w).ready ≡ false
 Begins sight after (suc k) w = ((sight w).ready ≡ true) × Begins sight after k (after w Serve)
 
-
 -- such a schedule
 abbrev by : List Word → Bool → Option Row → ℕ → Schedule
 by ws serving row left = record { order = order.Worded (record { words = ws; serving = serving; returning = None; row = row; left = left }) }
@@ -199,12 +198,18 @@ module _ (few : EventsAreFew) {W : Type 0} (sight : W → Readiness) (over asks 
   later [] x w serving row s h stops = stopped row serving (events_left x) w s (subst (λ n. Stops sight over n w) (less_none (events_left x)) stops)
   later (e ∷ es) x w serving row s h stops =
       let less : events_left h.0 + 1 ≡ events_left x = given_few few x (sight w) e h.0 h.1.1.0 in
-      let one : events_left h.0 ≡ events_left x - 1 = omega (arith, less) in
-      (by (map event_word es) false (row_by row e) (events_left x - 1),
-      (h.1.0, (word_gives e (map event_word es) serving row (events_left x) (sight w) (omega (arith, less)) s,
-      subst (λ n. Fed sight over asks after (by (map event_word es) false (row_by row e) n) (after w e) es) one
-      (later es h.0 (after w e) false (row_by row e) refl h.1.1.1
-      (subst (λ n. Stops sight over n (last after (after w e) es)) (omega (arith, less)) stops)))))
+      let one : events_left h.0 ≡ events_left x - 1 = omega (arith, less) in (
+        by (map event_word es) false (row_by row e) (events_left x - 1),
+        (
+          h.1.0,
+          (
+            word_gives e (map event_word es) serving row (events_left x) (sight w) (omega (arith, less)) s,
+            subst (λ n. Fed sight over asks after (by (map event_word es) false (row_by row e) n) (after w e) es) one
+                (later es h.0 (after w e) false (row_by row e) refl h.1.1.1
+                (subst (λ n. Stops sight over n (last after (after w e) es)) (omega (arith, less)) stops)),
+          ),
+        ),
+      )
 
   -- before them the words wait
   first : (k : ℕ) (es : List Event) (ws : List Word) (w : W) (left : ℕ) → Begins sight after k w
@@ -218,13 +223,19 @@ module _ (few : EventsAreFew) {W : Type 0} (sight : W → Readiness) (over asks 
       let less : events_left h.0 + 1 ≡ left = given_few few (by ws true None left) (sight w) e h.0 h.1.1.0 in
       let is : IsServe ws left e h.0 = is_serve ws left (sight w) e h.0 (omega (arith, less)) b.0 h.1.1.0 in
       subst (λ z. Fed sight over asks after (by (map event_word (behind (suc k) (z ∷ es))) true None left) w (z ∷ es)) (sym is.event)
-      (subst (λ l. Fed sight over asks after (by (map event_word l) true None left) w (Serve ∷ es)) (sym (behind_serve k es))
-      (by (map event_word (behind k es)) true None (left - 1),
-      (h.1.0, (serve_given (map event_word (behind k es)) None left (sight w) (omega (arith, less)) b.0,
-      first k es ws (after w Serve) (left - 1) b.1
-      (subst (λ y. Fed sight over asks after y (after w Serve) es) is.left_is (subst (λ z. Fed sight over asks after h.0 (after w z) es) is.event h.1.1.1))
-      (subst (λ n. Stops sight over n (last after (after w Serve) es)) (omega (arith, less))
-      (subst (λ z. Stops sight over (left - length (e ∷ es)) (last after (after w z) es)) is.event stops))))))
+      (subst (λ l. Fed sight over asks after (by (map event_word l) true None left) w (Serve ∷ es)) (sym (behind_serve k es)) (
+        by (map event_word (behind k es)) true None (left - 1),
+        (
+          h.1.0,
+          (
+            serve_given (map event_word (behind k es)) None left (sight w) (omega (arith, less)) b.0,
+            first k es ws (after w Serve) (left - 1) b.1
+                (subst (λ y. Fed sight over asks after y (after w Serve) es) is.left_is (subst (λ z. Fed sight over asks after h.0 (after w z) es) is.event h.1.1.1))
+                (subst (λ n. Stops sight over n (last after (after w Serve) es)) (omega (arith, less))
+                (subst (λ z. Stops sight over (left - length (e ∷ es)) (last after (after w z) es)) is.event stops)),
+          ),
+        ),
+      ))
 
 -- ---- the world of a boot
 

@@ -147,6 +147,17 @@ pub turns_written : {F U X : Type 0} (held : Opened F → Option (List ℕ)) (pa
     → OnOk result (IfSome events (WritesTurns held path))
 turns_written held path old first last before after events (Err error) is same empty text whole numbers = tt
 turns_written held path old first last before after None (Ok u) is same empty text whole numbers = tt
-turns_written held path old first last before after (Some all) (Ok u) is same empty text whole numbers =
-    (old, (last, (is, (subst (λ x. Appends x (held last) (turns_text all)) (append_known-empty (held first) before empty ∙ ap held same)
-    (subst (λ y. Appends (append_known (held first) before) y (turns_text all)) (append_known-empty (held last) after whole) text), numbers))))
+turns_written held path old first last before after (Some all) (Ok u) is same empty text whole numbers = (
+  old,
+  (
+    last,
+    (
+      is,
+      (
+        subst (λ x. Appends x (held last) (turns_text all)) (append_known-empty (held first) before empty ∙ ap held same)
+            (subst (λ y. Appends (append_known (held first) before) y (turns_text all)) (append_known-empty (held last) after whole) text),
+        numbers,
+      ),
+    ),
+  ),
+)

@@ -118,11 +118,7 @@ pub fn check_turns<R: Files + AllocGlobal>(rt: &R, matches: &ArgMatches) -> Resu
 }
 
 /// Writes the events to the file of this name, a word a line as `--turns` reads them.
-pub fn write_turns<R: Files + AllocGlobal>(
-    rt: &R,
-    path: &str,
-    events: &Events,
-) -> Result<(), Fault>
+pub fn write_turns<R: Files + AllocGlobal>(rt: &R, path: &str, events: &Events) -> Result<(), Fault>
     ensures { OnOk result (IfSome events.now (WritesTurns (opened_contents R.File.contents) path.now)) }
 {
     match write_words(rt, path, events) {

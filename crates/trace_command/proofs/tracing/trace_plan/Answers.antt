@@ -33,11 +33,11 @@ returns g c =
               run = run;
               leaves =
                   leaves_more words (WritesNoted held path kept)
-                      (WritesEvents held host workers limit c.args.plan path) c.run_at-made.result _ _ _
-                      (λ ended.
-                      events_written held host workers limit c.args.plan path c.args.behind.now.kept.asked.events kept
-                      c.requires.0 (λ none. alike.1 ∙ c.requires.1 none) (c.run_at-made.ensures.notes ended))
-                      c.leave.ensures;
+                  (WritesEvents held host workers limit c.args.plan path) c.run_at-made.result _ _ _
+                  (λ ended.
+                  events_written held host workers limit c.args.plan path c.args.behind.now.kept.asked.events kept
+                  c.requires.0 (λ none. alike.1 ∙ c.requires.1 none) (c.run_at-made.ensures.notes ended))
+                  c.leave.ensures;
             })
             c.run_at-made.ensures.made,
       ),
