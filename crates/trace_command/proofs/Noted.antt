@@ -1,5 +1,6 @@
 -- What a run notes that comes to its end.
-use Rattle.std.proofs.Common.{◌≡◌, ◌⊎◌, ℕ, Bool, true, false, List, Option, Some, None, IsSome, Result, Ok, Err, IsErr, OnOk, inl, inr, refl, sym, ap, subst, ◌∙◌}
+use Rattle.std.proofs.Common.{◌≡◌, ◌⊎◌, ℕ, Bool, true, false, List, Option, Some, None, IsSome, Result, Ok, Err, IsErr}
+use Rattle.std.proofs.Common.{OnOk, inl, inr, refl, sym, ap, subst, ◌∙◌}
 use Rattle.std.proofs.Common.{true≢false}
 use Rattle.std.specs.Prelude.{IfSome, is_some}
 use Rattle.clap.specs.declared.parser.matches.ArgMatches.{ArgMatches}
@@ -146,8 +147,8 @@ events_to held None None limit plan path asked noted a n w =
 events_to held None (Some workers) limit plan path asked noted a n w = tt
 events_to held (Some host) workers limit plan path asked noted a n w = tt
 
-pub events_written : {F : Type 0} (held : Opened F → Option (List ℕ)) (host : Option (List ℕ)) (workers : Option Workers)
-    (limit : ℕ) (plan : Plan) (value : Option (List ℕ)) (asked : Bool) (kept : Kept) → asked ≡ is_some value
+pub events_written : {F : Type 0} (held : Opened F → Option (List ℕ)) (host : Option (List ℕ))
+    (workers : Option Workers) (limit : ℕ) (plan : Plan) (value : Option (List ℕ)) (asked : Bool) (kept : Kept) → asked ≡ is_some value
     → (host ≡ None → kept.second ≡ None) → NotesOf host workers limit plan asked kept.known.events
     → WritesNoted held value kept → WritesEvents held host workers limit plan value
 events_written held host workers limit plan None asked kept a s n w = tt

@@ -27,8 +27,8 @@ use Rattle.trace_command.specs.declared.kernel.Kernel.TheVariants.{Here, OnThrea
 use Rattle.trace_command.specs.declared.plan.Plan.{Plan}
 use Rattle.trace_command.specs.declared.words.Workers.{Workers}
 
--- The events of such a run in this process: those that its schedule gives, until nothing is asked or it has ended. There
--- is one list of them.
+-- The events of such a run in this process: those that its schedule gives, until nothing is asked or it has ended.
+-- There is one list of them.
 abbrev pub EventsHere : Options → List Rule → Boot → Schedule → List Event → Type 0
 EventsHere o script boot schedule events =
     Feeds next_of_host linux outcome_in (options_by (following o boot.follow)) (choice_of script) schedule

@@ -1,6 +1,7 @@
 -- What a traced run writes, where it writes it, and what it leaves.
 use Rattle.std.specs.Prelude.{◌≡◌, ◌≢◌, ◌⊎◌, ℕ, ◌==◌, Bool, true, false, ◌||◌, ⊤, List, [], ◌∷◌, codes}
-use Rattle.std.specs.Prelude.{Option, None, Some, IsSome, is_some, option_map, find, Result, Ok, Err, IsErr, IfOk, IfErr, OnErr, OnOk}
+use Rattle.std.specs.Prelude.{Option, None, Some, IsSome, is_some, option_map, find, Result, Ok, Err, IsErr}
+use Rattle.std.specs.Prelude.{IfOk, IfErr, OnErr, OnOk}
 use Rattle.std.specs.Io.Buffered.{reader_remaining}
 use Rattle.std.specs.Io.KnownBytes.{Keeps, append_known}
 use Rattle.clap.specs.Words.{first_value, found_of}
@@ -259,8 +260,8 @@ LeavesAfter words (Err fault) made result old new = (result ≡ Err fault) × (n
 LeavesAfter words (Ok u) (Err fault) result old new = (result ≡ Err fault) × (new ≡ old)
 LeavesAfter words (Ok u) (Ok outcome) result old new = Left words outcome result old new
 
--- Whatever came of writing its turns: where they can't be written, which is so only where they are asked for and the run
--- has ended, that is its fault; else their file is written so.
+-- Whatever came of writing its turns: where they can't be written, which is so only where they are asked for and the
+-- run has ended, that is its fault; else their file is written so.
 abbrev pub Leaves : ArgMatches → Type 0 → Result Outcome Fault → Result ℕ Fault → Writer → Writer → Type 0
 Leaves words file made result old new =
     (turned : Result (Unit {0}) Fault)
@@ -268,8 +269,8 @@ Leaves words file made result old new =
     × (LeavesAfter words turned made result old new
     × OnOk turned (has_ended made ≡ true → file)))
 
--- All of it: a run that writes so writes its trace, then the file of its turns is written so where that is asked for, and
--- then standard output is given what it leaves.
+-- All of it: a run that writes so writes its trace, then the file of its turns is written so where that is asked for,
+-- and then standard output is given what it leaves.
 pub record Completes {F : Type 0} (held : F → Option (List ℕ))
     (runs : Result Ended RunFault → Writer → Writer → Type 0) (file : Type 0) (words : ArgMatches) (place : Place)
     (result : Result ℕ Fault) (out out' err err' : Writer) : Type 0 where

@@ -40,8 +40,8 @@ turns_text events = text_behind 3 events
 abbrev pub AreNumbered : List Event → Type 0
 AreNumbered events = Each (λ e. IsNumbered (event_word e)) events
 
--- A file that was opened for this path is written these words, and nothing else. It takes the place of an older one when
--- it is whole.
+-- A file that was opened for this path is written these words, and nothing else. It takes the place of an older one
+-- when it is whole.
 abbrev pub WritesTurns : {F : Type 0} → (Opened F → Option (List ℕ)) → List ℕ → List Event → Type 0
 WritesTurns {F} held path events =
     (old : Opened F)

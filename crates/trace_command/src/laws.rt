@@ -4,8 +4,7 @@ ghost use Rattle.trace_command.specs.Replays.{EventsComeAgain, RunsComeAgain};
 
 use pt_schedule::laws::{events_are_few, written_words_read_back};
 
-/// What is written of a run's events for `--turns-out` makes the run again, read as a schedule under the same limit:
-/// where the run is whole, where it met its limit, and where nobody was able any more.
+/// What is written of a run's events for `--turns-out` makes the run again, read as a schedule under the same limit.
 pub fn turns_out_replays()
     ensures events { EventsComeAgain }
     ensures runs { RunsComeAgain }

@@ -1,6 +1,7 @@
 //! A run, with its trace to its place.
 
-ghost use Rattle.std.specs.Prelude.{◌≡◌, ◌⊎◌, ℕ, ⊤, List, Option, Ok, Err, IfOk, IfErr, IsSome, OnErr, OnOk, codes, true};
+ghost use Rattle.std.specs.Prelude.{◌≡◌, ◌⊎◌, ℕ, ⊤, List, Option, Ok, Err};
+ghost use Rattle.std.specs.Prelude.{IfOk, IfErr, IsSome, OnErr, OnOk, codes, true};
 ghost use Rattle.std.specs.Io.KnownBytes.{Keeps, append_known};
 ghost use Rattle.front_end.specs.Streams.{opened_contents};
 ghost use Rattle.trace_run.specs.Writers.{writer_of};

@@ -13,4 +13,5 @@ loop-preserved g c =
 
 pub returns-clause-numbers : goal.returns-clause-numbers
 returns-clause-numbers g c =
-    row_numbered c.args.row.now.times c.loop.counter c.args.row.now.event (grind (arith, nat_tests, c.loop-test.false)) c.loop.invariant.2
+    row_numbered c.args.row.now.times c.loop.counter c.args.row.now.event
+    (grind (arith, nat_tests, c.loop-test.false)) c.loop.invariant.2
