@@ -191,18 +191,18 @@ module _ (fds : FdTable) (test : Description → Bool) where
 
   -- of one that is new, and doesn't pass
   more_holds : (n : ℕ) (d : Description) → maps.get fds.descriptions n ≡ None → test d ≡ false → holds test (maps.insert fds.descriptions n d) ≡ holds test fds.descriptions
-  more_holds n d vacant_is no =
+  more_holds n d vacant_is fails =
       let sum : how_many test (maps.insert fds.descriptions n d) + weight (λ x. one_if (test x)) (maps.get fds.descriptions n) ≡ how_many test fds.descriptions + one_if (test d) = total-insert nat_cmp_total (λ x. one_if (test x)) fds.descriptions n d in
       let it : weight (λ x. one_if (test x)) (maps.get fds.descriptions n) ≡ 0 = ap (weight (λ x. one_if (test x))) vacant_is in
-      let none : one_if (test d) ≡ 0 = ap one_if no in
+      let none : one_if (test d) ≡ 0 = ap one_if fails in
       ap (nat_lt 0) (omega (arith, sum, it, none))
 
   -- and of one that goes, and didn't pass
   less_holds : (n : ℕ) (d : Description) → maps.get fds.descriptions n ≡ Some d → test d ≡ false → holds test (maps.remove fds.descriptions n) ≡ holds test fds.descriptions
-  less_holds n d there no =
+  less_holds n d there fails =
       let sum : how_many test (maps.remove fds.descriptions n) + weight (λ x. one_if (test x)) (maps.get fds.descriptions n) ≡ how_many test fds.descriptions = total-remove nat_cmp_total maps.nat_cmp-IsAntisymmetric (λ x. one_if (test x)) fds.descriptions n in
       let it : weight (λ x. one_if (test x)) (maps.get fds.descriptions n) ≡ one_if (test d) = ap (weight (λ x. one_if (test x))) there in
-      let none : one_if (test d) ≡ 0 = ap one_if no in
+      let none : one_if (test d) ≡ 0 = ap one_if fails in
       ap (nat_lt 0) (omega (arith, sum, it, none))
 
 -- What calls leave
@@ -275,7 +275,7 @@ module _ (p : ℕ) (changed : Option ℕ) (fds : FdTable) where
       record {
         slots_are = own_slot fd own small;
         named_are = λ q at ne s x is there.
-            (x.offset, other_put fds.descriptions v s.description (λ e. let no : ◌≡◌ {A = Option Description} None (Some x) = sym none ∙ ap (maps.get fds.descriptions) (sym e) ∙ there in cc no) d ∙ there);
+            (x.offset, other_put fds.descriptions v s.description (λ e. let absent : ◌≡◌ {A = Option Description} None (Some x) = sym none ∙ ap (maps.get fds.descriptions) (sym e) ∙ there in cc absent) d ∙ there);
         pipes_are = λ q at ne. pipes_by fds after q at (own_slot fd own small q at ne) (λ s is.
             either s.description v (pipe_in (maps.get (maps.insert fds.descriptions v d) s.description) ≡ pipe_in (maps.get fds.descriptions s.description)) (s.description == v) refl
             (λ e. ap pipe_in (ap (maps.get (maps.insert fds.descriptions v d)) e ∙ get_put fds.descriptions v d) ∙ ap pipe_of file ∙ sym (ap pipe_in (ap (maps.get fds.descriptions) e ∙ none)))

@@ -14,7 +14,7 @@ returns c =
     c.in_ok-tasks.ensures
     ∙ (ap (λ argv. first_tasks argv c.as_slice-2.result.now) c.as_slice.ensures
     ∙ ap (λ env. first_tasks c.args.boot.argv env) c.as_slice-2.ensures) in
-    c.new-2.ensures
+    c.new.ensures
     ∙ λ i. record {
       running = record { shared = shared i; tasks = tasks i; child = 2; log = [] };
       script = c.args.script;
@@ -23,6 +23,6 @@ returns c =
       keeps_log = c.args.keeps_log;
     }
 
-pub new-requires-2 : goal.new-requires-2
-new-requires-2 c = λ q ne.
+pub new-requires : goal.new-requires
+new-requires c = λ q ne.
     ap (λ (o : Tasks). at Gone o q) c.in_ok-tasks.ensures ∙ alone _ q ne
