@@ -85,10 +85,16 @@ pub record IsOfRows (plan : Plan) (words : Words) (reference : Reached) (s : ℕ
 
 -- The report on orders of turns.
 
--- the status is 1 where a run did not end, or where there is more than one result and there is to be one
+-- a run did not end
+abbrev pub hangs : List Found → Bool
+hangs found = list_any (λ f. f.ending.alive) found
+
+-- .. or there is more than one result and there is to be one
+abbrev pub fails : Bool → List Found → Bool
+fails one found = hangs found || (one && nat_lt 1 (length found))
+
 abbrev pub orders_status : Bool → List Found → ℕ
-orders_status one found =
-    cond (list_any (λ f. f.ending.alive) found || (one && nat_lt 1 (length found))) 1 0
+orders_status one found = cond (fails one found) 1 0
 
 -- the status is that of the results of so many orders
 pub record IsOfOrders (plan : Plan) (orders : Orders) (reference : Reached) (s : ℕ) : Type 0 where

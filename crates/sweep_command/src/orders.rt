@@ -2,7 +2,7 @@
 
 ghost use Rattle.std.specs.Prelude.{◌≡◌, IfOk};
 ghost use Rattle.sweep_orders.specs.Orders.{AreOrders};
-ghost use Rattle.sweep_command.specs.Reports.{orders_status, IsOfOrders};
+ghost use Rattle.sweep_command.specs.Reports.{hangs, fails, orders_status, IsOfOrders};
 
 use crate::keeping::{check_kept, keep, path_of, text_of};
 use crate::outputs::write;
@@ -325,14 +325,25 @@ fn text_of_all(
     }
 }
 
-/// 1 where a run did not end, or where there is more than one result and there is to be one.
+/// A run did not end.
+fn hangs(found: &[Found]) -> bool
+    ensures { result ≡ hangs found.now }
+{
+    found.iter().any(|one| one.ending.alive)
+}
+
+/// A run did not end, or there is more than one result and there is to be one.
+fn fails(found: &[Found], one: bool) -> bool
+    ensures { result ≡ fails one found.now }
+{
+    hangs(found) || (one && found.len() > 1)
+}
+
+/// 1 where orders fail.
 fn status_of(found: &[Found], one: bool) -> u8
     ensures { result ≡ orders_status one found.now }
 {
-    if found.iter().any(|one| one.ending.alive) {
-        return 1;
-    }
-    if one && found.len() > 1 { 1 } else { 0 }
+    if fails(found, one) { 1 } else { 0 }
 }
 
 /// Writes what is told of orders.
