@@ -1,4 +1,5 @@
 //! Calls of a space, a script of them each, and what they tell. Numbers and bytes are worked out by hand.
+use rv_isa::Mnemonic;
 use rv_mem::{MemFault, Rights, Space};
 use std::alloc::{AllocError, Global};
 use std::test::Fail;
@@ -76,19 +77,27 @@ fn highest_free(space: &Space, pages: u64, low: u64, high: u64) -> Option<u64> {
     space.highest_free(pages, low, high)
 }
 
-/// How many bytes of code are near, and the first of them.
-fn code_near(space: &Space, address: u64) -> Option<(usize, u8)> {
-    let page = space.code_near(address)?;
-    let first = page.first()?;
-    Some((page.len(), *first))
+fn keep(space: &mut Space, address: u64) {
+    space.keep(address);
+}
+
+/// The first instruction of the code that a page lends, which it has back then.
+fn lent(space: &mut Space, start: u64) -> Option<Mnemonic> {
+    let code = space.lend(start)?;
+    let first = match code.places().first() {
+        None => Mnemonic::Unknown,
+        Some(inst) => inst.mnemonic,
+    };
+    space.take_back(start, code);
+    Some(first)
 }
 
 fn read_near(space: &Space, address: u64) -> Option<[u8; 2]> {
     space.read_near(address)
 }
 
-fn write_near(space: &mut Space, address: u64, byte: u8) -> bool {
-    space.write_near(address, [byte])
+fn write_near(space: &mut Space, beside: u64, address: u64, byte: u8) -> bool {
+    space.write_near(beside, address, [byte])
 }
 
 fn fork(space: &Space) -> Result<Space, AllocError> {
@@ -113,9 +122,11 @@ enum Call {
     Free(u64, u64, u64),
     /// The first byte of each of the first eight pages; a dot stands for a page that is missing.
     Firsts,
-    CodeNear(u64),
+    Keep(u64),
+    Lent(u64),
     ReadNear(u64),
-    WriteNear(u64, u8),
+    /// A write of a byte beside the page that begins at an address.
+    WriteNear(u64, u64, u8),
 }
 
 #[derive(Clone, Copy)]
@@ -125,7 +136,7 @@ enum Told {
     Place(Option<u64>),
     Bytes(&'static [u8]),
     Length(usize),
-    Code(Option<(usize, u8)>),
+    Code(Option<Mnemonic>),
     Pair(Option<[u8; 2]>),
     Is(bool),
     Unmapped(u64),
@@ -163,7 +174,7 @@ fn is_place(place: Option<u64>, told: Told) -> bool {
     }
 }
 
-fn is_code(code: Option<(usize, u8)>, told: Told) -> bool {
+fn is_code(code: Option<Mnemonic>, told: Told) -> bool {
     matches!(told, Told::Code(wanted) if code == wanted)
 }
 
@@ -220,10 +231,14 @@ fn tells(alloc: Global, space: &mut Space, call: Call, told: Told) -> bool {
         Call::Fetch(address) => is_number(fetch(space, address).map(u64::from), told),
         Call::Free(pages, low, high) => is_place(highest_free(space, pages, low, high), told),
         Call::Firsts => is_peeked(firsts(space, alloc), told),
-        Call::CodeNear(address) => is_code(code_near(space, address), told),
+        Call::Keep(address) => {
+            keep(space, address);
+            true
+        }
+        Call::Lent(start) => is_code(lent(space, start), told),
         Call::ReadNear(address) => is_pair(read_near(space, address), told),
-        Call::WriteNear(address, byte) => {
-            matches!(told, Told::Is(wanted) if write_near(space, address, byte) == wanted)
+        Call::WriteNear(beside, address, byte) => {
+            matches!(told, Told::Is(wanted) if write_near(space, beside, address, byte) == wanted)
         }
     }
 }
@@ -437,27 +452,53 @@ const CROSSED: &[Row] = &[
 /// there is no answer.
 const NEAR: &[Row] = &[
     (Call::Map(1, 1, READ_WRITE), DONE),
-    (Call::Map(2, 1, EXECUTE), DONE),
     (Call::Map(3, 1, READ), DONE),
     (Call::Map(65, 1, READ), DONE),
-    (Call::Load(0x2000, &[0x73, 0, 0, 0]), DONE),
     (Call::Store(0x1008, 0x0102), DONE),
-    (Call::Fetch(0x2000), Told::Number(0x73)),
-    (Call::CodeNear(0x2abc), Told::Code(Some((4096, 0x73)))),
-    (Call::CodeNear(0x2000), Told::Code(Some((4096, 0x73)))),
-    (Call::CodeNear(0x1008), Told::Code(None)),
     (Call::ReadNear(0x1008), Told::Pair(Some([2, 1]))),
     (Call::ReadNear(0x3000), Told::Pair(None)),
     (Call::Double(0x3000), Told::Number(0)),
-    (Call::WriteNear(0x1009, 7), Told::Is(true)),
+    (Call::WriteNear(0, 0x1009, 7), Told::Is(true)),
     (Call::ReadNear(0x1008), Told::Pair(Some([2, 7]))),
-    (Call::WriteNear(0x3000, 7), Told::Is(false)),
+    (Call::WriteNear(0x1000, 0x1009, 8), Told::Is(false)),
+    (Call::ReadNear(0x1008), Told::Pair(Some([2, 7]))),
+    (Call::WriteNear(0, 0x3000, 7), Told::Is(false)),
     (Call::Double(0x41000), Told::Number(0)),
-    (Call::WriteNear(0x1009, 7), Told::Is(false)),
+    (Call::WriteNear(0, 0x1009, 7), Told::Is(false)),
+];
+
+/// Code is lent of a page of which instructions were kept. It knows nothing of the words that were written to since, and
+/// no store is near while a page has code.
+const KEPT: &[Row] = &[
+    (Call::Map(2, 1, EXECUTE), DONE),
+    (Call::Load(0x2000, &[0x73, 0, 0, 0]), DONE),
+    (Call::Fetch(0x2000), Told::Number(0x73)),
+    (Call::Lent(0x2000), Told::Code(None)),
+    (Call::Keep(0x2000), DONE),
+    (Call::Lent(0x2000), Told::Code(Some(Mnemonic::Ecall))),
+    (Call::Lent(0x2000), Told::Code(Some(Mnemonic::Ecall))),
+    (Call::Lent(0x2004), Told::Code(None)),
+    (Call::Lent(0x42000), Told::Code(None)),
+    (Call::Load(0x2004, &[0x13, 0, 0, 0]), DONE),
+    (Call::Lent(0x2000), Told::Code(Some(Mnemonic::Ecall))),
+    (Call::Load(0x2003, &[0]), DONE),
+    (Call::Lent(0x2000), Told::Code(Some(Mnemonic::Unknown))),
+    (Call::Keep(0x2000), DONE),
+    (Call::Map(2, 1, READ_WRITE), DONE),
+    (Call::Double(0x2000), Told::Number(0x13_0000_0073)),
+    (Call::WriteNear(0, 0x2000, 0x13), Told::Is(false)),
+    (Call::Lent(0x2000), Told::Code(Some(Mnemonic::Ecall))),
+    (Call::Store(0x2000, 0x13), DONE),
+    (Call::Lent(0x2000), Told::Code(Some(Mnemonic::Unknown))),
+    (Call::Keep(0x2000), DONE),
+    (Call::Lent(0x2000), Told::Code(Some(Mnemonic::NoOperation))),
+    (Call::Map(3, 1, READ_WRITE), DONE),
+    (Call::Keep(0x3000), DONE),
+    (Call::Lent(0x3000), Told::Code(None)),
 ];
 
 /// What each script begins with, and its rows.
-const SCRIPTS: [(&[Call], &[Row]); 12] = [
+const SCRIPTS: [(&[Call], &[Row]); 13] = [
     (&EXAMPLE, ACROSS),
     (&EXAMPLE, FETCHED),
     (&EXAMPLE, ENDS),
@@ -470,6 +511,7 @@ const SCRIPTS: [(&[Call], &[Row]); 12] = [
     (&NUMBERED, BLANK),
     (&[], CROSSED),
     (&[], NEAR),
+    (&[], KEPT),
 ];
 
 /// A space after these calls, each of which succeeds.
