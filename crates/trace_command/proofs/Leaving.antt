@@ -64,12 +64,12 @@ left_after host workers files words asked (Ok u) fault result out middle out' er
     failed (Lacks host workers files) fault result out middle out' err err' h l
 
 pub leaves_nothing : (host : Option (List ℕ)) (workers : Option Workers) (files : Type 0) (words : ArgMatches)
-    (made : Result Outcome Fault) (result : Result ℕ Fault) (out middle out' err err' : Writer)
-    → Unmade (Lacks host workers files) made out middle err err' → Leaves words made result middle out'
+    (file : Type 0) (made : Result Outcome Fault) (result : Result ℕ Fault) (out middle out' err err' : Writer)
+    → Unmade (Lacks host workers files) made out middle err err' → Leaves words file made result middle out'
     → Unmade (Lacks host workers files) result out out' err err'
-leaves_nothing host workers files words (Ok outcome) result out middle out' err err' h l = absurd h
-leaves_nothing host workers files words (Err fault) result out middle out' err err' h l =
-    left_after host workers files words _ l.0 fault result out middle out' err err' h l.1.0 l.1.1
+leaves_nothing host workers files words file (Ok outcome) result out middle out' err err' h l = absurd h
+leaves_nothing host workers files words file (Err fault) result out middle out' err err' h l =
+    left_after host workers files words _ l.0 fault result out middle out' err err' h l.1.0 l.1.1.0
 
 -- ---- by another cause
 

@@ -2,3 +2,4 @@ mod Leaving
 mod Reaching
 mod Turned
 mod Noted
+mod Replayed

@@ -1,25 +1,31 @@
 -- What a run notes that comes to its end.
 use Rattle.std.proofs.Common.{◌≡◌, ◌⊎◌, ℕ, Bool, true, false, List, Option, Some, None, IsSome, Result, Ok, Err, IsErr, OnOk, inl, inr, refl, sym, ap, subst, ◌∙◌}
 use Rattle.std.proofs.Common.{true≢false}
+use Rattle.std.specs.Prelude.{IfSome, is_some}
+use Rattle.clap.specs.declared.parser.matches.ArgMatches.{ArgMatches}
 use Rattle.lx_abi.specs.declared.boot.Boot.{Boot}
 use Rattle.lx_abi.specs.declared.outcome.Outcome.{Outcome}
 use Rattle.lx_abi.specs.declared.schedule.Event.{Event}
 use Rattle.lx_abi.specs.declared.schedule.Word.{Word}
 use Rattle.lx_abi.specs.declared.script.Rule.{Rule}
 use Rattle.front_end.specs.declared.fault.Fault.{Fault}
+use Rattle.front_end.specs.declared.streams.Opened.{Opened}
 use Rattle.front_end.specs.declared.fault.Fault.TheVariants as the
 use Rattle.host_link.specs.declared.fault.LinkFault.{LinkFault}
 use Rattle.host_link.specs.declared.fault.LinkFault.TheVariants as link
 use Rattle.pt_schedule.specs.Schedules.{worded}
 use Rattle.tr_core.specs.declared.settings.Options.{Options}
 use Rattle.tr_core.specs.declared.tracing.TraceFault.TheVariants.{Inadmissible, Memory}
+use Rattle.trace_run.specs.Records.{noted_if}
 use Rattle.trace_run.specs.Writers.{Writer}
 use Rattle.trace_run.specs.declared.running.Ended.{Ended}
 use Rattle.trace_run.specs.declared.running.RunFault.{RunFault}
 use Rattle.trace_run.specs.declared.running.RunFault.TheVariants as run
 use Rattle.trace_command.specs.Faults.{IsFaultOf, IsHostFault, IsUnwritable, has_ended, host_number, is_out_of_turns}
-use Rattle.trace_command.specs.Noting.{Notes, NotesHere, NotesOf}
-use Rattle.trace_command.specs.Tracing.{EndsLine, Reaches, Settles, Takes}
+use Rattle.trace_command.specs.Noting.{Notes, NotesHere, NotesOf, WritesEvents, WritesEventsTo, WritesNoted}
+use Rattle.trace_command.specs.Tracing.{EndsLine, Leaves, Reaches, Settles, Takes}
+use Rattle.trace_command.specs.TurnsOut.{WritesTurns}
+use Rattle.trace_command.specs.declared.kept.Kept.{Kept}
 use Rattle.trace_command.specs.declared.kernel.Kernel.{Kernel}
 use Rattle.trace_command.specs.declared.kernel.Kernel.TheVariants.{Here, OnThreads, There}
 use Rattle.trace_command.specs.declared.place.Place.{Place}
@@ -40,7 +46,7 @@ reached_too ended result written held P (inr (e, k)) p = subst (λ r. OnOk r P) 
 -- ---- a run that has ended didn't fail
 
 ok_is_no_fault : (f : RunFault) (x : Ended) → Err f ≡ Ok x → ⊥
-ok_is_no_fault f x h = subst (λ r. IsErr r) h tt
+ok_is_no_fault f x h = true≢false (sym (subst (λ r. IsErr r) h refl))
 
 not_of_a_host : (fault : Fault) → is_out_of_turns fault ≡ true → host_number fault ≡ None
 not_of_a_host (the.Usage text) e = absurd (true≢false (sym e))
@@ -61,7 +67,7 @@ unwritable (the.Output text) u e = true≢false (sym e)
 unwritable the.Memory u e = true≢false (sym e)
 
 numbered : (fault : Fault) (n : ℕ) → host_number fault ≡ Some n → is_out_of_turns fault ≡ true → ⊥
-numbered fault n h e = subst (λ o. IsSome o) (sym h ∙ not_of_a_host fault e) tt
+numbered fault n h e = true≢false (sym (subst (λ o. IsSome o) (sym h ∙ not_of_a_host fault e) refl))
 
 of_memory : (fault : Fault) → fault ≡ the.Memory → is_out_of_turns fault ≡ true → ⊥
 of_memory fault h e = true≢false (sym e ∙ ap (λ f. is_out_of_turns f) h)
@@ -115,3 +121,41 @@ plan_notes remaining contents None None limit plan (There link) asked noted t h 
 plan_notes remaining contents None None limit plan (OnThreads boot workers) asked noted t h = absurd t
 plan_notes remaining contents None (Some workers) limit plan kernel asked noted t h = tt
 plan_notes remaining contents (Some host) workers limit plan kernel asked noted t h = tt
+
+-- ---- in the file of turns
+
+-- what was noted was written, where the file is asked for
+pub noted_written : {F U X : Type 0} (held : Opened F → Option (List ℕ)) (value : Option (List ℕ)) (path : List ℕ)
+    (old new : Kept) (result : Result U X) → value ≡ Some path
+    → (old.second ≡ None → new.known.events ≡ old.known.events)
+    → OnOk result (IfSome new.known.events (WritesTurns held path)) → OnOk result (WritesNoted held value old)
+noted_written held value path old new (Err fault) e same h = tt
+noted_written held value path old new (Ok u) e same h =
+    subst (λ v. WritesNoted held v old) (sym e) (λ none. subst (λ n. IfSome n (WritesTurns held path)) (same none) h)
+
+pub none_asked : {F : Type 0} (held : Opened F → Option (List ℕ)) (value : Option (List ℕ)) (old : Kept) → value ≡ None
+    → WritesNoted held value old
+none_asked held value old e = subst (λ v. WritesNoted held v old) (sym e) tt
+
+events_to : {F : Type 0} (held : Opened F → Option (List ℕ)) (host : Option (List ℕ)) (workers : Option Workers)
+    (limit : ℕ) (plan : Plan) (path : List ℕ) (asked : Bool) (noted : Option (List Event)) → asked ≡ true
+    → NotesOf host workers limit plan asked noted → (host ≡ None → IfSome noted (WritesTurns held path))
+    → WritesEventsTo held host workers limit plan path
+events_to held None None limit plan path asked noted a n w =
+    λ events h. subst (λ x. IfSome x (WritesTurns held path)) (n events h ∙ ap (λ b. noted_if b events) a) (w refl)
+events_to held None (Some workers) limit plan path asked noted a n w = tt
+events_to held (Some host) workers limit plan path asked noted a n w = tt
+
+pub events_written : {F : Type 0} (held : Opened F → Option (List ℕ)) (host : Option (List ℕ)) (workers : Option Workers)
+    (limit : ℕ) (plan : Plan) (value : Option (List ℕ)) (asked : Bool) (kept : Kept) → asked ≡ is_some value
+    → (host ≡ None → kept.second ≡ None) → NotesOf host workers limit plan asked kept.known.events
+    → WritesNoted held value kept → WritesEvents held host workers limit plan value
+events_written held host workers limit plan None asked kept a s n w = tt
+events_written held host workers limit plan (Some path) asked kept a s n w =
+    events_to held host workers limit plan path asked kept.known.events a n (λ e. w (s e))
+
+pub leaves_more : (words : ArgMatches) (file file' : Type 0) (made : Result Outcome Fault) (result : Result ℕ Fault)
+    (old new : Writer) → (has_ended made ≡ true → file → file') → Leaves words file made result old new
+    → Leaves words file' made result old new
+leaves_more words file file' made result old new g h =
+    (h.0, (h.1.0, (h.1.1.0, on_ok_more h.0 (λ f e. g e (f e)) h.1.1.1)))

@@ -17,7 +17,7 @@ append_known-nil : (known : Option (List ℕ)) → append_known known [] ≡ kno
 append_known-nil None = refl
 append_known-nil (Some bytes) = ap Some (append-nil bytes)
 
-append_known-empty : (known : Option (List ℕ)) (rest : List ℕ) → rest ≡ [] → append_known known rest ≡ known
+pub append_known-empty : (known : Option (List ℕ)) (rest : List ℕ) → rest ≡ [] → append_known known rest ≡ known
 append_known-empty known rest e = ap (append_known known) e ∙ append_known-nil known
 
 pub reaches_at_once : (ended : Result Ended RunFault) (held : Option (List ℕ)) → Reaches ended ended held held

@@ -3,3 +3,4 @@ pub mod Tracing
 pub mod Writers
 pub mod TurnsOut
 pub mod Noting
+pub mod Replays

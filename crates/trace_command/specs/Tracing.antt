@@ -1,6 +1,6 @@
 -- What a traced run writes, where it writes it, and what it leaves.
 use Rattle.std.specs.Prelude.{◌≡◌, ◌≢◌, ◌⊎◌, ℕ, ◌==◌, Bool, true, false, ◌||◌, ⊤, List, [], ◌∷◌, codes}
-use Rattle.std.specs.Prelude.{Option, None, Some, IsSome, is_some, option_map, find, Result, Ok, Err, IsErr, IfOk, IfErr, OnErr}
+use Rattle.std.specs.Prelude.{Option, None, Some, IsSome, is_some, option_map, find, Result, Ok, Err, IsErr, IfOk, IfErr, OnErr, OnOk}
 use Rattle.std.specs.Io.Buffered.{reader_remaining}
 use Rattle.std.specs.Io.KnownBytes.{Keeps, append_known}
 use Rattle.clap.specs.Words.{first_value, found_of}
@@ -259,57 +259,59 @@ LeavesAfter words (Err fault) made result old new = (result ≡ Err fault) × (n
 LeavesAfter words (Ok u) (Err fault) result old new = (result ≡ Err fault) × (new ≡ old)
 LeavesAfter words (Ok u) (Ok outcome) result old new = Left words outcome result old new
 
--- whatever came of writing its turns, which fails only where they are asked for and the run has ended
-abbrev pub Leaves : ArgMatches → Result Outcome Fault → Result ℕ Fault → Writer → Writer → Type 0
-Leaves words made result old new =
+-- Whatever came of writing its turns: where they can't be written, which is so only where they are asked for and the run
+-- has ended, that is its fault; else their file is written so.
+abbrev pub Leaves : ArgMatches → Type 0 → Result Outcome Fault → Result ℕ Fault → Writer → Writer → Type 0
+Leaves words file made result old new =
     (turned : Result (Unit {0}) Fault)
     × (OnErr turned (IsSome (value_of words (codes "turns-out")) × (has_ended made ≡ true))
-    × LeavesAfter words turned made result old new)
+    × (LeavesAfter words turned made result old new
+    × OnOk turned (has_ended made ≡ true → file)))
 
--- All of it: a run that writes so writes its trace, then its turns are written where that is asked for, and then
--- standard output is given what it leaves.
+-- All of it: a run that writes so writes its trace, then the file of its turns is written so where that is asked for, and
+-- then standard output is given what it leaves.
 pub record Completes {F : Type 0} (held : F → Option (List ℕ))
-    (runs : Result Ended RunFault → Writer → Writer → Type 0) (words : ArgMatches) (place : Place)
+    (runs : Result Ended RunFault → Writer → Writer → Type 0) (file : Type 0) (words : ArgMatches) (place : Place)
     (result : Result ℕ Fault) (out out' err err' : Writer) : Type 0 where
   pub made : Result Outcome Fault
   -- standard output before the console
   pub traced : Writer
   pub run : RunsTo held runs place made out traced err err'
-  pub leaves : Leaves words made result traced out'
+  pub leaves : Leaves words file made result traced out'
 
 -- Such a run, with its trace at the place that the words name, completes. Or it lacks a file, a host or threads that it
 -- needs, with such a fault, and nothing is written.
 abbrev pub TracesPlan : {F : Type 0} → (F → Option (List ℕ)) → (Result Ended RunFault → Writer → Writer → Type 0)
-    → ArgMatches → Option Workers → Result ℕ Fault → Writer → Writer → Writer → Writer → Type 0
-TracesPlan held runs words workers result out out' err err' =
+    → Type 0 → ArgMatches → Option Workers → Result ℕ Fault → Writer → Writer → Writer → Writer → Type 0
+TracesPlan held runs file words workers result out out' err err' =
     (place : Place)
     × (IsPlace (value_of words (codes "output")) place
     × (Unmade
     (Lacks (value_of words (codes "host")) workers (IsSome (value_of words (codes "turns-out")) ⊎ IsFile place)) result
     out out' err err'
-    ⊎ Completes held runs words place result out out' err err'))
+    ⊎ Completes held runs file words place result out out' err err'))
 
 -- The same to writers of std, by what they hold where that is known: standard output and standard error are written to
 -- so, and by nothing else.
 abbrev pub TracesOut : {F : Type 0} → (F → Option (List ℕ)) → (Result Ended RunFault → Writer → Writer → Type 0)
-    → ArgMatches → Option Workers → Result ℕ Fault
+    → Type 0 → ArgMatches → Option Workers → Result ℕ Fault
     → Option (List ℕ) → Option (List ℕ) → Option (List ℕ) → Option (List ℕ) → Type 0
-TracesOut held runs words workers result out out' err err' =
+TracesOut held runs file words workers result out out' err err' =
     (o : Writer)
     × ((e : Writer)
     × ((o.contents ≡ out')
-    × ((e.contents ≡ err') × TracesPlan held runs words workers result (unused out) o (unused err) e)))
+    × ((e.contents ≡ err') × TracesPlan held runs file words workers result (unused out) o (unused err) e)))
 
 -- What is written to standard output is that of a run of some plan, and a status is that of this run. Or there was no
 -- plan, and nothing is written to it.
 abbrev pub TracesWords : {F : Type 0} → (F → Option (List ℕ))
-    → (Plan → Result Ended RunFault → Writer → Writer → Type 0) → ArgMatches → Option Workers → Result ℕ Fault
-    → Option (List ℕ) → Option (List ℕ) → Type 0
-TracesWords held runs words workers result out out' =
+    → (Plan → Result Ended RunFault → Writer → Writer → Type 0) → (Plan → Type 0) → ArgMatches → Option Workers
+    → Result ℕ Fault → Option (List ℕ) → Option (List ℕ) → Type 0
+TracesWords held runs file words workers result out out' =
     (IsErr result × (out' ≡ out))
     ⊎ ((plan : Plan)
     × ((ended : Result ℕ Fault)
     × ((err : Option (List ℕ))
     × ((err' : Option (List ℕ))
     × (IfOk result (λ status. ended ≡ Ok status)
-    × TracesOut held (runs plan) words workers ended out out' err err')))))
+    × TracesOut held (runs plan) (file plan) words workers ended out out' err err')))))

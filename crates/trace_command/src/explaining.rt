@@ -46,7 +46,7 @@ fn tell_known_hints<E: Write>(
     kept: &Kept,
     err: &mut E,
 ) -> Result<(), Fault> {
-    match &kept.record.counts {
+    match &kept.known.counts {
         Some(counts) => tell_hints(alloc, matches, counts, err),
         None => Ok(()),
     }
@@ -97,8 +97,8 @@ fn explain_fault(
 ) -> Fault {
     match explain_host(fault, is_late) {
         Fault::OutOfTurns(_) => match make_again(alloc, kept) {
-            Ok(()) => match kept.record.waits.take() {
-                Some(waits) => out_of_turns(alloc, matches, waits, &kept.record.counts),
+            Ok(()) => match kept.known.waits.take() {
+                Some(waits) => out_of_turns(alloc, matches, waits, &kept.known.counts),
                 None => Fault::Memory,
             },
             Err(fault) => fault,

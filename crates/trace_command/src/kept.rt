@@ -22,7 +22,7 @@ pub struct Asked {
 
 /// What a run has left of that.
 #[derive(Drop)]
-pub struct Record {
+pub struct Known {
     pub events: Events,
     /// None where it isn't asked for, and where memory ran out.
     pub waits: Option<String>,
@@ -30,10 +30,10 @@ pub struct Record {
     pub counts: Option<Occurrences>,
 }
 
-impl Record {
+impl Known {
     /// Before the run.
     pub fn none() -> Self {
-        Record {
+        Known {
             events: Events::none(),
             waits: None,
             counts: None,
@@ -45,7 +45,7 @@ impl Record {
 #[derive(Drop)]
 pub struct Kept {
     pub asked: Asked,
-    pub record: Record,
+    pub known: Known,
     /// The same plan once more, where what is asked for is known by it alone.
     pub second: Option<Plan>,
 }

@@ -3,11 +3,11 @@
 ghost use Rattle.std.specs.Prelude.{◌≡◌, ◌⊎◌, Ok, IfErr, IfOk, IsSome, OnErr, OnOk, option_map};
 ghost use Rattle.trace_run.specs.Writers.{writer_of};
 ghost use Rattle.trace_command.specs.Faults.{IsUnhosted, IsUnopened};
-ghost use Rattle.trace_command.specs.Noting.{Notes, NotesHere};
+ghost use Rattle.trace_command.specs.Noting.{AsksAlike, Notes, NotesHere};
 ghost use Rattle.trace_command.specs.Tracing.{IsOnThreads, TakesAlone, Traces, TracesHere};
 
 use crate::fault::host_fault;
-use crate::kept::{Behind, Kept, Record, waits_in};
+use crate::kept::{Behind, Kept, Known, waits_in};
 use crate::threads::run_on_threads;
 use crate::words::Workers;
 use containers::Seq;
@@ -124,7 +124,8 @@ pub fn run_here<W: TraceSink>(
     ensures traces { TracesHere options script boot schedule result
         (writer_of W.contents W.puts W.broken lines.old) (writer_of W.contents W.puts W.broken lines.new) }
     ensures notes { OnOk result
-        (NotesHere options script boot schedule kept.old.asked.events kept.new.record.events) }
+        (NotesHere options script boot schedule kept.old.asked.events kept.new.known.events) }
+    ensures kept { AsksAlike kept.old kept.new }
 {
     let asked = kept.asked;
     match trace_local(alloc, boot, schedule, asked.events, script, options, lines) {
@@ -138,7 +139,7 @@ pub fn run_here<W: TraceSink>(
         ) => {
             let waits = waits_in(alloc, asked, &ended, host.kernel());
             drop(host);
-            kept.record = Record {
+            kept.known = Known {
                 events,
                 waits,
                 counts: Some(counts),
@@ -161,7 +162,8 @@ pub fn run_kernel<R: Threads + Wait + Sync + AllocGlobal, P: OpenProcess + Drop,
     ensures made { IfOk result (λ ended. Traces P.Stdout.remaining P.Stdin.contents options script kernel ended
         (writer_of W.contents W.puts W.broken lines.old) (writer_of W.contents W.puts W.broken lines.new)) }
     ensures notes { IfOk result (λ ended. OnOk ended
-        (Notes options script kernel behind.old.kept.asked.events behind.new.kept.record.events)) }
+        (Notes options script kernel behind.old.kept.asked.events behind.new.kept.known.events)) }
+    ensures kept { AsksAlike behind.old.kept behind.new.kept }
     ensures fault { IfErr result (λ fault. IsOnThreads kernel × (IsUnhosted fault ⊎ IsUnopened fault)) }
     ensures unwritten { OnErr result (writer_of W.contents W.puts W.broken lines.new
         ≡ writer_of W.contents W.puts W.broken lines.old) }
@@ -173,7 +175,7 @@ pub fn run_kernel<R: Threads + Wait + Sync + AllocGlobal, P: OpenProcess + Drop,
         }
         Kernel::There(mut link) => {
             let (ended, counts) = run_counting(rt.alloc(), &mut link, lines, script, options);
-            behind.kept.record.counts = Some(counts);
+            behind.kept.known.counts = Some(counts);
             behind.link = Some(link);
             Ok(ended)
         }

@@ -8,6 +8,7 @@ mod given;
 mod heard;
 mod kept;
 mod kernel;
+pub mod laws;
 mod lines;
 mod place;
 mod plan;

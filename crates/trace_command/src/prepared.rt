@@ -1,7 +1,11 @@
 //! What is made ready before a run.
 
+ghost use Rattle.std.specs.Prelude.{◌≡◌, IfOk, None, codes, false, is_some};
+ghost use Rattle.trace_command.specs.Noting.{IsKeptFor};
+ghost use Rattle.trace_command.specs.Tracing.{value_of};
+
 use crate::given::is_given;
-use crate::kept::{Asked, Kept, Record};
+use crate::kept::{Asked, Kept, Known};
 use crate::plan::{Plan, read_plan};
 use crate::words::TraceOptions;
 use clap::ArgMatches;
@@ -20,7 +24,9 @@ pub struct Prepared {
 }
 
 /// What the words ask for of a run beside its trace.
-fn asked_by(matches: &ArgMatches, options: TraceOptions) -> Asked {
+fn asked_by(matches: &ArgMatches, options: TraceOptions) -> Asked
+    ensures { result.events ≡ is_some (value_of matches.now (codes "turns-out")) }
+{
     Asked {
         events: is_given(matches, "turns-out"),
         waits: options.explain,
@@ -29,7 +35,9 @@ fn asked_by(matches: &ArgMatches, options: TraceOptions) -> Asked {
 }
 
 /// What is asked for is known by a second run alone.
-fn needs_second(matches: &ArgMatches, options: TraceOptions, asked: Asked) -> bool {
+fn needs_second(matches: &ArgMatches, options: TraceOptions, asked: Asked) -> bool
+    ensures { value_of matches.now (codes "host") ≡ None → result ≡ false }
+{
     options.workers.is_none() && is_given(matches, "host") && (asked.waits || asked.events)
 }
 
@@ -39,7 +47,9 @@ fn keep(
     matches: &ArgMatches,
     options: TraceOptions,
     plan: &Plan,
-) -> Result<Kept, Fault> {
+) -> Result<Kept, Fault>
+    ensures { IfOk result (IsKeptFor matches.now) }
+{
     let asked = asked_by(matches, options);
     let second = if needs_second(matches, options, asked) {
         Some(plan.again(alloc, matches)?)
@@ -48,7 +58,7 @@ fn keep(
     };
     Ok(Kept {
         asked,
-        record: Record::none(),
+        known: Known::none(),
         second,
     })
 }
@@ -68,7 +78,9 @@ pub fn prepare<R: Files + AllocGlobal, I: Read + IsTerminal, E: Write + IsTermin
     options: TraceOptions,
     input: &mut I,
     err: &mut E,
-) -> Result<Prepared, Fault> {
+) -> Result<Prepared, Fault>
+    ensures { IfOk result (λ prepared. IsKeptFor matches.now prepared.kept) }
+{
     let plan = read_plan(rt, matches, options, input, err)?;
     let kept = keep(rt.alloc(), matches, options, &plan)?;
     let program = program_of(rt.alloc(), options, &plan)?;

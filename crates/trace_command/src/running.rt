@@ -5,7 +5,7 @@ ghost use Rattle.std.specs.Io.KnownBytes.{Keeps, append_known};
 ghost use Rattle.front_end.specs.Streams.{opened_contents};
 ghost use Rattle.trace_run.specs.Writers.{writer_of};
 ghost use Rattle.trace_command.specs.Faults.{IsFaultOf, IsUnhosted, has_ended};
-ghost use Rattle.trace_command.specs.Noting.{Notes, NotesOf};
+ghost use Rattle.trace_command.specs.Noting.{AsksAlike, Notes, NotesOf};
 ghost use Rattle.trace_command.specs.Tracing.{EndsLine, IsFile, Lacks, LacksAt, Puts, Reaches, Runs, RunsTo, Settles};
 ghost use Rattle.trace_command.specs.Tracing.{Takes, Traces, Unmade, WritesFile, WritesTo, value_of};
 
@@ -168,7 +168,8 @@ fn run_to_file<R: Files + Threads + Wait + Sync + AllocGlobal, P: OpenProcess + 
     ensures written { IfOk result (λ ended. WritesFile (opened_contents R.File.contents)
         (Traces P.Stdout.remaining P.Stdin.contents options script kernel) ended) }
     ensures notes { IfOk result (λ ended. OnOk ended
-        (Notes options script kernel behind.old.kept.asked.events behind.new.kept.record.events)) }
+        (Notes options script kernel behind.old.kept.asked.events behind.new.kept.known.events)) }
+    ensures kept { AsksAlike behind.old.kept behind.new.kept }
     ensures fault { IfErr result (λ fault. LacksAt kernel ⊤ fault) }
 {
     let file = match create(rt, path) {
@@ -224,7 +225,8 @@ fn run_to_place<
         (writer_of O.contents O.puts O.broken out.old) (writer_of O.contents O.puts O.broken out.new)
         (writer_of E.contents E.puts E.broken err.old) (writer_of E.contents E.puts E.broken err.new)) }
     ensures notes { IfOk result (λ ended. OnOk ended
-        (Notes options script kernel behind.old.kept.asked.events behind.new.kept.record.events)) }
+        (Notes options script kernel behind.old.kept.asked.events behind.new.kept.known.events)) }
+    ensures kept { AsksAlike behind.old.kept behind.new.kept }
     ensures unmade { OnErr result (Unmade (LacksAt kernel (IsFile place.entry)) result
         (writer_of O.contents O.puts O.broken out.old) (writer_of O.contents O.puts O.broken out.new)
         (writer_of E.contents E.puts E.broken err.old) (writer_of E.contents E.puts E.broken err.new)) }
@@ -273,7 +275,8 @@ where
         (writer_of E.contents E.puts E.broken err.old) (writer_of E.contents E.puts E.broken err.new) }
     ensures notes { has_ended result ≡ true
         → NotesOf (value_of matches.now (codes "host")) options.workers options.limit plan
-        behind.old.kept.asked.events behind.new.kept.record.events }
+        behind.old.kept.asked.events behind.new.kept.known.events }
+    ensures kept { AsksAlike behind.old.kept behind.new.kept }
 {
     let Plan {
         boot,

@@ -1,5 +1,7 @@
 //! A plan made once more, where the run that was made of it left no host in this process.
 
+ghost use Rattle.std.specs.Prelude.{◌≡◌, None};
+
 use crate::kept::Kept;
 use crate::kernel::run_here;
 use crate::plan::Plan;
@@ -9,7 +11,9 @@ use std::alloc::Global;
 use trace_run::Written;
 
 /// Makes the run once more in this process, where a host elsewhere made it, and keeps what it leaves beside the counts.
-pub fn make_again(alloc: Global, kept: &mut Kept) -> Result<(), Fault> {
+pub fn make_again(alloc: Global, kept: &mut Kept) -> Result<(), Fault>
+    ensures { kept.old.second ≡ None → kept.new.known.events ≡ kept.old.known.events }
+{
     let Some(plan) = kept.second.take() else {
         return Ok(());
     };
@@ -21,9 +25,9 @@ pub fn make_again(alloc: Global, kept: &mut Kept) -> Result<(), Fault> {
     } = plan;
     let schedule = Schedule::words(turns, kept.asked.limit);
     let mut trace = Written::new(alloc);
-    let counts = kept.record.counts.take();
+    let counts = kept.known.counts.take();
     let ended = run_here(alloc, boot, schedule, script, options, kept, &mut trace);
-    kept.record.counts = counts;
+    kept.known.counts = counts;
     drop(trace);
     match ended {
         Ok(_) => Ok(()),

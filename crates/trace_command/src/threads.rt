@@ -4,10 +4,11 @@ ghost use Rattle.std.specs.Prelude.{◌≡◌, ◌⊎◌, false, IfErr, IfOk, On
 ghost use Rattle.trace_run.specs.Writers.{writer_of};
 ghost use Rattle.trace_threads.specs.ThreadRuns.{ThreadRun};
 ghost use Rattle.trace_command.specs.Faults.{IsUnhosted, IsUnopened};
+ghost use Rattle.trace_command.specs.Noting.{AsksAlike};
 ghost use Rattle.trace_command.specs.Tracing.{PutsTrace, TracesOnThreads};
 
 use crate::fault::threads_fault;
-use crate::kept::{Asked, Kept, Record};
+use crate::kept::{Asked, Kept, Known};
 use crate::running::write;
 use crate::words::Workers;
 use containers::Bytes;
@@ -73,13 +74,13 @@ fn waits_by(alloc: Global, asked: Asked, kernel: &Kernel, cut: Option<Cut>) -> O
 struct Keeper {
     alloc: Global,
     asked: Asked,
-    record: Record,
+    known: Known,
 }
 
 impl Onlooker for Keeper {
     fn look(&mut self, kernel: &Kernel, cut: Option<Cut>, events: Events) {
         let waits = waits_by(self.alloc, self.asked, kernel, cut);
-        self.record = Record {
+        self.known = Known {
             events,
             waits,
             counts: None,
@@ -136,6 +137,7 @@ pub fn run_on_threads<R: Threads + Wait + Sync + AllocGlobal, W: Sink>(
 ) -> Result<Result<Ended, RunFault>, Fault>
     ensures made { IfOk result (λ ended. TracesOnThreads options script boot workers.limit ended
         (writer_of W.contents W.puts W.broken writer.old) (writer_of W.contents W.puts W.broken writer.new)) }
+    ensures kept { AsksAlike kept.old kept.new }
     ensures fault { IfErr result (λ fault. IsUnhosted fault ⊎ IsUnopened fault) }
     ensures unwritten { OnErr result (writer_of W.contents W.puts W.broken writer.new
         ≡ writer_of W.contents W.puts W.broken writer.old) }
@@ -143,7 +145,7 @@ pub fn run_on_threads<R: Threads + Wait + Sync + AllocGlobal, W: Sink>(
     let mut keeper = Keeper {
         alloc: rt.alloc(),
         asked: kept.asked,
-        record: Record::none(),
+        known: Known::none(),
     };
     let run = match make_on_threads(rt, boot, workers, script, options, &mut keeper) {
         Ok(run) => run,
@@ -162,6 +164,6 @@ pub fn run_on_threads<R: Threads + Wait + Sync + AllocGlobal, W: Sink>(
     drop(turns);
     let ended = write_trace(ended, &trace, writer);
     drop(trace);
-    kept.record = keeper.record;
+    kept.known = keeper.known;
     Ok(ended)
 }

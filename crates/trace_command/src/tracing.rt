@@ -1,9 +1,10 @@
 //! A traced run.
 
-ghost use Rattle.std.specs.Prelude.{◌≡◌, Ok, IsSome, IfOk, OnErr, codes, true};
+ghost use Rattle.std.specs.Prelude.{◌≡◌, Ok, IsSome, IfOk, OnErr, OnOk, codes, true};
 ghost use Rattle.front_end.specs.Streams.{opened_contents};
 ghost use Rattle.trace_run.specs.Writers.{writer_of};
 ghost use Rattle.trace_command.specs.Faults.{has_ended};
+ghost use Rattle.trace_command.specs.Noting.{IsKeptFor, WritesEvents, WritesNoted};
 ghost use Rattle.trace_command.specs.Tracing.{Leaves, Left, PutsConsole, Runs};
 ghost use Rattle.trace_command.specs.Tracing.{TracesOut, TracesPlan, TracesWords};
 ghost use Rattle.trace_command.specs.Tracing.{asks_for_files, status_in, value_of};
@@ -120,7 +121,9 @@ fn leave_turns<R: Files + AllocGlobal>(
     kept: &mut Kept,
     made: &Result<Outcome, Fault>,
 ) -> Result<(), Fault>
-    ensures { OnErr result (IsSome (value_of matches.now (codes "turns-out")) × (has_ended made.now ≡ true)) }
+    ensures fault { OnErr result (IsSome (value_of matches.now (codes "turns-out")) × (has_ended made.now ≡ true)) }
+    ensures file { OnOk result (has_ended made.now ≡ true
+        → WritesNoted (opened_contents R.File.contents) (value_of matches.now (codes "turns-out")) kept.old) }
 {
     if !has_ended(made) {
         return Ok(());
@@ -129,7 +132,7 @@ fn leave_turns<R: Files + AllocGlobal>(
         return Ok(());
     };
     match make_again(rt.alloc(), kept) {
-        Ok(()) => write_turns(rt, path, &kept.record.events),
+        Ok(()) => write_turns(rt, path, &kept.known.events),
         Err(fault) => Err(fault),
     }
 }
@@ -142,7 +145,8 @@ fn leave<R: Files + AllocGlobal, O: Sink>(
     made: Result<Outcome, Fault>,
     out: &mut O,
 ) -> Result<u8, Fault>
-    ensures { Leaves matches.now made result
+    ensures { Leaves matches.now
+        (WritesNoted (opened_contents R.File.contents) (value_of matches.now (codes "turns-out")) kept.old) made result
         (writer_of O.contents O.puts O.broken out.old) (writer_of O.contents O.puts O.broken out.new) }
 {
     match leave_turns(rt, matches, kept, &made) {
@@ -178,9 +182,12 @@ fn trace_plan<
 ) -> Result<u8, Fault>
 where
     R::Started: Streams,
+    requires { IsKeptFor matches.now behind.old.kept }
     ensures { TracesPlan (opened_contents R.File.contents)
         (Runs R.Started R.Started.Stderr R.Started.Stdout.remaining
         R.Started.Stdin.contents (value_of matches.now (codes "host")) options.workers options.limit plan)
+        (WritesEvents (opened_contents R.File.contents) (value_of matches.now (codes "host")) options.workers
+        options.limit plan (value_of matches.now (codes "turns-out")))
         matches.now options.workers result
         (writer_of O.contents O.puts O.broken out.old) (writer_of O.contents O.puts O.broken out.new)
         (writer_of E.contents E.puts E.broken err.old) (writer_of E.contents E.puts E.broken err.new) }
@@ -218,9 +225,12 @@ fn trace_to<R: Files + Processes + Threads + Wait + Sync + AllocGlobal, O: Write
 ) -> Traced<O, E>
 where
     R::Started: Streams,
+    requires { IsKeptFor matches.now behind.old.kept }
     ensures { TracesOut (opened_contents R.File.contents)
         (Runs R.Started R.Started.Stderr R.Started.Stdout.remaining
         R.Started.Stdin.contents (value_of matches.now (codes "host")) options.workers options.limit plan)
+        (WritesEvents (opened_contents R.File.contents) (value_of matches.now (codes "host")) options.workers
+        options.limit plan (value_of matches.now (codes "turns-out")))
         matches.now options.workers result.status (O.contents out) (O.contents result.out)
         (E.contents err) (E.contents result.err) }
 {
@@ -255,6 +265,8 @@ where
     ensures { TracesWords (opened_contents R.File.contents)
         (Runs R.Started R.Started.Stderr R.Started.Stdout.remaining R.Started.Stdin.contents
         (value_of matches.now (codes "host")) options.workers options.limit)
+        (λ plan. WritesEvents (opened_contents R.File.contents) (value_of matches.now (codes "host")) options.workers
+        options.limit plan (value_of matches.now (codes "turns-out")))
         matches.now options.workers result.status (O.contents out) (O.contents result.out) }
 {
     let Prepared {

@@ -4,10 +4,12 @@ ghost use Rattle.std.specs.Prelude.{◌≡◌, [], IfErr, IfOk, IfSome, IsSome, 
 ghost use Rattle.std.specs.Io.Buffered.{writer_buffer, writer_contents};
 ghost use Rattle.std.specs.Io.KnownBytes.{Appends};
 ghost use Rattle.pt_kernel.specs.Noted.{all_events, events_in};
-ghost use Rattle.pt_schedule.specs.Written.{event_word, words_text};
+ghost use Rattle.pt_schedule.specs.Written.{IsNumbered, event_word, words_text};
 ghost use Rattle.trace_command.specs.Faults.{IsUnopened};
 ghost use Rattle.trace_command.specs.Tracing.{value_of};
-ghost use Rattle.trace_command.specs.TurnsOut.{is_first, kept, left_after, left_behind, text_behind, turns_text};
+ghost use Rattle.trace_command.specs.TurnsOut.{is_first, kept, left_after, left_behind, text_behind};
+ghost use Rattle.trace_command.specs.TurnsOut.{AreNumbered, WritesTurns, turns_text};
+ghost use Rattle.front_end.specs.Streams.{opened_contents};
 
 use crate::fault::unopened;
 use clap::ArgMatches;
@@ -37,6 +39,7 @@ fn write_event<W: Write>(writer: &mut W, event: Event, left: u64) -> io::Result<
     ensures left { IfOk result (λ rest. rest ≡ left_after left event) }
     ensures text { OnOk result (Appends (W.contents writer.old) (W.contents writer.new)
         (words_text (map event_word (kept left event)))) }
+    ensures number { IsNumbered (event_word event) }
 {
     if is_first(event, left) {
         return Ok(left.saturating_sub(1));
@@ -50,6 +53,7 @@ fn write_row<W: Write>(writer: &mut W, row: &EventRow, left: u64) -> io::Result<
     ensures left { IfOk result (λ rest. rest ≡ left_behind left (events_in row.now)) }
     ensures text { OnOk result (Appends (W.contents writer.old) (W.contents writer.new)
         (text_behind left (events_in row.now))) }
+    ensures numbers { OnOk result (AreNumbered (events_in row.now)) }
 {
     let mut rest = left;
     for _ in 0..row.times {
@@ -59,7 +63,9 @@ fn write_row<W: Write>(writer: &mut W, row: &EventRow, left: u64) -> io::Result<
 }
 
 fn write_rows<W: Write>(writer: &mut W, rows: &[EventRow]) -> io::Result<()>
-    ensures { OnOk result (Appends (W.contents writer.old) (W.contents writer.new) (turns_text (all_events rows.now))) }
+    ensures text { OnOk result
+        (Appends (W.contents writer.old) (W.contents writer.new) (turns_text (all_events rows.now))) }
+    ensures numbers { OnOk result (AreNumbered (all_events rows.now)) }
 {
     let mut left = SERVED_FIRST;
     for row in rows {
@@ -73,13 +79,16 @@ fn write_events<W: Write + Drop>(writer: &mut BufWriter<W>, events: &Events) -> 
     ensures text { OnOk result (IfSome events.now (λ all. Appends (writer_contents W.contents writer.old)
         (writer_contents W.contents writer.new) (turns_text all))) }
     ensures whole { OnOk result (writer_buffer writer.new ≡ []) }
+    ensures numbers { OnOk result (IfSome events.now AreNumbered) }
 {
     write_rows(writer, events.rows())?;
     writer.flush()
 }
 
 /// Writes the events to the file of this name. An older one stays until they are whole.
-fn write_words<R: Files + AllocGlobal>(rt: &R, path: &str, events: &Events) -> io::Result<()> {
+fn write_words<R: Files + AllocGlobal>(rt: &R, path: &str, events: &Events) -> io::Result<()>
+    ensures { OnOk result (IfSome events.now (WritesTurns (opened_contents R.File.contents) path.now)) }
+{
     let file = NewFile::new(rt, path)?;
     let mut writer = BufWriter::new(rt.alloc(), file)?;
     write_events(&mut writer, events)
@@ -109,11 +118,9 @@ pub fn check_turns<R: Files + AllocGlobal>(rt: &R, matches: &ArgMatches) -> Resu
 }
 
 /// Writes the events to the file of this name, a word a line as `--turns` reads them.
-pub fn write_turns<R: Files + AllocGlobal>(
-    rt: &R,
-    path: &str,
-    events: &Events,
-) -> Result<(), Fault> {
+pub fn write_turns<R: Files + AllocGlobal>(rt: &R, path: &str, events: &Events) -> Result<(), Fault>
+    ensures { OnOk result (IfSome events.now (WritesTurns (opened_contents R.File.contents) path.now)) }
+{
     match write_words(rt, path, events) {
         Ok(()) => Ok(()),
         Err(error) => Err(unwritten(rt.alloc(), path, error)),

@@ -42,7 +42,7 @@ pub returns-in-Ok-run_to_place-clause-notes : goal.returns-in-Ok-run_to_place-cl
 returns-in-Ok-run_to_place-clause-notes g c e =
     let host = value_of c.args.matches.now (codes "host") in
     let asked = c.args.behind.now.kept.asked.events in
-    let noted = c.run_to_place.new.behind.kept.record.events in
+    let noted = c.run_to_place.new.behind.kept.known.events in
     settled_well c.args.place c.in-Ok-run_to_place.ended c.settle.result _ _
     (NotesOf host c.args.options.workers c.args.options.limit c.args.plan asked noted) c.settle.ensures e
     (on_ok_more c.in-Ok-run_to_place.ended
