@@ -5,7 +5,7 @@ use Rattle.lx_abi.specs.declared.schedule.Word.{Word}
 use Rattle.lx_abi.specs.declared.schedule.Word.TheVariants as word
 use Rattle.lx_kernel.specs.Runs.{Run, after_turn, is_able_in}
 use Rattle.pt_schedule.specs.Cycle.{first_able, found_or, next_able}
-use Rattle.pt_schedule.specs.Schedules.{Given, GivenTurn, Readiness, end_of, turn_of, by_word, go_on, next_row, left_in_row, goes_on, next_by, unserved, given_turn, next_turn_of, worded, most_events}
+use Rattle.pt_schedule.specs.Schedules.{Given, GivenTurn, Readiness, end_of, turn_of, turn_with, by_word, go_on, next_row, left_in_row, goes_on, next_by, unserved, given_turn, next_turn_of, worded, most_events}
 use Rattle.pt_schedule.specs.Untraced.{readiness_of}
 use Rattle.pt_schedule.specs.declared.schedule.Order.TheVariants as order
 use Rattle.pt_schedule.specs.declared.schedule.Schedule.{Schedule}
@@ -137,7 +137,7 @@ idle : (k : Run) (w : Worded) (row : Option Row) → HasPid row → ((q : ℕ) �
     → pid_of (go_on w (readiness_of k) row) ≡ None
 idle k w None has none = ap (λ o. pid_of (next_row w o)) (none_able (readiness_of k).able (readiness_of k).last_pid 0 none)
 idle k w (Some r) has none =
-    ap (λ b. pid_of (cond (b && nat_lt 0 r.left) (turn_of w r.pid) (next_row w (next_able (readiness_of k).able (readiness_of k).last_pid r.pid)))) (none r.pid has)
+    ap (λ b. pid_of (cond (b && nat_lt 0 r.left) (turn_with w r.pid (r.left - 1)) (next_row w (next_able (readiness_of k).able (readiness_of k).last_pid r.pid)))) (none r.pid has)
     ∙ ap (λ o. pid_of (next_row w o)) (none_able (readiness_of k).able (readiness_of k).last_pid r.pid none)
 
 -- the run ends
