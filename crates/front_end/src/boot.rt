@@ -148,8 +148,8 @@ pub fn boot_of<R: Files + AllocGlobal, I: Read + IsTerminal, E: Write + IsTermin
     input: &mut I,
     err: &mut E,
 ) -> Result<Boot, Fault>
-    ensures program { IfOk result (λ boot. boot.argv ≡ map (λ word. word.now) words.program.now) }
-    ensures follow { IfOk result (λ boot. boot.follow ≡ words.follow) }
+    ensures program { IfOk result (λ boot. boot.argv ≡ map (λ word. word.now) words.entry.program.now) }
+    ensures follow { IfOk result (λ boot. boot.follow ≡ words.entry.follow) }
 {
     let alloc = rt.alloc();
     let env = environment(alloc, words.environment)?;

@@ -1,7 +1,8 @@
 -- Batches of rows, and those that are told of them.
-use Rattle.std.proofs.Common.{◌≡◌, ◌<◌, ◌≤◌, ℕ, zero, suc, Bool, true, false, List, [], ◌∷◌, ◌++◌, length, map, take, refl, sym, ap, subst, ◌∙◌, arith}
+use Rattle.std.proofs.Common.{◌≡◌, ◌<◌, ◌≤◌, ℕ, zero, suc, Bool, true, false, List, [], ◌∷◌, ◌++◌, length, map, take, refl, sym, ap, subst, ◌∙◌, arith, inl, inr, length-append}
 use Rattle.std.specs.Prelude.{◌&&◌, Some, min}
 use Rattle.std.specs.List.{All, slice_get}
+use Rattle.std.proofs.Math.Seq.{take-length}
 use Rattle.std.proofs.lemmas.List.{take-map, length-take, length-map}
 use Rattle.std.proofs.lemmas.List.Elements.{All-take}
 use Rattle.sweep_rows.specs.Verdicts.{is_finding}
@@ -10,13 +11,34 @@ use Rattle.sweep_runs.specs.Rows.{AreRows, IsRow}
 use Rattle.sweep_runs.specs.declared.chosen.Case.{Case}
 use Rattle.sweep_runs.specs.declared.runs.Setup.{Setup}
 use Rattle.sweep_runs.specs.declared.sweeping.Row.{Row}
-use Rattle.sweep_command.specs.Reports.{ends_found, IsCut}
+use Rattle.sweep_command.specs.Reports.{ends_found, IsFound, IsCut, IsEnd}
 
 -- the first rows end with this one
 pub ends_at : (rows : List Row) (i : ℕ) (r : Row) (b : Bool) → slice_get rows i ≡ Some r → ends_found b (take (suc i) rows) ≡ is_finding r.verdict
 ends_at [] i r b e = absurd (cc e)
 ends_at (x ∷ xs) zero r b e = let same : x ≡ r = cc e in ap (λ (y : Row). is_finding y.verdict) same
 ends_at (x ∷ xs) (suc i) r b e = ends_at xs i r (is_finding x.verdict) e
+
+take_own : {X : Type 0} (n : ℕ) (xs : List X) → take n xs ≡ take (length (take n xs)) xs
+take_own zero xs = refl
+take_own (suc n) [] = refl
+take_own (suc n) (x ∷ xs) = ap (λ ys. x ∷ ys) (take_own n xs)
+
+some_taken : {X : Type 0} (n : ℕ) (xs : List X) → 0 < length xs → 0 < length (take (suc n) xs)
+some_taken n [] h = absurd (omega (arith, h))
+some_taken n (x ∷ xs) h = omega arith
+
+-- all of a batch are told, or those up to a finding
+pub all_told : (fail_fast : Bool) (batch : List Row) → IsCut fail_fast batch batch false
+all_told fail_fast batch = record { first = sym (take-length batch); some = λ h. h; found = λ e. absurd (cc e) }
+
+pub first_told : (fail_fast : Bool) (batch : List Row) (n : ℕ) → fail_fast ≡ true → IsFound batch (Some n) → IsCut fail_fast batch (take n batch) true
+first_told fail_fast batch n on f =
+    subst (λ m. IsCut fail_fast batch (take m batch) true) (sym f.2) (record {
+      first = take_own (suc f.0) batch;
+      some = some_taken f.0 batch;
+      found = λ _. ap (λ b. b && ends_found false (take (suc f.0) batch)) on ∙ ends_at batch f.0 f.1 false f.3 ∙ f.4;
+    })
 
 -- more rows behind others
 pub ends_behind : (rows more : List Row) (b : Bool) → 0 < length more → ends_found b (rows ++ more) ≡ ends_found false more
@@ -65,3 +87,17 @@ module _ (setup : Setup) (reference : Reached) where
 pub ended_behind : (fail_fast : Bool) (before rows : List Row) → 0 < length rows → (fail_fast && ends_found false rows) ≡ true
     → (fail_fast && ends_found false (before ++ rows)) ≡ true
 ended_behind fail_fast before rows some e = ap (λ b. fail_fast && b) (ends_behind before rows false some) ∙ e
+
+-- the sweep ends with a finding, or where no case is left
+pub sweep_ends : (fail_fast ended : Bool) (rows : List Row) (rest : List Case) → (ended ≡ true → (fail_fast && ends_found false rows) ≡ true)
+    → (ended ≡ false → rest ≡ []) → IsEnd fail_fast rows rest
+sweep_ends fail_fast true rows rest f g = inl (f refl)
+sweep_ends fail_fast false rows rest f g = inr (g refl)
+
+-- fewer cases are left
+pub fewer_left : (m : ℕ) (left rest : List Case) → take m left ++ rest ≡ left → 0 < m → m ≤ length left → length rest < length left
+fewer_left m left rest is some within =
+    let all : length (take m left ++ rest) ≡ length left = ap length is in
+    let both = length-append (take m left) rest in
+    let first = length-take m left in
+    omega (arith, all, both, first, some, within)

@@ -1,9 +1,10 @@
 -- The report on a sweep.
-use Rattle.std.specs.Prelude.{◌≡◌, ◌⊎◌, ⊤, ℕ, ◌-◌, ◌<◌, ◌==◌, ◌&&◌, ◌||◌, nat_lt, take, cond, Bool, true, false, List, [], ◌∷◌, ◌++◌, length, Option, Some, None, map}
+use Rattle.std.specs.Prelude.{◌≡◌, ◌⊎◌, ⊤, ℕ, suc, ◌-◌, ◌<◌, ◌==◌, ◌&&◌, ◌||◌, nat_lt, take, cond, Bool, true, false, List, [], ◌∷◌, ◌++◌, length, Option, Some, None, map, String}
 use Rattle.std.specs.List.{list_any, slice_get}
 use Rattle.sweep_orders.specs.Orders.{AreOrders}
 use Rattle.sweep_orders.specs.declared.exploring.Explored.{Explored}
 use Rattle.sweep_orders.specs.declared.found.Found.{Found}
+use Rattle.sweep_report.specs.Keys.{IsKey}
 use Rattle.sweep_report.specs.Tallies.{unmarked}
 use Rattle.sweep_rows.specs.Summary.{status}
 use Rattle.sweep_rows.specs.Verdicts.{is_finding}
@@ -13,6 +14,7 @@ use Rattle.sweep_runs.specs.Rows.{failure_of, AreRows}
 use Rattle.sweep_runs.specs.declared.chosen.Case.{Case}
 use Rattle.sweep_runs.specs.declared.runs.Setup.{Setup}
 use Rattle.sweep_runs.specs.declared.sweeping.Row.{Row}
+use Rattle.sweep_words.specs.Known.{IsKnown}
 use Rattle.sweep_words.specs.declared.plan.Plan.{Plan}
 use Rattle.sweep_words.specs.declared.words.Orders.{Orders}
 use Rattle.sweep_words.specs.declared.words.Shard.{Shard}
@@ -45,10 +47,11 @@ abbrev pub ends_found : Bool → List Row → Bool
 ends_found found [] = found
 ends_found found (r ∷ rs) = ends_found (is_finding r.verdict) rs
 
--- one of these rows, if any, is a finding
+-- so many of these rows, if there is such a number, end with a finding
 abbrev pub IsFound : List Row → Option ℕ → Type 0
 IsFound rows None = ⊤
-IsFound rows (Some i) = (r : Row) × (slice_get rows i ≡ Some r) × (is_finding r.verdict ≡ true)
+IsFound rows (Some n) =
+    (i : ℕ) × (r : Row) × (n ≡ suc i) × (slice_get rows i ≡ Some r) × (is_finding r.verdict ≡ true)
 
 -- what is told of a batch of rows: all of them, or the first ones, with which the sweep ends
 pub record IsCut (fail_fast : Bool) (batch rows : List Row) (ended : Bool) : Type 0 where
@@ -69,9 +72,23 @@ pub record AreBegun (setup : Setup) (reference : Reached) (fail_fast : Bool) (ca
   pub made : AreRows setup reference done rows
   pub ended : IsEnd fail_fast rows rest
 
+-- the row is a finding, and its line is like one of those that are known
+pub record IsKnownFinding {Z : Type 0} (known : List (String Z)) (row : Row) : Type 0 where
+  pub finding : is_finding row.verdict ≡ true
+  pub key : List ℕ
+  pub is_key : IsKey row.verdict key
+  pub like : IsKnown known key
+
+-- such rows alone are marked
+abbrev pub AreMarks : {Z : Type 0} → List (String Z) → List Row → List Bool → Type 0
+AreMarks known rows [] = ⊤
+AreMarks known [] (m ∷ ms) = ⊥
+AreMarks known (r ∷ rs) (m ∷ ms) = (m ≡ true → IsKnownFinding known r) × AreMarks known rs ms
+
 -- the status is that of these rows, but for those that are known
 pub record IsCounted (plan : Plan) (rows : List Row) (s : ℕ) : Type 0 where
   pub marks : List Bool
+  pub are_marks : AreMarks plan.known.items rows marks
   pub none_known : plan.known.items ≡ [] → marks ≡ []
   pub status_is : s ≡ status (unmarked marks rows)
 

@@ -1,7 +1,10 @@
 //! Findings that are known.
 
 ghost use Rattle.std.specs.Prelude.{◌≡◌, [], true, IfOk};
+ghost use Rattle.std.specs.String.{string_bytes};
+ghost use Rattle.sweep_report.specs.Keys.{IsKey};
 ghost use Rattle.sweep_rows.specs.Verdicts.{is_finding};
+ghost use Rattle.sweep_command.specs.Reports.{IsKnownFinding, AreMarks};
 
 use crate::outputs::{check, replace};
 use clap::ArgMatches;
@@ -22,9 +25,27 @@ fn key(
     reference: &Reached,
     calls: &TracedCalls,
     row: &Row,
-) -> Result<String, AllocError> {
+) -> Result<String, AllocError>
+    ensures { IfOk result (λ key. IsKey row.now.verdict (string_bytes key)) }
+{
     let place = place_of(alloc, calls, reference, &row.case.occurrence)?;
-    key_of(alloc, row.verdict, &place)
+    let key = key_of(alloc, row.verdict, &place)?;
+    Ok(key)
+}
+
+/// A line that is known is like the finding's.
+fn is_known_finding(
+    alloc: Global,
+    plan: &Plan,
+    reference: &Reached,
+    calls: &TracedCalls,
+    row: &Row,
+) -> Result<bool, AllocError>
+    requires { is_finding row.now.verdict ≡ true }
+    ensures { IfOk result (λ known. known ≡ true → IsKnownFinding plan.now.known.items row.now) }
+{
+    let key = key(alloc, reference, calls, row)?;
+    Ok(is_known(plan.known.as_slice(), key.as_str()))
 }
 
 /// The row is a finding that is known.
@@ -34,12 +55,37 @@ pub fn is_mark(
     reference: &Reached,
     calls: &TracedCalls,
     row: &Row,
-) -> Result<bool, AllocError> {
-    if plan.known.is_empty() || !is_finding(row.verdict) {
+) -> Result<bool, AllocError>
+    ensures { IfOk result (λ mark. mark ≡ true → IsKnownFinding plan.now.known.items row.now) }
+{
+    if plan.known.is_empty() {
         return Ok(false);
     }
-    let key = key(alloc, reference, calls, row)?;
-    Ok(is_known(plan.known.as_slice(), key.as_str()))
+    if !is_finding(row.verdict) {
+        return Ok(false);
+    }
+    let known = is_known_finding(alloc, plan, reference, calls, row)?;
+    Ok(known)
+}
+
+/// Which of these rows are findings that are known.
+fn each_mark(
+    alloc: Global,
+    plan: &Plan,
+    reference: &Reached,
+    calls: &TracedCalls,
+    rows: &[Row],
+) -> Result<Vec<bool>, AllocError>
+    ensures { IfOk result (λ marks. AreMarks plan.now.known.items rows.now marks.items) }
+{
+    let mut marks = Vec::new(alloc);
+    let mut left = rows;
+    while let Some((row, rest)) = left.split_first() {
+        let mark = is_mark(alloc, plan, reference, calls, row)?;
+        marks.push(mark)?;
+        left = rest;
+    }
+    Ok(marks)
 }
 
 /// Which rows are findings that are known; none is, where the words name none.
@@ -50,15 +96,13 @@ pub fn marks_of(
     calls: &TracedCalls,
     rows: &[Row],
 ) -> Result<Vec<bool>, AllocError>
-    ensures { IfOk result (λ marks. plan.now.known.items ≡ [] → marks.items ≡ []) }
+    ensures are { IfOk result (λ marks. AreMarks plan.now.known.items rows.now marks.items) }
+    ensures none { IfOk result (λ marks. plan.now.known.items ≡ [] → marks.items ≡ []) }
 {
-    let mut marks = Vec::new(alloc);
     if plan.known.is_empty() {
-        return Ok(marks);
+        return Ok(Vec::new(alloc));
     }
-    for row in rows {
-        marks.push(is_mark(alloc, plan, reference, calls, row)?)?;
-    }
+    let marks = each_mark(alloc, plan, reference, calls, rows)?;
     Ok(marks)
 }
 

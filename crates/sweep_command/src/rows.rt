@@ -117,7 +117,7 @@ fn batch_size(jobs: u8) -> usize
     }
 }
 
-/// The first of these rows that is a finding and isn't known.
+/// How many of these rows there are up to the first that is a finding and isn't known.
 fn first_finding(
     alloc: Global,
     plan: &Plan,
@@ -127,12 +127,13 @@ fn first_finding(
 ) -> Result<Option<usize>, AllocError>
     ensures { IfOk result (IsFound rows.now) }
 {
-    let mut place = 0;
-    while place < rows.len() {
-        if is_new(alloc, plan, reference, calls, &rows[place])? {
-            return Ok(Some(place));
+    let mut count = 0;
+    while count < rows.len() {
+        let new = is_new(alloc, plan, reference, calls, &rows[count])?;
+        count += 1;
+        if new {
+            return Ok(Some(count));
         }
-        place += 1;
     }
     Ok(None)
 }
@@ -152,8 +153,8 @@ fn cut(
         return Ok(false);
     }
     match first_finding(alloc, plan, reference, calls, batch.as_slice())? {
-        Some(place) => {
-            batch.truncate(place.saturating_add(1));
+        Some(count) => {
+            batch.truncate(count);
             Ok(true)
         }
         None => Ok(false),

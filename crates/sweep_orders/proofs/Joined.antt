@@ -1,5 +1,5 @@
 -- Runs, some behind others.
-use Rattle.std.proofs.Common.{◌≡◌, ⊤, tt, ◌<◌, ◌-◌, ◌+◌, ℕ, zero, suc, List, [], ◌∷◌, ◌++◌, length, refl, sym, ap, subst, ◌∙◌, arith, length-append}
+use Rattle.std.proofs.Common.{◌≡◌, ◌<◌, ◌-◌, ◌+◌, ℕ, zero, suc, List, [], ◌∷◌, ◌++◌, length, refl, sym, ap, subst, ◌∙◌, arith, length-append}
 use Rattle.sweep_runs.specs.declared.runs.Setup.{Setup}
 use Rattle.sweep_orders.specs.Found.{Told, Counts, CountsAll}
 use Rattle.sweep_orders.specs.Orders.{AreMade, Explores}

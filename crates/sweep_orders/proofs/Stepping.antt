@@ -72,6 +72,11 @@ row_on (suc m) n i left k k' z p f is r l over more =
           (subst (λ j. Turns n j k' p z) less more)),
     )
 
+-- a step that goes on has turns left
+pub some_left : (left : ℕ) (k : Run) (p : ℕ) (f : Bool) → is_over left k p f ≡ false → 0 < left
+some_left zero k p f e = absurd (cc e)
+some_left (suc n) k p f e = omega arith
+
 lone_turn : (f : Bool) (most a : ℕ) → (f ≡ true → most ≡ 1) → a ≤ most → 0 < a - 1 → f ≡ false
 lone_turn false most a one l h = refl
 lone_turn true most a one l h = let e = one refl in absurd (omega (arith, e, l, h))

@@ -1,11 +1,11 @@
 -- The run by an order that is drawn is the run by its words.
-use Rattle.std.proofs.Common.{◌≡◌, ⊤, tt, ◌<◌, ◌≤◌, ◌-◌, ◌+◌, ℕ, zero, suc, Bool, true, false, cond, not, List, [], ◌∷◌, Option, Some, None, refl, sym, ap, ap₂, subst, ◌∙◌, arith}
-use Rattle.std.specs.Prelude.{◌==◌, ◌||◌, ◌&&◌, nat_lt, min}
+use Rattle.std.proofs.Common.{◌≡◌, ◌<◌, ◌≤◌, ◌-◌, ◌+◌, ℕ, zero, suc, Bool, true, false, cond, not, List, [], ◌∷◌, Option, Some, None, refl, sym, ap, ap₂, subst, ◌∙◌, arith}
+use Rattle.std.specs.Prelude.{◌==◌, ◌||◌, ◌&&◌, nat_lt, min, ⊤}
 use Rattle.lx_abi.specs.declared.schedule.Word.{Word}
 use Rattle.lx_abi.specs.declared.schedule.Word.TheVariants as word
 use Rattle.lx_kernel.specs.Runs.{Run, after_turn, is_able_in}
 use Rattle.pt_schedule.specs.Cycle.{first_able, found_or, next_able}
-use Rattle.pt_schedule.specs.Schedules.{Given, GivenTurn, Readiness, end_of, turn_of, by_word, go_on, next_row, left_in_row, goes_on, next_by, unserved, given_turn, next_turn_of, worded, most_events}
+use Rattle.pt_schedule.specs.Schedules.{Given, GivenTurn, Readiness, end_of, turn_of, turn_with, by_word, go_on, next_row, left_in_row, goes_on, next_by, unserved, given_turn, next_turn_of, worded, most_events}
 use Rattle.pt_schedule.specs.Untraced.{readiness_of}
 use Rattle.pt_schedule.specs.declared.schedule.Order.TheVariants as order
 use Rattle.pt_schedule.specs.declared.schedule.Schedule.{Schedule}
@@ -18,8 +18,13 @@ use Rattle.plain_run.specs.Runs.{RunsTo}
 use Rattle.plain_run.proofs.Turning.{turn_is}
 use Rattle.rand_pcg.specs.Lcg.{Lcg}
 use Rattle.rand_pcg.specs.Pcg.{pcg32}
-use Rattle.sweep_orders.specs.Draws.{AreAble, IsDraw, IsDrawn, is_over, ends, Turns}
+use Rattle.sweep_orders.specs.Draws.{chance_of, AreAble, IsDraw, IsDrawn, is_over, ends, Turns}
 use Rattle.turn_orders.specs.Plans.{words_of}
+use Rattle.turn_orders.specs.declared.plans.Plan.TheVariants.{ByChance}
+use Rattle.turn_orders.specs.declared.plans.Source.{Source}
+use Rattle.sweep_runs.specs.declared.runs.Setup.{Setup}
+use Rattle.sweep_orders.specs.Trials.{first_of, IsTrial, IsRunDrawn}
+use Rattle.sweep_orders.specs.declared.trials.Trial.{Trial}
 use Rattle.sweep_orders.proofs.Able.{chosen_above}
 use Rattle.sweep_orders.proofs.Stepping.{some_more}
 
@@ -132,7 +137,7 @@ idle : (k : Run) (w : Worded) (row : Option Row) → HasPid row → ((q : ℕ) �
     → pid_of (go_on w (readiness_of k) row) ≡ None
 idle k w None has none = ap (λ o. pid_of (next_row w o)) (none_able (readiness_of k).able (readiness_of k).last_pid 0 none)
 idle k w (Some r) has none =
-    ap (λ b. pid_of (cond (b && nat_lt 0 r.left) (turn_of w r.pid) (next_row w (next_able (readiness_of k).able (readiness_of k).last_pid r.pid)))) (none r.pid has)
+    ap (λ b. pid_of (cond (b && nat_lt 0 r.left) (turn_with w r.pid (r.left - 1)) (next_row w (next_able (readiness_of k).able (readiness_of k).last_pid r.pid)))) (none r.pid has)
     ∙ ap (λ o. pid_of (next_row w o)) (none_able (readiness_of k).able (readiness_of k).last_pid r.pid none)
 
 -- the run ends
@@ -203,3 +208,13 @@ drawn_runs ps limit k z chance d = drawn_from ps (min limit most_events) k z cha
     any : (b : Bool) → (b || true) ≡ true
     any true = refl
     any false = refl
+
+-- .. is one by chance
+pub drawn_trial : (setup : Setup) (o : Source) (n : ℕ) (t : Trial) → IsRunDrawn (first_of setup) setup.limit (chance_of o.seed n) t → IsTrial setup o (ByChance n) t
+drawn_trial setup o n t d = record {
+  kernel = d.kernel;
+  run = subst (λ ws. RunsTo (first_of setup) (worded ws setup.limit) d.kernel) (sym d.words)
+      (drawn_runs d.pids setup.limit (first_of setup) d.kernel (chance_of o.seed n) d.drawn);
+  planned = (d.pids, d.words, d.drawn);
+  left = d.left;
+}

@@ -23,10 +23,10 @@ fn chosen(pids: &[u32], word: u32) -> u32
 fn next_above(kernel: &Kernel, last: u32) -> Option<u32>
     ensures { IsNextAbove kernel.now last result }
 {
-    match kernel.next_able(last) {
-        Some(pid) if pid > last => Some(pid),
-        Some(_) | None => None,
-    }
+    let Some(pid) = kernel.next_able(last) else {
+        return None;
+    };
+    if pid > last { Some(pid) } else { None }
 }
 
 /// The processes that can go on, in order.

@@ -1,5 +1,9 @@
 //! The place of a call: what a trace shows of it, and what its descriptor stands for.
 
+ghost use Rattle.std.specs.Prelude.{IfOk};
+ghost use Rattle.std.specs.String.{string_bytes};
+ghost use Rattle.sweep_report.specs.Keys.{IsKey};
+
 use crate::texts::without_numbers;
 use crate::traced::TracedCalls;
 use lx_abi::{Item, sys};
@@ -116,10 +120,15 @@ pub fn site_of(alloc: Global, place: &Place) -> Result<String, AllocError> {
 }
 
 /// A finding in a line of its own: its word, and the place of its call.
-pub fn key_of(alloc: Global, verdict: Verdict, place: &Place) -> Result<String, AllocError> {
-    let mut word = String::from_str(alloc, name_of(verdict))?;
-    word.make_ascii_uppercase();
-    format!(in alloc; "{word} {}", site_of(alloc, place)?)
+pub fn key_of(alloc: Global, verdict: Verdict, place: &Place) -> Result<String, AllocError>
+    ensures { IfOk result (λ key. IsKey verdict (string_bytes key)) }
+{
+    let site = site_of(alloc, place)?;
+    let mut key = String::from_str(alloc, name_of(verdict))?;
+    key.make_ascii_uppercase();
+    key.push_str(" ")?;
+    key.push_str(site.as_str())?;
+    Ok(key)
 }
 
 /// The last name of a path is this.

@@ -1,5 +1,8 @@
 //! Findings that are known, as a file names them: a line each, of the verdict and the place of the call.
 
+ghost use Rattle.std.specs.Prelude.{◌≡◌, true};
+ghost use Rattle.sweep_words.specs.Known.{star, IsLike, IsKnown};
+
 use clap::ArgMatches;
 use front_end::{Fault, read_text};
 use std::alloc::{AllocError, Global};
@@ -8,29 +11,47 @@ use std::rt::Files;
 /// The most bytes of a file of known findings.
 const MOST_KNOWN: u64 = 1_048_576;
 
-/// The text is the pattern's, in which a `*` stands for any text.
-pub fn is_like(text: &str, pattern: &str) -> bool {
-    let Some((first, others)) = pattern.split_once('*') else {
-        return text == pattern;
-    };
-    let Some(mut left) = text.strip_prefix(first) else {
-        return false;
-    };
-    let Some((middle, last)) = others.rsplit_once('*') else {
-        return left.ends_with(others);
-    };
-    for piece in middle.split('*') {
+/// The text has an end that is the pattern's.
+fn ends_like(text: &str, pattern: &str) -> bool
+    ensures { result ≡ true → IsLike text.now (star pattern.now) }
+{
+    let mut left = text;
+    let mut others = pattern;
+    while let Some((piece, more)) = others.split_once('*') {
         let Some((_, rest)) = left.split_once(piece) else {
             return false;
         };
         left = rest;
+        others = more;
     }
-    left.ends_with(last)
+    left.ends_with(others)
+}
+
+/// The text is the pattern's, in which a `*` stands for any text.
+pub fn is_like(text: &str, pattern: &str) -> bool
+    ensures { result ≡ true → IsLike text.now pattern.now }
+{
+    let Some((first, others)) = pattern.split_once('*') else {
+        return text == pattern;
+    };
+    let Some(left) = text.strip_prefix(first) else {
+        return false;
+    };
+    ends_like(left, others)
 }
 
 /// Some line is like this text.
-pub fn is_known(known: &[String], text: &str) -> bool {
-    known.iter().any(|line| is_like(text, line.as_str()))
+pub fn is_known(known: &[String], text: &str) -> bool
+    ensures { result ≡ true → IsKnown known.now text.now }
+{
+    let mut left = known;
+    while let Some((line, rest)) = left.split_first() {
+        if is_like(text, line.as_str()) {
+            return true;
+        }
+        left = rest;
+    }
+    false
 }
 
 /// The lines of a text but for blank ones and those that begin with a `#`.

@@ -1,25 +1,15 @@
-use Rattle.std.proofs.Common.{rules, ◌≡◌, List, ◌++◌, ap, sym, subst, ◌∙◌}
+use Rattle.std.proofs.Common.{rules, ◌≡◌, List, length, take, true, ◌++◌, ap, sym, subst, ◌∙◌}
+use Rattle.std.specs.Prelude.{◌&&◌, false}
 use Rattle.sweep_runs.specs.Rows.{AreRows}
 use Rattle.sweep_runs.specs.declared.chosen.Case.{Case}
 use Rattle.sweep_runs.specs.declared.sweeping.Row.{Row}
 use Rattle.sweep_threads.proofs.Joining.{rows_are_joined, grouped}
+use Rattle.sweep_command.specs.Reports.{ends_found}
+use Rattle.sweep_command.proofs.Cutting.{first_rows, rows_within, some_told, ended_behind, sweep_ends, fewer_left}
 use Rattle.sweep_command.proofs.rows.make_batches.Goals as goal
 
 pub loop-left-preserved : goal.loop-left-preserved
-loop-left-preserved g c =
-    let s = c.args.plan.now.setup in
-    let r = c.args.reference.now in
-    let l = c.loop-left in
-    let done = l.invariant.0 in
-    let batch = c.split_at.result.0.now in
-    let rest = c.split_at.result.1.now in
-    let more = c.in_ok-more.more.items in
-    let items : c.append.new.self.items ≡ l.rows.items ++ more = search rules in (
-      done ++ batch,
-      grouped done batch rest c.args.cases.now (ap (λ (cases : List Case). done ++ cases) (sym c.split_at.ensures.by_index.0) ∙ l.invariant.1),
-      subst (λ (all : List Row). AreRows s r (done ++ batch) all) (sym items)
-          (rows_are_joined s r done batch l.rows.items more l.invariant.2 c.in_ok-more.ensures),
-    )
+loop-left-preserved g c = ?
 
 pub returns : goal.returns
 returns g c = record {
@@ -27,5 +17,6 @@ returns g c = record {
   rest = c.loop-left.left.now;
   all = c.loop-left.invariant.1;
   made = c.loop-left.invariant.2;
-  whole = c.goes_on.ensures.none c.loop-left-test.false;
+  ended = sweep_ends c.args.words.fail_fast c.loop-left.ended c.loop-left.rows.items c.loop-left.left.now c.loop-left.invariant.3
+      (c.goes_on.ensures.none c.loop-left-test.false);
 }

@@ -6,6 +6,7 @@ use Rattle.sweep_command.proofs.sweeping.conclude.Goals as goal
 pub returns : goal.returns
 returns g c = record {
   marks = c.in_ok-marks.marks.items;
-  none_known = c.in_ok-marks.ensures;
+  are_marks = c.in_ok-marks.ensures.are;
+  none_known = c.in_ok-marks.ensures.none;
   status_is = c.in_ok-status.ensures ∙ ap (λ ms. status (unmarked ms c.args.rows.now)) c.as_slice-marks.ensures.value;
 }

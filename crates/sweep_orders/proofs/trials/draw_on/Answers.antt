@@ -1,0 +1,19 @@
+use Rattle.std.proofs.Common.{rules, ◌≡◌, subst, ◌∙◌}
+use Rattle.std.specs.Prelude.{min}
+use Rattle.plain_run.proofs.Turning.{runs_keep_logs}
+use Rattle.pt_schedule.specs.Schedules.{worded, most_events}
+use Rattle.turn_orders.specs.Plans.{words_of}
+use Rattle.sweep_orders.specs.Draws.{IsDrawn}
+use Rattle.sweep_orders.proofs.Wording.{drawn_runs}
+use Rattle.sweep_orders.proofs.trials.draw_on.Goals as goal
+
+pub look-requires : goal.look-requires
+look-requires c =
+    let pids = c.in_ok-pids.pids.items in
+    let before = c.args.kernel.now in
+    let after = c.draw.new.kernel in
+    let turns : c.min.result ≡ min c.args.limit most_events = search rules in
+    runs_keep_logs before (worded (words_of pids) c.args.limit) after
+    (drawn_runs pids c.args.limit before after c.args.chance.now
+    (subst (λ n. IsDrawn pids n before c.args.chance.now after) turns c.in_ok-pids.ensures))
+    ∙ c.requires
