@@ -1,5 +1,5 @@
 -- What is written where no run was made.
-use Rattle.std.proofs.Common.{◌≡◌, ◌⊎◌, ℕ, List, Option, Some, None, IsSome, Result, Ok, Err, OnErr, inl, inr, refl, sym, subst, ◌∙◌, true}
+use Rattle.std.proofs.Common.{◌≡◌, ◌⊎◌, ℕ, List, Option, Some, None, IsSome, Result, Ok, Err, IfErr, inl, inr, refl, sym, subst, ◌∙◌, true}
 use Rattle.std.proofs.Common.{true≢false}
 use Rattle.clap.specs.declared.parser.matches.ArgMatches.{ArgMatches}
 use Rattle.lx_abi.specs.declared.boot.Boot.{Boot}
@@ -8,7 +8,7 @@ use Rattle.lx_abi.specs.declared.schedule.Word.{Word}
 use Rattle.front_end.specs.declared.fault.Fault.{Fault}
 use Rattle.front_end.specs.declared.fault.Fault.TheVariants as the
 use Rattle.trace_run.specs.Writers.{Writer}
-use Rattle.trace_command.specs.Faults.{IsUnhosted, IsUnopened, is_out_of_turns}
+use Rattle.trace_command.specs.Faults.{IsUnhosted, IsUnopened, IsUnwritable, is_out_of_turns}
 use Rattle.trace_command.specs.Tracing.{IsOnThreads, Lacks, LacksAt, Leaves, LeavesAfter, Takes, Unmade}
 use Rattle.trace_command.specs.declared.kernel.Kernel.{Kernel}
 use Rattle.trace_command.specs.declared.kernel.Kernel.TheVariants.{Here, OnThreads, There}
@@ -56,10 +56,11 @@ failed lacks fault result out middle out' err err' h l =
 left_after : (host : Option (List ℕ)) (workers : Option Workers) (files : Type 0) (words : ArgMatches) (asked : Type 0)
     (turned : Result (Unit {0}) Fault) (fault : Fault) (result : Result ℕ Fault) (out middle out' err err' : Writer)
     → Unmade {A = Outcome} (Lacks host workers files) (Err fault) out middle err err'
-    → OnErr turned (asked × (is_out_of_turns fault ≡ true)) → LeavesAfter words turned (Err fault) result middle out'
+    → IfErr turned (λ t. IsUnwritable t × (asked × (is_out_of_turns fault ≡ true)))
+    → LeavesAfter words turned (Err fault) result middle out'
     → Unmade (Lacks host workers files) result out out' err err'
 left_after host workers files words asked (Err t) fault result out middle out' err err' h o l =
-    absurd (not_ended host workers files fault h.0 o.1)
+    absurd (not_ended host workers files fault h.0 o.1.1)
 left_after host workers files words asked (Ok u) fault result out middle out' err err' h o l =
     failed (Lacks host workers files) fault result out middle out' err err' h l
 

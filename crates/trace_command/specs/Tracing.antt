@@ -265,7 +265,8 @@ LeavesAfter words (Ok u) (Ok outcome) result old new = Left words outcome result
 abbrev pub Leaves : ArgMatches → Type 0 → Result Outcome Fault → Result ℕ Fault → Writer → Writer → Type 0
 Leaves words file made result old new =
     (turned : Result (Unit {0}) Fault)
-    × (OnErr turned (IsSome (value_of words (codes "turns-out")) × (has_ended made ≡ true))
+    × (IfErr turned
+    (λ fault. IsUnwritable fault × (IsSome (value_of words (codes "turns-out")) × (has_ended made ≡ true)))
     × (LeavesAfter words turned made result old new
     × OnOk turned (has_ended made ≡ true → file)))
 

@@ -1,6 +1,7 @@
 //! A plan made once more, where the run that was made of it left no host in this process.
 
-ghost use Rattle.std.specs.Prelude.{◌≡◌, None};
+ghost use Rattle.std.specs.Prelude.{◌≡◌, None, IfErr};
+ghost use Rattle.trace_command.specs.Faults.{IsUnwritable};
 
 use crate::kept::Kept;
 use crate::kernel::run_here;
@@ -12,7 +13,8 @@ use trace_run::Written;
 
 /// Makes the run once more in this process, where a host elsewhere made it, and keeps what it leaves beside the counts.
 pub fn make_again(alloc: Global, kept: &mut Kept) -> Result<(), Fault>
-    ensures { kept.old.second ≡ None → kept.new.known.events ≡ kept.old.known.events }
+    ensures once { kept.old.second ≡ None → kept.new.known.events ≡ kept.old.known.events }
+    ensures fault { IfErr result (λ fault. IsUnwritable fault) }
 {
     let Some(plan) = kept.second.take() else {
         return Ok(());

@@ -1,9 +1,9 @@
 //! A traced run.
 
-ghost use Rattle.std.specs.Prelude.{◌≡◌, Ok, IsSome, IfOk, OnErr, OnOk, codes, true};
+ghost use Rattle.std.specs.Prelude.{◌≡◌, Ok, IsSome, IfErr, IfOk, OnErr, OnOk, codes, true};
 ghost use Rattle.front_end.specs.Streams.{opened_contents};
 ghost use Rattle.trace_run.specs.Writers.{writer_of};
-ghost use Rattle.trace_command.specs.Faults.{has_ended};
+ghost use Rattle.trace_command.specs.Faults.{IsUnwritable, has_ended};
 ghost use Rattle.trace_command.specs.Noting.{IsKeptFor, WritesEvents, WritesNoted};
 ghost use Rattle.trace_command.specs.Tracing.{Leaves, Left, PutsConsole, Runs};
 ghost use Rattle.trace_command.specs.Tracing.{TracesOut, TracesPlan, TracesWords};
@@ -121,7 +121,8 @@ fn leave_turns<R: Files + AllocGlobal>(
     kept: &mut Kept,
     made: &Result<Outcome, Fault>,
 ) -> Result<(), Fault>
-    ensures fault { OnErr result (IsSome (value_of matches.now (codes "turns-out")) × (has_ended made.now ≡ true)) }
+    ensures fault { IfErr result (λ fault. IsUnwritable fault
+        × (IsSome (value_of matches.now (codes "turns-out")) × (has_ended made.now ≡ true))) }
     ensures file { OnOk result (has_ended made.now ≡ true
         → WritesNoted (opened_contents R.File.contents) (value_of matches.now (codes "turns-out")) kept.old) }
 {

@@ -5,7 +5,7 @@ ghost use Rattle.std.specs.Io.Buffered.{writer_buffer, writer_contents};
 ghost use Rattle.std.specs.Io.KnownBytes.{Appends};
 ghost use Rattle.pt_kernel.specs.Noted.{all_events, events_in};
 ghost use Rattle.pt_schedule.specs.Written.{IsNumbered, event_word, words_text};
-ghost use Rattle.trace_command.specs.Faults.{IsUnopened};
+ghost use Rattle.trace_command.specs.Faults.{IsUnopened, IsUnwritable};
 ghost use Rattle.trace_command.specs.Tracing.{value_of};
 ghost use Rattle.trace_command.specs.TurnsOut.{is_first, kept, left_after, left_behind, text_behind};
 ghost use Rattle.trace_command.specs.TurnsOut.{AreNumbered, WritesTurns, turns_text};
@@ -94,7 +94,9 @@ fn write_words<R: Files + AllocGlobal>(rt: &R, path: &str, events: &Events) -> i
     write_events(&mut writer, events)
 }
 
-fn unwritten(alloc: Global, path: &str, error: io::Error) -> Fault {
+fn unwritten(alloc: Global, path: &str, error: io::Error) -> Fault
+    ensures { IsUnwritable result }
+{
     if error.kind() == ErrorKind::OutOfMemory {
         return Fault::Memory;
     }
@@ -119,7 +121,8 @@ pub fn check_turns<R: Files + AllocGlobal>(rt: &R, matches: &ArgMatches) -> Resu
 
 /// Writes the events to the file of this name, a word a line as `--turns` reads them.
 pub fn write_turns<R: Files + AllocGlobal>(rt: &R, path: &str, events: &Events) -> Result<(), Fault>
-    ensures { OnOk result (IfSome events.now (WritesTurns (opened_contents R.File.contents) path.now)) }
+    ensures text { OnOk result (IfSome events.now (WritesTurns (opened_contents R.File.contents) path.now)) }
+    ensures fault { IfErr result (λ fault. IsUnwritable fault) }
 {
     match write_words(rt, path, events) {
         Ok(()) => Ok(()),
