@@ -1,4 +1,4 @@
-use Rattle.std.proofs.Common.{◌++◌, Bool, List, [], ◌∷◌, ap, sym, subst, tt, ◌∙◌, append_assoc, append-nil}
+use Rattle.std.proofs.Common.{◌++◌, Bool, List, [], ◌∷◌, ap, sym, subst, ◌∙◌, append_assoc, append-nil}
 use Rattle.sweep_runs.specs.declared.sweeping.Row.{Row}
 use Rattle.sweep_command.specs.Reports.{AreMarks}
 use Rattle.sweep_command.proofs.knowing.each_mark.Goals as goal
