@@ -1,4 +1,5 @@
 pub mod Counting
 pub mod Alone
+pub mod Indexing
 pub mod Holding
 pub mod Knowing

@@ -6,6 +6,7 @@ pub mod Streams
 pub mod Calls
 pub mod Endings
 pub mod Files
+pub mod Index
 pub mod Verdicts
 pub mod Summary
 pub mod Possible

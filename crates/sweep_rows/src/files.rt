@@ -3,13 +3,14 @@
 ghost use Rattle.std.specs.Prelude.{◌≡◌, ◌++◌, IfOk, OnOk, option_map};
 ghost use Rattle.std.specs.List.{flat_map};
 ghost use Rattle.std.specs.Option.{option_copied};
-ghost use Rattle.sweep_rows.specs.Files.{content_of, left_at, given_at, begins, same_content, holds, is_cut};
+ghost use Rattle.sweep_rows.specs.Files.{begins, same_content, holds, is_cut};
 ghost use Rattle.sweep_rows.specs.Files.{there_word, changed_word, word_of, is_bad, is_whole, is_elsewhere};
 ghost use Rattle.sweep_rows.specs.Files.{stands_elsewhere, is_null, note_of, note_at, note_given, note_new};
 ghost use Rattle.sweep_rows.specs.Files.{file_notes};
 
+use crate::index::{GivenFiles, LeftFiles, content_of};
 use containers::Bytes;
-use lx_abi::{GuestFile, Node, OutcomeFile};
+use lx_abi::{GuestFile, OutcomeFile};
 use std::alloc::{AllocError, Global};
 
 /// How a file stands, which isn't as the reference leaves it. The numbers are the bytes that it has, and those that the
@@ -39,35 +40,6 @@ pub struct FileNote {
     pub word: Word,
     /// It is torn or gone, and another file has all that it had before or has in the reference.
     pub saved: bool,
-}
-
-fn content_of(node: &Node) -> &[u8]
-    ensures { result.now ≡ content_of node.now }
-{
-    match node {
-        Node::File(bytes) => bytes.as_slice(),
-        Node::Directory => &[],
-    }
-}
-
-/// What a run left at a path.
-fn left_at<'a>(files: &'a [OutcomeFile], path: &[u8]) -> Option<&'a [u8]>
-    ensures { option_copied result ≡ left_at files.now path.now }
-{
-    match files.iter().find(|file| file.path.as_slice() == path) {
-        Some(file) => Some(content_of(&file.node)),
-        None => None,
-    }
-}
-
-/// What a boot has at a path.
-fn given_at<'a>(files: &'a [GuestFile], path: &[u8]) -> Option<&'a [u8]>
-    ensures { option_copied result ≡ given_at files.now path.now }
-{
-    match files.iter().find(|file| file.path.as_slice() == path) {
-        Some(file) => Some(file.content.as_slice()),
-        None => None,
-    }
 }
 
 fn same_content(a: Option<&[u8]>, b: Option<&[u8]>) -> bool
@@ -203,23 +175,23 @@ fn is_null(path: &[u8]) -> bool
 
 /// Adds what is to be noted of a path.
 #[tactic(auto, unfolding(crate::specs::Files::note_at))]
-fn add_note(
+fn add_note<'a>(
     alloc: Global,
     notes: &mut Vec<FileNote>,
-    boot: &[GuestFile],
-    reference: &[OutcomeFile],
-    run: &[OutcomeFile],
-    path: &[u8],
+    boot: &GivenFiles<'a>,
+    reference: &LeftFiles<'a>,
+    run: &LeftFiles<'a>,
+    path: &'a [u8],
 ) -> Result<(), AllocError>
     ensures { OnOk result (notes.new.items ≡ notes.old.items ++ note_at boot.now reference.now run.now path.now) }
 {
     if is_null(path) {
         return Ok(());
     }
-    let before = given_at(boot, path);
-    let after = left_at(reference, path);
-    if let Some(word) = word_of(before, after, left_at(run, path)) {
-        let saved = is_bad(word) && stands_elsewhere(run, path, before, after);
+    let before = boot.at(path);
+    let after = reference.at(path);
+    if let Some(word) = word_of(before, after, run.at(path)) {
+        let saved = is_bad(word) && stands_elsewhere(run.list(), path, before, after);
         let path = Bytes::from_slice(alloc, path)?;
         notes.push(FileNote { path, word, saved })?;
     }
@@ -227,51 +199,51 @@ fn add_note(
 }
 
 #[tactic(auto, unfolding(crate::specs::Files::note_given))]
-fn add_given(
+fn add_given<'a>(
     alloc: Global,
     notes: &mut Vec<FileNote>,
-    boot: &[GuestFile],
-    reference: &[OutcomeFile],
-    run: &[OutcomeFile],
-    path: &[u8],
+    boot: &GivenFiles<'a>,
+    reference: &LeftFiles<'a>,
+    run: &LeftFiles<'a>,
+    path: &'a [u8],
 ) -> Result<(), AllocError>
     ensures { OnOk result
         (notes.new.items ≡ notes.old.items ++ note_given boot.now reference.now run.now path.now) }
 {
-    if left_at(reference, path).is_some() {
+    if reference.at(path).is_some() {
         return Ok(());
     }
     add_note(alloc, notes, boot, reference, run, path)
 }
 
 #[tactic(auto, unfolding(crate::specs::Files::note_new))]
-fn add_new(
+fn add_new<'a>(
     alloc: Global,
     notes: &mut Vec<FileNote>,
-    boot: &[GuestFile],
-    reference: &[OutcomeFile],
-    run: &[OutcomeFile],
-    path: &[u8],
+    boot: &GivenFiles<'a>,
+    reference: &LeftFiles<'a>,
+    run: &LeftFiles<'a>,
+    path: &'a [u8],
 ) -> Result<(), AllocError>
     ensures { OnOk result (notes.new.items ≡ notes.old.items ++ note_new boot.now reference.now run.now path.now) }
 {
-    if given_at(boot, path).is_some() {
+    if boot.at(path).is_some() {
         return Ok(());
     }
     add_given(alloc, notes, boot, reference, run, path)
 }
 
-fn add_all_left(
+fn add_all_left<'a>(
     alloc: Global,
     notes: &mut Vec<FileNote>,
-    boot: &[GuestFile],
-    reference: &[OutcomeFile],
-    run: &[OutcomeFile],
+    boot: &GivenFiles<'a>,
+    reference: &LeftFiles<'a>,
+    run: &LeftFiles<'a>,
 ) -> Result<(), AllocError>
     ensures { OnOk result (notes.new.items ≡ notes.old.items
         ++ flat_map (λ f. note_at boot.now reference.now run.now f.path) reference.now) }
 {
-    let mut left = reference;
+    let mut left = reference.list();
     while let Some((file, rest)) = left.split_first() {
         add_note(alloc, notes, boot, reference, run, file.path.as_slice())?;
         left = rest;
@@ -279,17 +251,17 @@ fn add_all_left(
     Ok(())
 }
 
-fn add_all_given(
+fn add_all_given<'a>(
     alloc: Global,
     notes: &mut Vec<FileNote>,
-    boot: &[GuestFile],
-    reference: &[OutcomeFile],
-    run: &[OutcomeFile],
+    boot: &GivenFiles<'a>,
+    reference: &LeftFiles<'a>,
+    run: &LeftFiles<'a>,
 ) -> Result<(), AllocError>
     ensures { OnOk result (notes.new.items ≡ notes.old.items
         ++ flat_map (λ f. note_given boot.now reference.now run.now f.path) boot.now) }
 {
-    let mut left = boot;
+    let mut left = boot.list();
     while let Some((file, rest)) = left.split_first() {
         add_given(alloc, notes, boot, reference, run, file.path.as_slice())?;
         left = rest;
@@ -297,17 +269,17 @@ fn add_all_given(
     Ok(())
 }
 
-fn add_all_new(
+fn add_all_new<'a>(
     alloc: Global,
     notes: &mut Vec<FileNote>,
-    boot: &[GuestFile],
-    reference: &[OutcomeFile],
-    run: &[OutcomeFile],
+    boot: &GivenFiles<'a>,
+    reference: &LeftFiles<'a>,
+    run: &LeftFiles<'a>,
 ) -> Result<(), AllocError>
     ensures { OnOk result (notes.new.items ≡ notes.old.items
         ++ flat_map (λ f. note_new boot.now reference.now run.now f.path) run.now) }
 {
-    let mut left = run;
+    let mut left = run.list();
     while let Some((file, rest)) = left.split_first() {
         add_new(alloc, notes, boot, reference, run, file.path.as_slice())?;
         left = rest;
@@ -326,9 +298,12 @@ pub fn file_notes(
 ) -> Result<Vec<FileNote>, AllocError>
     ensures { IfOk result (λ notes. notes.items ≡ file_notes boot.now reference.now run.now) }
 {
+    let boot = GivenFiles::new(alloc, boot)?;
+    let reference = LeftFiles::new(alloc, reference)?;
+    let run = LeftFiles::new(alloc, run)?;
     let mut notes = Vec::new(alloc);
-    add_all_left(alloc, &mut notes, boot, reference, run)?;
-    add_all_given(alloc, &mut notes, boot, reference, run)?;
-    add_all_new(alloc, &mut notes, boot, reference, run)?;
+    add_all_left(alloc, &mut notes, &boot, &reference, &run)?;
+    add_all_given(alloc, &mut notes, &boot, &reference, &run)?;
+    add_all_new(alloc, &mut notes, &boot, &reference, &run)?;
     Ok(notes)
 }

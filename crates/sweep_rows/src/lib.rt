@@ -8,6 +8,7 @@ pub mod endings;
 pub mod entries;
 pub mod failures;
 pub mod files;
+pub mod index;
 pub mod known;
 pub mod possible;
 pub mod streams;
