@@ -1,4 +1,4 @@
-use Rattle.std.proofs.Common.{ap, ◌∙◌}
+use Rattle.std.proofs.Common.{ap, sym, ◌∙◌}
 use Rattle.pt_kernel.specs.Hosts.{HostState}
 use Rattle.trace_run.specs.BootedRuns.{IsBooted}
 use Rattle.trace_run.proofs.local.booted_link.Goals as goal
@@ -13,3 +13,6 @@ returns-clause-link c = (
   c.link_to-link.ensures.given,
   c.link_to-link.ensures.schedule,
 )
+
+pub returns-clause-refused : goal.returns-clause-refused
+returns-clause-refused c = λ e is. absurd (cc (sym c.in_ok-host.ensures.accepted ∙ is))
