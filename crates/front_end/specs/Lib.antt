@@ -1,5 +1,12 @@
+pub mod Boots
 pub mod Directories
+pub mod Environment
+pub mod Expressions
+pub mod Files
 pub mod Leavings
 pub mod Numbers
+pub mod Reading
+pub mod Schedules
 pub mod Statuses
 pub mod Streams
+pub mod Values

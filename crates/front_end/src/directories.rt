@@ -1,7 +1,8 @@
 //! The files of a directory, and of those below it, as the guest's.
 
+ghost use Rattle.std.specs.Prelude.{◌≡◌, IfOk, OnOk, option_map, string_bytes};
 ghost use Rattle.front_end.specs.Directories as spec;
-ghost use Rattle.std.specs.Prelude.{◌≡◌, IfOk, option_map, string_bytes};
+ghost use Rattle.front_end.specs.Files.{StartWith};
 
 use crate::fault::Fault;
 use crate::reading::read_file;
@@ -204,24 +205,40 @@ fn places<R: Files + AllocGlobal>(rt: &R, word: &str) -> Result<Vec<Place>, Faul
     Ok(walk.files)
 }
 
-/// Adds the files of a word GUEST=DIR, of which `left` bytes may be read: of a file that is too large one byte more.
+/// Adds what a place holds, of which `left` bytes may be read: of a file that is too large one byte more.
+fn add_place<R: Files + AllocGlobal>(
+    rt: &R,
+    word: &str,
+    place: &Place,
+    files: &mut Seq<GuestFile>,
+    left: &mut u64,
+) -> Result<(), Fault>
+    ensures { OnOk result (StartWith files.new files.old) }
+{
+    let alloc = rt.alloc();
+    let content = match read_file(rt, place.path.as_str(), (*left).min(LARGEST_FILE)) {
+        Ok(content) => content,
+        Err(error) => return Err(unread(alloc, word, place.path.as_str(), error)),
+    };
+    *left = left.saturating_sub(content.len() as u64);
+    files.push(GuestFile {
+        path: Bytes::from_slice(alloc, place.guest.as_bytes())?,
+        content: Content::from_bytes(alloc, Bytes::from_vec(content))?,
+    })?;
+    Ok(())
+}
+
+/// Adds the files of a word GUEST=DIR, of which `left` bytes may be read together.
 pub fn add_directory<R: Files + AllocGlobal>(
     rt: &R,
     word: &str,
     files: &mut Seq<GuestFile>,
     left: &mut u64,
-) -> Result<(), Fault> {
-    let alloc = rt.alloc();
+) -> Result<(), Fault>
+    ensures { OnOk result (StartWith files.new files.old) }
+{
     for place in places(rt, word)?.iter() {
-        let content = match read_file(rt, place.path.as_str(), (*left).min(LARGEST_FILE)) {
-            Ok(content) => content,
-            Err(error) => return Err(unread(alloc, word, place.path.as_str(), error)),
-        };
-        *left = left.saturating_sub(content.len() as u64);
-        files.push(GuestFile {
-            path: Bytes::from_slice(alloc, place.guest.as_bytes())?,
-            content: Content::from_bytes(alloc, Bytes::from_vec(content))?,
-        })?;
+        add_place(rt, word, place, files, left)?;
     }
     Ok(())
 }

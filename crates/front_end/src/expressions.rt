@@ -1,5 +1,13 @@
 //! What the words that name calls ask for: those after `-e`, `--trace`, `--inject` and `--fault`.
 
+ghost use Rattle.std.specs.Prelude.{◌≡◌, ◌∷◌, [], ◌++◌, ◌⊎◌, IfErr, IfOk, OnOk, map, string_bytes};
+ghost use Rattle.std.specs.List.{zip};
+ghost use Rattle.front_end.specs.Expressions as spec;
+ghost use Rattle.front_end.specs.Expressions.{AreExpressions, AskFor, IsRefusedFirst, IsSortOf, SayTogether};
+ghost use Rattle.front_end.specs.Expressions.{IsRefusal, RefusesExpressions, RefusesText, SaysText, placed_by, placed_in};
+ghost use Rattle.front_end.specs.Expressions.{placed_text};
+ghost use Rattle.tr_expr.specs.declared.fault.ExprFault.TheVariants.{Memory};
+
 use crate::explanation::explain_expression;
 use crate::fault::Fault;
 use clap::ArgMatches;
@@ -22,14 +30,6 @@ pub struct RefusedExpression<'a> {
     pub fault: ExprFault,
 }
 
-/// Options of a command, and what an expression of theirs begins with beside the option's value.
-const OPTIONS: [(&str, &str); 4] = [
-    ("expression", ""),
-    ("trace", "trace="),
-    ("inject", "inject="),
-    ("fault", "fault="),
-];
-
 /// An expression, and its place among the words.
 #[derive(Drop)]
 struct Placed {
@@ -37,72 +37,203 @@ struct Placed {
     text: String,
 }
 
-/// An expression as it is read: `t=` is short for `trace=`.
-fn text_of(alloc: Global, start: &str, value: &str) -> Result<String, AllocError> {
-    match (start, value.strip_prefix("t=")) {
-        ("", Some(set)) => format!(in alloc; "trace={set}"),
-        _ => format!(in alloc; "{start}{value}"),
+/// Two texts in a row.
+fn joined(alloc: Global, start: &str, rest: &str) -> Result<String, AllocError>
+    ensures { IfOk result (λ text. string_bytes text ≡ start.now ++ rest.now) }
+{
+    let mut text = String::from_str(alloc, start)?;
+    text.push_str(rest)?;
+    Ok(text)
+}
+
+/// An expression as it is read, from what its option stands for and its value: `-e t=` is short for `-e trace=`.
+fn text_of(alloc: Global, start: &str, value: &str) -> Result<String, AllocError>
+    ensures { IfOk result (λ text. string_bytes text ≡ spec.text_of start.now value.now) }
+{
+    if !start.is_empty() {
+        return joined(alloc, start, value);
+    }
+    match value.strip_prefix("t=") {
+        Some(set) => joined(alloc, "trace=", set),
+        None => String::from_str(alloc, value),
     }
 }
 
-/// The expressions, in the order of the words.
-pub fn expression_words(alloc: Global, matches: &ArgMatches) -> Result<Vec<String>, AllocError> {
-    let mut placed: Vec<Placed> = Vec::new(alloc);
-    for (option, start) in OPTIONS {
-        let values = matches.get_strs(option).unwrap_or(&[]);
-        let places = matches.indices_of(option).unwrap_or(&[]);
-        for (value, place) in values.iter().zip(places) {
-            placed.push(Placed {
-                place: *place,
-                text: text_of(alloc, start, value)?,
-            })?;
-        }
+/// Adds one.
+fn add_one(
+    placed: &mut Vec<Placed>,
+    alloc: Global,
+    start: &str,
+    value: &str,
+    place: usize,
+) -> Result<(), AllocError>
+    ensures { OnOk result (map placed_text placed.new.items
+        ≡ map placed_text placed.old.items ++ spec.spelled start.now (value.now, place) ∷ []) }
+{
+    let text = text_of(alloc, start, value)?;
+    placed.push(Placed { place, text })?;
+    Ok(())
+}
+
+/// Adds those of values at places.
+fn add_all(
+    placed: &mut Vec<Placed>,
+    alloc: Global,
+    start: &str,
+    values: &[&str],
+    places: &[usize],
+) -> Result<(), AllocError>
+    ensures { OnOk result (map placed_text placed.new.items ≡ map placed_text placed.old.items
+        ++ map (spec.spelled start.now) (zip (map (λ value. value.now) values.now) places.now)) }
+{
+    for one in values.iter().zip(places) {
+        let (value, place) = one;
+        add_one(placed, alloc, start, value, *place)?;
     }
+    Ok(())
+}
+
+/// Adds an option's expressions: its name in the parser, and what it stands for.
+fn add_placed(
+    placed: &mut Vec<Placed>,
+    alloc: Global,
+    matches: &ArgMatches,
+    option: &str,
+    start: &str,
+) -> Result<(), AllocError>
+    ensures { OnOk result (map placed_text placed.new.items
+        ≡ map placed_text placed.old.items ++ placed_by matches.now option.now start.now) }
+{
+    let values = matches.get_strs(option).unwrap_or(&[]);
+    let places = matches.indices_of(option).unwrap_or(&[]);
+    add_all(placed, alloc, start, values, places)?;
+    Ok(())
+}
+
+/// The expressions, option by option.
+fn placed_in(alloc: Global, matches: &ArgMatches) -> Result<Vec<Placed>, AllocError>
+    ensures { IfOk result (λ placed. map placed_text placed.items ≡ placed_in matches.now) }
+{
+    let mut placed = Vec::new(alloc);
+    add_placed(&mut placed, alloc, matches, "expression", "")?;
+    add_placed(&mut placed, alloc, matches, "trace", "trace=")?;
+    add_placed(&mut placed, alloc, matches, "inject", "inject=")?;
+    add_placed(&mut placed, alloc, matches, "fault", "fault=")?;
+    Ok(placed)
+}
+
+/// Puts them in the order of the words.
+fn sort(placed: &mut Vec<Placed>) -> Result<(), AllocError>
+    ensures { OnOk result (IsSortOf placed.old.items placed.new.items) }
+{
     placed.sort_by_key(|one| one.place)?;
+    Ok(())
+}
+
+fn add_text(texts: &mut Vec<String>, one: Placed) -> Result<(), AllocError>
+    ensures { OnOk result (map string_bytes texts.new.items
+        ≡ map string_bytes texts.old.items ++ string_bytes one.text ∷ []) }
+{
+    texts.push(one.text)?;
+    Ok(())
+}
+
+fn texts_of(alloc: Global, placed: Vec<Placed>) -> Result<Vec<String>, AllocError>
+    ensures { IfOk result (λ texts. map string_bytes texts.items ≡ map (λ one. string_bytes one.text) placed.items) }
+{
     let mut texts = Vec::new(alloc);
     for one in placed {
-        texts.push(one.text)?;
+        add_text(&mut texts, one)?;
     }
     Ok(texts)
+}
+
+/// The expressions, in the order of the words.
+pub fn expression_words(alloc: Global, matches: &ArgMatches) -> Result<Vec<String>, AllocError>
+    ensures { IfOk result (λ texts. AreExpressions matches.now (map string_bytes texts.items)) }
+{
+    let mut placed = placed_in(alloc, matches)?;
+    sort(&mut placed)?;
+    texts_of(alloc, placed)
+}
+
+/// What a list of expressions asks for so far.
+#[derive(Drop)]
+struct Asked {
+    shown: Set,
+    rules: Vec<Rule>,
+}
+
+/// Adds what one more asks for.
+fn add_expression(asked: &mut Asked, expression: Expr) -> Result<(), AllocError>
+    ensures { OnOk result ((asked.new.shown ≡ spec.shown_after asked.old.shown expression)
+        × (asked.new.rules.items ≡ asked.old.rules.items ++ spec.rule_of expression)) }
+{
+    match expression {
+        Expr::Trace(set) => {
+            asked.shown = set;
+            Ok(())
+        }
+        Expr::Inject(rule) => {
+            asked.rules.push(rule)?;
+            Ok(())
+        }
+    }
 }
 
 /// Parses the expressions in their order.
 fn parse_expressions<'a>(
     alloc: Global,
     words: &'a [String],
-) -> Result<Expressions, RefusedExpression<'a>> {
-    let mut shown = Set::AllBut(Seq::new(alloc));
-    let mut rules: Vec<Rule> = Vec::new(alloc);
+) -> Result<Expressions, RefusedExpression<'a>>
+    ensures said { IfOk result (λ asked. SayTogether (map string_bytes words.entry.now) asked.shown asked.script) }
+    ensures refused { IfErr result (λ refused. (refused.fault ≡ Memory)
+        ⊎ IsRefusedFirst (map string_bytes words.entry.now) refused.text.now refused.fault) }
+{
+    let mut asked = Asked {
+        shown: Set::AllBut(Seq::new(alloc)),
+        rules: Vec::new(alloc),
+    };
     for word in words {
         let text = word.as_str();
-        match parse_expr(alloc, text) {
-            Ok(Expr::Trace(set)) => shown = set,
-            Ok(Expr::Inject(rule)) => {
-                if rules.push(rule).is_err() {
-                    return Err(RefusedExpression {
-                        text,
-                        fault: ExprFault::Memory,
-                    });
-                }
-            }
+        let expression = match parse_expr(alloc, text) {
+            Ok(expression) => expression,
             Err(fault) => return Err(RefusedExpression { text, fault }),
-        }
+        };
+        let Ok(()) = add_expression(&mut asked, expression) else {
+            return Err(RefusedExpression {
+                text,
+                fault: ExprFault::Memory,
+            });
+        };
     }
+    let Asked { shown, rules } = asked;
     Ok(Expressions {
         shown,
         script: Script::new(rules),
     })
 }
 
-fn refusal(alloc: Global, refused: RefusedExpression<'_>) -> Fault {
-    match (refused.fault, explain_expression(alloc, refused)) {
-        (ExprFault::Memory, _) | (_, Err(_)) => Fault::Memory,
-        (fault, Ok(reason)) => Fault::Expression { fault, reason },
+fn refusal(alloc: Global, refused: RefusedExpression<'_>) -> Fault
+    ensures { IsRefusal refused.entry.fault result }
+{
+    if refused.fault == ExprFault::Memory {
+        return Fault::Memory;
+    }
+    match explain_expression(alloc, refused) {
+        Ok(reason) => Fault::Expression {
+            fault: refused.fault,
+            reason,
+        },
+        Err(_) => Fault::Memory,
     }
 }
 
 /// One expression.
-pub fn read_expression(alloc: Global, text: &str) -> Result<Expr, Fault> {
+pub fn read_expression(alloc: Global, text: &str) -> Result<Expr, Fault>
+    ensures said { IfOk result (SaysText text.now) }
+    ensures refused { IfErr result (RefusesText text.now) }
+{
     match parse_expr(alloc, text) {
         Ok(expression) => Ok(expression),
         Err(fault) => Err(refusal(alloc, RefusedExpression { text, fault })),
@@ -110,8 +241,13 @@ pub fn read_expression(alloc: Global, text: &str) -> Result<Expr, Fault> {
 }
 
 /// What the words that name calls ask for.
-pub fn read_expressions(alloc: Global, matches: &ArgMatches) -> Result<Expressions, Fault> {
-    let words = expression_words(alloc, matches)?;
+pub fn read_expressions(alloc: Global, matches: &ArgMatches) -> Result<Expressions, Fault>
+    ensures asked { IfOk result (AskFor matches.now) }
+    ensures refused { IfErr result (RefusesExpressions matches.now) }
+{
+    let Ok(words) = expression_words(alloc, matches) else {
+        return Err(Fault::Memory);
+    };
     match parse_expressions(alloc, words.as_slice()) {
         Ok(expressions) => Ok(expressions),
         Err(refused) => Err(refusal(alloc, refused)),

@@ -5,6 +5,7 @@
 mod boot;
 mod boot_faults;
 mod directories;
+mod environment;
 mod explanation;
 mod expressions;
 mod fault;
@@ -36,7 +37,7 @@ pub use hints::Entered;
 pub use leavings::{Leavings, escaped};
 pub use offered::{with_options, with_program};
 pub use option_table::Tool;
-pub use options::{limit, number};
+pub use options::{decimal, limit, number};
 pub use outputs::check_outputs;
 pub use parser::{refusal, shown_words};
 pub use program::Program;

@@ -1,5 +1,8 @@
 //! Files and input, of which no more is read than is of use.
 
+ghost use Rattle.std.specs.Prelude.{◌≡◌, ◌≤◌, IfOk, IfSome, Ok, length, string_bytes, take};
+ghost use Rattle.front_end.specs.Reading.{IsAll, IsFirst, IsFirstOfFile, IsTextOfFile, past};
+
 use crate::fault::Fault;
 use crate::shown::Shown;
 use std::alloc::Global;
@@ -12,7 +15,9 @@ use std::rt::Files;
 pub const MOST_INPUT: u64 = 134_217_728;
 
 /// Reads to the end, but at most one byte more than the limit.
-fn read_past<R: Read>(alloc: Global, reader: &mut R, limit: u64) -> io::Result<Vec<u8>> {
+fn read_past<R: Read>(alloc: Global, reader: &mut R, limit: u64) -> io::Result<Vec<u8>>
+    ensures { IfOk result (λ bytes. IsFirst (R.remaining reader.old) (past limit) bytes.items) }
+{
     let mut bytes = Vec::new(alloc);
     let _ = reader
         .take(limit.saturating_add(1))
@@ -21,7 +26,9 @@ fn read_past<R: Read>(alloc: Global, reader: &mut R, limit: u64) -> io::Result<V
 }
 
 /// What a file holds, but at most one byte more than the limit.
-pub fn read_file<R: Files + AllocGlobal>(rt: &R, path: &str, limit: u64) -> io::Result<Vec<u8>> {
+pub fn read_file<R: Files + AllocGlobal>(rt: &R, path: &str, limit: u64) -> io::Result<Vec<u8>>
+    ensures { IfOk result (λ bytes. IsFirstOfFile R.File.remaining (past limit) bytes.items) }
+{
     let mut file = fs::open(rt, path)?;
     read_past(rt.alloc(), &mut file, limit)
 }
@@ -32,7 +39,9 @@ fn within<D: Display + Drop>(
     what: D,
     bytes: io::Result<Vec<u8>>,
     limit: u64,
-) -> Result<Vec<u8>, Fault> {
+) -> Result<Vec<u8>, Fault>
+    ensures { IfOk result (λ kept. (bytes ≡ Ok kept) × (length kept.items ≤ limit)) }
+{
     match bytes {
         Ok(bytes) if bytes.len() as u64 > limit => Err(Fault::usage(format!(in alloc;
             "{what}: more than {limit} bytes"
@@ -43,7 +52,9 @@ fn within<D: Display + Drop>(
 }
 
 /// Input to its end, if it has no more bytes than the limit.
-pub fn read_input<I: Read>(alloc: Global, input: &mut I, limit: u64) -> Result<Vec<u8>, Fault> {
+pub fn read_input<I: Read>(alloc: Global, input: &mut I, limit: u64) -> Result<Vec<u8>, Fault>
+    ensures { IfOk result (λ bytes. IsAll (I.remaining input.old) limit bytes.items) }
+{
     within(
         alloc,
         "standard input",
@@ -58,7 +69,9 @@ pub fn read_text<R: Files + AllocGlobal>(
     option: &str,
     path: &str,
     limit: u64,
-) -> Result<String, Fault> {
+) -> Result<String, Fault>
+    ensures { IfOk result (λ text. IsTextOfFile R.File.remaining limit (string_bytes text)) }
+{
     let alloc = rt.alloc();
     let what = format!(in alloc; "{option}{}", Shown(path))?;
     let bytes = within(alloc, what.as_str(), read_file(rt, path, limit), limit)?;

@@ -1,5 +1,8 @@
 //! Schedules by words.
 
+ghost use Rattle.std.specs.Prelude.{IfOk, option_map};
+ghost use Rattle.front_end.specs.Schedules.{IsSchedule};
+
 use crate::fault::Fault;
 use crate::reading::read_text;
 use crate::shown::Shown;
@@ -10,7 +13,10 @@ use std::rt::Files;
 const MOST_WORDS: u64 = 67_108_864;
 
 /// The words in the file after `--turns`; none where no file is named.
-pub fn read_turns<R: Files + AllocGlobal>(rt: &R, path: Option<&str>) -> Result<Vec<Word>, Fault> {
+pub fn read_turns<R: Files + AllocGlobal>(rt: &R, path: Option<&str>) -> Result<Vec<Word>, Fault>
+    ensures { IfOk result
+        (λ turns. IsSchedule R.File.remaining (option_map (λ path. path.now) path.entry) turns.items) }
+{
     let alloc = rt.alloc();
     let Some(path) = path else {
         return Ok(Vec::new(alloc));

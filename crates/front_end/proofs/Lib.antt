@@ -1,0 +1,6 @@
+pub mod Filed
+pub mod Given
+pub mod Placed
+pub mod Refusing
+pub mod Spoken
+pub mod Variables
