@@ -20,10 +20,11 @@ use Rattle.rand_pcg.specs.Lcg.{Lcg}
 use Rattle.rand_pcg.specs.Pcg.{pcg32}
 use Rattle.sweep_orders.specs.Draws.{chance_of, AreAble, IsDraw, IsDrawn, is_over, ends, Turns}
 use Rattle.turn_orders.specs.Plans.{words_of}
+use Rattle.turn_orders.specs.declared.plans.Plan.{Plan}
 use Rattle.turn_orders.specs.declared.plans.Plan.TheVariants.{ByChance}
 use Rattle.turn_orders.specs.declared.plans.Source.{Source}
 use Rattle.sweep_runs.specs.declared.runs.Setup.{Setup}
-use Rattle.sweep_orders.specs.Trials.{first_of, IsTrial, IsRunDrawn}
+use Rattle.sweep_orders.specs.Trials.{first_of, IsPlanned, IsTrial, IsRunBy, IsRunDrawn}
 use Rattle.sweep_orders.specs.declared.trials.Trial.{Trial}
 use Rattle.sweep_orders.proofs.Able.{chosen_above}
 use Rattle.sweep_orders.proofs.Stepping.{some_more}
@@ -217,4 +218,14 @@ drawn_trial setup o n t d = record {
       (drawn_runs d.pids setup.limit (first_of setup) d.kernel (chance_of o.seed n) d.drawn);
   planned = (d.pids, d.words, d.drawn);
   left = d.left;
+}
+
+-- a run by the words of a plan is one by that plan
+pub worded_trial : (setup : Setup) (o : Source) (p : Plan) (words : List Word) (t : Trial) → t.words ≡ words → IsRunBy setup words t
+    → ((k : Run) → IsPlanned setup o p t.words k) → IsTrial setup o p t
+worded_trial setup o p words t e r planned = record {
+  kernel = r.kernel;
+  run = subst (λ (ws : List Word). RunsTo (first_of setup) (worded ws setup.limit) r.kernel) (sym e) r.run;
+  planned = planned r.kernel;
+  left = r.left;
 }
