@@ -1,13 +1,11 @@
 //! Requests on standard input, and their replies on standard output.
 
 use crate::drills::{Drill, Drilled};
-use crate::together::{Replies, Requests};
 use crate::watched::{Requested, Shared, watch};
-use host_serve::{ServeFault, serve};
+use host_serve::{Conversed, ServeFault, serve, serve_streams};
 use host_wire::Counted;
 use lx_abi::Outcome;
 use std::alloc::Global;
-use std::cell::Cell;
 use std::io::{BufReader, Read, Write};
 use std::os::fd::{AsRawFd, RawFd};
 use std::rt::Process;
@@ -18,20 +16,6 @@ use std::time::Clock;
 /// The status where a tracer is served no longer.
 const SERVING: u8 = 1;
 
-/// The same with both ends counted, until the end of input or a fault.
-fn serve_over<I: Read, O: Write>(
-    alloc: Global,
-    input: &mut I,
-    out: &mut O,
-) -> Result<Outcome, ServeFault> {
-    let mut source = Counted::new(input);
-    let mut sink = Counted::new(out);
-    let served = serve(alloc, &mut source, &mut sink);
-    drop(source);
-    drop(sink);
-    served
-}
-
 /// How a conversation ended with replies that drills spoil.
 #[derive(Drop)]
 struct ServedByDrills {
@@ -40,7 +24,7 @@ struct ServedByDrills {
     unfit: Option<(u64, usize)>,
 }
 
-/// The same with replies that drills spoil.
+/// Serves with replies that drills spoil, until the end of input or a fault.
 fn serve_drilled<I: Read, O: Write>(
     alloc: Global,
     drills: Vec<Drill>,
@@ -60,20 +44,7 @@ fn serve_drilled<I: Read, O: Write>(
 /// by one write.
 #[inline(never)]
 fn answer<I: Read, O: Write>(alloc: Global, input: &mut I, out: &mut O) -> Result<(), ServeFault> {
-    let has_more = Cell::new(false);
-    let Ok(mut requests) = Requests::new(alloc, input, &has_more) else {
-        return Err(ServeFault::Failed);
-    };
-    let Ok(mut replies) = Replies::new(alloc, out, &has_more) else {
-        return Err(ServeFault::Failed);
-    };
-    let served = serve_over(alloc, &mut requests, &mut replies);
-    if let Err(ServeFault::Write) = &served {
-        return Err(ServeFault::Write);
-    }
-    if replies.write_out().is_err() {
-        return Err(ServeFault::Write);
-    }
+    let Conversed { served, .. } = serve_streams(alloc, input, out)?;
     match served {
         Ok(_) => Ok(()),
         Err(fault) => Err(fault),
