@@ -4,3 +4,5 @@ pub mod Writers
 pub mod TurnsOut
 pub mod Noting
 pub mod Replays
+pub mod Plans
+pub mod Asked

@@ -304,16 +304,17 @@ TracesOut held runs file words workers result out out' err err' =
     × ((o.contents ≡ out')
     × ((e.contents ≡ err') × TracesPlan held runs file words workers result (unused out) o (unused err) e)))
 
--- What is written to standard output is that of a run of some plan, and a status is that of this run. Or there was no
+-- What is written to standard output is that of a run of such a plan, and a status is that of this run. Or there was no
 -- plan, and nothing is written to it.
-abbrev pub TracesWords : {F : Type 0} → (F → Option (List ℕ))
+abbrev pub TracesWords : {F : Type 0} → (F → Option (List ℕ)) → (Plan → Type 0)
     → (Plan → Result Ended RunFault → Writer → Writer → Type 0) → (Plan → Type 0) → ArgMatches → Option Workers
     → Result ℕ Fault → Option (List ℕ) → Option (List ℕ) → Type 0
-TracesWords held runs file words workers result out out' =
+TracesWords held asked runs file words workers result out out' =
     (IsErr result × (out' ≡ out))
     ⊎ ((plan : Plan)
+    × (asked plan
     × ((ended : Result ℕ Fault)
     × ((err : Option (List ℕ))
     × ((err' : Option (List ℕ))
     × (IfOk result (λ status. ended ≡ Ok status)
-    × TracesOut held (runs plan) (file plan) words workers ended out out' err err')))))
+    × TracesOut held (runs plan) (file plan) words workers ended out out' err err'))))))

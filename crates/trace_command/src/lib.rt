@@ -10,6 +10,7 @@ mod kept;
 mod kernel;
 pub mod laws;
 mod lines;
+mod options;
 mod place;
 mod plan;
 mod prepared;

@@ -1,5 +1,9 @@
 //! What a run is made of.
 
+ghost use Rattle.std.specs.Prelude.{IfOk};
+ghost use Rattle.front_end.specs.Boots.{AsksBoot};
+ghost use Rattle.trace_command.specs.Plans.{IsPlan, boot_words};
+
 use crate::words::TraceOptions;
 use clap::ArgMatches;
 use front_end::{
@@ -56,12 +60,18 @@ fn boot<R: Files + AllocGlobal, I: Read + IsTerminal, E: Write + IsTerminal>(
     follow: bool,
     input: &mut I,
     err: &mut E,
-) -> Result<Boot, Fault> {
+) -> Result<Boot, Fault>
+    ensures { IfOk result (AsksBoot R.File.remaining (boot_words matches.now follow) (I.remaining input.old)) }
+{
+    let files = matches.get_strs("file").unwrap_or(&[]);
+    let directories = matches.get_strs("dir").unwrap_or(&[]);
+    let environment = matches.get_strs("environment").unwrap_or(&[]);
+    let program = matches.get_strs("program").unwrap_or(&[]);
     let words = BootWords {
-        files: matches.get_strs("file").unwrap_or(&[]),
-        directories: matches.get_strs("dir").unwrap_or(&[]),
-        environment: matches.get_strs("environment").unwrap_or(&[]),
-        program: matches.get_strs("program").unwrap_or(&[]),
+        files,
+        directories,
+        environment,
+        program,
         follow,
     };
     boot_of(rt, "strace_cli", words, input, err)
@@ -75,7 +85,9 @@ pub fn read_plan<R: Files + AllocGlobal, I: Read + IsTerminal, E: Write + IsTerm
     options: TraceOptions,
     input: &mut I,
     err: &mut E,
-) -> Result<Plan, Fault> {
+) -> Result<Plan, Fault>
+    ensures { IfOk result (IsPlan R.File.remaining matches.now options (I.remaining input.old)) }
+{
     let expressions = read_expressions(rt.alloc(), matches)?;
     let turns = read_turns(rt, matches.get_str("turns"))?;
     check_outputs(rt, matches)?;

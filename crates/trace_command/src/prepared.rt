@@ -2,6 +2,7 @@
 
 ghost use Rattle.std.specs.Prelude.{◌≡◌, IfOk, None, codes, false, is_some};
 ghost use Rattle.trace_command.specs.Noting.{IsKeptFor};
+ghost use Rattle.trace_command.specs.Plans.{IsPlan};
 ghost use Rattle.trace_command.specs.Tracing.{value_of};
 
 use crate::given::is_given;
@@ -79,7 +80,9 @@ pub fn prepare<R: Files + AllocGlobal, I: Read + IsTerminal, E: Write + IsTermin
     input: &mut I,
     err: &mut E,
 ) -> Result<Prepared, Fault>
-    ensures { IfOk result (λ prepared. IsKeptFor matches.now prepared.kept) }
+    ensures kept { IfOk result (λ prepared. IsKeptFor matches.now prepared.kept) }
+    ensures plan { IfOk result (λ prepared.
+        IsPlan R.File.remaining matches.now options (I.remaining input.old) prepared.plan) }
 {
     let plan = read_plan(rt, matches, options, input, err)?;
     let kept = keep(rt.alloc(), matches, options, &plan)?;

@@ -5,6 +5,7 @@ ghost use Rattle.front_end.specs.Streams.{opened_contents};
 ghost use Rattle.trace_run.specs.Writers.{writer_of};
 ghost use Rattle.trace_command.specs.Faults.{IsUnwritable, has_ended};
 ghost use Rattle.trace_command.specs.Noting.{IsKeptFor, WritesEvents, WritesNoted};
+ghost use Rattle.trace_command.specs.Plans.{IsPlan};
 ghost use Rattle.trace_command.specs.Tracing.{Leaves, Left, PutsConsole, Runs};
 ghost use Rattle.trace_command.specs.Tracing.{TracesOut, TracesPlan, TracesWords};
 ghost use Rattle.trace_command.specs.Tracing.{asks_for_files, status_in, value_of};
@@ -264,6 +265,7 @@ pub fn trace<
 where
     R::Started: Streams,
     ensures { TracesWords (opened_contents R.File.contents)
+        (IsPlan R.File.remaining matches.now options (I.remaining input.old))
         (Runs R.Started R.Started.Stderr R.Started.Stdout.remaining R.Started.Stdin.contents
         (value_of matches.now (codes "host")) options.workers options.limit)
         (λ plan. WritesEvents (opened_contents R.File.contents) (value_of matches.now (codes "host")) options.workers
