@@ -23,7 +23,7 @@ there:  nop
         addi s0, s0, -1
         beqz s0, end
         la t1, round
-        jr t1
+        jalr zero, 0(t1)
 end:    mv a0, t0
         li a1, 0
         li a2, 0
