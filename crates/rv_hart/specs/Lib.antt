@@ -6,3 +6,4 @@ pub mod Runs
 pub mod Steps
 pub mod Mnemonics
 pub mod Near
+pub mod Onward
