@@ -5,3 +5,4 @@ pub mod Taking
 pub mod Written
 pub mod Inheriting
 pub mod Replacing
+pub mod Flat

@@ -4,3 +4,4 @@ pub mod Opens
 pub mod Releases
 pub mod Nexts
 pub mod Counted
+pub mod Rows

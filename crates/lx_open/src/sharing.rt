@@ -11,7 +11,7 @@ ghost use Rattle.lx_open.specs.Opens.{inherited_each};
 
 use crate::description::Slot;
 use crate::fd_table::pair;
-use crate::slot_map::{SlotTable, next_open};
+use crate::slot_map::SlotTable;
 use lx_files::Counts;
 use std::alloc::AllocError;
 
@@ -79,7 +79,7 @@ pub fn inherit_from(
     ensures same { OnErr result (map.new ≡ map.old) }
     ensures same_counts { OnErr result (SameCounts counts.old counts.new) }
 {
-    let Some(fd) = next_open(map, parent, from) else {
+    let Some(fd) = map.next_open(parent, from) else {
         return Ok(());
     };
     let Some(slot) = map.get(pair(parent, fd)) else {

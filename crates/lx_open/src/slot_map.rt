@@ -1,33 +1,131 @@
 //! Slots by pair of process and descriptor.
 
-ghost use Rattle.std.specs.Prelude.{◌≡◌, ◌≤◌, OnOk, OnErr, IsSome};
+ghost use Rattle.std.specs.Prelude.{◌≡◌, ◌≤◌, ◌<◌, ◌/◌, ◌%◌, ◌==◌, OnOk, OnErr, IfSome, IfNone, IsSome, Some, None};
 ghost use Rattle.std.specs.FinMap as maps;
 ghost use Rattle.lx_abi.specs.Limits.{most_fds};
-ghost use Rattle.lx_open.specs.Nexts.{IsFirstFrom, IsNextOpen};
+ghost use Rattle.lx_open.specs.Nexts.{IsNextOpen};
+ghost use Rattle.lx_open.specs.Opens.{pair as pair_of};
+ghost use Rattle.lx_open.specs.Rows.{AreOfPids, flat, slot_at as slot_of};
 
 use crate::description::Slot;
+use crate::row::Row;
 use lx_abi::limits::MOST_FDS;
+use shelves::Shelf;
 use std::alloc::{AllocError, Global};
-use std::collections::BTreeMap;
 use std::marker::Model;
-use std::ops::Bound;
 
-/// A map from pair, as one number, to slot.
+/// A map from pair, as one number, to slot: a row of slots for each process that has any.
 #[derive(Drop)]
 pub struct SlotTable {
-    tree: BTreeMap<u64, Slot>,
+    alloc: Global,
+    rows: Shelf<Row>,
 }
 
 impl Model for SlotTable {
     ghost use Rattle.std.specs.Coded.{codes};
     ghost use Rattle.std.specs.FinMap as maps;
     ghost use Rattle.lx_open.specs.Kinds.{SlotMap};
+    ghost use Rattle.lx_open.specs.Rows.{AreOfPids, flat};
 
     ghost Value = { SlotMap };
 
     ghost coded = { Prim.hlevel (codes, maps.code) };
 
-    ghost view = { λ s. maps.from_entries s.tree.entries };
+    ghost view = { λ s. flat s.rows };
+
+    ghost invariant = { λ s. AreOfPids s.rows };
+}
+
+/// The process of a pair, if a pid is that large.
+fn pid_of(pair: u64) -> Option<u32>
+    ensures some { IfSome result (λ pid. pid ≡ pair / most_fds) }
+    ensures none { IfNone result (4294967296 ≤ pair / most_fds) }
+{
+    let pid = pair / u64::from(MOST_FDS);
+    if pid <= u64::from(u32::MAX) {
+        Some(pid as u32)
+    } else {
+        None
+    }
+}
+
+/// The descriptor of a pair.
+fn fd_of(pair: u64) -> u32
+    ensures { result ≡ pair % most_fds }
+{
+    (pair % u64::from(MOST_FDS)) as u32
+}
+
+/// What a descriptor of a process names.
+fn slot_at(rows: &Shelf<Row>, pid: u32, fd: u32) -> Option<Slot>
+    ensures { result ≡ slot_of rows.now pid fd }
+{
+    match rows.get(pid) {
+        None => None,
+        Some(row) => row.get(fd),
+    }
+}
+
+/// The process has a row.
+fn make_row(rows: &mut Shelf<Row>, alloc: Global, pid: u32) -> Result<(), AllocError>
+    ensures pids { AreOfPids rows.old → AreOfPids rows.new }
+    ensures same { flat rows.new ≡ flat rows.old }
+{
+    if rows.get(pid).is_none() {
+        rows.insert(pid, Row::new(alloc))?;
+    }
+    Ok(())
+}
+
+/// A descriptor of a process that has a row names what a slot says.
+fn put(rows: &mut Shelf<Row>, pid: u32, fd: u32, slot: Slot) -> Result<(), AllocError>
+    requires { fd < most_fds }
+    ensures pids { AreOfPids rows.old → AreOfPids rows.new }
+    ensures ok { OnOk result (flat rows.new ≡ maps.insert (flat rows.old) (pair_of pid fd) slot) }
+    ensures err { OnErr result (flat rows.new ≡ flat rows.old) }
+{
+    let Some(row) = rows.get_mut(pid) else {
+        return Err(AllocError);
+    };
+    row.put(fd, slot)
+}
+
+/// A descriptor of a process names nothing.
+fn clear(rows: &mut Shelf<Row>, pid: u32, fd: u32)
+    requires { fd < most_fds }
+    ensures pids { AreOfPids rows.old → AreOfPids rows.new }
+    ensures rest { flat rows.new ≡ maps.remove (flat rows.old) (pair_of pid fd) }
+{
+    let Some(row) = rows.get_mut(pid) else {
+        return;
+    };
+    row.clear(fd);
+}
+
+/// A descriptor of a process that names something names what a slot says. Takes no memory.
+fn overwrite(rows: &mut Shelf<Row>, pid: u32, fd: u32, slot: Slot)
+    requires small { fd < most_fds }
+    requires there { IsSome (slot_of rows.old pid fd) }
+    ensures pids { AreOfPids rows.old → AreOfPids rows.new }
+    ensures put { flat rows.new ≡ maps.insert (flat rows.old) (pair_of pid fd) slot }
+{
+    let Some(row) = rows.get_mut(pid) else {
+        return;
+    };
+    row.overwrite(fd, slot);
+}
+
+/// The row of a process goes, if it has no slot.
+fn drop_row(rows: &mut Shelf<Row>, pid: u32)
+    ensures pids { AreOfPids rows.old → AreOfPids rows.new }
+    ensures same { flat rows.new ≡ flat rows.old }
+{
+    let Some(row) = rows.get(pid) else {
+        return;
+    };
+    if row.is_empty() {
+        rows.remove(pid);
+    }
 }
 
 impl SlotTable {
@@ -35,27 +133,28 @@ impl SlotTable {
         ensures { result ≡ maps.empty }
     {
         SlotTable {
-            tree: BTreeMap::new(alloc),
+            alloc,
+            rows: Shelf::new(alloc),
         }
     }
 
     pub fn get(&self, pair: u64) -> Option<Slot>
         ensures { result ≡ maps.get self.now pair }
     {
-        match self.tree.get(&pair) {
+        match pid_of(pair) {
             None => None,
-            Some(slot) => Some(*slot),
+            Some(pid) => slot_at(&self.rows, pid, fd_of(pair)),
         }
     }
 
-    /// The least key at or above a number.
-    pub fn first_from(&self, from: u64) -> Option<u64>
-        ensures { IsFirstFrom self.now from result }
+    /// The lowest open descriptor of a process at or above one.
+    pub fn next_open(&self, pid: u32, fd: u32) -> Option<u32>
+        requires { fd ≤ most_fds }
+        ensures { IsNextOpen self.now pid fd result }
     {
-        let onward = (Bound::Included(from), Bound::Unbounded);
-        match self.tree.range(onward).next() {
+        match self.rows.get(pid) {
             None => None,
-            Some((pair, _slot)) => Some(*pair),
+            Some(row) => row.next_open(fd),
         }
     }
 
@@ -63,14 +162,24 @@ impl SlotTable {
         ensures value { result ≡ maps.get self.old pair }
         ensures rest { self.new ≡ maps.remove self.old pair }
     {
-        self.tree.remove(&pair)
+        let was = self.get(pair);
+        if let Some(pid) = pid_of(pair) {
+            clear(&mut self.rows, pid, fd_of(pair));
+            drop_row(&mut self.rows, pid);
+        }
+        was
     }
 
+    /// Err also at a pair of a process that no pid names.
     pub fn insert(&mut self, pair: u64, slot: Slot) -> Result<(), AllocError>
         ensures ok { OnOk result (self.new ≡ maps.insert self.old pair slot) }
         ensures err { OnErr result (self.new ≡ self.old) }
     {
-        self.tree.insert(pair, slot)?;
+        let Some(pid) = pid_of(pair) else {
+            return Err(AllocError);
+        };
+        make_row(&mut self.rows, self.alloc, pid)?;
+        put(&mut self.rows, pid, fd_of(pair), slot)?;
         Ok(())
     }
 
@@ -79,27 +188,8 @@ impl SlotTable {
         requires { IsSome (maps.get self.old pair) }
         ensures { self.new ≡ maps.insert self.old pair slot }
     {
-        let Some(place) = self.tree.get_mut(&pair) else {
-            return;
-        };
-        *place = slot;
-    }
-}
-
-/// The lowest open descriptor of a process at or above one.
-pub fn next_open(map: &SlotTable, pid: u32, fd: u32) -> Option<u32>
-    requires { fd ≤ most_fds }
-    ensures { IsNextOpen map.now pid fd result }
-{
-    let first = u64::from(pid) * u64::from(MOST_FDS);
-    match map.first_from(first + u64::from(fd)) {
-        None => None,
-        Some(key) => {
-            if key < first + u64::from(MOST_FDS) {
-                Some((key - first) as u32)
-            } else {
-                None
-            }
+        if let Some(pid) = pid_of(pair) {
+            overwrite(&mut self.rows, pid, fd_of(pair), slot);
         }
     }
 }

@@ -11,7 +11,7 @@ ghost use Rattle.lx_open.specs.Opens.{inherited_each};
 
 use crate::description::Slot;
 use crate::sharing::{forget, inherit_from, share};
-use crate::slot_map::{SlotTable, next_open};
+use crate::slot_map::SlotTable;
 use lx_files::Counts;
 use std::alloc::{AllocError, Global};
 use std::marker::Model;
@@ -65,7 +65,7 @@ impl Slots {
         requires { fd ≤ most_fds }
         ensures { IsNextOpen self.now pid fd result }
     {
-        next_open(&self.map, pid, fd)
+        self.map.next_open(pid, fd)
     }
 
     pub fn remove(&mut self, pair: u64) -> Option<Slot>

@@ -1,0 +1,112 @@
+//! The slots of one process.
+
+ghost use Rattle.std.specs.Prelude.{◌≡◌, ◌==◌, ◌<◌, ◌≤◌, ℕ, [], length, get_or, None, Some, IsSome, OnOk, OnErr};
+ghost use Rattle.lx_abi.specs.Limits.{most_fds};
+ghost use Rattle.lx_open.specs.Rows.{HasAt, AreAlike, IsNextIn};
+
+use crate::description::Slot;
+use lx_abi::limits::MOST_FDS;
+use std::alloc::{AllocError, Global};
+use std::marker::Model;
+
+/// Slots by descriptor, up to the last open one.
+#[derive(Drop)]
+pub struct Row {
+    slots: Vec<Option<Slot>>,
+}
+
+impl Model for Row {
+    ghost use Rattle.std.specs.Prelude.{List, Option};
+    ghost use Rattle.lx_open.specs.declared.description.Slot.{Slot};
+
+    ghost Value = { List (Option Slot) };
+
+    ghost view = { λ r. r.slots.items };
+}
+
+/// Slots up to this descriptor's; new ones are empty.
+fn lengthen(slots: &mut Vec<Option<Slot>>, fd: u32) -> Result<(), AllocError>
+    ensures there { OnOk result (fd < length slots.new.items) }
+    ensures same { AreAlike slots.old.items slots.new.items }
+{
+    let wanted = fd as usize + 1;
+    if slots.len() < wanted {
+        slots.resize(wanted, None)?;
+    }
+    Ok(())
+}
+
+/// Empty slots at the end go.
+fn trim(slots: &mut Vec<Option<Slot>>)
+    ensures { AreAlike slots.old.items slots.new.items }
+{
+    while let Some(None) = slots.last() {
+        slots.pop();
+    }
+}
+
+impl Row {
+    pub fn new(alloc: Global) -> Self
+        ensures { result ≡ [] }
+    {
+        Row {
+            slots: Vec::new(alloc),
+        }
+    }
+
+    pub fn is_empty(&self) -> bool
+        ensures { result ≡ (length self.now == 0) }
+    {
+        self.slots.is_empty()
+    }
+
+    /// What a descriptor names.
+    pub fn get(&self, fd: u32) -> Option<Slot>
+        ensures { result ≡ get_or self.now fd None }
+    {
+        match self.slots.get(fd as usize) {
+            None => None,
+            Some(slot) => *slot,
+        }
+    }
+
+    /// A descriptor names what a slot says.
+    pub fn put(&mut self, fd: u32, slot: Slot) -> Result<(), AllocError>
+        ensures ok { OnOk result (HasAt self.old fd (Some slot) self.new) }
+        ensures err { OnErr result (AreAlike self.old self.new) }
+    {
+        lengthen(&mut self.slots, fd)?;
+        self.slots[fd as usize] = Some(slot);
+        Ok(())
+    }
+
+    /// A descriptor that names something names what a slot says. Takes no memory.
+    pub fn overwrite(&mut self, fd: u32, slot: Slot)
+        requires { IsSome (get_or self.old fd None) }
+        ensures { HasAt self.old fd (Some slot) self.new }
+    {
+        let at = fd as usize;
+        if at < self.slots.len() {
+            self.slots[at] = Some(slot);
+        }
+    }
+
+    /// A descriptor names nothing.
+    pub fn clear(&mut self, fd: u32)
+        ensures { HasAt self.old fd None self.new }
+    {
+        let at = fd as usize;
+        if at < self.slots.len() {
+            self.slots[at] = None;
+        }
+        trim(&mut self.slots);
+    }
+
+    /// The lowest open descriptor at or above one.
+    pub fn next_open(&self, fd: u32) -> Option<u32>
+        requires { fd ≤ most_fds }
+        ensures { IsNextIn self.now fd result }
+    {
+        (fd..MOST_FDS).find(|fd| self.get(*fd).is_some())
+    }
+}
