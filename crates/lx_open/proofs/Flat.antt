@@ -175,7 +175,7 @@ pub next_none : (rows : Rows) (pid fd : ℕ) → maps.get rows pid ≡ None → 
 next_none rows pid fd none q le lt = get-flat rows pid q lt ∙ ap (λ o. row_slot o q) none
 
 pub next_flat : (rows : Rows) (pid fd : ℕ) (row : Slots) (r : Option ℕ) → Some row ≡ maps.get rows pid → IsNextIn row fd r → IsNextOpen (flat rows) pid fd r
-next_flat rows pid fd row None there next q le lt = get-flat rows pid q lt ∙ ap (λ o. row_slot o q) (sym there) ∙ next q le lt
+next_flat rows pid fd row None there next = λ q le lt. get-flat rows pid q lt ∙ ap (λ o. row_slot o q) (sym there) ∙ next q le lt
 next_flat rows pid fd row (Some n) there next = (
   next.0,
   next.1,
@@ -196,6 +196,19 @@ pids_again rows pid row row' there few = pids_put rows pid row' (few pid (subst 
 
 pub pids_removed : (rows : Rows) (pid : ℕ) → AreOfPids rows → AreOfPids (maps.remove rows pid)
 pids_removed rows pid few p some = elim (tells p pid) [
-  | alike e t ↦ absurd (cc (subst IsSome (maps.get-remove nat_cmp_total rows pid p ∙ ap (λ b. cond b None (maps.get rows p)) t) some))
+  | alike e t ↦ absurd (let none : IsSome {T = Slots} None = subst IsSome (maps.get-remove nat_cmp_total rows pid p ∙ ap (λ b. cond b None (maps.get rows p)) t) some in cc none)
   | apart_from n t ↦ few p (subst IsSome (maps.get-remove nat_cmp_total rows pid p ∙ ap (λ b. cond b None (maps.get rows p)) t) some)
 ]
+
+pub pids_of_none : (rows : Rows) → rows ≡ maps.empty → AreOfPids rows
+pids_of_none rows e p some = absurd (let none : IsSome {T = Slots} None = subst IsSome (ap (λ m. maps.get m p) e ∙ maps.get-empty nat_cmp p) some in cc none)
+
+pub no_pid_there : (rows : Rows) (k : ℕ) → AreOfPids rows → 4294967296 ≤ k / 256 → IsSome (maps.get (flat rows) k) → ⊥
+no_pid_there rows k few le some = let none : IsSome {T = Slot} None = subst IsSome (sym (no_pid rows k few le)) some in cc none
+
+-- what isn't there may be taken away
+pub nothing_removed : (m : SlotMap) (k : ℕ) → None ≡ maps.get m k → m ≡ maps.remove m k
+nothing_removed m k none = maps.same_map nat_cmp_total maps.nat_cmp-IsAntisymmetric _ _ (λ q. elim (tells q k) [
+  | alike e t ↦ ap (maps.get m) e ∙ sym none ∙ sym (put_here m k None q e)
+  | apart_from n t ↦ sym (put_there m k None q n)
+])

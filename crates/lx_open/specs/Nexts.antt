@@ -5,12 +5,6 @@ use Rattle.lx_abi.specs.Limits.{most_fds}
 use Rattle.lx_open.specs.Kinds.{SlotMap}
 use Rattle.lx_open.specs.Opens.{pair}
 
--- the key that is told has a slot, and no slot stands before it, from a key on
-abbrev pub IsFirstFrom : SlotMap → ℕ → Option ℕ → Type 0
-IsFirstFrom slots from None = (q : ℕ) → from ≤ q → maps.get slots q ≡ None
-IsFirstFrom slots from (Some key) =
-    (from ≤ key) × IsSome (maps.get slots key) × ((q : ℕ) → from ≤ q → q < key → maps.get slots q ≡ None)
-
 -- the descriptor that is told names something, and those of the process before it, from one on, name nothing
 abbrev pub IsNextOpen : SlotMap → ℕ → ℕ → Option ℕ → Type 0
 IsNextOpen slots pid fd None = (q : ℕ) → fd ≤ q → q < most_fds → maps.get slots (pair pid q) ≡ None

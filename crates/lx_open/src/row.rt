@@ -1,6 +1,7 @@
 //! The slots of one process.
 
-ghost use Rattle.std.specs.Prelude.{◌≡◌, ◌==◌, ◌<◌, ◌≤◌, ℕ, [], length, get_or, None, Some, IsSome, OnOk, OnErr};
+ghost use Rattle.std.specs.Prelude.{◌≡◌, ◌==◌, ◌<◌, ◌≤◌, ◌-◌, ℕ, [], length, get_or, slice_get, find, is_some, IsTrue, None, Some, IsSome, OnOk, OnErr};
+ghost use Rattle.std.specs.List.{range_with_len};
 ghost use Rattle.lx_abi.specs.Limits.{most_fds};
 ghost use Rattle.lx_open.specs.Rows.{HasAt, AreAlike, IsNextIn};
 
@@ -36,13 +37,30 @@ fn lengthen(slots: &mut Vec<Option<Slot>>, fd: u32) -> Result<(), AllocError>
     Ok(())
 }
 
+/// The last slot is there, and empty.
+fn ends_empty(slots: &[Option<Slot>]) -> bool
+    ensures { IsTrue result → slice_get slots.now (length slots.now - 1) ≡ Some None }
+{
+    match slots.last() {
+        None => false,
+        Some(slot) => slot.is_none(),
+    }
+}
+
 /// Empty slots at the end go.
 fn trim(slots: &mut Vec<Option<Slot>>)
     ensures { AreAlike slots.old.items slots.new.items }
 {
-    while let Some(None) = slots.last() {
+    while ends_empty(slots) {
         slots.pop();
     }
+}
+
+/// The first open descriptor from one up to another.
+fn find_open(row: &Row, from: u32, end: u32) -> Option<u32>
+    ensures { result ≡ find (λ q. is_some (get_or row.now q None)) (range_with_len from (end - from)) }
+{
+    (from..end).find(|fd| row.get(*fd).is_some())
 }
 
 impl Row {
@@ -58,6 +76,19 @@ impl Row {
         ensures { result ≡ (length self.now == 0) }
     {
         self.slots.is_empty()
+    }
+
+    /// From this descriptor on none is open.
+    fn end(&self) -> u32
+        ensures within { result ≤ most_fds }
+        ensures none { (q : ℕ) → result ≤ q → q < most_fds → get_or self.now q None ≡ None }
+    {
+        let len = self.slots.len();
+        if len < MOST_FDS as usize {
+            len as u32
+        } else {
+            MOST_FDS
+        }
     }
 
     /// What a descriptor names.
@@ -107,6 +138,6 @@ impl Row {
         requires { fd ≤ most_fds }
         ensures { IsNextIn self.now fd result }
     {
-        (fd..MOST_FDS).find(|fd| self.get(*fd).is_some())
+        find_open(self, fd, self.end())
     }
 }

@@ -71,10 +71,13 @@ fn make_row(rows: &mut Shelf<Row>, alloc: Global, pid: u32) -> Result<(), AllocE
     ensures pids { AreOfPids rows.old → AreOfPids rows.new }
     ensures same { flat rows.new ≡ flat rows.old }
 {
-    if rows.get(pid).is_none() {
-        rows.insert(pid, Row::new(alloc))?;
+    match rows.get(pid) {
+        Some(_) => Ok(()),
+        None => {
+            rows.insert(pid, Row::new(alloc))?;
+            Ok(())
+        }
     }
-    Ok(())
 }
 
 /// A descriptor of a process that has a row names what a slot says.
@@ -87,7 +90,8 @@ fn put(rows: &mut Shelf<Row>, pid: u32, fd: u32, slot: Slot) -> Result<(), Alloc
     let Some(row) = rows.get_mut(pid) else {
         return Err(AllocError);
     };
-    row.put(fd, slot)
+    row.put(fd, slot)?;
+    Ok(())
 }
 
 /// A descriptor of a process names nothing.
@@ -96,10 +100,10 @@ fn clear(rows: &mut Shelf<Row>, pid: u32, fd: u32)
     ensures pids { AreOfPids rows.old → AreOfPids rows.new }
     ensures rest { flat rows.new ≡ maps.remove (flat rows.old) (pair_of pid fd) }
 {
-    let Some(row) = rows.get_mut(pid) else {
-        return;
-    };
-    row.clear(fd);
+    match rows.get_mut(pid) {
+        None => {}
+        Some(row) => row.clear(fd),
+    }
 }
 
 /// A descriptor of a process that names something names what a slot says. Takes no memory.
@@ -163,9 +167,12 @@ impl SlotTable {
         ensures rest { self.new ≡ maps.remove self.old pair }
     {
         let was = self.get(pair);
-        if let Some(pid) = pid_of(pair) {
-            clear(&mut self.rows, pid, fd_of(pair));
-            drop_row(&mut self.rows, pid);
+        match pid_of(pair) {
+            None => {}
+            Some(pid) => {
+                clear(&mut self.rows, pid, fd_of(pair));
+                drop_row(&mut self.rows, pid);
+            }
         }
         was
     }
@@ -188,8 +195,9 @@ impl SlotTable {
         requires { IsSome (maps.get self.old pair) }
         ensures { self.new ≡ maps.insert self.old pair slot }
     {
-        if let Some(pid) = pid_of(pair) {
-            overwrite(&mut self.rows, pid, fd_of(pair), slot);
+        match pid_of(pair) {
+            None => {}
+            Some(pid) => overwrite(&mut self.rows, pid, fd_of(pair), slot),
         }
     }
 }
