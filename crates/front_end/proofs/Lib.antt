@@ -4,3 +4,4 @@ pub mod Placed
 pub mod Refusing
 pub mod Spoken
 pub mod Variables
+pub mod Worded

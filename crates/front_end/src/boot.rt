@@ -1,14 +1,17 @@
 //! What a run begins with.
 
-ghost use Rattle.std.specs.Prelude.{◌≡◌, IfOk, OnOk, map};
-ghost use Rattle.front_end.specs.Boots.{AsksBoot, words_of};
+ghost use Rattle.std.specs.Prelude.{◌≡◌, IfOk, None, OnOk, map};
+ghost use Rattle.lx_boot.specs.Boots.{fault_of};
+ghost use Rattle.front_end.specs.Boots.{AsksBoot, given_words, words_of};
 ghost use Rattle.front_end.specs.Files.{Adds, AreFiles, AreFilesOf, IsFileOf};
 
+use crate::boot_faults::check_boot;
 use crate::directories::add_directory;
 use crate::environment::{bytes_of, environment_of};
 use crate::fault::Fault;
 use crate::reading::{MOST_INPUT, read_file, read_input};
 use crate::shown::Shown;
+use clap::ArgMatches;
 use containers::{Bytes, Content, Seq};
 use lx_abi::limits::{LARGEST_FILE, MOST_CONTENTS};
 use lx_abi::{Boot, GuestFile, Limits};
@@ -133,4 +136,46 @@ pub fn boot_of<R: Files + AllocGlobal, I: Read + IsTerminal, E: Write + IsTermin
         input: Bytes::from_vec(input),
         follow: words.follow,
     })
+}
+
+/// The boot that the words of a command ask for.
+fn boot_asked<R: Files + AllocGlobal, I: Read + IsTerminal, E: Write + IsTerminal>(
+    rt: &R,
+    program: &str,
+    matches: &ArgMatches,
+    follow: bool,
+    input: &mut I,
+    err: &mut E,
+) -> Result<Boot, Fault>
+    ensures { IfOk result (AsksBoot R.File.remaining (given_words matches.now follow) (I.remaining input.old)) }
+{
+    let files = matches.get_strs("file").unwrap_or(&[]);
+    let directories = matches.get_strs("dir").unwrap_or(&[]);
+    let environment = matches.get_strs("environment").unwrap_or(&[]);
+    let arguments = matches.get_strs("program").unwrap_or(&[]);
+    let words = BootWords {
+        files,
+        directories,
+        environment,
+        program: arguments,
+        follow,
+    };
+    boot_of(rt, program, words, input, err)
+}
+
+/// The same, if a kernel takes it.
+pub fn read_boot<R: Files + AllocGlobal, I: Read + IsTerminal, E: Write + IsTerminal>(
+    rt: &R,
+    program: &str,
+    matches: &ArgMatches,
+    follow: bool,
+    input: &mut I,
+    err: &mut E,
+) -> Result<Boot, Fault>
+    ensures asked { IfOk result (AsksBoot R.File.remaining (given_words matches.now follow) (I.remaining input.old)) }
+    ensures taken { IfOk result (λ boot. fault_of boot ≡ None) }
+{
+    let boot = boot_asked(rt, program, matches, follow, input, err)?;
+    check_boot(rt.alloc(), &boot)?;
+    Ok(boot)
 }

@@ -1,6 +1,8 @@
 //! Why a boot is refused, and for which of its files or limits.
 
-ghost use Rattle.std.specs.Prelude.{◌≡◌, true};
+ghost use Rattle.std.specs.Prelude.{◌≡◌, IfErr, None, OnOk, true};
+ghost use Rattle.lx_boot.specs.Boots.{fault_of};
+ghost use Rattle.front_end.specs.Boots.{RefusesBoot};
 ghost use Rattle.front_end.specs.Statuses.{is_usage_or_memory};
 
 use crate::fault::Fault;
@@ -60,15 +62,28 @@ fn name_culprit(alloc: Global, boot: &Boot, culprit: Culprit) -> Result<String, 
 }
 
 /// The fault of a boot, which names the file or the limit that it is found in.
-pub fn check_boot(alloc: Global, boot: &Boot) -> Result<(), Fault> {
-    let Some(fault) = boot_fault(alloc, boot) else {
-        return Ok(());
-    };
+pub fn check_boot(alloc: Global, boot: &Boot) -> Result<(), Fault>
+    ensures taken { OnOk result (fault_of boot.now ≡ None) }
+    ensures refused { IfErr result (RefusesBoot boot.now) }
+{
+    match boot_fault(alloc, boot) {
+        Some(fault) => Err(told(alloc, boot, fault)),
+        None => Ok(()),
+    }
+}
+
+/// A fault, and what it is found in.
+fn told(alloc: Global, boot: &Boot, fault: BootFault) -> Fault
+    ensures { is_usage_or_memory result ≡ true }
+{
     let culprit = match find_culprit(boot, fault) {
-        Some(culprit) => name_culprit(alloc, boot, culprit)?,
-        None => String::new(alloc),
+        Some(culprit) => name_culprit(alloc, boot, culprit),
+        None => Ok(String::new(alloc)),
     };
-    Err(refuse(alloc, fault, culprit.as_str()))
+    match culprit {
+        Ok(culprit) => refuse(alloc, fault, culprit.as_str()),
+        Err(_) => Fault::Memory,
+    }
 }
 
 fn refuse(alloc: Global, fault: BootFault, culprit: &str) -> Fault

@@ -29,7 +29,7 @@ mod streams;
 mod turns;
 mod waits;
 
-pub use boot::{BootWords, boot_of, read_files};
+pub use boot::{BootWords, boot_of, read_boot, read_files};
 pub use boot_faults::{check_boot, refuse_boot};
 pub use expressions::{Expressions, expression_words, read_expression, read_expressions};
 pub use fault::Fault;
@@ -37,7 +37,7 @@ pub use hints::Entered;
 pub use leavings::{Leavings, escaped};
 pub use offered::{with_options, with_program};
 pub use option_table::Tool;
-pub use options::{decimal, limit, number};
+pub use options::{decimal, given_or, limit, limit_of, malformed, number, positive};
 pub use outputs::check_outputs;
 pub use parser::{refusal, shown_words};
 pub use program::Program;

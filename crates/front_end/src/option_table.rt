@@ -39,7 +39,7 @@ pub struct OptionRow {
 }
 
 /// Completions are made of these rows, and the documents are compared with them.
-pub const OPTIONS: [OptionRow; 42] = [
+pub const OPTIONS: [OptionRow; 49] = [
     OptionRow {
         tools: &[Tool::Trace],
         id: "follow",
@@ -119,6 +119,14 @@ pub const OPTIONS: [OptionRow; 42] = [
         long: Some("errors"),
         takes: Takes::Value("WHICH"),
         help: "possible, or all that the manual page of a call gives but for faulty arguments [default: possible]",
+    },
+    OptionRow {
+        tools: &[Tool::Sweep],
+        id: "kinds",
+        short: None,
+        long: Some("kinds"),
+        takes: Takes::Value("LIST"),
+        help: "Which kinds of failure are tried, of once, then, short, world, stop [default: once,then]",
     },
     OptionRow {
         tools: &[Tool::Sweep],
@@ -295,6 +303,54 @@ pub const OPTIONS: [OptionRow; 42] = [
         long: Some("fail-fast"),
         takes: Takes::Nothing,
         help: "Makes no more runs once one is a finding",
+    },
+    OptionRow {
+        tools: &[Tool::Sweep],
+        id: "max-runs",
+        short: None,
+        long: Some("max-runs"),
+        takes: Takes::Value("N"),
+        help: "Makes N runs at most, those first that are likely to show something new",
+    },
+    OptionRow {
+        tools: &[Tool::Sweep],
+        id: "time",
+        short: None,
+        long: Some("time"),
+        takes: Takes::Value("SECONDS"),
+        help: "Begins no more runs once so many seconds are over",
+    },
+    OptionRow {
+        tools: &[Tool::Sweep],
+        id: "check",
+        short: None,
+        long: Some("check"),
+        takes: Takes::Value("COMMAND"),
+        help: "Runs this command of the shell where the files of each outcome are; another status than 0 is BROKEN",
+    },
+    OptionRow {
+        tools: &[Tool::Sweep],
+        id: "then",
+        short: None,
+        long: Some("then"),
+        takes: Takes::Value("WORDS"),
+        help: "Runs this program of the guest's on the files of each outcome; another end than 0 is BROKEN",
+    },
+    OptionRow {
+        tools: &[Tool::Sweep],
+        id: "cases",
+        short: None,
+        long: Some("cases"),
+        takes: Takes::Value("FILE"),
+        help: "A line a sweep: its name, a colon, and words that are put behind these; PROG stands there",
+    },
+    OptionRow {
+        tools: &[Tool::Sweep],
+        id: "show",
+        short: None,
+        long: Some("show"),
+        takes: Takes::Value("ROW"),
+        help: "Shows one run as strace shows it, as write:EIO:2, and what it leaves",
     },
     OptionRow {
         tools: &[Tool::Sweep],

@@ -26,6 +26,43 @@ pub fn decimal(digits: &str, most: u64) -> Option<u64>
     }
 }
 
+/// The same, if it is at least 1.
+pub fn positive(digits: &str, most: u64) -> Option<u64>
+    ensures { result ≡ spec.positive most digits.now }
+{
+    match decimal(digits, most) {
+        Some(number) if number >= 1 => Some(number),
+        _ => None,
+    }
+}
+
+/// The number that an option's value spells in decimal digits, or the default where it isn't given.
+pub fn given_or(digits: Option<&str>, most: u64, default: u64) -> Option<u64>
+    ensures { result ≡ spec.given_or most default (option_map (λ text. text.now) digits.entry) }
+{
+    match digits {
+        Some(digits) => decimal(digits, most),
+        None => Some(default),
+    }
+}
+
+/// The most turns or events, by the value of `--limit`.
+pub fn limit_of(value: Option<&str>) -> Option<u64>
+    ensures { result ≡ spec.limit_of (option_map (λ text. text.now) value.entry) }
+{
+    given_or(value, u64::MAX, LIMIT)
+}
+
+/// An option's value that is no number in its range; `option` is its name as it is written.
+pub fn malformed(alloc: Global, option: &str, value: Option<&str>, least: u64, most: u64) -> Fault
+    ensures { is_usage_or_memory result ≡ true }
+{
+    Fault::usage(format!(in alloc;
+        "{option} {}: not a number from {least} to {most}",
+        Shown(value.unwrap_or(""))
+    ))
+}
+
 /// The number that an option gives in decimal digits, or the default; `option` is its name as it is written.
 pub fn number(
     alloc: Global,
@@ -39,21 +76,18 @@ pub fn number(
     ensures fault { IfErr result (λ fault. (is_usage_or_memory fault ≡ true)
         × (spec.given_or most default (option_map (λ text. text.now) digits.entry) ≡ None)) }
 {
-    let Some(digits) = digits else {
-        return Ok(default);
-    };
-    match decimal(digits, most) {
+    match given_or(digits, most, default) {
         Some(number) => Ok(number),
-        None => Err(Fault::usage(format!(in alloc;
-            "{option} {}: not a number from 0 to {most}",
-            Shown(digits)
-        ))),
+        None => Err(malformed(alloc, option, digits, 0, most)),
     }
 }
 
 /// The limit on turns or events.
 pub fn limit(alloc: Global, matches: &ArgMatches) -> Result<u64, Fault>
-    ensures { IfOk result (λ limit. spec.limit_of (first_value (found_of matches.now) (codes "limit")) ≡ Some limit) }
+    ensures limit { IfOk result
+        (λ limit. spec.limit_of (first_value (found_of matches.now) (codes "limit")) ≡ Some limit) }
+    ensures fault { IfErr result (λ fault. (is_usage_or_memory fault ≡ true)
+        × (spec.limit_of (first_value (found_of matches.now) (codes "limit")) ≡ None)) }
 {
     number(alloc, "--limit", matches.get_str("limit"), u64::MAX, LIMIT)
 }

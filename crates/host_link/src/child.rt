@@ -1,7 +1,7 @@
 //! A link to a host that runs as a process of its own.
 
-ghost use Rattle.std.specs.Prelude.{◌≡◌, ◌⊎◌, ◌^◌, Err, IfOk, IfErr};
-ghost use Rattle.host_link.specs.PipeLinks.{faults_of, given_of, most_of};
+ghost use Rattle.std.specs.Prelude.{◌≡◌, ◌⊎◌, ◌^◌, false, Err, IfOk, IfErr};
+ghost use Rattle.host_link.specs.PipeLinks.{faults_of, given_of, most_of, waits_of};
 
 use crate::fault::LinkFault;
 use crate::link::Link;
@@ -55,6 +55,7 @@ fn link_over<O: Read + Drop, E: Read + Drop, I: Write + Drop>(
     ensures given { IfOk result (λ link. given_of link ≡ 0) }
     ensures whole { IfOk result (λ link. faults_of link ≡ 0) }
     ensures most { IfOk result (λ link. most_of link ≡ 2 ^ 32) }
+    ensures idle { IfOk result (λ link. waits_of link ≡ false) }
     ensures fault { IfErr result (λ fault. fault ≡ LinkFault.Memory) }
 {
     let Ok(replies) = BufReader::new(alloc, replies) else {
@@ -125,6 +126,7 @@ impl<P: OpenProcess + Drop> ChildLink<P> {
         ensures given { IfOk result (λ link. given_of (pipe_of link) ≡ 0) }
         ensures whole { IfOk result (λ link. faults_of (pipe_of link) ≡ 0) }
         ensures most { IfOk result (λ link. most_of (pipe_of link) ≡ 2 ^ 32) }
+        ensures idle { IfOk result (λ link. waits_of (pipe_of link) ≡ false) }
         ensures fault { IfErr result (λ fault. fault ≡ Memory) }
     {
         match link_over(alloc, replies, requests) {
@@ -146,6 +148,7 @@ impl<P: OpenProcess + Drop> ChildLink<P> {
         ensures given { IfOk result (λ link. given_of (pipe_of link) ≡ 0) }
         ensures whole { IfOk result (λ link. faults_of (pipe_of link) ≡ 0) }
         ensures most { IfOk result (λ link. most_of (pipe_of link) ≡ 2 ^ 32) }
+        ensures idle { IfOk result (λ link. waits_of (pipe_of link) ≡ false) }
         ensures fault { IfErr result (λ fault. (fault ≡ Ended) ⊎ (fault ≡ Memory)) }
     {
         let mut child = match spawn(rt, path, words, false) {
@@ -173,6 +176,7 @@ impl<P: OpenProcess + Drop> ChildLink<P> {
         ensures given { IfOk result (λ link. given_of (pipe_of link) ≡ 0) }
         ensures whole { IfOk result (λ link. faults_of (pipe_of link) ≡ 0) }
         ensures most { IfOk result (λ link. most_of (pipe_of link) ≡ 2 ^ 32) }
+        ensures idle { IfOk result (λ link. waits_of (pipe_of link) ≡ false) }
         ensures fault { IfErr result (λ fault. (fault ≡ Ended) ⊎ (fault ≡ Memory)) }
     {
         let mut child = match spawn(rt, path, words, true) {

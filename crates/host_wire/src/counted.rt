@@ -9,7 +9,7 @@ use history::History;
 use std::io::{ErrorKind, Read, Write};
 
 /// A reader or writer of std that counts its failure, and fails for good once it has. What a signal interrupts is no
-/// failure.
+/// failure. Behind each put what the writer kept back goes out.
 #[derive(Drop)]
 pub struct Counted<T> {
     inner: T,
@@ -31,6 +31,12 @@ impl<T> Counted<T> {
             broken: false,
             calls: History::new(),
         }
+    }
+
+    pub fn get_ref(&self) -> &T
+        ensures { result.now ≡ inner_of self.now }
+    {
+        &self.inner
     }
 
     pub fn into_inner(self) -> T
@@ -86,8 +92,8 @@ impl<R: Read> Source for Counted<R> {
     }
 }
 
-/// Writes all of the bytes.
-fn write_whole<W: Write>(writer: &mut W, bytes: &[u8]) -> Result<(), Broken>
+/// Writes all of the bytes, which the writer may keep back. A write that a signal interrupts is made again.
+pub fn write_whole<W: Write>(writer: &mut W, bytes: &[u8]) -> Result<(), Broken>
     ensures whole { OnOk result (Appends (W.contents writer.old) (W.contents writer.new) bytes.now) }
     ensures part { OnErr result (AppendsPart (W.contents writer.old) (W.contents writer.new) bytes.now) }
 {

@@ -34,7 +34,7 @@ pub trait Sink {
     /// 1 once it has failed.
     ghost broken: { Self → ℕ };
 
-    /// Writes all of the bytes, and hands on what was kept back.
+    /// Puts all of the bytes.
     fn put(&mut self, bytes: &[u8]) -> Result<(), Broken>
         ensures whole { OnOk result (Appends (contents self.old) (contents self.new) bytes.now) }
         ensures part { OnErr result (AppendsPart (contents self.old) (contents self.new) bytes.now) }

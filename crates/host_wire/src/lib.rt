@@ -8,7 +8,7 @@ mod front;
 pub mod laws;
 pub mod receiving;
 
-pub use counted::Counted;
+pub use counted::{Counted, write_whole};
 pub use ends::{Broken, Sink, Source};
 pub use feed::Feed;
 pub use host_frame::{Frame, Payload, WireFault, encode};

@@ -99,7 +99,7 @@ events_twice [] = refl
 events_twice (Turn p ∷ es) = refl
 events_twice (Serve ∷ es) = events_twice es
 
-after_unserved : (o : Order) (n : ℕ) → unserved (order_after (unserved o) n) ≡ unserved (order_after o n)
+pub after_unserved : (o : Order) (n : ℕ) → unserved (order_after (unserved o) n) ≡ unserved (order_after o n)
 unfolding unserved order_after
 after_unserved (order.Listed l) n = ap (λ es. order.Listed (record { events = es; left = l.left })) (events_twice l.events)
 after_unserved (order.Worded w) n = ap (λ ws. unserved_with ws) (words_twice w.words)
@@ -107,7 +107,7 @@ after_unserved (order.Worded w) n = ap (λ ws. unserved_with ws) (words_twice w.
     unserved_with : List Word → Order
     unserved_with ws = order.Worded (record (worded_after w n) { words = ws })
 
-told_unserved : (o : Order) (r : TurnRun) → run_by o ≡ Some r → run_by (unserved o) ≡ Some r
+pub told_unserved : (o : Order) (r : TurnRun) → run_by o ≡ Some r → run_by (unserved o) ≡ Some r
 unfolding run_by unserved
 told_unserved (order.Listed l) r e = e
 told_unserved (order.Worded w) r e = of w.row w.returning w.words e
@@ -138,7 +138,7 @@ unfinished mode.Woken h = refl
 unfinished mode.Dying h = refl
 unfinished mode.Zombie h = refl
 
-continues : (k : Run) (p : ℕ) → GoesOn k p → Continues (readiness_of k) p
+pub continues : (k : Run) (p : ℕ) → GoesOn k p → Continues (readiness_of k) p
 continues k p on = record {
   waits = refl;
   able = sym (able_by_modes true _ _ (λ e. on.0) (λ e. refl));
@@ -275,7 +275,7 @@ continues_awake k p m stands ends rests =
 
 -- What they log
 
-bore_log : (v : Running Shared UserState) (e : PtraceEvent UserState) → (bore v e).log ≡ v.log
+pub bore_log : (v : Running Shared UserState) (e : PtraceEvent UserState) → (bore v e).log ≡ v.log
 bore_log v events.Plain = refl
 bore_log v events.Execed = refl
 bore_log v (events.Forked b) = refl
@@ -289,7 +289,7 @@ quietly_logs (suc n) k p b h =
     quietly_logs n (after_turn k p) p b h.1 ∙ log_after k p
     ∙ ap (λ o. k.running.log ++ option_to_list o) h.0.item_is ∙ append-nil k.running.log
 
-leads_log : (n : ℕ) (k k' : Run) (p : ℕ) (item : Option Item) (event : PtraceEvent ℕ) → Leads k p n item event k' → k'.running.log ≡ k.running.log ++ option_to_list item
+pub leads_log : (n : ℕ) (k k' : Run) (p : ℕ) (item : Option Item) (event : PtraceEvent ℕ) → Leads k p n item event k' → k'.running.log ≡ k.running.log ++ option_to_list item
 leads_log zero k k' p item event h =
     ap (λ (x : Run). x.running.log) h.2 ∙ sym (append-nil k.running.log) ∙ ap (λ o. k.running.log ++ option_to_list o) (sym h.0)
 leads_log (suc n) k k' p item event h =

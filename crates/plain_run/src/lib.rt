@@ -5,5 +5,5 @@ pub mod laws;
 pub mod running;
 pub mod watch;
 
-pub use running::{Halt, run};
+pub use running::{Halt, goes_on, run, tell, turns_in_row};
 pub use watch::{Unwatched, Watch, Weary};

@@ -25,7 +25,7 @@ pub enum Halt {
 }
 
 /// How many turns of the process come next by the row that is under way.
-fn turns_in_row(schedule: &Schedule, pid: u32) -> u64
+pub fn turns_in_row(schedule: &Schedule, pid: u32) -> u64
     ensures { 0 < result → run_of schedule.now ≡ Some (record { pid = pid; turns = result }) }
 {
     match schedule.row() {
@@ -35,7 +35,7 @@ fn turns_in_row(schedule: &Schedule, pid: u32) -> u64
 }
 
 /// Tells the watcher what the last of so many turns has logged.
-fn tell<W: Watch>(
+pub fn tell<W: Watch>(
     kernel: &Kernel,
     turns: u64,
     item: &Option<Item>,
@@ -97,7 +97,7 @@ fn may_rest(mode: Mode) -> bool
 }
 
 /// A process that stands so has the next turn of its row.
-fn goes_on(kernel: &Kernel, pid: u32, mode: Option<Mode>) -> bool
+pub fn goes_on(kernel: &Kernel, pid: u32, mode: Option<Mode>) -> bool
     requires { mode ≡ mode_in kernel.now pid }
     ensures { IsTrue result → Continues (readiness_of kernel.now) pid }
 {

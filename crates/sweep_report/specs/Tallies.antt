@@ -4,8 +4,8 @@ use Rattle.std.specs.List.{flat_map}
 use Rattle.sweep_rows.specs.Summary.{count}
 use Rattle.sweep_rows.specs.Verdicts.{is_finding}
 use Rattle.sweep_rows.specs.declared.verdicts.Verdict.{Verdict}
-use Rattle.sweep_rows.specs.declared.verdicts.Verdict.TheVariants.{Hung, Killed, Torn, Lost, Dropped, Damaged, Warned}
-use Rattle.sweep_rows.specs.declared.verdicts.Verdict.TheVariants.{Reported, Recovered, Ignored}
+use Rattle.sweep_rows.specs.declared.verdicts.Verdict.TheVariants.{Hung, Killed, Broken, Torn, Lost, Dropped, Damaged}
+use Rattle.sweep_rows.specs.declared.verdicts.Verdict.TheVariants.{Warned, Reported, Recovered, Ignored}
 use Rattle.sweep_runs.specs.declared.sweeping.Row.{Row}
 use Rattle.sweep_report.specs.declared.tally.Kind.{Kind}
 
@@ -35,7 +35,7 @@ findings_in (v ∷ vs) = cond (is_finding v) 1 0 + findings_in vs
 -- the worst first
 abbrev pub all_verdicts : List Verdict
 all_verdicts =
-    Hung ∷ Killed ∷ Torn ∷ Lost ∷ Dropped ∷ Damaged ∷ Warned ∷ Reported ∷ Recovered ∷ Ignored ∷ []
+    Hung ∷ Killed ∷ Broken ∷ Torn ∷ Lost ∷ Dropped ∷ Damaged ∷ Warned ∷ Reported ∷ Recovered ∷ Ignored ∷ []
 
 abbrev pub kind_of : List Verdict → Verdict → List Kind
 kind_of verdicts v =

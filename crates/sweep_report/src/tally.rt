@@ -9,9 +9,10 @@ use sweep_rows::{Verdict, count, is_finding};
 use sweep_runs::Row;
 
 /// All verdicts, the worst first.
-const VERDICTS: [Verdict; 10] = [
+const VERDICTS: [Verdict; 11] = [
     Verdict::Hung,
     Verdict::Killed,
+    Verdict::Broken,
     Verdict::Torn,
     Verdict::Lost,
     Verdict::Dropped,

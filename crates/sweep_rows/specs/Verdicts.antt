@@ -14,8 +14,8 @@ use Rattle.sweep_rows.specs.declared.verdicts.Left.{Left}
 use Rattle.sweep_rows.specs.declared.verdicts.Reached.{Reached}
 use Rattle.sweep_rows.specs.declared.verdicts.Said.{Said}
 use Rattle.sweep_rows.specs.declared.verdicts.Verdict.{Verdict}
-use Rattle.sweep_rows.specs.declared.verdicts.Verdict.TheVariants.{Hung, Killed, Torn, Lost, Dropped, Damaged, Warned}
-use Rattle.sweep_rows.specs.declared.verdicts.Verdict.TheVariants.{Reported, Recovered, Ignored}
+use Rattle.sweep_rows.specs.declared.verdicts.Verdict.TheVariants.{Hung, Killed, Broken, Torn, Lost, Dropped, Damaged}
+use Rattle.sweep_rows.specs.declared.verdicts.Verdict.TheVariants.{Warned, Reported, Recovered, Ignored}
 
 -- with a file destroyed that was there
 abbrev pub worst : Facts → Verdict → Verdict
@@ -44,6 +44,7 @@ verdict_of f = if f.alive then Hung else (if f.end.as_before then ended_so f els
 unfoldable pub is_finding : Verdict → Bool
 is_finding Hung = true
 is_finding Killed = true
+is_finding Broken = true
 is_finding Torn = true
 is_finding Lost = true
 is_finding Dropped = true

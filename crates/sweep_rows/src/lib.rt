@@ -23,5 +23,5 @@ pub use files::{FileNote, Word, file_notes};
 pub use known::Occurrence;
 pub use possible::{possible_errors, tells_of_loss};
 pub use streams::{Streams, streams_of};
-pub use summary::{count, name_of, rank, status};
+pub use summary::{checked, count, name_of, rank, status};
 pub use verdicts::{Facts, Reached, Verdict, facts_of, is_finding, verdict_of};

@@ -3,7 +3,7 @@
 ghost use Rattle.std.specs.Prelude.{◌≡◌};
 ghost use Rattle.std.specs.List.{list_any};
 ghost use Rattle.sweep_rows.specs.Verdicts.{is_finding};
-ghost use Rattle.sweep_rows.specs.Summary.{rank, name_of, count, status};
+ghost use Rattle.sweep_rows.specs.Summary.{rank, name_of, count, worse, checked, status};
 
 use crate::verdicts::{Verdict, is_finding};
 
@@ -14,14 +14,15 @@ pub fn rank(verdict: Verdict) -> u8
     match verdict {
         Verdict::Hung => 0,
         Verdict::Killed => 1,
-        Verdict::Torn => 2,
-        Verdict::Lost => 3,
-        Verdict::Dropped => 4,
-        Verdict::Damaged => 5,
-        Verdict::Warned => 6,
-        Verdict::Reported => 7,
-        Verdict::Recovered => 8,
-        Verdict::Ignored => 9,
+        Verdict::Broken => 2,
+        Verdict::Torn => 3,
+        Verdict::Lost => 4,
+        Verdict::Dropped => 5,
+        Verdict::Damaged => 6,
+        Verdict::Warned => 7,
+        Verdict::Reported => 8,
+        Verdict::Recovered => 9,
+        Verdict::Ignored => 10,
     }
 }
 
@@ -31,6 +32,7 @@ pub fn name_of(verdict: Verdict) -> &'static str
     match verdict {
         Verdict::Hung => "hung",
         Verdict::Killed => "killed",
+        Verdict::Broken => "broken",
         Verdict::Torn => "torn",
         Verdict::Lost => "lost",
         Verdict::Dropped => "dropped",
@@ -55,6 +57,25 @@ pub fn count(verdicts: &[Verdict], verdict: Verdict) -> usize
         left = rest;
     }
     count
+}
+
+/// The worse of two.
+fn worse(one: Verdict, other: Verdict) -> Verdict
+    ensures { result ≡ worse one other }
+{
+    if rank(other) < rank(one) { other } else { one }
+}
+
+/// What came of a run whose files were checked: `verdict` is what came of it but for them, and `fine` what the check
+/// said.
+pub fn checked(fine: bool, verdict: Verdict) -> Verdict
+    ensures { result ≡ checked fine verdict }
+{
+    if fine {
+        verdict
+    } else {
+        worse(Verdict::Broken, verdict)
+    }
 }
 
 fn has_finding(verdicts: &[Verdict]) -> bool

@@ -19,6 +19,8 @@ pub enum Verdict {
     Hung,
     /// A signal but SIGABRT ended process 1, other than without the failure.
     Killed,
+    /// A check of the files that the run left failed.
+    Broken,
     /// A file that was there is torn or gone, and nothing else has its content.
     Torn,
     /// Something else was lost, and nothing said so.
@@ -174,7 +176,12 @@ pub fn is_finding(verdict: Verdict) -> bool
 {
     matches!(
         verdict,
-        Verdict::Hung | Verdict::Killed | Verdict::Torn | Verdict::Lost | Verdict::Dropped
+        Verdict::Hung
+            | Verdict::Killed
+            | Verdict::Broken
+            | Verdict::Torn
+            | Verdict::Lost
+            | Verdict::Dropped
     )
 }
 

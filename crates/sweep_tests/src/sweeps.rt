@@ -81,6 +81,7 @@ fn letter(verdict: Verdict) -> char {
     match verdict {
         Verdict::Hung => 'h',
         Verdict::Killed => 'k',
+        Verdict::Broken => 'b',
         Verdict::Torn => 't',
         Verdict::Lost => 'l',
         Verdict::Dropped => 'd',

@@ -20,7 +20,7 @@ use Rattle.pt_schedule.specs.Schedules.{worded, events_left}
 use Rattle.pt_schedule.specs.declared.schedule.Schedule.{Schedule}
 use Rattle.host_wire.specs.Counting.{calls_of, faults_of as faults_of_end, input_of, inner_of}
 use Rattle.host_link.specs.Children.{pipe_of}
-use Rattle.host_link.specs.PipeLinks.{Asks, given_of, faults_of}
+use Rattle.host_link.specs.PipeLinks.{Asks, given_of, faults_of, waits_of}
 use Rattle.host_link.specs.Streams.{left_in, taken_by}
 use Rattle.host_link.specs.declared.child.ChildLink.{ChildLink}
 use Rattle.host_link.specs.declared.fault.LinkFault.TheVariants.{Inadmissible, Memory}
@@ -79,6 +79,12 @@ abbrev pub child_calls : {P I O E : Type 0} → (O → Option (List ℕ)) → (I
 child_calls remaining contents =
     calls_of_link (child_answers remaining contents) (λ l. given_of (pipe_of l)) (λ l. faults_of (pipe_of l))
 
+-- a link to a child of which nothing was asked yet
+pub record IsUnasked {P I O E : Type 0} (l : ChildLink P I O E) : Type 0 where
+  pub given : given_of (pipe_of l) ≡ 0
+  pub whole : faults_of (pipe_of l) ≡ 0
+  pub idle : waits_of (pipe_of l) ≡ false
+
 -- A kernel of one thread takes this boot, under these words of a schedule: it is in this process where no host is
 -- named, else that host, of which nothing was asked before, has taken it.
 abbrev pub TakesAlone : {P I O E : Type 0} → (O → Option (List ℕ)) → (I → Option (List ℕ)) → Option (List ℕ) → Boot → ℕ
@@ -89,9 +95,7 @@ TakesAlone remaining contents None boot limit words (OnThreads b workers) = ⊥
 TakesAlone remaining contents (Some host) boot limit words (Here b schedule) = ⊥
 TakesAlone {P} {I} {O} {E} remaining contents (Some host) boot limit words (There link) =
     (first : ChildLink P I O E)
-    × ((given_of (pipe_of first) ≡ 0)
-    × ((faults_of (pipe_of first) ≡ 0)
-    × child_answers remaining contents first (Boot_with boot limit words) (Ok Done) link))
+    × (IsUnasked first × child_calls remaining contents first (Boot_with boot limit words) (Ok Done) link)
 TakesAlone remaining contents (Some host) boot limit words (OnThreads b workers) = ⊥
 
 -- the same, or one whose turns are made by threads, where these are asked for

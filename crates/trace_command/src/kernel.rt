@@ -1,6 +1,7 @@
 //! Where the kernel runs.
 
 ghost use Rattle.std.specs.Prelude.{◌≡◌, ◌⊎◌, Ok, IfErr, IfOk, IsSome, OnErr, OnOk, option_map};
+ghost use Rattle.trace_run.specs.Runs.{calls_of};
 ghost use Rattle.trace_run.specs.Writers.{writer_of};
 ghost use Rattle.trace_command.specs.Faults.{IsUnhosted, IsUnopened};
 ghost use Rattle.trace_command.specs.Noting.{AsksAlike, Notes, NotesHere};
@@ -54,7 +55,8 @@ fn boot_over<L: Link>(
     limit: u64,
     turns: Vec<Word>,
 ) -> Result<(), Fault>
-    ensures booted { OnOk result (L.answers link.old (Request.Boot boot limit turns.items) (Ok Reply.Done) link.new) }
+    ensures booted { OnOk result (calls_of L.answers L.given L.broken link.old (Request.Boot boot limit turns.items)
+        (Ok Reply.Done) link.new) }
     ensures fault { IfErr result (λ fault. IsUnhosted fault) }
 {
     let Ok(boot) = Boxed::new(alloc, boot) else {
