@@ -1,3 +1,4 @@
 pub mod Conversing
 mod Nexts
 mod Ready
+mod Together

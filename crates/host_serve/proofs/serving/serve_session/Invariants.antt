@@ -1,6 +1,7 @@
 use Rattle.std.proofs.Common.{◌≡◌, ◌<◌}
 use Rattle.std.specs.Prelude.{vec_len}
 use Rattle.host_wire.specs.Streams.{nothing_fed}
+use Rattle.host_serve.specs.Keeping.{IsOut}
 use Rattle.host_serve.specs.Serving.{IsDue, Serves}
 use Rattle.host_serve.proofs.serving.serve_session.Given as goal
 
@@ -10,4 +11,5 @@ invariant-loop-number g l = record {
   due : IsDue g.S.Session.ready g.S.Session.given l.phase l.number;
   fresh : l.feed ≡ nothing_fed;
   room : 0 < vec_len l.room;
+  out : IsOut (g.W.Outlet.kept l.writer) (g.R.Ahead.ahead l.reader);
 }
