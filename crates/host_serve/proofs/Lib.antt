@@ -1,4 +1,3 @@
 pub mod Conversing
 mod Nexts
 mod Ready
-mod Together
