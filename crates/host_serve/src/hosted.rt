@@ -2,14 +2,16 @@
 
 ghost use Rattle.std.specs.Prelude.{◌≡◌, ◌≤◌, ◌^◌, IfOk};
 ghost use Rattle.host_serve.specs.Hosted.{BootsAs, Served_host};
+ghost use Rattle.host_serve.specs.Keeping.{IsOut};
 
+use crate::ends::{Ahead, Outlet};
 use crate::fault::ServeFault;
 use crate::serving::serve_session;
 use crate::session::Session;
 use containers::Seq;
 use host_link::laws::{idle_links_fail_for_memory, replies_leave_links_idle};
 use host_link::{Link, LocalLink};
-use host_wire::{MOST_READS, Sink, Source};
+use host_wire::MOST_READS;
 use lx_abi::{Boot, Outcome, Reply, Request, Word};
 use lx_boot::BootFault;
 use lx_kernel::Failed;
@@ -84,11 +86,12 @@ impl Session for LocalLink {
 ///
 /// However the input is cut, what is written is the frames of the replies that a [`LocalLink`] of that boot gives to
 /// the requests after it.
-pub fn serve<R: Source, W: Sink>(
+pub fn serve<R: Ahead, W: Outlet>(
     alloc: Global,
     reader: &mut R,
     writer: &mut W,
 ) -> Result<Outcome, ServeFault>
+    requires out { IsOut (W.kept writer.old) (R.ahead reader.old) }
     ensures { Served_host (2 ^ 32) (R.input reader.old) (R.input reader.new) (W.contents writer.old)
         (W.contents writer.new) (W.puts writer.old) (W.puts writer.new) result (W.broken writer.new) }
 {
@@ -97,7 +100,7 @@ pub fn serve<R: Source, W: Sink>(
 
 /// The same, where a reader is given up after so many reads, from 1 to 2^32, without a whole frame.
 #[tactic(auto, unfolding(crate::specs::Hosted::Served_host))]
-pub fn serve_bounded<R: Source, W: Sink>(
+pub fn serve_bounded<R: Ahead, W: Outlet>(
     alloc: Global,
     reader: &mut R,
     writer: &mut W,
@@ -105,6 +108,7 @@ pub fn serve_bounded<R: Source, W: Sink>(
 ) -> Result<Outcome, ServeFault>
     requires some { 1 ≤ most }
     requires few { most ≤ 2 ^ 32 }
+    requires out { IsOut (W.kept writer.old) (R.ahead reader.old) }
     ensures { Served_host most (R.input reader.old) (R.input reader.new) (W.contents writer.old)
         (W.contents writer.new) (W.puts writer.old) (W.puts writer.new) result (W.broken writer.new) }
 {

@@ -4,10 +4,12 @@ ghost use Rattle.std.specs.Prelude.{◌≡◌, ◌<◌, length, IfOk, IsSome, On
 ghost use Rattle.host_wire.specs.Streams.{nothing_fed};
 ghost use Rattle.host_serve.specs.Requests as spec;
 ghost use Rattle.pt_kernel.specs.Hosts.{is_boot as is_boot_model};
+ghost use Rattle.host_serve.specs.Keeping.{IsOut};
 ghost use Rattle.host_serve.specs.Requests.{Next};
 
+use crate::ends::{Ahead, Outlet};
 use crate::fault::ServeFault;
-use host_wire::{Feed, Frame, Payload, ReceiveFault, Source, WireFault, receive};
+use host_wire::{Feed, Frame, Payload, ReceiveFault, WireFault};
 use lx_abi::Request;
 
 pub(crate) fn is_boot(request: &Request) -> bool
@@ -44,20 +46,22 @@ fn request_in(frame: Frame, number: u64) -> Option<Request>
 }
 
 /// The next request, which has this number, by so many reads at most; none at the end of input. No byte behind it is
-/// read.
-pub(crate) fn next_request<R: Source>(
+/// read. It is waited for only where all replies have gone out.
+pub(crate) fn next_request<R: Ahead, W: Outlet>(
     reader: &mut R,
+    writer: &W,
     feed: &mut Feed,
     room: &mut [u8],
     most: u64,
     number: u64,
 ) -> Result<Option<Request>, ServeFault>
+    requires out { IsOut (W.kept writer.now) (R.ahead reader.old) }
     requires room { 0 < length room.old }
     requires fresh { feed.old ≡ nothing_fed }
     ensures next { Next most (R.input reader.old) result number (R.input reader.new) }
     ensures no_further { IfOk result (λ request. IsSome request → feed.new ≡ nothing_fed) }
 {
-    let frame = match receive(reader, feed, room, most) {
+    let frame = match reader.receive(writer, feed, room, most) {
         Ok(Some(frame)) => frame,
         Ok(None) => return Ok(None),
         Err(fault) => return Err(fault_of(fault)),

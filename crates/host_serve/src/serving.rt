@@ -2,13 +2,15 @@
 
 ghost use Rattle.std.specs.Prelude.{◌≡◌, ◌+◌, ℕ, OnOk};
 ghost use Rattle.host_serve.specs.Serving.{CanAnswer, Finishes, IsDue, Responds, Served, outcome_at};
+ghost use Rattle.host_serve.specs.Keeping.{IsOut};
 
 use crate::answering::send;
+use crate::ends::{Ahead, Outlet};
 use crate::fault::ServeFault;
 use crate::requests::{is_boot, next_request};
 use crate::session::{Phase, Session};
 use containers::{Bytes, Seq};
-use host_wire::{Feed, Sink, Source};
+use host_wire::Feed;
 use lx_abi::{Outcome, Reply, Request};
 use lx_kernel::Failed;
 use std::alloc::Global;
@@ -103,13 +105,15 @@ fn outcome_of<S: Session + Drop>(alloc: Global, phase: &Phase<S>) -> Result<Outc
 }
 
 /// Serves until the end of input, within a frame too, and gives what is left of the run then. The reader is given up
-/// after `most` reads without a whole frame.
-pub fn serve_session<S: Session + Drop, R: Source, W: Sink>(
+/// after `most` reads without a whole frame. Each time that a request is read, all replies have gone out, or that
+/// request has come whole.
+pub fn serve_session<S: Session + Drop, R: Ahead, W: Outlet>(
     alloc: Global,
     reader: &mut R,
     writer: &mut W,
     most: u64,
 ) -> Result<Outcome, ServeFault>
+    requires out { IsOut (W.kept writer.old) (R.ahead reader.old) }
     ensures { Served most S.boots S.answers S.left (R.input reader.old) (R.input reader.new) (W.contents writer.old)
         (W.contents writer.new) (W.puts writer.old) (W.puts writer.new) result (W.broken writer.new) }
 {
@@ -119,7 +123,15 @@ pub fn serve_session<S: Session + Drop, R: Source, W: Sink>(
     let mut feed = Feed::new(alloc);
     let mut phase: Phase<S> = Phase::Waiting;
     for number in 1..MOST_FRAMES + 1 {
-        let request = match next_request(reader, &mut feed, room.as_mut_slice(), most, number) {
+        let next = next_request(
+            reader,
+            &*writer,
+            &mut feed,
+            room.as_mut_slice(),
+            most,
+            number,
+        );
+        let request = match next {
             Ok(Some(request)) => request,
             Ok(None) => return outcome_of(alloc, &phase),
             Err(fault) => return Err(fault),
@@ -128,7 +140,7 @@ pub fn serve_session<S: Session + Drop, R: Source, W: Sink>(
             Ok(reply) => reply,
             Err(fault) => return Err(fault),
         };
-        match send(alloc, writer, number, reply) {
+        match send(alloc, &*reader, writer, number, reply) {
             Ok(()) => {}
             Err(fault) => return Err(fault),
         }

@@ -1,17 +1,20 @@
 //! Readers that cut what they give, and fail, and the host that is served between a reader and a writer.
 
-use host_serve::{ServeFault, serve};
-use host_wire::{Sink, Source};
+ghost use Rattle.host_serve.specs.Keeping.{IsOut};
+
+use host_serve::{Ahead, Outlet, ServeFault, serve};
 use lx_abi::Outcome;
 use std::alloc::Global;
 use std::io::{self, ErrorKind, Read};
 
 /// Serves, without clauses.
-pub fn serve_between<R: Source, W: Sink>(
+pub fn serve_between<R: Ahead, W: Outlet>(
     alloc: Global,
     reader: &mut R,
     writer: &mut W,
-) -> Result<Outcome, ServeFault> {
+) -> Result<Outcome, ServeFault>
+    requires out { IsOut (W.kept writer.old) (R.ahead reader.old) }
+{
     serve(alloc, reader, writer)
 }
 

@@ -1,6 +1,6 @@
 //! The tracees that are known and whose end wasn't told, in order of attachment.
 
-ghost use Rattle.std.specs.Prelude.{◌≡◌, ◌==◌, ◌↔◌, [], not, filter, OnOk, OnErr, IsTrue};
+ghost use Rattle.std.specs.Prelude.{◌≡◌, ◌==◌, ◌↔◌, [], Some, not, filter, OnOk, OnErr, IsTrue};
 ghost use Rattle.pt_model.specs.Tracer.{with_tracee};
 
 use indexmap::IndexSet;
@@ -11,14 +11,19 @@ use std::marker::Model;
 #[derive(Drop)]
 pub struct Living {
     pids: IndexSet<u32>,
+    /// The pid that was added last, where it is there still: it isn't looked for again.
+    latest: Option<u32>,
 }
 
 impl Model for Living {
-    ghost use Rattle.std.specs.Prelude.{ℕ, List};
+    ghost use Rattle.std.specs.Prelude.{◌≡◌, ℕ, List, IfSome, true};
+    ghost use Rattle.pt_model.specs.Tracer.{is_among};
 
     ghost Value = { List ℕ };
 
     ghost view = { λ l. l.pids.keys };
+
+    ghost invariant = { λ l. IfSome l.latest (λ p. is_among p l.pids.keys ≡ true) };
 }
 
 impl Living {
@@ -27,19 +32,26 @@ impl Living {
     {
         Living {
             pids: IndexSet::new(alloc),
+            latest: None,
         }
     }
 
     pub fn add(&mut self, pid: u32) -> Result<(), AllocError>
         ensures { OnOk result (self.new ≡ with_tracee self.old pid) }
     {
+        if is_latest(self.latest, pid) {
+            return Ok(());
+        }
+        self.latest = None;
         self.pids.insert(pid)?;
+        self.latest = Some(pid);
         Ok(())
     }
 
     pub fn remove(&mut self, pid: u32)
         ensures { self.new ≡ filter (λ q. not (pid == q)) self.old }
     {
+        self.latest = None;
         self.pids.retain(|q| is_other(pid, *q));
     }
 
@@ -48,6 +60,12 @@ impl Living {
     {
         self.pids.is_empty()
     }
+}
+
+fn is_latest(latest: Option<u32>, pid: u32) -> bool
+    ensures { IsTrue result → latest ≡ Some pid }
+{
+    latest == Some(pid)
 }
 
 fn is_other(pid: u32, other: u32) -> bool

@@ -26,9 +26,10 @@ use crate::place::{Awaiting, Focus, Tracee};
 use crate::replies::{is_childless, is_done, is_out, outcome_in, status_in};
 use crate::session::{InHand, Session};
 use crate::stops::take_stop;
-use containers::{Bytes, Map};
+use containers::Bytes;
 use lx_abi::{Call, Errno, Reply, Stop};
 use pt_model::Standing;
+use shelves::Shelf;
 use std::alloc::AllocError;
 use std::mem;
 
@@ -36,14 +37,14 @@ use std::mem;
 #[derive(Drop)]
 pub struct Core {
     pub session: Session,
-    pub known: Map<Tracee>,
+    pub known: Shelf<Tracee>,
     pub living: Living,
     pub focus: Focus,
 }
 
 /// What is known of a process, at first nothing. Apart, since the compiler merges the two cases bit by bit in a caller.
 #[inline(never)]
-fn tracee_at(known: &Map<Tracee>, pid: u32) -> Tracee
+fn tracee_at(known: &Shelf<Tracee>, pid: u32) -> Tracee
     ensures { result ≡ at new_tracee known.now pid }
 {
     match known.get(pid) {
@@ -61,7 +62,7 @@ fn tracee_at(known: &Map<Tracee>, pid: u32) -> Tracee
 }
 
 /// The stop may be told of the process as far as it is known.
-fn fits(known: &Map<Tracee>, follow: bool, pid: u32, stop: Stop) -> bool
+fn fits(known: &Shelf<Tracee>, follow: bool, pid: u32, stop: Stop) -> bool
     ensures { result ≡ fits_stop follow (at new_tracee known.now pid).called.number
         (is_some (at new_tracee known.now pid).saved) (at new_tracee known.now pid).standing stop }
 {
@@ -112,7 +113,7 @@ fn focus_at(pid: u32, next: Option<Awaiting>) -> Focus
 }
 
 /// A tracee is put in, in place of what was known of it.
-fn put(known: &mut Map<Tracee>, pid: u32, tracee: &Tracee) -> Result<(), AllocError>
+fn put(known: &mut Shelf<Tracee>, pid: u32, tracee: &Tracee) -> Result<(), AllocError>
     ensures { OnOk result (known.new ≡ maps.insert known.old pid tracee.now) }
 {
     match known.get_mut(pid) {

@@ -16,8 +16,8 @@ use crate::session::Session;
 use crate::settings::{Options, Settings};
 use crate::stepping::{Core, step};
 use crate::tracing::{Act, TraceFault, Tracing};
-use containers::Map;
 use lx_abi::{Occurrences, Outcome, Reply, Script};
+use shelves::Shelf;
 use std::alloc::Global;
 use tr_line::{Layout, Printer};
 
@@ -65,7 +65,7 @@ impl Tracer {
                     counts: Occurrences::new(alloc),
                     printer,
                 },
-                known: Map::new(alloc),
+                known: Shelf::new(alloc),
                 living: Living::new(alloc),
                 focus: Focus::Booting,
             },

@@ -5,6 +5,7 @@ mod ends;
 mod laws;
 pub mod layout;
 mod lines;
+pub mod open_calls;
 mod printer;
 mod results;
 mod signals;

@@ -6,8 +6,9 @@ ghost use Rattle.tr_line.specs.Printing as spec;
 
 use crate::layout::{Layout, Open};
 use crate::lines::{done_text, end_text, enter_text, signal_text, stopped_text};
+use crate::open_calls::OpenCalls;
 use crate::text::Text;
-use containers::{Bytes, Map};
+use containers::Bytes;
 use lx_abi::{Info, Signal};
 use std::alloc::{AllocError, Global};
 use std::marker::Model;
@@ -25,7 +26,7 @@ pub struct Printer {
     layout: Layout,
     line: Option<Open>,
     /// The number of the open call of each process that has one.
-    calls: Map<u64>,
+    calls: OpenCalls,
 }
 
 impl Model for Printer {
@@ -48,7 +49,7 @@ impl Printer {
             alloc,
             layout,
             line: None,
-            calls: Map::new(alloc),
+            calls: OpenCalls::new(alloc),
         }
     }
 
@@ -79,7 +80,7 @@ impl Printer {
     {
         match self.line {
             None => None,
-            Some(open) => self.calls.get(open.pid).copied(),
+            Some(open) => self.calls.get(open.pid),
         }
     }
 
@@ -153,7 +154,7 @@ impl Printer {
         ensures err { OnErr result (self.new ≡ self.old) }
     {
         let mut out = Text::with_room(self.alloc, LINE)?;
-        let call = self.calls.get(pid).copied();
+        let call = self.calls.get(pid);
         end_text(&mut out, self.layout, self.line, call, pid, word)?;
         self.calls.remove(pid);
         self.line = None;

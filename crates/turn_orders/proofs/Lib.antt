@@ -1,3 +1,4 @@
 pub mod Spreading
 pub mod Lists
 pub mod Meeting
+pub mod Rounds

@@ -3,3 +3,4 @@ pub mod Steps
 pub mod Switches
 pub mod Plans
 pub mod Met
+pub mod Novelty
