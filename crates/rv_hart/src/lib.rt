@@ -12,6 +12,7 @@ mod near;
 mod operate;
 mod outcome;
 mod perform;
+mod place;
 mod running;
 mod straight;
 #[cfg(test)]
