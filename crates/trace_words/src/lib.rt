@@ -1,0 +1,12 @@
+//! What the command line of a traced run asks for: how it is traced, and its plan.
+#![tactic(auto)]
+
+mod option_fault;
+mod options;
+mod plan;
+mod words;
+
+pub use option_fault::OptionFault;
+pub use options::{TraceOptions, Workers, trace_options};
+pub use plan::{Plan, read_plan};
+pub use words::parse;

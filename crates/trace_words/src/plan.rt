@@ -1,0 +1,83 @@
+//! What a run is made of.
+
+ghost use Rattle.std.specs.Prelude.{IfErr, IfOk};
+ghost use Rattle.trace_words.specs.Plans.{IsPlan, RefusesPlan};
+
+use crate::options::TraceOptions;
+use clap::ArgMatches;
+use front_end::{
+    Expressions, Fault, Leavings, check_outputs, read_boot, read_expressions, read_turns,
+};
+use lx_abi::{Boot, Script, Word};
+use lx_copies::Copied;
+use std::alloc::{AllocError, Global};
+use std::io::{IsTerminal, Read, Write};
+use std::rt::Files;
+use tr_core::Options;
+
+#[derive(Drop)]
+pub struct Plan {
+    pub boot: Boot,
+    pub script: Script,
+    pub options: Options,
+    /// The words of the schedule.
+    pub turns: Vec<Word>,
+}
+
+fn copy_words(alloc: Global, words: &[Word]) -> Result<Vec<Word>, AllocError> {
+    let mut copy = Vec::new(alloc);
+    for word in words {
+        copy.push(*word)?;
+    }
+    Ok(copy)
+}
+
+impl Plan {
+    /// Another that is alike.
+    pub fn again(&self, alloc: Global, matches: &ArgMatches) -> Result<Plan, Fault> {
+        let boot = self.boot.copy(alloc)?;
+        let turns = copy_words(alloc, self.turns.as_slice())?;
+        let Expressions { shown, script } = read_expressions(alloc, matches)?;
+        Ok(Plan {
+            boot,
+            script,
+            options: Options {
+                follow: self.options.follow,
+                shown,
+                string_limit: self.options.string_limit,
+                width: self.options.width,
+            },
+            turns,
+        })
+    }
+}
+
+/// Reads what the words ask for. Faults are looked for in the expressions, the schedule, the files, the
+/// input and the boot.
+pub fn read_plan<R: Files + AllocGlobal, I: Read + IsTerminal, E: Write + IsTerminal>(
+    rt: &R,
+    matches: &ArgMatches,
+    options: TraceOptions,
+    input: &mut I,
+    err: &mut E,
+) -> Result<Plan, Fault>
+    ensures plan { IfOk result (IsPlan R.File.remaining matches.now options (I.remaining input.old)) }
+    ensures refused { IfErr result (RefusesPlan matches.now) }
+{
+    let expressions = read_expressions(rt.alloc(), matches)?;
+    let turns = read_turns(rt, matches.get_str("turns"))?;
+    check_outputs(rt, matches)?;
+    Leavings::of(matches).check(rt)?;
+    let boot = read_boot(rt, "strace_cli", matches, options.follow, input, err)?;
+    Ok(Plan {
+        boot,
+        script: expressions.script,
+        options: Options {
+            follow: options.follow,
+            shown: expressions.shown,
+            string_limit: options.string_limit,
+            width: options.column,
+        },
+        turns,
+    })
+}
