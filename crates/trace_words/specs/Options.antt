@@ -11,8 +11,8 @@ use Rattle.trace_words.specs.declared.option_fault.OptionFault.TheVariants.{Comm
 use Rattle.trace_words.specs.declared.option_fault.OptionFault.TheVariants.{Limit, FollowTwice, Column, WorkersAndHost}
 use Rattle.trace_words.specs.declared.option_fault.OptionFault.TheVariants.{WorkersAndTurns, Workers, WorkersLimit}
 use Rattle.trace_words.specs.declared.option_fault.OptionFault.TheVariants.{Patience}
-use Rattle.trace_words.specs.declared.options.TraceOptions.{TraceOptions}
-use Rattle.trace_words.specs.declared.options.Workers.{Workers as Threads}
+use Rattle.trace_words.specs.declared.asked.TraceOptions.{TraceOptions}
+use Rattle.trace_words.specs.declared.asked.Workers.{Workers as Threads}
 
 infixl 10 ◌>>=◌
 abbrev pub ◌>>=◌ : {A B E : Type 0} → Result A E → (A → Result B E) → Result B E

@@ -8,7 +8,7 @@ use Rattle.front_end.specs.Schedules.{IsSchedule}
 use Rattle.front_end.specs.Values.{value_of}
 use Rattle.front_end.specs.declared.expressions.Expressions.{Expressions}
 use Rattle.front_end.specs.declared.fault.Fault.{Fault}
-use Rattle.trace_words.specs.declared.options.TraceOptions.{TraceOptions}
+use Rattle.trace_words.specs.declared.asked.TraceOptions.{TraceOptions}
 use Rattle.trace_words.specs.declared.plan.Plan.{Plan}
 
 -- The plan of a run that is traced so: the script and the calls that are shown are those of the expressions, the words

@@ -1,11 +1,12 @@
 //! How words ask a run to be traced.
 
-ghost use Rattle.std.specs.Prelude.{◌≡◌, ◌≤◌, ◌^◌, IfOk, IfSome, map, option_map};
+ghost use Rattle.std.specs.Prelude.{◌≡◌, ◌≤◌, IfOk, IfSome, map, option_map};
 ghost use Rattle.std.specs.Option.{ok_or};
 ghost use Rattle.front_end.specs.Numbers as numbers;
 ghost use Rattle.trace_words.specs.Options as spec;
 ghost use Rattle.trace_words.specs.declared.option_fault.OptionFault.TheVariants as the;
 
+use crate::asked::{TraceOptions, Workers};
 use crate::option_fault::OptionFault;
 use clap::ArgMatches;
 use front_end::{given_or, limit_of, positive};
@@ -24,36 +25,6 @@ pub const MOST_EVENTS: u64 = 1 << 39;
 
 /// The most seconds that a host is waited for: a day.
 pub const MOST_SECONDS: u32 = 86_400;
-
-/// Threads that turn a run's processes, and the most turns and requests together.
-#[derive(Clone, Copy, Debug)]
-pub struct Workers {
-    pub count: u8,
-    pub limit: u64,
-    pub ghost some: { 1 ≤ count },
-    pub ghost few: { count ≤ 8 },
-    pub ghost some_events: { 1 ≤ limit },
-    pub ghost few_events: { limit ≤ 2 ^ 39 },
-}
-
-/// How a run is traced.
-#[derive(Clone, Copy, Debug)]
-pub struct TraceOptions {
-    /// Children are traced too.
-    pub follow: bool,
-    pub string_limit: u32,
-    pub ghost limit_in_range: { string_limit ≤ 4096 },
-    /// The column of results.
-    pub column: u32,
-    /// The most events.
-    pub limit: u64,
-    /// Threads, where they make the turns.
-    pub workers: Option<Workers>,
-    /// For how many milliseconds a host is waited for.
-    pub patience: Option<u32>,
-    /// Faults are explained.
-    pub explain: bool,
-}
 
 /// The name is one of a file, and not of a command.
 fn check_output(name: Option<&str>) -> Result<(), OptionFault>

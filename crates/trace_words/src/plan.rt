@@ -3,7 +3,7 @@
 ghost use Rattle.std.specs.Prelude.{IfErr, IfOk};
 ghost use Rattle.trace_words.specs.Plans.{IsPlan, RefusesPlan};
 
-use crate::options::TraceOptions;
+use crate::asked::TraceOptions;
 use clap::ArgMatches;
 use front_end::{
     Expressions, Fault, Leavings, check_outputs, read_boot, read_expressions, read_turns,
