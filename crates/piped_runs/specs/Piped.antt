@@ -25,11 +25,12 @@ use Rattle.trace_run.specs.Writers.{Writer}
 use Rattle.trace_run.specs.declared.running.Ended.{Ended}
 use Rattle.trace_run.specs.declared.running.RunFault.{RunFault}
 
--- what a link over a pipe may do, with its counts
-abbrev pub piped : {R W : Type 0} → (R → Input) → (W → Option (List ℕ)) → (W → List ℕ) → (W → ℕ)
-    → Answers (PipeLink R W)
-piped input contents puts broken a q r b =
-    Called (λ a q r b. Asks input contents puts broken a q r b) (λ l. given_of l) (λ l. faults_of l) a q r b
+-- what a link may do whose calls are those of a link over a pipe, with its counts
+abbrev pub piped : {L R W : Type 0} → (L → PipeLink R W) → (R → Input) → (W → Option (List ℕ)) → (W → List ℕ)
+    → (W → ℕ) → Answers L
+piped pipe input contents puts broken a q r b =
+    Called (λ a q r b. Asks input contents puts broken (pipe a) q r (pipe b)) (λ l. given_of (pipe l))
+    (λ l. faults_of (pipe l)) a q r b
 
 -- a link that nothing was asked yet, and that has sent nothing
 pub record IsUnused {R W : Type 0} (contents : W → Option (List ℕ)) (l : PipeLink R W) : Type 0 where
@@ -44,23 +45,24 @@ Carries written given = (xs : List ℕ) × ((ys : List ℕ) × ((given ≡ Some 
 
 -- Over pipes that carry, at whose other end `serve` runs: the boot was accepted, and the run tells what it tells over a
 -- link in the tracer's own process to a host that this boot began, whatever its result is, and the host's.
-abbrev pub PipedRunsTell : {R W : Type 0} → (R → Input) → (W → Option (List ℕ)) → (W → List ℕ) → (W → ℕ) → Type 0
-PipedRunsTell {R} {W} input contents puts broken_writer = (boot : Boot) (limit : ℕ) (words : List Word)
+abbrev pub PipedRunsTell : {L R W : Type 0} → (L → PipeLink R W) → (R → Input) → (W → Option (List ℕ))
+    → (W → List ℕ) → (W → ℕ) → Type 0
+PipedRunsTell {L} {R} {W} pipe input contents puts broken_writer = (boot : Boot) (limit : ℕ) (words : List Word)
     (script : List Rule) (o : Options)
     -- the tracer's end: Boot, and a run
-    (first link link' : PipeLink R W) (old new : Writer) (result : Result Ended RunFault)
-    (w : RunsWhole (piped input contents puts broken_writer) (new_state (options_by o) (choice_of script) (first_pen o))
-    link old result link' new)
+    (first link link' : L) (old new : Writer) (result : Result Ended RunFault)
+    (w : RunsWhole (piped pipe input contents puts broken_writer)
+    (new_state (options_by o) (choice_of script) (first_pen o)) link old result link' new)
     -- the host's end
     (most : ℕ) (a b : Input) (unwritten written : Option (List ℕ)) (sizes sizes' : List ℕ)
     (served : Result Outcome ServeFault) (broken_host : ℕ)
     → Served most Boots_by Answers_by left_by a b unwritten written sizes sizes' served broken_host
-    → IsUnused contents first
-    → piped input contents puts broken_writer first (Boot_with boot limit words) (Ok Done) link
+    → IsUnused contents (pipe first)
+    → piped pipe input contents puts broken_writer first (Boot_with boot limit words) (Ok Done) link
     -- nothing was written before, and each end is given a beginning of what the other wrote
     → unwritten ≡ Some []
-    → Carries written (input (reader_of first)).remaining
-    → Carries (contents (writer_of link')) a.remaining
+    → Carries written (input (reader_of (pipe first))).remaining
+    → Carries (contents (writer_of (pipe link'))) a.remaining
     → (host : LocalLink) × (IsFirst boot limit words host
     × LinkTells o (choice_of script) (first_shared boot.limits boot.files boot.input) (booted boot.argv boot.env) host
     w.runs.exchanges result old.contents new.contents)
