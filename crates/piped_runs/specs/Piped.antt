@@ -1,5 +1,6 @@
 -- A run over a pipe, at whose other end a host serves.
 use Rattle.std.specs.Prelude.{◌≡◌, ℕ, false, List, [], ◌++◌, Option, Some, Result, Ok}
+use Rattle.std.specs.Io.Buffered.{reader_remaining}
 use Rattle.lx_abi.specs.declared.boot.Boot.{Boot}
 use Rattle.lx_abi.specs.declared.outcome.Outcome.{Outcome}
 use Rattle.lx_abi.specs.declared.ptrace.Reply.TheVariants.{Done}
@@ -9,8 +10,12 @@ use Rattle.lx_abi.specs.declared.script.Rule.{Rule}
 use Rattle.lx_abi.specs.Scripts.{choice_of}
 use Rattle.lx_boot.specs.First.{first_shared}
 use Rattle.lx_exec.specs.Programs.{booted}
+use Rattle.host_wire.specs.Counting.{calls_of, faults_of as faults_of_end, input_of, inner_of}
 use Rattle.host_wire.specs.Ends.{Input}
+use Rattle.host_link.specs.Children.{pipe_of}
 use Rattle.host_link.specs.PipeLinks.{Asks, faults_of, given_of, reader_of, waits_of, writer_of}
+use Rattle.host_link.specs.Streams.{left_in, taken_by}
+use Rattle.host_link.specs.declared.child.ChildLink.{ChildLink}
 use Rattle.host_link.specs.declared.local.LocalLink.{LocalLink}
 use Rattle.host_link.specs.declared.pipe.PipeLink.{PipeLink}
 use Rattle.host_serve.specs.Hosted.{Answers_by, Boots_by, IsFirst, left_by}
@@ -66,3 +71,10 @@ PipedRunsTell {L} {R} {W} pipe input contents puts broken_writer = (boot : Boot)
     → (host : LocalLink) × (IsFirst boot limit words host
     × LinkTells o (choice_of script) (first_shared boot.limits boot.files boot.input) (booted boot.argv boot.env) host
     w.runs.exchanges result old.contents new.contents)
+
+-- The same of links to a child, by what its output is known to have left and its input to have taken.
+abbrev pub RunsOverChildrenTell : (P E : Type 0) → {I O : Type 0} → (O → Option (List ℕ)) → (I → Option (List ℕ))
+    → Type 0
+RunsOverChildrenTell P E {I} {O} remaining contents = PipedRunsTell (λ (l : ChildLink P I O E). pipe_of l)
+    (λ e. input_of (λ out. reader_remaining (λ r. left_in remaining r) out) e)
+    (λ e. taken_by contents (inner_of e)) (λ e. calls_of e) (λ e. faults_of_end e)

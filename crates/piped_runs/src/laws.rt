@@ -1,10 +1,6 @@
 //! What a run over a pipe tells, as the contract of a function with an empty body: call it to cite it.
 
-ghost use Rattle.std.specs.Io.Buffered.{reader_remaining};
-ghost use Rattle.host_wire.specs.Counting.{calls_of, faults_of, input_of, inner_of};
-ghost use Rattle.host_link.specs.Children.{pipe_of};
-ghost use Rattle.host_link.specs.Streams.{left_in, taken_by};
-ghost use Rattle.piped_runs.specs.Piped.{PipedRunsTell};
+ghost use Rattle.piped_runs.specs.Piped.{PipedRunsTell, RunsOverChildrenTell};
 
 use host_ends::laws::ends_agree;
 use host_link::{ChildLink, PipeLink};
@@ -18,7 +14,7 @@ use trace_run::laws::{linux_runs_tell, local_links_answer_their_own};
 /// the trace begins the rendering of a view of the untraced kernel's log, and where the run is whole it is all of it,
 /// with that kernel's outcome. Trusted is that each end of the pipe gives a beginning of what was written to the other.
 pub fn piped_runs_tell<R: Source, W: Sink>()
-    ensures { PipedRunsTell (λ (l : PipeLink R W). l) R.input W.contents W.puts W.broken }
+    ensures { PipedRunsTell (λ l. l) R.input W.contents W.puts W.broken }
 {
     ends_agree();
     local_links_answer_their_own();
@@ -29,9 +25,7 @@ pub fn piped_runs_tell<R: Source, W: Sink>()
 /// So does a run over the streams of a child that this process has started, by what these streams are known to give
 /// and to take.
 pub fn runs_over_children_tell<P: OpenProcess + Drop>()
-    ensures { PipedRunsTell (λ (l : ChildLink P). pipe_of l)
-        (λ e. input_of (λ out. reader_remaining (λ r. left_in P.Stdout.remaining r) out) e)
-        (λ e. taken_by P.Stdin.contents (inner_of e)) (λ e. calls_of e) (λ e. faults_of e) }
+    ensures { RunsOverChildrenTell P P.Stderr P.Stdout.remaining P.Stdin.contents }
 {
     ends_agree();
     local_links_answer_their_own();
