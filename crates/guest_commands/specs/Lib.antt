@@ -1,2 +1,3 @@
 pub mod Drills
+pub mod Plans
 pub mod Statuses

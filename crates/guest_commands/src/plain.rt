@@ -4,6 +4,7 @@ ghost use Rattle.std.specs.Prelude.{◌≡◌, Ok, OnOk, IfOk};
 ghost use Rattle.lx_abi.specs.Modes.{lives_in};
 ghost use Rattle.plain_run.specs.Runs.{RunsTo};
 ghost use Rattle.plain_log.specs.Logged.{IsLogged};
+ghost use Rattle.guest_commands.specs.Plans.{RunsWords};
 ghost use Rattle.guest_commands.specs.Statuses.{is_alive as is_alive_in, first_status, status_in};
 
 use crate::plan::{Plan, read_plan};
@@ -154,7 +155,9 @@ fn reason(alloc: Global, plan: &Plan, status: u8) -> Result<Option<String>, Allo
 }
 
 /// Explains the end of a run on `err`, if there is something to explain.
-fn explain<E: Write>(alloc: Global, plan: &Plan, status: u8, err: &mut E) -> Result<u8, Fault> {
+fn explain<E: Write>(alloc: Global, plan: &Plan, status: u8, err: &mut E) -> Result<u8, Fault>
+    ensures { IfOk result (λ shown. shown ≡ status) }
+{
     if let Some(reason) = reason(alloc, plan, status)? {
         // The run has ended, whether this can be written or not.
         let _written = writeln!(err, "guest_host: {reason}");
@@ -170,7 +173,9 @@ pub fn run<R: Files + AllocGlobal, I: Read + IsTerminal, O: Write, E: Write + Is
     input: &mut I,
     out: &mut O,
     err: &mut E,
-) -> Result<u8, Fault> {
+) -> Result<u8, Fault>
+    ensures { RunsWords R.File.remaining matches.now (I.remaining input.old) result }
+{
     let mut plan = read_plan(rt, matches, explained, input, err)?;
     let (err, ended) = run_plan(rt, Leavings::of(matches), &mut plan, out, err);
     let status = match ended {

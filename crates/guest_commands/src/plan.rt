@@ -1,9 +1,16 @@
 //! What a run is made of.
 
+ghost use Rattle.std.specs.Prelude.{◌≡◌, IfErr, IfOk, List, codes};
+ghost use Rattle.lx_abi.specs.declared.schedule.Word.{Word as Turn};
+ghost use Rattle.lx_kernel.specs.First.{first_run_without_log};
+ghost use Rattle.pt_schedule.specs.Schedules.{worded};
+ghost use Rattle.front_end.specs.Schedules.{IsSchedule};
+ghost use Rattle.front_end.specs.Values.{value_of};
+ghost use Rattle.guest_commands.specs.Plans.{IsPlan, RefusesPlan};
+
 use clap::ArgMatches;
 use front_end::{
-    BootWords, Fault, Leavings, Program, boot_of, check_boot, check_outputs, read_expressions,
-    read_turns, refuse_boot,
+    Fault, Leavings, Program, check_outputs, read_boot, read_expressions, read_turns, refuse_boot,
 };
 use lx_abi::{Boot, Script};
 use lx_kernel::Kernel;
@@ -28,29 +35,18 @@ fn schedule<R: Files + AllocGlobal>(
     rt: &R,
     matches: &ArgMatches,
     limit: u64,
-) -> Result<Schedule, Fault> {
+) -> Result<Schedule, Fault>
+    ensures { IfOk result (λ schedule. (turns : List Turn)
+        × (IsSchedule R.File.remaining (value_of matches.now (codes "turns")) turns
+        × (schedule ≡ worded turns limit))) }
+{
     let words = read_turns(rt, matches.get_str("turns"))?;
     Ok(Schedule::words(words, limit))
 }
 
-/// The boot that the words and the input ask for.
-fn boot<R: Files + AllocGlobal, I: Read + IsTerminal, E: Write + IsTerminal>(
-    rt: &R,
-    matches: &ArgMatches,
-    input: &mut I,
-    err: &mut E,
-) -> Result<Boot, Fault> {
-    let words = BootWords {
-        files: matches.get_strs("file").unwrap_or(&[]),
-        directories: matches.get_strs("dir").unwrap_or(&[]),
-        environment: matches.get_strs("environment").unwrap_or(&[]),
-        program: matches.get_strs("program").unwrap_or(&[]),
-        follow: true,
-    };
-    boot_of(rt, "guest_host", words, input, err)
-}
-
-fn booted(alloc: Global, boot: Boot, script: Script) -> Result<Kernel, Fault> {
+fn booted(alloc: Global, boot: Boot, script: Script) -> Result<Kernel, Fault>
+    ensures { IfOk result (λ kernel. kernel ≡ first_run_without_log boot script) }
+{
     match Kernel::boot_without_log(alloc, boot, script) {
         Ok(kernel) => Ok(kernel),
         Err(fault) => Err(refuse_boot(alloc, fault)),
@@ -73,14 +69,16 @@ pub fn read_plan<R: Files + AllocGlobal, I: Read + IsTerminal, E: Write + IsTerm
     explained: bool,
     input: &mut I,
     err: &mut E,
-) -> Result<Plan, Fault> {
+) -> Result<Plan, Fault>
+    ensures plan { IfOk result (IsPlan R.File.remaining matches.now (I.remaining input.old)) }
+    ensures refused { IfErr result (RefusesPlan matches.now) }
+{
     let limit = front_end::limit(rt.alloc(), matches)?;
     let script = read_expressions(rt.alloc(), matches)?.script;
     let schedule = schedule(rt, matches, limit)?;
     check_outputs(rt, matches)?;
     Leavings::of(matches).check(rt)?;
-    let boot = boot(rt, matches, input, err)?;
-    check_boot(rt.alloc(), &boot)?;
+    let boot = read_boot(rt, "guest_host", matches, true, input, err)?;
     let program = program(rt.alloc(), explained, &boot)?;
     let kernel = booted(rt.alloc(), boot, script)?;
     Ok(Plan {

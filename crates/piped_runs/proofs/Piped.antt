@@ -155,31 +155,6 @@ module _ {R W : Type 0} (input : R → Input) (contents : W → Option (List ℕ
   sent_before a sent ahead r b waits (inl x) = absurd (cc (sym waits ∙ x.0))
   sent_before a sent ahead r b waits (inr x) = x.1
 
-  talked : (most n : ℕ) (waits : Bool) (a b : PipeLink R W) (xs : Exchanges) → waits_of a ≡ waits → given_of a + 1 ≡ n → most_of a ≡ most → Leads (piped input contents puts broken_writer) a xs b
-      → Talked most n waits (input (reader_of a)) (contents (writer_of a)) xs (input (reader_of b)) (contents (writer_of b))
-  talked most n false a b [] w number is led = (ap (λ (l : PipeLink R W). input (reader_of l)) led, ap (λ (l : PipeLink R W). contents (writer_of l)) led)
-  talked most n true a b [] w number is led = (ap (λ (l : PipeLink R W). input (reader_of l)) led, ap (λ (l : PipeLink R W). contents (writer_of l)) led)
-  talked most n false a b (x ∷ xs) w number is led =
-      let mid = led.0 in
-      let x_went = went a x.0 x.1 mid led.1.0.answered in
-      let e = sent_now a (request_frame (given_of a + 1) x.0) x_went.ahead x.1 mid w x_went.replied in
-      let by_number = subst (λ (k : ℕ). Exchanged_over (most_of a) (request_frame k x.0) x_went.ahead (input (reader_of a)) (input (reader_of mid)) (contents (writer_of a)) (contents (writer_of mid)) (puts (writer_of a)) (puts (writer_of mid)) (Ok x.1) (broken_writer (writer_of mid))) number e in
-      let by_most = subst (λ (k : ℕ). Exchanged_over k (request_frame n x.0) x_went.ahead (input (reader_of a)) (input (reader_of mid)) (contents (writer_of a)) (contents (writer_of mid)) (puts (writer_of a)) (puts (writer_of mid)) (Ok x.1) (broken_writer (writer_of mid))) is by_number in
-      let counted : given_of mid + 1 ≡ n + 1 = ap (λ (k : ℕ). k + 1) (led.1.0.counted ∙ number) in
-      let next : waits_of mid ≡ x_went.ahead = x_went.waits ∙ ap (λ (v : Bool). x_went.ahead && not v) w ∙ and_true x_went.ahead in
-      (input (reader_of mid), (contents (writer_of mid), (puts (writer_of a), (puts (writer_of mid), (broken_writer (writer_of mid), (x_went.ahead, (by_most, talked most (n + 1) x_went.ahead mid b xs next counted (x_went.same_most ∙ is) led.1.1)))))))
-  talked most n true a b (x ∷ xs) w number is led =
-      let mid = led.0 in
-      let x_went = went a x.0 x.1 mid led.1.0.answered in
-      let e = sent_before a (request_frame (given_of a + 1) x.0) x_went.ahead x.1 mid w x_went.replied in
-      let by_number = subst (λ (k : ℕ). Came (most_of a) (input (reader_of a)) (Ok x.1) (request_frame k x.0) (input (reader_of mid))) number e.1 in
-      let by_most = subst (λ (k : ℕ). Came k (input (reader_of a)) (Ok x.1) (request_frame n x.0) (input (reader_of mid))) is by_number in
-      let counted : given_of mid + 1 ≡ n + 1 = ap (λ (k : ℕ). k + 1) (led.1.0.counted ∙ number) in
-      let next : waits_of mid ≡ false = x_went.waits ∙ ap (λ (v : Bool). x_went.ahead && not v) w ∙ and_false x_went.ahead in
-      let on = talked most (n + 1) false mid b xs next counted (x_went.same_most ∙ is) led.1.1 in
-      let same = subst (λ (o : Option (List ℕ)). Talked most (n + 1) false (input (reader_of mid)) o xs (input (reader_of b)) (contents (writer_of b))) (ap contents e.0) on in
-      (input (reader_of mid), (x_went.is_next w, (by_most, same)))
-
   -- what a call that failed has sent
   failed_call : (xs : List ℕ) (a : PipeLink R W) (q : Request) (f : LinkFault) (b : PipeLink R W) → contents (writer_of a) ≡ Some xs → Asks input contents puts broken_writer a q (Err f) b → Grows xs (contents (writer_of b))
   failed_call xs a q f b is (inl x) = stays xs (contents (writer_of a)) (contents (writer_of b)) is (ap contents x.1.1.1)
@@ -191,15 +166,41 @@ module _ {R W : Type 0} (input : R → Input) (contents : W → Option (List ℕ
   failed_call xs a q f b is (inr (inr (inr (_, (_, (ahead, (_, inl (_, inr x)))))))) = sent_part x.0 (request_frame (given_of a + 1) q) ahead xs (contents (writer_of a)) (contents (writer_of b)) (puts (writer_of a)) (puts (writer_of b)) (broken_writer (writer_of b)) is x.1.1.0
   failed_call xs a q f b is (inr (inr (inr (_, (_, (ahead, (_, inr x))))))) = stays xs (contents (writer_of a)) (contents (writer_of b)) is (ap contents x.1.0)
 
+module _ {L R W : Type 0} (pipe : L → PipeLink R W) (input : R → Input) (contents : W → Option (List ℕ)) (puts : W → List ℕ) (broken_writer : W → ℕ) where
+  talked : (most n : ℕ) (waits : Bool) (a b : L) (xs : Exchanges) → waits_of (pipe a) ≡ waits → given_of (pipe a) + 1 ≡ n → most_of (pipe a) ≡ most → Leads (piped pipe input contents puts broken_writer) a xs b
+      → Talked most n waits (input (reader_of (pipe a))) (contents (writer_of (pipe a))) xs (input (reader_of (pipe b))) (contents (writer_of (pipe b)))
+  talked most n false a b [] w number is led = (ap (λ (l : L). input (reader_of (pipe l))) led, ap (λ (l : L). contents (writer_of (pipe l))) led)
+  talked most n true a b [] w number is led = (ap (λ (l : L). input (reader_of (pipe l))) led, ap (λ (l : L). contents (writer_of (pipe l))) led)
+  talked most n false a b (x ∷ xs) w number is led =
+      let mid = led.0 in
+      let x_went = went input contents puts broken_writer (pipe a) x.0 x.1 (pipe mid) led.1.0.answered in
+      let e = sent_now input contents puts broken_writer (pipe a) (request_frame (given_of (pipe a) + 1) x.0) x_went.ahead x.1 (pipe mid) w x_went.replied in
+      let by_number = subst (λ (k : ℕ). Exchanged_over (most_of (pipe a)) (request_frame k x.0) x_went.ahead (input (reader_of (pipe a))) (input (reader_of (pipe mid))) (contents (writer_of (pipe a))) (contents (writer_of (pipe mid))) (puts (writer_of (pipe a))) (puts (writer_of (pipe mid))) (Ok x.1) (broken_writer (writer_of (pipe mid)))) number e in
+      let by_most = subst (λ (k : ℕ). Exchanged_over k (request_frame n x.0) x_went.ahead (input (reader_of (pipe a))) (input (reader_of (pipe mid))) (contents (writer_of (pipe a))) (contents (writer_of (pipe mid))) (puts (writer_of (pipe a))) (puts (writer_of (pipe mid))) (Ok x.1) (broken_writer (writer_of (pipe mid)))) is by_number in
+      let counted : given_of (pipe mid) + 1 ≡ n + 1 = ap (λ (k : ℕ). k + 1) (led.1.0.counted ∙ number) in
+      let next : waits_of (pipe mid) ≡ x_went.ahead = x_went.waits ∙ ap (λ (v : Bool). x_went.ahead && not v) w ∙ and_true x_went.ahead in
+      (input (reader_of (pipe mid)), (contents (writer_of (pipe mid)), (puts (writer_of (pipe a)), (puts (writer_of (pipe mid)), (broken_writer (writer_of (pipe mid)), (x_went.ahead, (by_most, talked most (n + 1) x_went.ahead mid b xs next counted (x_went.same_most ∙ is) led.1.1)))))))
+  talked most n true a b (x ∷ xs) w number is led =
+      let mid = led.0 in
+      let x_went = went input contents puts broken_writer (pipe a) x.0 x.1 (pipe mid) led.1.0.answered in
+      let e = sent_before input contents puts broken_writer (pipe a) (request_frame (given_of (pipe a) + 1) x.0) x_went.ahead x.1 (pipe mid) w x_went.replied in
+      let by_number = subst (λ (k : ℕ). Came (most_of (pipe a)) (input (reader_of (pipe a))) (Ok x.1) (request_frame k x.0) (input (reader_of (pipe mid)))) number e.1 in
+      let by_most = subst (λ (k : ℕ). Came k (input (reader_of (pipe a))) (Ok x.1) (request_frame n x.0) (input (reader_of (pipe mid)))) is by_number in
+      let counted : given_of (pipe mid) + 1 ≡ n + 1 = ap (λ (k : ℕ). k + 1) (led.1.0.counted ∙ number) in
+      let next : waits_of (pipe mid) ≡ false = x_went.waits ∙ ap (λ (v : Bool). x_went.ahead && not v) w ∙ and_false x_went.ahead in
+      let on = talked most (n + 1) false mid b xs next counted (x_went.same_most ∙ is) led.1.1 in
+      let same = subst (λ (o : Option (List ℕ)). Talked most (n + 1) false (input (reader_of (pipe mid))) o xs (input (reader_of (pipe b))) (contents (writer_of (pipe b)))) (ap contents e.0) on in
+      (input (reader_of (pipe mid)), (x_went.is_next w, (by_most, same)))
+
   -- what was sent after the last request that was answered
-  sent_last : (xs : List ℕ) (s : State) (rs : List Reply) (old : Writer) (a : PipeLink R W) (result : Result ⊤ RunFault) (b : Ends (PipeLink R W))
-      → contents (writer_of a) ≡ Some xs → Last (piped input contents puts broken_writer) s rs old a result b → Grows xs (contents (writer_of b.link))
+  sent_last : (xs : List ℕ) (s : State) (rs : List Reply) (old : Writer) (a : L) (result : Result ⊤ RunFault) (b : Ends L)
+      → contents (writer_of (pipe a)) ≡ Some xs → Last (piped pipe input contents puts broken_writer) s rs old a result b → Grows xs (contents (writer_of (pipe b.link)))
   unfolding Last
-  sent_last xs s rs old a (Ok u) b is h = stays xs (contents (writer_of a)) (contents (writer_of b.link)) is (ap (λ (l : PipeLink R W). contents (writer_of l)) h.4)
-  sent_last xs s rs old a (Err (Link f)) b is h = failed_call xs a h.2.0 f b.link is h.2.1.1.answered
-  sent_last xs s rs old a (Err (Trace Inadmissible)) b is h = stays xs (contents (writer_of a)) (contents (writer_of b.link)) is (ap (λ (l : PipeLink R W). contents (writer_of l)) h.2)
-  sent_last xs s rs old a (Err (Trace Memory)) b is h = stays xs (contents (writer_of a)) (contents (writer_of b.link)) is (ap (λ (l : PipeLink R W). contents (writer_of l)) h.1)
-  sent_last xs s rs old a (Err Output) b is h = stays xs (contents (writer_of a)) (contents (writer_of b.link)) is (ap (λ (l : PipeLink R W). contents (writer_of l)) h.3)
+  sent_last xs s rs old a (Ok u) b is h = stays xs (contents (writer_of (pipe a))) (contents (writer_of (pipe b.link))) is (ap (λ (l : L). contents (writer_of (pipe l))) h.4)
+  sent_last xs s rs old a (Err (Link f)) b is h = failed_call input contents puts broken_writer xs (pipe a) h.2.0 f (pipe b.link) is h.2.1.1.answered
+  sent_last xs s rs old a (Err (Trace Inadmissible)) b is h = stays xs (contents (writer_of (pipe a))) (contents (writer_of (pipe b.link))) is (ap (λ (l : L). contents (writer_of (pipe l))) h.2)
+  sent_last xs s rs old a (Err (Trace Memory)) b is h = stays xs (contents (writer_of (pipe a))) (contents (writer_of (pipe b.link))) is (ap (λ (l : L). contents (writer_of (pipe l))) h.1)
+  sent_last xs s rs old a (Err Output) b is h = stays xs (contents (writer_of (pipe a))) (contents (writer_of (pipe b.link))) is (ap (λ (l : L). contents (writer_of (pipe l))) h.3)
 
 some_is : {X : Type 0} (x y : X) → Some x ≡ Some y → x ≡ y
 some_is x y e = cc
@@ -275,6 +276,13 @@ answered_by {b = b} {old = old} {new = new} (Err Write) s = record {
   wrote = part_behind old s.written.whole new (replies_of s.exchanges) _ s.written.written.0 s.written.part.0;
 }
 
+-- what was put behind nothing is known
+pub put_is_known : {most broken : ℕ} {a b : Input} {new : Option (List ℕ)} {sizes sizes' : List ℕ} (result : Result Outcome ServeFault) → Served most Boots_by Answers_by left_by a b (Some []) new sizes sizes' result broken
+    → (bytes : List ℕ) × (new ≡ Some bytes)
+put_is_known {new = new} result s =
+    let host = answered_by result s in
+    (host.wrote.0, grown [] host.wrote.0 new host.wrote.1.1.1)
+
 -- what is left of known bytes
 left_of : (xs bs : List ℕ) (o : Option (List ℕ)) → Consumes (Some xs) o bs → (ys : List ℕ) × (xs ≡ bs ++ ys)
 left_of xs bs None consumed = absurd consumed
@@ -282,16 +290,16 @@ left_of xs bs (Some ys) consumed = (ys, consumed)
 
 -- ---- both
 
-pub piped_runs_tell : {R W : Type 0} (input : R → Input) (contents : W → Option (List ℕ)) (puts : W → List ℕ) (broken_writer : W → ℕ)
-    → EndsAgree → LocalLinksAnswerTheirOwn → HostsBeginAlike Shared UserState → LinuxRunsTell (piped {R = R} {W = W} input contents puts broken_writer) → PipedRunsTell input contents puts broken_writer
+pub piped_runs_tell : {L R W : Type 0} (pipe : L → PipeLink R W) (input : R → Input) (contents : W → Option (List ℕ)) (puts : W → List ℕ) (broken_writer : W → ℕ)
+    → EndsAgree → LocalLinksAnswerTheirOwn → HostsBeginAlike Shared UserState → LinuxRunsTell (piped pipe input contents puts broken_writer) → PipedRunsTell pipe input contents puts broken_writer
 unfolding LocalLinksAnswerTheirOwn LinuxRunsTell
-piped_runs_tell {R} {W} input contents puts broken_writer agree own begin tells boot limit words script o first link link' old new result w most a b unwritten written sizes sizes' served broken_host s unused asked nothing back forth =
+piped_runs_tell {L} {R} {W} pipe input contents puts broken_writer agree own begin tells boot limit words script o first link link' old new result w most a b unwritten written sizes sizes' served broken_host s unused asked nothing back forth =
     let ys : Exchanges = w.runs.exchanges in
     let all : Exchanges = (Boot_with boot limit words, Done) ∷ ys in
-    let led : Leads (piped input contents puts broken_writer) first all w.runs.link = (link, (asked, w.runs.led)) in
-    let talk = talked input contents puts broken_writer (most_of first) 1 false first w.runs.link all unused.idle (ap (λ (k : ℕ). k + 1) unused.given) refl led in
-    let sent = known (most_of first) 1 false (input (reader_of first)) (input (reader_of w.runs.link)) [] (contents (writer_of first)) (contents (writer_of w.runs.link)) all unused.sent talk in
-    let more = sent_last input contents puts broken_writer sent.0 _ _ old w.runs.link _ _ sent.1 w.runs.last in
+    let led : Leads (piped pipe input contents puts broken_writer) first all w.runs.link = (link, (asked, w.runs.led)) in
+    let talk = talked pipe input contents puts broken_writer (most_of (pipe first)) 1 false first w.runs.link all unused.idle (ap (λ (k : ℕ). k + 1) unused.given) refl led in
+    let sent = known (most_of (pipe first)) 1 false (input (reader_of (pipe first))) (input (reader_of (pipe w.runs.link))) [] (contents (writer_of (pipe first))) (contents (writer_of (pipe w.runs.link))) all unused.sent talk in
+    let more = sent_last pipe input contents puts broken_writer sent.0 _ _ old w.runs.link _ _ sent.1 w.runs.last in
     let host = answered_by served s in
     let in_all : written ≡ Some host.wrote.0 = grown [] host.wrote.0 written (subst (λ (o : Option (List ℕ)). Appends o written host.wrote.0) nothing host.wrote.1.1.1) in
     let given : List ℕ = back.0 in
@@ -301,9 +309,9 @@ piped_runs_tell {R} {W} input contents puts broken_writer agree own begin tells 
     let front : host.came ++ (host.behind ++ left.0) ≡ forth.0 = sym (append_assoc host.came host.behind left.0) ∙ ap (λ (t : List ℕ). t ++ left.0) host.parts ∙ sym left.1 in
     let requests : host.came ++ ((host.behind ++ left.0) ++ forth.1.0) ≡ sent.0 ++ more.0 =
     sym (append_assoc host.came (host.behind ++ left.0) forth.1.0) ∙ ap (λ (t : List ℕ). t ++ forth.1.0) front ∙ some_is (forth.0 ++ forth.1.0) (sent.0 ++ more.0) (sym forth.1.1.1 ∙ more.1) in
-    let talk_known = subst (λ (x : Option (List ℕ)). Talked (most_of first) 1 false (input (reader_of first)) x all (input (reader_of w.runs.link)) (contents (writer_of w.runs.link))) unused.sent talk in
-    let talk_sent = subst (λ (x : Option (List ℕ)). Talked (most_of first) 1 false (input (reader_of first)) (Some []) all (input (reader_of w.runs.link)) x) sent.1 talk_known in
-    let same = agree (most_of first) most (input (reader_of first)) (input (reader_of w.runs.link)) a host.middle host.exchanges all given (back.1.0 ++ host.wrote.1.0) sent.0 host.came ((host.behind ++ left.0) ++ forth.1.0) more.0
+    let talk_known = subst (λ (x : Option (List ℕ)). Talked (most_of (pipe first)) 1 false (input (reader_of (pipe first))) x all (input (reader_of (pipe w.runs.link))) (contents (writer_of (pipe w.runs.link)))) unused.sent talk in
+    let talk_sent = subst (λ (x : Option (List ℕ)). Talked (most_of (pipe first)) 1 false (input (reader_of (pipe first))) (Some []) all (input (reader_of (pipe w.runs.link))) x) sent.1 talk_known in
+    let same = agree (most_of (pipe first)) most (input (reader_of (pipe first))) (input (reader_of (pipe w.runs.link))) a host.middle host.exchanges all given (back.1.0 ++ host.wrote.1.0) sent.0 host.came ((host.behind ++ left.0) ++ forth.1.0) more.0
     back.1.1.0 replies host.fit host.taken requests talk_sent in
     let led_on : Forth Waiting (all ++ same.0) host.phase = subst (λ (xs : Exchanges). Forth Waiting xs host.phase) same.1 (in_order host.exchanges host.phase host.led) in
     let h = begun_by boot limit words (ys ++ same.0) led_on.0 host.phase led_on.1.0 led_on.1.1 in
@@ -319,6 +327,6 @@ piped_runs_tell {R} {W} input contents puts broken_writer agree own begin tells 
     } in
     let answered : AnswersItsOwn o (choice_of script) shared user h.host ys =
     own o (choice_of script) h.host l.last ys shared user going (ap (λ (v : HostState). v.hosting) h.is_first.host) l.led w.runs.asked in
-    let told = link_tells (piped input contents puts broken_writer) o (choice_of script) h.host shared user link link' old new result w answered
+    let told = link_tells (piped pipe input contents puts broken_writer) o (choice_of script) h.host shared user link link' old new result w answered
     (λ events is_own. tells boot script o link link' old new result w events is_own) in
     (h.host, (h.is_first, told))

@@ -139,9 +139,11 @@ fn whole(
 }
 
 impl<W: Write> Watch for Log<W> {
-    ghost use Rattle.std.specs.Prelude.{is_some};
+    ghost use Rattle.std.specs.Prelude.{is_some, ⊤};
 
     ghost told = { λ l. l.told.items };
+
+    ghost noting = { λ _ _ _. ⊤ };
 
     ghost weary = { λ l. is_some l.fault };
 

@@ -118,7 +118,7 @@ told_unserved (order.Worded w) r e = of w.row w.returning w.words e
     of (Some x) None [] e = e
     of (Some x) None (y ∷ ys) e = absurd (cc e)
 
-same_run : (ps : List ℕ) (k : Run) (s t : Schedule) (z : Run) → unserved s.order ≡ unserved t.order → IsRun k s ps z → IsRun k t ps z
+pub same_run : (ps : List ℕ) (k : Run) (s t : Schedule) (z : Run) → unserved s.order ≡ unserved t.order → IsRun k s ps z → IsRun k t ps z
 same_run [] k s t z e h = subst (λ o. ((given_turn (next_by o (readiness_of k))).pid ≡ None) × (z ≡ k)) e h
 same_run (p ∷ ps) k s t z e h = subst (λ o. ((given_turn (next_by o (readiness_of k))).pid ≡ Some p) × IsRun (after_turn k p) (given_turn (next_by o (readiness_of k))).schedule ps z) e h
 

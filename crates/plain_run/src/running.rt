@@ -1,11 +1,13 @@
 //! Turns by a schedule, up to its end.
 
-ghost use Rattle.std.specs.Prelude.{◌≡◌, ◌≤◌, ◌<◌, ◌-◌, ◌++◌, Some, OnOk, IfOk, IfErr, IsTrue};
+ghost use Rattle.std.specs.Prelude.{◌≡◌, ◌≤◌, ◌<◌, ◌-◌, ◌++◌, Some, OnOk, IfOk, IfErr, IsTrue, List, ◌∷◌, []};
+ghost use Rattle.lx_abi.specs.Log.{Noted};
 ghost use Rattle.std.specs.Option.{option_to_list};
 ghost use Rattle.lx_kernel.specs.Runs.{Run as KernelRun, after_turn, mode_in};
 ghost use Rattle.pt_schedule.specs.Rows.{run_of, Continues};
 ghost use Rattle.pt_schedule.specs.Schedules.{events_left};
 ghost use Rattle.pt_schedule.specs.Untraced.{readiness_of};
+ghost use Rattle.plain_run.specs.Notes.{IsTurned, RunsNoted, notes_of, turns_of, with_item};
 ghost use Rattle.plain_run.specs.InRows.{InRow, ends_row as ends_row_at, may_rest as may_rest_at};
 ghost use Rattle.plain_run.specs.Runs.{RunsTo, IsCause};
 ghost use Rattle.plain_run.specs.Watched.{Tells};
@@ -42,6 +44,8 @@ pub fn tell<W: Watch>(
     watch: &mut W,
 ) -> Result<(), Halt>
     ensures told { W.told watch.new ≡ W.told watch.old ++ option_to_list item.now }
+    ensures noted { (first : W) (ns : List Noted) → W.noting first watch.old ns
+        → W.noting first watch.new (with_item kernel.now ns item.now) }
     ensures begun { W.begun watch.new ≡ W.begun watch.old }
     ensures cause { IfErr result (IsCause kernel.now.failed (W.weary watch.new)) }
 {
@@ -67,6 +71,8 @@ fn advance<W: Watch>(
     ensures some { IfOk result (λ a. 0 < a.turns) }
     ensures within { IfOk result (λ a. a.turns ≤ most) }
     ensures after { IfOk result (λ a. a.after ≡ mode_in kernel.new pid) }
+    ensures noted { IfOk result (λ a. (first : W) (ns : List Noted) → W.noting first watch.old ns
+        → W.noting first watch.new (ns ++ notes_of kernel.old (turns_of a.turns pid []))) }
     ensures told { Tells kernel.old (W.told watch.old) kernel.new (W.told watch.new) }
     ensures begun { W.begun watch.new ≡ W.begun watch.old }
     ensures cause { IfErr result (IsCause kernel.new.failed (W.weary watch.new)) }
@@ -118,6 +124,8 @@ pub fn goes_on(kernel: &Kernel, pid: u32, mode: Option<Mode>) -> bool
 fn turn_row<W: Watch>(kernel: &mut Kernel, pid: u32, more: u64, watch: &mut W) -> Result<u64, Halt>
     ensures row { IfOk result (λ n. InRow kernel.old pid n kernel.new) }
     ensures within { IfOk result (λ n. n ≤ more) }
+    ensures noted { IfOk result (λ n. (first : W) (ns : List Noted) → W.noting first watch.old ns
+        → W.noting first watch.new (ns ++ notes_of kernel.old (pid ∷ turns_of n pid []))) }
     ensures told { Tells kernel.old (W.told watch.old) kernel.new (W.told watch.new) }
     ensures begun { W.begun watch.new ≡ W.begun watch.old }
     ensures cause { IfErr result (IsCause kernel.new.failed (W.weary watch.new)) }
@@ -149,6 +157,8 @@ fn turn<W: Watch>(
 ) -> Result<(), Halt>
     ensures on { OnOk result
         ((z : KernelRun) → RunsTo kernel.new schedule.new z → RunsTo (after_turn kernel.old pid) schedule.old z) }
+    ensures noted { OnOk result ((first : W) → IsTurned kernel.old pid schedule.old (W.noting first watch.old) kernel.new
+        schedule.new (W.noting first watch.new)) }
     ensures fewer { OnOk result (events_left schedule.new ≤ events_left schedule.old) }
     ensures told { Tells kernel.old (W.told watch.old) kernel.new (W.told watch.new) }
     ensures begun { W.begun watch.new ≡ W.begun watch.old }
@@ -170,6 +180,9 @@ pub fn run<W: Watch>(
     watch: &mut W,
 ) -> Result<(), Halt>
     ensures to { OnOk result (RunsTo kernel.old schedule.old kernel.new) }
+
+    ensures noted { OnOk result ((first : W) → RunsNoted kernel.old schedule.old kernel.new (W.noting first watch.old)
+        (W.noting first watch.new)) }
 
     // What was logged was told, in order, also where the run ended before its schedule.
     ensures told { Tells kernel.old (W.told watch.old) kernel.new (W.told watch.new) }

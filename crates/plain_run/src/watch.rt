@@ -14,9 +14,15 @@ pub struct Weary;
 pub trait Watch {
     ghost use Rattle.std.specs.Prelude.{◌≡◌, ◌++◌, ℕ, Bool, List, [], ◌∷◌, Option};
     ghost use Rattle.lx_abi.specs.declared.log.Item.{Item as Logged};
+    ghost use Rattle.lx_abi.specs.Log.{Noted};
+    ghost use Rattle.plain_run.specs.Notes.{noted_in};
 
     /// What it was told, in order.
     ghost told: { Self → List Logged };
+
+    /// What became of the first by the second, which was told these, each with what its process could read. It is for
+    /// the watcher to say what that is.
+    ghost noting: { Self → Self → List Noted → Type 0 };
 
     /// It has said that it wants no more.
     ghost weary: { Self → Bool };
@@ -30,12 +36,15 @@ pub trait Watch {
     /// So many turns have logged nothing.
     fn pass(&mut self, turns: u64) -> Result<(), Weary>
         ensures told { told self.new ≡ told self.old }
+        ensures noted { (first : Self) (ns : List Noted) → noting first self.old ns → noting first self.new ns }
         ensures begun { begun self.new ≡ begun self.old }
         ensures weary { OnErr result (IsTrue (weary self.new)) };
 
     /// The kernel has logged this in its last turn. What wants no more was told it all the same.
     fn see(&mut self, kernel: &Kernel, item: &Item) -> Result<(), Weary>
         ensures told { told self.new ≡ told self.old ++ item.now ∷ [] }
+        ensures noted { (first : Self) (ns : List Noted) → noting first self.old ns
+            → noting first self.new (ns ++ noted_in kernel.now item.now ∷ []) }
         ensures begun { begun self.new ≡ begun self.old }
         ensures weary { OnErr result (IsTrue (weary self.new)) };
 }
@@ -59,10 +68,12 @@ impl Unwatched {
 }
 
 impl Watch for Unwatched {
-    ghost use Rattle.std.specs.Prelude.{false, None};
+    ghost use Rattle.std.specs.Prelude.{false, None, ⊤};
     ghost use Rattle.plain_run.specs.Watched.{told_to};
 
     ghost told = { told_to };
+
+    ghost noting = { λ _ _ _. ⊤ };
 
     ghost weary = { λ _. false };
 

@@ -1,16 +1,15 @@
 //! The occurrences of calls that a log has.
 
 ghost use Rattle.std.specs.Prelude.{◌≡◌, ◌&&◌, IfOk, OnOk, List};
-ghost use Rattle.lx_abi.specs.Occurrences.{count_of};
 ghost use Rattle.lx_abi.specs.Scripts.{includes};
 ghost use Rattle.lx_abi.specs.declared.log.Item.{Item as LogItem};
 ghost use Rattle.lx_model.specs.Kernel.{traces};
 ghost use Rattle.sweep_rows.specs.Entries.{rows_of};
-ghost use Rattle.sweep_rows.specs.Counts.{Counted, IsTold, IsAdded};
+ghost use Rattle.sweep_rows.specs.Counts.{Counted, IsAdded};
 ghost use Rattle.sweep_rows.specs.Known.{IsKnown};
 
 use crate::known::{Known, Occurrence};
-use lx_abi::{Call, Item, Occurrences, Set};
+use lx_abi::{Item, Occurrences, Set};
 use std::alloc::{AllocError, Global};
 
 /// Occurrences so far, and what they are counted by.
@@ -19,11 +18,9 @@ pub(crate) struct Rows {
     found: Vec<Occurrence>,
     /// How often each process has entered each call.
     entered: Occurrences,
-    /// How many occurrences of each call are among those found, under the pid 0.
-    told: Occurrences,
 }
 
-/// A rule for this set is for such a call of the process.
+/// Such a call of the process is meant.
 fn is_meant(set: &Set, follow: bool, pid: u32, number: u64) -> bool
     ensures { result ≡ (includes set.now number && traces follow pid) }
 {
@@ -31,22 +28,9 @@ fn is_meant(set: &Set, follow: bool, pid: u32, number: u64) -> bool
 }
 
 impl Rows {
-    /// The latest entry of a process into a call is found, if no process has entered the call so often before.
-    fn tell(&mut self, pid: u32, call: Call, known: &Known) -> Result<(), AllocError>
-        ensures { OnOk result (IsTold known.now self.old pid call self.new) }
-    {
-        let n = self.entered.latest(pid, call.number);
-        if n <= self.told.latest(0, call.number) {
-            return Ok(());
-        }
-        self.told.count(0, call.number)?;
-        self.found.push(known.occurrence(pid, call, n))?;
-        Ok(())
-    }
-
     /// One item more of a log that tells this.
     fn add(&mut self, set: &Set, follow: bool, item: &Item, known: &Known) -> Result<(), AllocError>
-        ensures { OnOk result ((past : List LogItem) → IsKnown past known.now → Counted set.now follow past self.old
+        ensures { OnOk result ((past : List LogItem) → IsKnown past known.now → Counted past self.old
             → IsAdded set.now follow past item.now self.old self.new) }
     {
         let Item::Enter { pid, call } = item else {
@@ -54,14 +38,15 @@ impl Rows {
         };
         self.entered.count(*pid, call.number)?;
         if is_meant(set, follow, *pid, call.number) {
-            self.tell(*pid, *call, known)?;
+            let n = self.entered.latest(*pid, call.number);
+            self.found.push(known.occurrence(*pid, *call, n))?;
         }
         Ok(())
     }
 }
 
-/// The occurrences of the calls of a set that a rule can name, in the order in which the log has them first: those of
-/// each process with `follow`, else of process 1.
+/// The entries of processes into the calls of a set, in the order of the log: of each process with `follow`, else of
+/// process 1.
 pub fn occurrences(
     alloc: Global,
     log: &[Item],
@@ -73,7 +58,6 @@ pub fn occurrences(
     let mut rows = Rows {
         found: Vec::new(alloc),
         entered: Occurrences::new(alloc),
-        told: Occurrences::new(alloc),
     };
     let mut known = Known::new(alloc);
     let mut left = log;

@@ -14,7 +14,6 @@ const SIGPIPE: u64 = 13;
 /// The nth entry of a process into a call, counted from 1.
 #[derive(Clone, Copy, Debug, PartialEq, Eq)]
 pub struct Occurrence {
-    /// The first process that has entered the call so often.
     pub pid: u32,
     pub call: Call,
     pub n: u64,

@@ -12,7 +12,7 @@ use Rattle.trace_command.specs.Faults.{IsUnhosted, IsUnopened, IsUnwritable, is_
 use Rattle.trace_command.specs.Tracing.{IsOnThreads, Lacks, LacksAt, Leaves, LeavesAfter, Takes, Unmade}
 use Rattle.trace_command.specs.declared.kernel.Kernel.{Kernel}
 use Rattle.trace_command.specs.declared.kernel.Kernel.TheVariants.{Here, OnThreads, There}
-use Rattle.trace_command.specs.declared.words.Workers.{Workers}
+use Rattle.trace_words.specs.declared.asked.Workers.{Workers}
 
 pub over_sum : {A B C D : Type 0} → (A → C) → (B → D) → A ⊎ B → C ⊎ D
 over_sum f g (inl a) = inl (f a)

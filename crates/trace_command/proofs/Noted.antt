@@ -31,8 +31,8 @@ use Rattle.trace_command.specs.declared.kernel.Kernel.{Kernel}
 use Rattle.trace_command.specs.declared.kernel.Kernel.TheVariants.{Here, OnThreads, There}
 use Rattle.trace_command.specs.declared.place.Place.{Place}
 use Rattle.trace_command.specs.declared.place.Place.TheVariants as place
-use Rattle.trace_command.specs.declared.plan.Plan.{Plan}
-use Rattle.trace_command.specs.declared.words.Workers.{Workers}
+use Rattle.trace_words.specs.declared.plan.Plan.{Plan}
+use Rattle.trace_words.specs.declared.asked.Workers.{Workers}
 
 pub on_ok_more : {A X : Type 0} {P Q : Type 0} (r : Result A X) → (P → Q) → OnOk r P → OnOk r Q
 on_ok_more (Ok x) f p = f p

@@ -4,3 +4,4 @@ pub mod Writers
 pub mod TurnsOut
 pub mod Noting
 pub mod Replays
+pub mod Asked

@@ -24,8 +24,8 @@ use Rattle.trace_command.specs.TurnsOut.{WritesTurns}
 use Rattle.trace_command.specs.declared.kept.Kept.{Kept}
 use Rattle.trace_command.specs.declared.kernel.Kernel.{Kernel}
 use Rattle.trace_command.specs.declared.kernel.Kernel.TheVariants.{Here, OnThreads, There}
-use Rattle.trace_command.specs.declared.plan.Plan.{Plan}
-use Rattle.trace_command.specs.declared.words.Workers.{Workers}
+use Rattle.trace_words.specs.declared.plan.Plan.{Plan}
+use Rattle.trace_words.specs.declared.asked.Workers.{Workers}
 
 -- The events of such a run in this process: those that its schedule gives, until nothing is asked or it has ended.
 -- There is one list of them.

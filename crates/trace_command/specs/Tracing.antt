@@ -42,8 +42,9 @@ use Rattle.trace_command.specs.declared.kernel.Kernel.{Kernel}
 use Rattle.trace_command.specs.declared.kernel.Kernel.TheVariants.{Here, OnThreads, There}
 use Rattle.trace_command.specs.declared.place.Place.{Place}
 use Rattle.trace_command.specs.declared.place.Place.TheVariants.{Error, Output, File}
-use Rattle.trace_command.specs.declared.plan.Plan.{Plan}
-use Rattle.trace_command.specs.declared.words.Workers.{Workers}
+use Rattle.trace_words.specs.Plans.{RefusesPlan}
+use Rattle.trace_words.specs.declared.plan.Plan.{Plan}
+use Rattle.trace_words.specs.declared.asked.Workers.{Workers}
 
 -- ---- the words
 
@@ -308,16 +309,22 @@ TracesOut held runs file words workers result out out' err err' =
     × ((o.contents ≡ out')
     × ((e.contents ≡ err') × TracesPlan held runs file words workers result (unused out) o (unused err) e)))
 
--- What is written to standard output is that of a run of some plan, and a status is that of this run. Or there was no
--- plan, and nothing is written to it.
-abbrev pub TracesWords : {F : Type 0} → (F → Option (List ℕ))
+-- there is no plan, for such a fault, and nothing is written
+abbrev pub Unplanned : (Fault → Type 0) → Result ℕ Fault → Option (List ℕ) → Option (List ℕ) → Type 0
+Unplanned refuses (Ok status) out out' = ⊥
+Unplanned refuses (Err fault) out out' = refuses fault × (out' ≡ out)
+
+-- What is written to standard output is that of a run of such a plan, and a status is that of this run. Or the words
+-- make no plan, and nothing is written to it.
+abbrev pub TracesWords : {F : Type 0} → (F → Option (List ℕ)) → (Plan → Type 0)
     → (Plan → Result Ended RunFault → Writer → Writer → Type 0) → (Plan → Type 0) → ArgMatches → Option Workers
     → Result ℕ Fault → Option (List ℕ) → Option (List ℕ) → Type 0
-TracesWords held runs file words workers result out out' =
-    (IsErr result × (out' ≡ out))
+TracesWords held asked runs file words workers result out out' =
+    Unplanned (RefusesPlan words) result out out'
     ⊎ ((plan : Plan)
+    × (asked plan
     × ((ended : Result ℕ Fault)
     × ((err : Option (List ℕ))
     × ((err' : Option (List ℕ))
     × (IfOk result (λ status. ended ≡ Ok status)
-    × TracesOut held (runs plan) (file plan) words workers ended out out' err err')))))
+    × TracesOut held (runs plan) (file plan) words workers ended out out' err err'))))))

@@ -1,7 +1,13 @@
 //! The program as a function of its words, its input and its outputs.
 
+ghost use Rattle.std.specs.Prelude.{codes};
+ghost use Rattle.front_end.specs.Streams.{opened_contents};
+ghost use Rattle.trace_command.specs.Asked.{TracesAsked};
+ghost use Rattle.trace_command.specs.Noting.{WritesEvents};
+ghost use Rattle.trace_command.specs.Tracing.{Runs, value_of};
+
+use crate::tracing;
 use crate::tracing::Traced;
-use crate::{tracing, words};
 use clap::ArgMatches;
 use clap::error::ErrorKind;
 use front_end::{Fault, print_help, refusal, report, shown_words};
@@ -12,6 +18,7 @@ use std::process::Processes;
 use std::rt::Files;
 use std::sync::Wait;
 use std::thread::Threads;
+use trace_words::{parse, trace_options};
 
 /// The program in its messages.
 const NAME: &str = "strace";
@@ -28,7 +35,7 @@ where
     R::Started: Streams,
 {
     let alloc = rt.alloc();
-    match words::parse(alloc, words) {
+    match parse(alloc, words) {
         Ok(matches) => {
             let explained = matches.get_flag("explain") || err.is_terminal();
             run(rt, &matches, explained, input, out, err)
@@ -46,21 +53,47 @@ pub fn tell<E: Write>(fault: Fault, err: &mut E) -> u8 {
     report(NAME, &fault, false, err)
 }
 
+/// Traces the run that the words ask for.
+fn trace_asked<
+    R: Files + Processes + Threads + Wait + Sync + AllocGlobal,
+    I: Read + IsTerminal,
+    O: Write,
+    E: Write + IsTerminal,
+>(rt: &R, matches: &ArgMatches, explained: bool, input: &mut I, out: O, err: E) -> Traced<O, E>
+where
+    R::Started: Streams,
+    ensures { TracesAsked R.File.remaining (opened_contents R.File.contents)
+        (Runs R.Started R.Started.Stderr R.Started.Stdout.remaining R.Started.Stdin.contents
+        (value_of matches.now (codes "host")))
+        (λ workers limit plan. WritesEvents (opened_contents R.File.contents) (value_of matches.now (codes "host"))
+        workers limit plan (value_of matches.now (codes "turns-out")))
+        matches.now (I.remaining input.old) result.status (O.contents out) (O.contents result.out) }
+{
+    let mut options = match trace_options(matches) {
+        Ok(options) => options,
+        Err(fault) => {
+            return Traced {
+                status: Err(fault.told(rt.alloc(), matches)),
+                out,
+                err,
+                said: None,
+            };
+        }
+    };
+    options.explain = explained;
+    tracing::trace(rt, matches, options, input, out, err)
+}
+
 fn run<
     R: Files + Processes + Threads + Wait + Sync + AllocGlobal,
     I: Read + IsTerminal,
     O: Write + Drop,
     E: Write + IsTerminal + Drop,
->(rt: &R, matches: &ArgMatches, explained: bool, input: &mut I, out: O, mut err: E) -> u8
+>(rt: &R, matches: &ArgMatches, explained: bool, input: &mut I, out: O, err: E) -> u8
 where
     R::Started: Streams,
 {
-    let mut options = match words::trace_options(rt.alloc(), matches) {
-        Ok(options) => options,
-        Err(fault) => return report(NAME, &fault, explained, &mut err),
-    };
-    options.explain = explained;
-    let traced = tracing::trace(rt, matches, options, input, out, err);
+    let traced = trace_asked(rt, matches, explained, input, out, err);
     let Traced {
         status,
         out,
@@ -93,7 +126,7 @@ fn refuse(alloc: Global, kind: ErrorKind, words: &[String]) -> Fault {
         Ok(shown) => shown,
         Err(error) => return Fault::from(error),
     };
-    match words::parse(alloc, shown.as_slice()) {
+    match parse(alloc, shown.as_slice()) {
         Ok(_) => Fault::usage(format!(in alloc; "a word is malformed")),
         Err(error) => refusal(alloc, error, Some(words)),
     }

@@ -1,6 +1,5 @@
 //! What is kept of a run beside its trace.
 
-use crate::plan::Plan;
 use front_end::explain_turns;
 use host_link::ChildLink;
 use lx_abi::Occurrences;
@@ -9,6 +8,7 @@ use pt_kernel::Events;
 use std::alloc::Global;
 use std::process::OpenProcess;
 use trace_run::{Ended, RunFault};
+use trace_words::Plan;
 
 /// What is asked for of a run beside its trace.
 #[derive(Clone, Copy, Debug)]

@@ -10,7 +10,6 @@ ghost use Rattle.trace_command.specs.Tracing.{IsOnThreads, TakesAlone, Traces, T
 use crate::fault::host_fault;
 use crate::kept::{Behind, Kept, Known, waits_in};
 use crate::threads::run_on_threads;
-use crate::words::Workers;
 use containers::Seq;
 use front_end::Fault;
 use host_link::{ChildLink, Link, LinkFault, Streams};
@@ -23,6 +22,7 @@ use std::sync::Wait;
 use std::thread::Threads;
 use tr_core::Options;
 use trace_run::{Ended, Local, RunFault, TraceSink, run_counting, trace_local};
+use trace_words::Workers;
 
 /// A kernel that takes its boot.
 #[derive(Drop)]

@@ -1,4 +1,4 @@
-//! The command that traces a run: its words, where the kernel runs, where the trace and the console go.
+//! The command that traces a run: where the kernel runs, where the trace and the console go.
 #![tactic(auto)]
 
 mod entry;
@@ -11,7 +11,6 @@ mod kernel;
 pub mod laws;
 mod lines;
 mod place;
-mod plan;
 mod prepared;
 mod running;
 mod second;
@@ -19,6 +18,5 @@ mod threads;
 mod trace_file;
 mod tracing;
 mod turns_out;
-mod words;
 
 pub use entry::{command, tell};

@@ -1,18 +1,18 @@
 //! What is made ready before a run.
 
-ghost use Rattle.std.specs.Prelude.{◌≡◌, IfOk, None, codes, false, is_some};
+ghost use Rattle.std.specs.Prelude.{◌≡◌, IfErr, IfOk, None, codes, false, is_some};
 ghost use Rattle.trace_command.specs.Noting.{IsKeptFor};
 ghost use Rattle.trace_command.specs.Tracing.{value_of};
+ghost use Rattle.trace_words.specs.Plans.{IsPlan, RefusesPlan};
 
 use crate::given::is_given;
 use crate::kept::{Asked, Kept, Known};
-use crate::plan::{Plan, read_plan};
-use crate::words::TraceOptions;
 use clap::ArgMatches;
 use front_end::{Fault, Program};
 use std::alloc::Global;
 use std::io::{IsTerminal, Read, Write};
 use std::rt::Files;
+use trace_words::{Plan, TraceOptions, read_plan};
 
 /// A run that is to be made.
 #[derive(Drop)]
@@ -79,7 +79,10 @@ pub fn prepare<R: Files + AllocGlobal, I: Read + IsTerminal, E: Write + IsTermin
     input: &mut I,
     err: &mut E,
 ) -> Result<Prepared, Fault>
-    ensures { IfOk result (λ prepared. IsKeptFor matches.now prepared.kept) }
+    ensures kept { IfOk result (λ prepared. IsKeptFor matches.now prepared.kept) }
+    ensures plan { IfOk result (λ prepared.
+        IsPlan R.File.remaining matches.now options (I.remaining input.old) prepared.plan) }
+    ensures refused { IfErr result (RefusesPlan matches.now) }
 {
     let plan = read_plan(rt, matches, options, input, err)?;
     let kept = keep(rt.alloc(), matches, options, &plan)?;

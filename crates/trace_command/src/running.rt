@@ -15,9 +15,7 @@ use crate::kept::Behind;
 use crate::kernel::{Kernel, boot_kernel, run_kernel};
 use crate::lines::LineSink;
 use crate::place::{Place, create};
-use crate::plan::Plan;
 use crate::trace_file::TraceFile;
-use crate::words::TraceOptions;
 use clap::ArgMatches;
 use front_end::{Fault, Opened};
 use host_link::{ChildLink, LinkFault, Streams};
@@ -31,6 +29,7 @@ use std::sync::Wait;
 use std::thread::Threads;
 use tr_core::{Options, TraceFault};
 use trace_run::{Ended, RunFault, TraceSink};
+use trace_words::{Plan, TraceOptions};
 
 /// Writes all of the bytes.
 pub fn write<W: Sink>(writer: &mut W, bytes: &[u8]) -> Result<(), Broken>

@@ -5,11 +5,11 @@ ghost use Rattle.trace_command.specs.Faults.{IsUnwritable};
 
 use crate::kept::Kept;
 use crate::kernel::run_here;
-use crate::plan::Plan;
 use front_end::Fault;
 use pt_kernel::Schedule;
 use std::alloc::Global;
 use trace_run::Written;
+use trace_words::Plan;
 
 /// Makes the run once more in this process, where a host elsewhere made it, and keeps what it leaves beside the counts.
 pub fn make_again(alloc: Global, kept: &mut Kept) -> Result<(), Fault>

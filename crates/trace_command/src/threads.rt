@@ -10,7 +10,6 @@ ghost use Rattle.trace_command.specs.Tracing.{PutsTrace, TracesOnThreads};
 use crate::fault::threads_fault;
 use crate::kept::{Asked, Kept, Known};
 use crate::running::write;
-use crate::words::Workers;
 use containers::Bytes;
 use front_end::{Fault, explain_limit, explain_waits};
 use host_shared::{Cut, Gate};
@@ -25,6 +24,7 @@ use tr_core::Options;
 use trace_run::local::Run;
 use trace_run::{Ended, RunFault};
 use trace_threads::{Onlooker, run_threads_noting};
+use trace_words::Workers;
 
 /// Each thread makes its turns as soon as it can.
 #[derive(Clone, Copy)]

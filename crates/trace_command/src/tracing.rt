@@ -8,6 +8,7 @@ ghost use Rattle.trace_command.specs.Noting.{IsKeptFor, WritesEvents, WritesNote
 ghost use Rattle.trace_command.specs.Tracing.{Leaves, Left, PutsConsole, Runs};
 ghost use Rattle.trace_command.specs.Tracing.{TracesOut, TracesPlan, TracesWords};
 ghost use Rattle.trace_command.specs.Tracing.{asks_for_files, status_in, value_of};
+ghost use Rattle.trace_words.specs.Plans.{IsPlan};
 
 use crate::explaining::explain;
 use crate::fault::host_fault;
@@ -16,12 +17,10 @@ use crate::heard::{Heard, hear};
 use crate::kept::{Behind, Kept};
 use crate::lines::{LineSink, Lines};
 use crate::place::Place;
-use crate::plan::Plan;
 use crate::prepared::{Prepared, prepare};
 use crate::running::{run_at, write};
 use crate::second::make_again;
 use crate::turns_out::{check_turns, write_turns};
-use crate::words::TraceOptions;
 use clap::ArgMatches;
 use front_end::{Fault, Leavings};
 use host_link::{LinkFault, Streams};
@@ -34,6 +33,7 @@ use std::rt::Files;
 use std::sync::Wait;
 use std::thread::Threads;
 use trace_run::TraceSink;
+use trace_words::{Plan, TraceOptions};
 
 /// Process 1's exit code, or 128 and the signal that ended it.
 fn status_of(outcome: &Outcome) -> Option<u8>
@@ -264,6 +264,7 @@ pub fn trace<
 where
     R::Started: Streams,
     ensures { TracesWords (opened_contents R.File.contents)
+        (IsPlan R.File.remaining matches.now options (I.remaining input.old))
         (Runs R.Started R.Started.Stderr R.Started.Stdout.remaining R.Started.Stdin.contents
         (value_of matches.now (codes "host")) options.workers options.limit)
         (λ plan. WritesEvents (opened_contents R.File.contents) (value_of matches.now (codes "host")) options.workers

@@ -2,7 +2,8 @@ use Rattle.std.proofs.Common.{◌∙◌, refl}
 use Rattle.pt_schedule.specs.Schedules.{events_left}
 use Rattle.pt_schedule.specs.Untraced.{readiness_of}
 use Rattle.lx_kernel.specs.Runs.{after_turn}
-use Rattle.plain_run.proofs.Turning.{turn_is, turn_less, fewer_still, told_both}
+use Rattle.plain_run.proofs.Turning.{turn_is, turn_less, fewer_still, told_nothing, told_both}
+use Rattle.plain_run.proofs.Noting.{noted_nothing, noted_more, noted_end}
 use Rattle.plain_run.proofs.running.run.Goals as goal
 
 pub returns-in_default-clause-told : goal.returns-in_default-clause-told
@@ -10,6 +11,9 @@ returns-in_default-clause-told g c = c.turns.invariant.1
 
 pub returns-in-Err-clause-told : goal.returns-in-Err-clause-told
 returns-in-Err-clause-told g c = told_both _ _ _ _ _ _ c.turns.invariant.1 c.in-Err.ensures.told
+
+pub turns-init : goal.turns-init
+turns-init g c = (λ z rest. rest, told_nothing _ _, refl, λ first. noted_nothing _ _ _)
 
 pub turns-smaller : goal.turns-smaller
 turns-smaller g c = fewer_still (events_left c.turn.new.schedule) (events_left c.next_plain.new.self) (events_left c.turns.schedule) c.in_default-turn.ensures.fewer
@@ -22,4 +26,8 @@ turns-preserved g c = (
       (c.in_default-turn.ensures.on z rest)),
   told_both _ _ _ _ _ _ c.turns.invariant.1 c.in_default-turn.ensures.told,
   c.in_default-turn.ensures.begun ∙ c.turns.invariant.2,
+  λ first. noted_more _ _ _ _ _ _ _ _ _ _ _ (c.turns.invariant.3 first) c.in-Some.ensures (c.in_default-turn.ensures.noted first),
 )
+
+pub returns-in_default-clause-noted : goal.returns-in_default-clause-noted
+returns-in_default-clause-noted g c = λ first. noted_end _ _ _ _ _ _ _ (c.turns.invariant.3 first) c.in_default.ensures

@@ -1,10 +1,12 @@
 //! What a run is made of.
 
-use crate::words::TraceOptions;
+ghost use Rattle.std.specs.Prelude.{IfErr, IfOk};
+ghost use Rattle.trace_words.specs.Plans.{IsPlan, RefusesPlan};
+
+use crate::asked::TraceOptions;
 use clap::ArgMatches;
 use front_end::{
-    BootWords, Expressions, Fault, Leavings, boot_of, check_boot, check_outputs, read_expressions,
-    read_turns,
+    Expressions, Fault, Leavings, check_outputs, read_boot, read_expressions, read_turns,
 };
 use lx_abi::{Boot, Script, Word};
 use lx_copies::Copied;
@@ -50,23 +52,6 @@ impl Plan {
     }
 }
 
-fn boot<R: Files + AllocGlobal, I: Read + IsTerminal, E: Write + IsTerminal>(
-    rt: &R,
-    matches: &ArgMatches,
-    follow: bool,
-    input: &mut I,
-    err: &mut E,
-) -> Result<Boot, Fault> {
-    let words = BootWords {
-        files: matches.get_strs("file").unwrap_or(&[]),
-        directories: matches.get_strs("dir").unwrap_or(&[]),
-        environment: matches.get_strs("environment").unwrap_or(&[]),
-        program: matches.get_strs("program").unwrap_or(&[]),
-        follow,
-    };
-    boot_of(rt, "strace_cli", words, input, err)
-}
-
 /// Reads what the words ask for. Faults are looked for in the expressions, the schedule, the files, the
 /// input and the boot.
 pub fn read_plan<R: Files + AllocGlobal, I: Read + IsTerminal, E: Write + IsTerminal>(
@@ -75,13 +60,15 @@ pub fn read_plan<R: Files + AllocGlobal, I: Read + IsTerminal, E: Write + IsTerm
     options: TraceOptions,
     input: &mut I,
     err: &mut E,
-) -> Result<Plan, Fault> {
+) -> Result<Plan, Fault>
+    ensures plan { IfOk result (IsPlan R.File.remaining matches.now options (I.remaining input.old)) }
+    ensures refused { IfErr result (RefusesPlan matches.now) }
+{
     let expressions = read_expressions(rt.alloc(), matches)?;
     let turns = read_turns(rt, matches.get_str("turns"))?;
     check_outputs(rt, matches)?;
     Leavings::of(matches).check(rt)?;
-    let boot = boot(rt, matches, options.follow, input, err)?;
-    check_boot(rt.alloc(), &boot)?;
+    let boot = read_boot(rt, "strace_cli", matches, options.follow, input, err)?;
     Ok(Plan {
         boot,
         script: expressions.script,
