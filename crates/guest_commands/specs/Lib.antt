@@ -1,3 +1,4 @@
 pub mod Drills
 pub mod Plans
+pub mod Serving
 pub mod Statuses

@@ -6,6 +6,7 @@ ghost use Rattle.std.specs.Io.KnownBytes.{Appends};
 ghost use Rattle.guest_commands.specs.Drills as spec;
 
 use history::History;
+use host_serve::Outlet;
 use host_wire::{Broken, Sink};
 use std::alloc::{AllocError, Global};
 
@@ -174,5 +175,16 @@ impl<S: Sink> Sink for Drilled<S> {
 
     fn faults(&self) -> u64 {
         if self.is_stopped { 1 } else { 0 }
+    }
+}
+
+impl<S: Sink> Outlet for Drilled<S> {
+    ghost use Rattle.std.specs.Prelude.{[]};
+
+    ghost kept = { λ d. [] };
+
+    /// Nothing is kept back.
+    fn hand_on(&mut self) -> Result<(), Broken> {
+        Ok(())
     }
 }

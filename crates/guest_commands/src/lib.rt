@@ -8,7 +8,6 @@ mod entry;
 mod plain;
 mod plan;
 mod serving;
-mod together;
 mod watched;
 mod words;
 

@@ -1,13 +1,13 @@
 //! Requests on standard input, and their replies on standard output.
 
+ghost use Rattle.guest_commands.specs.Serving.{Answers};
+
 use crate::drills::{Drill, Drilled};
-use crate::together::{Replies, Requests};
 use crate::watched::{Requested, Shared, watch};
-use host_serve::{ServeFault, serve};
+use host_serve::{Conversed, ServeFault, serve, serve_streams};
 use host_wire::Counted;
 use lx_abi::Outcome;
 use std::alloc::Global;
-use std::cell::Cell;
 use std::io::{BufReader, Read, Write};
 use std::os::fd::{AsRawFd, RawFd};
 use std::rt::Process;
@@ -18,20 +18,6 @@ use std::time::Clock;
 /// The status where a tracer is served no longer.
 const SERVING: u8 = 1;
 
-/// The same with both ends counted, until the end of input or a fault.
-fn serve_over<I: Read, O: Write>(
-    alloc: Global,
-    input: &mut I,
-    out: &mut O,
-) -> Result<Outcome, ServeFault> {
-    let mut source = Counted::new(input);
-    let mut sink = Counted::new(out);
-    let served = serve(alloc, &mut source, &mut sink);
-    drop(source);
-    drop(sink);
-    served
-}
-
 /// How a conversation ended with replies that drills spoil.
 #[derive(Drop)]
 struct ServedByDrills {
@@ -40,7 +26,7 @@ struct ServedByDrills {
     unfit: Option<(u64, usize)>,
 }
 
-/// The same with replies that drills spoil.
+/// Serves with replies that drills spoil, until the end of input or a fault.
 fn serve_drilled<I: Read, O: Write>(
     alloc: Global,
     drills: Vec<Drill>,
@@ -56,27 +42,37 @@ fn serve_drilled<I: Read, O: Write>(
     ServedByDrills { served, unfit }
 }
 
+/// How answering ended, and the output behind it, where there was memory to begin.
+#[derive(Drop)]
+struct Answered<O> {
+    ended: Result<(), ServeFault>,
+    out: Option<O>,
+}
+
 /// Answers the frames on `input` by frames to `out`, until the end of input. Requests that came together are answered
 /// by one write.
 #[inline(never)]
-fn answer<I: Read, O: Write>(alloc: Global, input: &mut I, out: &mut O) -> Result<(), ServeFault> {
-    let has_more = Cell::new(false);
-    let Ok(mut requests) = Requests::new(alloc, input, &has_more) else {
-        return Err(ServeFault::Failed);
-    };
-    let Ok(mut replies) = Replies::new(alloc, out, &has_more) else {
-        return Err(ServeFault::Failed);
-    };
-    let served = serve_over(alloc, &mut requests, &mut replies);
-    if let Err(ServeFault::Write) = &served {
-        return Err(ServeFault::Write);
-    }
-    if replies.write_out().is_err() {
-        return Err(ServeFault::Write);
-    }
-    match served {
-        Ok(_) => Ok(()),
-        Err(fault) => Err(fault),
+fn answer<I: Read + Drop, O: Write + Drop>(alloc: Global, input: I, out: O) -> Answered<O>
+    ensures { Answers O.contents (I.remaining input) (O.contents out) result.ended result.out }
+{
+    match serve_streams(alloc, input, out) {
+        Ok(conversed) => {
+            let ended = conversed.ended();
+            let Conversed {
+                out,
+                served,
+                is_out: _,
+            } = conversed;
+            drop(served);
+            Answered {
+                ended,
+                out: Some(out),
+            }
+        }
+        Err(fault) => Answered {
+            ended: Err(fault),
+            out: None,
+        },
     }
 }
 
@@ -107,17 +103,19 @@ fn drill<I: Read, O: Write, E: Write>(
 
 /// Serves a tracer in this thread, and gives the exit status. A fault is one line on `err`, and its status the same
 /// whether that could be written or not.
-fn serve_here<I: Read, O: Write, E: Write>(
+fn serve_here<I: Read + Drop, O: Write + Drop, E: Write>(
     alloc: Global,
     drills: Vec<Drill>,
-    input: &mut I,
-    out: &mut O,
+    mut input: I,
+    mut out: O,
     err: &mut E,
 ) -> u8 {
     if !drills.is_empty() {
-        return drill(alloc, drills, input, out, err);
+        return drill(alloc, drills, &mut input, &mut out, err);
     }
-    match answer(alloc, input, out) {
+    let Answered { ended, out } = answer(alloc, input, out);
+    drop(out);
+    match ended {
         Ok(()) => 0,
         Err(fault) => {
             let _written = writeln!(err, "guest_host: serve fault {}: {fault}", fault.number());
@@ -137,12 +135,12 @@ fn start_serving<
     alloc: Global,
     shared: Arc<Shared<I>, Global>,
     drills: Vec<Drill>,
-    mut input: Requested<I, R>,
-    mut out: O,
+    input: Requested<I, R>,
+    out: O,
     mut err: E,
 ) {
     let serves = move || {
-        let status = serve_here(alloc, drills, &mut input, &mut out, &mut err);
+        let status = serve_here(alloc, drills, input, out, &mut err);
         shared.end(&rt, status);
     };
     match thread::spawn(&rt, serves) {
