@@ -16,13 +16,13 @@ ghost use Rattle.host_shared.specs.HeldStates.{CanPut, CanRefuse, CanServe, CanE
 
 use crate::cut::Cut;
 use crate::exchanges::Exchanges;
+use crate::noted::NotedJournal;
 use crate::roster::Roster;
 use crate::{saying, steps};
 use lx_abi::{Boot, Reply, Request};
 use lx_boot::BootFault;
 use lx_copies::Copied;
-use pt_journal::Journal;
-use pt_kernel::{Events, Host};
+use pt_kernel::Host;
 use std::alloc::Global;
 use std::marker::Model;
 use transcript::{Naming, Record, Transcript};
@@ -39,10 +39,8 @@ pub struct Memory;
 pub struct Held<J: Naming> {
     boot: Boot,
     host: Roster,
-    journal: Journal,
+    journal: NotedJournal,
     said: Transcript<J>,
-    /// The events, where they are asked for.
-    noted: Events,
     /// The most events that the journal may have, and how many it has.
     limit: u64,
     events: u64,
@@ -82,13 +80,13 @@ fn is_outcome(reply: &Reply) -> bool
 }
 
 impl<J: Naming> Held<J> {
-    /// A host that was booted, with an empty journal.
+    /// A host that was booted, with an empty journal, of which the events are noted if they are asked for.
     pub fn new(
         alloc: Global,
         boot: Boot,
         limit: u64,
         said: Transcript<J>,
-        noted: Events,
+        notes: bool,
     ) -> Result<Self, BootFault>
         requires some { 1 ≤ limit }
         requires most { limit ≤ 2 ^ 39 }
@@ -107,7 +105,6 @@ impl<J: Naming> Held<J> {
                 // An implicit drop of these takes the prover many minutes.
                 drop(kept);
                 drop(said);
-                drop(noted);
                 return Err(fault);
             }
         };
@@ -115,9 +112,8 @@ impl<J: Naming> Held<J> {
             Ok(boot) => Ok(Held {
                 boot,
                 host: Roster::of(host),
-                journal: Journal::new(),
+                journal: NotedJournal::new(alloc, notes),
                 said,
-                noted,
                 limit,
                 events: 0,
                 last: 0,
@@ -129,7 +125,6 @@ impl<J: Naming> Held<J> {
             }),
             Err(_) => {
                 drop(said);
-                drop(noted);
                 drop(host);
                 Err(BootFault::Memory)
             }
@@ -218,13 +213,7 @@ impl<J: Naming> Held<J> {
         let Some(pid) = self.host.next(self.last) else {
             return Ok(false);
         };
-        match steps::turn(
-            &mut self.host,
-            &mut self.journal,
-            &mut self.noted,
-            self.last,
-            pid,
-        ) {
+        match steps::turn(&mut self.host, &mut self.journal, self.last, pid) {
             Ok(()) => {
                 self.events += 1;
                 self.last = pid;
@@ -299,7 +288,6 @@ impl<J: Naming> Held<J> {
         match steps::serve(
             &mut self.host,
             &mut self.journal,
-            &mut self.noted,
             book,
             &mut self.said,
             mine,
@@ -423,10 +411,11 @@ impl<J: Naming> Held<J> {
         self.host.host()
     }
 
-    /// The host and the events that were noted, where the rest is used no more.
-    pub fn into_parts(self) -> (Host, Events)
-        ensures { result.0 ≡ self.host }
+    /// The host and the journal, where the rest is used no more.
+    pub fn into_parts(self) -> (Host, NotedJournal)
+        ensures host { result.0 ≡ self.host }
+        ensures journal { result.1 ≡ self.journal }
     {
-        (self.host.into_host(), self.noted)
+        (self.host.into_host(), self.journal)
     }
 }

@@ -10,17 +10,16 @@ ghost use Rattle.transcript.specs.declared.said.Said.TheVariants.{Asked, Answere
 ghost use Rattle.host_shared.specs.Following.{Follows};
 
 use crate::held::Memory;
+use crate::noted::NotedJournal;
 use crate::roster::Roster;
 use crate::saying::{answer, ask};
-use lx_abi::{Event, Reply, Request};
-use pt_journal::Journal;
-use pt_kernel::Events;
+use lx_abi::{Reply, Request};
 use transcript::{Naming, Record, Transcript};
 
 /// Puts a request, where none is pending.
 pub fn put<J: Naming>(
     host: &mut Roster,
-    journal: &mut Journal,
+    journal: &mut NotedJournal,
     book: &Record<J>,
     said: &mut Transcript<J>,
     mine: &mut Transcript<J>,
@@ -47,8 +46,7 @@ pub fn put<J: Naming>(
 /// A turn of the process that comes next after the last one.
 pub fn turn(
     host: &mut Roster,
-    journal: &mut Journal,
-    noted: &mut Events,
+    journal: &mut NotedJournal,
     last: u32,
     pid: u32,
 ) -> Result<(), Memory>
@@ -56,8 +54,7 @@ pub fn turn(
     ensures host { OnOk result (host.new ≡ after host.old (event.Turn pid)) }
     ensures journal { OnOk result (journal.new ≡ journal.old ++ entry.Did (event.Turn pid) None ∷ []) }
 {
-    journal.turn(pid);
-    if noted.note(Event::Turn { pid }, 1).is_err() {
+    if journal.turn(pid).is_err() {
         return Err(Memory);
     }
     match host.turn(last, pid) {
@@ -68,17 +65,20 @@ pub fn turn(
 
 /// A Serve of a request that is ready.
 #[tactic(auto, using(crate::proofs::Growing::ready_answers))]
-fn served(host: &mut Roster, journal: &mut Journal) -> Result<Reply, Memory>
+fn served(host: &mut Roster, journal: &mut NotedJournal) -> Result<Reply, Memory>
     requires ready { (readiness_of host.old).ready ≡ true }
     ensures host { OnOk result (host.new ≡ after host.old event.Serve) }
     ensures reply { IfOk result (λ r. (event_of host.old event.Serve).reply ≡ Some r) }
     ensures journal { IfOk result (λ r. journal.new ≡ journal.old ++ entry.Did event.Serve (Some r) ∷ []) }
 {
     match host.serve() {
-        Ok(Some(reply)) => {
-            journal.serve(&reply);
-            Ok(reply)
-        }
+        Ok(Some(reply)) => match journal.serve(&reply) {
+            Ok(()) => Ok(reply),
+            Err(_) => {
+                drop(reply);
+                Err(Memory)
+            }
+        },
         Ok(None) => unreachable!(),
         Err(_) => Err(Memory),
     }
@@ -87,8 +87,7 @@ fn served(host: &mut Roster, journal: &mut Journal) -> Result<Reply, Memory>
 /// The same, and its reply is said.
 pub fn serve<J: Naming>(
     host: &mut Roster,
-    journal: &mut Journal,
-    noted: &mut Events,
+    journal: &mut NotedJournal,
     book: &Record<J>,
     said: &mut Transcript<J>,
     mine: &mut Transcript<J>,
@@ -100,9 +99,6 @@ pub fn serve<J: Naming>(
     ensures said { IfOk result (λ r. said.new ≡ said.old ++ Answered r ∷ []) }
     ensures mine { IfOk result (λ r. mine.new ≡ mine.old ++ Answered r ∷ []) }
 {
-    if noted.note(Event::Serve, 1).is_err() {
-        return Err(Memory);
-    }
     match served(host, journal) {
         Ok(reply) => match answer(book, said, mine, &reply) {
             Ok(()) => Ok(reply),

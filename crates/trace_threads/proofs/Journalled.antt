@@ -31,6 +31,7 @@ use Rattle.pt_journal.specs.declared.entry.Entry.{Entry}
 use Rattle.pt_model.specs.Calls.{IsOwn}
 use Rattle.pt_model.specs.Hosting.{Hosting, first_hosting}
 use Rattle.host_shared.specs.HeldStates.{HeldState, Kept, first_of, host_by, InCycle, IsCut, IsStuck}
+use Rattle.host_shared.specs.Noting.{noted_of}
 use Rattle.host_shared.specs.declared.cut.Cut.{Cut}
 use Rattle.host_shared.specs.declared.cut.Cut.TheVariants.{Limit, Nobody, Gate}
 use Rattle.pt_journal.specs.Journals.{last_turn}
@@ -49,7 +50,8 @@ use Rattle.host_link.specs.declared.fault.LinkFault.{LinkFault}
 use Rattle.host_link.specs.declared.fault.LinkFault.TheVariants as cause
 use Rattle.tr_core.specs.declared.tracing.TraceFault.TheVariants.{Inadmissible, Memory}
 use Rattle.trace_run.specs.declared.running.RunFault.TheVariants.{Link, Trace, Output}
-use Rattle.trace_threads.specs.ThreadRuns.{IsCutBy, Faults, fault_by, IsFaultOf, IsFinished, IsTraced, ThreadRun}
+use Rattle.trace_threads.specs.ThreadRuns.{IsCutBy, Faults, fault_by, IsFaultOf, IsFinished, IsNotedRun, IsTraced, ThreadRun}
+use Rattle.trace_threads.specs.declared.noted.NotedRun.{NotedRun}
 use Rattle.trace_threads.specs.declared.fault.ThreadsFault.{ThreadsFault}
 
 module _ {S B : Type 0} (m : Machine S B) (outcome : S → Outcome) where
@@ -159,30 +161,35 @@ reason h limit shuts host (Some Gate) l e so by = inr (inr by)
 pub thread_run : Cited → (boot : Boot) (limit : ℕ) (script : List Rule) (o : Options) (shuts : Bool) (given : List (Request × Reply)) (run : Run) (held : HeldState) → Lies_under boot limit shuts run.ended given held
     → IsTraced script (following o boot.follow) run.ended given run.trace
     → run.outcome ≡ outcome_in held.host.hosting.running.shared → run.turns ≡ held.host.hosting.turns
-    → ThreadRun boot limit script o shuts run
-thread_run cited boot limit script o shuts given run held lies traced left turned = record {
-  entries = held.journal;
-  hosting = held.host.hosting;
-  given = given;
-  replayed = subst (λ (x : Boot). Replays linux outcome_in x.follow (first_of x) held.journal held.host.hosting) lies.boot_is lies.kept.replayed;
-  cycled = subst (λ (x : Boot). InCycle x.follow (first_of x) 0 held.journal) lies.boot_is lies.kept.cycled;
-  told = lies.told;
-  asked = traced.asked;
-  cut = λ out. reason held limit shuts (host_by held.host.hosting boot.follow) held.cut lies.limit_is
-      (same_host held.host boot.follow (lies.kept.follow ∙ ap (λ (x : Boot). x.follow) lies.boot_is) lies.kept.whole) lies.kept.cut_so (lies.cut out);
-  few = subst (λ n. length (events_of held.journal) ≤ n) lies.limit_is lies.kept.few;
-  run_of =
-      told_run cited.journals cited.transparent cited.texts linux cited.machine cited.told outcome_in boot.follow (following o boot.follow) (choice_of script)
-      (first_shared boot.limits boot.files boot.input) (booted boot.argv boot.env) held.journal held.host.hosting given run.trace run.ended run.outcome run.turns
-      (subst (λ (x : Boot). Replays linux outcome_in x.follow (first_of x) held.journal held.host.hosting) lies.boot_is lies.kept.replayed)
-      lies.told traced.asked (λ events own. traced.tells boot events own) left turned;
-}
+    → (t : ThreadRun boot limit script o shuts run) × (t.entries ≡ held.journal)
+thread_run cited boot limit script o shuts given run held lies traced left turned = (
+  record {
+    entries = held.journal;
+    hosting = held.host.hosting;
+    given = given;
+    replayed = subst (λ (x : Boot). Replays linux outcome_in x.follow (first_of x) held.journal held.host.hosting) lies.boot_is lies.kept.replayed;
+    cycled = subst (λ (x : Boot). InCycle x.follow (first_of x) 0 held.journal) lies.boot_is lies.kept.cycled;
+    told = lies.told;
+    asked = traced.asked;
+    cut = λ out. reason held limit shuts (host_by held.host.hosting boot.follow) held.cut lies.limit_is
+        (same_host held.host boot.follow (lies.kept.follow ∙ ap (λ (x : Boot). x.follow) lies.boot_is) lies.kept.whole) lies.kept.cut_so (lies.cut out);
+    few = subst (λ n. length (events_of held.journal) ≤ n) lies.limit_is lies.kept.few;
+    run_of =
+        told_run cited.journals cited.transparent cited.texts linux cited.machine cited.told outcome_in boot.follow (following o boot.follow) (choice_of script)
+        (first_shared boot.limits boot.files boot.input) (booted boot.argv boot.env) held.journal held.host.hosting given run.trace run.ended run.outcome run.turns
+        (subst (λ (x : Boot). Replays linux outcome_in x.follow (first_of x) held.journal held.host.hosting) lies.boot_is lies.kept.replayed)
+        lies.told traced.asked (λ events own. traced.tells boot events own) left turned;
+  },
+  refl,
+)
 
-pub finished : Cited → (boot kept : Boot) (limit : ℕ) (script : List Rule) (o : Options) (shuts : Bool) (held : HeldState) (given : List (Request × Reply)) (trace : List ℕ) (ended : Result Ended RunFault)
+pub finished : Cited → (boot kept : Boot) (limit : ℕ) (script : List Rule) (o : Options) (shuts notes : Bool) (held : HeldState) (given : List (Request × Reply)) (trace : List ℕ) (ended : Result Ended RunFault)
     → kept ≡ boot → IfOk ended (λ e. IsTraced script (following o boot.follow) e given trace)
-    → (result : Result Run ThreadsFault) → IfOk result (IsFinished kept limit shuts held given trace ended) → IfOk result (λ run. ThreadRun boot limit script o shuts run)
-finished cited boot kept limit script o shuts held given trace ended same traced (Ok run) f =
-    thread_run cited boot limit script o shuts given run held
+    → (result : Result NotedRun ThreadsFault) → IfOk result (λ n. IsFinished kept limit shuts held given trace ended n.run)
+    → IfOk result (λ n. n.events ≡ noted_of notes held.journal) → IfOk result (IsNotedRun boot limit script o shuts notes)
+finished cited boot kept limit script o shuts notes held given trace ended same traced (Ok n) f are =
+    let it =
+    thread_run cited boot limit script o shuts given n.run held
     (record {
       cut = f.cut;
       kept = f.kept;
@@ -190,10 +197,11 @@ finished cited boot kept limit script o shuts held given trace ended same traced
       limit_is = f.limit_is;
       told = f.told;
     })
-    (subst (λ t. IsTraced script (following o boot.follow) run.ended given t) (sym f.trace_is)
+    (subst (λ t. IsTraced script (following o boot.follow) n.run.ended given t) (sym f.trace_is)
     (subst (λ e. IfOk e (λ x. IsTraced script (following o boot.follow) x given trace)) f.ended_is traced))
-    f.left f.turned
-finished cited boot kept limit script o shuts held given trace ended same traced (Err fault) f = tt
+    f.left f.turned in
+    (it.0, are ∙ ap (λ (l : List Entry). noted_of notes l) (sym it.1))
+finished cited boot kept limit script o shuts notes held given trace ended same traced (Err fault) f are = tt
 
 -- a fault of the copy is the boot's
 pub same_faults : (boot kept : Boot) → kept ≡ boot → (result : Result Run ThreadsFault) → IfErr result (λ fault. Faults kept fault) → IfErr result (λ fault. Faults boot fault)

@@ -22,6 +22,7 @@ use Rattle.pt_journal.specs.Journals.{events_of, last_turn, Replays}
 use Rattle.pt_journal.specs.declared.entry.Entry.{Entry}
 use Rattle.pt_kernel.specs.Hosts.{Linux_host}
 use Rattle.host_shared.specs.HeldStates.{HeldState, Kept, first_of, host_by, InCycle, IsStuck}
+use Rattle.host_shared.specs.Noting.{noted_of}
 use Rattle.host_shared.specs.declared.cut.Cut.{Cut}
 use Rattle.host_shared.specs.declared.cut.Cut.TheVariants.{Limit, Nobody, Gate}
 use Rattle.host_link.specs.declared.fault.LinkFault.TheVariants.{Memory as Link_memory}
@@ -38,6 +39,7 @@ use Rattle.trace_run.specs.declared.running.RunFault.{RunFault}
 use Rattle.trace_run.specs.declared.running.RunFault.TheVariants.{Link, Trace, Output}
 use Rattle.trace_threads.specs.declared.fault.ThreadsFault.{ThreadsFault}
 use Rattle.trace_threads.specs.declared.fault.ThreadsFault.TheVariants.{Boot as Boot_fault, Start, Unlike}
+use Rattle.trace_threads.specs.declared.noted.NotedRun.{NotedRun}
 
 -- There is a journal, of at most so many events, which leads the ptrace machine from the boot to this host, by the
 -- tracer's requests; each turn is of the next able process in the cycle, and each Serve is answered, so no event does
@@ -61,6 +63,11 @@ pub record ThreadRun (boot : Boot) (limit : ℕ) (script : List Rule) (options :
   pub run_of : LocalRun listed linux outcome_in (following options boot.follow) (choice_of script) (events_of entries)
       (first_shared boot.limits boot.files boot.input) (booted boot.argv boot.env) run.ended run.trace run.outcome
       run.turns
+
+-- such a run, with the events of its journal, if they are noted
+abbrev pub IsNotedRun : Boot → ℕ → List Rule → Options → Bool → Bool → NotedRun → Type 0
+IsNotedRun boot limit script options shuts notes noted =
+    (run : ThreadRun boot limit script options shuts noted.run) × (noted.events ≡ noted_of notes run.entries)
 
 -- a fault of the boot is its own
 abbrev pub Faults : Boot → ThreadsFault → Type 0

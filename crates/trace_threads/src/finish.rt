@@ -4,10 +4,12 @@ ghost use Rattle.std.specs.Prelude.{◌≡◌, true, false, IfOk, IfErr, OnOk, O
 ghost use Rattle.lx_kernel.specs.Outcomes.{outcome_in};
 ghost use Rattle.pt_journal.specs.Told.{Told};
 ghost use Rattle.host_shared.specs.HeldStates.{IsKept, Kept};
+ghost use Rattle.host_shared.specs.Noting.{noted_of};
 ghost use Rattle.trace_run.specs.declared.running.Ended.TheVariants.{OutOfTurns};
 ghost use Rattle.trace_threads.specs.ThreadRuns.{Faults, IsCutBy, IsFaultOf, IsFinished};
 
 use crate::fault::{ThreadsFault, threads_fault};
+use crate::noted::NotedRun;
 use crate::onlooker::Onlooker;
 use crate::traced::Traced;
 use containers::Bytes;
@@ -98,16 +100,20 @@ fn run_of(
     }
 }
 
-/// What a run leaves, where the journal under the lock tells of it. The onlooker sees it first.
+/// What a run leaves, where the journal under the lock tells of it, with its events if they were asked for. The onlooker
+/// sees it first.
 pub fn finish<J: Naming, O: Onlooker>(
     boot: &Boot,
     limit: u64,
     shuts: bool,
+    notes: bool,
     held: Held<J>,
     traced: Traced<J>,
     onlooker: &mut O,
-) -> Result<Run, ThreadsFault>
-    ensures run { IfOk result (IsFinished boot.now limit shuts held traced.known traced.trace traced.ended) }
+) -> Result<NotedRun, ThreadsFault>
+    ensures run { IfOk result
+        (λ noted. IsFinished boot.now limit shuts held traced.known traced.trace traced.ended noted.run) }
+    ensures events { IfOk result (λ noted. noted.events ≡ noted_of notes held.journal) }
     ensures fault { IfErr result (λ fault. Faults boot.now fault) }
 {
     let Traced {
@@ -119,11 +125,20 @@ pub fn finish<J: Naming, O: Onlooker>(
     let left = left_by(boot, limit, shuts, &held, &known, &ended);
     drop(known);
     let cut = held.cut();
-    let (host, events) = held.into_parts();
-    onlooker.look(host.kernel(), cut, events);
+    let (host, journal) = held.into_parts();
+    onlooker.look(host.kernel(), cut);
     let turns = host.into_turns();
     if !started {
         return Err(ThreadsFault::Start);
     }
-    run_of(ended, left, trace, turns)
+    let Some(events) = journal.into_events(notes) else {
+        return Err(ThreadsFault::Boot(BootFault::Memory));
+    };
+    match run_of(ended, left, trace, turns) {
+        Ok(run) => Ok(NotedRun { run, events }),
+        Err(fault) => {
+            drop(events);
+            Err(fault)
+        }
+    }
 }

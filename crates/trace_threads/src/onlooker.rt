@@ -2,12 +2,11 @@
 
 use host_shared::Cut;
 use lx_kernel::Kernel;
-use pt_kernel::Events;
 
 /// Looks at what a run has left, before it is let go.
 pub trait Onlooker {
-    /// The kernel as the run left it, why the run is out of turns, where it is, and its events, where they are noted.
-    fn look(&mut self, kernel: &Kernel, cut: Option<Cut>, events: Events);
+    /// The kernel as the run left it, and why the run is out of turns, where it is.
+    fn look(&mut self, kernel: &Kernel, cut: Option<Cut>);
 }
 
 /// It has no eyes.
@@ -15,7 +14,5 @@ pub trait Onlooker {
 pub(crate) struct Blind;
 
 impl Onlooker for Blind {
-    fn look(&mut self, _kernel: &Kernel, _cut: Option<Cut>, events: Events) {
-        drop(events);
-    }
+    fn look(&mut self, _kernel: &Kernel, _cut: Option<Cut>) {}
 }

@@ -4,10 +4,11 @@ ghost use Rattle.std.specs.Prelude.{◌≡◌, ◌≤◌, ◌^◌, Some, None, E
 ghost use Rattle.lx_boot.specs.Boots.{fault_of};
 ghost use Rattle.lx_boot.specs.declared.boots.BootFault.{BootFault};
 ghost use Rattle.transcript.specs.Books.{book_of};
-ghost use Rattle.trace_threads.specs.ThreadRuns.{Faults, ThreadRun};
+ghost use Rattle.trace_threads.specs.ThreadRuns.{Faults, IsNotedRun, ThreadRun};
 
 use crate::fault::ThreadsFault;
 use crate::finish::finish;
+use crate::noted::NotedRun;
 use crate::onlooker::{Blind, Onlooker};
 use crate::traced::trace_on_threads;
 use host_shared::{Gate, Held, SharedHost};
@@ -17,7 +18,6 @@ use lx_copies::Copied;
 use lx_proc::{Shared, UserState};
 use lx_turn::laws::linux_is_a_machine;
 use pt_journal::laws::journals_tell;
-use pt_kernel::Events;
 use pt_kernel::laws::linux_is_told;
 use pt_model::laws::tracing_is_transparent;
 use std::alloc::Global;
@@ -40,13 +40,13 @@ fn run_in_record<J: Naming + Send + Sync, G: Gate, O: Onlooker, R: Threads + Wai
     script: Script,
     options: Options,
     gate: &G,
-    events: Events,
+    notes: bool,
     onlooker: &mut O,
-) -> Result<Run, ThreadsFault>
+) -> Result<NotedRun, ThreadsFault>
     requires book { book_of opened ≡ J.book }
     requires some { 1 ≤ limit }
     requires most { limit ≤ 2 ^ 39 }
-    ensures run { IfOk result (λ run. ThreadRun boot limit script options (G.shuts gate.now) run) }
+    ensures run { IfOk result (IsNotedRun boot limit script options (G.shuts gate.now) notes) }
     ensures accepted { OnOk result (fault_of boot ≡ None) }
     ensures fault { IfErr result (λ fault. Faults boot fault) }
     ensures refused { (e : BootFault) → fault_of boot ≡ Some e → result ≡ Err (ThreadsFault.Boot e) }
@@ -61,7 +61,7 @@ fn run_in_record<J: Naming + Send + Sync, G: Gate, O: Onlooker, R: Threads + Wai
     let copy = boot.copy(alloc);
     let (book, said) = opened.named::<J>();
     let mine = said.again();
-    let shared = match Held::new(alloc, boot, limit, said, events) {
+    let shared = match Held::new(alloc, boot, limit, said, notes) {
         Ok(held) => SharedHost::new(held, book),
         Err(fault) => {
             drop(copy);
@@ -84,6 +84,7 @@ fn run_in_record<J: Naming + Send + Sync, G: Gate, O: Onlooker, R: Threads + Wai
         &boot,
         limit,
         gate.may_shut(),
+        notes,
         shared.into_held(),
         traced,
         onlooker,
@@ -94,7 +95,8 @@ fn run_in_record<J: Naming + Send + Sync, G: Gate, O: Onlooker, R: Threads + Wai
 
 /// Boots a guest and traces it, its turns made by so many threads, one under each holding of a lock; a worker asks the
 /// gate before each. The boot's follow counts, not that of the options. At most `limit` turns and requests are made.
-/// Its events are noted in `events`, and the onlooker sees what it left, also where it isn't the one that is told of.
+/// Its events are noted if they are asked for. The onlooker sees what it left, also where it isn't the one that is told
+/// of.
 pub fn run_threads_noting<G: Gate, O: Onlooker, R: Threads + Wait + Sync>(
     rt: &R,
     alloc: Global,
@@ -104,14 +106,14 @@ pub fn run_threads_noting<G: Gate, O: Onlooker, R: Threads + Wait + Sync>(
     script: Script,
     options: Options,
     gate: &G,
-    events: Events,
+    notes: bool,
     onlooker: &mut O,
-) -> Result<Run, ThreadsFault>
+) -> Result<NotedRun, ThreadsFault>
     requires some_workers { 1 ≤ workers }
     requires few_workers { workers ≤ 8 }
     requires some { 1 ≤ limit }
     requires most { limit ≤ 2 ^ 39 }
-    ensures run { IfOk result (λ run. ThreadRun boot limit script options (G.shuts gate.now) run) }
+    ensures run { IfOk result (IsNotedRun boot limit script options (G.shuts gate.now) notes) }
     ensures accepted { OnOk result (fault_of boot ≡ None) }
     ensures fault { IfErr result (λ fault. Faults boot fault) }
 
@@ -128,7 +130,7 @@ pub fn run_threads_noting<G: Gate, O: Onlooker, R: Threads + Wait + Sync>(
         script,
         options,
         gate,
-        events,
+        notes,
         onlooker,
     )
 }
@@ -156,16 +158,10 @@ pub fn run_threads<G: Gate, R: Threads + Wait + Sync>(
     ensures refused { (e : BootFault) → fault_of boot ≡ Some e → result ≡ Err (ThreadsFault.Boot e) }
 {
     let mut blind = Blind;
-    run_threads_noting(
-        rt,
-        alloc,
-        boot,
-        workers,
-        limit,
-        script,
-        options,
-        gate,
-        Events::none(),
-        &mut blind,
-    )
+    match run_threads_noting(
+        rt, alloc, boot, workers, limit, script, options, gate, false, &mut blind,
+    ) {
+        Ok(noted) => Ok(noted.run),
+        Err(fault) => Err(fault),
+    }
 }
