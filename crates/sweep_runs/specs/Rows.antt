@@ -1,23 +1,30 @@
 -- What a sweep tells: of each case what came of its run, beside the run without a failure.
-use Rattle.std.specs.Prelude.{◌≡◌, List, [], map, All}
+use Rattle.std.specs.Prelude.{◌≡◌, ◌↔◌, IsTrue, List, [], map, All}
 use Rattle.lx_abi.specs.declared.boot.Boot.{Boot}
 use Rattle.lx_abi.specs.declared.script.Rule.{Rule}
+use Rattle.sweep_faults.specs.Words.{failure_of, HasWords}
+use Rattle.sweep_faults.specs.declared.faults.Fault.{Fault}
 use Rattle.sweep_rows.specs.Failures.{FailsAlone}
 use Rattle.sweep_rows.specs.Files.{file_notes}
 use Rattle.sweep_rows.specs.Endings.{first_word}
 use Rattle.sweep_rows.specs.Verdicts.{facts_of, verdict_of}
-use Rattle.sweep_rows.specs.declared.failures.Failure.{Failure}
 use Rattle.sweep_rows.specs.declared.verdicts.Reached.{Reached}
 use Rattle.sweep_runs.specs.Cases.{cases_of}
-use Rattle.sweep_runs.specs.Runs.{Reaches}
+use Rattle.sweep_runs.specs.Runs.{FaultReaches, Reaches}
 use Rattle.sweep_runs.specs.declared.chosen.Case.{Case}
 use Rattle.sweep_runs.specs.declared.chosen.Wanted.{Wanted}
 use Rattle.sweep_runs.specs.declared.sweeping.Row.{Row}
 use Rattle.sweep_runs.specs.declared.sweeping.Report.{Report}
 use Rattle.sweep_runs.specs.declared.runs.Setup.{Setup}
 
-abbrev pub failure_of : Case → Failure
-failure_of c = record { call = c.occurrence.call.number; n = c.occurrence.n; error = c.error }
+-- the occurrence's process alone fails, at that entry
+abbrev pub fault_of : Case → Fault
+fault_of c = record {
+  pid = c.occurrence.pid;
+  call = c.occurrence.call.number;
+  n = c.occurrence.n;
+  error = c.error;
+}
 
 -- what came of a run, beside the reference
 pub record IsCompared (boot : Boot) (reference run : Reached) (row : Row) : Type 0 where
@@ -26,13 +33,12 @@ pub record IsCompared (boot : Boot) (reference run : Reached) (row : Row) : Type
   pub word : row.word ≡ first_word run.ending.outcome
   pub ended : row.ended ≡ run.ending.outcome.ended
   pub streams : row.streams ≡ run.streams
+  pub words : IsTrue row.has_words ↔ HasWords boot.follow (fault_of row.case) run.log.items
 
--- the run under a script that does nothing but this failure came to this, beside the reference
+-- the run in which the case's call of its process fails, and nothing else, came to this, beside the reference
 pub record IsRow (setup : Setup) (reference : Reached) (row : Row) : Type 0 where
-  pub script : List Rule
   pub reached : Reached
-  pub alone : FailsAlone (failure_of row.case) script
-  pub run : Reaches setup script reached
+  pub run : FaultReaches setup (fault_of row.case) reached
   pub compared : IsCompared setup.boot reference reached row
 
 -- a row for each of these cases, in their order
@@ -44,3 +50,10 @@ pub record AreRows (setup : Setup) (reference : Reached) (cases : List Case) (ro
 pub record IsReport (setup : Setup) (wanted : List Wanted) (s : Report) : Type 0 where
   pub reference : Reaches setup [] s.reference
   pub rows : AreRows setup s.reference (cases_of wanted setup.boot.follow s.reference.log.items) s.rows.items
+
+-- The law: where the case has words, the run under a script of these came to the same
+abbrev pub WordsReach : Type 0
+WordsReach =
+    (setup : Setup) (case : Case) (script : List Rule) (r : Reached) → FailsAlone (failure_of (fault_of case)) script
+    → HasWords setup.boot.follow (fault_of case) r.log.items → FaultReaches setup (fault_of case) r
+    → Reaches setup script r

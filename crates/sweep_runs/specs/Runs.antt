@@ -1,5 +1,5 @@
 -- The runs of a sweep.
-use Rattle.std.specs.Prelude.{◌≡◌, ◌-◌, Bool, List}
+use Rattle.std.specs.Prelude.{◌≡◌, ◌-◌, Bool, List, []}
 use Rattle.std.specs.List.{list_any, range_with_len}
 use Rattle.lx_abi.specs.Modes.{lives_in}
 use Rattle.lx_abi.specs.declared.script.Rule.{Rule}
@@ -8,6 +8,8 @@ use Rattle.lx_kernel.specs.Outcomes.{outcome_in}
 use Rattle.lx_kernel.specs.Runs.{Run, mode_in}
 use Rattle.pt_schedule.specs.Schedules.{worded}
 use Rattle.plain_run.specs.Runs.{RunsTo}
+use Rattle.sweep_faults.specs.Runs.{RunsFaulted}
+use Rattle.sweep_faults.specs.declared.faults.Fault.{Fault}
 use Rattle.sweep_rows.specs.Streams.{streams_of}
 use Rattle.sweep_rows.specs.declared.endings.Ending.{Ending}
 use Rattle.sweep_rows.specs.declared.verdicts.Reached.{Reached}
@@ -25,6 +27,10 @@ ending_of k = record { outcome = outcome_in k.running.shared; alive = is_alive k
 abbrev pub ComesTo : Setup → List Rule → Run → Type 0
 ComesTo setup script k = RunsTo (first_run setup.boot script) (worded setup.turns.items setup.limit) k
 
+-- a run in which this call of this process fails
+abbrev pub FaultComesTo : Setup → Fault → Run → Type 0
+FaultComesTo setup fault k = RunsFaulted fault (first_run setup.boot []) (worded setup.turns.items setup.limit) k
+
 -- what a run left, logged and said
 pub record IsReached (k : Run) (r : Reached) : Type 0 where
   pub ending : r.ending ≡ ending_of k
@@ -35,4 +41,10 @@ pub record IsReached (k : Run) (r : Reached) : Type 0 where
 pub record Reaches (setup : Setup) (script : List Rule) (r : Reached) : Type 0 where
   pub kernel : Run
   pub run : ComesTo setup script kernel
+  pub reached : IsReached kernel r
+
+-- what the run came to in which this call of this process fails
+pub record FaultReaches (setup : Setup) (fault : Fault) (r : Reached) : Type 0 where
+  pub kernel : Run
+  pub run : FaultComesTo setup fault kernel
   pub reached : IsReached kernel r

@@ -3,6 +3,7 @@
 
 pub mod chosen;
 pub mod ends;
+pub mod laws;
 pub mod progress;
 pub mod runs;
 pub mod sweeping;
@@ -10,5 +11,5 @@ pub mod sweeping;
 pub use chosen::{Case, Errors, Wanted, cases};
 pub use ends::ending;
 pub use progress::{Progress, Silent};
-pub use runs::{Setup, reach, refer, run_accepted, run_by, run_under};
-pub use sweeping::{Report, Row, run_cases, script_of, sweep};
+pub use runs::{Setup, reach, reach_failing, refer, run_accepted, run_by, run_failing, run_under};
+pub use sweeping::{Report, Row, fault_of, run_cases, script_of, sweep};

@@ -6,7 +6,8 @@ ghost use Rattle.lx_boot.specs.declared.boots.BootFault.{BootFault as BootRefusa
 ghost use Rattle.lx_kernel.specs.First.{first_run};
 ghost use Rattle.plain_run.specs.Runs.{RunsTo};
 ghost use Rattle.pt_schedule.specs.Schedules.{worded};
-ghost use Rattle.sweep_runs.specs.Runs.{ComesTo, IsReached, Reaches};
+ghost use Rattle.sweep_faults.specs.Runs.{RunsFaulted};
+ghost use Rattle.sweep_runs.specs.Runs.{ComesTo, FaultComesTo, FaultReaches, IsReached, Reaches};
 
 use crate::ends::ending;
 use lx_abi::{Boot, Script, Word};
@@ -16,6 +17,7 @@ use lx_kernel::Kernel;
 use plain_run::{Unwatched, run};
 use pt_schedule::Schedule;
 use std::alloc::{AllocError, Global};
+use sweep_faults::{Fault, run_faulted};
 use sweep_rows::{Reached, streams_of};
 
 /// What all runs of a sweep begin with: a boot, the words of a schedule, and the most turns of each.
@@ -34,6 +36,26 @@ fn copy<T: Copy + Drop>(alloc: Global, items: &[T]) -> Result<Vec<T>, AllocError
     Ok(copy)
 }
 
+/// The kernel of a boot under a script, and the schedule of these words. The fault is the boot's, or Memory.
+fn begin(
+    alloc: Global,
+    boot: &Boot,
+    words: &[Word],
+    limit: u64,
+    script: Script,
+) -> Result<(Kernel, Schedule), BootFault>
+    ensures kernel { IfOk result (λ begun. begun.0 ≡ first_run boot.now script) }
+    ensures schedule { IfOk result (λ begun. begun.1 ≡ worded words.now limit) }
+{
+    let boot = boot.copy(alloc)?;
+    let words = copy(alloc, words)?;
+    let schedule = Schedule::words(words, limit);
+    match Kernel::boot(alloc, boot, script) {
+        Ok(kernel) => Ok((kernel, schedule)),
+        Err(fault) => Err(fault),
+    }
+}
+
 /// The kernel at the end of the run of a boot under a script, by these words. The fault is the boot's, or Memory where
 /// memory runs out, in the run too.
 pub fn run_by(
@@ -45,11 +67,8 @@ pub fn run_by(
 ) -> Result<Kernel, BootFault>
     ensures { IfOk result (RunsTo (first_run boot.now script) (worded words.now limit)) }
 {
-    let boot = boot.copy(alloc)?;
-    let words = copy(alloc, words)?;
-    let mut schedule = Schedule::words(words, limit);
-    let mut kernel = match Kernel::boot(alloc, boot, script) {
-        Ok(kernel) => kernel,
+    let (mut kernel, mut schedule) = match begin(alloc, boot, words, limit, script) {
+        Ok(begun) => begun,
         Err(fault) => return Err(fault),
     };
     match run(&mut kernel, &mut schedule, &mut Unwatched::new()) {
@@ -59,6 +78,38 @@ pub fn run_by(
             Err(BootFault::Memory)
         }
     }
+}
+
+/// The same, where this call of this process fails and no script does anything, of a boot that is accepted.
+fn run_failing_by(
+    alloc: Global,
+    boot: &Boot,
+    words: &[Word],
+    limit: u64,
+    fault: Fault,
+) -> Result<Kernel, AllocError>
+    ensures { IfOk result (RunsFaulted fault (first_run boot.now []) (worded words.now limit)) }
+{
+    let (mut kernel, mut schedule) = match begin(alloc, boot, words, limit, Script::empty(alloc)) {
+        Ok(begun) => begun,
+        Err(_) => return Err(AllocError),
+    };
+    match run_faulted(&mut kernel, &mut schedule, fault, &mut Unwatched::new()) {
+        Ok(()) => Ok(kernel),
+        Err(_) => {
+            drop(kernel);
+            Err(AllocError)
+        }
+    }
+}
+
+/// The kernel at the end of the run in which this call of this process fails, of a boot that is accepted.
+pub fn run_failing(alloc: Global, setup: &Setup, fault: Fault) -> Result<Kernel, AllocError>
+    ensures { IfOk result (FaultComesTo setup.now fault) }
+{
+    let words = setup.turns.as_slice();
+    let kernel = run_failing_by(alloc, &setup.boot, words, setup.limit, fault)?;
+    Ok(kernel)
 }
 
 /// The kernel at the end of the run under a script. The fault is the boot's, or Memory where memory runs out, in the
@@ -111,6 +162,15 @@ pub fn reach(alloc: Global, setup: &Setup, script: Script) -> Result<Reached, Al
     ensures { IfOk result (Reaches setup.now script) }
 {
     let kernel = run_accepted(alloc, setup, script)?;
+    let reached = reached_by(alloc, kernel)?;
+    Ok(reached)
+}
+
+/// What the run came to in which this call of this process fails, of a boot that is accepted.
+pub fn reach_failing(alloc: Global, setup: &Setup, fault: Fault) -> Result<Reached, AllocError>
+    ensures { IfOk result (FaultReaches setup.now fault) }
+{
+    let kernel = run_failing(alloc, setup, fault)?;
     let reached = reached_by(alloc, kernel)?;
     Ok(reached)
 }

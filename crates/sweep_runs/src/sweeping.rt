@@ -1,25 +1,27 @@
 //! What came of each run.
 
-ghost use Rattle.std.specs.Prelude.{◌≡◌, None, Some, Err, IfOk, IfErr, OnOk};
+ghost use Rattle.std.specs.Prelude.{◌≡◌, ◌↔◌, None, Some, Err, IfOk, IfErr, OnOk, IsTrue};
 ghost use Rattle.lx_boot.specs.Boots.{Refuses, fault_of};
 ghost use Rattle.lx_boot.specs.declared.boots.BootFault.{BootFault as BootRefusal};
 ghost use Rattle.sweep_rows.specs.Endings.{first_word};
+ghost use Rattle.sweep_faults.specs.Words.{failure_of, HasWords};
 ghost use Rattle.sweep_rows.specs.Failures.{FailsAlone};
 ghost use Rattle.sweep_runs.specs.Cases.{cases_of};
 ghost use Rattle.sweep_rows.specs.Files.{file_notes};
 ghost use Rattle.sweep_rows.specs.Verdicts.{facts_of, verdict_of};
-ghost use Rattle.sweep_runs.specs.Rows.{failure_of, IsRow, AreRows, IsReport};
+ghost use Rattle.sweep_runs.specs.Rows.{fault_of, IsRow, AreRows, IsReport};
 
 use crate::chosen::{Case, Wanted, cases};
 use crate::progress::Progress;
-use crate::runs::{Setup, reach, refer};
+use crate::runs::{Setup, reach_failing, refer};
 use containers::Seq;
 use lx_abi::{Boot, Ended, Outcome, Script};
 use lx_boot::BootFault;
 use std::alloc::{AllocError, Global};
+use sweep_faults::{Fault, failure_of, has_words};
 use sweep_rows::{
-    Ending, Failure, FileNote, Reached, Streams, Verdict, facts_of, failing, file_notes,
-    first_word, verdict_of,
+    Ending, FileNote, Reached, Streams, Verdict, facts_of, failing, file_notes, first_word,
+    verdict_of,
 };
 
 /// A case, and what came of its run.
@@ -34,6 +36,8 @@ pub struct Row {
     /// The files that the run leaves otherwise than the reference.
     pub files: Vec<FileNote>,
     pub streams: Streams,
+    /// A rule of a script, which is for each tracee, comes to the same run.
+    pub has_words: bool,
 }
 
 /// The run without a failure, and a row for each case.
@@ -43,31 +47,34 @@ pub struct Report {
     pub rows: Vec<Row>,
 }
 
-fn failure(case: Case) -> Failure
-    ensures { result ≡ failure_of case }
+/// The case's call of its process fails, and nothing else.
+pub fn fault_of(case: Case) -> Fault
+    ensures { result ≡ fault_of case }
 {
-    Failure {
+    Fault {
+        pid: case.occurrence.pid,
         call: case.occurrence.call.number,
         n: case.occurrence.n,
         error: case.error,
     }
 }
 
-/// The script by which a case's call fails.
+/// The script by which a case's call fails, in each tracee.
 pub fn script_of(alloc: Global, case: Case) -> Result<Script, AllocError>
-    ensures { IfOk result (FailsAlone (failure_of case)) }
+    ensures { IfOk result (FailsAlone (failure_of (fault_of case))) }
 {
-    failing(alloc, failure(case))
+    failing(alloc, failure_of(fault_of(case)))
 }
 
 /// What of a run is told.
-fn row_of(case: Case, verdict: Verdict, files: Vec<FileNote>, run: Reached) -> Row
+fn row_of(case: Case, verdict: Verdict, files: Vec<FileNote>, run: Reached, has_words: bool) -> Row
     ensures case { result.case ≡ case }
     ensures verdict { result.verdict ≡ verdict }
     ensures files { result.files ≡ files }
     ensures word { result.word ≡ first_word run.ending.outcome }
     ensures ended { result.ended ≡ run.ending.outcome.ended }
     ensures streams { result.streams ≡ run.streams }
+    ensures words { result.has_words ≡ has_words }
 {
     let word = first_word(&run.ending.outcome);
     let Reached {
@@ -84,6 +91,7 @@ fn row_of(case: Case, verdict: Verdict, files: Vec<FileNote>, run: Reached) -> R
         ended,
         files,
         streams,
+        has_words,
     }
 }
 
@@ -132,10 +140,13 @@ fn compare(
     ensures word { IfOk result (λ r. r.word ≡ first_word run.ending.outcome) }
     ensures ended { IfOk result (λ r. r.ended ≡ run.ending.outcome.ended) }
     ensures streams { IfOk result (λ r. r.streams ≡ run.streams) }
+    ensures words { IfOk result (λ r. IsTrue r.has_words
+        ↔ HasWords boot.now.follow (fault_of case) run.log.items) }
 {
     let files = notes_of(alloc, boot, reference, &run)?;
     let verdict = judge(alloc, reference, &run, files.as_slice(), case.tells)?;
-    Ok(row_of(case, verdict, files, run))
+    let has_words = has_words(alloc, fault_of(case), boot.follow, run.log.as_slice())?;
+    Ok(row_of(case, verdict, files, run, has_words))
 }
 
 /// Makes the run of a case, of a boot that is accepted.
@@ -148,8 +159,7 @@ fn run_case(
     ensures row { IfOk result (IsRow setup.now reference.now) }
     ensures case { IfOk result (λ r. r.case ≡ case) }
 {
-    let script = script_of(alloc, case)?;
-    let reached = reach(alloc, setup, script)?;
+    let reached = reach_failing(alloc, setup, fault_of(case))?;
     let row = compare(alloc, &setup.boot, reference, reached, case)?;
     Ok(row)
 }

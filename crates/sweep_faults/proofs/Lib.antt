@@ -1,0 +1,4 @@
+pub mod Standing
+pub mod Rows
+pub mod Wording
+pub mod Fewer

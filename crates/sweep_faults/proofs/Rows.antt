@@ -1,0 +1,173 @@
+-- Runs with a failure, by turns and by rows of turns.
+use Rattle.std.proofs.Common.{◌≡◌, Bool, ℕ, zero, suc, ◌-◌, ◌+◌, ◌<◌, ◌≤◌, true, false, cond, List, [], ◌∷◌, ◌++◌, Option, Some, None, refl, sym, ap, subst, ◌∙◌, append-nil, arith}
+use Rattle.std.specs.Option.{option_to_list}
+use Rattle.lx_abi.specs.declared.log.Item.{Item}
+use Rattle.lx_abi.specs.declared.script.Choice.{Choice}
+use Rattle.lx_model.specs.Finite.{item_of, ran}
+use Rattle.lx_model.specs.declared.event.PtraceEvent.{PtraceEvent}
+use Rattle.lx_kernel.specs.Advances.{Leads}
+use Rattle.lx_kernel.specs.Choices.{after_choosing, turn_choosing_in}
+use Rattle.lx_kernel.specs.Runs.{Run, after_turn}
+use Rattle.pt_schedule.specs.declared.schedule.Schedule.{Schedule}
+use Rattle.pt_schedule.specs.declared.schedule.TurnRun.{TurnRun}
+use Rattle.pt_schedule.specs.Rows.{run_of, after_turns as left_after, Continues}
+use Rattle.pt_schedule.specs.Schedules.{Given, GivenTurn, given_turn, next_by, next_turn_of, unserved}
+use Rattle.pt_schedule.specs.Untraced.{readiness_of}
+use Rattle.pt_schedule.proofs.Rowing.{runs_are_turns, none_after, more_after}
+use Rattle.plain_run.specs.Watched.{Tells}
+use Rattle.plain_run.specs.Runs.{IsCause}
+use Rattle.plain_run.specs.declared.running.Halt.{Halt}
+use Rattle.plain_run.specs.declared.running.Halt.TheVariants.{Memory, Weary}
+use Rattle.plain_run.proofs.Turning.{continues, bore_log, after_unserved, told_unserved}
+use Rattle.sweep_faults.specs.declared.faults.Fault.{Fault}
+use Rattle.sweep_faults.specs.Faults.{after_fault, failing, is_at}
+use Rattle.sweep_faults.specs.InRows.{InRow}
+use Rattle.sweep_faults.specs.Runs.{IsFaulted, RunsFaulted, EndsAreSettled, RunsKeepLogs}
+use Rattle.sweep_faults.proofs.Standing.{not_at}
+
+-- What is told
+
+pub choosing_log : (k k' : Run) (p : ℕ) (choice : Choice) (item : Option Item) → k' ≡ after_choosing k p choice → item ≡ item_of (turn_choosing_in k p choice) → k'.running.log ≡ k.running.log ++ option_to_list item
+choosing_log k k' p choice item turned is =
+    ap (λ (x : Run). x.running.log) turned
+    ∙ bore_log (ran k.running p (turn_choosing_in k p choice)) (turn_choosing_in k p choice).event
+    ∙ ap (λ o. k.running.log ++ option_to_list o) (sym is)
+
+pub told_item : (k k' : Run) (item : Option Item) (told told' : List Item) → k'.running.log ≡ k.running.log ++ option_to_list item → told' ≡ told ++ option_to_list item → Tells k told k' told'
+told_item k k' item told told' h g = record { items = option_to_list item; logged = h; are_told = g }
+
+pub told_same : (k k' : Run) (told : List Item) → k'.running.log ≡ k.running.log → Tells k told k' told
+told_same k k' told h = record { items = []; logged = h ∙ sym (append-nil k.running.log); are_told = sym (append-nil told) }
+
+pub weary_by : (failed weary : Bool) (halt : Halt) → IsCause failed weary halt → halt ≡ Weary → weary ≡ true
+weary_by failed weary Memory h e = absurd (cc e)
+weary_by failed weary Weary h e = h
+
+-- A turn that is none of the entry that fails is the kernel's own
+
+after_other : (f : Fault) (k : Run) (p : ℕ) → is_at f k p ≡ false → after_fault f k p ≡ after_turn k p
+after_other f k p e = ap (λ b. cond b (after_choosing k p (failing f.error)) (after_turn k p)) e
+
+row_of : (f : Fault) (n : ℕ) (k k' : Run) (p : ℕ) (item : Option Item) (event : PtraceEvent ℕ) → is_at f k p ≡ false → Leads k p (suc n) item event k' → InRow f k p n k'
+unfolding InRow
+row_of f zero k k' p item event other leads =
+    leads.2.turned ∙ ap (λ b. after_turn b p) leads.1 ∙ sym (after_other f k p other)
+row_of f (suc n) k k' p item event other leads =
+    subst (λ x. Continues (readiness_of x) p × InRow f x p n k') (sym (after_other f k p other))
+    (continues (after_turn k p) p leads.1.0.on, row_of f n (after_turn k p) k' p item event (not_at f (after_turn k p) p leads.1.0.on) (leads.0, leads.1.1, leads.2))
+
+pub row_of_others : (f : Fault) (turns : ℕ) (k k' : Run) (p : ℕ) (item : Option Item) (event : PtraceEvent ℕ) → 0 < turns → Leads k p turns item event k' → is_at f k p ≡ false → InRow f k p (turns - 1) k'
+row_of_others f turns k k' p item event some leads other =
+    let count : turns ≡ suc (turns - 1) = omega (arith, some) in
+    row_of f (turns - 1) k k' p item event other (subst (λ n. Leads k p n item event k') count leads)
+
+pub row_failing : (f : Fault) (turns : ℕ) (k k' : Run) (p : ℕ) → turns ≡ 1 → is_at f k p ≡ true → k' ≡ after_choosing k p (failing f.error) → InRow f k p (turns - 1) k'
+unfolding InRow
+row_failing f turns k k' p one at turned =
+    let count : zero ≡ turns - 1 = omega (arith, one) in
+    subst (λ n. InRow f k p n k') count
+    (turned ∙ sym (ap (λ b. cond b (after_choosing k p (failing f.error)) (after_turn k p)) at))
+
+module _ (f : Fault) where
+  -- One turn more
+
+  pub ended_is : (k : Run) (s s' : Schedule) → record { pid = None; schedule = s' } ≡ next_turn_of s (readiness_of k) → RunsFaulted f k s k
+  ended_is k s s' g = record { pids = []; is_run = (sym (ap (λ (x : GivenTurn). x.pid) g), refl) }
+
+  pub turn_is : (k : Run) (s : Schedule) (p : ℕ) (s' : Schedule) (k' z : Run) → record { pid = Some p; schedule = s' } ≡ next_turn_of s (readiness_of k) → k' ≡ after_fault f k p → RunsFaulted f k' s' z → RunsFaulted f k s z
+  turn_is k s p s' k' z g e rest =
+      let given : GivenTurn = next_turn_of s (readiness_of k) in
+      record {
+        pids = p ∷ rest.pids;
+        is_run = (
+          sym (ap (λ (x : GivenTurn). x.pid) g),
+          subst (λ x. IsFaulted f x given.schedule rest.pids z) e (subst (λ (x : GivenTurn). IsFaulted f k' x.schedule rest.pids z) g rest.is_run),
+        );
+      }
+
+  same_run : (ps : List ℕ) (k : Run) (s t : Schedule) (z : Run) → unserved s.order ≡ unserved t.order → IsFaulted f k s ps z → IsFaulted f k t ps z
+  same_run [] k s t z e h = subst (λ o. ((given_turn (next_by o (readiness_of k))).pid ≡ None) × (z ≡ k)) e h
+  same_run (p ∷ ps) k s t z e h = subst (λ o. ((given_turn (next_by o (readiness_of k))).pid ≡ Some p) × IsFaulted f (after_fault f k p) (given_turn (next_by o (readiness_of k))).schedule ps z) e h
+
+  -- the row's next turn
+  row_turn : (k : Run) (s : Schedule) (r : TurnRun) (z : Run) → run_of s ≡ Some r → 0 < r.turns → Continues (readiness_of k) r.pid →
+      RunsFaulted f (after_fault f k r.pid) (left_after s 1) z → RunsFaulted f k s z
+  row_turn k s r z told some on later =
+      let u : Schedule = record { order = unserved s.order } in
+      let it = runs_are_turns u r (told_unserved s.order r told) some in
+      turn_is k s r.pid (left_after u 1) (after_fault f k r.pid) z
+      (sym (ap (λ (g : Given Schedule). given_turn g) (it.next (readiness_of k) on))) refl
+      (record { pids = later.pids; is_run = same_run later.pids (after_fault f k r.pid) (left_after s 1) (left_after u 1) z (sym (after_unserved s.order 1)) later.is_run })
+
+  row_more : (n m : ℕ) (k b k' : Run) (p : ℕ) → InRow f k p n b → Continues (readiness_of b) p → InRow f b p m k' → InRow f k p (n + suc m) k'
+  unfolding InRow
+  row_more zero m k b k' p row on more =
+      let count : suc m ≡ 0 + suc m = omega arith in
+      subst (λ i. InRow f k p i k') count (subst (λ x. Continues (readiness_of x) p × InRow f x p m k') row (on, more))
+  row_more (suc n) m k b k' p row on more =
+      let count : suc (n + suc m) ≡ suc n + suc m = omega arith in
+      subst (λ i. InRow f k p i k') count (row.0, row_more n m (after_fault f k p) b k' p row.1 on more)
+
+  -- so many were made, and there is another
+  abbrev pub Made : Run → ℕ → ℕ → Run → Type 0
+  Made k p zero k' = k' ≡ k
+  Made k p (suc n) k' = InRow f k p n k' × Continues (readiness_of k') p
+
+  joined : (made m : ℕ) (k b k' : Run) (p : ℕ) → Made k p made b → InRow f b p m k' → InRow f k p (made + m) k'
+  joined zero m k b k' p same row =
+      let count : m ≡ 0 + m = omega arith in
+      subst (λ i. InRow f k p i k') count (subst (λ x. InRow f x p m k') same row)
+  joined (suc n) m k b k' p made row =
+      let count : n + suc m ≡ suc n + m = omega arith in
+      subst (λ i. InRow f k p i k') count (row_more n m k b k' p made.0 made.1 row)
+
+  pub made_more : (g : Fault) (made m : ℕ) (k b k' : Run) (p : ℕ) → g ≡ f → Made k p made b → InRow g b p m k' → InRow f k p (made + m) k'
+  made_more g made m k b k' p same before row = joined made m k b k' p before (subst (λ x. InRow x b p m k') same row)
+
+  pub made_now : (n made : ℕ) (k k' : Run) (p : ℕ) → n + 1 ≡ made → InRow f k p n k' → Continues (readiness_of k') p → Made k p made k'
+  made_now n made k k' p count row on =
+      let same : suc n ≡ made = omega (arith, count) in
+      subst (λ i. Made k p i k') same (row, on)
+
+  pub row_run : (n : ℕ) (k k' : Run) (s : Schedule) (p more : ℕ) (z : Run) → InRow f k p n k' → n ≤ more →
+      (0 < more → run_of s ≡ Some (record { pid = p; turns = more })) → RunsFaulted f k' (left_after s n) z → RunsFaulted f (after_fault f k p) s z
+  unfolding InRow
+  row_run zero k k' s p more z row l told rest =
+      subst (λ x. RunsFaulted f x s z) row (subst (λ t. RunsFaulted f k' t z) (none_after s) rest)
+  row_run (suc n) k k' s p more z row l told rest =
+      let under_way = told (omega (arith, l)) in
+      let its = runs_are_turns s (record { pid = p; turns = more }) under_way (omega (arith, l)) in
+      let count : 1 + n ≡ suc n = omega arith in
+      row_turn (after_fault f k p) s (record { pid = p; turns = more }) z under_way (omega (arith, l)) row.0
+      (row_run n (after_fault f k p) k' (left_after s 1) p (more - 1) z row.1 (omega (arith, l)) (λ m. its.rest)
+      (subst (λ t. RunsFaulted f k' t z) (sym (more_after s 1 n ∙ ap (left_after s) count)) rest))
+
+-- The laws
+
+same_pid : (p q : ℕ) (x : Option ℕ) → x ≡ Some p → x ≡ Some q → p ≡ q
+same_pid p q x e f = cc (sym e ∙ f)
+
+settled : (f : Fault) (ps qs : List ℕ) (k : Run) (s : Schedule) (y z : Run) → IsFaulted f k s ps y → IsFaulted f k s qs z → y ≡ z
+settled f [] [] k s y z h g = h.1 ∙ sym g.1
+settled f [] (q ∷ qs) k s y z h g = absurd (cc (sym h.0 ∙ g.0))
+settled f (p ∷ ps) [] k s y z h g = absurd (cc (sym h.0 ∙ g.0))
+settled f (p ∷ ps) (q ∷ qs) k s y z h g =
+    let next : GivenTurn = next_turn_of s (readiness_of k) in
+    settled f ps qs (after_fault f k p) next.schedule y z h.1
+    (subst (λ x. IsFaulted f (after_fault f k x) next.schedule qs z) (sym (same_pid p q next.pid h.0 g.0)) g.1)
+
+pub ends_settled : EndsAreSettled
+ends_settled f k s y z h g = settled f h.pids g.pids k s y z h.is_run g.is_run
+
+keeps_by : (b : Bool) (x y k : Run) → x.keeps_log ≡ k.keeps_log → y.keeps_log ≡ k.keeps_log → (cond b x y).keeps_log ≡ k.keeps_log
+keeps_by true x y k h g = h
+keeps_by false x y k h g = g
+
+keeps : (f : Fault) (k : Run) (s : Schedule) (pids : List ℕ) (z : Run) → IsFaulted f k s pids z → z.keeps_log ≡ k.keeps_log
+keeps f k s [] z h = ap (λ (r : Run). r.keeps_log) h.1
+keeps f k s (p ∷ ps) z h =
+    keeps f (after_fault f k p) (next_turn_of s (readiness_of k)).schedule ps z h.1
+    ∙ keeps_by (is_at f k p) (after_choosing k p (failing f.error)) (after_turn k p) k refl refl
+
+pub runs_keep_logs : RunsKeepLogs
+runs_keep_logs f k s z to = keeps f k s to.pids z to.is_run

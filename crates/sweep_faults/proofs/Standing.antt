@@ -1,0 +1,101 @@
+-- Where a process stands at the entry that fails.
+use Rattle.std.proofs.Common.{◌≡◌, Bool, true, false, ℕ, zero, suc, ◌-◌, ◌+◌, ◌<◌, List, [], ◌∷◌, ◌++◌, Option, Some, None, cond, ◌&&◌, refl, sym, ap, subst, ◌∙◌, append-nil, arith}
+use Rattle.std.specs.Prelude.{◌==◌, if◌then◌else◌}
+use Rattle.std.specs.Option.{option_to_list}
+use Rattle.std.proofs.lemmas.Bool.Decides.{nat_tests}
+use Rattle.lx_abi.specs.declared.log.Item.{Item}
+use Rattle.lx_abi.specs.declared.log.Mode.{Mode}
+use Rattle.lx_abi.specs.declared.log.Mode.TheVariants as mode
+use Rattle.lx_abi.specs.Log.{entries, is_entry}
+use Rattle.lx_kernel.specs.Advances.{is_under_way, GoesOn}
+use Rattle.lx_kernel.specs.Runs.{Run, mode_in}
+use Rattle.lx_kernel.specs.Tracing.{task_in, regs_of}
+use Rattle.sweep_rows.proofs.Counting.{entries_more}
+use Rattle.sweep_faults.specs.declared.awaited.Awaited.{Awaited}
+use Rattle.sweep_faults.specs.declared.faults.Fault.{Fault}
+use Rattle.sweep_faults.specs.Awaited.{Awaits, IsLeft, heard, is_awaited_at, is_next, left_after, passed}
+use Rattle.sweep_faults.specs.Faults.{asks_for, is_at, is_entered}
+
+-- A process that goes on by itself has entered no call
+
+no_entry : (m : Mode) → is_under_way m ≡ true → is_entered (Some m) ≡ false
+no_entry mode.Born h = refl
+no_entry mode.Run h = refl
+no_entry mode.Faulting h = refl
+no_entry mode.Entered h = absurd (cc h)
+no_entry mode.Doing h = refl
+no_entry mode.Acted h = refl
+no_entry mode.Finished h = refl
+no_entry mode.Taken h = refl
+no_entry mode.Stopped h = refl
+no_entry mode.Woken h = refl
+no_entry mode.Dying h = refl
+no_entry mode.Zombie h = refl
+
+none_at : (a b d : Bool) → (a && (b && (false && d))) ≡ false
+none_at true true d = refl
+none_at true false d = refl
+none_at false b d = refl
+
+pub not_at : (f : Fault) (k : Run) (p : ℕ) → GoesOn k p → is_at f k p ≡ false
+unfolding is_at
+not_at f k p on =
+    let asks : Bool = asks_for f.call (regs_of (task_in k p)) in
+    ap (λ b. (p == f.pid) && ((entries f.pid f.call k.running.log == f.n) && (b && asks)))
+    (ap is_entered on.1.1.0 ∙ no_entry on.1.0 on.1.1.1)
+    ∙ none_at (p == f.pid) (entries f.pid f.call k.running.log == f.n) asks
+
+-- What is awaited
+
+come_is : (n entered : ℕ) (left : Option ℕ) → IsLeft n entered left → (entered == n) ≡ is_next left
+unfolding is_next
+come_is n entered (Some left) h = of (entered == n) (left == 0) refl refl
+  where
+    of : (a b : Bool) → (entered == n) ≡ a → (left == 0) ≡ b → a ≡ b
+    of true true e g = refl
+    of true false e g = absurd (grind (arith, nat_tests, h, e, g))
+    of false true e g = absurd (grind (arith, nat_tests, h, e, g))
+    of false false e g = refl
+come_is n entered None h = of (entered == n) refl
+  where
+    of : (a : Bool) → (entered == n) ≡ a → a ≡ false
+    of true e = absurd (grind (arith, nat_tests, h, e))
+    of false e = refl
+
+pub awaited_at_is : (a : Awaited) (k : Run) (p : ℕ) → Awaits a k.running.log → is_at a.fault k p ≡ is_awaited_at a k p
+unfolding is_at is_awaited_at
+awaited_at_is a k p h =
+    ap (λ b. (p == a.fault.pid) && (b && (is_entered (mode_in k p) && asks_for a.fault.call (regs_of (task_in k p)))))
+    (come_is a.fault.n (entries a.fault.pid a.fault.call k.running.log) a.left h)
+
+pub awaits_first : (n : ℕ) → n + 0 ≡ n
+awaits_first n = omega arith
+
+no_more : (n : ℕ) → 0 + n ≡ n
+no_more n = omega arith
+
+one_less : (n entered : ℕ) (left : Option ℕ) → IsLeft n entered left → IsLeft n (1 + entered) (passed left)
+unfolding passed
+one_less n entered None h = omega (arith, h)
+one_less n entered (Some left) h = of (left == 0) refl
+  where
+    of : (b : Bool) → (left == 0) ≡ b → IsLeft n (1 + entered) (cond b None (Some (left - 1)))
+    of true e =
+        let none_left : left ≡ 0 = grind (arith, nat_tests, e) in
+        omega (arith, h, none_left)
+    of false e =
+        let some_left : 0 < left = grind (arith, nat_tests, e) in
+        omega (arith, h, some_left)
+
+pub heard_awaits : (a : Awaited) (log log' : List Item) (item : Option Item) → Awaits a log → log' ≡ log ++ option_to_list item → Awaits (heard a item) log'
+unfolding left_after
+heard_awaits a log log' None h e = subst (λ l. IsLeft a.fault.n (entries a.fault.pid a.fault.call l) a.left) (sym (e ∙ append-nil log)) h
+heard_awaits a log log' (Some item) h e =
+    let before : ℕ = entries a.fault.pid a.fault.call log in
+    let left : Option ℕ = cond (is_entry a.fault.pid a.fault.call item) (passed a.left) a.left in
+    subst (λ l. IsLeft a.fault.n (entries a.fault.pid a.fault.call l) left) (sym e)
+    (subst (λ n. IsLeft a.fault.n n left) (sym (entries_more a.fault.pid a.fault.call log item)) (of (is_entry a.fault.pid a.fault.call item)))
+  where
+    of : (b : Bool) → IsLeft a.fault.n ((if b then 1 else 0) + entries a.fault.pid a.fault.call log) (cond b (passed a.left) a.left)
+    of true = one_less a.fault.n (entries a.fault.pid a.fault.call log) a.left h
+    of false = subst (λ n. IsLeft a.fault.n n a.left) (sym (no_more (entries a.fault.pid a.fault.call log))) h

@@ -1,0 +1,42 @@
+use Rattle.std.proofs.Common.{◌≡◌, ◌∙◌, refl, subst, sym}
+use Rattle.lx_kernel.specs.Runs.{Run}
+use Rattle.pt_schedule.specs.Schedules.{events_left}
+use Rattle.pt_schedule.specs.Untraced.{readiness_of}
+use Rattle.plain_run.proofs.Turning.{turn_less, fewer_still, told_both, told_nothing}
+use Rattle.sweep_faults.specs.declared.faults.Fault.{Fault}
+use Rattle.sweep_faults.specs.Awaited.{Awaits}
+use Rattle.sweep_faults.specs.Faults.{after_fault}
+use Rattle.sweep_faults.specs.Runs.{RunsFaulted}
+use Rattle.sweep_faults.proofs.Rows.{turn_is}
+use Rattle.sweep_faults.proofs.running.run_faulted.Goals as goal
+
+pub turns-init : goal.turns-init
+turns-init g c = (
+  λ z rest. rest,
+  told_nothing c.args.kernel.now (g.W.Watch.told c.args.watch.now),
+  refl,
+  subst (λ log. Awaits c.new-awaited.result log) (sym c.requires) c.new-awaited.ensures.none,
+  c.new-awaited.ensures.fault,
+)
+
+pub returns-in_default-clause-told : goal.returns-in_default-clause-told
+returns-in_default-clause-told g c = c.turns.invariant.1
+
+pub returns-in-Err-clause-told : goal.returns-in-Err-clause-told
+returns-in-Err-clause-told g c = told_both _ _ _ _ _ _ c.turns.invariant.1 c.in-Err.ensures.told
+
+pub turns-smaller : goal.turns-smaller
+turns-smaller g c = fewer_still (events_left c.turn.new.schedule) (events_left c.next_plain.new.self) (events_left c.turns.schedule) c.in_default-turn.ensures.fewer
+    (turn_less c.turns.schedule (readiness_of c.turns.kernel) c.in-Some.pid c.next_plain.new.self c.in-Some.ensures)
+
+pub turns-preserved : goal.turns-preserved
+turns-preserved g c = (
+  λ z rest. c.turns.invariant.0 z
+      (turn_is c.args.fault c.turns.kernel c.turns.schedule c.in-Some.pid c.next_plain.new.self (after_fault c.args.fault c.turns.kernel c.in-Some.pid) z c.in-Some.ensures refl
+      (subst (λ (f : Fault). RunsFaulted f (after_fault f c.turns.kernel c.in-Some.pid) c.next_plain.new.self z) c.turns.invariant.4
+      (c.in_default-turn.ensures.on z (subst (λ (f : Fault). RunsFaulted f c.turn.new.kernel c.turn.new.schedule z) (sym c.turns.invariant.4) rest)))),
+  told_both _ _ _ _ _ _ c.turns.invariant.1 c.in_default-turn.ensures.told,
+  c.in_default-turn.ensures.begun ∙ c.turns.invariant.2,
+  c.in_default-turn.ensures.awaits,
+  c.in_default-turn.ensures.fault ∙ c.turns.invariant.4,
+)

@@ -1,0 +1,13 @@
+-- Turns of one process in a row, as a schedule gives them by a row that is under way.
+use Rattle.std.specs.Prelude.{◌≡◌, ℕ, zero, suc}
+use Rattle.lx_kernel.specs.Runs.{Run}
+use Rattle.pt_schedule.specs.Rows.{Continues}
+use Rattle.pt_schedule.specs.Untraced.{readiness_of}
+use Rattle.sweep_faults.specs.declared.faults.Fault.{Fault}
+use Rattle.sweep_faults.specs.Faults.{after_fault}
+
+-- A turn of the process, and so many behind it, lead from k to k'. Before each of those behind it the process can have
+-- another turn, and no call of it is finished.
+unfoldable pub InRow : Fault → Run → ℕ → ℕ → Run → Type 0
+InRow f k pid zero k' = k' ≡ after_fault f k pid
+InRow f k pid (suc n) k' = Continues (readiness_of (after_fault f k pid)) pid × InRow f (after_fault f k pid) pid n k'

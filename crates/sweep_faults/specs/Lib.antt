@@ -1,0 +1,5 @@
+pub mod Faults
+pub mod Words
+pub mod Runs
+pub mod InRows
+pub mod Awaited

@@ -1,0 +1,32 @@
+-- Which failures of one process a rule of a script gives, which is for the nth occurrence of a call in each tracee.
+use Rattle.std.specs.Prelude.{◌≡◌, ◌<◌, ℕ, ◌==◌, ◌&&◌, not, nat_le, Bool, true, false, List}
+use Rattle.lx_abi.specs.declared.log.Item.{Item}
+use Rattle.lx_abi.specs.declared.log.Item.TheVariants.{Enter, Done, Taken, Stopped, Exit}
+use Rattle.lx_abi.specs.declared.occurrences.Occurrences.{Occurrences}
+use Rattle.lx_abi.specs.Log.{entries}
+use Rattle.lx_abi.specs.Occurrences.{count_of}
+use Rattle.lx_model.specs.Kernel.{traces}
+use Rattle.sweep_rows.specs.declared.failures.Failure.{Failure}
+use Rattle.sweep_faults.specs.declared.faults.Fault.{Fault}
+
+-- the rule's failure
+abbrev pub failure_of : Fault → Failure
+failure_of f = record { call = f.call; n = f.n; error = f.error }
+
+-- the process is a tracee, and by the log of the run no other tracee enters the call so often
+pub record HasWords (follow : Bool) (f : Fault) (log : List Item) : Type 0 where
+  pub traced : traces follow f.pid ≡ true
+  pub alone : (pid : ℕ) → traces follow pid ≡ true → (pid ≡ f.pid → ⊥) → entries pid f.call log < f.n
+
+-- no other process enters the call so often
+abbrev pub AreFewer : Fault → List Item → Type 0
+AreFewer f log = (pid : ℕ) → (pid ≡ f.pid → ⊥) → entries pid f.call log < f.n
+
+-- an item by which another process enters it for the nth time or later, by what is counted
+abbrev pub is_again : Fault → Occurrences → Item → Bool
+is_again f entered (Enter pid call) =
+    (call.number == f.call) && (not (pid == f.pid) && nat_le f.n (count_of entered pid f.call))
+is_again f entered (Done pid call result replaced) = false
+is_again f entered (Taken pid signal cause) = false
+is_again f entered (Stopped pid signal) = false
+is_again f entered (Exit pid word left) = false

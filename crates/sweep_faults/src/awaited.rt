@@ -1,0 +1,143 @@
+//! Whether a process stands at the entry that fails.
+
+ghost use Rattle.std.specs.Prelude.{◌≡◌, ◌&&◌, [], IfOk};
+ghost use Rattle.lx_abi.specs.Log.{is_entry};
+ghost use Rattle.lx_kernel.specs.Runs.{mode_in};
+ghost use Rattle.lx_kernel.specs.Tracing.{task_in, regs_of};
+ghost use Rattle.sweep_faults.specs.Awaited.{Awaits, heard, is_awaited_at, is_next, left_after, passed};
+ghost use Rattle.sweep_faults.specs.Faults.{asks_for, is_entered};
+
+use crate::faults::Fault;
+use lx_abi::{Item, Mode};
+use lx_kernel::Kernel;
+use std::alloc::AllocError;
+
+/// The register a7, which has the number of the call that a process asks for.
+const A7: usize = 17;
+
+/// A failure, and how many entries of its process into its call come before the one that fails.
+#[derive(Clone, Copy, Debug, PartialEq, Eq)]
+pub(crate) struct Awaited {
+    pub fault: Fault,
+    /// With 0 the process has entered the call for the nth time; none is past it.
+    pub left: Option<u64>,
+}
+
+fn is_entry(item: &Item, pid: u32, number: u64) -> bool
+    ensures { result ≡ is_entry pid number item.now }
+{
+    match item {
+        Item::Enter {
+            pid: entering,
+            call,
+        } => pid == *entering && number == call.number,
+        _ => false,
+    }
+}
+
+/// What is left after an entry.
+#[tactic(auto, unfolding(crate::specs::Awaited::passed))]
+fn passed(left: Option<u64>) -> Option<u64>
+    ensures { result ≡ passed left }
+{
+    match left {
+        Some(left) => { if left == 0 { None } else { Some(left - 1) } }
+        None => None,
+    }
+}
+
+/// Where a process stands that has entered a call.
+fn is_entered(mode: Option<Mode>) -> bool
+    ensures { result ≡ is_entered mode }
+{
+    matches!(mode, Some(Mode::Entered))
+}
+
+/// The registers of a process ask for the call.
+fn asks_for(kernel: &Kernel, pid: u32, call: u64) -> Result<bool, AllocError>
+    ensures { IfOk result (λ asks. asks ≡ asks_for call (regs_of (task_in kernel.now pid))) }
+{
+    let Some(registers) = kernel.regs(pid)? else {
+        return Ok(false);
+    };
+    Ok(registers.get()[A7] == call)
+}
+
+/// A process that has entered a call asks for this one.
+fn has_entered(kernel: &Kernel, pid: u32, call: u64) -> Result<bool, AllocError>
+    ensures { IfOk result (λ at. at
+        ≡ (is_entered (mode_in kernel.now pid) && asks_for call (regs_of (task_in kernel.now pid)))) }
+{
+    if !is_entered(kernel.mode(pid)) {
+        return Ok(false);
+    }
+    let asks = asks_for(kernel, pid, call)?;
+    Ok(asks)
+}
+
+impl Awaited {
+    /// A failure of a process that has entered no call.
+    #[tactic(auto, using(crate::proofs::Standing::awaits_first))]
+    pub(crate) fn new(fault: Fault) -> Self
+        ensures fault { result.fault ≡ fault }
+        ensures none { Awaits result [] }
+    {
+        Awaited {
+            fault,
+            left: Some(fault.n),
+        }
+    }
+
+    /// The process has entered the call for the nth time, and not again.
+    #[tactic(auto, unfolding(crate::specs::Awaited::is_next))]
+    fn is_next(self) -> bool
+        ensures { result ≡ is_next self.left }
+    {
+        match self.left {
+            Some(left) => left == 0,
+            None => false,
+        }
+    }
+
+    /// The process stands at the entry that fails.
+    #[tactic(auto, unfolding(crate::specs::Awaited::is_awaited_at))]
+    pub(crate) fn is_at(self, kernel: &Kernel, pid: u32) -> Result<bool, AllocError>
+        ensures { IfOk result (λ at. at ≡ is_awaited_at self kernel.now pid) }
+    {
+        if pid != self.fault.pid {
+            return Ok(false);
+        }
+        if !self.is_next() {
+            return Ok(false);
+        }
+        let at = has_entered(kernel, pid, self.fault.call)?;
+        Ok(at)
+    }
+
+    /// How many entries are left after a turn that has logged this.
+    #[tactic(auto, unfolding(crate::specs::Awaited::left_after))]
+    fn left_after(self, item: &Option<Item>) -> Option<u64>
+        ensures { result ≡ left_after self item.now }
+    {
+        match item {
+            None => self.left,
+            Some(item) => {
+                if is_entry(item, self.fault.pid, self.fault.call) {
+                    passed(self.left)
+                } else {
+                    self.left
+                }
+            }
+        }
+    }
+
+    /// The same, after a turn that has logged this.
+    pub(crate) fn heard(self, item: &Option<Item>) -> Self
+        ensures { result ≡ heard self item.now }
+    {
+        Awaited {
+            fault: self.fault,
+            left: self.left_after(item),
+        }
+    }
+}

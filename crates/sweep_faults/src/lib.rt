@@ -1,0 +1,13 @@
+//! A run of the untraced kernel by a schedule in which one call of one process fails.
+#![tactic(auto)]
+
+pub mod awaited;
+pub mod faults;
+pub mod laws;
+pub mod moving;
+pub mod running;
+pub mod words;
+
+pub use faults::Fault;
+pub use running::run_faulted;
+pub use words::{failure_of, has_words};

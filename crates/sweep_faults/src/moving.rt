@@ -1,0 +1,128 @@
+//! Turns of one process that are made at once.
+
+ghost use Rattle.std.specs.Prelude.{◌≡◌, ◌≤◌, ◌<◌, ◌-◌, ◌++◌, IfOk, IfErr, OnOk, OnErr, IsTrue, false};
+ghost use Rattle.std.specs.Option.{option_to_list};
+ghost use Rattle.lx_kernel.specs.Choices.{after_choosing};
+ghost use Rattle.lx_kernel.specs.Runs.{mode_in};
+ghost use Rattle.sweep_faults.specs.Awaited.{Awaits};
+ghost use Rattle.sweep_faults.specs.Faults.{failing, is_at};
+ghost use Rattle.sweep_faults.specs.InRows.{InRow};
+ghost use Rattle.sweep_faults.specs.declared.faults.Fault.{Fault as Failing};
+ghost use Rattle.plain_run.specs.Watched.{Tells};
+ghost use Rattle.plain_run.specs.declared.running.Halt.TheVariants.{Weary};
+
+use crate::awaited::Awaited;
+use lx_abi::{Choice, Errno, Item, Mode};
+use lx_kernel::{Failed, Kernel};
+use plain_run::{Halt, Watch, tell};
+
+/// How many turns there were in a row, where they leave the process, and what the last has logged.
+#[derive(Clone, Copy, Debug, PartialEq, Eq)]
+pub(crate) struct Moved {
+    pub turns: u64,
+    pub after: Option<Mode>,
+    pub item: Option<Item>,
+}
+
+/// The call has the error for its result, and isn't done.
+fn failing(error: Errno) -> Choice
+    ensures { result ≡ failing error }
+{
+    Choice {
+        result: Some(-i64::from(error.number)),
+        signal: None,
+    }
+}
+
+/// The turn at the entry that fails.
+#[tactic(auto, using(crate::proofs::Rows::choosing_log))]
+fn fail(kernel: &mut Kernel, pid: u32, error: Errno) -> Result<Moved, Failed>
+    ensures turned { IfOk result (λ m. kernel.new ≡ after_choosing kernel.old pid (failing error)) }
+    ensures one { IfOk result (λ m. m.turns ≡ 1) }
+    ensures after { IfOk result (λ m. m.after ≡ mode_in kernel.new pid) }
+    ensures logged { IfOk result (λ m. kernel.new.running.log ≡ kernel.old.running.log ++ option_to_list m.item) }
+    ensures log { OnErr result (kernel.new.running.log ≡ kernel.old.running.log) }
+{
+    match kernel.turn_choosing(pid, failing(error)) {
+        Ok(moved) => Ok(Moved {
+            turns: 1,
+            after: moved.after,
+            item: moved.item,
+        }),
+        Err(failed) => Err(failed),
+    }
+}
+
+/// Turns of a process that stands at no entry that fails, `most` at most.
+#[tactic(auto, using(crate::proofs::Rows::row_of_others))]
+fn go_on(kernel: &mut Kernel, pid: u32, most: u64) -> Result<Moved, Failed>
+    requires { 0 < most }
+    ensures row { (f : Failing) → is_at f kernel.old pid ≡ false
+        → IfOk result (λ m. InRow f kernel.old pid (m.turns - 1) kernel.new) }
+    ensures some { IfOk result (λ m. 0 < m.turns) }
+    ensures within { IfOk result (λ m. m.turns ≤ most) }
+    ensures after { IfOk result (λ m. m.after ≡ mode_in kernel.new pid) }
+    ensures logged { IfOk result (λ m. kernel.new.running.log ≡ kernel.old.running.log ++ option_to_list m.item) }
+    ensures log { OnErr result (kernel.new.running.log ≡ kernel.old.running.log) }
+{
+    let mut item = None;
+    match kernel.advance(pid, most, &mut item) {
+        Ok(advanced) => Ok(Moved {
+            turns: advanced.turns,
+            after: advanced.after,
+            item,
+        }),
+        Err(failed) => Err(failed),
+    }
+}
+
+/// Turns of a process that are made at once, `most` at most: the one at the entry that fails, or others.
+#[tactic(auto, using(crate::proofs::Rows::row_failing, crate::proofs::Standing::awaited_at_is))]
+fn move_on(kernel: &mut Kernel, pid: u32, most: u64, awaited: Awaited) -> Result<Moved, Failed>
+    requires some { 0 < most }
+    requires awaits { Awaits awaited kernel.old.running.log }
+    ensures row { IfOk result (λ m. InRow awaited.fault kernel.old pid (m.turns - 1) kernel.new) }
+    ensures some { IfOk result (λ m. 0 < m.turns) }
+    ensures within { IfOk result (λ m. m.turns ≤ most) }
+    ensures after { IfOk result (λ m. m.after ≡ mode_in kernel.new pid) }
+    ensures logged { IfOk result (λ m. kernel.new.running.log ≡ kernel.old.running.log ++ option_to_list m.item) }
+    ensures log { OnErr result (kernel.new.running.log ≡ kernel.old.running.log) }
+{
+    match awaited.is_at(kernel, pid) {
+        Ok(true) => fail(kernel, pid, awaited.fault.error),
+        Ok(false) => go_on(kernel, pid, most),
+        Err(_) => Err(Failed),
+    }
+}
+
+/// Turns of a process that are made at once, `most` at most, and what they log told.
+#[tactic(auto, using(crate::proofs::Rows::told_item, crate::proofs::Rows::told_same, crate::proofs::Rows::weary_by, crate::proofs::Standing::heard_awaits))]
+pub(crate) fn advance<W: Watch>(
+    kernel: &mut Kernel,
+    pid: u32,
+    most: u64,
+    awaited: &mut Awaited,
+    watch: &mut W,
+) -> Result<Moved, Halt>
+    requires some { 0 < most }
+    requires awaits { Awaits awaited.old kernel.old.running.log }
+    ensures row { IfOk result (λ m. InRow awaited.old.fault kernel.old pid (m.turns - 1) kernel.new) }
+    ensures some { IfOk result (λ m. 0 < m.turns) }
+    ensures within { IfOk result (λ m. m.turns ≤ most) }
+    ensures after { IfOk result (λ m. m.after ≡ mode_in kernel.new pid) }
+    ensures awaits { OnOk result (Awaits awaited.new kernel.new.running.log) }
+    ensures fault { awaited.new.fault ≡ awaited.old.fault }
+    ensures told { Tells kernel.old (W.told watch.old) kernel.new (W.told watch.new) }
+    ensures begun { W.begun watch.new ≡ W.begun watch.old }
+    ensures weary { IfErr result (λ halt. halt ≡ Weary → IsTrue (W.weary watch.new)) }
+{
+    let moved = match move_on(kernel, pid, most, *awaited) {
+        Ok(moved) => moved,
+        Err(_) => return Err(Halt::Memory),
+    };
+    *awaited = awaited.heard(&moved.item);
+    match tell(kernel, moved.turns, &moved.item, watch) {
+        Ok(()) => Ok(moved),
+        Err(halt) => Err(halt),
+    }
+}

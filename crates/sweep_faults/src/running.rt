@@ -1,0 +1,108 @@
+//! Turns by a schedule, up to its end, where one call of one process fails.
+
+ghost use Rattle.std.specs.Prelude.{◌≡◌, ◌≤◌, ◌++◌, [], OnOk, IfOk, IfErr, IsTrue};
+ghost use Rattle.lx_kernel.specs.Runs.{Run as KernelRun};
+ghost use Rattle.pt_schedule.specs.Schedules.{events_left};
+ghost use Rattle.plain_run.specs.Watched.{Tells};
+ghost use Rattle.plain_run.specs.declared.running.Halt.TheVariants.{Weary};
+ghost use Rattle.sweep_faults.specs.Awaited.{Awaits};
+ghost use Rattle.sweep_faults.specs.Faults.{after_fault};
+ghost use Rattle.sweep_faults.specs.InRows.{InRow};
+ghost use Rattle.sweep_faults.specs.Runs.{RunsFaulted};
+
+use crate::awaited::Awaited;
+use crate::faults::Fault;
+use crate::moving::advance;
+use lx_kernel::Kernel;
+use plain_run::{Halt, Watch, goes_on, turns_in_row};
+use pt_schedule::Schedule;
+
+/// The turn that the schedule gave, and those that come next by the row that is under way, `more` at most: how many
+/// these were.
+fn turn_row<W: Watch>(
+    kernel: &mut Kernel,
+    pid: u32,
+    more: u64,
+    awaited: &mut Awaited,
+    watch: &mut W,
+) -> Result<u64, Halt>
+    requires { Awaits awaited.old kernel.old.running.log }
+    ensures row { IfOk result (λ n. InRow awaited.old.fault kernel.old pid n kernel.new) }
+    ensures within { IfOk result (λ n. n ≤ more) }
+    ensures awaits { OnOk result (Awaits awaited.new kernel.new.running.log) }
+    ensures fault { awaited.new.fault ≡ awaited.old.fault }
+    ensures told { Tells kernel.old (W.told watch.old) kernel.new (W.told watch.new) }
+    ensures begun { W.begun watch.new ≡ W.begun watch.old }
+    ensures weary { IfErr result (λ halt. halt ≡ Weary → IsTrue (W.weary watch.new)) }
+{
+    let mut made = 0;
+    'row: loop {
+        let most = (more - made).min(watch.patience()).saturating_add(1);
+        let moved = match advance(kernel, pid, most, awaited, watch) {
+            Ok(moved) => moved,
+            Err(halt) => return Err(halt),
+        };
+        let behind = made + (moved.turns - 1);
+        if behind >= more {
+            return Ok(behind);
+        }
+        if !goes_on(kernel, pid, moved.after) {
+            return Ok(behind);
+        }
+        made = behind + 1;
+    }
+}
+
+/// The turn that the schedule gave, and those of its row behind it.
+fn turn<W: Watch>(
+    kernel: &mut Kernel,
+    schedule: &mut Schedule,
+    pid: u32,
+    awaited: &mut Awaited,
+    watch: &mut W,
+) -> Result<(), Halt>
+    requires { Awaits awaited.old kernel.old.running.log }
+    ensures on { OnOk result ((z : KernelRun) → RunsFaulted awaited.old.fault kernel.new schedule.new z
+        → RunsFaulted awaited.old.fault (after_fault awaited.old.fault kernel.old pid) schedule.old z) }
+    ensures fewer { OnOk result (events_left schedule.new ≤ events_left schedule.old) }
+    ensures awaits { OnOk result (Awaits awaited.new kernel.new.running.log) }
+    ensures fault { awaited.new.fault ≡ awaited.old.fault }
+    ensures told { Tells kernel.old (W.told watch.old) kernel.new (W.told watch.new) }
+    ensures begun { W.begun watch.new ≡ W.begun watch.old }
+    ensures weary { IfErr result (λ halt. halt ≡ Weary → IsTrue (W.weary watch.new)) }
+{
+    let more = turns_in_row(schedule, pid);
+    let made = match turn_row(kernel, pid, more, awaited, watch) {
+        Ok(made) => made,
+        Err(halt) => return Err(halt),
+    };
+    schedule.pass(made);
+    Ok(())
+}
+
+/// Makes the turns that a schedule gives, up to its end, where one call of one process fails; the watcher is told of
+/// each. Memory is refused to the kernel, or to a look at registers.
+pub fn run_faulted<W: Watch>(
+    kernel: &mut Kernel,
+    schedule: &mut Schedule,
+    fault: Fault,
+    watch: &mut W,
+) -> Result<(), Halt>
+    requires { kernel.old.running.log ≡ [] }
+    ensures to { OnOk result (RunsFaulted fault kernel.old schedule.old kernel.new) }
+
+    // What was logged was told, in order, also where the run ended before its schedule.
+    ensures told { Tells kernel.old (W.told watch.old) kernel.new (W.told watch.new) }
+    ensures begun { W.begun watch.new ≡ W.begun watch.old }
+    ensures weary { IfErr result (λ halt. halt ≡ Weary → IsTrue (W.weary watch.new)) }
+{
+    let mut awaited = Awaited::new(fault);
+    'turns: loop {
+        let Some(pid) = schedule.next_plain(kernel) else {
+            return Ok(());
+        };
+        if let Err(halt) = turn(kernel, schedule, pid, &mut awaited, watch) {
+            return Err(halt);
+        }
+    }
+}

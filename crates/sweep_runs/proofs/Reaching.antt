@@ -1,0 +1,29 @@
+-- What runs come to by words.
+use Rattle.std.proofs.Common.{◌≡◌, List, [], refl, ap, subst, ◌∙◌}
+use Rattle.lx_abi.specs.declared.log.Item.{Item}
+use Rattle.lx_abi.specs.declared.script.Rule.{Rule}
+use Rattle.lx_kernel.specs.First.{first_run}
+use Rattle.lx_kernel.specs.Outcomes.{outcome_in}
+use Rattle.lx_kernel.specs.Runs.{Run}
+use Rattle.pt_schedule.specs.Schedules.{worded}
+use Rattle.sweep_faults.specs.Words.{HasWords}
+use Rattle.sweep_faults.proofs.Wording.{words_give}
+use Rattle.sweep_rows.specs.declared.endings.Ending.{Ending}
+use Rattle.sweep_runs.specs.Rows.{WordsReach, fault_of}
+use Rattle.sweep_runs.specs.Runs.{ending_of, is_alive}
+
+endings_alike : (k : Run) (script : List Rule) → ending_of k ≡ ending_of (record k { script = script })
+unfolding is_alive
+endings_alike k script = refl
+
+pub words_reach : WordsReach
+words_reach setup case script r alone words to = record {
+  kernel = record to.kernel { script = script };
+  run = words_give (fault_of case) script (first_run setup.boot []) (worded setup.turns.items setup.limit) to.kernel refl alone
+      (subst (λ (log : List Item). HasWords setup.boot.follow (fault_of case) log) to.reached.log words) to.run;
+  reached = record {
+    ending = to.reached.ending ∙ endings_alike to.kernel script;
+    log = to.reached.log;
+    streams = to.reached.streams;
+  };
+}
