@@ -6,12 +6,15 @@ returns g c =
     inr (
       c.in-Ok.prepared.plan,
       (
-        c.trace_to-traced.result.status,
+        c.in-Ok.ensures.plan,
         (
-          g.E.Write.contents c.prepare.new.err,
+          c.trace_to-traced.result.status,
           (
-            g.E.Write.contents c.trace_to-traced.result.err,
-            (c.explain-status.ensures, c.trace_to-traced.ensures),
+            g.E.Write.contents c.prepare.new.err,
+            (
+              g.E.Write.contents c.trace_to-traced.result.err,
+              (c.explain-status.ensures, c.trace_to-traced.ensures),
+            ),
           ),
         ),
       ),
