@@ -39,7 +39,7 @@ pub struct OptionRow {
 }
 
 /// Completions are made of these rows, and the documents are compared with them.
-pub const OPTIONS: [OptionRow; 49] = [
+pub const OPTIONS: [OptionRow; 46] = [
     OptionRow {
         tools: &[Tool::Trace],
         id: "follow",
@@ -119,14 +119,6 @@ pub const OPTIONS: [OptionRow; 49] = [
         long: Some("errors"),
         takes: Takes::Value("WHICH"),
         help: "possible, or all that the manual page of a call gives but for faulty arguments [default: possible]",
-    },
-    OptionRow {
-        tools: &[Tool::Sweep],
-        id: "kinds",
-        short: None,
-        long: Some("kinds"),
-        takes: Takes::Value("LIST"),
-        help: "Which kinds of failure are tried, of once, then, short, world, stop [default: once,then]",
     },
     OptionRow {
         tools: &[Tool::Sweep],
@@ -327,22 +319,6 @@ pub const OPTIONS: [OptionRow; 49] = [
         long: Some("check"),
         takes: Takes::Value("COMMAND"),
         help: "Runs this command of the shell where the files of each outcome are; another status than 0 is BROKEN",
-    },
-    OptionRow {
-        tools: &[Tool::Sweep],
-        id: "then",
-        short: None,
-        long: Some("then"),
-        takes: Takes::Value("WORDS"),
-        help: "Runs this program of the guest's on the files of each outcome; another end than 0 is BROKEN",
-    },
-    OptionRow {
-        tools: &[Tool::Sweep],
-        id: "cases",
-        short: None,
-        long: Some("cases"),
-        takes: Takes::Value("FILE"),
-        help: "A line a sweep: its name, a colon, and words that are put behind these; PROG stands there",
     },
     OptionRow {
         tools: &[Tool::Sweep],
