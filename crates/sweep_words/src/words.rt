@@ -14,6 +14,7 @@ Without -e it is fault=all.
 In each run one occurrence of one call fails, and nothing else. What came of it, the findings first, in capitals:
   HUNG       a process did not end
   KILLED     a signal ended process 1
+  BROKEN     the check of the files that were left failed
   TORN       a file that was there is destroyed
   LOST       something else is missing or other, and nothing said so
   DROPPED    an error of close, which tells that data was lost, had no effect
@@ -45,6 +46,11 @@ const MOST_JOBS: u64 = 8;
 const MOST_ORDERS: u64 = 1_000_000;
 
 const MOST_SHARDS: u64 = 65_536;
+
+/// The most runs that are asked for, and seconds.
+const MOST_RUNS: u64 = 1_000_000_000;
+
+const MOST_SECONDS: u64 = 1_000_000_000;
 
 /// How the report is written.
 #[derive(Clone, Copy, Debug, PartialEq, Eq)]
@@ -168,9 +174,35 @@ fn shard_of(alloc: Global, matches: &ArgMatches) -> Result<Option<Shard>, Fault>
     }
 }
 
+/// The most runs, where not all are to be made. Where only their time is limited it is more than there are.
+fn most_of(
+    alloc: Global,
+    matches: &ArgMatches,
+    seconds: Option<u64>,
+) -> Result<Option<usize>, Fault> {
+    let most = count_of(alloc, "--max-runs", matches.get_str("max-runs"), MOST_RUNS)?;
+    match most {
+        Some(most) => Ok(Some(most as usize)),
+        None => Ok(seconds.map(|_| usize::MAX)),
+    }
+}
+
+/// The files that runs leave are to be checked.
+fn is_checked(alloc: Global, matches: &ArgMatches) -> Result<bool, Fault> {
+    if matches.get_str("check").is_none() {
+        return Ok(false);
+    }
+    if matches.get_flag("fail-fast") {
+        return Err(Fault::usage(format!(in alloc;
+            "--check excludes --fail-fast: files are checked when all runs are made"
+        )));
+    }
+    Ok(true)
+}
+
 /// Options that have no meaning where no call fails.
 fn check_failures(alloc: Global, matches: &ArgMatches) -> Result<(), Fault> {
-    for option in ["known", "known-out", "shard"] {
+    for option in ["known", "known-out", "shard", "max-runs", "time", "check"] {
         if matches.get_str(option).is_some() {
             return Err(Fault::usage(format!(in alloc;
                 "--orders excludes --{option}: no call fails"
@@ -251,12 +283,26 @@ pub struct Words {
     pub shard: Option<Shard>,
     /// No more runs are made once one is a finding.
     pub fail_fast: bool,
+    /// The most runs. Those that are likely to show something new come first then.
+    pub most: Option<usize>,
+    /// No run begins once so many seconds are over.
+    pub seconds: Option<u64>,
+    /// The files that runs leave are checked before the runs are written.
+    pub is_checked: bool,
 }
 
 impl Words {
+    /// The same where the check has judged all runs.
+    pub fn judged(self) -> Self {
+        Words {
+            is_checked: false,
+            ..self
+        }
+    }
+
     /// Each run is written as soon as it is made.
     pub fn is_streamed(self) -> bool {
-        if self.orders.is_some() {
+        if self.orders.is_some() || self.is_checked {
             return false;
         }
         match self.format {
@@ -269,6 +315,7 @@ impl Words {
 
 /// `colors`: the report may have them.
 pub fn words_of(alloc: Global, matches: &ArgMatches, colors: bool) -> Result<Words, Fault> {
+    let seconds = count_of(alloc, "--time", matches.get_str("time"), MOST_SECONDS)?;
     Ok(Words {
         format: format_of(alloc, matches)?,
         style: Style {
@@ -280,5 +327,8 @@ pub fn words_of(alloc: Global, matches: &ArgMatches, colors: bool) -> Result<Wor
         orders: orders_of(alloc, matches)?,
         shard: shard_of(alloc, matches)?,
         fail_fast: matches.get_flag("fail-fast"),
+        most: most_of(alloc, matches, seconds)?,
+        seconds,
+        is_checked: is_checked(alloc, matches)?,
     })
 }

@@ -13,8 +13,8 @@ loop-left-preserved c =
     let n = c.loop-left.left in
     let more = blocks_from kinds (kind + 1) (n - 1) in (
       ap (λ (bs : List Block). places_in bs ++ more) c.in_ok-push.ensures.items
-      ∙ ap (λ (bs : List (List ℕ)). bs ++ more) (with_block before block)
-      ∙ ap (λ (b : List ℕ). (places_in before ++ b ∷ []) ++ more) c.in_ok-block_of.ensures
-      ∙ one_block (places_in before) kinds kind n c.loop-left-test.true ∙ c.loop-left.invariant.0,
+          ∙ ap (λ (bs : List (List ℕ)). bs ++ more) (with_block before block)
+          ∙ ap (λ (b : List ℕ). (places_in before ++ b ∷ []) ++ more) c.in_ok-block_of.ensures
+          ∙ one_block (places_in before) kinds kind n c.loop-left-test.true ∙ c.loop-left.invariant.0,
       omega (arith, c.loop-left.invariant.1, c.loop-left-test.true),
     )

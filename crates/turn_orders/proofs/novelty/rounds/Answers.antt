@@ -10,6 +10,6 @@ loop-left-preserved c =
     let k = c.loop-left.number in
     let n = c.loop-left.left in (
       ap (λ (ps : List ℕ). ps ++ rounds_from blocks (k + 1) (n - 1)) c.in_ok-add_round.ensures
-      ∙ one_round c.loop-left.places.items blocks k n c.loop-left-test.true ∙ c.loop-left.invariant.0,
+          ∙ one_round c.loop-left.places.items blocks k n c.loop-left-test.true ∙ c.loop-left.invariant.0,
       omega (arith, c.loop-left.invariant.1, c.loop-left-test.true),
     )
