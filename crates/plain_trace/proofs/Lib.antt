@@ -1,0 +1,3 @@
+pub mod Feeding
+pub mod Logs
+pub mod Showing
