@@ -1,7 +1,7 @@
 -- Who can go on.
-use Rattle.std.proofs.Common.{◌≡◌, ◌<◌, ◌≤◌, ◌%◌, ℕ, zero, suc, List, [], ◌∷◌, length, get_or, Some, None, arith}
+use Rattle.std.proofs.Common.{◌<◌, ◌≤◌, ◌%◌, ℕ, zero, suc, List, [], ◌∷◌, length, get_or, Some, None, arith}
 use Rattle.std.proofs.Math.Nat.{mod-lt}
-use Rattle.lx_kernel.specs.Runs.{Run, is_able_in}
+use Rattle.lx_kernel.specs.Runs.{Run}
 use Rattle.lx_kernel.specs.Scheduling.{IsNextAble}
 use Rattle.sweep_orders.specs.Draws.{chosen, IsNextAbove, AreAble}
 

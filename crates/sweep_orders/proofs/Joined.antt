@@ -1,7 +1,7 @@
 -- Runs, some behind others.
-use Rattle.std.proofs.Common.{◌≡◌, ◌<◌, ◌-◌, ◌+◌, ℕ, zero, suc, List, [], ◌∷◌, ◌++◌, length, refl, sym, ap, subst, ◌∙◌, arith, length-append}
+use Rattle.std.proofs.Common.{◌≡◌, ◌-◌, ◌+◌, ℕ, suc, List, [], ◌∷◌, ◌++◌, length, subst, arith, length-append}
 use Rattle.sweep_runs.specs.declared.runs.Setup.{Setup}
-use Rattle.sweep_orders.specs.Found.{Told, Counts, CountsAll}
+use Rattle.sweep_orders.specs.Found.{Told, CountsAll}
 use Rattle.sweep_orders.specs.Orders.{AreMade, Explores}
 use Rattle.turn_orders.specs.Plans.{plan_of}
 use Rattle.sweep_orders.specs.Trials.{IsTrial, AreTrials}

@@ -3,9 +3,9 @@ use Rattle.std.proofs.Common.{◌≡◌, ◌<◌, ◌≤◌, ◌-◌, ◌+◌, �
 use Rattle.std.specs.Prelude.{◌==◌, ◌||◌, ◌&&◌, nat_lt, min, ⊤}
 use Rattle.lx_abi.specs.declared.schedule.Word.{Word}
 use Rattle.lx_abi.specs.declared.schedule.Word.TheVariants as word
-use Rattle.lx_kernel.specs.Runs.{Run, after_turn, is_able_in}
+use Rattle.lx_kernel.specs.Runs.{Run, after_turn}
 use Rattle.pt_schedule.specs.Cycle.{first_able, found_or, next_able}
-use Rattle.pt_schedule.specs.Schedules.{Given, GivenTurn, Readiness, end_of, turn_of, turn_with, by_word, go_on, next_row, left_in_row, goes_on, next_by, unserved, given_turn, next_turn_of, worded, most_events}
+use Rattle.pt_schedule.specs.Schedules.{Given, end_of, turn_of, turn_with, by_word, go_on, next_row, left_in_row, goes_on, next_by, unserved, given_turn, next_turn_of, worded, most_events}
 use Rattle.pt_schedule.specs.Untraced.{readiness_of}
 use Rattle.pt_schedule.specs.declared.schedule.Order.TheVariants as order
 use Rattle.pt_schedule.specs.declared.schedule.Schedule.{Schedule}
@@ -13,12 +13,12 @@ use Rattle.pt_schedule.specs.declared.worded.Returning.{Returning}
 use Rattle.pt_schedule.specs.declared.worded.Row.{Row}
 use Rattle.pt_schedule.specs.declared.worded.Worded.{Worded}
 use Rattle.pt_schedule.proofs.Cycling.{first_able-none}
-use Rattle.pt_schedule.proofs.Modes.{Moves, able_by_modes}
+use Rattle.pt_schedule.proofs.Modes.{able_by_modes}
 use Rattle.plain_run.specs.Runs.{RunsTo}
 use Rattle.plain_run.proofs.Turning.{turn_is}
 use Rattle.rand_pcg.specs.Lcg.{Lcg}
 use Rattle.rand_pcg.specs.Pcg.{pcg32}
-use Rattle.sweep_orders.specs.Draws.{chance_of, AreAble, IsDraw, IsDrawn, is_over, ends, Turns}
+use Rattle.sweep_orders.specs.Draws.{chance_of, AreAble, IsDraw, IsDrawn, is_over, Turns}
 use Rattle.turn_orders.specs.Plans.{words_of}
 use Rattle.turn_orders.specs.declared.plans.Plan.{Plan}
 use Rattle.turn_orders.specs.declared.plans.Plan.TheVariants.{ByChance}

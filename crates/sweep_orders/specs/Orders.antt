@@ -1,5 +1,5 @@
 -- What is told of so many orders, each of which has a run of its own.
-use Rattle.std.specs.Prelude.{◌≡◌, ℕ, zero, suc, List, length}
+use Rattle.std.specs.Prelude.{◌≡◌, ℕ, List, length}
 use Rattle.lx_abi.specs.declared.log.Item.{Item}
 use Rattle.sweep_runs.specs.declared.runs.Setup.{Setup}
 use Rattle.sweep_orders.specs.Found.{Told, none_told, CountsAll}

@@ -14,7 +14,6 @@ use Rattle.turn_orders.specs.Steps.{steps_of}
 use Rattle.turn_orders.specs.declared.plans.Plan.{Plan}
 use Rattle.turn_orders.specs.declared.plans.Plan.TheVariants.{Default, Switched, ByChance}
 use Rattle.turn_orders.specs.declared.plans.Source.{Source}
-use Rattle.turn_orders.specs.declared.switches.Switch.{Switch}
 use Rattle.sweep_orders.specs.declared.trials.Trial.{Trial}
 
 -- all runs begin here, under no script

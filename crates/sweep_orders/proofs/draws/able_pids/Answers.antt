@@ -1,4 +1,4 @@
-use Rattle.std.proofs.Common.{◌++◌, ℕ, List, [], ◌∷◌, subst, append-nil}
+use Rattle.std.proofs.Common.{ℕ, List, [], ◌∷◌, subst, append-nil}
 use Rattle.sweep_orders.specs.Draws.{AreAble}
 use Rattle.sweep_orders.proofs.Drawing.{pushed}
 use Rattle.sweep_orders.proofs.draws.able_pids.Goals as goal

@@ -1,4 +1,4 @@
-use Rattle.std.proofs.Common.{◌≡◌, ◌++◌, ◌-◌, ℕ, List}
+use Rattle.std.proofs.Common.{◌++◌, ◌-◌, ℕ, List}
 use Rattle.sweep_orders.specs.Draws.{AreAble}
 use Rattle.sweep_orders.proofs.draws.able_pids.Given as goal
 

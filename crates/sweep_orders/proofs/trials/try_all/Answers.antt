@@ -1,4 +1,4 @@
-use Rattle.std.proofs.Common.{◌+◌, List, arith, ap, subst, sym, ◌∙◌}
+use Rattle.std.proofs.Common.{List, arith, ap, subst, sym, ◌∙◌}
 use Rattle.turn_orders.specs.Plans.{plan_of}
 use Rattle.turn_orders.specs.declared.plans.Plan.{Plan}
 use Rattle.turn_orders.specs.declared.switches.Switch.{Switch}
