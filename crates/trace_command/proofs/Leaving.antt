@@ -9,7 +9,7 @@ use Rattle.front_end.specs.declared.fault.Fault.{Fault}
 use Rattle.front_end.specs.declared.fault.Fault.TheVariants as the
 use Rattle.trace_run.specs.Writers.{Writer}
 use Rattle.trace_command.specs.Faults.{IsUnhosted, IsUnopened, IsUnwritable, is_out_of_turns}
-use Rattle.trace_command.specs.Tracing.{IsOnThreads, Lacks, LacksAt, Leaves, LeavesAfter, Takes, Unmade}
+use Rattle.trace_command.specs.Tracing.{IsOnThreads, Lacks, LacksAt, Leaves, LeavesAfter, Outputs, Takes, Unmade, outputs}
 use Rattle.trace_command.specs.declared.kernel.Kernel.{Kernel}
 use Rattle.trace_command.specs.declared.kernel.Kernel.TheVariants.{Here, OnThreads, There}
 use Rattle.trace_words.specs.declared.asked.Workers.{Workers}
@@ -47,38 +47,38 @@ not_ended host workers files fault (inr (inr (f, u))) e = unopened fault u e
 
 -- ---- a run that wasn't made leaves nothing
 
-failed : (lacks : Fault → Type 0) (fault : Fault) (result : Result ℕ Fault) (out middle out' err err' : Writer)
-    → Unmade {A = Outcome} lacks (Err fault) out middle err err' → (result ≡ Err fault) × (out' ≡ middle)
-    → Unmade lacks result out out' err err'
-failed lacks fault result out middle out' err err' h l =
-    subst (λ z. Unmade lacks z out out' err err') (sym l.0) (h.0, (l.1 ∙ h.1.0, h.1.1))
+failed : (lacks : Fault → Type 0) (fault : Fault) (result : Result ℕ Fault) (old : Outputs) (middle out err : Writer)
+    → Unmade {A = Outcome} lacks (Err fault) old (outputs middle err) → (result ≡ Err fault) × (out ≡ middle)
+    → Unmade lacks result old (outputs out err)
+failed lacks fault result old middle out err h l =
+    subst (λ z. Unmade lacks z old (outputs out err)) (sym l.0) (h.0, (l.1 ∙ h.1.0, h.1.1))
 
 left_after : (host : Option (List ℕ)) (workers : Option Workers) (files : Type 0) (words : ArgMatches) (asked : Type 0)
-    (turned : Result (Unit {0}) Fault) (fault : Fault) (result : Result ℕ Fault) (out middle out' err err' : Writer)
-    → Unmade {A = Outcome} (Lacks host workers files) (Err fault) out middle err err'
+    (turned : Result (Unit {0}) Fault) (fault : Fault) (result : Result ℕ Fault) (old : Outputs)
+    (middle out err : Writer)
+    → Unmade {A = Outcome} (Lacks host workers files) (Err fault) old (outputs middle err)
     → IfErr turned (λ t. IsUnwritable t × (asked × (is_out_of_turns fault ≡ true)))
-    → LeavesAfter words turned (Err fault) result middle out'
-    → Unmade (Lacks host workers files) result out out' err err'
-left_after host workers files words asked (Err t) fault result out middle out' err err' h o l =
+    → LeavesAfter words turned (Err fault) result middle out
+    → Unmade (Lacks host workers files) result old (outputs out err)
+left_after host workers files words asked (Err t) fault result old middle out err h o l =
     absurd (not_ended host workers files fault h.0 o.1.1)
-left_after host workers files words asked (Ok u) fault result out middle out' err err' h o l =
-    failed (Lacks host workers files) fault result out middle out' err err' h l
+left_after host workers files words asked (Ok u) fault result old middle out err h o l =
+    failed (Lacks host workers files) fault result old middle out err h l
 
 pub leaves_nothing : (host : Option (List ℕ)) (workers : Option Workers) (files : Type 0) (words : ArgMatches)
-    (file : Type 0) (made : Result Outcome Fault) (result : Result ℕ Fault) (out middle out' err err' : Writer)
-    → Unmade (Lacks host workers files) made out middle err err' → Leaves words file made result middle out'
-    → Unmade (Lacks host workers files) result out out' err err'
-leaves_nothing host workers files words file (Ok outcome) result out middle out' err err' h l = absurd h
-leaves_nothing host workers files words file (Err fault) result out middle out' err err' h l =
-    left_after host workers files words _ l.0 fault result out middle out' err err' h l.1.0 l.1.1.0
+    (file : Type 0) (made : Result Outcome Fault) (result : Result ℕ Fault) (old : Outputs) (middle out err : Writer)
+    → Unmade (Lacks host workers files) made old (outputs middle err) → Leaves words file made result middle out
+    → Unmade (Lacks host workers files) result old (outputs out err)
+leaves_nothing host workers files words file (Ok outcome) result old middle out err h l = absurd h
+leaves_nothing host workers files words file (Err fault) result old middle out err h l =
+    left_after host workers files words _ l.0 fault result old middle out err h l.1.0 l.1.1.0
 
 -- ---- by another cause
 
-pub unmade_for : {A : Type 0} (lacks lacks' : Fault → Type 0) (result : Result A Fault) (out out' err err' : Writer)
-    → ((fault : Fault) → lacks fault → lacks' fault) → Unmade lacks result out out' err err'
-    → Unmade lacks' result out out' err err'
-unmade_for lacks lacks' (Ok x) out out' err err' g h = absurd h
-unmade_for lacks lacks' (Err fault) out out' err err' g h = (g fault h.0, h.1)
+pub unmade_for : {A : Type 0} (lacks lacks' : Fault → Type 0) (result : Result A Fault) (old new : Outputs)
+    → ((fault : Fault) → lacks fault → lacks' fault) → Unmade lacks result old new → Unmade lacks' result old new
+unmade_for lacks lacks' (Ok x) old new g h = absurd h
+unmade_for lacks lacks' (Err fault) old new g h = (g fault h.0, h.1)
 
 pub lacks_more : (host : Option (List ℕ)) (workers : Option Workers) (files files' : Type 0) → (files → files')
     → (fault : Fault) → Lacks host workers files fault → Lacks host workers files' fault

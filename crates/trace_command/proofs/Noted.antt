@@ -2,7 +2,7 @@
 use Rattle.std.proofs.Common.{◌≡◌, ◌⊎◌, ℕ, Bool, true, false, List, Option, Some, None, IsSome, Result, Ok, Err, IsErr}
 use Rattle.std.proofs.Common.{OnOk, inl, inr, refl, sym, ap, subst, ◌∙◌}
 use Rattle.std.proofs.Common.{true≢false}
-use Rattle.std.specs.Prelude.{IfSome, is_some}
+use Rattle.std.specs.Prelude.{◌&&◌, ◌||◌, IfSome, codes, is_none, is_some}
 use Rattle.clap.specs.declared.parser.matches.ArgMatches.{ArgMatches}
 use Rattle.lx_abi.specs.declared.boot.Boot.{Boot}
 use Rattle.lx_abi.specs.declared.outcome.Outcome.{Outcome}
@@ -23,14 +23,16 @@ use Rattle.trace_run.specs.declared.running.Ended.{Ended}
 use Rattle.trace_run.specs.declared.running.RunFault.{RunFault}
 use Rattle.trace_run.specs.declared.running.RunFault.TheVariants as run
 use Rattle.trace_command.specs.Faults.{IsFaultOf, IsHostFault, IsUnwritable, has_ended, host_number, is_out_of_turns}
-use Rattle.trace_command.specs.Noting.{Notes, NotesHere, NotesOf, WritesEvents, WritesEventsTo, WritesNoted}
-use Rattle.trace_command.specs.Tracing.{EndsLine, Leaves, Reaches, Settles, Takes}
+use Rattle.trace_command.specs.Noting.{AsksAlike, IsKeptFor, IsSecond, Notes, NotesHere, NotesOf, WritesEvents}
+use Rattle.trace_command.specs.Noting.{WritesEventsAt, WritesEventsOf, WritesEventsTo, WritesKept, WritesNoted}
+use Rattle.trace_command.specs.Tracing.{EndsLine, Leaves, Reaches, Settles, Takes, Wanted, wants}
 use Rattle.trace_command.specs.TurnsOut.{WritesTurns}
 use Rattle.trace_command.specs.declared.kept.Kept.{Kept}
 use Rattle.trace_command.specs.declared.kernel.Kernel.{Kernel}
 use Rattle.trace_command.specs.declared.kernel.Kernel.TheVariants.{Here, OnThreads, There}
 use Rattle.trace_command.specs.declared.place.Place.{Place}
 use Rattle.trace_command.specs.declared.place.Place.TheVariants as place
+use Rattle.trace_words.specs.Plans.{IsAlike}
 use Rattle.trace_words.specs.declared.plan.Plan.{Plan}
 use Rattle.trace_words.specs.declared.asked.Workers.{Workers}
 
@@ -125,35 +127,97 @@ plan_notes remaining contents (Some host) workers limit plan kernel asked noted 
 
 -- ---- in the file of turns
 
+-- what is asked for once more
+
+nothing_else : (asked waits : Bool) → (waits || asked) ≡ false → asked ≡ false
+nothing_else asked true e = absurd (true≢false e)
+nothing_else asked false e = e
+
+pub none_again : (workers : Option Workers) (host : Option (List ℕ)) (words : ArgMatches) (plan : Plan)
+    (asked waits : Bool) → (is_none workers && (is_some host && (waits || asked))) ≡ false
+    → IsSecond workers host words plan asked None
+none_again (Some workers) host words plan asked waits e = refl
+none_again None None words plan asked waits e = refl
+none_again None (Some host) words plan asked waits e = nothing_else asked waits e
+
+pub one_again : (workers : Option Workers) (host : Option (List ℕ)) (words : ArgMatches) (plan again : Plan)
+    (asked waits : Bool) → (is_none workers && (is_some host && (waits || asked))) ≡ true
+    → IsAlike words plan again → IsSecond workers host words plan asked (Some again)
+one_again (Some workers) host words plan again asked waits e alike = absurd (true≢false (sym e))
+one_again None None words plan again asked waits e alike = absurd (true≢false (sym e))
+one_again None (Some host) words plan again asked waits e alike = alike
+
 -- what was noted was written, where the file is asked for
+
+abbrev Noted_again : Option Plan → Kept → Option (List Event) → Type 0
+Noted_again second old noted =
+    IfSome second (λ plan. NotesHere plan.options plan.script plan.boot (worded plan.turns.items old.asked.limit)
+    old.asked.events noted)
+
+kept_written : {F : Type 0} (held : Opened F → Option (List ℕ)) (path : List ℕ) (old : Kept)
+    (noted : Option (List Event)) (second : Option Plan) → (second ≡ None → noted ≡ old.known.events)
+    → Noted_again second old noted → IfSome noted (WritesTurns held path) → WritesKept held path old second
+kept_written held path old noted None same again w = subst (λ n. IfSome n (WritesTurns held path)) (same refl) w
+kept_written held path old noted (Some plan) same again w =
+    λ asked events is.
+    subst (λ n. IfSome n (WritesTurns held path)) (again events is ∙ ap (λ b. noted_if b events) asked) w
+
 pub noted_written : {F U X : Type 0} (held : Opened F → Option (List ℕ)) (value : Option (List ℕ)) (path : List ℕ)
     (old new : Kept) (result : Result U X) → value ≡ Some path
-    → (old.second ≡ None → new.known.events ≡ old.known.events)
+    → (old.second ≡ None → new.known.events ≡ old.known.events) → Noted_again old.second old new.known.events
     → OnOk result (IfSome new.known.events (WritesTurns held path)) → OnOk result (WritesNoted held value old)
-noted_written held value path old new (Err fault) e same h = tt
-noted_written held value path old new (Ok u) e same h =
-    subst (λ v. WritesNoted held v old) (sym e) (λ none. subst (λ n. IfSome n (WritesTurns held path)) (same none) h)
+noted_written held value path old new (Err fault) e same again h = tt
+noted_written held value path old new (Ok u) e same again h =
+    subst (λ v. WritesNoted held v old) (sym e) (kept_written held path old new.known.events old.second same again h)
 
 pub none_asked : {F : Type 0} (held : Opened F → Option (List ℕ)) (value : Option (List ℕ)) (old : Kept) → value ≡ None
     → WritesNoted held value old
 none_asked held value old e = subst (λ v. WritesNoted held v old) (sym e) tt
 
-events_to : {F : Type 0} (held : Opened F → Option (List ℕ)) (host : Option (List ℕ)) (workers : Option Workers)
-    (limit : ℕ) (plan : Plan) (path : List ℕ) (asked : Bool) (noted : Option (List Event)) → asked ≡ true
-    → NotesOf host workers limit plan asked noted → (host ≡ None → IfSome noted (WritesTurns held path))
-    → WritesEventsTo held host workers limit plan path
-events_to held None None limit plan path asked noted a n w =
-    λ events h. subst (λ x. IfSome x (WritesTurns held path)) (n events h ∙ ap (λ b. noted_if b events) a) (w refl)
-events_to held None (Some workers) limit plan path asked noted a n w = tt
-events_to held (Some host) workers limit plan path asked noted a n w = tt
+-- and that is what the words ask for
 
-pub events_written : {F : Type 0} (held : Opened F → Option (List ℕ)) (host : Option (List ℕ))
-    (workers : Option Workers) (limit : ℕ) (plan : Plan) (value : Option (List ℕ)) (asked : Bool) (kept : Kept) → asked ≡ is_some value
-    → (host ≡ None → kept.second ≡ None) → NotesOf host workers limit plan asked kept.known.events
-    → WritesNoted held value kept → WritesEvents held host workers limit plan value
-events_written held host workers limit plan None asked kept a s n w = tt
-events_written held host workers limit plan (Some path) asked kept a s n w =
-    events_to held host workers limit plan path asked kept.known.events a n (λ e. w (s e))
+events_to : {F : Type 0} (held : Opened F → Option (List ℕ)) (wanted : Wanted) (workers : Option Workers)
+    (host : Option (List ℕ)) (plan : Plan) (path : List ℕ) (kept : Kept) (second : Option Plan)
+    → kept.asked.events ≡ true → kept.asked.limit ≡ wanted.options.limit
+    → IsSecond workers host wanted.words plan kept.asked.events second
+    → NotesOf host workers wanted.options.limit plan kept.asked.events kept.known.events
+    → WritesKept held path kept second → WritesEventsTo held workers host wanted plan kept.known.events path
+events_to held wanted (Some workers) host plan path kept second a l s n w = subst (λ x. WritesKept held path kept x) s w
+events_to held wanted None None plan path kept second a l s n w =
+    λ events is.
+    subst (λ x. IfSome x (WritesTurns held path)) (n events is ∙ ap (λ b. noted_if b events) a)
+    (subst (λ x. WritesKept held path kept x) s w)
+events_to held wanted None (Some host) plan path kept None a l s n w = absurd (true≢false (sym a ∙ s))
+events_to held wanted None (Some host) plan path kept (Some again) a l s n w =
+    (again, (s, subst (λ limit. WritesEventsOf held path limit again) l (w a)))
+
+events_at : {F : Type 0} (held : Opened F → Option (List ℕ)) (wanted : Wanted) (plan : Plan) (value : Option (List ℕ))
+    (kept : Kept) → kept.asked.events ≡ is_some value → kept.asked.limit ≡ wanted.options.limit
+    → IsSecond wanted.options.workers (wants wanted (codes "host")) wanted.words plan kept.asked.events kept.second
+    → NotesOf (wants wanted (codes "host")) wanted.options.workers wanted.options.limit plan kept.asked.events
+    kept.known.events
+    → WritesNoted held value kept → WritesEventsAt held wanted plan kept.known.events value
+events_at held wanted plan None kept a l s n w = tt
+events_at held wanted plan (Some path) kept a l s n w =
+    events_to held wanted wanted.options.workers (wants wanted (codes "host")) plan path kept kept.second a l s n w
+
+pub events_written : {F : Type 0} (held : Opened F → Option (List ℕ)) (wanted : Wanted) (plan : Plan) (old new : Kept)
+    → IsKeptFor wanted plan old → AsksAlike old new
+    → NotesOf (wants wanted (codes "host")) wanted.options.workers wanted.options.limit plan old.asked.events
+    new.known.events
+    → WritesNoted held (wants wanted (codes "turns-out")) new → WritesEvents held wanted plan new.known.events
+events_written held wanted plan old new k alike n w =
+    events_at held wanted plan (wants wanted (codes "turns-out")) new (ap (λ x. x.events) alike.0 ∙ k.asked)
+    (ap (λ x. x.limit) alike.0 ∙ k.limit)
+    (subst (λ x. IsSecond wanted.options.workers (wants wanted (codes "host")) wanted.words plan new.asked.events x)
+    (sym alike.1)
+    (subst
+    (λ x. IsSecond wanted.options.workers (wants wanted (codes "host")) wanted.words plan x old.second)
+    (sym (ap (λ x. x.events) alike.0)) k.second))
+    (subst
+    (λ x. NotesOf (wants wanted (codes "host")) wanted.options.workers wanted.options.limit plan x new.known.events)
+    (sym (ap (λ x. x.events) alike.0)) n)
+    w
 
 pub leaves_more : (words : ArgMatches) (file file' : Type 0) (made : Result Outcome Fault) (result : Result ℕ Fault)
     (old new : Writer) → (has_ended made ≡ true → file → file') → Leaves words file made result old new

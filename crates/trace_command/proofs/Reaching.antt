@@ -5,11 +5,16 @@ use Rattle.std.specs.Io.KnownBytes.{Keeps, append_known}
 use Rattle.std.proofs.KnownBytes.{Keeps-refl}
 use Rattle.std.proofs.lemmas.Bool.{eqb-false, eqb-true}
 use Rattle.std.proofs.lemmas.List.{nil_from_length}
+use Rattle.lx_abi.specs.declared.outcome.Outcome.{Outcome}
+use Rattle.lx_abi.specs.declared.schedule.Event.{Event}
+use Rattle.front_end.specs.declared.fault.Fault.{Fault}
 use Rattle.trace_run.specs.Writers.{Writer}
 use Rattle.trace_run.specs.declared.running.Ended.{Ended}
 use Rattle.trace_run.specs.declared.running.RunFault.{RunFault}
 use Rattle.trace_run.specs.declared.running.RunFault.TheVariants.{Output as Unwritable}
-use Rattle.trace_command.specs.Tracing.{Reaches, WritesFile, WritesTo, unused}
+use Rattle.trace_command.specs.Tracing.{Outputs, Reaches, Runs, RunsNoting, RunsTo, Wanted, WritesFile, WritesTo}
+use Rattle.trace_command.specs.Tracing.{is_noted, unused}
+use Rattle.trace_words.specs.declared.plan.Plan.{Plan}
 use Rattle.trace_command.specs.declared.place.Place.{Place}
 use Rattle.trace_command.specs.declared.place.Place.TheVariants as place
 
@@ -46,11 +51,20 @@ writes_file held writes ended result old new first last e written reaches =
 -- a run that writes so writes so too
 pub writes_to_more : {F : Type 0} (held : F → Option (List ℕ))
     (writes writes' : Result Ended RunFault → Writer → Writer → Type 0) (result : Result Ended RunFault) (at : Place)
-    (out out' err err' : Writer)
+    (old new : Outputs)
     → ((ended : Result Ended RunFault) (old new : Writer) → writes ended old new → writes' ended old new)
-    → WritesTo held writes result at out out' err err' → WritesTo held writes' result at out out' err err'
-writes_to_more held writes writes' result place.Error out out' err err' g h = (h.0, g result err err' h.1)
-writes_to_more held writes writes' result place.Output out out' err err' g h = (h.0, g result out out' h.1)
-writes_to_more held writes writes' result (place.File path) out out' err err' g h =
+    → WritesTo held writes result at old new → WritesTo held writes' result at old new
+writes_to_more held writes writes' result place.Error old new g h = (h.0, g result old.err new.err h.1)
+writes_to_more held writes writes' result place.Output old new g h = (h.0, g result old.out new.out h.1)
+writes_to_more held writes writes' result (place.File path) old new g h =
     let f = h.1.1 in
     (h.0, (h.1.0, (f.0, (f.1.0, (f.1.1.0, (f.1.1.1.0, (g f.1.1.0 (unused (held f.0)) f.1.1.1.0 f.1.1.1.1.0, f.1.1.1.1.1)))))))
+
+-- what is asked for is so by the words
+pub runs_asked : (P E : Type 0) {I O F : Type 0} (held : F → Option (List ℕ)) (remaining : O → Option (List ℕ))
+    (contents : I → Option (List ℕ)) (wanted : Wanted) (plan : Plan) (asked : Bool) (noted : Option (List Event))
+    (at : Place) (result : Result Outcome Fault) (old new : Outputs) → asked ≡ is_noted wanted
+    → RunsTo held (RunsNoting P E remaining contents wanted plan asked noted) at result old new
+    → RunsTo held (Runs P E remaining contents wanted plan noted) at result old new
+runs_asked P E held remaining contents wanted plan asked noted at result old new is h =
+    subst (λ a. RunsTo held (RunsNoting P E remaining contents wanted plan a noted) at result old new) is h

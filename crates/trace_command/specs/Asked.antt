@@ -1,6 +1,7 @@
 -- What is written for the words.
 use Rattle.std.specs.Prelude.{◌≡◌, ◌⊎◌, ℕ, true, List, Option, Result, Ok, Err}
 use Rattle.clap.specs.declared.parser.matches.ArgMatches.{ArgMatches}
+use Rattle.lx_abi.specs.declared.schedule.Event.{Event}
 use Rattle.front_end.specs.Statuses.{is_usage_or_memory}
 use Rattle.front_end.specs.declared.fault.Fault.{Fault}
 use Rattle.trace_run.specs.Writers.{Writer}
@@ -10,9 +11,8 @@ use Rattle.trace_words.specs.Options.{asked_by, options_of}
 use Rattle.trace_words.specs.Plans.{IsPlan}
 use Rattle.trace_words.specs.declared.option_fault.OptionFault.{OptionFault}
 use Rattle.trace_words.specs.declared.asked.TraceOptions.{TraceOptions}
-use Rattle.trace_words.specs.declared.asked.Workers.{Workers}
 use Rattle.trace_words.specs.declared.plan.Plan.{Plan}
-use Rattle.trace_command.specs.Tracing.{TracesWords, Unplanned}
+use Rattle.trace_command.specs.Tracing.{TracesWords, Unplanned, Wanted, wanting}
 
 -- the options are refused, and that is told, or memory ran out
 abbrev pub RefusesOptions : ArgMatches → Fault → Type 0
@@ -22,12 +22,12 @@ RefusesOptions words fault =
 -- What is written to standard output is that of the run that the words ask for, by their plan. Or they ask for none, and
 -- nothing is written to it.
 abbrev pub TracesAsked : {F G : Type 0} → (F → Option (List ℕ)) → (G → Option (List ℕ))
-    → (Option Workers → ℕ → Plan → Result Ended RunFault → Writer → Writer → Type 0)
-    → (Option Workers → ℕ → Plan → Type 0) → ArgMatches → Option (List ℕ) → Result ℕ Fault
+    → (Wanted → Plan → Option (List Event) → Result Ended RunFault → Writer → Writer → Type 0)
+    → (Wanted → Plan → Option (List Event) → Type 0) → ArgMatches → Option (List ℕ) → Result ℕ Fault
     → Option (List ℕ) → Option (List ℕ) → Type 0
 TracesAsked remaining held runs file words given result out out' =
     Unplanned (RefusesOptions words) result out out'
     ⊎ ((options : TraceOptions)
     × ((options_of words ≡ Ok (asked_by options))
-    × TracesWords held (IsPlan remaining words options given) (runs options.workers options.limit)
-    (file options.workers options.limit) words options.workers result out out'))
+    × TracesWords held (IsPlan remaining words options given) (runs (wanting words options))
+    (file (wanting words options)) (wanting words options) result out out'))

@@ -1,5 +1,5 @@
 -- The events that a run notes.
-use Rattle.std.specs.Prelude.{◌≡◌, ℕ, Bool, ⊤, List, Option, Some, None, IfSome, codes, is_some}
+use Rattle.std.specs.Prelude.{◌≡◌, ℕ, Bool, true, false, ⊤, List, Option, Some, None, IfSome, codes}
 use Rattle.clap.specs.declared.parser.matches.ArgMatches.{ArgMatches}
 use Rattle.front_end.specs.declared.streams.Opened.{Opened}
 use Rattle.lx_abi.specs.declared.boot.Boot.{Boot}
@@ -19,11 +19,12 @@ use Rattle.tr_core.specs.declared.settings.Options.{Options}
 use Rattle.trace_run.specs.BootedRuns.{following}
 use Rattle.trace_run.specs.Local.{Feeds}
 use Rattle.trace_run.specs.Records.{noted_if}
-use Rattle.trace_command.specs.Tracing.{value_of}
+use Rattle.trace_command.specs.Tracing.{Wanted, is_noted, wants}
 use Rattle.trace_command.specs.TurnsOut.{WritesTurns}
 use Rattle.trace_command.specs.declared.kept.Kept.{Kept}
 use Rattle.trace_command.specs.declared.kernel.Kernel.{Kernel}
 use Rattle.trace_command.specs.declared.kernel.Kernel.TheVariants.{Here, OnThreads, There}
+use Rattle.trace_words.specs.Plans.{IsAlike}
 use Rattle.trace_words.specs.declared.plan.Plan.{Plan}
 use Rattle.trace_words.specs.declared.asked.Workers.{Workers}
 
@@ -38,7 +39,7 @@ abbrev pub NotesHere : Options → List Rule → Boot → Schedule → Bool → 
 NotesHere o script boot schedule asked noted =
     (events : List Event) → EventsHere o script boot schedule events → noted ≡ noted_if asked events
 
--- over this kernel; of a host in a child and of threads nothing is said
+-- over this kernel; a host in a child notes none here, and threads' run tells its own
 abbrev pub Notes : {P I O E : Type 0} → Options → List Rule → Kernel P I O E → Bool → Option (List Event) → Type 0
 Notes o script (Here boot schedule) asked noted = NotesHere o script boot schedule asked noted
 Notes o script (There link) asked noted = ⊤
@@ -56,32 +57,52 @@ NotesOf (Some host) workers limit plan asked noted = ⊤
 
 -- ---- and what the file of them holds
 
--- events are asked for where their file is, and a run in this process is made once
-abbrev pub IsKeptFor : ArgMatches → Kept → Type 0
-IsKeptFor words kept =
-    (kept.asked.events ≡ is_some (value_of words (codes "turns-out")))
-    × (value_of words (codes "host") ≡ None → kept.second ≡ None)
+-- a run that a host makes is made once more, by such a plan, where its events are asked for
+abbrev pub IsSecond : Option Workers → Option (List ℕ) → ArgMatches → Plan → Bool → Option Plan → Type 0
+IsSecond (Some workers) host words plan asked second = second ≡ None
+IsSecond None None words plan asked second = second ≡ None
+IsSecond None (Some host) words plan asked None = asked ≡ false
+IsSecond None (Some host) words plan asked (Some again) = IsAlike words plan again
+
+-- what is kept of the run of a plan, before it is made
+pub record IsKeptFor (wanted : Wanted) (plan : Plan) (kept : Kept) : Type 0 where
+  pub asked : kept.asked.events ≡ is_noted wanted
+  pub limit : kept.asked.limit ≡ wanted.options.limit
+  pub second : IsSecond wanted.options.workers (wants wanted (codes "host")) wanted.words plan kept.asked.events
+      kept.second
 
 -- what is asked for stays as it was
 abbrev pub AsksAlike : Kept → Kept → Type 0
 AsksAlike old new = (new.asked ≡ old.asked) × (new.second ≡ old.second)
 
--- the file of this path, where there is one, is written what is noted
+-- the file of this path is written the words of the events of a run by this plan, made in this process
+abbrev pub WritesEventsOf : {F : Type 0} → (Opened F → Option (List ℕ)) → List ℕ → ℕ → Plan → Type 0
+WritesEventsOf held path limit plan = (events : List Event) → EventsOf limit plan events → WritesTurns held path events
+
+-- the file of this path, where there is one, is written what is noted, or what a second run notes
+abbrev pub WritesKept : {F : Type 0} → (Opened F → Option (List ℕ)) → List ℕ → Kept → Option Plan → Type 0
+WritesKept held path kept None = IfSome kept.known.events (WritesTurns held path)
+WritesKept held path kept (Some again) = kept.asked.events ≡ true → WritesEventsOf held path kept.asked.limit again
+
 abbrev pub WritesNoted : {F : Type 0} → (Opened F → Option (List ℕ)) → Option (List ℕ) → Kept → Type 0
 WritesNoted held None kept = ⊤
-WritesNoted held (Some path) kept =
-    kept.second ≡ None → IfSome kept.known.events (λ events. WritesTurns held path events)
+WritesNoted held (Some path) kept = WritesKept held path kept kept.second
 
--- It is written the words of the run's events. Of a run by a host in a child, or by threads, nothing is said.
+-- It is written the words of the run's events. Threads' are those that were noted, of the run's journal. A host's are
+-- those of a run in this process, by a plan of the same words, boot and schedule.
 
-abbrev pub WritesEventsTo : {F : Type 0} → (Opened F → Option (List ℕ)) → Option (List ℕ) → Option Workers → ℕ → Plan
-    → List ℕ → Type 0
-WritesEventsTo held None None limit plan path =
-    (events : List Event) → EventsOf limit plan events → WritesTurns held path events
-WritesEventsTo held None (Some workers) limit plan path = ⊤
-WritesEventsTo held (Some host) workers limit plan path = ⊤
+abbrev pub WritesEventsTo : {F : Type 0} → (Opened F → Option (List ℕ)) → Option Workers → Option (List ℕ) → Wanted
+    → Plan → Option (List Event) → List ℕ → Type 0
+WritesEventsTo held (Some workers) host wanted plan noted path = IfSome noted (WritesTurns held path)
+WritesEventsTo held None None wanted plan noted path = WritesEventsOf held path wanted.options.limit plan
+WritesEventsTo held None (Some host) wanted plan noted path =
+    (again : Plan) × (IsAlike wanted.words plan again × WritesEventsOf held path wanted.options.limit again)
 
-abbrev pub WritesEvents : {F : Type 0} → (Opened F → Option (List ℕ)) → Option (List ℕ) → Option Workers → ℕ → Plan
+abbrev pub WritesEventsAt : {F : Type 0} → (Opened F → Option (List ℕ)) → Wanted → Plan → Option (List Event)
     → Option (List ℕ) → Type 0
-WritesEvents held host workers limit plan None = ⊤
-WritesEvents held host workers limit plan (Some path) = WritesEventsTo held host workers limit plan path
+WritesEventsAt held wanted plan noted None = ⊤
+WritesEventsAt held wanted plan noted (Some path) =
+    WritesEventsTo held wanted.options.workers (wants wanted (codes "host")) wanted plan noted path
+
+abbrev pub WritesEvents : {F : Type 0} → (Opened F → Option (List ℕ)) → Wanted → Plan → Option (List Event) → Type 0
+WritesEvents held wanted plan noted = WritesEventsAt held wanted plan noted (wants wanted (codes "turns-out"))

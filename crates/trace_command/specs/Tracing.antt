@@ -11,6 +11,7 @@ use Rattle.lx_abi.specs.declared.outcome.Ended.{Ended as End}
 use Rattle.lx_abi.specs.declared.outcome.Outcome.{Outcome}
 use Rattle.lx_abi.specs.declared.ptrace.Reply.TheVariants.{Done}
 use Rattle.lx_abi.specs.declared.ptrace.Request.TheVariants.{Boot as Boot_with}
+use Rattle.lx_abi.specs.declared.schedule.Event.{Event}
 use Rattle.lx_abi.specs.declared.schedule.Word.{Word}
 use Rattle.lx_abi.specs.declared.script.Rule.{Rule}
 use Rattle.lx_abi.specs.Scripts.{choice_of}
@@ -31,12 +32,12 @@ use Rattle.trace_run.specs.BootedRuns.{TraceOf}
 use Rattle.trace_run.specs.LocalRuns.{FailsBy}
 use Rattle.trace_run.specs.Runs.{Answers, RunsWhole, calls_of as calls_of_link}
 use Rattle.trace_run.specs.Writers.{Writer, PutsWhole, PutsPart}
-use Rattle.trace_run.specs.declared.local.Run.{Run}
 use Rattle.trace_run.specs.declared.running.Ended.{Ended}
 use Rattle.trace_run.specs.declared.running.Ended.TheVariants.{Whole}
 use Rattle.trace_run.specs.declared.running.RunFault.{RunFault}
 use Rattle.trace_run.specs.declared.running.RunFault.TheVariants.{Link, Output as Unwritable}
-use Rattle.trace_threads.specs.ThreadRuns.{ThreadRun}
+use Rattle.trace_threads.specs.ThreadRuns.{IsNotedRun}
+use Rattle.trace_threads.specs.declared.noted.NotedRun.{NotedRun}
 use Rattle.trace_command.specs.Faults.{IsFaultOf, IsHostFault, IsUnhosted, IsUnopened, IsUnwritable, has_ended}
 use Rattle.trace_command.specs.declared.kernel.Kernel.{Kernel}
 use Rattle.trace_command.specs.declared.kernel.Kernel.TheVariants.{Here, OnThreads, There}
@@ -44,6 +45,7 @@ use Rattle.trace_command.specs.declared.place.Place.{Place}
 use Rattle.trace_command.specs.declared.place.Place.TheVariants.{Error, Output, File}
 use Rattle.trace_words.specs.Plans.{RefusesPlan}
 use Rattle.trace_words.specs.declared.plan.Plan.{Plan}
+use Rattle.trace_words.specs.declared.asked.TraceOptions.{TraceOptions}
 use Rattle.trace_words.specs.declared.asked.Workers.{Workers}
 
 -- ---- the words
@@ -54,6 +56,21 @@ value_of words name = first_value (found_of words) name
 
 abbrev pub asks_for_files : ArgMatches → Bool
 asks_for_files words = is_some (value_of words (codes "files-out")) || is_some (value_of words (codes "files-list"))
+
+-- what words ask for: a run that is traced so
+pub record Wanted : Type 0 where
+  pub words : ArgMatches
+  pub options : TraceOptions
+
+abbrev pub wanting : ArgMatches → TraceOptions → Wanted
+wanting words options = record { words = words; options = options }
+
+abbrev pub wants : Wanted → List ℕ → Option (List ℕ)
+wants wanted name = value_of wanted.words name
+
+-- its events are noted
+abbrev pub is_noted : Wanted → Bool
+is_noted wanted = is_some (wants wanted (codes "turns-out"))
 
 -- the place that this value of `-o` names
 abbrev pub IsPlace : Option (List ℕ) → Place → Type 0
@@ -140,19 +157,23 @@ abbrev pub PutsTrace : Ended → List ℕ → Result Ended RunFault → Writer �
 PutsTrace ended trace (Ok result) old new = (result ≡ ended) × PutsWhole old new trace
 PutsTrace ended trace (Err fault) old new = (fault ≡ Unwritable) × PutsPart old new trace
 
--- on threads: the run is the untraced kernel's by the journal of its host
-abbrev pub TracesOnThreads : Options → List Rule → Boot → ℕ → Result Ended RunFault → Writer → Writer → Type 0
-TracesOnThreads o script boot limit result old new =
-    (run : Run) × (ThreadRun boot limit script o false run × PutsTrace run.ended run.trace result old new)
+-- On threads: the run is the untraced kernel's by the journal of its host, and the events of this journal are noted,
+-- if they are asked for.
+abbrev pub TracesOnThreads : Options → List Rule → Boot → ℕ → Bool → Option (List Event)
+    → Result Ended RunFault → Writer → Writer → Type 0
+TracesOnThreads o script boot limit asked noted result old new =
+    (made : NotedRun)
+    × (IsNotedRun boot limit script o false asked made
+    × ((noted ≡ made.events) × PutsTrace made.run.ended made.run.trace result old new))
 
 abbrev pub Traces : {P I O E : Type 0} → (O → Option (List ℕ)) → (I → Option (List ℕ)) → Options → List Rule
-    → Kernel P I O E → Result Ended RunFault → Writer → Writer → Type 0
-Traces remaining contents o script (Here boot schedule) result old new =
+    → Kernel P I O E → Bool → Option (List Event) → Result Ended RunFault → Writer → Writer → Type 0
+Traces remaining contents o script (Here boot schedule) asked noted result old new =
     TracesHere o script boot schedule result old new
-Traces remaining contents o script (There link) result old new =
+Traces remaining contents o script (There link) asked noted result old new =
     TracesThere remaining contents o script link result old new
-Traces remaining contents o script (OnThreads boot workers) result old new =
-    TracesOnThreads o script boot workers.limit result old new
+Traces remaining contents o script (OnThreads boot workers) asked noted result old new =
+    TracesOnThreads o script boot workers.limit asked noted result old new
 
 -- ---- where the trace goes
 
@@ -176,13 +197,21 @@ WritesFile {F} held writes result =
     × ((ended : Result Ended RunFault)
     × ((last : Writer) × (writes ended (unused (held old)) last × Reaches ended result last.contents (held new)))))
 
+-- standard output and standard error
+pub record Outputs : Type 0 where
+  pub out : Writer
+  pub err : Writer
+
+abbrev pub outputs : Writer → Writer → Outputs
+outputs out err = record { out = out; err = err }
+
 -- A run that writes so has written to this place, with this result, and nothing to the other outputs.
 abbrev pub WritesTo : {F : Type 0} → (F → Option (List ℕ)) → (Result Ended RunFault → Writer → Writer → Type 0)
-    → Result Ended RunFault → Place → Writer → Writer → Writer → Writer → Type 0
-WritesTo held writes result Error out out' err err' = (out' ≡ out) × writes result err err'
-WritesTo held writes result Output out out' err err' = (err' ≡ err) × writes result out out'
-WritesTo held writes result (File path) out out' err err' =
-    (out' ≡ out) × ((err' ≡ err) × WritesFile held writes result)
+    → Result Ended RunFault → Place → Outputs → Outputs → Type 0
+WritesTo held writes result Error old new = (new.out ≡ old.out) × writes result old.err new.err
+WritesTo held writes result Output old new = (new.err ≡ old.err) × writes result old.out new.out
+WritesTo held writes result (File path) old new =
+    (new.out ≡ old.out) × ((new.err ≡ old.err) × WritesFile held writes result)
 
 -- What comes of a run that ended so: its outcome, or its own fault. Where the trace goes to standard error the end of a
 -- line may come before the fault, and where that can't be written it is the fault.
@@ -200,16 +229,17 @@ Settles place ended (Err fault) err err' = (own : Fault) × (IsFaultOf ended own
 
 -- A run that writes so was made: it has ended, and its trace is at the place.
 abbrev pub RunsTo : {F : Type 0} → (F → Option (List ℕ)) → (Result Ended RunFault → Writer → Writer → Type 0) → Place
-    → Result Outcome Fault → Writer → Writer → Writer → Writer → Type 0
-RunsTo held writes place result out out' err err' =
+    → Result Outcome Fault → Outputs → Outputs → Type 0
+RunsTo held writes place result old new =
     (ended : Result Ended RunFault)
     × ((middle : Writer)
-    × (WritesTo held writes ended place out out' err middle × Settles place ended result middle err'))
+    × (WritesTo held writes ended place old (outputs new.out middle)
+    × Settles place ended result middle new.err))
 
 -- none was made, for such a fault, and nothing is written
-abbrev pub Unmade : {A : Type 0} → (Fault → Type 0) → Result A Fault → Writer → Writer → Writer → Writer → Type 0
-Unmade lacks (Ok x) out out' err err' = ⊥
-Unmade lacks (Err fault) out out' err err' = lacks fault × ((out' ≡ out) × (err' ≡ err))
+abbrev pub Unmade : {A : Type 0} → (Fault → Type 0) → Result A Fault → Outputs → Outputs → Type 0
+Unmade lacks (Ok x) old new = ⊥
+Unmade lacks (Err fault) old new = lacks fault × ((new.out ≡ old.out) × (new.err ≡ old.err))
 
 -- A run that needs neither a host, nor threads, nor a file is always made. The fault of another is that this host,
 -- these threads (a boot that they refuse among them) or this file can't be had, or want of memory.
@@ -231,13 +261,21 @@ LacksAt kernel files fault =
 
 -- ---- the program
 
--- The run of a plan as it was asked for: over a kernel that took the boot.
-abbrev pub Runs : (P E : Type 0) → {I O : Type 0} → (O → Option (List ℕ)) → (I → Option (List ℕ)) → Option (List ℕ)
-    → Option Workers → ℕ → Plan → Result Ended RunFault → Writer → Writer → Type 0
-Runs P E {I} {O} remaining contents host workers limit plan result old new =
+-- The run of a plan as it was asked for: over a kernel that took the boot. This is noted of its events, where they are
+-- asked for.
+abbrev pub RunsNoting : (P E : Type 0) → {I O : Type 0} → (O → Option (List ℕ)) → (I → Option (List ℕ)) → Wanted
+    → Plan → Bool → Option (List Event) → Result Ended RunFault → Writer → Writer → Type 0
+RunsNoting P E {I} {O} remaining contents wanted plan asked noted result old new =
     (kernel : Kernel P I O E)
-    × (Takes remaining contents host workers plan.boot limit plan.turns.items kernel
-    × Traces remaining contents plan.options plan.script kernel result old new)
+    × (Takes remaining contents (wants wanted (codes "host")) wanted.options.workers plan.boot wanted.options.limit
+    plan.turns.items kernel
+    × Traces remaining contents plan.options plan.script kernel asked noted result old new)
+
+-- they are where their file is
+abbrev pub Runs : (P E : Type 0) → {I O : Type 0} → (O → Option (List ℕ)) → (I → Option (List ℕ)) → Wanted → Plan
+    → Option (List Event) → Result Ended RunFault → Writer → Writer → Type 0
+Runs P E remaining contents wanted plan noted result old new =
+    RunsNoting P E remaining contents wanted plan (is_noted wanted) noted result old new
 
 -- what a shell shows of the end of process 1
 abbrev pub status_in : List End → Option ℕ
@@ -275,39 +313,42 @@ Leaves words file made result old new =
     × (LeavesAfter words turned made result old new
     × OnOk turned (has_ended made ≡ true → file)))
 
--- All of it: a run that writes so writes its trace, then the file of its turns is written so where that is asked for,
--- and then standard output is given what it leaves.
+-- All of it: a run of which this is noted writes its trace so, then the file of its turns is written so where that is
+-- asked for, and then standard output is given what it leaves.
 pub record Completes {F : Type 0} (held : F → Option (List ℕ))
-    (runs : Result Ended RunFault → Writer → Writer → Type 0) (file : Type 0) (words : ArgMatches) (place : Place)
-    (result : Result ℕ Fault) (out out' err err' : Writer) : Type 0 where
+    (runs : Option (List Event) → Result Ended RunFault → Writer → Writer → Type 0)
+    (file : Option (List Event) → Type 0) (wanted : Wanted) (place : Place)
+    (result : Result ℕ Fault) (old new : Outputs) : Type 0 where
   pub made : Result Outcome Fault
+  pub noted : Option (List Event)
   -- standard output before the console
   pub traced : Writer
-  pub run : RunsTo held runs place made out traced err err'
-  pub leaves : Leaves words file made result traced out'
+  pub run : RunsTo held (runs noted) place made old (outputs traced new.err)
+  pub leaves : Leaves wanted.words (file noted) made result traced new.out
 
 -- Such a run, with its trace at the place that the words name, completes. Or it lacks a file, a host or threads that it
 -- needs, with such a fault, and nothing is written.
-abbrev pub TracesPlan : {F : Type 0} → (F → Option (List ℕ)) → (Result Ended RunFault → Writer → Writer → Type 0)
-    → Type 0 → ArgMatches → Option Workers → Result ℕ Fault → Writer → Writer → Writer → Writer → Type 0
-TracesPlan held runs file words workers result out out' err err' =
+abbrev pub TracesPlan : {F : Type 0} → (F → Option (List ℕ))
+    → (Option (List Event) → Result Ended RunFault → Writer → Writer → Type 0) → (Option (List Event) → Type 0)
+    → Wanted → Result ℕ Fault → Outputs → Outputs → Type 0
+TracesPlan held runs file wanted result old new =
     (place : Place)
-    × (IsPlace (value_of words (codes "output")) place
+    × (IsPlace (wants wanted (codes "output")) place
     × (Unmade
-    (Lacks (value_of words (codes "host")) workers (IsSome (value_of words (codes "turns-out")) ⊎ IsFile place)) result
-    out out' err err'
-    ⊎ Completes held runs file words place result out out' err err'))
+    (Lacks (wants wanted (codes "host")) wanted.options.workers
+    (IsSome (wants wanted (codes "turns-out")) ⊎ IsFile place)) result old new
+    ⊎ Completes held runs file wanted place result old new))
 
 -- The same to writers of std, by what they hold where that is known: standard output and standard error are written to
 -- so, and by nothing else.
-abbrev pub TracesOut : {F : Type 0} → (F → Option (List ℕ)) → (Result Ended RunFault → Writer → Writer → Type 0)
-    → Type 0 → ArgMatches → Option Workers → Result ℕ Fault
-    → Option (List ℕ) → Option (List ℕ) → Option (List ℕ) → Option (List ℕ) → Type 0
-TracesOut held runs file words workers result out out' err err' =
-    (o : Writer)
-    × ((e : Writer)
-    × ((o.contents ≡ out')
-    × ((e.contents ≡ err') × TracesPlan held runs file words workers result (unused out) o (unused err) e)))
+abbrev pub TracesOut : {F : Type 0} → (F → Option (List ℕ))
+    → (Option (List Event) → Result Ended RunFault → Writer → Writer → Type 0) → (Option (List Event) → Type 0)
+    → Wanted → Result ℕ Fault → Option (List ℕ) × Option (List ℕ) → Option (List ℕ) × Option (List ℕ) → Type 0
+TracesOut held runs file wanted result old new =
+    (last : Outputs)
+    × ((last.out.contents ≡ new.0)
+    × ((last.err.contents ≡ new.1)
+    × TracesPlan held runs file wanted result (outputs (unused old.0) (unused old.1)) last))
 
 -- there is no plan, for such a fault, and nothing is written
 abbrev pub Unplanned : (Fault → Type 0) → Result ℕ Fault → Option (List ℕ) → Option (List ℕ) → Type 0
@@ -317,14 +358,14 @@ Unplanned refuses (Err fault) out out' = refuses fault × (out' ≡ out)
 -- What is written to standard output is that of a run of such a plan, and a status is that of this run. Or the words
 -- make no plan, and nothing is written to it.
 abbrev pub TracesWords : {F : Type 0} → (F → Option (List ℕ)) → (Plan → Type 0)
-    → (Plan → Result Ended RunFault → Writer → Writer → Type 0) → (Plan → Type 0) → ArgMatches → Option Workers
-    → Result ℕ Fault → Option (List ℕ) → Option (List ℕ) → Type 0
-TracesWords held asked runs file words workers result out out' =
-    Unplanned (RefusesPlan words) result out out'
+    → (Plan → Option (List Event) → Result Ended RunFault → Writer → Writer → Type 0)
+    → (Plan → Option (List Event) → Type 0) → Wanted → Result ℕ Fault → Option (List ℕ) → Option (List ℕ) → Type 0
+TracesWords held asked runs file wanted result out out' =
+    Unplanned (RefusesPlan wanted.words) result out out'
     ⊎ ((plan : Plan)
     × (asked plan
     × ((ended : Result ℕ Fault)
     × ((err : Option (List ℕ))
     × ((err' : Option (List ℕ))
     × (IfOk result (λ status. ended ≡ Ok status)
-    × TracesOut held (runs plan) (file plan) words workers ended out out' err err'))))))
+    × TracesOut held (runs plan) (file plan) wanted ended (out, err) (out', err')))))))

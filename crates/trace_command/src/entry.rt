@@ -4,7 +4,7 @@ ghost use Rattle.std.specs.Prelude.{codes};
 ghost use Rattle.front_end.specs.Streams.{opened_contents};
 ghost use Rattle.trace_command.specs.Asked.{TracesAsked};
 ghost use Rattle.trace_command.specs.Noting.{WritesEvents};
-ghost use Rattle.trace_command.specs.Tracing.{Runs, value_of};
+ghost use Rattle.trace_command.specs.Tracing.{Runs};
 
 use crate::tracing;
 use crate::tracing::Traced;
@@ -63,10 +63,8 @@ fn trace_asked<
 where
     R::Started: Streams,
     ensures { TracesAsked R.File.remaining (opened_contents R.File.contents)
-        (Runs R.Started R.Started.Stderr R.Started.Stdout.remaining R.Started.Stdin.contents
-        (value_of matches.now (codes "host")))
-        (λ workers limit plan. WritesEvents (opened_contents R.File.contents) (value_of matches.now (codes "host"))
-        workers limit plan (value_of matches.now (codes "turns-out")))
+        (Runs R.Started R.Started.Stderr R.Started.Stdout.remaining R.Started.Stdin.contents)
+        (WritesEvents (opened_contents R.File.contents))
         matches.now (I.remaining input.old) result.status (O.contents out) (O.contents result.out) }
 {
     let mut options = match trace_options(matches) {

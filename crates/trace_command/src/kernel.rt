@@ -161,7 +161,8 @@ pub fn run_kernel<R: Threads + Wait + Sync + AllocGlobal, P: OpenProcess + Drop,
     behind: &mut Behind<P>,
     lines: &mut W,
 ) -> Result<Result<Ended, RunFault>, Fault>
-    ensures made { IfOk result (λ ended. Traces P.Stdout.remaining P.Stdin.contents options script kernel ended
+    ensures made { IfOk result (λ ended. Traces P.Stdout.remaining P.Stdin.contents options script kernel
+        behind.old.kept.asked.events behind.new.kept.known.events ended
         (writer_of W.contents W.puts W.broken lines.old) (writer_of W.contents W.puts W.broken lines.new)) }
     ensures notes { IfOk result (λ ended. OnOk ended
         (Notes options script kernel behind.old.kept.asked.events behind.new.kept.known.events)) }

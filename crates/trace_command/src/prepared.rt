@@ -1,8 +1,8 @@
 //! What is made ready before a run.
 
-ghost use Rattle.std.specs.Prelude.{◌≡◌, IfErr, IfOk, None, codes, false, is_some};
-ghost use Rattle.trace_command.specs.Noting.{IsKeptFor};
-ghost use Rattle.trace_command.specs.Tracing.{value_of};
+ghost use Rattle.std.specs.Prelude.{◌≡◌, ◌&&◌, ◌||◌, IfErr, IfOk, codes, is_none, is_some};
+ghost use Rattle.trace_command.specs.Noting.{IsKeptFor, IsSecond};
+ghost use Rattle.trace_command.specs.Tracing.{value_of, wanting};
 ghost use Rattle.trace_words.specs.Plans.{IsPlan, RefusesPlan};
 
 use crate::given::is_given;
@@ -25,7 +25,8 @@ pub struct Prepared {
 
 /// What the words ask for of a run beside its trace.
 fn asked_by(matches: &ArgMatches, options: TraceOptions) -> Asked
-    ensures { result.events ≡ is_some (value_of matches.now (codes "turns-out")) }
+    ensures events { result.events ≡ is_some (value_of matches.now (codes "turns-out")) }
+    ensures limit { result.limit ≡ options.limit }
 {
     Asked {
         events: is_given(matches, "turns-out"),
@@ -36,9 +37,30 @@ fn asked_by(matches: &ArgMatches, options: TraceOptions) -> Asked
 
 /// What is asked for is known by a second run alone.
 fn needs_second(matches: &ArgMatches, options: TraceOptions, asked: Asked) -> bool
-    ensures { value_of matches.now (codes "host") ≡ None → result ≡ false }
+    ensures { result ≡ (is_none options.workers && (is_some (value_of matches.now (codes "host"))
+        && (asked.waits || asked.events))) }
 {
     options.workers.is_none() && is_given(matches, "host") && (asked.waits || asked.events)
+}
+
+/// The same plan once more, where what is asked for is known by it alone.
+fn second(
+    alloc: Global,
+    matches: &ArgMatches,
+    options: TraceOptions,
+    asked: Asked,
+    plan: &Plan,
+) -> Result<Option<Plan>, Fault>
+    ensures { IfOk result
+        (IsSecond options.workers (value_of matches.now (codes "host")) matches.now plan.now asked.events) }
+{
+    if !needs_second(matches, options, asked) {
+        return Ok(None);
+    }
+    match plan.again(alloc, matches) {
+        Ok(again) => Ok(Some(again)),
+        Err(fault) => Err(fault),
+    }
 }
 
 /// Before the run.
@@ -48,14 +70,10 @@ fn keep(
     options: TraceOptions,
     plan: &Plan,
 ) -> Result<Kept, Fault>
-    ensures { IfOk result (IsKeptFor matches.now) }
+    ensures { IfOk result (IsKeptFor (wanting matches.now options) plan.now) }
 {
     let asked = asked_by(matches, options);
-    let second = if needs_second(matches, options, asked) {
-        Some(plan.again(alloc, matches)?)
-    } else {
-        None
-    };
+    let second = second(alloc, matches, options, asked, plan)?;
     Ok(Kept {
         asked,
         known: Known::none(),
@@ -79,7 +97,7 @@ pub fn prepare<R: Files + AllocGlobal, I: Read + IsTerminal, E: Write + IsTermin
     input: &mut I,
     err: &mut E,
 ) -> Result<Prepared, Fault>
-    ensures kept { IfOk result (λ prepared. IsKeptFor matches.now prepared.kept) }
+    ensures kept { IfOk result (λ prepared. IsKeptFor (wanting matches.now options) prepared.plan prepared.kept) }
     ensures plan { IfOk result (λ prepared.
         IsPlan R.File.remaining matches.now options (I.remaining input.old) prepared.plan) }
     ensures refused { IfErr result (RefusesPlan matches.now) }

@@ -7,8 +7,9 @@ ghost use Rattle.front_end.specs.Streams.{opened_contents};
 ghost use Rattle.trace_run.specs.Writers.{writer_of};
 ghost use Rattle.trace_command.specs.Faults.{IsFaultOf, IsUnhosted, has_ended};
 ghost use Rattle.trace_command.specs.Noting.{AsksAlike, Notes, NotesOf};
-ghost use Rattle.trace_command.specs.Tracing.{EndsLine, IsFile, Lacks, LacksAt, Puts, Reaches, Runs, RunsTo, Settles};
-ghost use Rattle.trace_command.specs.Tracing.{Takes, Traces, Unmade, WritesFile, WritesTo, value_of};
+ghost use Rattle.trace_command.specs.Tracing.{EndsLine, IsFile, Lacks, LacksAt, Puts, Reaches, RunsNoting, RunsTo};
+ghost use Rattle.trace_command.specs.Tracing.{Settles, Takes, Traces, Unmade, WritesFile, WritesTo};
+ghost use Rattle.trace_command.specs.Tracing.{outputs, value_of, wanting};
 
 use crate::fault::host_fault;
 use crate::kept::Behind;
@@ -166,7 +167,8 @@ fn run_to_file<R: Files + Threads + Wait + Sync + AllocGlobal, P: OpenProcess + 
     path: &str,
 ) -> Result<Result<Ended, RunFault>, Fault>
     ensures written { IfOk result (λ ended. WritesFile (opened_contents R.File.contents)
-        (Traces P.Stdout.remaining P.Stdin.contents options script kernel) ended) }
+        (Traces P.Stdout.remaining P.Stdin.contents options script kernel behind.old.kept.asked.events
+        behind.new.kept.known.events) ended) }
     ensures notes { IfOk result (λ ended. OnOk ended
         (Notes options script kernel behind.old.kept.asked.events behind.new.kept.known.events)) }
     ensures kept { AsksAlike behind.old.kept behind.new.kept }
@@ -221,15 +223,16 @@ fn run_to_place<
     err: &mut E,
 ) -> Result<Result<Ended, RunFault>, Fault>
     ensures written { IfOk result (λ ended. WritesTo (opened_contents R.File.contents)
-        (Traces P.Stdout.remaining P.Stdin.contents options script kernel) ended place.entry
-        (writer_of O.contents O.puts O.broken out.old) (writer_of O.contents O.puts O.broken out.new)
-        (writer_of E.contents E.puts E.broken err.old) (writer_of E.contents E.puts E.broken err.new)) }
+        (Traces P.Stdout.remaining P.Stdin.contents options script kernel behind.old.kept.asked.events
+        behind.new.kept.known.events) ended place.entry
+        (outputs (writer_of O.contents O.puts O.broken out.old) (writer_of E.contents E.puts E.broken err.old))
+        (outputs (writer_of O.contents O.puts O.broken out.new) (writer_of E.contents E.puts E.broken err.new))) }
     ensures notes { IfOk result (λ ended. OnOk ended
         (Notes options script kernel behind.old.kept.asked.events behind.new.kept.known.events)) }
     ensures kept { AsksAlike behind.old.kept behind.new.kept }
     ensures unmade { OnErr result (Unmade (LacksAt kernel (IsFile place.entry)) result
-        (writer_of O.contents O.puts O.broken out.old) (writer_of O.contents O.puts O.broken out.new)
-        (writer_of E.contents E.puts E.broken err.old) (writer_of E.contents E.puts E.broken err.new)) }
+        (outputs (writer_of O.contents O.puts O.broken out.old) (writer_of E.contents E.puts E.broken err.old))
+        (outputs (writer_of O.contents O.puts O.broken out.new) (writer_of E.contents E.puts E.broken err.new))) }
 {
     match place {
         Place::Error => match run_kernel(rt, kernel, script, options, behind, err) {
@@ -266,13 +269,13 @@ pub fn run_at<
 where
     R::Started: Streams,
     ensures made { Unmade (Lacks (value_of matches.now (codes "host")) options.workers (IsFile place.entry)) result
-        (writer_of O.contents O.puts O.broken out.old) (writer_of O.contents O.puts O.broken out.new)
-        (writer_of E.contents E.puts E.broken err.old) (writer_of E.contents E.puts E.broken err.new)
+        (outputs (writer_of O.contents O.puts O.broken out.old) (writer_of E.contents E.puts E.broken err.old))
+        (outputs (writer_of O.contents O.puts O.broken out.new) (writer_of E.contents E.puts E.broken err.new))
         ⊎ RunsTo (opened_contents R.File.contents)
-        (Runs R.Started R.Started.Stderr R.Started.Stdout.remaining R.Started.Stdin.contents
-        (value_of matches.now (codes "host")) options.workers options.limit plan) place.entry result
-        (writer_of O.contents O.puts O.broken out.old) (writer_of O.contents O.puts O.broken out.new)
-        (writer_of E.contents E.puts E.broken err.old) (writer_of E.contents E.puts E.broken err.new) }
+        (RunsNoting R.Started R.Started.Stderr R.Started.Stdout.remaining R.Started.Stdin.contents
+        (wanting matches.now options) plan behind.old.kept.asked.events behind.new.kept.known.events) place.entry result
+        (outputs (writer_of O.contents O.puts O.broken out.old) (writer_of E.contents E.puts E.broken err.old))
+        (outputs (writer_of O.contents O.puts O.broken out.new) (writer_of E.contents E.puts E.broken err.new)) }
     ensures notes { has_ended result ≡ true
         → NotesOf (value_of matches.now (codes "host")) options.workers options.limit plan
         behind.old.kept.asked.events behind.new.kept.known.events }

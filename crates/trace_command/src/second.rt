@@ -1,7 +1,9 @@
 //! A plan made once more, where the run that was made of it left no host in this process.
 
-ghost use Rattle.std.specs.Prelude.{◌≡◌, None, IfErr};
+ghost use Rattle.std.specs.Prelude.{◌≡◌, None, IfErr, IfSome, OnOk};
+ghost use Rattle.pt_schedule.specs.Schedules.{worded};
 ghost use Rattle.trace_command.specs.Faults.{IsUnwritable};
+ghost use Rattle.trace_command.specs.Noting.{NotesHere};
 
 use crate::kept::Kept;
 use crate::kernel::run_here;
@@ -14,6 +16,8 @@ use trace_words::Plan;
 /// Makes the run once more in this process, where a host elsewhere made it, and keeps what it leaves beside the counts.
 pub fn make_again(alloc: Global, kept: &mut Kept) -> Result<(), Fault>
     ensures once { kept.old.second ≡ None → kept.new.known.events ≡ kept.old.known.events }
+    ensures again { IfSome kept.old.second (λ plan. OnOk result (NotesHere plan.options plan.script plan.boot
+        (worded plan.turns.items kept.old.asked.limit) kept.old.asked.events kept.new.known.events)) }
     ensures fault { IfErr result (λ fault. IsUnwritable fault) }
 {
     let Some(plan) = kept.second.take() else {

@@ -2,7 +2,7 @@
 
 ghost use Rattle.std.specs.Prelude.{◌≡◌, ◌⊎◌, false, IfErr, IfOk, OnErr};
 ghost use Rattle.trace_run.specs.Writers.{writer_of};
-ghost use Rattle.trace_threads.specs.ThreadRuns.{ThreadRun};
+ghost use Rattle.trace_threads.specs.ThreadRuns.{IsNotedRun};
 ghost use Rattle.trace_command.specs.Faults.{IsUnhosted, IsUnopened};
 ghost use Rattle.trace_command.specs.Noting.{AsksAlike};
 ghost use Rattle.trace_command.specs.Tracing.{PutsTrace, TracesOnThreads};
@@ -16,14 +16,13 @@ use host_shared::{Cut, Gate};
 use host_wire::{Broken, Sink};
 use lx_abi::{Boot, Script};
 use lx_kernel::Kernel;
-use pt_kernel::Events;
 use std::alloc::Global;
 use std::sync::Wait;
 use std::thread::Threads;
 use tr_core::Options;
 use trace_run::local::Run;
 use trace_run::{Ended, RunFault};
-use trace_threads::{Onlooker, run_threads_noting};
+use trace_threads::{NotedRun, Onlooker, run_threads_noting};
 use trace_words::Workers;
 
 /// Each thread makes its turns as soon as it can.
@@ -44,15 +43,6 @@ impl Gate for Always {
     }
 }
 
-/// What notes the events, where they are asked for.
-fn noting(alloc: Global, notes: bool) -> Events {
-    if notes {
-        Events::noted(alloc)
-    } else {
-        Events::none()
-    }
-}
-
 /// Why a run is out of turns that left this kernel, where it is and that is asked for.
 fn waits_by(alloc: Global, asked: Asked, kernel: &Kernel, cut: Option<Cut>) -> Option<String> {
     if !asked.waits {
@@ -69,22 +59,17 @@ fn waits_by(alloc: Global, asked: Asked, kernel: &Kernel, cut: Option<Cut>) -> O
     }
 }
 
-/// Keeps what is asked for of a run.
+/// Keeps who waits where a run is out of turns, if that is asked for.
 #[derive(Drop)]
 struct Keeper {
     alloc: Global,
     asked: Asked,
-    known: Known,
+    waits: Option<String>,
 }
 
 impl Onlooker for Keeper {
-    fn look(&mut self, kernel: &Kernel, cut: Option<Cut>, events: Events) {
-        let waits = waits_by(self.alloc, self.asked, kernel, cut);
-        self.known = Known {
-            events,
-            waits,
-            counts: None,
-        };
+    fn look(&mut self, kernel: &Kernel, cut: Option<Cut>) {
+        self.waits = waits_by(self.alloc, self.asked, kernel, cut);
     }
 }
 
@@ -95,18 +80,19 @@ fn make_on_threads<R: Threads + Wait + Sync + AllocGlobal>(
     workers: Workers,
     script: Script,
     options: Options,
+    asked: Asked,
     keeper: &mut Keeper,
-) -> Result<Run, Fault>
-    ensures run { IfOk result (λ run. ThreadRun boot workers.limit script options false run) }
+) -> Result<NotedRun, Fault>
+    ensures run { IfOk result (IsNotedRun boot workers.limit script options false asked.events) }
     ensures fault { IfErr result (λ fault. IsUnhosted fault ⊎ IsUnopened fault) }
 {
     let alloc = rt.alloc();
     let (count, limit) = (workers.count, workers.limit);
-    let events = noting(alloc, keeper.asked.events);
+    let notes = asked.events;
     match run_threads_noting(
-        rt, alloc, boot, count, limit, script, options, &Always, events, keeper,
+        rt, alloc, boot, count, limit, script, options, &Always, notes, keeper,
     ) {
-        Ok(run) => Ok(run),
+        Ok(made) => Ok(made),
         Err(fault) => Err(threads_fault(alloc, fault)),
     }
 }
@@ -135,25 +121,28 @@ pub fn run_on_threads<R: Threads + Wait + Sync + AllocGlobal, W: Sink>(
     kept: &mut Kept,
     writer: &mut W,
 ) -> Result<Result<Ended, RunFault>, Fault>
-    ensures made { IfOk result (λ ended. TracesOnThreads options script boot workers.limit ended
+    ensures made { IfOk result (λ ended. TracesOnThreads options script boot workers.limit kept.old.asked.events
+        kept.new.known.events ended
         (writer_of W.contents W.puts W.broken writer.old) (writer_of W.contents W.puts W.broken writer.new)) }
     ensures kept { AsksAlike kept.old kept.new }
     ensures fault { IfErr result (λ fault. IsUnhosted fault ⊎ IsUnopened fault) }
     ensures unwritten { OnErr result (writer_of W.contents W.puts W.broken writer.new
         ≡ writer_of W.contents W.puts W.broken writer.old) }
 {
+    let asked = kept.asked;
     let mut keeper = Keeper {
         alloc: rt.alloc(),
-        asked: kept.asked,
-        known: Known::none(),
+        asked,
+        waits: None,
     };
-    let run = match make_on_threads(rt, boot, workers, script, options, &mut keeper) {
-        Ok(run) => run,
+    let made = match make_on_threads(rt, boot, workers, script, options, asked, &mut keeper) {
+        Ok(made) => made,
         Err(fault) => {
             drop(keeper);
             return Err(fault);
         }
     };
+    let NotedRun { run, events } = made;
     let Run {
         trace,
         ended,
@@ -164,6 +153,10 @@ pub fn run_on_threads<R: Threads + Wait + Sync + AllocGlobal, W: Sink>(
     drop(turns);
     let ended = write_trace(ended, &trace, writer);
     drop(trace);
-    kept.known = keeper.known;
+    kept.known = Known {
+        events,
+        waits: keeper.waits,
+        counts: None,
+    };
     Ok(ended)
 }

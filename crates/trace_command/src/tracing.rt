@@ -7,7 +7,7 @@ ghost use Rattle.trace_command.specs.Faults.{IsUnwritable, has_ended};
 ghost use Rattle.trace_command.specs.Noting.{IsKeptFor, WritesEvents, WritesNoted};
 ghost use Rattle.trace_command.specs.Tracing.{Leaves, Left, PutsConsole, Runs};
 ghost use Rattle.trace_command.specs.Tracing.{TracesOut, TracesPlan, TracesWords};
-ghost use Rattle.trace_command.specs.Tracing.{asks_for_files, status_in, value_of};
+ghost use Rattle.trace_command.specs.Tracing.{asks_for_files, outputs, status_in, value_of, wanting};
 ghost use Rattle.trace_words.specs.Plans.{IsPlan};
 
 use crate::explaining::explain;
@@ -183,15 +183,14 @@ fn trace_plan<
 ) -> Result<u8, Fault>
 where
     R::Started: Streams,
-    requires { IsKeptFor matches.now behind.old.kept }
+    requires { IsKeptFor (wanting matches.now options) plan behind.old.kept }
     ensures { TracesPlan (opened_contents R.File.contents)
-        (Runs R.Started R.Started.Stderr R.Started.Stdout.remaining
-        R.Started.Stdin.contents (value_of matches.now (codes "host")) options.workers options.limit plan)
-        (WritesEvents (opened_contents R.File.contents) (value_of matches.now (codes "host")) options.workers
-        options.limit plan (value_of matches.now (codes "turns-out")))
-        matches.now options.workers result
-        (writer_of O.contents O.puts O.broken out.old) (writer_of O.contents O.puts O.broken out.new)
-        (writer_of E.contents E.puts E.broken err.old) (writer_of E.contents E.puts E.broken err.new) }
+        (Runs R.Started R.Started.Stderr R.Started.Stdout.remaining R.Started.Stdin.contents
+        (wanting matches.now options) plan)
+        (WritesEvents (opened_contents R.File.contents) (wanting matches.now options) plan)
+        (wanting matches.now options) result
+        (outputs (writer_of O.contents O.puts O.broken out.old) (writer_of E.contents E.puts E.broken err.old))
+        (outputs (writer_of O.contents O.puts O.broken out.new) (writer_of E.contents E.puts E.broken err.new)) }
 {
     let place = Place::of(matches);
     match check_turns(rt, matches) {
@@ -226,14 +225,13 @@ fn trace_to<R: Files + Processes + Threads + Wait + Sync + AllocGlobal, O: Write
 ) -> Traced<O, E>
 where
     R::Started: Streams,
-    requires { IsKeptFor matches.now behind.old.kept }
+    requires { IsKeptFor (wanting matches.now options) plan behind.old.kept }
     ensures { TracesOut (opened_contents R.File.contents)
-        (Runs R.Started R.Started.Stderr R.Started.Stdout.remaining
-        R.Started.Stdin.contents (value_of matches.now (codes "host")) options.workers options.limit plan)
-        (WritesEvents (opened_contents R.File.contents) (value_of matches.now (codes "host")) options.workers
-        options.limit plan (value_of matches.now (codes "turns-out")))
-        matches.now options.workers result.status (O.contents out) (O.contents result.out)
-        (E.contents err) (E.contents result.err) }
+        (Runs R.Started R.Started.Stderr R.Started.Stdout.remaining R.Started.Stdin.contents
+        (wanting matches.now options) plan)
+        (WritesEvents (opened_contents R.File.contents) (wanting matches.now options) plan)
+        (wanting matches.now options) result.status
+        (O.contents out, E.contents err) (O.contents result.out, E.contents result.err) }
 {
     let mut out = Lines::new(out);
     let mut err = Lines::new(err);
@@ -266,10 +264,9 @@ where
     ensures { TracesWords (opened_contents R.File.contents)
         (IsPlan R.File.remaining matches.now options (I.remaining input.old))
         (Runs R.Started R.Started.Stderr R.Started.Stdout.remaining R.Started.Stdin.contents
-        (value_of matches.now (codes "host")) options.workers options.limit)
-        (λ plan. WritesEvents (opened_contents R.File.contents) (value_of matches.now (codes "host")) options.workers
-        options.limit plan (value_of matches.now (codes "turns-out")))
-        matches.now options.workers result.status (O.contents out) (O.contents result.out) }
+        (wanting matches.now options))
+        (WritesEvents (opened_contents R.File.contents) (wanting matches.now options))
+        (wanting matches.now options) result.status (O.contents out) (O.contents result.out) }
 {
     let Prepared {
         plan,

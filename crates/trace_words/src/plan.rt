@@ -1,6 +1,6 @@
 //! What a run is made of.
 
-ghost use Rattle.std.specs.Prelude.{IfErr, IfOk};
+ghost use Rattle.std.specs.Prelude.{◌≡◌, IfErr, IfOk};
 ghost use Rattle.trace_words.specs.Plans.{IsPlan, RefusesPlan};
 
 use crate::asked::TraceOptions;
@@ -24,7 +24,9 @@ pub struct Plan {
     pub turns: Vec<Word>,
 }
 
-fn copy_words(alloc: Global, words: &[Word]) -> Result<Vec<Word>, AllocError> {
+fn copy_words(alloc: Global, words: &[Word]) -> Result<Vec<Word>, AllocError>
+    ensures { IfOk result (λ copy. copy.items ≡ words.now) }
+{
     let mut copy = Vec::new(alloc);
     for word in words {
         copy.push(*word)?;
@@ -33,8 +35,12 @@ fn copy_words(alloc: Global, words: &[Word]) -> Result<Vec<Word>, AllocError> {
 }
 
 impl Plan {
+    ghost use Rattle.trace_words.specs.Plans.{IsAlike};
+
     /// Another that is alike.
-    pub fn again(&self, alloc: Global, matches: &ArgMatches) -> Result<Plan, Fault> {
+    pub fn again(&self, alloc: Global, matches: &ArgMatches) -> Result<Plan, Fault>
+        ensures { IfOk result (IsAlike matches.now self.now) }
+    {
         let boot = self.boot.copy(alloc)?;
         let turns = copy_words(alloc, self.turns.as_slice())?;
         let Expressions { shown, script } = read_expressions(alloc, matches)?;

@@ -11,7 +11,8 @@ returns-in-Ok-run_kernel-clause-written g c =
     let file = c.into_parts-file.result.0 in
     let last = at c.run_kernel.new.lines in
     let writes =
-    Traces g.P.Stdout.Read.remaining g.P.Stdin.Write.contents c.args.options c.args.script c.args.kernel in
+    Traces g.P.Stdout.Read.remaining g.P.Stdin.Write.contents c.args.options c.args.script c.args.kernel
+    c.args.behind.now.kept.asked.events c.run_kernel.new.behind.kept.known.events in
     writes_file (opened_contents g.R.File.Write.contents) writes c.in-Ok-run_kernel.ended c.ended_but_for.result c.in-Ok.file file
     (at c.in-Ok-new.lines) last c.in-Ok-new.ensures c.in-Ok-run_kernel.ensures.made
     (c.ended_but_for.ensures last.contents (opened_contents g.R.File.Write.contents file) c.into_parts-file.ensures)
