@@ -85,10 +85,10 @@ module _ (f : Fault) (past : List Item) (entered : Occurrences) where
   pub still_fewer : (item : Item) → is_again f entered item ≡ false → Agree entered (past ++ item ∷ []) → AreFewer f past → AreFewer f (past ++ item ∷ [])
   still_fewer (Enter pid call) h agree fewer q others =
       entry_by pid call q (call.number == f.call) (pid == f.pid) (nat_le f.n (count_of entered pid f.call)) (q == pid) refl refl refl refl h agree fewer others
-  still_fewer (Done pid call result replaced) h agree fewer = other_item (Done pid call result replaced) (λ p. refl) fewer
-  still_fewer (Taken pid signal cause) h agree fewer = other_item (Taken pid signal cause) (λ p. refl) fewer
-  still_fewer (Stopped pid signal) h agree fewer = other_item (Stopped pid signal) (λ p. refl) fewer
-  still_fewer (Exit pid word left) h agree fewer = other_item (Exit pid word left) (λ p. refl) fewer
+  still_fewer (Done pid call result replaced) h agree fewer q others = other_item (Done pid call result replaced) (λ p. refl) fewer q others
+  still_fewer (Taken pid signal cause) h agree fewer q others = other_item (Taken pid signal cause) (λ p. refl) fewer q others
+  still_fewer (Stopped pid signal) h agree fewer q others = other_item (Stopped pid signal) (λ p. refl) fewer q others
+  still_fewer (Exit pid word left) h agree fewer q others = other_item (Exit pid word left) (λ p. refl) fewer q others
 
 -- What is answered
 

@@ -35,7 +35,6 @@ fn failing(error: Errno) -> Choice
 }
 
 /// The turn at the entry that fails.
-#[tactic(auto, using(crate::proofs::Rows::choosing_log))]
 fn fail(kernel: &mut Kernel, pid: u32, error: Errno) -> Result<Moved, Failed>
     ensures turned { IfOk result (λ m. kernel.new ≡ after_choosing kernel.old pid (failing error)) }
     ensures one { IfOk result (λ m. m.turns ≡ 1) }
@@ -96,7 +95,7 @@ fn move_on(kernel: &mut Kernel, pid: u32, most: u64, awaited: Awaited) -> Result
 }
 
 /// Turns of a process that are made at once, `most` at most, and what they log told.
-#[tactic(auto, using(crate::proofs::Rows::told_item, crate::proofs::Rows::told_same, crate::proofs::Rows::weary_by, crate::proofs::Standing::heard_awaits))]
+#[tactic(auto, using(crate::proofs::Rows::told_item, crate::proofs::Rows::told_same, crate::proofs::Rows::weary_by))]
 pub(crate) fn advance<W: Watch>(
     kernel: &mut Kernel,
     pid: u32,

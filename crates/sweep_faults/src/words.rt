@@ -47,7 +47,6 @@ fn count(entered: &mut Occurrences, fault: Fault, item: &Item) -> Result<bool, A
 }
 
 /// No other process enters the call so often.
-#[tactic(auto, using(crate::proofs::Fewer::never_fewer, crate::proofs::Fewer::others_enter, crate::proofs::Fewer::none_enters, crate::proofs::Fewer::not_fewer))]
 fn are_fewer(alloc: Global, fault: Fault, log: &[Item]) -> Result<bool, AllocError>
     ensures { IfOk result (λ fewer. IsTrue fewer ↔ AreFewer fault log.now) }
 {
@@ -67,7 +66,7 @@ fn are_fewer(alloc: Global, fault: Fault, log: &[Item]) -> Result<bool, AllocErr
 }
 
 /// By the log of its run, a rule for the nth occurrence in each tracee gives this failure and no other.
-#[tactic(auto, using(crate::proofs::Fewer::untraced_words, crate::proofs::Fewer::first_words, crate::proofs::Fewer::followed_words))]
+#[tactic(auto, using(crate::proofs::Fewer::untraced_words, crate::proofs::Fewer::first_words))]
 pub fn has_words(
     alloc: Global,
     fault: Fault,
