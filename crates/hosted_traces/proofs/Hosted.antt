@@ -2,6 +2,7 @@
 use Rattle.std.proofs.Common.{◌≡◌, ◌∙◌, ◌^◌, ℕ, Bool, List, [], ◌++◌, Option, None, Some, Result, refl, sym, ap, subst, append_assoc}
 use Rattle.std.specs.Io.KnownBytes.{Keeps, append_known}
 use Rattle.lx_abi.specs.declared.outcome.Outcome.{Outcome}
+use Rattle.lx_abi.specs.declared.schedule.Event.{Event}
 use Rattle.host_wire.specs.Ends.{Input}
 use Rattle.host_serve.specs.Hosted.{Answers_by, Boots_by, Served_host, left_by}
 use Rattle.host_serve.specs.Serving.{Served}
@@ -13,7 +14,7 @@ use Rattle.piped_runs.proofs.Piped.{put_is_known}
 use Rattle.trace_run.specs.Writers.{Writer}
 use Rattle.trace_run.specs.declared.running.Ended.{Ended}
 use Rattle.trace_run.specs.declared.running.RunFault.{RunFault}
-use Rattle.trace_command.specs.Tracing.{Runs, Takes, Traces}
+use Rattle.trace_command.specs.Tracing.{Takes, Traces, is_noted}
 use Rattle.trace_command.specs.declared.kernel.Kernel.{Kernel}
 use Rattle.trace_command.specs.declared.kernel.Kernel.TheVariants.{Here, OnThreads, There}
 use Rattle.trace_words.specs.declared.plan.Plan.{Plan}
@@ -33,12 +34,13 @@ unfolding Served_host
 as_served a b old new puts puts' served broken s = s
 
 module _ {P E I O : Type 0} (remaining : O → Option (List ℕ)) (contents : I → Option (List ℕ)) where
-  over_kernel : RunsOverChildrenTell P E remaining contents → (host : List ℕ) (limit : ℕ) (plan : Plan) (result : Result Ended RunFault) (old new : Writer) (kernel : Kernel P I O E)
-      → Takes remaining contents (Some host) None plan.boot limit plan.turns.items kernel → Traces remaining contents plan.options plan.script kernel result old new
+  over_kernel : RunsOverChildrenTell P E remaining contents → (host : List ℕ) (limit : ℕ) (plan : Plan) (asked : Bool) (noted : Option (List Event))
+      (result : Result Ended RunFault) (old new : Writer) (kernel : Kernel P I O E)
+      → Takes remaining contents (Some host) None plan.boot limit plan.turns.items kernel → Traces remaining contents plan.options plan.script kernel asked noted result old new
       → RunsHosted P E remaining contents limit plan result old new
-  over_kernel tell host limit plan result old new (Here b schedule) takes traces = absurd takes
-  over_kernel tell host limit plan result old new (OnThreads b workers) takes traces = absurd takes
-  over_kernel tell host limit plan result old new (There link) takes traces = record {
+  over_kernel tell host limit plan asked noted result old new (Here b schedule) takes traces = absurd takes
+  over_kernel tell host limit plan asked noted result old new (OnThreads b workers) takes traces = absurd takes
+  over_kernel tell host limit plan asked noted result old new (There link) takes traces = record {
     first = takes.0;
     link = link;
     last = traces.0;
@@ -53,4 +55,8 @@ module _ {P E I O : Type 0} (remaining : O → Option (List ℕ)) (contents : I 
   }
 
   pub hosted_traces_tell : RunsOverChildrenTell P E remaining contents → HostedTracesTell P E remaining contents
-  hosted_traces_tell tell host limit plan result old new runs = over_kernel tell host limit plan result old new runs.0 runs.1.0 runs.1.1
+  hosted_traces_tell tell wanted host plan noted result old new named alone runs =
+      over_kernel tell host wanted.options.limit plan (is_noted wanted) noted result old new runs.0
+      (subst (λ w. Takes remaining contents (Some host) w plan.boot wanted.options.limit plan.turns.items runs.0) alone
+      (subst (λ h. Takes remaining contents h wanted.options.workers plan.boot wanted.options.limit plan.turns.items runs.0) named runs.1.0))
+      runs.1.1

@@ -1,11 +1,12 @@
 -- A traced run over a child, at whose other end a host serves its streams.
-use Rattle.std.specs.Prelude.{◌≡◌, ℕ, Bool, List, [], Option, None, Some, Result, Ok}
+use Rattle.std.specs.Prelude.{◌≡◌, ℕ, Bool, List, [], Option, None, Some, Result, Ok, codes}
 use Rattle.std.specs.Io.Buffered.{reader_remaining}
 use Rattle.lx_abi.specs.declared.outcome.Outcome.{Outcome}
 use Rattle.lx_abi.specs.declared.ptrace.Reply.{Reply}
 use Rattle.lx_abi.specs.declared.ptrace.Reply.TheVariants.{Done}
 use Rattle.lx_abi.specs.declared.ptrace.Request.{Request}
 use Rattle.lx_abi.specs.declared.ptrace.Request.TheVariants.{Boot as Boot_with}
+use Rattle.lx_abi.specs.declared.schedule.Event.{Event}
 use Rattle.lx_abi.specs.Scripts.{choice_of}
 use Rattle.lx_boot.specs.First.{first_shared}
 use Rattle.lx_exec.specs.Programs.{booted}
@@ -26,7 +27,7 @@ use Rattle.trace_run.specs.Runs.{RunsWhole}
 use Rattle.trace_run.specs.Writers.{Writer}
 use Rattle.trace_run.specs.declared.running.Ended.{Ended}
 use Rattle.trace_run.specs.declared.running.RunFault.{RunFault}
-use Rattle.trace_command.specs.Tracing.{IsUnasked, Runs, child_calls}
+use Rattle.trace_command.specs.Tracing.{IsUnasked, Runs, Wanted, child_calls, wants}
 use Rattle.trace_words.specs.declared.plan.Plan.{Plan}
 
 -- what is left of a child's replies, and what was written of the requests to it
@@ -67,7 +68,8 @@ pub record RunsHosted (P E : Type 0) {I O : Type 0} (remaining : O → Option (L
 
 -- such is every traced run for which a host is named
 abbrev pub HostedTracesTell : (P E : Type 0) → {I O : Type 0} → (O → Option (List ℕ)) → (I → Option (List ℕ)) → Type 0
-HostedTracesTell P E remaining contents = (host : List ℕ) (limit : ℕ) (plan : Plan) (result : Result Ended RunFault)
-    (old new : Writer)
-    → Runs P E remaining contents (Some host) None limit plan result old new
-    → RunsHosted P E remaining contents limit plan result old new
+HostedTracesTell P E remaining contents = (wanted : Wanted) (host : List ℕ) (plan : Plan) (noted : Option (List Event))
+    (result : Result Ended RunFault) (old new : Writer)
+    → wants wanted (codes "host") ≡ Some host → wanted.options.workers ≡ None
+    → Runs P E remaining contents wanted plan noted result old new
+    → RunsHosted P E remaining contents wanted.options.limit plan result old new
