@@ -38,7 +38,13 @@ fn print_entry(
         return Ok(Bytes::new(alloc));
     }
     let stack = stack(kernel, pid)?;
-    let decoder = decode(alloc, kernel, pid, Half::Entry { call, stack }, options.string_limit)?;
+    let decoder = decode(
+        alloc,
+        kernel,
+        pid,
+        Half::Entry { call, stack },
+        options.string_limit,
+    )?;
     let bytes = printer.enter(pid, call.number, decoder.text())?;
     Ok(bytes)
 }

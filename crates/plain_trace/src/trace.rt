@@ -15,8 +15,8 @@ use lx_kernel::Kernel;
 use plain_run::{Watch, Weary};
 use std::alloc::{AllocError, Global};
 use tr_core::Options;
-use tr_line::layout::Layout;
 use tr_line::Printer;
+use tr_line::layout::Layout;
 
 /// Prints each item that it is told, by what its process can read there.
 #[derive(Drop)]
