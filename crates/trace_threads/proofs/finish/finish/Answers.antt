@@ -16,7 +16,7 @@ returns-in-Ok-clause-run g c =
       cut = c.left_by-left.ensures.cut;
       fault = c.left_by-left.ensures.fault;
     })
-    (Ok c.in-Ok.run)
+    (Ok c.in-Ok.run')
     (record {
       ended_is = c.in-Ok.ensures.ended;
       outcome = c.in-Ok.ensures.outcome;
