@@ -1,5 +1,5 @@
 -- Entries of other processes into the call that fails.
-use Rattle.std.proofs.Common.{◌≡◌, ◌↔◌, Bool, ℕ, suc, ◌+◌, ◌<◌, ◌≤◌, true, false, not, ◌&&◌, List, [], ◌∷◌, ◌++◌, refl, sym, ap, ap₂, subst, ◌∙◌, append-nil, append_assoc, arith}
+use Rattle.std.proofs.Common.{◌≡◌, ◌↔◌, Bool, ℕ, suc, ◌+◌, ◌<◌, ◌≤◌, true, false, not, ◌&&◌, List, [], ◌∷◌, ◌++◌, length, refl, sym, ap, subst, ◌∙◌, append-nil, append_assoc, arith}
 use Rattle.std.specs.Prelude.{◌==◌, IsTrue, nat_le, if◌then◌else◌}
 use Rattle.std.proofs.lemmas.Bool.Decides.{nat_tests}
 use Rattle.lx_abi.specs.declared.log.Call.{Call}
@@ -104,8 +104,9 @@ never_fewer f log none = (
 pub others_enter : (f : Fault) (log : List Item) → (AreFewer f log → ⊥) → IsTrue false ↔ AreFewer f log
 others_enter f log none = (λ h. absurd (cc h), λ fewer. absurd (none fewer))
 
-pub none_enters : (f : Fault) (past log : List Item) → past ++ [] ≡ log → AreFewer f past → IsTrue true ↔ AreFewer f log
-none_enters f past log is fewer = (λ h. subst (λ l. AreFewer f l) (sym (append-nil past) ∙ is) fewer, λ h. refl)
+pub none_enters : (f : Fault) (past left log : List Item) → 0 ≡ length left → past ++ left ≡ log → AreFewer f past → IsTrue true ↔ AreFewer f log
+none_enters f past [] log none is fewer = (λ h. subst (λ l. AreFewer f l) (sym (append-nil past) ∙ is) fewer, λ h. refl)
+none_enters f past (item ∷ left) log none is fewer = absurd (omega (arith, none))
 
 pub first_fewer : (f : Fault) → 0 < f.n → AreFewer f []
 first_fewer f some q others = some

@@ -1,5 +1,5 @@
 -- A script whose rule gives the failure comes to the same.
-use Rattle.std.proofs.Common.{◌≡◌, Bool, ℕ, suc, ◌+◌, ◌<◌, ◌≤◌, true, false, cond, ◌&&◌, List, [], ◌∷◌, ◌++◌, length, filter, Option, Some, None, refl, sym, ap, ap₂, subst, ◌∙◌, arith}
+use Rattle.std.proofs.Common.{◌≡◌, Bool, ℕ, ◌+◌, ◌<◌, ◌≤◌, true, false, cond, ◌&&◌, List, [], ◌∷◌, ◌++◌, length, filter, Option, Some, None, refl, sym, ap, ap₂, subst, ◌∙◌, arith}
 use Rattle.std.specs.Prelude.{◌==◌}
 use Rattle.std.specs.FinMap as maps
 use Rattle.std.specs.Option.{option_to_list}
@@ -12,7 +12,7 @@ use Rattle.lx_abi.specs.declared.script.Choice.{Choice}
 use Rattle.lx_abi.specs.declared.script.Rule.{Rule}
 use Rattle.lx_abi.specs.Log.{entries, is_entry}
 use Rattle.lx_abi.specs.Scripts.{choice_of, no_choice}
-use Rattle.lx_model.specs.Finite.{Running, at, bore, item_of, ran, task_mode, turn_out}
+use Rattle.lx_model.specs.Finite.{at, bore, item_of, ran, task_mode}
 use Rattle.lx_model.specs.Kernel.{traces, choice_at}
 use Rattle.lx_model.specs.Machine.{a7_of}
 use Rattle.lx_model.specs.Turn.{Out, chosen, killed_or, lives, result_word, stage_mode, turn}

@@ -1,5 +1,4 @@
-use Rattle.std.proofs.Common.{◌≡◌, ◌∙◌, refl, subst, sym}
-use Rattle.lx_kernel.specs.Runs.{Run}
+use Rattle.std.proofs.Common.{◌∙◌, refl, subst, sym}
 use Rattle.pt_schedule.specs.Schedules.{events_left}
 use Rattle.pt_schedule.specs.Untraced.{readiness_of}
 use Rattle.plain_run.proofs.Turning.{turn_less, fewer_still, told_both, told_nothing}

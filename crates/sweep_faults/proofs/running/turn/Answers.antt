@@ -1,4 +1,4 @@
-use Rattle.std.proofs.Common.{◌≡◌, ◌≤◌, sym, subst}
+use Rattle.std.proofs.Common.{◌≤◌, sym, subst}
 use Rattle.pt_schedule.specs.Schedules.{events_left}
 use Rattle.pt_schedule.proofs.Rowing.{left_after}
 use Rattle.sweep_faults.specs.Runs.{RunsFaulted}

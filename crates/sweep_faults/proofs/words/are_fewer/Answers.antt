@@ -1,4 +1,4 @@
-use Rattle.std.proofs.Common.{◌≡◌, List, [], ◌∷◌, ◌++◌, sym, ap, ◌∙◌, arith}
+use Rattle.std.proofs.Common.{List, [], ◌∷◌, ◌++◌, sym, ◌∙◌, arith}
 use Rattle.std.proofs.lemmas.Bool.Decides.{nat_tests}
 use Rattle.lx_abi.specs.declared.log.Item.{Item}
 use Rattle.sweep_faults.proofs.Fewer.{grouped, never_fewer, none_enters, not_fewer, others_enter, still_fewer}
@@ -29,6 +29,4 @@ loop-item-preserved c =
 
 pub returns : goal.returns
 returns c =
-    let past : List Item = c.loop-item.invariant.0 in
-    none_enters c.args.fault past c.args.log.now
-    (ap (λ l. past ++ l) (sym c.in_default.ensures.cases) ∙ c.loop-item.invariant.1) c.loop-item.invariant.3
+    none_enters c.args.fault c.loop-item.invariant.0 c.loop-item.left.now c.args.log.now c.in_default.ensures.cases c.loop-item.invariant.1 c.loop-item.invariant.3
