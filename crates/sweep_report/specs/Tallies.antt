@@ -1,5 +1,5 @@
 -- How many runs came to what.
-use Rattle.std.specs.Prelude.{ℕ, ◌+◌, nat_lt, Bool, true, false, cond, List, [], ◌∷◌, ◌++◌, map}
+use Rattle.std.specs.Prelude.{ℕ, ◌+◌, nat_lt, Bool, false, cond, List, [], ◌∷◌, ◌++◌, map}
 use Rattle.std.specs.List.{flat_map}
 use Rattle.sweep_rows.specs.Summary.{count}
 use Rattle.sweep_rows.specs.Verdicts.{is_finding}

@@ -9,3 +9,4 @@ pub mod tally;
 pub mod texts;
 pub mod told;
 pub mod traced;
+pub mod untried;

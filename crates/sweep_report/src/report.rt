@@ -4,6 +4,7 @@ use crate::blocks::{Block, Line, blocks_of, first_in, first_of};
 use crate::tally::Tally;
 use crate::texts::{COLUMNS, push_column, push_part, push_wrapped, quoted_bytes, ranges};
 use crate::told::{Told, end_text};
+use crate::untried::Untried;
 use front_end::escaped;
 use lx_abi::{Item, Node, OutcomeFile};
 use serde::Serialize;
@@ -193,14 +194,17 @@ fn push_line(
     text.push('\n')
 }
 
-/// Adds a call, and its occurrences at the right.
+/// Adds a call, and its occurrences at the right, with how many there are where not all were tried.
 fn push_call(
     text: &mut String,
     alloc: Global,
-    call: &str,
+    first: &Told,
     occurrences: &[u64],
+    untried: &Untried,
 ) -> Result<(), AllocError> {
-    let number = format!(in alloc; "  #{}", ranges(alloc, occurrences)?)?;
+    let call = first.text.as_str();
+    let of = untried.text(alloc, first, occurrences.len())?;
+    let number = format!(in alloc; "  #{}{of}", ranges(alloc, occurrences)?)?;
     let room = COLUMNS.saturating_sub(number.len());
     match call.get(..room.saturating_sub(4)) {
         Some(front) if call.len() > room => {
@@ -219,12 +223,13 @@ fn push_block(
     rows: &[Told],
     block: &Block,
     style: Style,
+    untried: &Untried,
 ) -> Result<(), AllocError> {
     let Some(first) = first_in(rows, block) else {
         return Ok(());
     };
     let all = block.occurrences(alloc, rows)?;
-    push_call(text, alloc, first.text.as_str(), all.as_slice())?;
+    push_call(text, alloc, first, all.as_slice(), untried)?;
     for line in &block.lines {
         if style.all || is_noticed(line.rank) {
             push_line(text, alloc, rows, line, all.as_slice(), style.colors)?;
@@ -250,8 +255,13 @@ pub fn line(alloc: Global, told: &Told, colors: bool) -> Result<String, AllocErr
     Ok(text)
 }
 
-/// Adds how many runs came to what.
-fn push_counts(text: &mut String, alloc: Global, tally: &Tally) -> Result<(), AllocError> {
+/// Adds how many runs came to what, and how many weren't made.
+fn push_counts(
+    text: &mut String,
+    alloc: Global,
+    tally: &Tally,
+    untried: usize,
+) -> Result<(), AllocError> {
     let mut line = String::new(alloc);
     for kind in &tally.kinds {
         let part = format!(in alloc; "{} {}", kind.runs, name_of(kind.verdict))?;
@@ -263,6 +273,9 @@ fn push_counts(text: &mut String, alloc: Global, tally: &Tally) -> Result<(), Al
     line.push_str(format!(in alloc; "{} runs", tally.runs)?.as_str())?;
     if tally.known > 0 {
         line.push_str(format!(in alloc; ", {} known", tally.known)?.as_str())?;
+    }
+    if untried > 0 {
+        line.push_str(format!(in alloc; ", {untried} not made")?.as_str())?;
     }
     push_wrapped(text, line.as_str(), 0, 2)?;
     text.push('\n')
@@ -291,10 +304,11 @@ pub fn foot(
     setup: &Setup,
     worst: Option<&Told>,
     tally: &Tally,
+    untried: usize,
 ) -> Result<String, AllocError> {
     let mut text = String::new(alloc);
     push_command(&mut text, alloc, setup, worst)?;
-    push_counts(&mut text, alloc, tally)?;
+    push_counts(&mut text, alloc, tally, untried)?;
     Ok(text)
 }
 
@@ -306,19 +320,20 @@ pub fn table(
     rows: &[Told],
     tally: &Tally,
     style: Style,
+    untried: &Untried,
 ) -> Result<String, AllocError> {
     let mut text = head(alloc, setup, reference, tally.runs)?;
     let blocks = blocks_of(alloc, rows)?;
     for block in &blocks {
         if style.all || is_noticed(block.worst) {
-            push_block(&mut text, alloc, rows, block, style)?;
+            push_block(&mut text, alloc, rows, block, style, untried)?;
         }
     }
     let worst = match blocks.first() {
         Some(block) => first_in(rows, block),
         None => None,
     };
-    text.push_str(foot(alloc, setup, worst, tally)?.as_str())?;
+    text.push_str(foot(alloc, setup, worst, tally, untried.runs)?.as_str())?;
     Ok(text)
 }
 
@@ -328,10 +343,11 @@ struct Counts {
     runs: usize,
     findings: usize,
     known: usize,
+    not_made: usize,
     verdicts: Vec<(&'static str, usize)>,
 }
 
-fn counts_of(alloc: Global, tally: &Tally) -> Result<Counts, AllocError> {
+fn counts_of(alloc: Global, tally: &Tally, untried: usize) -> Result<Counts, AllocError> {
     let mut verdicts = Vec::new(alloc);
     for kind in &tally.kinds {
         verdicts.push((name_of(kind.verdict), kind.runs))?;
@@ -340,6 +356,7 @@ fn counts_of(alloc: Global, tally: &Tally) -> Result<Counts, AllocError> {
         runs: tally.runs,
         findings: tally.findings,
         known: tally.known,
+        not_made: untried,
         verdicts,
     })
 }
@@ -356,7 +373,11 @@ pub fn object(alloc: Global, told: &Told) -> Result<String, serde_json::Error> {
 }
 
 /// How many runs came to what, as an object.
-pub fn counts_object(alloc: Global, tally: &Tally) -> Result<String, serde_json::Error> {
-    let counts = counts_of(alloc, tally)?;
+pub fn counts_object(
+    alloc: Global,
+    tally: &Tally,
+    untried: usize,
+) -> Result<String, serde_json::Error> {
+    let counts = counts_of(alloc, tally, untried)?;
     object_line(alloc, &counts)
 }

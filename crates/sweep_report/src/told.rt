@@ -230,8 +230,13 @@ struct RunWords {
     failure: String,
 }
 
+/// There are none where a rule of a script, which is for each tracee, comes to another run.
 fn words_of(alloc: Global, matches: &ArgMatches, row: &Row) -> Result<RunWords, AllocError> {
-    let failure = failure_words(alloc, matches, &row.case, row.verdict)?;
+    let failure = if row.has_words {
+        failure_words(alloc, matches, &row.case, row.verdict)?
+    } else {
+        Vec::new(alloc)
+    };
     let words = words_with(alloc, matches, failure.as_slice())?;
     let failure = typed(alloc, failure.as_slice())?;
     Ok(RunWords { words, failure })
