@@ -104,7 +104,7 @@ never_fewer f log none = (
 pub others_enter : (f : Fault) (log : List Item) → (AreFewer f log → ⊥) → IsTrue false ↔ AreFewer f log
 others_enter f log none = (λ h. absurd (cc h), λ fewer. absurd (none fewer))
 
-pub none_enters : (f : Fault) (past left log : List Item) → 0 ≡ length left → past ++ left ≡ log → AreFewer f past → IsTrue true ↔ AreFewer f log
+pub none_enters : (f : Fault) (past left log : List Item) → length left ≡ 0 → past ++ left ≡ log → AreFewer f past → IsTrue true ↔ AreFewer f log
 none_enters f past [] log none is fewer = (λ h. subst (λ l. AreFewer f l) (sym (append-nil past) ∙ is) fewer, λ h. refl)
 none_enters f past (item ∷ left) log none is fewer = absurd (omega (arith, none))
 
