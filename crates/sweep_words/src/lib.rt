@@ -5,5 +5,6 @@ pub mod calls;
 pub mod known;
 pub mod plan;
 pub mod shell;
+pub mod show;
 pub mod wanted;
 pub mod words;

@@ -1,0 +1,148 @@
+//! The run that `--show` names.
+
+ghost use Rattle.std.specs.Prelude.{◌≡◌};
+ghost use Rattle.sweep_words.specs.Shown as spec;
+
+use clap::ArgMatches;
+use front_end::{Fault, Shown, decimal, expression_words};
+use lx_abi::Errno;
+use lx_abi::calls::call_number;
+use std::alloc::Global;
+use tr_expr::errno;
+
+/// Options that have no meaning where one run is shown, each as it is written.
+const VALUES: [(&str, &str); 10] = [
+    ("orders", "--orders"),
+    ("errors", "--errors"),
+    ("format", "--format"),
+    ("known", "--known"),
+    ("known-out", "--known-out"),
+    ("shard", "--shard"),
+    ("max-runs", "--max-runs"),
+    ("time", "--time"),
+    ("check", "--check"),
+    ("jobs", "--jobs"),
+];
+
+const FLAGS: [(&str, &str); 3] = [
+    ("each", "--each"),
+    ("all", "--all"),
+    ("fail-fast", "--fail-fast"),
+];
+
+/// The nth entry of a process into a call, counted from 1, fails with an error.
+#[derive(Clone, Copy, Debug, PartialEq, Eq)]
+pub struct NamedRun {
+    pub pid: u64,
+    pub call: u64,
+    pub error: Errno,
+    pub n: u64,
+}
+
+/// A number from 1 on.
+#[tactic(auto, unfolding(crate::specs::Shown::positive))]
+fn positive(digits: &str) -> Option<u64>
+    ensures { result ≡ spec.positive digits.now }
+{
+    match decimal(digits, u64::MAX) {
+        None | Some(0) => None,
+        Some(number) => Some(number),
+    }
+}
+
+/// The process of `CALL` or `CALL@PID`.
+#[tactic(auto, unfolding(crate::specs::Shown::pid_in))]
+fn pid_in(text: &str) -> Option<u64>
+    ensures { result ≡ spec.pid_in text.now }
+{
+    match text.split_once('@') {
+        None => Some(1),
+        Some((_, digits)) => positive(digits),
+    }
+}
+
+/// Its call.
+#[tactic(auto, unfolding(crate::specs::Shown::call_in))]
+fn call_in(text: &str) -> Option<u64>
+    ensures { result ≡ spec.call_in text.now }
+{
+    match text.split_once('@') {
+        None => call_number(text),
+        Some((name, _)) => call_number(name),
+    }
+}
+
+/// An error by its name or number.
+#[tactic(auto, unfolding(crate::specs::Shown::error_in))]
+fn error_in(text: &str) -> Option<Errno>
+    ensures { result ≡ spec.error_in text.now }
+{
+    match errno(text) {
+        Ok(number) => Errno::from_number(number),
+        Err(_) => None,
+    }
+}
+
+/// The run of these three parts.
+#[tactic(auto, unfolding(crate::specs::Shown::run_of))]
+fn run_of(call: &str, error: &str, n: &str) -> Option<NamedRun>
+    ensures { result ≡ spec.run_of call.now error.now n.now }
+{
+    let pid = pid_in(call)?;
+    let call = call_in(call)?;
+    let error = error_in(error)?;
+    let n = positive(n)?;
+    Some(NamedRun {
+        pid,
+        call,
+        error,
+        n,
+    })
+}
+
+/// The run of these words, if they name one.
+#[tactic(auto, unfolding(crate::specs::Shown::named_run))]
+pub fn named_run(text: &str) -> Option<NamedRun>
+    ensures { result ≡ spec.named_run text.now }
+{
+    let (call, rest) = text.split_once(':')?;
+    let (error, n) = rest.split_once(':')?;
+    run_of(call, error, n)
+}
+
+fn excluded(alloc: Global, option: &str) -> Fault {
+    Fault::usage(format!(in alloc; "--show excludes {option}: one run is made"))
+}
+
+/// Options that have no meaning where one run is shown.
+fn check(alloc: Global, matches: &ArgMatches) -> Result<(), Fault> {
+    if !expression_words(alloc, matches)?.is_empty() {
+        return Err(excluded(alloc, "-e"));
+    }
+    for (id, option) in VALUES {
+        if matches.get_str(id).is_some() {
+            return Err(excluded(alloc, option));
+        }
+    }
+    for (id, option) in FLAGS {
+        if matches.get_flag(id) {
+            return Err(excluded(alloc, option));
+        }
+    }
+    Ok(())
+}
+
+/// The run that the words name, if they do.
+pub fn shown_run(alloc: Global, matches: &ArgMatches) -> Result<Option<NamedRun>, Fault> {
+    let Some(text) = matches.get_str("show") else {
+        return Ok(None);
+    };
+    check(alloc, matches)?;
+    match named_run(text) {
+        Some(run) => Ok(Some(run)),
+        None => Err(Fault::usage(format!(in alloc;
+            "--show {}: not CALL:ERROR:N or CALL@PID:ERROR:N, as write:EIO:2",
+            Shown(text)
+        ))),
+    }
+}
