@@ -11,7 +11,8 @@ use Rattle.sweep_runs.specs.Rows.{AreRows, IsRow}
 use Rattle.sweep_runs.specs.declared.chosen.Case.{Case}
 use Rattle.sweep_runs.specs.declared.runs.Setup.{Setup}
 use Rattle.sweep_runs.specs.declared.sweeping.Row.{Row}
-use Rattle.sweep_command.specs.Reports.{ends_found, IsFound, IsCut, IsEnd}
+use Rattle.sweep_words.specs.declared.words.Words.{Words}
+use Rattle.sweep_command.specs.Reports.{ends_found, is_given, IsFound, IsCut, IsEnd}
 
 -- the first rows end with this one
 pub ends_at : (rows : List Row) (i : ℕ) (r : Row) (b : Bool) → slice_get rows i ≡ Some r → ends_found b (take (suc i) rows) ≡ is_finding r.verdict
@@ -88,11 +89,13 @@ pub ended_behind : (fail_fast : Bool) (before rows : List Row) → 0 < length ro
     → (fail_fast && ends_found false (before ++ rows)) ≡ true
 ended_behind fail_fast before rows some e = ap (λ b. fail_fast && b) (ends_behind before rows false some) ∙ e
 
--- the sweep ends with a finding, or where no case is left
-pub sweep_ends : (fail_fast ended : Bool) (rows : List Row) (rest : List Case) → (ended ≡ true → (fail_fast && ends_found false rows) ≡ true)
-    → (ended ≡ false → rest ≡ []) → IsEnd fail_fast rows rest
-sweep_ends fail_fast true rows rest f g = inl (f refl)
-sweep_ends fail_fast false rows rest f g = inr (g refl)
+-- the sweep ends with a finding, or late, or where no case is left
+pub sweep_ends : (words : Words) (ended late : Bool) (rows : List Row) (rest : List Case)
+    → (ended ≡ true → (words.fail_fast && ends_found false rows) ≡ true) → (late ≡ true → is_given words.seconds ≡ true)
+    → (ended ≡ false → late ≡ false → rest ≡ []) → IsEnd words rows rest
+sweep_ends words true late rows rest f t g = inl (f refl)
+sweep_ends words false true rows rest f t g = inr (inl (t refl))
+sweep_ends words false false rows rest f t g = inr (inr (g refl refl))
 
 -- fewer cases are left
 pub fewer_left : (m : ℕ) (left rest : List Case) → take m left ++ rest ≡ left → 0 < m → m ≤ length left → length rest < length left

@@ -1,6 +1,7 @@
 -- The report on a sweep.
 use Rattle.std.specs.Prelude.{◌≡◌, ◌⊎◌, ⊤, ℕ, suc, ◌-◌, ◌<◌, ◌==◌, ◌&&◌, ◌||◌, nat_lt, take, cond, Bool, true, false, List, [], ◌∷◌, ◌++◌, length, Option, Some, None, map, String}
 use Rattle.std.specs.List.{list_any, slice_get}
+use Rattle.sweep_command.specs.Choosing.{AreChosen}
 use Rattle.sweep_orders.specs.Orders.{AreOrders}
 use Rattle.sweep_orders.specs.declared.exploring.Explored.{Explored}
 use Rattle.sweep_orders.specs.declared.found.Found.{Found}
@@ -10,7 +11,7 @@ use Rattle.sweep_rows.specs.Summary.{status}
 use Rattle.sweep_rows.specs.Verdicts.{is_finding}
 use Rattle.sweep_rows.specs.declared.verdicts.Reached.{Reached}
 use Rattle.sweep_runs.specs.Cases.{cases_of}
-use Rattle.sweep_runs.specs.Rows.{failure_of, AreRows}
+use Rattle.sweep_runs.specs.Rows.{fault_of, AreRows}
 use Rattle.sweep_runs.specs.declared.chosen.Case.{Case}
 use Rattle.sweep_runs.specs.declared.runs.Setup.{Setup}
 use Rattle.sweep_runs.specs.declared.sweeping.Row.{Row}
@@ -37,10 +38,15 @@ part_of None cases = cases
 part_of (Some s) cases = every s.between s.before cases
 
 -- the failures are those that the words ask for, in the run without a failure
-abbrev pub AreWanted : Plan → Option Shard → Reached → List Case → Type 0
-AreWanted plan shard reference cases =
-    map failure_of cases
-    ≡ map failure_of (part_of shard (cases_of plan.wanted.items plan.setup.boot.follow reference.log.items))
+abbrev pub AreAll : Plan → Option Shard → Reached → List Case → Type 0
+AreAll plan shard reference cases =
+    map fault_of cases
+    ≡ map fault_of (part_of shard (cases_of plan.wanted.items plan.setup.boot.follow reference.log.items))
+
+-- .. or the first of them, those that are likely to show something new
+abbrev pub AreWanted : Plan → Words → Reached → List Case → Type 0
+AreWanted plan words reference cases =
+    (all : List Case) × AreAll plan words.shard reference all × AreChosen words.most all cases
 
 -- the last of these rows is a finding
 abbrev pub ends_found : Bool → List Row → Bool
@@ -59,31 +65,38 @@ pub record IsCut (fail_fast : Bool) (batch rows : List Row) (ended : Bool) : Typ
   pub some : 0 < length batch → 0 < length rows
   pub found : ended ≡ true → (fail_fast && ends_found false rows) ≡ true
 
--- the sweep ends with these rows: the last is a finding, and one is to end it, or no case is left
-abbrev pub IsEnd : Bool → List Row → List Case → Type 0
-IsEnd fail_fast rows rest = ((fail_fast && ends_found false rows) ≡ true) ⊎ (rest ≡ [])
+abbrev pub is_given : Option ℕ → Bool
+is_given None = false
+is_given (Some n) = true
+
+-- the sweep ends with these rows: the last is a finding, and one is to end it, or its time is over, or no case is left
+abbrev pub IsEnd : Words → List Row → List Case → Type 0
+IsEnd words rows rest =
+    ((words.fail_fast && ends_found false rows) ≡ true) ⊎ ((is_given words.seconds ≡ true) ⊎ (rest ≡ []))
 
 -- rows of the first of these cases, up to the end of the sweep
-pub record AreBegun (setup : Setup) (reference : Reached) (fail_fast : Bool) (cases : List Case) (rows : List Row)
+pub record AreBegun (setup : Setup) (reference : Reached) (words : Words) (cases : List Case) (rows : List Row)
     : Type 0 where
   pub done : List Case
   pub rest : List Case
   pub all : done ++ rest ≡ cases
   pub made : AreRows setup reference done rows
-  pub ended : IsEnd fail_fast rows rest
+  pub ended : IsEnd words rows rest
 
--- the row is a finding, and its line is like one of those that are known
-pub record IsKnownFinding {Z : Type 0} (known : List (String Z)) (row : Row) : Type 0 where
-  pub finding : is_finding row.verdict ≡ true
+-- the row is a finding whose line is like one of those that are known; or it isn't such a row
+pub record IsMark {Z : Type 0} (known : List (String Z)) (row : Row) (mark : Bool) : Type 0 where
   pub key : List ℕ
   pub is_key : IsKey row.verdict key
-  pub like : IsKnown known key
+  pub finding : mark ≡ true → is_finding row.verdict ≡ true
+  pub like : mark ≡ true → IsKnown known key
+  pub unlike : mark ≡ false → is_finding row.verdict ≡ true → ¬ (IsKnown known key)
 
--- such rows alone are marked
+-- such rows are marked, and no others; where none is known there are no marks
 abbrev pub AreMarks : {Z : Type 0} → List (String Z) → List Row → List Bool → Type 0
-AreMarks known rows [] = ⊤
+AreMarks known [] [] = ⊤
+AreMarks known (r ∷ rs) [] = known ≡ []
 AreMarks known [] (m ∷ ms) = ⊥
-AreMarks known (r ∷ rs) (m ∷ ms) = (m ≡ true → IsKnownFinding known r) × AreMarks known rs ms
+AreMarks known (r ∷ rs) (m ∷ ms) = IsMark known r m × AreMarks known rs ms
 
 -- the status is that of these rows, but for those that are known
 pub record IsCounted (plan : Plan) (rows : List Row) (s : ℕ) : Type 0 where
@@ -96,8 +109,8 @@ pub record IsCounted (plan : Plan) (rows : List Row) (s : ℕ) : Type 0 where
 pub record IsOfRows (plan : Plan) (words : Words) (reference : Reached) (s : ℕ) : Type 0 where
   pub cases : List Case
   pub rows : List Row
-  pub wanted : AreWanted plan words.shard reference cases
-  pub made : AreBegun plan.setup reference words.fail_fast cases rows
+  pub wanted : AreWanted plan words reference cases
+  pub made : AreBegun plan.setup reference words cases rows
   pub counted : IsCounted plan rows s
 
 -- The report on orders of turns.

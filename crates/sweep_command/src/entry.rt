@@ -7,6 +7,7 @@ use front_end::{Fault, print_help, refusal, report, shown_words};
 use std::alloc::Global;
 use std::env::Env;
 use std::io::{IsTerminal, Read, Write};
+use std::process::Processes;
 use std::rt::Files;
 use std::thread::Threads;
 use std::time::Clock;
@@ -18,7 +19,7 @@ const NAME: &str = "strace_sweep";
 /// Makes the sweep that the words ask for, the program's name first, and gives the exit status. A fault is one line on
 /// `err`; at a terminal, and where the words ask for it, another explains it.
 pub fn command<
-    R: Env + Files + Clock + Threads + Sync + AllocGlobal,
+    R: Env + Files + Clock + Processes + Threads + Sync + AllocGlobal,
     I: Read + IsTerminal,
     O: Write + IsTerminal,
     E: Write + IsTerminal,
@@ -40,7 +41,7 @@ pub fn tell<E: Write>(fault: Fault, err: &mut E) -> u8 {
 }
 
 fn run<
-    R: Env + Files + Clock + Threads + Sync + AllocGlobal,
+    R: Env + Files + Clock + Processes + Threads + Sync + AllocGlobal,
     I: Read + IsTerminal,
     O: Write + IsTerminal,
     E: Write + IsTerminal,

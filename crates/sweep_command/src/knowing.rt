@@ -4,7 +4,7 @@ ghost use Rattle.std.specs.Prelude.{◌≡◌, [], true, IfOk};
 ghost use Rattle.std.specs.String.{string_bytes};
 ghost use Rattle.sweep_report.specs.Keys.{IsKey};
 ghost use Rattle.sweep_rows.specs.Verdicts.{is_finding};
-ghost use Rattle.sweep_command.specs.Reports.{IsKnownFinding, AreMarks};
+ghost use Rattle.sweep_command.specs.Reports.{IsMark, AreMarks};
 
 use crate::outputs::{check, replace};
 use clap::ArgMatches;
@@ -42,13 +42,14 @@ fn is_known_finding(
     row: &Row,
 ) -> Result<bool, AllocError>
     requires { is_finding row.now.verdict ≡ true }
-    ensures { IfOk result (λ known. known ≡ true → IsKnownFinding plan.now.known.items row.now) }
+    ensures { IfOk result (IsMark plan.now.known.items row.now) }
 {
     let key = key(alloc, reference, calls, row)?;
     Ok(is_known(plan.known.as_slice(), key.as_str()))
 }
 
 /// The row is a finding that is known.
+#[tactic(auto, using(crate::proofs::Marking::none_known, crate::proofs::Marking::no_finding))]
 pub fn is_mark(
     alloc: Global,
     plan: &Plan,
@@ -56,7 +57,7 @@ pub fn is_mark(
     calls: &TracedCalls,
     row: &Row,
 ) -> Result<bool, AllocError>
-    ensures { IfOk result (λ mark. mark ≡ true → IsKnownFinding plan.now.known.items row.now) }
+    ensures { IfOk result (IsMark plan.now.known.items row.now) }
 {
     if plan.known.is_empty() {
         return Ok(false);
@@ -89,6 +90,7 @@ fn each_mark(
 }
 
 /// Which rows are findings that are known; none is, where the words name none.
+#[tactic(auto, using(crate::proofs::Marking::no_marks))]
 pub fn marks_of(
     alloc: Global,
     plan: &Plan,

@@ -2,7 +2,10 @@
 //! are.
 #![tactic(auto)]
 
+mod checking;
+mod choosing;
 mod entry;
+mod judging;
 mod keeping;
 mod knowing;
 mod orders;

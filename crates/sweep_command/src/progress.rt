@@ -1,5 +1,8 @@
 //! How far a sweep is, on a terminal.
 
+ghost use Rattle.std.specs.Prelude.{◌≡◌, true};
+ghost use Rattle.sweep_command.specs.Reports.{is_given};
+
 use std::alloc::{AllocError, Global};
 use std::io::Write;
 use std::time::{Clock, Duration, Instant};
@@ -53,9 +56,27 @@ impl<'s, C: Clock, E: Write> ShownProgress<'s, C, E> {
         self.findings = self.findings.saturating_add(findings);
     }
 
+    /// So many seconds are over, if a number is given.
+    pub fn is_past(&self, seconds: Option<u64>) -> bool
+        ensures { result ≡ true → is_given seconds ≡ true }
+    {
+        let Some(seconds) = seconds else {
+            return false;
+        };
+        match self.took() {
+            Some(took) => took.as_secs() >= seconds,
+            None => false,
+        }
+    }
+
+    /// How long the sweep takes, if the clock tells it.
+    fn took(&self) -> Option<Duration> {
+        self.start?.elapsed(self.clock).ok()
+    }
+
     /// How fast the runs are made, if the clock tells it.
     fn speed(&self, made: usize, all: usize) -> Option<String> {
-        let took = self.start?.elapsed(self.clock).ok()?;
+        let took = self.took()?;
         speed(self.alloc, made, all, took).ok()
     }
 

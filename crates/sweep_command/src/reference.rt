@@ -6,20 +6,24 @@ use lx_boot::BootFault;
 use lx_kernel::Kernel;
 use std::alloc::{AllocError, Global};
 use sweep_rows::Reached;
-use sweep_runs::{Case, Setup, refer, run_accepted, script_of};
+use sweep_runs::{Case, Setup, fault_of, refer, run_accepted, run_failing};
 
 fn referred(alloc: Global, setup: &Setup) -> Result<Reached, BootFault> {
     refer(alloc, setup)
 }
 
-/// The kernel that a run under a script leaves.
-fn kernel(alloc: Global, setup: &Setup, script: Script) -> Result<Kernel, AllocError> {
-    run_accepted(alloc, setup, script)
+/// The kernel that the run without a failure leaves.
+fn kernel(alloc: Global, setup: &Setup) -> Result<Kernel, AllocError> {
+    run_accepted(alloc, setup, Script::empty(alloc))
 }
 
-/// Why a run is out of turns.
-fn explain(alloc: Global, setup: &Setup, script: Script) -> Result<String, AllocError> {
-    let kernel = kernel(alloc, setup, script)?;
+/// The kernel that the run of a case leaves.
+fn kernel_of(alloc: Global, setup: &Setup, case: Case) -> Result<Kernel, AllocError> {
+    run_failing(alloc, setup, fault_of(case))
+}
+
+/// Why the run that left this kernel is out of turns.
+fn explain(alloc: Global, setup: &Setup, kernel: Kernel) -> Result<String, AllocError> {
     let text = explain_turns(alloc, &kernel, setup.limit, "turns");
     drop(kernel);
     text
@@ -27,12 +31,14 @@ fn explain(alloc: Global, setup: &Setup, script: Script) -> Result<String, Alloc
 
 /// Why the run of a case is out of turns.
 pub fn explain_case(alloc: Global, setup: &Setup, case: Case) -> Result<String, AllocError> {
-    let script = script(alloc, case)?;
-    explain(alloc, setup, script)
+    let kernel = kernel_of(alloc, setup, case)?;
+    explain(alloc, setup, kernel)
 }
 
-fn script(alloc: Global, case: Case) -> Result<Script, AllocError> {
-    script_of(alloc, case)
+/// Why the run without a failure is out of turns.
+fn explain_reference(alloc: Global, setup: &Setup) -> Result<String, AllocError> {
+    let kernel = kernel(alloc, setup)?;
+    explain(alloc, setup, kernel)
 }
 
 /// The run without a failure.
@@ -45,7 +51,7 @@ pub fn reference(alloc: Global, setup: &Setup, explained: bool) -> Result<Reache
         return Ok(reference);
     }
     let reason = if explained {
-        Some(explain(alloc, setup, Script::empty(alloc))?)
+        Some(explain_reference(alloc, setup)?)
     } else {
         None
     };

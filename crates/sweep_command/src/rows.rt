@@ -1,9 +1,12 @@
 //! The runs with a failure, and what is written of them as they are made.
 
 ghost use Rattle.std.specs.Prelude.{◌≡◌, ◌<◌, ◌≤◌, ◌++◌, [], true, false, length, map, take, IfOk, OnOk};
-ghost use Rattle.sweep_runs.specs.Rows.{failure_of};
-ghost use Rattle.sweep_command.specs.Reports.{taken, waits, every, part_of, AreWanted, AreBegun, IsFound, IsCut};
+ghost use Rattle.sweep_runs.specs.Rows.{fault_of};
+ghost use Rattle.sweep_command.specs.Choosing.{AreChosen};
+ghost use Rattle.sweep_command.specs.Reports.{taken, waits, every, part_of, AreAll, AreWanted, AreBegun, IsFound};
+ghost use Rattle.sweep_command.specs.Reports.{IsCut};
 
+use crate::choosing::{chosen, site_calls};
 use crate::knowing::{findings, is_new};
 use crate::outputs::write;
 use crate::progress::ShownProgress;
@@ -17,6 +20,7 @@ use std::time::Clock;
 use sweep_report::report::{line, object};
 use sweep_report::sites::is_kept;
 use sweep_report::traced::TracedCalls;
+use sweep_report::untried::SiteCalls;
 use sweep_rows::Reached;
 use sweep_runs::{Case, Progress, Row, Silent, cases};
 use sweep_threads::rows_on_threads;
@@ -33,7 +37,7 @@ fn by_the_end(
     calls: &TracedCalls,
     cases: &[Case],
 ) -> Result<Vec<Case>, AllocError>
-    ensures { IfOk result (λ r. map failure_of r.items ≡ map failure_of cases.now) }
+    ensures { IfOk result (λ r. map fault_of r.items ≡ map fault_of cases.now) }
 {
     let mut all = Vec::new(alloc);
     let mut left = cases;
@@ -89,15 +93,15 @@ fn part_of(alloc: Global, shard: Option<Shard>, cases: &[Case]) -> Result<Vec<Ca
     Ok(all)
 }
 
-/// The cases that the words ask for.
-pub fn wanted_cases(
+/// All cases that the words ask for.
+fn all_cases(
     alloc: Global,
     plan: &Plan,
     shard: Option<Shard>,
     reference: &Reached,
     calls: &TracedCalls,
 ) -> Result<Vec<Case>, AllocError>
-    ensures { IfOk result (λ r. AreWanted plan.now shard reference.now r.items) }
+    ensures { IfOk result (λ r. AreAll plan.now shard reference.now r.items) }
 {
     let log = reference.log.as_slice();
     let cases = cases(alloc, log, plan.wanted.as_slice(), plan.setup.boot.follow)?;
@@ -106,12 +110,59 @@ pub fn wanted_cases(
     Ok(cases)
 }
 
-/// How many runs are made before their rows are written.
-fn batch_size(jobs: u8) -> usize
+/// The cases that are tried, and what there is beside them.
+#[derive(Drop)]
+pub struct Choice {
+    pub cases: Vec<Case>,
+    /// How many cases there are.
+    pub all: usize,
+    /// How many calls each site has, where not all cases are tried.
+    pub sites: Vec<SiteCalls>,
+}
+
+/// The calls of the sites, where not all cases are tried.
+fn untried_sites(
+    alloc: Global,
+    words: Words,
+    reference: &Reached,
+    calls: &TracedCalls,
+    cases: &[Case],
+) -> Result<Vec<SiteCalls>, AllocError> {
+    if words.most.is_none() {
+        return Ok(Vec::new(alloc));
+    }
+    site_calls(alloc, reference, calls, cases)
+}
+
+/// The cases that the words ask for.
+pub fn wanted_cases(
+    alloc: Global,
+    plan: &Plan,
+    words: Words,
+    reference: &Reached,
+    calls: &TracedCalls,
+) -> Result<Choice, AllocError>
+    ensures { IfOk result (λ r. AreWanted plan.now words reference.now r.cases.items) }
+{
+    let all = all_cases(alloc, plan, words.shard, reference, calls)?;
+    let all = all.as_slice();
+    let cases = chosen(alloc, words.most, reference, calls, all)?;
+    let sites = untried_sites(alloc, words, reference, calls, all)?;
+    Ok(Choice {
+        cases,
+        all: all.len(),
+        sites,
+    })
+}
+
+/// How many runs are made before their rows are written. Where their time is limited each thread makes one.
+fn batch_size(jobs: u8, is_timed: bool) -> usize
     ensures { 0 < result }
 {
     if jobs < 2 {
         1
+    } else if is_timed {
+        usize::from(jobs)
     } else {
         usize::from(jobs) * RUNS_A_THREAD
     }
@@ -170,12 +221,12 @@ fn behind(cases: &[Case], count: usize) -> &[Case]
     rest
 }
 
-/// There are runs to make, and the sweep isn't at its end.
-fn goes_on(left: &[Case], ended: bool) -> bool
+/// There are runs to make, and the sweep isn't at its end, nor its time.
+fn goes_on(left: &[Case], ended: bool, late: bool) -> bool
     ensures some { result ≡ true → 0 < length left.now }
-    ensures none { result ≡ false → ended ≡ false → left.now ≡ [] }
+    ensures none { result ≡ false → ended ≡ false → late ≡ false → left.now ≡ [] }
 {
-    !ended && !left.is_empty()
+    !ended && !late && !left.is_empty()
 }
 
 /// A row in a line, in the format that the words ask for.
@@ -199,7 +250,7 @@ fn line_of(
 }
 
 /// Writes a batch of rows, where rows are written one by one.
-fn write_rows<W: Write>(
+pub fn write_rows<W: Write>(
     alloc: Global,
     matches: &ArgMatches,
     words: Words,
@@ -231,13 +282,13 @@ fn make_batches<R: Threads + Sync + AllocGlobal, C: Clock, W: Write, E: Write>(
     writer: &mut W,
     progress: &mut ShownProgress<C, E>,
 ) -> Result<Vec<Row>, Fault>
-    ensures { IfOk result (λ rows. AreBegun plan.now.setup reference.now words.fail_fast cases.now rows.items) }
+    ensures { IfOk result (λ rows. AreBegun plan.now.setup reference.now words cases.now rows.items) }
 {
-    let size = batch_size(words.jobs);
+    let size = batch_size(words.jobs, words.seconds.is_some());
     let mut rows = Vec::new(rt.alloc());
     let mut ended = false;
     let mut left = cases;
-    while goes_on(left, ended) {
+    while goes_on(left, ended, progress.is_past(words.seconds)) {
         let (first, _) = left.split_at(size.min(left.len()));
         let (setup, jobs) = (&plan.setup, words.jobs);
         let mut more = rows_on_threads(rt, rt.alloc(), jobs, setup, reference, first, &mut Silent)?;
@@ -281,7 +332,7 @@ pub fn make<R: Clock + Threads + Sync + AllocGlobal, W: Write, E: Write + IsTerm
     writer: &mut W,
     err: &mut E,
 ) -> Result<Vec<Row>, Fault>
-    ensures { IfOk result (λ rows. AreBegun plan.now.setup reference.now words.fail_fast cases.now rows.items) }
+    ensures { IfOk result (λ rows. AreBegun plan.now.setup reference.now words cases.now rows.items) }
 {
     let is_shown = err.is_terminal();
     let mut progress = ShownProgress::new(rt.alloc(), rt, err, is_shown);

@@ -5,11 +5,12 @@ ghost use Rattle.sweep_report.specs.Tallies.{unmarked};
 ghost use Rattle.sweep_rows.specs.Summary.{status};
 ghost use Rattle.sweep_command.specs.Reports.{IsCounted, IsOfRows};
 
+use crate::judging::{begin_checks, judge_rows};
 use crate::knowing::{check_known, finish_known, marks_of};
 use crate::orders::orders_reported;
 use crate::outputs::{check, create, path_of, replace, write};
 use crate::reference::reference;
-use crate::rows::{make, wanted_cases};
+use crate::rows::{Choice, make, wanted_cases, write_rows};
 use crate::telling::{all_told, told, worst};
 use clap::ArgMatches;
 use front_end::{Fault, Program, check_outputs};
@@ -17,6 +18,7 @@ use lx_abi::Status;
 use std::alloc::Global;
 use std::env::{self, Env};
 use std::io::{IsTerminal, Read, Write};
+use std::process::Processes;
 use std::rt::Files;
 use std::thread::Threads;
 use std::time::Clock;
@@ -24,6 +26,7 @@ use sweep_report::junit::junit;
 use sweep_report::report::{counts_object, foot, head, table};
 use sweep_report::tally::{Tally, tally_of, unmarked, verdicts_of};
 use sweep_report::traced::TracedCalls;
+use sweep_report::untried::Untried;
 use sweep_rows::{Reached, first_word, status};
 use sweep_runs::Row;
 use sweep_trace::traced_calls;
@@ -73,12 +76,13 @@ fn foot_of(
     calls: &TracedCalls,
     rows: &[Row],
     tally: &Tally,
+    untried: &Untried,
 ) -> Result<String, Fault> {
     let worst = match worst(rows) {
         Some(row) => Some(told(alloc, matches, plan, reference, calls, row)?),
         None => None,
     };
-    Ok(foot(alloc, &plan.setup, worst.as_ref(), tally)?)
+    Ok(foot(alloc, &plan.setup, worst.as_ref(), tally, untried.runs)?)
 }
 
 /// What is left to write once the runs are made: the counts, and the calls with their outcomes, where runs weren't
@@ -92,21 +96,30 @@ fn rest_of(
     calls: &TracedCalls,
     rows: &[Row],
     tally: &Tally,
+    untried: &Untried,
 ) -> Result<String, Fault> {
     if words.format == Format::Json {
-        return match counts_object(alloc, tally) {
+        return match counts_object(alloc, tally, untried.runs) {
             Ok(counts) => Ok(counts),
             Err(_) => Err(Fault::Memory),
         };
     }
     if words.is_streamed() {
-        return foot_of(alloc, matches, plan, reference, calls, rows, tally);
+        return foot_of(alloc, matches, plan, reference, calls, rows, tally, untried);
     }
     let told = all_told(alloc, matches, plan, reference, calls, rows)?;
     let told = told.as_slice();
     match words.format {
         Format::Junit => Ok(junit(alloc, &plan.setup, told)?),
-        _ => Ok(table(alloc, &plan.setup, reference, told, tally, words.style)?),
+        _ => Ok(table(
+            alloc,
+            &plan.setup,
+            reference,
+            told,
+            tally,
+            words.style,
+            untried,
+        )?),
     }
 }
 
@@ -120,6 +133,7 @@ fn finish<W: Write>(
     calls: &TracedCalls,
     rows: &[Row],
     marks: &[bool],
+    untried: &Untried,
     writer: &mut W,
 ) -> Result<u8, Fault>
     ensures { IfOk result (λ s. s ≡ status (unmarked marks.now rows.now)) }
@@ -128,7 +142,9 @@ fn finish<W: Write>(
     let counted = unmarked(alloc, rows, marks)?;
     let counted = counted.as_slice();
     let tally = tally_of(alloc, verdicts.as_slice(), counted)?;
-    let rest = rest_of(alloc, matches, words, plan, reference, calls, rows, &tally)?;
+    let rest = rest_of(
+        alloc, matches, words, plan, reference, calls, rows, &tally, untried,
+    )?;
     write(alloc, rest.as_str(), writer)?;
     Ok(status(counted))
 }
@@ -142,6 +158,7 @@ fn conclude<R: Files + AllocGlobal, W: Write, E: Write>(
     reference: &Reached,
     calls: &TracedCalls,
     rows: &[Row],
+    untried: &Untried,
     writer: &mut W,
     err: &mut E,
 ) -> Result<u8, Fault>
@@ -151,10 +168,19 @@ fn conclude<R: Files + AllocGlobal, W: Write, E: Write>(
     let marks = marks_of(alloc, plan, reference, calls, rows)?;
     let marks = marks.as_slice();
     let status = finish(
-        alloc, matches, words, plan, reference, calls, rows, marks, writer,
+        alloc, matches, words, plan, reference, calls, rows, marks, untried, writer,
     )?;
     finish_known(rt, matches, plan, reference, calls, rows, err)?;
     Ok(status)
+}
+
+/// What is left of a choice, of which so many runs are made.
+fn untried_of(choice: Choice, made: usize) -> Untried {
+    let Choice { all, sites, .. } = choice;
+    Untried {
+        sites,
+        runs: all.saturating_sub(made),
+    }
 }
 
 /// Makes the runs with a failure, and reports them; gives the exit status.
@@ -171,21 +197,61 @@ fn failures<R: Files + Clock + Threads + Sync + AllocGlobal, W: Write, E: Write 
 {
     let alloc = rt.alloc();
     let calls = traced_calls(alloc, &plan.setup, reference.log.as_slice())?;
-    let cases = wanted_cases(alloc, plan, words.shard, reference, &calls)?;
-    let cases = cases.as_slice();
+    let choice = wanted_cases(alloc, plan, words, reference, &calls)?;
+    let cases = choice.cases.as_slice();
     write_head(alloc, words, plan, reference, cases.len(), writer)?;
     let rows = make(
         rt, matches, words, plan, reference, &calls, cases, writer, err,
     )?;
     let rows = rows.as_slice();
+    let untried = untried_of(choice, rows.len());
     let status = conclude(
-        rt, matches, words, plan, reference, &calls, rows, writer, err,
+        rt, matches, words, plan, reference, &calls, rows, &untried, writer, err,
     )?;
     Ok(status)
 }
 
+/// Makes the runs with a failure, has their files checked, and reports them; gives the exit status.
+fn checked_failures<
+    R: Env + Files + Clock + Processes + Threads + Sync + AllocGlobal,
+    W: Write,
+    E: Write + IsTerminal,
+>(
+    rt: &R,
+    matches: &ArgMatches,
+    words: Words,
+    plan: &Plan,
+    reference: &Reached,
+    writer: &mut W,
+    err: &mut E,
+) -> Result<u8, Fault> {
+    let alloc = rt.alloc();
+    let checks = begin_checks(rt, matches, reference)?;
+    let calls = traced_calls(alloc, &plan.setup, reference.log.as_slice())?;
+    let choice = wanted_cases(alloc, plan, words, reference, &calls)?;
+    let cases = choice.cases.as_slice();
+    let mut rows = make(
+        rt, matches, words, plan, reference, &calls, cases, writer, err,
+    )?;
+    if let Some(mut checks) = checks {
+        judge_rows(rt, &mut checks, &plan.setup, reference, &mut rows)?;
+    }
+    let rows = rows.as_slice();
+    let untried = untried_of(choice, rows.len());
+    let words = words.judged();
+    write_head(alloc, words, plan, reference, rows.len(), writer)?;
+    write_rows(alloc, matches, words, plan, reference, &calls, rows, writer)?;
+    conclude(
+        rt, matches, words, plan, reference, &calls, rows, &untried, writer, err,
+    )
+}
+
 /// Reports the orders of turns, or else the runs with a failure; gives the exit status.
-fn report<R: Files + Clock + Threads + Sync + AllocGlobal, W: Write, E: Write + IsTerminal>(
+fn report<
+    R: Env + Files + Clock + Processes + Threads + Sync + AllocGlobal,
+    W: Write,
+    E: Write + IsTerminal,
+>(
     rt: &R,
     matches: &ArgMatches,
     words: Words,
@@ -198,12 +264,18 @@ fn report<R: Files + Clock + Threads + Sync + AllocGlobal, W: Write, E: Write + 
         Some(orders) => {
             orders_reported(rt, matches, words, orders, plan, reference, writer, err)
         }
+        None if words.is_checked => {
+            checked_failures(rt, matches, words, plan, reference, writer, err)
+        }
         None => failures(rt, matches, words, plan, reference, writer, err),
     }
 }
 
 /// Reports to a file: line by line, or what takes the place of an older report once it is whole.
-fn report_to_file<R: Files + Clock + Threads + Sync + AllocGlobal, E: Write + IsTerminal>(
+fn report_to_file<
+    R: Env + Files + Clock + Processes + Threads + Sync + AllocGlobal,
+    E: Write + IsTerminal,
+>(
     rt: &R,
     matches: &ArgMatches,
     words: Words,
@@ -232,7 +304,7 @@ fn is_plain<R: Env + AllocGlobal>(rt: &R) -> bool {
 
 /// Makes the sweep that the words ask for, and gives the exit status.
 pub fn sweep<
-    R: Env + Files + Clock + Threads + Sync + AllocGlobal,
+    R: Env + Files + Clock + Processes + Threads + Sync + AllocGlobal,
     I: Read + IsTerminal,
     O: Write + IsTerminal,
     E: Write + IsTerminal,

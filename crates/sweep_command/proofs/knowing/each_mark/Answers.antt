@@ -16,4 +16,4 @@ loop-row-preserved c = λ ms h.
 pub returns : goal.returns
 returns c =
     subst (λ (all : List Bool). AreMarks c.args.plan.now.known.items c.args.rows.now all) (append-nil c.loop-row.marks.items)
-    (c.loop-row.invariant [] tt)
+    (c.loop-row.invariant [] (subst (λ (rs : List Row). AreMarks c.args.plan.now.known.items rs []) (sym c.in_default.ensures.cases) tt))

@@ -76,6 +76,6 @@ returns g c = record {
   rest = c.loop-left.left.now;
   all = c.loop-left.invariant.1;
   made = c.loop-left.invariant.2;
-  ended = sweep_ends c.args.words.fail_fast c.loop-left.ended c.loop-left.rows.items c.loop-left.left.now c.loop-left.invariant.3
-      (c.goes_on.ensures.none c.loop-left-test.false);
+  ended = sweep_ends c.args.words c.loop-left.ended c.is_past.result c.loop-left.rows.items c.loop-left.left.now
+      c.loop-left.invariant.3 c.is_past.ensures (c.goes_on.ensures.none c.loop-left-test.false);
 }

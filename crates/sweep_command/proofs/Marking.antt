@@ -1,0 +1,33 @@
+-- Rows that aren't marked.
+use Rattle.std.proofs.Common.{◌≡◌, false, List, [], ◌∷◌, ◌++◌, map, refl, sym, subst, ◌∙◌}
+use Rattle.std.specs.Prelude.{String, codes}
+use Rattle.std.specs.Char.{to_ascii_uppercase}
+use Rattle.sweep_rows.specs.Summary.{name_of}
+use Rattle.sweep_rows.specs.Verdicts.{is_finding}
+use Rattle.sweep_runs.specs.declared.sweeping.Row.{Row}
+use Rattle.sweep_words.specs.Known.{IsKnown}
+use Rattle.sweep_command.specs.Reports.{IsMark, AreMarks}
+
+-- nothing is known
+pub none_known : {Z : Type 0} (known : List (String Z)) (row : Row) → known ≡ [] → IsMark known row false
+none_known known row none = record {
+  key = (map to_ascii_uppercase (name_of row.verdict) ++ codes " ") ++ [];
+  is_key = ([], refl);
+  finding = λ e. absurd (cc e);
+  like = λ e. absurd (cc e);
+  unlike = λ _ _ is. subst (λ lines. IsKnown lines ((map to_ascii_uppercase (name_of row.verdict) ++ codes " ") ++ [])) none is;
+}
+
+-- it is no finding
+pub no_finding : {Z : Type 0} (known : List (String Z)) (row : Row) → is_finding row.verdict ≡ false → IsMark known row false
+no_finding known row none = record {
+  key = (map to_ascii_uppercase (name_of row.verdict) ++ codes " ") ++ [];
+  is_key = ([], refl);
+  finding = λ e. absurd (cc e);
+  like = λ e. absurd (cc e);
+  unlike = λ _ found. absurd (cc (sym none ∙ found));
+}
+
+pub no_marks : {Z : Type 0} (known : List (String Z)) (rows : List Row) → known ≡ [] → AreMarks known rows []
+no_marks known [] none = tt
+no_marks known (r ∷ rs) none = none

@@ -1,0 +1,11 @@
+use Rattle.std.proofs.Common.{List, subst}
+use Rattle.sweep_runs.specs.declared.chosen.Case.{Case}
+use Rattle.sweep_command.specs.Choosing.{AreChosen}
+use Rattle.sweep_command.proofs.rows.wanted_cases.Goals as goal
+
+pub returns : goal.returns
+returns c = (
+  c.in_ok-all.all.items,
+  c.in_ok-all.ensures,
+  subst (λ (all : List Case). AreChosen c.args.words.most all c.in_ok-cases.cases.items) c.as_slice.ensures.value c.in_ok-cases.ensures,
+)
