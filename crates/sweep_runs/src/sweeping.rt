@@ -9,7 +9,7 @@ ghost use Rattle.sweep_rows.specs.Failures.{FailsAlone};
 ghost use Rattle.sweep_runs.specs.Cases.{cases_of};
 ghost use Rattle.sweep_rows.specs.Files.{file_notes};
 ghost use Rattle.sweep_rows.specs.Verdicts.{facts_of, verdict_of};
-ghost use Rattle.sweep_runs.specs.Rows.{fault_of, IsRow, AreRows, IsReport};
+ghost use Rattle.sweep_runs.specs.Rows.{fault_of as fault_of_case, IsRow, AreRows, IsReport};
 
 use crate::chosen::{Case, Wanted, cases};
 use crate::progress::Progress;
@@ -49,7 +49,7 @@ pub struct Report {
 
 /// The case's call of its process fails, and nothing else.
 pub fn fault_of(case: Case) -> Fault
-    ensures { result ≡ fault_of case }
+    ensures { result ≡ fault_of_case case }
 {
     Fault {
         pid: case.occurrence.pid,
@@ -61,7 +61,7 @@ pub fn fault_of(case: Case) -> Fault
 
 /// The script by which a case's call fails, in each tracee.
 pub fn script_of(alloc: Global, case: Case) -> Result<Script, AllocError>
-    ensures { IfOk result (FailsAlone (failure_of (fault_of case))) }
+    ensures { IfOk result (FailsAlone (failure_of (fault_of_case case))) }
 {
     failing(alloc, failure_of(fault_of(case)))
 }
@@ -141,7 +141,7 @@ fn compare(
     ensures ended { IfOk result (λ r. r.ended ≡ run.ending.outcome.ended) }
     ensures streams { IfOk result (λ r. r.streams ≡ run.streams) }
     ensures words { IfOk result (λ r. IsTrue r.has_words
-        ↔ HasWords boot.now.follow (fault_of case) run.log.items) }
+        ↔ HasWords boot.now.follow (fault_of_case case) run.log.items) }
 {
     let files = notes_of(alloc, boot, reference, &run)?;
     let verdict = judge(alloc, reference, &run, files.as_slice(), case.tells)?;
