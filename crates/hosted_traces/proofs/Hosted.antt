@@ -6,7 +6,6 @@ use Rattle.lx_abi.specs.declared.schedule.Event.{Event}
 use Rattle.host_wire.specs.Ends.{Input}
 use Rattle.host_serve.specs.Hosted.{Answers_by, Boots_by, Served_host, left_by}
 use Rattle.host_serve.specs.Serving.{Served}
-use Rattle.host_serve.specs.Streams.{Converses}
 use Rattle.host_serve.specs.Together.{unread}
 use Rattle.host_serve.specs.declared.fault.ServeFault.{ServeFault}
 use Rattle.piped_runs.specs.Piped.{Carries, RunsOverChildrenTell}
