@@ -155,12 +155,32 @@ fn reason(alloc: Global, plan: &Plan, status: u8) -> Result<Option<String>, Allo
 }
 
 /// Explains the end of a run on `err`, if there is something to explain.
-fn explain<E: Write>(alloc: Global, plan: &Plan, status: u8, err: &mut E) -> Result<u8, Fault>
-    ensures { IfOk result (λ shown. shown ≡ status) }
-{
+fn explain<E: Write>(
+    alloc: Global,
+    plan: &Plan,
+    status: u8,
+    err: &mut E,
+) -> Result<(), AllocError> {
     if let Some(reason) = reason(alloc, plan, status)? {
         // The run has ended, whether this can be written or not.
         let _written = writeln!(err, "guest_host: {reason}");
+    }
+    Ok(())
+}
+
+/// The status of a run that ended so, explained where that is asked.
+fn explained_status<E: Write>(
+    alloc: Global,
+    explained: bool,
+    plan: &Plan,
+    ended: Result<u8, Fault>,
+    err: &mut E,
+) -> Result<u8, Fault>
+    ensures { IfOk result (λ status. ended ≡ Ok status) }
+{
+    let status = ended?;
+    if explained {
+        explain(alloc, plan, status, err)?;
     }
     Ok(status)
 }
@@ -178,10 +198,7 @@ pub fn run<R: Files + AllocGlobal, I: Read + IsTerminal, O: Write, E: Write + Is
 {
     let mut plan = read_plan(rt, matches, explained, input, err)?;
     let (err, ended) = run_plan(rt, Leavings::of(matches), &mut plan, out, err);
-    let status = match ended {
-        Ok(status) if explained => explain(rt.alloc(), &plan, status, err),
-        ended => ended,
-    };
+    let status = explained_status(rt.alloc(), explained, &plan, ended, err);
     drop(plan);
     status
 }
