@@ -13,6 +13,7 @@ mod outputs;
 mod progress;
 mod reference;
 mod rows;
+mod show;
 mod sweeping;
 mod telling;
 

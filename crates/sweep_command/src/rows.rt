@@ -31,7 +31,7 @@ use sweep_words::words::{Format, Shard, Words};
 const RUNS_A_THREAD: usize = 16;
 
 /// These cases, of which one tells of no loss where its file is gone at the reference's end.
-fn by_the_end(
+pub fn by_the_end(
     alloc: Global,
     reference: &Reached,
     calls: &TracedCalls,

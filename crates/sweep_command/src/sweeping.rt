@@ -11,6 +11,7 @@ use crate::orders::orders_reported;
 use crate::outputs::{check, create, path_of, replace, write};
 use crate::reference::reference;
 use crate::rows::{Choice, make, wanted_cases, write_rows};
+use crate::show::show;
 use crate::telling::{all_told, told, worst};
 use clap::ArgMatches;
 use front_end::{Fault, Program, check_outputs};
@@ -31,6 +32,7 @@ use sweep_rows::{Reached, first_word, status};
 use sweep_runs::Row;
 use sweep_trace::traced_calls;
 use sweep_words::plan::{Plan, read_plan};
+use sweep_words::show::shown_run;
 use sweep_words::words::{Format, Words, words_of};
 
 /// Why a program that can't be run wasn't, on `err`.
@@ -260,6 +262,9 @@ fn report<
     writer: &mut W,
     err: &mut E,
 ) -> Result<u8, Fault> {
+    if let Some(run) = shown_run(rt.alloc(), matches)? {
+        return show(rt.alloc(), matches, plan, reference, run, writer);
+    }
     match words.orders {
         Some(orders) => {
             orders_reported(rt, matches, words, orders, plan, reference, writer, err)
@@ -318,6 +323,7 @@ pub fn sweep<
 ) -> Result<u8, Fault> {
     let alloc = rt.alloc();
     let words = words_of(alloc, matches, out.is_terminal() && !is_plain(rt))?;
+    shown_run(alloc, matches)?;
     let plan = read_plan(rt, matches, input, err)?;
     let path = path_of(matches);
     check_outputs(rt, matches)?;

@@ -1,6 +1,8 @@
-//! The calls of a sweep's run without a failure, traced.
+//! Runs of a sweep as strace(1) shows them: the one without a failure, and that of a failure.
 #![tactic(auto)]
 
+mod failing;
 mod tracing;
 
-pub use tracing::traced_calls;
+pub use failing::{ShownRun, show_failing};
+pub use tracing::{shown_options, traced_calls};

@@ -1,59 +1,76 @@
 //! The trace of the run without a failure.
 
+ghost use Rattle.std.specs.Prelude.{◌≡◌, [], IfOk};
+
 use containers::{Bytes, Seq};
 use front_end::Fault;
-use lx_abi::{Boot, Item, Script, Set};
-use lx_boot::BootFault;
+use lx_abi::{Boot, Item, Script, Set, Word};
 use lx_copies::Copied;
-use pt_kernel::Schedule;
+use lx_kernel::Kernel;
+use pt_schedule::Schedule;
 use std::alloc::{AllocError, Global};
 use sweep_report::traced::TracedCalls;
 use sweep_runs::Setup;
 use tr_core::Options;
-use trace_run::local::Run;
-use trace_run::run_local;
 
-/// The most bytes of a string that are shown.
-const STRING_LIMIT: u32 = 24;
+/// The most bytes of a string that a report shows.
+const MOST_TOLD: u32 = 24;
 
-/// How many events a turn is counted as at most: itself, and the requests that come of it.
-const EVENTS_OF_A_TURN: u64 = 1000;
+/// As strace_cli has them by itself: the most bytes of a string, and the column of results.
+const STRING_LIMIT: u32 = 32;
 
-/// All calls, with a column of results that is always behind.
-fn options(alloc: Global, follow: bool) -> Options {
+const COLUMN: u32 = 40;
+
+/// All calls, as strace_cli shows them by itself.
+pub fn shown_options(alloc: Global, follow: bool) -> Options {
     Options {
         follow,
         shown: Set::AllBut(Seq::new(alloc)),
         string_limit: STRING_LIMIT,
+        width: COLUMN,
+    }
+}
+
+/// All calls, with a column of results that is always behind.
+fn told_options(alloc: Global, follow: bool) -> Options {
+    Options {
+        follow,
+        shown: Set::AllBut(Seq::new(alloc)),
+        string_limit: MOST_TOLD,
         width: 0,
     }
 }
 
-fn schedule(alloc: Global, setup: &Setup) -> Result<Schedule, AllocError> {
-    let mut turns = Vec::new(alloc);
-    turns.extend_from_slice(setup.turns.as_slice())?;
-    Ok(Schedule::words(turns, setup.limit.saturating_mul(EVENTS_OF_A_TURN)))
+/// The schedule of a sweep's runs.
+pub fn schedule(alloc: Global, turns: &[Word], limit: u64) -> Result<Schedule, AllocError> {
+    let mut words = Vec::new(alloc);
+    words.extend_from_slice(turns)?;
+    Ok(Schedule::words(words, limit))
 }
 
-/// The run without a failure, traced.
-fn run(alloc: Global, boot: Boot, schedule: Schedule, options: Options) -> Result<Run, BootFault> {
-    run_local(alloc, boot, schedule, Script::empty(alloc), options)
-}
-
-/// The trace of the run without a failure.
-fn trace(alloc: Global, setup: &Setup) -> Result<Bytes, Fault> {
-    let boot = setup.boot.copy(alloc)?;
-    let schedule = schedule(alloc, setup)?;
-    let options = options(alloc, setup.boot.follow);
-    match run(alloc, boot, schedule, options) {
-        Ok(run) => Ok(run.trace),
-        Err(_) => Err(Fault::Memory),
+/// The kernel of a boot that is accepted, which no script changes.
+pub fn kernel(alloc: Global, boot: &Boot) -> Result<Kernel, AllocError>
+    ensures { IfOk result (λ k. k.running.log ≡ []) }
+{
+    let boot = boot.copy(alloc)?;
+    match Kernel::boot(alloc, boot, Script::empty(alloc)) {
+        Ok(kernel) => Ok(kernel),
+        Err(_) => Err(AllocError),
     }
+}
+
+/// The trace of the run without a failure, of a boot that is accepted.
+fn trace(alloc: Global, setup: &Setup, options: Options) -> Result<Bytes, AllocError> {
+    let mut schedule = schedule(alloc, setup.turns.as_slice(), setup.limit)?;
+    let mut kernel = kernel(alloc, &setup.boot)?;
+    let trace = plain_trace::run(alloc, &mut kernel, &mut schedule, options);
+    drop(kernel);
+    trace
 }
 
 /// The calls of the run without a failure, which has this log.
 pub fn traced_calls(alloc: Global, setup: &Setup, log: &[Item]) -> Result<TracedCalls, Fault> {
-    let trace = trace(alloc, setup)?;
+    let trace = trace(alloc, setup, told_options(alloc, setup.boot.follow))?;
     let text = str::from_utf8(trace.as_slice()).unwrap_or("");
     Ok(TracedCalls::of(alloc, text, setup.boot.follow, log)?)
 }
