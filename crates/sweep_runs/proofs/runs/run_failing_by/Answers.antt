@@ -1,2 +1,0 @@
-use Rattle.std.proofs.Common.{subst}
-use Rattle.sweep_runs.proofs.runs.run_failing_by.Goals as goal
