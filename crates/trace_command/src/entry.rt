@@ -67,7 +67,7 @@ where
         (WritesEvents (opened_contents R.File.contents))
         matches.now (I.remaining input.old) result.status (O.contents out) (O.contents result.out) }
 {
-    let mut options = match trace_options(matches) {
+    let options = match trace_options(matches, explained) {
         Ok(options) => options,
         Err(fault) => {
             return Traced {
@@ -78,7 +78,6 @@ where
             };
         }
     };
-    options.explain = explained;
     tracing::trace(rt, matches, options, input, out, err)
 }
 

@@ -150,9 +150,9 @@ fn patience(digits: Option<&str>) -> Result<Option<u32>, OptionFault>
     }
 }
 
-/// How the words ask the run to be traced.
+/// How the words ask the run to be traced, with faults explained or not.
 #[tactic(auto, unfolding(crate::specs::Options::options_of))]
-pub fn trace_options(matches: &ArgMatches) -> Result<TraceOptions, OptionFault>
+pub fn trace_options(matches: &ArgMatches, explained: bool) -> Result<TraceOptions, OptionFault>
     ensures { spec.asked result ≡ spec.options_of matches.now }
 {
     let host = matches.get_str("host");
@@ -183,6 +183,6 @@ pub fn trace_options(matches: &ArgMatches) -> Result<TraceOptions, OptionFault>
             limit,
         )?,
         patience: patience(timeout)?,
-        explain: matches.get_flag("explain"),
+        explain: explained,
     })
 }
