@@ -13,7 +13,34 @@ use std::alloc::Global;
 use trace_run::Written;
 use trace_words::Plan;
 
-/// Makes the run once more in this process, where a host elsewhere made it, and keeps what it leaves beside the counts.
+/// Makes the run of a plan in this process, its trace in memory, and keeps what it leaves.
+fn run_plan(alloc: Global, plan: Plan, kept: &mut Kept) -> Result<(), Fault>
+    ensures notes { OnOk result (NotesHere plan.options plan.script plan.boot
+        (worded plan.turns.items kept.old.asked.limit) kept.old.asked.events kept.new.known.events) }
+    ensures fault { IfErr result (λ fault. IsUnwritable fault) }
+{
+    let Plan {
+        boot,
+        script,
+        options,
+        turns,
+    } = plan;
+    let schedule = Schedule::words(turns, kept.asked.limit);
+    let mut trace = Written::new(alloc);
+    match run_here(alloc, boot, schedule, script, options, kept, &mut trace) {
+        Ok(ended) => {
+            drop(ended);
+            drop(trace);
+            Ok(())
+        }
+        Err(_) => {
+            drop(trace);
+            Err(Fault::Memory)
+        }
+    }
+}
+
+/// Makes the run once more in this process, where a host elsewhere made it, and keeps what it leaves.
 pub fn make_again(alloc: Global, kept: &mut Kept) -> Result<(), Fault>
     ensures once { kept.old.second ≡ None → kept.new.known.events ≡ kept.old.known.events }
     ensures again { IfSome kept.old.second (λ plan. OnOk result (NotesHere plan.options plan.script plan.boot
@@ -23,20 +50,8 @@ pub fn make_again(alloc: Global, kept: &mut Kept) -> Result<(), Fault>
     let Some(plan) = kept.second.take() else {
         return Ok(());
     };
-    let Plan {
-        boot,
-        script,
-        options,
-        turns,
-    } = plan;
-    let schedule = Schedule::words(turns, kept.asked.limit);
-    let mut trace = Written::new(alloc);
-    let counts = kept.known.counts.take();
-    let ended = run_here(alloc, boot, schedule, script, options, kept, &mut trace);
-    kept.known.counts = counts;
-    drop(trace);
-    match ended {
-        Ok(_) => Ok(()),
-        Err(_) => Err(Fault::Memory),
+    match run_plan(alloc, plan, kept) {
+        Ok(()) => Ok(()),
+        Err(fault) => Err(fault),
     }
 }
