@@ -1,1 +1,2 @@
 mod Hosted
+mod Plans
