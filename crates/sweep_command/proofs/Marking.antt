@@ -1,12 +1,17 @@
 -- Rows that aren't marked.
-use Rattle.std.proofs.Common.{◌≡◌, false, List, [], ◌∷◌, ◌++◌, map, refl, sym, subst, ◌∙◌}
-use Rattle.std.specs.Prelude.{String, codes}
+use Rattle.std.proofs.Common.{◌≡◌, Bool, true, false, List, [], ◌∷◌, ◌++◌, length, map, refl, sym, subst, ◌∙◌}
+use Rattle.std.proofs.lemmas.Bool.{eqb-true}
+use Rattle.std.proofs.lemmas.List.{nil_from_length}
+use Rattle.std.specs.Prelude.{◌==◌, String, codes}
 use Rattle.std.specs.Char.{to_ascii_uppercase}
 use Rattle.sweep_rows.specs.Summary.{name_of}
 use Rattle.sweep_rows.specs.Verdicts.{is_finding}
 use Rattle.sweep_runs.specs.declared.sweeping.Row.{Row}
 use Rattle.sweep_words.specs.Known.{IsKnown}
 use Rattle.sweep_command.specs.Reports.{IsMark, AreMarks}
+
+pub emptied : {X : Type 0} (xs : List X) {is_empty : Bool} → is_empty ≡ (length xs == 0) → is_empty ≡ true → xs ≡ []
+emptied xs is t = nil_from_length xs (eqb-true (length xs) 0 (sym is ∙ t))
 
 -- nothing is known
 pub none_known : {Z : Type 0} (known : List (String Z)) (row : Row) → known ≡ [] → IsMark known row false
