@@ -1,4 +1,5 @@
 use Rattle.std.proofs.Common.{◌++◌, Bool, List, [], ◌∷◌, ap, sym, subst, ◌∙◌, append_assoc, append-nil}
+use Rattle.std.proofs.lemmas.List.{nil_from_length}
 use Rattle.sweep_runs.specs.declared.sweeping.Row.{Row}
 use Rattle.sweep_command.specs.Reports.{AreMarks}
 use Rattle.sweep_command.proofs.knowing.each_mark.Goals as goal
@@ -16,4 +17,6 @@ loop-row-preserved c = λ ms h.
 pub returns : goal.returns
 returns c =
     subst (λ (all : List Bool). AreMarks c.args.plan.now.known.items c.args.rows.now all) (append-nil c.loop-row.marks.items)
-    (c.loop-row.invariant [] (subst (λ (rs : List Row). AreMarks c.args.plan.now.known.items rs []) (sym c.in_default.ensures.cases) tt))
+    (c.loop-row.invariant []
+    (subst (λ (rs : List Row). AreMarks c.args.plan.now.known.items rs [])
+    (sym (nil_from_length c.loop-row.left.now c.in_default.ensures.cases)) tt))

@@ -7,5 +7,5 @@ pub returns : goal.returns
 returns c = (
   c.in_ok-all.all.items,
   c.in_ok-all.ensures,
-  subst (λ (all : List Case). AreChosen c.args.words.most all c.in_ok-cases.cases.items) c.as_slice.ensures.value c.in_ok-cases.ensures,
+  subst (λ (all : List Case). AreChosen c.args.words.most all c.in_ok-cases.cases.items) c.as_slice-all.ensures.value c.in_ok-cases.ensures,
 )
