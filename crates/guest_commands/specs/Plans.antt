@@ -41,8 +41,8 @@ abbrev pub IsPlan : {F : Type 0} → (F → Option (List ℕ)) → ArgMatches �
 IsPlan remaining words given plan =
     IsFirst remaining words given plan.kernel × IsOrder remaining words plan
 
--- The limit is looked at first, and then the expressions, of which the first that says nothing is told. The fault may be
--- another's only where each of these is as it may be.
+-- The limit is looked at first, and then the expressions, of which the first that says nothing is told. The fault may
+-- be another's only where each of these is as it may be.
 abbrev pub RefusesPlan : ArgMatches → Fault → Type 0
 RefusesPlan words fault =
     ((limit_of (value_of words (codes "limit")) ≡ None) × (is_usage_or_memory fault ≡ true))

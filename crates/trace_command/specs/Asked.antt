@@ -19,8 +19,8 @@ abbrev pub RefusesOptions : ArgMatches → Fault → Type 0
 RefusesOptions words fault =
     (first : OptionFault) × ((options_of words ≡ Err first) × (is_usage_or_memory fault ≡ true))
 
--- What is written to standard output is that of the run that the words ask for, by their plan. Or they ask for none, and
--- nothing is written to it.
+-- What is written to standard output is that of the run that the words ask for, by their plan. Or they ask for none,
+-- and nothing is written to it.
 abbrev pub TracesAsked : {F G : Type 0} → (F → Option (List ℕ)) → (G → Option (List ℕ))
     → (Wanted → Plan → Option (List Event) → Result Ended RunFault → Writer → Writer → Type 0)
     → (Wanted → Plan → Option (List Event) → Type 0) → ArgMatches → Option (List ℕ) → Result ℕ Fault

@@ -100,8 +100,8 @@ fn run_of(
     }
 }
 
-/// What a run leaves, where the journal under the lock tells of it, with its events if they were asked for. The onlooker
-/// sees it first.
+/// What a run leaves, where the journal under the lock tells of it, with its events if they were asked for. The
+/// onlooker sees it first.
 pub fn finish<J: Naming, O: Onlooker>(
     boot: &Boot,
     limit: u64,
