@@ -86,7 +86,7 @@ impl Script {
 
     /// The rules, as `new` takes them: of those that name a call, the last decides.
     pub fn rules(&self) -> &[Rule]
-        ensures { result ≡ self.now }
+        ensures { result.now ≡ self.now }
     {
         self.rules.as_slice()
     }
