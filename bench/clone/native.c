@@ -1,7 +1,7 @@
-// The work of the guest of `run` by this machine's own kernel: native KIB DESCRIPTORS ROUNDS CHILDREN writes to each page
-// of so many KiB and has so many descriptors, then ROUNDS times makes a child that ends at once and waits for it, and
-// then has CHILDREN children at once. It prints the microseconds of processor time that a round takes, and the KiB that
-// all processes had in RAM in the end, what they share counted once.
+// The work of the guest of `run` by this machine's own kernel: native KIB DESCRIPTORS ROUNDS CHILDREN writes to each
+// page of so many KiB and has so many descriptors, then ROUNDS times makes a child that ends at once and waits for it,
+// and then has CHILDREN children at once. It prints the microseconds of processor time that a round takes, and the KiB
+// that all processes had in RAM in the end, what they share counted once.
 #define _GNU_SOURCE
 #include <stdio.h>
 #include <stdlib.h>
