@@ -126,7 +126,7 @@ fn kind_of(case: &Case, site: usize) -> Kind
 }
 
 /// The kinds of these cases, whose calls have these sites.
-fn numbered(alloc: Global, cases: &[Case], sites: &[usize]) -> Result<Numbered, AllocError>
+fn number_kinds(alloc: Global, cases: &[Case], sites: &[usize]) -> Result<Numbered, AllocError>
     ensures numbers { IfOk result (λ n. n.numbers.items ≡ numbers_of [] (kinds_of cases.now sites.now)) }
     ensures met { IfOk result (λ n. n.met.items ≡ met_after [] (kinds_of cases.now sites.now)) }
 {
@@ -206,7 +206,7 @@ fn in_places(alloc: Global, places: &[usize], cases: &[Case]) -> Result<Vec<Case
 fn by_novelty(alloc: Global, cases: &[Case], sites: &[usize]) -> Result<Vec<Case>, AllocError>
     ensures { IfOk result (λ r. r.items ≡ by_novelty cases.now sites.now) }
 {
-    let Numbered { numbers, met } = numbered(alloc, cases, sites)?;
+    let Numbered { numbers, met } = number_kinds(alloc, cases, sites)?;
     let places = novel(alloc, numbers.as_slice(), met.len())?;
     let placed = in_places(alloc, places.as_slice(), cases)?;
     Ok(placed)
