@@ -54,7 +54,7 @@ pub fn kinds_of(
     let mut kinds = Vec::new(alloc);
     for case in cases {
         let site = site(alloc, reference, calls, case)?;
-        let text = format!(in alloc; "{} {site}", case.error.number)?;
+        let text = format!(in alloc; "{} {site}", case.kind.error().number)?;
         kinds.push(number_of(&mut met, text)?)?;
     }
     Ok(Kinds {

@@ -23,7 +23,7 @@ fault_of c = record {
   pid = c.occurrence.pid;
   call = c.occurrence.call.number;
   n = c.occurrence.n;
-  error = c.error;
+  kind = c.kind;
 }
 
 -- what came of a run, beside the reference

@@ -2,11 +2,12 @@
 
 ghost use Rattle.std.specs.Prelude.{◌≡◌, ◌++◌, IfOk, OnOk};
 ghost use Rattle.std.specs.List.{flat_map};
-ghost use Rattle.sweep_runs.specs.Cases.{cases_of, case_of, cases_at, wanted_at, all_at};
+ghost use Rattle.sweep_runs.specs.Cases.{cases_of, case_of, kind_at, cases_at, wanted_at, all_at};
 
 use containers::Seq;
-use lx_abi::{Errno, Item, Set};
+use lx_abi::{Errno, Item, Set, sys};
 use std::alloc::{AllocError, Global};
+use sweep_faults::Kind;
 use sweep_rows::{Occurrence, occurrences, possible_errors, tells_of_loss};
 
 /// The errors that calls are to fail with.
@@ -24,13 +25,35 @@ pub struct Wanted {
     pub errors: Errors,
 }
 
-/// An occurrence of a call, and the error that it fails with.
+/// An occurrence of a call, and how it fails.
 #[derive(Clone, Copy, Debug, PartialEq, Eq)]
 pub struct Case {
     pub occurrence: Occurrence,
-    pub error: Errno,
+    pub kind: Kind,
     /// The error tells that data was lost.
     pub tells: bool,
+}
+
+/// How an occurrence fails with an error: close is done all the same (close(2)).
+fn kind_at(occurrence: &Occurrence, error: Errno) -> Kind
+    ensures { result ≡ kind_at occurrence.now error }
+{
+    if occurrence.call.number == sys::SYS_CLOSE {
+        Kind::Done(error)
+    } else {
+        Kind::Undone(error)
+    }
+}
+
+/// An occurrence that fails with an error.
+fn case_of(occurrence: &Occurrence, error: Errno) -> Case
+    ensures { result ≡ case_of occurrence.now error }
+{
+    Case {
+        occurrence: *occurrence,
+        kind: kind_at(occurrence, error),
+        tells: tells_of_loss(occurrence, error),
+    }
 }
 
 /// Adds a case for each error.
@@ -43,13 +66,7 @@ fn add_errors(
 {
     let mut left = errors;
     while let Some((error, rest)) = left.split_first() {
-        let error = *error;
-        let tells = tells_of_loss(&occurrence, error);
-        cases.push(Case {
-            occurrence,
-            error,
-            tells,
-        })?;
+        cases.push(case_of(&occurrence, *error))?;
         left = rest;
     }
     Ok(())

@@ -55,7 +55,7 @@ pub fn fault_of(case: Case) -> Fault
         pid: case.occurrence.pid,
         call: case.occurrence.call.number,
         n: case.occurrence.n,
-        error: case.error,
+        kind: case.kind,
     }
 }
 

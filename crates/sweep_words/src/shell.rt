@@ -18,7 +18,7 @@ fn expression(alloc: Global, case: &Case) -> Result<Option<String>, AllocError> 
     let n = case.occurrence.n;
     match call_name(case.occurrence.call.number) {
         Some(name) if n <= LAST_OCCURRENCE => {
-            let error = error_name(alloc, case.error)?;
+            let error = error_name(alloc, case.kind.error())?;
             Ok(Some(format!(in alloc; "fault={name}:error={error}:when={n}")?))
         }
         _ => Ok(None),
