@@ -1,10 +1,12 @@
 -- Runs with a failure, by turns and by rows of turns.
 use Rattle.std.proofs.Common.{◌≡◌, Bool, ℕ, zero, suc, ◌-◌, ◌+◌, ◌<◌, ◌≤◌, true, false, cond, List, [], ◌∷◌, ◌++◌, Option, Some, None, refl, sym, ap, subst, ◌∙◌, append-nil, arith}
 use Rattle.std.specs.Option.{option_to_list}
+use Rattle.lx_abi.specs.declared.errno.Errno.{Errno}
 use Rattle.lx_abi.specs.declared.log.Item.{Item}
 use Rattle.lx_abi.specs.declared.script.Choice.{Choice}
 use Rattle.lx_model.specs.Finite.{item_of, ran}
-use Rattle.lx_model.specs.Machine.{Regs}
+use Rattle.lx_abi.specs.Errors.{error_word}
+use Rattle.lx_model.specs.Machine.{Regs, with_a0}
 use Rattle.lx_model.specs.declared.stage.Task.{Task}
 use Rattle.lx_proc.specs.declared.state.UserState.{UserState}
 use Rattle.lx_model.specs.declared.event.PtraceEvent.{PtraceEvent}
@@ -26,7 +28,7 @@ use Rattle.plain_run.proofs.Turning.{continues, bore_log, after_unserved, told_u
 use Rattle.sweep_faults.specs.declared.faults.Fault.{Fault}
 use Rattle.sweep_faults.specs.declared.faults.Kind.{Kind}
 use Rattle.sweep_faults.specs.declared.faults.Kind.TheVariants as kind
-use Rattle.sweep_faults.specs.Faults.{after_failing, after_fault, is_at, with_error}
+use Rattle.sweep_faults.specs.Faults.{after_failing, after_fault, is_at, reporting, with_error}
 use Rattle.sweep_faults.specs.InRows.{InRow}
 use Rattle.sweep_faults.specs.Runs.{IsFaulted, RunsFaulted, EndsAreSettled, RunsKeepLogs}
 use Rattle.sweep_faults.proofs.Standing.{not_at}
@@ -49,8 +51,17 @@ part_log : (k : Run) (p : ℕ) (part : Option (Task UserState)) → (with_part k
 part_log k p None = refl
 part_log k p (Some task) = refl
 
-pub reported_log : (k : Run) (p : ℕ) (r : Regs) → (with_part k p (with_regs r (task_in k p))).running.log ≡ k.running.log
-reported_log k p r = part_log k p (with_regs r (task_in k p))
+pub reported_log : (k k' : Run) (p : ℕ) (r : Regs) → k' ≡ with_part k p (with_regs r (task_in k p)) → k'.running.log ≡ k.running.log
+reported_log k k' p r part = ap (λ (x : Run). x.running.log) part ∙ part_log k p (with_regs r (task_in k p))
+
+pub reported_is : (k k' : Run) (p : ℕ) (error : Errno) (r r' : Regs) → Some r ≡ regs_of (task_in k p) → r' ≡ with_a0 r (error_word error.number) → k' ≡ with_part k p (with_regs r' (task_in k p)) → k' ≡ reporting k p error
+reported_is k k' p error r r' had has part =
+    part
+    ∙ ap (λ x. with_part k p (with_regs x (task_in k p))) has
+    ∙ ap (λ o. with_part k p (with_error error o (task_in k p))) had
+
+pub unreported_is : (k : Run) (p : ℕ) (error : Errno) → None ≡ regs_of (task_in k p) → k ≡ reporting k p error
+unreported_is k p error none = ap (λ o. with_part k p (with_error error o (task_in k p))) none
 
 pub told_item : (k k' : Run) (item : Option Item) (told told' : List Item) → k'.running.log ≡ k.running.log ++ option_to_list item → told' ≡ told ++ option_to_list item → Tells k told k' told'
 told_item k k' item told told' h g = record { items = option_to_list item; logged = h; are_told = g }
