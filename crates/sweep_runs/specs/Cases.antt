@@ -7,6 +7,7 @@ use Rattle.lx_abi.specs.declared.script.Set.{Set}
 use Rattle.lx_abi.specs.declared.script.Set.TheVariants.{AllBut}
 use Rattle.lx_abi.specs.Scripts.{includes}
 use Rattle.lx_abi.specs.Sys.{sys_close}
+use Rattle.sweep_faults.specs.Faults.{error_of}
 use Rattle.sweep_faults.specs.declared.faults.Kind.{Kind}
 use Rattle.sweep_faults.specs.declared.faults.Kind.TheVariants as kind
 use Rattle.sweep_rows.specs.Entries.{rows_of}
@@ -16,6 +17,9 @@ use Rattle.sweep_runs.specs.declared.chosen.Case.{Case}
 use Rattle.sweep_runs.specs.declared.chosen.Errors.{Errors}
 use Rattle.sweep_runs.specs.declared.chosen.Errors.TheVariants.{Possible, These}
 use Rattle.sweep_runs.specs.declared.chosen.Wanted.{Wanted}
+
+abbrev pub error_in : Case → Errno
+error_in c = error_of c.kind
 
 -- how an occurrence fails with an error: close is done all the same (close(2))
 abbrev pub kind_at : Occurrence → Errno → Kind

@@ -34,6 +34,16 @@ pub struct Case {
     pub tells: bool,
 }
 
+impl Case {
+    ghost use Rattle.sweep_runs.specs.Cases.{error_in};
+
+    pub fn error(&self) -> Errno
+        ensures { result ≡ error_in self.now }
+    {
+        self.kind.error()
+    }
+}
+
 /// How an occurrence fails with an error: close is done all the same (close(2)).
 fn kind_at(occurrence: &Occurrence, error: Errno) -> Kind
     ensures { result ≡ kind_at occurrence.now error }
