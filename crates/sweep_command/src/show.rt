@@ -76,7 +76,15 @@ fn write_trace<W: Write>(alloc: Global, trace: &[u8], writer: &mut W) -> Result<
     }
 }
 
-/// What stands behind the trace: the console, and what came of the run.
+/// That a call was done, and failed then; nothing, where it wasn't done: its line tells so.
+fn failed_late(alloc: Global, told: &Told, case: Case) -> Result<String, AllocError> {
+    if case.kind.is_undone() {
+        return Ok(String::new(alloc));
+    }
+    format!(in alloc; "{} #{}: done, and then fails with {}\n", told.call, told.n, told.error)
+}
+
+/// What stands behind the trace: how a call failed that was done, the console, and what came of the run.
 fn behind(
     alloc: Global,
     matches: &ArgMatches,
@@ -91,10 +99,10 @@ fn behind(
     if told.finding {
         word.make_ascii_uppercase();
     }
-    let mut text = String::new(alloc);
+    let mut text = failed_late(alloc, &told, row.case)?;
     if !console.is_empty() {
         let printed = quoted_bytes(alloc, console, MOST_PRINTED)?;
-        text = format!(in alloc; "console: {printed}\n")?;
+        text.push_str(format!(in alloc; "console: {printed}\n")?.as_str())?;
     }
     format!(in alloc; "{text}{word}: {}\n", told.told)
 }
