@@ -3,7 +3,6 @@ use Rattle.std.specs.Prelude.{◌≡◌, ℕ, suc, ◌==◌, ◌&&◌, cond, Boo
 use Rattle.std.specs.List.{flat_map, slice_get}
 use Rattle.std.specs.Option.{option_to_list}
 use Rattle.sweep_command.specs.declared.choosing.Kind.{Kind}
-use Rattle.sweep_runs.specs.Cases.{error_in}
 use Rattle.sweep_runs.specs.declared.chosen.Case.{Case}
 use Rattle.turn_orders.specs.Novelty.{novel}
 
@@ -12,7 +11,7 @@ abbrev pub is_kind : Kind → Kind → Bool
 is_kind a b = (a.error == b.error) && (a.site == b.site)
 
 abbrev pub kind_of : Case → ℕ → Kind
-kind_of c site = record { error = (error_in c).number; site = site }
+kind_of c site = record { error = c.error.number; site = site }
 
 abbrev pub kinds_of : List Case → List ℕ → List Kind
 kinds_of [] sites = []

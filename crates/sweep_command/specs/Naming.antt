@@ -1,7 +1,6 @@
 -- The runs that a file names, a line each.
 use Rattle.std.specs.Prelude.{ℕ, ◌==◌, ◌&&◌, cond, Bool, List, [], ◌∷◌, ◌++◌}
 use Rattle.std.specs.List.{list_any}
-use Rattle.sweep_runs.specs.Cases.{error_in}
 use Rattle.sweep_runs.specs.declared.chosen.Case.{Case}
 use Rattle.sweep_words.specs.declared.named.NamedLine.{NamedLine}
 use Rattle.sweep_words.specs.declared.show.NamedRun.{NamedRun}
@@ -10,7 +9,7 @@ use Rattle.sweep_words.specs.declared.show.NamedRun.{NamedRun}
 abbrev pub names : NamedRun → Case → Bool
 names r c =
     (((r.pid == c.occurrence.pid) && (r.call == c.occurrence.call.number)) && (r.n == c.occurrence.n))
-    && (r.error.number == (error_in c).number)
+    && (r.error.number == c.error.number)
 
 abbrev pub is_named : List NamedLine → Case → Bool
 is_named lines c = list_any (λ l. names l.run c) lines

@@ -120,7 +120,7 @@ fn kind_of(case: &Case, site: usize) -> Kind
     ensures { result ≡ kind_of case.now site }
 {
     Kind {
-        error: case.error().number,
+        error: case.error.number,
         site,
     }
 }

@@ -21,7 +21,7 @@ pub fn names(run: NamedRun, case: &Case) -> bool
     run.pid == u64::from(occurrence.pid)
         && run.call == occurrence.call.number
         && run.n == occurrence.n
-        && run.error.number == case.error().number
+        && run.error.number == case.error.number
 }
 
 /// A line names this case.

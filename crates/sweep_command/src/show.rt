@@ -14,6 +14,7 @@ use front_end::Fault;
 use std::alloc::{AllocError, Global};
 use std::io::Write;
 use sweep_report::texts::quoted_bytes;
+use sweep_report::told::Told;
 use sweep_report::traced::TracedCalls;
 use sweep_rows::{Reached, status};
 use sweep_runs::{Case, Row, cases, fault_of, run_case};
@@ -78,7 +79,7 @@ fn write_trace<W: Write>(alloc: Global, trace: &[u8], writer: &mut W) -> Result<
 
 /// That a call was done, and failed then; nothing, where it wasn't done: its line tells so.
 fn failed_late(alloc: Global, told: &Told, case: Case) -> Result<String, AllocError> {
-    if case.kind.is_undone() {
+    if fault_of(case).kind.is_undone() {
         return Ok(String::new(alloc));
     }
     format!(in alloc; "{} #{}: done, and then fails with {}\n", told.call, told.n, told.error)

@@ -309,7 +309,7 @@ pub fn tell_row(
     let occurrence = &row.case.occurrence;
     let site = site_of(alloc, &place)?;
     let call = name_of(alloc, occurrence.call.number)?;
-    let error = error_name(alloc, row.case.error())?;
+    let error = error_name(alloc, row.case.error)?;
     let words = words_of(alloc, matches, row)?;
     let outcome = outcome_of(alloc, reference, row, hung)?;
     Ok(Told {

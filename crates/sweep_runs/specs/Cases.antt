@@ -1,15 +1,11 @@
 -- Which failures a sweep tries: each occurrence of each call that is wanted, with each error that is wanted of it.
-use Rattle.std.specs.Prelude.{Bool, cond, ◌==◌, List, [], map}
+use Rattle.std.specs.Prelude.{Bool, cond, List, [], map}
 use Rattle.std.specs.List.{flat_map}
 use Rattle.lx_abi.specs.declared.errno.Errno.{Errno}
 use Rattle.lx_abi.specs.declared.log.Item.{Item}
 use Rattle.lx_abi.specs.declared.script.Set.{Set}
 use Rattle.lx_abi.specs.declared.script.Set.TheVariants.{AllBut}
 use Rattle.lx_abi.specs.Scripts.{includes}
-use Rattle.lx_abi.specs.Sys.{sys_close}
-use Rattle.sweep_faults.specs.Faults.{error_of}
-use Rattle.sweep_faults.specs.declared.faults.Kind.{Kind}
-use Rattle.sweep_faults.specs.declared.faults.Kind.TheVariants as kind
 use Rattle.sweep_rows.specs.Entries.{rows_of}
 use Rattle.sweep_rows.specs.Possible.{possible_errors, tells_of_loss}
 use Rattle.sweep_rows.specs.declared.known.Occurrence.{Occurrence}
@@ -18,15 +14,8 @@ use Rattle.sweep_runs.specs.declared.chosen.Errors.{Errors}
 use Rattle.sweep_runs.specs.declared.chosen.Errors.TheVariants.{Possible, These}
 use Rattle.sweep_runs.specs.declared.chosen.Wanted.{Wanted}
 
-abbrev pub error_in : Case → Errno
-error_in c = error_of c.kind
-
--- how an occurrence fails with an error: close is done all the same (close(2))
-abbrev pub kind_at : Occurrence → Errno → Kind
-kind_at o error = cond (o.call.number == sys_close) (kind.Done error) (kind.Undone error)
-
 abbrev pub case_of : Occurrence → Errno → Case
-case_of o error = record { occurrence = o; kind = kind_at o error; tells = tells_of_loss o error }
+case_of o error = record { occurrence = o; error = error; tells = tells_of_loss o error }
 
 abbrev pub cases_at : Occurrence → List Errno → List Case
 cases_at o errors = map (case_of o) errors

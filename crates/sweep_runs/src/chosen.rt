@@ -2,12 +2,11 @@
 
 ghost use Rattle.std.specs.Prelude.{◌≡◌, ◌++◌, IfOk, OnOk};
 ghost use Rattle.std.specs.List.{flat_map};
-ghost use Rattle.sweep_runs.specs.Cases.{cases_of, case_of, kind_at, cases_at, wanted_at, all_at};
+ghost use Rattle.sweep_runs.specs.Cases.{cases_of, case_of, cases_at, wanted_at, all_at};
 
 use containers::Seq;
-use lx_abi::{Errno, Item, Set, sys};
+use lx_abi::{Errno, Item, Set};
 use std::alloc::{AllocError, Global};
-use sweep_faults::Kind;
 use sweep_rows::{Occurrence, occurrences, possible_errors, tells_of_loss};
 
 /// The errors that calls are to fail with.
@@ -25,45 +24,13 @@ pub struct Wanted {
     pub errors: Errors,
 }
 
-/// An occurrence of a call, and how it fails.
+/// An occurrence of a call, and the error that it fails with.
 #[derive(Clone, Copy, Debug, PartialEq, Eq)]
 pub struct Case {
     pub occurrence: Occurrence,
-    pub kind: Kind,
+    pub error: Errno,
     /// The error tells that data was lost.
     pub tells: bool,
-}
-
-impl Case {
-    ghost use Rattle.sweep_runs.specs.Cases.{error_in};
-
-    pub fn error(&self) -> Errno
-        ensures { result ≡ error_in self.now }
-    {
-        self.kind.error()
-    }
-}
-
-/// How an occurrence fails with an error: close is done all the same (close(2)).
-fn kind_at(occurrence: &Occurrence, error: Errno) -> Kind
-    ensures { result ≡ kind_at occurrence.now error }
-{
-    if occurrence.call.number == sys::SYS_CLOSE {
-        Kind::Done(error)
-    } else {
-        Kind::Undone(error)
-    }
-}
-
-/// An occurrence that fails with an error.
-fn case_of(occurrence: &Occurrence, error: Errno) -> Case
-    ensures { result ≡ case_of occurrence.now error }
-{
-    Case {
-        occurrence: *occurrence,
-        kind: kind_at(occurrence, error),
-        tells: tells_of_loss(occurrence, error),
-    }
 }
 
 /// Adds a case for each error.
@@ -76,7 +43,13 @@ fn add_errors(
 {
     let mut left = errors;
     while let Some((error, rest)) = left.split_first() {
-        cases.push(case_of(&occurrence, *error))?;
+        let error = *error;
+        let tells = tells_of_loss(&occurrence, error);
+        cases.push(Case {
+            occurrence,
+            error,
+            tells,
+        })?;
         left = rest;
     }
     Ok(())

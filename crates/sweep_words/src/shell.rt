@@ -25,7 +25,7 @@ fn expression(alloc: Global, case: &Case) -> Result<Option<String>, AllocError> 
     let n = case.occurrence.n;
     match call_name(case.occurrence.call.number) {
         Some(name) if n <= LAST_OCCURRENCE => {
-            let error = error_name(alloc, case.error())?;
+            let error = error_name(alloc, case.error)?;
             Ok(Some(format!(in alloc; "fault={name}:error={error}:when={n}")?))
         }
         _ => Ok(None),
@@ -92,11 +92,15 @@ pub fn failure_words(
 
 /// The row that `--show` takes for a case, if there is one: the call has a name.
 fn row_of(alloc: Global, case: &Case) -> Result<Option<String>, AllocError> {
-    let occurrence = &case.occurrence;
+    let Case {
+        occurrence,
+        error,
+        ..
+    } = case;
     let Some(name) = call_name(occurrence.call.number) else {
         return Ok(None);
     };
-    let error = error_name(alloc, case.error())?;
+    let error = error_name(alloc, *error)?;
     let (pid, n) = (occurrence.pid, occurrence.n);
     if pid == 1 {
         Ok(Some(format!(in alloc; "{name}:{error}:{n}")?))
