@@ -82,7 +82,10 @@ fn failed_late(alloc: Global, told: &Told, case: Case) -> Result<String, AllocEr
     if fault_of(case).kind.is_undone() {
         return Ok(String::new(alloc));
     }
-    format!(in alloc; "{} #{}: done, and then fails with {}\n", told.call, told.n, told.error)
+    format!(in alloc;
+        "{} #{}: done, and then fails with {}\n",
+        told.call, told.n, told.error
+    )
 }
 
 /// What stands behind the trace: how a call failed that was done, the console, and what came of the run.

@@ -48,7 +48,13 @@ fn done_last(pid: u32, call: u64, before: bool, item: &Item) -> bool
             pid: doing,
             call: done,
             ..
-        } => { if *doing == pid { done.number == call } else { before } }
+        } => {
+            if *doing == pid {
+                done.number == call
+            } else {
+                before
+            }
+        }
         _ => before,
     }
 }

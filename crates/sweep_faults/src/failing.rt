@@ -51,8 +51,7 @@ fn set_result(registers: &mut RegisterSet, value: u64)
 }
 
 /// A call that is done has the error for its result.
-#[tactic(auto, using(crate::proofs::Rows::reported_is, crate::proofs::Rows::unreported_is,
-    crate::proofs::Rows::reported_log))]
+#[tactic(auto, using(crate::proofs::Rows::reported_is, crate::proofs::Rows::unreported_is, crate::proofs::Rows::reported_log))]
 fn report(kernel: &mut Kernel, pid: u32, error: Errno) -> Result<(), AllocError>
     ensures reported { OnOk result (kernel.new ≡ reporting kernel.old pid error) }
     ensures log { kernel.new.running.log ≡ kernel.old.running.log }

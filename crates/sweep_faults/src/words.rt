@@ -66,8 +66,7 @@ fn are_fewer(alloc: Global, fault: Fault, log: &[Item]) -> Result<bool, AllocErr
 }
 
 /// By the log of its run, a rule for the nth occurrence in each tracee gives this failure and no other.
-#[tactic(auto, using(crate::proofs::Fewer::done_words, crate::proofs::Fewer::untraced_words,
-    crate::proofs::Fewer::first_words))]
+#[tactic(auto, using(crate::proofs::Fewer::done_words, crate::proofs::Fewer::untraced_words, crate::proofs::Fewer::first_words))]
 pub fn has_words(
     alloc: Global,
     fault: Fault,
