@@ -4,3 +4,4 @@ mod Turned
 mod Noted
 mod Replayed
 mod Unplanned
+mod Threaded

@@ -9,7 +9,7 @@ use crate::given::is_given;
 use crate::kept::{Asked, Kept, Known};
 use clap::ArgMatches;
 use front_end::{Fault, Program};
-use std::alloc::Global;
+use std::alloc::{AllocError, Global};
 use std::io::{IsTerminal, Read, Write};
 use std::rt::Files;
 use trace_words::{Plan, TraceOptions, read_plan};
@@ -50,16 +50,16 @@ fn second(
     options: TraceOptions,
     asked: Asked,
     plan: &Plan,
-) -> Result<Option<Plan>, Fault>
+) -> Result<Option<Plan>, AllocError>
     ensures { IfOk result
-        (IsSecond options.workers (value_of matches.now (codes "host")) matches.now plan.now asked.events) }
+        (IsSecond options.workers (value_of matches.now (codes "host")) plan.now asked.events) }
 {
     if !needs_second(matches, options, asked) {
         return Ok(None);
     }
-    match plan.again(alloc, matches) {
+    match plan.again(alloc) {
         Ok(again) => Ok(Some(again)),
-        Err(fault) => Err(fault),
+        Err(error) => Err(error),
     }
 }
 
@@ -69,7 +69,7 @@ fn keep(
     matches: &ArgMatches,
     options: TraceOptions,
     plan: &Plan,
-) -> Result<Kept, Fault>
+) -> Result<Kept, AllocError>
     ensures { IfOk result (IsKeptFor (wanting matches.now options) plan.now) }
 {
     let asked = asked_by(matches, options);

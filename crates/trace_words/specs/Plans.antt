@@ -26,12 +26,3 @@ pub record IsPlan {F : Type 0} (remaining : F → Option (List ℕ)) (words : Ar
 -- The fault is that of the first expression that says nothing; or each says something, and the fault is another's.
 abbrev pub RefusesPlan : ArgMatches → Fault → Type 0
 RefusesPlan words fault = RefusesExpressions words fault ⊎ ((asked : Expressions) × AskFor words asked)
-
--- Another plan of these words: of the same boot and schedule, traced so too, by the same expressions.
-pub record IsAlike (words : ArgMatches) (plan again : Plan) : Type 0 where
-  pub boot : again.boot ≡ plan.boot
-  pub turns : again.turns.items ≡ plan.turns.items
-  pub follow : again.options.follow ≡ plan.options.follow
-  pub string_limit : again.options.string_limit ≡ plan.options.string_limit
-  pub width : again.options.width ≡ plan.options.width
-  pub expressions : AskFor words (record { shown = again.options.shown; script = again.script })
