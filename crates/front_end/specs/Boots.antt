@@ -1,15 +1,12 @@
 -- What a run begins with.
-use Rattle.std.specs.Prelude.{◌≡◌, ℕ, Bool, true, List, map, Option, IsSome, codes}
+use Rattle.std.specs.Prelude.{◌≡◌, ℕ, Bool, true, List, map, Option, codes}
 use Rattle.clap.specs.declared.parser.matches.ArgMatches.{ArgMatches}
 use Rattle.lx_abi.specs.declared.boot.Boot.{Boot}
-use Rattle.lx_boot.specs.Boots.{fault_of}
 use Rattle.front_end.specs.Environment.{are_variables, environment}
 use Rattle.front_end.specs.Files.{AreFiles}
 use Rattle.front_end.specs.Reading.{IsAll}
-use Rattle.front_end.specs.Statuses.{is_usage_or_memory}
 use Rattle.front_end.specs.Values.{values_of}
 use Rattle.front_end.specs.declared.boot.BootWords.{BootWords}
-use Rattle.front_end.specs.declared.fault.Fault.{Fault}
 
 -- the words that say it
 pub record Words : Type 0 where
@@ -48,7 +45,3 @@ pub record AsksBoot {F : Type 0} (remaining : F → Option (List ℕ)) (words : 
   pub files : AreFiles remaining words.files words.directories boot.files
   pub input : IsAll given 134217728 boot.input
   pub follow : boot.follow ≡ words.follow
-
--- the boot has a fault, and it is told, or memory ran out
-abbrev pub RefusesBoot : Boot → Fault → Type 0
-RefusesBoot boot fault = IsSome (fault_of boot) × (is_usage_or_memory fault ≡ true)

@@ -6,7 +6,9 @@ pub mod Files
 pub mod Leavings
 pub mod Numbers
 pub mod Reading
+pub mod Refusals
 pub mod Schedules
 pub mod Statuses
 pub mod Streams
+pub mod Texts
 pub mod Values

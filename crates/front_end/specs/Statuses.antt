@@ -1,5 +1,5 @@
 -- The exit status of a program that ends in a fault, and of what kind a fault is.
-use Rattle.std.specs.Prelude.{ℕ, Bool, true, false}
+use Rattle.std.specs.Prelude.{◌≡◌, ◌⊎◌, ℕ, Bool, true, false, Result, Ok, Err}
 use Rattle.front_end.specs.declared.fault.Fault.{Fault}
 use Rattle.front_end.specs.declared.fault.Fault.TheVariants as the
 
@@ -11,6 +11,15 @@ status_of (the.Host number reason) = 3
 status_of (the.OutOfTurns text) = 4
 status_of (the.Output text) = 3
 status_of the.Memory = 3
+
+-- what comes of a command that ended so: its own status, or that of its fault, or 3 where this couldn't be told
+abbrev pub IsStatusOf : Result ℕ Fault → ℕ → Type 0
+IsStatusOf (Ok own) status = status ≡ own
+IsStatusOf (Err fault) status = (status ≡ status_of fault) ⊎ (status ≡ 3)
+
+-- and of words that ask for help, or for nothing that can be done
+abbrev pub IsUnrun : ℕ → Type 0
+IsUnrun status = (status ≡ 0) ⊎ ((status ≡ 2) ⊎ (status ≡ 3))
 
 -- the words, the schedule, a file, the input or the boot, or want of memory
 abbrev pub is_usage_or_memory : Fault → Bool

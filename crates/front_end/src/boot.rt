@@ -1,9 +1,11 @@
 //! What a run begins with.
 
-ghost use Rattle.std.specs.Prelude.{◌≡◌, IfOk, None, OnOk, map};
+ghost use Rattle.std.specs.Prelude.{◌≡◌, IfErr, IfOk, None, OnOk, codes, map};
 ghost use Rattle.lx_boot.specs.Boots.{fault_of};
 ghost use Rattle.front_end.specs.Boots.{AsksBoot, given_words, words_of};
 ghost use Rattle.front_end.specs.Files.{Adds, AreFiles, AreFilesOf, IsFileOf};
+ghost use Rattle.front_end.specs.Refusals.{RefusesAsked, RefusesFiles, RefusesParts};
+ghost use Rattle.front_end.specs.Texts.{IsAbout};
 
 use crate::boot_faults::check_boot;
 use crate::directories::add_directory;
@@ -15,6 +17,7 @@ use clap::ArgMatches;
 use containers::{Bytes, Content, Seq};
 use lx_abi::limits::{LARGEST_FILE, MOST_CONTENTS};
 use lx_abi::{Boot, GuestFile, Limits};
+use std::alloc::{AllocError, Global};
 use std::io::{IsTerminal, Read, Write};
 use std::rt::Files;
 
@@ -33,23 +36,37 @@ pub struct BootWords<'m, 'a> {
     pub follow: bool,
 }
 
+/// A guest's file of this path and content.
+fn guest_file(alloc: Global, path: &str, content: Vec<u8>) -> Result<GuestFile, AllocError>
+    ensures { IfOk result (λ file. (file.path ≡ path.now) × (file.content ≡ content.items)) }
+{
+    Ok(GuestFile {
+        path: Bytes::from_slice(alloc, path.as_bytes())?,
+        content: Content::from_bytes(alloc, Bytes::from_vec(content))?,
+    })
+}
+
 /// A guest's file, from a word GUEST=PATH; of a content over the limit one byte more than it.
 fn file<R: Files + AllocGlobal>(rt: &R, word: &str, limit: u64) -> Result<GuestFile, Fault>
-    ensures { IfOk result (IsFileOf R.File.remaining limit word.now) }
+    ensures file { IfOk result (IsFileOf R.File.remaining limit word.now) }
+    ensures refused { IfErr result (IsAbout (codes "--file ")) }
 {
     let alloc = rt.alloc();
     let shown = Shown(word);
     let Some((guest, path)) = word.split_once('=') else {
-        return Err(Fault::usage(format!(in alloc;
-            "--file {shown}: no = between the guest's path and the file's"
-        )));
+        return Err(Fault::about(
+            alloc,
+            "--file ",
+            format!(in alloc; "{shown}: no = between the guest's path and the file's"),
+        ));
     };
-    match read_file(rt, path, limit) {
-        Ok(content) => Ok(GuestFile {
-            path: Bytes::from_slice(alloc, guest.as_bytes())?,
-            content: Content::from_bytes(alloc, Bytes::from_vec(content))?,
-        }),
-        Err(error) => Err(Fault::file(alloc, format!(in alloc; "--file {shown}")?, error)),
+    let content = match read_file(rt, path, limit) {
+        Ok(content) => content,
+        Err(error) => return Err(Fault::file_of(alloc, "--file ", shown, error)),
+    };
+    match guest_file(alloc, guest, content) {
+        Ok(file) => Ok(file),
+        Err(_) => Err(Fault::Memory),
     }
 }
 
@@ -60,12 +77,15 @@ fn add_file<R: Files + AllocGlobal>(
     files: &mut Seq<GuestFile>,
     left: &mut u64,
 ) -> Result<(), Fault>
-    ensures { OnOk result (Adds R.File.remaining word.now left.old left.new files.old files.new) }
+    ensures added { OnOk result (Adds R.File.remaining word.now left.old left.new files.old files.new) }
+    ensures refused { IfErr result (IsAbout (codes "--file ")) }
 {
     let file = file(rt, word, (*left).min(LARGEST_FILE))?;
     *left = left.saturating_sub(file.content.len() as u64);
-    files.push(file)?;
-    Ok(())
+    match files.push(file) {
+        Ok(()) => Ok(()),
+        Err(_) => Err(Fault::Memory),
+    }
 }
 
 /// The files of words GUEST=PATH, of which `left` bytes may be read together.
@@ -74,7 +94,8 @@ fn named_files<R: Files + AllocGlobal>(
     words: &[&str],
     left: &mut u64,
 ) -> Result<Seq<GuestFile>, Fault>
-    ensures { IfOk result (AreFilesOf R.File.remaining left.old (map (λ word. word.now) words.now)) }
+    ensures files { IfOk result (AreFilesOf R.File.remaining left.old (map (λ word. word.now) words.now)) }
+    ensures refused { IfErr result (IsAbout (codes "--file ")) }
 {
     let mut files = Seq::new(rt.alloc());
     for word in words {
@@ -90,8 +111,9 @@ pub fn read_files<R: Files + AllocGlobal>(
     words: &[&str],
     directories: &[&str],
 ) -> Result<Seq<GuestFile>, Fault>
-    ensures { IfOk result (AreFiles R.File.remaining (map (λ word. word.now) words.now)
+    ensures files { IfOk result (AreFiles R.File.remaining (map (λ word. word.now) words.now)
         (map (λ word. word.now) directories.now)) }
+    ensures refused { IfErr result RefusesFiles }
 {
     let mut left = MOST_CONTENTS;
     let mut files = named_files(rt, words, &mut left)?;
@@ -120,13 +142,16 @@ pub fn boot_of<R: Files + AllocGlobal, I: Read + IsTerminal, E: Write + IsTermin
     input: &mut I,
     err: &mut E,
 ) -> Result<Boot, Fault>
-    ensures { IfOk result (AsksBoot R.File.remaining (words_of words.entry) (I.remaining input.old)) }
+    ensures asked { IfOk result (AsksBoot R.File.remaining (words_of words.entry) (I.remaining input.old)) }
+    ensures refused { IfErr result (RefusesParts R.File.remaining (words_of words.entry)) }
 {
     let alloc = rt.alloc();
     let env = environment_of(alloc, words.environment)?;
     let files = read_files(rt, words.files, words.directories)?;
     announce_input(program, input, err);
-    let argv = bytes_of(alloc, words.program)?;
+    let Ok(argv) = bytes_of(alloc, words.program) else {
+        return Err(Fault::Memory);
+    };
     let input = read_input(alloc, input, MOST_INPUT)?;
     Ok(Boot {
         limits: Limits::WIDEST,
@@ -147,7 +172,8 @@ fn boot_asked<R: Files + AllocGlobal, I: Read + IsTerminal, E: Write + IsTermina
     input: &mut I,
     err: &mut E,
 ) -> Result<Boot, Fault>
-    ensures { IfOk result (AsksBoot R.File.remaining (given_words matches.now follow) (I.remaining input.old)) }
+    ensures asked { IfOk result (AsksBoot R.File.remaining (given_words matches.now follow) (I.remaining input.old)) }
+    ensures refused { IfErr result (RefusesParts R.File.remaining (given_words matches.now follow)) }
 {
     let files = matches.get_strs("file").unwrap_or(&[]);
     let directories = matches.get_strs("dir").unwrap_or(&[]);
@@ -174,6 +200,8 @@ pub fn read_boot<R: Files + AllocGlobal, I: Read + IsTerminal, E: Write + IsTerm
 ) -> Result<Boot, Fault>
     ensures asked { IfOk result (AsksBoot R.File.remaining (given_words matches.now follow) (I.remaining input.old)) }
     ensures taken { IfOk result (λ boot. fault_of boot ≡ None) }
+    ensures refused { IfErr result
+        (RefusesAsked R.File.remaining (given_words matches.now follow) (I.remaining input.old)) }
 {
     let boot = boot_asked(rt, program, matches, follow, input, err)?;
     check_boot(rt.alloc(), &boot)?;

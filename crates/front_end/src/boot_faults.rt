@@ -1,9 +1,10 @@
 //! Why a boot is refused, and for which of its files or limits.
 
-ghost use Rattle.std.specs.Prelude.{◌≡◌, IfErr, None, OnOk, true};
+ghost use Rattle.std.specs.Prelude.{◌≡◌, IfErr, None, OnOk, codes, true};
 ghost use Rattle.lx_boot.specs.Boots.{fault_of};
-ghost use Rattle.front_end.specs.Boots.{RefusesBoot};
+ghost use Rattle.front_end.specs.Refusals.{RefusesBoot};
 ghost use Rattle.front_end.specs.Statuses.{is_usage_or_memory};
+ghost use Rattle.front_end.specs.Texts.{IsAbout};
 
 use crate::fault::Fault;
 use crate::shown::Shown;
@@ -74,7 +75,7 @@ pub fn check_boot(alloc: Global, boot: &Boot) -> Result<(), Fault>
 
 /// A fault, and what it is found in.
 fn told(alloc: Global, boot: &Boot, fault: BootFault) -> Fault
-    ensures { is_usage_or_memory result ≡ true }
+    ensures { IsAbout (codes "boot fault ") result }
 {
     let culprit = match find_culprit(boot, fault) {
         Some(culprit) => name_culprit(alloc, boot, culprit),
@@ -87,11 +88,16 @@ fn told(alloc: Global, boot: &Boot, fault: BootFault) -> Fault
 }
 
 fn refuse(alloc: Global, fault: BootFault, culprit: &str) -> Fault
-    ensures { is_usage_or_memory result ≡ true }
+    ensures kind { is_usage_or_memory result ≡ true }
+    ensures start { IsAbout (codes "boot fault ") result }
 {
     match fault {
         BootFault::Memory => Fault::Memory,
-        fault => Fault::usage(format!(in alloc; "boot fault {}: {fault}{culprit}", fault.number())),
+        fault => Fault::about(
+            alloc,
+            "boot fault ",
+            format!(in alloc; "{}: {fault}{culprit}", fault.number()),
+        ),
     }
 }
 

@@ -1,8 +1,9 @@
 //! The files of a directory, and of those below it, as the guest's.
 
-ghost use Rattle.std.specs.Prelude.{◌≡◌, IfOk, OnOk, option_map, string_bytes};
+ghost use Rattle.std.specs.Prelude.{◌≡◌, IfErr, IfOk, OnOk, codes, option_map, string_bytes};
 ghost use Rattle.front_end.specs.Directories as spec;
 ghost use Rattle.front_end.specs.Files.{StartWith};
+ghost use Rattle.front_end.specs.Texts.{IsAbout};
 
 use crate::fault::Fault;
 use crate::reading::read_file;
@@ -10,11 +11,31 @@ use crate::shown::Shown;
 use containers::{Bytes, Content, Seq};
 use lx_abi::GuestFile;
 use lx_abi::limits::{LARGEST_FILE, MOST_NODES};
-use std::alloc::{AllocError, Global};
-use std::fmt::Display;
+use std::alloc::{AllocError, AllocFailed, Global};
 use std::fs::FileType;
-use std::io::{self, Read};
+use std::io::{self, ErrorKind, Read};
 use std::rt::Files;
+
+/// Why a directory isn't read.
+#[derive(Drop)]
+enum Unread {
+    /// For this reason.
+    Because(String),
+    /// Memory was refused.
+    Memory,
+}
+
+impl From<AllocError> for Unread {
+    fn from(_error: AllocError) -> Self {
+        Unread::Memory
+    }
+}
+
+impl<T: Drop> From<AllocFailed<T>> for Unread {
+    fn from(_error: AllocFailed<T>) -> Self {
+        Unread::Memory
+    }
+}
 
 /// A file or a directory: its path in the guest's tree, and its own.
 #[derive(Drop)]
@@ -33,11 +54,9 @@ impl Place {
     }
 }
 
-/// What the words of `--dir` lead to.
+/// What a word of `--dir` leads to.
 #[derive(Drop)]
-struct Walk<'a> {
-    /// The words, for faults.
-    word: &'a str,
+struct Walk {
     /// Files, each directory's in the order of their names.
     files: Vec<Place>,
     /// Directories that are still to be read.
@@ -67,16 +86,22 @@ fn divided(word: &str) -> Option<(&str, &str)>
     }
 }
 
-/// A fault of a word of `--dir`, in what is named by `what`.
-fn refusal<D: Display + Drop>(alloc: Global, word: &str, what: D, why: &str) -> Fault {
-    Fault::usage(format!(in alloc; "--dir {}: {what}: {why}", Shown(word)))
+/// What isn't read of a directory.
+fn refusal(alloc: Global, path: &str, why: &str) -> Unread {
+    match format!(in alloc; "{}: {why}", Shown(path)) {
+        Ok(reason) => Unread::Because(reason),
+        Err(_) => Unread::Memory,
+    }
 }
 
 /// What can't be read.
-fn unread(alloc: Global, word: &str, path: &str, error: io::Error) -> Fault {
-    match format!(in alloc; "--dir {}: {}", Shown(word), Shown(path)) {
-        Ok(what) => Fault::file(alloc, what, error),
-        Err(error) => Fault::from(error),
+fn unread(alloc: Global, path: &str, error: io::Error) -> Unread {
+    if error.kind() == ErrorKind::OutOfMemory {
+        return Unread::Memory;
+    }
+    match format!(in alloc; "{}: {error}", Shown(path)) {
+        Ok(reason) => Unread::Because(reason),
+        Err(_) => Unread::Memory,
     }
 }
 
@@ -95,13 +120,13 @@ fn names(alloc: Global, listed: &[u8]) -> Result<Option<Vec<&str>>, AllocError> 
     Ok(Some(names))
 }
 
-impl Walk<'_> {
+impl Walk {
     /// Adds what a name in a directory leads to.
-    fn add(&mut self, alloc: Global, place: Place, kind: FileType) -> Result<(), Fault> {
+    fn add(&mut self, alloc: Global, place: Place, kind: FileType) -> Result<(), Unread> {
         let seen = self.files.len().saturating_add(self.directories.len());
         if seen >= MOST_NODES {
             let why = "with it there are more than 4096 files and directories";
-            return Err(refusal(alloc, self.word, Shown(place.path.as_str()), why));
+            return Err(refusal(alloc, place.path.as_str(), why));
         }
         if kind.is_dir() {
             self.directories.push(place)?;
@@ -109,7 +134,7 @@ impl Walk<'_> {
             self.files.push(place)?;
         } else {
             let why = "neither a file nor a directory";
-            return Err(refusal(alloc, self.word, Shown(place.path.as_str()), why));
+            return Err(refusal(alloc, place.path.as_str(), why));
         }
         Ok(())
     }
@@ -120,28 +145,23 @@ impl Walk<'_> {
         rt: &R,
         directory: &Place,
         name: &str,
-    ) -> Result<(), Fault> {
+    ) -> Result<(), Unread> {
         let place = directory.place(rt.alloc(), name)?;
         match rt.symlink_metadata(place.path.as_str()) {
             Ok(metadata) => self.add(rt.alloc(), place, metadata.file_type()),
-            Err(error) => Err(unread(rt.alloc(), self.word, place.path.as_str(), error)),
+            Err(error) => Err(unread(rt.alloc(), place.path.as_str(), error)),
         }
     }
 
     /// Adds all that a directory holds.
-    fn read<R: Files + AllocGlobal>(&mut self, rt: &R, directory: &Place) -> Result<(), Fault> {
+    fn read<R: Files + AllocGlobal>(&mut self, rt: &R, directory: &Place) -> Result<(), Unread> {
         let path = directory.path.as_str();
         let listed = match listing(rt, path) {
             Ok(listed) => listed,
-            Err(error) => return Err(unread(rt.alloc(), self.word, path, error)),
+            Err(error) => return Err(unread(rt.alloc(), path, error)),
         };
         let Some(names) = names(rt.alloc(), listed.as_slice())? else {
-            return Err(refusal(
-                rt.alloc(),
-                self.word,
-                Shown(path),
-                "a name in it isn't UTF-8",
-            ));
+            return Err(refusal(rt.alloc(), path, "a name in it isn't UTF-8"));
         };
         for name in names.iter().copied() {
             self.look_at(rt, directory, name)?;
@@ -150,19 +170,14 @@ impl Walk<'_> {
     }
 
     /// Adds what stands below the directories that are still to be read.
-    fn read_all<R: Files + AllocGlobal>(&mut self, rt: &R, path: &str) -> Result<(), Fault> {
+    fn read_all<R: Files + AllocGlobal>(&mut self, rt: &R, path: &str) -> Result<(), Unread> {
         for _ in 0..MOST_NODES {
             match self.directories.pop() {
                 Some(directory) => self.read(rt, &directory)?,
                 None => return Ok(()),
             }
         }
-        Err(refusal(
-            rt.alloc(),
-            self.word,
-            Shown(path),
-            "more than 4096 directories",
-        ))
+        Err(refusal(rt.alloc(), path, "more than 4096 directories"))
     }
 }
 
@@ -189,14 +204,10 @@ fn first_place(alloc: Global, guest: &str, path: &str) -> Result<Place, AllocErr
     })
 }
 
-/// The files below the directory of a word GUEST=DIR.
-fn places<R: Files + AllocGlobal>(rt: &R, word: &str) -> Result<Vec<Place>, Fault> {
+/// The files below a directory, which stands at this path of the guest's.
+fn places<R: Files + AllocGlobal>(rt: &R, guest: &str, path: &str) -> Result<Vec<Place>, Unread> {
     let alloc = rt.alloc();
-    let Some((guest, path)) = divided(word) else {
-        return Err(Fault::usage(format!(in alloc; "--dir {}: not GUEST=DIR", Shown(word))));
-    };
     let mut walk = Walk {
-        word,
         files: Vec::new(alloc),
         directories: Vec::new(alloc),
     };
@@ -208,23 +219,38 @@ fn places<R: Files + AllocGlobal>(rt: &R, word: &str) -> Result<Vec<Place>, Faul
 /// Adds what a place holds, of which `left` bytes may be read: of a file that is too large one byte more.
 fn add_place<R: Files + AllocGlobal>(
     rt: &R,
-    word: &str,
     place: &Place,
     files: &mut Seq<GuestFile>,
     left: &mut u64,
-) -> Result<(), Fault>
+) -> Result<(), Unread>
     ensures { OnOk result (StartWith files.new files.old) }
 {
     let alloc = rt.alloc();
     let content = match read_file(rt, place.path.as_str(), (*left).min(LARGEST_FILE)) {
         Ok(content) => content,
-        Err(error) => return Err(unread(alloc, word, place.path.as_str(), error)),
+        Err(error) => return Err(unread(alloc, place.path.as_str(), error)),
     };
     *left = left.saturating_sub(content.len() as u64);
     files.push(GuestFile {
         path: Bytes::from_slice(alloc, place.guest.as_bytes())?,
         content: Content::from_bytes(alloc, Bytes::from_vec(content))?,
     })?;
+    Ok(())
+}
+
+/// Adds the files below a directory.
+fn add_places<R: Files + AllocGlobal>(
+    rt: &R,
+    guest: &str,
+    path: &str,
+    files: &mut Seq<GuestFile>,
+    left: &mut u64,
+) -> Result<(), Unread>
+    ensures { OnOk result (StartWith files.new files.old) }
+{
+    for place in places(rt, guest, path)?.iter() {
+        add_place(rt, place, files, left)?;
+    }
     Ok(())
 }
 
@@ -235,10 +261,21 @@ pub fn add_directory<R: Files + AllocGlobal>(
     files: &mut Seq<GuestFile>,
     left: &mut u64,
 ) -> Result<(), Fault>
-    ensures { OnOk result (StartWith files.new files.old) }
+    ensures more { OnOk result (StartWith files.new files.old) }
+    ensures refused { IfErr result (IsAbout (codes "--dir ")) }
 {
-    for place in places(rt, word)?.iter() {
-        add_place(rt, word, place, files, left)?;
+    let alloc = rt.alloc();
+    let shown = Shown(word);
+    let Some((guest, path)) = divided(word) else {
+        let text = format!(in alloc; "{shown}: not GUEST=DIR");
+        return Err(Fault::about(alloc, "--dir ", text));
+    };
+    match add_places(rt, guest, path, files, left) {
+        Ok(()) => Ok(()),
+        Err(Unread::Because(reason)) => {
+            let text = format!(in alloc; "{shown}: {reason}");
+            Err(Fault::about(alloc, "--dir ", text))
+        }
+        Err(Unread::Memory) => Err(Fault::Memory),
     }
-    Ok(())
 }

@@ -1,9 +1,10 @@
 //! The environment of the guest's program.
 
-ghost use Rattle.std.specs.Prelude.{◌≡◌, IfErr, IfOk, OnOk, map, not, option_map, reverse, false, true};
+ghost use Rattle.std.specs.Prelude.{◌≡◌, IfErr, IfOk, OnOk, codes, map, not, option_map, reverse, false, true};
 ghost use Rattle.front_end.specs.Environment as spec;
 ghost use Rattle.front_end.specs.Environment.{HasMore, has_in};
-ghost use Rattle.front_end.specs.Statuses.{is_usage_or_memory};
+ghost use Rattle.front_end.specs.Refusals.{RefusesVariables};
+ghost use Rattle.front_end.specs.Texts.{IsAbout};
 
 use crate::fault::Fault;
 use crate::shown::Shown;
@@ -24,12 +25,16 @@ fn name_of(word: &str) -> Option<&str>
 /// Each word is NAME=VALUE.
 fn check_variables(alloc: Global, words: &[&str]) -> Result<(), Fault>
     ensures all { OnOk result (spec.are_variables (map (λ word. word.now) words.now) ≡ true) }
-    ensures one { IfErr result (λ fault. (is_usage_or_memory fault ≡ true)
+    ensures one { IfErr result (λ fault. IsAbout (codes "-E ") fault
         × (spec.are_variables (map (λ word. word.now) words.now) ≡ false)) }
 {
     for word in words {
         let Some(_name) = name_of(word) else {
-            return Err(Fault::usage(format!(in alloc; "-E {}: not NAME=VALUE", Shown(word))));
+            return Err(Fault::about(
+                alloc,
+                "-E ",
+                format!(in alloc; "{}: not NAME=VALUE", Shown(word)),
+            ));
         };
     }
     Ok(())
@@ -92,7 +97,7 @@ pub fn bytes_of(alloc: Global, words: &[&str]) -> Result<Seq<Bytes>, AllocError>
 pub fn environment_of(alloc: Global, words: &[&str]) -> Result<Seq<Bytes>, Fault>
     ensures set { IfOk result (λ set. (spec.are_variables (map (λ word. word.now) words.now) ≡ true)
         × (set ≡ spec.environment (map (λ word. word.now) words.now))) }
-    ensures refused { IfErr result (λ fault. is_usage_or_memory fault ≡ true) }
+    ensures refused { IfErr result (RefusesVariables (map (λ word. word.now) words.now)) }
 {
     check_variables(alloc, words)?;
     let Ok(mut kept) = last_words(alloc, words) else {

@@ -10,6 +10,7 @@ ghost use Rattle.tr_expr.specs.declared.fault.ExprFault.TheVariants.{Memory};
 
 use crate::explanation::explain_expression;
 use crate::fault::Fault;
+use crate::texts::joined;
 use clap::ArgMatches;
 use containers::Seq;
 use lx_abi::{Rule, Script, Set};
@@ -35,15 +36,6 @@ pub struct RefusedExpression<'a> {
 struct Placed {
     place: usize,
     text: String,
-}
-
-/// Two texts in a row.
-fn joined(alloc: Global, start: &str, rest: &str) -> Result<String, AllocError>
-    ensures { IfOk result (λ text. string_bytes text ≡ start.now ++ rest.now) }
-{
-    let mut text = String::from_str(alloc, start)?;
-    text.push_str(rest)?;
-    Ok(text)
 }
 
 /// An expression as it is read, from what its option stands for and its value: `-e t=` is short for `-e trace=`.

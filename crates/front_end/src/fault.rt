@@ -1,8 +1,10 @@
 //! Why a command isn't carried out, or not wholly.
 
-ghost use Rattle.std.specs.Prelude.{◌≡◌, true};
+ghost use Rattle.std.specs.Prelude.{◌≡◌, ◌⊎◌, IfOk, List, option_map, string_bytes, true};
 ghost use Rattle.front_end.specs.Statuses.{is_output_or_memory, is_usage_or_memory, status_of};
+ghost use Rattle.front_end.specs.Texts.{IsAbout, Says, reason_of};
 
+use crate::texts::joined;
 use std::alloc::{AllocError, AllocFailed, Global};
 use std::fmt::Display;
 use std::io::{self, ErrorKind};
@@ -39,9 +41,24 @@ pub enum Fault {
 impl Fault {
     /// A fault with this text, if there is memory for it.
     pub fn usage(text: Result<String, AllocError>) -> Self
-        ensures { is_usage_or_memory result ≡ true }
+        ensures kind { is_usage_or_memory result ≡ true }
+        ensures text { (said : List ℕ) → IfOk text (λ text. string_bytes text ≡ said) → Says said result }
     {
         match text {
+            Ok(text) => Fault::Usage(text),
+            Err(_) => Fault::Memory,
+        }
+    }
+
+    /// A fault with a text of two parts, if there is memory for it.
+    pub fn about(alloc: Global, start: &str, rest: Result<String, AllocError>) -> Self
+        ensures kind { is_usage_or_memory result ≡ true }
+        ensures start { IsAbout start.now result }
+    {
+        let Ok(rest) = rest else {
+            return Fault::Memory;
+        };
+        match joined(alloc, start, rest.as_str()) {
             Ok(text) => Fault::Usage(text),
             Err(_) => Fault::Memory,
         }
@@ -57,19 +74,29 @@ impl Fault {
         }
     }
 
-    /// What can't be read or written, named by `what`.
-    pub fn file<D: Display + Drop>(alloc: Global, what: D, error: io::Error) -> Self
-        ensures { is_usage_or_memory result ≡ true }
+    /// What can't be read or written, named by `start` and `what`.
+    pub fn file_of<D: Display + Drop>(alloc: Global, start: &str, what: D, error: io::Error) -> Self
+        ensures kind { is_usage_or_memory result ≡ true }
+        ensures start { IsAbout start.now result }
     {
         if error.kind() == ErrorKind::OutOfMemory {
             return Fault::Memory;
         }
-        Fault::usage(format!(in alloc; "{what}: {error}"))
+        Fault::about(alloc, start, format!(in alloc; "{what}: {error}"))
+    }
+
+    /// The same, named by `what`.
+    pub fn file<D: Display + Drop>(alloc: Global, what: D, error: io::Error) -> Self
+        ensures { is_usage_or_memory result ≡ true }
+    {
+        Fault::file_of(alloc, "", what, error)
     }
 
     /// The exit status.
     pub fn status(&self) -> u8
-        ensures { result ≡ status_of self.now }
+        ensures status { result ≡ status_of self.now }
+        ensures usage { is_usage_or_memory self.now ≡ true → (result ≡ 2) ⊎ (result ≡ 3) }
+        ensures output { is_output_or_memory self.now ≡ true → result ≡ 3 }
     {
         match self {
             Fault::Usage(_) | Fault::Expression { .. } | Fault::Listing { .. } => USAGE,
@@ -79,24 +106,38 @@ impl Fault {
     }
 
     /// What explains it, where its line doesn't say it.
-    pub fn reason(&self) -> Option<&str> {
+    pub fn reason(&self) -> Option<&str>
+        ensures { option_map (λ reason. reason.now) result ≡ reason_of self.now }
+    {
         match self {
             Fault::Expression { reason, .. } => Some(reason.as_str()),
             Fault::Host { reason, .. } => Some(*reason),
-            Fault::OutOfTurns(reason) => reason.as_ref().map(|text| text.as_str()),
+            Fault::OutOfTurns(Some(reason)) => Some(reason.as_str()),
             Fault::Output(output) => Some(output.as_str()),
-            Fault::Usage(_) | Fault::Listing { .. } | Fault::Memory => None,
+            Fault::Usage(_) | Fault::Listing { .. } | Fault::OutOfTurns(None) | Fault::Memory => {
+                None
+            }
         }
     }
 }
 
 impl From<AllocError> for Fault {
+    ghost use Rattle.std.specs.Prelude.{◌≡◌};
+    ghost use Rattle.front_end.specs.declared.fault.Fault.TheVariants.{Memory};
+
+    ghost from_gives = { λ _ fault. fault ≡ Memory };
+
     fn from(_error: AllocError) -> Self {
         Fault::Memory
     }
 }
 
 impl<T: Drop> From<AllocFailed<T>> for Fault {
+    ghost use Rattle.std.specs.Prelude.{◌≡◌};
+    ghost use Rattle.front_end.specs.declared.fault.Fault.TheVariants.{Memory};
+
+    ghost from_gives = { λ _ fault. fault ≡ Memory };
+
     fn from(_error: AllocFailed<T>) -> Self {
         Fault::Memory
     }

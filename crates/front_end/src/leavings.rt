@@ -1,8 +1,9 @@
 //! What a run leaves in the guest's files: written to a directory, and listed.
 
-ghost use Rattle.std.specs.Prelude.{◌≡◌, ◌++◌, ◌==◌, true, IfOk, IfSome, string_bytes};
+ghost use Rattle.std.specs.Prelude.{◌≡◌, ◌++◌, ◌==◌, true, IfErr, IfOk, IfSome, string_bytes};
 ghost use Rattle.std.specs.List.{list_any, slice_split};
 ghost use Rattle.front_end.specs.Leavings as spec;
+ghost use Rattle.front_end.specs.Refusals.{RefusesDirectory, RefusesList};
 
 use crate::fault::Fault;
 use crate::replacing::{check_file, replace_file};
@@ -34,17 +35,6 @@ impl<'a> Leavings<'a> {
     /// The words ask for some.
     pub fn are_wanted(self) -> bool {
         self.directory.is_some() || self.list.is_some()
-    }
-
-    /// The directory can be read, and is empty; the list can be written.
-    pub fn check<R: Files + AllocGlobal>(self, rt: &R) -> Result<(), Fault> {
-        if let Some(directory) = self.directory {
-            check_directory(rt, directory)?;
-        }
-        match self.list {
-            Some(path) => check_list(rt, path),
-            None => Ok(()),
-        }
     }
 
     /// Writes what a run has left.
@@ -83,27 +73,35 @@ fn is_empty<R: Files>(rt: &R, directory: &str) -> io::Result<bool> {
     Ok(false)
 }
 
-fn check_directory<R: Files + AllocGlobal>(rt: &R, directory: &str) -> Result<(), Fault> {
+/// The directory that the files go to can be read, and is empty.
+pub fn check_directory<R: Files + AllocGlobal>(rt: &R, matches: &ArgMatches) -> Result<(), Fault>
+    ensures { IfErr result (RefusesDirectory matches.now) }
+{
+    let alloc = rt.alloc();
+    let Some(directory) = matches.get_str("files-out") else {
+        return Ok(());
+    };
     let shown = Shown(directory);
     match is_empty(rt, directory) {
         Ok(true) => Ok(()),
-        Ok(false) => Err(Fault::usage(format!(in rt.alloc();
-            "--files-out {shown}: the directory isn't empty"
-        ))),
-        Err(error) => {
-            let what = format!(in rt.alloc(); "--files-out {shown}")?;
-            Err(Fault::file(rt.alloc(), what, error))
+        Ok(false) => {
+            let text = format!(in alloc; "{shown}: the directory isn't empty");
+            Err(Fault::about(alloc, "--files-out ", text))
         }
+        Err(error) => Err(Fault::file_of(alloc, "--files-out ", shown, error)),
     }
 }
 
-fn check_list<R: Files + AllocGlobal>(rt: &R, path: &str) -> Result<(), Fault> {
+/// The list of the files can be written.
+pub fn check_list<R: Files + AllocGlobal>(rt: &R, matches: &ArgMatches) -> Result<(), Fault>
+    ensures { IfErr result (RefusesList matches.now) }
+{
+    let Some(path) = matches.get_str("files-list") else {
+        return Ok(());
+    };
     match check_file(rt, path) {
         Ok(()) => Ok(()),
-        Err(error) => {
-            let what = format!(in rt.alloc(); "--files-list {}", Shown(path))?;
-            Err(Fault::file(rt.alloc(), what, error))
-        }
+        Err(error) => Err(Fault::file_of(rt.alloc(), "--files-list ", Shown(path), error)),
     }
 }
 

@@ -26,6 +26,7 @@ mod reporting;
 mod shown;
 mod start;
 mod streams;
+mod texts;
 mod turns;
 mod waits;
 

@@ -1,9 +1,9 @@
 //! Values of options.
 
-ghost use Rattle.std.specs.Prelude.{◌≡◌, IfErr, IfOk, None, Some, codes, option_map, true};
+ghost use Rattle.std.specs.Prelude.{◌≡◌, IfErr, IfOk, None, Some, codes, option_map};
 ghost use Rattle.clap.specs.Words.{first_value, found_of};
 ghost use Rattle.front_end.specs.Numbers as spec;
-ghost use Rattle.front_end.specs.Statuses.{is_usage_or_memory};
+ghost use Rattle.front_end.specs.Texts.{IsAbout};
 
 use crate::fault::Fault;
 use crate::shown::Shown;
@@ -55,12 +55,11 @@ pub fn limit_of(value: Option<&str>) -> Option<u64>
 
 /// An option's value that is no number in its range; `option` is its name as it is written.
 pub fn malformed(alloc: Global, option: &str, value: Option<&str>, least: u64, most: u64) -> Fault
-    ensures { is_usage_or_memory result ≡ true }
+    ensures { IsAbout option.now result }
 {
-    Fault::usage(format!(in alloc;
-        "{option} {}: not a number from {least} to {most}",
-        Shown(value.unwrap_or(""))
-    ))
+    let value = Shown(value.unwrap_or(""));
+    let text = format!(in alloc; " {value}: not a number from {least} to {most}");
+    Fault::about(alloc, option, text)
 }
 
 /// The number that an option gives in decimal digits, or the default; `option` is its name as it is written.
@@ -73,7 +72,7 @@ pub fn number(
 ) -> Result<u64, Fault>
     ensures value { IfOk result
         (λ value. spec.given_or most default (option_map (λ text. text.now) digits.entry) ≡ Some value) }
-    ensures fault { IfErr result (λ fault. (is_usage_or_memory fault ≡ true)
+    ensures fault { IfErr result (λ fault. IsAbout option.now fault
         × (spec.given_or most default (option_map (λ text. text.now) digits.entry) ≡ None)) }
 {
     match given_or(digits, most, default) {
@@ -86,7 +85,7 @@ pub fn number(
 pub fn limit(alloc: Global, matches: &ArgMatches) -> Result<u64, Fault>
     ensures limit { IfOk result
         (λ limit. spec.limit_of (first_value (found_of matches.now) (codes "limit")) ≡ Some limit) }
-    ensures fault { IfErr result (λ fault. (is_usage_or_memory fault ≡ true)
+    ensures fault { IfErr result (λ fault. IsAbout (codes "--limit") fault
         × (spec.limit_of (first_value (found_of matches.now) (codes "limit")) ≡ None)) }
 {
     number(alloc, "--limit", matches.get_str("limit"), u64::MAX, LIMIT)

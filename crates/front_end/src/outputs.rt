@@ -1,6 +1,12 @@
 //! The files that a program is told to write.
 
+ghost use Rattle.std.specs.Prelude.{◌≡◌, IfErr};
+ghost use Rattle.front_end.specs.Refusals as spec;
+ghost use Rattle.front_end.specs.Refusals.{RefusesOutput, RefusesOutputs};
+ghost use Rattle.front_end.specs.Texts.{IsAbout};
+
 use crate::fault::Fault;
+use crate::leavings::{check_directory, check_list};
 use crate::shown::Shown;
 use crate::streams::check_given_stream;
 use clap::ArgMatches;
@@ -8,13 +14,47 @@ use std::alloc::{AllocError, Global};
 use std::io;
 use std::rt::Files;
 
-/// The options that name one: in the parser, and as they are typed.
-const OUTPUTS: [(&str, &str); 4] = [
-    ("output", "-o"),
-    ("turns-out", "--turns-out"),
-    ("files-list", "--files-list"),
-    ("known-out", "--known-out"),
-];
+/// A file that a program is told to write.
+#[derive(Clone, Copy, Debug, PartialEq, Eq)]
+pub enum Output {
+    /// The trace, or the report of a sweep.
+    Trace,
+    /// The turns of a run.
+    Turns,
+    /// The list of the files that a run leaves.
+    Files,
+    /// The findings of a sweep, as they are known.
+    Known,
+}
+
+/// In the order in which they are looked at.
+const OUTPUTS: [Output; 4] = [Output::Trace, Output::Turns, Output::Files, Output::Known];
+
+impl Output {
+    /// The option that names it, for the parser.
+    fn id(self) -> &'static str
+        ensures { result.now ≡ spec.id_of self }
+    {
+        match self {
+            Output::Trace => "output",
+            Output::Turns => "turns-out",
+            Output::Files => "files-list",
+            Output::Known => "known-out",
+        }
+    }
+
+    /// The option as it is typed.
+    fn option(self) -> &'static str
+        ensures { result.now ≡ spec.option_of self }
+    {
+        match self {
+            Output::Trace => "-o",
+            Output::Turns => "--turns-out",
+            Output::Files => "--files-list",
+            Output::Known => "--known-out",
+        }
+    }
+}
 
 /// The folder of a path, and the name in it.
 fn parted(path: &str) -> (&str, &str) {
@@ -52,64 +92,75 @@ fn are_same<R: Files + AllocGlobal>(rt: &R, one: &str, other: &str) -> Result<bo
     Ok(one.as_str() == other.as_str())
 }
 
-/// The option before this place that names the same file.
+/// The output before this place that is written to the same file.
 fn same_file<R: Files + AllocGlobal>(
     rt: &R,
     matches: &ArgMatches,
     place: usize,
     path: &str,
-) -> Result<Option<&'static str>, AllocError> {
-    for (name, option) in OUTPUTS.iter().take(place) {
-        if let Some(other) = matches.get_str(name) {
+) -> Result<Option<Output>, AllocError> {
+    for output in OUTPUTS.iter().take(place) {
+        if let Some(other) = matches.get_str(output.id()) {
             if are_same(rt, path, other)? {
-                return Ok(Some(*option));
+                return Ok(Some(*output));
             }
         }
     }
     Ok(None)
 }
 
-fn no_name(alloc: Global, option: &str) -> Fault {
-    Fault::usage(format!(in alloc; "{option}: the name of the file is empty"))
-}
-
-/// An output that can't be written.
-fn unwritable(alloc: Global, option: &str, path: &str, error: io::Error) -> Fault {
-    match format!(in alloc; "{option} {}", Shown(path)) {
-        Ok(what) => Fault::file(alloc, what, error),
-        Err(error) => Fault::from(error),
-    }
+/// An output that stands open and can't be written.
+fn unwritable(alloc: Global, option: &str, path: &str, error: io::Error) -> Fault
+    ensures { IsAbout option.now result }
+{
+    Fault::about(
+        alloc,
+        option,
+        format!(in alloc; " {}: {error}", Shown(path)),
+    )
 }
 
 fn check_output<R: Files + AllocGlobal>(
     rt: &R,
     matches: &ArgMatches,
     place: usize,
-    option: &str,
-    path: &str,
-) -> Result<(), Fault> {
+    output: Output,
+) -> Result<(), Fault>
+    ensures { IfErr result (RefusesOutput matches.now output) }
+{
+    let alloc = rt.alloc();
+    let option = output.option();
+    let Some(path) = matches.get_str(output.id()) else {
+        return Ok(());
+    };
     if path.is_empty() {
-        return Err(no_name(rt.alloc(), option));
+        let text = format!(in alloc; ": the name of the file is empty");
+        return Err(Fault::about(alloc, option, text));
     }
     if let Err(error) = check_given_stream(path) {
-        return Err(unwritable(rt.alloc(), option, path, error));
+        return Err(unwritable(alloc, option, path, error));
     }
-    match same_file(rt, matches, place, path)? {
-        None => Ok(()),
-        Some(other) => Err(Fault::usage(format!(in rt.alloc();
-            "{option} {}: {other} writes to the same file",
-            Shown(path)
-        ))),
+    match same_file(rt, matches, place, path) {
+        Ok(None) => Ok(()),
+        Ok(Some(other)) => {
+            let other = other.option();
+            let text = format!(in alloc; " {}: {other} writes to the same file", Shown(path));
+            Err(Fault::about(alloc, option, text))
+        }
+        Err(_) => Err(Fault::Memory),
     }
 }
 
-/// Each output has a name, and a file of its own. A stream that is named by its number was given to the program: this
-/// is asked before any is opened.
-pub fn check_outputs<R: Files + AllocGlobal>(rt: &R, matches: &ArgMatches) -> Result<(), Fault> {
-    for (place, (name, option)) in OUTPUTS.iter().enumerate() {
-        if let Some(path) = matches.get_str(name) {
-            check_output(rt, matches, place, option, path)?;
-        }
+/// Each output has a name, and a file of its own; files that a run leaves have a directory that is empty, and a list
+/// that can be written. A stream that is named by its number was given to the program: this is asked before any is
+/// opened.
+pub fn check_outputs<R: Files + AllocGlobal>(rt: &R, matches: &ArgMatches) -> Result<(), Fault>
+    ensures { IfErr result (RefusesOutputs matches.now) }
+{
+    for (place, output) in OUTPUTS.iter().enumerate() {
+        check_output(rt, matches, place, *output)?;
     }
+    check_directory(rt, matches)?;
+    check_list(rt, matches)?;
     Ok(())
 }

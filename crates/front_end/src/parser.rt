@@ -1,5 +1,8 @@
 //! What is wrong with words that can't be parsed.
 
+ghost use Rattle.std.specs.Prelude.{◌≡◌, true};
+ghost use Rattle.front_end.specs.Statuses.{is_usage_or_memory};
+
 use crate::fault::Fault;
 use crate::left_out::left_out;
 use crate::shown::Escaped;
@@ -59,7 +62,9 @@ fn hint(kind: ErrorKind, options: &[String]) -> &'static str {
 }
 
 /// What the parser refused; `options` are the words of a command that takes a program after `--`, else none.
-pub fn refusal(alloc: Global, error: Error, options: Option<&[String]>) -> Fault {
+pub fn refusal(alloc: Global, error: Error, options: Option<&[String]>) -> Fault
+    ensures { is_usage_or_memory result ≡ true }
+{
     if error.kind() == ErrorKind::OutOfMemory {
         return Fault::Memory;
     }
@@ -67,7 +72,7 @@ pub fn refusal(alloc: Global, error: Error, options: Option<&[String]>) -> Fault
     let kind = error.kind();
     match line_of(alloc, error) {
         Ok(line) => refuse(alloc, kind, line.as_str(), hint),
-        Err(error) => Fault::from(error),
+        Err(_) => Fault::Memory,
     }
 }
 
@@ -77,7 +82,9 @@ fn quoted(line: &str) -> &str {
 }
 
 /// An option that strace has is reported as one that isn't here, all else as the parser says it.
-fn refuse(alloc: Global, kind: ErrorKind, line: &str, hint: &str) -> Fault {
+fn refuse(alloc: Global, kind: ErrorKind, line: &str, hint: &str) -> Fault
+    ensures { is_usage_or_memory result ≡ true }
+{
     let option = quoted(line);
     match left_out(option) {
         Some(what) if kind == ErrorKind::UnknownArgument => {

@@ -1,14 +1,16 @@
 //! What a program says of its faults, and of itself.
 
-ghost use Rattle.std.specs.Prelude.{◌≡◌, ◌⊎◌};
-ghost use Rattle.front_end.specs.Statuses.{status_of};
+ghost use Rattle.std.specs.Prelude.{◌≡◌, ◌++◌, ◌⊎◌, Err, IfErr, IfOk, OnOk, codes, true};
+ghost use Rattle.std.specs.Io.KnownBytes.{Appends};
+ghost use Rattle.front_end.specs.Statuses.{IsStatusOf, is_output_or_memory, is_usage_or_memory, status_of};
+ghost use Rattle.front_end.specs.Texts.{GivesReason, Reports, line_of, reason_of};
 
 use crate::fault::{Fault, HOST};
 use clap::Error;
 use std::alloc::Global;
 use std::fmt;
 use std::fmt::{Display, Formatter};
-use std::io::Write;
+use std::io::{self, Write};
 
 /// The line in which a program reports a fault.
 #[derive(Drop)]
@@ -18,6 +20,11 @@ struct Line<'f> {
 }
 
 impl Display for Line<'_> {
+    ghost use Rattle.std.specs.Prelude.{Some};
+    ghost use Rattle.front_end.specs.Texts.{line_of};
+
+    ghost output = { λ line. Some (line_of line.program.now line.fault.now) };
+
     fn fmt<W: fmt::Write>(&self, f: &mut Formatter<W>) -> fmt::Result {
         let program = self.program;
         match self.fault {
@@ -34,39 +41,60 @@ impl Display for Line<'_> {
     }
 }
 
-/// Writes a fault's reason, if it has one. False where that can't be written.
-fn tell_reason<E: Write>(program: &str, fault: &Fault, err: &mut E) -> bool {
+/// Writes a fault's line.
+fn tell_line<E: Write>(program: &str, fault: &Fault, err: &mut E) -> io::Result<()>
+    ensures { OnOk result (Appends (E.contents err.old) (E.contents err.new)
+        (line_of program.now fault.now ++ codes "\n")) }
+{
+    writeln!(err, "{}", Line { program, fault })
+}
+
+/// Writes a fault's reason, if it has one.
+fn tell_reason<E: Write>(program: &str, fault: &Fault, err: &mut E) -> io::Result<()>
+    ensures { OnOk result (GivesReason program.now (reason_of fault.now)
+        (E.contents err.old) (E.contents err.new)) }
+{
     match fault.reason() {
-        Some(reason) => writeln!(err, "{program}: {reason}").is_ok(),
-        None => true,
+        Some(reason) => writeln!(err, "{program}: {reason}"),
+        None => Ok(()),
     }
 }
 
-/// Writes a fault, and its reason where it is to be explained. False where they can't be written.
-fn tell<E: Write>(program: &str, fault: &Fault, explained: bool, err: &mut E) -> bool {
-    writeln!(err, "{}", Line { program, fault }).is_ok()
-        && (!explained || tell_reason(program, fault, err))
-}
-
-/// The status of a fault, or that of an output that can't be written where the fault wasn't told.
-fn status_of_told(fault: &Fault, is_told: bool) -> u8
-    ensures { (result ≡ status_of fault.now) ⊎ (result ≡ 3) }
+/// Writes a fault, and its reason where it is to be explained.
+fn tell<E: Write>(program: &str, fault: &Fault, explained: bool, err: &mut E) -> io::Result<()>
+    ensures { OnOk result (Reports program.now fault.now explained (E.contents err.old) (E.contents err.new)) }
 {
-    if is_told { fault.status() } else { HOST }
+    tell_line(program, fault, err)?;
+    if !explained {
+        return Ok(());
+    }
+    tell_reason(program, fault, err)?;
+    Ok(())
 }
 
 /// Reports a program's fault in one line on `err`, and in another its reason where it is to be explained. Gives its
-/// status.
+/// status, or that of an output that can't be written where this couldn't be.
 pub fn report<E: Write>(program: &str, fault: &Fault, explained: bool, err: &mut E) -> u8
-    ensures { (result ≡ status_of fault.now) ⊎ (result ≡ 3) }
+    ensures told { ((result ≡ status_of fault.now)
+        × Reports program.now fault.now explained (E.contents err.old) (E.contents err.new)) ⊎ (result ≡ 3) }
+    ensures status { IsStatusOf (Err fault.now) result }
+    ensures usage { is_usage_or_memory fault.now ≡ true → (result ≡ 2) ⊎ (result ≡ 3) }
+    ensures output { is_output_or_memory fault.now ≡ true → result ≡ 3 }
 {
-    let is_told = tell(program, fault, explained, err);
-    status_of_told(fault, is_told)
+    match tell(program, fault, explained, err) {
+        Ok(()) => fault.status(),
+        Err(_) => HOST,
+    }
 }
 
 /// Writes the help, or the version.
-pub fn print_help<O: Write>(alloc: Global, help: Error, out: &mut O) -> Result<u8, Fault> {
-    let text = format!(in alloc; "{help}")?;
+pub fn print_help<O: Write>(alloc: Global, help: Error, out: &mut O) -> Result<u8, Fault>
+    ensures status { IfOk result (λ status. status ≡ 0) }
+    ensures fault { IfErr result (λ fault. is_output_or_memory fault ≡ true) }
+{
+    let Ok(text) = format!(in alloc; "{help}") else {
+        return Err(Fault::Memory);
+    };
     match out.write_all(text.as_bytes()) {
         Ok(()) => Ok(0),
         Err(error) => Err(Fault::output(format!(in alloc; "standard output: {error}"))),

@@ -3,4 +3,3 @@ mod Reaching
 mod Turned
 mod Noted
 mod Replayed
-mod Unplanned

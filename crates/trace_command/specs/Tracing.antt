@@ -43,7 +43,6 @@ use Rattle.trace_command.specs.declared.kernel.Kernel.{Kernel}
 use Rattle.trace_command.specs.declared.kernel.Kernel.TheVariants.{Here, OnThreads, There}
 use Rattle.trace_command.specs.declared.place.Place.{Place}
 use Rattle.trace_command.specs.declared.place.Place.TheVariants.{Error, Output, File}
-use Rattle.trace_words.specs.Plans.{RefusesPlan}
 use Rattle.trace_words.specs.declared.plan.Plan.{Plan}
 use Rattle.trace_words.specs.declared.asked.TraceOptions.{TraceOptions}
 use Rattle.trace_words.specs.declared.asked.Workers.{Workers}
@@ -357,11 +356,11 @@ Unplanned refuses (Err fault) out out' = refuses fault × (out' ≡ out)
 
 -- What is written to standard output is that of a run of such a plan, and a status is that of this run. Or the words
 -- make no plan, and nothing is written to it.
-abbrev pub TracesWords : {F : Type 0} → (F → Option (List ℕ)) → (Plan → Type 0)
+abbrev pub TracesWords : {F : Type 0} → (F → Option (List ℕ)) → (Fault → Type 0) → (Plan → Type 0)
     → (Plan → Option (List Event) → Result Ended RunFault → Writer → Writer → Type 0)
     → (Plan → Option (List Event) → Type 0) → Wanted → Result ℕ Fault → Option (List ℕ) → Option (List ℕ) → Type 0
-TracesWords held asked runs file wanted result out out' =
-    Unplanned (RefusesPlan wanted.words) result out out'
+TracesWords held refuses asked runs file wanted result out out' =
+    Unplanned refuses result out out'
     ⊎ ((plan : Plan)
     × (asked plan
     × ((ended : Result ℕ Fault)

@@ -1,15 +1,16 @@
 //! The program as a function of its words, its input and its outputs.
 
-ghost use Rattle.std.specs.Prelude.{codes};
+ghost use Rattle.std.specs.Prelude.{◌≡◌, ◌⊎◌, true};
+ghost use Rattle.front_end.specs.Statuses.{IsStatusOf, is_output_or_memory, is_usage_or_memory};
 ghost use Rattle.front_end.specs.Streams.{opened_contents};
-ghost use Rattle.trace_command.specs.Asked.{TracesAsked};
+ghost use Rattle.trace_command.specs.Asked.{EndsBy, Exits, TracesAsked};
 ghost use Rattle.trace_command.specs.Noting.{WritesEvents};
 ghost use Rattle.trace_command.specs.Tracing.{Runs};
 
 use crate::tracing;
 use crate::tracing::Traced;
-use clap::ArgMatches;
 use clap::error::ErrorKind;
+use clap::{ArgMatches, Error};
 use front_end::{Fault, print_help, refusal, report, shown_words};
 use host_link::Streams;
 use std::alloc::Global;
@@ -30,12 +31,36 @@ pub fn command<
     I: Read + IsTerminal,
     O: Write + Drop,
     E: Write + IsTerminal + Drop,
->(rt: &R, words: &[String], input: &mut I, mut out: O, mut err: E) -> u8
+>(rt: &R, words: &[String], input: &mut I, out: O, err: E) -> u8
 where
     R::Started: Streams,
 {
+    carry_out(rt, parse(rt.alloc(), words), words, input, out, err)
+}
+
+/// The same, by what the parser gives of the words.
+fn carry_out<
+    R: Files + Processes + Threads + Wait + Sync + AllocGlobal,
+    I: Read + IsTerminal,
+    O: Write + Drop,
+    E: Write + IsTerminal + Drop,
+>(
+    rt: &R,
+    parsed: Result<ArgMatches, Error>,
+    words: &[String],
+    input: &mut I,
+    mut out: O,
+    mut err: E,
+) -> u8
+where
+    R::Started: Streams,
+    ensures { Exits (λ matches status held. TracesAsked R.File.remaining (opened_contents R.File.contents)
+        (Runs R.Started R.Started.Stderr R.Started.Stdout.remaining R.Started.Stdin.contents)
+        (WritesEvents (opened_contents R.File.contents)) matches (I.remaining input.old) status (O.contents out) held)
+        parsed result }
+{
     let alloc = rt.alloc();
-    match parse(alloc, words) {
+    match parsed {
         Ok(matches) => {
             let explained = matches.get_flag("explain") || err.is_terminal();
             run(rt, &matches, explained, input, out, err)
@@ -49,8 +74,21 @@ where
 }
 
 /// Reports a fault in one line, and gives its status.
-pub fn tell<E: Write>(fault: Fault, err: &mut E) -> u8 {
+pub fn tell<E: Write>(fault: Fault, err: &mut E) -> u8
+    ensures usage { is_usage_or_memory fault ≡ true → (result ≡ 2) ⊎ (result ≡ 3) }
+    ensures output { is_output_or_memory fault ≡ true → result ≡ 3 }
+{
     report(NAME, &fault, false, err)
+}
+
+/// The status of what ended so. A fault is told.
+fn settle<E: Write>(ended: Result<u8, Fault>, explained: bool, err: &mut E) -> u8
+    ensures { IsStatusOf ended result }
+{
+    match ended {
+        Ok(status) => status,
+        Err(fault) => report(NAME, &fault, explained, err),
+    }
 }
 
 /// Traces the run that the words ask for.
@@ -81,6 +119,7 @@ where
     tracing::trace(rt, matches, options, input, out, err)
 }
 
+/// The same, and gives the exit status.
 fn run<
     R: Files + Processes + Threads + Wait + Sync + AllocGlobal,
     I: Read + IsTerminal,
@@ -89,6 +128,10 @@ fn run<
 >(rt: &R, matches: &ArgMatches, explained: bool, input: &mut I, out: O, err: E) -> u8
 where
     R::Started: Streams,
+    ensures { EndsBy (λ matches status held. TracesAsked R.File.remaining (opened_contents R.File.contents)
+        (Runs R.Started R.Started.Stderr R.Started.Stdout.remaining R.Started.Stdin.contents)
+        (WritesEvents (opened_contents R.File.contents)) matches (I.remaining input.old) status (O.contents out) held)
+        matches.now result }
 {
     let traced = trace_asked(rt, matches, explained, input, out, err);
     let Traced {
@@ -98,10 +141,7 @@ where
         said,
     } = traced;
     drop(out);
-    let status = match status {
-        Ok(status) => status,
-        Err(fault) => report(NAME, &fault, explained, &mut err),
-    };
+    let status = settle(status, explained, &mut err);
     match said {
         Some(said) if explained => tell_said(said.as_str(), &mut err),
         _ => (),
@@ -115,13 +155,15 @@ fn tell_said<E: Write>(said: &str, err: &mut E) {
 }
 
 /// What is wrong with words that the parser refuses for a fault of this kind.
-fn refuse(alloc: Global, kind: ErrorKind, words: &[String]) -> Fault {
+fn refuse(alloc: Global, kind: ErrorKind, words: &[String]) -> Fault
+    ensures { is_usage_or_memory result ≡ true }
+{
     if kind == ErrorKind::OutOfMemory {
         return Fault::Memory;
     }
     let shown = match shown_words(alloc, words) {
         Ok(shown) => shown,
-        Err(error) => return Fault::from(error),
+        Err(_) => return Fault::Memory,
     };
     match parse(alloc, shown.as_slice()) {
         Ok(_) => Fault::usage(format!(in alloc; "a word is malformed")),

@@ -9,7 +9,7 @@ use crate::given::is_given;
 use crate::kept::{Asked, Kept, Known};
 use clap::ArgMatches;
 use front_end::{Fault, Program};
-use std::alloc::Global;
+use std::alloc::{AllocError, Global};
 use std::io::{IsTerminal, Read, Write};
 use std::rt::Files;
 use trace_words::{Plan, TraceOptions, read_plan};
@@ -50,7 +50,7 @@ fn second(
     options: TraceOptions,
     asked: Asked,
     plan: &Plan,
-) -> Result<Option<Plan>, Fault>
+) -> Result<Option<Plan>, AllocError>
     ensures { IfOk result
         (IsSecond options.workers (value_of matches.now (codes "host")) matches.now plan.now asked.events) }
 {
@@ -59,7 +59,7 @@ fn second(
     }
     match plan.again(alloc, matches) {
         Ok(again) => Ok(Some(again)),
-        Err(fault) => Err(fault),
+        Err(error) => Err(error),
     }
 }
 
@@ -69,7 +69,7 @@ fn keep(
     matches: &ArgMatches,
     options: TraceOptions,
     plan: &Plan,
-) -> Result<Kept, Fault>
+) -> Result<Kept, AllocError>
     ensures { IfOk result (IsKeptFor (wanting matches.now options) plan.now) }
 {
     let asked = asked_by(matches, options);
@@ -82,7 +82,11 @@ fn keep(
 }
 
 /// The program, where the run's end is explained.
-fn program_of(alloc: Global, options: TraceOptions, plan: &Plan) -> Result<Option<Program>, Fault> {
+fn program_of(
+    alloc: Global,
+    options: TraceOptions,
+    plan: &Plan,
+) -> Result<Option<Program>, AllocError> {
     if !options.explain {
         return Ok(None);
     }
@@ -100,11 +104,15 @@ pub fn prepare<R: Files + AllocGlobal, I: Read + IsTerminal, E: Write + IsTermin
     ensures kept { IfOk result (λ prepared. IsKeptFor (wanting matches.now options) prepared.plan prepared.kept) }
     ensures plan { IfOk result (λ prepared.
         IsPlan R.File.remaining matches.now options (I.remaining input.old) prepared.plan) }
-    ensures refused { IfErr result (RefusesPlan matches.now) }
+    ensures refused { IfErr result (RefusesPlan R.File.remaining matches.now options (I.remaining input.old)) }
 {
     let plan = read_plan(rt, matches, options, input, err)?;
-    let kept = keep(rt.alloc(), matches, options, &plan)?;
-    let program = program_of(rt.alloc(), options, &plan)?;
+    let Ok(kept) = keep(rt.alloc(), matches, options, &plan) else {
+        return Err(Fault::Memory);
+    };
+    let Ok(program) = program_of(rt.alloc(), options, &plan) else {
+        return Err(Fault::Memory);
+    };
     Ok(Prepared {
         plan,
         kept,

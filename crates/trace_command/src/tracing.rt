@@ -8,7 +8,7 @@ ghost use Rattle.trace_command.specs.Noting.{IsKeptFor, WritesEvents, WritesNote
 ghost use Rattle.trace_command.specs.Tracing.{Leaves, Left, PutsConsole, Runs};
 ghost use Rattle.trace_command.specs.Tracing.{TracesOut, TracesPlan, TracesWords};
 ghost use Rattle.trace_command.specs.Tracing.{asks_for_files, outputs, status_in, value_of, wanting};
-ghost use Rattle.trace_words.specs.Plans.{IsPlan};
+ghost use Rattle.trace_words.specs.Plans.{IsPlan, RefusesPlan};
 
 use crate::explaining::explain;
 use crate::fault::host_fault;
@@ -262,6 +262,7 @@ pub fn trace<
 where
     R::Started: Streams,
     ensures { TracesWords (opened_contents R.File.contents)
+        (RefusesPlan R.File.remaining matches.now options (I.remaining input.old))
         (IsPlan R.File.remaining matches.now options (I.remaining input.old))
         (Runs R.Started R.Started.Stderr R.Started.Stdout.remaining R.Started.Stdin.contents
         (wanting matches.now options))

@@ -1,2 +1,3 @@
+pub mod OptionFaults
 pub mod Options
 pub mod Plans

@@ -5,9 +5,7 @@ ghost use Rattle.trace_words.specs.Plans.{IsPlan, RefusesPlan};
 
 use crate::asked::TraceOptions;
 use clap::ArgMatches;
-use front_end::{
-    Expressions, Fault, Leavings, check_outputs, read_boot, read_expressions, read_turns,
-};
+use front_end::{Fault, check_outputs, read_boot, read_expressions, read_turns};
 use lx_abi::{Boot, Script, Word};
 use lx_copies::Copied;
 use std::alloc::{AllocError, Global};
@@ -38,18 +36,21 @@ impl Plan {
     ghost use Rattle.trace_words.specs.Plans.{IsAlike};
 
     /// Another that is alike.
-    pub fn again(&self, alloc: Global, matches: &ArgMatches) -> Result<Plan, Fault>
+    pub fn again(&self, alloc: Global, matches: &ArgMatches) -> Result<Plan, AllocError>
         ensures { IfOk result (IsAlike matches.now self.now) }
     {
         let boot = self.boot.copy(alloc)?;
         let turns = copy_words(alloc, self.turns.as_slice())?;
-        let Expressions { shown, script } = read_expressions(alloc, matches)?;
+        // They were read once: now only memory can be wanting.
+        let Ok(expressions) = read_expressions(alloc, matches) else {
+            return Err(AllocError);
+        };
         Ok(Plan {
             boot,
-            script,
+            script: expressions.script,
             options: Options {
                 follow: self.options.follow,
-                shown,
+                shown: expressions.shown,
                 string_limit: self.options.string_limit,
                 width: self.options.width,
             },
@@ -58,8 +59,8 @@ impl Plan {
     }
 }
 
-/// Reads what the words ask for. Faults are looked for in the expressions, the schedule, the files, the
-/// input and the boot.
+/// Reads what the words ask for. Faults are looked for in the expressions, the schedule, the files to be written, the
+/// guest's variables, its files, its input and the boot.
 pub fn read_plan<R: Files + AllocGlobal, I: Read + IsTerminal, E: Write + IsTerminal>(
     rt: &R,
     matches: &ArgMatches,
@@ -68,12 +69,11 @@ pub fn read_plan<R: Files + AllocGlobal, I: Read + IsTerminal, E: Write + IsTerm
     err: &mut E,
 ) -> Result<Plan, Fault>
     ensures plan { IfOk result (IsPlan R.File.remaining matches.now options (I.remaining input.old)) }
-    ensures refused { IfErr result (RefusesPlan matches.now) }
+    ensures refused { IfErr result (RefusesPlan R.File.remaining matches.now options (I.remaining input.old)) }
 {
     let expressions = read_expressions(rt.alloc(), matches)?;
     let turns = read_turns(rt, matches.get_str("turns"))?;
     check_outputs(rt, matches)?;
-    Leavings::of(matches).check(rt)?;
     let boot = read_boot(rt, "strace_cli", matches, options.follow, input, err)?;
     Ok(Plan {
         boot,

@@ -8,9 +8,9 @@ pub loop-word-preserved : goal.loop-word-preserved
 loop-word-preserved g c =
     read_more g.R.File.Read.remaining _ _ _ _ _ _ _ _
     (words_more c.args.words.now c.loop-word.word-index _ c.loop-word-test.true) c.loop-word.invariant
-    c.in_ok-add_file.ensures
+    c.in_ok-add_file.ensures.added
 
-pub returns : goal.returns
-returns g c =
+pub returns-clause-files : goal.returns-clause-files
+returns-clause-files g c =
     subst (λ words. AreFilesOf g.R.File.Read.remaining c.args.left.now (map (λ word. word.now) words) c.loop-word.files)
     (take_all c.loop-word.word-index c.args.words.now c.loop-word-test.false) c.loop-word.invariant.0

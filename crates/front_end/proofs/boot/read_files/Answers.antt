@@ -9,15 +9,15 @@ loop-word-init g c = (([], sym (append-nil _)), refl)
 
 pub loop-word-preserved : goal.loop-word-preserved
 loop-word-preserved g c = (
-  start_on _ _ _ c.in_ok-add_directory.ensures c.loop-word.invariant.0,
+  start_on _ _ _ c.in_ok-add_directory.ensures.more c.loop-word.invariant.0,
   some_behind c.args.directories.now c.loop-word.word-index _ _ c.loop-word-test.true,
 )
 
-pub returns : goal.returns
-returns g c = (
+pub returns-clause-files : goal.returns-clause-files
+returns-clause-files g c = (
   c.in_ok-files.files,
   (
-    c.in_ok-files.ensures,
+    c.in_ok-files.ensures.files,
     (
       c.loop-word.invariant.0,
       subst (λ words. NoneBehind (map (λ word. word.now) words) c.loop-word.files c.in_ok-files.files)

@@ -1,7 +1,7 @@
 use Rattle.std.proofs.Common.{◌≡◌, [], sym}
 use Rattle.std.proofs.lemmas.List.{append-nil}
 use Rattle.front_end.proofs.Filed.{start_on}
-use Rattle.front_end.proofs.directories.add_directory.Goals as goal
+use Rattle.front_end.proofs.directories.add_places.Goals as goal
 
 pub loop-place-init : goal.loop-place-init
 loop-place-init g c = ([], sym (append-nil _))
