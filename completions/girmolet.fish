@@ -119,6 +119,7 @@ complete -c strace_sweep -l fail-fast -d 'Makes no more runs once one is a findi
 complete -c strace_sweep -l max-runs -x -d 'Makes N runs at most, those first that are likely to show something new'
 complete -c strace_sweep -l time -x -d 'Begins no more runs once so many seconds are over'
 complete -c strace_sweep -l check -x -d 'Runs this command of the shell where the files of each outcome are'
+complete -c strace_sweep -l cases -r -F -d 'Makes those runs alone that this file names, a line each, as write:EIO:2'
 complete -c strace_sweep -l show -x -d 'Shows one run as strace shows it, as write:EIO:2, and what it leaves'
 complete -c strace_sweep -l jobs -x -d 'Makes the runs on N threads, 1 to 8'
 complete -c strace_sweep -l limit -x -d 'Ends each run after N turns'

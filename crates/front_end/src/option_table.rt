@@ -39,7 +39,7 @@ pub struct OptionRow {
 }
 
 /// Completions are made of these rows, and the documents are compared with them.
-pub const OPTIONS: [OptionRow; 46] = [
+pub const OPTIONS: [OptionRow; 47] = [
     OptionRow {
         tools: &[Tool::Trace],
         id: "follow",
@@ -319,6 +319,14 @@ pub const OPTIONS: [OptionRow; 46] = [
         long: Some("check"),
         takes: Takes::Value("COMMAND"),
         help: "Runs this command of the shell where the files of each outcome are; another status than 0 is BROKEN",
+    },
+    OptionRow {
+        tools: &[Tool::Sweep],
+        id: "cases",
+        short: None,
+        long: Some("cases"),
+        takes: Takes::Value("FILE"),
+        help: "Makes those runs alone that this file names, a line each, as write:EIO:2",
     },
     OptionRow {
         tools: &[Tool::Sweep],

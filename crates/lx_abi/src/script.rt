@@ -84,6 +84,13 @@ impl Script {
         }
     }
 
+    /// The rules, as `new` takes them: of those that name a call, the last decides.
+    pub fn rules(&self) -> &[Rule]
+        ensures { result.now ≡ self.now }
+    {
+        self.rules.as_slice()
+    }
+
     /// The last rule that names the call.
     fn deciding(&self, call: u64) -> Option<&Rule>
         ensures { option_copied result ≡ last_naming self.now call }

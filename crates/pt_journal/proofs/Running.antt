@@ -30,12 +30,12 @@ abbrev answers_in : List (Request × Reply) → List Reply
 answers_in xs = map (λ x. x.1) xs
 
 -- the request that is pending is the one that is answered next
-abbrev IsNext : Option Request → List (Request × Reply) → Type 0
+abbrev pub IsNext : Option Request → List (Request × Reply) → Type 0
 IsNext None xs = Unit {0}
 IsNext (Some q) [] = ⊥
 IsNext (Some q) (x ∷ xs) = q ≡ x.0
 
-next_of : (p : Option Request) (x : Request × Reply) (xs : List (Request × Reply)) → is_there p ≡ true → IsNext p (x ∷ xs) → p ≡ Some x.0
+pub next_of : (p : Option Request) (x : Request × Reply) (xs : List (Request × Reply)) → is_there p ≡ true → IsNext p (x ∷ xs) → p ≡ Some x.0
 next_of None x xs there due = absurd (cc there)
 next_of (Some q) x xs there due = ap (λ z. Some z) due
 
@@ -51,7 +51,7 @@ module _ {S B : Type 0} (m : Machine S B) (outcome : S → Outcome) (follow : Bo
     pub pending : is_there g.pending ≡ true → g.pending ≡ request o (world_run m outcome o script w events).tracer.focus
 
   -- an event of both
-  record Stepped (v v' : Hosting S B) (w w' : World S B) (e : Event) (r : Option Reply) : Type 0 where
+  pub record Stepped (v v' : Hosting S B) (w w' : World S B) (e : Event) (r : Option Reply) : Type 0 where
     pub went : happens m outcome o script w e ≡ w'
     pub host : w'.host ≡ host_in v'
     pub replied : reply_to m outcome w (request o w.tracer.focus) e ≡ r
@@ -81,10 +81,10 @@ module _ {S B : Type 0} (m : Machine S B) (outcome : S → Outcome) (follow : Bo
         pending = λ there. x.pending there ∙ ap (λ (u : World S B). request o (world_run m outcome o script u es).tracer.focus) (sym s.went);
       }
 
-  abbrev after_turn : World S B → ℕ → World S B
+  abbrev pub after_turn : World S B → ℕ → World S B
   after_turn w p = record { host = host_turn m w.host p; tracer = w.tracer; printed = w.printed }
 
-  step_turn : (v : Hosting S B) (w : World S B) (p : ℕ) (q : Request) → IsFresh v → w.host ≡ host_in v → request o w.tracer.focus ≡ Some q
+  pub step_turn : (v : Hosting S B) (w : World S B) (p : ℕ) (q : Request) → IsFresh v → w.host ≡ host_in v → request o w.tracer.focus ≡ Some q
       → Stepped v (hosting_turn m follow v p) w (after_turn w p) (Turn p) None
   step_turn v w p q fresh h f =
       let like = alike m outcome follow v (Turn p) fresh in
@@ -96,7 +96,7 @@ module _ {S B : Type 0} (m : Machine S B) (outcome : S → Outcome) (follow : Bo
         asked = ap is_there f;
       }
 
-  abbrev after_serve : World S B → Request → Option Reply → World S B
+  abbrev pub after_serve : World S B → Request → Option Reply → World S B
   after_serve w q r = met o script w w.tracer.focus (serve m outcome w.host q).host r
 
   met_host : (w : World S B) (h : Host S B) (r : Option Reply) → (met o script w w.tracer.focus h r).host ≡ h
@@ -104,14 +104,14 @@ module _ {S B : Type 0} (m : Machine S B) (outcome : S → Outcome) (follow : Bo
   met_host w h (Some r) = refl
 
   -- what a Serve leaves, where this request is pending
-  record Served (v : Hosting S B) (q : Request) (h : Host S B) : Type 0 where
+  pub record Served (v : Hosting S B) (q : Request) (h : Host S B) : Type 0 where
     pub host : (serve m outcome h q).host ≡ host_in (hosting_event m outcome follow v Serve).hosting
     pub reply : (serve m outcome h q).reply ≡ (hosting_event m outcome follow v Serve).reply
     pub pending : (hosting_event m outcome follow v Serve).hosting.pending ≡ left_pending q (hosting_event m outcome follow v Serve).reply
     pub turned : (hosting_event m outcome follow v Serve).hosting.turns ≡ v.turns
     pub fresh : IsFresh (hosting_event m outcome follow v Serve).hosting
 
-  served : (v : Hosting S B) (q : Request) (h : Host S B) → IsFresh v → h ≡ host_in v → v.pending ≡ Some q → Served v q h
+  pub served : (v : Hosting S B) (q : Request) (h : Host S B) → IsFresh v → h ≡ host_in v → v.pending ≡ Some q → Served v q h
   served v q h fresh same pend =
       let like = alike m outcome follow v Serve fresh in
       let at = ap (λ z. serve_pending m outcome (host_in v) z) pend in
@@ -124,7 +124,7 @@ module _ {S B : Type 0} (m : Machine S B) (outcome : S → Outcome) (follow : Bo
         fresh = like.3;
       }
 
-  step_serve : (v : Hosting S B) (w : World S B) (q : Request) (r : Option Reply) → w.host ≡ host_in v → request o w.tracer.focus ≡ Some q
+  pub step_serve : (v : Hosting S B) (w : World S B) (q : Request) (r : Option Reply) → w.host ≡ host_in v → request o w.tracer.focus ≡ Some q
       → Served v q w.host → r ≡ (hosting_event m outcome follow v Serve).reply
       → Stepped v (hosting_event m outcome follow v Serve).hosting w (after_serve w q r) Serve r
   step_serve v w q r h f s is =
@@ -137,7 +137,7 @@ module _ {S B : Type 0} (m : Machine S B) (outcome : S → Outcome) (follow : Bo
         asked = ap is_there f;
       }
 
-  none_next : (v : Hosting S B) (xs : List (Request × Reply)) → v.pending ≡ None → IsNext v.pending xs
+  pub none_next : (v : Hosting S B) (xs : List (Request × Reply)) → v.pending ≡ None → IsNext v.pending xs
   none_next v xs e = subst (λ z. IsNext z xs) (sym e) tt
 
   -- what is pending is asked
@@ -146,7 +146,7 @@ module _ {S B : Type 0} (m : Machine S B) (outcome : S → Outcome) (follow : Bo
   pending_asked w (Some q) [] due asks there = absurd due
   pending_asked w (Some q) (x ∷ xs) due asks there = ap (λ z. Some z) due ∙ sym asks.0
 
-  pending_at : (v g : Hosting S B) (w : World S B) (xs : List (Request × Reply)) → g ≡ v → IsNext v.pending xs → Asks o script w.tracer xs → is_there g.pending ≡ true → g.pending ≡ request o w.tracer.focus
+  pub pending_at : (v g : Hosting S B) (w : World S B) (xs : List (Request × Reply)) → g ≡ v → IsNext v.pending xs → Asks o script w.tracer xs → is_there g.pending ≡ true → g.pending ≡ request o w.tracer.focus
   pending_at v g w xs same due asks there =
       let is = ap (λ (u : Hosting S B). u.pending) same in
       is ∙ pending_asked w v.pending xs due asks (ap is_there (sym is) ∙ there)
