@@ -89,7 +89,7 @@ fn told(alloc: Global, boot: &Boot, fault: BootFault) -> Fault
 
 fn refuse(alloc: Global, fault: BootFault, culprit: &str) -> Fault
     ensures kind { is_usage_or_memory result ≡ true }
-    ensures start { IsAbout (codes "boot fault ") result }
+    ensures begins { IsAbout (codes "boot fault ") result }
 {
     match fault {
         BootFault::Memory => Fault::Memory,

@@ -1,6 +1,6 @@
 //! Why a command isn't carried out, or not wholly.
 
-ghost use Rattle.std.specs.Prelude.{◌≡◌, ◌⊎◌, IfOk, List, option_map, string_bytes, true};
+ghost use Rattle.std.specs.Prelude.{◌≡◌, ◌⊎◌, IfOk, List, option_map, string_bytes, true, ℕ};
 ghost use Rattle.front_end.specs.Statuses.{is_output_or_memory, is_usage_or_memory, status_of};
 ghost use Rattle.front_end.specs.Texts.{IsAbout, Says, reason_of};
 
@@ -42,7 +42,7 @@ impl Fault {
     /// A fault with this text, if there is memory for it.
     pub fn usage(text: Result<String, AllocError>) -> Self
         ensures kind { is_usage_or_memory result ≡ true }
-        ensures text { (said : List ℕ) → IfOk text (λ text. string_bytes text ≡ said) → Says said result }
+        ensures said { (said : List ℕ) → IfOk text (λ text. string_bytes text ≡ said) → Says said result }
     {
         match text {
             Ok(text) => Fault::Usage(text),
@@ -53,7 +53,7 @@ impl Fault {
     /// A fault with a text of two parts, if there is memory for it.
     pub fn about(alloc: Global, start: &str, rest: Result<String, AllocError>) -> Self
         ensures kind { is_usage_or_memory result ≡ true }
-        ensures start { IsAbout start.now result }
+        ensures begins { IsAbout start.now result }
     {
         let Ok(rest) = rest else {
             return Fault::Memory;
@@ -77,7 +77,7 @@ impl Fault {
     /// What can't be read or written, named by `start` and `what`.
     pub fn file_of<D: Display + Drop>(alloc: Global, start: &str, what: D, error: io::Error) -> Self
         ensures kind { is_usage_or_memory result ≡ true }
-        ensures start { IsAbout start.now result }
+        ensures begins { IsAbout start.now result }
     {
         if error.kind() == ErrorKind::OutOfMemory {
             return Fault::Memory;

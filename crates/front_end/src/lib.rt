@@ -30,8 +30,8 @@ mod texts;
 mod turns;
 mod waits;
 
-pub use boot::{BootWords, boot_of, read_boot, read_files};
-pub use boot_faults::{check_boot, refuse_boot};
+pub use boot::read_boot;
+pub use boot_faults::refuse_boot;
 pub use expressions::{Expressions, expression_words, read_expression, read_expressions};
 pub use fault::Fault;
 pub use hints::Entered;
@@ -42,9 +42,9 @@ pub use options::{decimal, given_or, limit, limit_of, malformed, number, positiv
 pub use outputs::check_outputs;
 pub use parser::{refusal, shown_words};
 pub use program::Program;
-pub use reading::{read_input, read_text};
+pub use reading::read_text;
 pub use replacing::{NewFile, check_file, create_file, replace_file};
-pub use reporting::{print_help, report};
+pub use reporting::{print_help, report, settle};
 pub use shown::Shown;
 pub use start::{Begun, begin};
 pub use streams::Opened;

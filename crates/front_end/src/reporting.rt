@@ -87,6 +87,16 @@ pub fn report<E: Write>(program: &str, fault: &Fault, explained: bool, err: &mut
     }
 }
 
+/// The status of a command that ended so. A fault is reported.
+pub fn settle<E: Write>(program: &str, ended: Result<u8, Fault>, explained: bool, err: &mut E) -> u8
+    ensures { IsStatusOf ended result }
+{
+    match ended {
+        Ok(status) => status,
+        Err(fault) => report(program, &fault, explained, err),
+    }
+}
+
 /// Writes the help, or the version.
 pub fn print_help<O: Write>(alloc: Global, help: Error, out: &mut O) -> Result<u8, Fault>
     ensures status { IfOk result (λ status. status ≡ 0) }

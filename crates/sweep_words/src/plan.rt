@@ -1,10 +1,12 @@
 //! What a sweep is made of.
 
+ghost use Rattle.std.specs.Prelude.{IfOk};
+ghost use Rattle.sweep_words.specs.Plans.{IsPlan};
+
 use crate::known::read_known;
 use crate::wanted::read_wanted;
 use clap::ArgMatches;
-use front_end::{BootWords, Fault, boot_of, check_boot, limit, read_turns};
-use lx_abi::Boot;
+use front_end::{Fault, limit, read_boot, read_turns};
 use std::io::{IsTerminal, Read, Write};
 use std::rt::Files;
 use sweep_runs::{Setup, Wanted};
@@ -17,22 +19,6 @@ pub struct Plan {
     pub known: Vec<String>,
 }
 
-fn boot<R: Files + AllocGlobal, I: Read + IsTerminal, E: Write + IsTerminal>(
-    rt: &R,
-    matches: &ArgMatches,
-    input: &mut I,
-    err: &mut E,
-) -> Result<Boot, Fault> {
-    let words = BootWords {
-        files: matches.get_strs("file").unwrap_or(&[]),
-        directories: matches.get_strs("dir").unwrap_or(&[]),
-        environment: matches.get_strs("environment").unwrap_or(&[]),
-        program: matches.get_strs("program").unwrap_or(&[]),
-        follow: matches.get_flag("follow"),
-    };
-    boot_of(rt, "strace_sweep", words, input, err)
-}
-
 /// Reads what the words ask for. Faults are looked for in the limit, the expressions, the known findings, the schedule,
 /// the files, the input and the boot.
 pub fn read_plan<R: Files + AllocGlobal, I: Read + IsTerminal, E: Write + IsTerminal>(
@@ -40,13 +26,15 @@ pub fn read_plan<R: Files + AllocGlobal, I: Read + IsTerminal, E: Write + IsTerm
     matches: &ArgMatches,
     input: &mut I,
     err: &mut E,
-) -> Result<Plan, Fault> {
+) -> Result<Plan, Fault>
+    ensures { IfOk result (IsPlan R.File.remaining matches.now (I.remaining input.old)) }
+{
     let limit = limit(rt.alloc(), matches)?;
     let wanted = read_wanted(rt.alloc(), matches)?;
     let known = read_known(rt, matches)?;
     let turns = read_turns(rt, matches.get_str("turns"))?;
-    let boot = boot(rt, matches, input, err)?;
-    check_boot(rt.alloc(), &boot)?;
+    let follow = matches.get_flag("follow");
+    let boot = read_boot(rt, "strace_sweep", matches, follow, input, err)?;
     Ok(Plan {
         setup: Setup { boot, turns, limit },
         wanted,

@@ -1,7 +1,7 @@
 //! The program as a function of its words, its input and its outputs.
 
 ghost use Rattle.std.specs.Prelude.{◌≡◌, ◌⊎◌, true};
-ghost use Rattle.front_end.specs.Statuses.{IsStatusOf, is_output_or_memory, is_usage_or_memory};
+ghost use Rattle.front_end.specs.Statuses.{is_output_or_memory, is_usage_or_memory};
 ghost use Rattle.front_end.specs.Streams.{opened_contents};
 ghost use Rattle.trace_command.specs.Asked.{EndsBy, Exits, TracesAsked};
 ghost use Rattle.trace_command.specs.Noting.{WritesEvents};
@@ -11,7 +11,7 @@ use crate::tracing;
 use crate::tracing::Traced;
 use clap::error::ErrorKind;
 use clap::{ArgMatches, Error};
-use front_end::{Fault, print_help, refusal, report, shown_words};
+use front_end::{Fault, print_help, refusal, report, settle, shown_words};
 use host_link::Streams;
 use std::alloc::Global;
 use std::io::{IsTerminal, Read, Write};
@@ -81,16 +81,6 @@ pub fn tell<E: Write>(fault: Fault, err: &mut E) -> u8
     report(NAME, &fault, false, err)
 }
 
-/// The status of what ended so. A fault is told.
-fn settle<E: Write>(ended: Result<u8, Fault>, explained: bool, err: &mut E) -> u8
-    ensures { IsStatusOf ended result }
-{
-    match ended {
-        Ok(status) => status,
-        Err(fault) => report(NAME, &fault, explained, err),
-    }
-}
-
 /// Traces the run that the words ask for.
 fn trace_asked<
     R: Files + Processes + Threads + Wait + Sync + AllocGlobal,
@@ -141,7 +131,7 @@ where
         said,
     } = traced;
     drop(out);
-    let status = settle(status, explained, &mut err);
+    let status = settle(NAME, status, explained, &mut err);
     match said {
         Some(said) if explained => tell_said(said.as_str(), &mut err),
         _ => (),
