@@ -95,7 +95,7 @@ fn refusal(alloc: Global, path: &str, why: &str) -> Unread {
 }
 
 /// What can't be read.
-fn unread(alloc: Global, path: &str, error: io::Error) -> Unread {
+fn unreadable(alloc: Global, path: &str, error: io::Error) -> Unread {
     if error.kind() == ErrorKind::OutOfMemory {
         return Unread::Memory;
     }
@@ -149,7 +149,7 @@ impl Walk {
         let place = directory.place(rt.alloc(), name)?;
         match rt.symlink_metadata(place.path.as_str()) {
             Ok(metadata) => self.add(rt.alloc(), place, metadata.file_type()),
-            Err(error) => Err(unread(rt.alloc(), place.path.as_str(), error)),
+            Err(error) => Err(unreadable(rt.alloc(), place.path.as_str(), error)),
         }
     }
 
@@ -158,7 +158,7 @@ impl Walk {
         let path = directory.path.as_str();
         let listed = match listing(rt, path) {
             Ok(listed) => listed,
-            Err(error) => return Err(unread(rt.alloc(), path, error)),
+            Err(error) => return Err(unreadable(rt.alloc(), path, error)),
         };
         let Some(names) = names(rt.alloc(), listed.as_slice())? else {
             return Err(refusal(rt.alloc(), path, "a name in it isn't UTF-8"));
@@ -228,7 +228,7 @@ fn add_place<R: Files + AllocGlobal>(
     let alloc = rt.alloc();
     let content = match read_file(rt, place.path.as_str(), (*left).min(LARGEST_FILE)) {
         Ok(content) => content,
-        Err(error) => return Err(unread(alloc, place.path.as_str(), error)),
+        Err(error) => return Err(unreadable(alloc, place.path.as_str(), error)),
     };
     *left = left.saturating_sub(content.len() as u64);
     files.push(GuestFile {
