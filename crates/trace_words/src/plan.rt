@@ -5,7 +5,7 @@ ghost use Rattle.trace_words.specs.Plans.{IsPlan, RefusesPlan};
 
 use crate::asked::TraceOptions;
 use clap::ArgMatches;
-use front_end::{Fault, check_outputs, read_boot, read_expressions, read_turns};
+use front_end::{Expressions, Fault, check_outputs, read_boot, read_expressions, read_turns};
 use lx_abi::{Boot, Script, Word};
 use lx_copies::Copied;
 use std::alloc::{AllocError, Global};
@@ -36,21 +36,18 @@ impl Plan {
     ghost use Rattle.trace_words.specs.Plans.{IsAlike};
 
     /// Another that is alike.
-    pub fn again(&self, alloc: Global, matches: &ArgMatches) -> Result<Plan, AllocError>
+    pub fn again(&self, alloc: Global, matches: &ArgMatches) -> Result<Plan, Fault>
         ensures { IfOk result (IsAlike matches.now self.now) }
     {
         let boot = self.boot.copy(alloc)?;
         let turns = copy_words(alloc, self.turns.as_slice())?;
-        // They were read once: now only memory can be wanting.
-        let Ok(expressions) = read_expressions(alloc, matches) else {
-            return Err(AllocError);
-        };
+        let Expressions { shown, script } = read_expressions(alloc, matches)?;
         Ok(Plan {
             boot,
-            script: expressions.script,
+            script,
             options: Options {
                 follow: self.options.follow,
-                shown: expressions.shown,
+                shown,
                 string_limit: self.options.string_limit,
                 width: self.options.width,
             },
