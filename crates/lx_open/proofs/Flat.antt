@@ -1,5 +1,5 @@
 -- Rows as one map from pair to slot.
-use Rattle.std.proofs.Common.{◌≡◌, ◌≢◌, ℕ, zero, suc, ◌<◌, ◌≤◌, cond, List, [], ◌∷◌, Option, Some, None, refl, sym, ap, subst, ◌∙◌, arith, rules, get_or, length}
+use Rattle.std.proofs.Common.{◌≡◌, ◌≢◌, ℕ, zero, suc, ◌<◌, ◌≤◌, true, cond, List, [], ◌∷◌, Option, Some, None, refl, sym, ap, subst, ◌∙◌, arith, rules, get_or, length}
 use Rattle.std.specs.Prelude.{◌/◌, ◌%◌, IsSome}
 use Rattle.std.proofs.lemmas.Nat.{div-add-mod'}
 use Rattle.std.specs.Ordering.{nat_cmp, eq_by_cmp}
@@ -10,17 +10,17 @@ use Rattle.lx_open.specs.Kinds.{Slot, SlotMap}
 use Rattle.lx_open.specs.Counted.{put_back}
 use Rattle.lx_open.specs.Opens.{pair}
 use Rattle.lx_open.specs.Nexts.{IsNextOpen}
-use Rattle.lx_open.specs.Rows.{Slots, Rows, HasAt, IsNextIn, AreOfPids, row_slot, slot_at, with_row, with_rows, flat}
+use Rattle.lx_open.specs.Rows.{Slots, Rows, HasAt, IsNextIn, IsRowOf, AreOfPids, row_slot, slot_at, with_row, with_rows, flat}
 
 -- Pairs.
 
-parts : (k : ℕ) → pair (k / 256) (k % 256) ≡ k
+pub parts : (k : ℕ) → pair (k / 256) (k % 256) ≡ k
 parts k = div-add-mod' k 256
 
 small : (k : ℕ) → k % 256 < 256
 small k = omega arith
 
-other_process : (p q f g : ℕ) → f < 256 → g < 256 → p ≢ q → pair p f ≢ pair q g
+pub other_process : (p q f g : ℕ) → f < 256 → g < 256 → p ≢ q → pair p f ≢ pair q g
 other_process p q f g a b n e = n (omega (arith, a, b, e))
 
 get-put_back : (m : SlotMap) (k : ℕ) (o : Option Slot) (q : ℕ) → maps.get (put_back m k o) q ≡ cond (eq_by_cmp nat_cmp q k) o (maps.get m q)
@@ -33,7 +33,7 @@ put_here m k o q is = elim (tells q k) [
   | apart_from n t ↦ absurd (n is)
 ]
 
-put_there : (m : SlotMap) (k : ℕ) (o : Option Slot) (q : ℕ) → q ≢ k → maps.get (put_back m k o) q ≡ maps.get m q
+pub put_there : (m : SlotMap) (k : ℕ) (o : Option Slot) (q : ℕ) → q ≢ k → maps.get (put_back m k o) q ≡ maps.get m q
 put_there m k o q not_it = elim (tells q k) [
   | alike e t ↦ absurd (not_it e)
   | apart_from n t ↦ get-put_back m k o q ∙ ap (λ b. cond b o (maps.get m q)) t
@@ -41,7 +41,7 @@ put_there m k o q not_it = elim (tells q k) [
 
 -- One row.
 
-in_row : (m : SlotMap) (pid : ℕ) (row : Slots) (n f : ℕ) → f < n → maps.get (with_row m pid row n) (pair pid f) ≡ get_or row f None
+pub in_row : (m : SlotMap) (pid : ℕ) (row : Slots) (n f : ℕ) → f < n → maps.get (with_row m pid row n) (pair pid f) ≡ get_or row f None
 unfolding with_row
 in_row m pid row zero f lt = absurd (omega (arith, lt))
 in_row m pid row (suc n) f lt = elim (tells f n) [
@@ -51,7 +51,7 @@ in_row m pid row (suc n) f lt = elim (tells f n) [
       ∙ in_row m pid row n f (omega (arith, lt, other))
 ]
 
-beside_row : (m : SlotMap) (pid : ℕ) (row : Slots) (n p f : ℕ) → n ≤ 256 → f < 256 → p ≢ pid → maps.get (with_row m pid row n) (pair p f) ≡ maps.get m (pair p f)
+pub beside_row : (m : SlotMap) (pid : ℕ) (row : Slots) (n p f : ℕ) → n ≤ 256 → f < 256 → p ≢ pid → maps.get (with_row m pid row n) (pair p f) ≡ maps.get m (pair p f)
 unfolding with_row
 beside_row m pid row zero p f le lt other = refl
 beside_row m pid row (suc n) p f le lt other =
@@ -145,8 +145,49 @@ row_dropped rows pid row there none = alike_flat rows (maps.remove rows pid) (λ
   | apart_from n t ↦ ap (λ o. row_slot o f) (maps.get-remove nat_cmp_total rows pid p ∙ ap (λ b. cond b None (maps.get rows p)) t)
 ])
 
+-- its last slot goes, and so does it
+same_pid : (p : ℕ) → eq_by_cmp nat_cmp p p ≡ true
+same_pid p = elim (tells p p) [
+  | alike e t ↦ t
+  | apart_from n t ↦ absurd (n refl)
+]
+
+pub row_emptied : (rows rows' rows'' : Rows) (pid fd : ℕ) (row row' : Slots) → fd < 256 → Some row ≡ maps.get rows pid → HasAt row fd None row'
+    → rows' ≡ maps.insert rows pid row' → length row' ≡ 0 → rows'' ≡ maps.remove rows' pid → flat rows'' ≡ maps.remove (flat rows) (pair pid fd)
+row_emptied rows rows' rows'' pid fd row row' small_fd there has put none gone =
+    let here : maps.get rows' pid ≡ Some row' = ap (λ (m : Rows). maps.get m pid) put ∙ get-put rows pid row' pid ∙ ap (λ b. cond b (Some row') (maps.get rows pid)) (same_pid pid) in
+    ap flat gone ∙ row_dropped rows' pid row' (sym here) none ∙ ap flat put ∙ row_put rows pid fd row row' None small_fd there has
+
 pub none_flat : (rows : Rows) → rows ≡ maps.empty → flat rows ≡ maps.empty
 none_flat rows e = same_flat rows maps.empty (λ p f lt. ap (λ m. slot_at m p f) e ∙ ap (λ o. row_slot o f) (maps.get-empty nat_cmp p) ∙ sym (maps.get-empty nat_cmp (pair p f)))
+
+-- a process has another row, or none
+pub row_set : (rows : Rows) (pid : ℕ) (row : Slots) → flat (maps.insert rows pid row) ≡ with_row (flat rows) pid row 256
+row_set rows pid row = same_flat (maps.insert rows pid row) (with_row (flat rows) pid row 256) (λ p f lt. elim (tells p pid) [
+  | alike e t ↦
+      ap (λ o. row_slot o f) (get-put rows pid row p ∙ ap (λ b. cond b (Some row) (maps.get rows p)) t)
+      ∙ sym (ap (λ i. maps.get (with_row (flat rows) pid row 256) (pair i f)) e ∙ in_row (flat rows) pid row 256 f lt)
+  | apart_from n t ↦
+      ap (λ o. row_slot o f) (get-put rows pid row p ∙ ap (λ b. cond b (Some row) (maps.get rows p)) t)
+      ∙ sym (beside_row (flat rows) pid row 256 p f (omega arith) lt n ∙ get-flat rows p f lt)
+])
+
+pub row_gone : (rows : Rows) (pid : ℕ) → flat (maps.remove rows pid) ≡ with_row (flat rows) pid [] 256
+row_gone rows pid = same_flat (maps.remove rows pid) (with_row (flat rows) pid [] 256) (λ p f lt. elim (tells p pid) [
+  | alike e t ↦
+      ap (λ o. row_slot o f) (maps.get-remove nat_cmp_total rows pid p ∙ ap (λ b. cond b None (maps.get rows p)) t)
+      ∙ sym (ap (λ i. maps.get (with_row (flat rows) pid [] 256) (pair i f)) e ∙ in_row (flat rows) pid [] 256 f lt)
+  | apart_from n t ↦
+      ap (λ o. row_slot o f) (maps.get-remove nat_cmp_total rows pid p ∙ ap (λ b. cond b None (maps.get rows p)) t)
+      ∙ sym (beside_row (flat rows) pid [] 256 p f (omega arith) lt n ∙ get-flat rows p f lt)
+])
+
+-- what a process has is what its row says
+pub row_of : (rows : Rows) (pid : ℕ) → IsRowOf (flat rows) pid (maps.get rows pid)
+row_of rows pid fd lt = get-flat rows pid fd lt
+
+pub row_like : (m : SlotMap) (pid : ℕ) (row row' : Option Slots) → row' ≡ row → IsRowOf m pid row → IsRowOf m pid row'
+row_like m pid row row' e is fd lt = is fd lt ∙ ap (λ o. row_slot o fd) (sym e)
 
 -- Pids, and what stands at a key.
 

@@ -5,3 +5,5 @@ pub mod Inheriting
 pub mod Replacing
 pub mod Flat
 pub mod InRow
+pub mod Copying
+pub mod Closing

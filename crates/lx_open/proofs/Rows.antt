@@ -29,7 +29,7 @@ closed_last : (on_exec : Bool) (h : Held) (pid n : ℕ) → 256 ≤ n → h ≡ 
 unfolding closed_each
 closed_last on_exec h pid n le = sym (ap (closed_each on_exec h pid) (last n le))
 
-no_slot : (fds : FdTable) (pid n : ℕ) → maps.get fds.slots (pair pid n) ≡ None → slot fds pid n ≡ None
+pub no_slot : (fds : FdTable) (pid n : ℕ) → maps.get fds.slots (pair pid n) ≡ None → slot fds pid n ≡ None
 no_slot fds pid n none = go (nat_lt n most_fds)
   where
     go : (b : Bool) → cond b (maps.get fds.slots (pair pid n)) None ≡ None

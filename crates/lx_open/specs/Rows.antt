@@ -1,10 +1,12 @@
 -- Slots of each process in a row, by descriptor.
-use Rattle.std.specs.Prelude.{◌≡◌, ◌≢◌, ℕ, zero, suc, ◌<◌, ◌≤◌, List, [], ◌∷◌, Option, None, Some, IsSome, get_or}
+use Rattle.std.specs.Prelude.{◌≡◌, ◌≢◌, ℕ, zero, suc, ◌+◌, ◌<◌, ◌≤◌, List, [], ◌∷◌, Option, None, Some, IsSome, get_or}
 use Rattle.std.specs.Ordering.{nat_cmp}
 use Rattle.std.specs.FinMap as maps
 use Rattle.std.specs.FinMap.{FinMap}
 use Rattle.lx_abi.specs.Limits.{most_fds}
-use Rattle.lx_open.specs.Kinds.{Slot, SlotMap}
+use Rattle.lx_files.specs.declared.counts.Counts.{Counts}
+use Rattle.lx_files.specs.Tallies.{count_of, one_if, weight}
+use Rattle.lx_open.specs.Kinds.{Slot, SlotMap, names_description}
 use Rattle.lx_open.specs.Counted.{put_back}
 use Rattle.lx_open.specs.Opens.{pair}
 
@@ -58,3 +60,20 @@ flat rows = with_rows (maps.entries rows)
 -- only pids have rows
 abbrev pub AreOfPids : Rows → Type 0
 AreOfPids rows = (pid : ℕ) → IsSome (maps.get rows pid) → pid < 4294967296
+
+-- a process has the slots of a row, or none
+abbrev pub IsRowOf : SlotMap → ℕ → Option Slots → Type 0
+IsRowOf slots pid row = (fd : ℕ) → fd < most_fds → maps.get slots (pair pid fd) ≡ row_slot row fd
+
+-- how many of the first slots of a row name a description
+unfoldable pub named_in : ℕ → Slots → ℕ → ℕ
+named_in n row zero = 0
+named_in n row (suc fd) = weight (λ s. one_if (names_description n s)) (get_or row fd None) + named_in n row fd
+
+-- one more of the description of a slot that may be there
+abbrev pub CountsSlot : Option Slot → Counts → Counts → Type 0
+CountsSlot slot c d = (n : ℕ) → count_of d n ≡ weight (λ s. one_if (names_description n s)) slot + count_of c n
+
+-- as many more of each description as the first slots of a row name
+abbrev pub CountsRow : Counts → Slots → ℕ → Counts → Type 0
+CountsRow c row end d = (n : ℕ) → count_of d n ≡ named_in n row end + count_of c n

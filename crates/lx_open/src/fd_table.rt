@@ -7,7 +7,7 @@ ghost use Rattle.lx_open.specs.Opens.{with_held, with_offset, with_pipe, with_sl
 ghost use Rattle.lx_open.specs.Opens.{description as description_of, has_readers as has_readers_of, has_writers as has_writers_of};
 ghost use Rattle.containers.specs.Vacant.{vacant};
 ghost use Rattle.std.specs.FinMap as maps;
-ghost use Rattle.lx_open.specs.Opens.{free_but, no_fds, inherited, IsFree};
+ghost use Rattle.lx_open.specs.Opens.{no_fds, inherited, IsFree};
 ghost use Rattle.lx_open.specs.Nexts.{IsNextOpen};
 ghost use Rattle.lx_open.specs.declared.description.Slot.{Slot};
 ghost use Rattle.lx_open.specs.declared.description.Description.{Description};
@@ -35,31 +35,6 @@ pub fn pair(pid: u32, fd: u32) -> u64
     ensures { result ≡ pair_of pid fd }
 {
     u64::from(pid) * u64::from(MOST_FDS) + u64::from(fd)
-}
-
-/// The lowest free descriptor.
-#[tactic(auto, unfolding(crate::specs::Opens::free))]
-fn free_in(slots: &Slots, pid: u32) -> Option<u32>
-    ensures value { result ≡ free_of slots.now pid }
-    ensures small { IfSome result (λ fd. fd < most_fds) }
-    ensures free { IfSome result (λ fd. maps.get slots.now (pair_of pid fd) ≡ None) }
-{
-    (0..MOST_FDS).find(|fd| slots
-        .get(u64::from(pid) * u64::from(MOST_FDS) + u64::from(*fd))
-        .is_none())
-}
-
-/// The lowest free descriptor but one.
-fn free_beside(slots: &Slots, pid: u32, first: u32) -> Option<u32>
-    ensures value { result ≡ free_but slots.now pid first }
-    ensures small { IfSome result (λ fd. fd < most_fds) }
-    ensures free { IfSome result (λ fd. maps.get slots.now (pair_of pid fd) ≡ None) }
-    ensures other { IfSome result (λ fd. (fd == first) ≡ false) }
-{
-    (0..MOST_FDS).find(|fd| *fd != first
-        && slots
-            .get(u64::from(pid) * u64::from(MOST_FDS) + u64::from(*fd))
-            .is_none())
 }
 
 impl FdTable {
@@ -99,7 +74,7 @@ impl FdTable {
         ensures small { IfSome result (λ fd. fd < most_fds) }
         ensures free { IfSome result (λ fd. IsFree self.now pid fd) }
     {
-        free_in(&self.slots, pid)
+        self.slots.free(pid)
     }
 
     /// The lowest free descriptor once another one is taken.
@@ -109,7 +84,7 @@ impl FdTable {
         ensures free { IfSome result (λ fd. IsFree self.now pid fd) }
         ensures other { IfSome result (λ fd. (fd == first) ≡ false) }
     {
-        free_beside(&self.slots, pid, first)
+        self.slots.free_beside(pid, first)
     }
 
     /// The description that a slot names by number.

@@ -2,12 +2,13 @@
 
 ghost use Rattle.std.specs.Prelude.{◌≡◌, ◌<◌, IsTrue, OnOk, OnErr};
 ghost use Rattle.lx_abi.specs.Limits.{most_fds};
+ghost use Rattle.lx_open.specs.Opens.{slot as slot_of};
 ghost use Rattle.lx_open.specs.Releases.{node_released, pipe_released, object_released, description_released};
 ghost use Rattle.lx_open.specs.Releases.{closed, unlinked, replaced, IsNamedBeside};
-ghost use Rattle.lx_open.specs.Releases.{is_meant as is_meant_of, closed_if_meant, closed_each, all_closed};
+ghost use Rattle.lx_open.specs.Releases.{is_meant, closed_if_meant, closed_each, all_closed};
 ghost use Rattle.lx_open.specs.Releases.{AreEndsKept};
 ghost use Rattle.lx_open.specs.Releases.{closed_on_exec};
-ghost use Rattle.std.specs.Prelude.{true, false};
+ghost use Rattle.std.specs.Prelude.{◌&&◌, not, true, false};
 ghost use Rattle.std.specs.List.{range_with_len};
 
 use crate::description::{Object, Slot};
@@ -68,14 +69,13 @@ fn close_one(tree: &mut Tree, fds: &mut FdTable, pid: u32, fd: u32) -> bool
     ensures held { record { tree = tree.new; fds = fds.new } ≡ closed tree.old fds.old pid fd }
     ensures kept { IsTrue result → AreEndsKept fds.old fds.new }
 {
-    let Some(slot) = fds.slot(pid, fd) else {
+    if fd >= MOST_FDS {
         return true;
-    };
-    if fd < MOST_FDS {
-        fds.slots.remove(pair(pid, fd));
-        return release_description(tree, fds, slot.description);
     }
-    true
+    match fds.slots.remove(pair(pid, fd)) {
+        None => true,
+        Some(slot) => release_description(tree, fds, slot.description),
+    }
 }
 
 /// A descriptor names nothing from now on.
@@ -119,13 +119,20 @@ pub fn unlink(tree: &mut Tree, fds: &FdTable, path: &[u8])
     }
 }
 
-fn is_meant(on_exec: bool, slot: Option<Slot>) -> bool
-    ensures { result ≡ is_meant_of on_exec slot }
+fn closes_on_exec(slot: Option<Slot>) -> bool
+    ensures { result ≡ is_meant true slot }
 {
     match slot {
         None => false,
-        Some(slot) => !on_exec || slot.closes_on_exec,
+        Some(slot) => slot.closes_on_exec,
     }
+}
+
+/// The descriptor is not meant, though it may be open.
+fn stays_open(fds: &FdTable, on_exec: bool, pid: u32, fd: u32) -> bool
+    ensures { result ≡ (on_exec && not (is_meant true (slot_of fds.now pid fd))) }
+{
+    on_exec && !closes_on_exec(fds.slot(pid, fd))
 }
 
 fn close_if_meant(tree: &mut Tree, fds: &mut FdTable, on_exec: bool, pid: u32, fd: u32) -> bool
@@ -133,10 +140,10 @@ fn close_if_meant(tree: &mut Tree, fds: &mut FdTable, on_exec: bool, pid: u32, f
         ≡ closed_if_meant on_exec (record { tree = tree.old; fds = fds.old }) pid fd }
     ensures kept { IsTrue result → AreEndsKept fds.old fds.new }
 {
-    if is_meant(on_exec, fds.slot(pid, fd)) {
-        return close_one(tree, fds, pid, fd);
+    if stays_open(fds, on_exec, pid, fd) {
+        return true;
     }
-    true
+    close_one(tree, fds, pid, fd)
 }
 
 fn close_each(tree: &mut Tree, fds: &mut FdTable, on_exec: bool, pid: u32) -> bool

@@ -1,9 +1,11 @@
 //! The slots of one process.
 
-ghost use Rattle.std.specs.Prelude.{◌≡◌, ◌==◌, ◌<◌, ◌≤◌, ◌-◌, ℕ, [], length, get_or, slice_get, find, is_some, IsTrue, None, Some, IsSome, OnOk, OnErr};
+ghost use Rattle.std.specs.Prelude.{◌≡◌, ◌==◌, ◌<◌, ◌≤◌, ◌-◌, ◌&&◌, ℕ, [], length, get_or, slice_get, find, is_some, is_none};
+ghost use Rattle.std.specs.Prelude.{not, false, IsTrue, None, Some, IsSome, IfSome, OnOk, OnErr, IfOk};
+ghost use Rattle.std.specs.Option.{option_copied};
 ghost use Rattle.std.specs.List.{range_with_len};
 ghost use Rattle.lx_abi.specs.Limits.{most_fds};
-ghost use Rattle.lx_open.specs.Rows.{HasAt, AreAlike, IsNextIn};
+ghost use Rattle.lx_open.specs.Rows.{HasAt, AreAlike, IsNextIn, row_slot};
 
 use crate::description::Slot;
 use lx_abi::limits::MOST_FDS;
@@ -63,6 +65,36 @@ fn find_open(row: &Row, from: u32, end: u32) -> Option<u32>
     (from..end).find(|fd| row.get(*fd).is_some())
 }
 
+/// What a descriptor names; without a row, nothing.
+fn slot_in(row: Option<&Row>, fd: u32) -> Option<Slot>
+    ensures { result ≡ row_slot (option_copied row.entry) fd }
+{
+    match row {
+        None => None,
+        Some(row) => row.get(fd),
+    }
+}
+
+/// The lowest free descriptor.
+pub fn find_free(row: Option<&Row>) -> Option<u32>
+    ensures value { result ≡ find (λ q. is_none (row_slot (option_copied row.entry) q)) (range_with_len 0 most_fds) }
+    ensures small { IfSome result (λ fd. fd < most_fds) }
+    ensures free { IfSome result (λ fd. row_slot (option_copied row.entry) fd ≡ None) }
+{
+    (0..MOST_FDS).find(|fd| slot_in(row, *fd).is_none())
+}
+
+/// The lowest free descriptor but one.
+pub fn find_free_beside(row: Option<&Row>, first: u32) -> Option<u32>
+    ensures value { result
+        ≡ find (λ q. not (q == first) && is_none (row_slot (option_copied row.entry) q)) (range_with_len 0 most_fds) }
+    ensures small { IfSome result (λ fd. fd < most_fds) }
+    ensures free { IfSome result (λ fd. row_slot (option_copied row.entry) fd ≡ None) }
+    ensures other { IfSome result (λ fd. (fd == first) ≡ false) }
+{
+    (0..MOST_FDS).find(|fd| *fd != first && slot_in(row, *fd).is_none())
+}
+
 impl Row {
     pub fn new(alloc: Global) -> Self
         ensures { result ≡ [] }
@@ -78,8 +110,15 @@ impl Row {
         self.slots.is_empty()
     }
 
+    pub fn copy(&self, alloc: Global) -> Result<Self, AllocError>
+        ensures { IfOk result (λ row. row ≡ self.now) }
+    {
+        let slots = self.slots.to_vec(alloc)?;
+        Ok(Row { slots })
+    }
+
     /// From this descriptor on none is open.
-    fn end(&self) -> u32
+    pub fn end(&self) -> u32
         ensures within { result ≤ most_fds }
         ensures none { (q : ℕ) → result ≤ q → q < most_fds → get_or self.now q None ≡ None }
     {
@@ -123,7 +162,7 @@ impl Row {
     }
 
     /// A descriptor names nothing.
-    pub fn clear(&mut self, fd: u32)
+    fn clear(&mut self, fd: u32)
         ensures { HasAt self.old fd None self.new }
     {
         let at = fd as usize;
@@ -131,6 +170,16 @@ impl Row {
             self.slots[at] = None;
         }
         trim(&mut self.slots);
+    }
+
+    /// A descriptor names nothing: what it named.
+    pub fn take(&mut self, fd: u32) -> Option<Slot>
+        ensures value { result ≡ get_or self.old fd None }
+        ensures rest { HasAt self.old fd None self.new }
+    {
+        let was = self.get(fd);
+        self.clear(fd);
+        was
     }
 
     /// The lowest open descriptor at or above one.

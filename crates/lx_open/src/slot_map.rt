@@ -1,14 +1,16 @@
 //! Slots by pair of process and descriptor.
 
-ghost use Rattle.std.specs.Prelude.{◌≡◌, ◌≤◌, ◌<◌, ◌/◌, ◌%◌, ◌==◌, OnOk, OnErr, IfSome, IfNone, IsSome, Some, None};
+ghost use Rattle.std.specs.Prelude.{◌≡◌, ◌≤◌, ◌<◌, ◌/◌, ◌%◌, ◌==◌, [], OnOk, OnErr, IfOk, IfSome, IfNone, IsSome, Some, None};
+ghost use Rattle.std.specs.Prelude.{false};
+ghost use Rattle.std.specs.Option.{option_copied};
 ghost use Rattle.std.specs.FinMap as maps;
 ghost use Rattle.lx_abi.specs.Limits.{most_fds};
 ghost use Rattle.lx_open.specs.Nexts.{IsNextOpen};
-ghost use Rattle.lx_open.specs.Opens.{pair as pair_of};
-ghost use Rattle.lx_open.specs.Rows.{AreOfPids, flat, slot_at as slot_of};
+ghost use Rattle.lx_open.specs.Opens.{pair as pair_of, free as free_of, free_but};
+ghost use Rattle.lx_open.specs.Rows.{AreOfPids, IsRowOf, flat, with_row, slot_at as slot_of};
 
 use crate::description::Slot;
-use crate::row::Row;
+use crate::row::{Row, find_free, find_free_beside};
 use lx_abi::limits::MOST_FDS;
 use shelves::Shelf;
 use std::alloc::{AllocError, Global};
@@ -94,15 +96,22 @@ fn put(rows: &mut Shelf<Row>, pid: u32, fd: u32, slot: Slot) -> Result<(), Alloc
     Ok(())
 }
 
-/// A descriptor of a process names nothing.
-fn clear(rows: &mut Shelf<Row>, pid: u32, fd: u32)
+/// A descriptor of a process names nothing: what it named. A row without slots goes.
+fn take(rows: &mut Shelf<Row>, pid: u32, fd: u32) -> Option<Slot>
     requires { fd < most_fds }
+    ensures value { result ≡ slot_of rows.old pid fd }
     ensures pids { AreOfPids rows.old → AreOfPids rows.new }
     ensures rest { flat rows.new ≡ maps.remove (flat rows.old) (pair_of pid fd) }
 {
     match rows.get_mut(pid) {
-        None => {}
-        Some(row) => row.clear(fd),
+        None => None,
+        Some(row) => {
+            let was = row.take(fd);
+            if row.is_empty() {
+                rows.remove(pid);
+            }
+            was
+        }
     }
 }
 
@@ -117,19 +126,6 @@ fn overwrite(rows: &mut Shelf<Row>, pid: u32, fd: u32, slot: Slot)
         return;
     };
     row.overwrite(fd, slot);
-}
-
-/// The row of a process goes, if it has no slot.
-fn drop_row(rows: &mut Shelf<Row>, pid: u32)
-    ensures pids { AreOfPids rows.old → AreOfPids rows.new }
-    ensures same { flat rows.new ≡ flat rows.old }
-{
-    let Some(row) = rows.get(pid) else {
-        return;
-    };
-    if row.is_empty() {
-        rows.remove(pid);
-    }
 }
 
 impl SlotTable {
@@ -162,19 +158,69 @@ impl SlotTable {
         }
     }
 
+    /// The lowest free descriptor of a process.
+    pub fn free(&self, pid: u32) -> Option<u32>
+        ensures value { result ≡ free_of self.now pid }
+        ensures small { IfSome result (λ fd. fd < most_fds) }
+        ensures free { IfSome result (λ fd. maps.get self.now (pair_of pid fd) ≡ None) }
+    {
+        find_free(self.rows.get(pid))
+    }
+
+    /// The lowest free descriptor of a process but one.
+    pub fn free_beside(&self, pid: u32, first: u32) -> Option<u32>
+        ensures value { result ≡ free_but self.now pid first }
+        ensures small { IfSome result (λ fd. fd < most_fds) }
+        ensures free { IfSome result (λ fd. maps.get self.now (pair_of pid fd) ≡ None) }
+        ensures other { IfSome result (λ fd. (fd == first) ≡ false) }
+    {
+        find_free_beside(self.rows.get(pid), first)
+    }
+
+    /// The slots of a process that has any.
+    pub fn row(&self, pid: u32) -> Option<&Row>
+        ensures { IsRowOf self.now pid (option_copied result) }
+    {
+        self.rows.get(pid)
+    }
+
+    /// A copy of the slots of a process that has any.
+    pub fn copy_row(&self, pid: u32) -> Result<Option<Row>, AllocError>
+        ensures { IfOk result (λ row. IsRowOf self.now pid row) }
+    {
+        match self.rows.get(pid) {
+            None => Ok(None),
+            Some(row) => {
+                let copy = row.copy(self.alloc)?;
+                Ok(Some(copy))
+            }
+        }
+    }
+
+    /// A process has the slots of a row alone.
+    pub fn set_row(&mut self, pid: u32, row: Row) -> Result<(), AllocError>
+        ensures ok { OnOk result (self.new ≡ with_row self.old pid row most_fds) }
+        ensures err { OnErr result (self.new ≡ self.old) }
+    {
+        self.rows.insert(pid, row)?;
+        Ok(())
+    }
+
+    /// A process has no slots.
+    pub fn drop_row(&mut self, pid: u32)
+        ensures { self.new ≡ with_row self.old pid [] most_fds }
+    {
+        self.rows.remove(pid);
+    }
+
     pub fn remove(&mut self, pair: u64) -> Option<Slot>
         ensures value { result ≡ maps.get self.old pair }
         ensures rest { self.new ≡ maps.remove self.old pair }
     {
-        let was = self.get(pair);
         match pid_of(pair) {
-            None => {}
-            Some(pid) => {
-                clear(&mut self.rows, pid, fd_of(pair));
-                drop_row(&mut self.rows, pid);
-            }
+            None => None,
+            Some(pid) => take(&mut self.rows, pid, fd_of(pair)),
         }
-        was
     }
 
     /// Err also at a pair of a process that no pid names.

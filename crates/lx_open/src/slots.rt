@@ -1,16 +1,16 @@
 //! Slots, and how many name each description.
 
-ghost use Rattle.std.specs.Prelude.{◌≡◌, ◌≤◌, OnOk, OnErr};
+ghost use Rattle.std.specs.Prelude.{◌≡◌, ◌≤◌, ◌<◌, ◌==◌, OnOk, OnErr, IfSome, None, false};
 ghost use Rattle.std.specs.FinMap as maps;
 ghost use Rattle.std.specs.List.{range_with_len};
 ghost use Rattle.lx_abi.specs.Limits.{most_fds};
 ghost use Rattle.lx_files.specs.Tallies.{holds};
 ghost use Rattle.lx_open.specs.Kinds.{names_description};
 ghost use Rattle.lx_open.specs.Nexts.{IsNextOpen};
-ghost use Rattle.lx_open.specs.Opens.{inherited_each};
+ghost use Rattle.lx_open.specs.Opens.{pair as pair_of, free as free_of, free_but, inherited_each};
 
 use crate::description::Slot;
-use crate::sharing::{forget, inherit_from, share};
+use crate::sharing::{forget, inherit, share};
 use crate::slot_map::SlotTable;
 use lx_files::Counts;
 use std::alloc::{AllocError, Global};
@@ -68,6 +68,25 @@ impl Slots {
         self.map.next_open(pid, fd)
     }
 
+    /// The lowest free descriptor of a process.
+    pub fn free(&self, pid: u32) -> Option<u32>
+        ensures value { result ≡ free_of self.now pid }
+        ensures small { IfSome result (λ fd. fd < most_fds) }
+        ensures free { IfSome result (λ fd. maps.get self.now (pair_of pid fd) ≡ None) }
+    {
+        self.map.free(pid)
+    }
+
+    /// The lowest free descriptor of a process but one.
+    pub fn free_beside(&self, pid: u32, first: u32) -> Option<u32>
+        ensures value { result ≡ free_but self.now pid first }
+        ensures small { IfSome result (λ fd. fd < most_fds) }
+        ensures free { IfSome result (λ fd. maps.get self.now (pair_of pid fd) ≡ None) }
+        ensures other { IfSome result (λ fd. (fd == first) ≡ false) }
+    {
+        self.map.free_beside(pid, first)
+    }
+
     pub fn remove(&mut self, pair: u64) -> Option<Slot>
         ensures value { result ≡ maps.get self.old pair }
         ensures rest { self.new ≡ maps.remove self.old pair }
@@ -95,6 +114,6 @@ impl Slots {
         ensures ok { OnOk result (self.new ≡ inherited_each self.old parent child (range_with_len 0 most_fds)) }
         ensures err { OnErr result (self.new ≡ self.old) }
     {
-        inherit_from(&mut self.map, &mut self.counts, parent, child, 0)
+        inherit(&mut self.map, &mut self.counts, parent, child)
     }
 }

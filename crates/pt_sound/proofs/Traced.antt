@@ -206,7 +206,7 @@ module _ (outcome : Shared → Outcome) (options : Options) (script : Script) wh
   met_sound w focus h None s = s
   met_sound w focus h (Some r) s = s
 
-  asked_sound : (w : World Shared UserState) (focus : Focus) (q : Option Request) (e : Event) → HostIsSound w.host → HostIsSound (happens_asked linux outcome options script w focus q e).host
+  pub asked_sound : (w : World Shared UserState) (focus : Focus) (q : Option Request) (e : Event) → HostIsSound w.host → HostIsSound (happens_asked linux outcome options script w focus q e).host
   asked_sound w focus None e s = s
   asked_sound w focus (Some q) (Turn p) s = turns_sound w.host p s
   asked_sound w focus (Some q) Serve s = met_sound w focus (serve linux outcome w.host q).host (serve linux outcome w.host q).reply (requests_sound outcome w.host q s)

@@ -1,2 +1,3 @@
 pub mod Traced
 pub mod Families
+pub mod Limits

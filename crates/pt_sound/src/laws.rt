@@ -1,6 +1,7 @@
 //! What holds in every state of the ptrace machine.
 
 ghost use Rattle.pt_sound.specs.Families.{TurnsKeepFamilies, RequestsKeepFamilies, WorldsHaveFamilies};
+ghost use Rattle.pt_sound.specs.Limits.{EventsKeepLimits, WorldsKeepLimits};
 ghost use Rattle.pt_sound.specs.Traced.{TurnsStaySound, RequestsStaySound, WorldsAreSound, HostsAreSound};
 
 use lx_proc::{Shared, UserState};
@@ -21,4 +22,10 @@ pub fn traced_families_hold()
     ensures turn { TurnsKeepFamilies }
     ensures request { RequestsKeepFamilies }
     ensures worlds { WorldsHaveFamilies }
+{}
+
+/// How many processes there may be stays as the boot asked, whatever is asked and whoever has a turn.
+pub fn traced_limits_stay()
+    ensures event { EventsKeepLimits }
+    ensures worlds { WorldsKeepLimits }
 {}

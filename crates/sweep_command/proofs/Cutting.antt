@@ -1,17 +1,17 @@
 -- Batches of rows, and those that are told of them.
-use Rattle.std.proofs.Common.{◌≡◌, ◌<◌, ◌≤◌, ℕ, zero, suc, Bool, true, false, List, [], ◌∷◌, ◌++◌, length, map, take, refl, sym, ap, subst, ◌∙◌, arith, inl, inr, length-append}
+use Rattle.std.proofs.Common.{◌≡◌, ◌<◌, ◌≤◌, ℕ, zero, suc, Bool, true, false, List, [], ◌∷◌, ◌++◌, length, map, take, refl, sym, ap, ap₂, subst, ◌∙◌, arith, inl, inr, length-append}
 use Rattle.std.specs.Prelude.{◌&&◌, Some, min}
 use Rattle.std.specs.List.{All, slice_get}
 use Rattle.std.proofs.Math.Seq.{take-length}
-use Rattle.std.proofs.lemmas.List.{take-map, length-take, length-map}
-use Rattle.std.proofs.lemmas.List.Elements.{All-take}
+use Rattle.std.proofs.lemmas.List.{map-append, take-map, length-take, length-map}
+use Rattle.std.proofs.lemmas.List.Elements.{All-take, All-append}
 use Rattle.sweep_rows.specs.Verdicts.{is_finding}
 use Rattle.sweep_rows.specs.declared.verdicts.Reached.{Reached}
-use Rattle.sweep_runs.specs.Rows.{AreRows, IsRow}
 use Rattle.sweep_runs.specs.declared.chosen.Case.{Case}
 use Rattle.sweep_runs.specs.declared.runs.Setup.{Setup}
 use Rattle.sweep_runs.specs.declared.sweeping.Row.{Row}
 use Rattle.sweep_words.specs.declared.words.Words.{Words}
+use Rattle.sweep_command.specs.Checks.{AreTold, IsTold}
 use Rattle.sweep_command.specs.Reports.{ends_found, is_given, IsFound, IsCut, IsEnd}
 
 -- the first rows end with this one
@@ -53,10 +53,10 @@ take_twice (suc m) zero xs l = absurd (omega (arith, l))
 take_twice (suc m) (suc n) [] l = refl
 take_twice (suc m) (suc n) (x ∷ xs) l = ap (λ ys. x ∷ ys) (take_twice m n xs (omega (arith, l)))
 
-module _ (setup : Setup) (reference : Reached) where
+module _ (checked : Bool) (setup : Setup) (reference : Reached) where
   -- rows of the first of these cases are those of the first of others
   pub first_rows : (n : ℕ) (left first : List Case) (batch rows : List Row) → first ≡ take n left → rows ≡ take (length rows) batch
-      → AreRows setup reference first batch → AreRows setup reference (take (length rows) left) rows
+      → AreTold checked setup reference first batch → AreTold checked setup reference (take (length rows) left) rows
   first_rows n left first batch rows is cut made =
       let many : length batch ≡ length first = sym (length-map batch (λ (r : Row). r.case)) ∙ ap length made.cases_are in
       let few : length rows ≡ min (length rows) (length batch) = ap length cut ∙ length-take (length rows) batch in
@@ -64,12 +64,12 @@ module _ (setup : Setup) (reference : Reached) where
       let within : length rows ≤ n = omega (arith, many, few, short) in
       record {
         cases_are = ap (map (λ (r : Row). r.case)) cut ∙ sym (take-map (λ (r : Row). r.case) (length rows) batch) ∙ ap (take (length rows)) (made.cases_are ∙ is) ∙ take_twice (length rows) n left within;
-        each = subst (λ (rs : List Row). All (IsRow setup reference) rs) (sym cut) (All-take (IsRow setup reference) (length rows) batch made.each);
+        each = subst (λ (rs : List Row). All (IsTold checked setup reference) rs) (sym cut) (All-take (IsTold checked setup reference) (length rows) batch made.each);
       }
 
   -- so many are within
   pub rows_within : (n : ℕ) (left first : List Case) (batch rows : List Row) → first ≡ take n left → rows ≡ take (length rows) batch
-      → AreRows setup reference first batch → length rows ≤ length left
+      → AreTold checked setup reference first batch → length rows ≤ length left
   rows_within n left first batch rows is cut made =
       let many : length batch ≡ length first = sym (length-map batch (λ (r : Row). r.case)) ∙ ap length made.cases_are in
       let few : length rows ≡ min (length rows) (length batch) = ap length cut ∙ length-take (length rows) batch in
@@ -78,11 +78,19 @@ module _ (setup : Setup) (reference : Reached) where
 
   -- what is told of a batch isn't empty
   pub some_told : (fail_fast ended : Bool) (n : ℕ) (left first : List Case) (batch rows : List Row) → first ≡ take n left → 0 < n → 0 < length left
-      → AreRows setup reference first batch → IsCut fail_fast batch rows ended → 0 < length rows
+      → AreTold checked setup reference first batch → IsCut fail_fast batch rows ended → 0 < length rows
   some_told fail_fast ended n left first batch rows is size some made cut =
       let many : length batch ≡ length first = sym (length-map batch (λ (r : Row). r.case)) ∙ ap length made.cases_are in
       let short : length first ≡ min n (length left) = ap length is ∙ length-take n left in
       cut.some (omega (arith, many, short, size, some))
+
+  -- rows of some cases, and behind them those of others
+  pub told_are_joined : (cases more : List Case) (rows others : List Row) → AreTold checked setup reference cases rows
+      → AreTold checked setup reference more others → AreTold checked setup reference (cases ++ more) (rows ++ others)
+  told_are_joined cases more rows others h g = record {
+    cases_are = map-append (λ (r : Row). r.case) rows others ∙ ap₂ ◌++◌ h.cases_are g.cases_are;
+    each = All-append (IsTold checked setup reference) rows others h.each g.each;
+  }
 
 -- the rows before it change nothing of how the sweep ends
 pub ended_behind : (fail_fast : Bool) (before rows : List Row) → 0 < length rows → (fail_fast && ends_found false rows) ≡ true

@@ -1,2 +1,4 @@
 pub mod Cutting
+pub mod Judging
 pub mod Marking
+pub mod Numbering

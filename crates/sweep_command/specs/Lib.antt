@@ -1,2 +1,4 @@
 pub mod Choosing
+pub mod Naming
+pub mod Checks
 pub mod Reports

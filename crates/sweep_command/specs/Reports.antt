@@ -1,7 +1,9 @@
 -- The report on a sweep.
 use Rattle.std.specs.Prelude.{◌≡◌, ◌⊎◌, ⊤, ℕ, suc, ◌-◌, ◌<◌, ◌==◌, ◌&&◌, ◌||◌, nat_lt, take, cond, Bool, true, false, List, [], ◌∷◌, ◌++◌, length, Option, Some, None, map, String}
 use Rattle.std.specs.List.{list_any, slice_get}
+use Rattle.sweep_command.specs.Checks.{AreTold}
 use Rattle.sweep_command.specs.Choosing.{AreChosen}
+use Rattle.sweep_command.specs.Naming.{listed, names}
 use Rattle.sweep_orders.specs.Orders.{AreOrders}
 use Rattle.sweep_orders.specs.declared.exploring.Explored.{Explored}
 use Rattle.sweep_orders.specs.declared.found.Found.{Found}
@@ -11,12 +13,14 @@ use Rattle.sweep_rows.specs.Summary.{status}
 use Rattle.sweep_rows.specs.Verdicts.{is_finding}
 use Rattle.sweep_rows.specs.declared.verdicts.Reached.{Reached}
 use Rattle.sweep_runs.specs.Cases.{cases_of}
-use Rattle.sweep_runs.specs.Rows.{fault_of, AreRows}
+use Rattle.sweep_runs.specs.Rows.{fault_of, IsRow}
+use Rattle.sweep_runs.specs.Runs.{Reaches}
 use Rattle.sweep_runs.specs.declared.chosen.Case.{Case}
 use Rattle.sweep_runs.specs.declared.runs.Setup.{Setup}
 use Rattle.sweep_runs.specs.declared.sweeping.Row.{Row}
 use Rattle.sweep_words.specs.Known.{IsKnown}
 use Rattle.sweep_words.specs.declared.plan.Plan.{Plan}
+use Rattle.sweep_words.specs.declared.show.NamedRun.{NamedRun}
 use Rattle.sweep_words.specs.declared.words.Orders.{Orders}
 use Rattle.sweep_words.specs.declared.words.Shard.{Shard}
 use Rattle.sweep_words.specs.declared.words.Words.{Words}
@@ -41,7 +45,8 @@ part_of (Some s) cases = every s.between s.before cases
 abbrev pub AreAll : Plan → Option Shard → Reached → List Case → Type 0
 AreAll plan shard reference cases =
     map fault_of cases
-    ≡ map fault_of (part_of shard (cases_of plan.wanted.items plan.setup.boot.follow reference.log.items))
+    ≡ map fault_of (part_of shard (listed plan.is_listed plan.named.items
+    (cases_of plan.wanted.items plan.setup.boot.follow reference.log.items)))
 
 -- .. or the first of them, those that are likely to show something new
 abbrev pub AreWanted : Plan → Words → Reached → List Case → Type 0
@@ -80,7 +85,7 @@ pub record AreBegun (setup : Setup) (reference : Reached) (words : Words) (cases
   pub done : List Case
   pub rest : List Case
   pub all : done ++ rest ≡ cases
-  pub made : AreRows setup reference done rows
+  pub made : AreTold words.is_checked setup reference done rows
   pub ended : IsEnd words rows rest
 
 -- the row is a finding whose line is like one of those that are known; or it isn't such a row
@@ -123,11 +128,40 @@ hangs found = list_any (λ f. f.ending.alive) found
 abbrev pub fails : Bool → List Found → Bool
 fails one found = hangs found || (one && nat_lt 1 (length found))
 
-abbrev pub orders_status : Bool → List Found → ℕ
-orders_status one found = cond (fails one found) 1 0
+-- .. or the command of a check fails on what a run left
+abbrev pub orders_status : Bool → List Found → List Bool → ℕ
+orders_status one found broken = cond (fails one found || list_any (λ b. b) broken) 1 0
 
--- the status is that of the results of so many orders
-pub record IsOfOrders (plan : Plan) (orders : Orders) (reference : Reached) (s : ℕ) : Type 0 where
+-- the status is that of the results of so many orders; with a check each of them is broken or isn't
+pub record IsOfOrders (plan : Plan) (words : Words) (orders : Orders) (reference : Reached) (s : ℕ) : Type 0 where
   pub explored : Explored
   pub tried : AreOrders plan.setup reference.log.items orders.count orders.seed explored
-  pub status_is : s ≡ orders_status orders.one explored.found.items
+  pub broken : List Bool
+  pub each : length broken ≡ cond words.is_checked (length explored.found.items) 0
+  pub status_is : s ≡ orders_status orders.one explored.found.items broken
+
+-- The report that the words ask for.
+
+-- the status is that of a run which they name
+pub record IsOfRun (plan : Plan) (reference : Reached) (run : NamedRun) (s : ℕ) : Type 0 where
+  pub row : Row
+  pub named : names run row.case ≡ true
+  pub made : IsRow plan.setup reference row
+  pub status_is : s ≡ status (row.verdict ∷ [])
+
+-- .. or of the runs with a failure, or by orders of turns
+abbrev pub IsOfAll : Plan → Words → Reached → Option Orders → ℕ → Type 0
+IsOfAll plan words reference None s = IsOfRows plan words reference s
+IsOfAll plan words reference (Some orders) s = IsOfOrders plan words orders reference s
+
+abbrev pub IsOfReport : Plan → Words → Reached → ℕ → Type 0
+IsOfReport plan words reference s =
+    ((run : NamedRun) × IsOfRun plan reference run s) ⊎ IsOfAll plan words reference words.orders s
+
+-- the status of a sweep is that of its report, beside the run without a failure
+pub record IsOfSweep (s : ℕ) : Type 0 where
+  pub plan : Plan
+  pub words : Words
+  pub reference : Reached
+  pub runs : Reaches plan.setup [] reference
+  pub of_report : IsOfReport plan words reference s

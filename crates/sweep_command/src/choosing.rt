@@ -1,9 +1,9 @@
 //! Which failures are tried, where not all of them may be: those first that are likely to show something new.
 
-ghost use Rattle.std.specs.Prelude.{◌≡◌, ◌++◌, take, IfOk, OnOk};
+ghost use Rattle.std.specs.Prelude.{◌≡◌, ◌++◌, [], ◌∷◌, length, take, IfOk, OnOk};
 ghost use Rattle.std.specs.List.{flat_map};
-ghost use Rattle.turn_orders.specs.Novelty.{novel};
-ghost use Rattle.sweep_command.specs.Choosing.{case_at, placed, AreChosen};
+ghost use Rattle.sweep_command.specs.Choosing.{case_at, is_kind, place_in, met_with, met_after, numbers_of, kind_of};
+ghost use Rattle.sweep_command.specs.Choosing.{kinds_of, by_novelty, AreChosen};
 
 use std::alloc::{AllocError, Global};
 use std::collections::BTreeMap;
@@ -14,12 +14,19 @@ use sweep_rows::Reached;
 use sweep_runs::Case;
 use turn_orders::novel;
 
-/// For each case the number of its kind: its site, and its error.
+/// Cases of one kind have the same error, and calls of one site: each site has a number.
+#[derive(Clone, Copy, Debug, PartialEq, Eq)]
+pub struct Kind {
+    pub error: u16,
+    pub site: usize,
+}
+
+/// Kinds by numbers, of things of some kinds.
 #[derive(Drop)]
-pub struct Kinds {
-    pub kinds: Vec<usize>,
-    /// How many there are.
-    pub count: usize,
+pub struct Numbered {
+    pub numbers: Vec<usize>,
+    /// The kinds, each once.
+    pub met: Vec<Kind>,
 }
 
 /// The number of a text among those that were met.
@@ -43,24 +50,92 @@ fn site(
     site_of(alloc, &place)
 }
 
-/// The kinds of these cases.
-pub fn kinds_of(
+/// The numbers of the sites of these cases' calls.
+fn sites_of(
     alloc: Global,
     reference: &Reached,
     calls: &TracedCalls,
     cases: &[Case],
-) -> Result<Kinds, AllocError> {
+) -> Result<Vec<usize>, AllocError>
+    ensures { IfOk result (λ sites. length sites.items ≡ length cases.now) }
+{
     let mut met = BTreeMap::new(alloc);
-    let mut kinds = Vec::new(alloc);
-    for case in cases {
-        let site = site(alloc, reference, calls, case)?;
-        let text = format!(in alloc; "{} {site}", case.error.number)?;
-        kinds.push(number_of(&mut met, text)?)?;
+    let mut sites = Vec::new(alloc);
+    let mut left = cases;
+    while let Some((case, rest)) = left.split_first() {
+        let text = site(alloc, reference, calls, case)?;
+        sites.push(number_of(&mut met, text)?)?;
+        left = rest;
     }
-    Ok(Kinds {
-        kinds,
-        count: met.len(),
-    })
+    Ok(sites)
+}
+
+fn is_kind(one: Kind, other: Kind) -> bool
+    ensures { result ≡ is_kind one other }
+{
+    one.error == other.error && one.site == other.site
+}
+
+/// The place of a kind among those that were met; how many these are, where it isn't one of them.
+fn place_in(met: &[Kind], kind: Kind) -> usize
+    ensures { result ≡ place_in met.now kind }
+{
+    let mut place: usize = 0;
+    let mut left = met;
+    while let Some((one, rest)) = left.split_first() {
+        if is_kind(*one, kind) {
+            return place;
+        }
+        place += 1;
+        left = rest;
+    }
+    place
+}
+
+/// Meets a kind: its number is the place that it has or gets.
+fn meet(numbered: &mut Numbered, kind: Kind) -> Result<(), AllocError>
+    ensures numbers { OnOk result (numbered.new.numbers.items
+        ≡ numbered.old.numbers.items ++ place_in numbered.old.met.items kind ∷ []) }
+    ensures met { OnOk result (numbered.new.met.items ≡ met_with numbered.old.met.items kind) }
+{
+    let place = place_in(numbered.met.as_slice(), kind);
+    if place == numbered.met.len() {
+        numbered.met.push(kind)?;
+    }
+    numbered.numbers.push(place)?;
+    Ok(())
+}
+
+/// The kind of a case whose call has this site.
+fn kind_of(case: &Case, site: usize) -> Kind
+    ensures { result ≡ kind_of case.now site }
+{
+    Kind {
+        error: case.error.number,
+        site,
+    }
+}
+
+/// The kinds of these cases, whose calls have these sites.
+fn numbered(alloc: Global, cases: &[Case], sites: &[usize]) -> Result<Numbered, AllocError>
+    ensures numbers { IfOk result (λ n. n.numbers.items ≡ numbers_of [] (kinds_of cases.now sites.now)) }
+    ensures met { IfOk result (λ n. n.met.items ≡ met_after [] (kinds_of cases.now sites.now)) }
+{
+    let mut numbered = Numbered {
+        numbers: Vec::new(alloc),
+        met: Vec::new(alloc),
+    };
+    let mut left = cases;
+    let mut others = sites;
+    while let Some((case, rest)) = left.split_first() {
+        let Some((site, more)) = others.split_first() else {
+            return Ok(numbered);
+        };
+        meet(&mut numbered, kind_of(case, *site))?;
+        left = rest;
+        others = more;
+    }
+    Ok(numbered)
 }
 
 /// The call is not that of the case before.
@@ -117,33 +192,24 @@ fn in_places(alloc: Global, places: &[usize], cases: &[Case]) -> Result<Vec<Case
     Ok(placed)
 }
 
-/// .. or as they come, where these aren't as many.
-fn placed(alloc: Global, places: &[usize], cases: &[Case]) -> Result<Vec<Case>, AllocError>
-    ensures { IfOk result (λ r. r.items ≡ placed places.now cases.now) }
+/// The cases in the order of what they may show: of each kind the first, then of each the last, and then the middles of
+/// gaps.
+fn by_novelty(alloc: Global, cases: &[Case], sites: &[usize]) -> Result<Vec<Case>, AllocError>
+    ensures { IfOk result (λ r. r.items ≡ by_novelty cases.now sites.now) }
 {
-    let placed = in_places(alloc, places, cases)?;
-    if placed.len() == cases.len() {
-        return Ok(placed);
-    }
-    let mut all = Vec::new(alloc);
-    all.extend_from_slice(cases)?;
-    Ok(all)
+    let Numbered { numbers, met } = numbered(alloc, cases, sites)?;
+    let places = novel(alloc, numbers.as_slice(), met.len())?;
+    let placed = in_places(alloc, places.as_slice(), cases)?;
+    Ok(placed)
 }
 
-/// Of each kind the first case, then of each the last, and then the middles of gaps, so many at most.
-fn first_of(
-    alloc: Global,
-    most: usize,
-    kinds: &Kinds,
-    cases: &[Case],
-) -> Result<Vec<Case>, AllocError>
-    ensures { IfOk result (λ r. r.items
-        ≡ take most (placed (novel kinds.now.kinds.items kinds.now.count) cases.now)) }
+/// The first of these, so many at most.
+fn first_of(cases: Vec<Case>, most: usize) -> Vec<Case>
+    ensures { result.items ≡ take most cases.items }
 {
-    let places = novel(alloc, kinds.kinds.as_slice(), kinds.count)?;
-    let mut placed = placed(alloc, places.as_slice(), cases)?;
-    placed.truncate(most);
-    Ok(placed)
+    let mut first = cases;
+    first.truncate(most);
+    first
 }
 
 /// The cases that are tried, if so many are at most.
@@ -161,7 +227,7 @@ pub fn chosen(
         all.extend_from_slice(cases)?;
         return Ok(all);
     };
-    let kinds = kinds_of(alloc, reference, calls, cases)?;
-    let chosen = first_of(alloc, most, &kinds, cases)?;
-    Ok(chosen)
+    let sites = sites_of(alloc, reference, calls, cases)?;
+    let all = by_novelty(alloc, cases, sites.as_slice())?;
+    Ok(first_of(all, most))
 }

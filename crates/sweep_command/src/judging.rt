@@ -1,14 +1,23 @@
-//! Rows whose files a check has judged.
+//! Rows whose files a command has judged.
+
+ghost use Rattle.std.specs.Prelude.{◌≡◌, [], true, IfOk};
+ghost use Rattle.sweep_rows.specs.Summary.{checked as checked_by};
+ghost use Rattle.sweep_rows.specs.Verdicts.{facts_of as facts, verdict_of as verdict};
+ghost use Rattle.sweep_command.specs.Checks.{is_asked, with_verdict, IsJudged, AreJudged, AreTold};
 
 use crate::checking::Checks;
 use clap::ArgMatches;
 use front_end::{Fault, Shown};
 use std::alloc::Global;
+use std::collections::VecDeque;
 use std::env::{self, Env};
 use std::process::Processes;
 use std::rt::Files;
-use sweep_rows::{Reached, Verdict, checked, facts_of, verdict_of};
-use sweep_runs::{Row, Setup, fault_of, reach_failing};
+use std::thread::Threads;
+use sweep_rows::{Reached, Verdict, checked, facts_of, rank, verdict_of};
+use sweep_runs::{Case, Row, Setup, Silent, fault_of, reach_failing};
+use sweep_threads::rows_on_threads;
+use sweep_words::words::Words;
 
 /// Where files are written that are checked.
 fn folder<R: Env + AllocGlobal>(rt: &R) -> Result<String, Fault> {
@@ -18,83 +27,130 @@ fn folder<R: Env + AllocGlobal>(rt: &R) -> Result<String, Fault> {
     }
 }
 
-/// The files of the run without a failure have to be fine.
-fn check_reference<R: Files + Processes + AllocGlobal>(
+/// The checks by the command that the words name.
+pub fn checks_of<'m, R: Env + AllocGlobal>(
     rt: &R,
-    checks: &mut Checks,
-    command: &str,
-    reference: &Reached,
-) -> Result<(), Fault> {
-    let files = reference.ending.outcome.files.as_slice();
-    if checks.are_fine(rt, files, files)? {
-        return Ok(());
-    }
-    Err(Fault::usage(format!(in rt.alloc();
-        "--check {}: fails where no call has failed",
-        Shown(command)
-    )))
+    matches: &ArgMatches<'m>,
+) -> Result<Checks<'m>, Fault> {
+    let command = matches.get_str("check").unwrap_or("");
+    Ok(Checks::new(rt.alloc(), command, folder(rt)?))
 }
 
-/// The checks that the words ask for, of which that of the run without a failure is made.
+/// The same, where the files of the run without a failure are fine.
 pub fn begin_checks<'m, R: Env + Files + Processes + AllocGlobal>(
     rt: &R,
     matches: &ArgMatches<'m>,
+    words: Words,
     reference: &Reached,
-) -> Result<Option<Checks<'m>>, Fault> {
-    let Some(command) = matches.get_str("check") else {
-        return Ok(None);
-    };
-    let mut checks = Checks::new(rt.alloc(), command, folder(rt)?);
-    check_reference(rt, &mut checks, command, reference)?;
-    Ok(Some(checks))
+) -> Result<Checks<'m>, Fault> {
+    let mut checks = checks_of(rt, matches)?;
+    let files = reference.ending.outcome.files.as_slice();
+    if words.is_checked && !checks.are_fine(rt, files, files)? {
+        return Err(Fault::usage(format!(in rt.alloc();
+            "--check {}: fails where no call has failed",
+            Shown(matches.get_str("check").unwrap_or(""))
+        )));
+    }
+    Ok(checks)
 }
 
-/// A run whose files are checked: they differ, and it came to an end.
-fn is_checked(row: &Row) -> bool {
-    !row.files.is_empty() && !matches!(row.verdict, Verdict::Hung | Verdict::Killed)
+/// The command is asked about a run that left other files, and was neither hung nor killed.
+fn is_asked(row: &Row) -> bool
+    ensures { result ≡ is_asked row.now }
+{
+    !row.files.is_empty() && rank(row.verdict) > rank(Verdict::Killed)
 }
 
-/// What came of a run that left these files, which are fine or aren't, but for them.
+/// What came of a run that left files which are fine or aren't, but for them.
 fn judged(
     alloc: Global,
     reference: &Reached,
     run: &Reached,
     tells: bool,
     fine: bool,
-) -> Result<Verdict, Fault> {
+) -> Result<Verdict, Fault>
+    ensures { IfOk result (λ v. v ≡ checked_by fine (verdict (facts reference.now run.now [] tells))) }
+{
     let facts = facts_of(alloc, reference, run, &[], tells)?;
     Ok(checked(fine, verdict_of(facts)))
 }
 
-/// Has the check judge the files of a row, for which its run is made again.
+fn with_verdict(row: Row, verdict: Verdict) -> Row
+    ensures { result ≡ with_verdict row verdict }
+{
+    Row { verdict, ..row }
+}
+
+/// Has the command judge the files that the run of a row left, for which it is made again.
+fn ask<R: Files + Processes + AllocGlobal>(
+    rt: &R,
+    checks: &mut Checks,
+    setup: &Setup,
+    reference: &Reached,
+    row: Row,
+) -> Result<Row, Fault>
+    requires { is_asked row ≡ true }
+    ensures { IfOk result (IsJudged setup.now reference.now row) }
+{
+    let run = reach_failing(rt.alloc(), setup, fault_of(row.case))?;
+    let others = reference.ending.outcome.files.as_slice();
+    let fine = checks.are_fine(rt, others, run.ending.outcome.files.as_slice())?;
+    let verdict = judged(rt.alloc(), reference, &run, row.case.tells, fine)?;
+    Ok(with_verdict(row, verdict))
+}
+
+/// A row as it is told: of one that the command isn't asked about nothing changes.
 fn judge_row<R: Files + Processes + AllocGlobal>(
     rt: &R,
     checks: &mut Checks,
     setup: &Setup,
     reference: &Reached,
-    row: &mut Row,
-) -> Result<(), Fault> {
-    if !is_checked(row) {
-        return Ok(());
+    row: Row,
+) -> Result<Row, Fault>
+    ensures { IfOk result (IsJudged setup.now reference.now row) }
+{
+    if is_asked(&row) {
+        let judged = ask(rt, checks, setup, reference, row)?;
+        return Ok(judged);
     }
-    let alloc = rt.alloc();
-    let run = reach_failing(alloc, setup, fault_of(row.case))?;
-    let others = reference.ending.outcome.files.as_slice();
-    let fine = checks.are_fine(rt, others, run.ending.outcome.files.as_slice())?;
-    row.verdict = judged(alloc, reference, &run, row.case.tells, fine)?;
-    Ok(())
+    Ok(row)
 }
 
-/// Has the check judge the files of all rows.
-pub fn judge_rows<R: Files + Processes + AllocGlobal>(
+/// Rows as they are told.
+fn judge_rows<R: Files + Processes + AllocGlobal>(
     rt: &R,
     checks: &mut Checks,
     setup: &Setup,
     reference: &Reached,
-    rows: &mut Vec<Row>,
-) -> Result<(), Fault> {
-    for row in rows.iter_mut() {
-        judge_row(rt, checks, setup, reference, row)?;
+    rows: Vec<Row>,
+) -> Result<Vec<Row>, Fault>
+    ensures { IfOk result (λ told. AreJudged setup.now reference.now rows.items told.items) }
+{
+    let mut told = Vec::new(rt.alloc());
+    let mut left = VecDeque::from_vec(rows);
+    while let Some(row) = left.pop_front() {
+        let row = judge_row(rt, checks, setup, reference, row)?;
+        told.push(row)?;
     }
-    Ok(())
+    Ok(told)
+}
+
+/// Makes the run of each case, and has the command judge their files, where the words name one.
+pub fn told_rows<R: Files + Processes + Threads + Sync + AllocGlobal>(
+    rt: &R,
+    words: Words,
+    checks: &mut Checks,
+    setup: &Setup,
+    reference: &Reached,
+    cases: &[Case],
+) -> Result<Vec<Row>, Fault>
+    ensures { IfOk result (λ rows. AreTold words.is_checked setup.now reference.now cases.now rows.items) }
+{
+    let jobs = words.jobs;
+    let rows = rows_on_threads(rt, rt.alloc(), jobs, setup, reference, cases, &mut Silent)?;
+    if !words.is_checked {
+        return Ok(rows);
+    }
+    let judged = judge_rows(rt, checks, setup, reference, rows)?;
+    Ok(judged)
 }

@@ -8,6 +8,8 @@ mod entry;
 mod judging;
 mod keeping;
 mod knowing;
+pub mod laws;
+mod naming;
 mod orders;
 mod outputs;
 mod progress;

@@ -1,9 +1,11 @@
 //! The report on orders of turns: a line for each result.
 
-ghost use Rattle.std.specs.Prelude.{◌≡◌, IfOk};
+ghost use Rattle.std.specs.Prelude.{◌≡◌, cond, length, IfOk};
 ghost use Rattle.sweep_orders.specs.Orders.{AreOrders};
 ghost use Rattle.sweep_command.specs.Reports.{hangs, fails, orders_status, IsOfOrders};
 
+use crate::checking::Checks;
+use crate::judging::checks_of;
 use crate::keeping::{check_kept, keep, path_of, text_of};
 use crate::outputs::write;
 use crate::progress::ShownProgress;
@@ -12,7 +14,9 @@ use front_end::{Fault, escaped};
 use lx_abi::{Node, OutcomeFile, Status, Word};
 use serde::Serialize;
 use std::alloc::{AllocError, Global};
+use std::env::Env;
 use std::io::{IsTerminal, Write};
+use std::process::Processes;
 use std::rt::Files;
 use std::thread::Threads;
 use std::time::Clock;
@@ -21,7 +25,7 @@ use sweep_report::texts::{push_part, push_wrapped, quoted_bytes};
 use sweep_report::told::end_text;
 use sweep_rows::{Ending, Reached, Verdict, first_word};
 use sweep_words::plan::Plan;
-use sweep_words::shell::{order_words, typed, words_with};
+use sweep_words::shell::{Shower, order_words, typed, words_with};
 use sweep_words::words::{Format, Orders, Words};
 
 /// So many words of an order are shown where it isn't kept.
@@ -38,6 +42,8 @@ struct ToldOrder {
     /// How many different orders had it.
     orders: u64,
     ended: bool,
+    /// The command of `--check` fails on its files.
+    broken: bool,
     /// Process 1's exit code, or 128 and the signal that ended it.
     status: Option<u8>,
     /// What the result is.
@@ -186,16 +192,18 @@ fn tell(
     all: &[Found],
     found: &Found,
     number: usize,
+    broken: bool,
 ) -> Result<ToldOrder, AllocError> {
     let own = own_words(alloc, matches, number, found.ending.alive)?;
     Ok(ToldOrder {
         default: number == 1,
         orders: found.times,
         ended: !found.ending.alive,
+        broken,
         status: first_word(&found.ending.outcome).map(|word| Status { word }.shell_status()),
         told: result_text(alloc, all, &found.ending)?,
         turns: text_of(alloc, found.words.as_slice(), ' ')?,
-        words: words_with(alloc, matches, own.as_slice())?,
+        words: words_with(alloc, matches, Shower::Trace, own.as_slice())?,
         shown: if own.is_empty() {
             shown(alloc, found.words.as_slice())?
         } else {
@@ -240,7 +248,9 @@ fn table(
     for (place, order) in told.iter().enumerate() {
         let name = name_of(alloc, place)?;
         let mut line = format!(in alloc; "  {name:<3} {:>7}  ", order.orders)?;
-        push_wrapped(&mut line, order.told.as_str(), 15, 15)?;
+        let mark = if order.broken { "BROKEN: " } else { "" };
+        line.push_str(mark)?;
+        push_wrapped(&mut line, order.told.as_str(), mark.len() + 15, 15)?;
         if order.default {
             line.push_str("  (the default order)")?;
         }
@@ -309,11 +319,14 @@ fn text_of_all(
     format: Format,
     orders: Orders,
     explored: &Explored,
+    broken: &[bool],
 ) -> Result<String, Fault> {
     let found = explored.found.as_slice();
     let mut told = Vec::new(alloc);
     for (place, result) in found.iter().enumerate() {
-        told.push(tell(alloc, matches, found, result, place.saturating_add(1))?)?;
+        let is_broken = broken.get(place).is_some_and(|mark| *mark);
+        let number = place.saturating_add(1);
+        told.push(tell(alloc, matches, found, result, number, is_broken)?)?;
     }
     let told = told.as_slice();
     match format {
@@ -339,11 +352,53 @@ fn fails(found: &[Found], one: bool) -> bool
     hangs(found) || (one && found.len() > 1)
 }
 
-/// 1 where orders fail.
-fn status_of(found: &[Found], one: bool) -> u8
-    ensures { result ≡ orders_status one found.now }
+/// 1 where orders fail, or what one left is broken.
+fn status_of(found: &[Found], one: bool, broken: &[bool]) -> u8
+    ensures { result ≡ orders_status one found.now broken.now }
 {
-    if fails(found, one) { 1 } else { 0 }
+    if fails(found, one) || broken.iter().any(|mark| *mark) {
+        1
+    } else {
+        0
+    }
+}
+
+/// The command fails on the files that a result has; it isn't asked about one that did not end.
+fn is_broken<R: Files + Processes + AllocGlobal>(
+    rt: &R,
+    checks: &mut Checks,
+    reference: &Reached,
+    found: &Found,
+) -> Result<bool, Fault> {
+    if found.ending.alive {
+        return Ok(false);
+    }
+    let others = reference.ending.outcome.files.as_slice();
+    let files = found.ending.outcome.files.as_slice();
+    Ok(!checks.are_fine(rt, others, files)?)
+}
+
+/// On which results the command fails; none, where the words have no command.
+fn broken_of<R: Env + Files + Processes + AllocGlobal>(
+    rt: &R,
+    matches: &ArgMatches,
+    words: Words,
+    reference: &Reached,
+    found: &[Found],
+) -> Result<Vec<bool>, Fault>
+    ensures { IfOk result (λ broken. length broken.items ≡ cond words.is_checked (length found.now) 0) }
+{
+    let mut broken = Vec::new(rt.alloc());
+    if !words.is_checked {
+        return Ok(broken);
+    }
+    let mut checks = checks_of(rt, matches)?;
+    let mut left = found;
+    while let Some((one, rest)) = left.split_first() {
+        broken.push(is_broken(rt, &mut checks, reference, one)?)?;
+        left = rest;
+    }
+    Ok(broken)
 }
 
 /// Writes what is told of orders.
@@ -353,17 +408,18 @@ fn write_all<R: Files + AllocGlobal, W: Write>(
     format: Format,
     orders: Orders,
     explored: &Explored,
+    broken: &[bool],
     writer: &mut W,
 ) -> Result<(), Fault> {
     keep_all(rt, matches, explored.found.as_slice())?;
-    let text = text_of_all(rt.alloc(), matches, format, orders, explored)?;
+    let text = text_of_all(rt.alloc(), matches, format, orders, explored, broken)?;
     write(rt.alloc(), text.as_str(), writer)
 }
 
 /// Tries the orders of turns, and reports each result; gives the exit status. Orders that are kept are files before the
 /// runs begin.
 pub fn orders_reported<
-    R: Files + Clock + Threads + Sync + AllocGlobal,
+    R: Env + Files + Clock + Processes + Threads + Sync + AllocGlobal,
     W: Write,
     E: Write + IsTerminal,
 >(
@@ -376,12 +432,15 @@ pub fn orders_reported<
     writer: &mut W,
     err: &mut E,
 ) -> Result<u8, Fault>
-    ensures { IfOk result (IsOfOrders plan.now orders reference.now) }
+    ensures { IfOk result (IsOfOrders plan.now words orders reference.now) }
 {
     if let Some(folder) = matches.get_str("keep") {
         check_kept(rt, folder)?;
     }
     let explored = find(rt, words.jobs, orders, plan, reference, err)?;
-    write_all(rt, matches, words.format, orders, &explored, writer)?;
-    Ok(status_of(explored.found.as_slice(), orders.one))
+    let found = explored.found.as_slice();
+    let broken = broken_of(rt, matches, words, reference, found)?;
+    let broken = broken.as_slice();
+    write_all(rt, matches, words.format, orders, &explored, broken, writer)?;
+    Ok(status_of(found, orders.one, broken))
 }

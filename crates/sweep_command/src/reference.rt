@@ -1,5 +1,8 @@
 //! The run without a failure, which has to come to its end.
 
+ghost use Rattle.std.specs.Prelude.{[], IfOk};
+ghost use Rattle.sweep_runs.specs.Runs.{Reaches};
+
 use front_end::{Fault, explain_turns, refuse_boot};
 use lx_abi::Script;
 use lx_boot::BootFault;
@@ -8,8 +11,11 @@ use std::alloc::{AllocError, Global};
 use sweep_rows::Reached;
 use sweep_runs::{Case, Setup, fault_of, refer, run_accepted, run_failing};
 
-fn referred(alloc: Global, setup: &Setup) -> Result<Reached, BootFault> {
-    refer(alloc, setup)
+fn referred(alloc: Global, setup: &Setup) -> Result<Reached, BootFault>
+    ensures { IfOk result (Reaches setup.now []) }
+{
+    let reference = refer(alloc, setup)?;
+    Ok(reference)
 }
 
 /// The kernel that the run without a failure leaves.
@@ -42,7 +48,9 @@ fn explain_reference(alloc: Global, setup: &Setup) -> Result<String, AllocError>
 }
 
 /// The run without a failure.
-pub fn reference(alloc: Global, setup: &Setup, explained: bool) -> Result<Reached, Fault> {
+pub fn reference(alloc: Global, setup: &Setup, explained: bool) -> Result<Reached, Fault>
+    ensures { IfOk result (Reaches setup.now []) }
+{
     let reference = match referred(alloc, setup) {
         Ok(reference) => reference,
         Err(fault) => return Err(refuse_boot(alloc, fault)),

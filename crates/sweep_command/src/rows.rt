@@ -6,8 +6,11 @@ ghost use Rattle.sweep_command.specs.Choosing.{AreChosen};
 ghost use Rattle.sweep_command.specs.Reports.{taken, waits, every, part_of, AreAll, AreWanted, AreBegun, IsFound};
 ghost use Rattle.sweep_command.specs.Reports.{IsCut};
 
+use crate::checking::Checks;
 use crate::choosing::{chosen, site_calls};
+use crate::judging::told_rows;
 use crate::knowing::{findings, is_new};
+use crate::naming::listed;
 use crate::outputs::write;
 use crate::progress::ShownProgress;
 use crate::telling::told;
@@ -15,6 +18,8 @@ use clap::ArgMatches;
 use front_end::Fault;
 use std::alloc::{AllocError, Global};
 use std::io::{IsTerminal, Write};
+use std::process::Processes;
+use std::rt::Files;
 use std::thread::Threads;
 use std::time::Clock;
 use sweep_report::report::{line, object};
@@ -22,8 +27,7 @@ use sweep_report::sites::is_kept;
 use sweep_report::traced::TracedCalls;
 use sweep_report::untried::SiteCalls;
 use sweep_rows::Reached;
-use sweep_runs::{Case, Progress, Row, Silent, cases};
-use sweep_threads::rows_on_threads;
+use sweep_runs::{Case, Progress, Row, cases};
 use sweep_words::plan::Plan;
 use sweep_words::words::{Format, Shard, Words};
 
@@ -105,6 +109,7 @@ fn all_cases(
 {
     let log = reference.log.as_slice();
     let cases = cases(alloc, log, plan.wanted.as_slice(), plan.setup.boot.follow)?;
+    let cases = listed(alloc, plan, cases)?;
     let cases = part_of(alloc, shard, cases.as_slice())?;
     let cases = by_the_end(alloc, reference, calls, cases.as_slice())?;
     Ok(cases)
@@ -250,7 +255,7 @@ fn line_of(
 }
 
 /// Writes a batch of rows, where rows are written one by one.
-pub fn write_rows<W: Write>(
+fn write_rows<W: Write>(
     alloc: Global,
     matches: &ArgMatches,
     words: Words,
@@ -271,7 +276,7 @@ pub fn write_rows<W: Write>(
 }
 
 /// Makes the runs, batch by batch, and writes the rows of each.
-fn make_batches<R: Threads + Sync + AllocGlobal, C: Clock, W: Write, E: Write>(
+fn make_batches<R: Files + Processes + Threads + Sync + AllocGlobal, C: Clock, W: Write, E: Write>(
     rt: &R,
     matches: &ArgMatches,
     words: Words,
@@ -279,6 +284,7 @@ fn make_batches<R: Threads + Sync + AllocGlobal, C: Clock, W: Write, E: Write>(
     reference: &Reached,
     calls: &TracedCalls,
     cases: &[Case],
+    checks: &mut Checks,
     writer: &mut W,
     progress: &mut ShownProgress<C, E>,
 ) -> Result<Vec<Row>, Fault>
@@ -290,8 +296,7 @@ fn make_batches<R: Threads + Sync + AllocGlobal, C: Clock, W: Write, E: Write>(
     let mut left = cases;
     while goes_on(left, ended, progress.is_past(words.seconds)) {
         let (first, _) = left.split_at(size.min(left.len()));
-        let (setup, jobs) = (&plan.setup, words.jobs);
-        let mut more = rows_on_threads(rt, rt.alloc(), jobs, setup, reference, first, &mut Silent)?;
+        let mut more = told_rows(rt, words, checks, &plan.setup, reference, first)?;
         ended = cut(
             rt.alloc(),
             plan,
@@ -321,7 +326,11 @@ fn make_batches<R: Threads + Sync + AllocGlobal, C: Clock, W: Write, E: Write>(
 
 /// Makes the runs, and writes each row as it is known, where the words ask for it. Where `err` is a terminal it shows
 /// how far they are.
-pub fn make<R: Clock + Threads + Sync + AllocGlobal, W: Write, E: Write + IsTerminal>(
+pub fn make<
+    R: Files + Clock + Processes + Threads + Sync + AllocGlobal,
+    W: Write,
+    E: Write + IsTerminal,
+>(
     rt: &R,
     matches: &ArgMatches,
     words: Words,
@@ -329,6 +338,7 @@ pub fn make<R: Clock + Threads + Sync + AllocGlobal, W: Write, E: Write + IsTerm
     reference: &Reached,
     calls: &TracedCalls,
     cases: &[Case],
+    checks: &mut Checks,
     writer: &mut W,
     err: &mut E,
 ) -> Result<Vec<Row>, Fault>
@@ -344,6 +354,7 @@ pub fn make<R: Clock + Threads + Sync + AllocGlobal, W: Write, E: Write + IsTerm
         reference,
         calls,
         cases,
+        checks,
         writer,
         &mut progress,
     );

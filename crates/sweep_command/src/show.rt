@@ -1,41 +1,40 @@
 //! One run with a failure as strace(1) shows it, and what it leaves.
 
-ghost use Rattle.std.specs.Prelude.{◌≡◌, [], ◌∷◌};
+ghost use Rattle.std.specs.Prelude.{◌≡◌, [], ◌∷◌, true, IfOk, IfSome};
+ghost use Rattle.sweep_command.specs.Naming.{names as names_case};
+ghost use Rattle.sweep_command.specs.Reports.{IsOfRun};
 ghost use Rattle.sweep_rows.specs.Summary.{status as status_by};
 
+use crate::naming::{absence_of, names};
 use crate::outputs::write;
 use crate::rows::by_the_end;
 use crate::telling::told;
 use clap::ArgMatches;
-use containers::Seq;
 use front_end::Fault;
-use lx_abi::Set;
 use std::alloc::{AllocError, Global};
 use std::io::Write;
 use sweep_report::texts::quoted_bytes;
 use sweep_report::traced::TracedCalls;
 use sweep_rows::{Reached, status};
-use sweep_runs::{Case, Errors, Row, Silent, Wanted, cases, fault_of, run_cases};
+use sweep_runs::{Case, Row, cases, fault_of, run_case};
 use sweep_trace::{ShownRun, show_failing, shown_options, traced_calls};
-use sweep_words::calls::name_of;
 use sweep_words::plan::Plan;
 use sweep_words::show::NamedRun;
+use sweep_words::wanted::wanted_by;
 
 /// So many bytes are shown of the console.
 const MOST_PRINTED: usize = 4096;
 
-/// The calls and the error of a run.
-fn wanted(alloc: Global, run: NamedRun) -> Result<Vec<Wanted>, AllocError> {
-    let mut calls = Seq::new(alloc);
-    calls.push(run.call)?;
-    let mut errors = Vec::new(alloc);
-    errors.push(run.error)?;
-    let mut wanted = Vec::new(alloc);
-    wanted.push(Wanted {
-        calls: Set::Only(calls),
-        errors: Errors::These(errors),
-    })?;
-    Ok(wanted)
+/// The first case that is the run's.
+fn first_named(cases: &[Case], run: NamedRun) -> Option<Case>
+    ensures { IfSome result (λ case. names_case run case ≡ true) }
+{
+    for case in cases {
+        if names(run, case) {
+            return Some(*case);
+        }
+    }
+    None
 }
 
 /// The case of a run; none where its process doesn't make the call so often.
@@ -45,26 +44,22 @@ fn case_of(
     reference: &Reached,
     calls: &TracedCalls,
     run: NamedRun,
-) -> Result<Option<Case>, AllocError> {
-    let wanted = wanted(alloc, run)?;
+) -> Result<Option<Case>, AllocError>
+    ensures { IfOk result (λ case. IfSome case (λ case. names_case run case ≡ true)) }
+{
+    let wanted = wanted_by(alloc, run)?;
     let log = reference.log.as_slice();
-    let cases = cases(alloc, log, wanted.as_slice(), plan.setup.boot.follow)?;
+    let cases = cases(alloc, log, &[wanted], plan.setup.boot.follow)?;
     let cases = by_the_end(alloc, reference, calls, cases.as_slice())?;
-    let case = cases.iter().find(|case| u64::from(case.occurrence.pid) == run.pid
-        && case.occurrence.n == run.n);
-    Ok(case.copied())
+    Ok(first_named(cases.as_slice(), run))
 }
 
 /// Its process doesn't make the call so often.
 fn absent(alloc: Global, run: NamedRun) -> Fault {
-    let name = match name_of(alloc, run.call) {
-        Ok(name) => name,
-        Err(error) => return Fault::from(error),
-    };
-    Fault::usage(format!(in alloc;
-        "--show: process {} has no call {} of {name}",
-        run.pid, run.n
-    ))
+    match absence_of(alloc, run) {
+        Ok(reason) => Fault::usage(format!(in alloc; "--show: {reason}")),
+        Err(error) => Fault::from(error),
+    }
 }
 
 /// The run as strace shows it.
@@ -119,19 +114,18 @@ pub fn show<W: Write>(
     reference: &Reached,
     run: NamedRun,
     writer: &mut W,
-) -> Result<u8, Fault> {
+) -> Result<u8, Fault>
+    ensures { IfOk result (IsOfRun plan.now reference.now run) }
+{
     let calls = traced_calls(alloc, &plan.setup, reference.log.as_slice())?;
     let Some(case) = case_of(alloc, plan, reference, &calls, run)? else {
         return Err(absent(alloc, run));
     };
-    let rows = run_cases(alloc, &plan.setup, reference, &[case], &mut Silent)?;
-    let Some(row) = rows.first() else {
-        return Err(Fault::Memory);
-    };
+    let row = run_case(alloc, &plan.setup, reference, case)?;
     let shown = shown(alloc, plan, case)?;
     write_trace(alloc, shown.trace.as_slice(), writer)?;
     let console = shown.console.as_slice();
-    let text = behind(alloc, matches, plan, reference, &calls, row, console)?;
+    let text = behind(alloc, matches, plan, reference, &calls, &row, console)?;
     write(alloc, text.as_str(), writer)?;
-    Ok(status_of(row))
+    Ok(status_of(&row))
 }

@@ -3,14 +3,15 @@
 ghost use Rattle.std.specs.Prelude.{◌≡◌, IfOk};
 ghost use Rattle.sweep_report.specs.Tallies.{unmarked};
 ghost use Rattle.sweep_rows.specs.Summary.{status};
-ghost use Rattle.sweep_command.specs.Reports.{IsCounted, IsOfRows};
+ghost use Rattle.sweep_command.specs.Reports.{IsCounted, IsOfRows, IsOfAll, IsOfReport, IsOfSweep};
 
-use crate::judging::{begin_checks, judge_rows};
+use crate::judging::begin_checks;
 use crate::knowing::{check_known, finish_known, marks_of};
+use crate::naming::check_named;
 use crate::orders::orders_reported;
 use crate::outputs::{check, create, path_of, replace, write};
 use crate::reference::reference;
-use crate::rows::{Choice, make, wanted_cases, write_rows};
+use crate::rows::{Choice, make, wanted_cases};
 use crate::show::show;
 use crate::telling::{all_told, told, worst};
 use clap::ArgMatches;
@@ -186,35 +187,7 @@ fn untried_of(choice: Choice, made: usize) -> Untried {
 }
 
 /// Makes the runs with a failure, and reports them; gives the exit status.
-fn failures<R: Files + Clock + Threads + Sync + AllocGlobal, W: Write, E: Write + IsTerminal>(
-    rt: &R,
-    matches: &ArgMatches,
-    words: Words,
-    plan: &Plan,
-    reference: &Reached,
-    writer: &mut W,
-    err: &mut E,
-) -> Result<u8, Fault>
-    ensures { IfOk result (IsOfRows plan.now words reference.now) }
-{
-    let alloc = rt.alloc();
-    let calls = traced_calls(alloc, &plan.setup, reference.log.as_slice())?;
-    let choice = wanted_cases(alloc, plan, words, reference, &calls)?;
-    let cases = choice.cases.as_slice();
-    write_head(alloc, words, plan, reference, cases.len(), writer)?;
-    let rows = make(
-        rt, matches, words, plan, reference, &calls, cases, writer, err,
-    )?;
-    let rows = rows.as_slice();
-    let untried = untried_of(choice, rows.len());
-    let status = conclude(
-        rt, matches, words, plan, reference, &calls, rows, &untried, writer, err,
-    )?;
-    Ok(status)
-}
-
-/// Makes the runs with a failure, has their files checked, and reports them; gives the exit status.
-fn checked_failures<
+fn failures<
     R: Env + Files + Clock + Processes + Threads + Sync + AllocGlobal,
     W: Write,
     E: Write + IsTerminal,
@@ -226,29 +199,66 @@ fn checked_failures<
     reference: &Reached,
     writer: &mut W,
     err: &mut E,
-) -> Result<u8, Fault> {
+) -> Result<u8, Fault>
+    ensures { IfOk result (IsOfRows plan.now words reference.now) }
+{
     let alloc = rt.alloc();
-    let checks = begin_checks(rt, matches, reference)?;
+    let mut checks = begin_checks(rt, matches, words, reference)?;
     let calls = traced_calls(alloc, &plan.setup, reference.log.as_slice())?;
     let choice = wanted_cases(alloc, plan, words, reference, &calls)?;
     let cases = choice.cases.as_slice();
-    let mut rows = make(
-        rt, matches, words, plan, reference, &calls, cases, writer, err,
+    write_head(alloc, words, plan, reference, cases.len(), writer)?;
+    let rows = make(
+        rt,
+        matches,
+        words,
+        plan,
+        reference,
+        &calls,
+        cases,
+        &mut checks,
+        writer,
+        err,
     )?;
-    if let Some(mut checks) = checks {
-        judge_rows(rt, &mut checks, &plan.setup, reference, &mut rows)?;
-    }
     let rows = rows.as_slice();
     let untried = untried_of(choice, rows.len());
-    let words = words.judged();
-    write_head(alloc, words, plan, reference, rows.len(), writer)?;
-    write_rows(alloc, matches, words, plan, reference, &calls, rows, writer)?;
-    conclude(
+    let status = conclude(
         rt, matches, words, plan, reference, &calls, rows, &untried, writer, err,
-    )
+    )?;
+    Ok(status)
 }
 
 /// Reports the orders of turns, or else the runs with a failure; gives the exit status.
+fn report_all<
+    R: Env + Files + Clock + Processes + Threads + Sync + AllocGlobal,
+    W: Write,
+    E: Write + IsTerminal,
+>(
+    rt: &R,
+    matches: &ArgMatches,
+    words: Words,
+    plan: &Plan,
+    reference: &Reached,
+    writer: &mut W,
+    err: &mut E,
+) -> Result<u8, Fault>
+    ensures { IfOk result (IsOfAll plan.now words reference.now words.orders) }
+{
+    match words.orders {
+        Some(orders) => {
+            let of_orders = orders_reported(
+                rt, matches, words, orders, plan, reference, writer, err,
+            )?;
+            Ok(of_orders)
+        }
+        None => {
+            let of_rows = failures(rt, matches, words, plan, reference, writer, err)?;
+            Ok(of_rows)
+        }
+    }
+}
+
+/// Reports the run that the words name, or else all; gives the exit status.
 fn report<
     R: Env + Files + Clock + Processes + Threads + Sync + AllocGlobal,
     W: Write,
@@ -261,19 +271,15 @@ fn report<
     reference: &Reached,
     writer: &mut W,
     err: &mut E,
-) -> Result<u8, Fault> {
+) -> Result<u8, Fault>
+    ensures { IfOk result (IsOfReport plan.now words reference.now) }
+{
     if let Some(run) = shown_run(rt.alloc(), matches)? {
-        return show(rt.alloc(), matches, plan, reference, run, writer);
+        let of_run = show(rt.alloc(), matches, plan, reference, run, writer)?;
+        return Ok(of_run);
     }
-    match words.orders {
-        Some(orders) => {
-            orders_reported(rt, matches, words, orders, plan, reference, writer, err)
-        }
-        None if words.is_checked => {
-            checked_failures(rt, matches, words, plan, reference, writer, err)
-        }
-        None => failures(rt, matches, words, plan, reference, writer, err),
-    }
+    let of_all = report_all(rt, matches, words, plan, reference, writer, err)?;
+    Ok(of_all)
 }
 
 /// Reports to a file: line by line, or what takes the place of an older report once it is whole.
@@ -288,14 +294,41 @@ fn report_to_file<
     reference: &Reached,
     path: &str,
     err: &mut E,
-) -> Result<u8, Fault> {
+) -> Result<u8, Fault>
+    ensures { IfOk result (IsOfReport plan.now words reference.now) }
+{
     if words.is_streamed() {
         let mut file = create(rt, path)?;
-        return report(rt, matches, words, plan, reference, &mut file, err);
+        let status = report(rt, matches, words, plan, reference, &mut file, err)?;
+        return Ok(status);
     }
     let mut text: Vec<u8> = Vec::new(rt.alloc());
     let status = report(rt, matches, words, plan, reference, &mut text, err)?;
     replace(rt, "-o", path, text.as_slice())?;
+    Ok(status)
+}
+
+/// Reports to the file that the words name, or else to `out`; gives the exit status.
+fn report_where<
+    R: Env + Files + Clock + Processes + Threads + Sync + AllocGlobal,
+    O: Write,
+    E: Write + IsTerminal,
+>(
+    rt: &R,
+    matches: &ArgMatches,
+    words: Words,
+    plan: &Plan,
+    reference: &Reached,
+    out: &mut O,
+    err: &mut E,
+) -> Result<u8, Fault>
+    ensures { IfOk result (IsOfReport plan.now words reference.now) }
+{
+    if let Some(path) = path_of(matches) {
+        let of_file = report_to_file(rt, matches, words, plan, reference, path, err)?;
+        return Ok(of_file);
+    }
+    let status = report(rt, matches, words, plan, reference, out, err)?;
     Ok(status)
 }
 
@@ -320,21 +353,21 @@ pub fn sweep<
     input: &mut I,
     out: &mut O,
     err: &mut E,
-) -> Result<u8, Fault> {
+) -> Result<u8, Fault>
+    ensures { IfOk result IsOfSweep }
+{
     let alloc = rt.alloc();
     let words = words_of(alloc, matches, out.is_terminal() && !is_plain(rt))?;
     shown_run(alloc, matches)?;
     let plan = read_plan(rt, matches, input, err)?;
-    let path = path_of(matches);
     check_outputs(rt, matches)?;
-    check(rt, "-o", path)?;
+    check(rt, "-o", path_of(matches))?;
     check_known(rt, matches)?;
     let reference = reference(alloc, &plan.setup, explained)?;
     if explained {
         explain(alloc, &plan, &reference, err)?;
     }
-    match path {
-        Some(path) => report_to_file(rt, matches, words, &plan, &reference, path, err),
-        None => report(rt, matches, words, &plan, &reference, out, err),
-    }
+    check_named(alloc, matches, &plan, &reference)?;
+    let status = report_where(rt, matches, words, &plan, &reference, out, err)?;
+    Ok(status)
 }

@@ -1,5 +1,6 @@
 //! Runs told together: a block for each site of a call, and in it a line for each outcome.
 
+use crate::entries::{Entry, rising};
 use crate::told::Told;
 use std::alloc::{AllocError, Global};
 
@@ -43,39 +44,32 @@ fn has_outcome(rows: &[Told], line: &Line, outcome: &str) -> bool {
     }
 }
 
-/// Adds the occurrences of a line's calls.
-fn push_occurrences(numbers: &mut Vec<u64>, rows: &[Told], line: &Line) -> Result<(), AllocError> {
+/// Adds the entries into a line's calls.
+fn push_entries(entries: &mut Vec<Entry>, rows: &[Told], line: &Line) -> Result<(), AllocError> {
     for place in line.places.iter().copied() {
         if let Some(told) = rows.get(place) {
-            numbers.push(told.n)?;
+            entries.push(told.entry())?;
         }
     }
     Ok(())
 }
 
-/// Numbers in their order, each once.
-fn rising(numbers: &mut Vec<u64>) -> Result<(), AllocError> {
-    numbers.sort()?;
-    numbers.dedup();
-    Ok(())
-}
-
 impl Line {
-    /// The occurrences of its calls, rising.
-    pub fn occurrences(&self, alloc: Global, rows: &[Told]) -> Result<Vec<u64>, AllocError> {
+    /// The entries into its calls, rising.
+    pub fn entries(&self, alloc: Global, rows: &[Told]) -> Result<Vec<Entry>, AllocError> {
         let mut all = Vec::new(alloc);
-        push_occurrences(&mut all, rows, self)?;
+        push_entries(&mut all, rows, self)?;
         rising(&mut all)?;
         Ok(all)
     }
 }
 
 impl Block {
-    /// The occurrences of its calls, rising.
-    pub fn occurrences(&self, alloc: Global, rows: &[Told]) -> Result<Vec<u64>, AllocError> {
+    /// The entries into its calls, rising.
+    pub fn entries(&self, alloc: Global, rows: &[Told]) -> Result<Vec<Entry>, AllocError> {
         let mut all = Vec::new(alloc);
         for line in &self.lines {
-            push_occurrences(&mut all, rows, line)?;
+            push_entries(&mut all, rows, line)?;
         }
         rising(&mut all)?;
         Ok(all)

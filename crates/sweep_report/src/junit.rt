@@ -1,6 +1,7 @@
 //! The report as JUnit has it: a case a call, which fails where a run of it is a finding.
 
 use crate::blocks::{Block, blocks_of, first_in, first_of};
+use crate::entries::Entry;
 use crate::report::{outcome_text, push_command, verdict_text};
 use crate::told::Told;
 use std::alloc::{AllocError, Global};
@@ -26,7 +27,7 @@ fn findings_of(
     alloc: Global,
     rows: &[Told],
     block: &Block,
-    all: &[u64],
+    all: &[Entry],
 ) -> Result<String, AllocError> {
     let mut text = String::new(alloc);
     for line in &block.lines {
@@ -49,7 +50,7 @@ fn body_of(
     block: &Block,
     first: &Told,
 ) -> Result<String, AllocError> {
-    let all = block.occurrences(alloc, rows)?;
+    let all = block.entries(alloc, rows)?;
     let findings = findings_of(alloc, rows, block, all.as_slice())?;
     let Some((message, _)) = findings.as_str().split_once('\n') else {
         return Ok(String::new(alloc));

@@ -2,6 +2,7 @@
 #![tactic(auto)]
 
 pub mod blocks;
+pub mod entries;
 pub mod junit;
 pub mod report;
 pub mod sites;

@@ -1,8 +1,9 @@
 //! The report: the run without a failure, the calls to look at, and how many runs came to what.
 
 use crate::blocks::{Block, Line, blocks_of, first_in, first_of};
+use crate::entries::{Entry, entries_text, entry_text};
 use crate::tally::Tally;
-use crate::texts::{COLUMNS, push_column, push_part, push_wrapped, quoted_bytes, ranges};
+use crate::texts::{COLUMNS, push_column, push_part, push_wrapped, quoted_bytes};
 use crate::told::{Told, end_text};
 use crate::untried::Untried;
 use front_end::escaped;
@@ -153,21 +154,22 @@ fn errors_text(alloc: Global, rows: &[Told], line: &Line) -> Result<String, Allo
     Ok(text)
 }
 
-/// What came of which errors and, where they aren't all of these, of which occurrences.
+/// What came of which errors and, where they aren't all of these, of which entries.
 pub fn outcome_text(
     alloc: Global,
     rows: &[Told],
     line: &Line,
     first: &Told,
-    all: &[u64],
+    all: &[Entry],
 ) -> Result<String, AllocError> {
     let mut told = errors_text(alloc, rows, line)?;
     if first.known {
         push_part(&mut told, "(known)", " ")?;
     }
-    let own = line.occurrences(alloc, rows)?;
+    let own = line.entries(alloc, rows)?;
     if own.as_slice() != all {
-        told.push_str(format!(in alloc; " at #{}", ranges(alloc, own.as_slice())?)?.as_str())?;
+        let entries = entries_text(alloc, own.as_slice())?;
+        told.push_str(format!(in alloc; " at {entries}")?.as_str())?;
     }
     if !first.told.is_empty() {
         push_part(&mut told, first.told.as_str(), ": ")?;
@@ -175,13 +177,13 @@ pub fn outcome_text(
     Ok(told)
 }
 
-/// Adds a line of a block whose calls have these occurrences.
+/// Adds a line of a block with these entries.
 fn push_line(
     text: &mut String,
     alloc: Global,
     rows: &[Told],
     line: &Line,
-    all: &[u64],
+    all: &[Entry],
     colors: bool,
 ) -> Result<(), AllocError> {
     let Some(first) = first_of(rows, line) else {
@@ -194,17 +196,17 @@ fn push_line(
     text.push('\n')
 }
 
-/// Adds a call, and its occurrences at the right, with how many there are where not all were tried.
+/// Adds a call, and the entries into it at the right, with how many there are where not all were tried.
 fn push_call(
     text: &mut String,
     alloc: Global,
     first: &Told,
-    occurrences: &[u64],
+    entries: &[Entry],
     untried: &Untried,
 ) -> Result<(), AllocError> {
     let call = first.text.as_str();
-    let of = untried.text(alloc, first, occurrences.len())?;
-    let number = format!(in alloc; "  #{}{of}", ranges(alloc, occurrences)?)?;
+    let of = untried.text(alloc, first, entries.len())?;
+    let number = format!(in alloc; "  {}{of}", entries_text(alloc, entries)?)?;
     let room = COLUMNS.saturating_sub(number.len());
     match call.get(..room.saturating_sub(4)) {
         Some(front) if call.len() > room => {
@@ -228,7 +230,7 @@ fn push_block(
     let Some(first) = first_in(rows, block) else {
         return Ok(());
     };
-    let all = block.occurrences(alloc, rows)?;
+    let all = block.entries(alloc, rows)?;
     push_call(text, alloc, first, all.as_slice(), untried)?;
     for line in &block.lines {
         if style.all || is_noticed(line.rank) {
@@ -245,12 +247,20 @@ fn push_block(
 pub fn line(alloc: Global, told: &Told, colors: bool) -> Result<String, AllocError> {
     let mut text = String::new(alloc);
     push_verdict(&mut text, alloc, told, WORD, colors)?;
-    let row = if told.failure.is_empty() {
-        format!(in alloc; "{} {}#{}  {}", told.error, told.text, told.n, told.told)?
+    let has_words = !told.failure.is_empty();
+    let first = if has_words {
+        &told.failure
     } else {
-        format!(in alloc; "{}  {}  {}", told.failure, told.text, told.told)?
+        &told.error
     };
-    text.push_str(row.as_str().trim_end())?;
+    text.push_str(first.as_str())?;
+    push_part(&mut text, told.text.as_str(), "  ")?;
+    if !has_words || told.pid != 1 {
+        push_part(&mut text, entry_text(alloc, told.entry())?.as_str(), "  ")?;
+    }
+    if !told.told.is_empty() {
+        push_part(&mut text, told.told.as_str(), "  ")?;
+    }
     text.push('\n')?;
     Ok(text)
 }

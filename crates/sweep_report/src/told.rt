@@ -1,5 +1,6 @@
 //! A run as it is told.
 
+use crate::entries::Entry;
 use crate::sites::{Place, site_of};
 use crate::texts::{own_part, push_part, quoted_bytes, without_numbers};
 use clap::ArgMatches;
@@ -13,7 +14,7 @@ use sweep_rows::{
 };
 use sweep_runs::Row;
 use sweep_words::calls::{error_name, name_of};
-use sweep_words::shell::{failure_words, typed, words_with};
+use sweep_words::shell::{Shower, failure_words, show_words, typed, words_with};
 
 /// So many bytes are shown of what a run says, and of what it prints.
 const MOST_SAID: usize = 44;
@@ -47,7 +48,7 @@ pub struct Told {
     /// What came of the run.
     pub told: String,
     pub files: Vec<ToldFile>,
-    /// The words of `strace_cli` that show the run.
+    /// The words that show the run: those of `strace_cli`, or else of the sweep.
     pub words: Vec<String>,
     /// Those of them that make the call fail, as they are typed.
     #[serde(skip)]
@@ -59,6 +60,16 @@ pub struct Told {
     pub site: String,
     #[serde(skip)]
     pub outcome: String,
+}
+
+impl Told {
+    /// Which entry it is that fails.
+    pub fn entry(&self) -> Entry {
+        Entry {
+            pid: self.pid,
+            n: self.n,
+        }
+    }
 }
 
 /// How a process ended.
@@ -230,14 +241,23 @@ struct RunWords {
     failure: String,
 }
 
-/// There are none where a rule of a script, which is for each tracee, comes to another run.
+/// Those of `strace_cli`, where a rule of a script, which is for each tracee, gives the run.
+fn traced_words(alloc: Global, matches: &ArgMatches, row: &Row) -> Result<Vec<String>, AllocError> {
+    if !row.has_words {
+        return Ok(Vec::new(alloc));
+    }
+    failure_words(alloc, matches, &row.case, row.verdict)
+}
+
+/// Those of `strace_cli`, or else of the sweep.
 fn words_of(alloc: Global, matches: &ArgMatches, row: &Row) -> Result<RunWords, AllocError> {
-    let failure = if row.has_words {
-        failure_words(alloc, matches, &row.case, row.verdict)?
-    } else {
-        Vec::new(alloc)
-    };
-    let words = words_with(alloc, matches, failure.as_slice())?;
+    let mut shower = Shower::Trace;
+    let mut failure = traced_words(alloc, matches, row)?;
+    if failure.is_empty() {
+        shower = Shower::Sweep;
+        failure = show_words(alloc, matches, &row.case)?;
+    }
+    let words = words_with(alloc, matches, shower, failure.as_slice())?;
     let failure = typed(alloc, failure.as_slice())?;
     Ok(RunWords { words, failure })
 }

@@ -12,4 +12,4 @@ pub use chosen::{Case, Errors, Wanted, cases};
 pub use ends::ending;
 pub use progress::{Progress, Silent};
 pub use runs::{Setup, reach, reach_failing, refer, run_accepted, run_by, run_failing, run_under};
-pub use sweeping::{Report, Row, fault_of, run_cases, script_of, sweep};
+pub use sweeping::{Report, Row, fault_of, run_case, run_cases, script_of, sweep};

@@ -150,7 +150,7 @@ fn compare(
 }
 
 /// Makes the run of a case, of a boot that is accepted.
-fn run_case(
+pub fn run_case(
     alloc: Global,
     setup: &Setup,
     reference: &Reached,

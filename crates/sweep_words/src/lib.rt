@@ -1,8 +1,9 @@
-//! What a sweep's command line asks for, and the words of `strace_cli` that show one of its runs.
+//! What a sweep's command line asks for, and the words that show one of its runs.
 #![tactic(auto)]
 
 pub mod calls;
 pub mod known;
+pub mod named;
 pub mod plan;
 pub mod shell;
 pub mod show;

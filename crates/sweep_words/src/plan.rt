@@ -4,7 +4,8 @@ ghost use Rattle.std.specs.Prelude.{IfOk};
 ghost use Rattle.sweep_words.specs.Plans.{IsPlan};
 
 use crate::known::read_known;
-use crate::wanted::read_wanted;
+use crate::named::{NamedLine, read_named};
+use crate::wanted::{read_wanted, wanted_of};
 use clap::ArgMatches;
 use front_end::{Fault, limit, read_boot, read_turns};
 use std::io::{IsTerminal, Read, Write};
@@ -15,12 +16,15 @@ use sweep_runs::{Setup, Wanted};
 pub struct Plan {
     pub setup: Setup,
     pub wanted: Vec<Wanted>,
+    /// The runs are those that a file names, and no others.
+    pub is_listed: bool,
+    pub named: Vec<NamedLine>,
     /// The findings that are known, as lines of a file name them.
     pub known: Vec<String>,
 }
 
-/// Reads what the words ask for. Faults are looked for in the limit, the expressions, the known findings, the schedule,
-/// the files, the input and the boot.
+/// Reads what the words ask for. Faults are looked for in the limit, the file of runs, the expressions, the known
+/// findings, the schedule, the guest's variables, its files, the input and the boot.
 pub fn read_plan<R: Files + AllocGlobal, I: Read + IsTerminal, E: Write + IsTerminal>(
     rt: &R,
     matches: &ArgMatches,
@@ -30,7 +34,13 @@ pub fn read_plan<R: Files + AllocGlobal, I: Read + IsTerminal, E: Write + IsTerm
     ensures { IfOk result (IsPlan R.File.remaining matches.now (I.remaining input.old)) }
 {
     let limit = limit(rt.alloc(), matches)?;
-    let wanted = read_wanted(rt.alloc(), matches)?;
+    let named = read_named(rt, matches)?;
+    let is_listed = matches.get_str("cases").is_some();
+    let wanted = if is_listed {
+        wanted_of(rt.alloc(), named.as_slice())?
+    } else {
+        read_wanted(rt.alloc(), matches)?
+    };
     let known = read_known(rt, matches)?;
     let turns = read_turns(rt, matches.get_str("turns"))?;
     let follow = matches.get_flag("follow");
@@ -38,6 +48,8 @@ pub fn read_plan<R: Files + AllocGlobal, I: Read + IsTerminal, E: Write + IsTerm
     Ok(Plan {
         setup: Setup { boot, turns, limit },
         wanted,
+        is_listed,
+        named,
         known,
     })
 }

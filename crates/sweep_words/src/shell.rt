@@ -1,4 +1,4 @@
-//! The words of `strace_cli` that show a run.
+//! The words that show a run: those of `strace_cli`, or of the sweep itself.
 
 use crate::calls::error_name;
 use clap::ArgMatches;
@@ -6,6 +6,13 @@ use lx_abi::calls::call_name;
 use std::alloc::{AllocError, Global};
 use sweep_rows::Verdict;
 use sweep_runs::{Case, Setup};
+
+/// The program that shows a run.
+#[derive(Clone, Copy, Debug, PartialEq, Eq)]
+pub enum Shower {
+    Trace,
+    Sweep,
+}
 
 /// The last occurrence that `when=` takes.
 const LAST_OCCURRENCE: u64 = 65_535;
@@ -83,13 +90,54 @@ pub fn failure_words(
     Ok(words)
 }
 
+/// The row that `--show` takes for a case, if there is one: the call has a name.
+fn row_of(alloc: Global, case: &Case) -> Result<Option<String>, AllocError> {
+    let Case {
+        occurrence,
+        error,
+        ..
+    } = case;
+    let Some(name) = call_name(occurrence.call.number) else {
+        return Ok(None);
+    };
+    let error = error_name(alloc, *error)?;
+    let (pid, n) = (occurrence.pid, occurrence.n);
+    if pid == 1 {
+        Ok(Some(format!(in alloc; "{name}:{error}:{n}")?))
+    } else {
+        Ok(Some(format!(in alloc; "{name}@{pid}:{error}:{n}")?))
+    }
+}
+
+/// The words by which the sweep itself shows the run of a case; none, where the call has no name.
+pub fn show_words(
+    alloc: Global,
+    matches: &ArgMatches,
+    case: &Case,
+) -> Result<Vec<String>, AllocError> {
+    let mut words = Vec::new(alloc);
+    let Some(row) = row_of(alloc, case)? else {
+        return Ok(words);
+    };
+    push_each(alloc, &mut words, "--show", &[row.as_str()])?;
+    if let Some(digits) = matches.get_str("limit") {
+        push_each(alloc, &mut words, "--limit", &[digits])?;
+    }
+    Ok(words)
+}
+
 /// The words before those of a run. By an order of turns it is shown to the end of all processes.
 fn push_start(
     alloc: Global,
     words: &mut Vec<String>,
     matches: &ArgMatches,
+    shower: Shower,
 ) -> Result<(), AllocError> {
-    push(alloc, words, "strace_cli")?;
+    let program = match shower {
+        Shower::Trace => "strace_cli",
+        Shower::Sweep => "strace_sweep",
+    };
+    push(alloc, words, program)?;
     if matches.get_flag("follow") || matches.get_str("orders").is_some() {
         push(alloc, words, "-f")?;
     }
@@ -134,13 +182,14 @@ fn push_rest(
 pub fn words_with(
     alloc: Global,
     matches: &ArgMatches,
+    shower: Shower,
     own: &[String],
 ) -> Result<Vec<String>, AllocError> {
     let mut words = Vec::new(alloc);
     if own.is_empty() {
         return Ok(words);
     }
-    push_start(alloc, &mut words, matches)?;
+    push_start(alloc, &mut words, matches, shower)?;
     for word in own {
         push(alloc, &mut words, word.as_str())?;
     }

@@ -1,5 +1,7 @@
 //! Which calls are to fail, and with which errors.
 
+use crate::named::NamedLine;
+use crate::show::NamedRun;
 use call_errors::{errors_of, rows};
 use clap::ArgMatches;
 use containers::Seq;
@@ -148,6 +150,35 @@ fn add(
         },
     }
     Ok(())
+}
+
+/// The call of a run with its error.
+pub fn wanted_by(alloc: Global, run: NamedRun) -> Result<Wanted, AllocError> {
+    let mut calls = Seq::new(alloc);
+    calls.push(run.call)?;
+    let mut errors = Vec::new(alloc);
+    errors.push(run.error)?;
+    Ok(Wanted {
+        calls: Set::Only(calls),
+        errors: Errors::These(errors),
+    })
+}
+
+/// The calls of these runs with their errors, each once.
+pub fn wanted_of(alloc: Global, named: &[NamedLine]) -> Result<Vec<Wanted>, AllocError> {
+    let mut first: Vec<NamedRun> = Vec::new(alloc);
+    let mut wanted = Vec::new(alloc);
+    for one in named {
+        let run = one.run;
+        let is_new = !first
+            .iter()
+            .any(|other| other.call == run.call && other.error == run.error);
+        if is_new {
+            first.push(run)?;
+            wanted.push(wanted_by(alloc, run)?)?;
+        }
+    }
+    Ok(wanted)
 }
 
 /// Whether all errors of a call are tried, or those alone that an occurrence can have.

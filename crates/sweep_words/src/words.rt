@@ -24,7 +24,7 @@ In each run one occurrence of one call fails, and nothing else. What came of it,
   recovered  all is as without the failure, by other calls
   ignored    and by the same calls
 The report has the calls with findings, damaged and warned runs: each with its occurrences, what came of which errors,
-and the words of strace_cli by which the first of these runs is had. Below stand the command that shows the first
+and the words by which the first of these runs is shown. Below stand the command that shows the first
 finding, and in the last line how many runs came to what: a report without it was cut.
 
 With --orders no call fails, and each run has its own order of turns: the default one, and then by turns one that is
@@ -32,9 +32,9 @@ drawn, step by step until the run ends, and one with a switch to another process
 that are far apart. Each line is a result, with how many different orders had it and the words of --turns by which a
 shortest of them has it.
 
-The status is 0 where no run is a finding, else 1 (with --orders where a run did not end, with --one where there are two
-results); 2 for words, files or a boot at fault, 3 for an output or for memory, 4 where the run without a failure is
-out of turns.
+The status is 0 where no run is a finding, else 1 (with --orders where a run did not end or the check failed, with --one
+where there are two results); 2 for words, files or a boot at fault, 3 for an output or for memory, 4 where the run
+without a failure is out of turns.
 
 Examples: make each write fail with EINTR; try 100 orders of turns
   strace_sweep -e fault=write:error=EINTR --file /p=hello -- /p </dev/null
@@ -187,22 +187,9 @@ fn most_of(
     }
 }
 
-/// The files that runs leave are to be checked.
-fn is_checked(alloc: Global, matches: &ArgMatches) -> Result<bool, Fault> {
-    if matches.get_str("check").is_none() {
-        return Ok(false);
-    }
-    if matches.get_flag("fail-fast") {
-        return Err(Fault::usage(format!(in alloc;
-            "--check excludes --fail-fast: files are checked when all runs are made"
-        )));
-    }
-    Ok(true)
-}
-
 /// Options that have no meaning where no call fails.
 fn check_failures(alloc: Global, matches: &ArgMatches) -> Result<(), Fault> {
-    for option in ["known", "known-out", "shard", "max-runs", "time", "check"] {
+    for option in ["known", "known-out", "shard", "max-runs", "time", "cases"] {
         if matches.get_str(option).is_some() {
             return Err(Fault::usage(format!(in alloc;
                 "--orders excludes --{option}: no call fails"
@@ -287,22 +274,14 @@ pub struct Words {
     pub most: Option<usize>,
     /// No run begins once so many seconds are over.
     pub seconds: Option<u64>,
-    /// The files that runs leave are checked before the runs are written.
+    /// A command decides whether the files that runs leave are fine.
     pub is_checked: bool,
 }
 
 impl Words {
-    /// The same where the check has judged all runs.
-    pub fn judged(self) -> Self {
-        Words {
-            is_checked: false,
-            ..self
-        }
-    }
-
     /// Each run is written as soon as it is made.
     pub fn is_streamed(self) -> bool {
-        if self.orders.is_some() || self.is_checked {
+        if self.orders.is_some() {
             return false;
         }
         match self.format {
@@ -329,6 +308,6 @@ pub fn words_of(alloc: Global, matches: &ArgMatches, colors: bool) -> Result<Wor
         fail_fast: matches.get_flag("fail-fast"),
         most: most_of(alloc, matches, seconds)?,
         seconds,
-        is_checked: is_checked(alloc, matches)?,
+        is_checked: matches.get_str("check").is_some(),
     })
 }

@@ -1,6 +1,6 @@
 -- Which of many things of some kinds come first, where not all of them may be tried.
-use Rattle.std.specs.Prelude.{ℕ, zero, suc, ◌==◌, cond, List, [], ◌∷◌, ◌++◌, length}
-use Rattle.std.specs.List.{flat_map, slice_get}
+use Rattle.std.specs.Prelude.{ℕ, zero, suc, ◌==◌, ◌<◌, cond, List, [], ◌∷◌, ◌++◌, length, All, IsPermutation}
+use Rattle.std.specs.List.{flat_map, range_with_len, slice_get}
 use Rattle.std.specs.Option.{option_to_list}
 use Rattle.turn_orders.specs.Places.{spread}
 
@@ -36,3 +36,9 @@ rounds_from blocks k (suc n) = round blocks k ++ rounds_from blocks (suc k) n
 -- all places: of each of so many kinds the first, then of each the last, and then the middles of gaps
 unfoldable pub novel : List ℕ → ℕ → List ℕ
 novel kinds count = rounds_from (blocks_from kinds 0 count) 0 (length kinds)
+
+-- The law: where each of these is one of so many kinds, each place comes once
+abbrev pub EachOnce : Type 0
+EachOnce =
+    (kinds : List ℕ) (count : ℕ) → All (λ k. k < count) kinds
+    → IsPermutation (range_with_len 0 (length kinds)) (novel kinds count)

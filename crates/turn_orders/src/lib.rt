@@ -3,6 +3,7 @@
 //! had; and which of many things come first.
 #![tactic(auto)]
 
+pub mod laws;
 pub mod met;
 pub mod novelty;
 pub mod places;

@@ -1,0 +1,12 @@
+use Rattle.std.proofs.Common.{◌≡◌, true, ap, subst, sym, ◌∙◌}
+use Rattle.sweep_runs.specs.declared.chosen.Case.{Case}
+use Rattle.sweep_command.specs.Naming.{names}
+use Rattle.sweep_command.proofs.show.show.Goals as goal
+
+pub returns : goal.returns
+returns g c = record {
+  row = c.in_ok-row.row;
+  named = ap (λ (case : Case). names c.args.run case) c.in_ok-row.ensures.case ∙ c.in_ok-case.ensures;
+  made = c.in_ok-row.ensures.row;
+  status_is = c.status_of.ensures;
+}
