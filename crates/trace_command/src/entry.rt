@@ -1,9 +1,9 @@
 //! The program as a function of its words, its input and its outputs.
 
 ghost use Rattle.std.specs.Prelude.{◌≡◌, ◌⊎◌, true};
-ghost use Rattle.front_end.specs.Statuses.{is_output_or_memory, is_usage_or_memory};
+ghost use Rattle.front_end.specs.Statuses.{IsStatusOf, is_output_or_memory, is_usage_or_memory};
 ghost use Rattle.front_end.specs.Streams.{opened_contents};
-ghost use Rattle.trace_command.specs.Asked.{EndsBy, Exits, TracesAsked};
+ghost use Rattle.trace_command.specs.Asked.{Exits, TracesAsked};
 ghost use Rattle.trace_command.specs.Noting.{WritesEvents};
 ghost use Rattle.trace_command.specs.Tracing.{Runs};
 
@@ -63,7 +63,8 @@ where
     match parsed {
         Ok(matches) => {
             let explained = matches.get_flag("explain") || err.is_terminal();
-            run(rt, &matches, explained, input, out, err)
+            let traced = trace_asked(rt, &matches, explained, input, out, err);
+            report_end(traced, explained)
         }
         Err(error) if error.use_stderr() => tell(refuse(alloc, error.kind(), words), &mut err),
         Err(help) => match print_help(alloc, help, &mut out) {
@@ -109,21 +110,10 @@ where
     tracing::trace(rt, matches, options, input, out, err)
 }
 
-/// The same, and gives the exit status.
-fn run<
-    R: Files + Processes + Threads + Wait + Sync + AllocGlobal,
-    I: Read + IsTerminal,
-    O: Write + Drop,
-    E: Write + IsTerminal + Drop,
->(rt: &R, matches: &ArgMatches, explained: bool, input: &mut I, out: O, err: E) -> u8
-where
-    R::Started: Streams,
-    ensures { EndsBy (λ matches status held. TracesAsked R.File.remaining (opened_contents R.File.contents)
-        (Runs R.Started R.Started.Stderr R.Started.Stdout.remaining R.Started.Stdin.contents)
-        (WritesEvents (opened_contents R.File.contents)) matches (I.remaining input.old) status (O.contents out) held)
-        matches.now result }
+/// Reports how a run ended, and gives the exit status.
+fn report_end<O: Drop, E: Write + Drop>(traced: Traced<O, E>, explained: bool) -> u8
+    ensures { IsStatusOf traced.status result }
 {
-    let traced = trace_asked(rt, matches, explained, input, out, err);
     let Traced {
         status,
         out,
