@@ -1,7 +1,7 @@
-// The work of the guest of `run` by this machine's own kernel: native KIB ROUNDS CHILDREN writes to each page of so many
-// KiB, then ROUNDS times makes a child that ends at once and waits for it, and then has CHILDREN children at once. It
-// prints the microseconds of processor time that a round takes, and the KiB that all processes had in RAM in the end,
-// what they share counted once.
+// The work of the guest of `run` by this machine's own kernel: native KIB DESCRIPTORS ROUNDS CHILDREN writes to each
+// page of so many KiB and has so many descriptors, then ROUNDS times makes a child that ends at once and waits for it,
+// and then has CHILDREN children at once. It prints the microseconds of processor time that a round takes, and the KiB
+// that all processes had in RAM in the end, what they share counted once.
 #define _GNU_SOURCE
 #include <stdio.h>
 #include <stdlib.h>
@@ -43,10 +43,10 @@ static pid_t begin(void) {
 }
 
 int main(int count, char **words) {
-    if (count != 4)
+    if (count != 5)
         return 2;
     size_t size = (size_t)atol(words[1]) * 1024;
-    int rounds = atoi(words[2]), children = atoi(words[3]), ends[2];
+    int descriptors = atoi(words[2]), rounds = atoi(words[3]), children = atoi(words[4]), ends[2];
     char *room = mmap(NULL, size, PROT_READ | PROT_WRITE, MAP_PRIVATE | MAP_ANONYMOUS, -1, 0);
     if (room == MAP_FAILED || madvise(room, size, MADV_NOHUGEPAGE) || pipe(ends)) {
         perror("room");
@@ -54,6 +54,8 @@ int main(int count, char **words) {
     }
     for (size_t at = 0; at < size; at += 4096)
         room[at] = 1;
+    for (int open = 5; open < descriptors; open++)
+        dup(1);
 
     double start = used(RUSAGE_SELF) + used(RUSAGE_CHILDREN);
     for (int round = 0; round < rounds; round++) {

@@ -366,7 +366,7 @@ pub const OPTIONS: [OptionRow; 47] = [
         short: None,
         long: Some("limit"),
         takes: Takes::Value("N"),
-        help: "Ends each run after N turns [default: 10000000]",
+        help: "Ends each run after N turns [default: 10000000; less where the run without a failure takes few]",
     },
     OptionRow {
         tools: &[Tool::Trace, Tool::Plain, Tool::Sweep],

@@ -1,5 +1,5 @@
 -- A turn that logs leaves the console.
-use Rattle.std.proofs.Common.{◌≡◌, ℕ, Bool, true, false, Option, Some, None, Result, Ok, Err, OnErr, refl, ap, sym, ◌∙◌}
+use Rattle.std.proofs.Common.{◌≡◌, ℕ, Bool, true, false, Option, Some, None, Result, Ok, Err, Break, OnErr, refl, ap, sym, ◌∙◌}
 use Rattle.std.specs.FinMap as maps
 use Rattle.rv_hart.specs.declared.outcome.Step.{Step}
 use Rattle.rv_hart.specs.declared.outcome.Step.TheVariants as step
@@ -22,7 +22,6 @@ use Rattle.lx_proc.specs.declared.state.UserState.{UserState}
 use Rattle.lx_sig.specs.declared.state.Interrupted.{Interrupted}
 use Rattle.lx_turn.specs.Calls.{does}
 use Rattle.lx_turn.specs.Turned.{Turned, turned, turned_by}
-use Rattle.lx_turn.specs.declared.stages.Went.TheVariants.{Ended}
 use Rattle.lx_pcalls.specs.Stops.{is_continued_at, stopped}
 use Rattle.lx_pcalls.specs.Taking.{takes}
 use Rattle.lx_turn.specs.Linux.{linux}
@@ -100,7 +99,7 @@ turn_keeps c s child p (Dying w) = λ i e. absurd (cc e)
 turn_keeps c s child p Gone = λ i e. absurd (cc e)
 
 -- and one in which a process ends has left it before
-pub end_keeps : (c : Choice) (s t : Shared) (child p w : ℕ) (task : Task UserState) (b : UserState) (stage next : Stage) (o : Option Item) → turned (turn linux c s child p task) ≡ turned_by (Ended w) t b p stage next o → t.console ≡ s.console
+pub end_keeps : (c : Choice) (s t : Shared) (child p w : ℕ) (task : Task UserState) (b : UserState) (stage next : Stage) (o : Option Item) → turned (turn linux c s child p task) ≡ turned_by (Break w) t b p stage next o → t.console ≡ s.console
 end_keeps c s t child p w task b stage next o e =
     ap (λ (x : Turned). x.shared.console) (sym e)
     ∙ turn_keeps c s child p task (item.Exit p w (stage_mode stage)) (ap (λ (x : Turned). x.item) e)

@@ -1,6 +1,8 @@
 -- What the parts of a turn answer, beside what they leave in the parts that they are lent.
 use Rattle.std.specs.Prelude.{◌≡◌, ℕ, ◌≤◌, Bool, true, false, Option, Some}
 use Rattle.std.specs.Global.{Box}
+use Rattle.std.specs.declared.ops.ControlFlow.{ControlFlow}
+use Rattle.std.specs.declared.ops.ControlFlow.TheVariants.{Continue, Break}
 use Rattle.lx_abi.specs.declared.log.Item.{Item}
 use Rattle.lx_abi.specs.declared.log.Item.TheVariants as item
 use Rattle.lx_model.specs.Events.{event_map}
@@ -14,8 +16,6 @@ use Rattle.lx_model.specs.Finite.{item_of}
 use Rattle.lx_proc.specs.declared.state.Shared.{Shared}
 use Rattle.lx_proc.specs.declared.state.UserState.{UserState}
 use Rattle.lx_pcalls.specs.Ends as end
-use Rattle.lx_turn.specs.declared.stages.Went.{Went}
-use Rattle.lx_turn.specs.declared.stages.Went.TheVariants.{On, Ended}
 
 -- A turn's out, without what its process could read.
 
@@ -45,20 +45,24 @@ ended s p w stage = record {
 abbrev pub goes_on : Shared → UserState → Stage → Option Item → Turned
 goes_on s b next item = record { shared = s; task = Alive b next; item = item; event = Plain }
 
+-- a process goes on, and this was done beside, or it ends with a wait word
+abbrev pub Course : Type 0
+Course = ControlFlow ℕ (PtraceEvent (Box UserState))
+
 -- what the turn of a stage comes to, which leaves this stage and this item
-abbrev pub turned_by : Went → Shared → UserState → ℕ → Stage → Stage → Option Item → Turned
-turned_by (On done) s b p stage next item = record {
+abbrev pub turned_by : Course → Shared → UserState → ℕ → Stage → Stage → Option Item → Turned
+turned_by (Continue done) s b p stage next item = record {
   shared = s;
   task = Alive b next;
   item = item;
   event = unboxed done;
 }
-turned_by (Ended w) s b p stage next item = ended s p w stage
+turned_by (Break w) s b p stage next item = ended s p w stage
 
 -- a process that ends leaves what is shared until then
-abbrev pub EndsSame : Went → Shared → Shared → Type 0
-EndsSame (On done) s s' = Unit {0}
-EndsSame (Ended w) s s' = s' ≡ s
+abbrev pub EndsSame : Course → Shared → Shared → Type 0
+EndsSame (Continue done) s s' = Unit {0}
+EndsSame (Break w) s s' = s' ≡ s
 
 abbrev pub is_gone : Task UserState → Bool
 is_gone (Alive b stage) = false

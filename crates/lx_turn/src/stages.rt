@@ -24,15 +24,11 @@ use lx_pcalls::{Reacted, is_continued, settle, stop, take, wake};
 use lx_proc::{CallReply, Shared, UserState, a0, call, make_again, return_from_call};
 use rv_hart::{FaultKind, Step, step};
 use std::alloc::{AllocError, Global};
+use std::ops::ControlFlow;
 
-/// What a turn of a living process came to, beside what it left in the places that it was lent.
-#[derive(Drop)]
-pub enum Went {
-    /// It goes on, and this was done beside.
-    On(PtraceEvent<Box<UserState>>),
-    /// It ends with this wait word; what is shared is unchanged.
-    Ended { word: u32 },
-}
+/// How a turn of a living process goes: the process goes on, and this was done beside, or it ends with this wait word,
+/// and what is shared is unchanged.
+pub type Course = ControlFlow<u32, PtraceEvent<Box<UserState>>>;
 
 /// The signal of a fault.
 fn fault_signal(kind: FaultKind) -> Signal
@@ -148,16 +144,16 @@ fn chosen_stage(call: Call, choice: Choice) -> Stage
 }
 
 /// The call was done with this result, and this beside it.
-fn acted(stage: &mut Stage, call: Call, value: u64, done: PtraceEvent<Box<UserState>>) -> Went
+fn acted(stage: &mut Stage, call: Call, value: u64, done: PtraceEvent<Box<UserState>>) -> Course
     ensures stage { stage.new ≡ stages.Acted call value false }
-    ensures went { result ≡ Went.On done }
+    ensures course { result ≡ ControlFlow.Continue done }
 {
     *stage = Stage::Acted {
         call,
         result: value,
         replaced: false,
     };
-    Went::On(done)
+    ControlFlow::Continue(done)
 }
 
 /// The result stands in its place, and the call was done.
@@ -167,10 +163,10 @@ fn return_with(
     call: Call,
     value: u64,
     done: PtraceEvent<Box<UserState>>,
-) -> Went
+) -> Course
     ensures user { user.new ≡ with_result linux user.old value }
     ensures stage { stage.new ≡ stages.Acted call value false }
-    ensures went { result ≡ Went.On done }
+    ensures course { result ≡ ControlFlow.Continue done }
 {
     return_from_call(user, value);
     acted(stage, call, value, done)
@@ -186,7 +182,7 @@ fn do_call(
     user: &mut UserState,
     stage: &mut Stage,
     call: Call,
-) -> Result<Went, AllocError>
+) -> Result<Course, AllocError>
     requires { stage.old ≡ stages.Doing call }
     ensures turned { IfOk result (λ w. turned (answered linux shared.old child pid user.old call
         (meaning shared.old child pid call user.old)) ≡ turned_by w shared.new user.new pid
@@ -220,8 +216,8 @@ fn do_call(
                 PtraceEvent::Forked(newborn),
             ))
         }
-        CallReply::Blocked => Ok(Went::On(PtraceEvent::Plain)),
-        CallReply::Ended(word) => Ok(Went::Ended { word }),
+        CallReply::Blocked => Ok(ControlFlow::Continue(PtraceEvent::Plain)),
+        CallReply::Ended(word) => Ok(ControlFlow::Break(word)),
     }
 }
 
@@ -233,11 +229,11 @@ fn halt(
     stage: &mut Stage,
     item: &mut Option<Item>,
     signal: Signal,
-) -> Went
+) -> Course
     requires { item.old ≡ None }
     ensures turned { turned (halts (linux.continued shared.old pid) linux shared.old pid _user.now signal)
         ≡ goes_on shared.new _user.now stage.new item.new }
-    ensures went { result ≡ Went.On PtraceEvent.Plain }
+    ensures course { result ≡ ControlFlow.Continue PtraceEvent.Plain }
 {
     if is_continued(shared, pid) {
         settle(shared, pid);
@@ -247,7 +243,7 @@ fn halt(
         *stage = Stage::Stopped { signal };
         *item = Some(Item::Stopped { pid, signal });
     }
-    Went::On(PtraceEvent::Plain)
+    ControlFlow::Continue(PtraceEvent::Plain)
 }
 
 /// SIGCONT wakes a stopped process; else it stays so.
@@ -272,7 +268,7 @@ fn react(
     item: &mut Option<Item>,
     signal: Signal,
     cause: Cause,
-) -> Result<Went, AllocError>
+) -> Result<Course, AllocError>
     requires { item.old ≡ None }
     ensures turned { IfOk result (λ w. turned (took linux shared.old pid user.old signal cause
         (takes shared.old pid user.old signal cause)) ≡ turned_by w shared.new user.new pid
@@ -284,10 +280,10 @@ fn react(
         Reacted::Passed => {
             settle(shared, pid);
             *stage = Stage::Run;
-            Ok(Went::On(PtraceEvent::Plain))
+            Ok(ControlFlow::Continue(PtraceEvent::Plain))
         }
         Reacted::Stopped => Ok(halt(shared, pid, user, stage, item, signal)),
-        Reacted::Killed(word) => Ok(Went::Ended { word }),
+        Reacted::Killed(word) => Ok(ControlFlow::Break(word)),
     }
 }
 
@@ -301,7 +297,7 @@ pub fn go(
     user: &mut UserState,
     stage: &mut Stage,
     item: &mut Option<Item>,
-) -> Result<Went, AllocError>
+) -> Result<Course, AllocError>
     requires { item.old ≡ None }
     ensures turned { IfOk result (λ w. turned (lives linux
         (choice_of_call injection.now pid user.old) shared.old child pid user.old stage.old)
@@ -312,21 +308,21 @@ pub fn go(
     match *stage {
         Stage::Born | Stage::Finished | Stage::Woken => {
             *stage = Stage::Run;
-            Ok(Went::On(PtraceEvent::Plain))
+            Ok(ControlFlow::Continue(PtraceEvent::Plain))
         }
         Stage::Dropped | Stage::Released => {
             settle(shared, pid);
             *stage = Stage::Run;
-            Ok(Went::On(PtraceEvent::Plain))
+            Ok(ControlFlow::Continue(PtraceEvent::Plain))
         }
         Stage::Run => {
             run(shared, pid, user, stage, item)?;
-            Ok(Went::On(PtraceEvent::Plain))
+            Ok(ControlFlow::Continue(PtraceEvent::Plain))
         }
         Stage::Faulting { signal, cause } => {
             *stage = Stage::Taken { signal, cause };
             *item = Some(Item::Taken { pid, signal, cause });
-            Ok(Went::On(PtraceEvent::Plain))
+            Ok(ControlFlow::Continue(PtraceEvent::Plain))
         }
         Stage::Entered { joined } => {
             let call = call(user);
@@ -334,7 +330,7 @@ pub fn go(
             join(shared, pid, joined);
             join(shared, pid, choice.signal);
             *stage = chosen_stage(call, choice);
-            Ok(Went::On(PtraceEvent::Plain))
+            Ok(ControlFlow::Continue(PtraceEvent::Plain))
         }
         Stage::Doing { call } => do_call(alloc, shared, child, pid, user, stage, call),
         Stage::Replaced { call, result } => {
@@ -344,7 +340,7 @@ pub fn go(
                 result,
                 replaced: true,
             };
-            Ok(Went::On(PtraceEvent::Plain))
+            Ok(ControlFlow::Continue(PtraceEvent::Plain))
         }
         Stage::Acted {
             call,
@@ -358,12 +354,12 @@ pub fn go(
                 result,
                 replaced,
             });
-            Ok(Went::On(PtraceEvent::Plain))
+            Ok(ControlFlow::Continue(PtraceEvent::Plain))
         }
         Stage::Taken { signal, cause } => react(shared, pid, user, stage, item, signal, cause),
         Stage::Stopped { signal } => {
             wake_up(shared, pid, user, stage, signal);
-            Ok(Went::On(PtraceEvent::Plain))
+            Ok(ControlFlow::Continue(PtraceEvent::Plain))
         }
     }
 }

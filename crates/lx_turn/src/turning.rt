@@ -13,12 +13,13 @@ ghost use Rattle.lx_turn.specs.Turned.{turned, turned_by, unboxed, is_gone, Ends
 
 use crate::injection::Injection;
 use crate::signals::is_killed;
-use crate::stages::{Went, go};
+use crate::stages::{Course, go};
 use lx_abi::{Item, Mode};
 use lx_model::{PtraceEvent, Stage, Task};
 use lx_pcalls::{die, release_task};
 use lx_proc::{Life, Shared, UserState};
 use std::alloc::{AllocError, Global};
+use std::ops::ControlFlow;
 
 /// The wait word of an end by SIGKILL.
 const KILL_WORD: u32 = 9;
@@ -36,8 +37,8 @@ pub struct Transition {
 }
 
 impl Transition {
-    /// The process is gone.
-    fn of_gone(before: Option<Mode>, after: Option<Mode>) -> Transition
+    /// A turn that leaves its process gone.
+    pub fn of_gone(before: Option<Mode>, after: Option<Mode>) -> Transition
         ensures { result ≡ record {
           before = before;
           after = after;
@@ -66,7 +67,7 @@ fn turn_alive(
     user: &mut UserState,
     stage: &mut Stage,
     item: &mut Option<Item>,
-) -> Result<Went, AllocError>
+) -> Result<Course, AllocError>
     requires { item.old ≡ None }
     ensures turned { IfOk result (λ w. turned (turn linux
         (choice_of_call injection.now pid user.old) shared.old child pid (Alive user.old stage.old))
@@ -75,10 +76,10 @@ fn turn_alive(
     ensures console { OnErr result (shared.new.console ≡ shared.old.console) }
 {
     if is_killed(shared, pid) {
-        return Ok(Went::Ended { word: KILL_WORD });
+        return Ok(ControlFlow::Break(KILL_WORD));
     }
-    let went = go(alloc, shared, injection, child, pid, user, stage, item)?;
-    Ok(went)
+    let course = go(alloc, shared, injection, child, pid, user, stage, item)?;
+    Ok(course)
 }
 
 /// The process is gone. Apart, since a function pays at its entry for the size of its locals.
@@ -132,14 +133,14 @@ pub fn turn_task(
         Task::Alive { user, stage } => {
             let left = stage.mode();
             match turn_alive(alloc, shared, injection, child, pid, user, stage, item)? {
-                Went::On(done) => Ok(Transition {
+                ControlFlow::Continue(done) => Ok(Transition {
                     before: Some(left),
                     after: Some(stage.mode()),
                     done,
                     gone: false,
                     ends_kept: false,
                 }),
-                Went::Ended { word } => {
+                ControlFlow::Break(word) => {
                     let ends_kept = die(shared, pid, word)?;
                     end(task, word);
                     *item = Some(Item::Exit { pid, word, left });

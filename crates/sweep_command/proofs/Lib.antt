@@ -1,4 +1,4 @@
 pub mod Cutting
-pub mod Judging
+pub mod Judged
 pub mod Marking
 pub mod Numbering

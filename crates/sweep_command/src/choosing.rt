@@ -1,6 +1,6 @@
 //! Which failures are tried, where not all of them may be: those first that are likely to show something new.
 
-ghost use Rattle.std.specs.Prelude.{◌≡◌, ◌++◌, [], ◌∷◌, length, take, IfOk, OnOk};
+ghost use Rattle.std.specs.Prelude.{◌≡◌, ◌==◌, ◌++◌, [], ◌∷◌, cond, length, take, IfOk, OnOk};
 ghost use Rattle.std.specs.List.{flat_map};
 ghost use Rattle.sweep_command.specs.Choosing.{case_at, is_kind, place_in, met_with, met_after, numbers_of, kind_of};
 ghost use Rattle.sweep_command.specs.Choosing.{kinds_of, by_novelty, AreChosen};
@@ -92,6 +92,17 @@ fn place_in(met: &[Kind], kind: Kind) -> usize
     place
 }
 
+/// Adds a kind that is met first: its place is behind all others.
+fn add_kind(met: &mut Vec<Kind>, kind: Kind, place: usize) -> Result<(), AllocError>
+    ensures { OnOk result (met.new.items
+        ≡ cond (place == length met.old.items) (met.old.items ++ kind ∷ []) met.old.items) }
+{
+    if place == met.len() {
+        met.push(kind)?;
+    }
+    Ok(())
+}
+
 /// Meets a kind: its number is the place that it has or gets.
 fn meet(numbered: &mut Numbered, kind: Kind) -> Result<(), AllocError>
     ensures numbers { OnOk result (numbered.new.numbers.items
@@ -99,9 +110,7 @@ fn meet(numbered: &mut Numbered, kind: Kind) -> Result<(), AllocError>
     ensures met { OnOk result (numbered.new.met.items ≡ met_with numbered.old.met.items kind) }
 {
     let place = place_in(numbered.met.as_slice(), kind);
-    if place == numbered.met.len() {
-        numbered.met.push(kind)?;
-    }
+    add_kind(&mut numbered.met, kind, place)?;
     numbered.numbers.push(place)?;
     Ok(())
 }
@@ -117,7 +126,7 @@ fn kind_of(case: &Case, site: usize) -> Kind
 }
 
 /// The kinds of these cases, whose calls have these sites.
-fn numbered(alloc: Global, cases: &[Case], sites: &[usize]) -> Result<Numbered, AllocError>
+fn number_kinds(alloc: Global, cases: &[Case], sites: &[usize]) -> Result<Numbered, AllocError>
     ensures numbers { IfOk result (λ n. n.numbers.items ≡ numbers_of [] (kinds_of cases.now sites.now)) }
     ensures met { IfOk result (λ n. n.met.items ≡ met_after [] (kinds_of cases.now sites.now)) }
 {
@@ -197,7 +206,7 @@ fn in_places(alloc: Global, places: &[usize], cases: &[Case]) -> Result<Vec<Case
 fn by_novelty(alloc: Global, cases: &[Case], sites: &[usize]) -> Result<Vec<Case>, AllocError>
     ensures { IfOk result (λ r. r.items ≡ by_novelty cases.now sites.now) }
 {
-    let Numbered { numbers, met } = numbered(alloc, cases, sites)?;
+    let Numbered { numbers, met } = number_kinds(alloc, cases, sites)?;
     let places = novel(alloc, numbers.as_slice(), met.len())?;
     let placed = in_places(alloc, places.as_slice(), cases)?;
     Ok(placed)

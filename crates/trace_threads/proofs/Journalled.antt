@@ -9,6 +9,7 @@ use Rattle.lx_abi.specs.declared.ptrace.Request.{Request}
 use Rattle.lx_abi.specs.declared.schedule.Event.{Event}
 use Rattle.lx_abi.specs.declared.script.Rule.{Rule}
 use Rattle.lx_abi.specs.Scripts.{choice_of}
+use Rattle.lx_boot.specs.Boots.{fault_of}
 use Rattle.lx_boot.specs.First.{first_shared}
 use Rattle.lx_exec.specs.Programs.{booted}
 use Rattle.lx_kernel.specs.Outcomes.{outcome_in}
@@ -26,7 +27,7 @@ use Rattle.pt_model.specs.View.{has_exit}
 use Rattle.pt_model.specs.World.{World, happens, effective, first_world}
 use Rattle.pt_journal.specs.Journals.{events_of, Replays}
 use Rattle.pt_journal.specs.Told.{Told}
-use Rattle.pt_journal.specs.Telling.{Asks, AsksAtEach, JournalsTell, JournalRun}
+use Rattle.pt_journal.specs.Telling.{Asks, AsksAtEach, JournalsTell}
 use Rattle.pt_journal.specs.declared.entry.Entry.{Entry}
 use Rattle.pt_model.specs.Calls.{IsOwn}
 use Rattle.pt_model.specs.Hosting.{Hosting, first_hosting}
@@ -35,13 +36,13 @@ use Rattle.host_shared.specs.Noting.{noted_of}
 use Rattle.host_shared.specs.declared.cut.Cut.{Cut}
 use Rattle.host_shared.specs.declared.cut.Cut.TheVariants.{Limit, Nobody, Gate}
 use Rattle.pt_journal.specs.Journals.{last_turn}
-use Rattle.pt_kernel.specs.Hosts.{HostState, Linux_host}
+use Rattle.pt_kernel.specs.Hosts.{HostState}
 use Rattle.tr_core.specs.Laws.{TextsAreWhole}
 use Rattle.tr_core.specs.Settings.{options_by}
 use Rattle.tr_core.specs.declared.settings.Options.{Options}
 use Rattle.trace_run.specs.BootedRuns.{following}
 use Rattle.trace_run.specs.Local.{Feeds, LocalRun}
-use Rattle.trace_run.specs.Tells.{view_text, shown_text, Tells}
+use Rattle.trace_run.specs.Tells.{view_text, Tells}
 use Rattle.trace_run.specs.declared.local.Run.{Run}
 use Rattle.trace_run.specs.declared.running.Ended.{Ended}
 use Rattle.trace_run.specs.declared.running.Ended.TheVariants.{Whole, OutOfTurns}
@@ -164,6 +165,7 @@ pub thread_run : Cited → (boot : Boot) (limit : ℕ) (script : List Rule) (o :
     → (t : ThreadRun boot limit script o shuts run) × (t.entries ≡ held.journal)
 thread_run cited boot limit script o shuts given run held lies traced left turned = (
   record {
+    accepted = subst (λ (x : Boot). fault_of x ≡ None) lies.boot_is lies.kept.accepted;
     entries = held.journal;
     hosting = held.host.hosting;
     given = given;

@@ -45,21 +45,21 @@ one_at_most true = omega arith
 one_at_most false = omega arith
 
 module _ {S B : Type 0} (m : Machine S B) (outcome : S → Outcome) (o : Options) (script : Script) (s : S) (b : B) where
-  abbrev first : World S B
+  abbrev pub first : World S B
   first = first_world s b
 
   -- process 1 is seized
   abbrev held_by : Bool → Answered B
   held_by follow = record { proc = record { task = Alive b Born; held = true; options = Some (asked_options follow) }; reply = Agreed; seized = true }
 
-  abbrev second : World S B
+  abbrev pub second : World S B
   second = met o script first (Serving 1 Seizing) (answered first.host 1 (held_by o.follow)) (Some Agreed)
 
   seizes : (follow : Bool) → answer m 0 (record { task = Alive b Born; held = true; options = None }) (Seize (options_word follow)) ≡ held_by follow
   seizes true = refl
   seizes false = refl
 
-  to_second : happens m outcome o script first Serve ≡ second
+  pub to_second : happens m outcome o script first Serve ≡ second
   to_second = ap (λ (a : Answered B). met o script first (Serving 1 Seizing) (answered first.host 1 a) (Some a.reply)) (seizes o.follow)
 
   -- its start is told
@@ -72,7 +72,7 @@ module _ {S B : Type 0} (m : Machine S B) (outcome : S → Outcome) (o : Options
   abbrev with_moved : Moved → World S B
   with_moved x = record { host = take_report second.host [] 1 (Event_stop At_start); tracer = x.tracer; printed = second.printed ++ x.printed }
 
-  abbrev third : World S B
+  abbrev pub third : World S B
   third = with_moved (heard_start (Some (Event_stop At_start)))
 
   admitted : (stop : Option Stop) → stop ≡ Some (Event_stop At_start)
@@ -84,7 +84,7 @@ module _ {S B : Type 0} (m : Machine S B) (outcome : S → Outcome) (o : Options
       go true = refl
       go false = refl
 
-  to_third : happens m outcome o script second Serve ≡ third
+  pub to_third : happens m outcome o script second Serve ≡ third
   to_third = ap (λ (x : Moved). with_moved x) (admitted (stop_of (word_of (Event_stop At_start))) start_back)
 
   -- it is let go

@@ -1,2 +1,3 @@
 pub mod ThreadRuns
 pub mod Idle
+pub mod InTurn

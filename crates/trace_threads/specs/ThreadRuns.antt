@@ -7,7 +7,7 @@ use Rattle.lx_abi.specs.declared.ptrace.Request.{Request}
 use Rattle.lx_abi.specs.declared.schedule.Event.{Event}
 use Rattle.lx_abi.specs.declared.script.Rule.{Rule}
 use Rattle.lx_abi.specs.Scripts.{choice_of}
-use Rattle.lx_boot.specs.Boots.{Refuses}
+use Rattle.lx_boot.specs.Boots.{Refuses, fault_of}
 use Rattle.lx_boot.specs.First.{first_shared}
 use Rattle.lx_boot.specs.declared.boots.BootFault.TheVariants.{Memory as No_memory}
 use Rattle.lx_exec.specs.Programs.{booted}
@@ -41,7 +41,7 @@ use Rattle.trace_threads.specs.declared.fault.ThreadsFault.{ThreadsFault}
 use Rattle.trace_threads.specs.declared.fault.ThreadsFault.TheVariants.{Boot as Boot_fault, Start, Unlike}
 use Rattle.trace_threads.specs.declared.noted.NotedRun.{NotedRun}
 
--- There is a journal, of at most so many events, which leads the ptrace machine from the boot to this host, by the
+-- The boot isn't refused. There is a journal, of at most so many events, which leads the ptrace machine from the boot to this host, by the
 -- tracer's requests; each turn is of the next able process in the cycle, and each Serve is answered, so no event does
 -- nothing. By its events the run is what a run in one thread is by a list of events: the untraced kernel's, from the
 -- boot's files, input and words, under the script. Out of turns is only a run whose journal is as long as the limit, or
@@ -49,6 +49,7 @@ use Rattle.trace_threads.specs.declared.noted.NotedRun.{NotedRun}
 -- shut.
 pub record ThreadRun (boot : Boot) (limit : ℕ) (script : List Rule) (options : Options) (shuts : Bool) (run : Run)
     : Type 0 where
+  pub accepted : fault_of boot ≡ None
   pub entries : List Entry
   pub hosting : Linux_host
   pub given : List (Request × Reply)

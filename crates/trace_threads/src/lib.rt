@@ -3,6 +3,7 @@
 
 pub mod fault;
 mod finish;
+pub mod laws;
 pub mod noted;
 pub mod onlooker;
 pub mod threads;

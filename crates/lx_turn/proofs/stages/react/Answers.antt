@@ -18,4 +18,4 @@ returns-in-Stopped-clause-turned c =
     ap (λ a. turned (took linux c.args.shared.now c.args.pid c.args.user.now c.args.signal c.args.cause a)) (sym stops)
     ∙ ap₂ (λ (s : Shared) (b : UserState). turned (halts (linux.continued s c.args.pid) linux s c.args.pid b c.args.signal)) (sym kept.0) (sym kept.1)
     ∙ c.halt.ensures.turned
-    ∙ ap (λ w. turned_by w c.halt.new.shared c.take.new.user c.args.pid (stages.Taken c.args.signal c.args.cause) c.halt.new.stage c.halt.new.item) (sym c.halt.ensures.went)
+    ∙ ap (λ w. turned_by w c.halt.new.shared c.take.new.user c.args.pid (stages.Taken c.args.signal c.args.cause) c.halt.new.stage c.halt.new.item) (sym c.halt.ensures.course)

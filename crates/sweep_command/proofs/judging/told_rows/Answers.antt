@@ -1,6 +1,6 @@
 use Rattle.std.proofs.Common.{◌≡◌, Bool, true, false, not, refl, subst}
 use Rattle.sweep_command.specs.Checks.{AreTold}
-use Rattle.sweep_command.proofs.Judging.{judged_are_told, made_are_told}
+use Rattle.sweep_command.proofs.Judged.{judged_are_told, made_are_told}
 use Rattle.sweep_command.proofs.judging.told_rows.Goals as goal
 
 unless : (b : Bool) → not b ≡ true → false ≡ b

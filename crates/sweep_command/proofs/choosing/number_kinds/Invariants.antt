@@ -1,6 +1,6 @@
 use Rattle.std.proofs.Common.{◌≡◌, ◌++◌, [], length}
 use Rattle.sweep_command.specs.Choosing.{kinds_of, met_after, numbers_of}
-use Rattle.sweep_command.proofs.choosing.numbered.Given as goal
+use Rattle.sweep_command.proofs.choosing.number_kinds.Given as goal
 
 abbrev pub invariant-loop-case : goal.invariant-loop-case
 invariant-loop-case l =
