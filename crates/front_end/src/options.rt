@@ -1,8 +1,9 @@
 //! Values of options.
 
-ghost use Rattle.std.specs.Prelude.{◌≡◌, IfErr, IfOk, None, Some, codes, option_map};
+ghost use Rattle.std.specs.Prelude.{◌≡◌, IfErr, IfOk, None, Some, codes, option_map, true};
 ghost use Rattle.clap.specs.Words.{first_value, found_of};
 ghost use Rattle.front_end.specs.Numbers as spec;
+ghost use Rattle.front_end.specs.Statuses.{is_usage_or_memory};
 ghost use Rattle.front_end.specs.Texts.{IsAbout};
 
 use crate::fault::Fault;
@@ -55,7 +56,8 @@ pub fn limit_of(value: Option<&str>) -> Option<u64>
 
 /// An option's value that is no number in its range; `option` is its name as it is written.
 pub fn malformed(alloc: Global, option: &str, value: Option<&str>, least: u64, most: u64) -> Fault
-    ensures { IsAbout option.now result }
+    ensures kind { is_usage_or_memory result ≡ true }
+    ensures begins { IsAbout option.now result }
 {
     let value = Shown(value.unwrap_or(""));
     let text = format!(in alloc; " {value}: not a number from {least} to {most}");
@@ -72,8 +74,8 @@ pub fn number(
 ) -> Result<u64, Fault>
     ensures value { IfOk result
         (λ value. spec.given_or most default (option_map (λ text. text.now) digits.entry) ≡ Some value) }
-    ensures fault { IfErr result (λ fault. IsAbout option.now fault
-        × (spec.given_or most default (option_map (λ text. text.now) digits.entry) ≡ None)) }
+    ensures fault { IfErr result (λ fault. (is_usage_or_memory fault ≡ true) × (IsAbout option.now fault
+        × (spec.given_or most default (option_map (λ text. text.now) digits.entry) ≡ None))) }
 {
     match given_or(digits, most, default) {
         Some(number) => Ok(number),
@@ -85,8 +87,8 @@ pub fn number(
 pub fn limit(alloc: Global, matches: &ArgMatches) -> Result<u64, Fault>
     ensures limit { IfOk result
         (λ limit. spec.limit_of (first_value (found_of matches.now) (codes "limit")) ≡ Some limit) }
-    ensures fault { IfErr result (λ fault. IsAbout (codes "--limit") fault
-        × (spec.limit_of (first_value (found_of matches.now) (codes "limit")) ≡ None)) }
+    ensures fault { IfErr result (λ fault. (is_usage_or_memory fault ≡ true) × (IsAbout (codes "--limit") fault
+        × (spec.limit_of (first_value (found_of matches.now) (codes "limit")) ≡ None))) }
 {
     number(alloc, "--limit", matches.get_str("limit"), u64::MAX, LIMIT)
 }
