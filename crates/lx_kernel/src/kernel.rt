@@ -32,11 +32,11 @@ use crate::advances::advance_at;
 use crate::choosing::always;
 use crate::log::Log;
 use crate::outcome::outcome;
-use crate::run_queue::{Hints, RunQueue};
+use crate::run_queue::{RunQueue, Wakes};
 use crate::scheduling::{can_turn_at, next_in_cycle};
 use crate::tracing;
 use crate::tracing::Change;
-use crate::waking::{TurnTaken, take_turn};
+use crate::waking::take_turn;
 use containers::{Bytes, Seq};
 use lx_abi::{
     Call, Cause, Choice, Ended, Item, Mode, Occurrences, Outcome, RegisterSet, Registers, Script,
@@ -44,7 +44,7 @@ use lx_abi::{
 };
 use lx_model::{PtraceEvent, Stage, Task};
 use lx_proc::{ProcessLimits, Shared, UserState};
-use lx_turn::{Injection, is_killed, mode_of_gone};
+use lx_turn::{Injection, Transition, is_killed, mode_of_gone};
 use shelves::Shelf;
 use std::alloc::{AllocError, Global};
 use std::marker::Model;
@@ -106,31 +106,31 @@ fn turn_at(
     child: u32,
     pid: u32,
     item: &mut Option<Item>,
-) -> Result<TurnTaken, AllocError>
+) -> Result<(Transition, Wakes), AllocError>
     requires { item.old ≡ None }
     ensures turns { IfOk result (λ t. Turns (turned (turn linux (choice_of_task injection.now pid
         (at Gone tasks.old pid)) shared.old child pid
-        (at Gone tasks.old pid))) tasks.old pid item.new t.done shared.new tasks.new) }
-    ensures before { IfOk result (λ t. t.before
+        (at Gone tasks.old pid))) tasks.old pid item.new t.0.done shared.new tasks.new) }
+    ensures before { IfOk result (λ t. t.0.before
         ≡ task_mode_of (maps.get shared.old.entries pid) (at Gone tasks.old pid)) }
     ensures after { IfOk result
-        (λ t. t.after ≡ task_mode_of (maps.get shared.new.entries pid) (at Gone tasks.new pid)) }
-    ensures few { IfOk result (λ t. IsTrue t.wakes.few
-        → WakesFew shared.old shared.new child pid t.told t.wakes.changed (unboxed t.done)) }
-    ensures stopped { IfOk result (λ t. LeavesStopped shared.old shared.new child pid t.told (unboxed t.done)) }
+        (λ t. t.0.after ≡ task_mode_of (maps.get shared.new.entries pid) (at Gone tasks.new pid)) }
+    ensures few { IfOk result (λ t. IsTrue t.1.few
+        → WakesFew shared.old shared.new child pid t.1.told t.1.changed (unboxed t.0.done)) }
+    ensures stopped { IfOk result (λ t. LeavesStopped shared.old shared.new child pid t.1.told (unboxed t.0.done)) }
     ensures absent { at Gone tasks.old pid ≡ Gone
-        → IsOkAnd result (λ t. (item.new ≡ None) × (unboxed t.done ≡ Plain)) }
+        → IsOkAnd result (λ t. (item.new ≡ None) × (unboxed t.0.done ≡ Plain)) }
     ensures console { OnErr result (shared.new.console ≡ shared.old.console) }
 {
-    let taken = match tasks.get_mut(pid) {
+    let (transition, wakes) = match tasks.get_mut(pid) {
         None => {
             let mode = mode_of_gone(shared, pid);
-            return Ok(TurnTaken::absent(pid, mode));
+            return Ok((Transition::of_gone(mode, mode), Wakes::nobody(pid)));
         }
         Some(task) => take_turn(alloc, shared, injection, child, pid, task, item)?,
     };
-    remove_gone(tasks, pid, taken.gone);
-    Ok(taken)
+    remove_gone(tasks, pid, transition.gone);
+    Ok((transition, wakes))
 }
 
 /// A child's body stands under its pid.
@@ -333,7 +333,7 @@ impl Kernel {
             follow: self.follow,
         };
         let last_pid = self.shared.limits.last_pid;
-        let taken = turn_at(
+        let (transition, wakes) = turn_at(
             self.alloc,
             &mut self.shared,
             &mut self.tasks,
@@ -342,33 +342,18 @@ impl Kernel {
             pid,
             item,
         )?;
-        let TurnTaken {
-            before,
-            after,
-            done,
-            gone,
-            wakes,
-            told,
-            may_wait,
-        } = taken;
-        let event = done.by_pid(self.child);
-        self.run_queue.welcome(&done, self.child);
-        place_child(&mut self.tasks, &mut self.child, last_pid, done)?;
+        let event = transition.done.by_pid(self.child);
+        self.run_queue.welcome(&transition.done, self.child);
+        place_child(&mut self.tasks, &mut self.child, last_pid, transition.done)?;
         self.run_queue
-            .wake_told(&self.shared, &self.tasks, pid, told);
-        self.run_queue.pass(
-            &self.shared,
-            &self.tasks,
-            pid,
-            wakes,
-            Hints { may_wait, gone },
-        );
+            .wake_told(&self.shared, &self.tasks, pid, wakes.told);
+        self.run_queue.pass(&self.shared, &self.tasks, pid, wakes);
         log_item(&mut self.log, &mut self.occurrences, item)?;
-        let after = mode_after(&self.shared, &self.tasks, pid, event, after);
+        let after = mode_after(&self.shared, &self.tasks, pid, event, transition.after);
         self.failed = false;
         Ok(Advanced {
             turns: 1,
-            before,
+            before: transition.before,
             after,
             event,
         })

@@ -39,22 +39,45 @@ pub struct RunQueue {
     pub known: bool,
 }
 
-/// Whom a turn may have woken, beside one that is told.
+/// Whom a turn may have woken, and what it may have done to its own process.
 #[derive(Clone, Copy)]
 pub struct Wakes {
-    /// None but those who read or write the pipe that was changed; else it may be anyone.
+    /// Beside the one that is told, none but those who read or write the pipe that was changed; else it may be anyone.
     pub few: bool,
     /// The pipe that was changed, if one was.
     pub changed: Option<u32>,
+    /// Whom a kill was sent to, or the parent of a process that has ended, or may have been stopped or continued; the
+    /// process itself where nobody is told.
+    pub told: u32,
+    pub hints: Hints,
 }
 
-/// What a turn may have done to the sets, beside what it did to others.
+/// What the turn may have done to its own process.
 #[derive(Clone, Copy)]
 pub struct Hints {
     /// Its process is in a call that may wait, or is stopped.
     pub may_wait: bool,
     /// Its process is gone.
     pub gone: bool,
+}
+
+impl Wakes {
+    /// The turn of a process that is gone wakes nobody.
+    pub fn nobody(pid: u32) -> Self
+        ensures few { result.few ≡ true }
+        ensures changed { result.changed ≡ None }
+        ensures told { result.told ≡ pid }
+    {
+        Wakes {
+            few: true,
+            changed: None,
+            told: pid,
+            hints: Hints {
+                may_wait: false,
+                gone: true,
+            },
+        }
+    }
 }
 
 impl Hints {
@@ -296,14 +319,7 @@ impl RunQueue {
 
     /// A turn of a process has passed, by which only those can have woken who read or write the pipe that it changed,
     /// or anyone.
-    pub fn pass(
-        &mut self,
-        shared: &Shared,
-        tasks: &Shelf<Task<UserState>>,
-        pid: u32,
-        wakes: Wakes,
-        hints: Hints,
-    )
+    pub fn pass(&mut self, shared: &Shared, tasks: &Shelf<Task<UserState>>, pid: u32, wakes: Wakes)
         requires listed { self.old.known ≡ true → AreListed self.old shared.now tasks.now }
         requires watched { wakes.few ≡ true → self.old.known ≡ true → (q : ℕ) → 0 < q → (q ≡ pid → ⊥)
             → IsApart wakes.changed shared.now q (at Gone tasks.now q)
@@ -313,10 +329,10 @@ impl RunQueue {
         ensures watch { Watch self.new shared.now tasks.now }
         ensures filing { Filing self.new shared.now tasks.now }
     {
-        if self.asleep.len() == 0 && !hints.may_be_blocked() {
+        if self.asleep.len() == 0 && !wakes.hints.may_be_blocked() {
             return;
         }
-        self.sort(shared, tasks, pid, hints);
+        self.sort(shared, tasks, pid, wakes.hints);
         if wakes.few {
             self.wake_changed(shared, tasks, wakes.changed);
         } else {

@@ -1,6 +1,6 @@
 //! Whom the turn of a process wakes: nobody, by a look at where the process stands before the turn and after it.
 
-ghost use Rattle.std.specs.Prelude.{◌≡◌, IfOk, OnErr, IsOkAnd, IsTrue, None, true, false, is_none};
+ghost use Rattle.std.specs.Prelude.{◌≡◌, IfOk, OnErr, IsOkAnd, IsTrue, None, is_none};
 ghost use Rattle.std.specs.FinMap as maps;
 ghost use Rattle.lx_model.specs.declared.event.PtraceEvent.TheVariants.{Plain};
 ghost use Rattle.lx_model.specs.declared.stage.Task.TheVariants.{Gone};
@@ -16,59 +16,13 @@ ghost use Rattle.lx_kernel.specs.Waking.{told_at as told_at_of};
 ghost use Rattle.lx_sig.specs.Kill.{aim as aim_of};
 
 use crate::pipes::{changed_in, is_narrow};
-use crate::run_queue::Wakes;
-use lx_abi::{Call, Item, Mode, Signal, calls, sys};
-use lx_model::{PtraceEvent, Stage, Task};
+use crate::run_queue::{Hints, Wakes};
+use lx_abi::{Call, Item, Signal, calls, sys};
+use lx_model::{Stage, Task};
 use lx_proc::{Shared, UserState};
 use lx_sig::{aim_of_kill, is_stop};
 use lx_turn::{Injection, Transition, turn_task};
 use std::alloc::{AllocError, Global};
-
-/// A turn that was taken: where its process stood before and stands after it, what was done beside, and what the run
-/// queue asks of it.
-#[derive(Drop)]
-pub struct TurnTaken {
-    pub before: Option<Mode>,
-    pub after: Option<Mode>,
-    pub done: PtraceEvent<Box<UserState>>,
-    /// The process is gone.
-    pub gone: bool,
-    /// Which others that were blocked can take a turn now, beside one that is told.
-    pub wakes: Wakes,
-    /// Whom a kill was sent to, or the parent of a process that has ended, or may have been stopped or continued; the
-    /// process itself where nobody is told.
-    pub told: u32,
-    /// The process is in a call that may wait, or is stopped.
-    pub may_wait: bool,
-}
-
-impl TurnTaken {
-    /// The turn of a process without a part of its own.
-    pub fn absent(pid: u32, mode: Option<Mode>) -> Self
-        ensures { result ≡ record {
-          before = mode;
-          after = mode;
-          done = PtraceEvent.Plain;
-          gone = true;
-          wakes = record { few = true; changed = None };
-          told = pid;
-          may_wait = false;
-        } }
-    {
-        TurnTaken {
-            before: mode,
-            after: mode,
-            done: PtraceEvent::Plain,
-            gone: true,
-            wakes: Wakes {
-                few: true,
-                changed: None,
-            },
-            told: pid,
-            may_wait: false,
-        }
-    }
-}
 
 /// No process has the pid.
 fn is_free(shared: &Shared, pid: u32) -> bool
@@ -207,41 +161,32 @@ pub fn take_turn(
     pid: u32,
     task: &mut Task<UserState>,
     item: &mut Option<Item>,
-) -> Result<TurnTaken, AllocError>
+) -> Result<(Transition, Wakes), AllocError>
     requires { item.old ≡ None }
     ensures turned { IfOk result (λ t. turned (turn linux
         (choice_of_task injection.now pid task.old) shared.old child pid task.old) ≡
-        record { shared = shared.new; task = task.new; item = item.new; event = unboxed t.done }) }
-    ensures before { IfOk result (λ t. t.before ≡ task_mode_of (maps.get shared.old.entries pid) task.old) }
-    ensures after { IfOk result (λ t. t.after ≡ task_mode_of (maps.get shared.new.entries pid) task.new) }
-    ensures gone { IfOk result (λ t. t.gone ≡ is_gone task.new) }
-    ensures few { IfOk result (λ t. IsTrue t.wakes.few
-        → WakesFew shared.old shared.new child pid t.told t.wakes.changed (unboxed t.done)) }
-    ensures stopped { IfOk result (λ t. LeavesStopped shared.old shared.new child pid t.told (unboxed t.done)) }
-    ensures absent { task.old ≡ Gone → IsOkAnd result (λ t. (item.new ≡ None) × (unboxed t.done ≡ Plain)) }
+        record { shared = shared.new; task = task.new; item = item.new; event = unboxed t.0.done }) }
+    ensures before { IfOk result (λ t. t.0.before ≡ task_mode_of (maps.get shared.old.entries pid) task.old) }
+    ensures after { IfOk result (λ t. t.0.after ≡ task_mode_of (maps.get shared.new.entries pid) task.new) }
+    ensures gone { IfOk result (λ t. t.0.gone ≡ is_gone task.new) }
+    ensures few { IfOk result (λ t. IsTrue t.1.few
+        → WakesFew shared.old shared.new child pid t.1.told t.1.changed (unboxed t.0.done)) }
+    ensures stopped { IfOk result (λ t. LeavesStopped shared.old shared.new child pid t.1.told (unboxed t.0.done)) }
+    ensures absent { task.old ≡ Gone → IsOkAnd result (λ t. (item.new ≡ None) × (unboxed t.0.done ≡ Plain)) }
     ensures console { OnErr result (shared.new.console ≡ shared.old.console) }
 {
     let few = is_few(shared, child, task);
     let changed = changed_in(shared, pid, task);
     let told = told_of(shared, pid, task);
     let transition = turn_task(alloc, shared, injection, child, pid, task, item)?;
-    let Transition {
-        before,
-        after,
-        done,
-        gone,
-        ends_kept,
-    } = transition;
-    Ok(TurnTaken {
-        before,
-        after,
-        done,
-        gone,
-        wakes: Wakes {
-            few: woke_few(task, few, ends_kept),
-            changed,
-        },
+    let wakes = Wakes {
+        few: woke_few(task, few, transition.ends_kept),
+        changed,
         told,
-        may_wait: may_wait(task),
-    })
+        hints: Hints {
+            may_wait: may_wait(task),
+            gone: transition.gone,
+        },
+    };
+    Ok((transition, wakes))
 }

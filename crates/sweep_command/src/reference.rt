@@ -3,6 +3,7 @@
 ghost use Rattle.std.specs.Prelude.{[], IfOk};
 ghost use Rattle.sweep_runs.specs.Runs.{Reaches};
 
+use clap::ArgMatches;
 use front_end::{Fault, explain_turns, refuse_boot};
 use lx_abi::Script;
 use lx_boot::BootFault;
@@ -10,12 +11,57 @@ use lx_kernel::Kernel;
 use std::alloc::{AllocError, Global};
 use sweep_rows::Reached;
 use sweep_runs::{Case, Setup, fault_of, refer, run_accepted, run_failing};
+use sweep_words::plan::Plan;
+use sweep_words::words::Words;
 
 fn referred(alloc: Global, setup: &Setup) -> Result<Reached, BootFault>
     ensures { IfOk result (Reaches setup.now []) }
 {
     let reference = refer(alloc, setup)?;
     Ok(reference)
+}
+
+/// The run without a failure is tried with so many turns, where the words have no limit.
+const TRIED: [u64; 2] = [10_000, 100_000];
+
+/// So many turns more than ten times its own a run with a failure may take then.
+const MORE_TURNS: u64 = 1_000_000;
+
+/// The run without a failure ends within so many turns.
+fn ends_within(alloc: Global, setup: &mut Setup, turns: u64) -> Result<bool, Fault> {
+    setup.limit = turns;
+    match referred(alloc, setup) {
+        Ok(reached) => Ok(!reached.ending.alive),
+        Err(fault) => Err(refuse_boot(alloc, fault)),
+    }
+}
+
+/// Lowers the limit of all runs to ten times the turns of the one without a failure, rounded up to a power of ten, and a
+/// million, if it ends within few.
+fn lower_limit(alloc: Global, setup: &mut Setup) -> Result<(), Fault> {
+    let most = setup.limit;
+    for turns in TRIED {
+        if ends_within(alloc, setup, turns)? {
+            setup.limit = turns.saturating_mul(10).saturating_add(MORE_TURNS);
+            return Ok(());
+        }
+    }
+    setup.limit = most;
+    Ok(())
+}
+
+/// The plan with the limit of its runs, where the words have none; runs by orders of turns have the usual one.
+pub fn limited(
+    alloc: Global,
+    matches: &ArgMatches,
+    words: Words,
+    plan: Plan,
+) -> Result<Plan, Fault> {
+    let mut limited = plan;
+    if words.orders.is_none() && matches.get_str("limit").is_none() {
+        lower_limit(alloc, &mut limited.setup)?;
+    }
+    Ok(limited)
 }
 
 /// The kernel that the run without a failure leaves.

@@ -14,6 +14,7 @@ use front_end::Fault;
 use std::alloc::{AllocError, Global};
 use std::io::Write;
 use sweep_report::texts::quoted_bytes;
+use sweep_report::told::Told;
 use sweep_report::traced::TracedCalls;
 use sweep_rows::{Reached, status};
 use sweep_runs::{Case, Row, cases, fault_of, run_case};
@@ -76,7 +77,18 @@ fn write_trace<W: Write>(alloc: Global, trace: &[u8], writer: &mut W) -> Result<
     }
 }
 
-/// What stands behind the trace: the console, and what came of the run.
+/// That a call was done, and failed then; nothing, where it wasn't done: its line tells so.
+fn failed_late(alloc: Global, told: &Told, case: Case) -> Result<String, AllocError> {
+    if fault_of(case).kind.is_undone() {
+        return Ok(String::new(alloc));
+    }
+    format!(in alloc;
+        "{} #{}: done, and then fails with {}\n",
+        told.call, told.n, told.error
+    )
+}
+
+/// What stands behind the trace: how a call failed that was done, the console, and what came of the run.
 fn behind(
     alloc: Global,
     matches: &ArgMatches,
@@ -91,10 +103,10 @@ fn behind(
     if told.finding {
         word.make_ascii_uppercase();
     }
-    let mut text = String::new(alloc);
+    let mut text = failed_late(alloc, &told, row.case)?;
     if !console.is_empty() {
         let printed = quoted_bytes(alloc, console, MOST_PRINTED)?;
-        text = format!(in alloc; "console: {printed}\n")?;
+        text.push_str(format!(in alloc; "console: {printed}\n")?.as_str())?;
     }
     format!(in alloc; "{text}{word}: {}\n", told.told)
 }

@@ -10,7 +10,7 @@ use crate::knowing::{check_known, finish_known, marks_of};
 use crate::naming::check_named;
 use crate::orders::orders_reported;
 use crate::outputs::{check, create, path_of, replace, write};
-use crate::reference::reference;
+use crate::reference::{limited, reference};
 use crate::rows::{Choice, make, wanted_cases};
 use crate::show::show;
 use crate::telling::{all_told, told, worst};
@@ -359,10 +359,11 @@ pub fn sweep<
     let alloc = rt.alloc();
     let words = words_of(alloc, matches, out.is_terminal() && !is_plain(rt))?;
     shown_run(alloc, matches)?;
-    let plan = read_plan(rt, matches, input, err)?;
+    let asked = read_plan(rt, matches, input, err)?;
     check_outputs(rt, matches)?;
     check(rt, "-o", path_of(matches))?;
     check_known(rt, matches)?;
+    let plan = limited(alloc, matches, words, asked)?;
     let reference = reference(alloc, &plan.setup, explained)?;
     if explained {
         explain(alloc, &plan, &reference, err)?;

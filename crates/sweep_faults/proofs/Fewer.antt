@@ -12,6 +12,7 @@ use Rattle.lx_model.specs.Kernel.{traces}
 use Rattle.lx_kernel.specs.Occurrences.{Agree}
 use Rattle.sweep_rows.proofs.Counting.{entries_more}
 use Rattle.sweep_faults.specs.declared.faults.Fault.{Fault}
+use Rattle.sweep_faults.specs.Faults.{is_undone}
 use Rattle.sweep_faults.specs.Words.{AreFewer, HasWords, is_again}
 use Rattle.sweep_faults.proofs.Wording.{more_still}
 
@@ -114,24 +115,28 @@ first_fewer f some q others = some
 pub grouped : (xs : List Item) (item : Item) (ys zs log : List Item) → xs ++ ys ≡ log → ys ≡ item ∷ zs → (xs ++ item ∷ []) ++ zs ≡ log
 grouped xs item ys zs log e h = append_assoc xs (item ∷ []) zs ∙ ap (λ l. xs ++ l) (sym h) ∙ e
 
+pub done_words : (follow : Bool) (f : Fault) (log : List Item) → is_undone f.kind ≡ false → IsTrue false ↔ HasWords follow f log
+done_words follow f log h = (λ e. absurd (cc e), λ words. absurd (cc (sym words.undone ∙ h)))
+
 pub untraced_words : (follow : Bool) (f : Fault) (log : List Item) → traces follow f.pid ≡ false → IsTrue false ↔ HasWords follow f log
 untraced_words follow f log h = (λ e. absurd (cc e), λ words. absurd (cc (sym words.traced ∙ h)))
 
-alone_words : (f : Fault) (log : List Item) → traces false f.pid ≡ true → HasWords false f log
-alone_words f log traced = record {
+alone_words : (f : Fault) (log : List Item) → is_undone f.kind ≡ true → traces false f.pid ≡ true → HasWords false f log
+alone_words f log undone traced = record {
+  undone = undone;
   traced = traced;
   alone = λ q t others.
       let same : q ≡ f.pid = grind (arith, nat_tests, t, traced) in
       absurd (others same);
 }
 
-pub first_words : (follow : Bool) (f : Fault) (log : List Item) → follow ≡ false → traces follow f.pid ≡ true → IsTrue true ↔ HasWords follow f log
-first_words true f log e traced = absurd (cc e)
-first_words false f log e traced = (λ h. alone_words f log traced, λ h. refl)
+pub first_words : (follow : Bool) (f : Fault) (log : List Item) → is_undone f.kind ≡ true → follow ≡ false → traces follow f.pid ≡ true → IsTrue true ↔ HasWords follow f log
+first_words true f log undone e traced = absurd (cc e)
+first_words false f log undone e traced = (λ h. alone_words f log undone traced, λ h. refl)
 
-pub followed_words : (has follow : Bool) (f : Fault) (log : List Item) → follow ≡ true → (IsTrue has ↔ AreFewer f log) → IsTrue has ↔ HasWords follow f log
-followed_words has false f log e h = absurd (cc e)
-followed_words has true f log e h = (
-  λ b. record { traced = refl; alone = λ q t others. h.0 b q others },
+pub followed_words : (has follow : Bool) (f : Fault) (log : List Item) → is_undone f.kind ≡ true → follow ≡ true → (IsTrue has ↔ AreFewer f log) → IsTrue has ↔ HasWords follow f log
+followed_words has false f log undone e h = absurd (cc e)
+followed_words has true f log undone e h = (
+  λ b. record { undone = undone; traced = refl; alone = λ q t others. h.0 b q others },
   λ words. h.1 (λ q others. words.alone q refl others),
 )

@@ -1,13 +1,19 @@
 -- Runs with a failure, by turns and by rows of turns.
 use Rattle.std.proofs.Common.{◌≡◌, Bool, ℕ, zero, suc, ◌-◌, ◌+◌, ◌<◌, ◌≤◌, true, false, cond, List, [], ◌∷◌, ◌++◌, Option, Some, None, refl, sym, ap, subst, ◌∙◌, append-nil, arith}
 use Rattle.std.specs.Option.{option_to_list}
+use Rattle.lx_abi.specs.declared.errno.Errno.{Errno}
 use Rattle.lx_abi.specs.declared.log.Item.{Item}
 use Rattle.lx_abi.specs.declared.script.Choice.{Choice}
 use Rattle.lx_model.specs.Finite.{item_of, ran}
+use Rattle.lx_abi.specs.Errors.{error_word}
+use Rattle.lx_model.specs.Machine.{Regs, with_a0}
+use Rattle.lx_model.specs.declared.stage.Task.{Task}
+use Rattle.lx_proc.specs.declared.state.UserState.{UserState}
 use Rattle.lx_model.specs.declared.event.PtraceEvent.{PtraceEvent}
 use Rattle.lx_kernel.specs.Advances.{Leads}
 use Rattle.lx_kernel.specs.Choices.{after_choosing, turn_choosing_in}
-use Rattle.lx_kernel.specs.Runs.{Run, after_turn}
+use Rattle.lx_kernel.specs.Runs.{Run, after_turn, turn_in}
+use Rattle.lx_kernel.specs.Tracing.{regs_of, task_in, with_part, with_regs}
 use Rattle.pt_schedule.specs.declared.schedule.Schedule.{Schedule}
 use Rattle.pt_schedule.specs.declared.schedule.TurnRun.{TurnRun}
 use Rattle.pt_schedule.specs.Rows.{run_of, after_turns as left_after, Continues}
@@ -20,7 +26,9 @@ use Rattle.plain_run.specs.declared.running.Halt.{Halt}
 use Rattle.plain_run.specs.declared.running.Halt.TheVariants.{Memory, Weary}
 use Rattle.plain_run.proofs.Turning.{continues, bore_log, after_unserved, told_unserved}
 use Rattle.sweep_faults.specs.declared.faults.Fault.{Fault}
-use Rattle.sweep_faults.specs.Faults.{after_fault, failing, is_at}
+use Rattle.sweep_faults.specs.declared.faults.Kind.{Kind}
+use Rattle.sweep_faults.specs.declared.faults.Kind.TheVariants as kind
+use Rattle.sweep_faults.specs.Faults.{after_failing, after_fault, is_at, reporting, with_error}
 use Rattle.sweep_faults.specs.InRows.{InRow}
 use Rattle.sweep_faults.specs.Runs.{IsFaulted, RunsFaulted, EndsAreSettled, RunsKeepLogs}
 use Rattle.sweep_faults.proofs.Standing.{not_at}
@@ -32,6 +40,28 @@ choosing_log k k' p choice item turned is =
     ap (λ (x : Run). x.running.log) turned
     ∙ bore_log (ran k.running p (turn_choosing_in k p choice)) (turn_choosing_in k p choice).event
     ∙ ap (λ o. k.running.log ++ option_to_list o) (sym is)
+
+pub turned_log : (k k' : Run) (p : ℕ) (item : Option Item) → k' ≡ after_turn k p → item ≡ item_of (turn_in k p) → k'.running.log ≡ k.running.log ++ option_to_list item
+turned_log k k' p item turned is =
+    ap (λ (x : Run). x.running.log) turned
+    ∙ bore_log (ran k.running p (turn_in k p)) (turn_in k p).event
+    ∙ ap (λ o. k.running.log ++ option_to_list o) (sym is)
+
+part_log : (k : Run) (p : ℕ) (part : Option (Task UserState)) → (with_part k p part).running.log ≡ k.running.log
+part_log k p None = refl
+part_log k p (Some task) = refl
+
+pub reported_log : (k k' : Run) (p : ℕ) (r : Regs) → k' ≡ with_part k p (with_regs r (task_in k p)) → k'.running.log ≡ k.running.log
+reported_log k k' p r part = ap (λ (x : Run). x.running.log) part ∙ part_log k p (with_regs r (task_in k p))
+
+pub reported_is : (k k' : Run) (p : ℕ) (error : Errno) (r r' : Regs) → Some r ≡ regs_of (task_in k p) → r' ≡ with_a0 r (error_word error.number) → k' ≡ with_part k p (with_regs r' (task_in k p)) → k' ≡ reporting k p error
+reported_is k k' p error r r' had has part =
+    part
+    ∙ ap (λ x. with_part k p (with_regs x (task_in k p))) has
+    ∙ ap (λ o. with_part k p (with_error error o (task_in k p))) had
+
+pub unreported_is : (k : Run) (p : ℕ) (error : Errno) → None ≡ regs_of (task_in k p) → k ≡ reporting k p error
+unreported_is k p error none = ap (λ o. with_part k p (with_error error o (task_in k p))) none
 
 pub told_item : (k k' : Run) (item : Option Item) (told told' : List Item) → k'.running.log ≡ k.running.log ++ option_to_list item → told' ≡ told ++ option_to_list item → Tells k told k' told'
 told_item k k' item told told' h g = record { items = option_to_list item; logged = h; are_told = g }
@@ -46,7 +76,7 @@ weary_by failed weary Weary h e = h
 -- A turn that is none of the entry that fails is the kernel's own
 
 after_other : (f : Fault) (k : Run) (p : ℕ) → is_at f k p ≡ false → after_fault f k p ≡ after_turn k p
-after_other f k p e = ap (λ b. cond b (after_choosing k p (failing f.error)) (after_turn k p)) e
+after_other f k p e = ap (λ b. cond b (after_failing f.kind k p) (after_turn k p)) e
 
 row_of : (f : Fault) (n : ℕ) (k k' : Run) (p : ℕ) (item : Option Item) (event : PtraceEvent ℕ) → is_at f k p ≡ false → Leads k p (suc n) item event k' → InRow f k p n k'
 unfolding InRow
@@ -61,12 +91,12 @@ row_of_others f turns k k' p item event some leads other =
     let count : turns ≡ suc (turns - 1) = omega (arith, some) in
     row_of f (turns - 1) k k' p item event other (subst (λ n. Leads k p n item event k') count leads)
 
-pub row_failing : (f : Fault) (turns : ℕ) (k k' : Run) (p : ℕ) → turns ≡ 1 → is_at f k p ≡ true → k' ≡ after_choosing k p (failing f.error) → InRow f k p (turns - 1) k'
+pub row_failing : (f : Fault) (turns : ℕ) (k k' : Run) (p : ℕ) → turns ≡ 1 → is_at f k p ≡ true → k' ≡ after_failing f.kind k p → InRow f k p (turns - 1) k'
 unfolding InRow
 row_failing f turns k k' p one at turned =
     let count : zero ≡ turns - 1 = omega (arith, one) in
     subst (λ n. InRow f k p n k') count
-    (turned ∙ sym (ap (λ b. cond b (after_choosing k p (failing f.error)) (after_turn k p)) at))
+    (turned ∙ sym (ap (λ b. cond b (after_failing f.kind k p) (after_turn k p)) at))
 
 module _ (f : Fault) where
   -- One turn more
@@ -163,11 +193,19 @@ keeps_by : (b : Bool) (x y k : Run) → x.keeps_log ≡ k.keeps_log → y.keeps_
 keeps_by true x y k h g = h
 keeps_by false x y k h g = g
 
+part_keeps : (k : Run) (p : ℕ) (part : Option (Task UserState)) → (with_part k p part).keeps_log ≡ k.keeps_log
+part_keeps k p None = refl
+part_keeps k p (Some task) = refl
+
+failing_keeps : (x : Kind) (k : Run) (p : ℕ) → (after_failing x k p).keeps_log ≡ k.keeps_log
+failing_keeps (kind.Undone error) k p = refl
+failing_keeps (kind.Done error) k p = part_keeps k p (with_error error (regs_of (task_in k p)) (task_in k p))
+
 keeps : (f : Fault) (k : Run) (s : Schedule) (pids : List ℕ) (z : Run) → IsFaulted f k s pids z → z.keeps_log ≡ k.keeps_log
 keeps f k s [] z h = ap (λ (r : Run). r.keeps_log) h.1
 keeps f k s (p ∷ ps) z h =
     keeps f (after_fault f k p) (next_turn_of s (readiness_of k)).schedule ps z h.1
-    ∙ keeps_by (is_at f k p) (after_choosing k p (failing f.error)) (after_turn k p) k refl refl
+    ∙ keeps_by (is_at f k p) (after_failing f.kind k p) (after_turn k p) k (failing_keeps f.kind k p) refl
 
 pub runs_keep_logs : RunsKeepLogs
 runs_keep_logs f k s z to = keeps f k s to.pids z to.is_run

@@ -1,5 +1,5 @@
--- Where a process stands at the entry that fails.
-use Rattle.std.proofs.Common.{◌≡◌, Bool, true, false, ℕ, ◌-◌, ◌+◌, ◌<◌, List, ◌++◌, Option, Some, None, cond, ◌&&◌, refl, sym, ap, subst, ◌∙◌, append-nil, arith}
+-- Where a process stands where its call fails.
+use Rattle.std.proofs.Common.{◌≡◌, Bool, true, false, ℕ, ◌-◌, ◌+◌, ◌<◌, List, [], ◌∷◌, ◌++◌, Option, Some, None, cond, ◌&&◌, refl, sym, ap, subst, ◌∙◌, append-nil, arith}
 use Rattle.std.specs.Prelude.{◌==◌, if◌then◌else◌}
 use Rattle.std.specs.Option.{option_to_list}
 use Rattle.std.proofs.lemmas.Bool.Decides.{nat_tests}
@@ -13,10 +13,12 @@ use Rattle.lx_kernel.specs.Tracing.{task_in, regs_of}
 use Rattle.sweep_rows.proofs.Counting.{entries_more}
 use Rattle.sweep_faults.specs.declared.awaited.Awaited.{Awaited}
 use Rattle.sweep_faults.specs.declared.faults.Fault.{Fault}
-use Rattle.sweep_faults.specs.Awaited.{Awaits, IsLeft, heard, is_awaited_at, is_next, left_after, passed}
-use Rattle.sweep_faults.specs.Faults.{asks_for, is_at, is_entered}
+use Rattle.sweep_faults.specs.declared.faults.Kind.{Kind}
+use Rattle.sweep_faults.specs.declared.faults.Kind.TheVariants as kind
+use Rattle.sweep_faults.specs.Awaited.{Awaits, IsLeft, heard, is_awaited_at, is_due_by, is_next, last_after, left_after, passed}
+use Rattle.sweep_faults.specs.Faults.{asks_for, done_last, is_at, is_due, is_ended, is_entered, was_last}
 
--- A process that goes on by itself has entered no call
+-- A process that goes on by itself has entered no call, and ended none
 
 no_entry : (m : Mode) → is_under_way m ≡ true → is_entered (Some m) ≡ false
 no_entry mode.Born h = refl
@@ -32,18 +34,36 @@ no_entry mode.Woken h = refl
 no_entry mode.Dying h = refl
 no_entry mode.Zombie h = refl
 
-none_at : (a b d : Bool) → (a && (b && (false && d))) ≡ false
-none_at true true d = refl
-none_at true false d = refl
-none_at false b d = refl
+no_end : (m : Mode) → is_under_way m ≡ true → is_ended (Some m) ≡ false
+no_end mode.Born h = refl
+no_end mode.Run h = refl
+no_end mode.Faulting h = refl
+no_end mode.Entered h = refl
+no_end mode.Doing h = refl
+no_end mode.Acted h = refl
+no_end mode.Finished h = absurd (cc h)
+no_end mode.Taken h = refl
+no_end mode.Stopped h = refl
+no_end mode.Woken h = refl
+no_end mode.Dying h = refl
+no_end mode.Zombie h = refl
+
+none_at : (a b : Bool) → (a && (b && false)) ≡ false
+none_at true true = refl
+none_at true false = refl
+none_at false b = refl
+
+not_due : (x : Kind) (call : ℕ) (k : Run) (p : ℕ) → GoesOn k p → is_due x call k p ≡ false
+not_due (kind.Undone error) call k p on =
+    ap (λ b. b && asks_for call (regs_of (task_in k p))) (ap is_entered on.1.1.0 ∙ no_entry on.1.0 on.1.1.1)
+not_due (kind.Done error) call k p on =
+    ap (λ b. b && was_last p call false k.running.log) (ap is_ended on.1.1.0 ∙ no_end on.1.0 on.1.1.1)
 
 pub not_at : (f : Fault) (k : Run) (p : ℕ) → GoesOn k p → is_at f k p ≡ false
 unfolding is_at
 not_at f k p on =
-    let asks : Bool = asks_for f.call (regs_of (task_in k p)) in
-    ap (λ b. (p == f.pid) && ((entries f.pid f.call k.running.log == f.n) && (b && asks)))
-    (ap is_entered on.1.1.0 ∙ no_entry on.1.0 on.1.1.1)
-    ∙ none_at (p == f.pid) (entries f.pid f.call k.running.log == f.n) asks
+    ap (λ b. (p == f.pid) && ((entries f.pid f.call k.running.log == f.n) && b)) (not_due f.kind f.call k p on)
+    ∙ none_at (p == f.pid) (entries f.pid f.call k.running.log == f.n)
 
 -- What is awaited
 
@@ -62,14 +82,31 @@ come_is n entered None h = of (entered == n) refl
     of true e = absurd (grind (arith, nat_tests, h, e))
     of false e = refl
 
+same_due : (x : Kind) (a : Awaited) (k : Run) (p : ℕ) → p ≡ a.fault.pid → a.was_last ≡ was_last a.fault.pid a.fault.call false k.running.log → is_due x a.fault.call k p ≡ is_due_by x a k p
+same_due (kind.Undone error) a k p same h = refl
+same_due (kind.Done error) a k p same h =
+    ap (λ b. is_ended (mode_in k p) && b) (ap (λ q. was_last q a.fault.call false k.running.log) same ∙ sym h)
+
+due_there : (b : Bool) (a : Awaited) (k : Run) (p : ℕ) → (p == a.fault.pid) ≡ b → a.was_last ≡ was_last a.fault.pid a.fault.call false k.running.log
+    → (x : Bool) → (b && (x && is_due a.fault.kind a.fault.call k p)) ≡ (b && (x && is_due_by a.fault.kind a k p))
+due_there true a k p e h x =
+    let same : p ≡ a.fault.pid = grind (arith, nat_tests, e) in
+    ap (λ d. x && d) (same_due a.fault.kind a k p same h)
+due_there false a k p e h x = refl
+
 pub awaited_at_is : (a : Awaited) (k : Run) (p : ℕ) → Awaits a k.running.log → is_at a.fault k p ≡ is_awaited_at a k p
 unfolding is_at is_awaited_at
 awaited_at_is a k p h =
-    ap (λ b. (p == a.fault.pid) && (b && (is_entered (mode_in k p) && asks_for a.fault.call (regs_of (task_in k p)))))
-    (come_is a.fault.n (entries a.fault.pid a.fault.call k.running.log) a.left h)
+    ap (λ b. (p == a.fault.pid) && (b && is_due a.fault.kind a.fault.call k p))
+    (come_is a.fault.n (entries a.fault.pid a.fault.call k.running.log) a.left h.0)
+    ∙ due_there (p == a.fault.pid) a k p refl h.1 (is_next a.left)
 
 pub awaits_first : (n : ℕ) → n + 0 ≡ n
 awaits_first n = omega arith
+
+pub first_last : (pid call : ℕ) → false ≡ was_last pid call false []
+unfolding was_last
+first_last pid call = refl
 
 no_more : (n : ℕ) → 0 + n ≡ n
 no_more n = omega arith
@@ -87,11 +124,25 @@ one_less n entered (Some left) h = of (left == 0) refl
         let some_left : 0 < left = grind (arith, nat_tests, e) in
         omega (arith, h, some_left)
 
-pub heard_awaits : (a : Awaited) (log log' : List Item) (item : Option Item) → Awaits a log → log' ≡ log ++ option_to_list item → Awaits (heard a item) log'
+last_more : (pid call : ℕ) (before : Bool) (log : List Item) (item : Item) → was_last pid call before (log ++ item ∷ []) ≡ done_last pid call (was_last pid call before log) item
+unfolding was_last
+last_more pid call before [] item = refl
+last_more pid call before (first ∷ log) item = last_more pid call (done_last pid call before first) log item
+
+heard_last : (a : Awaited) (log log' : List Item) (item : Option Item) → a.was_last ≡ was_last a.fault.pid a.fault.call false log → log' ≡ log ++ option_to_list item
+    → last_after a item ≡ was_last a.fault.pid a.fault.call false log'
+unfolding last_after
+heard_last a log log' None h e = h ∙ ap (λ l. was_last a.fault.pid a.fault.call false l) (sym (e ∙ append-nil log))
+heard_last a log log' (Some item) h e =
+    ap (λ b. done_last a.fault.pid a.fault.call b item) h
+    ∙ sym (last_more a.fault.pid a.fault.call false log item)
+    ∙ ap (λ l. was_last a.fault.pid a.fault.call false l) (sym e)
+
+heard_left : (a : Awaited) (log log' : List Item) (item : Option Item) → IsLeft a.fault.n (entries a.fault.pid a.fault.call log) a.left → log' ≡ log ++ option_to_list item
+    → IsLeft a.fault.n (entries a.fault.pid a.fault.call log') (left_after a item)
 unfolding left_after
-heard_awaits a log log' None h e = subst (λ l. IsLeft a.fault.n (entries a.fault.pid a.fault.call l) a.left) (sym (e ∙ append-nil log)) h
-heard_awaits a log log' (Some item) h e =
-    let before : ℕ = entries a.fault.pid a.fault.call log in
+heard_left a log log' None h e = subst (λ l. IsLeft a.fault.n (entries a.fault.pid a.fault.call l) a.left) (sym (e ∙ append-nil log)) h
+heard_left a log log' (Some item) h e =
     let left : Option ℕ = cond (is_entry a.fault.pid a.fault.call item) (passed a.left) a.left in
     subst (λ l. IsLeft a.fault.n (entries a.fault.pid a.fault.call l) left) (sym e)
     (subst (λ n. IsLeft a.fault.n n left) (sym (entries_more a.fault.pid a.fault.call log item)) (of (is_entry a.fault.pid a.fault.call item)))
@@ -99,3 +150,6 @@ heard_awaits a log log' (Some item) h e =
     of : (b : Bool) → IsLeft a.fault.n ((if b then 1 else 0) + entries a.fault.pid a.fault.call log) (cond b (passed a.left) a.left)
     of true = one_less a.fault.n (entries a.fault.pid a.fault.call log) a.left h
     of false = subst (λ n. IsLeft a.fault.n n a.left) (sym (no_more (entries a.fault.pid a.fault.call log))) h
+
+pub heard_awaits : (a : Awaited) (log log' : List Item) (item : Option Item) → Awaits a log → log' ≡ log ++ option_to_list item → Awaits (heard a item) log'
+heard_awaits a log log' item h e = (heard_left a log log' item h.0 e, heard_last a log log' item h.1 e)

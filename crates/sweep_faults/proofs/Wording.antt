@@ -4,6 +4,7 @@ use Rattle.std.specs.Prelude.{◌==◌}
 use Rattle.std.specs.FinMap as maps
 use Rattle.std.specs.Option.{option_to_list}
 use Rattle.std.proofs.lemmas.Bool.Decides.{nat_tests}
+use Rattle.lx_abi.specs.declared.errno.Errno.{Errno}
 use Rattle.lx_abi.specs.declared.log.Call.{Call}
 use Rattle.lx_abi.specs.declared.log.Item.{Item}
 use Rattle.lx_abi.specs.declared.log.Mode.{Mode}
@@ -35,7 +36,9 @@ use Rattle.plain_run.specs.Runs.{IsRun}
 use Rattle.plain_run.proofs.Turning.{bore_log}
 use Rattle.sweep_rows.specs.Failures.{FailsAlone}
 use Rattle.sweep_faults.specs.declared.faults.Fault.{Fault}
-use Rattle.sweep_faults.specs.Faults.{after_fault, asks_for, failing, is_at, is_entered}
+use Rattle.sweep_faults.specs.declared.faults.Kind.{Kind}
+use Rattle.sweep_faults.specs.declared.faults.Kind.TheVariants as kind
+use Rattle.sweep_faults.specs.Faults.{after_fault, asks_for, failing, is_at, is_entered, is_undone}
 use Rattle.sweep_faults.specs.Runs.{IsFaulted, WordsGiveRuns}
 use Rattle.sweep_faults.specs.Words.{failure_of}
 
@@ -136,7 +139,11 @@ and_false : (b : Bool) → (b && (true && false)) ≡ false
 and_false true = refl
 and_false false = refl
 
-module _ (f : Fault) (script : List Rule) (alone : FailsAlone (failure_of f) script) (k : Run) (p : ℕ) (empty : k.script ≡ []) (traced : traces k.follow f.pid ≡ true)
+-- the failure with a call that isn't done
+abbrev undone : Fault → Errno → Fault
+undone g error = record g { kind = kind.Undone error }
+
+module _ (f : Fault) (error : Errno) (script : List Rule) (alone : FailsAlone (failure_of (undone f error)) script) (k : Run) (p : ℕ) (empty : k.script ≡ []) (traced : traces k.follow f.pid ≡ true)
     (fewer : traces k.follow p ≡ true → (p ≡ f.pid → ⊥) → entries p f.call k.running.log < f.n) where
   own : ℕ
   own = entries f.pid f.call k.running.log
@@ -146,20 +153,20 @@ module _ (f : Fault) (script : List Rule) (alone : FailsAlone (failure_of f) scr
 
   -- by the script's rule
   by_rule : (call : ℕ) (x y t : Bool) → (p == f.pid) ≡ x → (call == f.call) ≡ y → traces k.follow p ≡ t →
-      cond t (cond (y && (entries p call k.running.log == f.n)) (failing f.error) no_choice) no_choice
-      ≡ cond (x && ((entries f.pid f.call k.running.log == f.n) && (true && y))) (failing f.error) no_choice
+      cond t (cond (y && (entries p call k.running.log == f.n)) (failing error) no_choice) no_choice
+      ≡ cond (x && ((entries f.pid f.call k.running.log == f.n) && (true && y))) (failing error) no_choice
   by_rule call true true true ex ey et =
       let same_pid : p ≡ f.pid = grind (arith, nat_tests, ex) in
       let same_call : call ≡ f.call = grind (arith, nat_tests, ey) in
-      ap₂ (λ q c. cond (entries q c k.running.log == f.n) (failing f.error) no_choice) same_pid same_call
-      ∙ ap (λ b. cond b (failing f.error) no_choice) (sym (and_true (entries f.pid f.call k.running.log == f.n)))
-  by_rule call true false true ex ey et = sym (ap (λ b. cond b (failing f.error) no_choice) (and_false (entries f.pid f.call k.running.log == f.n)))
+      ap₂ (λ q c. cond (entries q c k.running.log == f.n) (failing error) no_choice) same_pid same_call
+      ∙ ap (λ b. cond b (failing error) no_choice) (sym (and_true (entries f.pid f.call k.running.log == f.n)))
+  by_rule call true false true ex ey et = sym (ap (λ b. cond b (failing error) no_choice) (and_false (entries f.pid f.call k.running.log == f.n)))
   by_rule call true y false ex ey et =
       let same_pid : p ≡ f.pid = grind (arith, nat_tests, ex) in
       absurd (cc (sym traced ∙ ap (λ q. traces k.follow q) (sym same_pid) ∙ et))
   by_rule call false y false ex ey et = refl
   by_rule call false false true ex ey et = refl
-  by_rule call false true true ex ey et = ap (λ b. cond b (failing f.error) no_choice) (never (entries p call k.running.log == f.n) refl)
+  by_rule call false true true ex ey et = ap (λ b. cond b (failing error) no_choice) (never (entries p call k.running.log == f.n) refl)
     where
       never : (b : Bool) → (entries p call k.running.log == f.n) ≡ b → b ≡ false
       never false e = refl
@@ -170,7 +177,7 @@ module _ (f : Fault) (script : List Rule) (alone : FailsAlone (failure_of f) scr
           absurd (grind (arith, nat_tests, e, less))
 
   rule_chosen : (task : Task UserState) → entering task ≡ true →
-      choice_at linux (choice_of script) (traces k.follow p) (λ n. entries p n k.running.log) task ≡ cond (at_in task) (failing f.error) no_choice
+      choice_at linux (choice_of script) (traces k.follow p) (λ n. entries p n k.running.log) task ≡ cond (at_in task) (failing error) no_choice
   rule_chosen (Alive b (stages.Entered joined)) h =
       let call : ℕ = a7_of (linux.regs b) in
       ap (λ choice. cond (traces k.follow p) choice no_choice) (alone call (entries p call k.running.log))
@@ -210,28 +217,28 @@ module _ (f : Fault) (script : List Rule) (alone : FailsAlone (failure_of f) scr
   abbrev left_by : Out Shared UserState → Run
   left_by o = record k { running = bore (ran k.running p o) o.event; script = script }
 
-  is_in : is_at f k p ≡ at_in (at Gone k.running.tasks p)
+  is_in : is_at (undone f error) k p ≡ at_in (at Gone k.running.tasks p)
   unfolding is_at
   is_in = refl
 
-  same_turn : after_turn (record k { script = script }) p ≡ record (after_fault f k p) { script = script }
-  same_turn = of (is_at f k p) refl
+  same_turn : after_turn (record k { script = script }) p ≡ record (after_fault (undone f error) k p) { script = script }
+  same_turn = of (is_at (undone f error) k p) refl
     where
       task : Task UserState
       task = at Gone k.running.tasks p
 
-      of : (b : Bool) → is_at f k p ≡ b → after_turn (record k { script = script }) p ≡ record (cond b (after_choosing k p (failing f.error)) (after_turn k p)) { script = script }
+      of : (b : Bool) → is_at (undone f error) k p ≡ b → after_turn (record k { script = script }) p ≡ record (cond b (after_choosing k p (failing error)) (after_turn k p)) { script = script }
       of true e = ap left_by
           (turn_by (choice_at linux (choice_of script) (traces k.follow p) (λ n. entries p n k.running.log) (at Gone k.running.tasks p))
-          (choice_at linux (always (failing f.error)) true (λ n. entries p n k.running.log) (at Gone k.running.tasks p))
+          (choice_at linux (always (failing error)) true (λ n. entries p n k.running.log) (at Gone k.running.tasks p))
           k.running.shared k.running.child p (at Gone k.running.tasks p)
-          (λ h. rule_chosen (at Gone k.running.tasks p) h ∙ ap (λ b. cond b (failing f.error) no_choice) (sym is_in ∙ e)
-          ∙ sym (fault_chosen (failing f.error) (at Gone k.running.tasks p) h)))
+          (λ h. rule_chosen (at Gone k.running.tasks p) h ∙ ap (λ b. cond b (failing error) no_choice) (sym is_in ∙ e)
+          ∙ sym (fault_chosen (failing error) (at Gone k.running.tasks p) h)))
       of false e = ap left_by
           (turn_by (choice_at linux (choice_of script) (traces k.follow p) (λ n. entries p n k.running.log) (at Gone k.running.tasks p))
           (choice_at linux (choice_of k.script) (traces k.follow p) (λ n. entries p n k.running.log) (at Gone k.running.tasks p))
           k.running.shared k.running.child p (at Gone k.running.tasks p)
-          (λ h. rule_chosen (at Gone k.running.tasks p) h ∙ ap (λ b. cond b (failing f.error) no_choice) (sym is_in ∙ e)
+          (λ h. rule_chosen (at Gone k.running.tasks p) h ∙ ap (λ b. cond b (failing error) no_choice) (sym is_in ∙ e)
           ∙ sym (none_chosen (at Gone k.running.tasks p))))
 
 -- A log grows
@@ -249,12 +256,15 @@ turn_grows k p o g =
     subst (λ log. length (filter g k.running.log) ≤ length (filter g log)) (sym (bore_log (ran k.running p o) o.event))
     (more_still g k.running.log (option_to_list (item_of o)))
 
-module _ (f : Fault) where
+module _ (g : Fault) (error : Errno) where
+  abbrev f : Fault
+  f = undone g error
+
   fault_grows : (k : Run) (p : ℕ) (g : Item → Bool) → length (filter g k.running.log) ≤ length (filter g (after_fault f k p).running.log)
   fault_grows k p g = of (is_at f k p)
     where
-      of : (b : Bool) → length (filter g k.running.log) ≤ length (filter g (cond b (after_choosing k p (failing f.error)) (after_turn k p)).running.log)
-      of true = turn_grows k p (turn_choosing_in k p (failing f.error)) g
+      of : (b : Bool) → length (filter g k.running.log) ≤ length (filter g (cond b (after_choosing k p (failing error)) (after_turn k p)).running.log)
+      of true = turn_grows k p (turn_choosing_in k p (failing error)) g
       of false = turn_grows k p (turn_in k p) g
 
   grows : (ps : List ℕ) (k : Run) (s : Schedule) (z : Run) (g : Item → Bool) → IsFaulted f k s ps z → length (filter g k.running.log) ≤ length (filter g z.running.log)
@@ -270,14 +280,14 @@ module _ (f : Fault) where
   script_stays : (k : Run) (p : ℕ) → (after_fault f k p).script ≡ k.script
   script_stays k p = of (is_at f k p)
     where
-      of : (b : Bool) → (cond b (after_choosing k p (failing f.error)) (after_turn k p)).script ≡ k.script
+      of : (b : Bool) → (cond b (after_choosing k p (failing error)) (after_turn k p)).script ≡ k.script
       of true = refl
       of false = refl
 
   follow_stays : (k : Run) (p : ℕ) → (after_fault f k p).follow ≡ k.follow
   follow_stays k p = of (is_at f k p)
     where
-      of : (b : Bool) → (cond b (after_choosing k p (failing f.error)) (after_turn k p)).follow ≡ k.follow
+      of : (b : Bool) → (cond b (after_choosing k p (failing error)) (after_turn k p)).follow ≡ k.follow
       of true = refl
       of false = refl
 
@@ -295,12 +305,17 @@ module _ (f : Fault) where
         subst (λ (r : Readiness). (next_turn_of s r).pid ≡ Some p) (sym (ready_alike k script)) h.0,
         subst (λ (r : Readiness). IsRun (after_turn (record k { script = script }) p) (next_turn_of s r).schedule ps (record z { script = script })) (sym (ready_alike k script))
             (subst (λ (x : Run). IsRun x (next_turn_of s (readiness_of k)).schedule ps (record z { script = script }))
-            (sym (same_turn f script alone k p empty (ap (λ x. traces x f.pid) same ∙ traced) here))
+            (sym (same_turn g error script alone k p empty (ap (λ x. traces x f.pid) same ∙ traced) here))
             (words_run script follow ps (after_fault f k p) (next_turn_of s (readiness_of k)).schedule z alone (script_stays k p ∙ empty) (follow_stays k p ∙ same) traced fewer h.1)),
       )
+
+words_by : (x : Kind) (f : Fault) (script : List Rule) (ps : List ℕ) (k : Run) (s : Schedule) (z : Run) → is_undone x ≡ true → FailsAlone (failure_of (record f { kind = x })) script → k.script ≡ [] → traces k.follow f.pid ≡ true
+    → ((q : ℕ) → traces k.follow q ≡ true → (q ≡ f.pid → ⊥) → entries q f.call z.running.log < f.n) → IsFaulted (record f { kind = x }) k s ps z → IsRun (record k { script = script }) s ps (record z { script = script })
+words_by (kind.Undone error) f script ps k s z h alone empty traced fewer run = words_run f error script k.follow ps k s z alone empty refl traced fewer run
+words_by (kind.Done error) f script ps k s z h alone empty traced fewer run = absurd (cc h)
 
 pub words_give : WordsGiveRuns
 words_give f script k s z empty alone words to = record {
   pids = to.pids;
-  is_run = words_run f script k.follow to.pids k s z alone empty refl words.traced words.alone to.is_run;
+  is_run = words_by f.kind f script to.pids k s z words.undone alone empty words.traced words.alone to.is_run;
 }

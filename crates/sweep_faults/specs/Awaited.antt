@@ -1,20 +1,24 @@
--- How many entries come before the one that fails.
+-- How many entries come before the one that fails, and which call was done last.
 use Rattle.std.specs.Prelude.{◌≡◌, ◌<◌, ◌+◌, ◌-◌, ◌==◌, ◌&&◌, ℕ, Bool, false, cond, List, Option, Some, None}
 use Rattle.lx_abi.specs.declared.log.Item.{Item}
 use Rattle.lx_abi.specs.Log.{entries, is_entry}
 use Rattle.lx_kernel.specs.Runs.{Run, mode_in}
 use Rattle.lx_kernel.specs.Tracing.{task_in, regs_of}
 use Rattle.sweep_faults.specs.declared.awaited.Awaited.{Awaited}
-use Rattle.sweep_faults.specs.Faults.{asks_for, is_entered}
+use Rattle.sweep_faults.specs.declared.faults.Kind.{Kind}
+use Rattle.sweep_faults.specs.declared.faults.Kind.TheVariants as kind
+use Rattle.sweep_faults.specs.Faults.{asks_for, done_last, is_ended, is_entered, was_last}
 
 -- of so many entries these are left to the nth, or it is past
 abbrev pub IsLeft : ℕ → ℕ → Option ℕ → Type 0
 IsLeft n entered (Some left) = left + entered ≡ n
 IsLeft n entered None = n < entered
 
--- the process of the failure has entered its call so often by this log
+-- the process of the failure has entered its call so often by this log, and done it last or another
 abbrev pub Awaits : Awaited → List Item → Type 0
-Awaits a log = IsLeft a.fault.n (entries a.fault.pid a.fault.call log) a.left
+Awaits a log =
+    IsLeft a.fault.n (entries a.fault.pid a.fault.call log) a.left
+    × (a.was_last ≡ was_last a.fault.pid a.fault.call false log)
 
 -- after one entry more
 unfoldable pub passed : Option ℕ → Option ℕ
@@ -26,16 +30,22 @@ unfoldable pub left_after : Awaited → Option Item → Option ℕ
 left_after a None = a.left
 left_after a (Some item) = cond (is_entry a.fault.pid a.fault.call item) (passed a.left) a.left
 
+unfoldable pub last_after : Awaited → Option Item → Bool
+last_after a None = a.was_last
+last_after a (Some item) = done_last a.fault.pid a.fault.call a.was_last item
+
 abbrev pub heard : Awaited → Option Item → Awaited
-heard a item = record a { left = left_after a item }
+heard a item = record a { left = left_after a item; was_last = last_after a item }
 
 -- the nth was the latest
 unfoldable pub is_next : Option ℕ → Bool
 is_next (Some left) = left == 0
 is_next None = false
 
--- the process stands at the entry that fails, by what is awaited
+-- the process of the failure stands where its call fails, by what is awaited
+abbrev pub is_due_by : Kind → Awaited → Run → ℕ → Bool
+is_due_by (kind.Undone error) a k pid = is_entered (mode_in k pid) && asks_for a.fault.call (regs_of (task_in k pid))
+is_due_by (kind.Done error) a k pid = is_ended (mode_in k pid) && a.was_last
+
 unfoldable pub is_awaited_at : Awaited → Run → ℕ → Bool
-is_awaited_at a k pid =
-    (pid == a.fault.pid) && (is_next a.left
-    && (is_entered (mode_in k pid) && asks_for a.fault.call (regs_of (task_in k pid))))
+is_awaited_at a k pid = (pid == a.fault.pid) && (is_next a.left && is_due_by a.fault.kind a k pid)

@@ -1,15 +1,33 @@
--- A failure of one process: its nth entry into a call has an error for its result, and the call isn't done.
-use Rattle.std.specs.Prelude.{ℕ, pos, neg_ℤ, ◌==◌, ◌&&◌, Bool, true, false, cond, Option, Some, None}
+-- A failure of one process: its nth entry into a call has an error for its result. The call isn't done, or else it is
+-- done, and has the error for its result then.
+use Rattle.std.specs.Prelude.{ℕ, pos, neg_ℤ, ◌==◌, ◌&&◌, Bool, true, false, cond, List, [], ◌∷◌, Option, Some, None}
 use Rattle.lx_abi.specs.declared.errno.Errno.{Errno}
+use Rattle.lx_abi.specs.declared.log.Item.{Item}
+use Rattle.lx_abi.specs.declared.log.Item.TheVariants as items
 use Rattle.lx_abi.specs.declared.log.Mode.{Mode}
 use Rattle.lx_abi.specs.declared.log.Mode.TheVariants as mode
 use Rattle.lx_abi.specs.declared.script.Choice.{Choice}
+use Rattle.lx_abi.specs.Errors.{error_word}
 use Rattle.lx_abi.specs.Log.{entries}
-use Rattle.lx_model.specs.Machine.{Regs, a7_of}
+use Rattle.lx_model.specs.Machine.{Regs, a7_of, with_a0}
+use Rattle.lx_model.specs.declared.stage.Task.{Task}
 use Rattle.lx_kernel.specs.Choices.{after_choosing}
 use Rattle.lx_kernel.specs.Runs.{Run, after_turn, mode_in}
-use Rattle.lx_kernel.specs.Tracing.{task_in, regs_of}
+use Rattle.lx_kernel.specs.Tracing.{task_in, regs_of, with_regs, with_part}
+use Rattle.lx_proc.specs.declared.state.UserState.{UserState}
 use Rattle.sweep_faults.specs.declared.faults.Fault.{Fault}
+use Rattle.sweep_faults.specs.declared.faults.Kind.{Kind}
+use Rattle.sweep_faults.specs.declared.faults.Kind.TheVariants as kind
+
+abbrev pub error_of : Kind → Errno
+error_of (kind.Undone error) = error
+error_of (kind.Done error) = error
+
+abbrev pub is_undone : Kind → Bool
+is_undone (kind.Undone error) = true
+is_undone (kind.Done error) = false
+
+-- Of a call that isn't done.
 
 -- the call's result is the error's negative (syscall(2))
 abbrev pub failing : Errno → Choice
@@ -25,13 +43,51 @@ abbrev pub asks_for : ℕ → Option Regs → Bool
 asks_for call None = false
 asks_for call (Some registers) = a7_of registers == call
 
--- the process stands at the entry that fails: its own nth into the call
+-- Of a call that is done.
+
+-- a process that stands so has done a call, and goes on behind it next
+abbrev pub is_ended : Option Mode → Bool
+is_ended (Some mode.Finished) = true
+is_ended _ = false
+
+-- after an item more: the process has done this call last
+abbrev pub done_last : ℕ → ℕ → Bool → Item → Bool
+done_last pid call before (items.Enter p c) = before
+done_last pid call before (items.Done p c result replaced) = cond (p == pid) (c.number == call) before
+done_last pid call before (items.Taken p signal cause) = before
+done_last pid call before (items.Stopped p signal) = before
+done_last pid call before (items.Exit p word left) = before
+
+-- of the calls that this log tells to be done, the process's last is this one; before it, it was or wasn't
+unfoldable pub was_last : ℕ → ℕ → Bool → List Item → Bool
+was_last pid call before [] = before
+was_last pid call before (item ∷ log) = was_last pid call (done_last pid call before item) log
+
+-- its result register has the error (syscall(2), riscv)
+abbrev pub with_error : Errno → Option Regs → Task UserState → Option (Task UserState)
+with_error error None task = None
+with_error error (Some registers) task = with_regs (with_a0 registers (error_word error.number)) task
+
+abbrev pub reporting : Run → ℕ → Errno → Run
+reporting k pid error = with_part k pid (with_error error (regs_of (task_in k pid)) (task_in k pid))
+
+-- Of both.
+
+-- the process stands where its call fails: it has entered the call, or done it
+abbrev pub is_due : Kind → ℕ → Run → ℕ → Bool
+is_due (kind.Undone error) call k pid = is_entered (mode_in k pid) && asks_for call (regs_of (task_in k pid))
+is_due (kind.Done error) call k pid = is_ended (mode_in k pid) && was_last pid call false k.running.log
+
+-- it is the process of the failure, and its nth entry into the call
 unfoldable pub is_at : Fault → Run → ℕ → Bool
 is_at f k pid =
-    (pid == f.pid) && ((entries f.pid f.call k.running.log == f.n)
-    && (is_entered (mode_in k pid) && asks_for f.call (regs_of (task_in k pid))))
+    (pid == f.pid) && ((entries f.pid f.call k.running.log == f.n) && is_due f.kind f.call k pid)
 
--- A turn of the kernel, but where the process stands at the entry that fails: the call has the error for its result,
--- whatever the script does to it
+-- the call has the error for its result, whatever the script does to it; or has it now that it is done
+abbrev pub after_failing : Kind → Run → ℕ → Run
+after_failing (kind.Undone error) k pid = after_choosing k pid (failing error)
+after_failing (kind.Done error) k pid = after_turn (reporting k pid error) pid
+
+-- A turn of the kernel, but where the process stands where its call fails
 abbrev pub after_fault : Fault → Run → ℕ → Run
-after_fault f k pid = cond (is_at f k pid) (after_choosing k pid (failing f.error)) (after_turn k pid)
+after_fault f k pid = cond (is_at f k pid) (after_failing f.kind k pid) (after_turn k pid)

@@ -8,13 +8,15 @@ use Rattle.lx_abi.specs.Occurrences.{count_of}
 use Rattle.lx_model.specs.Kernel.{traces}
 use Rattle.sweep_rows.specs.declared.failures.Failure.{Failure}
 use Rattle.sweep_faults.specs.declared.faults.Fault.{Fault}
+use Rattle.sweep_faults.specs.Faults.{error_of, is_undone}
 
 -- the rule's failure
 abbrev pub failure_of : Fault → Failure
-failure_of f = record { call = f.call; n = f.n; error = f.error }
+failure_of f = record { call = f.call; n = f.n; error = error_of f.kind }
 
--- the process is a tracee, and by the log of the run no other tracee enters the call so often
+-- the call isn't done, the process is a tracee, and by the log of the run no other tracee enters the call so often
 pub record HasWords (follow : Bool) (f : Fault) (log : List Item) : Type 0 where
+  pub undone : is_undone f.kind ≡ true
   pub traced : traces follow f.pid ≡ true
   pub alone : (pid : ℕ) → traces follow pid ≡ true → (pid ≡ f.pid → ⊥) → entries pid f.call log < f.n
 

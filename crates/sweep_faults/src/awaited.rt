@@ -1,13 +1,14 @@
-//! Whether a process stands at the entry that fails.
+//! Whether a process stands where its call fails.
 
 ghost use Rattle.std.specs.Prelude.{◌≡◌, ◌&&◌, [], IfOk};
 ghost use Rattle.lx_abi.specs.Log.{is_entry};
 ghost use Rattle.lx_kernel.specs.Runs.{mode_in};
 ghost use Rattle.lx_kernel.specs.Tracing.{task_in, regs_of};
-ghost use Rattle.sweep_faults.specs.Awaited.{Awaits, heard, is_awaited_at, is_next, left_after, passed};
-ghost use Rattle.sweep_faults.specs.Faults.{asks_for, is_entered};
+ghost use Rattle.sweep_faults.specs.Awaited.{Awaits, heard, is_awaited_at, is_due_by, is_next, last_after};
+ghost use Rattle.sweep_faults.specs.Awaited.{left_after, passed};
+ghost use Rattle.sweep_faults.specs.Faults.{asks_for, done_last, is_ended, is_entered};
 
-use crate::faults::Fault;
+use crate::faults::{Fault, Kind};
 use lx_abi::{Item, Mode};
 use lx_kernel::Kernel;
 use std::alloc::AllocError;
@@ -15,12 +16,15 @@ use std::alloc::AllocError;
 /// The register a7, which has the number of the call that a process asks for.
 const A7: usize = 17;
 
-/// A failure, and how many entries of its process into its call come before the one that fails.
+/// A failure, and what its process has done so far.
 #[derive(Clone, Copy, Debug, PartialEq, Eq)]
 pub(crate) struct Awaited {
     pub fault: Fault,
-    /// With 0 the process has entered the call for the nth time; none is past it.
+    /// How many entries into the call come before the one that fails. With 0 the process has entered the call for the
+    /// nth time; none is past it.
     pub left: Option<u64>,
+    /// The call is the one that the process has done last.
+    pub was_last: bool,
 }
 
 fn is_entry(item: &Item, pid: u32, number: u64) -> bool
@@ -32,6 +36,26 @@ fn is_entry(item: &Item, pid: u32, number: u64) -> bool
             call,
         } => pid == *entering && number == call.number,
         _ => false,
+    }
+}
+
+/// After an item more: the process has done this call last.
+fn done_last(pid: u32, call: u64, before: bool, item: &Item) -> bool
+    ensures { result ≡ done_last pid call before item.now }
+{
+    match item {
+        Item::Done {
+            pid: doing,
+            call: done,
+            ..
+        } => {
+            if *doing == pid {
+                done.number == call
+            } else {
+                before
+            }
+        }
+        _ => before,
     }
 }
 
@@ -51,6 +75,13 @@ fn is_entered(mode: Option<Mode>) -> bool
     ensures { result ≡ is_entered mode }
 {
     matches!(mode, Some(Mode::Entered))
+}
+
+/// Where a process stands that has done a call.
+fn is_ended(mode: Option<Mode>) -> bool
+    ensures { result ≡ is_ended mode }
+{
+    matches!(mode, Some(Mode::Finished))
 }
 
 /// The registers of a process ask for the call.
@@ -85,6 +116,7 @@ impl Awaited {
         Awaited {
             fault,
             left: Some(fault.n),
+            was_last: false,
         }
     }
 
@@ -99,7 +131,17 @@ impl Awaited {
         }
     }
 
-    /// The process stands at the entry that fails.
+    /// The process stands where a call of this kind fails.
+    fn is_due(self, kernel: &Kernel, pid: u32) -> Result<bool, AllocError>
+        ensures { IfOk result (λ due. due ≡ is_due_by self.fault.kind self kernel.now pid) }
+    {
+        match self.fault.kind {
+            Kind::Undone(_) => has_entered(kernel, pid, self.fault.call),
+            Kind::Done(_) => Ok(is_ended(kernel.mode(pid)) && self.was_last),
+        }
+    }
+
+    /// The process stands where its call fails.
     #[tactic(auto, unfolding(crate::specs::Awaited::is_awaited_at))]
     pub(crate) fn is_at(self, kernel: &Kernel, pid: u32) -> Result<bool, AllocError>
         ensures { IfOk result (λ at. at ≡ is_awaited_at self kernel.now pid) }
@@ -110,7 +152,7 @@ impl Awaited {
         if !self.is_next() {
             return Ok(false);
         }
-        let at = has_entered(kernel, pid, self.fault.call)?;
+        let at = self.is_due(kernel, pid)?;
         Ok(at)
     }
 
@@ -131,6 +173,17 @@ impl Awaited {
         }
     }
 
+    /// Whether the call was done last, after a turn that has logged this.
+    #[tactic(auto, unfolding(crate::specs::Awaited::last_after))]
+    fn last_after(self, item: &Option<Item>) -> bool
+        ensures { result ≡ last_after self item.now }
+    {
+        match item {
+            None => self.was_last,
+            Some(item) => done_last(self.fault.pid, self.fault.call, self.was_last, item),
+        }
+    }
+
     /// The same, after a turn that has logged this.
     pub(crate) fn heard(self, item: &Option<Item>) -> Self
         ensures { result ≡ heard self item.now }
@@ -138,6 +191,7 @@ impl Awaited {
         Awaited {
             fault: self.fault,
             left: self.left_after(item),
+            was_last: self.last_after(item),
         }
     }
 }

@@ -2,11 +2,40 @@
 
 use lx_abi::Errno;
 
-/// The nth entry of a process into a call, counted from 1, has this error for its result, and the call isn't done.
+/// How a call fails.
+#[derive(Clone, Copy, Debug, PartialEq, Eq)]
+pub enum Kind {
+    /// It has the error for its result, and isn't done.
+    Undone(Errno),
+    /// It is done, and then has the error for its result.
+    Done(Errno),
+}
+
+/// The nth entry of a process into a call, counted from 1, fails.
 #[derive(Clone, Copy, Debug, PartialEq, Eq)]
 pub struct Fault {
     pub pid: u32,
     pub call: u64,
     pub n: u64,
-    pub error: Errno,
+    pub kind: Kind,
+}
+
+impl Kind {
+    ghost use Rattle.std.specs.Prelude.{◌≡◌};
+    ghost use Rattle.sweep_faults.specs.Faults.{error_of, is_undone};
+
+    pub fn error(self) -> Errno
+        ensures { result ≡ error_of self }
+    {
+        match self {
+            Kind::Undone(error) | Kind::Done(error) => error,
+        }
+    }
+
+    /// The call isn't done.
+    pub fn is_undone(self) -> bool
+        ensures { result ≡ is_undone self }
+    {
+        matches!(self, Kind::Undone(_))
+    }
 }

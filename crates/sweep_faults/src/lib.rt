@@ -2,12 +2,13 @@
 #![tactic(auto)]
 
 pub mod awaited;
+pub mod failing;
 pub mod faults;
 pub mod laws;
 pub mod moving;
 pub mod running;
 pub mod words;
 
-pub use faults::Fault;
+pub use faults::{Fault, Kind};
 pub use running::run_faulted;
 pub use words::{failure_of, has_words};

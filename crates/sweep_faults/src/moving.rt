@@ -2,17 +2,17 @@
 
 ghost use Rattle.std.specs.Prelude.{◌≡◌, ◌≤◌, ◌<◌, ◌-◌, ◌++◌, IfOk, IfErr, OnOk, OnErr, IsTrue, false};
 ghost use Rattle.std.specs.Option.{option_to_list};
-ghost use Rattle.lx_kernel.specs.Choices.{after_choosing};
 ghost use Rattle.lx_kernel.specs.Runs.{mode_in};
 ghost use Rattle.sweep_faults.specs.Awaited.{Awaits};
-ghost use Rattle.sweep_faults.specs.Faults.{failing, is_at};
+ghost use Rattle.sweep_faults.specs.Faults.{is_at};
 ghost use Rattle.sweep_faults.specs.InRows.{InRow};
 ghost use Rattle.sweep_faults.specs.declared.faults.Fault.{Fault as Failing};
 ghost use Rattle.plain_run.specs.Watched.{Tells};
 ghost use Rattle.plain_run.specs.declared.running.Halt.TheVariants.{Weary};
 
 use crate::awaited::Awaited;
-use lx_abi::{Choice, Errno, Item, Mode};
+use crate::failing::fail;
+use lx_abi::{Item, Mode};
 use lx_kernel::{Failed, Kernel};
 use plain_run::{Halt, Watch, tell};
 
@@ -24,35 +24,7 @@ pub(crate) struct Moved {
     pub item: Option<Item>,
 }
 
-/// The call has the error for its result, and isn't done.
-fn failing(error: Errno) -> Choice
-    ensures { result ≡ failing error }
-{
-    Choice {
-        result: Some(-i64::from(error.number)),
-        signal: None,
-    }
-}
-
-/// The turn at the entry that fails.
-fn fail(kernel: &mut Kernel, pid: u32, error: Errno) -> Result<Moved, Failed>
-    ensures turned { IfOk result (λ m. kernel.new ≡ after_choosing kernel.old pid (failing error)) }
-    ensures one { IfOk result (λ m. m.turns ≡ 1) }
-    ensures after { IfOk result (λ m. m.after ≡ mode_in kernel.new pid) }
-    ensures logged { IfOk result (λ m. kernel.new.running.log ≡ kernel.old.running.log ++ option_to_list m.item) }
-    ensures log { OnErr result (kernel.new.running.log ≡ kernel.old.running.log) }
-{
-    match kernel.turn_choosing(pid, failing(error)) {
-        Ok(moved) => Ok(Moved {
-            turns: 1,
-            after: moved.after,
-            item: moved.item,
-        }),
-        Err(failed) => Err(failed),
-    }
-}
-
-/// Turns of a process that stands at no entry that fails, `most` at most.
+/// Turns of a process that doesn't stand where its call fails, `most` at most.
 #[tactic(auto, using(crate::proofs::Rows::row_of_others))]
 fn go_on(kernel: &mut Kernel, pid: u32, most: u64) -> Result<Moved, Failed>
     requires { 0 < most }
@@ -75,7 +47,7 @@ fn go_on(kernel: &mut Kernel, pid: u32, most: u64) -> Result<Moved, Failed>
     }
 }
 
-/// Turns of a process that are made at once, `most` at most: the one at the entry that fails, or others.
+/// Turns of a process that are made at once, `most` at most: the one in which its call fails, or others.
 #[tactic(auto, using(crate::proofs::Rows::row_failing, crate::proofs::Standing::awaited_at_is))]
 fn move_on(kernel: &mut Kernel, pid: u32, most: u64, awaited: Awaited) -> Result<Moved, Failed>
     requires some { 0 < most }
@@ -88,7 +60,7 @@ fn move_on(kernel: &mut Kernel, pid: u32, most: u64, awaited: Awaited) -> Result
     ensures log { OnErr result (kernel.new.running.log ≡ kernel.old.running.log) }
 {
     match awaited.is_at(kernel, pid) {
-        Ok(true) => fail(kernel, pid, awaited.fault.error),
+        Ok(true) => fail(kernel, pid, awaited.fault.kind),
         Ok(false) => go_on(kernel, pid, most),
         Err(_) => Err(Failed),
     }

@@ -18,7 +18,7 @@ pub fn failure_of(fault: Fault) -> Failure
     Failure {
         call: fault.call,
         n: fault.n,
-        error: fault.error,
+        error: fault.kind.error(),
     }
 }
 
@@ -66,7 +66,7 @@ fn are_fewer(alloc: Global, fault: Fault, log: &[Item]) -> Result<bool, AllocErr
 }
 
 /// By the log of its run, a rule for the nth occurrence in each tracee gives this failure and no other.
-#[tactic(auto, using(crate::proofs::Fewer::untraced_words, crate::proofs::Fewer::first_words))]
+#[tactic(auto, using(crate::proofs::Fewer::done_words, crate::proofs::Fewer::untraced_words, crate::proofs::Fewer::first_words))]
 pub fn has_words(
     alloc: Global,
     fault: Fault,
@@ -75,6 +75,9 @@ pub fn has_words(
 ) -> Result<bool, AllocError>
     ensures { IfOk result (λ has. IsTrue has ↔ HasWords follow fault log.now) }
 {
+    if !fault.kind.is_undone() {
+        return Ok(false);
+    }
     if !is_traced(follow, fault.pid) {
         return Ok(false);
     }

@@ -1,9 +1,13 @@
 -- What a sweep tells: of each case what came of its run, beside the run without a failure.
-use Rattle.std.specs.Prelude.{◌≡◌, ◌↔◌, IsTrue, List, [], map, All}
+use Rattle.std.specs.Prelude.{◌≡◌, ◌↔◌, ℕ, ◌==◌, cond, IsTrue, List, [], map, All}
 use Rattle.lx_abi.specs.declared.boot.Boot.{Boot}
+use Rattle.lx_abi.specs.declared.errno.Errno.{Errno}
 use Rattle.lx_abi.specs.declared.script.Rule.{Rule}
+use Rattle.lx_abi.specs.Sys.{sys_close}
 use Rattle.sweep_faults.specs.Words.{failure_of, HasWords}
 use Rattle.sweep_faults.specs.declared.faults.Fault.{Fault}
+use Rattle.sweep_faults.specs.declared.faults.Kind.{Kind}
+use Rattle.sweep_faults.specs.declared.faults.Kind.TheVariants as kind
 use Rattle.sweep_rows.specs.Failures.{FailsAlone}
 use Rattle.sweep_rows.specs.Files.{file_notes}
 use Rattle.sweep_rows.specs.Endings.{first_word}
@@ -17,13 +21,17 @@ use Rattle.sweep_runs.specs.declared.sweeping.Row.{Row}
 use Rattle.sweep_runs.specs.declared.sweeping.Report.{Report}
 use Rattle.sweep_runs.specs.declared.runs.Setup.{Setup}
 
+-- how a call fails with an error: close is done all the same (close(2))
+abbrev pub kind_of : ℕ → Errno → Kind
+kind_of call error = cond (call == sys_close) (kind.Done error) (kind.Undone error)
+
 -- the occurrence's process alone fails, at that entry
 abbrev pub fault_of : Case → Fault
 fault_of c = record {
   pid = c.occurrence.pid;
   call = c.occurrence.call.number;
   n = c.occurrence.n;
-  error = c.error;
+  kind = kind_of c.occurrence.call.number c.error;
 }
 
 -- what came of a run, beside the reference

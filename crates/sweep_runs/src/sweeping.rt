@@ -9,16 +9,16 @@ ghost use Rattle.sweep_rows.specs.Failures.{FailsAlone};
 ghost use Rattle.sweep_runs.specs.Cases.{cases_of};
 ghost use Rattle.sweep_rows.specs.Files.{file_notes};
 ghost use Rattle.sweep_rows.specs.Verdicts.{facts_of, verdict_of};
-ghost use Rattle.sweep_runs.specs.Rows.{fault_of as fault_of_case, IsRow, AreRows, IsReport};
+ghost use Rattle.sweep_runs.specs.Rows.{fault_of as fault_of_case, kind_of, IsRow, AreRows, IsReport};
 
 use crate::chosen::{Case, Wanted, cases};
 use crate::progress::Progress;
 use crate::runs::{Setup, reach_failing, refer};
 use containers::Seq;
-use lx_abi::{Boot, Ended, Outcome, Script};
+use lx_abi::{Boot, Ended, Errno, Outcome, Script, sys};
 use lx_boot::BootFault;
 use std::alloc::{AllocError, Global};
-use sweep_faults::{Fault, failure_of, has_words};
+use sweep_faults::{Fault, Kind, failure_of, has_words};
 use sweep_rows::{
     Ending, FileNote, Reached, Streams, Verdict, facts_of, failing, file_notes, first_word,
     verdict_of,
@@ -47,6 +47,17 @@ pub struct Report {
     pub rows: Vec<Row>,
 }
 
+/// How a call fails with an error: close is done all the same (close(2)).
+fn kind_of(call: u64, error: Errno) -> Kind
+    ensures { result ≡ kind_of call error }
+{
+    if call == sys::SYS_CLOSE {
+        Kind::Done(error)
+    } else {
+        Kind::Undone(error)
+    }
+}
+
 /// The case's call of its process fails, and nothing else.
 pub fn fault_of(case: Case) -> Fault
     ensures { result ≡ fault_of_case case }
@@ -55,7 +66,7 @@ pub fn fault_of(case: Case) -> Fault
         pid: case.occurrence.pid,
         call: case.occurrence.call.number,
         n: case.occurrence.n,
-        error: case.error,
+        kind: kind_of(case.occurrence.call.number, case.error),
     }
 }
 

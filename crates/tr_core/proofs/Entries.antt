@@ -20,7 +20,6 @@ use Rattle.tr_core.specs.Known.{known_of, place_of}
 use Rattle.tr_core.specs.Pens.{wrote as wrote_of, pen_after}
 use Rattle.tr_core.specs.declared.heard.Heard.{Heard as CodeHeard}
 use Rattle.tr_core.specs.declared.place.Awaiting.{Awaiting}
-use Rattle.tr_core.specs.declared.session.InHand.{InHand}
 use Rattle.tr_core.specs.declared.session.Session.{Session}
 use Rattle.tr_core.specs.declared.place.Tracee.{Tracee}
 
@@ -55,22 +54,21 @@ others_stay pid number q n a b e h = go (q == pid) (n == number) (grind (arith, 
     go false y i k = omega (arith, k)
 
 -- the code's step is the definition's
-pub entered : (o : Options) (script : Script) (r : Regs) (got : List (List ℕ)) (s s' : Session) (t : InHand) (call : Call) (choice : Choice) (saved : Option ℕ) (signal : ℕ) (next : Awaiting) (bytes : List ℕ)
+pub entered : (o : Options) (script : Script) (r : Regs) (got : List (List ℕ)) (s s' : Session) (p : ℕ) (t : Tracee) (call : Call) (choice : Choice) (saved : Option ℕ) (signal : ℕ) (next : Awaiting) (bytes : List ℕ)
     → call ≡ call_of r
-    → choice ≡ script call.number (count_of s.counts t.pid call.number + 1)
+    → choice ≡ script call.number (count_of s.counts p call.number + 1)
     → saved ≡ result_word choice
     → signal ≡ signal_word choice.signal
     → place_of next ≡ going_on r signal saved
-    → ((q n : ℕ) → count_of s'.counts q n ≡ (if (q == t.pid) && (n == call.number) then 1 else 0) + count_of s.counts q n)
-    → bytes ≡ wrote_of s.printer (enter_part o t.pid call (sp_of r) got)
-    → s'.printer ≡ pen_after s.printer (enter_part o t.pid call (sp_of r) got)
+    → ((q n : ℕ) → count_of s'.counts q n ≡ (if (q == p) && (n == call.number) then 1 else 0) + count_of s.counts q n)
+    → bytes ≡ wrote_of s.printer (enter_part o p call (sp_of r) got)
+    → s'.printer ≡ pen_after s.printer (enter_part o p call (sp_of r) got)
     → s'.settings ≡ s.settings
     → IsHeld s'.settings.options call next
-    → Comes (entry o script t.pid r got (known_at s t)) (record { next = Some next; bytes = bytes }) s s' t
-    (record { pid = t.pid; tracee = record { inside = t.tracee.inside; called = call; saved = saved; standing = Read } })
-entered o script r got s s' t call choice saved signal next bytes is chosen saves joins goes counts wrote pen same held =
-    let p = t.pid in
-    let k : Known = known_at s t in
+    → Comes (entry o script p r got (known_at s p t)) (record { next = Some next; bytes = bytes }) s s' p t
+    (record { inside = t.inside; called = call; saved = saved; standing = Read })
+entered o script r got s s' p t call choice saved signal next bytes is chosen saves joins goes counts wrote pen same held =
+    let k : Known = known_at s p t in
     let f : ℕ → ℕ = counts_at s.counts p in
     let g : ℕ → ℕ = counts_at s'.counts p in
     let c : Choice = script (a7_of r) (f (a7_of r) + 1) in
@@ -79,30 +77,28 @@ entered o script r got s s' t call choice saved signal next bytes is chosen save
     ap₂ (λ s x. entry_with o p r got k s x) (ap (λ x. signal_word x.signal) (sym chosen') ∙ sym joins) (ap (λ x. result_word x) (sym chosen') ∙ sym saves)
     ∙ entry_with-is o p r got k signal saved in
     let counts' : put f (a7_of r) (f (a7_of r) + 1) ≡ g = counted f g p (a7_of r) (λ n. counts p n ∙ ap (λ x. (if (p == p) && (n == x.number) then 1 else 0) + f n) is) in
-    let after : Tracee = record { inside = t.tracee.inside; called = call; saved = saved; standing = Read } in
-    subst (λ h. Comes h (record { next = Some next; bytes = bytes }) s s' t (record { pid = p; tracee = after })) (sym all)
+    let after : Tracee = record { inside = t.inside; called = call; saved = saved; standing = Read } in
+    subst (λ h. Comes h (record { next = Some next; bytes = bytes }) s s' p t after) (sym all)
     (record {
-      known = λ i. record { inside = t.tracee.inside; called = sym is i; saved = saved; counts = counts' i; standing = Read };
+      known = λ i. record { inside = t.inside; called = sym is i; saved = saved; counts = counts' i; standing = Read };
       place = ap (λ x. Some x) (sym goes);
       text = wrote ∙ ap (λ x. wrote_of s.printer (enter_part o p x (sp_of r) got)) is;
       pen = pen ∙ ap (λ x. pen_after s.printer (enter_part o p x (sp_of r) got)) is;
       others = λ q n e. others_stay p call.number q n _ _ e (counts q n);
       settings = same;
-      pid = refl;
       held = held;
     })
 
 -- the same at what the code knows
-pub stops : (k m : Known) (pl ql : tracer.Awaiting) (told : CodeHeard) (s : Session) (was is : InHand) → m ≡ k → ql ≡ pl
-    → is.pid ≡ was.pid → Comes (moves m ql) told s s is is → Comes (moves k pl) told s s was is
-stops k m pl ql told s was is e f same h = record {
-  known = sym e ∙ h.known ∙ ap (λ p. known_of is.tracee (counts_at s.counts p)) same;
+pub stops : (k m : Known) (pl ql : tracer.Awaiting) (told : CodeHeard) (s : Session) (p : ℕ) (was is : Tracee) → m ≡ k → ql ≡ pl
+    → Comes (moves m ql) told s s p is is → Comes (moves k pl) told s s p was is
+stops k m pl ql told s p was is e f h = record {
+  known = sym e ∙ h.known;
   place = ap (λ l. Some l) (sym f) ∙ h.place;
   text = h.text;
   pen = h.pen;
   others = λ q n x. refl;
   settings = refl;
-  pid = same;
   held = h.held;
 }
 

@@ -1,7 +1,8 @@
 -- What is heard of one tracee is put in its place.
-use Rattle.std.proofs.Common.{◌≡◌, ℕ, Bool, true, false, cond, List, Option, Some, refl, sym, ap, ap₂, subst, ◌∙◌, arith}
-use Rattle.std.specs.Prelude.{◌==◌}
-use Rattle.std.specs.Ordering.{nat_cmp}
+use Rattle.std.proofs.Common.{◌≡◌, ℕ, Bool, true, false, cond, List, Option, Some, None, Result, Ok, Err, IfOk, refl, sym, ap, ap₂, subst, ◌∙◌, arith, unwrap_or}
+use Rattle.std.specs.Prelude.{◌==◌, IsSome}
+use Rattle.std.specs.Ordering.{nat_cmp, is_eq}
+use Rattle.std.specs.Cmp.{nat_cmp_total, tied_itself}
 use Rattle.std.specs.Option.{option_map}
 use Rattle.std.specs.FinMap as maps
 use Rattle.std.proofs.lemmas.Bool.Decides.{nat_tests}
@@ -15,61 +16,44 @@ use Rattle.lx_model.specs.Finite.{at}
 use Rattle.pt_model.specs.Tracer.{Known, Heard, Waiting, focus_on, heard, hears, nothing, stays, took_stop, told_tracees}
 use Rattle.pt_model.specs.Tracer as tracer
 use Rattle.lx_model.proofs.Bridge.{at-insert}
-use Rattle.tr_core.specs.Hearings.{Comes, LeavesOthers, counts_at, stop_heard}
+use Rattle.tr_core.specs.Hearings.{Comes, ComesIn, LeavesOthers, counts_at, known_at, stop_heard}
 use Rattle.tr_core.specs.Admitted.{lets_go}
-use Rattle.tr_core.specs.Held.{Holds, NextIsHeld}
+use Rattle.tr_core.specs.Held.{FocusHolds}
 use Rattle.tr_core.specs.Known.{known_of, new_tracee, place_of}
 use Rattle.tr_core.specs.Tracers.{Goes, focus_of, known_in}
 use Rattle.lx_abi.specs.declared.occurrences.Occurrences.{Occurrences}
 use Rattle.tr_core.specs.declared.heard.Heard.{Heard as CodeHeard}
-use Rattle.tr_core.specs.declared.session.InHand.{InHand}
 use Rattle.tr_core.specs.declared.session.Session.{Session}
-use Rattle.tr_core.specs.declared.place.Awaiting.{Awaiting}
+use Rattle.tr_core.specs.declared.place.Focus.{Focus}
 use Rattle.tr_core.specs.declared.place.Tracee.{Tracee}
-use Rattle.tr_core.specs.declared.settings.Options.{Options as CodeOptions}
 use Rattle.tr_core.specs.declared.stepping.Core.{Core}
 
-put_in : (m : maps.FinMap nat_cmp Tracee) (old new : Occurrences) (pid : ℕ) (t : Tracee) (k : Known) → LeavesOthers pid old new → k ≡ known_of t (counts_at new pid)
-    → (λ q. known_of (at new_tracee (maps.insert m pid t) q) (counts_at new q)) ≡ put (λ q. known_of (at new_tracee m q) (counts_at old q)) pid k
-put_in m old new pid t k others e = fun_ext (λ q. ap (λ x. known_of x (counts_at new q)) (ap (λ (f : ℕ → Tracee). f q) (at-insert new_tracee m pid t)) ∙ go q (pid == q) refl)
+put_in : (was is : maps.FinMap nat_cmp Tracee) (old new : Occurrences) (pid : ℕ) (k : Known) → LeavesOthers pid old new
+    → ((q : ℕ) → (pid == q) ≡ false → at new_tracee is q ≡ at new_tracee was q) → k ≡ known_of (at new_tracee is pid) (counts_at new pid)
+    → (λ q. known_of (at new_tracee is q) (counts_at new q)) ≡ put (λ q. known_of (at new_tracee was q) (counts_at old q)) pid k
+put_in was is old new pid k others rest e = fun_ext (λ q. go q (pid == q) refl)
   where
-    go : (q : ℕ) (b : Bool) → (pid == q) ≡ b → known_of (cond b t (at new_tracee m q)) (counts_at new q) ≡ cond b k (known_of (at new_tracee m q) (counts_at old q))
+    go : (q : ℕ) (b : Bool) → (pid == q) ≡ b
+        → known_of (at new_tracee is q) (counts_at new q) ≡ cond b k (known_of (at new_tracee was q) (counts_at old q))
     go q true i =
         let same : pid ≡ q = grind (arith, nat_tests, i) in
-        ap (λ x. known_of t (counts_at new x)) (sym same) ∙ sym e
-    go q false i = ap (λ c. known_of (at new_tracee m q) c) (fun_ext (λ n. others q n i))
+        ap (λ x. known_of (at new_tracee is x) (counts_at new x)) (sym same) ∙ sym e
+    go q false i = ap₂ (λ (t : Tracee) (c : ℕ → ℕ). known_of t c) (rest q i) (fun_ext (λ n. others q n i))
 
--- a place that holds its decoder by its tracee does so by the map that the tracee is put in
-pub held_kept : (o : CodeOptions) (m : maps.FinMap nat_cmp Tracee) (pid : ℕ) (t : Tracee) (next : Option Awaiting)
-    → NextIsHeld o t.called next → NextIsHeld o (at new_tracee (maps.insert m pid t) pid).called next
-held_kept o m pid t next h =
-    subst (λ (x : Tracee). NextIsHeld o x.called next)
-    (sym (ap (λ (f : ℕ → Tracee). f pid) (at-insert new_tracee m pid t) ∙ own (pid == pid) (grind (arith, nat_tests)))) h
-  where
-    own : (b : Bool) → b ≡ true → cond b t (at new_tracee m pid) ≡ t
-    own true e = refl
-    own false e = absurd (cc e)
-
--- a core whose tracee was kept
-pub record Keeps (hand : InHand) (next : Option Awaiting) (old mid new : Core) : Type 0 where
-  pub known : new.known ≡ maps.insert old.known hand.pid hand.tracee
-  pub focus : focus_of new.focus ≡ focus_on hand.pid (option_map place_of next)
-  pub rest : (new.session ≡ mid.session) × (new.living ≡ mid.living)
-  pub holds : Holds new
-
-pub kept : (h : Heard) (was is : InHand) (told : CodeHeard) (session : Session) (living : List ℕ) (old new : Core)
-    → Comes h told old.session session was is
-    → Keeps is told.next old (record old { session = session; living = living }) new
-    → Goes (heard (known_in old) was.pid h) living told.bytes old new
-kept h was is told session living old new comes keeps = record {
-  known = ap₂ (λ m (s : Session). λ q. known_of (at new_tracee m q) (counts_at s.counts q)) (keeps.known ∙ ap (λ p. maps.insert old.known p is.tracee) comes.pid) keeps.rest.0
-      ∙ put_in old.known old.session.counts session.counts was.pid is.tracee h.known comes.others comes.known;
-  focus = keeps.focus ∙ ap₂ focus_on comes.pid (sym comes.place);
-  living = keeps.rest.1;
-  text = comes.text;
-  pen = ap (λ (s : Session). s.printer) keeps.rest.0 ∙ comes.pen;
-  settings = ap (λ (s : Session). s.settings) keeps.rest.0 ∙ comes.settings;
-  holds = keeps.holds;
+-- what came of one tracee, and is asked next
+pub kept : (h : Heard) (pid : ℕ) (told : CodeHeard) (session : Session) (known : maps.FinMap nat_cmp Tracee) (living : List ℕ) (focus : Focus) (old : Core)
+    → ComesIn h told old.session session pid old.known known
+    → focus_of focus ≡ focus_on pid (option_map place_of told.next)
+    → FocusHolds session.settings.options (λ q. (at new_tracee known q).called) focus
+    → Goes (heard (known_in old) pid h) living told.bytes old (record { session = session; known = known; living = living; focus = focus })
+kept h pid told session known living focus old comes asked holds = record {
+  known = put_in old.known known old.session.counts session.counts pid h.known comes.comes.others comes.rest comes.comes.known;
+  focus = asked ∙ ap (focus_on pid) (sym comes.comes.place);
+  living = refl;
+  text = comes.comes.text;
+  pen = comes.comes.pen;
+  settings = comes.comes.settings;
+  holds = holds;
 }
 
 took_stop-is : (o : Options) (known : ℕ → Known) (p : ℕ) (stop : Stop) → took_stop o known p stop ≡ heard known p (stop_heard o p (known p) stop)
@@ -79,28 +63,63 @@ took_stop-is o known p (Group_stop signal) = refl
 took_stop-is o known p (Event_stop event) = refl
 took_stop-is o known p (Ended word) = refl
 
-pub status_kept : (o : Options) (pid : ℕ) (stop : Stop) (was : Tracee) (is : InHand) (told : CodeHeard) (session : Session) (living : List ℕ) (old new : Core)
-    → was ≡ at new_tracee old.known pid
-    → Comes (stop_heard o pid (known_of was (counts_at old.session.counts pid)) stop) told old.session session (record { pid = pid; tracee = was }) is
+pub status_kept : (o : Options) (pid : ℕ) (stop : Stop) (told : CodeHeard) (session : Session) (known : maps.FinMap nat_cmp Tracee) (living : List ℕ) (focus : Focus) (old : Core)
+    → ComesIn (stop_heard o pid (known_in old pid) stop) told old.session session pid old.known known
     → living ≡ told_tracees old.living pid (Some stop)
-    → Keeps is told.next old (record old { session = session; living = living }) new
-    → Goes (took_stop o (known_in old) pid stop) (told_tracees old.living pid (Some stop)) told.bytes old new
-status_kept o pid stop was is told session living old new e comes lives keeps =
-    let there = at new_tracee old.known pid in
-    let c = subst (λ w. Comes (stop_heard o pid (known_of w (counts_at old.session.counts pid)) stop) told old.session session (record { pid = pid; tracee = w }) is) e comes in
+    → focus_of focus ≡ focus_on pid (option_map place_of told.next)
+    → FocusHolds session.settings.options (λ q. (at new_tracee known q).called) focus
+    → Goes (took_stop o (known_in old) pid stop) (told_tracees old.living pid (Some stop)) told.bytes old (record { session = session; known = known; living = living; focus = focus })
+status_kept o pid stop told session known living focus old comes lives asked holds =
+    let new : Core = record { session = session; known = known; living = living; focus = focus } in
     subst (λ n. Goes n (told_tracees old.living pid (Some stop)) told.bytes old new) (sym (took_stop-is o (known_in old) pid stop))
     (subst (λ l. Goes (heard (known_in old) pid (stop_heard o pid (known_in old pid) stop)) l told.bytes old new) lives
-    (kept (stop_heard o pid (known_in old pid) stop) (record { pid = pid; tracee = there }) is told session living old new c keeps))
+    (kept (stop_heard o pid (known_in old pid) stop) pid told session known living focus old comes asked holds))
 
-pub reply_kept : (o : Options) (script : Script) (pid : ℕ) (place : Awaiting) (reply : Reply) (was : Tracee) (is : InHand) (told : CodeHeard) (session : Session) (old new : Core)
-    → was ≡ at new_tracee old.known pid
-    → Comes (hears o script pid (known_of was (counts_at old.session.counts pid)) (place_of place) reply) told old.session session (record { pid = pid; tracee = was }) is
-    → Keeps is told.next old (record old { session = session }) new
-    → Goes (heard (known_in old) pid (hears o script pid (known_in old pid) (place_of place) reply)) old.living told.bytes old new
-reply_kept o script pid place reply was is told session old new e comes keeps =
-    let there = at new_tracee old.known pid in
-    let c = subst (λ w. Comes (hears o script pid (known_of w (counts_at old.session.counts pid)) (place_of place) reply) told old.session session (record { pid = pid; tracee = w }) is) e comes in
-    kept (hears o script pid (known_in old pid) (place_of place) reply) (record { pid = pid; tracee = there }) is told session old.living old new c keeps
+-- A tracee that is put in anew is known as before.
+
+pub met : (m : maps.FinMap nat_cmp Tracee) (pid : ℕ) → maps.get m pid ≡ None → at new_tracee (maps.insert m pid new_tracee) ≡ at new_tracee m
+met m pid e = at-insert new_tracee m pid new_tracee ∙ fun_ext (λ q. go q (pid == q) refl)
+  where
+    go : (q : ℕ) (b : Bool) → (pid == q) ≡ b → cond b new_tracee (at new_tracee m q) ≡ at new_tracee m q
+    go q true i =
+        let same : pid ≡ q = grind (arith, nat_tests, i) in
+        ap (λ (o : Option Tracee). unwrap_or o new_tracee) (sym (ap (maps.get m) (sym same) ∙ e))
+    go q false i = refl
+
+pub there : (m : maps.FinMap nat_cmp Tracee) (pid : ℕ) (t : Tracee) → IsSome (maps.get (maps.insert m pid t) pid)
+there m pid t =
+    subst IsSome (sym (maps.get-insert nat_cmp_total m pid t pid ∙ ap (λ b. cond b (Some t) (maps.get m pid)) (ap is_eq (tied_itself nat_cmp_total pid)))) refl
+
+-- what stands at a process that is there, and is changed in its place
+pub others_in : (m : maps.FinMap nat_cmp Tracee) (pid : ℕ) (t : Tracee) (q : ℕ) → (pid == q) ≡ false
+    → at new_tracee (maps.insert m pid t) q ≡ at new_tracee m q
+others_in m pid t q e = ap (λ (f : ℕ → Tracee). f q) (at-insert new_tracee m pid t) ∙ ap (λ b. cond b t (at new_tracee m q)) e
+
+pub own_in : (m : maps.FinMap nat_cmp Tracee) (pid : ℕ) (t : Tracee) → at new_tracee (maps.insert m pid t) pid ≡ t
+own_in m pid t = ap (λ (f : ℕ → Tracee). f pid) (at-insert new_tracee m pid t) ∙ own (pid == pid) (grind (arith, nat_tests))
+  where
+    own : (b : Bool) → b ≡ true → cond b t (at new_tracee m pid) ≡ t
+    own true e = refl
+    own false e = absurd (cc e)
+
+pub found : (was met : maps.FinMap nat_cmp Tracee) (pid : ℕ) (t : Tracee) → at new_tracee met ≡ at new_tracee was → Some t ≡ maps.get met pid
+    → t ≡ at new_tracee was pid
+found was met pid t same here = ap (λ (o : Option Tracee). unwrap_or o new_tracee) here ∙ ap (λ (f : ℕ → Tracee). f pid) same
+
+-- what comes of a tracee that is lent, in the map that lends it
+pub in_place : {E : Type 0} (result : Result CodeHeard E) (m : Known → Heard) (s s' : Session) (pid : ℕ) (was met is : maps.FinMap nat_cmp Tracee) (old new : Tracee)
+    → at new_tracee met ≡ at new_tracee was → Some old ≡ maps.get met pid → is ≡ maps.insert met pid new
+    → IfOk result (λ h. Comes (m (known_at s pid old)) h s s' pid old new)
+    → IfOk result (λ h. ComesIn (m (known_at s pid (at new_tracee was pid))) h s s' pid was is)
+in_place (Err e) m s s' pid was met is old new same here puts comes = tt
+in_place (Ok h) m s s' pid was met is old new same here puts comes =
+    let before = found was met pid old same here in
+    let after : new ≡ at new_tracee is pid = sym (ap (λ x. at new_tracee x pid) puts ∙ own_in met pid new) in
+    record {
+      comes = subst (λ (t : Tracee). Comes (m (known_at s pid (at new_tracee was pid))) h s s' pid (at new_tracee was pid) t) after
+          (subst (λ (t : Tracee). Comes (m (known_at s pid t)) h s s' pid t new) before comes);
+      rest = λ q e. ap (λ x. at new_tracee x q) puts ∙ others_in met pid new q e ∙ ap (λ (f : ℕ → Tracee). f q) same;
+    }
 
 -- A tracee that was let go is known as before.
 

@@ -15,10 +15,10 @@ ghost use Rattle.tr_core.specs.Settings.{options_of, script_of};
 ghost use Rattle.tr_core.specs.declared.settings.Options.{Options as OptionsOf};
 
 use crate::heard::{Heard, asks, nothing};
-use crate::place::Awaiting;
+use crate::place::{Awaiting, Tracee};
 use crate::printing::{print_entry, print_exit};
 use crate::registers::{NO_CALL, call, set_number, stack_pointer};
-use crate::session::{InHand, Session};
+use crate::session::Session;
 use containers::Bytes;
 use lx_abi::{Call, Choice, RegisterSet};
 use pt_model::Standing;
@@ -110,24 +110,22 @@ fn given(choice: Choice) -> Option<u64>
 /// The entry is shown and counted, and the script's choice for its occurrence made.
 fn enter(
     session: &mut Session,
-    hand: &mut InHand,
+    pid: u32,
+    tracee: &mut Tracee,
     registers: RegisterSet,
     decoder: Option<&Decoder>,
 ) -> Result<Heard, AllocError>
-    requires { IsTold session.old.settings.options (half_at hand.old.tracee.called (Crossing.Entering registers))
+    requires { IsTold session.old.settings.options (half_at tracee.old.called (Crossing.Entering registers))
         decoder }
     ensures { IfOk result
         (λ h. Comes
-        (tracer.entry (options_of session.old.settings) (script_of session.old.settings) hand.old.pid registers
-        (got_of decoder.entry) (known_at session.old hand.old)) h session.old session.new hand.old hand.new) }
+        (tracer.entry (options_of session.old.settings) (script_of session.old.settings) pid registers
+        (got_of decoder.entry) (known_at session.old pid tracee.old))
+        h session.old session.new pid tracee.old tracee.new) }
 {
     let called = call(&registers);
     let stack = stack_pointer(&registers);
-    let Some(occurrence) = session
-        .counts
-        .latest(hand.pid, called.number)
-        .checked_add(1)
-    else {
+    let Some(occurrence) = session.counts.latest(pid, called.number).checked_add(1) else {
         return Err(AllocError);
     };
     let choice = session.settings.script.choose(called.number, occurrence);
@@ -135,15 +133,15 @@ fn enter(
     let bytes = print_entry(
         &session.settings,
         &mut session.printer,
-        hand.pid,
+        pid,
         called,
         stack,
         decoder,
     )?;
-    session.counts.count(hand.pid, called.number)?;
-    hand.tracee.called = called;
-    hand.tracee.saved = saved;
-    hand.tracee.standing = Standing::Read;
+    session.counts.count(pid, called.number)?;
+    tracee.called = called;
+    tracee.saved = saved;
+    tracee.standing = Standing::Read;
     Ok(Heard {
         next: Some(go_on(registers, joined(choice), saved)),
         bytes,
@@ -153,28 +151,29 @@ fn enter(
 /// The call has returned: the rest of its text is shown.
 fn leave(
     session: &mut Session,
-    hand: &mut InHand,
+    pid: u32,
+    tracee: &mut Tracee,
     value: u64,
     replaced: bool,
     decoder: Option<&Decoder>,
 ) -> Result<Heard, AllocError>
-    requires { IsTold session.old.settings.options (half_at hand.old.tracee.called (Crossing.Exiting value replaced))
+    requires { IsTold session.old.settings.options (half_at tracee.old.called (Crossing.Exiting value replaced))
         decoder }
     ensures { IfOk result
         (λ h. Comes
-        (tracer.exit (options_of session.old.settings) hand.old.pid value replaced (got_of decoder.entry)
-        (known_at session.old hand.old)) h session.old session.new hand.old hand.new) }
+        (tracer.exit (options_of session.old.settings) pid value replaced (got_of decoder.entry)
+        (known_at session.old pid tracee.old)) h session.old session.new pid tracee.old tracee.new) }
 {
     let bytes = print_exit(
         &session.settings,
         &mut session.printer,
-        hand.pid,
-        hand.tracee.called,
+        pid,
+        tracee.called,
         value,
         replaced,
         decoder,
     )?;
-    hand.tracee.saved = None;
+    tracee.saved = None;
     Ok(Heard {
         next: Some(Awaiting::Resuming { signal: 0 }),
         bytes,
@@ -184,41 +183,45 @@ fn leave(
 /// All that was wanted was read.
 fn tell(
     session: &mut Session,
-    hand: &mut InHand,
+    pid: u32,
+    tracee: &mut Tracee,
     crossing: Crossing,
     decoder: Option<&Decoder>,
 ) -> Result<Heard, AllocError>
-    requires { IsTold session.old.settings.options (half_at hand.old.tracee.called crossing) decoder }
+    requires { IsTold session.old.settings.options (half_at tracee.old.called crossing) decoder }
     ensures { IfOk result
         (λ h. Comes
-        (told_at (options_of session.old.settings) (script_of session.old.settings) hand.old.pid crossing
-        (got_of decoder.entry) (known_at session.old hand.old)) h session.old session.new hand.old hand.new) }
+        (told_at (options_of session.old.settings) (script_of session.old.settings) pid crossing
+        (got_of decoder.entry) (known_at session.old pid tracee.old))
+        h session.old session.new pid tracee.old tracee.new) }
 {
     match crossing {
-        Crossing::Entering { registers } => enter(session, hand, registers, decoder),
+        Crossing::Entering { registers } => enter(session, pid, tracee, registers, decoder),
         Crossing::Exiting {
             result: value,
             replaced,
-        } => leave(session, hand, value, replaced, decoder),
+        } => leave(session, pid, tracee, value, replaced, decoder),
     }
 }
 
 /// What is still wanted for the text is read; then it is told.
 fn read(
     session: &mut Session,
-    hand: &mut InHand,
+    pid: u32,
+    tracee: &mut Tracee,
     crossing: Crossing,
     decoder: Box<Decoder>,
 ) -> Result<Heard, AllocError>
-    requires { IsOf session.old.settings.options (half_at hand.old.tracee.called crossing) decoder.value }
+    requires { IsOf session.old.settings.options (half_at tracee.old.called crossing) decoder.value }
     ensures { IfOk result
         (λ h. Comes
-        (reads_at (options_of session.old.settings) (script_of session.old.settings) hand.old.pid crossing
-        decoder.value.got (known_at session.old hand.old) true) h session.old session.new hand.old hand.new) }
+        (reads_at (options_of session.old.settings) (script_of session.old.settings) pid crossing
+        decoder.value.got (known_at session.old pid tracee.old) true)
+        h session.old session.new pid tracee.old tracee.new) }
 {
     let lent = decoder.as_ref();
     match lent.wants() {
-        None => tell(session, hand, crossing, Some(lent)),
+        None => tell(session, pid, tracee, crossing, Some(lent)),
         Some(want) => Ok(asks(session.settings.alloc, peeking(crossing, decoder, want))),
     }
 }
@@ -226,21 +229,22 @@ fn read(
 /// The same of a decoder that was begun, which takes a place of its own where something is wanted.
 fn read_first(
     session: &mut Session,
-    hand: &mut InHand,
+    pid: u32,
+    tracee: &mut Tracee,
     crossing: Crossing,
     decoder: Decoder,
 ) -> Result<Heard, AllocError>
-    requires { IsOf session.old.settings.options (half_at hand.old.tracee.called crossing) decoder }
+    requires { IsOf session.old.settings.options (half_at tracee.old.called crossing) decoder }
     ensures { IfOk result
         (λ h. Comes
-        (reads_at (options_of session.old.settings) (script_of session.old.settings) hand.old.pid crossing
-        decoder.got (known_at session.old hand.old) true) h session.old session.new hand.old hand.new) }
+        (reads_at (options_of session.old.settings) (script_of session.old.settings) pid crossing
+        decoder.got (known_at session.old pid tracee.old) true) h session.old session.new pid tracee.old tracee.new) }
 {
     match decoder.wants() {
-        None => tell(session, hand, crossing, Some(&decoder)),
+        None => tell(session, pid, tracee, crossing, Some(&decoder)),
         Some(_) => {
             let boxed = Box::new(session.settings.alloc, decoder)?;
-            read(session, hand, crossing, boxed)
+            read(session, pid, tracee, crossing, boxed)
         }
     }
 }
@@ -248,24 +252,25 @@ fn read_first(
 /// A call is entered or left, whose text is read where it is shown.
 pub fn cross(
     session: &mut Session,
-    hand: &mut InHand,
+    pid: u32,
+    tracee: &mut Tracee,
     crossing: Crossing,
     shown: bool,
 ) -> Result<Heard, AllocError>
     requires { shown ≡ includes session.old.settings.options.shown
-        (call_at (half_at hand.old.tracee.called crossing)).number }
+        (call_at (half_at tracee.old.called crossing)).number }
     ensures { IfOk result
         (λ h. Comes
-        (reads_at (options_of session.old.settings) (script_of session.old.settings) hand.old.pid crossing []
-        (known_at session.old hand.old) shown) h session.old session.new hand.old hand.new) }
+        (reads_at (options_of session.old.settings) (script_of session.old.settings) pid crossing []
+        (known_at session.old pid tracee.old) shown) h session.old session.new pid tracee.old tracee.new) }
 {
     if !shown {
-        return tell(session, hand, crossing, None);
+        return tell(session, pid, tracee, crossing, None);
     }
     let alloc = session.settings.alloc;
-    let half = half(&crossing, hand.tracee.called);
+    let half = half(&crossing, tracee.called);
     let decoder = half.begin(alloc, session.settings.options.string_limit)?;
-    read_first(session, hand, crossing, decoder)
+    read_first(session, pid, tracee, crossing, decoder)
 }
 
 /// The decoder once it was given what was read.
@@ -280,22 +285,24 @@ fn fed(decoder: Box<Decoder>, bytes: Bytes) -> Result<Box<Decoder>, AllocError>
 /// A string of a text came, or not.
 pub fn hear_bytes(
     session: &mut Session,
-    hand: &mut InHand,
+    pid: u32,
+    tracee: &mut Tracee,
     crossing: Crossing,
     decoder: Box<Decoder>,
     came: Option<Bytes>,
 ) -> Result<Heard, AllocError>
-    requires { IsOf session.old.settings.options (half_at hand.old.tracee.called crossing) decoder.value }
+    requires { IsOf session.old.settings.options (half_at tracee.old.called crossing) decoder.value }
     ensures { IfOk result
         (λ h. Comes
-        (peeked_at (options_of session.old.settings) (script_of session.old.settings) hand.old.pid crossing
-        decoder.value.got (known_at session.old hand.old) came) h session.old session.new hand.old hand.new) }
+        (peeked_at (options_of session.old.settings) (script_of session.old.settings) pid crossing
+        decoder.value.got (known_at session.old pid tracee.old) came)
+        h session.old session.new pid tracee.old tracee.new) }
 {
     match came {
         None => Ok(nothing(session.settings.alloc)),
         Some(bytes) => {
             let fed = fed(decoder, bytes)?;
-            read(session, hand, crossing, fed)
+            read(session, pid, tracee, crossing, fed)
         }
     }
 }

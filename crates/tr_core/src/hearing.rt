@@ -1,6 +1,6 @@
 //! A reply that concerns the tracee in hand.
 
-ghost use Rattle.std.specs.Prelude.{[], IfOk};
+ghost use Rattle.std.specs.Prelude.{[], ℕ, IfOk};
 ghost use Rattle.lx_abi.specs.Scripts.{includes};
 ghost use Rattle.pt_model.specs.Tracer as tracer;
 ghost use Rattle.tr_core.specs.Hearings.{Comes, known_at};
@@ -8,33 +8,40 @@ ghost use Rattle.tr_core.specs.Held.{IsHeld};
 ghost use Rattle.tr_core.specs.Known.{place_of};
 ghost use Rattle.tr_core.specs.Settings.{options_of, script_of};
 ghost use Rattle.tr_core.specs.declared.session.Session.{Session as SessionOf};
-ghost use Rattle.tr_core.specs.declared.session.InHand.{InHand as InHandOf};
+ghost use Rattle.tr_core.specs.declared.place.Tracee.{Tracee as TraceeOf};
 
 use crate::crossing::{Crossing, cross, hear_bytes};
 use crate::heard::{Heard, asks, nothing};
-use crate::place::Awaiting;
+use crate::place::{Awaiting, Tracee};
 use crate::registers::{set_number, set_result};
 use crate::replies::{bytes_in, info_in, is_done, registers_in};
-use crate::session::{InHand, Session};
+use crate::session::Session;
 use lx_abi::{Info, RegisterSet, Reply};
 use std::alloc::{AllocError, Global};
 
 /// The registers at an entry stop, where they came.
 fn hear_entry(
     session: &mut Session,
-    hand: &mut InHand,
+    pid: u32,
+    tracee: &mut Tracee,
     came: Option<RegisterSet>,
 ) -> Result<Heard, AllocError>
     ensures { IfOk result
         (λ h. Comes
-        (tracer.at_entry_regs (options_of session.old.settings) (script_of session.old.settings) hand.old.pid
-        (known_at session.old hand.old) came) h session.old session.new hand.old hand.new) }
+        (tracer.at_entry_regs (options_of session.old.settings) (script_of session.old.settings) pid
+        (known_at session.old pid tracee.old) came) h session.old session.new pid tracee.old tracee.new) }
 {
     match came {
         None => Ok(nothing(session.settings.alloc)),
         Some(registers) => {
             let shown = session.settings.options.shown.contains(registers.get()[17]);
-            cross(session, hand, Crossing::Entering { registers }, shown)
+            cross(
+                session,
+                pid,
+                tracee,
+                Crossing::Entering { registers },
+                shown,
+            )
         }
     }
 }
@@ -42,45 +49,47 @@ fn hear_entry(
 /// The result is known, which may be in the place of the call's own.
 fn hear_result(
     session: &mut Session,
-    hand: &mut InHand,
+    pid: u32,
+    tracee: &mut Tracee,
     value: u64,
     replaced: bool,
 ) -> Result<Heard, AllocError>
     ensures { IfOk result
         (λ h. Comes
-        (tracer.read_exit (options_of session.old.settings) hand.old.pid value replaced []
-        (known_at session.old hand.old) (includes session.old.settings.options.shown hand.old.tracee.called.number)) h
-        session.old session.new hand.old hand.new) }
+        (tracer.read_exit (options_of session.old.settings) pid value replaced []
+        (known_at session.old pid tracee.old) (includes session.old.settings.options.shown tracee.old.called.number)) h
+        session.old session.new pid tracee.old tracee.new) }
 {
     let shown = session
         .settings
         .options
         .shown
-        .contains(hand.tracee.called.number);
+        .contains(tracee.called.number);
     let crossing = Crossing::Exiting {
         result: value,
         replaced,
     };
-    cross(session, hand, crossing, shown)
+    cross(session, pid, tracee, crossing, shown)
 }
 
 /// The registers at an exit stop came: a replaced call gets its number back, and the scripted result.
 fn hear_exit(
     session: &mut Session,
-    hand: &mut InHand,
+    pid: u32,
+    tracee: &mut Tracee,
     registers: RegisterSet,
 ) -> Result<Heard, AllocError>
     ensures { IfOk result
         (λ h. Comes
-        (tracer.exit_with (options_of session.old.settings) hand.old.pid registers (known_at session.old hand.old)
-        hand.old.tracee.saved) h session.old session.new hand.old hand.new) }
+        (tracer.exit_with (options_of session.old.settings) pid registers (known_at session.old pid tracee.old)
+        tracee.old.saved) h session.old session.new pid tracee.old tracee.new) }
 {
-    match hand.tracee.saved {
-        None => hear_result(session, hand, registers.get()[10], false),
+    match tracee.saved {
+        None => hear_result(session, pid, tracee, registers.get()[10], false),
         Some(value) => {
             let mut registers = registers;
             set_result(&mut registers, value);
-            set_number(&mut registers, hand.tracee.called.number);
+            set_number(&mut registers, tracee.called.number);
             let place = Awaiting::ExitSet {
                 registers,
                 result: value,
@@ -93,34 +102,36 @@ fn hear_exit(
 /// The registers at an exit stop, where they came.
 fn hear_exit_regs(
     session: &mut Session,
-    hand: &mut InHand,
+    pid: u32,
+    tracee: &mut Tracee,
     came: Option<RegisterSet>,
 ) -> Result<Heard, AllocError>
     ensures { IfOk result
         (λ h. Comes
-        (tracer.at_exit_regs (options_of session.old.settings) hand.old.pid (known_at session.old hand.old) came) h
-        session.old session.new hand.old hand.new) }
+        (tracer.at_exit_regs (options_of session.old.settings) pid (known_at session.old pid tracee.old) came) h
+        session.old session.new pid tracee.old tracee.new) }
 {
     match came {
         None => Ok(nothing(session.settings.alloc)),
-        Some(registers) => hear_exit(session, hand, registers),
+        Some(registers) => hear_exit(session, pid, tracee, registers),
     }
 }
 
 /// The registers of a replaced call were put back, or not.
 fn hear_put_back(
     session: &mut Session,
-    hand: &mut InHand,
+    pid: u32,
+    tracee: &mut Tracee,
     value: u64,
     done: bool,
 ) -> Result<Heard, AllocError>
     ensures { IfOk result
         (λ h. Comes
-        (tracer.at_exit_set (options_of session.old.settings) hand.old.pid (known_at session.old hand.old) value done)
-        h session.old session.new hand.old hand.new) }
+        (tracer.at_exit_set (options_of session.old.settings) pid (known_at session.old pid tracee.old) value done)
+        h session.old session.new pid tracee.old tracee.new) }
 {
     if done {
-        hear_result(session, hand, value, true)
+        hear_result(session, pid, tracee, value, true)
     } else {
         Ok(nothing(session.settings.alloc))
     }
@@ -128,8 +139,8 @@ fn hear_put_back(
 
 /// The number of a replaced call was set to -1, or not.
 fn hear_set(alloc: Global, signal: u32, done: bool) -> Heard
-    ensures { (s : SessionOf) (t : InHandOf)
-        → Comes (tracer.at_entry_set (known_at s t) signal done) result s s t t }
+    ensures { (s : SessionOf) (pid : ℕ) (t : TraceeOf)
+        → Comes (tracer.at_entry_set (known_at s pid t) signal done) result s s pid t t }
 {
     if done {
         asks(alloc, Awaiting::Resuming { signal })
@@ -142,18 +153,18 @@ fn hear_set(alloc: Global, signal: u32, done: bool) -> Heard
 #[tactic(auto, unfolding(crate::specs::Pens::wrote, crate::specs::Pens::pen_after))]
 fn hear_info(
     session: &mut Session,
-    hand: &InHand,
+    pid: u32,
     signal: u32,
     came: Option<Info>,
 ) -> Result<Heard, AllocError>
     ensures { IfOk result
-        (λ h. Comes (tracer.at_info hand.now.pid (known_at session.old hand.now) signal came) h session.old
-        session.new hand.now hand.now) }
+        (λ h. (t : TraceeOf) → Comes (tracer.at_info pid (known_at session.old pid t) signal came) h session.old
+        session.new pid t t) }
 {
     match came {
         None => Ok(nothing(session.settings.alloc)),
         Some(info) => {
-            let bytes = session.printer.signal(hand.pid, &info)?;
+            let bytes = session.printer.signal(pid, &info)?;
             Ok(Heard {
                 next: Some(Awaiting::Resuming { signal }),
                 bytes,
@@ -165,34 +176,43 @@ fn hear_info(
 /// A reply to what is asked of the tracee in hand.
 pub fn hear(
     session: &mut Session,
-    hand: &mut InHand,
+    pid: u32,
+    tracee: &mut Tracee,
     place: Awaiting,
     reply: Reply,
 ) -> Result<Heard, AllocError>
-    requires { IsHeld session.old.settings.options hand.old.tracee.called place }
+    requires { IsHeld session.old.settings.options tracee.old.called place }
     ensures { IfOk result
         (λ h. Comes
-        (tracer.hears (options_of session.old.settings) (script_of session.old.settings) hand.old.pid
-        (known_at session.old hand.old) (place_of place) reply) h session.old session.new hand.old hand.new) }
+        (tracer.hears (options_of session.old.settings) (script_of session.old.settings) pid
+        (known_at session.old pid tracee.old) (place_of place) reply)
+        h session.old session.new pid tracee.old tracee.new) }
 {
     let alloc = session.settings.alloc;
     match place {
         Awaiting::Seizing => Ok(nothing(alloc)),
         Awaiting::Resuming { .. } => Ok(nothing(alloc)),
         Awaiting::Listening => Ok(nothing(alloc)),
-        Awaiting::EntryRegs => hear_entry(session, hand, registers_in(reply)),
+        Awaiting::EntryRegs => hear_entry(session, pid, tracee, registers_in(reply)),
         Awaiting::EntryPeek {
             registers,
             decoder,
             ..
         } => {
             let crossing = Crossing::Entering { registers };
-            hear_bytes(session, hand, crossing, decoder, bytes_in(alloc, reply))
+            hear_bytes(
+                session,
+                pid,
+                tracee,
+                crossing,
+                decoder,
+                bytes_in(alloc, reply),
+            )
         }
         Awaiting::EntrySet { signal, .. } => Ok(hear_set(alloc, signal, is_done(&reply))),
-        Awaiting::ExitRegs => hear_exit_regs(session, hand, registers_in(reply)),
+        Awaiting::ExitRegs => hear_exit_regs(session, pid, tracee, registers_in(reply)),
         Awaiting::ExitSet { result: value, .. } => {
-            hear_put_back(session, hand, value, is_done(&reply))
+            hear_put_back(session, pid, tracee, value, is_done(&reply))
         }
         Awaiting::ExitPeek {
             result: value,
@@ -204,8 +224,15 @@ pub fn hear(
                 result: value,
                 replaced,
             };
-            hear_bytes(session, hand, crossing, decoder, bytes_in(alloc, reply))
+            hear_bytes(
+                session,
+                pid,
+                tracee,
+                crossing,
+                decoder,
+                bytes_in(alloc, reply),
+            )
         }
-        Awaiting::SignalInfo { signal } => hear_info(session, hand, signal, info_in(&reply)),
+        Awaiting::SignalInfo { signal } => hear_info(session, pid, signal, info_in(&reply)),
     }
 }

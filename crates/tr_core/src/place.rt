@@ -13,6 +13,19 @@ pub struct Tracee {
     pub standing: Standing,
 }
 
+impl Tracee {
+    /// Nothing is known.
+    pub const UNMET: Tracee = Tracee {
+        inside: false,
+        called: Call {
+            number: u64::MAX,
+            arguments: [0; 6],
+        },
+        saved: None,
+        standing: Standing::Unmet,
+    };
+}
+
 /// What is being asked of the tracee in hand.
 #[derive(Drop)]
 pub enum Awaiting {

@@ -1,6 +1,5 @@
 //! What hearing of a tracee works on.
 
-use crate::place::Tracee;
 use crate::settings::Settings;
 use lx_abi::Occurrences;
 use tr_line::Printer;
@@ -12,11 +11,4 @@ pub struct Session {
     /// How often each tracee entered each call.
     pub counts: Occurrences,
     pub printer: Printer,
-}
-
-/// The tracee in hand.
-#[derive(Clone, Copy, Debug, PartialEq, Eq)]
-pub struct InHand {
-    pub pid: u32,
-    pub tracee: Tracee,
 }

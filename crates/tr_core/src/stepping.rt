@@ -1,6 +1,6 @@
 //! What a reply makes of what a tracer keeps.
 
-ghost use Rattle.std.specs.Prelude.{◌≡◌, ◌&&◌, ℕ, IfOk, OnOk, OnErr, Some, is_some, true};
+ghost use Rattle.std.specs.Prelude.{◌≡◌, ◌&&◌, ℕ, IfOk, IsSome, OnOk, OnErr, Some, is_some, true};
 ghost use Rattle.lx_abi.specs.declared.log.Call.{Call as CallOf};
 ghost use Rattle.lx_model.specs.Finite.{at};
 ghost use Rattle.std.specs.FinMap as maps;
@@ -10,6 +10,7 @@ ghost use Rattle.pt_model.specs.Parts.{Options};
 ghost use Rattle.pt_model.specs.Tracer.{Known, focus_on, told_tracees};
 ghost use Rattle.pt_model.specs.Tracer.{took_stop, heard, hears, says_done, stays};
 ghost use Rattle.tr_core.specs.Settings.{options_of, script_of};
+ghost use Rattle.tr_core.specs.Hearings.{ComesIn, known_at, stop_heard};
 ghost use Rattle.tr_core.specs.Held.{Holds, IsHeld, NextIsHeld, FocusHolds};
 ghost use Rattle.tr_core.specs.Known.{new_tracee, place_of};
 ghost use Rattle.tr_core.specs.Tracers.{admits_in, focus_of, known_in, Goes, Steps};
@@ -20,14 +21,15 @@ ghost use Rattle.tr_core.specs.Admitted.{lets_go, next_by, tracees_by, told_outc
 ghost use Rattle.tr_core.specs.declared.settings.Options.{Options as OptionsOf};
 
 use crate::admission::{admits_answer, stop_fits};
+use crate::heard::Heard;
 use crate::hearing::hear;
 use crate::living::Living;
 use crate::place::{Awaiting, Focus, Tracee};
 use crate::replies::{is_childless, is_done, is_out, outcome_in, status_in};
-use crate::session::{InHand, Session};
+use crate::session::Session;
 use crate::stops::take_stop;
 use containers::Bytes;
-use lx_abi::{Call, Errno, Reply, Stop};
+use lx_abi::{Errno, Reply, Stop};
 use pt_model::Standing;
 use shelves::Shelf;
 use std::alloc::AllocError;
@@ -42,22 +44,17 @@ pub struct Core {
     pub focus: Focus,
 }
 
-/// What is known of a process, at first nothing. Apart, since the compiler merges the two cases bit by bit in a caller.
-#[inline(never)]
-fn tracee_at(known: &Shelf<Tracee>, pid: u32) -> Tracee
-    ensures { result ≡ at new_tracee known.now pid }
+/// Where nothing is known of a process, that is put in.
+fn meet(known: &mut Shelf<Tracee>, pid: u32) -> Result<(), AllocError>
+    ensures there { OnOk result (IsSome (maps.get known.new pid)) }
+    ensures same { OnOk result (at new_tracee known.new ≡ at new_tracee known.old) }
 {
     match known.get(pid) {
-        Some(tracee) => *tracee,
-        None => Tracee {
-            inside: false,
-            called: Call {
-                number: u64::MAX,
-                arguments: [0; 6],
-            },
-            saved: None,
-            standing: Standing::Unmet,
-        },
+        Some(_) => Ok(()),
+        None => {
+            known.insert(pid, Tracee::UNMET)?;
+            Ok(())
+        }
     }
 }
 
@@ -112,32 +109,6 @@ fn focus_at(pid: u32, next: Option<Awaiting>) -> Focus
     }
 }
 
-/// A tracee is put in, in place of what was known of it.
-fn put(known: &mut Shelf<Tracee>, pid: u32, tracee: &Tracee) -> Result<(), AllocError>
-    ensures { OnOk result (known.new ≡ maps.insert known.old pid tracee.now) }
-{
-    match known.get_mut(pid) {
-        Some(place) => {
-            *place = *tracee;
-            Ok(())
-        }
-        None => known.insert(pid, *tracee),
-    }
-}
-
-/// What was heard of the tracee in hand is kept, and asked next.
-fn keep(core: &mut Core, hand: &InHand, next: Option<Awaiting>) -> Result<(), AllocError>
-    requires { NextIsHeld core.old.session.settings.options hand.now.tracee.called next }
-    ensures known { OnOk result (core.new.known ≡ maps.insert core.old.known hand.now.pid hand.now.tracee) }
-    ensures focus { OnOk result (focus_of core.new.focus ≡ focus_on hand.now.pid (option_map place_of next)) }
-    ensures rest { OnOk result ((core.new.session ≡ core.old.session) × (core.new.living ≡ core.old.living)) }
-    ensures holds { OnOk result (Holds core.new) }
-{
-    put(&mut core.known, hand.pid, &hand.tracee)?;
-    core.focus = focus_at(hand.pid, next);
-    Ok(())
-}
-
 /// The list of tracees after a status.
 fn attend(living: &mut Living, pid: u32, stop: Stop) -> Result<(), AllocError>
     ensures { OnOk result (living.new ≡ told_tracees living.old pid (Some stop)) }
@@ -149,18 +120,57 @@ fn attend(living: &mut Living, pid: u32, stop: Stop) -> Result<(), AllocError>
     Ok(())
 }
 
+/// What a status makes of a tracee, in the place where it is known.
+fn take_stop_in(
+    session: &mut Session,
+    known: &mut Shelf<Tracee>,
+    pid: u32,
+    stop: Stop,
+) -> Result<Heard, AllocError>
+    ensures { IfOk result
+        (λ h. ComesIn
+        (stop_heard (options_of session.old.settings) pid
+        (known_at session.old pid (at new_tracee known.old pid)) stop) h session.old session.new pid known.old known.new) }
+{
+    meet(known, pid)?;
+    match known.get_mut(pid) {
+        Some(tracee) => take_stop(session, pid, tracee, stop),
+        None => unreachable!(),
+    }
+}
+
 /// A status that is admitted.
 fn hear_status(core: &mut Core, pid: u32, stop: Stop) -> Result<Bytes, AllocError>
     ensures { IfOk result
         (λ b. Goes (took_stop (options_of core.old.session.settings) (known_in core.old) pid stop)
         (told_tracees core.old.living pid (Some stop)) b core.old core.new) }
 {
-    let tracee = tracee_at(&core.known, pid);
-    let mut hand = InHand { pid, tracee };
-    let heard = take_stop(&mut core.session, &mut hand, stop)?;
+    let heard = take_stop_in(&mut core.session, &mut core.known, pid, stop)?;
     attend(&mut core.living, pid, stop)?;
-    keep(core, &hand, heard.next)?;
+    core.focus = focus_at(pid, heard.next);
     Ok(heard.bytes)
+}
+
+/// What a reply makes of a tracee, in the place where it is known.
+fn hear_in(
+    session: &mut Session,
+    known: &mut Shelf<Tracee>,
+    pid: u32,
+    place: Awaiting,
+    reply: Reply,
+) -> Result<Heard, AllocError>
+    requires { IsHeld session.old.settings.options (at new_tracee known.old pid).called place }
+    ensures { IfOk result
+        (λ h. ComesIn
+        (hears (options_of session.old.settings) (script_of session.old.settings) pid
+        (known_at session.old pid (at new_tracee known.old pid)) (place_of place) reply) h session.old
+        session.new pid known.old known.new) }
+{
+    meet(known, pid)?;
+    match known.get_mut(pid) {
+        Some(tracee) => hear(session, pid, tracee, place, reply),
+        None => unreachable!(),
+    }
 }
 
 /// A reply, which is admitted, to what was asked of the tracee in hand.
@@ -172,10 +182,8 @@ fn hear_reply(core: &mut Core, pid: u32, place: Awaiting, reply: Reply) -> Resul
         (hears (options_of core.old.session.settings) (script_of core.old.session.settings) pid (known_in core.old pid)
         (place_of place) reply)) core.old.living b core.old core.new) }
 {
-    let tracee = tracee_at(&core.known, pid);
-    let mut hand = InHand { pid, tracee };
-    let heard = hear(&mut core.session, &mut hand, place, reply)?;
-    keep(core, &hand, heard.next)?;
+    let heard = hear_in(&mut core.session, &mut core.known, pid, place, reply)?;
+    core.focus = focus_at(pid, heard.next);
     Ok(heard.bytes)
 }
 

@@ -12,7 +12,7 @@ ghost use Rattle.lx_abi.specs.declared.log.Call.{Call as CallOf};
 
 use crate::heard::{Heard, asks};
 use crate::place::{Awaiting, Tracee};
-use crate::session::{InHand, Session};
+use crate::session::Session;
 use crate::settings::Settings;
 use lx_abi::{EventStop, Stop};
 use pt_model::Standing;
@@ -67,38 +67,43 @@ fn event_standing(event: EventStop) -> Standing
 
 /// A status that is admitted was taken.
 #[tactic(auto, unfolding(crate::specs::Pens::wrote, crate::specs::Pens::pen_after))]
-pub fn take_stop(session: &mut Session, hand: &mut InHand, stop: Stop) -> Result<Heard, AllocError>
+pub fn take_stop(
+    session: &mut Session,
+    pid: u32,
+    tracee: &mut Tracee,
+    stop: Stop,
+) -> Result<Heard, AllocError>
     ensures { IfOk result
-        (λ h. Comes (stop_heard (options_of session.old.settings) hand.old.pid (known_at session.old hand.old) stop)
-        h session.old session.new hand.old hand.new) }
+        (λ h. Comes (stop_heard (options_of session.old.settings) pid (known_at session.old pid tracee.old) stop)
+        h session.old session.new pid tracee.old tracee.new) }
 {
     let alloc = session.settings.alloc;
     match stop {
         Stop::Syscall { .. } => {
-            let place = first_place(&session.settings, &hand.tracee);
-            turn_over(&mut hand.tracee);
+            let place = first_place(&session.settings, tracee);
+            turn_over(tracee);
             Ok(asks(alloc, place))
         }
         Stop::Signal { signal } => {
-            hand.tracee.standing = Standing::AfterSignal { signal };
+            tracee.standing = Standing::AfterSignal { signal };
             let signal = u32::from(signal.number);
             Ok(asks(alloc, Awaiting::SignalInfo { signal }))
         }
         Stop::Group { signal } => {
-            hand.tracee.standing = Standing::Halted;
-            let bytes = session.printer.stopped(hand.pid, signal)?;
+            tracee.standing = Standing::Halted;
+            let bytes = session.printer.stopped(pid, signal)?;
             Ok(Heard {
                 next: Some(Awaiting::Listening),
                 bytes,
             })
         }
         Stop::Event { event } => {
-            hand.tracee.standing = event_standing(event);
+            tracee.standing = event_standing(event);
             Ok(asks(alloc, Awaiting::Resuming { signal: 0 }))
         }
         Stop::Ended { word } => {
-            hand.tracee.standing = Standing::AtEnd;
-            let bytes = session.printer.end(hand.pid, word)?;
+            tracee.standing = Standing::AtEnd;
+            let bytes = session.printer.end(pid, word)?;
             Ok(Heard { next: None, bytes })
         }
     }

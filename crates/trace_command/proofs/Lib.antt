@@ -3,3 +3,4 @@ mod Reaching
 mod Turned
 mod Noted
 mod Replayed
+mod Threaded

@@ -4,18 +4,14 @@ use Rattle.std.proofs.Common.{OnOk, inl, inr, refl, sym, ap, subst, ◌∙◌}
 use Rattle.std.proofs.Common.{true≢false}
 use Rattle.std.specs.Prelude.{◌&&◌, ◌||◌, IfSome, codes, is_none, is_some}
 use Rattle.clap.specs.declared.parser.matches.ArgMatches.{ArgMatches}
-use Rattle.lx_abi.specs.declared.boot.Boot.{Boot}
 use Rattle.lx_abi.specs.declared.outcome.Outcome.{Outcome}
 use Rattle.lx_abi.specs.declared.schedule.Event.{Event}
-use Rattle.lx_abi.specs.declared.schedule.Word.{Word}
-use Rattle.lx_abi.specs.declared.script.Rule.{Rule}
 use Rattle.front_end.specs.declared.fault.Fault.{Fault}
 use Rattle.front_end.specs.declared.streams.Opened.{Opened}
 use Rattle.front_end.specs.declared.fault.Fault.TheVariants as the
 use Rattle.host_link.specs.declared.fault.LinkFault.{LinkFault}
 use Rattle.host_link.specs.declared.fault.LinkFault.TheVariants as link
 use Rattle.pt_schedule.specs.Schedules.{worded}
-use Rattle.tr_core.specs.declared.settings.Options.{Options}
 use Rattle.tr_core.specs.declared.tracing.TraceFault.TheVariants.{Inadmissible, Memory}
 use Rattle.trace_run.specs.Records.{noted_if}
 use Rattle.trace_run.specs.Writers.{Writer}
@@ -23,8 +19,8 @@ use Rattle.trace_run.specs.declared.running.Ended.{Ended}
 use Rattle.trace_run.specs.declared.running.RunFault.{RunFault}
 use Rattle.trace_run.specs.declared.running.RunFault.TheVariants as run
 use Rattle.trace_command.specs.Faults.{IsFaultOf, IsHostFault, IsUnwritable, has_ended, host_number, is_out_of_turns}
-use Rattle.trace_command.specs.Noting.{AsksAlike, IsKeptFor, IsSecond, Notes, NotesHere, NotesOf, WritesEvents}
-use Rattle.trace_command.specs.Noting.{WritesEventsAt, WritesEventsOf, WritesEventsTo, WritesKept, WritesNoted}
+use Rattle.trace_command.specs.Noting.{AsksAlike, EventsHere, EventsOf, IsKeptFor, IsSecond, Notes, NotesHere, NotesOf}
+use Rattle.trace_command.specs.Noting.{WritesEvents, WritesEventsAt, WritesEventsOf, WritesEventsTo, WritesKept, WritesNoted}
 use Rattle.trace_command.specs.Tracing.{EndsLine, Leaves, Reaches, Settles, Takes, Wanted, wants}
 use Rattle.trace_command.specs.TurnsOut.{WritesTurns}
 use Rattle.trace_command.specs.declared.kept.Kept.{Kept}
@@ -32,7 +28,7 @@ use Rattle.trace_command.specs.declared.kernel.Kernel.{Kernel}
 use Rattle.trace_command.specs.declared.kernel.Kernel.TheVariants.{Here, OnThreads, There}
 use Rattle.trace_command.specs.declared.place.Place.{Place}
 use Rattle.trace_command.specs.declared.place.Place.TheVariants as place
-use Rattle.trace_words.specs.Plans.{IsAlike}
+use Rattle.trace_words.specs.Copies.{IsSame}
 use Rattle.trace_words.specs.declared.plan.Plan.{Plan}
 use Rattle.trace_words.specs.declared.asked.Workers.{Workers}
 
@@ -133,19 +129,18 @@ nothing_else : (asked waits : Bool) → (waits || asked) ≡ false → asked ≡
 nothing_else asked true e = absurd (true≢false e)
 nothing_else asked false e = e
 
-pub none_again : (workers : Option Workers) (host : Option (List ℕ)) (words : ArgMatches) (plan : Plan)
-    (asked waits : Bool) → (is_none workers && (is_some host && (waits || asked))) ≡ false
-    → IsSecond workers host words plan asked None
-none_again (Some workers) host words plan asked waits e = refl
-none_again None None words plan asked waits e = refl
-none_again None (Some host) words plan asked waits e = nothing_else asked waits e
+pub none_again : (workers : Option Workers) (host : Option (List ℕ)) (plan : Plan) (asked waits : Bool)
+    → (is_none workers && (is_some host && (waits || asked))) ≡ false → IsSecond workers host plan asked None
+none_again (Some workers) host plan asked waits e = refl
+none_again None None plan asked waits e = refl
+none_again None (Some host) plan asked waits e = nothing_else asked waits e
 
-pub one_again : (workers : Option Workers) (host : Option (List ℕ)) (words : ArgMatches) (plan again : Plan)
-    (asked waits : Bool) → (is_none workers && (is_some host && (waits || asked))) ≡ true
-    → IsAlike words plan again → IsSecond workers host words plan asked (Some again)
-one_again (Some workers) host words plan again asked waits e alike = absurd (true≢false (sym e))
-one_again None None words plan again asked waits e alike = absurd (true≢false (sym e))
-one_again None (Some host) words plan again asked waits e alike = alike
+pub one_again : (workers : Option Workers) (host : Option (List ℕ)) (plan again : Plan) (asked waits : Bool)
+    → (is_none workers && (is_some host && (waits || asked))) ≡ true → IsSame plan again
+    → IsSecond workers host plan asked (Some again)
+one_again (Some workers) host plan again asked waits e same = absurd (true≢false (sym e))
+one_again None None plan again asked waits e same = absurd (true≢false (sym e))
+one_again None (Some host) plan again asked waits e same = same
 
 -- what was noted was written, where the file is asked for
 
@@ -176,12 +171,20 @@ none_asked held value old e = subst (λ v. WritesNoted held v old) (sym e) tt
 
 -- and that is what the words ask for
 
+same_events : (limit : ℕ) (plan again : Plan) (events : List Event) → IsSame plan again → EventsOf limit plan events
+    → EventsOf limit again events
+same_events limit plan again events s e =
+    subst (λ x. EventsHere again.options again.script again.boot (worded x limit) events) (sym s.turns)
+    (subst (λ x. EventsHere again.options again.script x (worded plan.turns.items limit) events) (sym s.boot)
+    (subst (λ x. EventsHere again.options x plan.boot (worded plan.turns.items limit) events) (sym s.script)
+    (subst (λ x. EventsHere x plan.script plan.boot (worded plan.turns.items limit) events) (sym s.options) e)))
+
 events_to : {F : Type 0} (held : Opened F → Option (List ℕ)) (wanted : Wanted) (workers : Option Workers)
     (host : Option (List ℕ)) (plan : Plan) (path : List ℕ) (kept : Kept) (second : Option Plan)
     → kept.asked.events ≡ true → kept.asked.limit ≡ wanted.options.limit
-    → IsSecond workers host wanted.words plan kept.asked.events second
+    → IsSecond workers host plan kept.asked.events second
     → NotesOf host workers wanted.options.limit plan kept.asked.events kept.known.events
-    → WritesKept held path kept second → WritesEventsTo held workers host wanted plan kept.known.events path
+    → WritesKept held path kept second → WritesEventsTo held workers wanted plan kept.known.events path
 events_to held wanted (Some workers) host plan path kept second a l s n w = subst (λ x. WritesKept held path kept x) s w
 events_to held wanted None None plan path kept second a l s n w =
     λ events is.
@@ -189,11 +192,13 @@ events_to held wanted None None plan path kept second a l s n w =
     (subst (λ x. WritesKept held path kept x) s w)
 events_to held wanted None (Some host) plan path kept None a l s n w = absurd (true≢false (sym a ∙ s))
 events_to held wanted None (Some host) plan path kept (Some again) a l s n w =
-    (again, (s, subst (λ limit. WritesEventsOf held path limit again) l (w a)))
+    λ events is.
+    subst (λ limit. WritesEventsOf held path limit again) l (w a) events
+    (same_events wanted.options.limit plan again events s is)
 
 events_at : {F : Type 0} (held : Opened F → Option (List ℕ)) (wanted : Wanted) (plan : Plan) (value : Option (List ℕ))
     (kept : Kept) → kept.asked.events ≡ is_some value → kept.asked.limit ≡ wanted.options.limit
-    → IsSecond wanted.options.workers (wants wanted (codes "host")) wanted.words plan kept.asked.events kept.second
+    → IsSecond wanted.options.workers (wants wanted (codes "host")) plan kept.asked.events kept.second
     → NotesOf (wants wanted (codes "host")) wanted.options.workers wanted.options.limit plan kept.asked.events
     kept.known.events
     → WritesNoted held value kept → WritesEventsAt held wanted plan kept.known.events value
@@ -209,10 +214,8 @@ pub events_written : {F : Type 0} (held : Opened F → Option (List ℕ)) (wante
 events_written held wanted plan old new k alike n w =
     events_at held wanted plan (wants wanted (codes "turns-out")) new (ap (λ x. x.events) alike.0 ∙ k.asked)
     (ap (λ x. x.limit) alike.0 ∙ k.limit)
-    (subst (λ x. IsSecond wanted.options.workers (wants wanted (codes "host")) wanted.words plan new.asked.events x)
-    (sym alike.1)
-    (subst
-    (λ x. IsSecond wanted.options.workers (wants wanted (codes "host")) wanted.words plan x old.second)
+    (subst (λ x. IsSecond wanted.options.workers (wants wanted (codes "host")) plan new.asked.events x) (sym alike.1)
+    (subst (λ x. IsSecond wanted.options.workers (wants wanted (codes "host")) plan x old.second)
     (sym (ap (λ x. x.events) alike.0)) k.second))
     (subst
     (λ x. NotesOf (wants wanted (codes "host")) wanted.options.workers wanted.options.limit plan x new.known.events)

@@ -1,6 +1,6 @@
 -- The words of a run's events give these events again.
 use Rattle.std.proofs.Common.{◌≡◌, ◌⊎◌, ◌∙◌, ℕ, zero, suc, ◌+◌, ◌-◌, ◌<◌, ◌≤◌, Bool, true, false, cond, List, [], ◌∷◌}
-use Rattle.std.proofs.Common.{◌++◌, length, map, Option, Some, None, refl, sym, ap, subst, inl, inr, arith}
+use Rattle.std.proofs.Common.{◌++◌, map, Option, Some, None, refl, sym, ap, subst, inl, inr, arith}
 use Rattle.std.specs.Prelude.{◌==◌, ◌&&◌, nat_lt, min}
 use Rattle.std.specs.List.{AllByRecursion as Each}
 use Rattle.std.specs.Option.{option_map}
@@ -29,7 +29,7 @@ use Rattle.pt_schedule.specs.Cycle.{next_able}
 use Rattle.pt_schedule.specs.Few.{EventsAreFew}
 use Rattle.pt_schedule.specs.Schedules.{Readiness, Given, left_in_row, turn_with, turn_of, serve_of, end_of, goes_on}
 use Rattle.pt_schedule.specs.Schedules.{next_row, go_on, by_default, by_word, after_serves, next_worded, next_by}
-use Rattle.pt_schedule.specs.Schedules.{next_of, events_left, most_events, worded}
+use Rattle.pt_schedule.specs.Schedules.{next_of, most_events, worded}
 use Rattle.pt_schedule.specs.Written.{IsNumbered, WordsReadBack, event_word}
 use Rattle.pt_schedule.specs.declared.schedule.Order.TheVariants as order
 use Rattle.pt_schedule.specs.declared.schedule.Schedule.{Schedule}
@@ -37,22 +37,21 @@ use Rattle.pt_schedule.specs.declared.worded.Returning.{Returning}
 use Rattle.pt_schedule.specs.declared.worded.Row.{Row}
 use Rattle.pt_schedule.specs.declared.worded.Worded.{Worded}
 use Rattle.tr_core.specs.Settings.{options_by}
-use Rattle.tr_core.specs.declared.settings.Options.{Options as Settings}
-use Rattle.trace_run.specs.BootedRuns.{RunOf, following}
+use Rattle.trace_run.specs.BootedRuns.{following}
 use Rattle.trace_run.specs.Local.{Feeds}
 use Rattle.trace_command.specs.Replays.{EventsComeAgain, RunsComeAgain}
 use Rattle.trace_command.specs.TurnsOut.{AreNumbered, behind}
 
 -- ---- any world that a schedule feeds
 
-abbrev Fed : {W : Type 0} → (W → Readiness) → (W → Type 0) → (W → Type 0) → (W → Event → W) → Schedule → W
+abbrev pub Fed : {W : Type 0} → (W → Readiness) → (W → Type 0) → (W → Type 0) → (W → Event → W) → Schedule → W
     → List Event → Type 0
 Fed sight over asks after x w [] = over w ⊎ (given (next_of x (sight w)) ≡ None)
 Fed sight over asks after x w (e ∷ es) =
     (y : Schedule)
     × (asks w × ((given (next_of x (sight w)) ≡ Some (e, y)) × Fed sight over asks after y (after w e) es))
 
-abbrev Begins : {W : Type 0} → (W → Readiness) → (W → Event → W) → ℕ → W → Type 0
+abbrev pub Begins : {W : Type 0} → (W → Readiness) → (W → Event → W) → ℕ → W → Type 0
 Begins sight after zero w = (sight w).ready ≡ false
 Begins sight after (suc k) w = ((sight w).ready ≡ true) × Begins sight after k (after w Serve)
 
@@ -61,10 +60,10 @@ Begins sight after (suc k) w = ((sight w).ready ≡ true) × Begins sight after 
 abbrev of : Worded → Schedule
 of u = record { order = order.Worded u }
 
-abbrev by : List Word → Bool → Option Row → ℕ → Schedule
+abbrev pub by : List Word → Bool → Option Row → ℕ → Schedule
 by ws serving row left = of (record { words = ws; serving = serving; returning = None; row = row; left = left })
 
-abbrev row_by : Option Row → Event → Option Row
+abbrev pub row_by : Option Row → Event → Option Row
 row_by row (Turn p) = Some (record { pid = p; left = left_in_row p row })
 row_by row Serve = row
 
@@ -184,7 +183,7 @@ next_like w seen row' h =
 
 -- ---- where the first has ended, though more events were allowed, nobody is to have a turn
 
-abbrev Stuck : Readiness → Option Row → Type 0
+abbrev pub Stuck : Readiness → Option Row → Type 0
 Stuck seen None = next_able seen.able seen.last_pid 0 ≡ None
 Stuck seen (Some r) = ((seen.able r.pid && nat_lt 0 r.left) ≡ false) × (next_able seen.able seen.last_pid r.pid ≡ None)
 
@@ -263,7 +262,7 @@ go_none w seen (Some r) h =
 none_given : (g : Given Schedule) → g.event ≡ None → given g ≡ None
 none_given g h = ap (option_map (λ e. (e, g.schedule))) h
 
-ended_too : (serving : Bool) (row : Option Row) (left : ℕ) (seen : Readiness) → (serving && seen.ready) ≡ false
+pub ended_too : (serving : Bool) (row : Option Row) (left : ℕ) (seen : Readiness) → (serving && seen.ready) ≡ false
     → ((left == 0) ≡ false → (seen.ready ≡ false) × Stuck seen row)
     → given (next_of (by [] serving row left) seen) ≡ None
 unfolding next_by
@@ -283,7 +282,7 @@ ended_too serving row left seen s h = none_given _ (pick (left == 0) refl (servi
         ap (λ b. (cond b (serve_of anew) (go_on anew seen row)).event) (h e).0 ∙ go_none anew seen row (h e).1
 
 -- the word of an event gives it, where no request is served first
-word_gives : (e : Event) (ws : List Word) (serving : Bool) (row : Option Row) (left : ℕ) (seen : Readiness) → 0 < left
+pub word_gives : (e : Event) (ws : List Word) (serving : Bool) (row : Option Row) (left : ℕ) (seen : Readiness) → 0 < left
     → (serving && seen.ready) ≡ false
     → given (next_of (by (event_word e ∷ ws) serving row left) seen) ≡ Some (e, by ws false (row_by row e) (left - 1))
 unfolding next_by
@@ -293,13 +292,13 @@ word_gives Serve ws serving row left seen some s =
     let some : (left == 0) ≡ false = grind (arith, nat_tests) in rw (some, s) refl
 
 -- a request that is ready is served first
-serve_given : (ws : List Word) (row : Option Row) (left : ℕ) (seen : Readiness) → 0 < left → seen.ready ≡ true
+pub serve_given : (ws : List Word) (row : Option Row) (left : ℕ) (seen : Readiness) → 0 < left → seen.ready ≡ true
     → given (next_of (by ws true row left) seen) ≡ Some (Serve, by ws true row (left - 1))
 unfolding next_by
 serve_given ws row left seen some r =
     let some : (left == 0) ≡ false = grind (arith, nat_tests) in rw (some, r) refl
 
-none_at : (left : ℕ) (seen : Readiness) → (left == 0) ≡ true → given (next_of (by [] true None left) seen) ≡ None
+pub none_at : (left : ℕ) (seen : Readiness) → (left == 0) ≡ true → given (next_of (by [] true None left) seen) ≡ None
 unfolding next_by
 none_at left seen e = rw e refl
 
@@ -356,12 +355,12 @@ is_serve ws left seen e y some r h =
     let same : Some (e, y) ≡ Some (Serve, by ws true None (left - 1)) = sym h ∙ serve_given ws None left seen some r in
     record { event = ap (the_first e) same; left_is = ap (the_rest y) same }
 
-behind_none : (es : List Event) → behind 0 es ≡ es
+pub behind_none : (es : List Event) → behind 0 es ≡ es
 behind_none [] = refl
 behind_none (Turn p ∷ es) = ap (λ l. Turn p ∷ l) (behind_none es)
 behind_none (Serve ∷ es) = ap (λ l. Serve ∷ l) (behind_none es)
 
-behind_serve : (k : ℕ) (es : List Event) → behind (suc k) (Serve ∷ es) ≡ behind k es
+pub behind_serve : (k : ℕ) (es : List Event) → behind (suc k) (Serve ∷ es) ≡ behind k es
 behind_serve k es =
     ap (λ b. cond b [] (Serve ∷ []) ++ behind (cond b (suc k - 1) 0) es) (some_left k)
     ∙ ap (λ n. behind n es) (one_before k)
@@ -492,12 +491,12 @@ module _ (few : EventsAreFew) {S B : Type 0} (m : Machine S B) (outcome : S → 
   to_fed [] x w h = h
   to_fed (e ∷ es) x w h = (h.0, (h.1.0, (h.1.1, to_fed es h.0 (after w e) h.1.2)))
 
-  from_fed : (es : List Event) (x : Schedule) (w : World S B) → Fed sight over asks after x w es
+  pub from_fed : (es : List Event) (x : Schedule) (w : World S B) → Fed sight over asks after x w es
       → Feeds choose m outcome o script x w es
   from_fed [] x w h = h
   from_fed (e ∷ es) x w h = (h.0, (h.1.0, h.1.1.0, from_fed es h.0 (after w e) h.1.1.1))
 
-  begins : (s : S) (b : B) → Begins sight after 3 (first_world s b)
+  pub begins : (s : S) (b : B) → Begins sight after 3 (first_world s b)
   begins s b =
       let three = serves_three m outcome o script s b o.follow refl in (
         ready_is _ ∙ three.first,
@@ -514,7 +513,7 @@ module _ (few : EventsAreFew) {S B : Type 0} (m : Machine S B) (outcome : S → 
 
 -- ---- the words
 
-kept_numbered : (left : ℕ) (es : List Event) → AreNumbered es → Each IsNumbered (map event_word (behind left es))
+pub kept_numbered : (left : ℕ) (es : List Event) → AreNumbered es → Each IsNumbered (map event_word (behind left es))
 kept_numbered left [] h = tt
 kept_numbered left (Turn p ∷ es) h = (h.0, kept_numbered 0 es h.1)
 kept_numbered left (Serve ∷ es) h = go (nat_lt 0 left) (kept_numbered (left - 1) es h.1) (kept_numbered 0 es h.1)

@@ -1,6 +1,5 @@
 -- The events that a run notes.
 use Rattle.std.specs.Prelude.{◌≡◌, ℕ, Bool, true, false, ⊤, List, Option, Some, None, IfSome, codes}
-use Rattle.clap.specs.declared.parser.matches.ArgMatches.{ArgMatches}
 use Rattle.front_end.specs.declared.streams.Opened.{Opened}
 use Rattle.lx_abi.specs.declared.boot.Boot.{Boot}
 use Rattle.lx_abi.specs.declared.schedule.Event.{Event}
@@ -24,7 +23,7 @@ use Rattle.trace_command.specs.TurnsOut.{WritesTurns}
 use Rattle.trace_command.specs.declared.kept.Kept.{Kept}
 use Rattle.trace_command.specs.declared.kernel.Kernel.{Kernel}
 use Rattle.trace_command.specs.declared.kernel.Kernel.TheVariants.{Here, OnThreads, There}
-use Rattle.trace_words.specs.Plans.{IsAlike}
+use Rattle.trace_words.specs.Copies.{IsSame}
 use Rattle.trace_words.specs.declared.plan.Plan.{Plan}
 use Rattle.trace_words.specs.declared.asked.Workers.{Workers}
 
@@ -57,19 +56,18 @@ NotesOf (Some host) workers limit plan asked noted = ⊤
 
 -- ---- and what the file of them holds
 
--- a run that a host makes is made once more, by such a plan, where its events are asked for
-abbrev pub IsSecond : Option Workers → Option (List ℕ) → ArgMatches → Plan → Bool → Option Plan → Type 0
-IsSecond (Some workers) host words plan asked second = second ≡ None
-IsSecond None None words plan asked second = second ≡ None
-IsSecond None (Some host) words plan asked None = asked ≡ false
-IsSecond None (Some host) words plan asked (Some again) = IsAlike words plan again
+-- a run that a host makes is made once more, by the same plan, where its events are asked for
+abbrev pub IsSecond : Option Workers → Option (List ℕ) → Plan → Bool → Option Plan → Type 0
+IsSecond (Some workers) host plan asked second = second ≡ None
+IsSecond None None plan asked second = second ≡ None
+IsSecond None (Some host) plan asked None = asked ≡ false
+IsSecond None (Some host) plan asked (Some again) = IsSame plan again
 
 -- what is kept of the run of a plan, before it is made
 pub record IsKeptFor (wanted : Wanted) (plan : Plan) (kept : Kept) : Type 0 where
   pub asked : kept.asked.events ≡ is_noted wanted
   pub limit : kept.asked.limit ≡ wanted.options.limit
-  pub second : IsSecond wanted.options.workers (wants wanted (codes "host")) wanted.words plan kept.asked.events
-      kept.second
+  pub second : IsSecond wanted.options.workers (wants wanted (codes "host")) plan kept.asked.events kept.second
 
 -- what is asked for stays as it was
 abbrev pub AsksAlike : Kept → Kept → Type 0
@@ -88,21 +86,18 @@ abbrev pub WritesNoted : {F : Type 0} → (Opened F → Option (List ℕ)) → O
 WritesNoted held None kept = ⊤
 WritesNoted held (Some path) kept = WritesKept held path kept kept.second
 
--- It is written the words of the run's events. Threads' are those that were noted, of the run's journal. A host's are
--- those of a run in this process, by a plan of the same words, boot and schedule.
+-- It is written the words of the run's events. Threads' are those that were noted, of the run's journal. Else they are
+-- those of the run by this plan in this process, where a host made it too.
 
-abbrev pub WritesEventsTo : {F : Type 0} → (Opened F → Option (List ℕ)) → Option Workers → Option (List ℕ) → Wanted
-    → Plan → Option (List Event) → List ℕ → Type 0
-WritesEventsTo held (Some workers) host wanted plan noted path = IfSome noted (WritesTurns held path)
-WritesEventsTo held None None wanted plan noted path = WritesEventsOf held path wanted.options.limit plan
-WritesEventsTo held None (Some host) wanted plan noted path =
-    (again : Plan) × (IsAlike wanted.words plan again × WritesEventsOf held path wanted.options.limit again)
+abbrev pub WritesEventsTo : {F : Type 0} → (Opened F → Option (List ℕ)) → Option Workers → Wanted → Plan
+    → Option (List Event) → List ℕ → Type 0
+WritesEventsTo held (Some workers) wanted plan noted path = IfSome noted (WritesTurns held path)
+WritesEventsTo held None wanted plan noted path = WritesEventsOf held path wanted.options.limit plan
 
 abbrev pub WritesEventsAt : {F : Type 0} → (Opened F → Option (List ℕ)) → Wanted → Plan → Option (List Event)
     → Option (List ℕ) → Type 0
 WritesEventsAt held wanted plan noted None = ⊤
-WritesEventsAt held wanted plan noted (Some path) =
-    WritesEventsTo held wanted.options.workers (wants wanted (codes "host")) wanted plan noted path
+WritesEventsAt held wanted plan noted (Some path) = WritesEventsTo held wanted.options.workers wanted plan noted path
 
 abbrev pub WritesEvents : {F : Type 0} → (Opened F → Option (List ℕ)) → Wanted → Plan → Option (List Event) → Type 0
 WritesEvents held wanted plan noted = WritesEventsAt held wanted plan noted (wants wanted (codes "turns-out"))

@@ -1,7 +1,7 @@
 -- What a traced run writes, where it writes it, and what it leaves.
 use Rattle.std.specs.Prelude.{◌≡◌, ◌≢◌, ◌⊎◌, ℕ, ◌==◌, Bool, true, false, ◌||◌, ⊤, List, [], ◌∷◌, codes}
 use Rattle.std.specs.Prelude.{Option, None, Some, IsSome, is_some, option_map, find, Result, Ok, Err, IsErr}
-use Rattle.std.specs.Prelude.{IfOk, IfErr, OnErr, OnOk}
+use Rattle.std.specs.Prelude.{IfOk, IfErr, OnOk}
 use Rattle.std.specs.Io.Buffered.{reader_remaining}
 use Rattle.std.specs.Io.KnownBytes.{Keeps, append_known}
 use Rattle.clap.specs.Words.{first_value, found_of}

@@ -52,12 +52,12 @@ fn second(
     plan: &Plan,
 ) -> Result<Option<Plan>, AllocError>
     ensures { IfOk result
-        (IsSecond options.workers (value_of matches.now (codes "host")) matches.now plan.now asked.events) }
+        (IsSecond options.workers (value_of matches.now (codes "host")) plan.now asked.events) }
 {
     if !needs_second(matches, options, asked) {
         return Ok(None);
     }
-    match plan.again(alloc, matches) {
+    match plan.again(alloc) {
         Ok(again) => Ok(Some(again)),
         Err(error) => Err(error),
     }

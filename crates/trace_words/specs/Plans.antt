@@ -32,12 +32,3 @@ RefusesPlan remaining words options given fault =
     RefusesExpressions words fault
     ⊎ ((asked : Expressions)
     × (AskFor words asked × RefusesRun remaining words (given_words words options.follow) given fault))
-
--- Another plan of these words: of the same boot and schedule, traced so too, by the same expressions.
-pub record IsAlike (words : ArgMatches) (plan again : Plan) : Type 0 where
-  pub boot : again.boot ≡ plan.boot
-  pub turns : again.turns.items ≡ plan.turns.items
-  pub follow : again.options.follow ≡ plan.options.follow
-  pub string_limit : again.options.string_limit ≡ plan.options.string_limit
-  pub width : again.options.width ≡ plan.options.width
-  pub expressions : AskFor words (record { shown = again.options.shown; script = again.script })

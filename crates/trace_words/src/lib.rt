@@ -2,6 +2,7 @@
 #![tactic(auto)]
 
 mod asked;
+mod copies;
 mod option_fault;
 mod options;
 mod plan;

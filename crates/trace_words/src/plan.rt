@@ -1,11 +1,12 @@
 //! What a run is made of.
 
-ghost use Rattle.std.specs.Prelude.{◌≡◌, IfErr, IfOk};
+ghost use Rattle.std.specs.Prelude.{IfErr, IfOk};
 ghost use Rattle.trace_words.specs.Plans.{IsPlan, RefusesPlan};
 
 use crate::asked::TraceOptions;
+use crate::copies::{copy_options, copy_script, copy_words};
 use clap::ArgMatches;
-use front_end::{Expressions, Fault, check_outputs, read_boot, read_expressions, read_turns};
+use front_end::{Fault, check_outputs, read_boot, read_expressions, read_turns};
 use lx_abi::{Boot, Script, Word};
 use lx_copies::Copied;
 use std::alloc::{AllocError, Global};
@@ -22,35 +23,21 @@ pub struct Plan {
     pub turns: Vec<Word>,
 }
 
-fn copy_words(alloc: Global, words: &[Word]) -> Result<Vec<Word>, AllocError>
-    ensures { IfOk result (λ copy. copy.items ≡ words.now) }
-{
-    let mut copy = Vec::new(alloc);
-    for word in words {
-        copy.push(*word)?;
-    }
-    Ok(copy)
-}
-
 impl Plan {
-    ghost use Rattle.trace_words.specs.Plans.{IsAlike};
+    ghost use Rattle.trace_words.specs.Copies.{IsSame};
 
-    /// Another that is alike.
-    pub fn again(&self, alloc: Global, matches: &ArgMatches) -> Result<Plan, Fault>
-        ensures { IfOk result (IsAlike matches.now self.now) }
+    /// The same once more.
+    pub fn again(&self, alloc: Global) -> Result<Plan, AllocError>
+        ensures { IfOk result (IsSame self.now) }
     {
         let boot = self.boot.copy(alloc)?;
+        let script = copy_script(alloc, &self.script)?;
+        let options = copy_options(alloc, &self.options)?;
         let turns = copy_words(alloc, self.turns.as_slice())?;
-        let Expressions { shown, script } = read_expressions(alloc, matches)?;
         Ok(Plan {
             boot,
             script,
-            options: Options {
-                follow: self.options.follow,
-                shown,
-                string_limit: self.options.string_limit,
-                width: self.options.width,
-            },
+            options,
             turns,
         })
     }

@@ -2,4 +2,4 @@ use Rattle.sweep_faults.proofs.Fewer.{followed_words}
 use Rattle.sweep_faults.proofs.words.has_words.Goals as goal
 
 pub returns : goal.returns
-returns c = followed_words c.in_ok-fewer.fewer c.args.follow c.args.fault c.args.log.now c.if-not-follow.false c.in_ok-fewer.ensures
+returns c = followed_words c.in_ok-fewer.fewer c.args.follow c.args.fault c.args.log.now c.if-not-is_undone.false c.if-not-follow.false c.in_ok-fewer.ensures

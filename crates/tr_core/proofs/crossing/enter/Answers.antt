@@ -19,16 +19,17 @@ print_entry-requires c =
 pub returns : goal.returns
 returns c =
     let s = c.args.session.now in
-    let t = c.args.hand.now in
+    let t = c.args.tracee.now in
+    let pid = c.args.pid in
     let o = options_of s.settings in
     let got = got_of c.args.decoder in
     let called = c.call-called.result in
-    let next : c.in-Some.occurrence ≡ count_of s.counts t.pid called.number + 1 = search rules in
+    let next : c.in-Some.occurrence ≡ count_of s.counts pid called.number + 1 = search rules in
     entered o (script_of s.settings) c.args.registers got s
-    (record s { counts = c.count.new.self; printer = c.print_entry.new.printer }) t called c.choose-choice.result c.given-saved.result
+    (record s { counts = c.count.new.self; printer = c.print_entry.new.printer }) pid t called c.choose-choice.result c.given-saved.result
     c.joined.result c.go_on.result c.in_ok-bytes.bytes
     c.call-called.ensures (c.choose-choice.ensures ∙ ap (script_of s.settings called.number) next) c.given-saved.ensures c.joined.ensures
     c.go_on.ensures.place c.in_ok-count.ensures
-    (c.in_ok-bytes.ensures.bytes ∙ ap (λ x. wrote s.printer (enter_part o t.pid called x got)) c.stack_pointer-stack.ensures)
-    (c.in_ok-bytes.ensures.after ∙ ap (λ x. pen_after s.printer (enter_part o t.pid called x got)) c.stack_pointer-stack.ensures)
+    (c.in_ok-bytes.ensures.bytes ∙ ap (λ x. wrote s.printer (enter_part o pid called x got)) c.stack_pointer-stack.ensures)
+    (c.in_ok-bytes.ensures.after ∙ ap (λ x. pen_after s.printer (enter_part o pid called x got)) c.stack_pointer-stack.ensures)
     refl (c.go_on.ensures.held s.settings.options called)

@@ -1,12 +1,13 @@
 use Rattle.tr_core.specs.Settings.{options_of, script_of}
-use Rattle.tr_core.proofs.Kept.{reply_kept}
+use Rattle.tr_core.specs.Known.{place_of}
+use Rattle.tr_core.specs.Tracers.{known_in}
+use Rattle.pt_model.specs.Tracer.{hears}
+use Rattle.tr_core.proofs.Kept.{kept}
 use Rattle.tr_core.proofs.stepping.hear_reply.Goals as goal
 
 pub returns : goal.returns
-returns c = reply_kept (options_of c.args.core.now.session.settings) (script_of c.args.core.now.session.settings) c.args.pid c.args.place c.args.reply
-    c.tracee_at-tracee.result c.hear.new.hand c.in_ok-heard.heard c.hear.new.session c.args.core.now c.keep.new.core
-    c.tracee_at-tracee.ensures c.in_ok-heard.ensures
-    (record { known = c.in_ok-keep.ensures.known; focus = c.in_ok-keep.ensures.focus; rest = c.in_ok-keep.ensures.rest; holds = c.in_ok-keep.ensures.holds })
-
-pub hear-requires : goal.hear-requires
-hear-requires c = rw c.tracee_at-tracee.ensures c.requires
+returns c =
+    let old = c.args.core.now in
+    kept (hears (options_of old.session.settings) (script_of old.session.settings) c.args.pid (known_in old c.args.pid) (place_of c.args.place) c.args.reply)
+    c.args.pid c.in_ok-heard.heard c.hear_in.new.session c.hear_in.new.known old.living c.focus_at.result old
+    c.in_ok-heard.ensures c.focus_at.ensures.focus (c.focus_at.ensures.holds _ _ c.in_ok-heard.ensures.comes.held)

@@ -5,6 +5,6 @@ use Rattle.trace_command.proofs.prepared.second.Goals as goal
 
 pub returns-in-Ok : goal.returns-in-Ok
 returns-in-Ok c =
-    one_again c.args.options.workers (value_of c.args.matches.now (codes "host")) c.args.matches.now c.args.plan.now
-    c.in-Ok.again c.args.asked.events c.args.asked.waits (sym c.needs_second.ensures ∙ c.if-not-needs_second.false)
+    one_again c.args.options.workers (value_of c.args.matches.now (codes "host")) c.args.plan.now c.in-Ok.again
+    c.args.asked.events c.args.asked.waits (sym c.needs_second.ensures ∙ c.if-not-needs_second.false)
     c.in-Ok.ensures

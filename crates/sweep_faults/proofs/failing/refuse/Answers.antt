@@ -1,5 +1,5 @@
 use Rattle.sweep_faults.proofs.Rows.{choosing_log}
-use Rattle.sweep_faults.proofs.moving.fail.Goals as goal
+use Rattle.sweep_faults.proofs.failing.refuse.Goals as goal
 
 pub returns-in-Ok-clause-logged : goal.returns-in-Ok-clause-logged
 returns-in-Ok-clause-logged c =
