@@ -57,7 +57,7 @@ where
     ensures { Exits (λ matches status held. TracesAsked R.File.remaining (opened_contents R.File.contents)
         (Runs R.Started R.Started.Stderr R.Started.Stdout.remaining R.Started.Stdin.contents)
         (WritesEvents (opened_contents R.File.contents)) matches (I.remaining input.old) status (O.contents out) held)
-        parsed result }
+        parsed.entry result }
 {
     let alloc = rt.alloc();
     match parsed {
