@@ -1,9 +1,8 @@
 //! What a program says of its faults, and of itself.
 
-ghost use Rattle.std.specs.Prelude.{◌≡◌, ◌++◌, ◌⊎◌, Err, IfErr, IfOk, OnOk, codes, true};
-ghost use Rattle.std.specs.Io.KnownBytes.{Appends};
-ghost use Rattle.front_end.specs.Statuses.{IsStatusOf, is_output_or_memory, is_usage_or_memory, status_of};
-ghost use Rattle.front_end.specs.Texts.{GivesReason, Reports, line_of, reason_of};
+ghost use Rattle.std.specs.Prelude.{◌≡◌, ◌⊎◌, Err, IfErr, IfOk, OnOk, true};
+ghost use Rattle.front_end.specs.Statuses.{IsStatusOf, is_output_or_memory, is_usage_or_memory};
+ghost use Rattle.front_end.specs.Texts.{GivesReason, reason_of};
 
 use crate::fault::{Fault, HOST};
 use clap::Error;
@@ -20,11 +19,6 @@ struct Line<'f> {
 }
 
 impl Display for Line<'_> {
-    ghost use Rattle.std.specs.Prelude.{Some};
-    ghost use Rattle.front_end.specs.Texts.{line_of};
-
-    ghost output = { λ line. Some (line_of line.program.now line.fault.now) };
-
     fn fmt<W: fmt::Write>(&self, f: &mut Formatter<W>) -> fmt::Result {
         let program = self.program;
         match self.fault {
@@ -42,10 +36,7 @@ impl Display for Line<'_> {
 }
 
 /// Writes a fault's line.
-fn tell_line<E: Write>(program: &str, fault: &Fault, err: &mut E) -> io::Result<()>
-    ensures { OnOk result (Appends (E.contents err.old) (E.contents err.new)
-        (line_of program.now fault.now ++ codes "\n")) }
-{
+fn tell_line<E: Write>(program: &str, fault: &Fault, err: &mut E) -> io::Result<()> {
     writeln!(err, "{}", Line { program, fault })
 }
 
@@ -61,9 +52,7 @@ fn tell_reason<E: Write>(program: &str, fault: &Fault, err: &mut E) -> io::Resul
 }
 
 /// Writes a fault, and its reason where it is to be explained.
-fn tell<E: Write>(program: &str, fault: &Fault, explained: bool, err: &mut E) -> io::Result<()>
-    ensures { OnOk result (Reports program.now fault.now explained (E.contents err.old) (E.contents err.new)) }
-{
+fn tell<E: Write>(program: &str, fault: &Fault, explained: bool, err: &mut E) -> io::Result<()> {
     tell_line(program, fault, err)?;
     if !explained {
         return Ok(());
@@ -75,8 +64,6 @@ fn tell<E: Write>(program: &str, fault: &Fault, explained: bool, err: &mut E) ->
 /// Reports a program's fault in one line on `err`, and in another its reason where it is to be explained. Gives its
 /// status, or that of an output that can't be written where this couldn't be.
 pub fn report<E: Write>(program: &str, fault: &Fault, explained: bool, err: &mut E) -> u8
-    ensures told { ((result ≡ status_of fault.now)
-        × Reports program.now fault.now explained (E.contents err.old) (E.contents err.new)) ⊎ (result ≡ 3) }
     ensures status { IsStatusOf (Err fault.now) result }
     ensures usage { is_usage_or_memory fault.now ≡ true → (result ≡ 2) ⊎ (result ≡ 3) }
     ensures output { is_output_or_memory fault.now ≡ true → result ≡ 3 }

@@ -1,6 +1,8 @@
 -- The report on a sweep.
-use Rattle.std.specs.Prelude.{◌≡◌, ◌⊎◌, ⊤, ℕ, suc, ◌-◌, ◌<◌, ◌==◌, ◌&&◌, ◌||◌, nat_lt, take, cond, Bool, true, false, List, [], ◌∷◌, ◌++◌, length, Option, Some, None, map, String}
+use Rattle.std.specs.Prelude.{◌≡◌, ◌⊎◌, ⊤, ℕ, suc, ◌-◌, ◌<◌, ◌==◌, ◌&&◌, ◌||◌, nat_lt, take, cond, Bool, true, false, List, [], ◌∷◌, ◌++◌, length, Option, Some, None, Result, IfOk, map, String}
 use Rattle.std.specs.List.{list_any, slice_get}
+use Rattle.front_end.specs.Statuses.{IsStatusOf}
+use Rattle.front_end.specs.declared.fault.Fault.{Fault}
 use Rattle.sweep_command.specs.Checks.{AreTold}
 use Rattle.sweep_command.specs.Choosing.{AreChosen}
 use Rattle.sweep_command.specs.Naming.{listed, names}
@@ -165,3 +167,7 @@ pub record IsOfSweep (s : ℕ) : Type 0 where
   pub reference : Reached
   pub runs : Reaches plan.setup [] reference
   pub of_report : IsOfReport plan words reference s
+
+-- the program's status, where the parser takes its words, is that of the sweep, or of the fault in which it ended
+abbrev pub IsSwept : ℕ → Type 0
+IsSwept s = (ended : Result ℕ Fault) × (IfOk ended IsOfSweep × IsStatusOf ended s)

@@ -1,9 +1,11 @@
 //! The program as a function of its words, its input and its outputs.
 
+ghost use Rattle.sweep_command.specs.Reports.{IsSwept};
+
 use crate::sweeping::sweep;
 use clap::ArgMatches;
 use clap::error::ErrorKind;
-use front_end::{Fault, print_help, refusal, report, shown_words};
+use front_end::{Fault, print_help, refusal, report, settle, shown_words};
 use std::alloc::Global;
 use std::env::Env;
 use std::io::{IsTerminal, Read, Write};
@@ -45,12 +47,12 @@ fn run<
     I: Read + IsTerminal,
     O: Write + IsTerminal,
     E: Write + IsTerminal,
->(rt: &R, matches: &ArgMatches, input: &mut I, out: &mut O, err: &mut E) -> u8 {
+>(rt: &R, matches: &ArgMatches, input: &mut I, out: &mut O, err: &mut E) -> u8
+    ensures { IsSwept result }
+{
     let explained = matches.get_flag("explain") || err.is_terminal();
-    match sweep(rt, matches, explained, input, out, err) {
-        Ok(status) => status,
-        Err(fault) => report(NAME, &fault, explained, err),
-    }
+    let ended = sweep(rt, matches, explained, input, out, err);
+    settle(NAME, ended, explained, err)
 }
 
 /// What is wrong with words that the parser refuses for a fault of this kind.

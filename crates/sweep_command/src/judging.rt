@@ -9,7 +9,6 @@ use crate::checking::Checks;
 use clap::ArgMatches;
 use front_end::{Fault, Shown};
 use std::alloc::Global;
-use std::collections::VecDeque;
 use std::env::{self, Env};
 use std::process::Processes;
 use std::rt::Files;
@@ -127,10 +126,9 @@ fn judge_rows<R: Files + Processes + AllocGlobal>(
     ensures { IfOk result (λ told. AreJudged setup.now reference.now rows.items told.items) }
 {
     let mut told = Vec::new(rt.alloc());
-    let mut left = VecDeque::from_vec(rows);
-    while let Some(row) = left.pop_front() {
-        let row = judge_row(rt, checks, setup, reference, row)?;
-        told.push(row)?;
+    for row in rows {
+        let judged = judge_row(rt, checks, setup, reference, row)?;
+        told.push(judged)?;
     }
     Ok(told)
 }
@@ -148,7 +146,8 @@ pub fn told_rows<R: Files + Processes + Threads + Sync + AllocGlobal>(
 {
     let jobs = words.jobs;
     let rows = rows_on_threads(rt, rt.alloc(), jobs, setup, reference, cases, &mut Silent)?;
-    if !words.is_checked {
+    let is_checked = words.is_checked;
+    if !is_checked {
         return Ok(rows);
     }
     let judged = judge_rows(rt, checks, setup, reference, rows)?;

@@ -108,7 +108,6 @@ fn has_entered(kernel: &Kernel, pid: u32, call: u64) -> Result<bool, AllocError>
 
 impl Awaited {
     /// A failure of a process that has entered no call.
-    #[tactic(auto, using(crate::proofs::Standing::awaits_first))]
     pub(crate) fn new(fault: Fault) -> Self
         ensures fault { result.fault ≡ fault }
         ensures none { Awaits result [] }

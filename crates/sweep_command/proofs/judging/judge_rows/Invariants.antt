@@ -1,4 +1,5 @@
-use Rattle.std.proofs.Common.{◌++◌, List, length}
+use Rattle.std.proofs.Common.{◌≡◌, ◌++◌, List, length}
+use Rattle.std.specs.Vec.Iter.{into_iter_items, into_iter_len}
 use Rattle.sweep_runs.specs.declared.sweeping.Row.{Row}
 use Rattle.sweep_command.specs.Checks.{AreJudged}
 use Rattle.sweep_command.proofs.judging.judge_rows.Given as goal
@@ -6,8 +7,6 @@ use Rattle.sweep_command.proofs.judging.judge_rows.Given as goal
 -- rows of those that are left are the last of all
 abbrev pub invariant-loop-row : goal.invariant-loop-row
 invariant-loop-row g l =
-    (more : List Row) → AreJudged l.setup l.reference l.left.items more
-    → AreJudged l.setup l.reference l.fn.rows.items (l.told.items ++ more)
-
-abbrev pub decreases-loop-row : goal.decreases-loop-row
-decreases-loop-row g l = length l.left.items
+    ((more : List Row) → AreJudged l.setup l.reference (into_iter_items l.row-iterator) more
+    → AreJudged l.setup l.reference l.fn.rows.items (l.told.items ++ more))
+    × (into_iter_len l.row-iterator ≡ length (into_iter_items l.row-iterator))

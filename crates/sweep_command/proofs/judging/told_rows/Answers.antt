@@ -1,22 +1,14 @@
-use Rattle.std.proofs.Common.{◌≡◌, Bool, true, false, not, refl, subst}
+use Rattle.std.proofs.Common.{Bool, sym, subst}
 use Rattle.sweep_command.specs.Checks.{AreTold}
 use Rattle.sweep_command.proofs.Judged.{judged_are_told, made_are_told}
 use Rattle.sweep_command.proofs.judging.told_rows.Goals as goal
 
-unless : (b : Bool) → not b ≡ true → false ≡ b
-unless true e = absurd (cc e)
-unless false e = refl
-
-when : (b : Bool) → not b ≡ false → true ≡ b
-when true e = refl
-when false e = absurd (cc e)
-
-pub returns-then-is_checked : goal.returns-then-is_checked
-returns-then-is_checked g c =
+pub returns-then-not-is_checked : goal.returns-then-not-is_checked
+returns-then-not-is_checked g c =
     let s = c.args.setup.now in
     let r = c.args.reference.now in
     let rows = c.in_ok-rows.rows.items in
-    subst (λ (b : Bool). AreTold b s r c.args.cases.now rows) (unless c.args.words.is_checked c.if-is_checked.true)
+    subst (λ (b : Bool). AreTold b s r c.args.cases.now rows) (sym c.if-not-is_checked.true)
     (made_are_told s r c.args.cases.now rows c.in_ok-rows.ensures)
 
 pub returns : goal.returns
@@ -25,5 +17,5 @@ returns g c =
     let r = c.args.reference.now in
     let made = c.in_ok-rows.rows.items in
     let rows = c.in_ok-judged.judged.items in
-    subst (λ (b : Bool). AreTold b s r c.args.cases.now rows) (when c.args.words.is_checked c.if-is_checked.false)
+    subst (λ (b : Bool). AreTold b s r c.args.cases.now rows) (sym c.if-not-is_checked.false)
     (judged_are_told s r c.args.cases.now made rows c.in_ok-rows.ensures c.in_ok-judged.ensures)
