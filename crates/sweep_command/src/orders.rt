@@ -1,6 +1,7 @@
 //! The report on orders of turns: a line for each result.
 
 ghost use Rattle.std.specs.Prelude.{◌≡◌, cond, length, IfOk};
+ghost use Rattle.std.specs.List.{list_any};
 ghost use Rattle.sweep_orders.specs.Orders.{AreOrders};
 ghost use Rattle.sweep_command.specs.Reports.{hangs, fails, orders_status, IsOfOrders};
 
@@ -352,11 +353,18 @@ fn fails(found: &[Found], one: bool) -> bool
     hangs(found) || (one && found.len() > 1)
 }
 
+/// What some result left is broken.
+fn has_broken(broken: &[bool]) -> bool
+    ensures { result ≡ list_any (λ b. b) broken.now }
+{
+    broken.iter().any(|mark| *mark)
+}
+
 /// 1 where orders fail, or what one left is broken.
 fn status_of(found: &[Found], one: bool, broken: &[bool]) -> u8
     ensures { result ≡ orders_status one found.now broken.now }
 {
-    if fails(found, one) || broken.iter().any(|mark| *mark) {
+    if fails(found, one) || has_broken(broken) {
         1
     } else {
         0
