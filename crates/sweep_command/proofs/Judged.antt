@@ -1,5 +1,5 @@
 -- Rows that a command has judged are told.
-use Rattle.std.proofs.Common.{◌≡◌, List, [], ◌∷◌, true, map, All, refl, ap, ap₂, sym, subst, ◌∙◌}
+use Rattle.std.proofs.Common.{◌≡◌, List, [], ◌∷◌, true, false, map, All, refl, ap, ap₂, sym, subst, ◌∙◌}
 use Rattle.std.proofs.lemmas.List.Elements.{All-nil, All-cons, All-head, All-tail}
 use Rattle.sweep_rows.specs.declared.verdicts.Reached.{Reached}
 use Rattle.sweep_runs.specs.Rows.{AreRows, IsRow}

@@ -9,7 +9,7 @@ use Rattle.sweep_command.proofs.judging.ask.Goals as goal
 pub returns : goal.returns
 returns g c =
     let made = c.args.row in
-    let run = c.in_ok-run.run in
+    let run = c.in_ok-run.run' in
     let fine = c.in_ok-fine.fine in
     let told = checked fine (verdict_of (facts_of c.args.reference.now run [] made.case.tells)) in
     record {

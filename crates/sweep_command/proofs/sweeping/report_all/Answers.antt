@@ -3,12 +3,12 @@ use Rattle.sweep_command.specs.Reports.{IsOfAll}
 use Rattle.sweep_words.specs.declared.words.Orders.{Orders}
 use Rattle.sweep_command.proofs.sweeping.report_all.Goals as goal
 
-pub returns-in-Some : goal.returns-in-Some
-returns-in-Some g c =
+pub returns-in_ok-of_orders-in-Some : goal.returns-in_ok-of_orders-in-Some
+returns-in_ok-of_orders-in-Some g c =
     subst (λ (o : Option Orders). IsOfAll c.args.plan.now c.args.words c.args.reference.now o c.in_ok-of_orders.of_orders)
     (sym c.in-Some.is) c.in_ok-of_orders.ensures
 
-pub returns-in-None : goal.returns-in-None
-returns-in-None g c =
+pub returns-in_ok-of_rows-in-None : goal.returns-in_ok-of_rows-in-None
+returns-in_ok-of_rows-in-None g c =
     subst (λ (o : Option Orders). IsOfAll c.args.plan.now c.args.words c.args.reference.now o c.in_ok-of_rows.of_rows)
     (sym c.in-None.is) c.in_ok-of_rows.ensures
