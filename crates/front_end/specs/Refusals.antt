@@ -1,5 +1,5 @@
--- What is refused of a command's words, of its files and of its input, and what the fault's text begins with. Of several
--- the first in this order is told; and memory may run out anywhere.
+-- What is refused of a command's words, of its files and of its input, and what the fault's text begins with. Of
+-- several the first in this order is told; and memory may run out anywhere.
 use Rattle.std.specs.Prelude.{◌≡◌, ◌⊎◌, ℕ, true, false, List, Option, None, Some, IsSome, codes}
 use Rattle.clap.specs.declared.parser.matches.ArgMatches.{ArgMatches}
 use Rattle.lx_abi.specs.declared.boot.Boot.{Boot}

@@ -36,8 +36,8 @@ fn ends_within(alloc: Global, setup: &mut Setup, turns: u64) -> Result<bool, Fau
     }
 }
 
-/// Lowers the limit of all runs to ten times the turns of the one without a failure, rounded up to a power of ten, and a
-/// million, if it ends within few.
+/// Lowers the limit of all runs to ten times the turns of the one without a failure, rounded up to a power of ten, and
+/// a million, if it ends within few.
 fn lower_limit(alloc: Global, setup: &mut Setup) -> Result<(), Fault> {
     let most = setup.limit;
     for turns in TRIED {

@@ -36,8 +36,8 @@ unfoldable pub RunsComeAgain : Type 0
 RunsComeAgain = (boot : Boot) (words : List Word) (limit : ℕ) (script : List Rule) (options : Options) (run : Run)
     (r : RunOf boot (worded words limit) script options run) → ComesAgain boot limit script options run r.events
 
--- So it is where threads made the turns: what they did in any order is made again by one, from the events that are noted
--- of their journal.
+-- So it is where threads made the turns: what they did in any order is made again by one, from the events that are
+-- noted of their journal.
 unfoldable pub ThreadRunsComeAgain : Type 0
 ThreadRunsComeAgain = (boot : Boot) (limit : ℕ) (script : List Rule) (options : Options) (noted : NotedRun)
     → limit ≤ most_events → IsNotedRun boot limit script options false true noted
