@@ -42,11 +42,11 @@ use Rattle.trace_threads.specs.declared.fault.ThreadsFault.TheVariants.{Boot as 
 use Rattle.trace_threads.specs.declared.noted.NotedRun.{NotedRun}
 
 -- The boot isn't refused. There is a journal, of at most so many events, which leads the ptrace machine from the boot
--- to this host, by the tracer's requests; each turn is of the next able process in the cycle, and each Serve is answered, so no event does
--- nothing. By its events the run is what a run in one thread is by a list of events: the untraced kernel's, from the
--- boot's files, input and words, under the script. Out of turns is only a run whose journal is as long as the limit, or
--- in whose last state a request waits and nobody is able, or, where the gate may be shut at all, one whose gate was
--- shut.
+-- to this host, by the tracer's requests; each turn is of the next able process in the cycle, and each Serve is
+-- answered, so no event does nothing. By its events the run is what a run in one thread is by a list of events: the
+-- untraced kernel's, from the boot's files, input and words, under the script. Out of turns is only a run whose journal
+-- is as long as the limit, or in whose last state a request waits and nobody is able, or, where the gate may be shut at
+-- all, one whose gate was shut.
 pub record ThreadRun (boot : Boot) (limit : ℕ) (script : List Rule) (options : Options) (shuts : Bool) (run : Run)
     : Type 0 where
   pub accepted : fault_of boot ≡ None
