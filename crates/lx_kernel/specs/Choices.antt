@@ -38,7 +38,8 @@ after_choosing k pid choice = record k { running = running_turn linux (always ch
 -- what the kernel's script does to the call
 abbrev pub scripted : Run → ℕ → Choice
 scripted k pid =
-    choice_at linux (choice_of k.script) (traces k.follow pid) (λ n. entries pid n k.running.log) (at Gone k.running.tasks pid)
+    choice_at linux (choice_of k.script) (traces k.follow pid) (λ n. entries pid n k.running.log)
+    (at Gone k.running.tasks pid)
 
 -- The law: a turn is the one in which that is done
 abbrev pub TurnsChoose : Type 0

@@ -340,7 +340,8 @@ pub fn advance_at(
 ) -> Result<Advanced, AllocError>
     requires { item.old ≡ None }
     ensures leads { IfOk result (λ a. (k : KernelRun) → Fits k injection.now shared.old child pid
-        → k.running.tasks ≡ tasks.old → Leads k pid a.turns item.new Plain (with_log (with_tasks k tasks.new) item.new)) }
+        → k.running.tasks ≡ tasks.old
+        → Leads k pid a.turns item.new Plain (with_log (with_tasks k tasks.new) item.new)) }
     ensures within { IfOk result (λ a. a.turns ≤ limit) }
     ensures before { IfOk result (λ a. a.before
         ≡ task_mode_of (maps.get shared.old.entries pid) (at Gone tasks.old pid)) }

@@ -469,8 +469,10 @@ impl Kernel {
         ensures before { IfOk result (λ m. m.before ≡ mode_in self.old pid) }
         ensures after { IfOk result (λ m. m.after ≡ mode_in self.new pid) }
         ensures item { IfOk result (λ m. m.item ≡ item_of (turn_in (under self.old script) pid)) }
-        ensures event { IfOk result (λ m. m.event ≡ by_pid self.old.running.child (turn_in (under self.old script) pid).event) }
-        ensures turned { OnOk result (self.new ≡ record self.old { running = (after_turn (under self.old script) pid).running }) }
+        ensures event { IfOk result
+            (λ m. m.event ≡ by_pid self.old.running.child (turn_in (under self.old script) pid).event) }
+        ensures turned { OnOk result
+            (self.new ≡ record self.old { running = (after_turn (under self.old script) pid).running }) }
         ensures failed { OnErr result (IsTrue self.new.failed) }
         ensures failed_before { IsTrue self.old.failed → IsErr result }
         ensures log { OnErr result (self.new.running.log ≡ self.old.running.log) }
@@ -490,7 +492,8 @@ impl Kernel {
         ensures before { IfOk result (λ m. m.before ≡ mode_in self.old pid) }
         ensures after { IfOk result (λ m. m.after ≡ mode_in self.new pid) }
         ensures item { IfOk result (λ m. m.item ≡ item_of (turn_choosing_in self.old pid choice)) }
-        ensures event { IfOk result (λ m. m.event ≡ by_pid self.old.running.child (turn_choosing_in self.old pid choice).event) }
+        ensures event { IfOk result
+            (λ m. m.event ≡ by_pid self.old.running.child (turn_choosing_in self.old pid choice).event) }
         ensures turned { OnOk result (self.new ≡ after_choosing self.old pid choice) }
 
         // As of a turn. This one needs memory.

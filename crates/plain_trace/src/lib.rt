@@ -1,7 +1,6 @@
 //! The trace of a run without a tracer, as strace(1) prints it.
 #![tactic(auto)]
 
-pub mod info;
 pub mod laws;
 pub mod part;
 pub mod reading;

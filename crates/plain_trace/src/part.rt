@@ -7,11 +7,11 @@ ghost use Rattle.plain_trace.specs.Shown.{after_parts, entry_parts, parts_of, re
 ghost use Rattle.pt_model.specs.Parts.{At_entry, At_exit};
 ghost use Rattle.tr_line.specs.Printing.{written};
 
-use crate::info::info;
 use crate::reading::{decode, stack};
 use containers::Bytes;
 use lx_abi::{Call, Item};
 use lx_kernel::Kernel;
+use pt_kernel::info_of;
 use std::alloc::{AllocError, Global};
 use tr_args::Half;
 use tr_core::Options;
@@ -109,7 +109,7 @@ pub fn print_item(
             Ok(bytes)
         }
         Item::Taken { pid, signal, cause } => {
-            let bytes = printer.signal(pid, &info(signal, cause))?;
+            let bytes = printer.signal(pid, &info_of(signal, cause))?;
             Ok(bytes)
         }
         Item::Stopped { pid, signal } => {

@@ -101,13 +101,13 @@ state k x turns pending = record { hosting = hosting_by k.running x turns pendin
 
 module _ (x : Tracees) (p : ℕ) where
   abbrev kept_tracees : Traced → Tracees
-  kept_tracees t = tracees_after x p t (record { stop = None; dying = false; event = Plain })
+  kept_tracees t = tracees_after x p t None false Plain
 
-  kept_by : (o : Option Traced) → maps.get x.traced p ≡ o → (unwrap_or o untraced).held ≡ false → stopped_at x.traced p (unwrap_or o untraced).message (unwrap_or o untraced).options (record { stop = None; dying = false; event = Plain }) ≡ x.traced
+  kept_by : (o : Option Traced) → maps.get x.traced p ≡ o → (unwrap_or o untraced).held ≡ false → stopped_at x.traced p (unwrap_or o untraced).message (unwrap_or o untraced).options None Plain ≡ x.traced
   kept_by None e h = refl
   kept_by (Some t) e h = of_options t.options refl
     where
-      of_options : (w : Option TraceOptions) → t.options ≡ w → stopped_at x.traced p t.message w (record { stop = None; dying = false; event = Plain }) ≡ x.traced
+      of_options : (w : Option TraceOptions) → t.options ≡ w → stopped_at x.traced p t.message w None Plain ≡ x.traced
       of_options None f = refl
       of_options (Some w) f = put_same x.traced p (record { held = false; options = Some w; message = t.message })
           (e ∙ ap₂ (λ held options. Some (record { held = held; options = options; message = t.message })) h f)
@@ -154,7 +154,7 @@ module _ (x : Tracees) (pending : Option Request) (p : ℕ) (t : Traced) (known 
 
   module _ (k' : KernelRun) (x' : Tracees) (turns' : List ℕ) (stop : Option Stop) (dying : Bool) (e : PtraceEvent ℕ) (stands : Option Mode) (item : Option Item)
       (e_after : stands ≡ mode_in k' p) (e_stop : stop ≡ stop_after t.options stands item e) (e_dying : dying ≡ dies_after stands e)
-      (e_x : x' ≡ tracees_after x p t (record { stop = stop; dying = dying; event = e })) where
+      (e_x : x' ≡ tracees_after x p t stop dying e) where
     last_made : (k : KernelRun) (turns : List ℕ) → k.script ≡ [] → is_effective linux k.running.shared p (as_proc (task_in k p) t) ≡ true → IsTurn k p item e k' → turns' ≡ turns ++ p ∷ [] →
         record { hosting = hosting_by k'.running x' turns' pending; follow = k.follow; failed = false } ≡ after (state k x turns pending) (Turn p)
     last_made k turns empty effective last e_turns =

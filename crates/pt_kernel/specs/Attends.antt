@@ -36,7 +36,8 @@ pub record Attends (h : HostState) (s : Schedule) (z : Attended) : Type 0 where
   pub is_fed : IsFed h s fed z
 
 -- and they are noted
-pub record Notes (h : HostState) (s : Schedule) (noted : Option (List Event)) (z : Attended) (noted' : Option (List Event)) :
+pub record Notes (h : HostState) (s : Schedule) (noted : Option (List Event)) (z : Attended)
+    (noted' : Option (List Event)) :
     Type 0 where
   pub attends : Attends h s z
   pub noted_are : noted' ≡ noting noted attends.fed

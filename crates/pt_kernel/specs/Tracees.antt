@@ -1,5 +1,5 @@
 -- What a host keeps of the processes that a tracer has to do with (ptrace(2), wait(2)).
-use Rattle.std.specs.Prelude.{ℕ, ◌==◌, true, cond, not, List, [], ◌∷◌, ◌++◌, Option, Some, None, filter}
+use Rattle.std.specs.Prelude.{ℕ, ◌==◌, Bool, true, cond, not, List, [], ◌∷◌, ◌++◌, Option, Some, None, filter}
 use Rattle.std.specs.Ordering.{nat_cmp}
 use Rattle.std.specs.FinMap as maps
 use Rattle.lx_abi.specs.declared.ptrace.Reply.{Reply}
@@ -15,7 +15,6 @@ use Rattle.pt_model.specs.Ptrace.{inherits, is_there, reports_of, without}
 use Rattle.pt_model.specs.Requests.{echild, told}
 use Rattle.pt_model.specs.Hosting.{message_after, released}
 use Rattle.pt_kernel.specs.declared.tracees.Tracees.{Tracees}
-use Rattle.pt_kernel.specs.declared.tracees.Turned.{Turned}
 
 -- A turn
 
@@ -23,12 +22,12 @@ abbrev pub Traceds : Type 0
 Traceds = maps.FinMap nat_cmp Traced
 
 -- a tracee that has come to a stop is held; of who is none nothing is kept
-abbrev pub stopped_at : Traceds → ℕ → ℕ → Option TraceOptions → Turned → Traceds
-stopped_at traced p message None t = traced
-stopped_at traced p message (Some w) t = maps.insert traced p (record {
-  held = is_there t.stop;
+abbrev pub stopped_at : Traceds → ℕ → ℕ → Option TraceOptions → Option Stop → PtraceEvent ℕ → Traceds
+stopped_at traced p message None stop event = traced
+stopped_at traced p message (Some w) stop event = maps.insert traced p (record {
+  held = is_there stop;
   options = Some w;
-  message = message_after message p w t.event;
+  message = message_after message p w event;
 })
 
 -- a process becomes a tracee, and its EVENT_STOP is reported
@@ -50,12 +49,12 @@ with_birth x w Execed = x
 with_birth x w (Forked child) = with_newborn x child (inherits w)
 
 -- the stop is reported last; a process that is dying has no earlier report
-abbrev pub after_turn : Tracees → ℕ → Traced → Turned → Tracees
-after_turn x p traced t = with_birth (record {
-  traced = stopped_at x.traced p traced.message traced.options t;
-  queue = cond t.dying (without p x.queue) x.queue ++ reports_of p t.stop;
+abbrev pub after_turn : Tracees → ℕ → Traced → Option Stop → Bool → PtraceEvent ℕ → Tracees
+after_turn x p traced stop dying event = with_birth (record {
+  traced = stopped_at x.traced p traced.message traced.options stop event;
+  queue = cond dying (without p x.queue) x.queue ++ reports_of p stop;
   pids = x.pids;
-}) traced.options t.event
+}) traced.options event
 
 -- Wait
 

@@ -41,7 +41,7 @@ fn refusal(errno: Errno) -> Reply
 }
 
 /// The siginfo_t of a signal.
-fn info_of(signal: Signal, cause: Cause) -> Info
+pub fn info_of(signal: Signal, cause: Cause) -> Info
     ensures { result ≡ info_of signal cause }
 {
     let (code, pid, status, address) = match cause {

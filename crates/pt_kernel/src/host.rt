@@ -14,8 +14,8 @@ ghost use Rattle.pt_kernel.specs.Bursts.{after, mode_at, IsRunning, RunsOn};
 
 use crate::pending::{Asked, Pending};
 use crate::serving::serve;
-use crate::stops::{dies_after, is_effective, stop_after};
-use crate::tracees::{Tracees, Turned};
+use crate::stops::is_effective;
+use crate::tracees::Tracees;
 use lx_abi::{Boot, Event, Mode, Outcome, Reply, Request, Script};
 use lx_boot::BootFault;
 use lx_kernel::{Failed, Kernel};
@@ -164,12 +164,7 @@ impl Host {
         self.failed = true;
         let mut item = None;
         let advanced = self.kernel.advance(pid, most, &mut item)?;
-        let turned = Turned {
-            stop: stop_after(traced.options, advanced.after, item, advanced.event),
-            dying: dies_after(advanced.after, advanced.event),
-            event: advanced.event,
-        };
-        self.tracees.turn(pid, traced, turned)?;
+        self.tracees.turn(pid, traced, advanced, item)?;
         self.turns.extend(pid, advanced.turns)?;
         self.failed = false;
         Ok(advanced.turns - 1)

@@ -13,6 +13,7 @@ pub mod serving;
 pub mod stops;
 pub mod tracees;
 
+pub use answers::info_of;
 pub use attending::attend;
 pub use events::{EventRow, Events};
 pub use host::{Busy, Host};

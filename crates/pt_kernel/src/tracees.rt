@@ -6,10 +6,13 @@ ghost use Rattle.lx_model.specs.Finite.{at};
 ghost use Rattle.pt_model.specs.Ptrace.{inherits, reports_of, without};
 ghost use Rattle.pt_model.specs.Hosting.{message_after, untraced, released, wait_ready};
 ghost use Rattle.pt_model.specs.Requests.{told};
+ghost use Rattle.pt_kernel.specs.Stops.{stop_after, dies_after};
 ghost use Rattle.pt_kernel.specs.Tracees.{stopped_at, with_newborn, with_birth, attached, after_turn, waited, tells, took, seized};
 
 use crate::queue::ReportQueue;
-use lx_abi::{Errno, EventStop, Reply, Stop, TraceOptions};
+use crate::stops::{dies_after, stop_after};
+use lx_abi::{Errno, EventStop, Item, Reply, Stop, TraceOptions};
+use lx_kernel::Advanced;
 use lx_model::PtraceEvent;
 use pt_model::{Report, Traced};
 use shelves::Shelf;
@@ -24,14 +27,6 @@ pub struct Tracees {
     pub queue: ReportQueue<Report>,
     /// The tracees whose end wasn't waited for, in the order in which they came.
     pub pids: ReportQueue<u32>,
-}
-
-/// What a turn came to, as a tracer is told of it.
-#[derive(Clone, Copy, Debug, PartialEq, Eq)]
-pub struct Turned {
-    pub stop: Option<Stop>,
-    pub dying: bool,
-    pub event: PtraceEvent<u32>,
 }
 
 /// The options of a child, where it is a tracee.
@@ -114,19 +109,25 @@ impl Tracees {
     }
 
     /// A tracee that has come to a stop is held.
-    fn stop(&mut self, pid: u32, traced: Traced, turned: Turned) -> Result<(), AllocError>
+    fn stop(
+        &mut self,
+        pid: u32,
+        traced: Traced,
+        stop: Option<Stop>,
+        event: PtraceEvent<u32>,
+    ) -> Result<(), AllocError>
         ensures { OnOk result
             (self.new ≡ record self.old {
-              traced = stopped_at self.old.traced pid traced.message traced.options turned;
+              traced = stopped_at self.old.traced pid traced.message traced.options stop event;
             }) }
     {
         match traced.options {
             None => Ok(()),
             Some(options) => {
                 let stopped = Traced {
-                    held: turned.stop.is_some(),
+                    held: stop.is_some(),
                     options: Some(options),
-                    message: message_after(traced.message, pid, options, turned.event),
+                    message: message_after(traced.message, pid, options, event),
                 };
                 self.traced.insert(pid, stopped)?;
                 Ok(())
@@ -200,13 +201,23 @@ impl Tracees {
         }
     }
 
-    /// What a turn of a process leaves.
-    pub fn turn(&mut self, pid: u32, traced: Traced, turned: Turned) -> Result<(), AllocError>
-        ensures { OnOk result (self.new ≡ after_turn self.old pid traced turned) }
+    /// What turns of a process leave that came to this, and of which the last logged this.
+    pub fn turn(
+        &mut self,
+        pid: u32,
+        traced: Traced,
+        advanced: Advanced,
+        item: Option<Item>,
+    ) -> Result<(), AllocError>
+        ensures { OnOk result (self.new ≡ after_turn self.old pid traced
+            (stop_after traced.options advanced.after item advanced.event)
+            (dies_after advanced.after advanced.event) advanced.event) }
     {
-        self.stop(pid, traced, turned)?;
-        self.report(pid, turned.stop, turned.dying)?;
-        self.bear(traced.options, turned.event)?;
+        let Advanced { after, event, .. } = advanced;
+        let stop = stop_after(traced.options, after, item, event);
+        self.stop(pid, traced, stop, event)?;
+        self.report(pid, stop, dies_after(after, event))?;
+        self.bear(traced.options, event)?;
         Ok(())
     }
 

@@ -16,7 +16,8 @@ pub fn no_stop_is_forgotten<S, B>()
     hosts_run_alike::<S, B>();
 }
 
-/// A client that lets go only of whom it was told, as the tracer does, has one report a stop, while its process is held there.
+/// A client that lets go only of whom it was told, as the tracer does, has one report a stop, while its process is held
+/// there.
 pub fn polite_clients_are_told_once<S, B>()
     ensures turn { TurnsKeepOnce S B }
     ensures request { RequestsKeepOnce S B }

@@ -5,7 +5,7 @@ ghost use Rattle.tr_args.specs.Arguments.{half, wish_of, text_of};
 ghost use Rattle.tr_args.specs.Decoders as spec;
 
 use crate::context::Context;
-use crate::progress::{Made, go_on};
+use crate::progress::{Made, go_on, make_first};
 use containers::Bytes;
 use std::alloc::{AllocError, Global};
 use std::marker::Model;
@@ -49,7 +49,7 @@ pub fn made(
     ensures wish { IfOk result (λ r. r.0 ≡ wish_of (half context.now read.now)) }
     ensures text { IfOk result (λ r. string_bytes r.1 ≡ text_of (half context.now read.now)) }
 {
-    let (made, wish) = go_on(alloc, context, read, Made::new(alloc))?;
+    let (made, wish) = make_first(alloc, context, read)?;
     match wish {
         None => Ok((None, made.text)),
         Some(wish) => Ok((Some(wish), String::new(alloc))),
@@ -58,12 +58,12 @@ pub fn made(
 
 impl Decoder {
     /// Begins the text of a half.
-    fn begin(alloc: Global, context: Context) -> Result<Decoder, AllocError>
+    pub(crate) fn begin(alloc: Global, context: Context) -> Result<Decoder, AllocError>
         requires { context.most ≤ 4096 }
         ensures { IfOk result (λ d. d ≡ spec.started context) }
     {
         let read = Vec::new(alloc);
-        let (made, wish) = go_on(alloc, &context, read.as_slice(), Made::new(alloc))?;
+        let (made, wish) = make_first(alloc, &context, read.as_slice())?;
         Ok(Decoder {
             alloc,
             context,
@@ -84,14 +84,7 @@ impl Decoder {
         requires { most ≤ 4096 }
         ensures { IfOk result (λ d. d ≡ spec.started (spec.entering number arguments sp most)) }
     {
-        let context = Context {
-            number,
-            arguments,
-            sp,
-            result: None,
-            most,
-        };
-        Decoder::begin(alloc, context)
+        Decoder::begin(alloc, Context::entering(number, arguments, sp, most))
     }
 
     /// Begins the text of what follows once a call has returned.
@@ -105,14 +98,7 @@ impl Decoder {
         requires { most ≤ 4096 }
         ensures { IfOk result (λ d. d ≡ spec.started (spec.leaving number arguments value most)) }
     {
-        let context = Context {
-            number,
-            arguments,
-            sp: 0,
-            result: Some(value),
-            most,
-        };
-        Decoder::begin(alloc, context)
+        Decoder::begin(alloc, Context::leaving(number, arguments, value, most))
     }
 
     /// The address and the length that are read next; none once the text is whole.

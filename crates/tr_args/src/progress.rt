@@ -105,7 +105,7 @@ fn row_on(sheet: &mut Sheet<'_>, context: &Context, row: &mut Row) -> Result<(),
 fn end(sheet: &mut Sheet<'_>, comma: bool) -> Result<(), Needed>
     ensures { Leaves result sheet.new (put (behind comma) sheet.old) }
 {
-    sheet.put(if comma { ", " } else { "" })
+    if comma { sheet.put(", ") } else { Ok(()) }
 }
 
 /// The rest of a half, as far as it can be made of what was read.
@@ -152,6 +152,7 @@ fn begun(sheet: &mut Sheet<'_>, context: &Context) -> Result<Row, Needed>
 }
 
 /// What is made with this much of a row left, and what is read next.
+#[inline(always)]
 fn made_with(
     sheet: Sheet<'_>,
     context: &Context,
@@ -189,6 +190,24 @@ fn made_with(
     }
 }
 
+/// What is made of a text from its first byte, and what is read next.
+pub(crate) fn make_first(
+    alloc: Global,
+    context: &Context,
+    read: &[Bytes],
+) -> Result<(Made, Option<(u64, u32)>), AllocError>
+    requires { context.now.most ≤ 4096 }
+    ensures made { IfOk result (λ r. IsMade context.now read.now r.0) }
+    ensures wish { IfOk result (λ r. r.1 ≡ wish_of (half context.now read.now)) }
+    ensures whole { IfOk result (λ r. is_wanted r.1 ≡ is_left r.0.stage) }
+{
+    let mut sheet = Sheet::new(alloc, read);
+    match begun(&mut sheet, context) {
+        Ok(row) => made_with(sheet, context, row, read.len()),
+        Err(_) => Err(AllocError),
+    }
+}
+
 /// Goes on with what was read since, and tells what is read next.
 pub(crate) fn go_on(
     alloc: Global,
@@ -216,12 +235,6 @@ pub(crate) fn go_on(
             let sheet = Sheet::with(alloc, text, read.split_at(used).1);
             made_with(sheet, context, row, read.len())
         }
-        Stage::Unbegun => {
-            let mut sheet = Sheet::new(alloc, read);
-            match begun(&mut sheet, context) {
-                Ok(row) => made_with(sheet, context, row, read.len()),
-                Err(_) => Err(AllocError),
-            }
-        }
+        Stage::Unbegun => make_first(alloc, context, read),
     }
 }

@@ -44,6 +44,17 @@ pub struct Core {
     pub focus: Focus,
 }
 
+/// Nothing is known of a process, and that is put in. Apart, since it comes once a process.
+#[inline(never)]
+fn put_in(known: &mut Shelf<Tracee>, pid: u32) -> Result<(), AllocError>
+    requires { maps.get known.old pid ≡ None }
+    ensures there { OnOk result (IsSome (maps.get known.new pid)) }
+    ensures same { OnOk result (at new_tracee known.new ≡ at new_tracee known.old) }
+{
+    known.insert(pid, Tracee::UNMET)?;
+    Ok(())
+}
+
 /// Where nothing is known of a process, that is put in.
 fn meet(known: &mut Shelf<Tracee>, pid: u32) -> Result<(), AllocError>
     ensures there { OnOk result (IsSome (maps.get known.new pid)) }
@@ -51,14 +62,12 @@ fn meet(known: &mut Shelf<Tracee>, pid: u32) -> Result<(), AllocError>
 {
     match known.get(pid) {
         Some(_) => Ok(()),
-        None => {
-            known.insert(pid, Tracee::UNMET)?;
-            Ok(())
-        }
+        None => put_in(known, pid),
     }
 }
 
 /// The stop may be told of the process as far as it is known.
+#[inline(always)]
 fn fits(known: &Shelf<Tracee>, follow: bool, pid: u32, stop: Stop) -> bool
     ensures { result ≡ fits_stop follow (at new_tracee known.now pid).called.number
         (is_some (at new_tracee known.now pid).saved) (at new_tracee known.now pid).standing stop }
@@ -130,7 +139,8 @@ fn take_stop_in(
     ensures { IfOk result
         (λ h. ComesIn
         (stop_heard (options_of session.old.settings) pid
-        (known_at session.old pid (at new_tracee known.old pid)) stop) h session.old session.new pid known.old known.new) }
+        (known_at session.old pid (at new_tracee known.old pid)) stop)
+        h session.old session.new pid known.old known.new) }
 {
     meet(known, pid)?;
     match known.get_mut(pid) {
@@ -188,6 +198,7 @@ fn hear_reply(core: &mut Core, pid: u32, place: Awaiting, reply: Reply) -> Resul
 }
 
 /// Nothing is printed, and this asked.
+#[inline(always)]
 #[tactic(auto, unfolding(crate::specs::Pens::wrote, crate::specs::Pens::pen_after))]
 fn stay(core: &mut Core, focus: Focus) -> Bytes
     requires { FocusHolds core.old.session.settings.options (λ pid. (at new_tracee core.old.known pid).called) focus }

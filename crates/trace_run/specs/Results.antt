@@ -105,4 +105,5 @@ TracesTellLog = (boot : Boot) (schedule : Schedule) (script : List Rule) (option
     → HasNoKill linux outcome_in (following options boot.follow) (choice_of script)
     (first_shared boot.limits boot.files boot.input) (booted boot.argv boot.env) t.events
     → TellsLog linux outcome_in (following options boot.follow) (choice_of script)
-    (first_shared boot.limits boot.files boot.input) (booted boot.argv boot.env) t.events result old.contents new.contents
+    (first_shared boot.limits boot.files boot.input) (booted boot.argv boot.env) t.events result
+    old.contents new.contents

@@ -1,6 +1,5 @@
-//! Which orders of turns a program's processes can have: the steps of a run, the orders with one switch, which order comes
-//! when, and which ones runs
-//! had; and which of many things come first.
+//! Which orders of turns a program's processes can have: the steps of a run, the orders with one switch, which order
+//! comes when, and which ones runs had; and which of many things come first.
 #![tactic(auto)]
 
 pub mod laws;

@@ -1,9 +1,10 @@
-use Rattle.std.proofs.Common.{◌≡◌, ◌-◌, ◌<◌, suc, Bool, false, replicate, sym, ap, subst, ◌∙◌, ◌++◌, arith}
+use Rattle.std.proofs.Common.{◌≡◌, ◌-◌, ◌<◌, suc, Bool, false, replicate, refl, sym, ap, subst, ◌∙◌, ◌++◌, arith}
 use Rattle.lx_abi.specs.declared.schedule.Event.TheVariants.{Turn}
 use Rattle.pt_kernel.specs.Advances.{Leads}
 use Rattle.pt_kernel.specs.Bursts.{after}
 use Rattle.pt_kernel.specs.Hosts.{HostState, hosting_by, readiness_of, state_by}
 use Rattle.lx_kernel.specs.Advances.{Leads as KernelLeads}
+use Rattle.pt_kernel.specs.Stops.{stop_after, dies_after}
 use Rattle.pt_kernel.proofs.Turning.{no_turn}
 use Rattle.pt_kernel.proofs.Advancing.{leads_made, kept_by_leads, sound_leads}
 use Rattle.pt_kernel.proofs.host.Host.advance.Goals as goal
@@ -28,8 +29,8 @@ returns-clause-leads c =
     let led = subst (λ m. KernelLeads s.kernel p m c.advance.new.item c.in_ok-advanced.advanced.event c.advance.new.self) count c.in_ok-advanced.ensures.leads in
     let kept = kept_by_leads n s.kernel c.advance.new.self p c.advance.new.item c.in_ok-advanced.advanced.event led in
     let made = leads_made s.tracees s.pending p c.traced-traced.result c.traced-traced.ensures c.advance.new.self c.turn.new.self c.extend.new.self
-    c.stop_after.result c.dies_after.result c.in_ok-advanced.advanced.event c.in_ok-advanced.advanced.after c.advance.new.item
-    c.in_ok-advanced.ensures.after c.stop_after.ensures c.dies_after.ensures c.in_ok-turn.ensures
+    (stop_after c.traced-traced.result.options c.in_ok-advanced.advanced.after c.advance.new.item c.in_ok-advanced.advanced.event) (dies_after c.in_ok-advanced.advanced.after c.in_ok-advanced.advanced.event) c.in_ok-advanced.advanced.event c.in_ok-advanced.advanced.after c.advance.new.item
+    c.in_ok-advanced.ensures.after refl refl c.in_ok-turn.ensures
     n s.kernel s.turns empty (sym c.is_effective.ensures ∙ c.if-not-is_effective.false)
     (λ l.
     let free = c.most_turns-most.ensures.free (omega (arith, l, count, c.in_ok-advanced.ensures.within)) in
@@ -51,8 +52,8 @@ invariant_of-self-2 c = λ e.
     let sound = c.self.invariant c.if-self.false in
     let led = subst (λ m. KernelLeads s.kernel p m c.advance.new.item c.in_ok-advanced.advanced.event c.advance.new.self) count c.in_ok-advanced.ensures.leads in
     let made = leads_made s.tracees s.pending p c.traced-traced.result c.traced-traced.ensures c.advance.new.self c.turn.new.self c.extend.new.self
-    c.stop_after.result c.dies_after.result c.in_ok-advanced.advanced.event c.in_ok-advanced.advanced.after c.advance.new.item
-    c.in_ok-advanced.ensures.after c.stop_after.ensures c.dies_after.ensures c.in_ok-turn.ensures
+    (stop_after c.traced-traced.result.options c.in_ok-advanced.advanced.after c.advance.new.item c.in_ok-advanced.advanced.event) (dies_after c.in_ok-advanced.advanced.after c.in_ok-advanced.advanced.event) c.in_ok-advanced.advanced.event c.in_ok-advanced.advanced.after c.advance.new.item
+    c.in_ok-advanced.ensures.after refl refl c.in_ok-turn.ensures
     n s.kernel s.turns sound.empty (sym c.is_effective.ensures ∙ c.if-not-is_effective.false)
     (λ l.
     let free = c.most_turns-most.ensures.free (omega (arith, l, count, c.in_ok-advanced.ensures.within)) in
