@@ -1,7 +1,8 @@
 -- What the text of a fault says.
 use Rattle.std.specs.Io.KnownBytes.{Appends}
-use Rattle.std.specs.Prelude.{◌≡◌, ◌++◌, ⊤, ℕ, List, Option, None, Some, option_map}
-use Rattle.std.specs.Prelude.{codes, string_bytes}
+use Rattle.std.specs.Prelude.{◌≡◌, ◌++◌, ⊤, ℕ, Bool, true, false, List, Option, None, Some, option_map}
+use Rattle.std.specs.Prelude.{codes, decimal, string_bytes}
+use Rattle.tr_expr.specs.Faults.{number_of}
 use Rattle.front_end.specs.declared.fault.Fault.{Fault}
 use Rattle.front_end.specs.declared.fault.Fault.TheVariants as the
 
@@ -25,9 +26,19 @@ IsAbout start (the.OutOfTurns reason) = ⊥
 IsAbout start (the.Output said) = ⊥
 IsAbout start the.Memory = ⊤
 
--- ---- what explains a fault
+-- ---- what a program says of a fault
 
--- where the line that a program writes of it doesn't say it
+-- its line
+abbrev pub line_of : List ℕ → Fault → List ℕ
+line_of program (the.Usage said) = program ++ (codes ": " ++ string_bytes said)
+line_of program (the.Expression fault reason) = program ++ (codes ": expression fault " ++ decimal (number_of fault))
+line_of program (the.Listing line kind) = codes "asm: line " ++ (decimal line ++ (codes " kind " ++ decimal kind))
+line_of program (the.Host number reason) = program ++ (codes ": host fault " ++ decimal number)
+line_of program (the.OutOfTurns reason) = program ++ codes ": out of turns"
+line_of program (the.Output said) = program ++ codes ": output fault"
+line_of program the.Memory = program ++ codes ": out of memory"
+
+-- what explains it, where the line doesn't say it
 abbrev pub reason_of : Fault → Option (List ℕ)
 reason_of (the.Usage said) = None
 reason_of (the.Expression fault reason) = Some (string_bytes reason)
@@ -42,3 +53,11 @@ abbrev pub GivesReason : List ℕ → Option (List ℕ) → Option (List ℕ) �
 GivesReason program None old new = new ≡ old
 GivesReason program (Some reason) old new =
     Appends old new (program ++ (codes ": " ++ (reason ++ codes "\n")))
+
+-- the fault's line, and that of its reason where it is to be explained
+abbrev pub Reports : List ℕ → Fault → Bool → Option (List ℕ) → Option (List ℕ) → Type 0
+Reports program fault false old new = Appends old new (line_of program fault ++ codes "\n")
+Reports program fault true old new =
+    (middle : Option (List ℕ))
+    × (Appends old middle (line_of program fault ++ codes "\n")
+    × GivesReason program (reason_of fault) middle new)

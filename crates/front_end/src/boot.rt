@@ -23,17 +23,17 @@ use std::rt::Files;
 
 /// The words that say what a run begins with.
 #[derive(Clone, Copy)]
-pub struct BootWords<'m, 'a> {
+struct BootWords<'m, 'a> {
     /// Words GUEST=PATH.
-    pub files: &'m [&'a str],
+    files: &'m [&'a str],
     /// Words GUEST=DIR.
-    pub directories: &'m [&'a str],
+    directories: &'m [&'a str],
     /// Words NAME=VALUE.
-    pub environment: &'m [&'a str],
+    environment: &'m [&'a str],
     /// The program and its arguments.
-    pub program: &'m [&'a str],
+    program: &'m [&'a str],
     /// Each process has the script's choices, else the first alone.
-    pub follow: bool,
+    follow: bool,
 }
 
 /// A guest's file of this path and content.
@@ -106,7 +106,7 @@ fn named_files<R: Files + AllocGlobal>(
 
 /// The guest's files, those of directories last. One that is too large is cut off after the limit, for the boot to
 /// refuse.
-pub fn read_files<R: Files + AllocGlobal>(
+fn read_files<R: Files + AllocGlobal>(
     rt: &R,
     words: &[&str],
     directories: &[&str],
@@ -135,7 +135,7 @@ fn announce_input<I: IsTerminal, E: Write + IsTerminal>(program: &str, input: &I
 }
 
 /// The boot that the words and the input ask for. Where the input is a terminal, the program says so on `err`.
-pub fn boot_of<R: Files + AllocGlobal, I: Read + IsTerminal, E: Write + IsTerminal>(
+fn boot_of<R: Files + AllocGlobal, I: Read + IsTerminal, E: Write + IsTerminal>(
     rt: &R,
     program: &str,
     words: BootWords,

@@ -37,11 +37,6 @@ impl<'a> Leavings<'a> {
         self.directory.is_some() || self.list.is_some()
     }
 
-    /// What is asked of them before a run is asked by `check_outputs`.
-    pub fn check<R>(self, _rt: &R) -> Result<(), Fault> {
-        Ok(())
-    }
-
     /// Writes what a run has left.
     pub fn write<R: Files + AllocGlobal>(self, rt: &R, outcome: &Outcome) -> Result<(), Fault> {
         let files = outcome.files.as_slice();

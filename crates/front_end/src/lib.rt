@@ -30,8 +30,8 @@ mod texts;
 mod turns;
 mod waits;
 
-pub use boot::{BootWords, boot_of, read_boot};
-pub use boot_faults::{check_boot, refuse_boot};
+pub use boot::read_boot;
+pub use boot_faults::refuse_boot;
 pub use expressions::{Expressions, expression_words, read_expression, read_expressions};
 pub use fault::Fault;
 pub use hints::Entered;

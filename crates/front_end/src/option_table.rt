@@ -39,7 +39,7 @@ pub struct OptionRow {
 }
 
 /// Completions are made of these rows, and the documents are compared with them.
-pub const OPTIONS: [OptionRow; 47] = [
+pub const OPTIONS: [OptionRow; 49] = [
     OptionRow {
         tools: &[Tool::Trace],
         id: "follow",
@@ -322,9 +322,25 @@ pub const OPTIONS: [OptionRow; 47] = [
     },
     OptionRow {
         tools: &[Tool::Sweep],
+        id: "strict",
+        short: None,
+        long: Some("strict"),
+        takes: Takes::Nothing,
+        help: "Takes runs that were damaged or warned for findings too",
+    },
+    OptionRow {
+        tools: &[Tool::Sweep],
         id: "cases",
         short: None,
         long: Some("cases"),
+        takes: Takes::Value("FILE"),
+        help: "Sweeps a case a line: its name, its input as <PATH, further options, and further words behind --",
+    },
+    OptionRow {
+        tools: &[Tool::Sweep],
+        id: "runs",
+        short: None,
+        long: Some("runs"),
         takes: Takes::Value("FILE"),
         help: "Makes those runs alone that this file names, a line each, as write:EIO:2",
     },

@@ -1,43 +1,32 @@
 //! What a program says of its faults, and of itself.
 
-ghost use Rattle.std.specs.Prelude.{◌≡◌, ◌⊎◌, Err, IfErr, IfOk, OnOk, true};
-ghost use Rattle.front_end.specs.Statuses.{IsStatusOf, is_output_or_memory, is_usage_or_memory};
-ghost use Rattle.front_end.specs.Texts.{GivesReason, reason_of};
+ghost use Rattle.std.specs.Prelude.{◌≡◌, ◌++◌, ◌⊎◌, Err, IfErr, IfOk, OnOk, codes, true};
+ghost use Rattle.std.specs.Io.KnownBytes.{Appends};
+ghost use Rattle.front_end.specs.Statuses.{IsStatusOf, is_output_or_memory, is_usage_or_memory, status_of};
+ghost use Rattle.front_end.specs.Texts.{GivesReason, Reports, line_of, reason_of};
 
 use crate::fault::{Fault, HOST};
 use clap::Error;
 use std::alloc::Global;
-use std::fmt;
-use std::fmt::{Display, Formatter};
 use std::io::{self, Write};
 
-/// The line in which a program reports a fault.
-#[derive(Drop)]
-struct Line<'f> {
-    program: &'f str,
-    fault: &'f Fault,
-}
-
-impl Display for Line<'_> {
-    fn fmt<W: fmt::Write>(&self, f: &mut Formatter<W>) -> fmt::Result {
-        let program = self.program;
-        match self.fault {
-            Fault::Usage(text) => write!(f, "{program}: {text}"),
-            Fault::Expression { fault, .. } => {
-                write!(f, "{program}: expression fault {}", fault.number())
-            }
-            Fault::Listing { line, kind } => write!(f, "asm: line {line} kind {kind}"),
-            Fault::Host { number, .. } => write!(f, "{program}: host fault {number}"),
-            Fault::OutOfTurns(_) => write!(f, "{program}: out of turns"),
-            Fault::Output(_) => write!(f, "{program}: output fault"),
-            Fault::Memory => write!(f, "{program}: out of memory"),
+/// Writes the line in which a program reports a fault.
+fn tell_line<E: Write>(program: &str, fault: &Fault, err: &mut E) -> io::Result<()>
+    ensures { OnOk result (Appends (E.contents err.old) (E.contents err.new)
+        (line_of program.now fault.now ++ codes "\n")) }
+{
+    match fault {
+        Fault::Usage(text) => writeln!(err, "{program}: {text}"),
+        Fault::Expression { fault, .. } => {
+            let number = fault.number();
+            writeln!(err, "{program}: expression fault {number}")
         }
+        Fault::Listing { line, kind } => writeln!(err, "asm: line {line} kind {kind}"),
+        Fault::Host { number, .. } => writeln!(err, "{program}: host fault {number}"),
+        Fault::OutOfTurns(_) => writeln!(err, "{program}: out of turns"),
+        Fault::Output(_) => writeln!(err, "{program}: output fault"),
+        Fault::Memory => writeln!(err, "{program}: out of memory"),
     }
-}
-
-/// Writes a fault's line.
-fn tell_line<E: Write>(program: &str, fault: &Fault, err: &mut E) -> io::Result<()> {
-    writeln!(err, "{}", Line { program, fault })
 }
 
 /// Writes a fault's reason, if it has one.
@@ -52,7 +41,9 @@ fn tell_reason<E: Write>(program: &str, fault: &Fault, err: &mut E) -> io::Resul
 }
 
 /// Writes a fault, and its reason where it is to be explained.
-fn tell<E: Write>(program: &str, fault: &Fault, explained: bool, err: &mut E) -> io::Result<()> {
+fn tell<E: Write>(program: &str, fault: &Fault, explained: bool, err: &mut E) -> io::Result<()>
+    ensures { OnOk result (Reports program.now fault.now explained (E.contents err.old) (E.contents err.new)) }
+{
     tell_line(program, fault, err)?;
     if !explained {
         return Ok(());
@@ -64,6 +55,8 @@ fn tell<E: Write>(program: &str, fault: &Fault, explained: bool, err: &mut E) ->
 /// Reports a program's fault in one line on `err`, and in another its reason where it is to be explained. Gives its
 /// status, or that of an output that can't be written where this couldn't be.
 pub fn report<E: Write>(program: &str, fault: &Fault, explained: bool, err: &mut E) -> u8
+    ensures told { ((result ≡ status_of fault.now)
+        × Reports program.now fault.now explained (E.contents err.old) (E.contents err.new)) ⊎ (result ≡ 3) }
     ensures status { IsStatusOf (Err fault.now) result }
     ensures usage { is_usage_or_memory fault.now ≡ true → (result ≡ 2) ⊎ (result ≡ 3) }
     ensures output { is_output_or_memory fault.now ≡ true → result ≡ 3 }

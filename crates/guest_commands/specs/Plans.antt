@@ -1,5 +1,5 @@
 -- The run on the plain kernel that words ask for, and why they ask for none.
-use Rattle.std.specs.Prelude.{◌≡◌, ◌⊎◌, ℕ, true, List, Option, None, Some, IsSome, Result, IfErr, IfOk, codes}
+use Rattle.std.specs.Prelude.{◌≡◌, ◌⊎◌, ℕ, true, List, Option, None, Some, IsSome, Result, Ok, Err, codes}
 use Rattle.clap.specs.declared.parser.matches.ArgMatches.{ArgMatches}
 use Rattle.lx_abi.specs.declared.boot.Boot.{Boot}
 use Rattle.lx_abi.specs.declared.schedule.Word.{Word}
@@ -11,8 +11,9 @@ use Rattle.plain_run.specs.Runs.{RunsTo}
 use Rattle.front_end.specs.Boots.{AsksBoot, given_words}
 use Rattle.front_end.specs.Expressions.{AskFor, RefusesExpressions}
 use Rattle.front_end.specs.Numbers.{limit_of}
+use Rattle.front_end.specs.Refusals.{RefusesRun}
 use Rattle.front_end.specs.Schedules.{IsSchedule}
-use Rattle.front_end.specs.Statuses.{is_usage_or_memory}
+use Rattle.front_end.specs.Texts.{IsAbout}
 use Rattle.front_end.specs.Values.{value_of}
 use Rattle.front_end.specs.declared.expressions.Expressions.{Expressions}
 use Rattle.front_end.specs.declared.fault.Fault.{Fault}
@@ -41,17 +42,22 @@ abbrev pub IsPlan : {F : Type 0} → (F → Option (List ℕ)) → ArgMatches �
 IsPlan remaining words given plan =
     IsFirst remaining words given plan.kernel × IsOrder remaining words plan
 
--- The limit is looked at first, and then the expressions, of which the first that says nothing is told. The fault may
--- be another's only where each of these is as it may be.
-abbrev pub RefusesPlan : ArgMatches → Fault → Type 0
-RefusesPlan words fault =
-    ((limit_of (value_of words (codes "limit")) ≡ None) × (is_usage_or_memory fault ≡ true))
+-- The limit is looked at first, then the expressions, of which the first that says nothing is told, and then what else
+-- the words ask for.
+abbrev pub RefusesPlan : {F : Type 0} → (F → Option (List ℕ)) → ArgMatches → Option (List ℕ) → Fault → Type 0
+RefusesPlan remaining words given fault =
+    ((limit_of (value_of words (codes "limit")) ≡ None) × IsAbout (codes "--limit") fault)
     ⊎ (IsSome (limit_of (value_of words (codes "limit")))
-    × (RefusesExpressions words fault ⊎ ((asked : Expressions) × AskFor words asked)))
+    × (RefusesExpressions words fault
+    ⊎ ((asked : Expressions)
+    × (AskFor words asked × RefusesRun remaining words (given_words words true) given fault))))
 
--- A status is that of the run of the plan, which has come to the end of its schedule.
+-- A status is that of the run of the plan, which has come to the end of its schedule. A fault is that of words which
+-- ask for none, or there is a plan.
 abbrev pub RunsWords : {F : Type 0} → (F → Option (List ℕ)) → ArgMatches → Option (List ℕ) → Result ℕ Fault → Type 0
-RunsWords remaining words given result = IfOk result
-    (λ status. (plan : Plan)
+RunsWords remaining words given (Ok status) =
+    (plan : Plan)
     × (IsPlan remaining words given plan
-    × ((last : Run) × (RunsTo plan.kernel plan.schedule last × (status ≡ status_in last)))))
+    × ((last : Run) × (RunsTo plan.kernel plan.schedule last × (status ≡ status_in last))))
+RunsWords remaining words given (Err fault) =
+    RefusesPlan remaining words given fault ⊎ ((plan : Plan) × IsPlan remaining words given plan)

@@ -1,9 +1,14 @@
 //! The program as a function of its words, its input and its outputs.
 
+ghost use Rattle.std.specs.Prelude.{ℕ, Result};
+ghost use Rattle.front_end.specs.Statuses.{IsStatusOf};
+ghost use Rattle.front_end.specs.declared.fault.Fault.{Fault as Ended};
+ghost use Rattle.guest_commands.specs.Plans.{RunsWords};
+
 use crate::drill_words::read_drills;
 use crate::{asm, plain, serving, words};
 use clap::ArgMatches;
-use front_end::{Fault, print_help, report};
+use front_end::{Fault, print_help, report, settle};
 use std::io::{IsTerminal, Read, Write};
 use std::os::fd::AsRawFd;
 use std::rt::{Files, Process};
@@ -38,11 +43,11 @@ pub fn tell<E: Write + IsTerminal>(fault: Fault, err: &mut E) -> u8 {
 }
 
 /// The status of a command that ended so.
-fn ended<E: Write + IsTerminal>(status: Result<u8, Fault>, err: &mut E) -> u8 {
-    match status {
-        Ok(status) => status,
-        Err(fault) => tell(fault, err),
-    }
+fn ended<E: Write + IsTerminal>(status: Result<u8, Fault>, err: &mut E) -> u8
+    ensures { IsStatusOf status result }
+{
+    let explained = err.is_terminal();
+    settle(NAME, status, explained, err)
 }
 
 /// Runs a program, with faults explained where the words ask for it.
@@ -52,12 +57,13 @@ fn run_plain<R: Files + AllocGlobal, I: Read + IsTerminal, O: Write, E: Write + 
     input: &mut I,
     out: &mut O,
     err: &mut E,
-) -> u8 {
+) -> u8
+    ensures { (ended : Result ℕ Ended)
+        × (RunsWords R.File.remaining matches.now (I.remaining input.old) ended × IsStatusOf ended result) }
+{
     let explained = matches.get_flag("explain") || err.is_terminal();
-    match plain::run(rt, matches, explained, input, out, err) {
-        Ok(status) => status,
-        Err(fault) => report(NAME, &fault, explained, err),
-    }
+    let ended = plain::run(rt, matches, explained, input, out, err);
+    settle(NAME, ended, explained, err)
 }
 
 /// Serves a tracer, by the drills that the words ask for.

@@ -196,7 +196,10 @@ pub fn run<R: Files + AllocGlobal, I: Read + IsTerminal, O: Write, E: Write + Is
 ) -> Result<u8, Fault>
     ensures { RunsWords R.File.remaining matches.now (I.remaining input.old) result }
 {
-    let mut plan = read_plan(rt, matches, explained, input, err)?;
+    let mut plan = match read_plan(rt, matches, explained, input, err) {
+        Ok(plan) => plan,
+        Err(fault) => return Err(fault),
+    };
     let (err, ended) = run_plan(rt, Leavings::of(matches), &mut plan, out, err);
     let status = explained_status(rt.alloc(), explained, &plan, ended, err);
     drop(plan);

@@ -4,18 +4,17 @@ ghost use Rattle.std.specs.Prelude.{◌≡◌, IfErr, IfOk, List, codes};
 ghost use Rattle.lx_abi.specs.declared.schedule.Word.{Word as Turn};
 ghost use Rattle.lx_kernel.specs.First.{first_run_without_log};
 ghost use Rattle.pt_schedule.specs.Schedules.{worded};
+ghost use Rattle.front_end.specs.Refusals.{RefusesSchedule};
 ghost use Rattle.front_end.specs.Schedules.{IsSchedule};
 ghost use Rattle.front_end.specs.Values.{value_of};
 ghost use Rattle.guest_commands.specs.Plans.{IsPlan, RefusesPlan};
 
 use clap::ArgMatches;
-use front_end::{
-    Fault, Leavings, Program, check_outputs, read_boot, read_expressions, read_turns, refuse_boot,
-};
+use front_end::{Fault, Program, check_outputs, read_boot, read_expressions, read_turns};
 use lx_abi::{Boot, Script};
 use lx_kernel::Kernel;
 use pt_schedule::Schedule;
-use std::alloc::Global;
+use std::alloc::{AllocError, Global};
 use std::io::{IsTerminal, Read, Write};
 use std::rt::Files;
 
@@ -36,24 +35,26 @@ fn schedule<R: Files + AllocGlobal>(
     matches: &ArgMatches,
     limit: u64,
 ) -> Result<Schedule, Fault>
-    ensures { IfOk result (λ schedule. (turns : List Turn)
+    ensures words { IfOk result (λ schedule. (turns : List Turn)
         × (IsSchedule R.File.remaining (value_of matches.now (codes "turns")) turns
         × (schedule ≡ worded turns limit))) }
+    ensures refused { IfErr result (RefusesSchedule (value_of matches.now (codes "turns"))) }
 {
     let words = read_turns(rt, matches.get_str("turns"))?;
     Ok(Schedule::words(words, limit))
 }
 
-fn booted(alloc: Global, boot: Boot, script: Script) -> Result<Kernel, Fault>
+/// The kernel of a boot that one takes, where memory suffices.
+fn booted(alloc: Global, boot: Boot, script: Script) -> Result<Kernel, AllocError>
     ensures { IfOk result (λ kernel. kernel ≡ first_run_without_log boot script) }
 {
     match Kernel::boot_without_log(alloc, boot, script) {
         Ok(kernel) => Ok(kernel),
-        Err(fault) => Err(refuse_boot(alloc, fault)),
+        Err(_) => Err(AllocError),
     }
 }
 
-fn program(alloc: Global, explained: bool, boot: &Boot) -> Result<Option<Program>, Fault> {
+fn program(alloc: Global, explained: bool, boot: &Boot) -> Result<Option<Program>, AllocError> {
     if explained {
         Ok(Some(Program::of(alloc, boot)?))
     } else {
@@ -62,7 +63,7 @@ fn program(alloc: Global, explained: bool, boot: &Boot) -> Result<Option<Program
 }
 
 /// Reads what the words ask for; a trace set has no effect. Faults are looked for in the limit, the expressions, the
-/// schedule, the files, the input and then the boot.
+/// schedule, the files to be written, the guest's variables, its files, its input and then the boot.
 pub fn read_plan<R: Files + AllocGlobal, I: Read + IsTerminal, E: Write + IsTerminal>(
     rt: &R,
     matches: &ArgMatches,
@@ -71,16 +72,19 @@ pub fn read_plan<R: Files + AllocGlobal, I: Read + IsTerminal, E: Write + IsTerm
     err: &mut E,
 ) -> Result<Plan, Fault>
     ensures plan { IfOk result (IsPlan R.File.remaining matches.now (I.remaining input.old)) }
-    ensures refused { IfErr result (RefusesPlan matches.now) }
+    ensures refused { IfErr result (RefusesPlan R.File.remaining matches.now (I.remaining input.old)) }
 {
     let limit = front_end::limit(rt.alloc(), matches)?;
     let script = read_expressions(rt.alloc(), matches)?.script;
     let schedule = schedule(rt, matches, limit)?;
     check_outputs(rt, matches)?;
-    Leavings::of(matches).check(rt)?;
     let boot = read_boot(rt, "guest_host", matches, true, input, err)?;
-    let program = program(rt.alloc(), explained, &boot)?;
-    let kernel = booted(rt.alloc(), boot, script)?;
+    let Ok(program) = program(rt.alloc(), explained, &boot) else {
+        return Err(Fault::Memory);
+    };
+    let Ok(kernel) = booted(rt.alloc(), boot, script) else {
+        return Err(Fault::Memory);
+    };
     Ok(Plan {
         kernel,
         schedule,

@@ -1,7 +1,7 @@
-mod Leaving
+mod Lacking
 mod Reaching
 mod Turned
 mod Noted
+mod ByWords
 mod Replayed
-mod Unplanned
 mod Threaded

@@ -43,7 +43,6 @@ use Rattle.trace_command.specs.declared.kernel.Kernel.{Kernel}
 use Rattle.trace_command.specs.declared.kernel.Kernel.TheVariants.{Here, OnThreads, There}
 use Rattle.trace_command.specs.declared.place.Place.{Place}
 use Rattle.trace_command.specs.declared.place.Place.TheVariants.{Error, Output, File}
-use Rattle.trace_words.specs.Plans.{RefusesPlan}
 use Rattle.trace_words.specs.declared.plan.Plan.{Plan}
 use Rattle.trace_words.specs.declared.asked.TraceOptions.{TraceOptions}
 use Rattle.trace_words.specs.declared.asked.Workers.{Workers}
@@ -339,33 +338,15 @@ TracesPlan held runs file wanted result old new =
     (IsSome (wants wanted (codes "turns-out")) ⊎ IsFile place)) result old new
     ⊎ Completes held runs file wanted place result old new))
 
--- The same to writers of std, by what they hold where that is known: standard output and standard error are written to
--- so, and by nothing else.
+-- The same to writers of std, by what they hold where that is known: by a run that ended so, standard output and
+-- standard error are written to so, and standard output by nothing else. A status is that of this run.
 abbrev pub TracesOut : {F : Type 0} → (F → Option (List ℕ))
     → (Option (List Event) → Result Ended RunFault → Writer → Writer → Type 0) → (Option (List Event) → Type 0)
-    → Wanted → Result ℕ Fault → Option (List ℕ) × Option (List ℕ) → Option (List ℕ) × Option (List ℕ) → Type 0
-TracesOut held runs file wanted result old new =
-    (last : Outputs)
-    × ((last.out.contents ≡ new.0)
-    × ((last.err.contents ≡ new.1)
-    × TracesPlan held runs file wanted result (outputs (unused old.0) (unused old.1)) last))
-
--- there is no plan, for such a fault, and nothing is written
-abbrev pub Unplanned : (Fault → Type 0) → Result ℕ Fault → Option (List ℕ) → Option (List ℕ) → Type 0
-Unplanned refuses (Ok status) out out' = ⊥
-Unplanned refuses (Err fault) out out' = refuses fault × (out' ≡ out)
-
--- What is written to standard output is that of a run of such a plan, and a status is that of this run. Or the words
--- make no plan, and nothing is written to it.
-abbrev pub TracesWords : {F : Type 0} → (F → Option (List ℕ)) → (Plan → Type 0)
-    → (Plan → Option (List Event) → Result Ended RunFault → Writer → Writer → Type 0)
-    → (Plan → Option (List Event) → Type 0) → Wanted → Result ℕ Fault → Option (List ℕ) → Option (List ℕ) → Type 0
-TracesWords held asked runs file wanted result out out' =
-    Unplanned (RefusesPlan wanted.words) result out out'
-    ⊎ ((plan : Plan)
-    × (asked plan
-    × ((ended : Result ℕ Fault)
+    → Wanted → Result ℕ Fault → Option (List ℕ) → Option (List ℕ) → Type 0
+TracesOut held runs file wanted result out out' =
+    (ended : Result ℕ Fault)
     × ((err : Option (List ℕ))
-    × ((err' : Option (List ℕ))
+    × ((last : Outputs)
+    × ((last.out.contents ≡ out')
     × (IfOk result (λ status. ended ≡ Ok status)
-    × TracesOut held (runs plan) (file plan) wanted ended (out, err) (out', err')))))))
+    × TracesPlan held runs file wanted ended (outputs (unused out) (unused err)) last))))

@@ -1,16 +1,16 @@
 //! The program as a function of its words, its input and its outputs.
 
-ghost use Rattle.std.specs.Prelude.{codes};
+ghost use Rattle.std.specs.Prelude.{◌≡◌, ◌⊎◌, true};
+ghost use Rattle.front_end.specs.Statuses.{IsStatusOf, is_output_or_memory, is_usage_or_memory};
 ghost use Rattle.front_end.specs.Streams.{opened_contents};
-ghost use Rattle.trace_command.specs.Asked.{TracesAsked};
+ghost use Rattle.trace_command.specs.Asked.{Exits, TracesAsked};
 ghost use Rattle.trace_command.specs.Noting.{WritesEvents};
 ghost use Rattle.trace_command.specs.Tracing.{Runs};
 
-use crate::tracing;
-use crate::tracing::Traced;
-use clap::ArgMatches;
+use crate::tracing::{Traced, trace};
 use clap::error::ErrorKind;
-use front_end::{Fault, print_help, refusal, report, shown_words};
+use clap::{ArgMatches, Error};
+use front_end::{Fault, print_help, refusal, report, settle, shown_words};
 use host_link::Streams;
 use std::alloc::Global;
 use std::io::{IsTerminal, Read, Write};
@@ -18,7 +18,7 @@ use std::process::Processes;
 use std::rt::Files;
 use std::sync::Wait;
 use std::thread::Threads;
-use trace_words::{parse, trace_options};
+use trace_words::parse;
 
 /// The program in its messages.
 const NAME: &str = "strace";
@@ -30,15 +30,40 @@ pub fn command<
     I: Read + IsTerminal,
     O: Write + Drop,
     E: Write + IsTerminal + Drop,
->(rt: &R, words: &[String], input: &mut I, mut out: O, mut err: E) -> u8
+>(rt: &R, words: &[String], input: &mut I, out: O, err: E) -> u8
 where
     R::Started: Streams,
 {
+    carry_out(rt, parse(rt.alloc(), words), words, input, out, err)
+}
+
+/// The same, by what the parser gives of the words.
+fn carry_out<
+    R: Files + Processes + Threads + Wait + Sync + AllocGlobal,
+    I: Read + IsTerminal,
+    O: Write + Drop,
+    E: Write + IsTerminal + Drop,
+>(
+    rt: &R,
+    parsed: Result<ArgMatches, Error>,
+    words: &[String],
+    input: &mut I,
+    mut out: O,
+    mut err: E,
+) -> u8
+where
+    R::Started: Streams,
+    ensures { Exits (λ matches status held. TracesAsked R.File.remaining (opened_contents R.File.contents)
+        (Runs R.Started R.Started.Stderr R.Started.Stdout.remaining R.Started.Stdin.contents)
+        (WritesEvents (opened_contents R.File.contents)) matches (I.remaining input.old) status (O.contents out) held)
+        parsed.entry result }
+{
     let alloc = rt.alloc();
-    match parse(alloc, words) {
+    match parsed {
         Ok(matches) => {
             let explained = matches.get_flag("explain") || err.is_terminal();
-            run(rt, &matches, explained, input, out, err)
+            let traced = trace(rt, &matches, explained, input, out, err);
+            report_end(traced, explained)
         }
         Err(error) if error.use_stderr() => tell(refuse(alloc, error.kind(), words), &mut err),
         Err(help) => match print_help(alloc, help, &mut out) {
@@ -49,48 +74,17 @@ where
 }
 
 /// Reports a fault in one line, and gives its status.
-pub fn tell<E: Write>(fault: Fault, err: &mut E) -> u8 {
+pub fn tell<E: Write>(fault: Fault, err: &mut E) -> u8
+    ensures usage { is_usage_or_memory fault ≡ true → (result ≡ 2) ⊎ (result ≡ 3) }
+    ensures output { is_output_or_memory fault ≡ true → result ≡ 3 }
+{
     report(NAME, &fault, false, err)
 }
 
-/// Traces the run that the words ask for.
-fn trace_asked<
-    R: Files + Processes + Threads + Wait + Sync + AllocGlobal,
-    I: Read + IsTerminal,
-    O: Write,
-    E: Write + IsTerminal,
->(rt: &R, matches: &ArgMatches, explained: bool, input: &mut I, out: O, err: E) -> Traced<O, E>
-where
-    R::Started: Streams,
-    ensures { TracesAsked R.File.remaining (opened_contents R.File.contents)
-        (Runs R.Started R.Started.Stderr R.Started.Stdout.remaining R.Started.Stdin.contents)
-        (WritesEvents (opened_contents R.File.contents))
-        matches.now (I.remaining input.old) result.status (O.contents out) (O.contents result.out) }
+/// Reports how a run ended, and gives the exit status.
+fn report_end<O: Drop, E: Write + Drop>(traced: Traced<O, E>, explained: bool) -> u8
+    ensures { IsStatusOf traced.status result }
 {
-    let options = match trace_options(matches, explained) {
-        Ok(options) => options,
-        Err(fault) => {
-            return Traced {
-                status: Err(fault.told(rt.alloc(), matches)),
-                out,
-                err,
-                said: None,
-            };
-        }
-    };
-    tracing::trace(rt, matches, options, input, out, err)
-}
-
-fn run<
-    R: Files + Processes + Threads + Wait + Sync + AllocGlobal,
-    I: Read + IsTerminal,
-    O: Write + Drop,
-    E: Write + IsTerminal + Drop,
->(rt: &R, matches: &ArgMatches, explained: bool, input: &mut I, out: O, err: E) -> u8
-where
-    R::Started: Streams,
-{
-    let traced = trace_asked(rt, matches, explained, input, out, err);
     let Traced {
         status,
         out,
@@ -98,10 +92,7 @@ where
         said,
     } = traced;
     drop(out);
-    let status = match status {
-        Ok(status) => status,
-        Err(fault) => report(NAME, &fault, explained, &mut err),
-    };
+    let status = settle(NAME, status, explained, &mut err);
     match said {
         Some(said) if explained => tell_said(said.as_str(), &mut err),
         _ => (),
@@ -115,13 +106,15 @@ fn tell_said<E: Write>(said: &str, err: &mut E) {
 }
 
 /// What is wrong with words that the parser refuses for a fault of this kind.
-fn refuse(alloc: Global, kind: ErrorKind, words: &[String]) -> Fault {
+fn refuse(alloc: Global, kind: ErrorKind, words: &[String]) -> Fault
+    ensures { is_usage_or_memory result ≡ true }
+{
     if kind == ErrorKind::OutOfMemory {
         return Fault::Memory;
     }
     let shown = match shown_words(alloc, words) {
         Ok(shown) => shown,
-        Err(error) => return Fault::from(error),
+        Err(_) => return Fault::Memory,
     };
     match parse(alloc, shown.as_slice()) {
         Ok(_) => Fault::usage(format!(in alloc; "a word is malformed")),

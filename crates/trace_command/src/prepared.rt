@@ -1,9 +1,11 @@
 //! What is made ready before a run.
 
-ghost use Rattle.std.specs.Prelude.{◌≡◌, ◌&&◌, ◌||◌, IfErr, IfOk, codes, is_none, is_some};
+ghost use Rattle.std.specs.Prelude.{◌≡◌, ◌&&◌, ◌||◌, IfErr, IfOk, Ok, codes, is_none, is_some};
+ghost use Rattle.trace_command.specs.Asked.{RefusesWords};
 ghost use Rattle.trace_command.specs.Noting.{IsKeptFor, IsSecond};
 ghost use Rattle.trace_command.specs.Tracing.{value_of, wanting};
-ghost use Rattle.trace_words.specs.Plans.{IsPlan, RefusesPlan};
+ghost use Rattle.trace_words.specs.Options.{asked_by as options_by, options_of};
+ghost use Rattle.trace_words.specs.Plans.{IsPlan};
 
 use crate::given::is_given;
 use crate::kept::{Asked, Kept, Known};
@@ -12,11 +14,12 @@ use front_end::{Fault, Program};
 use std::alloc::{AllocError, Global};
 use std::io::{IsTerminal, Read, Write};
 use std::rt::Files;
-use trace_words::{Plan, TraceOptions, read_plan};
+use trace_words::{Plan, TraceOptions, read_plan, trace_options};
 
 /// A run that is to be made.
 #[derive(Drop)]
 pub struct Prepared {
+    pub options: TraceOptions,
     pub plan: Plan,
     pub kept: Kept,
     /// The guest's program, where the run's end is explained.
@@ -82,30 +85,48 @@ fn keep(
 }
 
 /// The program, where the run's end is explained.
-fn program_of(alloc: Global, options: TraceOptions, plan: &Plan) -> Result<Option<Program>, Fault> {
+fn program_of(
+    alloc: Global,
+    options: TraceOptions,
+    plan: &Plan,
+) -> Result<Option<Program>, AllocError> {
     if !options.explain {
         return Ok(None);
     }
     Ok(Some(Program::of(alloc, &plan.boot)?))
 }
 
-/// Reads what the words ask for.
+/// Reads what the words ask for: how the run is traced, and its plan.
 pub fn prepare<R: Files + AllocGlobal, I: Read + IsTerminal, E: Write + IsTerminal>(
     rt: &R,
     matches: &ArgMatches,
-    options: TraceOptions,
+    explained: bool,
     input: &mut I,
     err: &mut E,
 ) -> Result<Prepared, Fault>
-    ensures kept { IfOk result (λ prepared. IsKeptFor (wanting matches.now options) prepared.plan prepared.kept) }
+    ensures options { IfOk result (λ prepared. options_of matches.now ≡ Ok (options_by prepared.options)) }
     ensures plan { IfOk result (λ prepared.
-        IsPlan R.File.remaining matches.now options (I.remaining input.old) prepared.plan) }
-    ensures refused { IfErr result (RefusesPlan matches.now) }
+        IsPlan R.File.remaining matches.now prepared.options (I.remaining input.old) prepared.plan) }
+    ensures kept { IfOk result (λ prepared.
+        IsKeptFor (wanting matches.now prepared.options) prepared.plan prepared.kept) }
+    ensures refused { IfErr result (RefusesWords R.File.remaining matches.now (I.remaining input.old)) }
 {
-    let plan = read_plan(rt, matches, options, input, err)?;
-    let kept = keep(rt.alloc(), matches, options, &plan)?;
-    let program = program_of(rt.alloc(), options, &plan)?;
+    let options = match trace_options(matches, explained) {
+        Ok(options) => options,
+        Err(fault) => return Err(fault.told(rt.alloc(), matches)),
+    };
+    let plan = match read_plan(rt, matches, options, input, err) {
+        Ok(plan) => plan,
+        Err(fault) => return Err(fault),
+    };
+    let Ok(kept) = keep(rt.alloc(), matches, options, &plan) else {
+        return Err(Fault::Memory);
+    };
+    let Ok(program) = program_of(rt.alloc(), options, &plan) else {
+        return Err(Fault::Memory);
+    };
     Ok(Prepared {
+        options,
         plan,
         kept,
         program,

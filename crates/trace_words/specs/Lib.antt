@@ -1,3 +1,4 @@
+pub mod OptionFaults
 pub mod Options
 pub mod Plans
 pub mod Copies

@@ -4,6 +4,7 @@ use Rattle.clap.specs.declared.parser.matches.ArgMatches.{ArgMatches}
 use Rattle.lx_boot.specs.Boots.{fault_of}
 use Rattle.front_end.specs.Boots.{AsksBoot, given_words}
 use Rattle.front_end.specs.Expressions.{AskFor, RefusesExpressions}
+use Rattle.front_end.specs.Refusals.{RefusesRun}
 use Rattle.front_end.specs.Schedules.{IsSchedule}
 use Rattle.front_end.specs.Values.{value_of}
 use Rattle.front_end.specs.declared.expressions.Expressions.{Expressions}
@@ -23,6 +24,11 @@ pub record IsPlan {F : Type 0} (remaining : F → Option (List ℕ)) (words : Ar
   pub string_limit : plan.options.string_limit ≡ options.string_limit
   pub width : plan.options.width ≡ options.column
 
--- The fault is that of the first expression that says nothing; or each says something, and the fault is another's.
-abbrev pub RefusesPlan : ArgMatches → Fault → Type 0
-RefusesPlan words fault = RefusesExpressions words fault ⊎ ((asked : Expressions) × AskFor words asked)
+-- The fault is that of the first expression that says nothing; or each says something, and what else the words ask for
+-- is refused.
+abbrev pub RefusesPlan : {F : Type 0} → (F → Option (List ℕ)) → ArgMatches → TraceOptions → Option (List ℕ) → Fault
+    → Type 0
+RefusesPlan remaining words options given fault =
+    RefusesExpressions words fault
+    ⊎ ((asked : Expressions)
+    × (AskFor words asked × RefusesRun remaining words (given_words words options.follow) given fault))

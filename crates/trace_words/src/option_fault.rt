@@ -1,7 +1,8 @@
 //! Options that words don't give as they may.
 
-ghost use Rattle.std.specs.Prelude.{◌≡◌, true};
-ghost use Rattle.front_end.specs.Statuses.{is_usage_or_memory};
+ghost use Rattle.std.specs.Prelude.{codes};
+ghost use Rattle.front_end.specs.Texts.{IsAbout, Says};
+ghost use Rattle.trace_words.specs.OptionFaults.{IsToldBy};
 
 use crate::options::{MOST_COLUMN, MOST_EVENTS, MOST_SECONDS, MOST_STRING, MOST_WORKERS};
 use clap::ArgMatches;
@@ -37,73 +38,95 @@ pub enum OptionFault {
     Patience,
 }
 
-fn excluded(alloc: Global, option: &str) -> Fault
-    ensures { is_usage_or_memory result ≡ true }
-{
-    Fault::usage(format!(in alloc;
-        "--workers excludes --{option}: threads of this process make the turns, in an order of their own"
-    ))
-}
+const HOST_WORDS: &str = "--host-arg: without --host there is no host to hand words to";
+
+const HOST_TIME: &str = "--host-timeout: without --host there is no host to wait for";
+
+const FOLLOW_TWICE: &str = "-ff is strace's (writes a file for each process) and not here";
+
+const WORKERS_AND_HOST: &str =
+    "--workers excludes --host: threads of this process make the turns, in an order of their own";
+
+const WORKERS_AND_TURNS: &str =
+    "--workers excludes --turns: threads of this process make the turns, in an order of their own";
 
 fn usage(alloc: Global, text: &str) -> Fault
-    ensures { is_usage_or_memory result ≡ true }
+    ensures { Says text.now result }
 {
     Fault::usage(format!(in alloc; "{text}"))
 }
 
-/// A number out of its range.
-fn number_told(alloc: Global, matches: &ArgMatches, fault: OptionFault) -> Fault
-    ensures { is_usage_or_memory result ≡ true }
+/// `-o` names a command.
+fn command(alloc: Global, name: Option<&str>) -> Fault
+    ensures { IsAbout (codes "-o ") result }
 {
-    let (option, name, least, most) = match fault {
-        OptionFault::StringLimit => ("-s", "string-limit", 0, u64::from(MOST_STRING)),
-        OptionFault::Column => ("-a", "columns", 0, u64::from(MOST_COLUMN)),
-        OptionFault::Workers => ("--workers", "workers", 1, u64::from(MOST_WORKERS)),
-        OptionFault::Patience => ("--host-timeout", "host-timeout", 1, u64::from(MOST_SECONDS)),
-        _ => ("--limit", "limit", 0, u64::MAX),
-    };
-    malformed(alloc, option, matches.get_str(name), least, most)
+    let name = Shown(name.unwrap_or(""));
+    let text = format!(in alloc;
+        "{name}: a command, which strace takes and this program doesn't; give a file"
+    );
+    Fault::about(alloc, "-o ", text)
+}
+
+/// The limit is none of a run on threads.
+fn workers_limit(alloc: Global, limit: Option<&str>) -> Fault
+    ensures { IsAbout (codes "--limit") result }
+{
+    let limit = limit_of(limit).unwrap_or(0);
+    let text = format!(in alloc; " {limit}: with --workers not a number from 1 to {MOST_EVENTS}");
+    Fault::about(alloc, "--limit", text)
 }
 
 impl OptionFault {
     /// The fault, with the value that it is found in.
     pub fn told(self, alloc: Global, matches: &ArgMatches) -> Fault
-        ensures { is_usage_or_memory result ≡ true }
+        ensures { IsToldBy self result }
     {
         match self {
-            OptionFault::Command => Fault::usage(format!(in alloc;
-                "-o {}: a command, which strace takes and this program doesn't; give a file",
-                Shown(matches.get_str("output").unwrap_or(""))
-            )),
-            OptionFault::HostWords => {
-                usage(
+            OptionFault::Command => command(alloc, matches.get_str("output")),
+            OptionFault::HostWords => usage(alloc, HOST_WORDS),
+            OptionFault::HostTime => usage(alloc, HOST_TIME),
+            OptionFault::StringLimit => {
+                malformed(
                     alloc,
-                    "--host-arg: without --host there is no host to hand words to",
+                    "-s",
+                    matches.get_str("string-limit"),
+                    0,
+                    u64::from(MOST_STRING),
                 )
             }
-            OptionFault::HostTime => {
-                usage(
+            OptionFault::Limit => malformed(
+                alloc,
+                "--limit",
+                matches.get_str("limit"),
+                0,
+                u64::MAX,
+            ),
+            OptionFault::FollowTwice => usage(alloc, FOLLOW_TWICE),
+            OptionFault::Column => {
+                malformed(
                     alloc,
-                    "--host-timeout: without --host there is no host to wait for",
+                    "-a",
+                    matches.get_str("columns"),
+                    0,
+                    u64::from(MOST_COLUMN),
                 )
             }
-            OptionFault::FollowTwice => {
-                usage(
+            OptionFault::WorkersAndHost => usage(alloc, WORKERS_AND_HOST),
+            OptionFault::WorkersAndTurns => usage(alloc, WORKERS_AND_TURNS),
+            OptionFault::Workers => {
+                malformed(
                     alloc,
-                    "-ff is strace's (writes a file for each process) and not here",
+                    "--workers",
+                    matches.get_str("workers"),
+                    1,
+                    u64::from(MOST_WORKERS),
                 )
             }
-            OptionFault::WorkersAndHost => excluded(alloc, "host"),
-            OptionFault::WorkersAndTurns => excluded(alloc, "turns"),
-            OptionFault::WorkersLimit => Fault::usage(format!(in alloc;
-                "--limit {}: with --workers not a number from 1 to {MOST_EVENTS}",
-                limit_of(matches.get_str("limit")).unwrap_or(0)
-            )),
-            OptionFault::StringLimit
-            | OptionFault::Limit
-            | OptionFault::Column
-            | OptionFault::Workers
-            | OptionFault::Patience => number_told(alloc, matches, self),
+            OptionFault::WorkersLimit => workers_limit(alloc, matches.get_str("limit")),
+            OptionFault::Patience => {
+                let seconds = matches.get_str("host-timeout");
+                malformed(alloc, "--host-timeout", seconds, 1, u64::from(MOST_SECONDS))
+            }
         }
     }
 }

@@ -6,7 +6,7 @@ ghost use Rattle.trace_words.specs.Plans.{IsPlan, RefusesPlan};
 use crate::asked::TraceOptions;
 use crate::copies::{copy_options, copy_script, copy_words};
 use clap::ArgMatches;
-use front_end::{Fault, Leavings, check_outputs, read_boot, read_expressions, read_turns};
+use front_end::{Fault, check_outputs, read_boot, read_expressions, read_turns};
 use lx_abi::{Boot, Script, Word};
 use lx_copies::Copied;
 use std::alloc::{AllocError, Global};
@@ -43,8 +43,8 @@ impl Plan {
     }
 }
 
-/// Reads what the words ask for. Faults are looked for in the expressions, the schedule, the files, the
-/// input and the boot.
+/// Reads what the words ask for. Faults are looked for in the expressions, the schedule, the files to be written, the
+/// guest's variables, its files, its input and the boot.
 pub fn read_plan<R: Files + AllocGlobal, I: Read + IsTerminal, E: Write + IsTerminal>(
     rt: &R,
     matches: &ArgMatches,
@@ -53,12 +53,11 @@ pub fn read_plan<R: Files + AllocGlobal, I: Read + IsTerminal, E: Write + IsTerm
     err: &mut E,
 ) -> Result<Plan, Fault>
     ensures plan { IfOk result (IsPlan R.File.remaining matches.now options (I.remaining input.old)) }
-    ensures refused { IfErr result (RefusesPlan matches.now) }
+    ensures refused { IfErr result (RefusesPlan R.File.remaining matches.now options (I.remaining input.old)) }
 {
     let expressions = read_expressions(rt.alloc(), matches)?;
     let turns = read_turns(rt, matches.get_str("turns"))?;
     check_outputs(rt, matches)?;
-    Leavings::of(matches).check(rt)?;
     let boot = read_boot(rt, "strace_cli", matches, options.follow, input, err)?;
     Ok(Plan {
         boot,

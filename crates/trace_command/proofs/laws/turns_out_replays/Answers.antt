@@ -9,5 +9,4 @@ pub returns-clause-runs : goal.returns-clause-runs
 returns-clause-runs c = runs_again c.events_are_few.ensures.few c.written_words_read_back.ensures.words
 
 pub returns-clause-threads : goal.returns-clause-threads
-returns-clause-threads c =
-    thread_runs_again c.events_are_few.ensures.few c.written_words_read_back.ensures.words c.threads_take_turns.ensures
+returns-clause-threads c = thread_runs_again c.written_words_read_back.ensures.words c.threads_take_turns.ensures

@@ -1,10 +1,12 @@
-use Rattle.trace_command.proofs.Unplanned.{refused_behind}
+use Rattle.std.proofs.Common.{inl, inr, sym}
 use Rattle.trace_command.proofs.prepared.prepare.Goals as goal
 
-pub returns-in_err-kept-clause-refused : goal.returns-in_err-kept-clause-refused
-returns-in_err-kept-clause-refused g c =
-    refused_behind c.args.matches.now _ c.in_ok-plan.ensures.plan.expressions c.from_residual-in_err-kept.result
+pub returns-in-Err-read_plan-clause-refused : goal.returns-in-Err-read_plan-clause-refused
+returns-in-Err-read_plan-clause-refused g c =
+    inr (c.in-Ok.options, (sym c.in-Ok.ensures, c.in-Err-read_plan.ensures.refused))
 
-pub returns-in_err-program-clause-refused : goal.returns-in_err-program-clause-refused
-returns-in_err-program-clause-refused g c =
-    refused_behind c.args.matches.now _ c.in_ok-plan.ensures.plan.expressions c.from_residual-in_err-program.result
+pub returns-in_default-clause-refused : goal.returns-in_default-clause-refused
+returns-in_default-clause-refused g c = inr (c.in-Ok.options, (sym c.in-Ok.ensures, inl tt))
+
+pub returns-in_default-program_of-clause-refused : goal.returns-in_default-program_of-clause-refused
+returns-in_default-program_of-clause-refused g c = inr (c.in-Ok.options, (sym c.in-Ok.ensures, inl tt))

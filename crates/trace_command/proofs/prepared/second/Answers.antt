@@ -1,6 +1,6 @@
 use Rattle.std.proofs.Common.{codes, sym, ◌∙◌}
 use Rattle.trace_command.specs.Tracing.{value_of}
-use Rattle.trace_command.proofs.Noted.{none_again, one_again}
+use Rattle.trace_command.proofs.Noted.{one_again}
 use Rattle.trace_command.proofs.prepared.second.Goals as goal
 
 pub returns-in-Ok : goal.returns-in-Ok

@@ -1,48 +1,86 @@
-use Rattle.std.proofs.Common.{◌⊎◌, IsSome, codes, inr}
+use Rattle.std.proofs.Common.{◌⊎◌, IsSome, codes, inl, inr}
 use Rattle.front_end.specs.Streams.{opened_contents}
 use Rattle.trace_run.specs.Writers.{writer_of}
-use Rattle.trace_command.specs.Noting.{WritesEvents, WritesNoted}
-use Rattle.trace_command.specs.Tracing.{IsFile, Lacks, wanting, wants}
-use Rattle.trace_command.proofs.Leaving.{lacks_more, leaves_nothing, over_sum, unmade_for}
-use Rattle.trace_command.proofs.Noted.{events_written, leaves_more}
-use Rattle.trace_command.proofs.Reaching.{runs_asked}
+use Rattle.trace_command.specs.Noting.{NotesOf, WritesEvents, WritesNoted}
+use Rattle.trace_command.specs.Tracing.{IsFile, RunsNoting, Traces, wanting, wants}
+use Rattle.trace_command.proofs.Lacking.{lacks_at, lacks_more}
+use Rattle.trace_command.proofs.Noted.{events_written, leaves_more, on_ok_more, plan_notes, settled_well}
+use Rattle.trace_command.proofs.Reaching.{runs_asked, writes_to_more}
 use Rattle.trace_command.proofs.tracing.trace_plan.Goals as goal
 
-pub returns : goal.returns
-returns g c =
-    let words = c.args.matches.now in
-    let wanted = wanting words c.args.options in
-    let held = opened_contents g.R.File.Write.contents in
+pub returns-in-Err-run_at : goal.returns-in-Err-run_at
+returns-in-Err-run_at g c =
+    let wanted = wanting c.args.matches.now c.args.options in
     let host = wants wanted (codes "host") in
     let path = wants wanted (codes "turns-out") in
     let workers = c.args.options.workers in
-    let kept = c.run_at-made.new.behind.kept in
     let file = IsFile c.of-place.result in
-    let files = IsSome path ⊎ file in (
+    let files = IsSome path ⊎ file in
+    let u = c.in-Err-run_at.ensures.unmade in (
       c.of-place.result,
       (
         c.of-place.ensures,
-        over_sum
-            (λ u.
-            unmade_for (Lacks host workers file) (Lacks host workers files) _ _ _
-            (lacks_more host workers file files inr)
-            (leaves_nothing host workers file words (WritesNoted held path kept) _ _ _ _ _ _ u c.leave.ensures))
-            (λ run. record {
-              made = c.run_at-made.result;
-              noted = kept.known.events;
-              traced = writer_of g.O.Sink.contents g.O.Sink.puts g.O.Sink.broken c.run_at-made.new.out;
-              run =
-                  runs_asked g.row.R-Started.Denot g.row.R-Started-Stderr.Denot held g.R.Started.Stdout.Read.remaining
-                  g.R.Started.Stdin.Write.contents wanted c.args.plan c.args.behind.now.kept.asked.events
-                  kept.known.events _ _ _ _ c.requires.asked run;
-              leaves =
-                  leaves_more words (WritesNoted held path kept) (WritesEvents held wanted c.args.plan kept.known.events)
-                  c.run_at-made.result _ _ _
-                  (λ ended.
-                  events_written held wanted c.args.plan c.args.behind.now.kept kept c.requires
-                  c.run_at-made.ensures.kept (c.run_at-made.ensures.notes ended))
-                  c.leave.ensures;
-            })
-            c.run_at-made.ensures.made,
+        inl (
+          lacks_more host workers file files inr _
+              (lacks_at g.R.Started.Stdout.Read.remaining g.R.Started.Stdin.Write.contents host workers
+              c.args.plan.boot c.args.options.limit c.args.plan.turns.items c.in-Ok-booted_kernel.kernel file
+              c.in-Ok-booted_kernel.ensures.takes _ u.0),
+          u.1,
+        ),
+      ),
+    )
+
+pub returns : goal.returns
+returns g c =
+    let wanted = wanting c.args.matches.now c.args.options in
+    let held = opened_contents g.R.File.Write.contents in
+    let remaining = g.R.Started.Stdout.Read.remaining in
+    let contents = g.R.Started.Stdin.Write.contents in
+    let host = wants wanted (codes "host") in
+    let path = wants wanted (codes "turns-out") in
+    let workers = c.args.options.workers in
+    let place = c.of-place.result in
+    let kernel = c.in-Ok-booted_kernel.kernel in
+    let ended = c.in-Ok-run_at.ended in
+    let old = c.args.behind.now.kept in
+    let kept = c.run_at.new.behind.kept in
+    let noted = kept.known.events in
+    let made = c.settle-made.result in (
+      place,
+      (
+        c.of-place.ensures,
+        inr (record {
+          made = made;
+          noted = noted;
+          traced = writer_of g.O.Sink.contents g.O.Sink.puts g.O.Sink.broken c.run_at.new.out;
+          run =
+              runs_asked g.row.R-Started.Denot g.row.R-Started-Stderr.Denot held remaining contents wanted c.args.plan
+              old.asked.events noted place made _ _ c.requires.asked (
+                ended,
+                (
+                  writer_of g.E.Sink.contents g.E.Sink.puts g.E.Sink.broken c.run_at.new.err,
+                  (
+                    writes_to_more held
+                        (Traces remaining contents c.args.plan.options c.args.plan.script kernel old.asked.events noted)
+                        (RunsNoting g.row.R-Started.Denot g.row.R-Started-Stderr.Denot remaining contents wanted
+                        c.args.plan old.asked.events noted)
+                        ended place _ _ (λ ended old new h. (kernel, (c.in-Ok-booted_kernel.ensures.takes, h)))
+                        c.in-Ok-run_at.ensures.written,
+                    c.settle-made.ensures,
+                  ),
+                ),
+              );
+          leaves =
+              leaves_more wanted.words (WritesNoted held path kept) (WritesEvents held wanted c.args.plan noted) made _
+              _ _ (λ is.
+              events_written held wanted c.args.plan old kept c.requires c.in-Ok-run_at.ensures.kept
+              (settled_well place ended made _ _
+              (NotesOf host workers c.args.options.limit c.args.plan old.asked.events noted) c.settle-made.ensures is
+              (on_ok_more ended
+              (plan_notes remaining contents host workers c.args.options.limit c.args.plan kernel old.asked.events noted
+              c.in-Ok-booted_kernel.ensures.takes)
+              c.in-Ok-run_at.ensures.notes)))
+              c.leave.ensures;
+        }),
       ),
     )
