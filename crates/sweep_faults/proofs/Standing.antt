@@ -58,6 +58,8 @@ not_due (kind.Undone error) call k p on =
     ap (λ b. b && asks_for call (regs_of (task_in k p))) (ap is_entered on.1.1.0 ∙ no_entry on.1.0 on.1.1.1)
 not_due (kind.Done error) call k p on =
     ap (λ b. b && was_last p call false k.running.log) (ap is_ended on.1.1.0 ∙ no_end on.1.0 on.1.1.1)
+not_due kind.Stop call k p on =
+    ap (λ b. b && asks_for call (regs_of (task_in k p))) (ap is_entered on.1.1.0 ∙ no_entry on.1.0 on.1.1.1)
 
 pub not_at : (f : Fault) (k : Run) (p : ℕ) → GoesOn k p → is_at f k p ≡ false
 unfolding is_at
@@ -86,6 +88,7 @@ same_due : (x : Kind) (a : Awaited) (k : Run) (p : ℕ) → p ≡ a.fault.pid �
 same_due (kind.Undone error) a k p same h = refl
 same_due (kind.Done error) a k p same h =
     ap (λ b. is_ended (mode_in k p) && b) (ap (λ q. was_last q a.fault.call false k.running.log) same ∙ sym h)
+same_due kind.Stop a k p same h = refl
 
 due_there : (b : Bool) (a : Awaited) (k : Run) (p : ℕ) → (p == a.fault.pid) ≡ b → a.was_last ≡ was_last a.fault.pid a.fault.call false k.running.log
     → (x : Bool) → (b && (x && is_due a.fault.kind a.fault.call k p)) ≡ (b && (x && is_due_by a.fault.kind a k p))

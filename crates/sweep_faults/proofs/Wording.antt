@@ -38,8 +38,8 @@ use Rattle.sweep_rows.specs.Failures.{FailsAlone}
 use Rattle.sweep_faults.specs.declared.faults.Fault.{Fault}
 use Rattle.sweep_faults.specs.declared.faults.Kind.{Kind}
 use Rattle.sweep_faults.specs.declared.faults.Kind.TheVariants as kind
-use Rattle.sweep_faults.specs.Faults.{after_fault, asks_for, failing, is_at, is_entered, is_undone}
-use Rattle.sweep_faults.specs.Runs.{IsFaulted, WordsGiveRuns}
+use Rattle.sweep_faults.specs.Faults.{after_fault, asks_for, error_of, failing, is_at, is_entered, is_undone}
+use Rattle.sweep_faults.specs.Runs.{IsFaulted, WordsGiveRuns, unless_ended}
 use Rattle.sweep_faults.specs.Words.{failure_of}
 
 -- A choice is asked for where a call was entered alone
@@ -143,7 +143,7 @@ and_false false = refl
 abbrev undone : Fault → Errno → Fault
 undone g error = record g { kind = kind.Undone error }
 
-module _ (f : Fault) (error : Errno) (script : List Rule) (alone : FailsAlone (failure_of (undone f error)) script) (k : Run) (p : ℕ) (empty : k.script ≡ []) (traced : traces k.follow f.pid ≡ true)
+module _ (f : Fault) (error : Errno) (script : List Rule) (alone : FailsAlone (failure_of f error) script) (k : Run) (p : ℕ) (empty : k.script ≡ []) (traced : traces k.follow f.pid ≡ true)
     (fewer : traces k.follow p ≡ true → (p ≡ f.pid → ⊥) → entries p f.call k.running.log < f.n) where
   own : ℕ
   own = entries f.pid f.call k.running.log
@@ -291,10 +291,16 @@ module _ (g : Fault) (error : Errno) where
       of true = refl
       of false = refl
 
-  words_run : (script : List Rule) (follow : Bool) (ps : List ℕ) (k : Run) (s : Schedule) (z : Run) → FailsAlone (failure_of f) script → k.script ≡ [] → k.follow ≡ follow → traces follow f.pid ≡ true
+  -- nothing ends
+  next_alike : (k : Run) (o : Option ℕ) → unless_ended f k o ≡ o
+  next_alike k None = refl
+  next_alike k (Some p) = refl
+
+  words_run : (script : List Rule) (follow : Bool) (ps : List ℕ) (k : Run) (s : Schedule) (z : Run) → FailsAlone (failure_of g error) script → k.script ≡ [] → k.follow ≡ follow → traces follow f.pid ≡ true
       → ((q : ℕ) → traces follow q ≡ true → (q ≡ f.pid → ⊥) → entries q f.call z.running.log < f.n) → IsFaulted f k s ps z → IsRun (record k { script = script }) s ps (record z { script = script })
   words_run script follow [] k s z alone empty same traced fewer h = (
-    subst (λ (r : Readiness). (next_turn_of s r).pid ≡ None) (sym (ready_alike k script)) h.0,
+    subst (λ (r : Readiness). (next_turn_of s r).pid ≡ None) (sym (ready_alike k script))
+        (sym (next_alike k (next_turn_of s (readiness_of k)).pid) ∙ h.0),
     ap (λ (x : Run). record x { script = script }) h.1,
   )
   words_run script follow (p ∷ ps) k s z alone empty same traced fewer h =
@@ -302,20 +308,27 @@ module _ (g : Fault) (error : Errno) where
       let less = fewer p (ap (λ x. traces x p) (sym same) ∙ t) other in
       let more = grows (p ∷ ps) k s z (is_entry p f.call) h in
       omega (arith, less, more) in (
-        subst (λ (r : Readiness). (next_turn_of s r).pid ≡ Some p) (sym (ready_alike k script)) h.0,
+        subst (λ (r : Readiness). (next_turn_of s r).pid ≡ Some p) (sym (ready_alike k script))
+            (sym (next_alike k (next_turn_of s (readiness_of k)).pid) ∙ h.0),
         subst (λ (r : Readiness). IsRun (after_turn (record k { script = script }) p) (next_turn_of s r).schedule ps (record z { script = script })) (sym (ready_alike k script))
             (subst (λ (x : Run). IsRun x (next_turn_of s (readiness_of k)).schedule ps (record z { script = script }))
             (sym (same_turn g error script alone k p empty (ap (λ x. traces x f.pid) same ∙ traced) here))
             (words_run script follow ps (after_fault f k p) (next_turn_of s (readiness_of k)).schedule z alone (script_stays k p ∙ empty) (follow_stays k p ∙ same) traced fewer h.1)),
       )
 
-words_by : (x : Kind) (f : Fault) (script : List Rule) (ps : List ℕ) (k : Run) (s : Schedule) (z : Run) → is_undone x ≡ true → FailsAlone (failure_of (record f { kind = x })) script → k.script ≡ [] → traces k.follow f.pid ≡ true
+same_error : (a b : Errno) → Some a ≡ Some b → b ≡ a
+same_error a b e = sym (cc e)
+
+words_by : (x : Kind) (f : Fault) (error : Errno) (script : List Rule) (ps : List ℕ) (k : Run) (s : Schedule) (z : Run) → is_undone x ≡ true → error_of x ≡ Some error → FailsAlone (failure_of f error) script → k.script ≡ [] → traces k.follow f.pid ≡ true
     → ((q : ℕ) → traces k.follow q ≡ true → (q ≡ f.pid → ⊥) → entries q f.call z.running.log < f.n) → IsFaulted (record f { kind = x }) k s ps z → IsRun (record k { script = script }) s ps (record z { script = script })
-words_by (kind.Undone error) f script ps k s z h alone empty traced fewer run = words_run f error script k.follow ps k s z alone empty refl traced fewer run
-words_by (kind.Done error) f script ps k s z h alone empty traced fewer run = absurd (cc h)
+words_by (kind.Undone e) f error script ps k s z h is alone empty traced fewer run =
+    words_run f e script k.follow ps k s z (subst (λ (x : Errno). FailsAlone (failure_of f x) script) (same_error e error is) alone)
+    empty refl traced fewer run
+words_by (kind.Done e) f error script ps k s z h is alone empty traced fewer run = absurd (cc h)
+words_by kind.Stop f error script ps k s z h is alone empty traced fewer run = absurd (cc h)
 
 pub words_give : WordsGiveRuns
-words_give f script k s z empty alone words to = record {
+words_give f error script k s z empty is alone words to = record {
   pids = to.pids;
-  is_run = words_by f.kind f script to.pids k s z words.undone alone empty words.traced words.alone to.is_run;
+  is_run = words_by f.kind f error script to.pids k s z words.undone is alone empty words.traced words.alone to.is_run;
 }

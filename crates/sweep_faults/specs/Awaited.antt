@@ -3,11 +3,10 @@ use Rattle.std.specs.Prelude.{◌≡◌, ◌<◌, ◌+◌, ◌-◌, ◌==◌, �
 use Rattle.lx_abi.specs.declared.log.Item.{Item}
 use Rattle.lx_abi.specs.Log.{entries, is_entry}
 use Rattle.lx_kernel.specs.Runs.{Run, mode_in}
-use Rattle.lx_kernel.specs.Tracing.{task_in, regs_of}
 use Rattle.sweep_faults.specs.declared.awaited.Awaited.{Awaited}
 use Rattle.sweep_faults.specs.declared.faults.Kind.{Kind}
 use Rattle.sweep_faults.specs.declared.faults.Kind.TheVariants as kind
-use Rattle.sweep_faults.specs.Faults.{asks_for, done_last, is_ended, is_entered, was_last}
+use Rattle.sweep_faults.specs.Faults.{done_last, has_entered, is_ended, was_last}
 
 -- of so many entries these are left to the nth, or it is past
 abbrev pub IsLeft : ℕ → ℕ → Option ℕ → Type 0
@@ -44,8 +43,9 @@ is_next None = false
 
 -- the process of the failure stands where its call fails, by what is awaited
 abbrev pub is_due_by : Kind → Awaited → Run → ℕ → Bool
-is_due_by (kind.Undone error) a k pid = is_entered (mode_in k pid) && asks_for a.fault.call (regs_of (task_in k pid))
+is_due_by (kind.Undone error) a k pid = has_entered a.fault.call k pid
 is_due_by (kind.Done error) a k pid = is_ended (mode_in k pid) && a.was_last
+is_due_by kind.Stop a k pid = has_entered a.fault.call k pid
 
 unfoldable pub is_awaited_at : Awaited → Run → ℕ → Bool
 is_awaited_at a k pid = (pid == a.fault.pid) && (is_next a.left && is_due_by a.fault.kind a k pid)

@@ -1,5 +1,5 @@
--- A failure of one process: its nth entry into a call has an error for its result. The call isn't done, or else it is
--- done, and has the error for its result then.
+-- A failure of one process at its nth entry into a call. The call has an error for its result, and isn't done; or it is
+-- done, and has the error for its result then; or everything ends there, as where the power fails.
 use Rattle.std.specs.Prelude.{ℕ, pos, neg_ℤ, ◌==◌, ◌&&◌, Bool, true, false, cond, List, [], ◌∷◌, Option, Some, None}
 use Rattle.lx_abi.specs.declared.errno.Errno.{Errno}
 use Rattle.lx_abi.specs.declared.log.Item.{Item}
@@ -19,13 +19,21 @@ use Rattle.sweep_faults.specs.declared.faults.Fault.{Fault}
 use Rattle.sweep_faults.specs.declared.faults.Kind.{Kind}
 use Rattle.sweep_faults.specs.declared.faults.Kind.TheVariants as kind
 
-abbrev pub error_of : Kind → Errno
-error_of (kind.Undone error) = error
-error_of (kind.Done error) = error
+-- the error that the call has
+abbrev pub error_of : Kind → Option Errno
+error_of (kind.Undone error) = Some error
+error_of (kind.Done error) = Some error
+error_of kind.Stop = None
 
 abbrev pub is_undone : Kind → Bool
 is_undone (kind.Undone error) = true
 is_undone (kind.Done error) = false
+is_undone kind.Stop = false
+
+abbrev pub is_stop : Kind → Bool
+is_stop (kind.Undone error) = false
+is_stop (kind.Done error) = false
+is_stop kind.Stop = true
 
 -- Of a call that isn't done.
 
@@ -71,22 +79,33 @@ with_error error (Some registers) task = with_regs (with_a0 registers (error_wor
 abbrev pub reporting : Run → ℕ → Errno → Run
 reporting k pid error = with_part k pid (with_error error (regs_of (task_in k pid)) (task_in k pid))
 
--- Of both.
+-- Of each.
+
+-- the process has entered the call, and hasn't begun it
+abbrev pub has_entered : ℕ → Run → ℕ → Bool
+has_entered call k pid = is_entered (mode_in k pid) && asks_for call (regs_of (task_in k pid))
 
 -- the process stands where its call fails: it has entered the call, or done it
 abbrev pub is_due : Kind → ℕ → Run → ℕ → Bool
-is_due (kind.Undone error) call k pid = is_entered (mode_in k pid) && asks_for call (regs_of (task_in k pid))
+is_due (kind.Undone error) call k pid = has_entered call k pid
 is_due (kind.Done error) call k pid = is_ended (mode_in k pid) && was_last pid call false k.running.log
+is_due kind.Stop call k pid = has_entered call k pid
 
 -- it is the process of the failure, and its nth entry into the call
 unfoldable pub is_at : Fault → Run → ℕ → Bool
 is_at f k pid =
     (pid == f.pid) && ((entries f.pid f.call k.running.log == f.n) && is_due f.kind f.call k pid)
 
--- the call has the error for its result, whatever the script does to it; or has it now that it is done
+-- everything ends there: nobody has another turn
+abbrev pub ends_at : Fault → Run → ℕ → Bool
+ends_at f k pid = is_stop f.kind && is_at f k pid
+
+-- the call has the error for its result, whatever the script does to it; or has it now that it is done; or nothing is
+-- done any more
 abbrev pub after_failing : Kind → Run → ℕ → Run
 after_failing (kind.Undone error) k pid = after_choosing k pid (failing error)
 after_failing (kind.Done error) k pid = after_turn (reporting k pid error) pid
+after_failing kind.Stop k pid = k
 
 -- A turn of the kernel, but where the process stands where its call fails
 abbrev pub after_fault : Fault → Run → ℕ → Run

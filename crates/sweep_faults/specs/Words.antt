@@ -1,5 +1,6 @@
 -- Which failures of one process a rule of a script gives, which is for the nth occurrence of a call in each tracee.
 use Rattle.std.specs.Prelude.{◌≡◌, ◌<◌, ℕ, ◌==◌, ◌&&◌, not, nat_le, Bool, true, false, List}
+use Rattle.lx_abi.specs.declared.errno.Errno.{Errno}
 use Rattle.lx_abi.specs.declared.log.Item.{Item}
 use Rattle.lx_abi.specs.declared.log.Item.TheVariants.{Enter, Done, Taken, Stopped, Exit}
 use Rattle.lx_abi.specs.declared.occurrences.Occurrences.{Occurrences}
@@ -8,11 +9,11 @@ use Rattle.lx_abi.specs.Occurrences.{count_of}
 use Rattle.lx_model.specs.Kernel.{traces}
 use Rattle.sweep_rows.specs.declared.failures.Failure.{Failure}
 use Rattle.sweep_faults.specs.declared.faults.Fault.{Fault}
-use Rattle.sweep_faults.specs.Faults.{error_of, is_undone}
+use Rattle.sweep_faults.specs.Faults.{is_undone}
 
 -- the rule's failure
-abbrev pub failure_of : Fault → Failure
-failure_of f = record { call = f.call; n = f.n; error = error_of f.kind }
+abbrev pub failure_of : Fault → Errno → Failure
+failure_of f error = record { call = f.call; n = f.n; error = error }
 
 -- the call isn't done, the process is a tracee, and by the log of the run no other tracee enters the call so often
 pub record HasWords (follow : Bool) (f : Fault) (log : List Item) : Type 0 where

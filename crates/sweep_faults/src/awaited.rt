@@ -2,11 +2,10 @@
 
 ghost use Rattle.std.specs.Prelude.{◌≡◌, ◌&&◌, [], IfOk};
 ghost use Rattle.lx_abi.specs.Log.{is_entry};
-ghost use Rattle.lx_kernel.specs.Runs.{mode_in};
 ghost use Rattle.lx_kernel.specs.Tracing.{task_in, regs_of};
 ghost use Rattle.sweep_faults.specs.Awaited.{Awaits, heard, is_awaited_at, is_due_by, is_next, last_after};
 ghost use Rattle.sweep_faults.specs.Awaited.{left_after, passed};
-ghost use Rattle.sweep_faults.specs.Faults.{asks_for, done_last, is_ended, is_entered};
+ghost use Rattle.sweep_faults.specs.Faults.{asks_for, done_last, ends_at, has_entered, is_ended, is_entered};
 
 use crate::faults::{Fault, Kind};
 use lx_abi::{Item, Mode};
@@ -96,8 +95,7 @@ fn asks_for(kernel: &Kernel, pid: u32, call: u64) -> Result<bool, AllocError>
 
 /// A process that has entered a call asks for this one.
 fn has_entered(kernel: &Kernel, pid: u32, call: u64) -> Result<bool, AllocError>
-    ensures { IfOk result (λ at. at
-        ≡ (is_entered (mode_in kernel.now pid) && asks_for call (regs_of (task_in kernel.now pid)))) }
+    ensures { IfOk result (λ at. at ≡ has_entered call kernel.now pid) }
 {
     if !is_entered(kernel.mode(pid)) {
         return Ok(false);
@@ -135,7 +133,7 @@ impl Awaited {
         ensures { IfOk result (λ due. due ≡ is_due_by self.fault.kind self kernel.now pid) }
     {
         match self.fault.kind {
-            Kind::Undone(_) => has_entered(kernel, pid, self.fault.call),
+            Kind::Undone(_) | Kind::Stop => has_entered(kernel, pid, self.fault.call),
             Kind::Done(_) => Ok(is_ended(kernel.mode(pid)) && self.was_last),
         }
     }
@@ -152,6 +150,19 @@ impl Awaited {
             return Ok(false);
         }
         let at = self.is_due(kernel, pid)?;
+        Ok(at)
+    }
+
+    /// Everything ends where the process stands.
+    #[tactic(auto, using(crate::proofs::Standing::awaited_at_is))]
+    pub(crate) fn ends_at(self, kernel: &Kernel, pid: u32) -> Result<bool, AllocError>
+        requires { Awaits self kernel.now.running.log }
+        ensures { IfOk result (λ ends. ends ≡ ends_at self.fault kernel.now pid) }
+    {
+        if !self.fault.kind.is_stop() {
+            return Ok(false);
+        }
+        let at = self.is_at(kernel, pid)?;
         Ok(at)
     }
 

@@ -1,6 +1,6 @@
 //! The turn in which a call fails.
 
-ghost use Rattle.std.specs.Prelude.{◌≡◌, ◌++◌, IfOk, OnOk, OnErr};
+ghost use Rattle.std.specs.Prelude.{◌≡◌, ◌++◌, None, IfOk, OnOk, OnErr};
 ghost use Rattle.std.specs.Option.{option_to_list};
 ghost use Rattle.lx_model.specs.Machine.{with_a0};
 ghost use Rattle.lx_kernel.specs.Choices.{after_choosing};
@@ -96,7 +96,21 @@ fn go_on_with(kernel: &mut Kernel, pid: u32, error: Errno) -> Result<Moved, Fail
     }
 }
 
+/// Nothing is done any more.
+fn stay(kernel: &Kernel, pid: u32) -> Moved
+    ensures one { result.turns ≡ 1 }
+    ensures after { result.after ≡ mode_in kernel.now pid }
+    ensures item { result.item ≡ None }
+{
+    Moved {
+        turns: 1,
+        after: kernel.mode(pid),
+        item: None,
+    }
+}
+
 /// The turn in which a call fails.
+#[tactic(auto, using(crate::proofs::Rows::nothing_logged))]
 pub(crate) fn fail(kernel: &mut Kernel, pid: u32, kind: Kind) -> Result<Moved, Failed>
     ensures turned { OnOk result (kernel.new ≡ after_failing kind kernel.old pid) }
     ensures one { IfOk result (λ m. m.turns ≡ 1) }
@@ -107,5 +121,6 @@ pub(crate) fn fail(kernel: &mut Kernel, pid: u32, kind: Kind) -> Result<Moved, F
     match kind {
         Kind::Undone(error) => refuse(kernel, pid, error),
         Kind::Done(error) => go_on_with(kernel, pid, error),
+        Kind::Stop => Ok(stay(kernel, pid)),
     }
 }

@@ -9,6 +9,8 @@ pub enum Kind {
     Undone(Errno),
     /// It is done, and then has the error for its result.
     Done(Errno),
+    /// Everything ends where it is entered.
+    Stop,
 }
 
 /// The nth entry of a process into a call, counted from 1, fails.
@@ -22,20 +24,29 @@ pub struct Fault {
 
 impl Kind {
     ghost use Rattle.std.specs.Prelude.{◌≡◌};
-    ghost use Rattle.sweep_faults.specs.Faults.{error_of, is_undone};
+    ghost use Rattle.sweep_faults.specs.Faults.{error_of, is_stop, is_undone};
 
-    pub fn error(self) -> Errno
+    /// The error that the call has.
+    pub fn error(self) -> Option<Errno>
         ensures { result ≡ error_of self }
     {
         match self {
-            Kind::Undone(error) | Kind::Done(error) => error,
+            Kind::Undone(error) | Kind::Done(error) => Some(error),
+            Kind::Stop => None,
         }
     }
 
-    /// The call isn't done.
+    /// The call has an error, and isn't done.
     pub fn is_undone(self) -> bool
         ensures { result ≡ is_undone self }
     {
         matches!(self, Kind::Undone(_))
+    }
+
+    /// Everything ends there.
+    pub fn is_stop(self) -> bool
+        ensures { result ≡ is_stop self }
+    {
+        matches!(self, Kind::Stop)
     }
 }

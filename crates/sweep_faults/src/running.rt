@@ -1,21 +1,43 @@
 //! Turns by a schedule, up to its end, where one call of one process fails.
 
 ghost use Rattle.std.specs.Prelude.{◌≡◌, ◌≤◌, ◌++◌, [], OnOk, IfOk, IfErr, IsTrue};
-ghost use Rattle.lx_kernel.specs.Runs.{Run as KernelRun};
-ghost use Rattle.pt_schedule.specs.Schedules.{events_left};
+ghost use Rattle.lx_kernel.specs.Runs.{Run as KernelRun, mode_in};
+ghost use Rattle.pt_schedule.specs.Schedules.{events_left, next_turn_of};
+ghost use Rattle.pt_schedule.specs.Untraced.{readiness_of};
 ghost use Rattle.plain_run.specs.Watched.{Tells};
 ghost use Rattle.plain_run.specs.declared.running.Halt.TheVariants.{Weary};
 ghost use Rattle.sweep_faults.specs.Awaited.{Awaits};
 ghost use Rattle.sweep_faults.specs.Faults.{after_fault};
-ghost use Rattle.sweep_faults.specs.InRows.{InRow};
-ghost use Rattle.sweep_faults.specs.Runs.{RunsFaulted};
+ghost use Rattle.sweep_faults.specs.InRows.{HasNext, InRow};
+ghost use Rattle.sweep_faults.specs.Runs.{RunsFaulted, next_pid};
 
 use crate::awaited::Awaited;
 use crate::faults::Fault;
 use crate::moving::advance;
+use lx_abi::Mode;
 use lx_kernel::Kernel;
 use plain_run::{Halt, Watch, goes_on, turns_in_row};
 use pt_schedule::Schedule;
+use std::alloc::AllocError;
+
+/// The process, which stands so, has the next turn of its row.
+#[tactic(auto, using(crate::proofs::Rows::has_next))]
+fn has_next(
+    kernel: &Kernel,
+    pid: u32,
+    mode: Option<Mode>,
+    awaited: Awaited,
+) -> Result<bool, AllocError>
+    requires stands { mode ≡ mode_in kernel.now pid }
+    requires awaits { Awaits awaited kernel.now.running.log }
+    ensures { IfOk result (λ next. IsTrue next → HasNext awaited.fault kernel.now pid) }
+{
+    if !goes_on(kernel, pid, mode) {
+        return Ok(false);
+    }
+    let ends = awaited.ends_at(kernel, pid)?;
+    Ok(!ends)
+}
 
 /// The turn that the schedule gave, and those that come next by the row that is under way, `more` at most: how many
 /// these were.
@@ -46,7 +68,10 @@ fn turn_row<W: Watch>(
         if behind >= more {
             return Ok(behind);
         }
-        if !goes_on(kernel, pid, moved.after) {
+        let Ok(next) = has_next(kernel, pid, moved.after, *awaited) else {
+            return Err(Halt::Memory);
+        };
+        if !next {
             return Ok(behind);
         }
         made = behind + 1;
@@ -80,8 +105,28 @@ fn turn<W: Watch>(
     Ok(())
 }
 
-/// Makes the turns that a schedule gives, up to its end, where one call of one process fails; the watcher is told of
-/// each. Memory is refused to the kernel, or to a look at registers.
+/// Whose turn comes next: nobody's at the schedule's end, or where everything ends.
+fn next_turn(
+    kernel: &Kernel,
+    schedule: &mut Schedule,
+    awaited: Awaited,
+) -> Result<Option<u32>, AllocError>
+    requires { Awaits awaited kernel.now.running.log }
+    ensures next { IfOk result (λ next. next ≡ next_pid awaited.fault kernel.now schedule.old) }
+    ensures rest { schedule.new ≡ (next_turn_of schedule.old (readiness_of kernel.now)).schedule }
+{
+    let Some(pid) = schedule.next_plain(kernel) else {
+        return Ok(None);
+    };
+    let ends = awaited.ends_at(kernel, pid)?;
+    if ends {
+        return Ok(None);
+    }
+    Ok(Some(pid))
+}
+
+/// Makes the turns that a schedule gives, up to its end, or to where everything ends, where one call of one process
+/// fails; the watcher is told of each. Memory is refused to the kernel, or to a look at registers.
 pub fn run_faulted<W: Watch>(
     kernel: &mut Kernel,
     schedule: &mut Schedule,
@@ -98,7 +143,10 @@ pub fn run_faulted<W: Watch>(
 {
     let mut awaited = Awaited::new(fault);
     'turns: loop {
-        let Some(pid) = schedule.next_plain(kernel) else {
+        let Ok(next) = next_turn(kernel, schedule, awaited) else {
+            return Err(Halt::Memory);
+        };
+        let Some(pid) = next else {
             return Ok(());
         };
         if let Err(halt) = turn(kernel, schedule, pid, &mut awaited, watch) {

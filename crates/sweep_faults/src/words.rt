@@ -7,18 +7,18 @@ ghost use Rattle.lx_model.specs.Kernel.{traces};
 ghost use Rattle.sweep_faults.specs.Words.{failure_of, AreFewer, HasWords, is_again};
 
 use crate::faults::Fault;
-use lx_abi::{Item, Occurrences};
+use lx_abi::{Errno, Item, Occurrences};
 use std::alloc::{AllocError, Global};
 use sweep_rows::Failure;
 
 /// The failure of a rule.
-pub fn failure_of(fault: Fault) -> Failure
-    ensures { result ≡ failure_of fault }
+pub fn failure_of(fault: Fault, error: Errno) -> Failure
+    ensures { result ≡ failure_of fault error }
 {
     Failure {
         call: fault.call,
         n: fault.n,
-        error: fault.kind.error(),
+        error,
     }
 }
 

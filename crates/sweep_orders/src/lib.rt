@@ -1,5 +1,5 @@
-//! Runs by orders of turns: which results a program's runs have, by the default order, by orders with one switch at a call,
-//! and by chance.
+//! Runs by orders of turns: which results a program's runs have, by the default order, by orders with one switch at a
+//! call, and by chance.
 #![tactic(auto)]
 
 pub mod draws;

@@ -1,3 +1,5 @@
 pub mod Runs
 pub mod Cases
 pub mod Rows
+pub mod Trials
+pub mod Seconds

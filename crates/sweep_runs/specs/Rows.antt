@@ -62,6 +62,8 @@ pub record IsReport (setup : Setup) (wanted : List Wanted) (s : Report) : Type 0
 -- The law: where the case has words, the run under a script of these came to the same
 abbrev pub WordsReach : Type 0
 WordsReach =
-    (setup : Setup) (case : Case) (script : List Rule) (r : Reached) → FailsAlone (failure_of (fault_of case)) script
-    → HasWords setup.boot.follow (fault_of case) r.log.items → FaultReaches setup (fault_of case) r
+    (setup : Setup) (case : Case) (script : List Rule) (r : Reached)
+    → FailsAlone (failure_of (fault_of case) case.error) script
+    → HasWords setup.boot.follow (fault_of case) r.log.items
+    → FaultReaches setup (fault_of case) r
     → Reaches setup script r

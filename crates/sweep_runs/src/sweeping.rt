@@ -72,9 +72,9 @@ pub fn fault_of(case: Case) -> Fault
 
 /// The script by which a case's call fails, in each tracee.
 pub fn script_of(alloc: Global, case: Case) -> Result<Script, AllocError>
-    ensures { IfOk result (FailsAlone (failure_of (fault_of_case case))) }
+    ensures { IfOk result (FailsAlone (failure_of (fault_of_case case) case.error)) }
 {
-    failing(alloc, failure_of(fault_of(case)))
+    failing(alloc, failure_of(fault_of(case), case.error))
 }
 
 /// What of a run is told.
@@ -107,7 +107,7 @@ fn row_of(case: Case, verdict: Verdict, files: Vec<FileNote>, run: Reached, has_
 }
 
 /// The files that a run leaves otherwise than the reference.
-fn notes_of(
+pub(crate) fn notes_of(
     alloc: Global,
     boot: &Boot,
     reference: &Reached,

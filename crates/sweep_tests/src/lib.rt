@@ -3,3 +3,5 @@
 
 #[cfg(test)]
 mod sweeps;
+#[cfg(test)]
+mod trials;

@@ -1,12 +1,10 @@
 use Rattle.std.proofs.Common.{◌∙◌, refl, subst, sym}
 use Rattle.pt_schedule.specs.Schedules.{events_left}
-use Rattle.pt_schedule.specs.Untraced.{readiness_of}
-use Rattle.plain_run.proofs.Turning.{turn_less, fewer_still, told_both, told_nothing}
+use Rattle.plain_run.proofs.Turning.{fewer_still, told_both, told_nothing}
 use Rattle.sweep_faults.specs.declared.faults.Fault.{Fault}
 use Rattle.sweep_faults.specs.Awaited.{Awaits}
-use Rattle.sweep_faults.specs.Faults.{after_fault}
 use Rattle.sweep_faults.specs.Runs.{RunsFaulted}
-use Rattle.sweep_faults.proofs.Rows.{turn_is}
+use Rattle.sweep_faults.proofs.Rows.{next_less, turn_is}
 use Rattle.sweep_faults.proofs.running.run_faulted.Goals as goal
 
 pub turns-init : goal.turns-init
@@ -25,17 +23,20 @@ pub returns-in-Err-clause-told : goal.returns-in-Err-clause-told
 returns-in-Err-clause-told g c = told_both _ _ _ _ _ _ c.turns.invariant.1 c.in-Err.ensures.told
 
 pub turns-smaller : goal.turns-smaller
-turns-smaller g c = fewer_still (events_left c.turn.new.schedule) (events_left c.next_plain.new.self) (events_left c.turns.schedule) c.in_default-turn.ensures.fewer
-    (turn_less c.turns.schedule (readiness_of c.turns.kernel) c.in-Some.pid c.next_plain.new.self c.in-Some.ensures)
+turns-smaller g c = fewer_still (events_left c.turn.new.schedule) (events_left c.next_turn.new.schedule) (events_left c.turns.schedule) c.in_default-turn.ensures.fewer
+    (next_less c.turns.awaited.fault c.turns.kernel c.turns.schedule c.in-Some.pid c.next_turn.new.schedule (sym c.in-Some.is ∙ c.in-Ok.ensures.next) c.next_turn.ensures.rest)
 
 pub turns-preserved : goal.turns-preserved
-turns-preserved g c = (
-  λ z rest. c.turns.invariant.0 z
-      (turn_is c.args.fault c.turns.kernel c.turns.schedule c.in-Some.pid c.next_plain.new.self (after_fault c.args.fault c.turns.kernel c.in-Some.pid) z c.in-Some.ensures refl
-      (subst (λ (f : Fault). RunsFaulted f (after_fault f c.turns.kernel c.in-Some.pid) c.next_plain.new.self z) c.turns.invariant.4
-      (c.in_default-turn.ensures.on z (subst (λ (f : Fault). RunsFaulted f c.turn.new.kernel c.turn.new.schedule z) (sym c.turns.invariant.4) rest)))),
-  told_both _ _ _ _ _ _ c.turns.invariant.1 c.in_default-turn.ensures.told,
-  c.in_default-turn.ensures.begun ∙ c.turns.invariant.2,
-  c.in_default-turn.ensures.awaits,
-  c.in_default-turn.ensures.fault ∙ c.turns.invariant.4,
-)
+turns-preserved g c =
+    let fault = c.turns.awaited.fault in
+    let same = c.turns.invariant.4 in (
+      λ z rest. c.turns.invariant.0 z
+          (subst (λ (f : Fault). RunsFaulted f c.turns.kernel c.turns.schedule z) same
+          (turn_is fault c.turns.kernel c.turns.schedule c.in-Some.pid c.next_turn.new.schedule z
+          (sym c.in-Some.is ∙ c.in-Ok.ensures.next) c.next_turn.ensures.rest
+          (c.in_default-turn.ensures.on z (subst (λ (f : Fault). RunsFaulted f c.turn.new.kernel c.turn.new.schedule z) (sym same) rest)))),
+      told_both _ _ _ _ _ _ c.turns.invariant.1 c.in_default-turn.ensures.told,
+      c.in_default-turn.ensures.begun ∙ c.turns.invariant.2,
+      c.in_default-turn.ensures.awaits,
+      c.in_default-turn.ensures.fault ∙ c.turns.invariant.4,
+    )

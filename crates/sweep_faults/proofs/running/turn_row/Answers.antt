@@ -7,8 +7,8 @@ pub returns-then-behind-more-clause-row : goal.returns-then-behind-more-clause-r
 returns-then-behind-more-clause-row g c =
     made_more c.args.awaited.now.fault c.row.awaited.fault c.row.made (c.in-Ok.moved.turns - 1) c.args.kernel.now c.row.kernel c.advance.new.kernel c.args.pid c.row.invariant.5 c.row.invariant.1 c.in-Ok.ensures.row
 
-pub returns-then-not-goes_on-clause-row : goal.returns-then-not-goes_on-clause-row
-returns-then-not-goes_on-clause-row g c =
+pub returns-then-not-next-clause-row : goal.returns-then-not-next-clause-row
+returns-then-not-next-clause-row g c =
     made_more c.args.awaited.now.fault c.row.awaited.fault c.row.made (c.in-Ok.moved.turns - 1) c.args.kernel.now c.row.kernel c.advance.new.kernel c.args.pid c.row.invariant.5 c.row.invariant.1 c.in-Ok.ensures.row
 
 pub row-preserved : goal.row-preserved
@@ -16,9 +16,10 @@ row-preserved g c =
     let behind = c.row.made + (c.in-Ok.moved.turns - 1) in
     let left = c.if-behind-more.false in (
       omega (arith, left),
-      made_now c.args.awaited.now.fault behind (behind + 1) c.args.kernel.now c.advance.new.kernel c.args.pid refl
+      made_now c.args.awaited.now.fault c.advance.new.awaited.fault behind (behind + 1) c.args.kernel.now c.advance.new.kernel c.args.pid
+          (c.in-Ok.ensures.fault ∙ c.row.invariant.5) refl
           (made_more c.args.awaited.now.fault c.row.awaited.fault c.row.made (c.in-Ok.moved.turns - 1) c.args.kernel.now c.row.kernel c.advance.new.kernel c.args.pid c.row.invariant.5 c.row.invariant.1 c.in-Ok.ensures.row)
-          (c.goes_on.ensures c.if-not-goes_on.false),
+          (c.in-Ok-has_next.ensures c.if-not-next.false),
       told_both _ _ _ _ _ _ c.row.invariant.2 c.in-Ok.ensures.told,
       c.in-Ok.ensures.begun ∙ c.row.invariant.3,
       c.in-Ok.ensures.awaits,

@@ -1,0 +1,175 @@
+//! Runs in which an occurrence of a call fails in one way or another.
+
+ghost use Rattle.std.specs.Prelude.{◌≡◌, false, IfOk};
+ghost use Rattle.sweep_rows.specs.Endings.{first_word as first_word_of};
+ghost use Rattle.sweep_rows.specs.Files.{file_notes};
+ghost use Rattle.sweep_rows.specs.Verdicts.{facts_of as facts};
+ghost use Rattle.sweep_runs.specs.Trials.{fault_of, verdict_by as verdict_by_kind, verdict_by_files, IsTrialRow};
+ghost use Rattle.sweep_runs.specs.Trials.{AreTrialRows, stops_at};
+
+use crate::progress::Progress;
+use crate::runs::{Setup, reach_failing};
+use crate::sweeping::notes_of;
+use containers::Seq;
+use lx_abi::{Ended, Outcome};
+use std::alloc::{AllocError, Global};
+use sweep_faults::{Fault, Kind};
+use sweep_rows::verdicts::Left;
+use sweep_rows::{
+    Ending, Facts, FileNote, Occurrence, Reached, Streams, Verdict, facts_of, first_word,
+    verdict_of,
+};
+
+/// An occurrence of a call, and how it fails.
+#[derive(Clone, Copy, Debug, PartialEq, Eq)]
+pub struct Trial {
+    pub occurrence: Occurrence,
+    pub kind: Kind,
+}
+
+/// A trial, and what came of its run.
+#[derive(Drop)]
+pub struct TrialRow {
+    pub trial: Trial,
+    /// None where everything ended, and each file is whole.
+    pub verdict: Option<Verdict>,
+    /// The wait word of process 1, if it ended.
+    pub word: Option<u32>,
+    /// The processes that ended.
+    pub ended: Seq<Ended>,
+    /// The files that the run leaves otherwise than the reference.
+    pub files: Vec<FileNote>,
+    pub streams: Streams,
+}
+
+impl Trial {
+    /// The occurrence's process alone fails, at that entry.
+    pub fn fault(self) -> Fault
+        ensures { result ≡ fault_of self }
+    {
+        Fault {
+            pid: self.occurrence.pid,
+            call: self.occurrence.call.number,
+            n: self.occurrence.n,
+            kind: self.kind,
+        }
+    }
+}
+
+/// Everything ends at each of these occurrences.
+pub fn stop_trials(alloc: Global, found: &[Occurrence]) -> Result<Vec<Trial>, AllocError>
+    ensures { IfOk result (λ trials. trials.items ≡ stops_at found.now) }
+{
+    let mut trials = Vec::new(alloc);
+    let mut left = found;
+    while let Some((occurrence, rest)) = left.split_first() {
+        trials.push(Trial {
+            occurrence: *occurrence,
+            kind: Kind::Stop,
+        })?;
+        left = rest;
+    }
+    Ok(trials)
+}
+
+/// What the files alone tell.
+fn verdict_by_files(left: Left) -> Option<Verdict>
+    ensures { result ≡ verdict_by_files left }
+{
+    if left.torn {
+        Some(Verdict::Torn)
+    } else if left.saved {
+        Some(Verdict::Damaged)
+    } else {
+        None
+    }
+}
+
+/// What is told of a failure of this kind.
+fn verdict_by(kind: Kind, facts: Facts) -> Option<Verdict>
+    ensures { result ≡ verdict_by_kind kind facts }
+{
+    if kind.is_stop() {
+        verdict_by_files(facts.left)
+    } else {
+        Some(verdict_of(facts))
+    }
+}
+
+/// What came of a run that leaves these files otherwise.
+fn judge(
+    alloc: Global,
+    kind: Kind,
+    reference: &Reached,
+    run: &Reached,
+    notes: &[FileNote],
+) -> Result<Option<Verdict>, AllocError>
+    ensures { IfOk result (λ v. v ≡ verdict_by_kind kind (facts reference.now run.now notes.now false)) }
+{
+    let facts = facts_of(alloc, reference, run, notes, false)?;
+    Ok(verdict_by(kind, facts))
+}
+
+/// What of a run is told.
+fn row_of(trial: Trial, verdict: Option<Verdict>, files: Vec<FileNote>, run: Reached) -> TrialRow
+    ensures trial { result.trial ≡ trial }
+    ensures verdict { result.verdict ≡ verdict }
+    ensures files { result.files ≡ files }
+    ensures word { result.word ≡ first_word_of run.ending.outcome }
+    ensures ended { result.ended ≡ run.ending.outcome.ended }
+    ensures streams { result.streams ≡ run.streams }
+{
+    let word = first_word(&run.ending.outcome);
+    let Reached {
+        ending,
+        streams,
+        ..
+    } = run;
+    let Ending { outcome, .. } = ending;
+    let Outcome { ended, .. } = outcome;
+    TrialRow {
+        trial,
+        verdict,
+        word,
+        ended,
+        files,
+        streams,
+    }
+}
+
+/// Makes the run of a trial, of a boot that is accepted.
+pub fn run_trial(
+    alloc: Global,
+    setup: &Setup,
+    reference: &Reached,
+    trial: Trial,
+) -> Result<TrialRow, AllocError>
+    ensures row { IfOk result (IsTrialRow setup.now reference.now) }
+    ensures trial { IfOk result (λ r. r.trial ≡ trial) }
+{
+    let reached = reach_failing(alloc, setup, trial.fault())?;
+    let files = notes_of(alloc, &setup.boot, reference, &reached)?;
+    let verdict = judge(alloc, trial.kind, reference, &reached, files.as_slice())?;
+    Ok(row_of(trial, verdict, files, reached))
+}
+
+/// Makes the run of each trial, of a boot that is accepted.
+pub fn run_trials<P: Progress>(
+    alloc: Global,
+    setup: &Setup,
+    reference: &Reached,
+    trials: &[Trial],
+    progress: &mut P,
+) -> Result<Vec<TrialRow>, AllocError>
+    ensures { IfOk result (λ rows. AreTrialRows setup.now reference.now trials.now rows.items) }
+{
+    let mut rows = Vec::new(alloc);
+    let mut left = trials;
+    while let Some((trial, rest)) = left.split_first() {
+        let row = run_trial(alloc, setup, reference, *trial)?;
+        rows.push(row)?;
+        left = rest;
+        progress.tell(rows.len(), trials.len());
+    }
+    Ok(rows)
+}
