@@ -5,7 +5,7 @@ _girmolet_errors='E2BIG EACCES EADDRINUSE EADDRNOTAVAIL EADV EAFNOSUPPORT EAGAIN
 _girmolet_signals='HUP INT QUIT ILL TRAP ABRT BUS FPE KILL USR1 SEGV USR2 PIPE ALRM TERM STKFLT CHLD CONT STOP TSTP TTIN TTOU URG XCPU XFSZ VTALRM PROF WINCH IO PWR SYS'
 _girmolet_options='-f --follow-forks -e --trace --inject --fault -o --output -s --string-limit -a --columns --host --host-arg --host-timeout --turns --workers --turns-out --limit --explain --file --dir -E --env --files-out --files-list -h --help -V --version --'
 _girmolet_plain_options='-e --inject --fault --turns --limit --explain --file --dir -E --env --files-out --files-list -h --help --'
-_girmolet_sweep_options='-f --follow-forks -e --fault --errors --format --each --all -o --output --turns --orders --seed --keep --one --known --known-out --shard --fail-fast --max-runs --time --check --cases --show --jobs --limit --explain --file --dir -E --env -h --help -V --version --'
+_girmolet_sweep_options='-f --follow-forks -e --fault --errors --format --each --all -o --output --turns --orders --seed --keep --one --known --known-out --shard --fail-fast --max-runs --time --check --strict --cases --runs --show --jobs --limit --explain --file --dir -E --env -h --help -V --version --'
 
 # Candidates for a set, with its qualifier or without.
 _girmolet_set() {
@@ -80,7 +80,7 @@ _girmolet() {
     esac
     case $before in
         --) found=$(_girmolet_guests "$word") ;;
-        -o | --output | --host | --turns | --turns-out | --known | --known-out | --cases | --files-list) found=$(compgen -f -- "$word") ;;
+        -o | --output | --host | --turns | --turns-out | --known | --known-out | --cases | --runs | --files-list) found=$(compgen -f -- "$word") ;;
         --keep | --files-out) found=$(compgen -d -- "$word") ;;
         -e) found=$($expression "$word") ;;
         --trace) found=$(_girmolet_expression "trace=$word" | sed s/^trace=//) ;;

@@ -5,7 +5,7 @@ use Rattle.std.proofs.lemmas.List.{nil_from_length}
 use Rattle.std.specs.Prelude.{◌==◌, String, codes}
 use Rattle.std.specs.Char.{to_ascii_uppercase}
 use Rattle.sweep_rows.specs.Summary.{name_of}
-use Rattle.sweep_rows.specs.Verdicts.{is_finding}
+use Rattle.sweep_report.specs.Findings.{counts}
 use Rattle.sweep_runs.specs.declared.sweeping.Row.{Row}
 use Rattle.sweep_words.specs.Known.{IsKnown}
 use Rattle.sweep_command.specs.Reports.{IsMark, AreMarks}
@@ -14,8 +14,8 @@ pub emptied : {X : Type 0} (xs : List X) {is_empty : Bool} → is_empty ≡ (len
 emptied xs is t = nil_from_length xs (eqb-true (length xs) 0 (sym is ∙ t))
 
 -- nothing is known
-pub none_known : {Z : Type 0} (known : List (String Z)) (row : Row) → known ≡ [] → IsMark known row false
-none_known known row none = record {
+pub none_known : {Z : Type 0} (strict : Bool) (known : List (String Z)) (row : Row) → known ≡ [] → IsMark strict known row false
+none_known strict known row none = record {
   key = (map to_ascii_uppercase (name_of row.verdict) ++ codes " ") ++ [];
   is_key = ([], refl);
   finding = λ e. absurd (cc e);
@@ -24,8 +24,9 @@ none_known known row none = record {
 }
 
 -- it is no finding
-pub no_finding : {Z : Type 0} (known : List (String Z)) (row : Row) → is_finding row.verdict ≡ false → IsMark known row false
-no_finding known row none = record {
+pub no_finding : {Z : Type 0} (strict : Bool) (known : List (String Z)) (row : Row) → counts strict row.verdict ≡ false
+    → IsMark strict known row false
+no_finding strict known row none = record {
   key = (map to_ascii_uppercase (name_of row.verdict) ++ codes " ") ++ [];
   is_key = ([], refl);
   finding = λ e. absurd (cc e);
@@ -33,6 +34,6 @@ no_finding known row none = record {
   unlike = λ _ found. absurd (cc (sym none ∙ found));
 }
 
-pub no_marks : {Z : Type 0} (known : List (String Z)) (rows : List Row) → known ≡ [] → AreMarks known rows []
-no_marks known [] none = tt
-no_marks known (r ∷ rs) none = none
+pub no_marks : {Z : Type 0} (strict : Bool) (known : List (String Z)) (rows : List Row) → known ≡ [] → AreMarks strict known rows []
+no_marks strict known [] none = tt
+no_marks strict known (r ∷ rs) none = none

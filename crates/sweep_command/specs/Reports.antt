@@ -9,10 +9,9 @@ use Rattle.sweep_command.specs.Naming.{listed, names}
 use Rattle.sweep_orders.specs.Orders.{AreOrders}
 use Rattle.sweep_orders.specs.declared.exploring.Explored.{Explored}
 use Rattle.sweep_orders.specs.declared.found.Found.{Found}
+use Rattle.sweep_report.specs.Findings.{counts, status_of}
 use Rattle.sweep_report.specs.Keys.{IsKey}
 use Rattle.sweep_report.specs.Tallies.{unmarked}
-use Rattle.sweep_rows.specs.Summary.{status}
-use Rattle.sweep_rows.specs.Verdicts.{is_finding}
 use Rattle.sweep_rows.specs.declared.verdicts.Reached.{Reached}
 use Rattle.sweep_runs.specs.Cases.{cases_of}
 use Rattle.sweep_runs.specs.Rows.{fault_of, IsRow}
@@ -21,6 +20,7 @@ use Rattle.sweep_runs.specs.declared.chosen.Case.{Case}
 use Rattle.sweep_runs.specs.declared.runs.Setup.{Setup}
 use Rattle.sweep_runs.specs.declared.sweeping.Row.{Row}
 use Rattle.sweep_words.specs.Known.{IsKnown}
+use Rattle.sweep_words.specs.declared.cases.NamedCase.{NamedCase}
 use Rattle.sweep_words.specs.declared.plan.Plan.{Plan}
 use Rattle.sweep_words.specs.declared.show.NamedRun.{NamedRun}
 use Rattle.sweep_words.specs.declared.words.Orders.{Orders}
@@ -56,68 +56,68 @@ AreWanted plan words reference cases =
     (all : List Case) × AreAll plan words.shard reference all × AreChosen words.most all cases
 
 -- the last of these rows is a finding
-abbrev pub ends_found : Bool → List Row → Bool
-ends_found found [] = found
-ends_found found (r ∷ rs) = ends_found (is_finding r.verdict) rs
+abbrev pub ends_found : Bool → Bool → List Row → Bool
+ends_found strict found [] = found
+ends_found strict found (r ∷ rs) = ends_found strict (counts strict r.verdict) rs
 
 -- so many of these rows, if there is such a number, end with a finding
-abbrev pub IsFound : List Row → Option ℕ → Type 0
-IsFound rows None = ⊤
-IsFound rows (Some n) =
-    (i : ℕ) × (r : Row) × (n ≡ suc i) × (slice_get rows i ≡ Some r) × (is_finding r.verdict ≡ true)
+abbrev pub IsFound : Bool → List Row → Option ℕ → Type 0
+IsFound strict rows None = ⊤
+IsFound strict rows (Some n) =
+    (i : ℕ) × (r : Row) × (n ≡ suc i) × (slice_get rows i ≡ Some r) × (counts strict r.verdict ≡ true)
 
 -- what is told of a batch of rows: all of them, or the first ones, with which the sweep ends
-pub record IsCut (fail_fast : Bool) (batch rows : List Row) (ended : Bool) : Type 0 where
+pub record IsCut (strict fail_fast : Bool) (batch rows : List Row) (ended : Bool) : Type 0 where
   pub first : rows ≡ take (length rows) batch
   pub some : 0 < length batch → 0 < length rows
-  pub found : ended ≡ true → (fail_fast && ends_found false rows) ≡ true
+  pub found : ended ≡ true → (fail_fast && ends_found strict false rows) ≡ true
 
 abbrev pub is_given : Option ℕ → Bool
 is_given None = false
 is_given (Some n) = true
 
 -- the sweep ends with these rows: the last is a finding, and one is to end it, or its time is over, or no case is left
-abbrev pub IsEnd : Words → List Row → List Case → Type 0
-IsEnd words rows rest =
-    ((words.fail_fast && ends_found false rows) ≡ true) ⊎ ((is_given words.seconds ≡ true) ⊎ (rest ≡ []))
+abbrev pub IsEnd : Bool → Words → List Row → List Case → Type 0
+IsEnd strict words rows rest =
+    ((words.fail_fast && ends_found strict false rows) ≡ true) ⊎ ((is_given words.seconds ≡ true) ⊎ (rest ≡ []))
 
 -- rows of the first of these cases, up to the end of the sweep
-pub record AreBegun (setup : Setup) (reference : Reached) (words : Words) (cases : List Case) (rows : List Row)
-    : Type 0 where
+pub record AreBegun (strict : Bool) (setup : Setup) (reference : Reached) (words : Words) (cases : List Case)
+    (rows : List Row) : Type 0 where
   pub done : List Case
   pub rest : List Case
   pub all : done ++ rest ≡ cases
   pub made : AreTold words.is_checked setup reference done rows
-  pub ended : IsEnd words rows rest
+  pub ended : IsEnd strict words rows rest
 
 -- the row is a finding whose line is like one of those that are known; or it isn't such a row
-pub record IsMark {Z : Type 0} (known : List (String Z)) (row : Row) (mark : Bool) : Type 0 where
+pub record IsMark {Z : Type 0} (strict : Bool) (known : List (String Z)) (row : Row) (mark : Bool) : Type 0 where
   pub key : List ℕ
   pub is_key : IsKey row.verdict key
-  pub finding : mark ≡ true → is_finding row.verdict ≡ true
+  pub finding : mark ≡ true → counts strict row.verdict ≡ true
   pub like : mark ≡ true → IsKnown known key
-  pub unlike : mark ≡ false → is_finding row.verdict ≡ true → ¬ (IsKnown known key)
+  pub unlike : mark ≡ false → counts strict row.verdict ≡ true → ¬ (IsKnown known key)
 
 -- such rows are marked, and no others; where none is known there are no marks
-abbrev pub AreMarks : {Z : Type 0} → List (String Z) → List Row → List Bool → Type 0
-AreMarks known [] [] = ⊤
-AreMarks known (r ∷ rs) [] = known ≡ []
-AreMarks known [] (m ∷ ms) = ⊥
-AreMarks known (r ∷ rs) (m ∷ ms) = IsMark known r m × AreMarks known rs ms
+abbrev pub AreMarks : {Z : Type 0} → Bool → List (String Z) → List Row → List Bool → Type 0
+AreMarks strict known [] [] = ⊤
+AreMarks strict known (r ∷ rs) [] = known ≡ []
+AreMarks strict known [] (m ∷ ms) = ⊥
+AreMarks strict known (r ∷ rs) (m ∷ ms) = IsMark strict known r m × AreMarks strict known rs ms
 
 -- the status is that of these rows, but for those that are known
 pub record IsCounted (plan : Plan) (rows : List Row) (s : ℕ) : Type 0 where
   pub marks : List Bool
-  pub are_marks : AreMarks plan.known.items rows marks
+  pub are_marks : AreMarks plan.strict plan.known.items rows marks
   pub none_known : plan.known.items ≡ [] → marks ≡ []
-  pub status_is : s ≡ status (unmarked marks rows)
+  pub status_is : s ≡ status_of plan.strict (unmarked marks rows)
 
 -- .. which are a row for each failure
 pub record IsOfRows (plan : Plan) (words : Words) (reference : Reached) (s : ℕ) : Type 0 where
   pub cases : List Case
   pub rows : List Row
   pub wanted : AreWanted plan words reference cases
-  pub made : AreBegun plan.setup reference words cases rows
+  pub made : AreBegun plan.strict plan.setup reference words cases rows
   pub counted : IsCounted plan rows s
 
 -- The report on orders of turns.
@@ -149,7 +149,7 @@ pub record IsOfRun (plan : Plan) (reference : Reached) (run : NamedRun) (s : ℕ
   pub row : Row
   pub named : names run row.case ≡ true
   pub made : IsRow plan.setup reference row
-  pub status_is : s ≡ status (row.verdict ∷ [])
+  pub status_is : s ≡ status_of plan.strict (row.verdict ∷ [])
 
 -- .. or of the runs with a failure, or by orders of turns
 abbrev pub IsOfAll : Plan → Words → Reached → Option Orders → ℕ → Type 0
@@ -167,6 +167,26 @@ pub record IsOfSweep (s : ℕ) : Type 0 where
   pub reference : Reached
   pub runs : Reaches plan.setup [] reference
   pub of_report : IsOfReport plan words reference s
+
+-- The report on the cases that a file names, each of which is a sweep.
+
+-- for each case the status of a sweep
+abbrev pub AreOfSweeps : List NamedCase → List ℕ → Type 0
+AreOfSweeps [] [] = ⊤
+AreOfSweeps (c ∷ cs) [] = ⊥
+AreOfSweeps [] (s ∷ ss) = ⊥
+AreOfSweeps (c ∷ cs) (s ∷ ss) = IsOfSweep s × AreOfSweeps cs ss
+
+-- the status is 0 only where that of each case is
+pub record IsOfCases (s : ℕ) : Type 0 where
+  pub cases : List NamedCase
+  pub each : List ℕ
+  pub are : AreOfSweeps cases each
+  pub status_is : s ≡ cond (list_any (λ one. nat_lt 0 one) each) 1 0
+
+-- .. of the cases, likewise
+abbrev pub AreSwept : ℕ → Type 0
+AreSwept s = (ended : Result ℕ Fault) × (IfOk ended IsOfCases × IsStatusOf ended s)
 
 -- the program's status, where the parser takes its words, is that of the sweep, or of the fault in which it ended
 abbrev pub IsSwept : ℕ → Type 0

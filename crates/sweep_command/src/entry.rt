@@ -1,7 +1,8 @@
 //! The program as a function of its words, its input and its outputs.
 
-ghost use Rattle.sweep_command.specs.Reports.{IsSwept};
+ghost use Rattle.sweep_command.specs.Reports.{AreSwept, IsSwept};
 
+use crate::cases::sweep_cases;
 use crate::sweeping::sweep;
 use clap::ArgMatches;
 use clap::error::ErrorKind;
@@ -28,7 +29,10 @@ pub fn command<
 >(rt: &R, words: &[String], input: &mut I, out: &mut O, err: &mut E) -> u8 {
     let alloc = rt.alloc();
     match words::parse(alloc, words) {
-        Ok(matches) => run(rt, &matches, input, out, err),
+        Ok(matches) => match matches.get_str("cases") {
+            Some(path) => run_cases(rt, words, &matches, path, out, err),
+            None => run(rt, &matches, input, out, err),
+        },
         Err(error) if error.use_stderr() => tell(refuse(alloc, error.kind(), words), err),
         Err(help) => match print_help(alloc, help, out) {
             Ok(status) => status,
@@ -55,8 +59,21 @@ fn run<
     settle(NAME, ended, explained, err)
 }
 
+/// The same of a file that has cases.
+fn run_cases<
+    R: Env + Files + Clock + Processes + Threads + Sync + AllocGlobal,
+    O: Write + IsTerminal,
+    E: Write + IsTerminal,
+>(rt: &R, words: &[String], matches: &ArgMatches, path: &str, out: &mut O, err: &mut E) -> u8
+    ensures { AreSwept result }
+{
+    let explained = matches.get_flag("explain") || err.is_terminal();
+    let ended = sweep_cases(rt, words, matches, path, explained, out, err);
+    settle(NAME, ended, explained, err)
+}
+
 /// What is wrong with words that the parser refuses for a fault of this kind.
-fn refuse(alloc: Global, kind: ErrorKind, words: &[String]) -> Fault {
+pub fn refuse(alloc: Global, kind: ErrorKind, words: &[String]) -> Fault {
     if kind == ErrorKind::OutOfMemory {
         return Fault::Memory;
     }

@@ -3,7 +3,7 @@
 ghost use Rattle.std.specs.Prelude.{◌≡◌, [], true, IfOk};
 ghost use Rattle.std.specs.String.{string_bytes};
 ghost use Rattle.sweep_report.specs.Keys.{IsKey};
-ghost use Rattle.sweep_rows.specs.Verdicts.{is_finding};
+ghost use Rattle.sweep_report.specs.Findings.{counts as counts_by};
 ghost use Rattle.sweep_command.specs.Reports.{IsMark, AreMarks};
 
 use crate::outputs::{check, replace};
@@ -12,9 +12,10 @@ use front_end::Fault;
 use std::alloc::{AllocError, Global};
 use std::io::Write;
 use std::rt::Files;
+use sweep_report::findings::counts;
 use sweep_report::sites::{key_of, place_of};
 use sweep_report::traced::TracedCalls;
-use sweep_rows::{Reached, is_finding};
+use sweep_rows::Reached;
 use sweep_runs::Row;
 use sweep_words::known::{is_known, is_like};
 use sweep_words::plan::Plan;
@@ -41,8 +42,8 @@ fn is_known_finding(
     calls: &TracedCalls,
     row: &Row,
 ) -> Result<bool, AllocError>
-    requires { is_finding row.now.verdict ≡ true }
-    ensures { IfOk result (IsMark plan.now.known.items row.now) }
+    requires { counts_by plan.now.strict row.now.verdict ≡ true }
+    ensures { IfOk result (IsMark plan.now.strict plan.now.known.items row.now) }
 {
     let key = key(alloc, reference, calls, row)?;
     Ok(is_known(plan.known.as_slice(), key.as_str()))
@@ -57,12 +58,12 @@ pub fn is_mark(
     calls: &TracedCalls,
     row: &Row,
 ) -> Result<bool, AllocError>
-    ensures { IfOk result (IsMark plan.now.known.items row.now) }
+    ensures { IfOk result (IsMark plan.now.strict plan.now.known.items row.now) }
 {
     if plan.known.is_empty() {
         return Ok(false);
     }
-    if !is_finding(row.verdict) {
+    if !counts(plan.strict, row.verdict) {
         return Ok(false);
     }
     let known = is_known_finding(alloc, plan, reference, calls, row)?;
@@ -77,7 +78,7 @@ fn each_mark(
     calls: &TracedCalls,
     rows: &[Row],
 ) -> Result<Vec<bool>, AllocError>
-    ensures { IfOk result (λ marks. AreMarks plan.now.known.items rows.now marks.items) }
+    ensures { IfOk result (λ marks. AreMarks plan.now.strict plan.now.known.items rows.now marks.items) }
 {
     let mut marks = Vec::new(alloc);
     let mut left = rows;
@@ -98,7 +99,7 @@ pub fn marks_of(
     calls: &TracedCalls,
     rows: &[Row],
 ) -> Result<Vec<bool>, AllocError>
-    ensures are { IfOk result (λ marks. AreMarks plan.now.known.items rows.now marks.items) }
+    ensures are { IfOk result (λ marks. AreMarks plan.now.strict plan.now.known.items rows.now marks.items) }
     ensures none { IfOk result (λ marks. plan.now.known.items ≡ [] → marks.items ≡ []) }
 {
     if plan.known.is_empty() {
@@ -116,9 +117,9 @@ pub fn is_new(
     calls: &TracedCalls,
     row: &Row,
 ) -> Result<bool, AllocError>
-    ensures { IfOk result (λ new. new ≡ true → is_finding row.now.verdict ≡ true) }
+    ensures { IfOk result (λ new. new ≡ true → counts_by plan.now.strict row.now.verdict ≡ true) }
 {
-    if !is_finding(row.verdict) {
+    if !counts(plan.strict, row.verdict) {
         return Ok(false);
     }
     let known = is_mark(alloc, plan, reference, calls, row)?;
@@ -142,28 +143,31 @@ pub fn findings(
     Ok(count)
 }
 
-/// The lines of all findings, each once.
-fn keys(
+/// Adds the lines of all findings, where the words ask for such lines.
+pub fn add_found(
     alloc: Global,
+    matches: &ArgMatches,
+    plan: &Plan,
     reference: &Reached,
     calls: &TracedCalls,
     rows: &[Row],
-) -> Result<Vec<String>, AllocError> {
-    let mut keys = Vec::new(alloc);
+    found: &mut Vec<String>,
+) -> Result<(), AllocError> {
+    if matches.get_str("known").is_none() && matches.get_str("known-out").is_none() {
+        return Ok(());
+    }
     for row in rows {
-        if is_finding(row.verdict) {
-            keys.push(key(alloc, reference, calls, row)?)?;
+        if counts(plan.strict, row.verdict) {
+            found.push(key(alloc, reference, calls, row)?)?;
         }
     }
-    keys.sort()?;
-    keys.dedup();
-    Ok(keys)
+    Ok(())
 }
 
-/// Tells of lines that no finding is like.
-fn tell_unmet<E: Write>(plan: &Plan, keys: &[String], err: &mut E) {
-    for line in &plan.known {
-        if !keys.iter().any(|key| is_like(key.as_str(), line.as_str())) {
+/// Tells of known lines that no finding is like.
+fn tell_unmet<E: Write>(known: &[String], found: &[String], err: &mut E) {
+    for line in known {
+        if !found.iter().any(|key| is_like(key.as_str(), line.as_str())) {
             // The sweep is done, whether this can be written or not.
             let _written = writeln!(err, "strace_sweep: --known: no run is {line}");
         }
@@ -175,29 +179,31 @@ pub fn check_known<R: Files + AllocGlobal>(rt: &R, matches: &ArgMatches) -> Resu
     check(rt, "--known-out", matches.get_str("known-out"))
 }
 
-/// Writes the lines of all findings, where the words ask for them, and tells of known lines that none is like.
+/// Lines, each once, as a file has them.
+fn text_of(alloc: Global, found: &mut Vec<String>) -> Result<String, AllocError> {
+    found.sort()?;
+    found.dedup();
+    let mut text = String::new(alloc);
+    for line in found.iter() {
+        text.push_str(line.as_str())?;
+        text.push('\n')?;
+    }
+    Ok(text)
+}
+
+/// Tells of known lines that no finding is like, and writes the lines of all findings, where the words ask for them.
 pub fn finish_known<R: Files + AllocGlobal, E: Write>(
     rt: &R,
     matches: &ArgMatches,
-    plan: &Plan,
-    reference: &Reached,
-    calls: &TracedCalls,
-    rows: &[Row],
+    known: &[String],
+    found: Vec<String>,
     err: &mut E,
 ) -> Result<(), Fault> {
-    let alloc = rt.alloc();
-    if matches.get_str("known").is_none() && matches.get_str("known-out").is_none() {
-        return Ok(());
-    }
-    let keys = keys(alloc, reference, calls, rows)?;
-    tell_unmet(plan, keys.as_slice(), err);
+    tell_unmet(known, found.as_slice(), err);
     let Some(path) = matches.get_str("known-out") else {
         return Ok(());
     };
-    let mut text = String::new(alloc);
-    for key in &keys {
-        text.push_str(key.as_str())?;
-        text.push('\n')?;
-    }
+    let mut found = found;
+    let text = text_of(rt.alloc(), &mut found)?;
     replace(rt, "--known-out", path, text.as_bytes())
 }

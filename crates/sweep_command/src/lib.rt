@@ -2,6 +2,7 @@
 //! are.
 #![tactic(auto)]
 
+mod cases;
 mod checking;
 mod choosing;
 mod entry;

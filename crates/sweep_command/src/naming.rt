@@ -85,7 +85,7 @@ pub fn check_named(
     plan: &Plan,
     reference: &Reached,
 ) -> Result<(), Fault> {
-    let Some(path) = matches.get_str("cases") else {
+    let Some(path) = matches.get_str("runs") else {
         return Ok(());
     };
     let log = reference.log.as_slice();

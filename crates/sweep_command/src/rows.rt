@@ -181,7 +181,7 @@ fn first_finding(
     calls: &TracedCalls,
     rows: &[Row],
 ) -> Result<Option<usize>, AllocError>
-    ensures { IfOk result (IsFound rows.now) }
+    ensures { IfOk result (IsFound plan.now.strict rows.now) }
 {
     let mut count = 0;
     while count < rows.len() {
@@ -203,7 +203,7 @@ fn cut(
     fail_fast: bool,
     batch: &mut Vec<Row>,
 ) -> Result<bool, AllocError>
-    ensures { IfOk result (IsCut fail_fast batch.old.items batch.new.items) }
+    ensures { IfOk result (IsCut plan.now.strict fail_fast batch.old.items batch.new.items) }
 {
     if !fail_fast {
         return Ok(false);
@@ -288,7 +288,7 @@ fn make_batches<R: Files + Processes + Threads + Sync + AllocGlobal, C: Clock, W
     writer: &mut W,
     progress: &mut ShownProgress<C, E>,
 ) -> Result<Vec<Row>, Fault>
-    ensures { IfOk result (λ rows. AreBegun plan.now.setup reference.now words cases.now rows.items) }
+    ensures { IfOk result (λ rows. AreBegun plan.now.strict plan.now.setup reference.now words cases.now rows.items) }
 {
     let size = batch_size(words.jobs, words.seconds.is_some());
     let mut rows = Vec::new(rt.alloc());
@@ -342,7 +342,7 @@ pub fn make<
     writer: &mut W,
     err: &mut E,
 ) -> Result<Vec<Row>, Fault>
-    ensures { IfOk result (λ rows. AreBegun plan.now.setup reference.now words cases.now rows.items) }
+    ensures { IfOk result (λ rows. AreBegun plan.now.strict plan.now.setup reference.now words cases.now rows.items) }
 {
     let is_shown = err.is_terminal();
     let mut progress = ShownProgress::new(rt.alloc(), rt, err, is_shown);

@@ -3,7 +3,7 @@
 ghost use Rattle.std.specs.Prelude.{◌≡◌, [], ◌∷◌, true, IfOk, IfSome};
 ghost use Rattle.sweep_command.specs.Naming.{names as names_case};
 ghost use Rattle.sweep_command.specs.Reports.{IsOfRun};
-ghost use Rattle.sweep_rows.specs.Summary.{status as status_by};
+ghost use Rattle.sweep_report.specs.Findings.{status_of as status_by};
 
 use crate::naming::{absence_of, names};
 use crate::outputs::write;
@@ -13,10 +13,11 @@ use clap::ArgMatches;
 use front_end::Fault;
 use std::alloc::{AllocError, Global};
 use std::io::Write;
+use sweep_report::findings;
 use sweep_report::texts::quoted_bytes;
 use sweep_report::told::Told;
 use sweep_report::traced::TracedCalls;
-use sweep_rows::{Reached, status};
+use sweep_rows::Reached;
 use sweep_runs::{Case, Row, cases, fault_of, run_case};
 use sweep_trace::{ShownRun, show_failing, shown_options, traced_calls};
 use sweep_words::plan::Plan;
@@ -112,10 +113,10 @@ fn behind(
 }
 
 /// 0 only where the run is no finding.
-fn status_of(row: &Row) -> u8
-    ensures { result ≡ status_by (row.now.verdict ∷ []) }
+fn status_of(strict: bool, row: &Row) -> u8
+    ensures { result ≡ status_by strict (row.now.verdict ∷ []) }
 {
-    status(&[row.verdict])
+    findings::status_of(strict, &[row.verdict])
 }
 
 /// Writes the run of a failure, and gives the exit status.
@@ -139,5 +140,5 @@ pub fn show<W: Write>(
     let console = shown.console.as_slice();
     let text = behind(alloc, matches, plan, reference, &calls, &row, console)?;
     write(alloc, text.as_str(), writer)?;
-    Ok(status_of(&row))
+    Ok(status_of(plan.strict, &row))
 }

@@ -1,12 +1,13 @@
 //! A sweep, from its words to its report.
 
-ghost use Rattle.std.specs.Prelude.{◌≡◌, IfOk};
+ghost use Rattle.std.specs.Prelude.{◌≡◌, [], IfOk};
+ghost use Rattle.sweep_runs.specs.Runs.{Reaches};
 ghost use Rattle.sweep_report.specs.Tallies.{unmarked};
-ghost use Rattle.sweep_rows.specs.Summary.{status};
+ghost use Rattle.sweep_report.specs.Findings.{status_of as status_by};
 ghost use Rattle.sweep_command.specs.Reports.{IsCounted, IsOfRows, IsOfAll, IsOfReport, IsOfSweep};
 
 use crate::judging::begin_checks;
-use crate::knowing::{check_known, finish_known, marks_of};
+use crate::knowing::{add_found, check_known, finish_known, marks_of};
 use crate::naming::check_named;
 use crate::orders::orders_reported;
 use crate::outputs::{check, create, path_of, replace, write};
@@ -24,12 +25,13 @@ use std::process::Processes;
 use std::rt::Files;
 use std::thread::Threads;
 use std::time::Clock;
+use sweep_report::findings::status_of;
 use sweep_report::junit::junit;
 use sweep_report::report::{counts_object, foot, head, table};
 use sweep_report::tally::{Tally, tally_of, unmarked, verdicts_of};
 use sweep_report::traced::TracedCalls;
 use sweep_report::untried::Untried;
-use sweep_rows::{Reached, first_word, status};
+use sweep_rows::{Reached, first_word};
 use sweep_runs::Row;
 use sweep_trace::traced_calls;
 use sweep_words::plan::{Plan, read_plan};
@@ -113,7 +115,7 @@ fn rest_of(
     let told = all_told(alloc, matches, plan, reference, calls, rows)?;
     let told = told.as_slice();
     match words.format {
-        Format::Junit => Ok(junit(alloc, &plan.setup, told)?),
+        Format::Junit => Ok(junit(alloc, plan.case.as_ref(), &plan.setup, told)?),
         _ => Ok(table(
             alloc,
             &plan.setup,
@@ -139,22 +141,22 @@ fn finish<W: Write>(
     untried: &Untried,
     writer: &mut W,
 ) -> Result<u8, Fault>
-    ensures { IfOk result (λ s. s ≡ status (unmarked marks.now rows.now)) }
+    ensures { IfOk result (λ s. s ≡ status_by plan.now.strict (unmarked marks.now rows.now)) }
 {
     let verdicts = verdicts_of(alloc, rows)?;
     let counted = unmarked(alloc, rows, marks)?;
     let counted = counted.as_slice();
-    let tally = tally_of(alloc, verdicts.as_slice(), counted)?;
+    let tally = tally_of(alloc, plan.strict, verdicts.as_slice(), counted)?;
     let rest = rest_of(
         alloc, matches, words, plan, reference, calls, rows, &tally, untried,
     )?;
     write(alloc, rest.as_str(), writer)?;
-    Ok(status(counted))
+    Ok(status_of(plan.strict, counted))
 }
 
-/// Writes the rest of the report on these rows, and what is known of findings; gives the exit status.
-fn conclude<R: Files + AllocGlobal, W: Write, E: Write>(
-    rt: &R,
+/// Writes the rest of the report on these rows, and adds the lines of findings; gives the exit status.
+fn conclude<W: Write>(
+    alloc: Global,
     matches: &ArgMatches,
     words: Words,
     plan: &Plan,
@@ -162,18 +164,17 @@ fn conclude<R: Files + AllocGlobal, W: Write, E: Write>(
     calls: &TracedCalls,
     rows: &[Row],
     untried: &Untried,
+    found: &mut Vec<String>,
     writer: &mut W,
-    err: &mut E,
 ) -> Result<u8, Fault>
     ensures { IfOk result (IsCounted plan.now rows.now) }
 {
-    let alloc = rt.alloc();
     let marks = marks_of(alloc, plan, reference, calls, rows)?;
     let marks = marks.as_slice();
     let status = finish(
         alloc, matches, words, plan, reference, calls, rows, marks, untried, writer,
     )?;
-    finish_known(rt, matches, plan, reference, calls, rows, err)?;
+    add_found(alloc, matches, plan, reference, calls, rows, found)?;
     Ok(status)
 }
 
@@ -197,6 +198,7 @@ fn failures<
     words: Words,
     plan: &Plan,
     reference: &Reached,
+    found: &mut Vec<String>,
     writer: &mut W,
     err: &mut E,
 ) -> Result<u8, Fault>
@@ -223,7 +225,7 @@ fn failures<
     let rows = rows.as_slice();
     let untried = untried_of(choice, rows.len());
     let status = conclude(
-        rt, matches, words, plan, reference, &calls, rows, &untried, writer, err,
+        alloc, matches, words, plan, reference, &calls, rows, &untried, found, writer,
     )?;
     Ok(status)
 }
@@ -239,6 +241,7 @@ fn report_all<
     words: Words,
     plan: &Plan,
     reference: &Reached,
+    found: &mut Vec<String>,
     writer: &mut W,
     err: &mut E,
 ) -> Result<u8, Fault>
@@ -252,14 +255,14 @@ fn report_all<
             Ok(of_orders)
         }
         None => {
-            let of_rows = failures(rt, matches, words, plan, reference, writer, err)?;
+            let of_rows = failures(rt, matches, words, plan, reference, found, writer, err)?;
             Ok(of_rows)
         }
     }
 }
 
-/// Reports the run that the words name, or else all; gives the exit status.
-fn report<
+/// Reports the run that the words name, or else all, and adds the lines of findings; gives the exit status.
+pub fn report<
     R: Env + Files + Clock + Processes + Threads + Sync + AllocGlobal,
     W: Write,
     E: Write + IsTerminal,
@@ -269,6 +272,7 @@ fn report<
     words: Words,
     plan: &Plan,
     reference: &Reached,
+    found: &mut Vec<String>,
     writer: &mut W,
     err: &mut E,
 ) -> Result<u8, Fault>
@@ -278,7 +282,7 @@ fn report<
         let of_run = show(rt.alloc(), matches, plan, reference, run, writer)?;
         return Ok(of_run);
     }
-    let of_all = report_all(rt, matches, words, plan, reference, writer, err)?;
+    let of_all = report_all(rt, matches, words, plan, reference, found, writer, err)?;
     Ok(of_all)
 }
 
@@ -293,17 +297,18 @@ fn report_to_file<
     plan: &Plan,
     reference: &Reached,
     path: &str,
+    found: &mut Vec<String>,
     err: &mut E,
 ) -> Result<u8, Fault>
     ensures { IfOk result (IsOfReport plan.now words reference.now) }
 {
     if words.is_streamed() {
         let mut file = create(rt, path)?;
-        let status = report(rt, matches, words, plan, reference, &mut file, err)?;
+        let status = report(rt, matches, words, plan, reference, found, &mut file, err)?;
         return Ok(status);
     }
     let mut text: Vec<u8> = Vec::new(rt.alloc());
-    let status = report(rt, matches, words, plan, reference, &mut text, err)?;
+    let status = report(rt, matches, words, plan, reference, found, &mut text, err)?;
     replace(rt, "-o", path, text.as_slice())?;
     Ok(status)
 }
@@ -319,16 +324,17 @@ fn report_where<
     words: Words,
     plan: &Plan,
     reference: &Reached,
+    found: &mut Vec<String>,
     out: &mut O,
     err: &mut E,
 ) -> Result<u8, Fault>
     ensures { IfOk result (IsOfReport plan.now words reference.now) }
 {
     if let Some(path) = path_of(matches) {
-        let of_file = report_to_file(rt, matches, words, plan, reference, path, err)?;
+        let of_file = report_to_file(rt, matches, words, plan, reference, path, found, err)?;
         return Ok(of_file);
     }
-    let status = report(rt, matches, words, plan, reference, out, err)?;
+    let status = report(rt, matches, words, plan, reference, found, out, err)?;
     Ok(status)
 }
 
@@ -338,6 +344,51 @@ fn is_plain<R: Env + AllocGlobal>(rt: &R) -> bool {
         Ok(value) => !value.is_empty(),
         Err(_) => false,
     }
+}
+
+/// What a sweep begins with.
+#[derive(Drop)]
+pub struct Begun {
+    pub plan: Plan,
+    /// The run without a failure.
+    pub reference: Reached,
+}
+
+/// Reads what the words ask for, those of a case of this name or of all, sees that outputs can be written, and makes
+/// the run without a failure.
+pub fn begin<R: Files + AllocGlobal, I: Read + IsTerminal, E: Write + IsTerminal>(
+    rt: &R,
+    matches: &ArgMatches,
+    words: Words,
+    case: Option<String>,
+    explained: bool,
+    input: &mut I,
+    err: &mut E,
+) -> Result<Begun, Fault>
+    ensures { IfOk result (λ begun. Reaches begun.plan.setup [] begun.reference) }
+{
+    let alloc = rt.alloc();
+    let mut asked = read_plan(rt, matches, input, err)?;
+    asked.case = case;
+    check_outputs(rt, matches)?;
+    check(rt, "-o", path_of(matches))?;
+    check_known(rt, matches)?;
+    let plan = limited(alloc, matches, words, asked)?;
+    let reference = reference(alloc, &plan.setup, explained)?;
+    if explained {
+        explain(alloc, &plan, &reference, err)?;
+    }
+    check_named(alloc, matches, &plan, &reference)?;
+    Ok(Begun { plan, reference })
+}
+
+/// The words of a sweep whose report goes to `out`, which has colors at a terminal.
+pub fn words_at<R: Env + AllocGlobal, O: IsTerminal>(
+    rt: &R,
+    matches: &ArgMatches,
+    out: &O,
+) -> Result<Words, Fault> {
+    words_of(rt.alloc(), matches, out.is_terminal() && !is_plain(rt))
 }
 
 /// Makes the sweep that the words ask for, and gives the exit status.
@@ -356,19 +407,12 @@ pub fn sweep<
 ) -> Result<u8, Fault>
     ensures { IfOk result IsOfSweep }
 {
-    let alloc = rt.alloc();
-    let words = words_of(alloc, matches, out.is_terminal() && !is_plain(rt))?;
-    shown_run(alloc, matches)?;
-    let asked = read_plan(rt, matches, input, err)?;
-    check_outputs(rt, matches)?;
-    check(rt, "-o", path_of(matches))?;
-    check_known(rt, matches)?;
-    let plan = limited(alloc, matches, words, asked)?;
-    let reference = reference(alloc, &plan.setup, explained)?;
-    if explained {
-        explain(alloc, &plan, &reference, err)?;
-    }
-    check_named(alloc, matches, &plan, &reference)?;
-    let status = report_where(rt, matches, words, &plan, &reference, out, err)?;
+    let words = words_at(rt, matches, out)?;
+    shown_run(rt.alloc(), matches)?;
+    let begun = begin(rt, matches, words, None, explained, input, err)?;
+    let mut found = Vec::new(rt.alloc());
+    let (plan, reference) = (&begun.plan, &begun.reference);
+    let status = report_where(rt, matches, words, plan, reference, &mut found, out, err)?;
+    finish_known(rt, matches, begun.plan.known.as_slice(), found, err)?;
     Ok(status)
 }

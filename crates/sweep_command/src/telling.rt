@@ -36,7 +36,16 @@ pub fn told(
     let place = place_of(alloc, calls, reference, &row.case.occurrence)?;
     let hung = hung.as_ref().map(|reason| reason.as_str());
     let known = is_mark(alloc, plan, reference, calls, row)?;
-    tell_row(alloc, matches, reference, row, place, hung, known)
+    tell_row(
+        alloc,
+        matches,
+        reference,
+        row,
+        place,
+        hung,
+        plan.strict,
+        known,
+    )
 }
 
 /// The rows as they are told.

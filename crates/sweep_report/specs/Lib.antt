@@ -1,2 +1,3 @@
+pub mod Findings
 pub mod Tallies
 pub mod Keys

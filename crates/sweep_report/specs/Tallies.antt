@@ -2,7 +2,7 @@
 use Rattle.std.specs.Prelude.{ℕ, ◌+◌, nat_lt, Bool, false, cond, List, [], ◌∷◌, ◌++◌, map}
 use Rattle.std.specs.List.{flat_map}
 use Rattle.sweep_rows.specs.Summary.{count}
-use Rattle.sweep_rows.specs.Verdicts.{is_finding}
+use Rattle.sweep_report.specs.Findings.{counts}
 use Rattle.sweep_rows.specs.declared.verdicts.Verdict.{Verdict}
 use Rattle.sweep_rows.specs.declared.verdicts.Verdict.TheVariants.{Hung, Killed, Broken, Torn, Lost, Dropped, Damaged}
 use Rattle.sweep_rows.specs.declared.verdicts.Verdict.TheVariants.{Warned, Reported, Recovered, Ignored}
@@ -28,9 +28,9 @@ abbrev pub unmarked : List Bool → List Row → List Verdict
 unmarked marks [] = []
 unmarked marks (r ∷ rs) = unless (is_marked marks) r ++ unmarked (behind marks) rs
 
-abbrev pub findings_in : List Verdict → ℕ
-findings_in [] = 0
-findings_in (v ∷ vs) = cond (is_finding v) 1 0 + findings_in vs
+abbrev pub findings_in : Bool → List Verdict → ℕ
+findings_in strict [] = 0
+findings_in strict (v ∷ vs) = cond (counts strict v) 1 0 + findings_in strict vs
 
 -- the worst first
 abbrev pub all_verdicts : List Verdict

@@ -98,8 +98,11 @@ fn case_of(
     )
 }
 
-/// What stands before the cases.
-fn head(alloc: Global, rows: &[Told], blocks: &[Block]) -> Result<String, AllocError> {
+/// What stands before a text in XML.
+pub const PROLOG: &str = "<?xml version=\"1.0\" encoding=\"UTF-8\"?>\n";
+
+/// What stands before the cases of a suite.
+fn head(alloc: Global, name: &str, rows: &[Told], blocks: &[Block]) -> Result<String, AllocError> {
     let failed = blocks
         .iter()
         .filter(|block| has_finding(rows, *block))
@@ -108,22 +111,38 @@ fn head(alloc: Global, rows: &[Told], blocks: &[Block]) -> Result<String, AllocE
         .iter()
         .filter(|block| is_skipped(rows, *block))
         .count();
-    let mut text = String::from_str(alloc, "<?xml version=\"1.0\" encoding=\"UTF-8\"?>\n")?;
     let counts = format!(in alloc;
         "tests=\"{}\" failures=\"{failed}\" skipped=\"{skipped}\"",
         blocks.len()
     )?;
-    text.push_str(format!(in alloc; "<testsuite name=\"strace_sweep\" {counts}>\n")?.as_str())?;
-    Ok(text)
+    let name = escaped_text(alloc, name)?;
+    format!(in alloc; "<testsuite name=\"{name}\" {counts}>\n")
 }
 
-/// The whole report.
-pub fn junit(alloc: Global, setup: &Setup, rows: &[Told]) -> Result<String, AllocError> {
+/// A suite of this name.
+fn suite(alloc: Global, name: &str, setup: &Setup, rows: &[Told]) -> Result<String, AllocError> {
     let blocks = blocks_of(alloc, rows)?;
-    let mut text = head(alloc, rows, blocks.as_slice())?;
+    let mut text = head(alloc, name, rows, blocks.as_slice())?;
     for block in &blocks {
         text.push_str(case_of(alloc, setup, rows, block)?.as_str())?;
     }
     text.push_str("</testsuite>\n")?;
     Ok(text)
+}
+
+/// The whole report, or the suite of a case of this name, of which the report has several.
+pub fn junit(
+    alloc: Global,
+    case: Option<&String>,
+    setup: &Setup,
+    rows: &[Told],
+) -> Result<String, AllocError> {
+    match case {
+        Some(name) => suite(alloc, name.as_str(), setup, rows),
+        None => {
+            let mut text = String::from_str(alloc, PROLOG)?;
+            text.push_str(suite(alloc, "strace_sweep", setup, rows)?.as_str())?;
+            Ok(text)
+        }
+    }
 }

@@ -3,6 +3,7 @@
 
 pub mod blocks;
 pub mod entries;
+pub mod findings;
 pub mod junit;
 pub mod report;
 pub mod sites;

@@ -377,6 +377,17 @@ fn object_line<T: Serialize>(alloc: Global, value: &T) -> Result<String, serde_j
     Ok(line)
 }
 
+/// A case's name.
+#[derive(Drop, Serialize)]
+struct CaseName<'n> {
+    case: &'n str,
+}
+
+/// The case whose objects come next, as an object.
+pub fn case_object(alloc: Global, name: &str) -> Result<String, serde_json::Error> {
+    object_line(alloc, &CaseName { case: name })
+}
+
 /// A run as an object.
 pub fn object(alloc: Global, told: &Told) -> Result<String, serde_json::Error> {
     object_line(alloc, told)

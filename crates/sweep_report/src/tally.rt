@@ -4,8 +4,9 @@ ghost use Rattle.std.specs.Prelude.{◌≡◌, ◌++◌, IfOk, OnOk, length};
 ghost use Rattle.sweep_report.specs.Tallies.{verdicts_in, is_marked, behind, unless, unmarked, findings_in, kind_of};
 ghost use Rattle.sweep_report.specs.Tallies.{kinds_of};
 
+use crate::findings::counts;
 use std::alloc::{AllocError, Global};
-use sweep_rows::{Verdict, count, is_finding};
+use sweep_rows::{Verdict, count};
 use sweep_runs::Row;
 
 /// All verdicts, the worst first.
@@ -122,13 +123,13 @@ fn kinds_of(alloc: Global, verdicts: &[Verdict]) -> Result<Vec<Kind>, AllocError
 }
 
 /// How many of these are findings.
-fn findings_in(verdicts: &[Verdict]) -> usize
-    ensures { result ≡ findings_in verdicts.now }
+fn findings_in(strict: bool, verdicts: &[Verdict]) -> usize
+    ensures { result ≡ findings_in strict verdicts.now }
 {
     let mut findings = 0;
     let mut left = verdicts;
     while let Some((verdict, rest)) = left.split_first() {
-        if is_finding(*verdict) {
+        if counts(strict, *verdict) {
             findings += 1;
         }
         left = rest;
@@ -139,17 +140,18 @@ fn findings_in(verdicts: &[Verdict]) -> usize
 /// How many runs came to what, of which those in the second list count.
 pub fn tally_of(
     alloc: Global,
+    strict: bool,
     verdicts: &[Verdict],
     counted: &[Verdict],
 ) -> Result<Tally, AllocError>
     ensures runs { IfOk result (λ tally. tally.runs ≡ length verdicts.now) }
-    ensures findings { IfOk result (λ tally. tally.findings ≡ findings_in counted.now) }
+    ensures findings { IfOk result (λ tally. tally.findings ≡ findings_in strict counted.now) }
     ensures kinds { IfOk result (λ tally. tally.kinds.items ≡ kinds_of verdicts.now) }
 {
     let kinds = kinds_of(alloc, verdicts)?;
     Ok(Tally {
         runs: verdicts.len(),
-        findings: findings_in(counted),
+        findings: findings_in(strict, counted),
         known: verdicts.len().saturating_sub(counted.len()),
         kinds,
     })

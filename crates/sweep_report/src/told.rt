@@ -1,6 +1,7 @@
 //! A run as it is told.
 
 use crate::entries::Entry;
+use crate::findings::counts;
 use crate::sites::{Place, site_of};
 use crate::texts::{own_part, push_part, quoted_bytes, without_numbers};
 use clap::ArgMatches;
@@ -9,8 +10,7 @@ use lx_abi::{Ended, Signal, Status};
 use serde::Serialize;
 use std::alloc::{AllocError, Global};
 use sweep_rows::{
-    FileNote, Reached, Streams, Verdict, Word, first_word, is_finding, name_of as verdict_name,
-    rank,
+    FileNote, Reached, Streams, Verdict, Word, first_word, name_of as verdict_name, rank,
 };
 use sweep_runs::Row;
 use sweep_words::calls::{error_name, name_of};
@@ -304,6 +304,7 @@ pub fn tell_row(
     row: &Row,
     place: Place,
     hung: Option<&str>,
+    strict: bool,
     known: bool,
 ) -> Result<Told, AllocError> {
     let occurrence = &row.case.occurrence;
@@ -314,7 +315,7 @@ pub fn tell_row(
     let outcome = outcome_of(alloc, reference, row, hung)?;
     Ok(Told {
         verdict: verdict_name(row.verdict),
-        finding: is_finding(row.verdict) && !known,
+        finding: counts(strict, row.verdict) && !known,
         known,
         pid: occurrence.pid,
         call,

@@ -2,6 +2,7 @@
 #![tactic(auto)]
 
 pub mod calls;
+pub mod cases;
 pub mod known;
 pub mod named;
 pub mod plan;

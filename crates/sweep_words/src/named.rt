@@ -17,7 +17,7 @@ pub struct NamedLine {
 }
 
 fn excluded(alloc: Global, option: &str) -> Fault {
-    Fault::usage(format!(in alloc; "--cases excludes {option}: the file names the runs"))
+    Fault::usage(format!(in alloc; "--runs excludes {option}: the file names the runs"))
 }
 
 /// Options that have no meaning where a file names the runs.
@@ -33,7 +33,7 @@ fn check(alloc: Global, matches: &ArgMatches) -> Result<(), Fault> {
 
 /// The fault of a line of a file.
 pub fn refuse_line(alloc: Global, path: &str, line: usize, reason: &str) -> Fault {
-    Fault::usage(format!(in alloc; "--cases {}: line {line}: {reason}", Shown(path)))
+    Fault::usage(format!(in alloc; "--runs {}: line {line}: {reason}", Shown(path)))
 }
 
 /// Adds the run that a line names; blank ones, and those that begin with a `#`, name none.
@@ -56,18 +56,18 @@ fn add_line(
     Ok(())
 }
 
-/// The runs that the file of `--cases` names; none, where the words have no such file.
+/// The runs that the file of `--runs` names; none, where the words have no such file.
 pub fn read_named<R: Files + AllocGlobal>(
     rt: &R,
     matches: &ArgMatches,
 ) -> Result<Vec<NamedLine>, Fault> {
     let alloc = rt.alloc();
     let mut named = Vec::new(alloc);
-    let Some(path) = matches.get_str("cases") else {
+    let Some(path) = matches.get_str("runs") else {
         return Ok(named);
     };
     check(alloc, matches)?;
-    let text = read_text(rt, "--cases ", path, MOST_NAMED)?;
+    let text = read_text(rt, "--runs ", path, MOST_NAMED)?;
     let mut line: usize = 0;
     for text in text.lines() {
         line = line.saturating_add(1);

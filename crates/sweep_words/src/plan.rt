@@ -1,11 +1,13 @@
 //! What a sweep is made of.
 
+ghost use Rattle.std.specs.Prelude.{IfOk};
+ghost use Rattle.sweep_words.specs.Plans.{IsPlan};
+
 use crate::known::read_known;
 use crate::named::{NamedLine, read_named};
 use crate::wanted::{read_wanted, wanted_of};
 use clap::ArgMatches;
-use front_end::{BootWords, Fault, boot_of, check_boot, limit, read_turns};
-use lx_abi::Boot;
+use front_end::{Fault, limit, read_boot, read_turns};
 use std::io::{IsTerminal, Read, Write};
 use std::rt::Files;
 use sweep_runs::{Setup, Wanted};
@@ -19,35 +21,25 @@ pub struct Plan {
     pub named: Vec<NamedLine>,
     /// The findings that are known, as lines of a file name them.
     pub known: Vec<String>,
-}
-
-fn boot<R: Files + AllocGlobal, I: Read + IsTerminal, E: Write + IsTerminal>(
-    rt: &R,
-    matches: &ArgMatches,
-    input: &mut I,
-    err: &mut E,
-) -> Result<Boot, Fault> {
-    let words = BootWords {
-        files: matches.get_strs("file").unwrap_or(&[]),
-        directories: matches.get_strs("dir").unwrap_or(&[]),
-        environment: matches.get_strs("environment").unwrap_or(&[]),
-        program: matches.get_strs("program").unwrap_or(&[]),
-        follow: matches.get_flag("follow"),
-    };
-    boot_of(rt, "strace_sweep", words, input, err)
+    /// Runs that were damaged or warned are findings too.
+    pub strict: bool,
+    /// The name of the case, where a file has several.
+    pub case: Option<String>,
 }
 
 /// Reads what the words ask for. Faults are looked for in the limit, the file of runs, the expressions, the known
-/// findings, the schedule, the files, the input and the boot.
+/// findings, the schedule, the guest's variables, its files, the input and the boot.
 pub fn read_plan<R: Files + AllocGlobal, I: Read + IsTerminal, E: Write + IsTerminal>(
     rt: &R,
     matches: &ArgMatches,
     input: &mut I,
     err: &mut E,
-) -> Result<Plan, Fault> {
+) -> Result<Plan, Fault>
+    ensures { IfOk result (IsPlan R.File.remaining matches.now (I.remaining input.old)) }
+{
     let limit = limit(rt.alloc(), matches)?;
     let named = read_named(rt, matches)?;
-    let is_listed = matches.get_str("cases").is_some();
+    let is_listed = matches.get_str("runs").is_some();
     let wanted = if is_listed {
         wanted_of(rt.alloc(), named.as_slice())?
     } else {
@@ -55,13 +47,15 @@ pub fn read_plan<R: Files + AllocGlobal, I: Read + IsTerminal, E: Write + IsTerm
     };
     let known = read_known(rt, matches)?;
     let turns = read_turns(rt, matches.get_str("turns"))?;
-    let boot = boot(rt, matches, input, err)?;
-    check_boot(rt.alloc(), &boot)?;
+    let follow = matches.get_flag("follow");
+    let boot = read_boot(rt, "strace_sweep", matches, follow, input, err)?;
     Ok(Plan {
         setup: Setup { boot, turns, limit },
         wanted,
         is_listed,
         named,
         known,
+        strict: matches.get_flag("strict"),
+        case: None,
     })
 }

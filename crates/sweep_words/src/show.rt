@@ -11,7 +11,7 @@ use std::alloc::Global;
 use tr_expr::errno;
 
 /// Options that have no meaning where one run is shown, each as it is written.
-const VALUES: [(&str, &str); 11] = [
+const VALUES: [(&str, &str); 12] = [
     ("orders", "--orders"),
     ("errors", "--errors"),
     ("format", "--format"),
@@ -21,6 +21,7 @@ const VALUES: [(&str, &str); 11] = [
     ("max-runs", "--max-runs"),
     ("time", "--time"),
     ("check", "--check"),
+    ("runs", "--runs"),
     ("cases", "--cases"),
     ("jobs", "--jobs"),
 ];

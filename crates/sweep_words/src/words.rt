@@ -189,7 +189,7 @@ fn most_of(
 
 /// Options that have no meaning where no call fails.
 fn check_failures(alloc: Global, matches: &ArgMatches) -> Result<(), Fault> {
-    for option in ["known", "known-out", "shard", "max-runs", "time", "cases"] {
+    for option in ["known", "known-out", "shard", "max-runs", "time", "runs"] {
         if matches.get_str(option).is_some() {
             return Err(Fault::usage(format!(in alloc;
                 "--orders excludes --{option}: no call fails"

@@ -35,7 +35,7 @@ loop-left-smaller g c =
     let size : c.min.result ≡ min c.batch_size-size.result (length left) = search rules in
     let least = c.batch_size-size.ensures in
     let some = c.goes_on.ensures.some c.loop-left-test.true in
-    let any = some_told k s r c.args.words.fail_fast c.in_ok-ended.ended c.min.result left first batch told c.split_at.ensures.front
+    let any = some_told k s r c.args.plan.now.strict c.args.words.fail_fast c.in_ok-ended.ended c.min.result left first batch told c.split_at.ensures.front
     (omega (arith, size, least, some)) some c.in_ok-more.ensures c.in_ok-ended.ensures in
     let len : c.len.result ≡ length told = search rules in
     let rest : take (length told) left ++ c.behind-left.result.now ≡ left =
@@ -56,7 +56,7 @@ loop-left-preserved g c =
     let size : c.min.result ≡ min c.batch_size-size.result (length left) = search rules in
     let least = c.batch_size-size.ensures in
     let some = c.goes_on.ensures.some c.loop-left-test.true in
-    let any = some_told k s r c.args.words.fail_fast c.in_ok-ended.ended c.min.result left first batch told c.split_at.ensures.front
+    let any = some_told k s r c.args.plan.now.strict c.args.words.fail_fast c.in_ok-ended.ended c.min.result left first batch told c.split_at.ensures.front
     (omega (arith, size, least, some)) some c.in_ok-more.ensures c.in_ok-ended.ensures in
     let len : c.len.result ≡ length told = search rules in
     let rest : take (length told) left ++ c.behind-left.result.now ≡ left =
@@ -69,8 +69,8 @@ loop-left-preserved g c =
       subst (λ (all : List Row). AreTold k s r (done ++ more) all) (sym items)
           (told_are_joined k s r done more l.rows.items told l.invariant.2
           (first_rows k s r c.min.result left first batch told c.split_at.ensures.front c.in_ok-ended.ensures.first c.in_ok-more.ensures)),
-      λ e. subst (λ (all : List Row). (c.args.words.fail_fast && ends_found false all) ≡ true) (sym items)
-          (ended_behind c.args.words.fail_fast l.rows.items told any (c.in_ok-ended.ensures.found e)),
+      λ e. subst (λ (all : List Row). (c.args.words.fail_fast && ends_found c.args.plan.now.strict false all) ≡ true) (sym items)
+          (ended_behind c.args.plan.now.strict c.args.words.fail_fast l.rows.items told any (c.in_ok-ended.ensures.found e)),
     )
 
 pub returns : goal.returns
@@ -79,6 +79,6 @@ returns g c = record {
   rest = c.loop-left.left.now;
   all = c.loop-left.invariant.1;
   made = c.loop-left.invariant.2;
-  ended = sweep_ends c.args.words c.loop-left.ended c.is_past.result c.loop-left.rows.items c.loop-left.left.now
+  ended = sweep_ends c.args.plan.now.strict c.args.words c.loop-left.ended c.is_past.result c.loop-left.rows.items c.loop-left.left.now
       c.loop-left.invariant.3 c.is_past.ensures (c.goes_on.ensures.none c.loop-left-test.false);
 }

@@ -8,7 +8,7 @@ use Rattle.sweep_command.proofs.rows.make_batches.Given as goal
 abbrev pub invariant-loop-left : goal.invariant-loop-left
 invariant-loop-left g l =
     (done : List Case) × (done ++ l.left ≡ l.cases) × AreTold l.words.is_checked l.plan.setup l.reference done l.rows.items
-    × (l.ended ≡ true → (l.words.fail_fast && ends_found false l.rows.items) ≡ true)
+    × (l.ended ≡ true → (l.words.fail_fast && ends_found l.plan.strict false l.rows.items) ≡ true)
 
 abbrev pub decreases-loop-left : goal.decreases-loop-left
 decreases-loop-left g l = length l.left

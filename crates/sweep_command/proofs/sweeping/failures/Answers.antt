@@ -7,7 +7,7 @@ returns g c = record {
   cases = c.in_ok-choice.choice.cases.items;
   rows = c.in_ok-rows.rows.items;
   wanted = c.in_ok-choice.ensures;
-  made = subst (λ cs. AreBegun c.args.plan.now.setup c.args.reference.now c.args.words cs c.in_ok-rows.rows.items)
+  made = subst (λ cs. AreBegun c.args.plan.now.strict c.args.plan.now.setup c.args.reference.now c.args.words cs c.in_ok-rows.rows.items)
       c.as_slice-cases.ensures.value c.in_ok-rows.ensures;
   counted = subst (λ rs. IsCounted c.args.plan.now rs c.in_ok-status.status) c.as_slice-rows.ensures.value c.in_ok-status.ensures;
 }

@@ -2,9 +2,9 @@ use Rattle.sweep_command.proofs.sweeping.sweep.Goals as goal
 
 pub returns : goal.returns
 returns g c = record {
-  plan = c.in_ok-plan.plan;
+  plan = c.in_ok-begun.begun.plan;
   words = c.in_ok-words.words;
-  reference = c.in_ok-reference.reference;
-  runs = c.in_ok-reference.ensures;
+  reference = c.in_ok-begun.begun.reference;
+  runs = c.in_ok-begun.ensures;
   of_report = c.in_ok-status.ensures;
 }

@@ -1,0 +1,10 @@
+use Rattle.sweep_command.proofs.cases.sweep_case.Goals as goal
+
+pub returns : goal.returns
+returns g c = record {
+  plan = c.in_ok-begun.begun.plan;
+  words = c.in_ok-words.words;
+  reference = c.in_ok-begun.begun.reference;
+  runs = c.in_ok-begun.ensures;
+  of_report = c.in_ok-status.ensures;
+}
