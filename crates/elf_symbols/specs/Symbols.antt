@@ -23,8 +23,8 @@ function_of bytes names at = record {
   size = number_at 8 (at + 16) bytes;
   name = names.start + number_at 4 at bytes;
   length =
-    text_length
-    (take (names.size - number_at 4 at bytes) (drop (names.start + number_at 4 at bytes) bytes));
+      text_length
+      (take (names.size - number_at 4 at bytes) (drop (names.start + number_at 4 at bytes) bytes));
 }
 
 -- the functions among n symbols, of 24 bytes each, from an offset on

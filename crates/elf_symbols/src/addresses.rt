@@ -14,8 +14,7 @@ fn lies_in(address: u64, function: Function) -> bool
 fn is_nearer(function: Function, other: Function) -> bool
     ensures { result ≡ spec.is_nearer function other }
 {
-    other.start < function.start
-        || function.start == other.start && function.length < other.length
+    other.start < function.start || function.start == other.start && function.length < other.length
 }
 
 fn nearest(so_far: Option<Function>, function: Function) -> Option<Function>

@@ -2,6 +2,7 @@
 
 ghost use Rattle.std.specs.Prelude.{◌≡◌, [], IfOk};
 
+use crate::calling::callers;
 use containers::{Bytes, Seq};
 use front_end::Fault;
 use lx_abi::{Boot, Item, Script, Set, Word};
@@ -72,5 +73,6 @@ fn trace(alloc: Global, setup: &Setup, options: Options) -> Result<Bytes, AllocE
 pub fn traced_calls(alloc: Global, setup: &Setup, log: &[Item]) -> Result<TracedCalls, Fault> {
     let trace = trace(alloc, setup, told_options(alloc, setup.boot.follow))?;
     let text = str::from_utf8(trace.as_slice()).unwrap_or("");
-    Ok(TracedCalls::of(alloc, text, setup.boot.follow, log)?)
+    let callers = callers(alloc, setup)?;
+    Ok(TracedCalls::of(alloc, text, setup.boot.follow, log, callers)?)
 }
