@@ -3,7 +3,7 @@
 
 mod calling;
 mod events;
-mod failing;
+pub mod failing;
 mod programs;
 mod tracing;
 

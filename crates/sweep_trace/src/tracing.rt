@@ -1,6 +1,8 @@
 //! The trace of the run without a failure.
 
 ghost use Rattle.std.specs.Prelude.{◌≡◌, [], IfOk};
+ghost use Rattle.lx_kernel.specs.First.{first_run};
+ghost use Rattle.pt_schedule.specs.Schedules.{worded};
 
 use crate::calling::callers;
 use containers::{Bytes, Seq};
@@ -43,7 +45,9 @@ fn told_options(alloc: Global, follow: bool) -> Options {
 }
 
 /// The schedule of a sweep's runs.
-pub fn schedule(alloc: Global, turns: &[Word], limit: u64) -> Result<Schedule, AllocError> {
+pub fn schedule(alloc: Global, turns: &[Word], limit: u64) -> Result<Schedule, AllocError>
+    ensures { IfOk result (λ s. s ≡ worded turns.now limit) }
+{
     let mut words = Vec::new(alloc);
     words.extend_from_slice(turns)?;
     Ok(Schedule::words(words, limit))
@@ -51,7 +55,8 @@ pub fn schedule(alloc: Global, turns: &[Word], limit: u64) -> Result<Schedule, A
 
 /// The kernel of a boot that is accepted, which no script changes.
 pub fn kernel(alloc: Global, boot: &Boot) -> Result<Kernel, AllocError>
-    ensures { IfOk result (λ k. k.running.log ≡ []) }
+    ensures first { IfOk result (λ k. k ≡ first_run boot.now []) }
+    ensures log { IfOk result (λ k. k.running.log ≡ []) }
 {
     let boot = boot.copy(alloc)?;
     match Kernel::boot(alloc, boot, Script::empty(alloc)) {
