@@ -1,7 +1,8 @@
 //! What came of the runs in which everything ends.
 
 ghost use Rattle.std.specs.Prelude.{◌≡◌, true, IfOk, IfSome};
-ghost use Rattle.sweep_stops.specs.Rows.{AreStopRows, IsSecondEnd, IsStopRow, is_that as is_that_stop, stops_of};
+ghost use Rattle.sweep_stops.specs.Rows.{AreStopRows, EndsBehind, IsSecondEnd, IsStopRow, is_that as is_that_stop};
+ghost use Rattle.sweep_stops.specs.Rows.{stops_of};
 
 use crate::second::{SecondEnd, end_on};
 use containers::Seq;
@@ -9,9 +10,10 @@ use front_end::Fault;
 use lx_abi::Set;
 use std::alloc::{AllocError, Global};
 use sweep_rows::{Reached, occurrences};
-use sweep_runs::{Trial, TrialRow, reach_failing, run_trial, stop_trials};
+use sweep_runs::{Setup, Trial, TrialRow, reach_failing, run_trial, stop_trials};
 use sweep_words::plan::Plan;
 use sweep_words::show::NamedStop;
+use sweep_words::stops::Second;
 
 /// What came of a stop, and of the second program behind it.
 #[derive(Drop)]
@@ -21,17 +23,31 @@ pub struct StopRow {
     pub second: Option<SecondEnd>,
 }
 
-/// How the second program of a plan ends behind a stop, whose run is made again for it.
+/// How a second program ends behind a stop, whose run is made again for it.
+fn behind(
+    alloc: Global,
+    setup: &Setup,
+    second: &Second,
+    trial: Trial,
+) -> Result<SecondEnd, Fault>
+    ensures { IfOk result (EndsBehind setup.now second.now trial) }
+{
+    let run = reach_failing(alloc, setup, trial.fault())?;
+    let end = end_on(alloc, setup, second, run.ending.outcome.files.as_slice())?;
+    Ok(end)
+}
+
+/// How that of a plan ends, where there is one.
 fn second_end(alloc: Global, plan: &Plan, trial: Trial) -> Result<Option<SecondEnd>, Fault>
     ensures { IfOk result (IsSecondEnd plan.now.setup plan.now.second trial) }
 {
-    let Some(second) = &plan.second else {
-        return Ok(None);
-    };
-    let run = reach_failing(alloc, &plan.setup, trial.fault())?;
-    let left = run.ending.outcome.files.as_slice();
-    let end = end_on(alloc, &plan.setup, second, left)?;
-    Ok(Some(end))
+    match &plan.second {
+        None => Ok(None),
+        Some(second) => {
+            let end = behind(alloc, &plan.setup, second, trial)?;
+            Ok(Some(end))
+        }
+    }
 }
 
 /// Makes the run of a stop, of a boot that is accepted, and that of the second program.
