@@ -1,8 +1,6 @@
 //! One run in which everything ends, as strace(1) shows it, and what it leaves.
 
-ghost use Rattle.std.specs.Prelude.{◌≡◌, [], ◌∷◌, IfOk};
-ghost use Rattle.sweep_report.specs.Findings.{status_of as status_by};
-ghost use Rattle.sweep_stops.specs.Counts.{verdicts_of};
+ghost use Rattle.std.specs.Prelude.{IfOk};
 ghost use Rattle.sweep_command.specs.Stops.{IsOfStop};
 
 use crate::outputs::write;
@@ -11,10 +9,9 @@ use clap::ArgMatches;
 use front_end::Fault;
 use std::alloc::{AllocError, Global};
 use std::io::Write;
-use sweep_report::findings;
 use sweep_rows::Reached;
 use sweep_runs::Trial;
-use sweep_stops::{StopRow, check_second, named_trial, run_stop, shown_text, verdict_of};
+use sweep_stops::{check_second, named_trial, run_stop, shown_text, status_of_one, verdict_of};
 use sweep_trace::{ShownRun, show_failing, shown_options, traced_calls};
 use sweep_words::calls::name_of;
 use sweep_words::plan::Plan;
@@ -44,16 +41,6 @@ fn end_of(trace: &[u8]) -> &'static str {
     }
 }
 
-/// 0 only where the stop is no finding.
-fn status_of(strict: bool, row: &StopRow) -> u8
-    ensures { result ≡ status_by strict (verdicts_of (row.now ∷ [])) }
-{
-    match verdict_of(row) {
-        Some(verdict) => findings::status_of(strict, &[verdict]),
-        None => findings::status_of(strict, &[]),
-    }
-}
-
 /// Writes the run of a stop, and gives the exit status.
 pub fn show_stop<W: Write>(
     alloc: Global,
@@ -77,5 +64,7 @@ pub fn show_stop<W: Write>(
     let console = shown.console.as_slice();
     let text = shown_text(alloc, matches, plan, reference, &calls, &row, console)?;
     write(alloc, text.as_str(), writer)?;
-    Ok(status_of(plan.strict, &row))
+    let status = status_of_one(plan.strict, verdict_of(&row));
+    drop(row);
+    Ok(status)
 }

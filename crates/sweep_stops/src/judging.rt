@@ -1,11 +1,12 @@
 //! What is told of a stop, and how many stops came to what.
 
-ghost use Rattle.std.specs.Prelude.{◌≡◌, ◌++◌, ◌∷◌, [], length, IfOk, OnOk};
+ghost use Rattle.std.specs.Prelude.{◌≡◌, ◌++◌, length, map, IfOk, OnOk};
 ghost use Rattle.std.specs.Option.{option_to_list};
 ghost use Rattle.sweep_report.specs.Findings.{status_of as status_by};
 ghost use Rattle.sweep_report.specs.Tallies.{findings_in};
 ghost use Rattle.sweep_stops.specs.Counts.{counted as counted_by, kind_of as kind_in, kinds_of as kinds_in};
-ghost use Rattle.sweep_stops.specs.Counts.{told_by as told_by_end, verdict_of as verdict_in, verdicts_of as verdicts_in};
+ghost use Rattle.sweep_stops.specs.Counts.{told_by as told_by_end, verdict_of as verdict_in};
+ghost use Rattle.sweep_stops.specs.Counts.{verdicts_of as verdicts_in};
 
 use crate::rows::StopRow;
 use crate::second::SecondEnd;
@@ -14,6 +15,12 @@ use sweep_report::findings;
 use sweep_report::tally::{self, Kind, Tally};
 use sweep_rows::{Verdict, count};
 use sweep_words::plan::Plan;
+use sweep_words::stops::Second;
+
+/// What is counted where the files tell it, or a second program does.
+const BY_FILES: [Verdict; 2] = [Verdict::Torn, Verdict::Damaged];
+
+const BY_SECOND: [Verdict; 1] = [Verdict::Broken];
 
 /// What is told where the files alone tell this.
 fn told_by(by_files: Option<Verdict>, second: Option<SecondEnd>) -> Option<Verdict>
@@ -54,6 +61,16 @@ fn verdicts_of(alloc: Global, rows: &[StopRow]) -> Result<Vec<Verdict>, AllocErr
     Ok(verdicts)
 }
 
+/// The exit status of a stop of which this is told: 0 only where it is no finding.
+pub fn status_of_one(strict: bool, verdict: Option<Verdict>) -> u8
+    ensures { result ≡ status_by strict (option_to_list verdict) }
+{
+    match verdict {
+        Some(verdict) => findings::status_of(strict, &[verdict]),
+        None => findings::status_of(strict, &[]),
+    }
+}
+
 /// The exit status: 0 only where no stop is a finding.
 pub fn status_of(alloc: Global, strict: bool, rows: &[StopRow]) -> Result<u8, AllocError>
     ensures { IfOk result (λ s. s ≡ status_by strict (verdicts_in rows.now)) }
@@ -71,17 +88,29 @@ fn kind_of(verdicts: &[Verdict], verdict: Verdict) -> Kind
     }
 }
 
-/// How many stops came to what is counted.
-fn kinds_of(alloc: Global, plan: &Plan, verdicts: &[Verdict]) -> Result<Vec<Kind>, AllocError>
-    ensures { IfOk result (λ kinds. kinds.items ≡ kinds_in plan.now.second verdicts.now) }
+/// What is counted, whether some stop came to it or none.
+fn counted(second: &Option<Second>) -> &'static [Verdict]
+    ensures { result.now ≡ counted_by second.now }
+{
+    match second {
+        None => &BY_FILES,
+        Some(_) => &BY_SECOND,
+    }
+}
+
+/// How many of these verdicts are each of those that are counted.
+fn kinds_of(
+    alloc: Global,
+    counted: &[Verdict],
+    verdicts: &[Verdict],
+) -> Result<Vec<Kind>, AllocError>
+    ensures { IfOk result (λ kinds. kinds.items ≡ map (kind_in verdicts.now) counted.now) }
 {
     let mut kinds = Vec::new(alloc);
-    match &plan.second {
-        None => {
-            kinds.push(kind_of(verdicts, Verdict::Torn))?;
-            kinds.push(kind_of(verdicts, Verdict::Damaged))?;
-        }
-        Some(_) => kinds.push(kind_of(verdicts, Verdict::Broken))?,
+    let mut left = counted;
+    while let Some((verdict, rest)) = left.split_first() {
+        kinds.push(kind_of(verdicts, *verdict))?;
+        left = rest;
     }
     Ok(kinds)
 }
@@ -95,7 +124,7 @@ pub fn tally_of(alloc: Global, plan: &Plan, rows: &[StopRow]) -> Result<Tally, A
     let verdicts = verdicts_of(alloc, rows)?;
     let verdicts = verdicts.as_slice();
     let found = tally::tally_of(alloc, plan.strict, verdicts, verdicts)?;
-    let kinds = kinds_of(alloc, plan, verdicts)?;
+    let kinds = kinds_of(alloc, counted(&plan.second), verdicts)?;
     Ok(Tally {
         runs: rows.len(),
         findings: found.findings,

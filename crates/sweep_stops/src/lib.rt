@@ -8,7 +8,7 @@ pub mod rows;
 pub mod second;
 pub mod telling;
 
-pub use judging::{status_of, tally_of, verdict_of};
+pub use judging::{status_of, status_of_one, tally_of, verdict_of};
 pub use reporting::{shown_text, text_of};
 pub use rows::{StopRow, named_trial, run_stop, stop_rows};
 pub use second::{SecondEnd, check_second};

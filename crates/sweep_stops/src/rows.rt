@@ -96,7 +96,8 @@ fn stops_in(
 {
     let log = reference.log.as_slice();
     let found = occurrences(alloc, log, set, plan.setup.boot.follow)?;
-    stop_trials(alloc, found.as_slice())
+    let trials = stop_trials(alloc, found.as_slice())?;
+    Ok(trials)
 }
 
 /// Makes the runs of the stops at the calls of a set, and those of the second program.

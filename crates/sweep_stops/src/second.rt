@@ -1,6 +1,7 @@
 //! A second program, which is started on the files that a run left.
 
-ghost use Rattle.std.specs.Prelude.{◌≡◌, IfOk};
+ghost use Rattle.std.specs.Prelude.{◌≡◌, [], IfOk};
+ghost use Rattle.sweep_runs.specs.Runs.{Reaches};
 ghost use Rattle.sweep_stops.specs.Ends.{EndsOn, IsSecond, exits_well, is_fine as is_fine_end};
 ghost use Rattle.sweep_stops.specs.Ends.{second_boot as second_boot_on};
 
@@ -78,6 +79,16 @@ fn begin(
     })
 }
 
+/// Its run from there.
+fn run_second(alloc: Global, start: &Setup) -> Result<Reached, Fault>
+    ensures { IfOk result (Reaches start.now []) }
+{
+    match refer(alloc, start) {
+        Ok(reached) => Ok(reached),
+        Err(fault) => Err(refuse_boot(alloc, fault)),
+    }
+}
+
 /// How it ends on these files.
 pub(crate) fn end_on(
     alloc: Global,
@@ -88,12 +99,9 @@ pub(crate) fn end_on(
     ensures { IfOk result (EndsOn setup.now second.now left.now) }
 {
     let start = begin(alloc, setup, second, left)?;
-    match refer(alloc, &start) {
-        Ok(reached) => Ok(SecondEnd {
-            word: first_word(&reached.ending.outcome),
-        }),
-        Err(fault) => Err(refuse_boot(alloc, fault)),
-    }
+    let reached = run_second(alloc, &start)?;
+    let word = first_word(&reached.ending.outcome);
+    Ok(SecondEnd { word })
 }
 
 /// The second program of a plan is fine on the files that the whole run leaves.
