@@ -21,6 +21,18 @@ use sweep_words::words::{Format, Style, Words};
 /// So many bytes are shown of the console.
 const MOST_PRINTED: usize = 4096;
 
+/// How many stops came to what is counted; nothing is, where there is no stop.
+fn shown_tally(alloc: Global, plan: &Plan, rows: &[StopRow]) -> Result<Tally, AllocError> {
+    let tally = tally_of(alloc, plan, rows)?;
+    if rows.is_empty() {
+        return Ok(Tally {
+            kinds: Vec::new(alloc),
+            ..tally
+        });
+    }
+    Ok(tally)
+}
+
 /// An object a stop, and one with the counts.
 fn objects(alloc: Global, told: &[Told], tally: &Tally) -> Result<String, Fault> {
     let mut text = String::new(alloc);
@@ -65,7 +77,7 @@ pub fn text_of(
     calls: &TracedCalls,
     rows: &[StopRow],
 ) -> Result<String, Fault> {
-    let tally = tally_of(alloc, plan, rows)?;
+    let tally = shown_tally(alloc, plan, rows)?;
     let told = all_told(alloc, matches, plan, reference, calls, rows)?;
     let told = told.as_slice();
     let style = words.style;
