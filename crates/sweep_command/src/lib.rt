@@ -17,6 +17,8 @@ mod progress;
 mod reference;
 mod rows;
 mod show;
+mod show_stop;
+mod stops;
 mod sweeping;
 mod telling;
 

@@ -7,6 +7,7 @@ use std::alloc::{AllocError, Global};
 const NOTES: &str = "Which calls are to fail, after -e:
   fault=SET               with each error that the call can have there, by its descriptor and its flags
   fault=SET:error=E,..    with these errors (a name, or 1 to 4095)
+  stop=SET                no call fails: all ends as one of these is entered, as where the power fails
   SET    names joined by commas, as write or ?name; %file, %desc, %process, %signal, %memory; /REGEX; all; none;
          a ! in front takes all others
 Without -e it is fault=all.
