@@ -20,4 +20,5 @@ mod show;
 mod sweeping;
 mod telling;
 
-pub use entry::{command, tell};
+pub use entry::command;
+pub use sweep_words::words::COMMAND_LINE;
