@@ -22,4 +22,5 @@ mod stops;
 mod sweeping;
 mod telling;
 
-pub use entry::{command, tell};
+pub use entry::command;
+pub use sweep_words::words::COMMAND_LINE;
