@@ -5,7 +5,7 @@ _girmolet_errors='E2BIG EACCES EADDRINUSE EADDRNOTAVAIL EADV EAFNOSUPPORT EAGAIN
 _girmolet_signals='HUP INT QUIT ILL TRAP ABRT BUS FPE KILL USR1 SEGV USR2 PIPE ALRM TERM STKFLT CHLD CONT STOP TSTP TTIN TTOU URG XCPU XFSZ VTALRM PROF WINCH IO PWR SYS'
 _girmolet_options='-f --follow-forks -e --trace --inject --fault -o --output -s --string-limit -a --columns --host --host-arg --host-timeout --turns --workers --turns-out --limit --explain --file --dir -E --env --files-out --files-list -h --help -V --version --'
 _girmolet_plain_options='-e --inject --fault --turns --limit --explain --file --dir -E --env --files-out --files-list -h --help --'
-_girmolet_sweep_options='-f --follow-forks -e --fault --errors --format --each --all -o --output --turns --orders --seed --keep --one --known --known-out --shard --fail-fast --max-runs --time --check --strict --cases --runs --show --jobs --limit --explain --file --dir -E --env -h --help -V --version --'
+_girmolet_sweep_options='-f --follow-forks -e --fault --errors --format --each --all -o --output --turns --orders --seed --keep --one --known --known-out --shard --fail-fast --max-runs --time --check --then --strict --cases --runs --show --jobs --limit --explain --file --dir -E --env -h --help -V --version --'
 
 # Candidates for a set, with its qualifier or without.
 _girmolet_set() {
@@ -47,8 +47,8 @@ _girmolet_faults() {
         fault=*:error=*,*) compgen -P "${word%,*}," -W "$_girmolet_errors" -- "${word##*,}" ;;
         fault=*:error=*) compgen -P "${word%=*}=" -W "$_girmolet_errors" -- "${word##*=}" ;;
         fault=*:*) compgen -P "${word%:*}:" -W 'error=' -- "${word##*:}" ;;
-        fault=*) _girmolet_expression "$word" ;;
-        *) compgen -W 'fault=' -- "$word" ;;
+        fault=* | stop=*) _girmolet_expression "$word" ;;
+        *) compgen -W 'fault= stop=' -- "$word" ;;
     esac
 }
 
@@ -90,7 +90,7 @@ _girmolet() {
         --errors) found=$(compgen -W 'possible all' -- "$word") ;;
         --file) case $word in *=*) found=$(compgen -P "${word%%=*}=" -f -- "${word#*=}") ;; esac ;;
         --dir) case $word in *=*) found=$(compgen -P "${word%%=*}=" -d -- "${word#*=}") ;; esac ;;
-        -s | --string-limit | -a | --columns | --host-timeout | --workers | --orders | --seed | --shard | --max-runs | --time | --check | --show | --jobs | --limit | -E | --env) ;;
+        -s | --string-limit | -a | --columns | --host-timeout | --workers | --orders | --seed | --shard | --max-runs | --time | --check | --then | --show | --jobs | --limit | -E | --env) ;;
         *)
             case $program:${all[1]}:$word in
                 strace_sweep:*) found=$(compgen -W "$_girmolet_sweep_options" -- "$word") ;;

@@ -45,13 +45,13 @@ function __girmolet_faults
         set option $argv[1]=
     end
     set -l whole $option$word
-    set -l found fault=
+    set -l found fault= stop=
     if string match -qr '^fault=.*:error=.*' -- $whole
         set found (string replace -r '[^=,]*$' '' -- $whole)$__girmolet_errors
     else if string match -qr '^fault=.*:' -- $whole
         set found (string replace -r '[^:]*$' '' -- $whole)error=
-    else if string match -qr '^fault=' -- $whole
-        set found (string match -r '^fault=(?:.*,)?[!?]?' -- $whole)$__girmolet_calls
+    else if string match -qr '^(fault|stop)=' -- $whole
+        set found (string match -r '^(?:fault|stop)=(?:.*,)?[!?]?' -- $whole)$__girmolet_calls
     end
     string replace -- $option '' $found
 end
@@ -100,7 +100,7 @@ complete -c strace_cli -l files-list -r -F -d 'Lists the files that a complete r
 complete -c strace_cli -s h -l help -d 'Print help'
 complete -c strace_cli -s V -l version -d 'Print the version'
 complete -c strace_sweep -s f -l follow-forks -d 'Makes the calls of children fail too'
-complete -c strace_sweep -s e -x -a '(__girmolet_faults)' -d 'Which calls are to fail, as fault=write or fault=write:error=EIO,ENOSPC'
+complete -c strace_sweep -s e -x -a '(__girmolet_faults)' -d 'Which calls are to fail, as fault=write or fault=write:error=EIO,ENOSPC, or where all ends, as stop=write'
 complete -c strace_sweep -l fault -x -a '(__girmolet_faults fault)' -d 'The same as -e fault=SET[:error=E,..]'
 complete -c strace_sweep -l errors -x -a 'possible all' -d 'possible, or all that the manual page of a call gives but for faulty arguments'
 complete -c strace_sweep -l format -x -a 'table json junit' -d 'table, json: an object a line, or junit: a case a call'
@@ -119,6 +119,7 @@ complete -c strace_sweep -l fail-fast -d 'Makes no more runs once one is a findi
 complete -c strace_sweep -l max-runs -x -d 'Makes N runs at most, those first that are likely to show something new'
 complete -c strace_sweep -l time -x -d 'Begins no more runs once so many seconds are over'
 complete -c strace_sweep -l check -x -d 'Runs this command of the shell where the files of each outcome are'
+complete -c strace_sweep -l then -x -d 'Starts this program on the files that are left where all ends'
 complete -c strace_sweep -l strict -d 'Takes runs that were damaged or warned for findings too'
 complete -c strace_sweep -l cases -r -F -d 'Sweeps a case a line: its name, its input as <PATH, further options, and further words behind --'
 complete -c strace_sweep -l runs -r -F -d 'Makes those runs alone that this file names, a line each, as write:EIO:2'

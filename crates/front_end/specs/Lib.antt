@@ -1,4 +1,5 @@
 pub mod Boots
+pub mod CommandLines
 pub mod Directories
 pub mod Environment
 pub mod Expressions

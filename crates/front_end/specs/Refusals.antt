@@ -1,6 +1,6 @@
 -- What is refused of a command's words, of its files and of its input, and what the fault's text begins with. Of
 -- several the first in this order is told; and memory may run out anywhere.
-use Rattle.std.specs.Prelude.{◌≡◌, ◌⊎◌, ℕ, true, false, List, Option, None, Some, IsSome, codes}
+use Rattle.std.specs.Prelude.{◌≡◌, ◌⊎◌, ℕ, true, false, List, Option, None, Some, IsSome, Result, Ok, Err, codes}
 use Rattle.clap.specs.declared.parser.matches.ArgMatches.{ArgMatches}
 use Rattle.lx_abi.specs.declared.boot.Boot.{Boot}
 use Rattle.lx_abi.specs.declared.boot.GuestFile.{GuestFile}
@@ -72,6 +72,11 @@ RefusesParts remaining words fault =
     × (RefusesFiles fault
     ⊎ ((files : List GuestFile)
     × (AreFiles remaining words.files words.directories files × IsAbout (codes "standard input") fault))))
+
+-- what these words and this input make: a boot, or the first fault of its parts
+abbrev pub MakesBoot : {F : Type 0} → (F → Option (List ℕ)) → Words → Option (List ℕ) → Result Boot Fault → Type 0
+MakesBoot remaining words given (Ok boot) = AsksBoot remaining words given boot
+MakesBoot remaining words given (Err fault) = RefusesParts remaining words fault
 
 -- the boot has a fault
 abbrev pub RefusesBoot : Boot → Fault → Type 0

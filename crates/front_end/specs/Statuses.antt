@@ -17,10 +17,6 @@ abbrev pub IsStatusOf : Result ℕ Fault → ℕ → Type 0
 IsStatusOf (Ok own) status = status ≡ own
 IsStatusOf (Err fault) status = (status ≡ status_of fault) ⊎ (status ≡ 3)
 
--- and of words that ask for help, or for nothing that can be done
-abbrev pub IsUnrun : ℕ → Type 0
-IsUnrun status = (status ≡ 0) ⊎ ((status ≡ 2) ⊎ (status ≡ 3))
-
 -- the words, the schedule, a file, the input or the boot, or want of memory
 abbrev pub is_usage_or_memory : Fault → Bool
 is_usage_or_memory (the.Usage text) = true

@@ -26,6 +26,11 @@ IsAbout start (the.OutOfTurns reason) = ⊥
 IsAbout start (the.Output said) = ⊥
 IsAbout start the.Memory = ⊤
 
+-- which name a file, in whatever form, and one of its lines, the first of which is 1
+abbrev pub IsAboutLine : List ℕ → ℕ → Fault → Type 0
+IsAboutLine start line fault =
+    (file : List ℕ) × IsAbout (start ++ (file ++ (codes ": line " ++ (decimal line ++ codes ": ")))) fault
+
 -- ---- what a program says of a fault
 
 -- its line

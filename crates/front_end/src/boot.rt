@@ -4,7 +4,7 @@ ghost use Rattle.std.specs.Prelude.{◌≡◌, IfErr, IfOk, None, OnOk, codes, m
 ghost use Rattle.lx_boot.specs.Boots.{fault_of};
 ghost use Rattle.front_end.specs.Boots.{AsksBoot, given_words, words_of};
 ghost use Rattle.front_end.specs.Files.{Adds, AreFiles, AreFilesOf, IsFileOf};
-ghost use Rattle.front_end.specs.Refusals.{RefusesAsked, RefusesFiles, RefusesParts};
+ghost use Rattle.front_end.specs.Refusals.{MakesBoot, RefusesAsked, RefusesFiles};
 ghost use Rattle.front_end.specs.Texts.{IsAbout};
 
 use crate::boot_faults::check_boot;
@@ -142,8 +142,7 @@ fn boot_of<R: Files + AllocGlobal, I: Read + IsTerminal, E: Write + IsTerminal>(
     input: &mut I,
     err: &mut E,
 ) -> Result<Boot, Fault>
-    ensures asked { IfOk result (AsksBoot R.File.remaining (words_of words.entry) (I.remaining input.old)) }
-    ensures refused { IfErr result (RefusesParts R.File.remaining (words_of words.entry)) }
+    ensures { MakesBoot R.File.remaining (words_of words.entry) (I.remaining input.old) result }
 {
     let alloc = rt.alloc();
     let env = environment_of(alloc, words.environment)?;
@@ -172,8 +171,7 @@ fn boot_asked<R: Files + AllocGlobal, I: Read + IsTerminal, E: Write + IsTermina
     input: &mut I,
     err: &mut E,
 ) -> Result<Boot, Fault>
-    ensures asked { IfOk result (AsksBoot R.File.remaining (given_words matches.now follow) (I.remaining input.old)) }
-    ensures refused { IfErr result (RefusesParts R.File.remaining (given_words matches.now follow)) }
+    ensures { MakesBoot R.File.remaining (given_words matches.now follow) (I.remaining input.old) result }
 {
     let files = matches.get_strs("file").unwrap_or(&[]);
     let directories = matches.get_strs("dir").unwrap_or(&[]);

@@ -2,9 +2,9 @@
 
 ghost use Rattle.std.specs.Prelude.{◌≡◌, ◌⊎◌, IfOk, List, option_map, string_bytes, true, ℕ};
 ghost use Rattle.front_end.specs.Statuses.{is_output_or_memory, is_usage_or_memory, status_of};
-ghost use Rattle.front_end.specs.Texts.{IsAbout, Says, reason_of};
+ghost use Rattle.front_end.specs.Texts.{IsAbout, IsAboutLine, Says, reason_of};
 
-use crate::texts::joined;
+use crate::texts::{joined, line_place};
 use std::alloc::{AllocError, AllocFailed, Global};
 use std::fmt::Display;
 use std::io::{self, ErrorKind};
@@ -60,6 +60,22 @@ impl Fault {
         };
         match joined(alloc, start, rest.as_str()) {
             Ok(text) => Fault::Usage(text),
+            Err(_) => Fault::Memory,
+        }
+    }
+
+    /// What is wrong with a line of a file, named by `start` and `file`, the first line being 1.
+    pub fn line_of<D: Display + Drop>(
+        alloc: Global,
+        start: &str,
+        file: D,
+        line: usize,
+        reason: &str,
+    ) -> Self
+        ensures { IsAboutLine start.now line result }
+    {
+        match line_place(alloc, start, file, line) {
+            Ok(place) => Fault::about(alloc, place.as_str(), String::from_str(alloc, reason)),
             Err(_) => Fault::Memory,
         }
     }

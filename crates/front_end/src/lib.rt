@@ -4,6 +4,7 @@
 
 mod boot;
 mod boot_faults;
+mod command_line;
 mod directories;
 mod environment;
 mod explanation;
@@ -32,19 +33,18 @@ mod waits;
 
 pub use boot::read_boot;
 pub use boot_faults::refuse_boot;
+pub use command_line::{CommandLine, NoRun, is_explained};
 pub use expressions::{Expressions, expression_words, read_expression, read_expressions};
 pub use fault::Fault;
 pub use hints::Entered;
 pub use leavings::{Leavings, escaped};
-pub use offered::{with_options, with_program};
+pub use offered::{CommandRow, Operands, WordRow};
 pub use option_table::Tool;
 pub use options::{decimal, given_or, limit, limit_of, malformed, number, positive};
 pub use outputs::check_outputs;
-pub use parser::{refusal, shown_words};
 pub use program::Program;
 pub use reading::read_text;
 pub use replacing::{NewFile, check_file, create_file, replace_file};
-pub use reporting::{print_help, report, settle};
 pub use shown::Shown;
 pub use start::{Begun, begin};
 pub use streams::Opened;

@@ -39,7 +39,7 @@ pub struct OptionRow {
 }
 
 /// Completions are made of these rows, and the documents are compared with them.
-pub const OPTIONS: [OptionRow; 49] = [
+pub const OPTIONS: [OptionRow; 50] = [
     OptionRow {
         tools: &[Tool::Trace],
         id: "follow",
@@ -78,7 +78,7 @@ pub const OPTIONS: [OptionRow; 49] = [
         short: Some('e'),
         long: None,
         takes: Takes::Expressions("EXPR"),
-        help: "Which calls are to fail, as fault=write or fault=write:error=EIO,ENOSPC [default: fault=all]",
+        help: "Which calls are to fail, as fault=write or fault=write:error=EIO,ENOSPC, or where all ends, as stop=write [default: fault=all]",
     },
     OptionRow {
         tools: &[Tool::Trace],
@@ -319,6 +319,14 @@ pub const OPTIONS: [OptionRow; 49] = [
         long: Some("check"),
         takes: Takes::Value("COMMAND"),
         help: "Runs this command of the shell where the files of each outcome are; another status than 0 is BROKEN",
+    },
+    OptionRow {
+        tools: &[Tool::Sweep],
+        id: "then",
+        short: None,
+        long: Some("then"),
+        takes: Takes::Value("PROGRAM"),
+        help: "Starts this program on the files that are left where all ends; another status than 0 is BROKEN",
     },
     OptionRow {
         tools: &[Tool::Sweep],

@@ -1,9 +1,5 @@
 //! What is wrong with words that can't be parsed.
 
-ghost use Rattle.std.specs.Prelude.{◌≡◌, true};
-ghost use Rattle.front_end.specs.Statuses.{is_usage_or_memory};
-
-use crate::fault::Fault;
 use crate::left_out::left_out;
 use crate::shown::Escaped;
 use clap::Error;
@@ -47,32 +43,13 @@ fn line_of(alloc: Global, error: Error) -> Result<String, AllocError> {
     Ok(line)
 }
 
-/// No word divides the program's words from the options.
-fn lacks_divider(options: &[String]) -> bool {
-    !options.iter().any(|word| word.as_str() == "--")
-}
-
-/// The hint for a fault of the words, after what the parser says.
-fn hint(kind: ErrorKind, options: &[String]) -> &'static str {
+/// The hint for a fault of words in which no `--` divides a program's from the options.
+fn hint(kind: ErrorKind) -> &'static str {
     match kind {
-        ErrorKind::UnknownArgument | ErrorKind::MissingRequiredArgument if lacks_divider(options) =>
-            { "; put the program after --" }
+        ErrorKind::UnknownArgument | ErrorKind::MissingRequiredArgument => {
+            "; put the program after --"
+        }
         _ => "",
-    }
-}
-
-/// What the parser refused; `options` are the words of a command that takes a program after `--`, else none.
-pub fn refusal(alloc: Global, error: Error, options: Option<&[String]>) -> Fault
-    ensures { is_usage_or_memory result ≡ true }
-{
-    if error.kind() == ErrorKind::OutOfMemory {
-        return Fault::Memory;
-    }
-    let hint = options.map_or("", |options| hint(error.kind(), options));
-    let kind = error.kind();
-    match line_of(alloc, error) {
-        Ok(line) => refuse(alloc, kind, line.as_str(), hint),
-        Err(_) => Fault::Memory,
     }
 }
 
@@ -81,15 +58,23 @@ fn quoted(line: &str) -> &str {
     line.split('\'').nth(1).unwrap_or("")
 }
 
-/// An option that strace has is reported as one that isn't here, all else as the parser says it.
-fn refuse(alloc: Global, kind: ErrorKind, line: &str, hint: &str) -> Fault
-    ensures { is_usage_or_memory result ≡ true }
-{
+/// What the parser refused: an option that strace has is one that isn't here, and all else is as the parser says it.
+/// `lacks_divider`: no word divides a program's words from the options.
+pub fn reason_of(alloc: Global, error: Error, lacks_divider: bool) -> Result<String, AllocError> {
+    let kind = error.kind();
+    if kind == ErrorKind::OutOfMemory {
+        return Err(AllocError);
+    }
+    let line = line_of(alloc, error)?;
+    let line = line.as_str();
     let option = quoted(line);
     match left_out(option) {
         Some(what) if kind == ErrorKind::UnknownArgument => {
-            Fault::usage(format!(in alloc; "{option} is strace's ({what}) and not here"))
+            format!(in alloc; "{option} is strace's ({what}) and not here")
         }
-        _ => Fault::usage(format!(in alloc; "{line}{hint}")),
+        _ => {
+            let hint = if lacks_divider { hint(kind) } else { "" };
+            format!(in alloc; "{line}{hint}")
+        }
     }
 }

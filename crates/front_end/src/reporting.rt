@@ -1,13 +1,12 @@
-//! What a program says of its faults, and of itself.
+//! What a program says of its faults.
 
-ghost use Rattle.std.specs.Prelude.{◌≡◌, ◌++◌, ◌⊎◌, Err, IfErr, IfOk, OnOk, codes, true};
+ghost use Rattle.std.specs.Prelude.{◌≡◌, ◌++◌, ◌⊎◌, Err, OnOk, codes, true};
 ghost use Rattle.std.specs.Io.KnownBytes.{Appends};
-ghost use Rattle.front_end.specs.Statuses.{IsStatusOf, is_output_or_memory, is_usage_or_memory, status_of};
+ghost use Rattle.front_end.specs.CommandLines.{Tells};
+ghost use Rattle.front_end.specs.Statuses.{IsStatusOf, is_output_or_memory, is_usage_or_memory};
 ghost use Rattle.front_end.specs.Texts.{GivesReason, Reports, line_of, reason_of};
 
 use crate::fault::{Fault, HOST};
-use clap::Error;
-use std::alloc::Global;
 use std::io::{self, Write};
 
 /// Writes the line in which a program reports a fault.
@@ -55,8 +54,7 @@ fn tell<E: Write>(program: &str, fault: &Fault, explained: bool, err: &mut E) ->
 /// Reports a program's fault in one line on `err`, and in another its reason where it is to be explained. Gives its
 /// status, or that of an output that can't be written where this couldn't be.
 pub fn report<E: Write>(program: &str, fault: &Fault, explained: bool, err: &mut E) -> u8
-    ensures told { ((result ≡ status_of fault.now)
-        × Reports program.now fault.now explained (E.contents err.old) (E.contents err.new)) ⊎ (result ≡ 3) }
+    ensures told { Tells program.now fault.now explained (E.contents err.old) (E.contents err.new) result }
     ensures status { IsStatusOf (Err fault.now) result }
     ensures usage { is_usage_or_memory fault.now ≡ true → (result ≡ 2) ⊎ (result ≡ 3) }
     ensures output { is_output_or_memory fault.now ≡ true → result ≡ 3 }
@@ -64,29 +62,5 @@ pub fn report<E: Write>(program: &str, fault: &Fault, explained: bool, err: &mut
     match tell(program, fault, explained, err) {
         Ok(()) => fault.status(),
         Err(_) => HOST,
-    }
-}
-
-/// The status of a command that ended so. A fault is reported.
-pub fn settle<E: Write>(program: &str, ended: Result<u8, Fault>, explained: bool, err: &mut E) -> u8
-    ensures { IsStatusOf ended result }
-{
-    match ended {
-        Ok(status) => status,
-        Err(fault) => report(program, &fault, explained, err),
-    }
-}
-
-/// Writes the help, or the version.
-pub fn print_help<O: Write>(alloc: Global, help: Error, out: &mut O) -> Result<u8, Fault>
-    ensures status { IfOk result (λ status. status ≡ 0) }
-    ensures fault { IfErr result (λ fault. is_output_or_memory fault ≡ true) }
-{
-    let Ok(text) = format!(in alloc; "{help}") else {
-        return Err(Fault::Memory);
-    };
-    match out.write_all(text.as_bytes()) {
-        Ok(()) => Ok(0),
-        Err(error) => Err(Fault::output(format!(in alloc; "standard output: {error}"))),
     }
 }

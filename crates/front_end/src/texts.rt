@@ -1,8 +1,9 @@
-//! Texts made of two.
+//! Texts made of others.
 
-ghost use Rattle.std.specs.Prelude.{◌≡◌, ◌++◌, IfOk, string_bytes};
+ghost use Rattle.std.specs.Prelude.{◌≡◌, ◌++◌, IfOk, List, codes, decimal, string_bytes, ℕ};
 
 use std::alloc::{AllocError, Global};
+use std::fmt::Display;
 
 /// Two texts in a row.
 pub fn joined(alloc: Global, start: &str, rest: &str) -> Result<String, AllocError>
@@ -11,4 +12,20 @@ pub fn joined(alloc: Global, start: &str, rest: &str) -> Result<String, AllocErr
     let mut text = String::from_str(alloc, start)?;
     text.push_str(rest)?;
     Ok(text)
+}
+
+/// What stands before the fault of a line of a file.
+pub fn line_place<D: Display + Drop>(
+    alloc: Global,
+    start: &str,
+    file: D,
+    line: usize,
+) -> Result<String, AllocError>
+    ensures { IfOk result (λ text. (file : List ℕ)
+        × (string_bytes text ≡ start.now ++ (file ++ (codes ": line " ++ (decimal line ++ codes ": "))))) }
+{
+    let file = format!(in alloc; "{file}")?;
+    let number = format!(in alloc; ": line {line}: ")?;
+    let rest = joined(alloc, file.as_str(), number.as_str())?;
+    joined(alloc, start, rest.as_str())
 }

@@ -11,4 +11,5 @@ mod serving;
 mod watched;
 mod words;
 
-pub use entry::{command, tell};
+pub use entry::command;
+pub use words::COMMAND_LINE;

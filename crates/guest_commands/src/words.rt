@@ -1,9 +1,6 @@
-//! What the command line asks for.
+//! What the command line is.
 
-use clap::error::ErrorKind;
-use clap::{Arg, ArgAction, ArgMatches, Command, Error};
-use front_end::{Fault, Tool, shown_words, with_options, with_program};
-use std::alloc::{AllocError, Global};
+use front_end::{CommandLine, CommandRow, Operands, Tool, WordRow};
 
 /// What is written of faulty listings, kind by kind.
 const KINDS: &str =
@@ -48,101 +45,52 @@ The status is 0 at the end of input. A conversation that can't go on is reported
   4  a frame came out of order
   5  memory ran out";
 
-fn plain_command<'a>(alloc: Global) -> Result<Command<'a>, AllocError> {
-    let command = Command::new(alloc, "plain")
-        .about("Runs a program on the untraced kernel, and prints its calls on standard error")
-        .after_help(NOTES);
-    let command = with_options(alloc, command, Tool::Plain)?;
-    with_program(alloc, command)
-}
-
-/// Adds a word that must be there.
-fn with_word<'a>(
-    alloc: Global,
-    command: Command<'a>,
-    id: &'a str,
-    name: &'a str,
-    help: &'a str,
-) -> Result<Command<'a>, AllocError> {
-    command.arg(
-        Arg::new(alloc, id)
-            .value_name(name)
-            .required(true)
-            .help(help),
-    )
-}
-
-fn asm_command<'a>(alloc: Global) -> Result<Command<'a>, AllocError> {
-    let command = Command::new(alloc, "asm")
-        .about("Assembles a listing into an ELF file")
-        .after_help(KINDS);
-    let command = with_word(alloc, command, "in", "IN", "The listing")?;
-    with_word(
-        alloc,
-        command,
-        "out",
-        "OUT",
-        "The file that the program is written to",
-    )
-}
-
-fn serve_command<'a>(alloc: Global) -> Result<Command<'a>, AllocError> {
-    Command::new(alloc, "serve")
-        .about(
-            "Answers a tracer's requests, which are frames on standard input, by frames on standard output",
-        )
-        .after_help(SERVE_NOTES)
-        .arg(
-            Arg::new(alloc, "drill")
-                .value_name("DRILL")
-                .num_args(1..)
-                .action(ArgAction::Append)
-                .help("Spoils a reply, to try a tracer by"),
-        )
-}
-
-/// Adds a subcommand.
-fn with_subcommand<'a>(
-    command: Command<'a>,
-    subcommand: Command<'a>,
-) -> Result<Command<'a>, AllocError> {
-    command.subcommand(subcommand)
-}
-
-fn host_command<'a>(alloc: Global) -> Result<Command<'a>, AllocError> {
-    let command = Command::new(alloc, "guest_host")
-        .about("The host of modelled RV64I guests")
-        .version("0.1.0")
-        .subcommand_required(true);
-    let command = with_subcommand(command, plain_command(alloc)?)?;
-    let command = with_subcommand(command, serve_command(alloc)?)?;
-    with_subcommand(command, asm_command(alloc)?)
-}
-
-/// Parses the words, the program's name first.
-pub fn parse<'a>(alloc: Global, words: &'a [String]) -> Result<ArgMatches<'a>, Error> {
-    host_command(alloc)?.try_get_matches_from(words)
-}
-
-/// The words of a command that takes a program.
-fn words_of_plain(words: &[String]) -> Option<&[String]> {
-    match words {
-        [_, command, rest @ ..] if command.as_str() == "plain" => Some(rest),
-        _ => None,
-    }
-}
-
-/// What is wrong with words that the parser refuses for a fault of this kind.
-pub fn refusal(alloc: Global, kind: ErrorKind, words: &[String]) -> Fault {
-    if kind == ErrorKind::OutOfMemory {
-        return Fault::Memory;
-    }
-    let shown = match shown_words(alloc, words) {
-        Ok(shown) => shown,
-        Err(error) => return Fault::from(error),
-    };
-    match parse(alloc, shown.as_slice()) {
-        Ok(_) => Fault::usage(format!(in alloc; "a word is malformed")),
-        Err(error) => front_end::refusal(alloc, error, words_of_plain(words)),
-    }
-}
+/// That of `guest_host`.
+pub const COMMAND_LINE: CommandLine = CommandLine {
+    name: "guest_host",
+    row: CommandRow {
+        name: "guest_host",
+        about: "The host of modelled RV64I guests",
+        notes: None,
+        takes: Operands::Words(&[]),
+    },
+    commands: &[
+        CommandRow {
+            name: "plain",
+            about: "Runs a program on the untraced kernel, and prints its calls on standard error",
+            notes: Some(NOTES),
+            takes: Operands::Program(Tool::Plain),
+        },
+        CommandRow {
+            name: "serve",
+            about: "Answers a tracer's requests, which are frames on standard input, by frames on standard output",
+            notes: Some(SERVE_NOTES),
+            takes: Operands::Words(&[WordRow {
+                id: "drill",
+                name: "DRILL",
+                help: "Spoils a reply, to try a tracer by",
+                is_list: true,
+            }]),
+        },
+        CommandRow {
+            name: "asm",
+            about: "Assembles a listing into an ELF file",
+            notes: Some(KINDS),
+            takes: Operands::Words(&[
+                WordRow {
+                    id: "in",
+                    name: "IN",
+                    help: "The listing",
+                    is_list: false,
+                },
+                WordRow {
+                    id: "out",
+                    name: "OUT",
+                    help: "The file that the program is written to",
+                    is_list: false,
+                },
+            ]),
+        },
+    ],
+    takes_last: false,
+};

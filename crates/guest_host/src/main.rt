@@ -1,7 +1,7 @@
 //! The host of guests: runs a program on the plain kernel, serves a tracer, or assembles a program.
 #![tactic(auto)]
 
-use guest_commands::{command, tell};
+use guest_commands::{COMMAND_LINE, command};
 use std::process::ExitCode;
 
 fn main(rt: HostRuntime) -> ExitCode {
@@ -15,7 +15,7 @@ fn main(rt: HostRuntime) -> ExitCode {
             rt.stdout(),
             err,
         ),
-        Err(fault) => tell(fault, &mut err),
+        Err(fault) => COMMAND_LINE.tell(fault, &mut err),
     };
     ExitCode::from(status)
 }

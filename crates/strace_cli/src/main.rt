@@ -2,14 +2,14 @@
 #![tactic(auto)]
 
 use std::process::ExitCode;
-use trace_command::{command, tell};
+use trace_command::{COMMAND_LINE, command};
 
 fn main(rt: HostRuntime) -> ExitCode {
     let mut input = rt.stdin();
     let mut err = rt.stderr();
     let status = match front_end::begin(&rt) {
         Ok(begun) => command(&rt, begun.words.as_slice(), &mut input, rt.stdout(), err),
-        Err(fault) => tell(fault, &mut err),
+        Err(fault) => COMMAND_LINE.tell(fault, &mut err),
     };
     ExitCode::from(status)
 }

@@ -2,7 +2,7 @@
 #![tactic(auto)]
 
 use std::process::ExitCode;
-use sweep_command::{command, tell};
+use sweep_command::{COMMAND_LINE, command};
 
 fn main(rt: HostRuntime) -> ExitCode {
     let mut input = rt.stdin();
@@ -10,7 +10,7 @@ fn main(rt: HostRuntime) -> ExitCode {
     let mut err = rt.stderr();
     let status = match front_end::begin(&rt) {
         Ok(begun) => command(&rt, begun.words.as_slice(), &mut input, &mut out, &mut err),
-        Err(fault) => tell(fault, &mut err),
+        Err(fault) => COMMAND_LINE.tell(fault, &mut err),
     };
     ExitCode::from(status)
 }

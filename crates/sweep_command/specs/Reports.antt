@@ -3,9 +3,11 @@ use Rattle.std.specs.Prelude.{◌≡◌, ◌⊎◌, ⊤, ℕ, suc, ◌-◌, ◌<
 use Rattle.std.specs.List.{list_any, slice_get}
 use Rattle.front_end.specs.Statuses.{IsStatusOf}
 use Rattle.front_end.specs.declared.fault.Fault.{Fault}
+use Rattle.lx_abi.specs.declared.script.Set.{Set}
 use Rattle.sweep_command.specs.Checks.{AreTold}
 use Rattle.sweep_command.specs.Choosing.{AreChosen}
 use Rattle.sweep_command.specs.Naming.{listed, names}
+use Rattle.sweep_command.specs.Stops.{IsOfStop, IsOfStops}
 use Rattle.sweep_orders.specs.Orders.{AreOrders}
 use Rattle.sweep_orders.specs.declared.exploring.Explored.{Explored}
 use Rattle.sweep_orders.specs.declared.found.Found.{Found}
@@ -22,6 +24,8 @@ use Rattle.sweep_runs.specs.declared.sweeping.Row.{Row}
 use Rattle.sweep_words.specs.Known.{IsKnown}
 use Rattle.sweep_words.specs.declared.cases.NamedCase.{NamedCase}
 use Rattle.sweep_words.specs.declared.plan.Plan.{Plan}
+use Rattle.sweep_words.specs.declared.show.NamedRow.{NamedRow}
+use Rattle.sweep_words.specs.declared.show.NamedRow.TheVariants.{Failure, Stop}
 use Rattle.sweep_words.specs.declared.show.NamedRun.{NamedRun}
 use Rattle.sweep_words.specs.declared.words.Orders.{Orders}
 use Rattle.sweep_words.specs.declared.words.Shard.{Shard}
@@ -154,14 +158,24 @@ pub record IsOfRun (plan : Plan) (reference : Reached) (run : NamedRun) (s : ℕ
   pub made : IsRow plan.setup reference row
   pub status_is : s ≡ status_of plan.strict (row.verdict ∷ [])
 
--- .. or of the runs with a failure, or by orders of turns
+-- with a failure, or in which everything ends
+abbrev pub IsOfShown : Plan → Reached → NamedRow → ℕ → Type 0
+IsOfShown plan reference (Failure run) s = IsOfRun plan reference run s
+IsOfShown plan reference (Stop stop) s = IsOfStop plan reference stop s
+
+-- .. or of the runs with a failure, or those in which everything ends at a call of a set
+abbrev pub IsOfEnds : Plan → Words → Reached → Option Set → ℕ → Type 0
+IsOfEnds plan words reference None s = IsOfRows plan words reference s
+IsOfEnds plan words reference (Some set) s = IsOfStops plan reference set s
+
+-- .. or of those by orders of turns
 abbrev pub IsOfAll : Plan → Words → Reached → Option Orders → ℕ → Type 0
-IsOfAll plan words reference None s = IsOfRows plan words reference s
+IsOfAll plan words reference None s = IsOfEnds plan words reference plan.stop s
 IsOfAll plan words reference (Some orders) s = IsOfOrders plan words orders reference s
 
 abbrev pub IsOfReport : Plan → Words → Reached → ℕ → Type 0
 IsOfReport plan words reference s =
-    ((run : NamedRun) × IsOfRun plan reference run s) ⊎ IsOfAll plan words reference words.orders s
+    ((row : NamedRow) × IsOfShown plan reference row s) ⊎ IsOfAll plan words reference words.orders s
 
 -- the status of a sweep is that of its report, beside the run without a failure
 pub record IsOfSweep (s : ℕ) : Type 0 where

@@ -4,7 +4,6 @@ ghost use Rattle.std.specs.Prelude.{◌≡◌, nat_lt, cond, IfOk};
 ghost use Rattle.std.specs.List.{list_any};
 ghost use Rattle.sweep_command.specs.Reports.{AreOfSweeps, IsOfCases, IsOfSweep};
 
-use crate::entry::refuse;
 use crate::knowing::finish_known;
 use crate::outputs::{create, path_of, replace, write};
 use crate::sweeping::{begin, report, words_at};
@@ -23,7 +22,7 @@ use sweep_report::report::case_object;
 use sweep_words::cases::{NamedCase, check_case, place_of, read_cases};
 use sweep_words::known::read_known;
 use sweep_words::show::shown_run;
-use sweep_words::words::{Format, Words, parse, words_of};
+use sweep_words::words::{COMMAND_LINE, Format, Words, words_of};
 
 /// The input of a case.
 #[derive(Drop)]
@@ -74,6 +73,14 @@ fn heading(alloc: Global, format: Format, case: &NamedCase) -> Result<String, Fa
     }
 }
 
+/// What the parser gives of the words of a case.
+fn parse_case<'a>(alloc: Global, words: &'a [String]) -> Result<ArgMatches<'a>, Fault> {
+    match COMMAND_LINE.parse(alloc, words) {
+        Ok(matches) => Ok(matches),
+        Err(error) => Err(Fault::usage(COMMAND_LINE.reason(alloc, error.kind(), words))),
+    }
+}
+
 /// Sweeps a case, by words in which `all` stand too, and adds the lines of its findings; gives its status.
 fn sweep_case<
     R: Env + Files + Clock + Processes + Threads + Sync + AllocGlobal,
@@ -92,10 +99,7 @@ fn sweep_case<
     ensures { IfOk result IsOfSweep }
 {
     let alloc = rt.alloc();
-    let matches = match parse(alloc, case.words.as_slice()) {
-        Ok(matches) => matches,
-        Err(error) => return Err(refuse(alloc, error.kind(), case.words.as_slice())),
-    };
+    let matches = parse_case(alloc, case.words.as_slice())?;
     check_case(alloc, all, &matches)?;
     let words = words_of(alloc, &matches, colors)?;
     let mut input = input_of(rt, case)?;

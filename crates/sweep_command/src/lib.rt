@@ -17,7 +17,10 @@ mod progress;
 mod reference;
 mod rows;
 mod show;
+mod show_stop;
+mod stops;
 mod sweeping;
 mod telling;
 
-pub use entry::{command, tell};
+pub use entry::command;
+pub use sweep_words::words::COMMAND_LINE;

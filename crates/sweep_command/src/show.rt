@@ -71,7 +71,7 @@ fn shown(alloc: Global, plan: &Plan, case: Case) -> Result<ShownRun, AllocError>
 }
 
 /// Writes a trace, whose bytes are ASCII.
-fn write_trace<W: Write>(alloc: Global, trace: &[u8], writer: &mut W) -> Result<(), Fault> {
+pub fn write_trace<W: Write>(alloc: Global, trace: &[u8], writer: &mut W) -> Result<(), Fault> {
     match str::from_utf8(trace) {
         Ok(text) => write(alloc, text, writer),
         Err(_) => Err(Fault::Memory),

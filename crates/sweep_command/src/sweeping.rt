@@ -4,7 +4,7 @@ ghost use Rattle.std.specs.Prelude.{◌≡◌, [], IfOk};
 ghost use Rattle.sweep_runs.specs.Runs.{Reaches};
 ghost use Rattle.sweep_report.specs.Tallies.{unmarked};
 ghost use Rattle.sweep_report.specs.Findings.{status_of as status_by};
-ghost use Rattle.sweep_command.specs.Reports.{IsCounted, IsOfRows, IsOfAll, IsOfReport, IsOfSweep};
+ghost use Rattle.sweep_command.specs.Reports.{IsCounted, IsOfRows, IsOfEnds, IsOfAll, IsOfShown, IsOfReport, IsOfSweep};
 
 use crate::judging::begin_checks;
 use crate::knowing::{add_found, check_known, finish_known, marks_of};
@@ -14,6 +14,8 @@ use crate::outputs::{check, create, path_of, replace, write};
 use crate::reference::{limited, reference};
 use crate::rows::{Choice, make, wanted_cases};
 use crate::show::show;
+use crate::show_stop::show_stop;
+use crate::stops::stops_reported;
 use crate::telling::{all_told, told, worst};
 use clap::ArgMatches;
 use front_end::{Fault, Program, check_outputs};
@@ -35,7 +37,7 @@ use sweep_rows::{Reached, first_word};
 use sweep_runs::Row;
 use sweep_trace::traced_calls;
 use sweep_words::plan::{Plan, read_plan};
-use sweep_words::show::shown_run;
+use sweep_words::show::{NamedRow, shown_run};
 use sweep_words::words::{Format, Words, words_of};
 
 /// Why a program that can't be run wasn't, on `err`.
@@ -230,7 +232,38 @@ fn failures<
     Ok(status)
 }
 
-/// Reports the orders of turns, or else the runs with a failure; gives the exit status.
+/// Reports the runs in which everything ends, where the words ask for these, or else those with a failure; gives the
+/// exit status.
+fn report_ends<
+    R: Env + Files + Clock + Processes + Threads + Sync + AllocGlobal,
+    W: Write,
+    E: Write + IsTerminal,
+>(
+    rt: &R,
+    matches: &ArgMatches,
+    words: Words,
+    plan: &Plan,
+    reference: &Reached,
+    found: &mut Vec<String>,
+    writer: &mut W,
+    err: &mut E,
+) -> Result<u8, Fault>
+    ensures { IfOk result (IsOfEnds plan.now words reference.now plan.now.stop) }
+{
+    match &plan.stop {
+        Some(set) => {
+            let alloc = rt.alloc();
+            let of_stops = stops_reported(alloc, matches, words, plan, set, reference, writer)?;
+            Ok(of_stops)
+        }
+        None => {
+            let of_rows = failures(rt, matches, words, plan, reference, found, writer, err)?;
+            Ok(of_rows)
+        }
+    }
+}
+
+/// Reports the orders of turns, or else the runs in which something fails or all ends; gives the exit status.
 fn report_all<
     R: Env + Files + Clock + Processes + Threads + Sync + AllocGlobal,
     W: Write,
@@ -255,8 +288,31 @@ fn report_all<
             Ok(of_orders)
         }
         None => {
-            let of_rows = failures(rt, matches, words, plan, reference, found, writer, err)?;
-            Ok(of_rows)
+            let of_ends = report_ends(rt, matches, words, plan, reference, found, writer, err)?;
+            Ok(of_ends)
+        }
+    }
+}
+
+/// Writes the run that words name, and gives the exit status.
+fn report_shown<W: Write>(
+    alloc: Global,
+    matches: &ArgMatches,
+    plan: &Plan,
+    reference: &Reached,
+    row: NamedRow,
+    writer: &mut W,
+) -> Result<u8, Fault>
+    ensures { IfOk result (IsOfShown plan.now reference.now row) }
+{
+    match row {
+        NamedRow::Failure(run) => {
+            let of_run = show(alloc, matches, plan, reference, run, writer)?;
+            Ok(of_run)
+        }
+        NamedRow::Stop(stop) => {
+            let of_stop = show_stop(alloc, matches, plan, reference, stop, writer)?;
+            Ok(of_stop)
         }
     }
 }
@@ -278,8 +334,8 @@ pub fn report<
 ) -> Result<u8, Fault>
     ensures { IfOk result (IsOfReport plan.now words reference.now) }
 {
-    if let Some(run) = shown_run(rt.alloc(), matches)? {
-        let of_run = show(rt.alloc(), matches, plan, reference, run, writer)?;
+    if let Some(row) = shown_run(rt.alloc(), matches)? {
+        let of_run = report_shown(rt.alloc(), matches, plan, reference, row, writer)?;
         return Ok(of_run);
     }
     let of_all = report_all(rt, matches, words, plan, reference, found, writer, err)?;

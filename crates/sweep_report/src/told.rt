@@ -100,7 +100,7 @@ fn file_parts(note: &FileNote) -> (&'static str, Option<usize>, Option<usize>) {
     (if note.saved { "damaged" } else { word }, bytes, of)
 }
 
-fn told_files(alloc: Global, notes: &[FileNote]) -> Result<Vec<ToldFile>, AllocError> {
+pub fn told_files(alloc: Global, notes: &[FileNote]) -> Result<Vec<ToldFile>, AllocError> {
     let mut told = Vec::new(alloc);
     for note in notes {
         let (word, bytes, of) = file_parts(note);
@@ -115,7 +115,7 @@ fn told_files(alloc: Global, notes: &[FileNote]) -> Result<Vec<ToldFile>, AllocE
     Ok(told)
 }
 
-fn file_text(alloc: Global, file: &ToldFile) -> Result<String, AllocError> {
+pub fn file_text(alloc: Global, file: &ToldFile) -> Result<String, AllocError> {
     let (path, word) = (&file.path, file.word);
     match (file.bytes, file.of) {
         (Some(bytes), Some(of)) => format!(in alloc; "{path} {word} ({bytes} of {of})"),

@@ -5,10 +5,9 @@ use lx_abi::{Boot, GuestFile, Limits, OutcomeFile, Script, Set};
 use rv_asm::assemble;
 use std::alloc::Global;
 use std::test::Fail;
-use sweep_rows::{Verdict, first_word, occurrences};
+use sweep_rows::{Reached, Verdict, first_word, occurrences};
 use sweep_runs::{
-    Setup, Silent, Trial, TrialRow, boot_on, reach_failing, refer, run_trials, run_under,
-    stop_trials,
+    Setup, Silent, Trial, TrialRow, boot_on, reach, reach_failing, run_trials, stop_trials,
 };
 
 /// Writes `newer` to /note, which it empties first, by two calls.
@@ -70,34 +69,57 @@ fn letter(verdict: Option<Verdict>) -> char {
     }
 }
 
+/// What the run without a failure comes to, without clauses.
+fn reference_of(alloc: Global, setup: &Setup) -> Result<Reached, Fail> {
+    Ok(reach(alloc, setup, Script::empty(alloc))?)
+}
+
 /// A stop at each occurrence of each call, without clauses.
-fn stops_of(alloc: Global, setup: &Setup) -> Result<Vec<Trial>, Fail> {
-    let Ok(reference) = refer(alloc, setup) else {
-        return Err(Fail::new("no run"));
-    };
+fn stops_of(alloc: Global, reference: &Reached) -> Result<Vec<Trial>, Fail> {
     let all = Set::AllBut(Seq::new(alloc));
     let found = occurrences(alloc, reference.log.as_slice(), &all, false)?;
     Ok(stop_trials(alloc, found.as_slice())?)
 }
 
-/// Their rows, without clauses.
-fn rows_of(alloc: Global, setup: &Setup, trials: &[Trial]) -> Result<Vec<TrialRow>, Fail> {
-    let Ok(reference) = refer(alloc, setup) else {
-        return Err(Fail::new("no run"));
+fn letters_of(alloc: Global, rows: &[TrialRow]) -> Result<String, Fail> {
+    let mut letters = String::new(alloc);
+    for row in rows {
+        letters.push(letter(row.verdict))?;
+    }
+    Ok(letters)
+}
+
+/// A letter for each trial, without clauses.
+fn judged(
+    alloc: Global,
+    setup: &Setup,
+    reference: &Reached,
+    trials: &[Trial],
+) -> Result<String, Fail> {
+    let rows = run_trials(alloc, setup, reference, trials, &mut Silent)?;
+    let letters = letters_of(alloc, rows.as_slice());
+    drop(rows);
+    letters
+}
+
+/// A letter for a stop at each occurrence of each call.
+fn letters_of_stops(alloc: Global, setup: &Setup) -> Result<String, Fail> {
+    let reference = reference_of(alloc, setup)?;
+    let letters = match stops_of(alloc, &reference) {
+        Ok(trials) => judged(alloc, setup, &reference, trials.as_slice()),
+        Err(fail) => Err(fail),
     };
-    Ok(run_trials(alloc, setup, &reference, trials, &mut Silent)?)
+    drop(reference);
+    letters
 }
 
 /// openat, two writes, close and exit_group: the note is torn between the first and the last.
 #[test]
 fn stops_tell_what_is_torn(rt: HostRuntime) -> Result<(), Fail> {
-    let alloc = rt.alloc();
-    let setup = saving(alloc)?;
-    let trials = stops_of(alloc, &setup)?;
-    let mut letters = String::new(alloc);
-    for row in rows_of(alloc, &setup, trials.as_slice())?.as_slice() {
-        letters.push(letter(row.verdict))?;
-    }
+    let setup = saving(rt.alloc())?;
+    let letters = letters_of_stops(rt.alloc(), &setup);
+    drop(setup);
+    let letters = letters?;
     assert_eq!(rt; letters.as_str(), "--tt--");
     Ok(())
 }
@@ -105,13 +127,21 @@ fn stops_tell_what_is_torn(rt: HostRuntime) -> Result<(), Fail> {
 /// How a second program ends on the files of a run, without clauses.
 fn second(alloc: Global, left: &[OutcomeFile]) -> Result<Option<u32>, Fail> {
     let boot = boot(alloc, Seq::new(alloc), b"/q")?;
-    let boot = boot_on(alloc, boot, left)?;
-    let Ok(kernel) = run_under(alloc, &setup_of(alloc, boot), Script::empty(alloc)) else {
-        return Err(Fail::new("no run"));
-    };
-    let outcome = kernel.outcome();
-    drop(kernel);
-    Ok(first_word(&outcome?))
+    let setup = setup_of(alloc, boot_on(alloc, boot, left)?);
+    let run = reference_of(alloc, &setup);
+    drop(setup);
+    let run = run?;
+    let word = first_word(&run.ending.outcome);
+    drop(run);
+    Ok(word)
+}
+
+/// How it ends on the files of the run of a trial, without clauses.
+fn second_behind(alloc: Global, setup: &Setup, trial: Trial) -> Result<Option<u32>, Fail> {
+    let run = reach_failing(alloc, setup, trial.fault())?;
+    let word = second(alloc, run.ending.outcome.files.as_slice());
+    drop(run);
+    word
 }
 
 /// The number that a wait word says was exited with, if it is one of these.
@@ -125,16 +155,29 @@ fn digit(word: Option<u32>) -> char {
     }
 }
 
+fn digits_behind(alloc: Global, setup: &Setup, trials: &[Trial]) -> Result<String, Fail> {
+    let mut digits = String::new(alloc);
+    for trial in trials {
+        digits.push(digit(second_behind(alloc, setup, *trial)?))?;
+    }
+    Ok(digits)
+}
+
+/// A digit for a stop at each occurrence of each call.
+fn digits_of_stops(alloc: Global, setup: &Setup) -> Result<String, Fail> {
+    let reference = reference_of(alloc, setup)?;
+    let trials = stops_of(alloc, &reference);
+    drop(reference);
+    digits_behind(alloc, setup, trials?.as_slice())
+}
+
 /// The reader finds 8 bytes and more of the old note, then none, three and all six of the new one.
 #[test]
 fn a_second_program_has_what_is_left(rt: HostRuntime) -> Result<(), Fail> {
-    let alloc = rt.alloc();
-    let setup = saving(alloc)?;
-    let mut digits = String::new(alloc);
-    for trial in stops_of(alloc, &setup)?.as_slice() {
-        let run = reach_failing(alloc, &setup, trial.fault())?;
-        digits.push(digit(second(alloc, run.ending.outcome.files.as_slice())?))?;
-    }
+    let setup = saving(rt.alloc())?;
+    let digits = digits_of_stops(rt.alloc(), &setup);
+    drop(setup);
+    let digits = digits?;
     assert_eq!(rt; digits.as_str(), "880366");
     Ok(())
 }

@@ -1,6 +1,8 @@
 -- Lines of known findings, in which a `*` stands for any text.
-use Rattle.std.specs.Prelude.{◌≡◌, ◌⊎◌, ℕ, ◌==◌, Bool, true, false, List, [], ◌∷◌, ◌++◌, String}
+use Rattle.std.specs.Prelude.{◌≡◌, ◌⊎◌, ℕ, ◌==◌, Bool, true, false, List, [], ◌∷◌, ◌++◌, Option, Some, None, String, codes}
 use Rattle.std.specs.String.{string_bytes}
+use Rattle.front_end.specs.Texts.{IsAbout}
+use Rattle.front_end.specs.declared.fault.Fault.{Fault}
 
 -- any text, and then the pattern
 abbrev pub star : List ℕ → List ℕ
@@ -20,3 +22,10 @@ IsLike text (c ∷ cs) = IsBehind (c == 42) c (λ rest. IsLike rest cs) text
 abbrev pub IsKnown : {Z : Type 0} → List (String Z) → List ℕ → Type 0
 IsKnown [] text = ⊥
 IsKnown (l ∷ ls) text = IsLike text (string_bytes l) ⊎ IsKnown ls text
+
+-- ---- the file that has them
+
+-- where one is named
+abbrev pub RefusesKnown : Option (List ℕ) → Fault → Type 0
+RefusesKnown None fault = ⊥
+RefusesKnown (Some path) fault = IsAbout (codes "--known ") fault

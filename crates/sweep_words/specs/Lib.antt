@@ -1,3 +1,4 @@
 pub mod Known
+pub mod Named
 pub mod Plans
 pub mod Shown

@@ -1,5 +1,5 @@
--- The run that --show names: CALL:ERROR:N, of process 1, or CALL@PID:ERROR:N.
-use Rattle.std.specs.Prelude.{ℕ, ◌==◌, List, Option, Some, None, if◌then◌else◌}
+-- The run that --show names: CALL:ERROR:N, of process 1, or CALL@PID:ERROR:N; or CALL:stop:N, in which everything ends.
+use Rattle.std.specs.Prelude.{ℕ, ◌==◌, List, Option, Some, None, if◌then◌else◌, bytes_eq, codes}
 use Rattle.std.specs.Option.{option_and_then}
 use Rattle.std.specs.Result.{result_ok}
 use Rattle.front_end.specs.Numbers.{decimal}
@@ -8,7 +8,10 @@ use Rattle.lx_abi.specs.Errors.{errno_numbered}
 use Rattle.lx_abi.specs.declared.errno.Errno.{Errno}
 use Rattle.tr_expr.specs.Parts.{errno_value}
 use Rattle.tr_expr.specs.Texts.{has_mark, before_mark, after_mark}
+use Rattle.sweep_words.specs.declared.show.NamedRow.{NamedRow}
+use Rattle.sweep_words.specs.declared.show.NamedRow.TheVariants.{Failure, Stop}
 use Rattle.sweep_words.specs.declared.show.NamedRun.{NamedRun}
+use Rattle.sweep_words.specs.declared.show.NamedStop.{NamedStop}
 
 -- a number from 1 on
 abbrev pub not_none : Option ℕ → Option ℕ
@@ -46,3 +49,29 @@ named_run text =
     if has_mark 58 text then (if has_mark 58 (after_mark 58 text)
     then run_of (before_mark 58 text) (before_mark 58 (after_mark 58 text)) (after_mark 58 (after_mark 58 text))
     else None) else None
+
+-- a stop is named where its parts are
+abbrev pub stopped : Option ℕ → Option ℕ → Option ℕ → Option NamedStop
+stopped (Some pid) (Some call) (Some n) = Some (record { pid = pid; call = call; n = n })
+stopped (Some pid) (Some call) None = None
+stopped (Some pid) None n = None
+stopped None call n = None
+
+unfoldable pub stop_of : List ℕ → List ℕ → List ℕ → Option NamedStop
+stop_of call kind n =
+    if bytes_eq kind (codes "stop") then stopped (pid_in call) (call_in call) (positive n) else None
+
+unfoldable pub named_stop : List ℕ → Option NamedStop
+named_stop text =
+    if has_mark 58 text then (if has_mark 58 (after_mark 58 text)
+    then stop_of (before_mark 58 text) (before_mark 58 (after_mark 58 text)) (after_mark 58 (after_mark 58 text))
+    else None) else None
+
+-- a stop, or else a failure; no error is called stop
+abbrev pub row_by : Option NamedStop → Option NamedRun → Option NamedRow
+row_by (Some stop) run = Some (Stop stop)
+row_by None (Some run) = Some (Failure run)
+row_by None None = None
+
+unfoldable pub named_row : List ℕ → Option NamedRow
+named_row text = row_by (named_stop text) (named_run text)

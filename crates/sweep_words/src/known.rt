@@ -1,7 +1,9 @@
 //! Findings that are known, as a file names them: a line each, of the verdict and the place of the call.
 
-ghost use Rattle.std.specs.Prelude.{◌≡◌, true, false};
-ghost use Rattle.sweep_words.specs.Known.{star, IsLike, IsKnown};
+ghost use Rattle.std.specs.Prelude.{◌≡◌, IfErr, codes, true, false};
+ghost use Rattle.front_end.specs.Values.{value_of};
+ghost use Rattle.sweep_words.specs.Known.{star, IsLike, IsKnown, RefusesKnown};
+ghost use Rattle.sweep_words.specs.Named.{is_remark};
 
 use clap::ArgMatches;
 use front_end::{Fault, read_text};
@@ -57,12 +59,22 @@ pub fn is_known(known: &[String], text: &str) -> bool
     false
 }
 
-/// The lines of a text but for blank ones and those that begin with a `#`.
+/// A line of a file, without the space around it, names nothing: it is empty, or begins with a `#`.
+pub fn is_remark(text: &str) -> bool
+    ensures { result ≡ is_remark text.now }
+{
+    match text.as_bytes() {
+        [] => true,
+        [first, ..] => *first == b'#',
+    }
+}
+
+/// The lines of a text that name something.
 fn lines_of(alloc: Global, text: &str) -> Result<Vec<String>, AllocError> {
     let mut lines = Vec::new(alloc);
     for line in text.lines() {
         let line = line.trim();
-        if !line.is_empty() && !line.starts_with('#') {
+        if !is_remark(line) {
             lines.push(String::from_str(alloc, line)?)?;
         }
     }
@@ -73,7 +85,9 @@ fn lines_of(alloc: Global, text: &str) -> Result<Vec<String>, AllocError> {
 pub fn read_known<R: Files + AllocGlobal>(
     rt: &R,
     matches: &ArgMatches,
-) -> Result<Vec<String>, Fault> {
+) -> Result<Vec<String>, Fault>
+    ensures { IfErr result (RefusesKnown (value_of matches.now (codes "known"))) }
+{
     let Some(path) = matches.get_str("known") else {
         return Ok(Vec::new(rt.alloc()));
     };

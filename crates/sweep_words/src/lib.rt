@@ -8,5 +8,6 @@ pub mod named;
 pub mod plan;
 pub mod shell;
 pub mod show;
+pub mod stops;
 pub mod wanted;
 pub mod words;

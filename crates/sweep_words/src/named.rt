@@ -1,5 +1,10 @@
 //! The runs that a file names, a line each, in the words of `--show`.
 
+ghost use Rattle.std.specs.Prelude.{◌≡◌, ◌++◌, IfErr, OnOk, codes};
+ghost use Rattle.front_end.specs.Texts.{IsAboutLine, Says};
+ghost use Rattle.sweep_words.specs.Named.{RefusesBeside, RefusesLine, RefusesNamed, named_at};
+
+use crate::known::is_remark;
 use crate::show::{NamedRun, named_run};
 use clap::ArgMatches;
 use front_end::{Fault, Shown, expression_words, read_text};
@@ -16,12 +21,16 @@ pub struct NamedLine {
     pub run: NamedRun,
 }
 
-fn excluded(alloc: Global, option: &str) -> Fault {
+fn excluded(alloc: Global, option: &str) -> Fault
+    ensures { Says (codes "--runs excludes " ++ (option.now ++ codes ": the file names the runs")) result }
+{
     Fault::usage(format!(in alloc; "--runs excludes {option}: the file names the runs"))
 }
 
 /// Options that have no meaning where a file names the runs.
-fn check(alloc: Global, matches: &ArgMatches) -> Result<(), Fault> {
+fn check(alloc: Global, matches: &ArgMatches) -> Result<(), Fault>
+    ensures { IfErr result (RefusesBeside matches.now) }
+{
     if !expression_words(alloc, matches)?.is_empty() {
         return Err(excluded(alloc, "-e"));
     }
@@ -32,8 +41,10 @@ fn check(alloc: Global, matches: &ArgMatches) -> Result<(), Fault> {
 }
 
 /// The fault of a line of a file.
-pub fn refuse_line(alloc: Global, path: &str, line: usize, reason: &str) -> Fault {
-    Fault::usage(format!(in alloc; "--runs {}: line {line}: {reason}", Shown(path)))
+pub fn refuse_line(alloc: Global, path: &str, line: usize, reason: &str) -> Fault
+    ensures { IsAboutLine (codes "--runs ") line result }
+{
+    Fault::line_of(alloc, "--runs ", Shown(path), line, reason)
 }
 
 /// Adds the run that a line names; blank ones, and those that begin with a `#`, name none.
@@ -43,9 +54,12 @@ fn add_line(
     path: &str,
     line: usize,
     text: &str,
-) -> Result<(), Fault> {
+) -> Result<(), Fault>
+    ensures added { OnOk result (named.new.items ≡ named.old.items ++ named_at line text.now) }
+    ensures refused { IfErr result (RefusesLine line text.now) }
+{
     let text = text.trim();
-    if text.is_empty() || text.starts_with('#') {
+    if is_remark(text) {
         return Ok(());
     }
     let Some(run) = named_run(text) else {
@@ -60,7 +74,9 @@ fn add_line(
 pub fn read_named<R: Files + AllocGlobal>(
     rt: &R,
     matches: &ArgMatches,
-) -> Result<Vec<NamedLine>, Fault> {
+) -> Result<Vec<NamedLine>, Fault>
+    ensures { IfErr result (RefusesNamed matches.now) }
+{
     let alloc = rt.alloc();
     let mut named = Vec::new(alloc);
     let Some(path) = matches.get_str("runs") else {

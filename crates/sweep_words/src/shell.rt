@@ -4,7 +4,7 @@ use crate::calls::error_name;
 use clap::ArgMatches;
 use lx_abi::calls::call_name;
 use std::alloc::{AllocError, Global};
-use sweep_rows::Verdict;
+use sweep_rows::{Occurrence, Verdict};
 use sweep_runs::{Case, Setup};
 
 /// The program that shows a run.
@@ -90,38 +90,63 @@ pub fn failure_words(
     Ok(words)
 }
 
-/// The row that `--show` takes for a case, if there is one: the call has a name.
-fn row_of(alloc: Global, case: &Case) -> Result<Option<String>, AllocError> {
-    let Case {
-        occurrence,
-        error,
-        ..
-    } = case;
+/// The row that `--show` takes for an occurrence to which this happens, if there is one: the call has a name.
+fn row_of(
+    alloc: Global,
+    occurrence: &Occurrence,
+    what: &str,
+) -> Result<Option<String>, AllocError> {
     let Some(name) = call_name(occurrence.call.number) else {
         return Ok(None);
     };
-    let error = error_name(alloc, *error)?;
     let (pid, n) = (occurrence.pid, occurrence.n);
     if pid == 1 {
-        Ok(Some(format!(in alloc; "{name}:{error}:{n}")?))
+        Ok(Some(format!(in alloc; "{name}:{what}:{n}")?))
     } else {
-        Ok(Some(format!(in alloc; "{name}@{pid}:{error}:{n}")?))
+        Ok(Some(format!(in alloc; "{name}@{pid}:{what}:{n}")?))
     }
 }
 
-/// The words by which the sweep itself shows the run of a case; none, where the call has no name.
-pub fn show_words(
+/// The words by which the sweep itself shows the run in which this happens to an occurrence; none, where the call has
+/// no name.
+fn row_words(
     alloc: Global,
     matches: &ArgMatches,
-    case: &Case,
+    occurrence: &Occurrence,
+    what: &str,
 ) -> Result<Vec<String>, AllocError> {
     let mut words = Vec::new(alloc);
-    let Some(row) = row_of(alloc, case)? else {
+    let Some(row) = row_of(alloc, occurrence, what)? else {
         return Ok(words);
     };
     push_each(alloc, &mut words, "--show", &[row.as_str()])?;
     if let Some(digits) = matches.get_str("limit") {
         push_each(alloc, &mut words, "--limit", &[digits])?;
+    }
+    Ok(words)
+}
+
+/// The same of the run of a case.
+pub fn show_words(
+    alloc: Global,
+    matches: &ArgMatches,
+    case: &Case,
+) -> Result<Vec<String>, AllocError> {
+    let error = error_name(alloc, case.error)?;
+    row_words(alloc, matches, &case.occurrence, error.as_str())
+}
+
+/// The same of the run in which everything ends at an occurrence, with the second program.
+pub fn stop_words(
+    alloc: Global,
+    matches: &ArgMatches,
+    occurrence: &Occurrence,
+) -> Result<Vec<String>, AllocError> {
+    let mut words = row_words(alloc, matches, occurrence, "stop")?;
+    if !words.is_empty() {
+        if let Some(program) = matches.get_str("then") {
+            push_each(alloc, &mut words, "--then", &[program])?;
+        }
     }
     Ok(words)
 }

@@ -1,4 +1,4 @@
-//! The run that `--show` names.
+//! The run that `--show` names: one with a failure, or one in which everything ends.
 
 ghost use Rattle.std.specs.Prelude.{◌≡◌};
 ghost use Rattle.sweep_words.specs.Shown as spec;
@@ -39,6 +39,21 @@ pub struct NamedRun {
     pub call: u64,
     pub error: Errno,
     pub n: u64,
+}
+
+/// Everything ends at the nth entry of a process into a call, counted from 1.
+#[derive(Clone, Copy, Debug, PartialEq, Eq)]
+pub struct NamedStop {
+    pub pid: u64,
+    pub call: u64,
+    pub n: u64,
+}
+
+/// A run of either kind.
+#[derive(Clone, Copy, Debug, PartialEq, Eq)]
+pub enum NamedRow {
+    Failure(NamedRun),
+    Stop(NamedStop),
 }
 
 /// A number from 1 on.
@@ -112,6 +127,44 @@ pub fn named_run(text: &str) -> Option<NamedRun>
     run_of(call, error, n)
 }
 
+/// The stop of these three parts, of which the second is `stop`.
+#[tactic(auto, unfolding(crate::specs::Shown::stop_of))]
+fn stop_of(call: &str, kind: &str, n: &str) -> Option<NamedStop>
+    ensures { result ≡ spec.stop_of call.now kind.now n.now }
+{
+    if kind != "stop" {
+        return None;
+    }
+    let pid = pid_in(call)?;
+    let call = call_in(call)?;
+    let n = positive(n)?;
+    Some(NamedStop { pid, call, n })
+}
+
+/// The stop of these words, if they name one.
+#[tactic(auto, unfolding(crate::specs::Shown::named_stop))]
+pub fn named_stop(text: &str) -> Option<NamedStop>
+    ensures { result ≡ spec.named_stop text.now }
+{
+    let (call, rest) = text.split_once(':')?;
+    let (kind, n) = rest.split_once(':')?;
+    stop_of(call, kind, n)
+}
+
+/// The run of either kind of these words, if they name one.
+#[tactic(auto, unfolding(crate::specs::Shown::named_row))]
+fn named_row(text: &str) -> Option<NamedRow>
+    ensures { result ≡ spec.named_row text.now }
+{
+    match named_stop(text) {
+        Some(stop) => Some(NamedRow::Stop(stop)),
+        None => match named_run(text) {
+            Some(run) => Some(NamedRow::Failure(run)),
+            None => None,
+        },
+    }
+}
+
 fn excluded(alloc: Global, option: &str) -> Fault {
     Fault::usage(format!(in alloc; "--show excludes {option}: one run is made"))
 }
@@ -135,15 +188,15 @@ fn check(alloc: Global, matches: &ArgMatches) -> Result<(), Fault> {
 }
 
 /// The run that the words name, if they do.
-pub fn shown_run(alloc: Global, matches: &ArgMatches) -> Result<Option<NamedRun>, Fault> {
+pub fn shown_run(alloc: Global, matches: &ArgMatches) -> Result<Option<NamedRow>, Fault> {
     let Some(text) = matches.get_str("show") else {
         return Ok(None);
     };
     check(alloc, matches)?;
-    match named_run(text) {
-        Some(run) => Ok(Some(run)),
+    match named_row(text) {
+        Some(row) => Ok(Some(row)),
         None => Err(Fault::usage(format!(in alloc;
-            "--show {}: not CALL:ERROR:N or CALL@PID:ERROR:N, as write:EIO:2",
+            "--show {}: not CALL:ERROR:N or CALL@PID:ERROR:N, as write:EIO:2 or write:stop:2",
             Shown(text)
         ))),
     }

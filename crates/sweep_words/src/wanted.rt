@@ -23,7 +23,7 @@ fn refuse(alloc: Global, text: &str) -> Fault {
     match read_expression(alloc, text) {
         Err(fault) => fault,
         Ok(_) => Fault::usage(format!(in alloc;
-            "-e {}: a sweep takes fault=SET and fault=SET:error=E,.. alone",
+            "-e {}: a sweep takes fault=SET, fault=SET:error=E,.. and stop=SET alone",
             Shown(text)
         )),
     }
@@ -165,7 +165,7 @@ pub fn wanted_by(alloc: Global, run: NamedRun) -> Result<Wanted, AllocError> {
 }
 
 /// The calls of these runs with their errors, each once.
-pub fn wanted_of(alloc: Global, named: &[NamedLine]) -> Result<Vec<Wanted>, AllocError> {
+fn wanted_of(alloc: Global, named: &[NamedLine]) -> Result<Vec<Wanted>, AllocError> {
     let mut first: Vec<NamedRun> = Vec::new(alloc);
     let mut wanted = Vec::new(alloc);
     for one in named {
@@ -194,7 +194,7 @@ fn every_error(alloc: Global, matches: &ArgMatches) -> Result<bool, Fault> {
 }
 
 /// What the expressions ask for, in their order; every call, where there are none.
-pub fn read_wanted(alloc: Global, matches: &ArgMatches) -> Result<Vec<Wanted>, Fault> {
+fn read_wanted(alloc: Global, matches: &ArgMatches) -> Result<Vec<Wanted>, Fault> {
     let every_error = every_error(alloc, matches)?;
     let words = expression_words(alloc, matches)?;
     let mut wanted = Vec::new(alloc);
@@ -206,4 +206,21 @@ pub fn read_wanted(alloc: Global, matches: &ArgMatches) -> Result<Vec<Wanted>, F
         add_set(alloc, &mut wanted, every_call, every_error)?;
     }
     Ok(wanted)
+}
+
+/// The calls that are to fail: those that a file names, or else what the expressions ask for; none where everything
+/// ends.
+pub fn read_calls(
+    alloc: Global,
+    matches: &ArgMatches,
+    named: &[NamedLine],
+    is_stopped: bool,
+) -> Result<Vec<Wanted>, Fault> {
+    if is_stopped {
+        return Ok(Vec::new(alloc));
+    }
+    if matches.get_str("runs").is_some() {
+        return Ok(wanted_of(alloc, named)?);
+    }
+    read_wanted(alloc, matches)
 }

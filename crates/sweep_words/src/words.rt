@@ -1,12 +1,13 @@
 //! What the command line asks for.
 
-use clap::{ArgMatches, Command, Error};
-use front_end::{Fault, Shown, Tool, expression_words, number, with_options, with_program};
-use std::alloc::{AllocError, Global};
+use clap::ArgMatches;
+use front_end::{CommandLine, CommandRow, Fault, Operands, Shown, Tool, expression_words, number};
+use std::alloc::Global;
 
 const NOTES: &str = "Which calls are to fail, after -e:
   fault=SET               with each error that the call can have there, by its descriptor and its flags
   fault=SET:error=E,..    with these errors (a name, or 1 to 4095)
+  stop=SET                no call fails: all ends as one of these is entered, as where the power fails
   SET    names joined by commas, as write or ?name; %file, %desc, %process, %signal, %memory; /REGEX; all; none;
          a ! in front takes all others
 Without -e it is fault=all.
@@ -70,20 +71,18 @@ pub struct Style {
     pub colors: bool,
 }
 
-fn sweep_command<'a>(alloc: Global) -> Result<Command<'a>, AllocError> {
-    let command = Command::new(alloc, "strace_sweep")
-        .about("Makes each call of a modelled RV64I guest fail in turn, and tells what came of it")
-        .version("0.1.0")
-        .args_override_self(true)
-        .after_help(NOTES);
-    let command = with_options(alloc, command, Tool::Sweep)?;
-    with_program(alloc, command)
-}
-
-/// Parses the words, the program's name first.
-pub fn parse<'a>(alloc: Global, words: &'a [String]) -> Result<ArgMatches<'a>, Error> {
-    sweep_command(alloc)?.try_get_matches_from(words)
-}
+/// That of `strace_sweep`.
+pub const COMMAND_LINE: CommandLine = CommandLine {
+    name: "strace_sweep",
+    row: CommandRow {
+        name: "strace_sweep",
+        about: "Makes each call of a modelled RV64I guest fail in turn, and tells what came of it",
+        notes: Some(NOTES),
+        takes: Operands::Program(Tool::Sweep),
+    },
+    commands: &[],
+    takes_last: true,
+};
 
 /// The format that the words ask for.
 fn format_of(alloc: Global, matches: &ArgMatches) -> Result<Format, Fault> {

@@ -2,7 +2,9 @@
 use Rattle.std.specs.Prelude.{◌≡◌, ◌⊎◌, ℕ, List, Option, Result, Ok, Err}
 use Rattle.clap.specs.declared.parser.matches.ArgMatches.{ArgMatches}
 use Rattle.lx_abi.specs.declared.schedule.Event.{Event}
-use Rattle.front_end.specs.Statuses.{IsStatusOf, IsUnrun}
+use Rattle.front_end.specs.CommandLines.{IsStatusWithout}
+use Rattle.front_end.specs.Statuses.{IsStatusOf}
+use Rattle.front_end.specs.declared.command_line.NoRun.{NoRun}
 use Rattle.front_end.specs.declared.fault.Fault.{Fault}
 use Rattle.trace_run.specs.Writers.{Writer}
 use Rattle.trace_run.specs.declared.running.Ended.{Ended}
@@ -51,13 +53,12 @@ TracesAsked remaining held runs file words given result out out' =
 
 -- ---- the exit status
 
--- Of a run that writes so for what the parser gives: it is that of the run, or of its fault.
+-- Of a run that writes so for these words: it is that of the run, or of its fault.
 abbrev pub EndsBy : (ArgMatches → Result ℕ Fault → Option (List ℕ) → Type 0) → ArgMatches → ℕ → Type 0
 EndsBy traces words status =
     (result : Result ℕ Fault) × ((out : Option (List ℕ)) × (traces words result out × IsStatusOf result status))
 
--- Where the parser gives nothing, nothing is run.
-abbrev pub Exits : {E : Type 0} → (ArgMatches → Result ℕ Fault → Option (List ℕ) → Type 0) → Result ArgMatches E → ℕ
-    → Type 0
+-- Where the words ask for no run, nothing is run.
+abbrev pub Exits : (ArgMatches → Result ℕ Fault → Option (List ℕ) → Type 0) → Result ArgMatches NoRun → ℕ → Type 0
 Exits traces (Ok words) status = EndsBy traces words status
-Exits traces (Err error) status = IsUnrun status
+Exits traces (Err no_run) status = IsStatusWithout no_run status

@@ -19,4 +19,5 @@ mod trace_file;
 mod tracing;
 mod turns_out;
 
-pub use entry::{command, tell};
+pub use entry::command;
+pub use trace_words::COMMAND_LINE;

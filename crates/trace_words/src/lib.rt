@@ -12,4 +12,4 @@ pub use asked::{TraceOptions, Workers};
 pub use option_fault::OptionFault;
 pub use options::trace_options;
 pub use plan::{Plan, read_plan};
-pub use words::parse;
+pub use words::COMMAND_LINE;

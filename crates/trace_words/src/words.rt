@@ -1,8 +1,6 @@
-//! What the command line asks for.
+//! What the command line is.
 
-use clap::{ArgMatches, Command, Error};
-use front_end::{Tool, with_options, with_program};
-use std::alloc::{AllocError, Global};
+use front_end::{CommandLine, CommandRow, Operands, Tool};
 
 const NOTES: &str = "Expressions, after -e:
   trace=SET (or t=SET, or SET alone)   which calls are shown; the last one counts
@@ -49,19 +47,15 @@ Example: make the second write fail, and watch
   guest_host asm guests/rows/three_writes.s three_writes
   strace_cli -e trace=write -e fault=write:error=EIO:when=2 --file /p=three_writes -- /p </dev/null";
 
-fn tracer_command<'a>(alloc: Global) -> Result<Command<'a>, AllocError> {
-    let command = Command::new(alloc, "strace_cli")
-        .about(
-            "Traces the system calls of a modelled RV64I guest, and makes the calls you name fail",
-        )
-        .version("0.1.0")
-        .args_override_self(true)
-        .after_help(NOTES);
-    let command = with_options(alloc, command, Tool::Trace)?;
-    with_program(alloc, command)
-}
-
-/// Parses the words, the program's name first.
-pub fn parse<'a>(alloc: Global, words: &'a [String]) -> Result<ArgMatches<'a>, Error> {
-    tracer_command(alloc)?.try_get_matches_from(words)
-}
+/// That of `strace_cli`, whose messages are those of strace(1).
+pub const COMMAND_LINE: CommandLine = CommandLine {
+    name: "strace",
+    row: CommandRow {
+        name: "strace_cli",
+        about: "Traces the system calls of a modelled RV64I guest, and makes the calls you name fail",
+        notes: Some(NOTES),
+        takes: Operands::Program(Tool::Trace),
+    },
+    commands: &[],
+    takes_last: true,
+};

@@ -8,7 +8,7 @@ returns-in_ok-of_orders-in-Some g c =
     subst (λ (o : Option Orders). IsOfAll c.args.plan.now c.args.words c.args.reference.now o c.in_ok-of_orders-in-Some.of_orders)
     (sym c.in-Some.is) c.in_ok-of_orders-in-Some.ensures
 
-pub returns-in_ok-of_rows-in-None : goal.returns-in_ok-of_rows-in-None
-returns-in_ok-of_rows-in-None g c =
-    subst (λ (o : Option Orders). IsOfAll c.args.plan.now c.args.words c.args.reference.now o c.in_ok-of_rows-in-None.of_rows)
-    (sym c.in-None.is) c.in_ok-of_rows-in-None.ensures
+pub returns-in_ok-of_ends-in-None : goal.returns-in_ok-of_ends-in-None
+returns-in_ok-of_ends-in-None g c =
+    subst (λ (o : Option Orders). IsOfAll c.args.plan.now c.args.words c.args.reference.now o c.in_ok-of_ends-in-None.of_ends)
+    (sym c.in-None.is) c.in_ok-of_ends-in-None.ensures
