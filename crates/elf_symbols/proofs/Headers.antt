@@ -1,5 +1,5 @@
 -- Section headers one after the other, until one is a symbol table's.
-use Rattle.std.proofs.Common.{ℕ, suc, ◌≡◌, ◌+◌, ◌-◌, ◌<◌, ◌≤◌, ◌∙◌, List, length, eqb, nat_lt, Option, Some, None, true, false, refl, sym, arith}
+use Rattle.std.proofs.Common.{ℕ, suc, ◌≡◌, ◌+◌, ◌-◌, ◌<◌, ◌≤◌, ◌∙◌, List, length, eqb, Option, Some, None, true, false, refl, sym, arith}
 use Rattle.std.proofs.lemmas.Bool.{lt-ltb, le-ltb}
 use Rattle.elf_image.specs.Fields.{number_at}
 use Rattle.elf_symbols.specs.Sections.{header_from}
