@@ -40,6 +40,14 @@ fn run_shown(
     Ok(console)
 }
 
+/// What is shown of a run with this trace and this console.
+fn shown_with(trace: Trace, console: Bytes) -> Result<ShownRun, AllocError>
+    ensures { IfOk result (λ shown. shown.console ≡ console) }
+{
+    let trace = trace.into_bytes()?;
+    Ok(ShownRun { trace, console })
+}
+
 /// The run with this failure, of a boot that is accepted. Its trace is what a `Trace` writes that watches it.
 pub fn show_failing(
     alloc: Global,
@@ -52,9 +60,15 @@ pub fn show_failing(
     let mut schedule = schedule(alloc, setup.turns.as_slice(), setup.limit)?;
     let mut kernel = kernel(alloc, &setup.boot)?;
     let mut trace = Trace::new(alloc, options);
-    let shown = run_shown(alloc, &mut kernel, &mut schedule, fault, &mut trace);
-    drop(kernel);
-    let console = shown?;
-    let trace = trace.into_bytes()?;
-    Ok(ShownRun { trace, console })
+    match run_shown(alloc, &mut kernel, &mut schedule, fault, &mut trace) {
+        Ok(console) => {
+            drop(kernel);
+            let shown = shown_with(trace, console)?;
+            Ok(shown)
+        }
+        Err(error) => {
+            drop(kernel);
+            Err(error)
+        }
+    }
 }

@@ -6,6 +6,7 @@ pub returns : goal.returns
 returns c =
     let site = c.in_ok-site.ensures in (
       site.0,
+      c.function_name.result.now,
       site.1,
-      c.in_ok-key.ensures ∙ ap (marked c.args.verdict) (c.as_str.ensures ∙ site.2),
+      c.in_ok-key.ensures ∙ ap (marked c.args.verdict) (c.as_str-2.ensures.value ∙ site.2),
     )
