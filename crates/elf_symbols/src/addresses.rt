@@ -8,7 +8,7 @@ use crate::symbols::Function;
 fn lies_in(address: u64, function: Function) -> bool
     ensures { result ≡ spec.lies_in address function }
 {
-    function.start <= address && address - function.start <= function.size
+    function.start <= address && address - function.start < function.size
 }
 
 fn is_nearer(function: Function, other: Function) -> bool
@@ -49,7 +49,7 @@ pub fn function_at(functions: &[Function], address: u64) -> Option<Function>
     let mut so_far = None;
     let mut left = functions;
     while let Some((function, rest)) = left.split_first() {
-        so_far = met(address, None, *function);
+        so_far = met(address, so_far, *function);
         left = rest;
     }
     so_far

@@ -50,7 +50,7 @@ pub fn caller_of(
         return None;
     };
     if is_wrapper(call, name_of(bytes, function)) {
-        either(functions, ra, function)
+        either(functions, ra.saturating_sub(1), function)
     } else {
         Some(function)
     }

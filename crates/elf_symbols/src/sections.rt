@@ -142,7 +142,7 @@ fn table_at(bytes: &[u8], at: usize) -> Option<SymbolTable>
     ensures symbols { IfSome result (λ t. t.symbols.start + t.symbols.size ≤ length bytes.now) }
     ensures names { IfSome result (λ t. t.names.start + t.names.size ≤ length bytes.now) }
 {
-    if double_at(bytes, at + 56) == 0 {
+    if double_at(bytes, at + 56) != SYMBOL_SIZE as u64 {
         return None;
     }
     let Some(symbols) = content_at(bytes, at) else {

@@ -43,7 +43,7 @@ fn symbol_at(bytes: &[u8], names: Content, at: usize) -> Option<Function>
         ≡ (if spec.is_function bytes.now names at then Some (spec.function_of bytes.now names at) else None) }
 {
     let place = word_at(bytes, at) as usize;
-    if place == 0 || names.size <= place {
+    if byte_at(bytes, at + 4) % 16 != FUNCTION_TYPE || place == 0 || names.size <= place {
         return None;
     }
     let name = names.start + place;
@@ -89,7 +89,7 @@ fn functions_in(
     ensures { IfOk result (λ v. v.items ≡ spec.functions_in bytes.now (Some table)) }
 {
     let Content { start, size } = table.symbols;
-    let functions = functions_from(alloc, bytes, table.names, start, size / 25)?;
+    let functions = functions_from(alloc, bytes, table.names, start, size / SYMBOL_SIZE)?;
     Ok(functions)
 }
 
