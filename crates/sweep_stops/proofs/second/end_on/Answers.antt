@@ -6,5 +6,5 @@ returns c = record {
   is_second = c.in_ok-start.ensures;
   reached = c.in_ok-reached.reached;
   came = c.in_ok-reached.ensures;
-  end_is = c.first_word.ensures;
+  end_is = c.first_word-word.ensures;
 }
