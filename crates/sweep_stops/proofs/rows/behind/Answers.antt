@@ -5,7 +5,7 @@ use Rattle.sweep_stops.proofs.rows.behind.Goals as goal
 
 pub returns : goal.returns
 returns c = record {
-  run = c.in_ok-run.run;
-  left = subst (λ (f : Fault). FaultReaches c.args.setup.now f c.in_ok-run.run) c.fault.ensures c.in_ok-run.ensures;
+  run = c.in_ok-run.run';
+  left = subst (λ (f : Fault). FaultReaches c.args.setup.now f c.in_ok-run.run') c.fault.ensures c.in_ok-run.ensures;
   ends = c.in_ok-end.ensures;
 }
