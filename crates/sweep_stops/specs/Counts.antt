@@ -1,5 +1,5 @@
 -- What is told of a stop, and how many stops came to what.
-use Rattle.std.specs.Prelude.{ℕ, cond, Bool, true, false, List, [], ◌∷◌, map, Option, Some, None}
+use Rattle.std.specs.Prelude.{cond, List, [], ◌∷◌, map, Option, Some, None}
 use Rattle.std.specs.List.{flat_map}
 use Rattle.std.specs.Option.{option_to_list}
 use Rattle.sweep_report.specs.declared.tally.Kind.{Kind}

@@ -1,5 +1,5 @@
 -- What came of the runs in which everything ends as a call is entered.
-use Rattle.std.specs.Prelude.{◌≡◌, ⊤, ℕ, ◌==◌, ◌&&◌, Bool, List, map, All, Option, Some, None}
+use Rattle.std.specs.Prelude.{◌≡◌, ⊤, ◌==◌, ◌&&◌, Bool, List, map, All, Option, Some, None}
 use Rattle.lx_abi.specs.declared.log.Item.{Item}
 use Rattle.lx_abi.specs.declared.script.Set.{Set}
 use Rattle.sweep_faults.specs.Faults.{is_stop}
