@@ -11,5 +11,5 @@ returns-in-Ok c =
       kernel = z;
       run = subst (λ (k : Run). RunsFaulted c.args.fault k _ z) c.in_ok-kernel.ensures.first
           (subst (λ (s : Schedule). RunsFaulted c.args.fault c.in_ok-kernel.kernel s z) c.in_ok-schedule.ensures c.in-Ok.ensures.to);
-      console = c.in_ok-shown.ensures ∙ c.in-Ok.ensures.console;
+      console = c.in_ok-shown-in-Ok.ensures ∙ c.in-Ok.ensures.console;
     }
