@@ -67,7 +67,7 @@ pub fn show_stop<W: Write>(
     let console = shown.console.as_slice();
     let text = shown_text(alloc, matches, plan, reference, &calls, &row, console)?;
     write(alloc, text.as_str(), writer)?;
-    let status = status_of_one(plan.strict, verdict_of(&row));
+    let verdict = verdict_of(&row);
     drop(row);
-    Ok(status)
+    Ok(status_of_one(plan.strict, verdict))
 }

@@ -13,5 +13,5 @@ returns g c = record {
       ap (λ (t : Trial). is_that c.args.stop t) c.in_ok-row.ensures.trial
       ∙ subst (λ (o : Option Trial). IfSome o (λ t. is_that c.args.stop t ≡ true)) c.in-Some.is c.in_ok-trial.ensures;
   made = c.in_ok-row.ensures.row;
-  status_is = c.status_of_one.ensures ∙ ap (λ v. status_of c.args.plan.now.strict (option_to_list v)) c.verdict_of.ensures;
+  status_is = c.status_of_one.ensures ∙ ap (λ v. status_of c.args.plan.now.strict (option_to_list v)) c.verdict_of-verdict.ensures;
 }
