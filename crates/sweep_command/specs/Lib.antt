@@ -1,3 +1,4 @@
+pub mod Beginnings
 pub mod Choosing
 pub mod Naming
 pub mod Checks

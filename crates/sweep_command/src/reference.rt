@@ -1,6 +1,8 @@
 //! The run without a failure, which has to come to its end.
 
-ghost use Rattle.std.specs.Prelude.{[], IfOk};
+ghost use Rattle.std.specs.Prelude.{◌≡◌, [], IfOk, OnOk, codes, option_map};
+ghost use Rattle.front_end.specs.Values.{value_of};
+ghost use Rattle.sweep_command.specs.Beginnings.{Ends, IsLimited, IsLowered, with_limit};
 ghost use Rattle.sweep_runs.specs.Runs.{Reaches};
 
 use clap::ArgMatches;
@@ -12,7 +14,7 @@ use std::alloc::{AllocError, Global};
 use sweep_rows::Reached;
 use sweep_runs::{Case, Setup, fault_of, refer, run_accepted, run_failing};
 use sweep_words::plan::Plan;
-use sweep_words::words::Words;
+use sweep_words::words::{Orders, Words};
 
 fn referred(alloc: Global, setup: &Setup) -> Result<Reached, BootFault>
     ensures { IfOk result (Reaches setup.now []) }
@@ -21,14 +23,19 @@ fn referred(alloc: Global, setup: &Setup) -> Result<Reached, BootFault>
     Ok(reference)
 }
 
-/// The run without a failure is tried with so many turns, where the words have no limit.
-const TRIED: [u64; 2] = [10_000, 100_000];
+/// The run without a failure is tried with so many turns, where the words have no limit, and then with these.
+const FEW: u64 = 10_000;
+
+const MORE: u64 = 100_000;
 
 /// So many turns more than ten times its own a run with a failure may take then.
 const MORE_TURNS: u64 = 1_000_000;
 
-/// The run without a failure ends within so many turns.
-fn ends_within(alloc: Global, setup: &mut Setup, turns: u64) -> Result<bool, Fault> {
+/// The run without a failure ends within so many turns, which become the limit.
+fn ends_within(alloc: Global, setup: &mut Setup, turns: u64) -> Result<bool, Fault>
+    ensures ends { IfOk result (Ends setup.old turns) }
+    ensures limited { OnOk result (setup.new ≡ with_limit turns setup.old) }
+{
     setup.limit = turns;
     match referred(alloc, setup) {
         Ok(reached) => Ok(!reached.ending.alive),
@@ -38,29 +45,53 @@ fn ends_within(alloc: Global, setup: &mut Setup, turns: u64) -> Result<bool, Fau
 
 /// Lowers the limit of all runs to ten times the turns of the one without a failure, rounded up to a power of ten, and
 /// a million, if it ends within few.
-fn lower_limit(alloc: Global, setup: &mut Setup) -> Result<(), Fault> {
+fn lower_limit(alloc: Global, setup: &mut Setup) -> Result<(), Fault>
+    ensures { OnOk result (IsLowered setup.old setup.new) }
+{
     let most = setup.limit;
-    for turns in TRIED {
-        if ends_within(alloc, setup, turns)? {
-            setup.limit = turns.saturating_mul(10).saturating_add(MORE_TURNS);
-            return Ok(());
-        }
+    if ends_within(alloc, setup, FEW)? {
+        setup.limit = FEW * 10 + MORE_TURNS;
+        return Ok(());
+    }
+    if ends_within(alloc, setup, MORE)? {
+        setup.limit = MORE * 10 + MORE_TURNS;
+        return Ok(());
     }
     setup.limit = most;
     Ok(())
 }
 
-/// The plan with the limit of its runs, where the words have none; runs by orders of turns have the usual one.
-pub fn limited(
+/// Lowers the limit where the words give none; runs by orders of turns have the usual one.
+fn limit(
     alloc: Global,
-    matches: &ArgMatches,
-    words: Words,
-    plan: Plan,
-) -> Result<Plan, Fault> {
-    let mut limited = plan;
-    if words.orders.is_none() && matches.get_str("limit").is_none() {
-        lower_limit(alloc, &mut limited.setup)?;
+    orders: Option<Orders>,
+    given: Option<&str>,
+    setup: &mut Setup,
+) -> Result<(), Fault>
+    ensures { OnOk result
+        (IsLimited orders (option_map (λ text. text.now) given.entry) setup.old setup.new) }
+{
+    match orders {
+        Some(_) => Ok(()),
+        None => match given {
+            Some(_) => Ok(()),
+            None => lower_limit(alloc, setup),
+        },
     }
+}
+
+/// The plan with the limit of its runs.
+pub fn limited(alloc: Global, matches: &ArgMatches, words: Words, plan: Plan) -> Result<Plan, Fault>
+    ensures { IfOk result (λ limited.
+        IsLimited words.orders (value_of matches.now (codes "limit")) plan.setup limited.setup) }
+{
+    let mut limited = plan;
+    limit(
+        alloc,
+        words.orders,
+        matches.get_str("limit"),
+        &mut limited.setup,
+    )?;
     Ok(limited)
 }
 

@@ -20,7 +20,10 @@ use sweep_words::show::NamedStop;
 /// What is said of a stop whose process doesn't make the call so often.
 fn absence_of(alloc: Global, stop: NamedStop) -> Result<String, AllocError> {
     let name = name_of(alloc, stop.call)?;
-    format!(in alloc; "--show: process {} has no call {} of {name}", stop.pid, stop.n)
+    format!(in alloc;
+        "--show: process {} has no call {} of {name}",
+        stop.pid, stop.n
+    )
 }
 
 fn absent(alloc: Global, stop: NamedStop) -> Fault {

@@ -4,6 +4,7 @@ ghost use Rattle.std.specs.Prelude.{◌≡◌, [], IfOk};
 ghost use Rattle.sweep_runs.specs.Runs.{Reaches};
 ghost use Rattle.sweep_report.specs.Tallies.{unmarked};
 ghost use Rattle.sweep_report.specs.Findings.{status_of as status_by};
+ghost use Rattle.sweep_command.specs.Beginnings.{IsAsked};
 ghost use Rattle.sweep_command.specs.Reports.{IsCounted, IsOfRows, IsOfEnds, IsOfAll, IsOfShown, IsOfReport, IsOfSweep};
 
 use crate::judging::begin_checks;
@@ -421,7 +422,9 @@ pub fn begin<R: Files + AllocGlobal, I: Read + IsTerminal, E: Write + IsTerminal
     input: &mut I,
     err: &mut E,
 ) -> Result<Begun, Fault>
-    ensures { IfOk result (λ begun. Reaches begun.plan.setup [] begun.reference) }
+    ensures asked { IfOk result
+        (λ begun. IsAsked R.File.remaining matches.now words (I.remaining input.old) begun.plan) }
+    ensures reached { IfOk result (λ begun. Reaches begun.plan.setup [] begun.reference) }
 {
     let alloc = rt.alloc();
     let mut asked = read_plan(rt, matches, input, err)?;

@@ -5,6 +5,6 @@ returns g c = record {
   plan = c.in_ok-begun.begun.plan;
   words = c.in_ok-words.words;
   reference = c.in_ok-begun.begun.reference;
-  runs = c.in_ok-begun.ensures;
+  runs = c.in_ok-begun.ensures.reached;
   of_report = c.in_ok-status.ensures;
 }
