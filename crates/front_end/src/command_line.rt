@@ -95,14 +95,13 @@ impl CommandLine {
         let shown = shown_words(alloc, words)?;
         match self.parse(alloc, shown.as_slice()) {
             Ok(_) => format!(in alloc; "a word is malformed"),
-            Err(error) if error.kind() == ErrorKind::OutOfMemory => Err(AllocError),
             Err(error) => reason_of(alloc, error, self.lacks_divider(words)),
         }
     }
 
     /// What the parser gives in the place of matches.
     fn stop(&self, alloc: Global, error: Error, words: &[String]) -> NoRun
-        ensures { StopsBy error.entry result }
+        ensures { StopsBy error result }
     {
         if error.use_stderr() {
             match self.reason(alloc, error.kind(), words) {
@@ -149,9 +148,9 @@ impl CommandLine {
 
     /// The status of a command that ended so. A fault is reported.
     pub fn settle<E: Write>(&self, ended: Result<u8, Fault>, explained: bool, err: &mut E) -> u8
-        ensures settled { Settles self.now.name.now ended.entry explained
+        ensures settled { Settles self.now.name.now ended explained
             (E.contents err.old) (E.contents err.new) result }
-        ensures status { IsStatusOf ended.entry result }
+        ensures status { IsStatusOf ended result }
     {
         match ended {
             Ok(status) => status,

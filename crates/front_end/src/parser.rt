@@ -62,6 +62,9 @@ fn quoted(line: &str) -> &str {
 /// `lacks_divider`: no word divides a program's words from the options.
 pub fn reason_of(alloc: Global, error: Error, lacks_divider: bool) -> Result<String, AllocError> {
     let kind = error.kind();
+    if kind == ErrorKind::OutOfMemory {
+        return Err(AllocError);
+    }
     let line = line_of(alloc, error)?;
     let line = line.as_str();
     let option = quoted(line);

@@ -14,7 +14,15 @@ pub fn joined(alloc: Global, start: &str, rest: &str) -> Result<String, AllocErr
     Ok(text)
 }
 
-/// What stands before the fault of a line of a file.
+/// What stands before the fault of a line, of a file that is shown so.
+fn numbered(alloc: Global, start: &str, file: &str, line: usize) -> Result<String, AllocError>
+    ensures { IfOk result (λ text.
+        string_bytes text ≡ start.now ++ (file.now ++ (codes ": line " ++ (decimal line ++ codes ": ")))) }
+{
+    format!(in alloc; "{start}{file}: line {line}: ")
+}
+
+/// The same, of a file.
 pub fn line_place<D: Display + Drop>(
     alloc: Global,
     start: &str,
@@ -24,8 +32,6 @@ pub fn line_place<D: Display + Drop>(
     ensures { IfOk result (λ text. (file : List ℕ)
         × (string_bytes text ≡ start.now ++ (file ++ (codes ": line " ++ (decimal line ++ codes ": "))))) }
 {
-    let file = format!(in alloc; "{file}")?;
-    let number = format!(in alloc; ": line {line}: ")?;
-    let rest = joined(alloc, file.as_str(), number.as_str())?;
-    joined(alloc, start, rest.as_str())
+    let shown = format!(in alloc; "{file}")?;
+    numbered(alloc, start, shown.as_str(), line)
 }

@@ -2,10 +2,9 @@
 use Rattle.std.proofs.Common.{◌≡◌, Bool, true, false, List, [], ◌∷◌, ◌++◌, length, map, refl, sym, subst, ◌∙◌}
 use Rattle.std.proofs.lemmas.Bool.{eqb-true}
 use Rattle.std.proofs.lemmas.List.{nil_from_length}
-use Rattle.std.specs.Prelude.{◌==◌, String, codes}
-use Rattle.std.specs.Char.{to_ascii_uppercase}
-use Rattle.sweep_rows.specs.Summary.{name_of}
+use Rattle.std.specs.Prelude.{◌==◌, String}
 use Rattle.sweep_report.specs.Findings.{counts}
+use Rattle.sweep_report.specs.Keys.{marked, fields}
 use Rattle.sweep_runs.specs.declared.sweeping.Row.{Row}
 use Rattle.sweep_words.specs.Known.{IsKnown}
 use Rattle.sweep_command.specs.Reports.{IsMark, AreMarks}
@@ -16,19 +15,26 @@ emptied xs is t = nil_from_length xs (eqb-true (length xs) 0 (sym is ∙ t))
 -- nothing is known
 pub none_known : {Z : Type 0} (strict : Bool) (known : List (String Z)) (row : Row) → known ≡ [] → IsMark strict known row false
 none_known strict known row none = record {
-  key = (map to_ascii_uppercase (name_of row.verdict) ++ codes " ") ++ [];
-  is_key = ([], refl);
+  key = marked row.verdict (fields [] [] []);
+  older = marked row.verdict [];
+  is_key = ([], [], [], refl);
+  is_older = ([], refl);
   finding = λ e. absurd (cc e);
   like = λ e. absurd (cc e);
-  unlike = λ _ _ is. subst (λ lines. IsKnown lines ((map to_ascii_uppercase (name_of row.verdict) ++ codes " ") ++ [])) none is;
+  unlike = λ _ _. (
+    (λ is. subst (λ lines. IsKnown lines (marked row.verdict (fields [] [] []))) none is),
+    (λ is. subst (λ lines. IsKnown lines (marked row.verdict [])) none is),
+  );
 }
 
 -- it is no finding
 pub no_finding : {Z : Type 0} (strict : Bool) (known : List (String Z)) (row : Row) → counts strict row.verdict ≡ false
     → IsMark strict known row false
 no_finding strict known row none = record {
-  key = (map to_ascii_uppercase (name_of row.verdict) ++ codes " ") ++ [];
-  is_key = ([], refl);
+  key = marked row.verdict (fields [] [] []);
+  older = marked row.verdict [];
+  is_key = ([], [], [], refl);
+  is_older = ([], refl);
   finding = λ e. absurd (cc e);
   like = λ e. absurd (cc e);
   unlike = λ _ found. absurd (cc (sym none ∙ found));

@@ -12,7 +12,7 @@ use Rattle.sweep_orders.specs.Orders.{AreOrders}
 use Rattle.sweep_orders.specs.declared.exploring.Explored.{Explored}
 use Rattle.sweep_orders.specs.declared.found.Found.{Found}
 use Rattle.sweep_report.specs.Findings.{counts, status_of}
-use Rattle.sweep_report.specs.Keys.{IsKey}
+use Rattle.sweep_report.specs.Keys.{IsKey, IsOlder}
 use Rattle.sweep_report.specs.Tallies.{unmarked}
 use Rattle.sweep_rows.specs.declared.verdicts.Reached.{Reached}
 use Rattle.sweep_runs.specs.Cases.{cases_of}
@@ -94,13 +94,16 @@ pub record AreBegun (strict : Bool) (setup : Setup) (reference : Reached) (words
   pub made : AreTold words.is_checked setup reference done rows
   pub ended : IsEnd strict words rows rest
 
--- the row is a finding whose line is like one of those that are known; or it isn't such a row
+-- the row is a finding whose line, as it is or as older versions wrote it, is like one of those that are known; or it
+-- isn't such a row
 pub record IsMark {Z : Type 0} (strict : Bool) (known : List (String Z)) (row : Row) (mark : Bool) : Type 0 where
   pub key : List ℕ
+  pub older : List ℕ
   pub is_key : IsKey row.verdict key
+  pub is_older : IsOlder row.verdict older
   pub finding : mark ≡ true → counts strict row.verdict ≡ true
-  pub like : mark ≡ true → IsKnown known key
-  pub unlike : mark ≡ false → counts strict row.verdict ≡ true → ¬ (IsKnown known key)
+  pub like : mark ≡ true → IsKnown known key ⊎ IsKnown known older
+  pub unlike : mark ≡ false → counts strict row.verdict ≡ true → ¬ (IsKnown known key) × ¬ (IsKnown known older)
 
 -- such rows are marked, and no others; where none is known there are no marks
 abbrev pub AreMarks : {Z : Type 0} → Bool → List (String Z) → List Row → List Bool → Type 0

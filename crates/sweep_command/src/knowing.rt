@@ -1,10 +1,11 @@
 //! Findings that are known.
 
-ghost use Rattle.std.specs.Prelude.{◌≡◌, [], true, IfOk};
+ghost use Rattle.std.specs.Prelude.{◌≡◌, ◌⊎◌, [], true, false, IfOk};
 ghost use Rattle.std.specs.String.{string_bytes};
-ghost use Rattle.sweep_report.specs.Keys.{IsKey};
+ghost use Rattle.sweep_report.specs.Keys.{IsKey, IsOlder};
 ghost use Rattle.sweep_report.specs.Findings.{counts as counts_by};
 ghost use Rattle.sweep_command.specs.Reports.{IsMark, AreMarks};
+ghost use Rattle.sweep_words.specs.Known.{IsKnown};
 
 use crate::outputs::{check, replace};
 use clap::ArgMatches;
@@ -13,7 +14,7 @@ use std::alloc::{AllocError, Global};
 use std::io::Write;
 use std::rt::Files;
 use sweep_report::findings::counts;
-use sweep_report::sites::{key_of, place_of};
+use sweep_report::sites::{key_of, older_of, place_of, without_function};
 use sweep_report::traced::TracedCalls;
 use sweep_rows::Reached;
 use sweep_runs::Row;
@@ -34,7 +35,32 @@ fn key(
     Ok(key)
 }
 
-/// A line that is known is like the finding's.
+/// The line that an older version wrote of a finding.
+fn older(
+    alloc: Global,
+    reference: &Reached,
+    calls: &TracedCalls,
+    row: &Row,
+) -> Result<String, AllocError>
+    ensures { IfOk result (λ older. IsOlder row.now.verdict (string_bytes older)) }
+{
+    let place = place_of(alloc, calls, reference, &row.case.occurrence)?;
+    let older = older_of(alloc, row.verdict, &place)?;
+    Ok(older)
+}
+
+/// Some line that is known is like one of these two.
+fn is_one_known(known: &[String], key: &str, older: &str) -> bool
+    ensures is { result ≡ true → IsKnown known.now key.now ⊎ IsKnown known.now older.now }
+    ensures otherwise { result ≡ false → ¬ (IsKnown known.now key.now) × ¬ (IsKnown known.now older.now) }
+{
+    if is_known(known, key) {
+        return true;
+    }
+    is_known(known, older)
+}
+
+/// A line that is known is like the finding's, as it is or as older versions wrote it.
 fn is_known_finding(
     alloc: Global,
     plan: &Plan,
@@ -46,7 +72,9 @@ fn is_known_finding(
     ensures { IfOk result (IsMark plan.now.strict plan.now.known.items row.now) }
 {
     let key = key(alloc, reference, calls, row)?;
-    Ok(is_known(plan.known.as_slice(), key.as_str()))
+    let older = older(alloc, reference, calls, row)?;
+    let known = plan.known.as_slice();
+    Ok(is_one_known(known, key.as_str(), older.as_str()))
 }
 
 /// The row is a finding that is known.
@@ -164,10 +192,23 @@ pub fn add_found(
     Ok(())
 }
 
+fn is_met(found: &[String], line: &str) -> bool {
+    found.iter().any(|key| is_like(key.as_str(), line))
+}
+
+/// The lines of findings as older versions wrote them.
+fn older_lines(alloc: Global, found: &[String]) -> Result<Vec<String>, AllocError> {
+    let mut older = Vec::new(alloc);
+    for key in found {
+        older.push(without_function(alloc, key.as_str())?)?;
+    }
+    Ok(older)
+}
+
 /// Tells of known lines that no finding is like.
-fn tell_unmet<E: Write>(known: &[String], found: &[String], err: &mut E) {
+fn tell_unmet<E: Write>(known: &[String], found: &[String], older: &[String], err: &mut E) {
     for line in known {
-        if !found.iter().any(|key| is_like(key.as_str(), line.as_str())) {
+        if !is_met(found, line.as_str()) && !is_met(older, line.as_str()) {
             // The sweep is done, whether this can be written or not.
             let _written = writeln!(err, "strace_sweep: --known: no run is {line}");
         }
@@ -199,7 +240,8 @@ pub fn finish_known<R: Files + AllocGlobal, E: Write>(
     found: Vec<String>,
     err: &mut E,
 ) -> Result<(), Fault> {
-    tell_unmet(known, found.as_slice(), err);
+    let older = older_lines(rt.alloc(), found.as_slice())?;
+    tell_unmet(known, found.as_slice(), older.as_slice(), err);
     let Some(path) = matches.get_str("known-out") else {
         return Ok(());
     };

@@ -2,9 +2,11 @@
 #![tactic(auto)]
 
 pub mod blocks;
+pub mod callers;
 pub mod entries;
 pub mod findings;
 pub mod junit;
+pub mod laws;
 pub mod report;
 pub mod sites;
 pub mod tally;

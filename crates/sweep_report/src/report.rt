@@ -218,6 +218,14 @@ fn push_call(
     text.push('\n')
 }
 
+/// Adds the function that makes a call, where it is known.
+fn push_function(text: &mut String, alloc: Global, first: &Told) -> Result<(), AllocError> {
+    match &first.function {
+        Some(function) => text.push_str(format!(in alloc; "  in {function}\n")?.as_str()),
+        None => Ok(()),
+    }
+}
+
 /// Adds the call of a block, its outcomes, and the words by which the first one is had.
 fn push_block(
     text: &mut String,
@@ -232,6 +240,7 @@ fn push_block(
     };
     let all = block.entries(alloc, rows)?;
     push_call(text, alloc, first, all.as_slice(), untried)?;
+    push_function(text, alloc, first)?;
     for line in &block.lines {
         if style.all || is_noticed(line.rank) {
             push_line(text, alloc, rows, line, all.as_slice(), style.colors)?;

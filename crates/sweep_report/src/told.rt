@@ -43,6 +43,8 @@ pub struct Told {
     pub error: String,
     /// The call without the failure, as a trace shows it.
     pub text: String,
+    /// The function that makes the call, where a symbol table tells it.
+    pub function: Option<String>,
     /// Process 1's exit code, or 128 and the signal that ended it.
     pub status: Option<u8>,
     /// What came of the run.
@@ -322,6 +324,7 @@ pub fn tell_row(
         n: occurrence.n,
         error,
         text: place.text,
+        function: place.function,
         status: row.word.map(|word| Status { word }.shell_status()),
         told: outcome.told,
         files: outcome.files,

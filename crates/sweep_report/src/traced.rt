@@ -1,5 +1,6 @@
 //! The calls of the run without a failure as its trace shows them.
 
+use crate::callers::Callers;
 use containers::Map;
 use lx_abi::calls::call_number;
 use lx_abi::{Item, Occurrences};
@@ -25,6 +26,7 @@ pub struct TracedCalls {
     processes: Map<Process>,
     /// For each item of the log how often its process has entered the call, if it is one's end.
     ends: Vec<u64>,
+    callers: Callers,
 }
 
 /// The number of a call by the name that a trace shows.
@@ -161,11 +163,18 @@ impl TracedCalls {
         }
     }
 
-    /// Those of a run with this trace and this log.
-    pub fn of(alloc: Global, trace: &str, follow: bool, log: &[Item]) -> Result<Self, AllocError> {
+    /// Those of a run with this trace and this log, made in these functions.
+    pub fn of(
+        alloc: Global,
+        trace: &str,
+        follow: bool,
+        log: &[Item],
+        callers: Callers,
+    ) -> Result<Self, AllocError> {
         let mut calls = TracedCalls {
             processes: Map::new(alloc),
             ends: ends_of(alloc, log)?,
+            callers,
         };
         for line in trace.lines() {
             calls.add(alloc, line, follow)?;
@@ -178,6 +187,11 @@ impl TracedCalls {
         let texts = self.processes.get(pid)?.texts(number)?;
         let text = texts.get(usize::try_from(n.checked_sub(1)?).ok()?)?;
         Some(text.as_str())
+    }
+
+    /// The function in which the nth call of a process with a number was made, if it is known.
+    pub fn function_of(&self, pid: u32, number: u64, n: u64) -> Option<&str> {
+        self.callers.function_of(pid, number, n)
     }
 
     /// What the trace shows of the call whose end stands here in the log.

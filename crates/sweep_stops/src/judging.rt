@@ -28,7 +28,13 @@ fn told_by(by_files: Option<Verdict>, second: Option<SecondEnd>) -> Option<Verdi
 {
     match second {
         None => by_files,
-        Some(end) => { if end.is_fine() { None } else { Some(Verdict::Broken) } }
+        Some(end) => {
+            if end.is_fine() {
+                None
+            } else {
+                Some(Verdict::Broken)
+            }
+        }
     }
 }
 

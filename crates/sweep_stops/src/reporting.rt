@@ -90,15 +90,7 @@ pub fn text_of(
                 sites: Vec::new(alloc),
                 runs: 0,
             };
-            Ok(table(
-                alloc,
-                &plan.setup,
-                reference,
-                told,
-                &tally,
-                style,
-                &untried,
-            )?)
+            Ok(table(alloc, &plan.setup, reference, told, &tally, style, &untried)?)
         }
     }
 }

@@ -24,12 +24,7 @@ pub struct StopRow {
 }
 
 /// How a second program ends behind a stop, whose run is made again for it.
-fn behind(
-    alloc: Global,
-    setup: &Setup,
-    second: &Second,
-    trial: Trial,
-) -> Result<SecondEnd, Fault>
+fn behind(alloc: Global, setup: &Setup, second: &Second, trial: Trial) -> Result<SecondEnd, Fault>
     ensures { IfOk result (EndsBehind setup.now second.now trial) }
 {
     let run = reach_failing(alloc, setup, trial.fault())?;

@@ -79,6 +79,7 @@ pub fn told_stop(
         n: occurrence.n,
         error: String::from_str(alloc, "stop")?,
         text: place.text,
+        function: place.function,
         status: row.made.word.map(|word| Status { word }.shell_status()),
         told,
         files,

@@ -1,7 +1,10 @@
 //! Runs of a sweep as strace(1) shows them: the one without a failure, and that of a failure.
 #![tactic(auto)]
 
-mod failing;
+mod calling;
+mod events;
+pub mod failing;
+mod programs;
 mod tracing;
 
 pub use failing::{ShownRun, show_failing};

@@ -1,7 +1,10 @@
 //! The trace of the run without a failure.
 
 ghost use Rattle.std.specs.Prelude.{◌≡◌, [], IfOk};
+ghost use Rattle.lx_kernel.specs.First.{first_run};
+ghost use Rattle.pt_schedule.specs.Schedules.{worded};
 
+use crate::calling::callers;
 use containers::{Bytes, Seq};
 use front_end::Fault;
 use lx_abi::{Boot, Item, Script, Set, Word};
@@ -42,7 +45,9 @@ fn told_options(alloc: Global, follow: bool) -> Options {
 }
 
 /// The schedule of a sweep's runs.
-pub fn schedule(alloc: Global, turns: &[Word], limit: u64) -> Result<Schedule, AllocError> {
+pub fn schedule(alloc: Global, turns: &[Word], limit: u64) -> Result<Schedule, AllocError>
+    ensures { IfOk result (λ s. s ≡ worded turns.now limit) }
+{
     let mut words = Vec::new(alloc);
     words.extend_from_slice(turns)?;
     Ok(Schedule::words(words, limit))
@@ -50,7 +55,8 @@ pub fn schedule(alloc: Global, turns: &[Word], limit: u64) -> Result<Schedule, A
 
 /// The kernel of a boot that is accepted, which no script changes.
 pub fn kernel(alloc: Global, boot: &Boot) -> Result<Kernel, AllocError>
-    ensures { IfOk result (λ k. k.running.log ≡ []) }
+    ensures first { IfOk result (λ k. k ≡ first_run boot.now []) }
+    ensures log { IfOk result (λ k. k.running.log ≡ []) }
 {
     let boot = boot.copy(alloc)?;
     match Kernel::boot(alloc, boot, Script::empty(alloc)) {
@@ -72,5 +78,6 @@ fn trace(alloc: Global, setup: &Setup, options: Options) -> Result<Bytes, AllocE
 pub fn traced_calls(alloc: Global, setup: &Setup, log: &[Item]) -> Result<TracedCalls, Fault> {
     let trace = trace(alloc, setup, told_options(alloc, setup.boot.follow))?;
     let text = str::from_utf8(trace.as_slice()).unwrap_or("");
-    Ok(TracedCalls::of(alloc, text, setup.boot.follow, log)?)
+    let callers = callers(alloc, setup)?;
+    Ok(TracedCalls::of(alloc, text, setup.boot.follow, log, callers)?)
 }

@@ -27,17 +27,25 @@ fn excluded(alloc: Global, option: &str) -> Fault
     Fault::usage(format!(in alloc; "--runs excludes {option}: the file names the runs"))
 }
 
-/// Options that have no meaning where a file names the runs.
-fn check(alloc: Global, matches: &ArgMatches) -> Result<(), Fault>
+/// No words name errors.
+fn check_errors(alloc: Global, matches: &ArgMatches) -> Result<(), Fault>
     ensures { IfErr result (RefusesBeside matches.now) }
 {
-    if !expression_words(alloc, matches)?.is_empty() {
-        return Err(excluded(alloc, "-e"));
-    }
     if matches.get_str("errors").is_some() {
         return Err(excluded(alloc, "--errors"));
     }
     Ok(())
+}
+
+/// Options that have no meaning where a file names the runs.
+fn check(alloc: Global, matches: &ArgMatches) -> Result<(), Fault>
+    ensures { IfErr result (RefusesBeside matches.now) }
+{
+    let texts = expression_words(alloc, matches)?;
+    if texts.is_empty() {
+        return check_errors(alloc, matches);
+    }
+    Err(excluded(alloc, "-e"))
 }
 
 /// The fault of a line of a file.

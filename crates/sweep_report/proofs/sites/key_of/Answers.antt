@@ -1,14 +1,12 @@
-use Rattle.std.proofs.Common.{◌++◌, List, ℕ, map, codes, ap, ◌∙◌}
-use Rattle.std.specs.Char.{to_ascii_uppercase}
+use Rattle.std.proofs.Common.{ap, ◌∙◌}
+use Rattle.sweep_report.specs.Keys.{marked}
 use Rattle.sweep_report.proofs.sites.key_of.Goals as goal
 
 pub returns : goal.returns
 returns c =
-    let site = c.as_str.result.now in (
-      site,
-      c.in_ok-push_str-2.ensures.bytes
-          ∙ ap (λ (front : List ℕ). front ++ site)
-          (c.in_ok-push_str.ensures.bytes
-          ∙ ap (λ (word : List ℕ). word ++ codes " ")
-          (c.make_ascii_uppercase.ensures.bytes ∙ ap (map to_ascii_uppercase) (c.in_ok-key.ensures.ok ∙ c.name_of.ensures))),
+    let site = c.in_ok-site.ensures in (
+      site.0,
+      c.function_name.result.now,
+      site.1,
+      c.in_ok-key.ensures ∙ ap (marked c.args.verdict) (c.as_str-2.ensures.value ∙ site.2),
     )
