@@ -1,4 +1,5 @@
 pub mod Cutting
 pub mod Judged
+pub mod Limits
 pub mod Marking
 pub mod Numbering

@@ -49,11 +49,13 @@ fn lower_limit(alloc: Global, setup: &mut Setup) -> Result<(), Fault>
     ensures { OnOk result (IsLowered setup.old setup.new) }
 {
     let most = setup.limit;
-    if ends_within(alloc, setup, FEW)? {
+    let few = ends_within(alloc, setup, FEW)?;
+    if few {
         setup.limit = FEW * 10 + MORE_TURNS;
         return Ok(());
     }
-    if ends_within(alloc, setup, MORE)? {
+    let more = ends_within(alloc, setup, MORE)?;
+    if more {
         setup.limit = MORE * 10 + MORE_TURNS;
         return Ok(());
     }
