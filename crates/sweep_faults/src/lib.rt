@@ -8,7 +8,9 @@ pub mod laws;
 pub mod moving;
 pub mod running;
 pub mod words;
+pub mod worlds;
 
 pub use faults::{Fault, Kind};
 pub use running::run_faulted;
 pub use words::{failure_of, has_words};
+pub use worlds::World;
