@@ -7,19 +7,19 @@ import subprocess
 HERE = os.path.dirname(os.path.abspath(__file__))
 NAMES = ("squares", "quicksort", "checksum", "kernels", "match", "sha256")
 LEVELS = ("O2", "O0")
-CODE = 0x10000
+CODE, PAGE = 0x10000, 0x1000
 FOR_RISC_V = (
     "--target=riscv64 -march=rv64i -mabi=lp64 -mno-relax -mcmodel=medany -ffreestanding -nostdlib -fno-builtin".split()
 )
 
 
 def headed(code):
-    """An ELF file of this segment, which begins with its first instruction."""
+    """An ELF file of this segment, which begins with its first instruction and stands at a page, so that qemu maps it."""
     ident = b"\x7fELF\x02\x01\x01".ljust(16, b"\0")
     header = struct.pack("<16sHHIQQQIHHHHHH", ident, 2, 243, 1, CODE, 64, 0, 0, 64, 56, 1, 0, 0, 0)
     length = len(code)
-    segment = struct.pack("<IIQQQQQQ", 1, 7, len(header) + 56, CODE, CODE, length, length, 1)
-    return header + segment + code
+    segment = struct.pack("<IIQQQQQQ", 1, 7, PAGE, CODE, CODE, length, length, PAGE)
+    return (header + segment).ljust(PAGE, b"\0") + code
 
 
 def compiled(name, level, room):
