@@ -644,6 +644,14 @@ impl Kernel {
         self.log.kept()
     }
 
+    /// Gives away what was logged so far, and keeps no log any more.
+    pub fn take_log(&mut self) -> Vec<Item>
+        ensures log { result.items ≡ kept_log self.old }
+        ensures rest { self.new ≡ record self.old { keeps_log = false } }
+    {
+        self.log.take_kept(self.alloc)
+    }
+
     /// The processes that have ended so far, each with its wait word, by pid.
     pub fn ended(&self) -> Result<Seq<Ended>, AllocError>
         ensures { IfOk result (λ ended. ended ≡ ends_of self.now.running.shared.ended) }

@@ -7,6 +7,7 @@ use history::History;
 use lx_abi::Item;
 use std::alloc::{AllocError, Global};
 use std::marker::Model;
+use std::mem;
 
 /// A log. Contracts see all its items; those that programs can read are kept only where that is asked.
 #[derive(Drop)]
@@ -56,5 +57,14 @@ impl Log {
         ensures { result.now ≡ kept_of self.now.keeps self.now.items }
     {
         self.kept.as_slice()
+    }
+
+    /// Gives away what is kept, and keeps nothing more.
+    pub fn take_kept(&mut self, alloc: Global) -> Vec<Item>
+        ensures items { result.items ≡ kept_of self.old.keeps self.old.items }
+        ensures rest { self.new ≡ record self.old { keeps = false } }
+    {
+        self.keeps = false;
+        mem::replace(&mut self.kept, Vec::new(alloc))
     }
 }

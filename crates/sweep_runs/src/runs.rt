@@ -132,13 +132,13 @@ pub fn run_accepted(alloc: Global, setup: &Setup, script: Script) -> Result<Kern
     }
 }
 
-/// What a run left, logged and said.
-pub fn reached(alloc: Global, kernel: &Kernel) -> Result<Reached, AllocError>
-    requires { kernel.now.keeps_log ≡ true }
-    ensures { IfOk result (IsReached kernel.now) }
+/// What a run left, logged and said. The kernel gives its log away.
+fn reached(alloc: Global, kernel: &mut Kernel) -> Result<Reached, AllocError>
+    requires { kernel.old.keeps_log ≡ true }
+    ensures { IfOk result (IsReached kernel.old) }
 {
     let ending = ending(kernel)?;
-    let log = copy(alloc, kernel.log())?;
+    let log = kernel.take_log();
     let streams = streams_of(alloc, log.as_slice(), ending.outcome.console.as_slice())?;
     Ok(Reached {
         ending,
@@ -148,11 +148,11 @@ pub fn reached(alloc: Global, kernel: &Kernel) -> Result<Reached, AllocError>
 }
 
 /// What a run left, logged and said, which does not go on.
-fn reached_by(alloc: Global, kernel: Kernel) -> Result<Reached, AllocError>
+fn reached_by(alloc: Global, mut kernel: Kernel) -> Result<Reached, AllocError>
     requires { kernel.keeps_log ≡ true }
     ensures { IfOk result (IsReached kernel) }
 {
-    let reached = reached(alloc, &kernel);
+    let reached = reached(alloc, &mut kernel);
     drop(kernel);
     reached
 }
