@@ -60,7 +60,7 @@ fn move_on(kernel: &mut Kernel, pid: u32, most: u64, awaited: Awaited) -> Result
     ensures log { OnErr result (kernel.new.running.log ≡ kernel.old.running.log) }
 {
     match awaited.is_at(kernel, pid) {
-        Ok(true) => fail(kernel, pid, awaited.fault.kind),
+        Ok(true) => fail(kernel, pid, awaited.fault.kind, awaited.asked),
         Ok(false) => go_on(kernel, pid, most),
         Err(_) => Err(Failed),
     }
