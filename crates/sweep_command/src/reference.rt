@@ -4,13 +4,14 @@ ghost use Rattle.std.specs.Prelude.{[], IfOk};
 ghost use Rattle.sweep_runs.specs.Runs.{Reaches};
 
 use clap::ArgMatches;
-use front_end::{Fault, explain_turns, refuse_boot};
+use front_end::{Fault, refuse_boot};
 use lx_abi::Script;
 use lx_boot::BootFault;
 use lx_kernel::Kernel;
 use std::alloc::{AllocError, Global};
 use sweep_rows::Reached;
 use sweep_runs::{Case, Setup, fault_of, refer, run_accepted, run_failing};
+use sweep_trials::explain;
 use sweep_words::plan::Plan;
 use sweep_words::words::Words;
 
@@ -74,23 +75,16 @@ fn kernel_of(alloc: Global, setup: &Setup, case: Case) -> Result<Kernel, AllocEr
     run_failing(alloc, setup, fault_of(case))
 }
 
-/// Why the run that left this kernel is out of turns.
-fn explain(alloc: Global, setup: &Setup, kernel: Kernel) -> Result<String, AllocError> {
-    let text = explain_turns(alloc, &kernel, setup.limit, "turns");
-    drop(kernel);
-    text
-}
-
 /// Why the run of a case is out of turns.
 pub fn explain_case(alloc: Global, setup: &Setup, case: Case) -> Result<String, AllocError> {
     let kernel = kernel_of(alloc, setup, case)?;
-    explain(alloc, setup, kernel)
+    explain(alloc, kernel, setup.limit)
 }
 
 /// Why the run without a failure is out of turns.
 fn explain_reference(alloc: Global, setup: &Setup) -> Result<String, AllocError> {
     let kernel = kernel(alloc, setup)?;
-    explain(alloc, setup, kernel)
+    explain(alloc, kernel, setup.limit)
 }
 
 /// The run without a failure.
