@@ -1,6 +1,7 @@
 -- A failure of one process at its nth entry into a call. The call has an error for its result, and isn't done; or it is
--- done, and has the error for its result then; or everything ends there, as where the power fails.
-use Rattle.std.specs.Prelude.{ℕ, pos, neg_ℤ, ◌==◌, ◌&&◌, Bool, true, false, cond, List, [], ◌∷◌, Option, Some, None}
+-- done, and has the error for its result then; or it is done with another count; or its process is killed there; or
+-- everything ends there, as where the power fails.
+use Rattle.std.specs.Prelude.{ℕ, pos, neg_ℤ, ◌==◌, ◌&&◌, ◌||◌, Bool, true, false, cond, List, [], ◌∷◌, Option, Some, None, set}
 use Rattle.lx_abi.specs.declared.errno.Errno.{Errno}
 use Rattle.lx_abi.specs.declared.log.Item.{Item}
 use Rattle.lx_abi.specs.declared.log.Item.TheVariants as items
@@ -9,12 +10,14 @@ use Rattle.lx_abi.specs.declared.log.Mode.TheVariants as mode
 use Rattle.lx_abi.specs.declared.script.Choice.{Choice}
 use Rattle.lx_abi.specs.Errors.{error_word}
 use Rattle.lx_abi.specs.Log.{entries}
-use Rattle.lx_model.specs.Machine.{Regs, a7_of, with_a0}
+use Rattle.lx_abi.specs.Signals.{signal_numbered}
+use Rattle.lx_model.specs.Machine.{Regs, a7_of}
 use Rattle.lx_model.specs.declared.stage.Task.{Task}
 use Rattle.lx_kernel.specs.Choices.{after_choosing}
 use Rattle.lx_kernel.specs.Runs.{Run, after_turn, mode_in}
 use Rattle.lx_kernel.specs.Tracing.{task_in, regs_of, with_regs, with_part}
 use Rattle.lx_proc.specs.declared.state.UserState.{UserState}
+use Rattle.sweep_rows.specs.Descriptors.{argument}
 use Rattle.sweep_faults.specs.declared.faults.Fault.{Fault}
 use Rattle.sweep_faults.specs.declared.faults.Kind.{Kind}
 use Rattle.sweep_faults.specs.declared.faults.Kind.TheVariants as kind
@@ -23,16 +26,22 @@ use Rattle.sweep_faults.specs.declared.faults.Kind.TheVariants as kind
 abbrev pub error_of : Kind → Option Errno
 error_of (kind.Undone error) = Some error
 error_of (kind.Done error) = Some error
+error_of (kind.Short count) = None
+error_of kind.Killed = None
 error_of kind.Stop = None
 
 abbrev pub is_undone : Kind → Bool
 is_undone (kind.Undone error) = true
 is_undone (kind.Done error) = false
+is_undone (kind.Short count) = false
+is_undone kind.Killed = false
 is_undone kind.Stop = false
 
 abbrev pub is_stop : Kind → Bool
 is_stop (kind.Undone error) = false
 is_stop (kind.Done error) = false
+is_stop (kind.Short count) = false
+is_stop kind.Killed = false
 is_stop kind.Stop = true
 
 -- Of a call that isn't done.
@@ -71,13 +80,48 @@ unfoldable pub was_last : ℕ → ℕ → Bool → List Item → Bool
 was_last pid call before [] = before
 was_last pid call before (item ∷ log) = was_last pid call (done_last pid call before item) log
 
--- its result register has the error (syscall(2), riscv)
-abbrev pub with_error : Errno → Option Regs → Task UserState → Option (Task UserState)
-with_error error None task = None
-with_error error (Some registers) task = with_regs (with_a0 registers (error_word error.number)) task
+-- the process's register with this number has this value
+abbrev pub with_register : ℕ → ℕ → Option Regs → Task UserState → Option (Task UserState)
+with_register number value None task = None
+with_register number value (Some registers) task = with_regs (set registers number value) task
 
+abbrev pub writing : Run → ℕ → ℕ → ℕ → Run
+writing k pid number value = with_part k pid (with_register number value (regs_of (task_in k pid)) (task_in k pid))
+
+-- its result register, a0, has the error (syscall(2), riscv)
 abbrev pub reporting : Run → ℕ → Errno → Run
-reporting k pid error = with_part k pid (with_error error (regs_of (task_in k pid)) (task_in k pid))
+reporting k pid error = writing k pid 10 (error_word error.number)
+
+-- Of a call that is done with another count.
+
+-- its third argument's register, a2, has this count (read(2), write(2), riscv)
+abbrev pub counting : Run → ℕ → ℕ → Run
+counting k pid count = writing k pid 12 count
+
+-- after an item more: the count that the process's last entry into a call asks for
+abbrev pub asked_last : ℕ → ℕ → Item → ℕ
+asked_last pid before (items.Enter p c) = cond (p == pid) (argument c 2) before
+asked_last pid before (items.Done p c result replaced) = before
+asked_last pid before (items.Taken p signal cause) = before
+asked_last pid before (items.Stopped p signal) = before
+asked_last pid before (items.Exit p word left) = before
+
+-- by this log; before it, it asked for so much
+unfoldable pub last_asked : ℕ → ℕ → List Item → ℕ
+last_asked pid before [] = before
+last_asked pid before (item ∷ log) = last_asked pid (asked_last pid before item) log
+
+-- the call begins with this count; once it is done, the register has again what the process asked for
+abbrev pub after_short : ℕ → Run → ℕ → Run
+after_short count k pid =
+    cond (is_entered (mode_in k pid)) (after_turn (counting k pid count) pid)
+    (after_turn (counting k pid (last_asked pid 0 k.running.log)) pid)
+
+-- Of a process that is killed.
+
+-- SIGKILL, number 9, is joined to the call that it has entered (signal(7))
+abbrev pub killing : Choice
+killing = record { result = None; signal = signal_numbered 9 }
 
 -- Of each.
 
@@ -85,10 +129,13 @@ reporting k pid error = with_part k pid (with_error error (regs_of (task_in k pi
 abbrev pub has_entered : ℕ → Run → ℕ → Bool
 has_entered call k pid = is_entered (mode_in k pid) && asks_for call (regs_of (task_in k pid))
 
--- the process stands where its call fails: it has entered the call, or done it
+-- the process stands where its call fails: it has entered the call, or done it, or either of both
 abbrev pub is_due : Kind → ℕ → Run → ℕ → Bool
 is_due (kind.Undone error) call k pid = has_entered call k pid
 is_due (kind.Done error) call k pid = is_ended (mode_in k pid) && was_last pid call false k.running.log
+is_due (kind.Short count) call k pid =
+    has_entered call k pid || (is_ended (mode_in k pid) && was_last pid call false k.running.log)
+is_due kind.Killed call k pid = has_entered call k pid
 is_due kind.Stop call k pid = has_entered call k pid
 
 -- it is the process of the failure, and its nth entry into the call
@@ -100,11 +147,13 @@ is_at f k pid =
 abbrev pub ends_at : Fault → Run → ℕ → Bool
 ends_at f k pid = is_stop f.kind && is_at f k pid
 
--- the call has the error for its result, whatever the script does to it; or has it now that it is done; or nothing is
--- done any more
+-- the call has the error for its result, whatever the script does to it; or has it now that it is done; or is done with
+-- another count; or its process is killed; or nothing is done any more
 abbrev pub after_failing : Kind → Run → ℕ → Run
 after_failing (kind.Undone error) k pid = after_choosing k pid (failing error)
 after_failing (kind.Done error) k pid = after_turn (reporting k pid error) pid
+after_failing (kind.Short count) k pid = after_short count k pid
+after_failing kind.Killed k pid = after_choosing k pid killing
 after_failing kind.Stop k pid = k
 
 -- A turn of the kernel, but where the process stands where its call fails

@@ -1,11 +1,13 @@
 //! Whether a process stands where its call fails.
 
-ghost use Rattle.std.specs.Prelude.{◌≡◌, ◌&&◌, [], IfOk};
+ghost use Rattle.std.specs.Prelude.{◌≡◌, ◌&&◌, ◌||◌, [], IfOk};
 ghost use Rattle.lx_abi.specs.Log.{is_entry};
+ghost use Rattle.lx_kernel.specs.Runs.{mode_in};
 ghost use Rattle.lx_kernel.specs.Tracing.{task_in, regs_of};
 ghost use Rattle.sweep_faults.specs.Awaited.{Awaits, heard, is_awaited_at, is_due_by, is_next, last_after};
-ghost use Rattle.sweep_faults.specs.Awaited.{left_after, passed};
-ghost use Rattle.sweep_faults.specs.Faults.{asks_for, done_last, ends_at, has_entered, is_ended, is_entered};
+ghost use Rattle.sweep_faults.specs.Awaited.{asked_after, left_after, passed};
+ghost use Rattle.sweep_faults.specs.Faults.{asked_last, asks_for, done_last, ends_at, has_entered, is_ended};
+ghost use Rattle.sweep_faults.specs.Faults.{is_entered};
 
 use crate::faults::{Fault, Kind};
 use lx_abi::{Item, Mode};
@@ -14,6 +16,9 @@ use std::alloc::AllocError;
 
 /// The register a7, which has the number of the call that a process asks for.
 const A7: usize = 17;
+
+/// The place of a count among the arguments of read and write.
+const A2_ARGUMENT: usize = 2;
 
 /// A failure, and what its process has done so far.
 #[derive(Clone, Copy, Debug, PartialEq, Eq)]
@@ -24,6 +29,8 @@ pub(crate) struct Awaited {
     pub left: Option<u64>,
     /// The call is the one that the process has done last.
     pub was_last: bool,
+    /// The count, a2, that the process's last entry into a call asks for.
+    pub asked: u64,
 }
 
 fn is_entry(item: &Item, pid: u32, number: u64) -> bool
@@ -58,6 +65,25 @@ fn done_last(pid: u32, call: u64, before: bool, item: &Item) -> bool
     }
 }
 
+/// After an item more: the count that the process's last entry into a call asks for.
+fn asked_last(pid: u32, before: u64, item: &Item) -> u64
+    ensures { result ≡ asked_last pid before item.now }
+{
+    match item {
+        Item::Enter {
+            pid: entering,
+            call,
+        } => {
+            if *entering == pid {
+                call.arguments[A2_ARGUMENT]
+            } else {
+                before
+            }
+        }
+        _ => before,
+    }
+}
+
 /// What is left after an entry.
 #[tactic(auto, unfolding(crate::specs::Awaited::passed))]
 fn passed(left: Option<u64>) -> Option<u64>
@@ -70,7 +96,7 @@ fn passed(left: Option<u64>) -> Option<u64>
 }
 
 /// Where a process stands that has entered a call.
-fn is_entered(mode: Option<Mode>) -> bool
+pub(crate) fn is_entered(mode: Option<Mode>) -> bool
     ensures { result ≡ is_entered mode }
 {
     matches!(mode, Some(Mode::Entered))
@@ -114,6 +140,7 @@ impl Awaited {
             fault,
             left: Some(fault.n),
             was_last: false,
+            asked: 0,
         }
     }
 
@@ -133,9 +160,21 @@ impl Awaited {
         ensures { IfOk result (λ due. due ≡ is_due_by self.fault.kind self kernel.now pid) }
     {
         match self.fault.kind {
-            Kind::Undone(_) | Kind::Stop => has_entered(kernel, pid, self.fault.call),
+            Kind::Undone(_) | Kind::Killed | Kind::Stop => {
+                has_entered(kernel, pid, self.fault.call)
+            }
+            Kind::Short(_) => self.is_either(kernel, pid),
             Kind::Done(_) => Ok(is_ended(kernel.mode(pid)) && self.was_last),
         }
+    }
+
+    /// The process has entered the call, or done it.
+    fn is_either(self, kernel: &Kernel, pid: u32) -> Result<bool, AllocError>
+        ensures { IfOk result (λ either. either
+            ≡ (has_entered self.fault.call kernel.now pid || (is_ended (mode_in kernel.now pid) && self.was_last))) }
+    {
+        let entered = has_entered(kernel, pid, self.fault.call)?;
+        Ok(entered || is_ended(kernel.mode(pid)) && self.was_last)
     }
 
     /// The process stands where its call fails.
@@ -194,6 +233,17 @@ impl Awaited {
         }
     }
 
+    /// Which count was asked for last, after a turn that has logged this.
+    #[tactic(auto, unfolding(crate::specs::Awaited::asked_after))]
+    fn asked_after(self, item: &Option<Item>) -> u64
+        ensures { result ≡ asked_after self item.now }
+    {
+        match item {
+            None => self.asked,
+            Some(item) => asked_last(self.fault.pid, self.asked, item),
+        }
+    }
+
     /// The same, after a turn that has logged this.
     pub(crate) fn heard(self, item: &Option<Item>) -> Self
         ensures { result ≡ heard self item.now }
@@ -202,6 +252,7 @@ impl Awaited {
             fault: self.fault,
             left: self.left_after(item),
             was_last: self.last_after(item),
+            asked: self.asked_after(item),
         }
     }
 }

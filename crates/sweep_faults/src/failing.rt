@@ -1,20 +1,25 @@
 //! The turn in which a call fails.
 
-ghost use Rattle.std.specs.Prelude.{◌≡◌, ◌++◌, None, IfOk, OnOk, OnErr};
+ghost use Rattle.std.specs.Prelude.{◌≡◌, ◌<◌, ◌++◌, None, IfOk, OnOk, OnErr};
 ghost use Rattle.std.specs.Option.{option_to_list};
-ghost use Rattle.lx_model.specs.Machine.{with_a0};
 ghost use Rattle.lx_kernel.specs.Choices.{after_choosing};
 ghost use Rattle.lx_kernel.specs.Runs.{after_turn, mode_in};
-ghost use Rattle.sweep_faults.specs.Faults.{after_failing, failing, reporting};
+ghost use Rattle.sweep_faults.specs.Faults.{after_failing, after_short, failing, killing, last_asked, writing};
 
+use crate::awaited::is_entered;
 use crate::faults::Kind;
 use crate::moving::Moved;
-use lx_abi::{Choice, Errno, RegisterSet};
+use lx_abi::{Choice, Errno, Signal};
 use lx_kernel::{Failed, Kernel};
 use std::alloc::AllocError;
 
 /// The register a0, where a call's result stands.
 const A0: usize = 10;
+
+/// The register a2, where the count that read and write are asked for stands.
+const A2: usize = 12;
+
+const SIGKILL: u64 = 9;
 
 /// The call has the error for its result, and isn't done.
 fn failing(error: Errno) -> Choice
@@ -26,15 +31,25 @@ fn failing(error: Errno) -> Choice
     }
 }
 
-/// The turn in which a call has the error for its result, and isn't done.
-fn refuse(kernel: &mut Kernel, pid: u32, error: Errno) -> Result<Moved, Failed>
-    ensures turned { OnOk result (kernel.new ≡ after_choosing kernel.old pid (failing error)) }
+/// SIGKILL is joined to the call.
+fn killing() -> Choice
+    ensures { result ≡ killing }
+{
+    Choice {
+        result: None,
+        signal: Signal::from_number(SIGKILL),
+    }
+}
+
+/// The turn in which this is done to the call that a process has entered.
+fn choose(kernel: &mut Kernel, pid: u32, choice: Choice) -> Result<Moved, Failed>
+    ensures turned { OnOk result (kernel.new ≡ after_choosing kernel.old pid choice) }
     ensures one { IfOk result (λ m. m.turns ≡ 1) }
     ensures after { IfOk result (λ m. m.after ≡ mode_in kernel.new pid) }
     ensures logged { IfOk result (λ m. kernel.new.running.log ≡ kernel.old.running.log ++ option_to_list m.item) }
     ensures log { OnErr result (kernel.new.running.log ≡ kernel.old.running.log) }
 {
-    match kernel.turn_choosing(pid, failing(error)) {
+    match kernel.turn_choosing(pid, choice) {
         Ok(moved) => Ok(Moved {
             turns: 1,
             after: moved.after,
@@ -44,22 +59,17 @@ fn refuse(kernel: &mut Kernel, pid: u32, error: Errno) -> Result<Moved, Failed>
     }
 }
 
-fn set_result(registers: &mut RegisterSet, value: u64)
-    ensures { registers.new ≡ with_a0 registers.old value }
-{
-    registers.set(A0, value);
-}
-
-/// A call that is done has the error for its result.
-#[tactic(auto, using(crate::proofs::Rows::reported_is, crate::proofs::Rows::unreported_is, crate::proofs::Rows::reported_log))]
-fn report(kernel: &mut Kernel, pid: u32, error: Errno) -> Result<(), AllocError>
-    ensures reported { OnOk result (kernel.new ≡ reporting kernel.old pid error) }
+/// A register of a process has this value.
+#[tactic(auto, using(crate::proofs::Rows::written_is, crate::proofs::Rows::unwritten_is, crate::proofs::Rows::written_log))]
+fn write(kernel: &mut Kernel, pid: u32, number: usize, value: u64) -> Result<(), AllocError>
+    requires { number < 32 }
+    ensures written { OnOk result (kernel.new ≡ writing kernel.old pid number value) }
     ensures log { kernel.new.running.log ≡ kernel.old.running.log }
 {
     let Some(mut registers) = kernel.regs(pid)? else {
         return Ok(());
     };
-    set_result(&mut registers, error.word());
+    registers.set(number, value);
     kernel.set_regs(pid, registers.get());
     Ok(())
 }
@@ -82,17 +92,35 @@ fn turn(kernel: &mut Kernel, pid: u32) -> Result<Moved, Failed>
     }
 }
 
-/// The turn behind a call that is done, and has the error for its result.
-fn go_on_with(kernel: &mut Kernel, pid: u32, error: Errno) -> Result<Moved, Failed>
-    ensures turned { OnOk result (kernel.new ≡ after_turn (reporting kernel.old pid error) pid) }
+/// The turn of a process one of whose registers has this value.
+fn go_on_with(kernel: &mut Kernel, pid: u32, number: usize, value: u64) -> Result<Moved, Failed>
+    requires { number < 32 }
+    ensures turned { OnOk result (kernel.new ≡ after_turn (writing kernel.old pid number value) pid) }
     ensures one { IfOk result (λ m. m.turns ≡ 1) }
     ensures after { IfOk result (λ m. m.after ≡ mode_in kernel.new pid) }
     ensures logged { IfOk result (λ m. kernel.new.running.log ≡ kernel.old.running.log ++ option_to_list m.item) }
     ensures log { OnErr result (kernel.new.running.log ≡ kernel.old.running.log) }
 {
-    match report(kernel, pid, error) {
+    match write(kernel, pid, number, value) {
         Ok(()) => turn(kernel, pid),
         Err(_) => Err(Failed),
+    }
+}
+
+/// The turn in which a call begins with another count, or that behind it, before which the register has again what
+/// was asked for.
+fn shorten(kernel: &mut Kernel, pid: u32, short: u64, asked: u64) -> Result<Moved, Failed>
+    requires { asked ≡ last_asked pid 0 kernel.old.running.log }
+    ensures turned { OnOk result (kernel.new ≡ after_short short kernel.old pid) }
+    ensures one { IfOk result (λ m. m.turns ≡ 1) }
+    ensures after { IfOk result (λ m. m.after ≡ mode_in kernel.new pid) }
+    ensures logged { IfOk result (λ m. kernel.new.running.log ≡ kernel.old.running.log ++ option_to_list m.item) }
+    ensures log { OnErr result (kernel.new.running.log ≡ kernel.old.running.log) }
+{
+    if is_entered(kernel.mode(pid)) {
+        go_on_with(kernel, pid, A2, short)
+    } else {
+        go_on_with(kernel, pid, A2, asked)
     }
 }
 
@@ -109,9 +137,10 @@ fn stay(kernel: &Kernel, pid: u32) -> Moved
     }
 }
 
-/// The turn in which a call fails.
+/// The turn in which a call fails, of a process whose last entry asks for this count.
 #[tactic(auto, using(crate::proofs::Rows::nothing_logged))]
-pub(crate) fn fail(kernel: &mut Kernel, pid: u32, kind: Kind) -> Result<Moved, Failed>
+pub(crate) fn fail(kernel: &mut Kernel, pid: u32, kind: Kind, asked: u64) -> Result<Moved, Failed>
+    requires { asked ≡ last_asked pid 0 kernel.old.running.log }
     ensures turned { OnOk result (kernel.new ≡ after_failing kind kernel.old pid) }
     ensures one { IfOk result (λ m. m.turns ≡ 1) }
     ensures after { IfOk result (λ m. m.after ≡ mode_in kernel.new pid) }
@@ -119,8 +148,10 @@ pub(crate) fn fail(kernel: &mut Kernel, pid: u32, kind: Kind) -> Result<Moved, F
     ensures log { OnErr result (kernel.new.running.log ≡ kernel.old.running.log) }
 {
     match kind {
-        Kind::Undone(error) => refuse(kernel, pid, error),
-        Kind::Done(error) => go_on_with(kernel, pid, error),
+        Kind::Undone(error) => choose(kernel, pid, failing(error)),
+        Kind::Done(error) => go_on_with(kernel, pid, A0, error.word()),
+        Kind::Short(short) => shorten(kernel, pid, short, asked),
+        Kind::Killed => choose(kernel, pid, killing()),
         Kind::Stop => Ok(stay(kernel, pid)),
     }
 }

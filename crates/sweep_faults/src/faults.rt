@@ -9,6 +9,10 @@ pub enum Kind {
     Undone(Errno),
     /// It is done, and then has the error for its result.
     Done(Errno),
+    /// It is done with this count, a2, in the place of the one that its process asks for (read(2), write(2)).
+    Short(u64),
+    /// Its process is killed where it is entered, and others go on.
+    Killed,
     /// Everything ends where it is entered.
     Stop,
 }
@@ -32,7 +36,7 @@ impl Kind {
     {
         match self {
             Kind::Undone(error) | Kind::Done(error) => Some(error),
-            Kind::Stop => None,
+            Kind::Short(_) | Kind::Killed | Kind::Stop => None,
         }
     }
 
