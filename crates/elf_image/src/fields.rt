@@ -15,6 +15,7 @@ pub enum Field {
     Double(u64),
 }
 
+/// The byte at an offset.
 #[tactic(auto, unfolding(crate::specs::Fields::number_at))]
 pub fn byte_at(bytes: &[u8], offset: usize) -> u8
     requires { offset < length bytes.now }
@@ -23,6 +24,7 @@ pub fn byte_at(bytes: &[u8], offset: usize) -> u8
     bytes[offset]
 }
 
+/// The number of two bytes at an offset.
 #[tactic(auto, unfolding(crate::specs::Fields::number_at))]
 pub fn half_at(bytes: &[u8], offset: usize) -> u16
     requires { offset + 2 ≤ length bytes.now }
@@ -31,6 +33,7 @@ pub fn half_at(bytes: &[u8], offset: usize) -> u16
     LittleEndian::read_u16(&bytes[offset..])
 }
 
+/// The number of four bytes at an offset.
 #[tactic(auto, unfolding(crate::specs::Fields::number_at))]
 pub fn word_at(bytes: &[u8], offset: usize) -> u32
     requires { offset + 4 ≤ length bytes.now }
@@ -39,6 +42,7 @@ pub fn word_at(bytes: &[u8], offset: usize) -> u32
     LittleEndian::read_u32(&bytes[offset..])
 }
 
+/// The number of eight bytes at an offset.
 #[tactic(auto, unfolding(crate::specs::Fields::number_at))]
 pub fn double_at(bytes: &[u8], offset: usize) -> u64
     requires { offset + 8 ≤ length bytes.now }

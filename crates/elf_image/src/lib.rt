@@ -15,6 +15,7 @@ mod writing;
 
 pub use fault::ElfFault;
 pub use faulty::{FaultyField, faulty_field};
+pub use fields::{byte_at, double_at, half_at, word_at};
 pub use image::{Image, Rights, Segment, Segments};
 pub use notes::{content_of, is_compressed};
 pub use reading::read;

@@ -14,7 +14,8 @@ text_length (b ∷ bs) = cond (b == 0) 0 (suc (text_length bs))
 -- the symbol at an offset is a function's (st_info: STT_FUNC, 2), and has a name (st_name) among these
 abbrev pub is_function : List ℕ → Content → ℕ → Bool
 is_function bytes names at =
-    (number_at 1 (at + 4) bytes % 16 == 2) && nat_lt 0 (number_at 4 at bytes) && nat_lt (number_at 4 at bytes) names.size
+    (number_at 1 (at + 4) bytes % 16 == 2) && nat_lt 0 (number_at 4 at bytes)
+    && nat_lt (number_at 4 at bytes) names.size
 
 -- it: st_value, st_size, and its name, which ends before a zero or with all names
 abbrev pub function_of : List ℕ → Content → ℕ → Function

@@ -5,7 +5,6 @@
 
 pub mod addresses;
 pub mod callers;
-mod fields;
 pub mod laws;
 pub mod sections;
 pub mod symbols;

@@ -3,7 +3,7 @@
 ghost use Rattle.std.specs.Prelude.{◌≡◌, ◌+◌, ◌≤◌, true, length, IfSome};
 ghost use Rattle.elf_symbols.specs.Sections as spec;
 
-use crate::fields::{byte_at, double_at, half_at, word_at};
+use elf_image::{byte_at, double_at, half_at, word_at};
 
 /// What a section has in its file.
 #[derive(Clone, Copy, Debug, PartialEq, Eq)]

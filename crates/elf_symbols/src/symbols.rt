@@ -3,8 +3,8 @@
 ghost use Rattle.std.specs.Prelude.{◌≡◌, ◌+◌, ◌*◌, ◌≤◌, length, IfOk, Some, None, if◌then◌else◌};
 ghost use Rattle.elf_symbols.specs.Symbols as spec;
 
-use crate::fields::{byte_at, double_at, word_at};
 use crate::sections::{Content, SYMBOL_SIZE, SymbolTable, table_of};
+use elf_image::{byte_at, double_at, word_at};
 use std::alloc::{AllocError, Global};
 
 /// A function of a program: its addresses, and where its name stands in the file.

@@ -1,19 +1,20 @@
 -- Runs with a failure, by turns and by rows of turns.
 use Rattle.std.proofs.Common.{◌≡◌, Bool, ℕ, zero, suc, ◌-◌, ◌+◌, ◌<◌, ◌≤◌, true, false, not, cond, ◌&&◌, List, [], ◌∷◌, ◌++◌, Option, Some, None, refl, sym, ap, ap₂, subst, ◌∙◌, append-nil, arith}
+use Rattle.std.specs.Prelude.{slice_set}
 use Rattle.std.specs.Option.{option_to_list}
 use Rattle.lx_abi.specs.declared.errno.Errno.{Errno}
 use Rattle.lx_abi.specs.declared.log.Item.{Item}
 use Rattle.lx_abi.specs.declared.script.Choice.{Choice}
 use Rattle.lx_model.specs.Finite.{item_of, ran}
 use Rattle.lx_abi.specs.Errors.{error_word}
-use Rattle.lx_model.specs.Machine.{Regs, with_a0}
+use Rattle.lx_model.specs.Machine.{Regs}
 use Rattle.lx_model.specs.declared.stage.Task.{Task}
 use Rattle.lx_proc.specs.declared.state.UserState.{UserState}
 use Rattle.lx_model.specs.declared.event.PtraceEvent.{PtraceEvent}
 use Rattle.lx_kernel.specs.Advances.{GoesOn, Leads}
 use Rattle.lx_kernel.specs.Choices.{after_choosing, turn_choosing_in}
 use Rattle.lx_kernel.specs.Laws.{after_all}
-use Rattle.lx_kernel.specs.Runs.{Run, after_turn, turn_in}
+use Rattle.lx_kernel.specs.Runs.{Run, after_turn, mode_in, turn_in}
 use Rattle.lx_kernel.specs.Tracing.{regs_of, task_in, with_part, with_regs}
 use Rattle.pt_schedule.specs.declared.schedule.Schedule.{Schedule}
 use Rattle.pt_schedule.specs.declared.schedule.TurnRun.{TurnRun}
@@ -29,7 +30,7 @@ use Rattle.plain_run.proofs.Turning.{continues, bore_log, after_unserved, told_u
 use Rattle.sweep_faults.specs.declared.faults.Fault.{Fault}
 use Rattle.sweep_faults.specs.declared.faults.Kind.{Kind}
 use Rattle.sweep_faults.specs.declared.faults.Kind.TheVariants as kind
-use Rattle.sweep_faults.specs.Faults.{after_failing, after_fault, ends_at, is_at, is_stop, reporting, with_error}
+use Rattle.sweep_faults.specs.Faults.{after_failing, after_fault, counting, ends_at, is_at, is_entered, is_stop, last_asked, with_register, writing}
 use Rattle.sweep_faults.specs.InRows.{HasNext, InRow}
 use Rattle.sweep_faults.specs.Runs.{IsFaulted, RunsFaulted, EndsAreSettled, RunsKeepLogs, StopsAreTurns, next_pid, unless_ended}
 use Rattle.sweep_faults.proofs.Standing.{not_at}
@@ -52,17 +53,17 @@ part_log : (k : Run) (p : ℕ) (part : Option (Task UserState)) → (with_part k
 part_log k p None = refl
 part_log k p (Some task) = refl
 
-pub reported_log : (k k' : Run) (p : ℕ) (r : Regs) → k' ≡ with_part k p (with_regs r (task_in k p)) → k'.running.log ≡ k.running.log
-reported_log k k' p r part = ap (λ (x : Run). x.running.log) part ∙ part_log k p (with_regs r (task_in k p))
+pub written_log : (k k' : Run) (p : ℕ) (r : Regs) → k' ≡ with_part k p (with_regs r (task_in k p)) → k'.running.log ≡ k.running.log
+written_log k k' p r part = ap (λ (x : Run). x.running.log) part ∙ part_log k p (with_regs r (task_in k p))
 
-pub reported_is : (k k' : Run) (p : ℕ) (error : Errno) (r r' : Regs) → Some r ≡ regs_of (task_in k p) → r' ≡ with_a0 r (error_word error.number) → k' ≡ with_part k p (with_regs r' (task_in k p)) → k' ≡ reporting k p error
-reported_is k k' p error r r' had has part =
+pub written_is : (k k' : Run) (p number value : ℕ) (r r' : Regs) → Some r ≡ regs_of (task_in k p) → r' ≡ slice_set r number value → k' ≡ with_part k p (with_regs r' (task_in k p)) → k' ≡ writing k p number value
+written_is k k' p number value r r' had has part =
     part
     ∙ ap (λ x. with_part k p (with_regs x (task_in k p))) has
-    ∙ ap (λ o. with_part k p (with_error error o (task_in k p))) had
+    ∙ ap (λ o. with_part k p (with_register number value o (task_in k p))) had
 
-pub unreported_is : (k : Run) (p : ℕ) (error : Errno) → None ≡ regs_of (task_in k p) → k ≡ reporting k p error
-unreported_is k p error none = ap (λ o. with_part k p (with_error error o (task_in k p))) none
+pub unwritten_is : (k : Run) (p number value : ℕ) → None ≡ regs_of (task_in k p) → k ≡ writing k p number value
+unwritten_is k p number value none = ap (λ o. with_part k p (with_register number value o (task_in k p))) none
 
 pub told_item : (k k' : Run) (item : Option Item) (told told' : List Item) → k'.running.log ≡ k.running.log ++ option_to_list item → told' ≡ told ++ option_to_list item → Tells k told k' told'
 told_item k k' item told told' h g = record { items = option_to_list item; logged = h; are_told = g }
@@ -264,9 +265,16 @@ part_keeps : (k : Run) (p : ℕ) (part : Option (Task UserState)) → (with_part
 part_keeps k p None = refl
 part_keeps k p (Some task) = refl
 
+writing_keeps : (k : Run) (p number value : ℕ) → (writing k p number value).keeps_log ≡ k.keeps_log
+writing_keeps k p number value = part_keeps k p (with_register number value (regs_of (task_in k p)) (task_in k p))
+
 failing_keeps : (x : Kind) (k : Run) (p : ℕ) → (after_failing x k p).keeps_log ≡ k.keeps_log
 failing_keeps (kind.Undone error) k p = refl
-failing_keeps (kind.Done error) k p = part_keeps k p (with_error error (regs_of (task_in k p)) (task_in k p))
+failing_keeps (kind.Done error) k p = writing_keeps k p 10 (error_word error.number)
+failing_keeps (kind.Short count) k p =
+    keeps_by (is_entered (mode_in k p)) (after_turn (counting k p count) p) (after_turn (counting k p (last_asked p 0 k.running.log)) p) k
+    (writing_keeps k p 12 count) (writing_keeps k p 12 (last_asked p 0 k.running.log))
+failing_keeps kind.Killed k p = refl
 failing_keeps kind.Stop k p = refl
 
 keeps : (f : Fault) (k : Run) (s : Schedule) (pids : List ℕ) (z : Run) → IsFaulted f k s pids z → z.keeps_log ≡ k.keeps_log

@@ -1,5 +1,5 @@
 -- Where a process stands where its call fails.
-use Rattle.std.proofs.Common.{◌≡◌, Bool, true, false, ℕ, ◌-◌, ◌+◌, ◌<◌, List, [], ◌∷◌, ◌++◌, Option, Some, None, cond, ◌&&◌, refl, sym, ap, subst, ◌∙◌, append-nil, arith}
+use Rattle.std.proofs.Common.{◌≡◌, Bool, true, false, ℕ, ◌-◌, ◌+◌, ◌<◌, List, [], ◌∷◌, ◌++◌, Option, Some, None, cond, ◌&&◌, ◌||◌, refl, sym, ap, subst, ◌∙◌, append-nil, arith}
 use Rattle.std.specs.Prelude.{◌==◌, if◌then◌else◌}
 use Rattle.std.specs.Option.{option_to_list}
 use Rattle.std.proofs.lemmas.Bool.Decides.{nat_tests}
@@ -15,8 +15,8 @@ use Rattle.sweep_faults.specs.declared.awaited.Awaited.{Awaited}
 use Rattle.sweep_faults.specs.declared.faults.Fault.{Fault}
 use Rattle.sweep_faults.specs.declared.faults.Kind.{Kind}
 use Rattle.sweep_faults.specs.declared.faults.Kind.TheVariants as kind
-use Rattle.sweep_faults.specs.Awaited.{Awaits, IsLeft, heard, is_awaited_at, is_due_by, is_next, last_after, left_after, passed}
-use Rattle.sweep_faults.specs.Faults.{asks_for, done_last, is_at, is_due, is_ended, is_entered, was_last}
+use Rattle.sweep_faults.specs.Awaited.{Awaits, IsLeft, asked_after, heard, is_awaited_at, is_due_by, is_next, last_after, left_after, passed}
+use Rattle.sweep_faults.specs.Faults.{asked_last, asks_for, done_last, has_entered, is_at, is_due, is_ended, is_entered, last_asked, was_last}
 
 -- A process that goes on by itself has entered no call, and ended none
 
@@ -53,13 +53,24 @@ none_at true true = refl
 none_at true false = refl
 none_at false b = refl
 
+not_entered : (call : ℕ) (k : Run) (p : ℕ) → GoesOn k p → has_entered call k p ≡ false
+not_entered call k p on =
+    ap (λ b. b && asks_for call (regs_of (task_in k p))) (ap is_entered on.1.1.0 ∙ no_entry on.1.0 on.1.1.1)
+
+not_ended : (last : Bool) (k : Run) (p : ℕ) → GoesOn k p → (is_ended (mode_in k p) && last) ≡ false
+not_ended last k p on = ap (λ b. b && last) (ap is_ended on.1.1.0 ∙ no_end on.1.0 on.1.1.1)
+
+neither : (a b : Bool) → a ≡ false → b ≡ false → (a || b) ≡ false
+neither a b e h = ap (λ x. x || b) e ∙ h
+
 not_due : (x : Kind) (call : ℕ) (k : Run) (p : ℕ) → GoesOn k p → is_due x call k p ≡ false
-not_due (kind.Undone error) call k p on =
-    ap (λ b. b && asks_for call (regs_of (task_in k p))) (ap is_entered on.1.1.0 ∙ no_entry on.1.0 on.1.1.1)
-not_due (kind.Done error) call k p on =
-    ap (λ b. b && was_last p call false k.running.log) (ap is_ended on.1.1.0 ∙ no_end on.1.0 on.1.1.1)
-not_due kind.Stop call k p on =
-    ap (λ b. b && asks_for call (regs_of (task_in k p))) (ap is_entered on.1.1.0 ∙ no_entry on.1.0 on.1.1.1)
+not_due (kind.Undone error) call k p on = not_entered call k p on
+not_due (kind.Done error) call k p on = not_ended (was_last p call false k.running.log) k p on
+not_due (kind.Short count) call k p on =
+    neither (has_entered call k p) (is_ended (mode_in k p) && was_last p call false k.running.log) (not_entered call k p on)
+    (not_ended (was_last p call false k.running.log) k p on)
+not_due kind.Killed call k p on = not_entered call k p on
+not_due kind.Stop call k p on = not_entered call k p on
 
 pub not_at : (f : Fault) (k : Run) (p : ℕ) → GoesOn k p → is_at f k p ≡ false
 unfolding is_at
@@ -84,10 +95,16 @@ come_is n entered None h = of (entered == n) refl
     of true e = absurd (grind (arith, nat_tests, h, e))
     of false e = refl
 
+same_last : (a : Awaited) (k : Run) (p : ℕ) → p ≡ a.fault.pid → a.was_last ≡ was_last a.fault.pid a.fault.call false k.running.log
+    → (is_ended (mode_in k p) && was_last p a.fault.call false k.running.log) ≡ (is_ended (mode_in k p) && a.was_last)
+same_last a k p same h =
+    ap (λ b. is_ended (mode_in k p) && b) (ap (λ q. was_last q a.fault.call false k.running.log) same ∙ sym h)
+
 same_due : (x : Kind) (a : Awaited) (k : Run) (p : ℕ) → p ≡ a.fault.pid → a.was_last ≡ was_last a.fault.pid a.fault.call false k.running.log → is_due x a.fault.call k p ≡ is_due_by x a k p
 same_due (kind.Undone error) a k p same h = refl
-same_due (kind.Done error) a k p same h =
-    ap (λ b. is_ended (mode_in k p) && b) (ap (λ q. was_last q a.fault.call false k.running.log) same ∙ sym h)
+same_due (kind.Done error) a k p same h = same_last a k p same h
+same_due (kind.Short count) a k p same h = ap (λ b. has_entered a.fault.call k p || b) (same_last a k p same h)
+same_due kind.Killed a k p same h = refl
 same_due kind.Stop a k p same h = refl
 
 due_there : (b : Bool) (a : Awaited) (k : Run) (p : ℕ) → (p == a.fault.pid) ≡ b → a.was_last ≡ was_last a.fault.pid a.fault.call false k.running.log
@@ -104,12 +121,27 @@ awaited_at_is a k p h =
     (come_is a.fault.n (entries a.fault.pid a.fault.call k.running.log) a.left h.0)
     ∙ due_there (p == a.fault.pid) a k p refl h.1 (is_next a.left)
 
+-- the process of the failure alone stands there
+pub asked_there : (a : Awaited) (k : Run) (p : ℕ) → Awaits a k.running.log → true ≡ is_awaited_at a k p → a.asked ≡ last_asked p 0 k.running.log
+unfolding is_awaited_at
+asked_there a k p h at = of (p == a.fault.pid) refl at
+  where
+    of : (b : Bool) → (p == a.fault.pid) ≡ b → true ≡ (b && (is_next a.left && is_due_by a.fault.kind a k p)) → a.asked ≡ last_asked p 0 k.running.log
+    of true e at =
+        let same : p ≡ a.fault.pid = grind (arith, nat_tests, e) in
+        h.2 ∙ ap (λ q. last_asked q 0 k.running.log) (sym same)
+    of false e at = absurd (cc at)
+
 pub awaits_first : (n : ℕ) → n + 0 ≡ n
 awaits_first n = omega arith
 
 pub first_last : (pid call : ℕ) → false ≡ was_last pid call false []
 unfolding was_last
 first_last pid call = refl
+
+pub first_asked : (pid : ℕ) → 0 ≡ last_asked pid 0 []
+unfolding last_asked
+first_asked pid = refl
 
 no_more : (n : ℕ) → 0 + n ≡ n
 no_more n = omega arith
@@ -141,6 +173,20 @@ heard_last a log log' (Some item) h e =
     ∙ sym (last_more a.fault.pid a.fault.call false log item)
     ∙ ap (λ l. was_last a.fault.pid a.fault.call false l) (sym e)
 
+asked_more : (pid before : ℕ) (log : List Item) (item : Item) → last_asked pid before (log ++ item ∷ []) ≡ asked_last pid (last_asked pid before log) item
+unfolding last_asked
+asked_more pid before [] item = refl
+asked_more pid before (first ∷ log) item = asked_more pid (asked_last pid before first) log item
+
+heard_asked : (a : Awaited) (log log' : List Item) (item : Option Item) → a.asked ≡ last_asked a.fault.pid 0 log → log' ≡ log ++ option_to_list item
+    → asked_after a item ≡ last_asked a.fault.pid 0 log'
+unfolding asked_after
+heard_asked a log log' None h e = h ∙ ap (λ l. last_asked a.fault.pid 0 l) (sym (e ∙ append-nil log))
+heard_asked a log log' (Some item) h e =
+    ap (λ n. asked_last a.fault.pid n item) h
+    ∙ sym (asked_more a.fault.pid 0 log item)
+    ∙ ap (λ l. last_asked a.fault.pid 0 l) (sym e)
+
 heard_left : (a : Awaited) (log log' : List Item) (item : Option Item) → IsLeft a.fault.n (entries a.fault.pid a.fault.call log) a.left → log' ≡ log ++ option_to_list item
     → IsLeft a.fault.n (entries a.fault.pid a.fault.call log') (left_after a item)
 unfolding left_after
@@ -155,4 +201,4 @@ heard_left a log log' (Some item) h e =
     of false = subst (λ n. IsLeft a.fault.n n a.left) (sym (no_more (entries a.fault.pid a.fault.call log))) h
 
 pub heard_awaits : (a : Awaited) (log log' : List Item) (item : Option Item) → Awaits a log → log' ≡ log ++ option_to_list item → Awaits (heard a item) log'
-heard_awaits a log log' item h e = (heard_left a log log' item h.0 e, heard_last a log log' item h.1 e)
+heard_awaits a log log' item h e = (heard_left a log log' item h.0 e, heard_last a log log' item h.1 e, heard_asked a log log' item h.2 e)

@@ -325,6 +325,8 @@ words_by (kind.Undone e) f error script ps k s z h is alone empty traced fewer r
     words_run f e script k.follow ps k s z (subst (λ (x : Errno). FailsAlone (failure_of f x) script) (same_error e error is) alone)
     empty refl traced fewer run
 words_by (kind.Done e) f error script ps k s z h is alone empty traced fewer run = absurd (cc h)
+words_by (kind.Short count) f error script ps k s z h is alone empty traced fewer run = absurd (cc h)
+words_by kind.Killed f error script ps k s z h is alone empty traced fewer run = absurd (cc h)
 words_by kind.Stop f error script ps k s z h is alone empty traced fewer run = absurd (cc h)
 
 pub words_give : WordsGiveRuns

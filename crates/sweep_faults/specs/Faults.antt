@@ -11,7 +11,7 @@ use Rattle.lx_abi.specs.declared.script.Choice.{Choice}
 use Rattle.lx_abi.specs.Errors.{error_word}
 use Rattle.lx_abi.specs.Log.{entries}
 use Rattle.lx_abi.specs.Signals.{signal_numbered}
-use Rattle.lx_model.specs.Machine.{Regs, a7_of, with_a0}
+use Rattle.lx_model.specs.Machine.{Regs, a7_of}
 use Rattle.lx_model.specs.declared.stage.Task.{Task}
 use Rattle.lx_kernel.specs.Choices.{after_choosing}
 use Rattle.lx_kernel.specs.Runs.{Run, after_turn, mode_in}
@@ -21,10 +21,6 @@ use Rattle.sweep_rows.specs.Descriptors.{argument}
 use Rattle.sweep_faults.specs.declared.faults.Fault.{Fault}
 use Rattle.sweep_faults.specs.declared.faults.Kind.{Kind}
 use Rattle.sweep_faults.specs.declared.faults.Kind.TheVariants as kind
-
--- the third argument's register (riscv)
-abbrev pub with_a2 : Regs → ℕ → Regs
-with_a2 r x = set r 12 x
 
 -- the error that the call has
 abbrev pub error_of : Kind → Option Errno
@@ -84,23 +80,23 @@ unfoldable pub was_last : ℕ → ℕ → Bool → List Item → Bool
 was_last pid call before [] = before
 was_last pid call before (item ∷ log) = was_last pid call (done_last pid call before item) log
 
--- its result register has the error (syscall(2), riscv)
-abbrev pub with_error : Errno → Option Regs → Task UserState → Option (Task UserState)
-with_error error None task = None
-with_error error (Some registers) task = with_regs (with_a0 registers (error_word error.number)) task
+-- the process's register with this number has this value
+abbrev pub with_register : ℕ → ℕ → Option Regs → Task UserState → Option (Task UserState)
+with_register number value None task = None
+with_register number value (Some registers) task = with_regs (set registers number value) task
 
+abbrev pub writing : Run → ℕ → ℕ → ℕ → Run
+writing k pid number value = with_part k pid (with_register number value (regs_of (task_in k pid)) (task_in k pid))
+
+-- its result register, a0, has the error (syscall(2), riscv)
 abbrev pub reporting : Run → ℕ → Errno → Run
-reporting k pid error = with_part k pid (with_error error (regs_of (task_in k pid)) (task_in k pid))
+reporting k pid error = writing k pid 10 (error_word error.number)
 
 -- Of a call that is done with another count.
 
--- its register a2 has this count (read(2), write(2))
-abbrev pub with_count : ℕ → Option Regs → Task UserState → Option (Task UserState)
-with_count count None task = None
-with_count count (Some registers) task = with_regs (with_a2 registers count) task
-
+-- its third argument's register, a2, has this count (read(2), write(2), riscv)
 abbrev pub counting : Run → ℕ → ℕ → Run
-counting k pid count = with_part k pid (with_count count (regs_of (task_in k pid)) (task_in k pid))
+counting k pid count = writing k pid 12 count
 
 -- after an item more: the count that the process's last entry into a call asks for
 abbrev pub asked_last : ℕ → ℕ → Item → ℕ

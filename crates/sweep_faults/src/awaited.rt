@@ -1,6 +1,6 @@
 //! Whether a process stands where its call fails.
 
-ghost use Rattle.std.specs.Prelude.{◌≡◌, ◌&&◌, ◌||◌, [], IfOk};
+ghost use Rattle.std.specs.Prelude.{◌≡◌, ◌&&◌, ◌||◌, []};
 ghost use Rattle.lx_abi.specs.Log.{is_entry};
 ghost use Rattle.lx_kernel.specs.Runs.{mode_in};
 ghost use Rattle.lx_kernel.specs.Tracing.{task_in, regs_of};
@@ -12,10 +12,6 @@ ghost use Rattle.sweep_faults.specs.Faults.{is_entered};
 use crate::faults::{Fault, Kind};
 use lx_abi::{Item, Mode};
 use lx_kernel::Kernel;
-use std::alloc::AllocError;
-
-/// The register a7, which has the number of the call that a process asks for.
-const A7: usize = 17;
 
 /// The place of a count among the arguments of read and write.
 const A2_ARGUMENT: usize = 2;
@@ -110,24 +106,20 @@ fn is_ended(mode: Option<Mode>) -> bool
 }
 
 /// The registers of a process ask for the call.
-fn asks_for(kernel: &Kernel, pid: u32, call: u64) -> Result<bool, AllocError>
-    ensures { IfOk result (λ asks. asks ≡ asks_for call (regs_of (task_in kernel.now pid))) }
+fn asks_for(kernel: &Kernel, pid: u32, call: u64) -> bool
+    ensures { result ≡ asks_for call (regs_of (task_in kernel.now pid)) }
 {
-    let Some(registers) = kernel.regs(pid)? else {
-        return Ok(false);
-    };
-    Ok(registers.get()[A7] == call)
+    match kernel.asked_call(pid) {
+        Some(number) => number == call,
+        None => false,
+    }
 }
 
 /// A process that has entered a call asks for this one.
-fn has_entered(kernel: &Kernel, pid: u32, call: u64) -> Result<bool, AllocError>
-    ensures { IfOk result (λ at. at ≡ has_entered call kernel.now pid) }
+fn has_entered(kernel: &Kernel, pid: u32, call: u64) -> bool
+    ensures { result ≡ has_entered call kernel.now pid }
 {
-    if !is_entered(kernel.mode(pid)) {
-        return Ok(false);
-    }
-    let asks = asks_for(kernel, pid, call)?;
-    Ok(asks)
+    is_entered(kernel.mode(pid)) && asks_for(kernel, pid, call)
 }
 
 impl Awaited {
@@ -156,53 +148,41 @@ impl Awaited {
     }
 
     /// The process stands where a call of this kind fails.
-    fn is_due(self, kernel: &Kernel, pid: u32) -> Result<bool, AllocError>
-        ensures { IfOk result (λ due. due ≡ is_due_by self.fault.kind self kernel.now pid) }
+    fn is_due(self, kernel: &Kernel, pid: u32) -> bool
+        ensures { result ≡ is_due_by self.fault.kind self kernel.now pid }
     {
         match self.fault.kind {
             Kind::Undone(_) | Kind::Killed | Kind::Stop => {
                 has_entered(kernel, pid, self.fault.call)
             }
             Kind::Short(_) => self.is_either(kernel, pid),
-            Kind::Done(_) => Ok(is_ended(kernel.mode(pid)) && self.was_last),
+            Kind::Done(_) => is_ended(kernel.mode(pid)) && self.was_last,
         }
     }
 
     /// The process has entered the call, or done it.
-    fn is_either(self, kernel: &Kernel, pid: u32) -> Result<bool, AllocError>
-        ensures { IfOk result (λ either. either
-            ≡ (has_entered self.fault.call kernel.now pid || (is_ended (mode_in kernel.now pid) && self.was_last))) }
+    fn is_either(self, kernel: &Kernel, pid: u32) -> bool
+        ensures { result
+            ≡ (has_entered self.fault.call kernel.now pid || (is_ended (mode_in kernel.now pid) && self.was_last)) }
     {
-        let entered = has_entered(kernel, pid, self.fault.call)?;
-        Ok(entered || is_ended(kernel.mode(pid)) && self.was_last)
+        has_entered(kernel, pid, self.fault.call) || is_ended(kernel.mode(pid)) && self.was_last
     }
 
     /// The process stands where its call fails.
     #[tactic(auto, unfolding(crate::specs::Awaited::is_awaited_at))]
-    pub(crate) fn is_at(self, kernel: &Kernel, pid: u32) -> Result<bool, AllocError>
-        ensures { IfOk result (λ at. at ≡ is_awaited_at self kernel.now pid) }
+    pub(crate) fn is_at(self, kernel: &Kernel, pid: u32) -> bool
+        ensures { result ≡ is_awaited_at self kernel.now pid }
     {
-        if pid != self.fault.pid {
-            return Ok(false);
-        }
-        if !self.is_next() {
-            return Ok(false);
-        }
-        let at = self.is_due(kernel, pid)?;
-        Ok(at)
+        pid == self.fault.pid && self.is_next() && self.is_due(kernel, pid)
     }
 
     /// Everything ends where the process stands.
     #[tactic(auto, using(crate::proofs::Standing::awaited_at_is))]
-    pub(crate) fn ends_at(self, kernel: &Kernel, pid: u32) -> Result<bool, AllocError>
+    pub(crate) fn ends_at(self, kernel: &Kernel, pid: u32) -> bool
         requires { Awaits self kernel.now.running.log }
-        ensures { IfOk result (λ ends. ends ≡ ends_at self.fault kernel.now pid) }
+        ensures { result ≡ ends_at self.fault kernel.now pid }
     {
-        if !self.fault.kind.is_stop() {
-            return Ok(false);
-        }
-        let at = self.is_at(kernel, pid)?;
-        Ok(at)
+        self.fault.kind.is_stop() && self.is_at(kernel, pid)
     }
 
     /// How many entries are left after a turn that has logged this.

@@ -1,24 +1,22 @@
 //! The turn in which a call fails.
 
-ghost use Rattle.std.specs.Prelude.{◌≡◌, ◌++◌, None, IfOk, OnOk, OnErr};
+ghost use Rattle.std.specs.Prelude.{◌≡◌, ◌<◌, ◌++◌, None, IfOk, OnOk, OnErr};
 ghost use Rattle.std.specs.Option.{option_to_list};
-ghost use Rattle.lx_model.specs.Machine.{with_a0};
 ghost use Rattle.lx_kernel.specs.Choices.{after_choosing};
 ghost use Rattle.lx_kernel.specs.Runs.{after_turn, mode_in};
-ghost use Rattle.sweep_faults.specs.Faults.{after_failing, after_short, counting, failing, killing, last_asked};
-ghost use Rattle.sweep_faults.specs.Faults.{reporting, with_a2};
+ghost use Rattle.sweep_faults.specs.Faults.{after_failing, after_short, failing, killing, last_asked, writing};
 
 use crate::awaited::is_entered;
 use crate::faults::Kind;
 use crate::moving::Moved;
-use lx_abi::{Choice, Errno, RegisterSet, Signal};
+use lx_abi::{Choice, Errno, Signal};
 use lx_kernel::{Failed, Kernel};
 use std::alloc::AllocError;
 
 /// The register a0, where a call's result stands.
 const A0: usize = 10;
 
-/// The register a2, where the count of read and write stands.
+/// The register a2, where the count that read and write are asked for stands.
 const A2: usize = 12;
 
 const SIGKILL: u64 = 9;
@@ -33,15 +31,25 @@ fn failing(error: Errno) -> Choice
     }
 }
 
-/// The turn in which a call has the error for its result, and isn't done.
-fn refuse(kernel: &mut Kernel, pid: u32, error: Errno) -> Result<Moved, Failed>
-    ensures turned { OnOk result (kernel.new ≡ after_choosing kernel.old pid (failing error)) }
+/// SIGKILL is joined to the call.
+fn killing() -> Choice
+    ensures { result ≡ killing }
+{
+    Choice {
+        result: None,
+        signal: Signal::from_number(SIGKILL),
+    }
+}
+
+/// The turn in which this is done to the call that a process has entered.
+fn choose(kernel: &mut Kernel, pid: u32, choice: Choice) -> Result<Moved, Failed>
+    ensures turned { OnOk result (kernel.new ≡ after_choosing kernel.old pid choice) }
     ensures one { IfOk result (λ m. m.turns ≡ 1) }
     ensures after { IfOk result (λ m. m.after ≡ mode_in kernel.new pid) }
     ensures logged { IfOk result (λ m. kernel.new.running.log ≡ kernel.old.running.log ++ option_to_list m.item) }
     ensures log { OnErr result (kernel.new.running.log ≡ kernel.old.running.log) }
 {
-    match kernel.turn_choosing(pid, failing(error)) {
+    match kernel.turn_choosing(pid, choice) {
         Ok(moved) => Ok(Moved {
             turns: 1,
             after: moved.after,
@@ -51,22 +59,17 @@ fn refuse(kernel: &mut Kernel, pid: u32, error: Errno) -> Result<Moved, Failed>
     }
 }
 
-fn set_result(registers: &mut RegisterSet, value: u64)
-    ensures { registers.new ≡ with_a0 registers.old value }
-{
-    registers.set(A0, value);
-}
-
-/// A call that is done has the error for its result.
-#[tactic(auto, using(crate::proofs::Rows::reported_is, crate::proofs::Rows::unreported_is, crate::proofs::Rows::reported_log))]
-fn report(kernel: &mut Kernel, pid: u32, error: Errno) -> Result<(), AllocError>
-    ensures reported { OnOk result (kernel.new ≡ reporting kernel.old pid error) }
+/// A register of a process has this value.
+#[tactic(auto, using(crate::proofs::Rows::written_is, crate::proofs::Rows::unwritten_is, crate::proofs::Rows::written_log))]
+fn write(kernel: &mut Kernel, pid: u32, number: usize, value: u64) -> Result<(), AllocError>
+    requires { number < 32 }
+    ensures written { OnOk result (kernel.new ≡ writing kernel.old pid number value) }
     ensures log { kernel.new.running.log ≡ kernel.old.running.log }
 {
     let Some(mut registers) = kernel.regs(pid)? else {
         return Ok(());
     };
-    set_result(&mut registers, error.word());
+    registers.set(number, value);
     kernel.set_regs(pid, registers.get());
     Ok(())
 }
@@ -89,49 +92,16 @@ fn turn(kernel: &mut Kernel, pid: u32) -> Result<Moved, Failed>
     }
 }
 
-/// The turn behind a call that is done, and has the error for its result.
-fn go_on_with(kernel: &mut Kernel, pid: u32, error: Errno) -> Result<Moved, Failed>
-    ensures turned { OnOk result (kernel.new ≡ after_turn (reporting kernel.old pid error) pid) }
+/// The turn of a process one of whose registers has this value.
+fn go_on_with(kernel: &mut Kernel, pid: u32, number: usize, value: u64) -> Result<Moved, Failed>
+    requires { number < 32 }
+    ensures turned { OnOk result (kernel.new ≡ after_turn (writing kernel.old pid number value) pid) }
     ensures one { IfOk result (λ m. m.turns ≡ 1) }
     ensures after { IfOk result (λ m. m.after ≡ mode_in kernel.new pid) }
     ensures logged { IfOk result (λ m. kernel.new.running.log ≡ kernel.old.running.log ++ option_to_list m.item) }
     ensures log { OnErr result (kernel.new.running.log ≡ kernel.old.running.log) }
 {
-    match report(kernel, pid, error) {
-        Ok(()) => turn(kernel, pid),
-        Err(_) => Err(Failed),
-    }
-}
-
-fn set_count(registers: &mut RegisterSet, count: u64)
-    ensures { registers.new ≡ with_a2 registers.old count }
-{
-    registers.set(A2, count);
-}
-
-/// The register of a process has this count.
-#[tactic(auto, using(crate::proofs::Rows::reported_is, crate::proofs::Rows::unreported_is, crate::proofs::Rows::reported_log))]
-fn count(kernel: &mut Kernel, pid: u32, count: u64) -> Result<(), AllocError>
-    ensures counted { OnOk result (kernel.new ≡ counting kernel.old pid count) }
-    ensures log { kernel.new.running.log ≡ kernel.old.running.log }
-{
-    let Some(mut registers) = kernel.regs(pid)? else {
-        return Ok(());
-    };
-    set_count(&mut registers, count);
-    kernel.set_regs(pid, registers.get());
-    Ok(())
-}
-
-/// The turn of a process whose register has this count.
-fn go_on_counting(kernel: &mut Kernel, pid: u32, asked: u64) -> Result<Moved, Failed>
-    ensures turned { OnOk result (kernel.new ≡ after_turn (counting kernel.old pid asked) pid) }
-    ensures one { IfOk result (λ m. m.turns ≡ 1) }
-    ensures after { IfOk result (λ m. m.after ≡ mode_in kernel.new pid) }
-    ensures logged { IfOk result (λ m. kernel.new.running.log ≡ kernel.old.running.log ++ option_to_list m.item) }
-    ensures log { OnErr result (kernel.new.running.log ≡ kernel.old.running.log) }
-{
-    match count(kernel, pid, asked) {
+    match write(kernel, pid, number, value) {
         Ok(()) => turn(kernel, pid),
         Err(_) => Err(Failed),
     }
@@ -148,37 +118,9 @@ fn shorten(kernel: &mut Kernel, pid: u32, short: u64, asked: u64) -> Result<Move
     ensures log { OnErr result (kernel.new.running.log ≡ kernel.old.running.log) }
 {
     if is_entered(kernel.mode(pid)) {
-        go_on_counting(kernel, pid, short)
+        go_on_with(kernel, pid, A2, short)
     } else {
-        go_on_counting(kernel, pid, asked)
-    }
-}
-
-/// SIGKILL is joined to the call.
-fn killing() -> Choice
-    ensures { result ≡ killing }
-{
-    Choice {
-        result: None,
-        signal: Signal::from_number(SIGKILL),
-    }
-}
-
-/// The turn in which a process is killed.
-fn kill(kernel: &mut Kernel, pid: u32) -> Result<Moved, Failed>
-    ensures turned { OnOk result (kernel.new ≡ after_choosing kernel.old pid killing) }
-    ensures one { IfOk result (λ m. m.turns ≡ 1) }
-    ensures after { IfOk result (λ m. m.after ≡ mode_in kernel.new pid) }
-    ensures logged { IfOk result (λ m. kernel.new.running.log ≡ kernel.old.running.log ++ option_to_list m.item) }
-    ensures log { OnErr result (kernel.new.running.log ≡ kernel.old.running.log) }
-{
-    match kernel.turn_choosing(pid, killing()) {
-        Ok(moved) => Ok(Moved {
-            turns: 1,
-            after: moved.after,
-            item: moved.item,
-        }),
-        Err(failed) => Err(failed),
+        go_on_with(kernel, pid, A2, asked)
     }
 }
 
@@ -206,10 +148,10 @@ pub(crate) fn fail(kernel: &mut Kernel, pid: u32, kind: Kind, asked: u64) -> Res
     ensures log { OnErr result (kernel.new.running.log ≡ kernel.old.running.log) }
 {
     match kind {
-        Kind::Undone(error) => refuse(kernel, pid, error),
-        Kind::Done(error) => go_on_with(kernel, pid, error),
+        Kind::Undone(error) => choose(kernel, pid, failing(error)),
+        Kind::Done(error) => go_on_with(kernel, pid, A0, error.word()),
         Kind::Short(short) => shorten(kernel, pid, short, asked),
-        Kind::Killed => kill(kernel, pid),
+        Kind::Killed => choose(kernel, pid, killing()),
         Kind::Stop => Ok(stay(kernel, pid)),
     }
 }

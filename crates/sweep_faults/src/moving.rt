@@ -48,7 +48,7 @@ fn go_on(kernel: &mut Kernel, pid: u32, most: u64) -> Result<Moved, Failed>
 }
 
 /// Turns of a process that are made at once, `most` at most: the one in which its call fails, or others.
-#[tactic(auto, using(crate::proofs::Rows::row_failing, crate::proofs::Standing::awaited_at_is))]
+#[tactic(auto, using(crate::proofs::Rows::row_failing, crate::proofs::Standing::awaited_at_is, crate::proofs::Standing::asked_there))]
 fn move_on(kernel: &mut Kernel, pid: u32, most: u64, awaited: Awaited) -> Result<Moved, Failed>
     requires some { 0 < most }
     requires awaits { Awaits awaited kernel.old.running.log }
@@ -59,10 +59,10 @@ fn move_on(kernel: &mut Kernel, pid: u32, most: u64, awaited: Awaited) -> Result
     ensures logged { IfOk result (λ m. kernel.new.running.log ≡ kernel.old.running.log ++ option_to_list m.item) }
     ensures log { OnErr result (kernel.new.running.log ≡ kernel.old.running.log) }
 {
-    match awaited.is_at(kernel, pid) {
-        Ok(true) => fail(kernel, pid, awaited.fault.kind, awaited.asked),
-        Ok(false) => go_on(kernel, pid, most),
-        Err(_) => Err(Failed),
+    if awaited.is_at(kernel, pid) {
+        fail(kernel, pid, awaited.fault.kind, awaited.asked)
+    } else {
+        go_on(kernel, pid, most)
     }
 }
 

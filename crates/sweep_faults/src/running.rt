@@ -18,25 +18,15 @@ use lx_abi::Mode;
 use lx_kernel::Kernel;
 use plain_run::{Halt, Watch, goes_on, turns_in_row};
 use pt_schedule::Schedule;
-use std::alloc::AllocError;
 
 /// The process, which stands so, has the next turn of its row.
 #[tactic(auto, using(crate::proofs::Rows::has_next))]
-fn has_next(
-    kernel: &Kernel,
-    pid: u32,
-    mode: Option<Mode>,
-    awaited: Awaited,
-) -> Result<bool, AllocError>
+fn has_next(kernel: &Kernel, pid: u32, mode: Option<Mode>, awaited: Awaited) -> bool
     requires stands { mode ≡ mode_in kernel.now pid }
     requires awaits { Awaits awaited kernel.now.running.log }
-    ensures { IfOk result (λ next. IsTrue next → HasNext awaited.fault kernel.now pid) }
+    ensures { IsTrue result → HasNext awaited.fault kernel.now pid }
 {
-    if !goes_on(kernel, pid, mode) {
-        return Ok(false);
-    }
-    let ends = awaited.ends_at(kernel, pid)?;
-    Ok(!ends)
+    goes_on(kernel, pid, mode) && !awaited.ends_at(kernel, pid)
 }
 
 /// The turn that the schedule gave, and those that come next by the row that is under way, `more` at most: how many
@@ -68,9 +58,7 @@ fn turn_row<W: Watch>(
         if behind >= more {
             return Ok(behind);
         }
-        let Ok(next) = has_next(kernel, pid, moved.after, *awaited) else {
-            return Err(Halt::Memory);
-        };
+        let next = has_next(kernel, pid, moved.after, *awaited);
         if !next {
             return Ok(behind);
         }
@@ -106,27 +94,22 @@ fn turn<W: Watch>(
 }
 
 /// Whose turn comes next: nobody's at the schedule's end, or where everything ends.
-fn next_turn(
-    kernel: &Kernel,
-    schedule: &mut Schedule,
-    awaited: Awaited,
-) -> Result<Option<u32>, AllocError>
+fn next_turn(kernel: &Kernel, schedule: &mut Schedule, awaited: Awaited) -> Option<u32>
     requires { Awaits awaited kernel.now.running.log }
-    ensures next { IfOk result (λ next. next ≡ next_pid awaited.fault kernel.now schedule.old) }
+    ensures next { result ≡ next_pid awaited.fault kernel.now schedule.old }
     ensures rest { schedule.new ≡ (next_turn_of schedule.old (readiness_of kernel.now)).schedule }
 {
     let Some(pid) = schedule.next_plain(kernel) else {
-        return Ok(None);
+        return None;
     };
-    let ends = awaited.ends_at(kernel, pid)?;
-    if ends {
-        return Ok(None);
+    if awaited.ends_at(kernel, pid) {
+        return None;
     }
-    Ok(Some(pid))
+    Some(pid)
 }
 
 /// Makes the turns that a schedule gives, up to its end, or to where everything ends, where one call of one process
-/// fails; the watcher is told of each. Memory is refused to the kernel, or to a look at registers.
+/// fails; the watcher is told of each.
 pub fn run_faulted<W: Watch>(
     kernel: &mut Kernel,
     schedule: &mut Schedule,
@@ -143,10 +126,7 @@ pub fn run_faulted<W: Watch>(
 {
     let mut awaited = Awaited::new(fault);
     'turns: loop {
-        let Ok(next) = next_turn(kernel, schedule, awaited) else {
-            return Err(Halt::Memory);
-        };
-        let Some(pid) = next else {
+        let Some(pid) = next_turn(kernel, schedule, awaited) else {
             return Ok(());
         };
         if let Err(halt) = turn(kernel, schedule, pid, &mut awaited, watch) {

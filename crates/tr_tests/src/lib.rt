@@ -4,12 +4,6 @@
 #[cfg(test)]
 mod booting;
 #[cfg(test)]
-mod conversations;
-#[cfg(test)]
-mod drills;
-#[cfg(test)]
-mod ends;
-#[cfg(test)]
 mod expressions;
 #[cfg(test)]
 mod lines;

@@ -12,7 +12,7 @@ use tr_expr::parse_inject;
 use trace_run::{Ended, RunFault, Written, run};
 
 #[derive(Clone, Copy, Debug, PartialEq, Eq)]
-pub(crate) enum End {
+enum End {
     Whole,
     OutOfTurns,
     Fault(RunFault),
@@ -60,7 +60,7 @@ fn script(alloc: Global, inject: &str) -> Result<Script, Fail> {
     Ok(Script::new(rules))
 }
 
-pub(crate) fn end_of(ended: &Result<Ended, RunFault>) -> End {
+fn end_of(ended: &Result<Ended, RunFault>) -> End {
     match ended {
         Ok(Ended::Whole(_)) => End::Whole,
         Ok(Ended::OutOfTurns) => End::OutOfTurns,

@@ -24,7 +24,7 @@ returns-in-Err-clause-told g c = told_both _ _ _ _ _ _ c.turns.invariant.1 c.in-
 
 pub turns-smaller : goal.turns-smaller
 turns-smaller g c = fewer_still (events_left c.turn.new.schedule) (events_left c.next_turn.new.schedule) (events_left c.turns.schedule) c.in_default-turn.ensures.fewer
-    (next_less c.turns.awaited.fault c.turns.kernel c.turns.schedule c.in-Some.pid c.next_turn.new.schedule (sym c.in-Some.is ∙ c.in-Ok.ensures.next) c.next_turn.ensures.rest)
+    (next_less c.turns.awaited.fault c.turns.kernel c.turns.schedule c.in-Some.pid c.next_turn.new.schedule (sym c.in-Some.is ∙ c.next_turn.ensures.next) c.next_turn.ensures.rest)
 
 pub turns-preserved : goal.turns-preserved
 turns-preserved g c =
@@ -33,7 +33,7 @@ turns-preserved g c =
       λ z rest. c.turns.invariant.0 z
           (subst (λ (f : Fault). RunsFaulted f c.turns.kernel c.turns.schedule z) same
           (turn_is fault c.turns.kernel c.turns.schedule c.in-Some.pid c.next_turn.new.schedule z
-          (sym c.in-Some.is ∙ c.in-Ok.ensures.next) c.next_turn.ensures.rest
+          (sym c.in-Some.is ∙ c.next_turn.ensures.next) c.next_turn.ensures.rest
           (c.in_default-turn.ensures.on z (subst (λ (f : Fault). RunsFaulted f c.turn.new.kernel c.turn.new.schedule z) (sym same) rest)))),
       told_both _ _ _ _ _ _ c.turns.invariant.1 c.in_default-turn.ensures.told,
       c.in_default-turn.ensures.begun ∙ c.turns.invariant.2,

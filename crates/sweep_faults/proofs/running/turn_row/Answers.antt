@@ -19,7 +19,7 @@ row-preserved g c =
       made_now c.args.awaited.now.fault c.advance.new.awaited.fault behind (behind + 1) c.args.kernel.now c.advance.new.kernel c.args.pid
           (c.in-Ok.ensures.fault ∙ c.row.invariant.5) refl
           (made_more c.args.awaited.now.fault c.row.awaited.fault c.row.made (c.in-Ok.moved.turns - 1) c.args.kernel.now c.row.kernel c.advance.new.kernel c.args.pid c.row.invariant.5 c.row.invariant.1 c.in-Ok.ensures.row)
-          (c.in-Ok-has_next.ensures c.if-not-next.false),
+          (c.has_next-next.ensures c.if-not-next.false),
       told_both _ _ _ _ _ _ c.row.invariant.2 c.in-Ok.ensures.told,
       c.in-Ok.ensures.begun ∙ c.row.invariant.3,
       c.in-Ok.ensures.awaits,
