@@ -45,13 +45,13 @@ function __girmolet_faults
         set option $argv[1]=
     end
     set -l whole $option$word
-    set -l found fault= stop=
+    set -l found fault= stop= kill= short=
     if string match -qr '^fault=.*:error=.*' -- $whole
         set found (string replace -r '[^=,]*$' '' -- $whole)$__girmolet_errors
     else if string match -qr '^fault=.*:' -- $whole
         set found (string replace -r '[^:]*$' '' -- $whole)error=
-    else if string match -qr '^(fault|stop)=' -- $whole
-        set found (string match -r '^(?:fault|stop)=(?:.*,)?[!?]?' -- $whole)$__girmolet_calls
+    else if string match -qr '^(fault|stop|kill|short)=' -- $whole
+        set found (string match -r '^(?:fault|stop|kill|short)=(?:.*,)?[!?]?' -- $whole)$__girmolet_calls
     end
     string replace -- $option '' $found
 end

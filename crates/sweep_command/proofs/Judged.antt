@@ -1,12 +1,12 @@
 -- Rows that a command has judged are told.
-use Rattle.std.proofs.Common.{◌≡◌, List, [], ◌∷◌, true, false, map, All, refl, ap, ap₂, sym, subst, ◌∙◌}
+use Rattle.std.proofs.Common.{◌≡◌, List, [], ◌∷◌, true, false, map, All, ap, ap₂, sym, subst, ◌∙◌}
 use Rattle.std.proofs.lemmas.List.Elements.{All-nil, All-cons, All-head, All-tail}
 use Rattle.sweep_rows.specs.declared.verdicts.Reached.{Reached}
 use Rattle.sweep_runs.specs.Rows.{AreRows, IsRow}
 use Rattle.sweep_runs.specs.declared.chosen.Case.{Case}
 use Rattle.sweep_runs.specs.declared.runs.Setup.{Setup}
 use Rattle.sweep_runs.specs.declared.sweeping.Row.{Row}
-use Rattle.sweep_command.specs.Checks.{IsJudged, AreJudged, IsTold, AreTold}
+use Rattle.sweep_command.specs.Checks.{AreJudged, IsTold, AreTold}
 
 module _ (setup : Setup) (reference : Reached) where
   judged_cases : (made rows : List Row) → AreJudged setup reference made rows

@@ -1,5 +1,5 @@
 -- Kinds by numbers: by novelty no case is lost.
-use Rattle.std.proofs.Common.{◌≡◌, ◌<◌, ◌≤◌, ◌+◌, ◌==◌, ◌++◌, ℕ, zero, suc, Bool, true, false, cond, List, [], ◌∷◌, length, IsPermutation, refl, sym, ap, subst, ◌∙◌, arith, length-append}
+use Rattle.std.proofs.Common.{◌≡◌, ◌<◌, ◌≤◌, ◌+◌, ◌==◌, ◌++◌, ℕ, suc, Bool, true, false, cond, List, [], ◌∷◌, length, IsPermutation, refl, ap, subst, ◌∙◌, arith, length-append}
 use Rattle.std.specs.List.{range_with_len, AllByRecursion}
 use Rattle.std.proofs.lemmas.Bool.{eqb-false}
 use Rattle.std.proofs.lemmas.List.Elements.{All-from_recursion}
@@ -7,7 +7,7 @@ use Rattle.sweep_runs.specs.declared.chosen.Case.{Case}
 use Rattle.turn_orders.specs.Novelty.{novel}
 use Rattle.turn_orders.proofs.Each.{each_once}
 use Rattle.turn_orders.proofs.Spreads.{all_placed}
-use Rattle.sweep_command.specs.Choosing.{is_kind, kinds_of, place_in, met_with, met_after, numbers_of, by_novelty, LosesNone}
+use Rattle.sweep_command.specs.Choosing.{is_kind, kinds_of, place_in, met_with, met_after, numbers_of, LosesNone}
 use Rattle.sweep_command.specs.declared.choosing.Kind.{Kind}
 
 place_small : (ms : List Kind) (k : Kind) → place_in ms k ≤ length ms

@@ -1,5 +1,5 @@
 -- What comes of a run whose files a command has judged.
-use Rattle.std.specs.Prelude.{◌≡◌, ℕ, ◌==◌, ◌&&◌, nat_lt, cond, not, Bool, true, false, List, [], ◌∷◌, length, map, All}
+use Rattle.std.specs.Prelude.{◌≡◌, ◌==◌, ◌&&◌, nat_lt, cond, not, Bool, true, false, List, [], ◌∷◌, length, map, All}
 use Rattle.sweep_rows.specs.Summary.{rank, checked}
 use Rattle.sweep_rows.specs.Verdicts.{facts_of, verdict_of}
 use Rattle.sweep_rows.specs.declared.verdicts.Reached.{Reached}

@@ -1,5 +1,6 @@
 -- Which failures are tried, where not all of them may be.
-use Rattle.std.specs.Prelude.{◌≡◌, ℕ, suc, ◌==◌, ◌&&◌, cond, Bool, List, [], ◌∷◌, ◌++◌, length, take, Option, None, Some, IsPermutation}
+use Rattle.std.specs.Prelude.{◌≡◌, ℕ, suc, ◌==◌, ◌&&◌, cond, Bool, List, [], ◌∷◌, ◌++◌, length}
+use Rattle.std.specs.Prelude.{take, Option, None, Some, IsPermutation}
 use Rattle.std.specs.List.{flat_map, slice_get}
 use Rattle.std.specs.Option.{option_to_list}
 use Rattle.sweep_command.specs.declared.choosing.Kind.{Kind}

@@ -1,5 +1,5 @@
 pub mod Choosing
 pub mod Naming
 pub mod Checks
-pub mod Stops
+pub mod Trials
 pub mod Reports

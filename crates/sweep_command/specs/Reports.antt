@@ -1,13 +1,13 @@
 -- The report on a sweep.
-use Rattle.std.specs.Prelude.{◌≡◌, ◌⊎◌, ⊤, ℕ, suc, ◌-◌, ◌<◌, ◌==◌, ◌&&◌, ◌||◌, nat_lt, take, cond, Bool, true, false, List, [], ◌∷◌, ◌++◌, length, Option, Some, None, Result, IfOk, map, String}
+use Rattle.std.specs.Prelude.{◌≡◌, ◌⊎◌, ⊤, ℕ, suc, ◌-◌, ◌<◌, ◌==◌, ◌&&◌, ◌||◌, nat_lt, take, cond}
+use Rattle.std.specs.Prelude.{Bool, true, false, List, [], ◌∷◌, ◌++◌, length, Option, Some, None, Result, IfOk, map, String}
 use Rattle.std.specs.List.{list_any, slice_get}
 use Rattle.front_end.specs.Statuses.{IsStatusOf}
 use Rattle.front_end.specs.declared.fault.Fault.{Fault}
-use Rattle.lx_abi.specs.declared.script.Set.{Set}
 use Rattle.sweep_command.specs.Checks.{AreTold}
 use Rattle.sweep_command.specs.Choosing.{AreChosen}
 use Rattle.sweep_command.specs.Naming.{listed, names}
-use Rattle.sweep_command.specs.Stops.{IsOfStop, IsOfStops}
+use Rattle.sweep_command.specs.Trials.{IsOfTrial, IsOfTrials}
 use Rattle.sweep_orders.specs.Orders.{AreOrders}
 use Rattle.sweep_orders.specs.declared.exploring.Explored.{Explored}
 use Rattle.sweep_orders.specs.declared.found.Found.{Found}
@@ -25,8 +25,9 @@ use Rattle.sweep_words.specs.Known.{IsKnown}
 use Rattle.sweep_words.specs.declared.cases.NamedCase.{NamedCase}
 use Rattle.sweep_words.specs.declared.plan.Plan.{Plan}
 use Rattle.sweep_words.specs.declared.show.NamedRow.{NamedRow}
-use Rattle.sweep_words.specs.declared.show.NamedRow.TheVariants.{Failure, Stop}
+use Rattle.sweep_words.specs.declared.show.NamedRow.TheVariants.{Failure, Trial}
 use Rattle.sweep_words.specs.declared.show.NamedRun.{NamedRun}
+use Rattle.sweep_words.specs.declared.trials.Tried.{Tried}
 use Rattle.sweep_words.specs.declared.words.Orders.{Orders}
 use Rattle.sweep_words.specs.declared.words.Shard.{Shard}
 use Rattle.sweep_words.specs.declared.words.Words.{Words}
@@ -158,19 +159,19 @@ pub record IsOfRun (plan : Plan) (reference : Reached) (run : NamedRun) (s : ℕ
   pub made : IsRow plan.setup reference row
   pub status_is : s ≡ status_of plan.strict (row.verdict ∷ [])
 
--- with a failure, or in which everything ends
+-- with a failure, or in which something else happens
 abbrev pub IsOfShown : Plan → Reached → NamedRow → ℕ → Type 0
 IsOfShown plan reference (Failure run) s = IsOfRun plan reference run s
-IsOfShown plan reference (Stop stop) s = IsOfStop plan reference stop s
+IsOfShown plan reference (Trial named) s = IsOfTrial plan reference named s
 
--- .. or of the runs with a failure, or those in which everything ends at a call of a set
-abbrev pub IsOfEnds : Plan → Words → Reached → Option Set → ℕ → Type 0
+-- .. or of the runs with a failure, or those in which something else happens at calls
+abbrev pub IsOfEnds : Plan → Words → Reached → Option Tried → ℕ → Type 0
 IsOfEnds plan words reference None s = IsOfRows plan words reference s
-IsOfEnds plan words reference (Some set) s = IsOfStops plan reference set s
+IsOfEnds plan words reference (Some tried) s = IsOfTrials plan reference tried s
 
 -- .. or of those by orders of turns
 abbrev pub IsOfAll : Plan → Words → Reached → Option Orders → ℕ → Type 0
-IsOfAll plan words reference None s = IsOfEnds plan words reference plan.stop s
+IsOfAll plan words reference None s = IsOfEnds plan words reference plan.tried s
 IsOfAll plan words reference (Some orders) s = IsOfOrders plan words orders reference s
 
 abbrev pub IsOfReport : Plan → Words → Reached → ℕ → Type 0

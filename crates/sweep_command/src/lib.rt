@@ -17,10 +17,10 @@ mod progress;
 mod reference;
 mod rows;
 mod show;
-mod show_stop;
-mod stops;
+mod show_trial;
 mod sweeping;
 mod telling;
+mod trials;
 
 pub use entry::command;
 pub use sweep_words::words::COMMAND_LINE;

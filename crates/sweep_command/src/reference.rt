@@ -12,6 +12,7 @@ use out_of_turns::explain_turns;
 use std::alloc::{AllocError, Global};
 use sweep_rows::Reached;
 use sweep_runs::{Case, Setup, fault_of, refer, run_accepted, run_failing};
+use sweep_trials::explain;
 use sweep_words::plan::Plan;
 use sweep_words::words::Words;
 
@@ -75,23 +76,16 @@ fn kernel_of(alloc: Global, setup: &Setup, case: Case) -> Result<Kernel, AllocEr
     run_failing(alloc, setup, fault_of(case))
 }
 
-/// Why the run that left this kernel is out of turns.
-fn explain(alloc: Global, setup: &Setup, kernel: Kernel) -> Result<String, AllocError> {
-    let text = explain_turns(alloc, &kernel, setup.limit, "turns");
-    drop(kernel);
-    text
-}
-
 /// Why the run of a case is out of turns.
 pub fn explain_case(alloc: Global, setup: &Setup, case: Case) -> Result<String, AllocError> {
     let kernel = kernel_of(alloc, setup, case)?;
-    explain(alloc, setup, kernel)
+    explain(alloc, kernel, setup.limit)
 }
 
 /// Why the run without a failure is out of turns.
 fn explain_reference(alloc: Global, setup: &Setup) -> Result<String, AllocError> {
     let kernel = kernel(alloc, setup)?;
-    explain(alloc, setup, kernel)
+    explain(alloc, kernel, setup.limit)
 }
 
 /// The run without a failure.

@@ -2,7 +2,6 @@
 
 ghost use Rattle.std.specs.Prelude.{◌≡◌, ◌<◌, ◌≤◌, ◌++◌, [], true, false, length, map, take, IfOk, OnOk};
 ghost use Rattle.sweep_runs.specs.Rows.{fault_of};
-ghost use Rattle.sweep_command.specs.Choosing.{AreChosen};
 ghost use Rattle.sweep_command.specs.Reports.{taken, waits, every, part_of, AreAll, AreWanted, AreBegun, IsFound};
 ghost use Rattle.sweep_command.specs.Reports.{IsCut};
 

@@ -14,9 +14,9 @@ use crate::outputs::{check, create, path_of, replace, write};
 use crate::reference::{limited, reference};
 use crate::rows::{Choice, make, wanted_cases};
 use crate::show::show;
-use crate::show_stop::show_stop;
-use crate::stops::stops_reported;
+use crate::show_trial::show_trial;
 use crate::telling::{all_told, told, worst};
+use crate::trials::trials_reported;
 use clap::ArgMatches;
 use front_end::{Fault, Program, check_outputs};
 use lx_abi::Status;
@@ -232,8 +232,8 @@ fn failures<
     Ok(status)
 }
 
-/// Reports the runs in which everything ends, where the words ask for these, or else those with a failure; gives the
-/// exit status.
+/// Reports the runs in which something else happens to calls, where the words ask for these, or else those with a
+/// failure; gives the exit status.
 fn report_ends<
     R: Env + Files + Clock + Processes + Threads + Sync + AllocGlobal,
     W: Write,
@@ -248,13 +248,13 @@ fn report_ends<
     writer: &mut W,
     err: &mut E,
 ) -> Result<u8, Fault>
-    ensures { IfOk result (IsOfEnds plan.now words reference.now plan.now.stop) }
+    ensures { IfOk result (IsOfEnds plan.now words reference.now plan.now.tried) }
 {
-    match &plan.stop {
-        Some(set) => {
+    match &plan.tried {
+        Some(tried) => {
             let alloc = rt.alloc();
-            let of_stops = stops_reported(alloc, matches, words, plan, set, reference, writer)?;
-            Ok(of_stops)
+            let of_trials = trials_reported(alloc, matches, words, plan, tried, reference, writer)?;
+            Ok(of_trials)
         }
         None => {
             let of_rows = failures(rt, matches, words, plan, reference, found, writer, err)?;
@@ -263,7 +263,7 @@ fn report_ends<
     }
 }
 
-/// Reports the orders of turns, or else the runs in which something fails or all ends; gives the exit status.
+/// Reports the orders of turns, or else the runs in which something happens to a call; gives the exit status.
 fn report_all<
     R: Env + Files + Clock + Processes + Threads + Sync + AllocGlobal,
     W: Write,
@@ -310,9 +310,9 @@ fn report_shown<W: Write>(
             let of_run = show(alloc, matches, plan, reference, run, writer)?;
             Ok(of_run)
         }
-        NamedRow::Stop(stop) => {
-            let of_stop = show_stop(alloc, matches, plan, reference, stop, writer)?;
-            Ok(of_stop)
+        NamedRow::Trial(named) => {
+            let of_trial = show_trial(alloc, matches, plan, reference, named, writer)?;
+            Ok(of_trial)
         }
     }
 }

@@ -9,6 +9,7 @@ use sweep_report::told::{Told, tell_row};
 use sweep_report::traced::TracedCalls;
 use sweep_rows::{Reached, Verdict, rank};
 use sweep_runs::Row;
+use sweep_trials::hung_by;
 use sweep_words::plan::Plan;
 
 /// Why the run of a row did not end.
@@ -17,10 +18,7 @@ fn why_hung(alloc: Global, plan: &Plan, row: &Row) -> Result<Option<String>, All
         return Ok(None);
     }
     let reason = explain_case(alloc, &plan.setup, row.case)?;
-    if reason.starts_with("every") {
-        return Ok(Some(reason));
-    }
-    Ok(Some(format!(in alloc; "runs on")?))
+    Ok(Some(hung_by(alloc, reason)?))
 }
 
 /// A row as it is told.

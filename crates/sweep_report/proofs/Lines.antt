@@ -1,5 +1,5 @@
 -- Lines are like themselves.
-use Rattle.std.proofs.Common.{◌≡◌, ℕ, Bool, true, false, List, [], ◌∷◌, eqb, refl}
+use Rattle.std.proofs.Common.{ℕ, Bool, true, false, List, [], ◌∷◌, eqb, refl}
 use Rattle.sweep_words.specs.Known.{IsBehind, IsLike}
 
 behind : (b : Bool) (c : ℕ) (cs : List ℕ) → IsLike cs cs → IsBehind b c (λ rest. IsLike rest cs) (c ∷ cs)

@@ -1,7 +1,7 @@
 -- How many runs came to what.
-use Rattle.std.specs.Prelude.{ℕ, ◌+◌, nat_lt, Bool, false, cond, List, [], ◌∷◌, ◌++◌, map}
-use Rattle.std.specs.List.{flat_map}
-use Rattle.sweep_rows.specs.Summary.{count}
+use Rattle.std.specs.Prelude.{ℕ, ◌+◌, ◌==◌, ◌||◌, nat_lt, Bool, false, cond, List, [], ◌∷◌, ◌++◌, map}
+use Rattle.std.specs.List.{flat_map, list_any}
+use Rattle.sweep_rows.specs.Summary.{count, rank}
 use Rattle.sweep_report.specs.Findings.{counts}
 use Rattle.sweep_rows.specs.declared.verdicts.Verdict.{Verdict}
 use Rattle.sweep_rows.specs.declared.verdicts.Verdict.TheVariants.{Hung, Killed, Broken, Torn, Lost, Dropped, Damaged}
@@ -37,10 +37,21 @@ abbrev pub all_verdicts : List Verdict
 all_verdicts =
     Hung ∷ Killed ∷ Broken ∷ Torn ∷ Lost ∷ Dropped ∷ Damaged ∷ Warned ∷ Reported ∷ Recovered ∷ Ignored ∷ []
 
-abbrev pub kind_of : List Verdict → Verdict → List Kind
-kind_of verdicts v =
-    cond (nat_lt 0 (count v verdicts)) (record { verdict = v; runs = count v verdicts } ∷ []) []
+abbrev pub is_among : List Verdict → Verdict → Bool
+is_among verdicts v = list_any (λ one. rank one == rank v) verdicts
 
--- the verdicts that some run has
+-- one that so many runs have is told: some run has it, or it is always told
+abbrev pub is_told : List Verdict → Verdict → ℕ → Bool
+is_told always v runs = nat_lt 0 runs || is_among always v
+
+abbrev pub kind_of : List Verdict → List Verdict → Verdict → List Kind
+kind_of always verdicts v =
+    cond (is_told always v (count v verdicts)) (record { verdict = v; runs = count v verdicts } ∷ []) []
+
+-- the verdicts that some run has, and those that are always told
+abbrev pub kinds_with : List Verdict → List Verdict → List Kind
+kinds_with always verdicts = flat_map (kind_of always verdicts) all_verdicts
+
+-- those alone that some run has
 abbrev pub kinds_of : List Verdict → List Kind
-kinds_of verdicts = flat_map (kind_of verdicts) all_verdicts
+kinds_of verdicts = kinds_with [] verdicts

@@ -1,12 +1,12 @@
 //! How many runs came to what.
 
-ghost use Rattle.std.specs.Prelude.{◌≡◌, ◌++◌, IfOk, OnOk, length};
+ghost use Rattle.std.specs.Prelude.{◌≡◌, ◌++◌, [], IfOk, OnOk, length};
 ghost use Rattle.sweep_report.specs.Tallies.{verdicts_in, is_marked, behind, unless, unmarked, findings_in, kind_of};
-ghost use Rattle.sweep_report.specs.Tallies.{kinds_of};
+ghost use Rattle.sweep_report.specs.Tallies.{is_among, is_told, kinds_of, kinds_with};
 
 use crate::findings::counts;
 use std::alloc::{AllocError, Global};
-use sweep_rows::{Verdict, count};
+use sweep_rows::{Verdict, count, rank};
 use sweep_runs::Row;
 
 /// All verdicts, the worst first.
@@ -37,7 +37,7 @@ pub struct Tally {
     /// The findings that aren't known.
     pub findings: usize,
     pub known: usize,
-    /// The verdicts that some run has, the worst first.
+    /// The verdicts that are told, the worst first: those that some run has.
     pub kinds: Vec<Kind>,
 }
 
@@ -98,32 +98,54 @@ pub fn verdicts_of(alloc: Global, rows: &[Row]) -> Result<Vec<Verdict>, AllocErr
     Ok(verdicts)
 }
 
-/// Adds a verdict with its runs, if some run has it.
-fn add_kind(kinds: &mut Vec<Kind>, verdicts: &[Verdict], verdict: Verdict) -> Result<(), AllocError>
-    ensures { OnOk result (kinds.new.items ≡ kinds.old.items ++ kind_of verdicts.now verdict) }
+fn is_among(verdicts: &[Verdict], verdict: Verdict) -> bool
+    ensures { result ≡ is_among verdicts.now verdict }
+{
+    verdicts.iter().any(|one| rank(*one) == rank(verdict))
+}
+
+/// A verdict that so many runs have is told: some run has it, or it is always told.
+fn is_told(always: &[Verdict], verdict: Verdict, runs: usize) -> bool
+    ensures { result ≡ is_told always.now verdict runs }
+{
+    runs > 0 || is_among(always, verdict)
+}
+
+/// Adds a verdict with its runs, if it is told.
+fn add_kind(
+    kinds: &mut Vec<Kind>,
+    always: &[Verdict],
+    verdicts: &[Verdict],
+    verdict: Verdict,
+) -> Result<(), AllocError>
+    ensures { OnOk result (kinds.new.items ≡ kinds.old.items ++ kind_of always.now verdicts.now verdict) }
 {
     let runs = count(verdicts, verdict);
-    if runs > 0 {
+    if is_told(always, verdict, runs) {
         kinds.push(Kind { verdict, runs })?;
     }
     Ok(())
 }
 
-/// The verdicts that some run has, with their runs.
-fn kinds_of(alloc: Global, verdicts: &[Verdict]) -> Result<Vec<Kind>, AllocError>
-    ensures { IfOk result (λ kinds. kinds.items ≡ kinds_of verdicts.now) }
+/// The verdicts that some run has, and those that are always told, with their runs.
+pub fn kinds_with(
+    alloc: Global,
+    always: &[Verdict],
+    verdicts: &[Verdict],
+) -> Result<Vec<Kind>, AllocError>
+    ensures { IfOk result (λ kinds. kinds.items ≡ kinds_with always.now verdicts.now) }
 {
     let mut kinds = Vec::new(alloc);
     let mut left: &[Verdict] = &VERDICTS;
     while let Some((verdict, rest)) = left.split_first() {
-        add_kind(&mut kinds, verdicts, *verdict)?;
+        add_kind(&mut kinds, always, verdicts, *verdict)?;
         left = rest;
     }
     Ok(kinds)
 }
 
 /// How many of these are findings.
-fn findings_in(strict: bool, verdicts: &[Verdict]) -> usize
+pub fn findings_in(strict: bool, verdicts: &[Verdict]) -> usize
     ensures { result ≡ findings_in strict verdicts.now }
 {
     let mut findings = 0;
@@ -148,7 +170,7 @@ pub fn tally_of(
     ensures findings { IfOk result (λ tally. tally.findings ≡ findings_in strict counted.now) }
     ensures kinds { IfOk result (λ tally. tally.kinds.items ≡ kinds_of verdicts.now) }
 {
-    let kinds = kinds_of(alloc, verdicts)?;
+    let kinds = kinds_with(alloc, &[], verdicts)?;
     Ok(Tally {
         runs: verdicts.len(),
         findings: findings_in(strict, counted),

@@ -115,13 +115,23 @@ pub fn told_files(alloc: Global, notes: &[FileNote]) -> Result<Vec<ToldFile>, Al
     Ok(told)
 }
 
-pub fn file_text(alloc: Global, file: &ToldFile) -> Result<String, AllocError> {
+fn file_text(alloc: Global, file: &ToldFile) -> Result<String, AllocError> {
     let (path, word) = (&file.path, file.word);
     match (file.bytes, file.of) {
         (Some(bytes), Some(of)) => format!(in alloc; "{path} {word} ({bytes} of {of})"),
         (Some(bytes), None) => format!(in alloc; "{path} {word} ({bytes})"),
         _ => format!(in alloc; "{path} {word}"),
     }
+}
+
+/// Adds what became of files.
+pub fn push_files(text: &mut String, alloc: Global, files: &[ToldFile]) -> Result<(), AllocError> {
+    let mut between = "; ";
+    for file in files {
+        push_part(text, file_text(alloc, file)?.as_str(), between)?;
+        between = ", ";
+    }
+    Ok(())
 }
 
 /// What a run says as errors, where the reference doesn't.
@@ -176,18 +186,28 @@ fn push_children(
     Ok(())
 }
 
+/// What a run came to beside its files.
+#[derive(Clone, Copy)]
+pub struct Came<'r> {
+    pub verdict: Verdict,
+    /// The wait word of process 1, if it ended.
+    pub word: Option<u32>,
+    pub ended: &'r [Ended],
+    pub streams: &'r Streams,
+}
+
 /// Adds how process 1 ended, where that is the news of a run.
 fn push_end(
     text: &mut String,
     alloc: Global,
     reference: &Reached,
-    row: &Row,
+    came: Came<'_>,
 ) -> Result<(), AllocError> {
-    let Some(word) = row.word else {
+    let Some(word) = came.word else {
         return Ok(());
     };
     let is_news = first_word(&reference.ending.outcome) != Some(word);
-    if is_news || rank(row.verdict) <= rank(Verdict::Warned) {
+    if is_news || rank(came.verdict) <= rank(Verdict::Warned) {
         push_part(text, end_text(alloc, word)?.as_str(), "; ")?;
     }
     Ok(())
@@ -212,10 +232,10 @@ fn push_streams(
 }
 
 /// What came of a run; `hung` tells why it did not end.
-fn told_text(
+pub fn told_text(
     alloc: Global,
     reference: &Reached,
-    row: &Row,
+    came: Came<'_>,
     files: &[ToldFile],
     hung: Option<&str>,
 ) -> Result<String, AllocError> {
@@ -223,16 +243,12 @@ fn told_text(
     if let Some(reason) = hung {
         text.push_str(reason)?;
     } else {
-        push_end(&mut text, alloc, reference, row)?;
+        push_end(&mut text, alloc, reference, came)?;
         let ended = reference.ending.outcome.ended.as_slice();
-        push_children(&mut text, alloc, ended, row.ended.as_slice())?;
+        push_children(&mut text, alloc, ended, came.ended)?;
     }
-    push_streams(&mut text, alloc, &reference.streams, &row.streams)?;
-    let mut between = "; ";
-    for file in files {
-        push_part(&mut text, file_text(alloc, file)?.as_str(), between)?;
-        between = ", ";
-    }
+    push_streams(&mut text, alloc, &reference.streams, came.streams)?;
+    push_files(&mut text, alloc, files)?;
     Ok(text)
 }
 
@@ -272,6 +288,15 @@ struct ToldOutcome {
     outcome: String,
 }
 
+fn came_of(row: &Row) -> Came<'_> {
+    Came {
+        verdict: row.verdict,
+        word: row.word,
+        ended: row.ended.as_slice(),
+        streams: &row.streams,
+    }
+}
+
 fn outcome_of(
     alloc: Global,
     reference: &Reached,
@@ -279,7 +304,8 @@ fn outcome_of(
     hung: Option<&str>,
 ) -> Result<ToldOutcome, AllocError> {
     let files = told_files(alloc, row.files.as_slice())?;
-    let told = told_text(alloc, reference, row, files.as_slice(), hung)?;
+    let came = came_of(row);
+    let told = told_text(alloc, reference, came, files.as_slice(), hung)?;
     let masked = without_numbers(alloc, told.as_str(), false)?;
     let outcome = format!(in alloc; "{} {masked}", verdict_name(row.verdict))?;
     Ok(ToldOutcome {

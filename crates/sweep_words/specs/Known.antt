@@ -1,5 +1,6 @@
 -- Lines of known findings, in which a `*` stands for any text.
-use Rattle.std.specs.Prelude.{◌≡◌, ◌⊎◌, ℕ, ◌==◌, Bool, true, false, List, [], ◌∷◌, ◌++◌, Option, Some, None, String, codes}
+use Rattle.std.specs.Prelude.{◌≡◌, ◌⊎◌, ℕ, ◌==◌, Bool, true, false, List, [], ◌∷◌, ◌++◌, Option}
+use Rattle.std.specs.Prelude.{Some, None, String, codes}
 use Rattle.std.specs.String.{string_bytes}
 use Rattle.front_end.specs.Texts.{IsAbout}
 use Rattle.front_end.specs.declared.fault.Fault.{Fault}

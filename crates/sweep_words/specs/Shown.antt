@@ -1,4 +1,5 @@
--- The run that --show names: CALL:ERROR:N, of process 1, or CALL@PID:ERROR:N; or CALL:stop:N, in which everything ends.
+-- The run that --show names: CALL:ERROR:N, of process 1, or CALL@PID:ERROR:N; or with `stop`, `kill` or `short=COUNT`
+-- in the place of the error.
 use Rattle.std.specs.Prelude.{ℕ, ◌==◌, List, Option, Some, None, if◌then◌else◌, bytes_eq, codes}
 use Rattle.std.specs.Option.{option_and_then}
 use Rattle.std.specs.Result.{result_ok}
@@ -6,12 +7,14 @@ use Rattle.front_end.specs.Numbers.{decimal}
 use Rattle.lx_abi.specs.Calls.{call_number}
 use Rattle.lx_abi.specs.Errors.{errno_numbered}
 use Rattle.lx_abi.specs.declared.errno.Errno.{Errno}
+use Rattle.sweep_faults.specs.declared.faults.Kind.{Kind}
+use Rattle.sweep_faults.specs.declared.faults.Kind.TheVariants as kinds
 use Rattle.tr_expr.specs.Parts.{errno_value}
 use Rattle.tr_expr.specs.Texts.{has_mark, before_mark, after_mark}
 use Rattle.sweep_words.specs.declared.show.NamedRow.{NamedRow}
-use Rattle.sweep_words.specs.declared.show.NamedRow.TheVariants.{Failure, Stop}
+use Rattle.sweep_words.specs.declared.show.NamedRow.TheVariants.{Failure, Trial}
 use Rattle.sweep_words.specs.declared.show.NamedRun.{NamedRun}
-use Rattle.sweep_words.specs.declared.show.NamedStop.{NamedStop}
+use Rattle.sweep_words.specs.declared.show.NamedTrial.{NamedTrial}
 
 -- a number from 1 on
 abbrev pub not_none : Option ℕ → Option ℕ
@@ -50,28 +53,44 @@ named_run text =
     then run_of (before_mark 58 text) (before_mark 58 (after_mark 58 text)) (after_mark 58 (after_mark 58 text))
     else None) else None
 
--- a stop is named where its parts are
-abbrev pub stopped : Option ℕ → Option ℕ → Option ℕ → Option NamedStop
-stopped (Some pid) (Some call) (Some n) = Some (record { pid = pid; call = call; n = n })
-stopped (Some pid) (Some call) None = None
-stopped (Some pid) None n = None
-stopped None call n = None
+-- what happens in the place of an error: `stop`, `kill`, or `short=COUNT`, with an = (character 61)
+unfoldable pub count_in : List ℕ → Option ℕ
+count_in text =
+    if has_mark 61 text then (if bytes_eq (before_mark 61 text) (codes "short")
+    then positive (after_mark 61 text) else None) else None
 
-unfoldable pub stop_of : List ℕ → List ℕ → List ℕ → Option NamedStop
-stop_of call kind n =
-    if bytes_eq kind (codes "stop") then stopped (pid_in call) (call_in call) (positive n) else None
+abbrev pub shortened : Option ℕ → Option Kind
+shortened None = None
+shortened (Some count) = Some (kinds.Short count)
 
-unfoldable pub named_stop : List ℕ → Option NamedStop
-named_stop text =
+unfoldable pub kind_in : List ℕ → Option Kind
+kind_in text =
+    if bytes_eq text (codes "stop") then Some kinds.Stop
+    else (if bytes_eq text (codes "kill") then Some kinds.Killed else shortened (count_in text))
+
+-- a trial is named where all its parts are
+abbrev pub tried : Option ℕ → Option ℕ → Option Kind → Option ℕ → Option NamedTrial
+tried (Some pid) (Some call) (Some kind) (Some n) =
+    Some (record { pid = pid; call = call; kind = kind; n = n })
+tried (Some pid) (Some call) (Some kind) None = None
+tried (Some pid) (Some call) None n = None
+tried (Some pid) None kind n = None
+tried None call kind n = None
+
+unfoldable pub trial_of : List ℕ → List ℕ → List ℕ → Option NamedTrial
+trial_of call kind n = tried (pid_in call) (call_in call) (kind_in kind) (positive n)
+
+unfoldable pub named_trial : List ℕ → Option NamedTrial
+named_trial text =
     if has_mark 58 text then (if has_mark 58 (after_mark 58 text)
-    then stop_of (before_mark 58 text) (before_mark 58 (after_mark 58 text)) (after_mark 58 (after_mark 58 text))
+    then trial_of (before_mark 58 text) (before_mark 58 (after_mark 58 text)) (after_mark 58 (after_mark 58 text))
     else None) else None
 
--- a stop, or else a failure; no error is called stop
-abbrev pub row_by : Option NamedStop → Option NamedRun → Option NamedRow
-row_by (Some stop) run = Some (Stop stop)
+-- a trial, or else a failure; no error has the name of a trial
+abbrev pub row_by : Option NamedTrial → Option NamedRun → Option NamedRow
+row_by (Some t) run = Some (Trial t)
 row_by None (Some run) = Some (Failure run)
 row_by None None = None
 
 unfoldable pub named_row : List ℕ → Option NamedRow
-named_row text = row_by (named_stop text) (named_run text)
+named_row text = row_by (named_trial text) (named_run text)

@@ -8,6 +8,6 @@ pub mod named;
 pub mod plan;
 pub mod shell;
 pub mod show;
-pub mod stops;
+pub mod trials;
 pub mod wanted;
 pub mod words;

@@ -5,11 +5,10 @@ ghost use Rattle.sweep_words.specs.Plans.{IsPlan};
 
 use crate::known::read_known;
 use crate::named::{NamedLine, read_named};
-use crate::stops::{Second, read_second, read_stop};
+use crate::trials::{Second, Tried, read_second, read_tried};
 use crate::wanted::read_calls;
 use clap::ArgMatches;
 use front_end::{Fault, limit, read_boot, read_turns};
-use lx_abi::Set;
 use std::io::{IsTerminal, Read, Write};
 use std::rt::Files;
 use sweep_runs::{Setup, Wanted};
@@ -21,8 +20,8 @@ pub struct Plan {
     /// The runs are those that a file names, and no others.
     pub is_listed: bool,
     pub named: Vec<NamedLine>,
-    /// No call fails: everything ends at each entry into one of these.
-    pub stop: Option<Set>,
+    /// No call has an error: this happens at each entry into one of these.
+    pub tried: Option<Tried>,
     /// It is started then on the files that are left.
     pub second: Option<Second>,
     /// The findings that are known, as lines of a file name them.
@@ -46,9 +45,9 @@ pub fn read_plan<R: Files + AllocGlobal, I: Read + IsTerminal, E: Write + IsTerm
     let limit = limit(rt.alloc(), matches)?;
     let named = read_named(rt, matches)?;
     let is_listed = matches.get_str("runs").is_some();
-    let stop = read_stop(rt.alloc(), matches)?;
-    let wanted = read_calls(rt.alloc(), matches, named.as_slice(), stop.is_some())?;
-    let second = read_second(rt.alloc(), matches, stop.is_some(), limit)?;
+    let tried = read_tried(rt.alloc(), matches)?;
+    let wanted = read_calls(rt.alloc(), matches, named.as_slice(), tried.is_some())?;
+    let second = read_second(rt.alloc(), matches, tried.is_some(), limit)?;
     let known = read_known(rt, matches)?;
     let turns = read_turns(rt, matches.get_str("turns"))?;
     let follow = matches.get_flag("follow");
@@ -58,7 +57,7 @@ pub fn read_plan<R: Files + AllocGlobal, I: Read + IsTerminal, E: Write + IsTerm
         wanted,
         is_listed,
         named,
-        stop,
+        tried,
         second,
         known,
         strict: matches.get_flag("strict"),

@@ -136,13 +136,14 @@ pub fn show_words(
     row_words(alloc, matches, &case.occurrence, error.as_str())
 }
 
-/// The same of the run in which everything ends at an occurrence, with the second program.
-pub fn stop_words(
+/// The same of the run in which this happens to an occurrence in the place of an error, with the second program.
+pub fn trial_words(
     alloc: Global,
     matches: &ArgMatches,
     occurrence: &Occurrence,
+    what: &str,
 ) -> Result<Vec<String>, AllocError> {
-    let mut words = row_words(alloc, matches, occurrence, "stop")?;
+    let mut words = row_words(alloc, matches, occurrence, what)?;
     if !words.is_empty() {
         if let Some(program) = matches.get_str("then") {
             push_each(alloc, &mut words, "--then", &[program])?;

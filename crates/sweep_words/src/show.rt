@@ -1,4 +1,4 @@
-//! The run that `--show` names: one with a failure, or one in which everything ends.
+//! The run that `--show` names: one in which a call has an error, or in which something else happens to it.
 
 ghost use Rattle.std.specs.Prelude.{◌≡◌};
 ghost use Rattle.sweep_words.specs.Shown as spec;
@@ -8,6 +8,7 @@ use front_end::{Fault, Shown, decimal, expression_words};
 use lx_abi::Errno;
 use lx_abi::calls::call_number;
 use std::alloc::Global;
+use sweep_faults::Kind;
 use tr_expr::errno;
 
 /// Options that have no meaning where one run is shown, each as it is written.
@@ -41,11 +42,12 @@ pub struct NamedRun {
     pub n: u64,
 }
 
-/// Everything ends at the nth entry of a process into a call, counted from 1.
+/// Something else happens to the nth entry of a process into a call, counted from 1.
 #[derive(Clone, Copy, Debug, PartialEq, Eq)]
-pub struct NamedStop {
+pub struct NamedTrial {
     pub pid: u64,
     pub call: u64,
+    pub kind: Kind,
     pub n: u64,
 }
 
@@ -53,7 +55,7 @@ pub struct NamedStop {
 #[derive(Clone, Copy, Debug, PartialEq, Eq)]
 pub enum NamedRow {
     Failure(NamedRun),
-    Stop(NamedStop),
+    Trial(NamedTrial),
 }
 
 /// A number from 1 on.
@@ -127,28 +129,53 @@ pub fn named_run(text: &str) -> Option<NamedRun>
     run_of(call, error, n)
 }
 
-/// The stop of these three parts, of which the second is `stop`.
-#[tactic(auto, unfolding(crate::specs::Shown::stop_of))]
-fn stop_of(call: &str, kind: &str, n: &str) -> Option<NamedStop>
-    ensures { result ≡ spec.stop_of call.now kind.now n.now }
+/// The count of `short=COUNT`.
+#[tactic(auto, unfolding(crate::specs::Shown::count_in))]
+fn count_in(text: &str) -> Option<u64>
+    ensures { result ≡ spec.count_in text.now }
 {
-    if kind != "stop" {
+    let (word, digits) = text.split_once('=')?;
+    if word != "short" {
         return None;
     }
-    let pid = pid_in(call)?;
-    let call = call_in(call)?;
-    let n = positive(n)?;
-    Some(NamedStop { pid, call, n })
+    positive(digits)
 }
 
-/// The stop of these words, if they name one.
-#[tactic(auto, unfolding(crate::specs::Shown::named_stop))]
-pub fn named_stop(text: &str) -> Option<NamedStop>
-    ensures { result ≡ spec.named_stop text.now }
+/// What happens in the place of an error.
+#[tactic(auto, unfolding(crate::specs::Shown::kind_in))]
+fn kind_in(text: &str) -> Option<Kind>
+    ensures { result ≡ spec.kind_in text.now }
+{
+    if text == "stop" {
+        return Some(Kind::Stop);
+    }
+    if text == "kill" {
+        return Some(Kind::Killed);
+    }
+    let count = count_in(text)?;
+    Some(Kind::Short(count))
+}
+
+/// The trial of these three parts.
+#[tactic(auto, unfolding(crate::specs::Shown::trial_of))]
+fn trial_of(call: &str, kind: &str, n: &str) -> Option<NamedTrial>
+    ensures { result ≡ spec.trial_of call.now kind.now n.now }
+{
+    let pid = pid_in(call)?;
+    let call = call_in(call)?;
+    let kind = kind_in(kind)?;
+    let n = positive(n)?;
+    Some(NamedTrial { pid, call, kind, n })
+}
+
+/// The trial of these words, if they name one.
+#[tactic(auto, unfolding(crate::specs::Shown::named_trial))]
+pub fn named_trial(text: &str) -> Option<NamedTrial>
+    ensures { result ≡ spec.named_trial text.now }
 {
     let (call, rest) = text.split_once(':')?;
     let (kind, n) = rest.split_once(':')?;
-    stop_of(call, kind, n)
+    trial_of(call, kind, n)
 }
 
 /// The run of either kind of these words, if they name one.
@@ -156,8 +183,8 @@ pub fn named_stop(text: &str) -> Option<NamedStop>
 fn named_row(text: &str) -> Option<NamedRow>
     ensures { result ≡ spec.named_row text.now }
 {
-    match named_stop(text) {
-        Some(stop) => Some(NamedRow::Stop(stop)),
+    match named_trial(text) {
+        Some(trial) => Some(NamedRow::Trial(trial)),
         None => match named_run(text) {
             Some(run) => Some(NamedRow::Failure(run)),
             None => None,
@@ -196,7 +223,7 @@ pub fn shown_run(alloc: Global, matches: &ArgMatches) -> Result<Option<NamedRow>
     match named_row(text) {
         Some(row) => Ok(Some(row)),
         None => Err(Fault::usage(format!(in alloc;
-            "--show {}: not CALL:ERROR:N or CALL@PID:ERROR:N, as write:EIO:2 or write:stop:2",
+            "--show {}: not CALL:WHAT:N or CALL@PID:WHAT:N, as write:EIO:2, write:stop:2 or write:short=1:2",
             Shown(text)
         ))),
     }

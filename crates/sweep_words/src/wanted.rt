@@ -23,7 +23,7 @@ fn refuse(alloc: Global, text: &str) -> Fault {
     match read_expression(alloc, text) {
         Err(fault) => fault,
         Ok(_) => Fault::usage(format!(in alloc;
-            "-e {}: a sweep takes fault=SET, fault=SET:error=E,.. and stop=SET alone",
+            "-e {}: a sweep takes fault=SET, fault=SET:error=E,.., stop=SET, kill=SET or short=SET",
             Shown(text)
         )),
     }
@@ -208,15 +208,15 @@ fn read_wanted(alloc: Global, matches: &ArgMatches) -> Result<Vec<Wanted>, Fault
     Ok(wanted)
 }
 
-/// The calls that are to fail: those that a file names, or else what the expressions ask for; none where everything
-/// ends.
+/// The calls that are to fail: those that a file names, or else what the expressions ask for; none where something else
+/// is tried.
 pub fn read_calls(
     alloc: Global,
     matches: &ArgMatches,
     named: &[NamedLine],
-    is_stopped: bool,
+    is_tried: bool,
 ) -> Result<Vec<Wanted>, Fault> {
-    if is_stopped {
+    if is_tried {
         return Ok(Vec::new(alloc));
     }
     if matches.get_str("runs").is_some() {

@@ -7,7 +7,9 @@ use std::alloc::Global;
 const NOTES: &str = "Which calls are to fail, after -e:
   fault=SET               with each error that the call can have there, by its descriptor and its flags
   fault=SET:error=E,..    with these errors (a name, or 1 to 4095)
-  stop=SET                no call fails: all ends as one of these is entered, as where the power fails
+  stop=SET                no call has an error: all ends as one of these is entered, as where the power fails
+  kill=SET                likewise, but SIGKILL ends its process there, and others go on
+  short=SET               likewise, but a read or write is done with one byte, and with half of its bytes
   SET    names joined by commas, as write or ?name; %file, %desc, %process, %signal, %memory; /REGEX; all; none;
          a ! in front takes all others
 Without -e it is fault=all.

@@ -1,4 +1,4 @@
-use Rattle.std.proofs.Common.{◌≡◌, length, take, ap, sym, subst, ◌∙◌}
+use Rattle.std.proofs.Common.{take, ap, sym, subst, ◌∙◌}
 use Rattle.sweep_command.specs.Choosing.{by_novelty, AreChosen}
 use Rattle.sweep_command.proofs.choosing.chosen.Goals as goal
 

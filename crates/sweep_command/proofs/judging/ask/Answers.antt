@@ -1,4 +1,4 @@
-use Rattle.std.proofs.Common.{◌≡◌, [], true, false, cond, ap, sym, subst, ◌∙◌}
+use Rattle.std.proofs.Common.{[], cond, ap, sym, subst, ◌∙◌}
 use Rattle.sweep_faults.specs.declared.faults.Fault.{Fault}
 use Rattle.sweep_rows.specs.Summary.{checked}
 use Rattle.sweep_rows.specs.Verdicts.{facts_of, verdict_of}

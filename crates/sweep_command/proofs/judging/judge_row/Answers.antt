@@ -1,4 +1,4 @@
-use Rattle.std.proofs.Common.{◌≡◌, [], true, false, cond, refl, ap, sym, ◌∙◌}
+use Rattle.std.proofs.Common.{◌≡◌, [], true, false, cond, ap, sym, ◌∙◌}
 use Rattle.sweep_rows.specs.Summary.{checked}
 use Rattle.sweep_rows.specs.Verdicts.{facts_of, verdict_of}
 use Rattle.sweep_command.specs.Checks.{is_asked, with_verdict}

@@ -1,0 +1,15 @@
+use Rattle.std.proofs.Common.{List, subst}
+use Rattle.lx_abi.specs.declared.outcome.OutcomeFile.{OutcomeFile}
+use Rattle.sweep_faults.specs.declared.faults.Fault.{Fault}
+use Rattle.sweep_runs.specs.Runs.{FaultReaches}
+use Rattle.sweep_trials.specs.Ends.{EndsOn}
+use Rattle.sweep_trials.proofs.rows.behind.Goals as goal
+
+pub returns : goal.returns
+returns c = record {
+  run = c.in_ok-run.run';
+  left = subst (λ (f : Fault). FaultReaches c.args.setup.now f c.in_ok-run.run') c.fault.ensures c.in_ok-run.ensures;
+  ends =
+      subst (λ (files : List OutcomeFile). EndsOn c.args.setup.now c.args.second.now files c.in_ok-end.end) c.as_slice.ensures
+      c.in_ok-end.ensures;
+}

@@ -1,0 +1,4 @@
+pub mod Ends
+pub mod Trials
+pub mod Rows
+pub mod Counts

@@ -1,0 +1,173 @@
+//! What happens at calls in the place of an error, and what is started then on the files that are left.
+
+use crate::show::named_trial;
+use clap::ArgMatches;
+use containers::{Bytes, Seq};
+use front_end::{Fault, Shown, expression_words, read_expression};
+use lx_abi::Set;
+use std::alloc::{AllocError, Global};
+use tr_expr::{ExprFault, parse_trace};
+
+/// Options that have no meaning where no call has an error, each as it is written.
+const VALUES: [(&str, &str); 8] = [
+    ("errors", "--errors"),
+    ("known", "--known"),
+    ("known-out", "--known-out"),
+    ("shard", "--shard"),
+    ("max-runs", "--max-runs"),
+    ("time", "--time"),
+    ("check", "--check"),
+    ("jobs", "--jobs"),
+];
+
+/// What happens at a call in the place of an error.
+#[derive(Clone, Copy, Debug, PartialEq, Eq)]
+pub enum Deed {
+    /// Everything ends as it is entered.
+    Stop,
+    /// Its process is killed as it enters the call, and others go on.
+    Kill,
+    /// It reads or writes less than it is asked for.
+    Short,
+}
+
+/// What happens at each of these calls.
+#[derive(Drop)]
+pub struct Tried {
+    pub deed: Deed,
+    pub calls: Set,
+}
+
+/// A second program, which is started on the files that are left.
+#[derive(Drop)]
+pub struct Second {
+    pub argv: Seq<Bytes>,
+    /// The most of its turns.
+    pub limit: u64,
+}
+
+/// A set as a word has it, and what happens at its calls.
+#[derive(Clone, Copy)]
+struct Asked<'a> {
+    word: &'static str,
+    deed: Deed,
+    set: &'a str,
+}
+
+fn excluded(alloc: Global, word: &str, option: &str) -> Fault {
+    Fault::usage(format!(in alloc; "-e {word}= excludes {option}: no call has an error"))
+}
+
+/// Nothing stands beside the set that has no meaning there.
+fn check(alloc: Global, matches: &ArgMatches, word: &str, words: &[String]) -> Result<(), Fault> {
+    if words.len() > 1 {
+        return Err(Fault::usage(format!(in alloc;
+            "-e {word}= excludes other expressions: a set joins names by commas"
+        )));
+    }
+    for (id, option) in VALUES {
+        if matches.get_str(id).is_some() {
+            return Err(excluded(alloc, word, option));
+        }
+    }
+    if matches.get_flag("fail-fast") {
+        return Err(excluded(alloc, word, "--fail-fast"));
+    }
+    Ok(())
+}
+
+/// The fault of a set: the one that it has behind `fault=`.
+fn refuse_set(alloc: Global, asked: Asked<'_>) -> Fault {
+    let Ok(text) = format!(in alloc; "fault={}:error=EIO", asked.set) else {
+        return Fault::Memory;
+    };
+    match read_expression(alloc, text.as_str()) {
+        Err(fault) => fault,
+        Ok(_) => Fault::usage(format!(in alloc;
+            "-e {}={}: not a set of calls",
+            asked.word,
+            Shown(asked.set)
+        )),
+    }
+}
+
+/// What `DEED=SET` asks for.
+fn asked_by(text: &str) -> Option<Asked<'_>> {
+    let (word, set) = text.split_once('=')?;
+    let (word, deed) = match word {
+        "stop" => ("stop", Deed::Stop),
+        "kill" => ("kill", Deed::Kill),
+        "short" => ("short", Deed::Short),
+        _ => return None,
+    };
+    Some(Asked { word, deed, set })
+}
+
+/// What the first such word asks for.
+fn first_asked(words: &[String]) -> Option<Asked<'_>> {
+    for word in words {
+        if let Some(asked) = asked_by(word.as_str()) {
+            return Some(asked);
+        }
+    }
+    None
+}
+
+/// What happens at which calls in the place of an error, if the words ask for that.
+pub fn read_tried(alloc: Global, matches: &ArgMatches) -> Result<Option<Tried>, Fault> {
+    let words = expression_words(alloc, matches)?;
+    let Some(asked) = first_asked(words.as_slice()) else {
+        return Ok(None);
+    };
+    check(alloc, matches, asked.word, words.as_slice())?;
+    match parse_trace(alloc, asked.set) {
+        Ok(calls) => Ok(Some(Tried {
+            deed: asked.deed,
+            calls,
+        })),
+        Err(ExprFault::Memory) => Err(Fault::Memory),
+        Err(_) => Err(refuse_set(alloc, asked)),
+    }
+}
+
+/// Words that are parted by blanks.
+fn words_of(alloc: Global, text: &str) -> Result<Seq<Bytes>, AllocError> {
+    let mut words = Seq::new(alloc);
+    for word in text.split(' ') {
+        if !word.is_empty() {
+            words.push(Bytes::from_slice(alloc, word.as_bytes())?)?;
+        }
+    }
+    Ok(words)
+}
+
+/// In the run that the words show no call has an error.
+fn shows_trial(matches: &ArgMatches) -> bool {
+    match matches.get_str("show") {
+        Some(text) => named_trial(text).is_some(),
+        None => false,
+    }
+}
+
+/// The second program that the words name, if they do: `is_tried` where they say at which calls something else than an
+/// error happens.
+pub fn read_second(
+    alloc: Global,
+    matches: &ArgMatches,
+    is_tried: bool,
+    limit: u64,
+) -> Result<Option<Second>, Fault> {
+    let Some(text) = matches.get_str("then") else {
+        return Ok(None);
+    };
+    if !is_tried && !shows_trial(matches) {
+        return Err(Fault::usage(format!(in alloc;
+            "--then: stands beside -e stop=, kill= or short=, or --show of such a run"
+        )));
+    }
+    let argv = words_of(alloc, text)?;
+    if argv.as_slice().is_empty() {
+        return Err(Fault::usage(format!(in alloc; "--then: names no program")));
+    }
+    Ok(Some(Second { argv, limit }))
+}
