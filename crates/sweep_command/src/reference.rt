@@ -8,7 +8,6 @@ use front_end::{Fault, refuse_boot};
 use lx_abi::Script;
 use lx_boot::BootFault;
 use lx_kernel::Kernel;
-use out_of_turns::explain_turns;
 use std::alloc::{AllocError, Global};
 use sweep_rows::Reached;
 use sweep_runs::{Case, Setup, fault_of, refer, run_accepted, run_failing};
