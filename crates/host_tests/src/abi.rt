@@ -50,9 +50,16 @@ fn two_rules(alloc: Global) -> Result<Vec<Rule>, AllocError> {
     Ok(rules)
 }
 
+/// The result that the rules choose for an occurrence of a call.
+fn chosen(alloc: Global, call: u64, n: u64) -> Result<Option<i64>, AllocError> {
+    let script = Script::new(two_rules(alloc)?);
+    let result = script.choose(call, n).result;
+    drop(script);
+    Ok(result)
+}
+
 #[test]
 fn scripts(rt: HostRuntime) -> Result<(), Fail> {
-    let script = Script::new(two_rules(rt.alloc())?);
     for (call, n, result) in [
         (63, 1, None),
         (64, 1, None),
@@ -63,10 +70,14 @@ fn scripts(rt: HostRuntime) -> Result<(), Fail> {
         (64, 11, None),
         (9999, 7, Some(1)),
     ] {
-        assert_eq!(rt; script.choose(call, n).result, result, "{call} {n}");
+        assert_eq!(rt; chosen(rt.alloc(), call, n)?, result, "{call} {n}");
     }
-    assert_eq!(rt; Script::empty(rt.alloc()).choose(64, 1), Choice::NOTHING);
     Ok(())
+}
+
+#[test]
+fn no_script(rt: HostRuntime) {
+    assert_eq!(rt; Script::empty(rt.alloc()).choose(64, 1), Choice::NOTHING);
 }
 
 #[test]
