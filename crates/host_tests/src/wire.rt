@@ -170,7 +170,7 @@ fn two_frames(rt: HostRuntime) -> Result<(), Fail> {
 /// What a stream of these bytes is refused for, and how many frames it gave.
 fn fault_of(alloc: Global, bytes: &[u8]) -> (Option<WireFault>, bool) {
     let mut feed = Feed::new(alloc);
-    let fault = feed.feed(bytes).err();
+    let (fault, _) = refused(&mut feed, bytes);
     let given = gives(&mut feed);
     drop(feed);
     (fault, given)
