@@ -26,7 +26,8 @@ use Rattle.lx_pcalls.specs.Wait4.{told_child, word_in}
 
 -- pipe(7): a write goes behind what a pipe holds, ..
 abbrev pub WritesGoBehind : Type 0
-WritesGoBehind = (s : Shared) (p : ℕ) (b : UserState) (pipe : ℕ) (there bytes : List ℕ) (t : Shared) (c : UserState) (x : ℕ) →
+WritesGoBehind =
+    (s : Shared) (p : ℕ) (b : UserState) (pipe : ℕ) (there bytes : List ℕ) (t : Shared) (c : UserState) (x : ℕ) →
     maps.get s.fds.pipes pipe ≡ Some there → has_readers s.fds pipe ≡ true →
     writes_pipe s p b pipe bytes ≡ Returns t c x → held t.fds pipe ≡ there ++ bytes
 

@@ -24,8 +24,8 @@ pub record KeepsFiles (s t : Shared) : Type 0 where
   pub tree : t.tree ≡ s.tree
   pub fds : t.fds ≡ s.fds
 
--- a caller, which has an entry, is refused with an error of the call's row; wait4 alone waits, clone alone makes a child,
--- exit and exit_group alone end a process; execve closes what is marked so
+-- a caller, which has an entry, is refused with an error of the call's row; wait4 alone waits, clone alone makes a
+-- child, exit and exit_group alone end a process; execve closes what is marked so
 abbrev pub ProcessesAnswer : Shared → ℕ → ℕ → Call → UserState → Answers → Type 0
 ProcessesAnswer s child p call b (Refused e) =
     is_some (maps.get s.entries p) ≡ true → is_error_of process_errors call.number e ≡ true

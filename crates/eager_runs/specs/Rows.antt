@@ -22,8 +22,8 @@ abbrev pub EndsByItself : Ended → ℕ → ℕ → Type 0
 EndsByItself ended events limit =
     ((x : Outcome) × (ended ≡ Whole x)) ⊎ ((ended ≡ OutOfTurns) × (events < min limit most_events))
 
--- Under a script that chooses as the row's does, a traced run by the sweep's words that its limit didn't cut ends as the
--- row's run, where every process is traced and the row's turns were enough.
+-- Under a script that chooses as the row's does, a traced run by the sweep's words that its limit didn't cut ends as
+-- the row's run, where every process is traced and the row's turns were enough.
 unfoldable pub RowsAreShown : Type 0
 RowsAreShown = (boot : Boot) (row script : List Rule) (options : Options) → boot.follow ≡ true
     → ((call n : ℕ) → choice_of script call n ≡ choice_of row call n)

@@ -49,8 +49,8 @@ pub record EagerRun (boot : Boot) (script : List Rule) (o : Options) (ws : List 
       (after_all (first_run boot script) run.turns) left
   -- and so begin every run of the untraced kernel by them
   pub begins : (z : KernelRun) (to : RunsTo (first_run boot script) (worded ws n) z) → Begins run.turns to.pids
-  -- its trace begins the rendering of that kernel's log, of which no item is left out, and is all of it where the run is
-  -- whole
+  -- its trace begins the rendering of that kernel's log, of which no item is left out, and is all of it where the run
+  -- is whole
   pub tells : Begins run.trace (log_text boot script o run.turns)
   pub whole : (x : Outcome) → run.ended ≡ Whole x → run.trace ≡ log_text boot script o run.turns
   -- where it is whole, and every process is traced, every run of the untraced kernel by these words ends as it did

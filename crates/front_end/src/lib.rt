@@ -29,7 +29,6 @@ mod start;
 mod streams;
 mod texts;
 mod turns;
-mod waits;
 
 pub use boot::read_boot;
 pub use boot_faults::refuse_boot;
@@ -49,4 +48,3 @@ pub use shown::Shown;
 pub use start::{Begun, begin};
 pub use streams::Opened;
 pub use turns::read_turns;
-pub use waits::{explain_limit, explain_turns, explain_waits};

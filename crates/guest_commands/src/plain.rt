@@ -9,9 +9,10 @@ ghost use Rattle.guest_commands.specs.Statuses.{is_alive as is_alive_in, first_s
 
 use crate::plan::{Plan, read_plan};
 use clap::ArgMatches;
-use front_end::{Fault, Leavings, explain_turns};
+use front_end::{Fault, Leavings};
 use lx_abi::{Ended, Mode, Status};
 use lx_kernel::Kernel;
+use out_of_turns::explain_turns;
 use plain_log::LogFault;
 use std::alloc::{AllocError, Global};
 use std::io::{self, IsTerminal, Read, Write};

@@ -13,7 +13,8 @@ use Rattle.host_serve.specs.Serving.{Exchanges, Served}
 use Rattle.host_serve.specs.declared.fault.ServeFault.{ServeFault}
 use Rattle.host_ends.specs.Recorded.{CameFrom}
 
--- `serve` wrote these bytes to a writer that had none, and maybe more behind them, whatever it read and however it ended
+-- `serve` wrote these bytes to a writer that had none, and maybe more behind them, whatever it read and however it
+-- ended
 pub record IsWritten (bytes : List ℕ) : Type 0 where
   pub most : ℕ
   pub input : Input

@@ -327,7 +327,8 @@ impl<R: Source, W: Sink> Link for PipeLink<R, W> {
         ensures full { given_of self.old ≡ 2 ^ 40 → faults_of self.old ≡ 0 → result ≡ Err TooMany }
         ensures faults { faults_of self.new ≡ (if is_ok result then faults_of self.old else 1) }
         ensures for_good { faults_of self.old ≡ 1 → result ≡ Err Ended }
-        ensures ahead { OnOk result (waits_of self.old ≡ false → given_of self.new < 2 ^ 40 → waits_of self.new ≡ true) }
+        ensures ahead { OnOk result
+            (waits_of self.old ≡ false → given_of self.new < 2 ^ 40 → waits_of self.new ≡ true) }
     {
         self.ask(request, self.given < MOST_REPLIES - 1)
     }

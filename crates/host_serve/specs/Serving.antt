@@ -160,8 +160,8 @@ Finishes (Err Write) wanted = ⊥
 Finishes (Err Wire) wanted = ⊥
 Finishes (Err Order) wanted = ⊥
 
--- after the requests whose replies were sent, one was read, and no byte behind it; its reply, and where the conversation
--- then stood
+-- after the requests whose replies were sent, one was read, and no byte behind it; its reply, and where the
+-- conversation then stood
 pub record Unsent {S : Type 0} (boots : Boots S) (answers : Answers S) (phase : Phase S) (number : ℕ)
     (rest : List ℕ) : Type 0 where
   pub request : Request

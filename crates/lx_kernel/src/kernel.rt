@@ -1,7 +1,7 @@
 //! The kernel: one turn of one process at a time.
 
 ghost use Rattle.std.specs.Prelude.{◌≡◌, ◌≤◌, ◌<◌, ◌↔◌, ◌++◌, ◌+◌, [], None, true, false, is_some};
-ghost use Rattle.std.specs.Prelude.{if◌then◌else◌, IfOk, IfSome, OnSome, OnOk, OnErr, IsOk, IsErr, IsOkAnd, IsSome, IsTrue, ℕ};
+ghost use Rattle.std.specs.Prelude.{if◌then◌else◌, IfOk, IfSome, OnSome, OnOk, OnErr, IsOk, IsErr, IsOkAnd, IsSome, IsTrue, option_map, ℕ};
 ghost use Rattle.std.specs.FinMap as maps;
 ghost use Rattle.std.specs.Option.{option_to_list};
 ghost use Rattle.lx_abi.specs.Log.{is_entry};
@@ -9,6 +9,7 @@ ghost use Rattle.lx_abi.specs.Occurrences.{count_of};
 ghost use Rattle.lx_model.specs.Finite.{at, item_of};
 ghost use Rattle.lx_model.specs.Events.{by_pid};
 ghost use Rattle.lx_model.specs.declared.event.PtraceEvent.TheVariants.{Plain};
+ghost use Rattle.lx_model.specs.Machine.{a7_of};
 ghost use Rattle.lx_model.specs.Turn.{turn};
 ghost use Rattle.lx_model.specs.declared.stage.Task.TheVariants.{Alive, Gone};
 ghost use Rattle.lx_model.specs.declared.stage.Stage.TheVariants.{Born};
@@ -563,6 +564,13 @@ impl Kernel {
         ensures { IfOk result (λ registers. registers ≡ regs_of (task_in self.now pid)) }
     {
         tracing::regs(self.alloc, &self.tasks, pid)
+    }
+
+    /// The number of the call that the registers of a process ask for, if it lives.
+    pub fn asked_call(&self, pid: u32) -> Option<u64>
+        ensures { result ≡ option_map a7_of (regs_of (task_in self.now pid)) }
+    {
+        tracing::asked_call(&self.tasks, pid)
     }
 
     /// The bytes of the process's memory from an address on, up to the first that is not mapped, if it lives.

@@ -1,6 +1,6 @@
 //! What was logged.
 
-ghost use Rattle.std.specs.Prelude.{◌≡◌, ◌++◌, [], ◌∷◌, OnOk, OnErr};
+ghost use Rattle.std.specs.Prelude.{◌≡◌, ◌++◌, [], ◌∷◌, false, OnOk, OnErr};
 ghost use Rattle.lx_kernel.specs.Logs.{kept_of};
 
 use history::History;

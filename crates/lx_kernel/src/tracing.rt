@@ -1,7 +1,8 @@
 //! One process as a tracer reaches it: its registers, its memory, and the signal of a call or of a stop.
 
-ghost use Rattle.std.specs.Prelude.{◌≡◌, IfOk, is_some};
+ghost use Rattle.std.specs.Prelude.{◌≡◌, IfOk, is_some, option_map};
 ghost use Rattle.lx_model.specs.Finite.{at};
+ghost use Rattle.lx_model.specs.Machine.{a7_of};
 ghost use Rattle.lx_model.specs.declared.stage.Task.TheVariants.{Gone};
 ghost use Rattle.lx_kernel.specs.Tracing.{regs_of, peek_of, call_of, call_at, signal_of, listens_of, with_regs, with_change};
 ghost use Rattle.lx_kernel.specs.Tracing.{with_part_at, IsPart, changed};
@@ -27,6 +28,19 @@ pub fn regs(
             Ok(Some(registers))
         }
         Some(Task::Dying { .. } | Task::Gone) | None => Ok(None),
+    }
+}
+
+/// The register a7, where the number of a call stands.
+const A7: usize = 17;
+
+/// The number of the call that the registers of a process ask for, if it lives.
+pub fn asked_call(tasks: &Shelf<Task<UserState>>, pid: u32) -> Option<u64>
+    ensures { result ≡ option_map a7_of (regs_of (at Gone tasks.now pid)) }
+{
+    match tasks.get(pid) {
+        Some(Task::Alive { user, .. }) => Some(registers_of(user)[A7]),
+        Some(Task::Dying { .. } | Task::Gone) | None => None,
     }
 }
 

@@ -1,4 +1,5 @@
-//! What holds in every state that a boot reaches, beside that it is sound; and of calls, what the manual pages say of all.
+//! What holds in every state that a boot reaches, beside that it is sound; and of calls, what the manual pages say of
+//! all.
 
 ghost use Rattle.lx_laws.specs.Families.{TurnsKeepFamilies, KernelsHaveFamilies};
 ghost use Rattle.lx_laws.specs.Holders.{NothingIsLeftOpen};

@@ -29,7 +29,8 @@ pub fn limits_stay()
     ensures kernels { KernelsKeepLimits }
 {}
 
-/// Who is at a stop signal or stopped has that in its signals, and nobody else: a turn keeps this, and a boot begins so.
+/// Who is at a stop signal or stopped has that in its signals, and nobody else: a turn keeps this, and a boot begins
+/// so.
 pub fn jobs_fit()
     ensures turn { TurnsKeepJobs }
     ensures kernels { KernelsHaveJobs }

@@ -157,8 +157,8 @@ fn turn<W: Watch>(
 ) -> Result<(), Halt>
     ensures on { OnOk result
         ((z : KernelRun) → RunsTo kernel.new schedule.new z → RunsTo (after_turn kernel.old pid) schedule.old z) }
-    ensures noted { OnOk result ((first : W) → IsTurned kernel.old pid schedule.old (W.noting first watch.old) kernel.new
-        schedule.new (W.noting first watch.new)) }
+    ensures noted { OnOk result ((first : W) → IsTurned kernel.old pid schedule.old (W.noting first watch.old)
+        kernel.new schedule.new (W.noting first watch.new)) }
     ensures fewer { OnOk result (events_left schedule.new ≤ events_left schedule.old) }
     ensures told { Tells kernel.old (W.told watch.old) kernel.new (W.told watch.new) }
     ensures begun { W.begun watch.new ≡ W.begun watch.old }

@@ -145,8 +145,8 @@ impl Host {
         }
     }
 
-    /// A turn of a process, if its tracer doesn't hold it, and at most so many behind it, as long as it is under way: how
-    /// many there were behind it.
+    /// A turn of a process, if its tracer doesn't hold it, and at most so many behind it, as long as it is under way:
+    /// how many there were behind it.
     pub(crate) fn advance(&mut self, pid: u32, more: u64) -> Result<u64, Failed>
         ensures leads { IfOk result (λ n. Leads self.old pid n self.new) }
         ensures within { IfOk result (λ n. n ≤ more) }

@@ -27,5 +27,5 @@ WorldsKeepLimits = (outcome : Shared → Outcome) (options : Options) (script : 
     (events : List Event) →
     fault_of boot ≡ None →
     (world_run linux outcome options script
-    (first_world (first_shared boot.limits boot.files boot.input) (booted boot.argv boot.env)) events).host.shared.limits
-    ≡ limits_of boot.limits
+    (first_world (first_shared boot.limits boot.files boot.input) (booted boot.argv boot.env))
+    events).host.shared.limits ≡ limits_of boot.limits

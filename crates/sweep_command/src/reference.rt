@@ -4,10 +4,11 @@ ghost use Rattle.std.specs.Prelude.{[], IfOk};
 ghost use Rattle.sweep_runs.specs.Runs.{Reaches};
 
 use clap::ArgMatches;
-use front_end::{Fault, explain_turns, refuse_boot};
+use front_end::{Fault, refuse_boot};
 use lx_abi::Script;
 use lx_boot::BootFault;
 use lx_kernel::Kernel;
+use out_of_turns::explain_turns;
 use std::alloc::{AllocError, Global};
 use sweep_rows::Reached;
 use sweep_runs::{Case, Setup, fault_of, refer, run_accepted, run_failing};

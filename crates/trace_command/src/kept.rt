@@ -1,9 +1,9 @@
 //! What is kept of a run beside its trace.
 
-use front_end::explain_turns;
 use host_link::ChildLink;
 use lx_abi::Occurrences;
 use lx_kernel::Kernel;
+use out_of_turns::explain_turns;
 use pt_kernel::Events;
 use std::alloc::Global;
 use std::process::OpenProcess;

@@ -90,10 +90,11 @@ BootedRun boot script o link old result link' new =
     result link' new
 
 -- one that writes to memory
-unfoldable pub KeptRun : List Rule → Options → LocalLink → Writing → Result Ended RunFault → LocalLink → Writing → Type 0
+unfoldable pub KeptRun : List Rule → Options → LocalLink → Writing → Result Ended RunFault → LocalLink → Writing
+    → Type 0
 KeptRun script o link old result link' new =
-    RunsWhole local_answers (new_state (options_by o) (choice_of script) (first_pen o)) link (writer_in old) result link'
-    (writer_in new)
+    RunsWhole local_answers (new_state (options_by o) (choice_of script) (first_pen o)) link (writer_in old) result
+    link' (writer_in new)
 
 -- what it leaves
 unfoldable pub IsLeft : LocalLink → Writing → Ended → Run → Type 0

@@ -50,8 +50,8 @@ pub record HadWritten (s : State) (rs : List Reply) (old new : Writer) : Type 0 
   pub puts : List ℕ
   pub counted : new.puts ≡ moment.puts ++ puts
 
--- A run with these exchanges, this result and this tracer in the end asked q after the first of them: it was replied to,
--- or the link failed there.
+-- A run with these exchanges, this result and this tracer in the end asked q after the first of them: it was replied
+-- to, or the link failed there.
 abbrev pub AsksAfter : List (Request × Reply) → Result ⊤ RunFault → State → List (Request × Reply) → Request → Type 0
 AsksAfter exchanges result end before q =
     ((r : Reply) × ((after : List (Request × Reply)) × (exchanges ≡ before ++ (q, r) ∷ after)))

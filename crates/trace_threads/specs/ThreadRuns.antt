@@ -103,7 +103,8 @@ IsCutBy shuts (Some Limit) = Unit {0}
 IsCutBy shuts (Some Nobody) = Unit {0}
 IsCutBy shuts (Some Gate) = shuts ≡ true
 
--- what the end of a run on threads gives: what is under the lock is told by the requests and replies of the tracer's link
+-- what the end of a run on threads gives: what is under the lock is told by the requests and replies of the tracer's
+-- link
 pub record IsFinished (boot : Boot) (limit : ℕ) (shuts : Bool) (held : HeldState) (given : List (Request × Reply))
     (trace : List ℕ) (ended : Result Ended RunFault) (run : Run) : Type 0 where
   pub ended_is : ended ≡ Ok run.ended
