@@ -54,8 +54,8 @@ named_run text =
     else None) else None
 
 -- what happens in the place of an error: `stop`, `kill`, or `short=COUNT`, with an = (character 61)
-unfoldable pub count_in : List ℕ → Option ℕ
-count_in text =
+unfoldable pub short_in : List ℕ → Option ℕ
+short_in text =
     if has_mark 61 text then (if bytes_eq (before_mark 61 text) (codes "short")
     then positive (after_mark 61 text) else None) else None
 
@@ -66,7 +66,7 @@ shortened (Some count) = Some (kinds.Short count)
 unfoldable pub kind_in : List ℕ → Option Kind
 kind_in text =
     if bytes_eq text (codes "stop") then Some kinds.Stop
-    else (if bytes_eq text (codes "kill") then Some kinds.Killed else shortened (count_in text))
+    else (if bytes_eq text (codes "kill") then Some kinds.Killed else shortened (short_in text))
 
 -- a trial is named where all its parts are
 abbrev pub tried : Option ℕ → Option ℕ → Option Kind → Option ℕ → Option NamedTrial

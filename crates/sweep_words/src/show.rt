@@ -130,9 +130,9 @@ pub fn named_run(text: &str) -> Option<NamedRun>
 }
 
 /// The count of `short=COUNT`.
-#[tactic(auto, unfolding(crate::specs::Shown::count_in))]
-fn count_in(text: &str) -> Option<u64>
-    ensures { result ≡ spec.count_in text.now }
+#[tactic(auto, unfolding(crate::specs::Shown::short_in))]
+fn short_in(text: &str) -> Option<u64>
+    ensures { result ≡ spec.short_in text.now }
 {
     let (word, digits) = text.split_once('=')?;
     if word != "short" {
@@ -152,7 +152,7 @@ fn kind_in(text: &str) -> Option<Kind>
     if text == "kill" {
         return Some(Kind::Killed);
     }
-    let count = count_in(text)?;
+    let count = short_in(text)?;
     Some(Kind::Short(count))
 }
 
