@@ -1,7 +1,7 @@
 /* A library for LD_PRELOAD: in the program whose file is named FAILING_IN, calls of a kind, FAILING_CALLS, fail from
  * number FAILING_FROM on, from 1. The kinds are reads of pipes (r), writes to pipes (w), and writes to files but
- * standard streams (f). A kind in capitals (R, W) has each of its calls interrupted once. The file FAILING_COUNT gets
- * two numbers of eight bytes: how many calls there were, and how many of them failed. */
+ * standard streams (f). A kind in capitals has each of its calls interrupted once, and 1 has each read of a pipe give one
+ * byte. The file FAILING_COUNT gets two numbers of eight bytes: how many calls there were, and how many of them failed. */
 #define _GNU_SOURCE
 #include <dlfcn.h>
 #include <errno.h>
@@ -60,7 +60,9 @@ static int fails(int stream, char of_pipes) {
 }
 
 ssize_t read(int stream, void *room, size_t length) {
-    return fails(stream, 'r') ? -1 : next_read(stream, room, length);
+    if (fails(stream, 'r')) return -1;
+    int is_short = length > 1 && strchr(kinds, '1') && kind_of(stream, 'r') == 'r';
+    return next_read(stream, room, is_short ? 1 : length);
 }
 
 ssize_t write(int stream, const void *bytes, size_t length) {

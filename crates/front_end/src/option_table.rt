@@ -78,7 +78,7 @@ pub const OPTIONS: [OptionRow; 50] = [
         short: Some('e'),
         long: None,
         takes: Takes::Expressions("EXPR"),
-        help: "Which calls are to fail, as fault=write or fault=write:error=EIO,ENOSPC, or where all ends, as stop=write [default: fault=all]",
+        help: "Which calls fail, as fault=write:error=EIO,ENOSPC; or stop=write, kill= or short= [default: fault=all]",
     },
     OptionRow {
         tools: &[Tool::Trace],
@@ -182,7 +182,7 @@ pub const OPTIONS: [OptionRow; 50] = [
         short: None,
         long: Some("host"),
         takes: Takes::Value("PATH"),
-        help: "Starts this program, as guest_host, with the word serve to run the kernel [default: this process runs it]",
+        help: "Starts this program, as guest_host, with the word serve to run the kernel [default: this process]",
     },
     OptionRow {
         tools: &[Tool::Trace],
@@ -270,7 +270,7 @@ pub const OPTIONS: [OptionRow; 50] = [
         short: None,
         long: Some("known"),
         takes: Takes::Value("FILE"),
-        help: "A line a finding that is known, and doesn't count: its word and its call, as LOST write /b; * is any text",
+        help: "A line a known finding, which doesn't count: its word and its call, as LOST write /b; * is any text",
     },
     OptionRow {
         tools: &[Tool::Sweep],
@@ -326,7 +326,7 @@ pub const OPTIONS: [OptionRow; 50] = [
         short: None,
         long: Some("then"),
         takes: Takes::Value("PROGRAM"),
-        help: "Starts this program on the files that are left where all ends; another status than 0 is BROKEN",
+        help: "Starts this program on the files that stop=, kill= or short= leaves; another status than 0 is BROKEN",
     },
     OptionRow {
         tools: &[Tool::Sweep],

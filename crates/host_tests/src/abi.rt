@@ -50,9 +50,16 @@ fn two_rules(alloc: Global) -> Result<Vec<Rule>, AllocError> {
     Ok(rules)
 }
 
+/// The result that the rules choose for an occurrence of a call.
+fn chosen(alloc: Global, call: u64, n: u64) -> Result<Option<i64>, AllocError> {
+    let script = Script::new(two_rules(alloc)?);
+    let result = script.choose(call, n).result;
+    drop(script);
+    Ok(result)
+}
+
 #[test]
 fn scripts(rt: HostRuntime) -> Result<(), Fail> {
-    let script = Script::new(two_rules(rt.alloc())?);
     for (call, n, result) in [
         (63, 1, None),
         (64, 1, None),
@@ -63,25 +70,33 @@ fn scripts(rt: HostRuntime) -> Result<(), Fail> {
         (64, 11, None),
         (9999, 7, Some(1)),
     ] {
-        assert_eq!(rt; script.choose(call, n).result, result, "{call} {n}");
+        assert_eq!(rt; chosen(rt.alloc(), call, n)?, result, "{call} {n}");
     }
-    assert_eq!(rt; Script::empty(rt.alloc()).choose(64, 1), Choice::NOTHING);
     Ok(())
+}
+
+#[test]
+fn no_script(rt: HostRuntime) {
+    assert_eq!(rt; Script::empty(rt.alloc()).choose(64, 1), Choice::NOTHING);
+}
+
+/// Bytes that were joined, and how many there are.
+fn joined(alloc: Global) -> Result<(bool, usize), AllocError> {
+    let mut bytes = Bytes::from_slice(alloc, b"ab")?;
+    bytes.extend(b"c")?;
+    Ok((bytes.as_slice() == b"abc".as_slice(), bytes.len()))
 }
 
 #[test]
 fn bytes(rt: HostRuntime) -> Result<(), Fail> {
-    let mut bytes = Bytes::from_slice(rt.alloc(), b"ab")?;
-    bytes.extend(b"c")?;
-    assert_eq!(rt; bytes.as_slice(), b"abc".as_slice());
-    assert_eq!(rt; bytes.len(), 3);
+    assert_eq!(rt; joined(rt.alloc())?, (true, 3));
     assert!(rt; Bytes::new(rt.alloc()).is_empty());
     Ok(())
 }
 
-#[test]
-fn maps(rt: HostRuntime) -> Result<(), Fail> {
-    let mut map = Map::new(rt.alloc());
+/// What a map has of three keys once it keeps two of four.
+fn kept(alloc: Global) -> Result<([Option<u64>; 3], Option<u64>), AllocError> {
+    let mut map = Map::new(alloc);
     for key in 1..5 {
         map.insert(key, u64::from(key) * 10)?;
     }
@@ -89,9 +104,16 @@ fn maps(rt: HostRuntime) -> Result<(), Fail> {
         *value = 21;
     }
     map.keep(&[2, 3]);
-    for (key, value) in [(1, None), (2, Some(21)), (3, Some(30))] {
-        assert_eq!(rt; map.get(key).copied(), value);
-    }
-    assert_eq!(rt; map.remove(3), Some(30));
+    let values = [
+        map.get(1).copied(),
+        map.get(2).copied(),
+        map.get(3).copied(),
+    ];
+    Ok((values, map.remove(3)))
+}
+
+#[test]
+fn maps(rt: HostRuntime) -> Result<(), Fail> {
+    assert_eq!(rt; kept(rt.alloc())?, ([None, Some(21), Some(30)], Some(30)));
     Ok(())
 }

@@ -70,7 +70,7 @@ fn seen(
         bytes: Vec::new(alloc),
         writes: &writes,
     };
-    let reader = Counted::new(Pieces::new(replies, usize::MAX, false));
+    let reader = Counted::new(Pieces::new(replies, usize::MAX));
     let mut link = PipeLink::new(alloc, reader, Counted::new(&mut written))?;
     let calls = asked(&mut link, letters, &writes);
     let counts = (link.asked(), link.faults());

@@ -3,21 +3,13 @@
 ghost use Rattle.std.specs.Prelude.{◌≡◌, false};
 ghost use Rattle.pt_kernel.specs.Hosts.{is_boot};
 
-use crate::conversation::{fed, link_of};
+use crate::local::booted;
 use lx_abi::{Ask, Event, Reply, Request};
 use lx_kernel::Failed;
 use pt_kernel::Host;
 use std::alloc::Global;
 use std::test::Fail;
 use turn_rows::TurnRow;
-
-/// A host whose process 1 hasn't begun.
-fn booted(alloc: Global) -> Result<Host, Fail> {
-    let mut feed = fed(alloc)?;
-    let link = link_of(alloc, &mut feed);
-    drop(feed);
-    Ok(link?.into_host())
-}
 
 /// The request that a letter stands for: Seize, GetRegs, Syscall, Listen or Wait.
 fn request(letter: char) -> Request

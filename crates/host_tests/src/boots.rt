@@ -70,8 +70,23 @@ fn boots_are_refused(rt: HostRuntime) -> Result<(), Fail> {
 }
 
 /// What the fault of a boot is found in, if it has one.
-fn culprit(alloc: Global, boot: &Boot) -> Option<Culprit> {
-    find_culprit(boot, boot_fault(alloc, boot)?)
+fn culprit(alloc: Global, boot: Boot) -> Option<Culprit> {
+    let culprit = match boot_fault(alloc, &boot) {
+        Some(fault) => find_culprit(&boot, fault),
+        None => None,
+    };
+    drop(boot);
+    culprit
+}
+
+fn culprit_among(alloc: Global, paths: &str) -> Result<Option<Culprit>, AllocError> {
+    Ok(culprit(alloc, boot(alloc, paths, "/p")?))
+}
+
+fn culprit_within(alloc: Global, live: u32, last_pid: u32) -> Result<Option<Culprit>, AllocError> {
+    let mut boot = boot(alloc, "/p", "/p")?;
+    boot.limits = Limits { live, last_pid };
+    Ok(culprit(alloc, boot))
 }
 
 /// The first file that is at fault, in the boot's order.
@@ -87,11 +102,7 @@ fn culprits(rt: HostRuntime) -> Result<(), Fail> {
         ("/p /q /q /p", Some(Culprit::Repeated(2))),
     ];
     for (paths, wanted) in rows {
-        assert_eq!(rt;
-            culprit(rt.alloc(), &boot(rt.alloc(), paths, "/p")?),
-            wanted,
-            "{paths}"
-        );
+        assert_eq!(rt; culprit_among(rt.alloc(), paths)?, wanted, "{paths}");
     }
     Ok(())
 }
@@ -107,9 +118,11 @@ fn culprits_among_limits(rt: HostRuntime) -> Result<(), Fail> {
         (64, 255, None),
     ];
     for (live, last_pid, wanted) in rows {
-        let mut boot = boot(rt.alloc(), "/p", "/p")?;
-        boot.limits = Limits { live, last_pid };
-        assert_eq!(rt; culprit(rt.alloc(), &boot), wanted, "{live} {last_pid}");
+        assert_eq!(rt;
+            culprit_within(rt.alloc(), live, last_pid)?,
+            wanted,
+            "{live} {last_pid}"
+        );
     }
     Ok(())
 }

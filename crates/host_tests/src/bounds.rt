@@ -17,7 +17,7 @@ fn fault_of_link(alloc: Global, most: u64) -> Result<Option<LinkFault>, Fail>
     requires few { most ≤ 2 ^ 32 }
 {
     let done = frame(alloc, 1, "81")?;
-    let reader = Counted::new(Pieces::new(done.as_slice(), 1, false));
+    let reader = Counted::new(Pieces::new(done.as_slice(), 1));
     let mut link = PipeLink::bounded(alloc, reader, Counted::new(Vec::new(alloc)), most)?;
     let reply = link.call(Request::To {
         pid: 1,
@@ -46,7 +46,7 @@ fn fault_of_host(alloc: Global, most: u64) -> Result<Option<ServeFault>, Fail>
     requires few { most ≤ 2 ^ 32 }
 {
     let wait = frame(alloc, 1, "04")?;
-    let mut reader = Counted::new(Pieces::new(wait.as_slice(), 1, false));
+    let mut reader = Counted::new(Pieces::new(wait.as_slice(), 1));
     let mut writer = Counted::new(Vec::new(alloc));
     let served = serve_bounded(alloc, &mut reader, &mut writer, most);
     drop(reader);

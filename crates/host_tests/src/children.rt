@@ -1,8 +1,8 @@
 //! A link to a process of its own, over processes that stand in for a host.
 
-use crate::ahead::ask;
 use crate::ends::Pieces;
 use crate::frames::{part, stream};
+use crate::local::called;
 use host_link::{ChildLink, Link};
 use std::alloc::{Allocator, Global};
 use std::cell::Cell;
@@ -79,18 +79,9 @@ impl<'a> Processes for Hosts<'a> {
             kills: self.kills,
             waits: self.waits,
         };
-        let replies = Pieces::new(self.replies, usize::MAX, false);
+        let replies = Pieces::new(self.replies, usize::MAX);
         Ok(Child::from_parts(host, Some(Vec::new(self.alloc)), Some(replies), None))
     }
-}
-
-/// The numbers of the faults of three calls at most, 0 for a reply.
-fn called<L: Link>(link: &mut L, letters: &str) -> [u8; 3] {
-    let mut calls = [0; 3];
-    for (call, letter) in calls.iter_mut().zip(letters.chars()) {
-        *call = ask(link, letter);
-    }
-    calls
 }
 
 /// The number of the fault that a link was not started by, or 0; those of its calls; how many replies came; and how

@@ -86,7 +86,9 @@ pub(crate) fn outcome(kernel: &Kernel) -> Result<Outcome, AllocError> {
 /// How many files and directories there are, beside the root.
 pub(crate) fn nodes(kernel: &Kernel) -> Result<usize, AllocError> {
     let outcome = outcome(kernel)?;
-    Ok(outcome.files.as_slice().len())
+    let nodes = outcome.files.as_slice().len();
+    drop(outcome);
+    Ok(nodes)
 }
 
 pub(crate) fn join(kernel: &mut Kernel, signal: Option<Signal>) -> bool {

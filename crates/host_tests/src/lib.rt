@@ -15,23 +15,19 @@ mod bounds;
 #[cfg(test)]
 mod children;
 #[cfg(test)]
-mod conversation;
-#[cfg(test)]
 mod ends;
 #[cfg(test)]
 mod frames;
-#[cfg(test)]
-mod interrupted;
 #[cfg(test)]
 mod kernels;
 #[cfg(test)]
 mod limits;
 #[cfg(test)]
+mod local;
+#[cfg(test)]
 mod schedules;
 #[cfg(test)]
 mod scripts;
-#[cfg(test)]
-mod serving;
 #[cfg(test)]
 mod wire;
 #[cfg(test)]

@@ -316,7 +316,9 @@ fn ends_of(outcome: &Outcome) -> Answer {
 
 fn ended(kernel: &Kernel) -> Result<Answer, AllocError> {
     let outcome = kernels::outcome(kernel)?;
-    Ok(ends_of(&outcome))
+    let ends = ends_of(&outcome);
+    drop(outcome);
+    Ok(ends)
 }
 
 /// What a call tells that changes the kernel.

@@ -1,11 +1,24 @@
 //! Frames: each kind as its bytes, faults at their bytes, and streams cut anywhere.
 
-use crate::conversation::BOOT;
 use crate::frames::{are_same, frame, part, spelled, stream};
 use host_wire::{Feed, Frame, Payload, WireFault};
 use lx_abi::{Ask, Reply, Request, Status};
 use std::alloc::{AllocError, Global};
 use std::test::Fail;
+
+/// A boot of `/p`, a program that writes `hi` and a line feed and exits with 0, by at most 10,000,000 events.
+const BOOT: &str = "\
+    010200000000000098968000000400\
+    00007fff00000000\
+    00000001000000022f70\
+    00000000\
+    00000001000000022f700000009f\
+    7f454c460201010000000000000000000200f300010000007800010000000000\
+    4000000000000000000000000000000000000000000038000100000000000000\
+    0100000005000000000000000000000000000100000000000000000000000000\
+    9f000000000000009f00000000000000000000000000000013051000b7050100\
+    9385c509130630009308000473000000130500009308e0057300000068690a\
+    00000000";
 
 /// The registers 1 to 32, the lowest byte of each first.
 const REGISTERS: &str = "\
@@ -32,7 +45,11 @@ fn whole(alloc: Global, bytes: &[u8]) -> Option<Frame> {
     let frame = take(&mut feed);
     let left = missing(&feed);
     drop(feed);
-    if fits && left == 4 { frame } else { None }
+    if fits && left == 4 {
+        return frame;
+    }
+    drop(frame);
+    None
 }
 
 fn take(feed: &mut Feed) -> Option<Frame> {
@@ -44,14 +61,26 @@ fn missing(feed: &Feed) -> usize {
     feed.missing()
 }
 
+/// The frame with the number 5 that is written again.
+fn spelled_again(alloc: Global, frame: Frame) -> Result<Vec<u8>, Fail> {
+    let is_that = frame.number == 5;
+    let bytes = spelled(alloc, &frame);
+    drop(frame);
+    let bytes = bytes?;
+    if is_that {
+        Ok(bytes)
+    } else {
+        Err(Fail::from("the frame of that number"))
+    }
+}
+
 /// What is read of a frame with this message, and is written again.
 fn again(alloc: Global, message: &str) -> Result<Vec<u8>, Fail> {
     let bytes = frame(alloc, 5, message)?;
-    let frame = whole(alloc, bytes.as_slice()).ok_or("a frame")?;
-    if frame.number != 5 {
-        return Err(Fail::from("the frame of that number"));
+    match whole(alloc, bytes.as_slice()) {
+        Some(frame) => spelled_again(alloc, frame),
+        None => Err(Fail::from("a frame")),
     }
-    spelled(alloc, &frame)
 }
 
 /// Each kind of request, and of reply, has one spelling.
@@ -113,8 +142,10 @@ fn limits_that_are_not_said(rt: HostRuntime) -> Result<(), Fail> {
 
 /// The frame with the number 3 is spelled so.
 fn is_spelled(alloc: Global, body: Payload, digits: &str) -> Result<bool, Fail> {
-    let bytes = spelled(alloc, &Frame { number: 3, body })?;
-    Ok(are_same(bytes, hex::decode(alloc, digits)?))
+    let frame = Frame { number: 3, body };
+    let bytes = spelled(alloc, &frame);
+    drop(frame);
+    Ok(are_same(bytes?, hex::decode(alloc, digits)?))
 }
 
 /// Two frames, byte for byte: Wait 3, and its reply, EVENT_STOP of process 1.
@@ -139,7 +170,7 @@ fn two_frames(rt: HostRuntime) -> Result<(), Fail> {
 /// What a stream of these bytes is refused for, and how many frames it gave.
 fn fault_of(alloc: Global, bytes: &[u8]) -> (Option<WireFault>, bool) {
     let mut feed = Feed::new(alloc);
-    let fault = feed.feed(bytes).err();
+    let (fault, _) = refused(&mut feed, bytes);
     let given = gives(&mut feed);
     drop(feed);
     (fault, given)
@@ -312,36 +343,51 @@ fn peeks(frame: &Frame) -> bool {
 
 /// A letter for the frame that is given: none (-), Peek (p) or another (?).
 fn given(feed: &mut Feed) -> char {
-    match feed.take() {
+    match take(feed) {
         None => '-',
-        Some(frame) => if peeks(&frame) { 'p' } else { '?' },
+        Some(frame) => {
+            let letter = if peeks(&frame) { 'p' } else { '?' };
+            drop(frame);
+            letter
+        }
     }
 }
 
-/// Whether a piece is taken, what is given then, and how many bytes the frame under way lacks.
-fn after_piece(feed: &mut Feed, piece: &[u8]) -> (bool, char, usize) {
-    let fits = feed.feed(piece).is_ok();
-    let letter = given(feed);
-    (fits, letter, feed.missing())
+/// A piece of a stream, what is given then, and how many bytes the frame under way lacks.
+type Piece<'a> = (&'a [u8], char, usize);
+
+/// How many pieces are taken and followed so, up to the first that isn't.
+fn followed(feed: &mut Feed, pieces: &[Piece<'_>]) -> usize {
+    let mut count = 0usize;
+    for (piece, letter, lacks) in pieces {
+        if !feed_at_once(feed, piece) || given(feed) != *letter || missing(feed) != *lacks {
+            break;
+        }
+        count = count.saturating_add(1);
+    }
+    count
+}
+
+fn followed_anew(alloc: Global, pieces: &[Piece<'_>]) -> usize {
+    let mut feed = Feed::new(alloc);
+    let count = followed(&mut feed, pieces);
+    drop(feed);
+    count
 }
 
 /// Half a frame gives nothing, and its other half the frame.
 #[test]
 fn half_a_frame(rt: HostRuntime) -> Result<(), Fail> {
     let bytes = frame(rt.alloc(), 2, "07000000010000003fffffeffd00000003")?;
-    let mut feed = Feed::new(rt.alloc());
-    let rows = [
-        (0, 0, '-', 4),
-        (0, 2, '-', 2),
-        (2, 15, '-', 14),
-        (15, 28, '-', 1),
-        (28, 29, 'p', 4),
+    let bytes = bytes.as_slice();
+    let pieces = [
+        (part(bytes, 0, 0), '-', 4),
+        (part(bytes, 0, 2), '-', 2),
+        (part(bytes, 2, 15), '-', 14),
+        (part(bytes, 15, 28), '-', 1),
+        (part(bytes, 28, 29), 'p', 4),
     ];
-    for (from, to, letter, missing) in rows {
-        let seen = after_piece(&mut feed, part(bytes.as_slice(), from, to));
-        assert_eq!(rt; seen, (true, letter, missing), "{to}");
-    }
-    drop(feed);
+    assert_eq!(rt; followed_anew(rt.alloc(), &pieces), 5);
     Ok(())
 }
 
@@ -351,26 +397,58 @@ fn refused(feed: &mut Feed, piece: &[u8]) -> (Option<WireFault>, usize) {
     (fault, feed.missing())
 }
 
+/// A piece that is refused, by a fault, behind all but the last byte of a frame.
+type Refusal = (&'static [u8], WireFault);
+
+const REFUSALS: [Refusal; 3] = [
+    (&[9, 0, 0, 0, 0, 0, 0, 0, 2, 0x7f], WireFault::Kind),
+    (&[8], WireFault::Length),
+    (&[10, 0, 0, 0, 0, 0, 0, 0, 2, 4, 0], WireFault::Payload),
+];
+
+/// How many pieces are refused so.
+fn refuses(feed: &mut Feed) -> usize {
+    let mut count = 0usize;
+    for (piece, fault) in REFUSALS {
+        if refused(feed, piece) != (Some(fault), 1) {
+            break;
+        }
+        count = count.saturating_add(1);
+    }
+    count
+}
+
+/// How many frames are given.
+fn count_given(feed: &mut Feed) -> usize {
+    let mut count = 0usize;
+    for _ in 0..8 {
+        if !gives(feed) {
+            break;
+        }
+        count = count.saturating_add(1);
+    }
+    count
+}
+
+/// Whether the parts of a stream fit, how many pieces are refused between them, and how many frames are given then.
+fn after_refusals(alloc: Global, bytes: &[u8]) -> (bool, usize, bool, usize) {
+    let mut feed = Feed::new(alloc);
+    let begins = feed_at_once(&mut feed, part(bytes, 0, 16));
+    let refused = refuses(&mut feed);
+    let ends = feed_at_once(&mut feed, part(bytes, 16, 26));
+    let given = count_given(&mut feed);
+    drop(feed);
+    (begins, refused, ends, given)
+}
+
 /// A fault leaves all as if its piece had not come.
 #[test]
 fn after_a_fault(rt: HostRuntime) -> Result<(), Fail> {
-    let alloc = rt.alloc();
-    let bytes = stream(alloc, &["04", "04"])?;
-    let mut feed = Feed::new(alloc);
-    assert!(rt; feed_at_once(&mut feed, part(bytes.as_slice(), 0, 16)));
-    let rows: [(&[u8], WireFault); 3] = [
-        (&[9, 0, 0, 0, 0, 0, 0, 0, 2, 0x7f], WireFault::Kind),
-        (&[8], WireFault::Length),
-        (&[10, 0, 0, 0, 0, 0, 0, 0, 2, 4, 0], WireFault::Payload),
-    ];
-    for (piece, fault) in rows {
-        assert_eq!(rt; refused(&mut feed, piece), (Some(fault), 1));
-    }
-    assert!(rt; feed_at_once(&mut feed, part(bytes.as_slice(), 16, 26)));
-    for gives_one in [true, true, false] {
-        assert_eq!(rt; gives(&mut feed), gives_one);
-    }
-    drop(feed);
+    let bytes = stream(rt.alloc(), &["04", "04"])?;
+    assert_eq!(rt;
+        after_refusals(rt.alloc(), bytes.as_slice()),
+        (true, 3, true, 2)
+    );
     Ok(())
 }
 
@@ -379,7 +457,10 @@ fn long_frame(alloc: Global, length: usize) -> Result<Vec<u8>, Fail> {
     let body = Payload::Reply(Reply::Bytes {
         bytes: containers::Bytes::from_vec(Vec::from_elem(alloc, 7u8, length)?),
     });
-    spelled(alloc, &Frame { number: 1, body })
+    let frame = Frame { number: 1, body };
+    let bytes = spelled(alloc, &frame);
+    drop(frame);
+    bytes
 }
 
 /// The feed takes these bytes one by one.
@@ -398,19 +479,29 @@ fn feed_at_once(feed: &mut Feed, bytes: &[u8]) -> bool {
 }
 
 fn gives(feed: &mut Feed) -> bool {
-    feed.take().is_some()
+    match take(feed) {
+        Some(frame) => {
+            drop(frame);
+            true
+        }
+        None => false,
+    }
+}
+
+/// Whether a frame fits by bytes, and at once, and how many are given of both.
+fn twice(alloc: Global, frame: &[u8]) -> (bool, bool, usize) {
+    let mut feed = Feed::new(alloc);
+    let by_bytes = feed_by_bytes(&mut feed, frame);
+    let at_once = feed_at_once(&mut feed, frame);
+    let given = count_given(&mut feed);
+    drop(feed);
+    (by_bytes, at_once, given)
 }
 
 /// 64 KiB byte by byte: no more is done for a byte late in a frame than for an early one.
 #[test]
 fn byte_by_byte(rt: HostRuntime) -> Result<(), Fail> {
     let frame = long_frame(rt.alloc(), 65_536)?;
-    let mut feed = Feed::new(rt.alloc());
-    assert!(rt; feed_by_bytes(&mut feed, frame.as_slice()));
-    assert!(rt; gives(&mut feed));
-    assert!(rt; feed_at_once(&mut feed, frame.as_slice()));
-    assert!(rt; gives(&mut feed));
-    assert!(rt; !gives(&mut feed));
-    drop(feed);
+    assert_eq!(rt; twice(rt.alloc(), frame.as_slice()), (true, true, 2));
     Ok(())
 }

@@ -25,7 +25,10 @@ static FILE: [u8; 159] = [
 /// The number of the fault, or 0.
 fn fault_in(rt: &HostRuntime, file: &[u8]) -> u8 {
     match read(rt.alloc(), file) {
-        Ok(_) => 0,
+        Ok(image) => {
+            drop(image);
+            0
+        }
         Err(fault) => fault.number(),
     }
 }
@@ -86,7 +89,10 @@ fn changed_bytes_are_refused(rt: HostRuntime) -> Result<(), Fail> {
 /// The field that a file is refused for, if it is refused for one.
 fn field_of(alloc: Global, file: &[u8]) -> Option<FaultyField> {
     match read(alloc, file) {
-        Ok(_) => None,
+        Ok(image) => {
+            drop(image);
+            None
+        }
         Err(fault) => faulty_field(file, fault),
     }
 }
@@ -178,23 +184,41 @@ fn segments_share_pages_but_no_byte(rt: HostRuntime) -> Result<(), Fail> {
     Ok(())
 }
 
+/// Each segment is the whole file, to be read and executed.
+fn has_the_file(image: &Image) -> bool {
+    let rights = Rights {
+        read: true,
+        write: false,
+        execute: true,
+    };
+    image.segments.as_slice().iter().all(|segment| segment.bytes.as_slice() == FILE.as_slice()
+        && segment.rights == rights)
+}
+
+/// What the image of a file says, and whether it has the file.
+fn seen(
+    alloc: Global,
+    file: &[u8],
+) -> Result<((u64, usize, Option<(u64, u64, usize)>), bool), Fail> {
+    let image = read(alloc, file)?;
+    let seen = (outline(&image), has_the_file(&image));
+    drop(image);
+    Ok(seen)
+}
+
+fn written(alloc: Global) -> Result<Vec<u8>, Fail> {
+    let image = read(alloc, &FILE)?;
+    let written = write(alloc, &image);
+    drop(image);
+    Ok(written?)
+}
+
 #[test]
 fn a_file_is_read_and_written(rt: HostRuntime) -> Result<(), Fail> {
-    let image = read(rt.alloc(), &FILE)?;
-    let wanted = (0x10078, 1, Some((0x10000, 159, 159)));
-    assert_eq!(rt; outline(&image), wanted);
-    let written = write(rt.alloc(), &image)?;
+    let wanted = ((0x10078, 1, Some((0x10000, 159, 159))), true);
+    assert_eq!(rt; seen(rt.alloc(), &FILE)?, wanted);
+    let written = written(rt.alloc())?;
     assert_eq!(rt; written.len(), 64 + 56 + 159);
-    let again = read(rt.alloc(), &written)?;
-    assert_eq!(rt; outline(&again), wanted);
-    for segment in again.segments.as_slice() {
-        assert_eq!(rt; segment.bytes.as_slice(), FILE.as_slice());
-        let rights = Rights {
-            read: true,
-            write: false,
-            execute: true,
-        };
-        assert_eq!(rt; segment.rights, rights);
-    }
+    assert_eq!(rt; seen(rt.alloc(), written.as_slice())?, wanted);
     Ok(())
 }

@@ -514,15 +514,23 @@ const SCRIPTS: [(&[Call], &[Row]); 13] = [
     (&[], KEPT),
 ];
 
+fn all_succeed(alloc: Global, space: &mut Space, calls: &[Call]) -> bool {
+    for call in calls {
+        if !tells(alloc, space, *call, DONE) {
+            return false;
+        }
+    }
+    true
+}
+
 /// A space after these calls, each of which succeeds.
 fn begun(alloc: Global, calls: &[Call]) -> Result<Space, Fail> {
     let mut space = Space::new(alloc);
-    for call in calls {
-        if !tells(alloc, &mut space, *call, DONE) {
-            return Err(Fail::from("a script begins"));
-        }
+    if all_succeed(alloc, &mut space, calls) {
+        return Ok(space);
     }
-    Ok(space)
+    drop(space);
+    Err(Fail::from("a script begins"))
 }
 
 /// How many rows tell what they should, up to the first that doesn't.
@@ -558,12 +566,37 @@ fn change_both(parent: &mut Space, child: &mut Space) -> Result<(), MemFault> {
     write(parent, 0x3000, b"7")
 }
 
-/// What stands on the pages of a space and of its fork, once both were changed.
+/// What stands on the pages of two spaces.
+fn both_firsts(
+    alloc: Global,
+    parent: &Space,
+    child: &Space,
+) -> Result<(Vec<u8>, Vec<u8>), AllocError> {
+    Ok((firsts(parent, alloc)?, firsts(child, alloc)?))
+}
+
+fn change_and_look(
+    alloc: Global,
+    parent: &mut Space,
+    child: &mut Space,
+) -> Result<(Vec<u8>, Vec<u8>), Fail> {
+    change_both(parent, child)?;
+    Ok(both_firsts(alloc, parent, child)?)
+}
+
+/// The same of a space and its fork, once both were changed.
 fn forked(alloc: Global) -> Result<(Vec<u8>, Vec<u8>), Fail> {
     let mut parent = numbered(alloc)?;
-    let mut child = fork(&parent)?;
-    change_both(&mut parent, &mut child)?;
-    Ok((firsts(&parent, alloc)?, firsts(&child, alloc)?))
+    let seen = match fork(&parent) {
+        Ok(mut child) => {
+            let seen = change_and_look(alloc, &mut parent, &mut child);
+            drop(child);
+            seen
+        }
+        Err(fault) => Err(Fail::from(fault)),
+    };
+    drop(parent);
+    seen
 }
 
 #[test]
@@ -574,48 +607,94 @@ fn forked_spaces_go_their_own_ways(rt: HostRuntime) -> Result<(), Fail> {
     Ok(())
 }
 
+/// A map that may be refused memory leaves pages as they were, or is made.
+fn map_or_leave(alloc: Global, space: &mut Space) -> Result<bool, Fail> {
+    unmap(space, 3, 1);
+    if map(space, 0, 40, EXECUTE).is_ok() {
+        return Ok(fetch(space, 0x27ffc) == Ok(0));
+    }
+    let are_left = firsts(space, alloc)?.as_slice() == b".12.456.".as_slice();
+    Ok(are_left && fetch(space, 0x1000) == Err(MemFault::Forbidden(0x1000)))
+}
+
+fn is_mapped_or_left(alloc: Global) -> Result<bool, Fail> {
+    let mut space = numbered(alloc)?;
+    let is_so = map_or_leave(alloc, &mut space);
+    drop(space);
+    is_so
+}
+
 /// With each allocation made to fail in turn, this shows that a call that is refused memory changes nothing.
 #[test]
 fn a_refused_map_changes_nothing(rt: HostRuntime) -> Result<(), Fail> {
-    let mut space = numbered(rt.alloc())?;
-    unmap(&mut space, 3, 1);
-    if map(&mut space, 0, 40, EXECUTE).is_err() {
-        assert_eq!(rt;
-            firsts(&space, rt.alloc())?.as_slice(),
-            b".12.456.".as_slice()
-        );
-        assert_eq!(rt; fetch(&mut space, 0x1000), Err(MemFault::Forbidden(0x1000)));
-    } else {
-        assert_eq!(rt; fetch(&mut space, 0x27ffc), Ok(0));
-    }
+    assert!(rt; is_mapped_or_left(rt.alloc())?);
     Ok(())
+}
+
+fn forks(space: &Space) -> bool {
+    match fork(space) {
+        Ok(child) => {
+            drop(child);
+            true
+        }
+        Err(_) => false,
+    }
+}
+
+/// How many of a thousand forks of a space succeed.
+fn count_forks(space: &mut Space) -> Result<u32, MemFault> {
+    map(space, 0, 100, READ_WRITE)?;
+    let mut count = 0u32;
+    for _ in 0..1_000u16 {
+        count = count.wrapping_add(u32::from(forks(space)));
+    }
+    Ok(count)
+}
+
+fn count_forks_anew(alloc: Global) -> Result<u32, MemFault> {
+    let mut space = Space::new(alloc);
+    let count = count_forks(&mut space);
+    drop(space);
+    count
 }
 
 /// A hundred pages forked a thousand times, each copy dropped at once. No page is copied, so all of it makes fewer than
 /// 60,000 requests for memory: with that one refused (`rt try rv_tests --test --fail-alloc 60000`) every fork succeeds.
 #[test]
 fn forks_share_their_pages(rt: HostRuntime) -> Result<(), Fail> {
-    let mut space = Space::new(rt.alloc());
-    map(&mut space, 0, 100, READ_WRITE)?;
-    for turn in 0..1_000u16 {
-        assert_eq!(rt; fork(&space).is_ok(), true, "fork {turn}");
-    }
+    assert_eq!(rt; count_forks_anew(rt.alloc())?, 1_000);
     Ok(())
+}
+
+/// Whether the parent has what was written across its shared pages, or neither space was changed.
+fn write_or_leave(alloc: Global, parent: &mut Space, child: &Space) -> Result<bool, AllocError> {
+    let wanted = if write(parent, 0x2ffe, &[b'x'; 4099]).is_ok() {
+        b".12xx56."
+    } else {
+        b".123456."
+    };
+    let (of_parent, of_child) = both_firsts(alloc, parent, child)?;
+    Ok(of_parent.as_slice() == wanted.as_slice() && of_child.as_slice() == b".123456.".as_slice())
+}
+
+fn is_written_or_left(alloc: Global) -> Result<bool, Fail> {
+    let mut parent = numbered(alloc)?;
+    let is_so = match fork(&parent) {
+        Ok(child) => {
+            let is_so = write_or_leave(alloc, &mut parent, &child);
+            drop(child);
+            is_so
+        }
+        Err(_) => Err(AllocError),
+    };
+    drop(parent);
+    Ok(is_so?)
 }
 
 /// With each allocation made to fail in turn, this shows that a write to shared pages that is refused memory changes
 /// neither space.
 #[test]
 fn a_refused_write_to_shared_pages_changes_nothing(rt: HostRuntime) -> Result<(), Fail> {
-    let mut parent = numbered(rt.alloc())?;
-    let child = fork(&parent)?;
-    let want = if write(&mut parent, 0x2ffe, &[b'x'; 4099]).is_ok() {
-        b".12xx56."
-    } else {
-        b".123456."
-    };
-    for (space, want) in [(&parent, want), (&child, b".123456.")] {
-        assert_eq!(rt; firsts(space, rt.alloc())?.as_slice(), want.as_slice());
-    }
+    assert!(rt; is_written_or_left(rt.alloc())?);
     Ok(())
 }

@@ -1,5 +1,5 @@
 -- What comes of a run in which an occurrence of a call fails as its kind says, beside the run without a failure.
-use Rattle.std.specs.Prelude.{◌≡◌, cond, if◌then◌else◌, false, List, map, All, Option, Some, None}
+use Rattle.std.specs.Prelude.{◌≡◌, cond, if◌then◌else◌, false, Option, Some, None}
 use Rattle.sweep_faults.specs.Faults.{is_stop}
 use Rattle.sweep_faults.specs.declared.faults.Fault.{Fault}
 use Rattle.sweep_faults.specs.declared.faults.Kind.{Kind}
@@ -7,7 +7,6 @@ use Rattle.sweep_faults.specs.declared.faults.Kind.TheVariants as kind
 use Rattle.sweep_rows.specs.Endings.{first_word}
 use Rattle.sweep_rows.specs.Files.{file_notes}
 use Rattle.sweep_rows.specs.Verdicts.{facts_of, verdict_of}
-use Rattle.sweep_rows.specs.declared.known.Occurrence.{Occurrence}
 use Rattle.sweep_rows.specs.declared.verdicts.Facts.{Facts}
 use Rattle.sweep_rows.specs.declared.verdicts.Left.{Left}
 use Rattle.sweep_rows.specs.declared.verdicts.Reached.{Reached}
@@ -21,13 +20,6 @@ use Rattle.sweep_runs.specs.declared.trials.TrialRow.{TrialRow}
 -- the occurrence's process alone fails, at that entry
 abbrev pub fault_of : Trial → Fault
 fault_of t = record { pid = t.occurrence.pid; call = t.occurrence.call.number; n = t.occurrence.n; kind = t.kind }
-
--- everything ends at each of these
-abbrev pub stop_at : Occurrence → Trial
-stop_at o = record { occurrence = o; kind = kind.Stop }
-
-abbrev pub stops_at : List Occurrence → List Trial
-stops_at occurrences = map stop_at occurrences
 
 -- what the files alone tell: one is destroyed, or was and its content stands elsewhere, or each is whole
 abbrev pub verdict_by_files : Left → Option Verdict
@@ -47,9 +39,3 @@ pub record IsTrialRow (setup : Setup) (reference : Reached) (row : TrialRow) : T
   pub word : row.word ≡ first_word reached.ending.outcome
   pub ended : row.ended ≡ reached.ending.outcome.ended
   pub streams : row.streams ≡ reached.streams
-
--- a row for each of these trials, in their order
-pub record AreTrialRows (setup : Setup) (reference : Reached) (trials : List Trial) (rows : List TrialRow) : Type 0
-  where
-    pub trials_are : map (λ r. r.trial) rows ≡ trials
-    pub each : All (IsTrialRow setup reference) rows

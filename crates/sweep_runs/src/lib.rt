@@ -16,4 +16,4 @@ pub use progress::{Progress, Silent};
 pub use runs::{Setup, reach, reach_failing, refer, run_accepted, run_by, run_failing, run_under};
 pub use second::boot_on;
 pub use sweeping::{Report, Row, fault_of, run_case, run_cases, script_of, sweep};
-pub use trials::{Trial, TrialRow, run_trial, run_trials, stop_trials};
+pub use trials::{Trial, TrialRow, run_trial};

@@ -5,9 +5,7 @@ ghost use Rattle.sweep_rows.specs.Endings.{first_word as first_word_of};
 ghost use Rattle.sweep_rows.specs.Files.{file_notes};
 ghost use Rattle.sweep_rows.specs.Verdicts.{facts_of as facts};
 ghost use Rattle.sweep_runs.specs.Trials.{fault_of, verdict_by as verdict_by_kind, verdict_by_files, IsTrialRow};
-ghost use Rattle.sweep_runs.specs.Trials.{AreTrialRows, stops_at};
 
-use crate::progress::Progress;
 use crate::runs::{Setup, reach_failing};
 use crate::sweeping::notes_of;
 use containers::Seq;
@@ -54,22 +52,6 @@ impl Trial {
             kind: self.kind,
         }
     }
-}
-
-/// Everything ends at each of these occurrences.
-pub fn stop_trials(alloc: Global, found: &[Occurrence]) -> Result<Vec<Trial>, AllocError>
-    ensures { IfOk result (λ trials. trials.items ≡ stops_at found.now) }
-{
-    let mut trials = Vec::new(alloc);
-    let mut left = found;
-    while let Some((occurrence, rest)) = left.split_first() {
-        trials.push(Trial {
-            occurrence: *occurrence,
-            kind: Kind::Stop,
-        })?;
-        left = rest;
-    }
-    Ok(trials)
 }
 
 /// What the files alone tell.
@@ -151,25 +133,4 @@ pub fn run_trial(
     let files = notes_of(alloc, &setup.boot, reference, &reached)?;
     let verdict = judge(alloc, trial.kind, reference, &reached, files.as_slice())?;
     Ok(row_of(trial, verdict, files, reached))
-}
-
-/// Makes the run of each trial, of a boot that is accepted.
-pub fn run_trials<P: Progress>(
-    alloc: Global,
-    setup: &Setup,
-    reference: &Reached,
-    trials: &[Trial],
-    progress: &mut P,
-) -> Result<Vec<TrialRow>, AllocError>
-    ensures { IfOk result (λ rows. AreTrialRows setup.now reference.now trials.now rows.items) }
-{
-    let mut rows = Vec::new(alloc);
-    let mut left = trials;
-    while let Some((trial, rest)) = left.split_first() {
-        let row = run_trial(alloc, setup, reference, *trial)?;
-        rows.push(row)?;
-        left = rest;
-        progress.tell(rows.len(), trials.len());
-    }
-    Ok(rows)
 }

@@ -5,10 +5,9 @@ use lx_abi::{Boot, GuestFile, Limits, OutcomeFile, Script, Set};
 use rv_asm::assemble;
 use std::alloc::Global;
 use std::test::Fail;
+use sweep_faults::Kind;
 use sweep_rows::{Reached, Verdict, first_word, occurrences};
-use sweep_runs::{
-    Setup, Silent, Trial, TrialRow, boot_on, reach, reach_failing, run_trials, stop_trials,
-};
+use sweep_runs::{Setup, Trial, boot_on, reach, reach_failing, run_trial};
 
 /// Writes `newer` to /note, which it empties first, by two calls.
 const SAVER: &str = "_start: li a0, -100\nla a1, path\nli a2, 0x201\nli a7, 56\necall\nmv s0, a0\n\
@@ -77,16 +76,27 @@ fn reference_of(alloc: Global, setup: &Setup) -> Result<Reached, Fail> {
 /// A stop at each occurrence of each call, without clauses.
 fn stops_of(alloc: Global, reference: &Reached) -> Result<Vec<Trial>, Fail> {
     let all = Set::AllBut(Seq::new(alloc));
-    let found = occurrences(alloc, reference.log.as_slice(), &all, false)?;
-    Ok(stop_trials(alloc, found.as_slice())?)
+    let mut trials = Vec::new(alloc);
+    for occurrence in occurrences(alloc, reference.log.as_slice(), &all, false)?.as_slice() {
+        trials.push(Trial {
+            occurrence: *occurrence,
+            kind: Kind::Stop,
+        })?;
+    }
+    Ok(trials)
 }
 
-fn letters_of(alloc: Global, rows: &[TrialRow]) -> Result<String, Fail> {
-    let mut letters = String::new(alloc);
-    for row in rows {
-        letters.push(letter(row.verdict))?;
-    }
-    Ok(letters)
+/// What is told of a trial, without clauses.
+fn verdict_of(
+    alloc: Global,
+    setup: &Setup,
+    reference: &Reached,
+    trial: Trial,
+) -> Result<Option<Verdict>, Fail> {
+    let row = run_trial(alloc, setup, reference, trial)?;
+    let verdict = row.verdict;
+    drop(row);
+    Ok(verdict)
 }
 
 /// A letter for each trial, without clauses.
@@ -96,10 +106,11 @@ fn judged(
     reference: &Reached,
     trials: &[Trial],
 ) -> Result<String, Fail> {
-    let rows = run_trials(alloc, setup, reference, trials, &mut Silent)?;
-    let letters = letters_of(alloc, rows.as_slice());
-    drop(rows);
-    letters
+    let mut letters = String::new(alloc);
+    for trial in trials {
+        letters.push(letter(verdict_of(alloc, setup, reference, *trial)?))?;
+    }
+    Ok(letters)
 }
 
 /// A letter for a stop at each occurrence of each call.

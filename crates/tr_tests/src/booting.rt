@@ -32,6 +32,16 @@ pub(crate) fn boot(alloc: Global, path: &str, listing: &str, follow: bool) -> Re
     })
 }
 
+/// Every call is shown. The options' own follow isn't that of the boot, which counts.
+pub(crate) fn options(alloc: Global, follow: bool) -> Result<Options, Fail> {
+    Ok(Options {
+        follow: !follow,
+        shown: parse_trace(alloc, "all")?,
+        string_limit: 32,
+        width: 40,
+    })
+}
+
 /// Boots and traces in this process, without clauses.
 pub(crate) fn run_here(
     alloc: Global,
@@ -43,25 +53,9 @@ pub(crate) fn run_here(
     run_local(alloc, boot, schedule, script, options)
 }
 
-pub(crate) fn options(alloc: Global, follow: bool, shown: &str) -> Result<Options, Fail> {
-    Ok(Options {
-        follow,
-        shown: parse_trace(alloc, shown)?,
-        string_limit: 32,
-        width: 40,
-    })
-}
-
-/// The run of a boot that is accepted. The options' own follow is not that of the boot.
-pub(crate) fn run_shown(
-    alloc: Global,
-    boot: Boot,
-    schedule: Schedule,
-    script: Script,
-    shown: &str,
-) -> Result<Run, Fail> {
-    let options = options(alloc, !boot.follow, shown)?;
-    match run_here(alloc, boot, schedule, script, options) {
+/// The run of a boot that is accepted.
+pub(crate) fn accepted(run: Result<Run, BootFault>) -> Result<Run, Fail> {
+    match run {
         Ok(run) => Ok(run),
         Err(_) => Err(Fail::from("the boot is accepted")),
     }

@@ -1,4 +1,5 @@
-//! Tests of the tracer's public calls. A crate with tests of its own is proved twice, so they stand here alone.
+//! Tests of the tracer's public calls that no program shows. A crate with tests of its own is proved twice, so they stand
+//! here alone.
 #![tactic(auto)]
 
 #[cfg(test)]
@@ -13,9 +14,3 @@ mod local_runs;
 mod random_runs;
 #[cfg(test)]
 mod runs;
-#[cfg(test)]
-mod steps;
-#[cfg(test)]
-mod texts;
-#[cfg(test)]
-mod tracer;

@@ -1,7 +1,7 @@
 //! Whole runs in one process, with ample memory: a listing that is assembled, booted and traced. Others stand in
 //! guests/rows, and tests/cuts ends a run at each event.
 
-use crate::booting::{boot, options, run_here, run_shown};
+use crate::booting::{accepted, boot, options, run_here};
 use lx_abi::{Event, Outcome, Script};
 use lx_boot::BootFault;
 use pt_kernel::Schedule;
@@ -25,9 +25,11 @@ const HELLO_FOLLOWED: &str = "1     execve(\"/p\", [\"/p\"], 0x3fffffefc8 /* 0 v
 
 /// The run of that listing by the default schedule.
 fn traced(alloc: Global, follow: bool, limit: u64) -> Result<Run, Fail> {
+    let options = options(alloc, follow)?;
     let boot = boot(alloc, "/p", HELLO, follow)?;
     let schedule = Schedule::words(Vec::new(alloc), limit);
-    run_shown(alloc, boot, schedule, Script::empty(alloc), "all")
+    let run = run_here(alloc, boot, schedule, Script::empty(alloc), options);
+    accepted(run)
 }
 
 /// The wait word of process 1.
@@ -44,17 +46,33 @@ fn is_whole(run: &Run) -> bool {
     matches!(run.ended, Ended::Whole(_))
 }
 
-#[test]
-fn whole_run(rt: HostRuntime) -> Result<(), Fail> {
-    for (follow, trace) in [(false, HELLO_TRACE), (true, HELLO_FOLLOWED)] {
-        let run = traced(rt.alloc(), follow, 1_000_000)?;
-        assert_eq!(rt; run.trace.as_slice(), trace.as_bytes());
-        assert_eq!(rt; run.outcome.console.as_slice(), b"hi\n".as_slice());
-        assert_eq!(rt; word_of(&run.outcome), Some(0));
-        assert!(rt; is_whole(&run));
-        drop(run);
+/// How a run went.
+#[derive(Clone, Copy, Debug, PartialEq, Eq)]
+struct Went {
+    is_whole: bool,
+    /// It has the trace that it should have.
+    has_trace: bool,
+    /// It wrote `hi` and a line feed.
+    has_console: bool,
+    word: Option<u32>,
+    turns: u64,
+}
+
+fn seen(run: &Run, trace: &str) -> Went {
+    Went {
+        is_whole: is_whole(run),
+        has_trace: run.trace.as_slice() == trace.as_bytes(),
+        has_console: run.outcome.console.as_slice() == b"hi\n".as_slice(),
+        word: word_of(&run.outcome),
+        turns: turns_of(run),
     }
-    Ok(())
+}
+
+fn make_run(alloc: Global, follow: bool, limit: u64, trace: &str) -> Result<Went, Fail> {
+    let run = traced(alloc, follow, limit)?;
+    let seen = seen(&run, trace);
+    drop(run);
+    Ok(seen)
 }
 
 fn turns_of(run: &Run) -> u64 {
@@ -69,13 +87,37 @@ fn turns_of(run: &Run) -> u64 {
     turns
 }
 
-/// Seize, Wait and Syscall are served before the first turn.
+const WHOLE: Went = Went {
+    is_whole: true,
+    has_trace: true,
+    has_console: true,
+    word: Some(0),
+    turns: 21,
+};
+
+/// Whole, and cut: Seize, Wait and Syscall are served before the first turn.
 #[test]
-fn effective_turns(rt: HostRuntime) -> Result<(), Fail> {
-    for (limit, turns) in [(0, 0), (1, 0), (3, 0), (4, 1)] {
-        let run = traced(rt.alloc(), false, limit)?;
-        assert_eq!(rt; turns_of(&run), turns);
-        drop(run);
+fn runs_of_one_process(rt: HostRuntime) -> Result<(), Fail> {
+    let cut = Went {
+        is_whole: false,
+        has_trace: true,
+        has_console: false,
+        word: None,
+        turns: 0,
+    };
+    for (follow, limit, trace, wanted) in [
+        (false, 1_000_000, HELLO_TRACE, WHOLE),
+        (true, 1_000_000, HELLO_FOLLOWED, WHOLE),
+        (false, 0, "", cut),
+        (false, 1, "", cut),
+        (false, 3, "", cut),
+        (false, 4, "", Went { turns: 1, ..cut }),
+    ] {
+        assert_eq!(rt;
+            make_run(rt.alloc(), follow, limit, trace)?,
+            wanted,
+            "{limit}"
+        );
     }
     Ok(())
 }
@@ -99,9 +141,9 @@ fn fault_of(run: Result<Run, BootFault>) -> Option<BootFault> {
 }
 
 fn fault(alloc: Global, path: &str) -> Result<Option<BootFault>, Fail> {
-    let options = options(alloc, false, "all")?;
-    let boot = boot(alloc, path, HELLO, false)?;
     let schedule = list(alloc)?;
+    let options = options(alloc, false)?;
+    let boot = boot(alloc, path, HELLO, false)?;
     let run = run_here(alloc, boot, schedule, Script::empty(alloc), options);
     Ok(fault_of(run))
 }

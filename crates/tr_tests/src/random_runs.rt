@@ -1,13 +1,13 @@
 //! An untraced kernel that is given the effective turns of a traced run has its outcome: random guests, scripts and
 //! schedules of the calls that there are.
 
-use crate::booting::{boot, run_shown};
-use lx_abi::{Boot, Node, Outcome, Script, Word};
-use lx_boot::BootFault;
-use lx_kernel::Kernel;
+use crate::booting::{accepted, boot, options, run_here};
+use lx_abi::{Boot, Node, Outcome, Rule, Script, Word};
 use pt_kernel::Schedule;
 use std::alloc::{AllocError, Global};
 use std::test::Fail;
+use sweep_rows::Reached;
+use sweep_runs::{Setup, reach};
 use tr_expr::parse_inject;
 use trace_run::Ended;
 use trace_run::local::Run;
@@ -18,16 +18,32 @@ const CASES: u64 = 1000;
 /// The most events of a case.
 const MOST_EVENTS: u64 = 3000;
 
-/// Numbers that depend on a case alone.
+/// What is made by chance of a case.
+#[derive(Clone, Copy)]
+enum Part {
+    Boot,
+    Script,
+    Schedule,
+}
+
+/// Numbers that depend on a case and a part of it alone.
 #[derive(Drop)]
 struct Chance {
     state: u64,
 }
 
 impl Chance {
-    fn new(case: u64) -> Self {
+    fn new(case: u64, part: Part) -> Self {
+        let part = match part {
+            Part::Boot => 1,
+            Part::Script => 2,
+            Part::Schedule => 3,
+        };
         Chance {
-            state: case.wrapping_mul(0x9e37_79b9_7f4a_7c15),
+            state: case
+                .wrapping_mul(4)
+                .wrapping_add(part)
+                .wrapping_mul(0x9e37_79b9_7f4a_7c15),
         }
     }
 
@@ -143,13 +159,32 @@ fn listing(alloc: Global, chance: &mut Chance) -> Result<String, Fail> {
     Ok(text)
 }
 
-/// Up to three rules.
-fn script(alloc: Global, chance: &mut Chance) -> Result<Script, Fail> {
-    let mut rules = Vec::new(alloc);
+/// The boot of a case. Three in four follow.
+fn boot_of(alloc: Global, case: u64) -> Result<Boot, Fail> {
+    let mut chance = Chance::new(case, Part::Boot);
+    let follow = chance.below(4) > 0;
+    let guest = listing(alloc, &mut chance)?;
+    boot(alloc, "/p", guest.as_str(), follow)
+}
+
+fn push_rules(alloc: Global, chance: &mut Chance, rules: &mut Vec<Rule>) -> Result<(), Fail> {
     for _ in 0..chance.below(4) {
         rules.push(parse_inject(alloc, chance.word(&RULES))?)?;
     }
-    Ok(Script::new(rules))
+    Ok(())
+}
+
+/// Up to three rules.
+fn script_of(alloc: Global, case: u64) -> Result<Script, Fail> {
+    let mut chance = Chance::new(case, Part::Script);
+    let mut rules = Vec::new(alloc);
+    match push_rules(alloc, &mut chance, &mut rules) {
+        Ok(()) => Ok(Script::new(rules)),
+        Err(fail) => {
+            drop(rules);
+            Err(fail)
+        }
+    }
 }
 
 fn pid(chance: &mut Chance) -> u32 {
@@ -172,96 +207,68 @@ fn word(chance: &mut Chance) -> Word {
 }
 
 /// Up to 400 words, and then the default schedule.
-fn schedule(alloc: Global, chance: &mut Chance) -> Result<Schedule, Fail> {
+fn schedule_of(alloc: Global, case: u64) -> Result<Schedule, Fail> {
+    let mut chance = Chance::new(case, Part::Schedule);
     let mut words = Vec::new(alloc);
     for _ in 0..chance.below(400) {
-        words.push(word(chance))?;
+        words.push(word(&mut chance))?;
     }
     Ok(Schedule::words(words, chance.below(MOST_EVENTS)))
 }
 
-/// What is run: a boot, rules, and a schedule.
-#[derive(Drop)]
-struct Setup {
-    boot: Boot,
-    script: Script,
-    schedule: Schedule,
+// What is large comes last: nothing but small values is dropped where memory is lacking.
+
+fn traced(alloc: Global, case: u64) -> Result<Run, Fail> {
+    let options = options(alloc, false)?;
+    let schedule = schedule_of(alloc, case)?;
+    let script = script_of(alloc, case)?;
+    let boot = boot_of(alloc, case)?;
+    let run = run_here(alloc, boot, schedule, script, options);
+    accepted(run)
 }
 
-fn case(alloc: Global, number: u64) -> Result<Setup, Fail> {
-    let mut chance = Chance::new(number);
-    let follow = chance.below(4) > 0;
-    let guest = listing(alloc, &mut chance)?;
-    let script = script(alloc, &mut chance)?;
-    let schedule = schedule(alloc, &mut chance)?;
-    let boot = boot(alloc, "/p", guest.as_str(), follow)?;
-    Ok(Setup {
-        boot,
-        script,
-        schedule,
-    })
-}
-
-fn traced(alloc: Global, number: u64) -> Result<Run, Fail> {
-    let Setup {
-        boot,
-        script,
-        schedule,
-    } = case(alloc, number)?;
-    run_shown(alloc, boot, schedule, script, "all")
-}
-
-fn turn_once(kernel: &mut Kernel, pid: u32) -> bool {
-    kernel.turn(pid).is_ok()
-}
-
-fn turn(kernel: &mut Kernel, pids: &[u32]) -> Result<(), AllocError> {
+fn push_turns(words: &mut Vec<Word>, pids: &[u32]) -> Result<(), AllocError> {
     for pid in pids {
-        if !turn_once(kernel, *pid) {
-            return Err(AllocError);
-        }
+        words.push(Word::TurnAlone { pid: *pid })?;
     }
     Ok(())
 }
 
-fn turn_by_row(kernel: &mut Kernel, row: &TurnRow) -> Result<(), AllocError> {
+fn push_row(words: &mut Vec<Word>, row: &TurnRow) -> Result<(), AllocError> {
     for _ in 0..row.rounds() {
-        turn(kernel, row.round())?;
+        push_turns(words, row.round())?;
     }
-    turn(kernel, row.rest())
+    push_turns(words, row.rest())
 }
 
-fn turn_by(kernel: &mut Kernel, rows: &[TurnRow]) -> Result<(), AllocError> {
+/// The words that give these turns.
+fn words_of(alloc: Global, rows: &[TurnRow]) -> Result<Vec<Word>, AllocError> {
+    let mut words = Vec::new(alloc);
     for row in rows {
-        turn_by_row(kernel, row)?;
+        push_row(&mut words, row)?;
     }
-    Ok(())
+    Ok(words)
 }
 
-fn boot_by(alloc: Global, boot: Boot, script: Script) -> Result<Kernel, BootFault> {
-    Kernel::boot(alloc, boot, script)
+/// The untraced kernel of a case is given these turns alone.
+fn setup_of(alloc: Global, case: u64, rows: &[TurnRow]) -> Result<Setup, Fail> {
+    let turns = words_of(alloc, rows)?;
+    let boot = boot_of(alloc, case)?;
+    let limit = turns.len() as u64;
+    Ok(Setup { boot, turns, limit })
 }
 
-/// The untraced kernel of a case.
-fn booted(alloc: Global, number: u64) -> Result<Kernel, Fail> {
-    let Setup { boot, script, .. } = case(alloc, number)?;
-    match boot_by(alloc, boot, script) {
-        Ok(kernel) => Ok(kernel),
-        Err(_) => Err(Fail::from("the boot is accepted")),
-    }
+fn reached(alloc: Global, case: u64, setup: &Setup) -> Result<Reached, Fail> {
+    let script = script_of(alloc, case)?;
+    Ok(reach(alloc, setup, script)?)
 }
 
-fn outcome(kernel: &Kernel) -> Result<Outcome, AllocError> {
-    kernel.outcome()
-}
-
-/// What it leaves after these turns.
-fn untraced(alloc: Global, case: u64, rows: &[TurnRow]) -> Result<Outcome, Fail> {
-    let mut kernel = booted(alloc, case)?;
-    turn_by(&mut kernel, rows)?;
-    let outcome = outcome(&kernel);
-    drop(kernel);
-    Ok(outcome?)
+/// What the untraced kernel comes to by these turns.
+fn untraced(alloc: Global, case: u64, rows: &[TurnRow]) -> Result<Reached, Fail> {
+    let setup = setup_of(alloc, case, rows)?;
+    let reached = reached(alloc, case, &setup);
+    drop(setup);
+    reached
 }
 
 fn is_same_node(one: &Node, other: &Node) -> bool {
@@ -297,23 +304,35 @@ fn has_several(outcome: &Outcome) -> bool {
     outcome.ended.as_slice().len() > 1
 }
 
-/// The outcomes are one, the run is whole, several processes have ended.
-fn compared(run: &Run, outcome: &Outcome) -> (bool, bool, bool) {
-    (
-        is_same(&run.outcome, outcome),
-        is_whole(run),
-        has_several(outcome),
-    )
+/// What a case shows: the outcomes are one, the run is whole, several processes have ended.
+#[derive(Clone, Copy)]
+struct Seen {
+    is_same: bool,
+    is_whole: bool,
+    has_several: bool,
 }
 
-/// What a case shows.
-fn seen(alloc: Global, case: u64) -> Result<(bool, bool, bool), Fail> {
-    let run = traced(alloc, case)?;
-    let outcome = untraced(alloc, case, run.turns.rows())?;
-    let seen = compared(&run, &outcome);
-    drop(run);
-    drop(outcome);
+fn compared(run: &Run, outcome: &Outcome) -> Seen {
+    Seen {
+        is_same: is_same(&run.outcome, outcome),
+        is_whole: is_whole(run),
+        has_several: has_several(outcome),
+    }
+}
+
+/// Compares a run with that of the untraced kernel.
+fn compare(alloc: Global, case: u64, run: &Run) -> Result<Seen, Fail> {
+    let reached = untraced(alloc, case, run.turns.rows())?;
+    let seen = compared(run, &reached.ending.outcome);
+    drop(reached);
     Ok(seen)
+}
+
+fn try_case(alloc: Global, case: u64) -> Result<Seen, Fail> {
+    let run = traced(alloc, case)?;
+    let seen = compare(alloc, case, &run);
+    drop(run);
+    seen
 }
 
 /// Some cases are whole and some out of turns, and some have several processes.
@@ -322,10 +341,10 @@ fn outcomes_of_random_runs(rt: HostRuntime) -> Result<(), Fail> {
     let mut whole: u64 = 0;
     let mut several: u64 = 0;
     for case in 0..CASES {
-        let (same, is_whole, has_several) = seen(rt.alloc(), case)?;
-        assert!(rt; same, "case {case}");
-        whole = whole.saturating_add(u64::from(is_whole));
-        several = several.saturating_add(u64::from(has_several));
+        let seen = try_case(rt.alloc(), case)?;
+        assert!(rt; seen.is_same, "case {case}");
+        whole = whole.saturating_add(u64::from(seen.is_whole));
+        several = several.saturating_add(u64::from(seen.has_several));
     }
     assert!(rt; 0 < whole && whole < CASES && 0 < several);
     Ok(())

@@ -1,15 +1,30 @@
 //! Whole runs over replies that were kept, with ample memory: the trace, and how the run ended. Other conversations
 //! stand in guests/conversations.
 
-use crate::steps::{BEGUN, BY_USR1, SYSCALL, Step, options, reply};
-use containers::Bytes;
+use containers::{Bytes, Seq};
 use host_link::{LinkFault, Recorded};
-use lx_abi::{Reply, Script};
+use lx_abi::{RegisterSet, Reply, Script, Set, Status};
 use std::alloc::{AllocError, Global};
 use std::test::Fail;
-use tr_core::TraceFault;
-use tr_expr::parse_inject;
+use tr_core::{Options, TraceFault};
 use trace_run::{Ended, RunFault, Written, run};
+
+/// EVENT_STOP of a tracee that was seized or born.
+const BEGUN: u32 = 0x80057f;
+
+/// A syscall stop under TRACESYSGOOD.
+const SYSCALL: u32 = 0x857f;
+
+/// A reply about process 1.
+#[derive(Clone, Copy)]
+enum Step {
+    Done,
+    Status(u32),
+    /// The registers of a call: a7, and a0 to a2.
+    Call(u64, u64, u64, u64),
+    Errno(u32),
+    OutOfTurns,
+}
 
 #[derive(Clone, Copy, Debug, PartialEq, Eq)]
 enum End {
@@ -20,44 +35,69 @@ enum End {
 
 const LINK_ENDED: End = End::Fault(RunFault::Link(LinkFault::Ended));
 
-/// getpid with its result replaced, and a joined signal that is taken.
-static TAMPERED: [Step; 17] = [
-    Step::Done,
-    Step::Status(1, BEGUN),
-    Step::Done,
-    Step::Status(1, SYSCALL),
-    Step::Call(172, 0, 0, 0),
-    Step::Done,
-    Step::Done,
-    Step::Status(1, SYSCALL),
-    Step::Call(u64::MAX, u64::MAX - 37, 0, 0),
-    Step::Done,
-    Step::Done,
-    Step::Status(1, BY_USR1),
-    Step::Usr1,
-    Step::Done,
-    Step::Status(1, 10),
-    Step::Errno(10),
-    Step::Outcome,
-];
+const REFUSED: End = End::Fault(RunFault::Trace(TraceFault::Inadmissible));
 
 /// The schedule ends while read waits.
 static OUT_OF_TURNS: [Step; 7] = [
     Step::Done,
-    Step::Status(1, BEGUN),
+    Step::Status(BEGUN),
     Step::Done,
-    Step::Status(1, SYSCALL),
+    Step::Status(SYSCALL),
     Step::Call(63, 3, 0x2000, 16),
     Step::Done,
     Step::OutOfTurns,
 ];
 
-fn script(alloc: Global, inject: &str) -> Result<Script, Fail> {
-    let mut rules = Vec::new(alloc);
-    if !inject.is_empty() {
-        rules.push(parse_inject(alloc, inject)?)?;
+/// Every call is shown.
+fn options(alloc: Global) -> Options {
+    Options {
+        follow: false,
+        shown: Set::AllBut(Seq::new(alloc)),
+        string_limit: 32,
+        width: 40,
     }
-    Ok(Script::new(rules))
+}
+
+fn registers(number: u64, a0: u64, a1: u64, a2: u64) -> [u64; 32] {
+    let mut registers = [0; 32];
+    registers[10] = a0;
+    registers[11] = a1;
+    registers[12] = a2;
+    registers[17] = number;
+    registers
+}
+
+fn reply(alloc: Global, step: Step) -> Result<Reply, AllocError> {
+    Ok(match step {
+        Step::Done => Reply::Done,
+        Step::Status(word) => Reply::Status {
+            pid: 1,
+            status: Status { word },
+        },
+        Step::Call(number, a0, a1, a2) => Reply::Registers {
+            registers: RegisterSet::new(alloc, &registers(number, a0, a1, a2))?,
+        },
+        Step::Errno(number) => Reply::Errno { number },
+        Step::OutOfTurns => Reply::OutOfTurns,
+    })
+}
+
+fn push_each(alloc: Global, replies: &mut Vec<Reply>, steps: &[Step]) -> Result<(), AllocError> {
+    for step in steps {
+        replies.push(reply(alloc, *step)?)?;
+    }
+    Ok(())
+}
+
+fn replies(alloc: Global, steps: &[Step]) -> Result<Vec<Reply>, AllocError> {
+    let mut replies = Vec::new(alloc);
+    match push_each(alloc, &mut replies, steps) {
+        Ok(()) => Ok(replies),
+        Err(error) => {
+            drop(replies);
+            Err(error)
+        }
+    }
 }
 
 fn end_of(ended: &Result<Ended, RunFault>) -> End {
@@ -68,18 +108,11 @@ fn end_of(ended: &Result<Ended, RunFault>) -> End {
     }
 }
 
-fn replies(alloc: Global, steps: &[Step]) -> Result<Vec<Reply>, AllocError> {
-    let mut replies = Vec::new(alloc);
-    for step in steps {
-        replies.push(reply(alloc, *step)?)?;
-    }
-    Ok(replies)
-}
-
 /// What a run over these replies prints, and how it ends.
-fn traced_by(alloc: Global, replies: Vec<Reply>, script: Script) -> (Bytes, End) {
+fn traced_by(alloc: Global, replies: Vec<Reply>) -> (Bytes, End) {
     let mut link = Recorded::new(replies);
     let mut writer = Written::new(alloc);
+    let script = Script::empty(alloc);
     let ended = run(alloc, &mut link, &mut writer, script, options(alloc));
     let end = end_of(&ended);
     drop(ended);
@@ -87,33 +120,19 @@ fn traced_by(alloc: Global, replies: Vec<Reply>, script: Script) -> (Bytes, End)
     (writer.into_bytes(), end)
 }
 
-fn traced(alloc: Global, steps: &[Step], inject: &str) -> Result<(Bytes, End), Fail> {
-    let script = script(alloc, inject)?;
+fn traced(alloc: Global, steps: &[Step]) -> Result<(Bytes, End), AllocError> {
     let replies = replies(alloc, steps)?;
-    Ok(traced_by(alloc, replies, script))
+    Ok(traced_by(alloc, replies))
 }
 
 #[test]
 fn kept_replies(rt: HostRuntime) -> Result<(), Fail> {
-    for (steps, inject, trace, end) in [
-        (OUT_OF_TURNS.as_slice(), "", "read(3, ", End::OutOfTurns),
-        (
-            TAMPERED.as_slice(),
-            "getpid:retval=9",
-            "getpid()                                = 9 (INJECTED)\n\
-         --- SIGUSR1 {si_signo=SIGUSR1, si_code=SI_KERNEL} ---\n\
-         +++ killed by SIGUSR1 +++\n",
-            End::Whole,
-        ),
-        (
-            &[Step::Done, Step::Errno(10)],
-            "",
-            "",
-            End::Fault(RunFault::Trace(TraceFault::Inadmissible)),
-        ),
-        (&[], "", "", LINK_ENDED),
+    for (steps, trace, end) in [
+        (OUT_OF_TURNS.as_slice(), "read(3, ", End::OutOfTurns),
+        (&[Step::Done, Step::Errno(10)], "", REFUSED),
+        (&[], "", LINK_ENDED),
     ] {
-        let (text, ended) = traced(rt.alloc(), steps, inject)?;
+        let (text, ended) = traced(rt.alloc(), steps)?;
         assert_eq!(rt; ended, end, "{trace}");
         assert_eq!(rt; text.as_slice(), trace.as_bytes());
     }
