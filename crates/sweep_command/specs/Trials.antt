@@ -20,6 +20,6 @@ pub record IsOfTrials (plan : Plan) (reference : Reached) (tried : Tried) (s : �
 -- the status is that of the one which words name
 pub record IsOfTrial (plan : Plan) (reference : Reached) (named : NamedTrial) (s : ℕ) : Type 0 where
   pub row : TriedRow
-  pub named : IsThat named row.made.trial
+  pub is_that : IsThat named row.made.trial
   pub made : IsTriedRow plan reference row
   pub status_is : s ≡ status_of plan.strict (option_to_list (verdict_of row))
