@@ -178,31 +178,26 @@ fn reply(alloc: Global, number: usize) -> Result<Reply, AllocError> {
 /// The value's copy is the same as the other.
 fn is_copy<T: Copied + Same + Drop>(
     alloc: Global,
-    value: &T,
-    other: &T,
+    value: Result<T, AllocError>,
+    other: Result<T, AllocError>,
 ) -> Result<bool, AllocError> {
+    let (value, other) = (value?, other?);
     let copy = value.copy(alloc)?;
-    Ok(copy.same(other))
+    Ok(copy.same(&other))
 }
 
 // Whether the copy of one value is the same as another, by their numbers.
 
 fn are_same_requests(alloc: Global, one: usize, other: usize) -> Result<bool, AllocError> {
-    let value = request(alloc, one)?;
-    let other = request(alloc, other)?;
-    is_copy(alloc, &value, &other)
+    is_copy(alloc, request(alloc, one), request(alloc, other))
 }
 
 fn are_same_replies(alloc: Global, one: usize, other: usize) -> Result<bool, AllocError> {
-    let value = reply(alloc, one)?;
-    let other = reply(alloc, other)?;
-    is_copy(alloc, &value, &other)
+    is_copy(alloc, reply(alloc, one), reply(alloc, other))
 }
 
 fn are_same_boots(alloc: Global, one: usize, other: usize) -> Result<bool, AllocError> {
-    let value = changed_boot(alloc, one)?;
-    let other = changed_boot(alloc, other)?;
-    is_copy(alloc, &value, &other)
+    is_copy(alloc, changed_boot(alloc, one), changed_boot(alloc, other))
 }
 
 #[test]

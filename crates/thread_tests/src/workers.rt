@@ -148,24 +148,58 @@ fn is_whole(run: &Run) -> bool {
     matches!(run.ended, Ended::Whole(_))
 }
 
-#[test]
-fn two_workers_meet(rt: HostRuntime) -> Result<(), Fail> {
-    let alloc = rt.alloc();
-    let meeting = Meeting::new();
-    let run = traced(&rt, alloc, boot(alloc)?, 2, &meeting)?;
-    assert!(rt; is_whole(&run));
-    assert_eq!(rt; run.outcome.console.as_slice(), b"hi\n".as_slice());
-    assert!(rt; meeting.was_held());
+/// How a run went.
+#[derive(Clone, Copy, Debug, PartialEq, Eq)]
+struct Went {
+    is_whole: bool,
+    /// It wrote `hi` and a line feed.
+    has_console: bool,
+    /// Somebody had a turn.
+    has_turns: bool,
+}
+
+fn look(run: &Run) -> Went {
+    Went {
+        is_whole: is_whole(run),
+        has_console: run.outcome.console.as_slice() == b"hi\n".as_slice(),
+        has_turns: !run.turns.rows().is_empty(),
+    }
+}
+
+/// The run by two workers.
+fn make_run<G: Gate, R: Threads + Wait + Sync>(
+    rt: &R,
+    alloc: Global,
+    gate: &G,
+) -> Result<Went, Fail> {
+    let boot = boot(alloc)?;
+    let run = traced(rt, alloc, boot, 2, gate)?;
+    let seen = look(&run);
     drop(run);
-    Ok(())
+    Ok(seen)
 }
 
 #[test]
+fn two_workers_meet(rt: HostRuntime) -> Result<(), Fail> {
+    let meeting = Meeting::new();
+    let wanted = Went {
+        is_whole: true,
+        has_console: true,
+        has_turns: true,
+    };
+    assert_eq!(rt; make_run(&rt, rt.alloc(), &meeting)?, wanted);
+    assert!(rt; meeting.was_held());
+    Ok(())
+}
+
+/// It is out of turns.
+#[test]
 fn a_shut_gate_ends_the_run(rt: HostRuntime) -> Result<(), Fail> {
-    let alloc = rt.alloc();
-    let run = traced(&rt, alloc, boot(alloc)?, 2, &Shut)?;
-    assert!(rt; matches!(run.ended, Ended::OutOfTurns));
-    assert_eq!(rt; run.turns.rows().len(), 0);
-    drop(run);
+    let wanted = Went {
+        is_whole: false,
+        has_console: false,
+        has_turns: false,
+    };
+    assert_eq!(rt; make_run(&rt, rt.alloc(), &Shut)?, wanted);
     Ok(())
 }
