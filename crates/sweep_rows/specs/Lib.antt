@@ -11,3 +11,4 @@ pub mod Verdicts
 pub mod Summary
 pub mod Possible
 pub mod Failures
+pub mod Worlds

@@ -2,7 +2,7 @@
 
 ghost use Rattle.std.specs.Prelude.{◌≡◌, ◌++◌, ◌∷◌, ◌||◌, [], List, OnOk, true, false};
 ghost use Rattle.lx_abi.specs.declared.log.Item.{Item as LogItem};
-ghost use Rattle.sweep_rows.specs.Descriptors.{after_item, uses_in};
+ghost use Rattle.sweep_rows.specs.Descriptors.{after_item, descriptor, uses_in};
 ghost use Rattle.sweep_rows.specs.Known.{sets_action, occurrence_in, IsKnown};
 
 use crate::descriptors::{Descriptors, Use, descriptor};
@@ -27,7 +27,7 @@ pub struct Occurrence {
 
 /// What a log tells.
 #[derive(Drop)]
-pub(crate) struct Known {
+pub struct Known {
     descriptors: Descriptors,
     piped: bool,
     handled: bool,
@@ -64,7 +64,7 @@ fn or_sets(before: bool, item: &Item, pipe: bool) -> bool
 
 impl Known {
     /// What is known when a run begins.
-    pub(crate) fn new(alloc: Global) -> Self
+    pub fn new(alloc: Global) -> Self
         ensures { IsKnown [] result }
     {
         Known {
@@ -74,6 +74,13 @@ impl Known {
         }
     }
 
+    /// What the descriptor stands for that a call of a process has as its first argument.
+    pub fn use_of(&self, pid: u32, call: &Call) -> Use
+        ensures { result ≡ uses_in self.now.descriptors pid (descriptor call.now) }
+    {
+        self.descriptors.use_of(pid, descriptor(call))
+    }
+
     pub(crate) fn occurrence(&self, pid: u32, call: Call, n: u64) -> Occurrence
         ensures { result ≡ occurrence_in self.now pid call n }
     {
@@ -81,14 +88,14 @@ impl Known {
             pid,
             call,
             n,
-            used: self.descriptors.use_of(pid, descriptor(&call)),
+            used: self.use_of(pid, &call),
             piped: self.piped,
             handled: self.handled,
         }
     }
 
     /// One item more of the log.
-    pub(crate) fn add(&mut self, item: &Item) -> Result<(), AllocError>
+    pub fn add(&mut self, item: &Item) -> Result<(), AllocError>
         ensures { OnOk result
             ((past : List LogItem) → IsKnown past self.old → IsKnown (past ++ item.now ∷ []) self.new) }
     {

@@ -14,14 +14,16 @@ pub mod possible;
 pub mod streams;
 pub mod summary;
 pub mod verdicts;
+pub mod worlds;
 
 pub use descriptors::{Descriptors, Target, Use};
 pub use endings::{Ending, ends_as, first_word, leaves_the_same};
 pub use entries::occurrences;
 pub use failures::{Failure, failing};
 pub use files::{FileNote, Word, file_notes};
-pub use known::Occurrence;
+pub use known::{Known, Occurrence};
 pub use possible::{possible_errors, tells_of_loss};
 pub use streams::{Streams, streams_of};
 pub use summary::{checked, count, name_of, rank, status};
 pub use verdicts::{Facts, Reached, Verdict, facts_of, is_finding, verdict_of};
+pub use worlds::World;
