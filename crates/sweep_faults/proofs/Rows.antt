@@ -2,11 +2,13 @@
 use Rattle.std.proofs.Common.{◌≡◌, Bool, ℕ, zero, suc, ◌-◌, ◌+◌, ◌<◌, ◌≤◌, true, false, not, cond, ◌&&◌, List, [], ◌∷◌, ◌++◌, Option, Some, None, refl, sym, ap, ap₂, subst, ◌∙◌, append-nil, arith}
 use Rattle.std.specs.Prelude.{slice_set}
 use Rattle.std.specs.Option.{option_to_list}
+use Rattle.lx_abi.specs.declared.errno.Errno.{Errno}
+use Rattle.lx_abi.specs.declared.log.Call.{Call}
 use Rattle.lx_abi.specs.declared.log.Item.{Item}
 use Rattle.lx_abi.specs.declared.script.Choice.{Choice}
 use Rattle.lx_model.specs.Finite.{item_of, ran}
 use Rattle.lx_abi.specs.Errors.{error_word}
-use Rattle.lx_model.specs.Machine.{Regs}
+use Rattle.lx_model.specs.Machine.{Regs, call_of}
 use Rattle.lx_model.specs.declared.stage.Task.{Task}
 use Rattle.lx_proc.specs.declared.state.UserState.{UserState}
 use Rattle.lx_model.specs.declared.event.PtraceEvent.{PtraceEvent}
@@ -26,10 +28,16 @@ use Rattle.plain_run.specs.Runs.{IsCause}
 use Rattle.plain_run.specs.declared.running.Halt.{Halt}
 use Rattle.plain_run.specs.declared.running.Halt.TheVariants.{Memory, Weary}
 use Rattle.plain_run.proofs.Turning.{continues, bore_log, after_unserved, told_unserved, turn_less}
+use Rattle.sweep_rows.specs.Descriptors.{descriptor, uses_in, uses_of}
+use Rattle.sweep_rows.specs.Known.{IsKnown}
+use Rattle.sweep_rows.specs.Worlds.{error_in}
+use Rattle.sweep_rows.specs.declared.descriptors.Use.{Use}
+use Rattle.sweep_rows.specs.declared.known.Known.{Known}
+use Rattle.sweep_rows.specs.declared.worlds.World.{World}
 use Rattle.sweep_faults.specs.declared.faults.Fault.{Fault}
 use Rattle.sweep_faults.specs.declared.faults.Kind.{Kind}
 use Rattle.sweep_faults.specs.declared.faults.Kind.TheVariants as kind
-use Rattle.sweep_faults.specs.Faults.{after_failing, after_fault, counting, ends_at, is_at, is_entered, is_stop, last_asked, with_register, writing}
+use Rattle.sweep_faults.specs.Faults.{after_asking, after_failing, after_fault, counting, ends_at, error_asked, is_at, is_entered, is_stop, last_asked, with_register, writing}
 use Rattle.sweep_faults.specs.InRows.{HasNext, InRow}
 use Rattle.sweep_faults.specs.Runs.{IsFaulted, RunsFaulted, EndsAreSettled, RunsKeepLogs, StopsAreTurns, next_pid, unless_ended}
 use Rattle.sweep_faults.proofs.Standing.{not_at}
@@ -63,6 +71,17 @@ written_is k k' p number value r r' had has part =
 
 pub unwritten_is : (k : Run) (p number value : ℕ) → None ≡ regs_of (task_in k p) → k ≡ writing k p number value
 unwritten_is k p number value none = ap (λ o. with_part k p (with_register number value o (task_in k p))) none
+
+-- What a world has of a call
+
+pub asked_is : (w : World) (log : List Item) (p : ℕ) (known : Known) (o : Option Regs) (r : Regs) (call : Call) (used : Use) (error : Option Errno) → IsKnown log known → Some r ≡ o → call ≡ call_of r → used ≡ uses_in known.descriptors p (descriptor call)
+    → error ≡ error_in w call used.target → error ≡ error_asked w log p o
+asked_is w log p known o r call used error h had is has found =
+    found
+    ∙ ap (λ u. error_in w call u.target) has
+    ∙ ap (λ uses. error_in w call (uses p (descriptor call)).target) h.uses
+    ∙ ap (λ c. error_in w c (uses_of log p (descriptor c)).target) is
+    ∙ ap (λ x. error_asked w log p x) had
 
 pub told_item : (k k' : Run) (item : Option Item) (told told' : List Item) → k'.running.log ≡ k.running.log ++ option_to_list item → told' ≡ told ++ option_to_list item → Tells k told k' told'
 told_item k k' item told told' h g = record { items = option_to_list item; logged = h; are_told = g }
@@ -267,6 +286,10 @@ part_keeps k p (Some task) = refl
 writing_keeps : (k : Run) (p number value : ℕ) → (writing k p number value).keeps_log ≡ k.keeps_log
 writing_keeps k p number value = part_keeps k p (with_register number value (regs_of (task_in k p)) (task_in k p))
 
+asking_keeps : (error : Option Errno) (k : Run) (p : ℕ) → (after_asking error k p).keeps_log ≡ k.keeps_log
+asking_keeps None k p = refl
+asking_keeps (Some error) k p = refl
+
 failing_keeps : (x : Kind) (k : Run) (p : ℕ) → (after_failing x k p).keeps_log ≡ k.keeps_log
 failing_keeps (kind.Undone error) k p = refl
 failing_keeps (kind.Done error) k p = writing_keeps k p 10 (error_word error.number)
@@ -275,6 +298,7 @@ failing_keeps (kind.Short count) k p =
     (writing_keeps k p 12 count) (writing_keeps k p 12 (last_asked p 0 k.running.log))
 failing_keeps kind.Killed k p = refl
 failing_keeps kind.Stop k p = refl
+failing_keeps (kind.World w) k p = asking_keeps (error_asked w k.running.log p (regs_of (task_in k p))) k p
 
 keeps : (f : Fault) (k : Run) (s : Schedule) (pids : List ℕ) (z : Run) → IsFaulted f k s pids z → z.keeps_log ≡ k.keeps_log
 keeps f k s [] z h = ap (λ (r : Run). r.keeps_log) h.1

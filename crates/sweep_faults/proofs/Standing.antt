@@ -1,6 +1,6 @@
 -- Where a process stands where its call fails.
-use Rattle.std.proofs.Common.{◌≡◌, Bool, true, false, ℕ, ◌-◌, ◌+◌, ◌<◌, List, [], ◌∷◌, ◌++◌, Option, Some, None, cond, ◌&&◌, ◌||◌, refl, sym, ap, subst, ◌∙◌, append-nil, arith}
-use Rattle.std.specs.Prelude.{◌==◌, if◌then◌else◌}
+use Rattle.std.proofs.Common.{◌≡◌, Bool, true, false, ℕ, ◌-◌, ◌+◌, ◌<◌, List, [], ◌∷◌, ◌++◌, Option, Some, None, cond, ◌&&◌, ◌||◌, refl, sym, ap, ap₂, subst, ◌∙◌, append-nil, arith}
+use Rattle.std.specs.Prelude.{◌==◌, if◌then◌else◌, nat_le}
 use Rattle.std.specs.Option.{option_to_list}
 use Rattle.std.proofs.lemmas.Bool.Decides.{nat_tests}
 use Rattle.lx_abi.specs.declared.log.Item.{Item}
@@ -15,8 +15,10 @@ use Rattle.sweep_faults.specs.declared.awaited.Awaited.{Awaited}
 use Rattle.sweep_faults.specs.declared.faults.Fault.{Fault}
 use Rattle.sweep_faults.specs.declared.faults.Kind.{Kind}
 use Rattle.sweep_faults.specs.declared.faults.Kind.TheVariants as kind
-use Rattle.sweep_faults.specs.Awaited.{Awaits, IsLeft, asked_after, heard, is_awaited_at, is_due_by, is_next, last_after, left_after, passed}
-use Rattle.sweep_faults.specs.Faults.{asked_last, asks_for, done_last, has_entered, is_at, is_due, is_ended, is_entered, last_asked, was_last}
+use Rattle.sweep_rows.specs.Known.{IsKnown}
+use Rattle.sweep_rows.specs.declared.known.Known.{Known}
+use Rattle.sweep_faults.specs.Awaited.{Awaits, IsLeft, asked_after, is_awaited_at, is_due_by, is_next, is_past, last_after, left_after, passed}
+use Rattle.sweep_faults.specs.Faults.{asked_last, asks_for, done_last, has_begun, has_entered, is_at, is_due, is_ended, is_entered, is_world, last_asked, was_last}
 
 -- A process that goes on by itself has entered no call, and ended none
 
@@ -71,12 +73,23 @@ not_due (kind.Short count) call k p on =
     (not_ended (was_last p call false k.running.log) k p on)
 not_due kind.Killed call k p on = not_entered call k p on
 not_due kind.Stop call k p on = not_entered call k p on
+not_due (kind.World w) call k p on = ap is_entered on.1.1.0 ∙ no_entry on.1.0 on.1.1.1
+
+and_false : (b : Bool) → (b && false) ≡ false
+and_false true = refl
+and_false false = refl
 
 pub not_at : (f : Fault) (k : Run) (p : ℕ) → GoesOn k p → is_at f k p ≡ false
 unfolding is_at
-not_at f k p on =
-    ap (λ b. (p == f.pid) && ((entries f.pid f.call k.running.log == f.n) && b)) (not_due f.kind f.call k p on)
-    ∙ none_at (p == f.pid) (entries f.pid f.call k.running.log == f.n)
+not_at f k p on = of (is_world f.kind)
+  where
+    of : (b : Bool) → cond b (has_begun f k.running.log && is_due f.kind f.call k p) ((p == f.pid) && ((entries f.pid f.call k.running.log == f.n) && is_due f.kind f.call k p)) ≡ false
+    of true =
+        ap (λ b. has_begun f k.running.log && b) (not_due f.kind f.call k p on)
+        ∙ and_false (has_begun f k.running.log)
+    of false =
+        ap (λ b. (p == f.pid) && ((entries f.pid f.call k.running.log == f.n) && b)) (not_due f.kind f.call k p on)
+        ∙ none_at (p == f.pid) (entries f.pid f.call k.running.log == f.n)
 
 -- What is awaited
 
@@ -106,6 +119,7 @@ same_due (kind.Done error) a k p same h = same_last a k p same h
 same_due (kind.Short count) a k p same h = ap (λ b. has_entered a.fault.call k p || b) (same_last a k p same h)
 same_due kind.Killed a k p same h = refl
 same_due kind.Stop a k p same h = refl
+same_due (kind.World w) a k p same h = refl
 
 due_there : (b : Bool) (a : Awaited) (k : Run) (p : ℕ) → (p == a.fault.pid) ≡ b → a.was_last ≡ was_last a.fault.pid a.fault.call false k.running.log
     → (x : Bool) → (b && (x && is_due a.fault.kind a.fault.call k p)) ≡ (b && (x && is_due_by a.fault.kind a k p))
@@ -114,17 +128,48 @@ due_there true a k p e h x =
     ap (λ d. x && d) (same_due a.fault.kind a k p same h)
 due_there false a k p e h x = refl
 
+past_is : (n entered : ℕ) (left : Option ℕ) → IsLeft n entered left → nat_le n entered ≡ is_past left
+unfolding is_past
+past_is n entered (Some left) h = of (nat_le n entered) (left == 0) refl refl
+  where
+    of : (a b : Bool) → nat_le n entered ≡ a → (left == 0) ≡ b → a ≡ b
+    of true true e g = refl
+    of true false e g = absurd (grind (arith, nat_tests, h, e, g))
+    of false true e g = absurd (grind (arith, nat_tests, h, e, g))
+    of false false e g = refl
+past_is n entered None h = of (nat_le n entered) refl
+  where
+    of : (a : Bool) → nat_le n entered ≡ a → a ≡ true
+    of true e = refl
+    of false e = absurd (grind (arith, nat_tests, h, e))
+
+world_due : (x : Kind) (a : Awaited) (k : Run) (p : ℕ) → is_world x ≡ true → is_due x a.fault.call k p ≡ is_due_by x a k p
+world_due (kind.Undone error) a k p h = refl
+world_due (kind.Done error) a k p h = absurd (cc h)
+world_due (kind.Short count) a k p h = absurd (cc h)
+world_due kind.Killed a k p h = refl
+world_due kind.Stop a k p h = refl
+world_due (kind.World w) a k p h = refl
+
 pub awaited_at_is : (a : Awaited) (k : Run) (p : ℕ) → Awaits a k.running.log → is_at a.fault k p ≡ is_awaited_at a k p
 unfolding is_at is_awaited_at
-awaited_at_is a k p h =
-    ap (λ b. (p == a.fault.pid) && (b && is_due a.fault.kind a.fault.call k p))
-    (come_is a.fault.n (entries a.fault.pid a.fault.call k.running.log) a.left h.0)
-    ∙ due_there (p == a.fault.pid) a k p refl h.1 (is_next a.left)
+awaited_at_is a k p h = of (is_world a.fault.kind) refl
+  where
+    of : (b : Bool) → is_world a.fault.kind ≡ b → cond b (has_begun a.fault k.running.log && is_due a.fault.kind a.fault.call k p) ((p == a.fault.pid) && ((entries a.fault.pid a.fault.call k.running.log == a.fault.n) && is_due a.fault.kind a.fault.call k p))
+        ≡ cond b (is_past a.left && is_due_by a.fault.kind a k p) ((p == a.fault.pid) && (is_next a.left && is_due_by a.fault.kind a k p))
+    of true e =
+        ap₂ (λ x y. x && y) (past_is a.fault.n (entries a.fault.pid a.fault.call k.running.log) a.left h.0) (world_due a.fault.kind a k p e)
+    of false e =
+        ap (λ b. (p == a.fault.pid) && (b && is_due a.fault.kind a.fault.call k p))
+        (come_is a.fault.n (entries a.fault.pid a.fault.call k.running.log) a.left h.0)
+        ∙ due_there (p == a.fault.pid) a k p refl h.1 (is_next a.left)
 
 -- the process of the failure alone stands there
-pub asked_there : (a : Awaited) (k : Run) (p : ℕ) → Awaits a k.running.log → true ≡ is_awaited_at a k p → a.asked ≡ last_asked p 0 k.running.log
+pub asked_there : (a : Awaited) (k : Run) (p : ℕ) → Awaits a k.running.log → true ≡ is_awaited_at a k p → is_world a.fault.kind ≡ false → a.asked ≡ last_asked p 0 k.running.log
 unfolding is_awaited_at
-asked_there a k p h at = of (p == a.fault.pid) refl at
+asked_there a k p h at alone =
+    of (p == a.fault.pid) refl
+    (at ∙ ap (λ b. cond b (is_past a.left && is_due_by a.fault.kind a k p) ((p == a.fault.pid) && (is_next a.left && is_due_by a.fault.kind a k p))) alone)
   where
     of : (b : Bool) → (p == a.fault.pid) ≡ b → true ≡ (b && (is_next a.left && is_due_by a.fault.kind a k p)) → a.asked ≡ last_asked p 0 k.running.log
     of true e at =
@@ -200,5 +245,20 @@ heard_left a log log' (Some item) h e =
     of true = one_less a.fault.n (entries a.fault.pid a.fault.call log) a.left h
     of false = subst (λ n. IsLeft a.fault.n n a.left) (sym (no_more (entries a.fault.pid a.fault.call log))) h
 
-pub heard_awaits : (a : Awaited) (log log' : List Item) (item : Option Item) → Awaits a log → log' ≡ log ++ option_to_list item → Awaits (heard a item) log'
-heard_awaits a log log' item h e = (heard_left a log log' item h.0 e, heard_last a log log' item h.1 e, heard_asked a log log' item h.2 e)
+pub known_still : (log : List Item) (known : Known) → IsKnown log known → IsKnown (log ++ option_to_list None) known
+known_still log known h = subst (λ l. IsKnown l known) (sym (append-nil log)) h
+
+pub heard_awaits : (a a' : Awaited) (log : List Item) (item : Option Item) → a'.fault ≡ a.fault → a'.left ≡ left_after a item → a'.was_last ≡ last_after a item → a'.asked ≡ asked_after a item
+    → (IsKnown log a.known → IsKnown (log ++ option_to_list item) a'.known) → Awaits a log → Awaits a' (log ++ option_to_list item)
+heard_awaits a a' log item same left last asked known h =
+    let log' : List Item = log ++ option_to_list item in (
+      subst (λ (f : Fault). IsLeft f.n (entries f.pid f.call log') a'.left) (sym same)
+          (subst (λ l. IsLeft a.fault.n (entries a.fault.pid a.fault.call log') l) (sym left) (heard_left a log log' item h.0 refl)),
+      last
+          ∙ heard_last a log log' item h.1 refl
+          ∙ ap (λ (f : Fault). was_last f.pid f.call false log') (sym same),
+      asked
+          ∙ heard_asked a log log' item h.2 refl
+          ∙ ap (λ (f : Fault). last_asked f.pid 0 log') (sym same),
+      known h.3,
+    )

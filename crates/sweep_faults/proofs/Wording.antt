@@ -328,6 +328,7 @@ words_by (kind.Done e) f error script ps k s z h is alone empty traced fewer run
 words_by (kind.Short count) f error script ps k s z h is alone empty traced fewer run = absurd (cc h)
 words_by kind.Killed f error script ps k s z h is alone empty traced fewer run = absurd (cc h)
 words_by kind.Stop f error script ps k s z h is alone empty traced fewer run = absurd (cc h)
+words_by (kind.World w) f error script ps k s z h is alone empty traced fewer run = absurd (cc h)
 
 pub words_give : WordsGiveRuns
 words_give f error script k s z empty is alone words to = record {

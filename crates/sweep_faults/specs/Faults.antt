@@ -1,7 +1,7 @@
 -- A failure of one process at its nth entry into a call. The call has an error for its result, and isn't done; or it is
 -- done, and has the error for its result then; or it is done with another count; or its process is killed there; or
--- everything ends there, as where the power fails.
-use Rattle.std.specs.Prelude.{ℕ, pos, neg_ℤ, ◌==◌, ◌&&◌, ◌||◌, Bool, true, false, cond, List, [], ◌∷◌, Option, Some, None, set}
+-- everything ends there, as where the power fails; or a world begins there, in which calls of every process fail.
+use Rattle.std.specs.Prelude.{ℕ, pos, neg_ℤ, ◌==◌, ◌&&◌, ◌||◌, Bool, true, false, cond, List, [], ◌∷◌, Option, Some, None, nat_le, set}
 use Rattle.lx_abi.specs.declared.errno.Errno.{Errno}
 use Rattle.lx_abi.specs.declared.log.Item.{Item}
 use Rattle.lx_abi.specs.declared.log.Item.TheVariants as items
@@ -11,13 +11,15 @@ use Rattle.lx_abi.specs.declared.script.Choice.{Choice}
 use Rattle.lx_abi.specs.Errors.{error_word}
 use Rattle.lx_abi.specs.Log.{entries}
 use Rattle.lx_abi.specs.Signals.{signal_numbered}
-use Rattle.lx_model.specs.Machine.{Regs, a7_of}
+use Rattle.lx_model.specs.Machine.{Regs, a7_of, call_of}
 use Rattle.lx_model.specs.declared.stage.Task.{Task}
 use Rattle.lx_kernel.specs.Choices.{after_choosing}
 use Rattle.lx_kernel.specs.Runs.{Run, after_turn, mode_in}
 use Rattle.lx_kernel.specs.Tracing.{task_in, regs_of, with_regs, with_part}
 use Rattle.lx_proc.specs.declared.state.UserState.{UserState}
-use Rattle.sweep_rows.specs.Descriptors.{argument}
+use Rattle.sweep_rows.specs.Descriptors.{argument, descriptor, uses_of}
+use Rattle.sweep_rows.specs.Worlds.{error_in}
+use Rattle.sweep_rows.specs.declared.worlds.World.{World}
 use Rattle.sweep_faults.specs.declared.faults.Fault.{Fault}
 use Rattle.sweep_faults.specs.declared.faults.Kind.{Kind}
 use Rattle.sweep_faults.specs.declared.faults.Kind.TheVariants as kind
@@ -29,6 +31,7 @@ error_of (kind.Done error) = Some error
 error_of (kind.Short count) = None
 error_of kind.Killed = None
 error_of kind.Stop = None
+error_of (kind.World w) = None
 
 abbrev pub is_undone : Kind → Bool
 is_undone (kind.Undone error) = true
@@ -36,6 +39,7 @@ is_undone (kind.Done error) = false
 is_undone (kind.Short count) = false
 is_undone kind.Killed = false
 is_undone kind.Stop = false
+is_undone (kind.World w) = false
 
 abbrev pub is_stop : Kind → Bool
 is_stop (kind.Undone error) = false
@@ -43,6 +47,16 @@ is_stop (kind.Done error) = false
 is_stop (kind.Short count) = false
 is_stop kind.Killed = false
 is_stop kind.Stop = true
+is_stop (kind.World w) = false
+
+-- of every process, from the entry on
+abbrev pub is_world : Kind → Bool
+is_world (kind.Undone error) = false
+is_world (kind.Done error) = false
+is_world (kind.Short count) = false
+is_world kind.Killed = false
+is_world kind.Stop = false
+is_world (kind.World w) = true
 
 -- Of a call that isn't done.
 
@@ -123,6 +137,18 @@ after_short count k pid =
 abbrev pub killing : Choice
 killing = record { result = None; signal = signal_numbered 9 }
 
+-- In a world.
+
+-- the error that the call has for which these registers of a process ask, after this log
+abbrev pub error_asked : World → List Item → ℕ → Option Regs → Option Errno
+error_asked w log pid None = None
+error_asked w log pid (Some registers) =
+    error_in w (call_of registers) (uses_of log pid (descriptor (call_of registers))).target
+
+abbrev pub after_asking : Option Errno → Run → ℕ → Run
+after_asking None k pid = after_turn k pid
+after_asking (Some error) k pid = after_choosing k pid (failing error)
+
 -- Of each.
 
 -- the process has entered the call, and hasn't begun it
@@ -137,24 +163,32 @@ is_due (kind.Short count) call k pid =
     has_entered call k pid || (is_ended (mode_in k pid) && was_last pid call false k.running.log)
 is_due kind.Killed call k pid = has_entered call k pid
 is_due kind.Stop call k pid = has_entered call k pid
+is_due (kind.World w) call k pid = is_entered (mode_in k pid)
 
--- it is the process of the failure, and its nth entry into the call
+-- the process of the failure has entered the call for the nth time by this log
+abbrev pub has_begun : Fault → List Item → Bool
+has_begun f log = nat_le f.n (entries f.pid f.call log)
+
+-- it is the process of the failure, and its nth entry into the call; in a world it is any entry from that one on
 unfoldable pub is_at : Fault → Run → ℕ → Bool
 is_at f k pid =
-    (pid == f.pid) && ((entries f.pid f.call k.running.log == f.n) && is_due f.kind f.call k pid)
+    cond (is_world f.kind) (has_begun f k.running.log && is_due f.kind f.call k pid)
+    ((pid == f.pid) && ((entries f.pid f.call k.running.log == f.n) && is_due f.kind f.call k pid))
 
 -- everything ends there: nobody has another turn
 abbrev pub ends_at : Fault → Run → ℕ → Bool
 ends_at f k pid = is_stop f.kind && is_at f k pid
 
 -- the call has the error for its result, whatever the script does to it; or has it now that it is done; or is done with
--- another count; or its process is killed; or nothing is done any more
+-- another count; or its process is killed; or nothing is done any more; or the call has the world's error, if it has one
 abbrev pub after_failing : Kind → Run → ℕ → Run
 after_failing (kind.Undone error) k pid = after_choosing k pid (failing error)
 after_failing (kind.Done error) k pid = after_turn (reporting k pid error) pid
 after_failing (kind.Short count) k pid = after_short count k pid
 after_failing kind.Killed k pid = after_choosing k pid killing
 after_failing kind.Stop k pid = k
+after_failing (kind.World w) k pid =
+    after_asking (error_asked w k.running.log pid (regs_of (task_in k pid))) k pid
 
 -- A turn of the kernel, but where the process stands where its call fails
 abbrev pub after_fault : Fault → Run → ℕ → Run

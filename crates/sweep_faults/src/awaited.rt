@@ -1,23 +1,28 @@
 //! Whether a process stands where its call fails.
 
-ghost use Rattle.std.specs.Prelude.{◌≡◌, ◌&&◌, ◌||◌, []};
+ghost use Rattle.std.specs.Prelude.{◌≡◌, ◌&&◌, ◌||◌, ◌++◌, [], List, OnOk};
+ghost use Rattle.std.specs.Option.{option_to_list};
+ghost use Rattle.lx_abi.specs.declared.log.Item.{Item as LogItem};
 ghost use Rattle.lx_abi.specs.Log.{is_entry};
 ghost use Rattle.lx_kernel.specs.Runs.{mode_in};
 ghost use Rattle.lx_kernel.specs.Tracing.{task_in, regs_of};
-ghost use Rattle.sweep_faults.specs.Awaited.{Awaits, heard, is_awaited_at, is_due_by, is_next, last_after};
-ghost use Rattle.sweep_faults.specs.Awaited.{asked_after, left_after, passed};
+ghost use Rattle.sweep_faults.specs.Awaited.{Awaits, asked_after, is_awaited_at, is_due_by, is_next, is_past};
+ghost use Rattle.sweep_faults.specs.Awaited.{last_after, left_after, passed};
 ghost use Rattle.sweep_faults.specs.Faults.{asked_last, asks_for, done_last, ends_at, has_entered, is_ended};
 ghost use Rattle.sweep_faults.specs.Faults.{is_entered};
+ghost use Rattle.sweep_rows.specs.Known.{IsKnown};
 
 use crate::faults::{Fault, Kind};
 use lx_abi::{Item, Mode};
 use lx_kernel::Kernel;
+use std::alloc::{AllocError, Global};
+use sweep_rows::Known;
 
 /// The place of a count among the arguments of read and write.
 const A2_ARGUMENT: usize = 2;
 
 /// A failure, and what its process has done so far.
-#[derive(Clone, Copy, Debug, PartialEq, Eq)]
+#[derive(Drop)]
 pub(crate) struct Awaited {
     pub fault: Fault,
     /// How many entries into the call come before the one that fails. With 0 the process has entered the call for the
@@ -27,6 +32,8 @@ pub(crate) struct Awaited {
     pub was_last: bool,
     /// The count, a2, that the process's last entry into a call asks for.
     pub asked: u64,
+    /// What the log tells.
+    pub known: Known,
 }
 
 fn is_entry(item: &Item, pid: u32, number: u64) -> bool
@@ -122,9 +129,21 @@ fn has_entered(kernel: &Kernel, pid: u32, call: u64) -> bool
     is_entered(kernel.mode(pid)) && asks_for(kernel, pid, call)
 }
 
+/// What the log tells, after a turn that has logged this.
+#[tactic(auto, using(crate::proofs::Standing::known_still))]
+fn learn(known: &mut Known, item: &Option<Item>) -> Result<(), AllocError>
+    ensures { OnOk result ((log : List LogItem) → IsKnown log known.old
+        → IsKnown (log ++ option_to_list item.now) known.new) }
+{
+    match item {
+        None => Ok(()),
+        Some(item) => known.add(item),
+    }
+}
+
 impl Awaited {
     /// A failure of a process that has entered no call.
-    pub(crate) fn new(fault: Fault) -> Self
+    pub(crate) fn new(alloc: Global, fault: Fault) -> Self
         ensures fault { result.fault ≡ fault }
         ensures none { Awaits result [] }
     {
@@ -133,13 +152,14 @@ impl Awaited {
             left: Some(fault.n),
             was_last: false,
             asked: 0,
+            known: Known::new(alloc),
         }
     }
 
     /// The process has entered the call for the nth time, and not again.
     #[tactic(auto, unfolding(crate::specs::Awaited::is_next))]
-    fn is_next(self) -> bool
-        ensures { result ≡ is_next self.left }
+    fn is_next(&self) -> bool
+        ensures { result ≡ is_next self.now.left }
     {
         match self.left {
             Some(left) => left == 0,
@@ -147,9 +167,20 @@ impl Awaited {
         }
     }
 
+    /// The process has entered the call for the nth time, and again or not.
+    #[tactic(auto, unfolding(crate::specs::Awaited::is_past))]
+    fn is_past(&self) -> bool
+        ensures { result ≡ is_past self.now.left }
+    {
+        match self.left {
+            Some(left) => left == 0,
+            None => true,
+        }
+    }
+
     /// The process stands where a call of this kind fails.
-    fn is_due(self, kernel: &Kernel, pid: u32) -> bool
-        ensures { result ≡ is_due_by self.fault.kind self kernel.now pid }
+    fn is_due(&self, kernel: &Kernel, pid: u32) -> bool
+        ensures { result ≡ is_due_by self.now.fault.kind self.now kernel.now pid }
     {
         match self.fault.kind {
             Kind::Undone(_) | Kind::Killed | Kind::Stop => {
@@ -157,38 +188,43 @@ impl Awaited {
             }
             Kind::Short(_) => self.is_either(kernel, pid),
             Kind::Done(_) => is_ended(kernel.mode(pid)) && self.was_last,
+            Kind::World(_) => is_entered(kernel.mode(pid)),
         }
     }
 
     /// The process has entered the call, or done it.
-    fn is_either(self, kernel: &Kernel, pid: u32) -> bool
-        ensures { result
-            ≡ (has_entered self.fault.call kernel.now pid || (is_ended (mode_in kernel.now pid) && self.was_last)) }
+    fn is_either(&self, kernel: &Kernel, pid: u32) -> bool
+        ensures { result ≡ (has_entered self.now.fault.call kernel.now pid
+            || (is_ended (mode_in kernel.now pid) && self.now.was_last)) }
     {
         has_entered(kernel, pid, self.fault.call) || is_ended(kernel.mode(pid)) && self.was_last
     }
 
     /// The process stands where its call fails.
     #[tactic(auto, unfolding(crate::specs::Awaited::is_awaited_at))]
-    pub(crate) fn is_at(self, kernel: &Kernel, pid: u32) -> bool
-        ensures { result ≡ is_awaited_at self kernel.now pid }
+    pub(crate) fn is_at(&self, kernel: &Kernel, pid: u32) -> bool
+        ensures { result ≡ is_awaited_at self.now kernel.now pid }
     {
-        pid == self.fault.pid && self.is_next() && self.is_due(kernel, pid)
+        if self.fault.kind.is_world() {
+            self.is_past() && self.is_due(kernel, pid)
+        } else {
+            pid == self.fault.pid && self.is_next() && self.is_due(kernel, pid)
+        }
     }
 
     /// Everything ends where the process stands.
     #[tactic(auto, using(crate::proofs::Standing::awaited_at_is))]
-    pub(crate) fn ends_at(self, kernel: &Kernel, pid: u32) -> bool
-        requires { Awaits self kernel.now.running.log }
-        ensures { result ≡ ends_at self.fault kernel.now pid }
+    pub(crate) fn ends_at(&self, kernel: &Kernel, pid: u32) -> bool
+        requires { Awaits self.now kernel.now.running.log }
+        ensures { result ≡ ends_at self.now.fault kernel.now pid }
     {
         self.fault.kind.is_stop() && self.is_at(kernel, pid)
     }
 
     /// How many entries are left after a turn that has logged this.
     #[tactic(auto, unfolding(crate::specs::Awaited::left_after))]
-    fn left_after(self, item: &Option<Item>) -> Option<u64>
-        ensures { result ≡ left_after self item.now }
+    fn left_after(&self, item: &Option<Item>) -> Option<u64>
+        ensures { result ≡ left_after self.now item.now }
     {
         match item {
             None => self.left,
@@ -204,8 +240,8 @@ impl Awaited {
 
     /// Whether the call was done last, after a turn that has logged this.
     #[tactic(auto, unfolding(crate::specs::Awaited::last_after))]
-    fn last_after(self, item: &Option<Item>) -> bool
-        ensures { result ≡ last_after self item.now }
+    fn last_after(&self, item: &Option<Item>) -> bool
+        ensures { result ≡ last_after self.now item.now }
     {
         match item {
             None => self.was_last,
@@ -215,8 +251,8 @@ impl Awaited {
 
     /// Which count was asked for last, after a turn that has logged this.
     #[tactic(auto, unfolding(crate::specs::Awaited::asked_after))]
-    fn asked_after(self, item: &Option<Item>) -> u64
-        ensures { result ≡ asked_after self item.now }
+    fn asked_after(&self, item: &Option<Item>) -> u64
+        ensures { result ≡ asked_after self.now item.now }
     {
         match item {
             None => self.asked,
@@ -224,15 +260,19 @@ impl Awaited {
         }
     }
 
-    /// The same, after a turn that has logged this.
-    pub(crate) fn heard(self, item: &Option<Item>) -> Self
-        ensures { result ≡ heard self item.now }
+    /// A turn has logged this.
+    pub(crate) fn hear(&mut self, item: &Option<Item>) -> Result<(), AllocError>
+        ensures awaits { OnOk result ((log : List LogItem) → Awaits self.old log
+            → Awaits self.new (log ++ option_to_list item.now)) }
+        ensures fault { self.new.fault ≡ self.old.fault }
     {
-        Awaited {
-            fault: self.fault,
-            left: self.left_after(item),
-            was_last: self.last_after(item),
-            asked: self.asked_after(item),
-        }
+        let left = self.left_after(item);
+        let was_last = self.last_after(item);
+        let asked = self.asked_after(item);
+        learn(&mut self.known, item)?;
+        self.left = left;
+        self.was_last = was_last;
+        self.asked = asked;
+        Ok(())
     }
 }

@@ -1,17 +1,22 @@
 //! The turn in which a call fails.
 
-ghost use Rattle.std.specs.Prelude.{◌≡◌, ◌<◌, ◌++◌, None, IfOk, OnOk, OnErr};
+ghost use Rattle.std.specs.Prelude.{◌≡◌, ◌<◌, ◌++◌, None, false, IfOk, OnOk, OnErr};
 ghost use Rattle.std.specs.Option.{option_to_list};
 ghost use Rattle.lx_kernel.specs.Choices.{after_choosing};
 ghost use Rattle.lx_kernel.specs.Runs.{after_turn, mode_in};
-ghost use Rattle.sweep_faults.specs.Faults.{after_failing, after_short, failing, killing, last_asked, writing};
+ghost use Rattle.sweep_faults.specs.Faults.{after_asking, after_failing, after_short, error_asked, failing, is_world};
+ghost use Rattle.sweep_faults.specs.Faults.{killing, last_asked, writing};
+ghost use Rattle.lx_kernel.specs.Tracing.{regs_of, task_in};
+ghost use Rattle.lx_model.specs.Machine.{call_of};
+ghost use Rattle.sweep_rows.specs.Known.{IsKnown};
 
 use crate::awaited::is_entered;
 use crate::faults::Kind;
 use crate::moving::Moved;
-use lx_abi::{Choice, Errno, Signal};
+use lx_abi::{Call, Choice, Errno, Registers, Signal};
 use lx_kernel::{Failed, Kernel};
 use std::alloc::AllocError;
+use sweep_rows::{Known, World};
 
 /// The register a0, where a call's result stands.
 const A0: usize = 10;
@@ -124,6 +129,66 @@ fn shorten(kernel: &mut Kernel, pid: u32, short: u64, asked: u64) -> Result<Move
     }
 }
 
+/// The call that the registers ask for.
+fn call_of(registers: &Registers) -> Call
+    ensures { result ≡ call_of registers.now }
+{
+    let x = registers;
+    Call {
+        number: x[17],
+        arguments: [x[10], x[11], x[12], x[13], x[14], x[15]],
+    }
+}
+
+/// The error that the call has in a world for which a process asks.
+#[tactic(auto, using(crate::proofs::Rows::asked_is))]
+fn error_asked(
+    kernel: &Kernel,
+    pid: u32,
+    world: World,
+    known: &Known,
+) -> Result<Option<Errno>, AllocError>
+    requires { IsKnown kernel.now.running.log known.now }
+    ensures { IfOk result (λ error. error
+        ≡ error_asked world kernel.now.running.log pid (regs_of (task_in kernel.now pid))) }
+{
+    let Some(registers) = kernel.regs(pid)? else {
+        return Ok(None);
+    };
+    let call = call_of(registers.get());
+    Ok(world.error(&call, known.use_of(pid, &call).target))
+}
+
+/// The turn of a process that has entered a call which may have this error.
+fn ask(kernel: &mut Kernel, pid: u32, error: Option<Errno>) -> Result<Moved, Failed>
+    ensures turned { OnOk result (kernel.new ≡ after_asking error kernel.old pid) }
+    ensures one { IfOk result (λ m. m.turns ≡ 1) }
+    ensures after { IfOk result (λ m. m.after ≡ mode_in kernel.new pid) }
+    ensures logged { IfOk result (λ m. kernel.new.running.log ≡ kernel.old.running.log ++ option_to_list m.item) }
+    ensures log { OnErr result (kernel.new.running.log ≡ kernel.old.running.log) }
+{
+    match error {
+        Some(error) => choose(kernel, pid, failing(error)),
+        None => turn(kernel, pid),
+    }
+}
+
+/// The turn of a process that has entered a call in a world.
+fn visit(kernel: &mut Kernel, pid: u32, world: World, known: &Known) -> Result<Moved, Failed>
+    requires { IsKnown kernel.old.running.log known.now }
+    ensures turned { OnOk result (kernel.new ≡ after_asking
+        (error_asked world kernel.old.running.log pid (regs_of (task_in kernel.old pid))) kernel.old pid) }
+    ensures one { IfOk result (λ m. m.turns ≡ 1) }
+    ensures after { IfOk result (λ m. m.after ≡ mode_in kernel.new pid) }
+    ensures logged { IfOk result (λ m. kernel.new.running.log ≡ kernel.old.running.log ++ option_to_list m.item) }
+    ensures log { OnErr result (kernel.new.running.log ≡ kernel.old.running.log) }
+{
+    match error_asked(kernel, pid, world, known) {
+        Ok(error) => ask(kernel, pid, error),
+        Err(_) => Err(Failed),
+    }
+}
+
 /// Nothing is done any more.
 fn stay(kernel: &Kernel, pid: u32) -> Moved
     ensures one { result.turns ≡ 1 }
@@ -139,8 +204,15 @@ fn stay(kernel: &Kernel, pid: u32) -> Moved
 
 /// The turn in which a call fails, of a process whose last entry asks for this count.
 #[tactic(auto, using(crate::proofs::Rows::nothing_logged))]
-pub(crate) fn fail(kernel: &mut Kernel, pid: u32, kind: Kind, asked: u64) -> Result<Moved, Failed>
-    requires { asked ≡ last_asked pid 0 kernel.old.running.log }
+pub(crate) fn fail(
+    kernel: &mut Kernel,
+    pid: u32,
+    kind: Kind,
+    asked: u64,
+    known: &Known,
+) -> Result<Moved, Failed>
+    requires asked { is_world kind ≡ false → asked ≡ last_asked pid 0 kernel.old.running.log }
+    requires known { IsKnown kernel.old.running.log known.now }
     ensures turned { OnOk result (kernel.new ≡ after_failing kind kernel.old pid) }
     ensures one { IfOk result (λ m. m.turns ≡ 1) }
     ensures after { IfOk result (λ m. m.after ≡ mode_in kernel.new pid) }
@@ -153,5 +225,6 @@ pub(crate) fn fail(kernel: &mut Kernel, pid: u32, kind: Kind, asked: u64) -> Res
         Kind::Short(short) => shorten(kernel, pid, short, asked),
         Kind::Killed => choose(kernel, pid, killing()),
         Kind::Stop => Ok(stay(kernel, pid)),
+        Kind::World(world) => visit(kernel, pid, world, known),
     }
 }

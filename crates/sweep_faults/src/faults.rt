@@ -1,6 +1,7 @@
 //! A failure of one process.
 
 use lx_abi::Errno;
+use sweep_rows::World;
 
 /// How a call fails.
 #[derive(Clone, Copy, Debug, PartialEq, Eq)]
@@ -15,6 +16,8 @@ pub enum Kind {
     Killed,
     /// Everything ends where it is entered.
     Stop,
+    /// From there on each call that the world has fail has its error for its result, of any process, and isn't done.
+    World(World),
 }
 
 /// The nth entry of a process into a call, counted from 1, fails.
@@ -28,7 +31,7 @@ pub struct Fault {
 
 impl Kind {
     ghost use Rattle.std.specs.Prelude.{◌≡◌};
-    ghost use Rattle.sweep_faults.specs.Faults.{error_of, is_stop, is_undone};
+    ghost use Rattle.sweep_faults.specs.Faults.{error_of, is_stop, is_undone, is_world};
 
     /// The error that the call has.
     pub fn error(self) -> Option<Errno>
@@ -36,7 +39,7 @@ impl Kind {
     {
         match self {
             Kind::Undone(error) | Kind::Done(error) => Some(error),
-            Kind::Short(_) | Kind::Killed | Kind::Stop => None,
+            Kind::Short(_) | Kind::Killed | Kind::Stop | Kind::World(_) => None,
         }
     }
 
@@ -52,5 +55,12 @@ impl Kind {
         ensures { result ≡ is_stop self }
     {
         matches!(self, Kind::Stop)
+    }
+
+    /// It is one of every process.
+    pub fn is_world(self) -> bool
+        ensures { result ≡ is_world self }
+    {
+        matches!(self, Kind::World(_))
     }
 }

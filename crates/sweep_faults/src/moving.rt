@@ -49,10 +49,10 @@ fn go_on(kernel: &mut Kernel, pid: u32, most: u64) -> Result<Moved, Failed>
 
 /// Turns of a process that are made at once, `most` at most: the one in which its call fails, or others.
 #[tactic(auto, using(crate::proofs::Rows::row_failing, crate::proofs::Standing::awaited_at_is, crate::proofs::Standing::asked_there))]
-fn move_on(kernel: &mut Kernel, pid: u32, most: u64, awaited: Awaited) -> Result<Moved, Failed>
+fn move_on(kernel: &mut Kernel, pid: u32, most: u64, awaited: &Awaited) -> Result<Moved, Failed>
     requires some { 0 < most }
-    requires awaits { Awaits awaited kernel.old.running.log }
-    ensures row { IfOk result (λ m. InRow awaited.fault kernel.old pid (m.turns - 1) kernel.new) }
+    requires awaits { Awaits awaited.now kernel.old.running.log }
+    ensures row { IfOk result (λ m. InRow awaited.now.fault kernel.old pid (m.turns - 1) kernel.new) }
     ensures some { IfOk result (λ m. 0 < m.turns) }
     ensures within { IfOk result (λ m. m.turns ≤ most) }
     ensures after { IfOk result (λ m. m.after ≡ mode_in kernel.new pid) }
@@ -60,7 +60,13 @@ fn move_on(kernel: &mut Kernel, pid: u32, most: u64, awaited: Awaited) -> Result
     ensures log { OnErr result (kernel.new.running.log ≡ kernel.old.running.log) }
 {
     if awaited.is_at(kernel, pid) {
-        fail(kernel, pid, awaited.fault.kind, awaited.asked)
+        fail(
+            kernel,
+            pid,
+            awaited.fault.kind,
+            awaited.asked,
+            &awaited.known,
+        )
     } else {
         go_on(kernel, pid, most)
     }
@@ -87,13 +93,15 @@ pub(crate) fn advance<W: Watch>(
     ensures begun { W.begun watch.new ≡ W.begun watch.old }
     ensures weary { IfErr result (λ halt. halt ≡ Weary → IsTrue (W.weary watch.new)) }
 {
-    let moved = match move_on(kernel, pid, most, *awaited) {
+    let moved = match move_on(kernel, pid, most, awaited) {
         Ok(moved) => moved,
         Err(_) => return Err(Halt::Memory),
     };
-    *awaited = awaited.heard(&moved.item);
-    match tell(kernel, moved.turns, &moved.item, watch) {
+    if let Err(halt) = tell(kernel, moved.turns, &moved.item, watch) {
+        return Err(halt);
+    }
+    match awaited.hear(&moved.item) {
         Ok(()) => Ok(moved),
-        Err(halt) => Err(halt),
+        Err(_) => Err(Halt::Memory),
     }
 }

@@ -18,13 +18,14 @@ use lx_abi::Mode;
 use lx_kernel::Kernel;
 use plain_run::{Halt, Watch, goes_on, turns_in_row};
 use pt_schedule::Schedule;
+use std::alloc::Global;
 
 /// The process, which stands so, has the next turn of its row.
 #[tactic(auto, using(crate::proofs::Rows::has_next))]
-fn has_next(kernel: &Kernel, pid: u32, mode: Option<Mode>, awaited: Awaited) -> bool
+fn has_next(kernel: &Kernel, pid: u32, mode: Option<Mode>, awaited: &Awaited) -> bool
     requires stands { mode ≡ mode_in kernel.now pid }
-    requires awaits { Awaits awaited kernel.now.running.log }
-    ensures { IsTrue result → HasNext awaited.fault kernel.now pid }
+    requires awaits { Awaits awaited.now kernel.now.running.log }
+    ensures { IsTrue result → HasNext awaited.now.fault kernel.now pid }
 {
     goes_on(kernel, pid, mode) && !awaited.ends_at(kernel, pid)
 }
@@ -58,7 +59,7 @@ fn turn_row<W: Watch>(
         if behind >= more {
             return Ok(behind);
         }
-        let next = has_next(kernel, pid, moved.after, *awaited);
+        let next = has_next(kernel, pid, moved.after, awaited);
         if !next {
             return Ok(behind);
         }
@@ -94,9 +95,9 @@ fn turn<W: Watch>(
 }
 
 /// Whose turn comes next: nobody's at the schedule's end, or where everything ends.
-fn next_turn(kernel: &Kernel, schedule: &mut Schedule, awaited: Awaited) -> Option<u32>
-    requires { Awaits awaited kernel.now.running.log }
-    ensures next { result ≡ next_pid awaited.fault kernel.now schedule.old }
+fn next_turn(kernel: &Kernel, schedule: &mut Schedule, awaited: &Awaited) -> Option<u32>
+    requires { Awaits awaited.now kernel.now.running.log }
+    ensures next { result ≡ next_pid awaited.now.fault kernel.now schedule.old }
     ensures rest { schedule.new ≡ (next_turn_of schedule.old (readiness_of kernel.now)).schedule }
 {
     let Some(pid) = schedule.next_plain(kernel) else {
@@ -111,6 +112,7 @@ fn next_turn(kernel: &Kernel, schedule: &mut Schedule, awaited: Awaited) -> Opti
 /// Makes the turns that a schedule gives, up to its end, or to where everything ends, where one call of one process
 /// fails; the watcher is told of each.
 pub fn run_faulted<W: Watch>(
+    alloc: Global,
     kernel: &mut Kernel,
     schedule: &mut Schedule,
     fault: Fault,
@@ -124,9 +126,9 @@ pub fn run_faulted<W: Watch>(
     ensures begun { W.begun watch.new ≡ W.begun watch.old }
     ensures weary { IfErr result (λ halt. halt ≡ Weary → IsTrue (W.weary watch.new)) }
 {
-    let mut awaited = Awaited::new(fault);
+    let mut awaited = Awaited::new(alloc, fault);
     'turns: loop {
-        let Some(pid) = next_turn(kernel, schedule, awaited) else {
+        let Some(pid) = next_turn(kernel, schedule, &awaited) else {
             return Ok(());
         };
         if let Err(halt) = turn(kernel, schedule, pid, &mut awaited, watch) {

@@ -94,7 +94,13 @@ fn run_failing_by(
         Ok(begun) => begun,
         Err(_) => return Err(AllocError),
     };
-    match run_faulted(&mut kernel, &mut schedule, fault, &mut Unwatched::new()) {
+    match run_faulted(
+        alloc,
+        &mut kernel,
+        &mut schedule,
+        fault,
+        &mut Unwatched::new(),
+    ) {
         Ok(()) => Ok(kernel),
         Err(_) => {
             drop(kernel);
