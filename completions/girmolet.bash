@@ -47,8 +47,8 @@ _girmolet_faults() {
         fault=*:error=*,*) compgen -P "${word%,*}," -W "$_girmolet_errors" -- "${word##*,}" ;;
         fault=*:error=*) compgen -P "${word%=*}=" -W "$_girmolet_errors" -- "${word##*=}" ;;
         fault=*:*) compgen -P "${word%:*}:" -W 'error=' -- "${word##*:}" ;;
-        fault=* | stop=* | kill=* | short=*) _girmolet_expression "$word" ;;
-        *) compgen -W 'fault= stop= kill= short=' -- "$word" ;;
+        *=*) _girmolet_expression "$word" ;;
+        *) compgen -W 'fault= stop= kill= short= full= broken= read-only= no-files= no-memory=' -- "$word" ;;
     esac
 }
 

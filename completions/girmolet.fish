@@ -45,13 +45,13 @@ function __girmolet_faults
         set option $argv[1]=
     end
     set -l whole $option$word
-    set -l found fault= stop= kill= short=
+    set -l found fault= stop= kill= short= full= broken= read-only= no-files= no-memory=
     if string match -qr '^fault=.*:error=.*' -- $whole
         set found (string replace -r '[^=,]*$' '' -- $whole)$__girmolet_errors
     else if string match -qr '^fault=.*:' -- $whole
         set found (string replace -r '[^:]*$' '' -- $whole)error=
-    else if string match -qr '^(fault|stop|kill|short)=' -- $whole
-        set found (string match -r '^(?:fault|stop|kill|short)=(?:.*,)?[!?]?' -- $whole)$__girmolet_calls
+    else if string match -qr '^(fault|stop|kill|short|full|broken|read-only|no-files|no-memory)=' -- $whole
+        set found (string match -r '^(?:fault|stop|kill|short|full|broken|read-only|no-files|no-memory)=(?:.*,)?[!?]?' -- $whole)$__girmolet_calls
     end
     string replace -- $option '' $found
 end
@@ -119,7 +119,7 @@ complete -c strace_sweep -l fail-fast -d 'Makes no more runs once one is a findi
 complete -c strace_sweep -l max-runs -x -d 'Makes N runs at most, those first that are likely to show something new'
 complete -c strace_sweep -l time -x -d 'Begins no more runs once so many seconds are over'
 complete -c strace_sweep -l check -x -d 'Runs this command of the shell where the files of each outcome are'
-complete -c strace_sweep -l then -x -d 'Starts this program on the files that stop=, kill= or short= leaves'
+complete -c strace_sweep -l then -x -d 'Starts this program on the files that stop=, kill=, full=.. leave'
 complete -c strace_sweep -l strict -d 'Takes runs that were damaged or warned for findings too'
 complete -c strace_sweep -l cases -r -F -d 'Sweeps a case a line: its name, its input as <PATH, further options, and further words behind --'
 complete -c strace_sweep -l runs -r -F -d 'Makes those runs alone that this file names, a line each, as write:EIO:2'

@@ -78,7 +78,7 @@ pub const OPTIONS: [OptionRow; 50] = [
         short: Some('e'),
         long: None,
         takes: Takes::Expressions("EXPR"),
-        help: "Which calls fail, as fault=write:error=EIO,ENOSPC; or stop=write, kill= or short= [default: fault=all]",
+        help: "Which calls fail, as fault=write:error=EIO,ENOSPC; or stop=write, kill=, full=.. [default: fault=all]",
     },
     OptionRow {
         tools: &[Tool::Trace],
@@ -326,7 +326,7 @@ pub const OPTIONS: [OptionRow; 50] = [
         short: None,
         long: Some("then"),
         takes: Takes::Value("PROGRAM"),
-        help: "Starts this program on the files that stop=, kill= or short= leaves; another status than 0 is BROKEN",
+        help: "Starts this program on the files that stop=, kill=, full=.. leave; another status than 0 is BROKEN",
     },
     OptionRow {
         tools: &[Tool::Sweep],

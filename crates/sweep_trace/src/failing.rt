@@ -33,7 +33,7 @@ fn run_shown(
     ensures to { OnOk result (RunsFaulted fault kernel.old schedule.old kernel.new) }
     ensures console { IfOk result (λ console. console ≡ kernel.new.running.shared.console) }
 {
-    if run_faulted(kernel, schedule, fault, trace).is_err() {
+    if run_faulted(alloc, kernel, schedule, fault, trace).is_err() {
         return Err(AllocError);
     }
     let console = Bytes::from_slice(alloc, kernel.console())?;

@@ -13,7 +13,7 @@ use Rattle.sweep_trials.specs.Ends.{is_fine}
 use Rattle.sweep_trials.specs.declared.rows.TriedRow.{TriedRow}
 use Rattle.sweep_trials.specs.declared.second.SecondEnd.{SecondEnd}
 use Rattle.sweep_words.specs.declared.trials.Deed.{Deed}
-use Rattle.sweep_words.specs.declared.trials.Deed.TheVariants.{Stop, Kill, Short}
+use Rattle.sweep_words.specs.declared.trials.Deed.TheVariants.{Stop, Kill, Short, Begin}
 use Rattle.sweep_words.specs.declared.trials.Second.{Second}
 
 abbrev pub is_killed : Kind → Bool
@@ -48,11 +48,12 @@ verdict_of r = told_by (own_verdict r.made) r.second
 abbrev pub verdicts_of : List TriedRow → List Verdict
 verdicts_of rows = flat_map (λ r. option_to_list (verdict_of r)) rows
 
--- what is counted, whether some run came to it or none: a short call's run always comes to something
+-- what is counted, whether some run came to it or none: that of a short call or in a world always comes to something
 abbrev pub always_by : Deed → List Verdict
 always_by Stop = Torn ∷ Damaged ∷ []
 always_by Kill = Torn ∷ Damaged ∷ []
 always_by Short = []
+always_by (Begin w) = []
 
 abbrev pub always : Deed → Option Second → List Verdict
 always deed None = always_by deed

@@ -1,5 +1,5 @@
 -- Which runs are made, in which something else happens to an occurrence of a call than that it has an error.
-use Rattle.std.specs.Prelude.{◌≡◌, ℕ, ◌==◌, ◌&&◌, ◌||◌, ◌/◌, nat_lt, cond, Bool, true, List, [], ◌∷◌, ◌++◌}
+use Rattle.std.specs.Prelude.{◌≡◌, ℕ, ◌==◌, ◌&&◌, ◌||◌, ◌/◌, nat_lt, cond, is_some, Bool, true, List, [], ◌∷◌, ◌++◌}
 use Rattle.std.specs.List.{flat_map}
 use Rattle.lx_abi.specs.declared.log.Item.{Item}
 use Rattle.lx_abi.specs.Sys.{sys_read, sys_write}
@@ -7,11 +7,13 @@ use Rattle.sweep_faults.specs.declared.faults.Kind.{Kind}
 use Rattle.sweep_faults.specs.declared.faults.Kind.TheVariants as kinds
 use Rattle.sweep_rows.specs.Descriptors.{argument}
 use Rattle.sweep_rows.specs.Entries.{rows_of}
+use Rattle.sweep_rows.specs.Worlds.{error_in}
 use Rattle.sweep_rows.specs.declared.known.Occurrence.{Occurrence}
+use Rattle.sweep_rows.specs.declared.worlds.World.{World}
 use Rattle.sweep_runs.specs.declared.trials.Trial.{Trial}
 use Rattle.sweep_words.specs.declared.show.NamedTrial.{NamedTrial}
 use Rattle.sweep_words.specs.declared.trials.Deed.{Deed}
-use Rattle.sweep_words.specs.declared.trials.Deed.TheVariants.{Stop, Kill, Short}
+use Rattle.sweep_words.specs.declared.trials.Deed.TheVariants.{Stop, Kill, Short, Begin}
 use Rattle.sweep_words.specs.declared.trials.Tried.{Tried}
 
 -- a call of this number has a count as its third argument (read(2), write(2))
@@ -32,11 +34,16 @@ short_if wanted o count = cond wanted (trial_at o (kinds.Short count) ∷ []) []
 abbrev pub shorts_at : Occurrence → List Trial
 shorts_at o = short_if (nat_lt 1 (asked_of o)) o 1 ++ short_if (nat_lt 1 (asked_of o / 2)) o (asked_of o / 2)
 
--- everything ends as the call is entered, or its process is killed there, or it is short
+-- a world begins where it has the call fail: from any other entry on, the run is that from the next such one on
+abbrev pub begins : World → Occurrence → Bool
+begins w o = is_some (error_in w o.call o.used.target)
+
+-- everything ends as the call is entered, or its process is killed there, or it is short, or a world begins
 abbrev pub trials_at : Deed → Occurrence → List Trial
 trials_at Stop o = trial_at o kinds.Stop ∷ []
 trials_at Kill o = trial_at o kinds.Killed ∷ []
 trials_at Short o = shorts_at o
+trials_at (Begin w) o = cond (begins w o) (trial_at o (kinds.World w) ∷ []) []
 
 -- at each entry into a call of the set, in the order of the log
 abbrev pub trials_of : Tried → Bool → List Item → List Trial

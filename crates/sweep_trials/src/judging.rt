@@ -164,7 +164,7 @@ fn always_by(deed: Deed) -> &'static [Verdict]
 {
     match deed {
         Deed::Stop | Deed::Kill => &BY_FILES,
-        Deed::Short => &[],
+        Deed::Short | Deed::Begin(_) => &[],
     }
 }
 

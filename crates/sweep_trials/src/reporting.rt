@@ -21,6 +21,7 @@ use sweep_runs::Trial;
 use sweep_words::plan::Plan;
 use sweep_words::trials::Deed;
 use sweep_words::words::{Format, Style, Words};
+use sweep_words::worlds::world_text;
 
 /// So many bytes are shown of the console.
 const MOST_PRINTED: usize = 4096;
@@ -114,6 +115,7 @@ fn happening(alloc: Global, trial: &Trial) -> Result<String, AllocError> {
             let asked = asked_of(&trial.occurrence);
             format!(in alloc; "asked for {asked} bytes, done with {count}")
         }
+        Kind::World(world) => format!(in alloc; "from here on {}", world_text(world)),
         Kind::Undone(_) | Kind::Done(_) => String::from_str(alloc, "fails"),
     }
 }

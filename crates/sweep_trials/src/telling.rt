@@ -19,6 +19,7 @@ use sweep_runs::{Setup, Trial, TrialRow, run_failing};
 use sweep_words::calls::{error_name, name_of};
 use sweep_words::plan::Plan;
 use sweep_words::shell::{Shower, trial_words, typed, words_with};
+use sweep_words::worlds::world_word;
 
 /// The word of a trial that leaves each file whole.
 const WHOLE: &str = "whole";
@@ -41,6 +42,7 @@ fn kind_text(alloc: Global, kind: Kind) -> Result<String, AllocError> {
         Kind::Stop => String::from_str(alloc, "stop"),
         Kind::Killed => String::from_str(alloc, "kill"),
         Kind::Short(count) => format!(in alloc; "short={count}"),
+        Kind::World(world) => String::from_str(alloc, world_word(world)),
         Kind::Undone(error) | Kind::Done(error) => error_name(alloc, error),
     }
 }

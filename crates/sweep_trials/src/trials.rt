@@ -2,7 +2,8 @@
 
 ghost use Rattle.std.specs.Prelude.{◌≡◌, ◌++◌, true, IfOk, IfSome, OnOk};
 ghost use Rattle.std.specs.List.{flat_map};
-ghost use Rattle.sweep_trials.specs.Trials.{IsThat, asked_of as asked_by, fits as fits_in, has_count, is_entry_of};
+ghost use Rattle.sweep_trials.specs.Trials.{IsThat, asked_of as asked_by, begins, fits as fits_in, has_count, is_entry_of};
+ghost use Rattle.sweep_words.specs.declared.trials.Deed.TheVariants.{Begin};
 ghost use Rattle.sweep_trials.specs.Trials.{short_if, shorts_at, trial_at as trial_of, trials_at, trials_of};
 
 use containers::Seq;
@@ -10,7 +11,7 @@ use front_end::Fault;
 use lx_abi::{Set, sys};
 use std::alloc::{AllocError, Global};
 use sweep_faults::Kind;
-use sweep_rows::{Occurrence, Reached, occurrences};
+use sweep_rows::{Occurrence, Reached, World, occurrences};
 use sweep_runs::{Setup, Trial};
 use sweep_words::calls::name_of;
 use sweep_words::plan::Plan;
@@ -66,6 +67,28 @@ fn add_shorts(trials: &mut Vec<Trial>, occurrence: Occurrence) -> Result<(), All
     Ok(())
 }
 
+/// A world begins at an occurrence: it has the call fail.
+fn begins(world: World, occurrence: &Occurrence) -> bool
+    ensures { result ≡ begins world occurrence.now }
+{
+    let target = occurrence.used.target;
+    world.error(&occurrence.call, target).is_some()
+}
+
+/// Adds the one in which a world begins there, if it does.
+fn add_world(
+    trials: &mut Vec<Trial>,
+    world: World,
+    occurrence: Occurrence,
+) -> Result<(), AllocError>
+    ensures { OnOk result (trials.new.items ≡ trials.old.items ++ trials_at (Begin world) occurrence) }
+{
+    if begins(world, &occurrence) {
+        trials.push(trial_at(occurrence, Kind::World(world)))?;
+    }
+    Ok(())
+}
+
 /// Adds those of an occurrence.
 fn add_trials(trials: &mut Vec<Trial>, deed: Deed, occurrence: Occurrence) -> Result<(), AllocError>
     ensures { OnOk result (trials.new.items ≡ trials.old.items ++ trials_at deed occurrence) }
@@ -74,6 +97,7 @@ fn add_trials(trials: &mut Vec<Trial>, deed: Deed, occurrence: Occurrence) -> Re
         Deed::Stop => trials.push(trial_at(occurrence, Kind::Stop))?,
         Deed::Kill => trials.push(trial_at(occurrence, Kind::Killed))?,
         Deed::Short => add_shorts(trials, occurrence)?,
+        Deed::Begin(world) => add_world(trials, world, occurrence)?,
     }
     Ok(())
 }

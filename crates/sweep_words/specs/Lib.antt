@@ -2,3 +2,4 @@ pub mod Known
 pub mod Named
 pub mod Plans
 pub mod Shown
+pub mod Worlds

@@ -1,5 +1,5 @@
--- The run that --show names: CALL:ERROR:N, of process 1, or CALL@PID:ERROR:N; or with `stop`, `kill` or `short=COUNT`
--- in the place of the error.
+-- The run that --show names: CALL:ERROR:N, of process 1, or CALL@PID:ERROR:N; or with `stop`, `kill`, a world's word or
+-- `short=COUNT` in the place of the error.
 use Rattle.std.specs.Prelude.{ℕ, ◌==◌, List, Option, Some, None, if◌then◌else◌, bytes_eq, codes}
 use Rattle.std.specs.Option.{option_and_then}
 use Rattle.std.specs.Result.{result_ok}
@@ -11,6 +11,8 @@ use Rattle.sweep_faults.specs.declared.faults.Kind.{Kind}
 use Rattle.sweep_faults.specs.declared.faults.Kind.TheVariants as kinds
 use Rattle.tr_expr.specs.Parts.{errno_value}
 use Rattle.tr_expr.specs.Texts.{has_mark, before_mark, after_mark}
+use Rattle.sweep_rows.specs.declared.worlds.World.{World}
+use Rattle.sweep_words.specs.Worlds.{world_in}
 use Rattle.sweep_words.specs.declared.show.NamedRow.{NamedRow}
 use Rattle.sweep_words.specs.declared.show.NamedRow.TheVariants.{Failure, Trial}
 use Rattle.sweep_words.specs.declared.show.NamedRun.{NamedRun}
@@ -53,20 +55,21 @@ named_run text =
     then run_of (before_mark 58 text) (before_mark 58 (after_mark 58 text)) (after_mark 58 (after_mark 58 text))
     else None) else None
 
--- what happens in the place of an error: `stop`, `kill`, or `short=COUNT`, with an = (character 61)
+-- what happens in the place of an error: `stop`, `kill`, a world, or `short=COUNT`, with an = (character 61)
 unfoldable pub short_in : List ℕ → Option ℕ
 short_in text =
     if has_mark 61 text then (if bytes_eq (before_mark 61 text) (codes "short")
     then positive (after_mark 61 text) else None) else None
 
-abbrev pub shortened : Option ℕ → Option Kind
-shortened None = None
-shortened (Some count) = Some (kinds.Short count)
+abbrev pub world_or_short : Option World → Option ℕ → Option Kind
+world_or_short (Some w) short = Some (kinds.World w)
+world_or_short None (Some count) = Some (kinds.Short count)
+world_or_short None None = None
 
 unfoldable pub kind_in : List ℕ → Option Kind
 kind_in text =
     if bytes_eq text (codes "stop") then Some kinds.Stop
-    else (if bytes_eq text (codes "kill") then Some kinds.Killed else shortened (short_in text))
+    else (if bytes_eq text (codes "kill") then Some kinds.Killed else world_or_short (world_in text) (short_in text))
 
 -- a trial is named where all its parts are
 abbrev pub tried : Option ℕ → Option ℕ → Option Kind → Option ℕ → Option NamedTrial

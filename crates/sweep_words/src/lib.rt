@@ -11,3 +11,4 @@ pub mod show;
 pub mod trials;
 pub mod wanted;
 pub mod words;
+pub mod worlds;

@@ -3,6 +3,7 @@
 ghost use Rattle.std.specs.Prelude.{◌≡◌};
 ghost use Rattle.sweep_words.specs.Shown as spec;
 
+use crate::worlds::world_in;
 use clap::ArgMatches;
 use front_end::{Fault, Shown, decimal, expression_words};
 use lx_abi::Errno;
@@ -152,8 +153,13 @@ fn kind_in(text: &str) -> Option<Kind>
     if text == "kill" {
         return Some(Kind::Killed);
     }
-    let count = short_in(text)?;
-    Some(Kind::Short(count))
+    match world_in(text) {
+        Some(world) => Some(Kind::World(world)),
+        None => match short_in(text) {
+            Some(count) => Some(Kind::Short(count)),
+            None => None,
+        },
+    }
 }
 
 /// The trial of these three parts.

@@ -1,11 +1,13 @@
-//! What happens at calls in the place of an error, and what is started then on the files that are left.
+//! What happens at calls in the place of one error, and what is started then on the files that are left.
 
 use crate::show::named_trial;
+use crate::worlds::{world_in, world_word};
 use clap::ArgMatches;
 use containers::{Bytes, Seq};
 use front_end::{Fault, Shown, expression_words, read_expression};
 use lx_abi::Set;
 use std::alloc::{AllocError, Global};
+use sweep_rows::World;
 use tr_expr::{ExprFault, parse_trace};
 
 /// Options that have no meaning where no call has an error, each as it is written.
@@ -29,6 +31,8 @@ pub enum Deed {
     Kill,
     /// It reads or writes less than it is asked for.
     Short,
+    /// A world begins there, if the call is one of those that it has fail.
+    Begin(World),
 }
 
 /// What happens at each of these calls.
@@ -54,24 +58,39 @@ struct Asked<'a> {
     set: &'a str,
 }
 
-fn excluded(alloc: Global, word: &str, option: &str) -> Fault {
-    Fault::usage(format!(in alloc; "-e {word}= excludes {option}: no call has an error"))
+/// Why options that choose errors have no meaning.
+fn reason(deed: Deed) -> &'static str {
+    match deed {
+        Deed::Stop | Deed::Kill | Deed::Short => "no call has an error",
+        Deed::Begin(_) => "calls have the world's error",
+    }
+}
+
+fn excluded(alloc: Global, asked: Asked<'_>, option: &str) -> Fault {
+    let word = asked.word;
+    Fault::usage(format!(in alloc; "-e {word}= excludes {option}: {}", reason(asked.deed)))
 }
 
 /// Nothing stands beside the set that has no meaning there.
-fn check(alloc: Global, matches: &ArgMatches, word: &str, words: &[String]) -> Result<(), Fault> {
+fn check(
+    alloc: Global,
+    matches: &ArgMatches,
+    asked: Asked<'_>,
+    words: &[String],
+) -> Result<(), Fault> {
     if words.len() > 1 {
+        let word = asked.word;
         return Err(Fault::usage(format!(in alloc;
             "-e {word}= excludes other expressions: a set joins names by commas"
         )));
     }
     for (id, option) in VALUES {
         if matches.get_str(id).is_some() {
-            return Err(excluded(alloc, word, option));
+            return Err(excluded(alloc, asked, option));
         }
     }
     if matches.get_flag("fail-fast") {
-        return Err(excluded(alloc, word, "--fail-fast"));
+        return Err(excluded(alloc, asked, "--fail-fast"));
     }
     Ok(())
 }
@@ -98,7 +117,10 @@ fn asked_by(text: &str) -> Option<Asked<'_>> {
         "stop" => ("stop", Deed::Stop),
         "kill" => ("kill", Deed::Kill),
         "short" => ("short", Deed::Short),
-        _ => return None,
+        _ => {
+            let world = world_in(word)?;
+            (world_word(world), Deed::Begin(world))
+        }
     };
     Some(Asked { word, deed, set })
 }
@@ -119,7 +141,7 @@ pub fn read_tried(alloc: Global, matches: &ArgMatches) -> Result<Option<Tried>, 
     let Some(asked) = first_asked(words.as_slice()) else {
         return Ok(None);
     };
-    check(alloc, matches, asked.word, words.as_slice())?;
+    check(alloc, matches, asked, words.as_slice())?;
     match parse_trace(alloc, asked.set) {
         Ok(calls) => Ok(Some(Tried {
             deed: asked.deed,
@@ -162,7 +184,7 @@ pub fn read_second(
     };
     if !is_tried && !shows_trial(matches) {
         return Err(Fault::usage(format!(in alloc;
-            "--then: stands beside -e stop=, kill= or short=, or --show of such a run"
+            "--then: stands beside -e stop=, kill=, short= or a world, or --show of such a run"
         )));
     }
     let argv = words_of(alloc, text)?;

@@ -23,7 +23,7 @@ fn refuse(alloc: Global, text: &str) -> Fault {
     match read_expression(alloc, text) {
         Err(fault) => fault,
         Ok(_) => Fault::usage(format!(in alloc;
-            "-e {}: a sweep takes fault=SET, fault=SET:error=E,.., stop=SET, kill=SET or short=SET",
+            "-e {}: a sweep takes fault=SET, fault=SET:error=E,.., stop=SET, kill=SET, short=SET or WORLD=SET",
             Shown(text)
         )),
     }

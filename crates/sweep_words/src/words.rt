@@ -10,6 +10,9 @@ const NOTES: &str = "Which calls are to fail, after -e:
   stop=SET                no call has an error: all ends as one of these is entered, as where the power fails
   kill=SET                likewise, but SIGKILL ends its process there, and others go on
   short=SET               likewise, but a read or write is done with one byte, and with half of its bytes
+  WORLD=SET               from one of these on calls fail as in this world, but console and pipes go on:
+                          full, broken or read-only, as the disk is (ENOSPC, EIO, EROFS), no-files where no
+                          descriptor is left (EMFILE), no-memory (ENOMEM)
   SET    names joined by commas, as write or ?name; %file, %desc, %process, %signal, %memory; /REGEX; all; none;
          a ! in front takes all others
 Without -e it is fault=all.
