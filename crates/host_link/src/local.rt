@@ -30,6 +30,7 @@ enum Unserved {
 
 /// Puts the request, and makes the events of the schedule until it is answered, which are noted; none where the
 /// schedule has ended.
+#[inline(always)]
 fn serve(
     host: &mut Host,
     schedule: &mut Schedule,
@@ -142,6 +143,7 @@ impl Link for LocalLink {
 
     ghost broken = { λ l. faults_of l };
 
+    #[inline(always)]
     #[tactic(auto, unfolding(crate::specs::LocalLinks::Calls))]
     fn call(&mut self, request: Request) -> Result<Reply, LinkFault> {
         if self.is_broken {

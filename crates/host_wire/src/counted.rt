@@ -93,6 +93,7 @@ impl<R: Read> Source for Counted<R> {
 }
 
 /// Writes all of the bytes, which the writer may keep back. A write that a signal interrupts is made again.
+#[inline(always)]
 pub fn write_whole<W: Write>(writer: &mut W, bytes: &[u8]) -> Result<(), Broken>
     ensures whole { OnOk result (Appends (W.contents writer.old) (W.contents writer.new) bytes.now) }
     ensures part { OnErr result (AppendsPart (W.contents writer.old) (W.contents writer.new) bytes.now) }
@@ -116,6 +117,7 @@ pub fn write_whole<W: Write>(writer: &mut W, bytes: &[u8]) -> Result<(), Broken>
 }
 
 /// Hands on what was kept back. A flush that a signal interrupts is made again.
+#[inline(always)]
 fn flush_again<W: Write>(writer: &mut W) -> Result<(), Broken>
     ensures { Keeps (W.contents writer.old) (W.contents writer.new) }
 {
@@ -133,6 +135,7 @@ fn flush_again<W: Write>(writer: &mut W) -> Result<(), Broken>
 }
 
 /// Writes all of the bytes, and hands on what was kept back.
+#[inline(always)]
 fn write_out<W: Write>(writer: &mut W, bytes: &[u8]) -> Result<(), Broken>
     ensures whole { OnOk result (Appends (W.contents writer.old) (W.contents writer.new) bytes.now) }
     ensures part { OnErr result (AppendsPart (W.contents writer.old) (W.contents writer.new) bytes.now) }
@@ -152,6 +155,7 @@ impl<W: Write> Sink for Counted<W> {
 
     ghost broken = { λ c. faults_of c };
 
+    #[inline(always)]
     fn put(&mut self, bytes: &[u8]) -> Result<(), Broken> {
         self.calls = self.calls.and(&bytes.len());
         if self.broken {

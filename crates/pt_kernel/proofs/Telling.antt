@@ -37,7 +37,7 @@ use Rattle.pt_model.specs.Ptrace.{tracee_stop, stop_at, is_dying}
 use Rattle.pt_model.specs.Hosting.{told_stop, ends_dying}
 use Rattle.pt_model.proofs.Hosts.{turns_tell}
 use Rattle.pt_model.proofs.Maps.{put_here}
-use Rattle.pt_kernel.specs.Stops.{turn_stop, stop_after, dies_after, is_alive, lives_in}
+use Rattle.pt_kernel.specs.Stops.{turn_stop, stop_after, dies_after}
 
 -- who bears a child stands at its call
 
@@ -158,31 +158,3 @@ module _ (k : KernelRun) (p : ℕ) where
   dies_after_turn = end_of k.running p k.running.child (turn_in k p) (turn_in k p).event
       (turns_tell linux chosen_in k.running.shared k.running.child p (task_in k p) (record { good = false; forks = false; execs = false })).1
       (at_its_call linux chosen_in k.running.shared k.running.child p (task_in k p))
-
--- Who lives, by its mode
-
-lives_at_stage : (stage : Stage) (b : UserState) (x : Option Entry) → lives_in (kernel_mode x (Alive b stage)) ≡ true
-lives_at_stage Born b x = refl
-lives_at_stage Run b x = refl
-lives_at_stage (Faulting signal cause) b x = refl
-lives_at_stage (Entered joined) b x = refl
-lives_at_stage (Doing call) b x = refl
-lives_at_stage (Replaced call r) b x = refl
-lives_at_stage (Acted call r replaced) b x = refl
-lives_at_stage Finished b x = refl
-lives_at_stage (Taken signal cause) b x = refl
-lives_at_stage Dropped b x = refl
-lives_at_stage (Stopped signal) b x = refl
-lives_at_stage Released b x = refl
-lives_at_stage Woken b x = refl
-
-buried_lives : (e : Entry) (l : Life) → lives_in (life_mode (Some (record e { life = l }))) ≡ false
-buried_lives e life.Alive = refl
-buried_lives e (life.Dying x) = refl
-buried_lives e (life.Zombie x) = refl
-
-pub lives_by_mode : (x : Option Entry) (task : Task UserState) → lives_in (kernel_mode x task) ≡ is_alive task
-lives_by_mode x (Alive b stage) = lives_at_stage stage b x
-lives_by_mode x (Dying w) = refl
-lives_by_mode None Gone = refl
-lives_by_mode (Some e) Gone = buried_lives e e.life

@@ -5,7 +5,6 @@ use Rattle.lx_abi.specs.declared.ptrace.Ask.{Ask}
 use Rattle.lx_abi.specs.declared.ptrace.Ask.TheVariants.{Seize}
 use Rattle.lx_abi.specs.declared.log.Mode.{Mode}
 use Rattle.lx_abi.specs.declared.status.Stop.{Stop}
-pub use Rattle.lx_abi.specs.Modes.{lives_in}
 use Rattle.lx_model.specs.declared.event.PtraceEvent.{PtraceEvent}
 use Rattle.lx_model.specs.declared.event.PtraceEvent.TheVariants.{Plain, Execed, Forked}
 use Rattle.lx_model.specs.declared.stage.Task.{Task}

@@ -62,6 +62,7 @@ pub fn info_of(signal: Signal, cause: Cause) -> Info
     }
 }
 
+#[inline(always)]
 fn get_regs(kernel: &Kernel, pid: u32) -> Result<Reply, AllocError>
     ensures { IfOk result
         (λ r. (b : UserState) (stage : Stage) → task_in kernel.now pid ≡ Tasks.Alive b stage
@@ -108,6 +109,7 @@ fn sig_info(kernel: &Kernel, pid: u32) -> Reply
     }
 }
 
+#[inline(always)]
 fn syscall(
     kernel: &mut Kernel,
     tracees: &mut Tracees,
@@ -170,6 +172,7 @@ fn listen(
 }
 
 /// A held tracee that lives is answered.
+#[inline(always)]
 fn answer_stopped(
     kernel: &mut Kernel,
     tracees: &mut Tracees,
@@ -262,6 +265,7 @@ fn answer_unseized(
 }
 
 /// A request to a process is answered. ESRCH comes before any other refusal.
+#[inline(always)]
 pub fn answer(
     kernel: &mut Kernel,
     tracees: &mut Tracees,

@@ -26,6 +26,7 @@ fn turns_in_row(schedule: &Schedule, pid: u32) -> u64
 }
 
 /// Notes an event that came so many times. A host of which that can't be told has failed.
+#[inline(always)]
 fn note(host: &mut Host, noted: &mut Events, event: Event, times: u64) -> Result<(), Failed>
     ensures noted { OnOk result (noted.new ≡ noting noted.old (replicate times event)) }
     ensures kept { OnOk result (host.new ≡ host.old) }
@@ -42,6 +43,7 @@ fn note(host: &mut Host, noted: &mut Events, event: Event, times: u64) -> Result
 
 /// The turn that the schedule gave, and those that come next by the row that is under way, as many as can be made at
 /// once: they are events of the schedule, and noted.
+#[inline(always)]
 fn turn(
     host: &mut Host,
     schedule: &mut Schedule,
@@ -64,6 +66,7 @@ fn turn(
 }
 
 /// The pending request is served whole, which is noted.
+#[inline(always)]
 fn serve(host: &mut Host, noted: &mut Events) -> Result<Option<Reply>, Failed>
     ensures after { OnOk result (host.new ≡ after host.old Event.Serve) }
     ensures reply { IfOk result (λ r. r ≡ (event_of host.old Event.Serve).reply) }
@@ -77,6 +80,7 @@ fn serve(host: &mut Host, noted: &mut Events) -> Result<Option<Reply>, Failed>
 
 /// Makes the events of a schedule until the pending request is answered, and notes them; none where the schedule has
 /// ended before.
+#[inline(always)]
 pub fn attend(
     host: &mut Host,
     schedule: &mut Schedule,

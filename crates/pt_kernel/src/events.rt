@@ -92,6 +92,7 @@ impl Events {
     }
 
     /// Notes an event that came so many times.
+    #[inline(always)]
     pub fn note(&mut self, event: Event, times: u64) -> Result<(), AllocError>
         ensures { OnOk result (self.new ≡ noting self.old (replicate times event)) }
     {

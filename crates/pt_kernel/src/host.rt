@@ -116,6 +116,7 @@ impl Host {
 
     /// Puts a request, which a Serve will answer. Where one is pending nothing changes. A host is booted before it is
     /// asked anything, and not again.
+    #[inline(always)]
     pub fn ask(&mut self, request: Request) -> Result<(), Busy>
         requires { is_boot request ≡ false }
         ensures put { OnOk result
@@ -207,6 +208,7 @@ impl Host {
     }
 
     /// The pending request is served whole.
+    #[inline(always)]
     pub(crate) fn serve(&mut self) -> Result<Option<Reply>, Failed>
         ensures after { OnOk result (self.new ≡ after self.old Event.Serve) }
         ensures reply { IfOk result (λ r. r ≡ (event_of self.old Event.Serve).reply) }

@@ -16,6 +16,7 @@ use lx_kernel::{Failed, Kernel};
 use std::alloc::Global;
 
 /// A request is answered; none where Wait stays pending.
+#[inline(always)]
 fn answer_asked(
     alloc: Global,
     kernel: &mut Kernel,
@@ -46,8 +47,8 @@ fn answer_asked(
     }
 }
 
-/// The pending request is served whole. Apart, since a function pays at its entry for the size of its locals.
-#[inline(never)]
+/// The pending request is served whole.
+#[inline(always)]
 pub fn serve(
     alloc: Global,
     kernel: &mut Kernel,

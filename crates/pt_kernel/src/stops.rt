@@ -5,7 +5,7 @@ ghost use Rattle.lx_turn.specs.Linux.{linux};
 ghost use Rattle.lx_kernel.specs.Tracing.{task_in};
 ghost use Rattle.pt_model.specs.Ptrace.{event_stop, is_effective};
 ghost use Rattle.pt_model.specs.Hosting.{as_proc, item_stop, mode_stop};
-ghost use Rattle.pt_kernel.specs.Stops.{stop_after, turn_stop, dies_after, is_alive, lives_in};
+ghost use Rattle.pt_kernel.specs.Stops.{stop_after, turn_stop, dies_after, is_alive};
 
 use lx_abi::{EventStop, Item, Mode, Stop, TraceOptions};
 use lx_kernel::Kernel;
@@ -95,20 +95,11 @@ pub fn dies_after(after: Option<Mode>, event: PtraceEvent<u32>) -> bool
     }
 }
 
-fn lives_in(mode: Option<Mode>) -> bool
-    ensures { result ≡ lives_in mode }
-{
-    match mode {
-        None | Some(Mode::Dying | Mode::Zombie) => false,
-        Some(_) => true,
-    }
-}
-
-/// The process has not ended.
+/// The process has not ended: it has registers.
 pub fn is_alive(kernel: &Kernel, pid: u32) -> bool
     ensures { result ≡ is_alive (task_in kernel.now pid) }
 {
-    lives_in(kernel.mode(pid))
+    kernel.asked_call(pid).is_some()
 }
 
 /// A turn of a process reaches the kernel: its tracer doesn't hold it, or SIGKILL is pending for it.

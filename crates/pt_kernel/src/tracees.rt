@@ -47,6 +47,23 @@ fn message_after(message: u32, pid: u32, options: TraceOptions, event: PtraceEve
     }
 }
 
+/// What is kept of a process, in the place where something is kept already.
+#[inline(always)]
+fn keep(kept: &mut Shelf<Traced>, pid: u32, traced: Traced) -> Result<(), AllocError>
+    ensures { OnOk result (kept.new ≡ maps.insert kept.old pid traced) }
+{
+    match kept.get_mut(pid) {
+        Some(place) => {
+            *place = traced;
+            Ok(())
+        }
+        None => {
+            kept.insert(pid, traced)?;
+            Ok(())
+        }
+    }
+}
+
 impl Tracees {
     /// Process 1 is held from the boot, and no tracee yet.
     pub fn new(alloc: Global) -> Result<Self, AllocError>
@@ -74,6 +91,7 @@ impl Tracees {
     }
 
     /// What is kept of a process.
+    #[inline(always)]
     pub fn traced(&self, pid: u32) -> Traced
         ensures { result ≡ at untraced self.now.traced pid }
     {
@@ -90,7 +108,7 @@ impl Tracees {
     pub fn set(&mut self, pid: u32, traced: Traced) -> Result<(), AllocError>
         ensures { OnOk result (self.new ≡ record self.old { traced = maps.insert self.old.traced pid traced }) }
     {
-        self.traced.insert(pid, traced)?;
+        keep(&mut self.traced, pid, traced)?;
         Ok(())
     }
 
@@ -129,7 +147,7 @@ impl Tracees {
                     options: Some(options),
                     message: message_after(traced.message, pid, options, event),
                 };
-                self.traced.insert(pid, stopped)?;
+                keep(&mut self.traced, pid, stopped)?;
                 Ok(())
             }
         }
@@ -155,6 +173,7 @@ impl Tracees {
     }
 
     /// A process that is held becomes a tracee.
+    #[inline(always)]
     fn attach(&mut self, pid: u32, traced: Traced) -> Result<(), AllocError>
         ensures { OnOk result (self.new ≡ attached self.old pid traced) }
     {
@@ -239,6 +258,7 @@ impl Tracees {
     }
 
     /// Who was waited for is held no more, and no tracee.
+    #[inline(always)]
     fn release(&mut self, pid: u32) -> Result<(), AllocError>
         ensures { OnOk result
             (self.new ≡ record self.old {
@@ -256,6 +276,7 @@ impl Tracees {
         }
     }
 
+    #[inline(always)]
     fn tell(&mut self, report: Report) -> Result<Reply, AllocError>
         ensures { IfOk result
             (λ r. tells self.new (Some r)
@@ -271,6 +292,7 @@ impl Tracees {
     }
 
     /// Wait is answered with the first report, or ECHILD where no tracee is left; else it stays pending.
+    #[inline(always)]
     pub fn wait(&mut self) -> Result<Option<Reply>, AllocError>
         ensures { IfOk result (λ r. tells self.new r ≡ waited self.old self.old.queue self.old.pids) }
     {

@@ -110,6 +110,7 @@ impl Schedule {
     }
 
     /// The next event; none where the schedule has ended, which is for good.
+    #[inline(always)]
     #[tactic(auto, unfolding(crate::specs::Schedules::next_by))]
     pub fn next<S: Schedulable>(&mut self, system: &S) -> Option<Event>
         ensures { record { event = result; schedule = self.new } ≡ next_of self.old (S.readiness system.now) }

@@ -42,6 +42,7 @@ pub struct Worded {
 
 impl Worded {
     /// A turn of a process, which may have so many more in a row.
+    #[inline(always)]
     fn turn(&mut self, pid: u32, left: u32) -> Option<Event>
         requires { 0 < self.old.left }
         ensures { record { event = result; schedule = self.new } ≡ turn_with self.old pid left }
@@ -61,6 +62,7 @@ impl Worded {
         }
     }
 
+    #[inline(always)]
     fn serve(&mut self) -> Option<Event>
         requires { 0 < self.old.left }
         ensures { record { event = result; schedule = self.new } ≡ serve_of self.old }
@@ -88,6 +90,7 @@ impl Worded {
     }
 
     /// A turn by the default schedule.
+    #[inline(always)]
     fn go_on<S: Schedulable>(&mut self, system: &S) -> Option<Event>
         requires { 0 < self.old.left }
         ensures { record { event = result; schedule = self.new }
@@ -105,6 +108,7 @@ impl Worded {
         }
     }
 
+    #[inline(always)]
     fn next_by_default<S: Schedulable>(&mut self, system: &S) -> Option<Event>
         requires { 0 < self.old.left }
         ensures { record { event = result; schedule = self.new } ≡ by_default self.old (S.readiness system.now) }
@@ -117,6 +121,7 @@ impl Worded {
     }
 
     /// A turn by a word, after which requests may be served.
+    #[inline(always)]
     fn turn_by_word(
         &mut self,
         pid: u32,
@@ -134,6 +139,7 @@ impl Worded {
     }
 
     /// The next word begins.
+    #[inline(always)]
     fn next_word<S: Schedulable>(&mut self, system: &S) -> Option<Event>
         requires { 0 < self.old.left }
         ensures { record { event = result; schedule = self.new }
@@ -160,6 +166,7 @@ impl Worded {
     }
 
     /// What comes once requests were served.
+    #[inline(always)]
     fn after_serves<S: Schedulable>(&mut self, system: &S) -> Option<Event>
         requires { 0 < self.old.left }
         ensures { record { event = result; schedule = self.new }
@@ -175,6 +182,7 @@ impl Worded {
         }
     }
 
+    #[inline(always)]
     pub fn next<S: Schedulable>(&mut self, system: &S) -> Option<Event>
         ensures { record { event = result; schedule = self.new } ≡ next_worded self.old (S.readiness system.now) }
     {

@@ -62,6 +62,7 @@ fn rests(printer: &Printer) -> bool
 }
 
 /// What was printed, and what is asked next.
+#[inline(always)]
 pub fn act(core: &Core, bytes: Bytes) -> Result<Act, AllocError>
     ensures { IfOk result
         (λ act. act

@@ -1,7 +1,8 @@
 //! A call's entry and its exit: each is read where the call is shown, and then told.
 
-ghost use Rattle.std.specs.Prelude.{◌≡◌, IfOk, [], true};
-ghost use Rattle.lx_abi.specs.Scripts.{includes};
+ghost use Rattle.std.specs.Prelude.{◌≡◌, ◌+◌, IfOk, [], true};
+ghost use Rattle.lx_abi.specs.Occurrences.{count_of};
+ghost use Rattle.lx_abi.specs.Scripts.{choice_of, includes};
 ghost use Rattle.lx_abi.specs.declared.log.Call.{Call as CallOf};
 ghost use Rattle.lx_model.specs.Turn.{result_word};
 ghost use Rattle.pt_model.specs.Tracer as tracer;
@@ -20,7 +21,7 @@ use crate::printing::{print_entry, print_exit};
 use crate::registers::{NO_CALL, call, set_number, stack_pointer};
 use crate::session::Session;
 use containers::Bytes;
-use lx_abi::{Call, Choice, RegisterSet};
+use lx_abi::{Call, Choice, Occurrences, RegisterSet, Script};
 use pt_model::Standing;
 use std::alloc::AllocError;
 use tr_args::{Decoder, Half};
@@ -107,6 +108,20 @@ fn given(choice: Choice) -> Option<u64>
     }
 }
 
+/// What a script does to the next entry of a process into a call. One without rules does nothing, whichever it is.
+#[tactic(auto, unfolding(lx_abi::specs::Scripts::choice_of))]
+fn choose(script: &Script, counts: &Occurrences, pid: u32, call: u64) -> Result<Choice, AllocError>
+    ensures { IfOk result (λ choice. choice ≡ choice_of script.now call (count_of counts.now pid call + 1)) }
+{
+    if script.rules().is_empty() {
+        return Ok(Choice::NOTHING);
+    }
+    let Some(occurrence) = counts.latest(pid, call).checked_add(1) else {
+        return Err(AllocError);
+    };
+    Ok(script.choose(call, occurrence))
+}
+
 /// The entry is shown and counted, and the script's choice for its occurrence made.
 fn enter(
     session: &mut Session,
@@ -125,10 +140,12 @@ fn enter(
 {
     let called = call(&registers);
     let stack = stack_pointer(&registers);
-    let Some(occurrence) = session.counts.latest(pid, called.number).checked_add(1) else {
-        return Err(AllocError);
-    };
-    let choice = session.settings.script.choose(called.number, occurrence);
+    let choice = choose(
+        &session.settings.script,
+        &session.counts,
+        pid,
+        called.number,
+    )?;
     let saved = given(choice);
     let bytes = print_entry(
         &session.settings,

@@ -36,6 +36,7 @@ impl Living {
         }
     }
 
+    #[inline(always)]
     pub fn add(&mut self, pid: u32) -> Result<(), AllocError>
         ensures { OnOk result (self.new ≡ with_tracee self.old pid) }
     {

@@ -85,6 +85,7 @@ fn fits(known: &Shelf<Tracee>, follow: bool, pid: u32, stop: Stop) -> bool
 }
 
 /// The reply is one that a host may give.
+#[inline(always)]
 fn admits(core: &Core, reply: &Reply) -> bool
     ensures { result ≡ admits_in core.now reply.now }
 {
@@ -107,6 +108,7 @@ fn admits(core: &Core, reply: &Reply) -> bool
 }
 
 /// What is asked next of a tracee; where nothing is, the next status is waited for.
+#[inline(always)]
 fn focus_at(pid: u32, next: Option<Awaiting>) -> Focus
     ensures focus { focus_of result ≡ focus_on pid (option_map place_of next) }
     ensures holds { (o : OptionsOf) (called : ℕ → CallOf) → NextIsHeld o (called pid) next
@@ -119,6 +121,7 @@ fn focus_at(pid: u32, next: Option<Awaiting>) -> Focus
 }
 
 /// The list of tracees after a status.
+#[inline(always)]
 fn attend(living: &mut Living, pid: u32, stop: Stop) -> Result<(), AllocError>
     ensures { OnOk result (living.new ≡ told_tracees living.old pid (Some stop)) }
 {
@@ -130,6 +133,7 @@ fn attend(living: &mut Living, pid: u32, stop: Stop) -> Result<(), AllocError>
 }
 
 /// What a status makes of a tracee, in the place where it is known.
+#[inline(always)]
 fn take_stop_in(
     session: &mut Session,
     known: &mut Shelf<Tracee>,
@@ -150,6 +154,7 @@ fn take_stop_in(
 }
 
 /// A status that is admitted.
+#[inline(always)]
 fn hear_status(core: &mut Core, pid: u32, stop: Stop) -> Result<Bytes, AllocError>
     ensures { IfOk result
         (λ b. Goes (took_stop (options_of core.old.session.settings) (known_in core.old) pid stop)
@@ -162,6 +167,7 @@ fn hear_status(core: &mut Core, pid: u32, stop: Stop) -> Result<Bytes, AllocErro
 }
 
 /// What a reply makes of a tracee, in the place where it is known.
+#[inline(always)]
 fn hear_in(
     session: &mut Session,
     known: &mut Shelf<Tracee>,
@@ -184,6 +190,7 @@ fn hear_in(
 }
 
 /// A reply, which is admitted, to what was asked of the tracee in hand.
+#[inline(always)]
 fn hear_reply(core: &mut Core, pid: u32, place: Awaiting, reply: Reply) -> Result<Bytes, AllocError>
     requires { IsHeld core.old.session.settings.options (at new_tracee core.old.known pid).called place }
     ensures { IfOk result
@@ -224,6 +231,7 @@ fn after_wait(childless: bool, out: bool) -> Focus
 }
 
 /// A reply to Wait, by what it says.
+#[inline(always)]
 fn hear_wait(
     core: &mut Core,
     told: Option<(u32, Option<Stop>)>,
@@ -242,6 +250,7 @@ fn hear_wait(
 }
 
 /// A reply to Wait.
+#[inline(always)]
 fn hear_waiting(core: &mut Core, reply: &Reply) -> Result<Bytes, AllocError>
     ensures { IfOk result
         (λ b. Goes
@@ -266,6 +275,7 @@ fn is_let_go(place: &Awaiting) -> bool
 }
 
 /// A reply to what was asked of the tracee in hand, or OutOfTurns.
+#[inline(always)]
 fn hear_served(
     core: &mut Core,
     pid: u32,
@@ -326,6 +336,7 @@ fn is_seizing(place: &Awaiting) -> bool
 }
 
 /// A reply to the tracee in hand, and the list of tracees after it.
+#[inline(always)]
 fn hear_serving(
     core: &mut Core,
     pid: u32,
@@ -347,6 +358,7 @@ fn hear_serving(
 }
 
 /// A reply that is admitted, with what was asked taken out.
+#[inline(always)]
 fn go_from(core: &mut Core, focus: Focus, reply: Reply) -> Result<Bytes, AllocError>
     requires { FocusHolds core.old.session.settings.options (λ pid. (at new_tracee core.old.known pid).called) focus }
     ensures { IfOk result
@@ -405,6 +417,7 @@ fn after_resuming(out: bool) -> Focus
 }
 
 /// A reply that is admitted. What was asked stays in its place where nothing is kept of it.
+#[inline(always)]
 fn go(core: &mut Core, reply: Reply) -> Result<Bytes, AllocError>
     requires { Holds core.old }
     ensures { IfOk result
@@ -424,6 +437,7 @@ fn go(core: &mut Core, reply: Reply) -> Result<Bytes, AllocError>
 }
 
 /// A reply: its bytes, or none where it isn't admitted.
+#[inline(always)]
 pub fn step(core: &mut Core, reply: Reply) -> Result<Option<Bytes>, AllocError>
     requires { Holds core.old }
     ensures step { IfOk result (λ b. (taken : ℕ) → Steps taken core.old reply b core.new) }

@@ -27,6 +27,7 @@ fn was_read(standing: Standing) -> bool
 
 /// Where a call begins or ends: at an exit the registers are wanted where its entry was read, and the call is
 /// shown or replaced.
+#[inline(always)]
 fn first_place(settings: &Settings, tracee: &Tracee) -> Awaiting
     ensures place { (counts : ℕ → ℕ)
         → place_of result ≡ tracer.first_place (options_of settings.now) (known_of tracee.now counts)
@@ -66,6 +67,7 @@ fn event_standing(event: EventStop) -> Standing
 }
 
 /// A status that is admitted was taken.
+#[inline(always)]
 #[tactic(auto, unfolding(crate::specs::Pens::wrote, crate::specs::Pens::pen_after))]
 pub fn take_stop(
     session: &mut Session,

@@ -92,6 +92,7 @@ impl Tracing for Tracer {
 
     ghost state = { state_of };
 
+    #[inline(always)]
     #[tactic(auto, unfolding(crate::specs::States::taken_of, crate::specs::Tracers::state_of))]
     fn next(&mut self, reply: Reply) -> Result<Act, TraceFault> {
         if self.failed {

@@ -1,5 +1,4 @@
-use Rattle.std.proofs.Common.{◌≡◌, ℕ, ◌+◌, refl, sym, ap, subst, ◌∙◌, rules}
-use Rattle.lx_abi.specs.Occurrences.{count_of}
+use Rattle.std.proofs.Common.{ℕ, refl, sym, ap, subst, ◌∙◌}
 use Rattle.lx_abi.specs.declared.log.Call.{Call}
 use Rattle.lx_model.specs.Machine.{call_of}
 use Rattle.pt_model.specs.Parts.{At_entry, enter_part}
@@ -24,11 +23,10 @@ returns c =
     let o = options_of s.settings in
     let got = got_of c.args.decoder in
     let called = c.call-called.result in
-    let next : c.in-Some.occurrence ≡ count_of s.counts pid called.number + 1 = search rules in
     entered o (script_of s.settings) c.args.registers got s
-    (record s { counts = c.count.new.self; printer = c.print_entry.new.printer }) pid t called c.choose-choice.result c.given-saved.result
+    (record s { counts = c.count.new.self; printer = c.print_entry.new.printer }) pid t called c.in_ok-choice.choice c.given-saved.result
     c.joined.result c.go_on.result c.in_ok-bytes.bytes
-    c.call-called.ensures (c.choose-choice.ensures ∙ ap (script_of s.settings called.number) next) c.given-saved.ensures c.joined.ensures
+    c.call-called.ensures c.in_ok-choice.ensures c.given-saved.ensures c.joined.ensures
     c.go_on.ensures.place c.in_ok-count.ensures
     (c.in_ok-bytes.ensures.bytes ∙ ap (λ x. wrote s.printer (enter_part o pid called x got)) c.stack_pointer-stack.ensures)
     (c.in_ok-bytes.ensures.after ∙ ap (λ x. pen_after s.printer (enter_part o pid called x got)) c.stack_pointer-stack.ensures)
