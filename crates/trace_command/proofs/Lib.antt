@@ -1,5 +1,6 @@
 mod Lacking
 mod Reaching
+mod Outlets
 mod Turned
 mod Noted
 mod ByWords

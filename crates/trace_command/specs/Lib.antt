@@ -1,5 +1,6 @@
 pub mod Faults
 pub mod Tracing
+pub mod Outlets
 pub mod Writers
 pub mod TurnsOut
 pub mod Noting

@@ -36,6 +36,16 @@ pub enum Kernel<P: OpenProcess + Drop> {
     OnThreads(Boot, Workers),
 }
 
+impl<P: OpenProcess + Drop> Kernel<P> {
+    /// It is in this process, and runs in the tracer's thread.
+    pub fn is_here(&self) -> bool {
+        match self {
+            Kernel::Here(_, _) => true,
+            Kernel::There(_) | Kernel::OnThreads(_, _) => false,
+        }
+    }
+}
+
 /// A kernel that takes this boot, where the words ask for it.
 pub fn booted_kernel<R: Processes + AllocGlobal>(
     rt: &R,
@@ -161,6 +171,7 @@ pub fn run_kernel<R: Threads + Wait + Sync + AllocGlobal, P: OpenProcess + Drop,
     ensures fault { IfErr result (λ fault. IsOnThreads kernel × (IsUnhosted fault ⊎ IsUnopened fault)) }
     ensures unwritten { OnErr result (writer_of W.contents W.puts W.broken lines.new
         ≡ writer_of W.contents W.puts W.broken lines.old) }
+    ensures beside { W.beside lines.new ≡ W.beside lines.old }
 {
     match kernel {
         Kernel::Here(boot, schedule) => {
@@ -199,6 +210,7 @@ pub fn run_here<W: TraceSink>(
     ensures notes { OnOk result
         (NotesHere options script boot schedule kept.old.asked.events kept.new.known.events) }
     ensures kept { AsksAlike kept.old kept.new }
+    ensures beside { W.beside lines.new ≡ W.beside lines.old }
 {
     let asked = kept.asked;
     match trace_local(alloc, boot, schedule, asked.events, script, options, lines) {

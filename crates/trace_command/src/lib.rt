@@ -10,6 +10,7 @@ mod kept;
 mod kernel;
 pub mod laws;
 mod lines;
+mod outlet;
 mod place;
 mod prepared;
 mod running;

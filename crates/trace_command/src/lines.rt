@@ -4,10 +4,9 @@ ghost use Rattle.std.specs.Prelude.{◌≡◌};
 
 use host_wire::{Broken, Counted, Sink};
 use std::io::Write;
-use trace_run::TraceSink;
 
 /// A writer that knows whether the line that it wrote last is open.
-pub trait LineSink: TraceSink {
+pub trait LineSink: Sink {
     /// The last line isn't ended.
     fn is_open(&self) -> bool;
 }
@@ -60,8 +59,6 @@ impl<W: Write> Sink for Lines<W> {
         self.sink.faults()
     }
 }
-
-impl<W: Write> TraceSink for Lines<W> {}
 
 impl<W: Write> LineSink for Lines<W> {
     fn is_open(&self) -> bool {

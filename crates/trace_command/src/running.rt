@@ -1,39 +1,39 @@
 //! A run, with its trace to its place.
 
-ghost use Rattle.std.specs.Prelude.{◌≡◌, ℕ, ⊤, List, Option, Ok, Err, IfOk, IfErr, OnErr, OnOk};
-ghost use Rattle.std.specs.Io.KnownBytes.{Keeps, append_known};
+ghost use Rattle.std.specs.Prelude.{◌≡◌, Ok, Err, IfOk, IfErr, OnErr, OnOk};
 ghost use Rattle.front_end.specs.Streams.{opened_contents};
 ghost use Rattle.trace_run.specs.Writers.{writer_of};
 ghost use Rattle.trace_command.specs.Faults.{IsFaultOf};
 ghost use Rattle.trace_command.specs.Noting.{AsksAlike, Notes};
-ghost use Rattle.trace_command.specs.Tracing.{EndsLine, IsFile, LacksAt, Puts, Reaches, Settles, Traces, Unmade};
-ghost use Rattle.trace_command.specs.Tracing.{WritesFile, WritesTo, outputs};
+ghost use Rattle.trace_command.specs.Outlets.{outputs_of};
+ghost use Rattle.trace_command.specs.Tracing.{EndsLine, IsFile, LacksAt, Puts, Settles, Traces, Unmade, WritesTo};
 
 use crate::fault::host_fault;
 use crate::kept::Behind;
 use crate::kernel::{Kernel, run_kernel};
 use crate::lines::LineSink;
-use crate::place::{Place, create};
+use crate::outlet::{Destination, Outlet, close, open};
+use crate::place::Place;
 use crate::trace_file::TraceFile;
 use front_end::{Fault, Opened};
 use host_link::LinkFault;
 use host_wire::{Broken, Sink};
 use lx_abi::{Outcome, Script};
 use std::alloc::Global;
-use std::fs::OpenFile;
+use std::mem;
 use std::process::OpenProcess;
 use std::rt::Files;
 use std::sync::Wait;
 use std::thread::Threads;
 use tr_core::{Options, TraceFault};
-use trace_run::{Ended, RunFault, TraceSink};
+use trace_run::{Ended, RunFault};
 
-/// Runs the tracer on a kernel, with its trace to a place.
+/// Runs the tracer on a kernel, with its trace to a place. Behind the run it goes to standard error again.
 pub fn run_at<
     R: Files + Threads + Wait + Sync + AllocGlobal,
     P: OpenProcess + Drop,
-    O: TraceSink,
-    E: TraceSink,
+    O: Sink,
+    E: Sink,
 >(
     rt: &R,
     kernel: Kernel<P>,
@@ -41,56 +41,22 @@ pub fn run_at<
     options: Options,
     behind: &mut Behind<P>,
     place: Place<'_>,
-    out: &mut O,
-    err: &mut E,
+    outlet: &mut Outlet<O, E, TraceFile<Opened<R::File>>>,
 ) -> Result<Result<Ended, RunFault>, Fault>
     ensures written { IfOk result (λ ended. WritesTo (opened_contents R.File.contents)
         (Traces P.Stdout.remaining P.Stdin.contents options script kernel behind.old.kept.asked.events
         behind.new.kept.known.events) ended place.entry
-        (outputs (writer_of O.contents O.puts O.broken out.old) (writer_of E.contents E.puts E.broken err.old))
-        (outputs (writer_of O.contents O.puts O.broken out.new) (writer_of E.contents E.puts E.broken err.new))) }
+        (outputs_of (writer_of O.contents O.puts O.broken) (writer_of E.contents E.puts E.broken) outlet.old)
+        (outputs_of (writer_of O.contents O.puts O.broken) (writer_of E.contents E.puts E.broken) outlet.new)) }
     ensures notes { IfOk result (λ ended. OnOk ended
         (Notes options script kernel behind.old.kept.asked.events behind.new.kept.known.events)) }
     ensures kept { AsksAlike behind.old.kept behind.new.kept }
     ensures unmade { OnErr result (Unmade (LacksAt kernel (IsFile place.entry)) result
-        (outputs (writer_of O.contents O.puts O.broken out.old) (writer_of E.contents E.puts E.broken err.old))
-        (outputs (writer_of O.contents O.puts O.broken out.new) (writer_of E.contents E.puts E.broken err.new))) }
+        (outputs_of (writer_of O.contents O.puts O.broken) (writer_of E.contents E.puts E.broken) outlet.old)
+        (outputs_of (writer_of O.contents O.puts O.broken) (writer_of E.contents E.puts E.broken) outlet.new)) }
 {
-    match place {
-        Place::Error => match run_kernel(rt, kernel, script, options, behind, err) {
-            Ok(ended) => Ok(ended),
-            Err(fault) => Err(fault),
-        },
-        Place::Output => match run_kernel(rt, kernel, script, options, behind, out) {
-            Ok(ended) => Ok(ended),
-            Err(fault) => Err(fault),
-        },
-        Place::File(path) => match run_to_file(rt, kernel, script, options, behind, path) {
-            Ok(ended) => Ok(ended),
-            Err(fault) => Err(fault),
-        },
-    }
-}
-
-/// The same, with the trace to a file that is made now.
-fn run_to_file<R: Files + Threads + Wait + Sync + AllocGlobal, P: OpenProcess + Drop>(
-    rt: &R,
-    kernel: Kernel<P>,
-    script: Script,
-    options: Options,
-    behind: &mut Behind<P>,
-    path: &str,
-) -> Result<Result<Ended, RunFault>, Fault>
-    ensures written { IfOk result (λ ended. WritesFile (opened_contents R.File.contents)
-        (Traces P.Stdout.remaining P.Stdin.contents options script kernel behind.old.kept.asked.events
-        behind.new.kept.known.events) ended) }
-    ensures notes { IfOk result (λ ended. OnOk ended
-        (Notes options script kernel behind.old.kept.asked.events behind.new.kept.known.events)) }
-    ensures kept { AsksAlike behind.old.kept behind.new.kept }
-    ensures fault { IfErr result (λ fault. LacksAt kernel ⊤ fault) }
-{
-    let file = match create(rt, path) {
-        Ok(file) => file,
+    let trace = match open(rt, place, kernel.is_here()) {
+        Ok(trace) => trace,
         Err(fault) => {
             drop(kernel);
             drop(script);
@@ -98,50 +64,16 @@ fn run_to_file<R: Files + Threads + Wait + Sync + AllocGlobal, P: OpenProcess + 
             return Err(fault);
         }
     };
-    let may_hold = may_keep_back(&kernel, &file);
-    let mut lines = match TraceFile::new(rt.alloc(), file, may_hold) {
-        Ok(lines) => lines,
-        Err(_) => {
-            drop(kernel);
-            drop(script);
-            drop(options);
-            return Err(Fault::Memory);
-        }
-    };
-    match run_kernel(rt, kernel, script, options, behind, &mut lines) {
-        Ok(ended) => {
-            let (file, rest) = lines.into_parts();
-            drop(file);
-            Ok(ended_but_for(ended, rest))
-        }
+    drop(mem::replace(&mut outlet.trace, trace));
+    let made = run_kernel(rt, kernel, script, options, behind, outlet);
+    let trace = mem::replace(&mut outlet.trace, Destination::Error);
+    match made {
+        Ok(ended) => Ok(close(trace, ended)),
         Err(fault) => {
-            drop(lines);
+            drop(trace);
             Err(fault)
         }
     }
-}
-
-/// The kernel is in this process, and the file is a regular one, where nobody reads along.
-fn may_keep_back<P: OpenProcess + Drop, F: OpenFile + Drop>(
-    kernel: &Kernel<P>,
-    file: &Opened<F>,
-) -> bool {
-    match kernel {
-        Kernel::Here(_, _) => file.is_regular(),
-        Kernel::There(_) | Kernel::OnThreads(_, _) => false,
-    }
-}
-
-/// What comes of a run that ended so, of whose trace these bytes couldn't be written.
-fn ended_but_for(ended: Result<Ended, RunFault>, rest: Vec<u8>) -> Result<Ended, RunFault>
-    ensures { (written held : Option (List ℕ)) → Keeps written (append_known held rest.items)
-        → Reaches ended result written held }
-{
-    if rest.is_empty() {
-        return ended;
-    }
-    drop(ended);
-    Err(RunFault::Output)
 }
 
 /// What comes of a run that ended so. Where that is a fault, a line that stands open on `err` is ended.

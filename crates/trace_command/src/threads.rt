@@ -9,11 +9,10 @@ ghost use Rattle.trace_command.specs.Tracing.{PutsTrace, TracesOnThreads};
 
 use crate::fault::threads_fault;
 use crate::kept::{Asked, Kept, Known};
-use crate::running::write;
 use containers::Bytes;
 use front_end::Fault;
 use host_shared::{Cut, Gate};
-use host_wire::{Broken, Sink};
+use host_wire::Broken;
 use lx_abi::{Boot, Script};
 use lx_kernel::Kernel;
 use out_of_turns::{explain_limit, explain_waits};
@@ -22,7 +21,7 @@ use std::sync::Wait;
 use std::thread::Threads;
 use tr_core::Options;
 use trace_run::local::Run;
-use trace_run::{Ended, RunFault};
+use trace_run::{Ended, RunFault, TraceSink};
 use trace_threads::{NotedRun, Onlooker, run_threads_noting};
 use trace_words::Workers;
 
@@ -99,11 +98,12 @@ fn make_on_threads<R: Threads + Wait + Sync + AllocGlobal>(
 }
 
 /// Writes the trace of a run that ended so, in one piece.
-fn write_trace<W: Sink>(ended: Ended, trace: &Bytes, writer: &mut W) -> Result<Ended, RunFault>
-    ensures { PutsTrace ended trace.now result
+fn write_trace<W: TraceSink>(ended: Ended, trace: &Bytes, writer: &mut W) -> Result<Ended, RunFault>
+    ensures put { PutsTrace ended trace.now result
         (writer_of W.contents W.puts W.broken writer.old) (writer_of W.contents W.puts W.broken writer.new) }
+    ensures beside { W.beside writer.new ≡ W.beside writer.old }
 {
-    match write(writer, trace.as_slice()) {
+    match writer.put_trace(trace.as_slice(), true) {
         Ok(()) => Ok(ended),
         Err(Broken) => {
             drop(ended);
@@ -113,7 +113,7 @@ fn write_trace<W: Sink>(ended: Ended, trace: &Bytes, writer: &mut W) -> Result<E
 }
 
 /// Makes the run, and writes its trace at the end. What it leaves is kept.
-pub fn run_on_threads<R: Threads + Wait + Sync + AllocGlobal, W: Sink>(
+pub fn run_on_threads<R: Threads + Wait + Sync + AllocGlobal, W: TraceSink>(
     rt: &R,
     boot: Boot,
     workers: Workers,
@@ -129,6 +129,7 @@ pub fn run_on_threads<R: Threads + Wait + Sync + AllocGlobal, W: Sink>(
     ensures fault { IfErr result (λ fault. IsUnhosted fault ⊎ IsUnopened fault) }
     ensures unwritten { OnErr result (writer_of W.contents W.puts W.broken writer.new
         ≡ writer_of W.contents W.puts W.broken writer.old) }
+    ensures beside { W.beside writer.new ≡ W.beside writer.old }
 {
     let asked = kept.asked;
     let mut keeper = Keeper {

@@ -95,9 +95,9 @@ impl<W: Write + Drop> Sink for TraceFile<W> {
 
     ghost broken = { λ f. file_broken f };
 
+    #[inline(always)]
     fn put(&mut self, bytes: &[u8]) -> Result<(), Broken> {
-        self.holds.set(false);
-        self.sink.put(bytes)
+        self.put_trace(bytes, true)
     }
 
     fn faults(&self) -> u64 {
@@ -106,8 +106,11 @@ impl<W: Write + Drop> Sink for TraceFile<W> {
 }
 
 impl<W: Write + Drop> TraceSink for TraceFile<W> {
-    fn put_ahead(&mut self, bytes: &[u8]) -> Result<(), Broken> {
-        self.holds.set(self.may_hold);
+    ghost beside = { λ _. tt };
+
+    #[inline(always)]
+    fn put_trace(&mut self, bytes: &[u8], rests: bool) -> Result<(), Broken> {
+        self.holds.set(self.may_hold && !rests);
         self.sink.put(bytes)
     }
 }

@@ -6,8 +6,9 @@ ghost use Rattle.trace_run.specs.Writers.{writer_of};
 ghost use Rattle.trace_command.specs.Asked.{TracesAsked};
 ghost use Rattle.trace_command.specs.Faults.{IsUnwritable, has_ended};
 ghost use Rattle.trace_command.specs.Noting.{IsKeptFor, WritesEvents, WritesNoted};
+ghost use Rattle.trace_command.specs.Outlets.{outputs_of};
 ghost use Rattle.trace_command.specs.Tracing.{Leaves, Left, PutsConsole, Runs, TracesPlan};
-ghost use Rattle.trace_command.specs.Tracing.{asks_for_files, outputs, status_in, value_of, wanting};
+ghost use Rattle.trace_command.specs.Tracing.{asks_for_files, status_in, value_of, wanting};
 
 use crate::explaining::explain;
 use crate::fault::host_fault;
@@ -16,13 +17,15 @@ use crate::heard::{Heard, hear};
 use crate::kept::{Behind, Kept};
 use crate::kernel::booted_kernel;
 use crate::lines::{LineSink, Lines};
+use crate::outlet::{Destination, Outlet};
 use crate::place::Place;
 use crate::prepared::{Prepared, prepare};
 use crate::running::{run_at, settle, write};
 use crate::second::make_again;
+use crate::trace_file::TraceFile;
 use crate::turns_out::{check_turns, write_turns};
 use clap::ArgMatches;
-use front_end::{Fault, Leavings};
+use front_end::{Fault, Leavings, Opened};
 use host_link::{LinkFault, Streams};
 use host_wire::{Broken, Sink};
 use lx_abi::{Outcome, Status};
@@ -32,7 +35,6 @@ use std::process::Processes;
 use std::rt::Files;
 use std::sync::Wait;
 use std::thread::Threads;
-use trace_run::TraceSink;
 use trace_words::{Plan, TraceOptions};
 
 /// What comes of a run, and its outputs behind it.
@@ -76,18 +78,15 @@ where
         }
     };
     let mut behind = Behind { kept, link: None };
-    let mut out = Lines::new(out);
-    let mut lines = Lines::new(err);
-    let ended = trace_plan(
-        rt,
-        matches,
-        options,
-        plan,
-        &mut behind,
-        &mut out,
-        &mut lines,
-    );
-    let mut err = lines.into_inner();
+    let mut outlet = Outlet {
+        out: Lines::new(out),
+        err: Lines::new(err),
+        trace: Destination::Error,
+    };
+    let ended = trace_plan(rt, matches, options, plan, &mut behind, &mut outlet);
+    let Outlet { out, err, trace } = outlet;
+    drop(trace);
+    let mut err = err.into_inner();
     let Behind { mut kept, link } = behind;
     let Heard { is_late, said } = hear(rt.alloc(), link);
     let status = explain(
@@ -109,18 +108,13 @@ where
 }
 
 /// Makes the run, its trace at the place that the words name, and writes what it leaves. Gives the exit status.
-fn trace_plan<
-    R: Files + Processes + Threads + Wait + Sync + AllocGlobal,
-    O: TraceSink,
-    E: LineSink,
->(
+fn trace_plan<R: Files + Processes + Threads + Wait + Sync + AllocGlobal, O: Sink, E: LineSink>(
     rt: &R,
     matches: &ArgMatches,
     options: TraceOptions,
     plan: Plan,
     behind: &mut Behind<R::Started>,
-    out: &mut O,
-    err: &mut E,
+    outlet: &mut Outlet<O, E, TraceFile<Opened<R::File>>>,
 ) -> Result<u8, Fault>
 where
     R::Started: Streams,
@@ -130,8 +124,8 @@ where
         (wanting matches.now options) plan)
         (WritesEvents (opened_contents R.File.contents) (wanting matches.now options) plan)
         (wanting matches.now options) result
-        (outputs (writer_of O.contents O.puts O.broken out.old) (writer_of E.contents E.puts E.broken err.old))
-        (outputs (writer_of O.contents O.puts O.broken out.new) (writer_of E.contents E.puts E.broken err.new)) }
+        (outputs_of (writer_of O.contents O.puts O.broken) (writer_of E.contents E.puts E.broken) outlet.old)
+        (outputs_of (writer_of O.contents O.puts O.broken) (writer_of E.contents E.puts E.broken) outlet.new) }
 {
     let place = Place::of(matches);
     match check_turns(rt, matches) {
@@ -155,14 +149,12 @@ where
             return Err(fault);
         }
     };
-    let ended = match run_at(
-        rt, kernel, script, shown, behind, place, &mut *out, &mut *err,
-    ) {
+    let ended = match run_at(rt, kernel, script, shown, behind, place, outlet) {
         Ok(ended) => ended,
         Err(fault) => return Err(fault),
     };
-    let made = settle(rt.alloc(), ended, place, err);
-    leave(rt, matches, &mut behind.kept, made, out)
+    let made = settle(rt.alloc(), ended, place, &mut outlet.err);
+    leave(rt, matches, &mut behind.kept, made, &mut outlet.out)
 }
 
 /// Writes what a run that was made leaves. Gives the exit status.

@@ -185,6 +185,7 @@ pub fn trace_local<W: TraceSink>(
         (λ local. OnOk local.ended (Leaves boot schedule script options notes local.host local.events)) }
     ensures unwritten { OnErr result (writer_of W.contents W.puts W.broken writer.new
         ≡ writer_of W.contents W.puts W.broken writer.old) }
+    ensures beside { W.beside writer.new ≡ W.beside writer.old }
     ensures accepted { OnOk result (fault_of boot ≡ None) }
     ensures fault { IfErr result (Refuses boot) }
 

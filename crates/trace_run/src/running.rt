@@ -30,21 +30,8 @@ pub enum RunFault {
     Output,
 }
 
-/// Puts the bytes, behind which more of their line comes at once unless the trace may rest.
-fn put<W: TraceSink>(writer: &mut W, bytes: &[u8], rests: bool) -> Result<(), Broken>
-    ensures whole { OnOk result (Appends (W.contents writer.old) (W.contents writer.new) bytes.now) }
-    ensures part { OnErr result (AppendsPart (W.contents writer.old) (W.contents writer.new) bytes.now) }
-    ensures counted { IsPut (W.puts writer.old) (W.puts writer.new) bytes.now }
-    ensures faults { W.broken writer.new ≡ (if is_ok result then W.broken writer.old else 1) }
-{
-    if rests {
-        writer.put(bytes)
-    } else {
-        writer.put_ahead(bytes)
-    }
-}
-
 /// Writes what a round prints.
+#[inline(always)]
 fn write<W: TraceSink>(writer: &mut W, bytes: &Bytes, rests: bool) -> Result<(), RunFault>
     ensures whole { OnOk result (Appends (W.contents writer.old) (W.contents writer.new) bytes.now) }
     ensures fault { IfErr result (λ fault. fault ≡ RunFault.Output) }
@@ -52,8 +39,9 @@ fn write<W: TraceSink>(writer: &mut W, bytes: &Bytes, rests: bool) -> Result<(),
     ensures counted { IsPut (W.puts writer.old) (W.puts writer.new) bytes.now }
     ensures unbroken { OnOk result (W.broken writer.new ≡ W.broken writer.old) }
     ensures broken { OnErr result (W.broken writer.new ≡ 1) }
+    ensures beside { W.beside writer.new ≡ W.beside writer.old }
 {
-    match put(writer, bytes.as_slice(), rests) {
+    match writer.put_trace(bytes.as_slice(), rests) {
         Ok(()) => Ok(()),
         Err(Broken) => Err(RunFault::Output),
     }
@@ -73,6 +61,7 @@ fn resumes(request: &Request) -> bool
 }
 
 /// Asks a request. Behind one that resumes, and no other, Wait may go out with it: it comes next, if anything is asked.
+#[inline(always)]
 fn ask<L: Link>(link: &mut L, request: Request) -> Result<Reply, LinkFault>
     ensures answered { calls_of L.answers L.given L.broken link.old request result link.new }
     ensures within { OnOk result (L.given link.new ≤ 2 ^ 40) }
@@ -86,6 +75,7 @@ fn ask<L: Link>(link: &mut L, request: Request) -> Result<Reply, LinkFault>
 }
 
 /// The tracer hears a reply; what it prints is written, and what it asks is asked. None at the end.
+#[inline(always)]
 fn round<L: Link, W: TraceSink, T: Tracing>(
     link: &mut L,
     writer: &mut W,
@@ -106,6 +96,7 @@ fn round<L: Link, W: TraceSink, T: Tracing>(
         }) }
     ensures counted { IfOk result
         (λ next. IfSome next (λ _. (L.given link.new ≡ L.given link.old + 1) × (L.given link.new ≤ 2 ^ 40))) }
+    ensures beside { W.beside writer.new ≡ W.beside writer.old }
 {
     let act = match tracer.next(reply) {
         Ok(act) => act,
@@ -139,7 +130,7 @@ pub fn run_tracer<L: Link, W: TraceSink, T: Tracing>(
     tracer: &mut T,
 ) -> Result<(), RunFault>
     requires { taken_of (T.state tracer.old) ≡ 0 }
-    ensures { Runs (calls_of L.answers L.given L.broken)
+    ensures run { Runs (calls_of L.answers L.given L.broken)
         (record {
           link = link.old;
           writer = writer_of W.contents W.puts W.broken writer.old;
@@ -150,6 +141,7 @@ pub fn run_tracer<L: Link, W: TraceSink, T: Tracing>(
           writer = writer_of W.contents W.puts W.broken writer.new;
           state = T.state tracer.new;
         }) }
+    ensures beside { W.beside writer.new ≡ W.beside writer.old }
 {
     let mut reply = Reply::Done;
     loop {
@@ -193,10 +185,11 @@ pub fn run_counting<L: Link, W: TraceSink>(
     script: Script,
     options: Options,
 ) -> (Result<Ended, RunFault>, Occurrences)
-    ensures { RunsCounting (calls_of L.answers L.given L.broken)
+    ensures counting { RunsCounting (calls_of L.answers L.given L.broken)
         (new_state (options_by options) (choice_of script) (first_pen options)) link.old
         (writer_of W.contents W.puts W.broken writer.old) result.0 result.1 link.new
         (writer_of W.contents W.puts W.broken writer.new) }
+    ensures beside { W.beside writer.new ≡ W.beside writer.old }
 {
     let mut tracer = Tracer::new(alloc, script, options);
     let ran = run_tracer(link, writer, &mut tracer);
@@ -212,10 +205,11 @@ pub fn run<L: Link, W: TraceSink>(
     script: Script,
     options: Options,
 ) -> Result<Ended, RunFault>
-    ensures { RunsWhole (calls_of L.answers L.given L.broken)
+    ensures run { RunsWhole (calls_of L.answers L.given L.broken)
         (new_state (options_by options) (choice_of script) (first_pen options)) link.old
         (writer_of W.contents W.puts W.broken writer.old) result link.new
         (writer_of W.contents W.puts W.broken writer.new) }
+    ensures beside { W.beside writer.new ≡ W.beside writer.old }
 {
     let (ended, counts) = run_counting(alloc, link, writer, script, options);
     drop(counts);

@@ -11,4 +11,4 @@ returns-in-There-clause-made g c =
     (writer_of g.W.Sink.contents g.W.Sink.puts g.W.Sink.broken c.args.lines.now)
     (writer_of g.W.Sink.contents g.W.Sink.puts g.W.Sink.broken c.run_counting-ended.new.writer))
     (sym c.in-There.is)
-    (c.run_counting-ended.new.link, c.run_counting-ended.ensures.run)
+    (c.run_counting-ended.new.link, c.run_counting-ended.ensures.counting.run)

@@ -15,16 +15,16 @@ returns g c =
     let held = opened_contents g.R.File.Write.contents in
     let ended = c.trace_plan-ended.result in
     let out = writer_of (λ l. contents_of g.O.Write.contents l) (λ l. puts_of l) (λ l. broken_of l)
-    c.trace_plan-ended.new.out in
+    c.trace_plan-ended.new.outlet.out in
     let err = writer_of (λ l. contents_of g.E.Write.contents l) (λ l. puts_of l) (λ l. broken_of l)
-    c.trace_plan-ended.new.err in
+    c.trace_plan-ended.new.outlet.err in
     let run =
     over_both
     (λ x y. TracesPlan held
     (Runs g.row.R-Started.Denot g.row.R-Started-Stderr.Denot g.R.Started.Stdout.Read.remaining
     g.R.Started.Stdin.Write.contents wanted plan)
     (WritesEvents held wanted plan) wanted ended (outputs x y) (outputs out err))
-    c.new-out.ensures c.new-lines.ensures c.trace_plan-ended.ensures in
+    c.new.ensures c.new-2.ensures c.trace_plan-ended.ensures in
     inr (
       options,
       (

@@ -52,13 +52,13 @@ returns g c =
         inr (record {
           made = made;
           noted = noted;
-          traced = writer_of g.O.Sink.contents g.O.Sink.puts g.O.Sink.broken c.run_at.new.out;
+          traced = writer_of g.O.Sink.contents g.O.Sink.puts g.O.Sink.broken c.run_at.new.outlet.out;
           run =
               runs_asked g.row.R-Started.Denot g.row.R-Started-Stderr.Denot held remaining contents wanted c.args.plan
               old.asked.events noted place made _ _ c.requires.asked (
                 ended,
                 (
-                  writer_of g.E.Sink.contents g.E.Sink.puts g.E.Sink.broken c.run_at.new.err,
+                  writer_of g.E.Sink.contents g.E.Sink.puts g.E.Sink.broken c.run_at.new.outlet.err,
                   (
                     writes_to_more held
                         (Traces remaining contents c.args.plan.options c.args.plan.script kernel old.asked.events noted)

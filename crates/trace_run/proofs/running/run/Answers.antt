@@ -1,4 +1,4 @@
 use Rattle.trace_run.proofs.running.run.Goals as goal
 
-pub returns : goal.returns
-returns g c = c.run_counting-ended.ensures.run
+pub returns-clause-run : goal.returns-clause-run
+returns-clause-run g c = c.run_counting-ended.ensures.counting.run

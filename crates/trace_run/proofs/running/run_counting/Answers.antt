@@ -13,8 +13,8 @@ pub run_tracer-ran-requires : goal.run_tracer-ran-requires
 unfolding taken_of
 run_tracer-ran-requires g c = ap taken_of c.new-tracer.ensures
 
-pub returns : goal.returns
-returns g c =
+pub returns-clause-counting : goal.returns-clause-counting
+returns-clause-counting g c =
     let first : State =
     new_state (options_by c.args.options) (choice_of c.args.script) (first_pen c.args.options) in
     let last : State = state_of c.run_tracer-ran.new.tracer in
@@ -27,7 +27,7 @@ returns g c =
         state = last;
         runs =
             subst (λ ran. runs first ran) (sym c.end_by.ensures.ran)
-            (subst (λ s. runs s c.run_tracer-ran.result) c.new-tracer.ensures c.run_tracer-ran.ensures);
+            (subst (λ s. runs s c.run_tracer-ran.result) c.new-tracer.ensures c.run_tracer-ran.ensures.run);
         ends = c.end_by.ensures.ends last (sym c.into_parts-outcome.ensures.outcome);
       };
       counted = c.into_parts-outcome.ensures.counts;

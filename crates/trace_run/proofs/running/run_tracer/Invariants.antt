@@ -1,4 +1,4 @@
-use Rattle.std.proofs.Common.{◌^◌, ◌-◌}
+use Rattle.std.proofs.Common.{◌≡◌, ◌^◌, ◌-◌}
 use Rattle.trace_run.specs.Runs.{calls_of}
 use Rattle.trace_run.specs.Writers.{writer_of}
 use Rattle.trace_run.proofs.Talks.{Going}
@@ -10,6 +10,7 @@ invariant-loop-next g l =
     (record { link = l.fn.link; writer = writer_of g.W.Sink.contents g.W.Sink.puts g.W.Sink.broken l.fn.writer; state = g.T.Tracing.state l.fn.tracer })
     l.reply
     (record { link = l.link; writer = writer_of g.W.Sink.contents g.W.Sink.puts g.W.Sink.broken l.writer; state = g.T.Tracing.state l.tracer })
+    × (g.W.TraceSink.beside l.writer ≡ g.W.TraceSink.beside l.fn.writer)
 
 abbrev pub decreases-loop-next : goal.decreases-loop-next
 decreases-loop-next g l = 2 ^ 40 - g.L.Link.given l.link

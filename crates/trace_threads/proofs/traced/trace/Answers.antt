@@ -5,5 +5,5 @@ use Rattle.trace_threads.proofs.traced.trace.Goals as goal
 
 pub returns : goal.returns
 returns g c =
-    traced_if (λ l. exchanges_of l) (λ l. length (exchanges_of l)) (λ l. faults_of l) c.linux_runs_tell.ensures.own c.args.script c.args.options c.new-link.result c.run-ended.new.link c.new-trace.result c.run-ended.new.writer c.run-ended.result c.run-ended.ensures
+    traced_if (λ l. exchanges_of l) (λ l. length (exchanges_of l)) (λ l. faults_of l) c.linux_runs_tell.ensures.own c.args.script c.args.options c.new-link.result c.run-ended.new.link c.new-trace.result c.run-ended.new.writer c.run-ended.result c.run-ended.ensures.run
     c.new-link.ensures.nothing c.new-trace.ensures c.into_known.result c.into_known.ensures c.into_bytes.result c.into_bytes.ensures
