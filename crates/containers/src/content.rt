@@ -209,3 +209,11 @@ impl Content {
         Ok(())
     }
 }
+
+impl Clone for Content {
+    ghost is_clone = { λ a b. b ≡ a };
+
+    fn clone(&self) -> Result<Self, AllocError> {
+        self.share()
+    }
+}

@@ -137,3 +137,14 @@ fn values_in<V>(alloc: Global, tree: &BTreeMap<u32, V>) -> Result<Vec<&V>, Alloc
     }
     Ok(list)
 }
+
+impl<V: Clone> Clone for Map<V> {
+    // Where copies of values are the same, the map is.
+    ghost is_clone = { λ a b. ((v w : V) → V.is_clone v w → w ≡ v) → b ≡ a };
+
+    fn clone(&self) -> Result<Self, AllocError> {
+        Ok(Map {
+            tree: self.tree.clone()?,
+        })
+    }
+}

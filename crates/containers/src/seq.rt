@@ -50,3 +50,14 @@ impl<V: Drop> Seq<V> {
         Ok(())
     }
 }
+
+impl<V: Clone> Clone for Seq<V> {
+    // Where copies of values are the same, the list is.
+    ghost is_clone = { λ a b. ((v w : V) → V.is_clone v w → w ≡ v) → b ≡ a };
+
+    fn clone(&self) -> Result<Self, AllocError> {
+        Ok(Seq {
+            items: self.items.clone()?,
+        })
+    }
+}

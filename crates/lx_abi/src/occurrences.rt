@@ -41,3 +41,13 @@ impl Occurrences {
         Ok(())
     }
 }
+
+impl Clone for Occurrences {
+    ghost is_clone = { λ a b. b ≡ a };
+
+    fn clone(&self) -> Result<Self, AllocError> {
+        Ok(Occurrences {
+            counts: self.counts.clone()?,
+        })
+    }
+}

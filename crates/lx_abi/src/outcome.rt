@@ -1,6 +1,9 @@
 //! What is left of a run.
 
+ghost use Rattle.std.specs.Prelude.{◌≡◌};
+
 use containers::{Bytes, Content, Seq};
+use std::alloc::AllocError;
 
 /// What stands at a path.
 #[derive(Drop)]
@@ -28,4 +31,15 @@ pub struct Outcome {
     pub console: Bytes,
     pub files: Seq<OutcomeFile>,
     pub ended: Seq<Ended>,
+}
+
+impl Clone for Node {
+    ghost is_clone = { λ a b. b ≡ a };
+
+    fn clone(&self) -> Result<Self, AllocError> {
+        match self {
+            Node::File(content) => Ok(Node::File(content.clone()?)),
+            Node::Directory => Ok(Node::Directory),
+        }
+    }
 }

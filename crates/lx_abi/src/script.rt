@@ -5,7 +5,7 @@ ghost use Rattle.std.specs.Prelude.{◌≡◌, []};
 use crate::signal::Signal;
 use crate::when::When;
 use containers::Seq;
-use std::alloc::Global;
+use std::alloc::{AllocError, Global};
 use std::marker::Model;
 
 /// Calls by number. A number needs no name.
@@ -110,5 +110,38 @@ impl Script {
             Some(rule) if rule.when.covers(n) => rule.choice,
             _ => Choice::NOTHING,
         }
+    }
+}
+
+impl Clone for Set {
+    ghost is_clone = { λ a b. b ≡ a };
+
+    fn clone(&self) -> Result<Self, AllocError> {
+        match self {
+            Set::Only(numbers) => Ok(Set::Only(numbers.clone()?)),
+            Set::AllBut(numbers) => Ok(Set::AllBut(numbers.clone()?)),
+        }
+    }
+}
+
+impl Clone for Rule {
+    ghost is_clone = { λ a b. b ≡ a };
+
+    fn clone(&self) -> Result<Self, AllocError> {
+        Ok(Rule {
+            calls: self.calls.clone()?,
+            choice: self.choice,
+            when: self.when,
+        })
+    }
+}
+
+impl Clone for Script {
+    ghost is_clone = { λ a b. b ≡ a };
+
+    fn clone(&self) -> Result<Self, AllocError> {
+        Ok(Script {
+            rules: self.rules.clone()?,
+        })
     }
 }

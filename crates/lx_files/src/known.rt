@@ -10,7 +10,7 @@ use crate::folders::{TOP, walk};
 use crate::places::ascend;
 use crate::reaching::go_up;
 use containers::Bytes;
-use std::alloc::Global;
+use std::alloc::{AllocError, Global};
 
 /// The path of a directory, and the folder that it leads to.
 #[derive(Drop)]
@@ -116,5 +116,16 @@ pub fn learn(alloc: Global, folders: &Folders, folder: u32, path: &[u8]) -> Opti
             path: Bytes::from_vec(above),
             folder: over,
         }),
+    }
+}
+
+impl Clone for Known {
+    ghost is_clone = { λ a b. b ≡ a };
+
+    fn clone(&self) -> Result<Self, AllocError> {
+        Ok(Known {
+            path: self.path.clone()?,
+            folder: self.folder,
+        })
     }
 }

@@ -160,3 +160,15 @@ impl NameTree {
         )
     }
 }
+
+impl Clone for NameTree {
+    ghost is_clone = { λ a b. b ≡ a };
+
+    fn clone(&self) -> Result<Self, AllocError> {
+        Ok(NameTree {
+            folders: self.folders.clone()?,
+            numbers: self.numbers.clone()?,
+            known: self.known.clone()?,
+        })
+    }
+}

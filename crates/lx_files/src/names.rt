@@ -143,3 +143,14 @@ impl Names {
         }
     }
 }
+
+impl Clone for Names {
+    ghost is_clone = { λ a b. b ≡ a };
+
+    fn clone(&self) -> Result<Self, AllocError> {
+        Ok(Names {
+            map: self.map.clone()?,
+            counts: self.counts.clone()?,
+        })
+    }
+}

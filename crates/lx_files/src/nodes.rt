@@ -262,3 +262,15 @@ fn clear_node(alloc: Global, node: &mut Node) -> Result<(), AllocError>
         Node::Directory => Ok(()),
     }
 }
+
+impl Clone for Nodes {
+    ghost is_clone = { λ a b. b ≡ a };
+
+    fn clone(&self) -> Result<Self, AllocError> {
+        Ok(Nodes {
+            alloc: self.alloc,
+            map: self.map.clone()?,
+            contents: self.contents,
+        })
+    }
+}

@@ -98,3 +98,13 @@ impl PathMap {
         }
     }
 }
+
+impl Clone for PathMap {
+    ghost is_clone = { λ a b. b ≡ a };
+
+    fn clone(&self) -> Result<Self, AllocError> {
+        Ok(PathMap {
+            tree: self.tree.clone()?,
+        })
+    }
+}

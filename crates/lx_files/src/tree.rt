@@ -102,3 +102,14 @@ impl Tree {
         self.nodes.remove(node);
     }
 }
+
+impl Clone for Tree {
+    ghost is_clone = { λ a b. b ≡ a };
+
+    fn clone(&self) -> Result<Self, AllocError> {
+        Ok(Tree {
+            names: self.names.clone()?,
+            nodes: self.nodes.clone()?,
+        })
+    }
+}

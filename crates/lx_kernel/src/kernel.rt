@@ -682,3 +682,22 @@ impl Kernel {
         self.shared.console.as_slice()
     }
 }
+
+impl Clone for Kernel {
+    ghost is_clone = { λ a b. b ≡ a };
+
+    fn clone(&self) -> Result<Self, AllocError> {
+        Ok(Kernel {
+            alloc: self.alloc,
+            shared: self.shared.clone()?,
+            tasks: self.tasks.clone()?,
+            run_queue: self.run_queue.clone()?,
+            child: self.child,
+            log: self.log.clone()?,
+            occurrences: self.occurrences.clone()?,
+            script: self.script.clone()?,
+            follow: self.follow,
+            failed: self.failed,
+        })
+    }
+}

@@ -68,3 +68,15 @@ impl Log {
         mem::replace(&mut self.kept, Vec::new(alloc))
     }
 }
+
+impl Clone for Log {
+    ghost is_clone = { λ a b. b ≡ a };
+
+    fn clone(&self) -> Result<Self, AllocError> {
+        Ok(Log {
+            all: self.all.clone()?,
+            kept: self.kept.clone()?,
+            keeps: self.keeps,
+        })
+    }
+}

@@ -340,3 +340,16 @@ impl RunQueue {
         }
     }
 }
+
+impl Clone for RunQueue {
+    ghost is_clone = { λ a b. b ≡ a };
+
+    fn clone(&self) -> Result<Self, AllocError> {
+        Ok(RunQueue {
+            awake: self.awake.clone()?,
+            asleep: self.asleep.clone()?,
+            by_pipe: self.by_pipe.clone()?,
+            known: self.known,
+        })
+    }
+}

@@ -230,3 +230,15 @@ impl FdTable {
         Ok(())
     }
 }
+
+impl Clone for FdTable {
+    ghost is_clone = { λ a b. b ≡ a };
+
+    fn clone(&self) -> Result<Self, AllocError> {
+        Ok(FdTable {
+            slots: self.slots.clone()?,
+            descriptions: self.descriptions.clone()?,
+            pipes: self.pipes.clone()?,
+        })
+    }
+}

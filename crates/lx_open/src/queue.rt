@@ -85,3 +85,14 @@ impl PipeBuffer {
         Ok(())
     }
 }
+
+impl Clone for PipeBuffer {
+    ghost is_clone = { λ a b. b ≡ a };
+
+    fn clone(&self) -> Result<Self, AllocError> {
+        Ok(PipeBuffer {
+            items: self.items.clone()?,
+            taken: self.taken,
+        })
+    }
+}

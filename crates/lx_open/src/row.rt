@@ -190,3 +190,13 @@ impl Row {
         find_open(self, fd, self.end())
     }
 }
+
+impl Clone for Row {
+    ghost is_clone = { λ a b. b ≡ a };
+
+    fn clone(&self) -> Result<Self, AllocError> {
+        Ok(Row {
+            slots: self.slots.clone()?,
+        })
+    }
+}

@@ -247,3 +247,14 @@ impl SlotTable {
         }
     }
 }
+
+impl Clone for SlotTable {
+    ghost is_clone = { λ a b. b ≡ a };
+
+    fn clone(&self) -> Result<Self, AllocError> {
+        Ok(SlotTable {
+            alloc: self.alloc,
+            rows: self.rows.clone()?,
+        })
+    }
+}

@@ -117,3 +117,14 @@ impl Slots {
         inherit(&mut self.map, &mut self.counts, parent, child)
     }
 }
+
+impl Clone for Slots {
+    ghost is_clone = { λ a b. b ≡ a };
+
+    fn clone(&self) -> Result<Self, AllocError> {
+        Ok(Slots {
+            map: self.map.clone()?,
+            counts: self.counts.clone()?,
+        })
+    }
+}

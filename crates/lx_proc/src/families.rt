@@ -54,3 +54,14 @@ impl Families {
         self.zombies.remove(parent, pid);
     }
 }
+
+impl Clone for Families {
+    ghost is_clone = { λ a b. b ≡ a };
+
+    fn clone(&self) -> Result<Self, AllocError> {
+        Ok(Families {
+            children: self.children.clone()?,
+            zombies: self.zombies.clone()?,
+        })
+    }
+}

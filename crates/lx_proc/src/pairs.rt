@@ -94,3 +94,13 @@ impl Pairs {
         }
     }
 }
+
+impl Clone for Pairs {
+    ghost is_clone = { λ a b. b ≡ a };
+
+    fn clone(&self) -> Result<Self, AllocError> {
+        Ok(Pairs {
+            tree: self.tree.clone()?,
+        })
+    }
+}

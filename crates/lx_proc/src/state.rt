@@ -13,6 +13,7 @@ use lx_open::{FdTable, PipeBuffer};
 use lx_sig::{Interrupted, Signals};
 use rv_hart::Hart;
 use rv_mem::Space;
+use std::alloc::AllocError;
 
 /// How many processes there may be.
 #[derive(Clone, Copy, Debug, PartialEq, Eq)]
@@ -92,4 +93,47 @@ pub struct UserState {
     pub heap: Heap,
     /// The call that is made again once no signal is taken.
     pub interrupted: Option<Interrupted>,
+}
+
+impl Clone for Entry {
+    ghost is_clone = { λ a b. b ≡ a };
+
+    fn clone(&self) -> Result<Self, AllocError> {
+        Ok(Entry {
+            life: self.life,
+            news: self.news,
+            parent: self.parent,
+            directory: self.directory.clone()?,
+            signals: self.signals,
+        })
+    }
+}
+
+impl Clone for Shared {
+    ghost is_clone = { λ a b. b ≡ a };
+
+    fn clone(&self) -> Result<Self, AllocError> {
+        Ok(Shared {
+            limits: self.limits,
+            tree: self.tree.clone()?,
+            fds: self.fds.clone()?,
+            input: self.input.clone()?,
+            console: self.console.clone()?,
+            entries: self.entries.clone()?,
+            ended: self.ended.clone()?,
+        })
+    }
+}
+
+impl Clone for UserState {
+    ghost is_clone = { λ a b. b ≡ a };
+
+    fn clone(&self) -> Result<Self, AllocError> {
+        Ok(UserState {
+            hart: self.hart,
+            memory: self.memory.fork()?,
+            heap: self.heap,
+            interrupted: self.interrupted,
+        })
+    }
 }

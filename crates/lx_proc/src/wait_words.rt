@@ -65,3 +65,13 @@ impl WaitWords {
         list_words(alloc, &self.words)
     }
 }
+
+impl Clone for WaitWords {
+    ghost is_clone = { λ a b. b ≡ a };
+
+    fn clone(&self) -> Result<Self, AllocError> {
+        Ok(WaitWords {
+            words: self.words.clone()?,
+        })
+    }
+}

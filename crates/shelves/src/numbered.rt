@@ -114,3 +114,16 @@ impl<V: Drop> Numbered<V> {
         }
     }
 }
+
+impl<V: Clone> Clone for Numbered<V> {
+    ghost use Rattle.shelves.specs.Clones.{IsShelfClone};
+
+    ghost is_clone = { IsShelfClone V.is_clone };
+
+    fn clone(&self) -> Result<Self, AllocError> {
+        Ok(Numbered {
+            shelf: self.shelf.clone()?,
+            vacancies: self.vacancies.clone()?,
+        })
+    }
+}

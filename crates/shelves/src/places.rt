@@ -155,3 +155,14 @@ impl Places {
         }
     }
 }
+
+impl Clone for Places {
+    ghost is_clone = { λ a b. b ≡ a };
+
+    fn clone(&self) -> Result<Self, AllocError> {
+        Ok(Places {
+            ordered: self.ordered.clone()?,
+            rows: self.rows.clone()?,
+        })
+    }
+}

@@ -5,7 +5,7 @@ ghost use Rattle.std.specs.FinMap as maps;
 ghost use Rattle.shelves.specs.Lacking.{taken, left, IsFirstHole};
 
 use containers::Map;
-use std::alloc::Global;
+use std::alloc::{AllocError, Global};
 
 /// The least number that a map lacks, found in one step: of those that it lacks, all below the first from which on it
 /// has none.
@@ -73,5 +73,17 @@ impl Vacancies {
             Some(hole) => Some(hole),
             None => Some(self.top),
         }
+    }
+}
+
+impl Clone for Vacancies {
+    ghost is_clone = { λ a b. b ≡ a };
+
+    fn clone(&self) -> Result<Self, AllocError> {
+        Ok(Vacancies {
+            holes: self.holes.clone()?,
+            top: self.top,
+            known: self.known,
+        })
     }
 }
