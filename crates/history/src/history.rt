@@ -3,7 +3,6 @@
 ghost use Rattle.std.specs.Prelude.{◌≡◌, List, [], ◌∷◌, ◌++◌};
 ghost use Rattle.std.specs.Borrow.{ftrue};
 
-use std::alloc::AllocError;
 use std::marker::{Model, PhantomData};
 
 /// A list that only proofs read, as `items`. It takes no memory, and its functions do nothing when they run.
@@ -27,18 +26,17 @@ impl<T> History<T> {
         History { of: PhantomData }
     }
 
+    /// The same once more.
+    pub fn again(&self) -> History<T>
+        ensures { result.items ≡ self.now.items }
+    {
+        History { of: PhantomData }
+    }
+
     /// The same, and one more.
     pub fn and(&self, item: &T) -> History<T>
         ensures { result.items ≡ self.now.items ++ item.now ∷ [] }
     {
         History { of: PhantomData }
-    }
-}
-
-impl<T> Clone for History<T> {
-    ghost is_clone = { λ a b. b.items ≡ a.items };
-
-    fn clone(&self) -> Result<Self, AllocError> {
-        Ok(History { of: PhantomData })
     }
 }

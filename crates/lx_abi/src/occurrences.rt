@@ -43,7 +43,7 @@ impl Occurrences {
 }
 
 impl Clone for Occurrences {
-    ghost is_clone = { λ a b. b ≡ a };
+    ghost is_clone = { λ a b. (pid number : ℕ) → count_of b pid number ≡ count_of a pid number };
 
     fn clone(&self) -> Result<Self, AllocError> {
         Ok(Occurrences {

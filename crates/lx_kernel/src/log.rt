@@ -74,7 +74,7 @@ impl Clone for Log {
 
     fn clone(&self) -> Result<Self, AllocError> {
         Ok(Log {
-            all: self.all.clone()?,
+            all: self.all.again(),
             kept: self.kept.clone()?,
             keeps: self.keeps,
         })
