@@ -1,5 +1,6 @@
 //! What is left of a run.
 
+use crate::listing::Listing;
 use containers::{Bytes, Content, Seq};
 
 /// What stands at a path.
@@ -26,6 +27,6 @@ pub struct Ended {
 #[derive(Drop)]
 pub struct Outcome {
     pub console: Bytes,
-    pub files: Seq<OutcomeFile>,
+    pub files: Listing,
     pub ended: Seq<Ended>,
 }
