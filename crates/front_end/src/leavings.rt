@@ -39,7 +39,7 @@ impl<'a> Leavings<'a> {
 
     /// Writes what a run has left.
     pub fn write<R: Files + AllocGlobal>(self, rt: &R, outcome: &Outcome) -> Result<(), Fault> {
-        let files = outcome.files.as_slice();
+        let files = outcome.files.as_slice()?;
         if let Some(directory) = self.directory {
             write_files(rt, directory, files)?;
         }

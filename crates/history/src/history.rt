@@ -12,6 +12,13 @@ pub struct History<T> {
     pub ghost items: { List T },
 }
 
+/// A value that tells a list, to proofs alone.
+pub trait Tells<T> {
+    ghost use Rattle.std.specs.Prelude.{List};
+
+    ghost told: { Self → List T };
+}
+
 impl<T> Model for History<T> {
     ghost also_owns = { λ _. ftrue };
 }
@@ -36,6 +43,13 @@ impl<T> History<T> {
     /// The same, and one more.
     pub fn and(&self, item: &T) -> History<T>
         ensures { result.items ≡ self.now.items ++ item.now ∷ [] }
+    {
+        History { of: PhantomData }
+    }
+
+    /// What a value tells.
+    pub fn of<S: Tells<T>>(source: &S) -> History<T>
+        ensures { result.items ≡ S.told source.now }
     {
         History { of: PhantomData }
     }

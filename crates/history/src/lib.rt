@@ -3,4 +3,4 @@
 
 pub mod history;
 
-pub use history::History;
+pub use history::{History, Tells};

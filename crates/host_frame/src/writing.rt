@@ -88,7 +88,7 @@ fn put_outcome(out: &mut Vec<u8>, outcome: &Outcome) -> Result<(), AllocError>
     ensures numbers { OnOk result (AllByRecursion value.FitsEnded outcome.now.ended) }
 {
     put_text(out, outcome.console.as_slice())?;
-    put_list(out, outcome.files.as_slice())?;
+    put_list(out, outcome.files.as_slice()?)?;
     put_list(out, outcome.ended.as_slice())
 }
 
@@ -224,7 +224,7 @@ pub fn encode(alloc: Global, frame: &Frame) -> Result<Vec<u8>, WireFault>
     ensures fits { IfOk result (λ v. spec.CanBeSpelled frame.now) }
     ensures fault { IfErr result (λ fault. spec.CannotBeSpelled frame.now fault) }
 {
-    let Some(size) = content_size(frame) else {
+    let Some(size) = content_size(frame)? else {
         return Err(WireFault::Length);
     };
     let mut bytes = Vec::with_capacity(alloc, 4 + size)?;

@@ -80,13 +80,15 @@ fn is_outcome(reply: &Reply) -> bool
 }
 
 impl<J: Naming> Held<J> {
-    /// A host that was booted, with an empty journal, of which the events are noted if they are asked for.
+    /// A host that was booted, with an empty journal, of which the events are noted if they are asked for. Its outcome's
+    /// files are listed if they are.
     pub fn new(
         alloc: Global,
         boot: Boot,
         limit: u64,
         said: Transcript<J>,
         notes: bool,
+        lists: bool,
     ) -> Result<Self, BootFault>
         requires some { 1 ≤ limit }
         requires most { limit ≤ 2 ^ 39 }
@@ -99,7 +101,7 @@ impl<J: Naming> Held<J> {
         ensures refused { (e : BootFault) → fault_of boot ≡ Some e → result ≡ Err e }
     {
         let kept = boot.copy(alloc);
-        let host = match Host::boot(alloc, boot) {
+        let mut host = match Host::boot(alloc, boot) {
             Ok(host) => host,
             Err(fault) => {
                 // An implicit drop of these takes the prover many minutes.
@@ -108,6 +110,7 @@ impl<J: Naming> Held<J> {
                 return Err(fault);
             }
         };
+        host.list_files(lists);
         match kept {
             Ok(boot) => Ok(Held {
                 boot,

@@ -86,9 +86,12 @@ pub(crate) fn outcome(kernel: &Kernel) -> Result<Outcome, AllocError> {
 /// How many files and directories there are, beside the root.
 pub(crate) fn nodes(kernel: &Kernel) -> Result<usize, AllocError> {
     let outcome = outcome(kernel)?;
-    let nodes = outcome.files.as_slice().len();
+    let nodes = match outcome.files.as_slice() {
+        Ok(files) => Ok(files.len()),
+        Err(refused) => Err(refused),
+    };
     drop(outcome);
-    Ok(nodes)
+    nodes
 }
 
 pub(crate) fn join(kernel: &mut Kernel, signal: Option<Signal>) -> bool {

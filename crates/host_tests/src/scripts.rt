@@ -308,8 +308,9 @@ fn first_of(ended: &[Ended]) -> Option<(u32, u32)> {
 /// Who has ended; no file was there.
 fn ends_of(outcome: &Outcome) -> Answer {
     let ended = outcome.ended.as_slice();
-    if !outcome.files.as_slice().is_empty() {
-        return Answer::Nothing;
+    match outcome.files.as_slice() {
+        Ok([]) => {}
+        _ => return Answer::Nothing,
     }
     Answer::Ended(ended.len(), first_of(ended))
 }

@@ -2,6 +2,7 @@
 
 ghost use Rattle.std.specs.Prelude.{◌≡◌};
 
+use crate::listing::Listing;
 use containers::{Bytes, Content, Seq};
 use std::alloc::AllocError;
 
@@ -29,7 +30,7 @@ pub struct Ended {
 #[derive(Drop)]
 pub struct Outcome {
     pub console: Bytes,
-    pub files: Seq<OutcomeFile>,
+    pub files: Listing,
     pub ended: Seq<Ended>,
 }
 

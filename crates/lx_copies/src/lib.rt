@@ -1,4 +1,4 @@
-//! Copies of boots, requests and replies, and whether two are the same.
+//! Copies of boots, requests and replies, and whether two boots, requests or files are the same.
 #![tactic(auto)]
 
 mod boots;

@@ -1,10 +1,8 @@
 //! Replies, and the outcome in one of them.
 
-ghost use Rattle.std.specs.Prelude.{◌≡◌, true};
-
 use crate::copied::{Copied, copy_list};
-use crate::same::{Same, same_list};
-use lx_abi::{Ended, Info, Node, Outcome, OutcomeFile, Reply, Status};
+use crate::same::Same;
+use lx_abi::{Ended, Listing, Node, Outcome, OutcomeFile, Reply, Status};
 use std::alloc::{AllocError, Global};
 
 impl Copied for Node {
@@ -49,16 +47,23 @@ impl Copied for Ended {
     }
 }
 
-impl Same for Ended {
-    fn same(&self, other: &Ended) -> bool {
-        self.pid == other.pid && self.word == other.word
+/// A list that was left unlisted stays so.
+impl Copied for Listing {
+    fn copy(&self, alloc: Global) -> Result<Listing, AllocError> {
+        match self.as_slice() {
+            Ok(files) => match copy_list(alloc, files) {
+                Ok(files) => Ok(Listing::new(files)),
+                Err(refused) => Err(refused),
+            },
+            Err(_) => Ok(Listing::unlisted(self)),
+        }
     }
 }
 
 impl Copied for Outcome {
     fn copy(&self, alloc: Global) -> Result<Outcome, AllocError> {
         let console = self.console.copy(alloc)?;
-        let files = copy_list(alloc, self.files.as_slice())?;
+        let files = self.files.copy(alloc)?;
         let ended = copy_list(alloc, self.ended.as_slice())?;
         Ok(Outcome {
             console,
@@ -66,25 +71,6 @@ impl Copied for Outcome {
             ended,
         })
     }
-}
-
-impl Same for Outcome {
-    fn same(&self, other: &Outcome) -> bool {
-        self.console.same(&other.console)
-            && same_list(self.files.as_slice(), other.files.as_slice())
-            && same_list(self.ended.as_slice(), other.ended.as_slice())
-    }
-}
-
-fn same_info(one: Info, other: Info) -> bool
-    ensures found { result ≡ true → one ≡ other }
-    ensures equal { one ≡ other → result ≡ true }
-{
-    one.signal == other.signal
-        && one.code == other.code
-        && one.pid == other.pid
-        && one.status == other.status
-        && one.address == other.address
 }
 
 impl Copied for Reply {
@@ -112,34 +98,6 @@ impl Copied for Reply {
             Reply::Errno { number } => Ok(Reply::Errno { number: *number }),
             Reply::OutOfTurns => Ok(Reply::OutOfTurns),
             Reply::Refused { fault } => Ok(Reply::Refused { fault: *fault }),
-        }
-    }
-}
-
-impl Same for Reply {
-    fn same(&self, other: &Reply) -> bool {
-        match (self, other) {
-            (Reply::Done, Reply::Done) => true,
-            (
-                Reply::Status { pid, status },
-                Reply::Status {
-                    pid: pid_of_other,
-                    status: status_of_other,
-                },
-            ) => pid == pid_of_other && status.word == status_of_other.word,
-            (Reply::Registers { registers }, Reply::Registers { registers: others }) => {
-                registers.same(others)
-            }
-            (Reply::Bytes { bytes }, Reply::Bytes { bytes: others }) => bytes.same(others),
-            (Reply::Message { pid }, Reply::Message { pid: others }) => pid == others,
-            (Reply::Info { info }, Reply::Info { info: others }) => same_info(*info, *others),
-            (Reply::Outcome { outcome }, Reply::Outcome { outcome: others }) => {
-                outcome.same(others)
-            }
-            (Reply::Errno { number }, Reply::Errno { number: others }) => number == others,
-            (Reply::OutOfTurns, Reply::OutOfTurns) => true,
-            (Reply::Refused { fault }, Reply::Refused { fault: others }) => fault == others,
-            _ => false,
         }
     }
 }

@@ -126,7 +126,7 @@ impl NameTree {
         ensures { IfOk result (λ l. l ≡ map (file_of nodes.now) (filter is_named (maps.entries self.now))) }
     {
         let flat = flatten(alloc, &self.folders, &self.numbers)?;
-        flat.list(alloc, nodes)
+        flat.into_list(alloc, nodes)
     }
 
     /// Some path leads on from a path.

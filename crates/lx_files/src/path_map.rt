@@ -70,12 +70,12 @@ impl PathMap {
     }
 
     /// What stands at each path but the root, in byte order.
-    pub fn list(&self, alloc: Global, nodes: &Nodes) -> Result<Seq<OutcomeFile>, AllocError>
-        ensures { IfOk result (λ l. l ≡ map (file_of nodes.now) (filter is_named (maps.entries self.now))) }
+    pub fn into_list(self, alloc: Global, nodes: &Nodes) -> Result<Seq<OutcomeFile>, AllocError>
+        ensures { IfOk result (λ l. l ≡ map (file_of nodes.now) (filter is_named (maps.entries self))) }
     {
         // The keys rise.
         self.tree.len();
-        list_files(alloc, &self.tree, nodes)
+        list_files(alloc, self.tree, nodes)
     }
 
     /// Some path begins with these bytes. Paths that do stand together, from these bytes on.

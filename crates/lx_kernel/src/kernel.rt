@@ -32,7 +32,7 @@ ghost use Rattle.lx_kernel.specs.Waking.{WakesFew, LeavesStopped};
 use crate::advances::advance_at;
 use crate::choosing::always;
 use crate::log::Log;
-use crate::outcome::outcome;
+use crate::outcome::{outcome, outcome_unlisted};
 use crate::run_queue::{RunQueue, Wakes};
 use crate::scheduling::{can_turn_at, next_in_cycle};
 use crate::tracing;
@@ -672,6 +672,14 @@ impl Kernel {
         ensures { IfOk result (λ o. o ≡ outcome_in self.now.running.shared) }
     {
         let outcome = outcome(self.alloc, &self.shared)?;
+        Ok(outcome)
+    }
+
+    /// The same, with the files left unlisted: no program can read them.
+    pub fn outcome_unlisted(&self) -> Result<Outcome, AllocError>
+        ensures { IfOk result (λ o. o ≡ outcome_in self.now.running.shared) }
+    {
+        let outcome = outcome_unlisted(self.alloc, &self.shared)?;
         Ok(outcome)
     }
 

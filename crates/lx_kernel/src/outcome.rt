@@ -4,7 +4,7 @@ ghost use Rattle.std.specs.Prelude.{◌≡◌, IfOk};
 ghost use Rattle.lx_kernel.specs.Outcomes.{outcome_in};
 
 use containers::Bytes;
-use lx_abi::Outcome;
+use lx_abi::{Listing, Outcome};
 use lx_proc::Shared;
 use std::alloc::{AllocError, Global};
 
@@ -14,7 +14,18 @@ pub fn outcome(alloc: Global, shared: &Shared) -> Result<Outcome, AllocError>
 {
     Ok(Outcome {
         console: Bytes::from_slice(alloc, shared.console.as_slice())?,
-        files: shared.tree.list(alloc)?,
+        files: Listing::new(shared.tree.list(alloc)?),
+        ended: shared.ended.list(alloc)?,
+    })
+}
+
+/// The same, with the files left unlisted.
+pub fn outcome_unlisted(alloc: Global, shared: &Shared) -> Result<Outcome, AllocError>
+    ensures { IfOk result (λ o. o ≡ outcome_in shared.now) }
+{
+    Ok(Outcome {
+        console: Bytes::from_slice(alloc, shared.console.as_slice())?,
+        files: Listing::unlisted(&shared.tree),
         ended: shared.ended.list(alloc)?,
     })
 }

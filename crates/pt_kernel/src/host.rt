@@ -13,7 +13,7 @@ ghost use Rattle.pt_kernel.specs.Advances.{Leads};
 ghost use Rattle.pt_kernel.specs.Bursts.{after, mode_at, IsRunning, RunsOn};
 
 use crate::pending::{Asked, Pending};
-use crate::serving::serve;
+use crate::serving::{outcome, serve};
 use crate::stops::is_effective;
 use crate::tracees::Tracees;
 use lx_abi::{Boot, Event, Mode, Outcome, Reply, Request, Script};
@@ -38,6 +38,7 @@ pub struct Host {
     turns: Turns,
     pending: Pending,
     failed: bool,
+    lists_files: bool,
 }
 
 impl Model for Host {
@@ -105,6 +106,7 @@ impl Host {
                 turns: Turns::new(alloc),
                 pending: Pending::none(),
                 failed: false,
+                lists_files: true,
             }),
             Err(_) => {
                 // An implicit drop of a kernel takes the prover many minutes.
@@ -112,6 +114,13 @@ impl Host {
                 Err(BootFault::Memory)
             }
         }
+    }
+
+    /// Whether outcomes from now on list their files, as they do from the boot on. Contracts see no difference.
+    pub fn list_files(&mut self, lists: bool)
+        ensures { self.new ≡ self.old }
+    {
+        self.lists_files = lists;
     }
 
     /// Puts a request, which a Serve will answer. Where one is pending nothing changes. A host is booted before it is
@@ -224,6 +233,7 @@ impl Host {
             &mut self.kernel,
             &mut self.tracees,
             &mut self.pending,
+            self.lists_files,
         )?;
         self.failed = false;
         Ok(reply)
@@ -294,7 +304,7 @@ impl Host {
     pub fn outcome(&self) -> Result<Outcome, AllocError>
         ensures { IfOk result (λ o. o ≡ outcome_in self.now.hosting.running.shared) }
     {
-        self.kernel.outcome()
+        outcome(&self.kernel, self.lists_files)
     }
 }
 

@@ -11,9 +11,20 @@ ghost use Rattle.pt_kernel.specs.Hosts.{hosting_by, IsSwept, made};
 use crate::answers::answer;
 use crate::pending::{Asked, Pending};
 use crate::tracees::Tracees;
-use lx_abi::{Boxed, Reply};
+use lx_abi::{Boxed, Outcome, Reply};
 use lx_kernel::{Failed, Kernel};
-use std::alloc::Global;
+use std::alloc::{AllocError, Global};
+
+/// What is left of the run so far, its files listed or not.
+pub fn outcome(kernel: &Kernel, lists_files: bool) -> Result<Outcome, AllocError>
+    ensures { IfOk result (λ o. o ≡ outcome_in kernel.now.running.shared) }
+{
+    if lists_files {
+        kernel.outcome()
+    } else {
+        kernel.outcome_unlisted()
+    }
+}
 
 /// A request is answered; none where Wait stays pending.
 #[inline(always)]
@@ -22,6 +33,7 @@ fn answer_asked(
     kernel: &mut Kernel,
     tracees: &mut Tracees,
     asked: &Asked,
+    lists_files: bool,
 ) -> Result<Option<Reply>, Failed>
     requires { IsSwept kernel.old.running }
     ensures answer { IfOk result
@@ -41,7 +53,7 @@ fn answer_asked(
             Ok(Some(reply))
         }
         Asked::Outcome => {
-            let outcome = Boxed::new(alloc, kernel.outcome()?)?;
+            let outcome = Boxed::new(alloc, outcome(kernel, lists_files)?)?;
             Ok(Some(Reply::Outcome { outcome }))
         }
     }
@@ -54,6 +66,7 @@ pub fn serve(
     kernel: &mut Kernel,
     tracees: &mut Tracees,
     pending: &mut Pending,
+    lists_files: bool,
 ) -> Result<Option<Reply>, Failed>
     requires { IsSwept kernel.old.running }
     ensures served { IfOk result
@@ -66,7 +79,7 @@ pub fn serve(
     match &pending.asked {
         None => Ok(None),
         Some(asked) => {
-            let reply = answer_asked(alloc, kernel, tracees, asked)?;
+            let reply = answer_asked(alloc, kernel, tracees, asked, lists_files)?;
             if reply.is_some() {
                 pending.asked = None;
             }

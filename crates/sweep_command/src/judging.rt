@@ -43,7 +43,7 @@ pub fn begin_checks<'m, R: Env + Files + Processes + AllocGlobal>(
     reference: &Reached,
 ) -> Result<Checks<'m>, Fault> {
     let mut checks = checks_of(rt, matches)?;
-    let files = reference.ending.outcome.files.as_slice();
+    let files = reference.ending.outcome.files.as_slice()?;
     if words.is_checked && !checks.are_fine(rt, files, files)? {
         return Err(Fault::usage(format!(in rt.alloc();
             "--check {}: fails where no call has failed",
@@ -92,8 +92,9 @@ fn ask<R: Files + Processes + AllocGlobal>(
     ensures { IfOk result (IsJudged setup.now reference.now row) }
 {
     let run = reach_failing(rt.alloc(), setup, fault_of(row.case))?;
-    let others = reference.ending.outcome.files.as_slice();
-    let fine = checks.are_fine(rt, others, run.ending.outcome.files.as_slice())?;
+    let others = reference.ending.outcome.files.as_slice()?;
+    let left = run.ending.outcome.files.as_slice()?;
+    let fine = checks.are_fine(rt, others, left)?;
     let verdict = judged(rt.alloc(), reference, &run, row.case.tells, fine)?;
     Ok(with_verdict(row, verdict))
 }

@@ -125,11 +125,14 @@ fn content_at<'a>(files: &'a [OutcomeFile], path: &[u8]) -> Option<&'a [u8]> {
 }
 
 /// Some result has another content of this file.
-fn is_parted(all: &[Found], path: &[u8], content: Option<&[u8]>) -> bool {
-    all.iter().any(|one| {
-        let other = content_at(one.ending.outcome.files.as_slice(), path);
-        other.unwrap_or(&[]) != content.unwrap_or(&[]) || other.is_some() != content.is_some()
-    })
+fn is_parted(all: &[Found], path: &[u8], content: Option<&[u8]>) -> Result<bool, AllocError> {
+    for one in all {
+        let other = content_at(one.ending.outcome.files.as_slice()?, path);
+        if other.unwrap_or(&[]) != content.unwrap_or(&[]) || other.is_some() != content.is_some() {
+            return Ok(true);
+        }
+    }
+    Ok(false)
 }
 
 /// Adds a file in which results differ, if they do.
@@ -141,8 +144,8 @@ fn push_file(
     ending: &Ending,
 ) -> Result<(), AllocError> {
     let path = file.path.as_slice();
-    let content = content_at(ending.outcome.files.as_slice(), path);
-    if !is_parted(all, path, content) {
+    let content = content_at(ending.outcome.files.as_slice()?, path);
+    if !is_parted(all, path, content)? {
         return Ok(());
     }
     let name = escaped(alloc, &file.path)?;
@@ -175,12 +178,13 @@ fn result_text(alloc: Global, all: &[Found], ending: &Ending) -> Result<String, 
     let Some(first) = all.first() else {
         return Ok(text);
     };
-    for file in first.ending.outcome.files.as_slice() {
+    let left_first = first.ending.outcome.files.as_slice()?;
+    for file in left_first {
         push_file(&mut text, alloc, all, file, ending)?;
     }
-    for file in ending.outcome.files.as_slice() {
+    for file in ending.outcome.files.as_slice()? {
         let path = file.path.as_slice();
-        if content_at(first.ending.outcome.files.as_slice(), path).is_none() {
+        if content_at(left_first, path).is_none() {
             push_file(&mut text, alloc, all, file, ending)?;
         }
     }
@@ -381,8 +385,8 @@ fn is_broken<R: Files + Processes + AllocGlobal>(
     if found.ending.alive {
         return Ok(false);
     }
-    let others = reference.ending.outcome.files.as_slice();
-    let files = found.ending.outcome.files.as_slice();
+    let others = reference.ending.outcome.files.as_slice()?;
+    let files = found.ending.outcome.files.as_slice()?;
     Ok(!checks.are_fine(rt, others, files)?)
 }
 

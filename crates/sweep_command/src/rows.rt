@@ -43,9 +43,11 @@ pub fn by_the_end(
     ensures { IfOk result (λ r. map fault_of r.items ≡ map fault_of cases.now) }
 {
     let mut all = Vec::new(alloc);
+    let log = reference.log.as_slice();
+    let files = reference.ending.outcome.files.as_slice()?;
     let mut left = cases;
     while let Some((case, rest)) = left.split_first() {
-        let tells = case.tells && is_kept(calls, reference, &case.occurrence);
+        let tells = case.tells && is_kept(calls, log, files, &case.occurrence);
         all.push(Case { tells, ..*case })?;
         left = rest;
     }

@@ -1,6 +1,6 @@
 //! The results of runs, each told once.
 
-ghost use Rattle.std.specs.Prelude.{◌≡◌, OnOk};
+ghost use Rattle.std.specs.Prelude.{◌≡◌, IfOk, OnOk};
 ghost use Rattle.std.specs.Bool.{Decides};
 ghost use Rattle.sweep_orders.specs.Found.{IsSame, CountsIn, Counts, CountsAll, IsPlace, more, times_after, none_told};
 ghost use Rattle.sweep_orders.specs.Orders.{told_of};
@@ -24,24 +24,25 @@ pub struct Found {
 }
 
 /// Both have come to their end or neither, with one status, console and files.
-fn is_same(a: &Ending, b: &Ending) -> bool
-    ensures { Decides result (IsSame a.now b.now) }
+fn is_same(a: &Ending, b: &Ending) -> Result<bool, AllocError>
+    ensures { IfOk result (λ same. Decides same (IsSame a.now b.now)) }
 {
-    a.alive == b.alive && ends_as(a, b) && leaves_the_same(&a.outcome, &b.outcome)
+    let leaves = leaves_the_same(&a.outcome, &b.outcome)?;
+    Ok(a.alive == b.alive && ends_as(a, b) && leaves)
 }
 
 /// The place of the result that a run has, if one was found.
-fn place_of(found: &[Found], ending: &Ending) -> Option<usize>
-    ensures { IsPlace found.now ending.now result }
+fn place_of(found: &[Found], ending: &Ending) -> Result<Option<usize>, AllocError>
+    ensures { IfOk result (IsPlace found.now ending.now) }
 {
     let mut place = 0;
     while place < found.len() {
-        if is_same(&found[place].ending, ending) {
-            return Some(place);
+        if is_same(&found[place].ending, ending)? {
+            return Ok(Some(place));
         }
         place += 1;
     }
-    None
+    Ok(None)
 }
 
 /// How many different orders have a result, of which there was one more run, by a new order or not.
@@ -72,7 +73,7 @@ fn count(
 ) -> Result<(), AllocError>
     ensures { OnOk result (CountsIn found.old.items new ending words found.new.items) }
 {
-    match place_of(found.as_slice(), &ending) {
+    match place_of(found.as_slice(), &ending)? {
         Some(place) => found[place].again(new, words),
         None => found.push(Found {
             ending,

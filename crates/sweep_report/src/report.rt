@@ -78,17 +78,13 @@ fn reference_text(alloc: Global, setup: &Setup, reference: &Reached) -> Result<S
             )?;
         }
     }
-    for file in reference.ending.outcome.files.as_slice() {
+    let left = reference.ending.outcome.files.as_slice()?;
+    for file in left {
         if let Some(made) = made_text(alloc, setup, file)? {
             push_part(&mut text, made.as_str(), ", ")?;
         }
     }
-    push_removed(
-        &mut text,
-        alloc,
-        setup,
-        reference.ending.outcome.files.as_slice(),
-    )?;
+    push_removed(&mut text, alloc, setup, left)?;
     Ok(text)
 }
 

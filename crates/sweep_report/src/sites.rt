@@ -6,7 +6,7 @@ ghost use Rattle.sweep_report.specs.Keys as spec;
 
 use crate::texts::without_numbers;
 use crate::traced::TracedCalls;
-use lx_abi::{Item, sys};
+use lx_abi::{Item, OutcomeFile, sys};
 use std::alloc::{AllocError, Global};
 use sweep_rows::{Occurrence, Reached, Target, Verdict, name_of};
 use sweep_words::calls::raw_text;
@@ -244,18 +244,22 @@ fn is_named(path: &[u8], name: &[u8]) -> bool {
 
 /// When the reference has ended, a file is there with the last name of the path by which a descriptor was opened; or
 /// that name has bytes that a trace doesn't show as they are.
-pub fn is_kept(calls: &TracedCalls, reference: &Reached, occurrence: &Occurrence) -> bool {
+pub fn is_kept(
+    calls: &TracedCalls,
+    log: &[Item],
+    files: &[OutcomeFile],
+    occurrence: &Occurrence,
+) -> bool {
     let Target::File(at) = occurrence.used.target else {
         return true;
     };
-    let Some(path) = opened_path(calls, reference.log.as_slice(), at) else {
+    let Some(path) = opened_path(calls, log, at) else {
         return true;
     };
     let name = match path.rsplit_once('/') {
         Some((_, name)) => name,
         None => path,
     };
-    let files = reference.ending.outcome.files.as_slice();
     name.contains('\\')
         || files
             .iter()

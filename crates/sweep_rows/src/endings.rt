@@ -1,12 +1,13 @@
 //! What runs left, side by side.
 
-ghost use Rattle.std.specs.Prelude.{◌≡◌};
+ghost use Rattle.std.specs.Prelude.{◌≡◌, IfOk};
 ghost use Rattle.std.specs.Bool.{Decides};
 ghost use Rattle.sweep_rows.specs.Endings.{first_word, EndsAs, Leaves};
 
 use lx_abi::Outcome;
 use lx_copies::Same;
 use lx_copies::same::same_list;
+use std::alloc::AllocError;
 
 /// What a run left when its turns ended.
 #[derive(Drop)]
@@ -42,8 +43,10 @@ pub fn ends_as(a: &Ending, b: &Ending) -> bool
 }
 
 /// Console and files are the same.
-pub fn leaves_the_same(a: &Outcome, b: &Outcome) -> bool
-    ensures { Decides result (Leaves a.now b.now) }
+pub fn leaves_the_same(a: &Outcome, b: &Outcome) -> Result<bool, AllocError>
+    ensures { IfOk result (λ same. Decides same (Leaves a.now b.now)) }
 {
-    a.console.same(&b.console) && same_list(a.files.as_slice(), b.files.as_slice())
+    let files = a.files.as_slice()?;
+    let others = b.files.as_slice()?;
+    Ok(a.console.same(&b.console) && same_list(files, others))
 }

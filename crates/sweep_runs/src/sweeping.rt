@@ -117,8 +117,9 @@ pub(crate) fn notes_of(
         ≡ file_notes boot.now.files reference.now.ending.outcome.files run.now.ending.outcome.files) }
 {
     let given = boot.files.as_slice();
-    let expected = reference.ending.outcome.files.as_slice();
-    file_notes(alloc, given, expected, run.ending.outcome.files.as_slice())
+    let expected = reference.ending.outcome.files.as_slice()?;
+    let left = run.ending.outcome.files.as_slice()?;
+    file_notes(alloc, given, expected, left)
 }
 
 /// What came of a run that leaves these files otherwise.

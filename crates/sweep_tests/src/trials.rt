@@ -150,7 +150,10 @@ fn second(alloc: Global, left: &[OutcomeFile]) -> Result<Option<u32>, Fail> {
 /// How it ends on the files of the run of a trial, without clauses.
 fn second_behind(alloc: Global, setup: &Setup, trial: Trial) -> Result<Option<u32>, Fail> {
     let run = reach_failing(alloc, setup, trial.fault())?;
-    let word = second(alloc, run.ending.outcome.files.as_slice());
+    let word = match run.ending.outcome.files.as_slice() {
+        Ok(left) => second(alloc, left),
+        Err(refused) => Err(refused.into()),
+    };
     drop(run);
     word
 }

@@ -26,7 +26,8 @@ fn behind(alloc: Global, setup: &Setup, second: &Second, trial: Trial) -> Result
     ensures { IfOk result (EndsBehind setup.now second.now trial) }
 {
     let run = reach_failing(alloc, setup, trial.fault())?;
-    let end = end_on(alloc, setup, second, run.ending.outcome.files.as_slice())?;
+    let left = run.ending.outcome.files.as_slice()?;
+    let end = end_on(alloc, setup, second, left)?;
     Ok(end)
 }
 

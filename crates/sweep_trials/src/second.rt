@@ -125,7 +125,7 @@ pub fn check_second(alloc: Global, plan: &Plan, reference: &Reached) -> Result<(
     let Some(second) = &plan.second else {
         return Ok(());
     };
-    let left = reference.ending.outcome.files.as_slice();
+    let left = reference.ending.outcome.files.as_slice()?;
     let end = end_on(alloc, &plan.setup, second, left)?;
     if end.is_fine() {
         return Ok(());

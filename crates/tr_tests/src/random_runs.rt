@@ -280,8 +280,9 @@ fn is_same_node(one: &Node, other: &Node) -> bool {
 }
 
 fn have_same_files(one: &Outcome, other: &Outcome) -> bool {
-    let files = one.files.as_slice();
-    let others = other.files.as_slice();
+    let (Ok(files), Ok(others)) = (one.files.as_slice(), other.files.as_slice()) else {
+        return false;
+    };
     if files.len() != others.len() {
         return false;
     }

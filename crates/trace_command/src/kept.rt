@@ -14,6 +14,8 @@ use trace_words::Plan;
 #[derive(Clone, Copy, Debug)]
 pub struct Asked {
     pub events: bool,
+    /// The files that it leaves.
+    pub files: bool,
     /// Who waits, where the run is out of turns.
     pub waits: bool,
     /// The most events that the run may have.

@@ -213,7 +213,8 @@ pub fn run_here<W: TraceSink>(
     ensures beside { W.beside lines.new ≡ W.beside lines.old }
 {
     let asked = kept.asked;
-    match trace_local(alloc, boot, schedule, asked.events, script, options, lines) {
+    let (notes, lists) = (asked.events, asked.files);
+    match trace_local(alloc, boot, schedule, notes, lists, script, options, lines) {
         Ok(
             Local {
                 ended,

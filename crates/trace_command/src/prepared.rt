@@ -10,7 +10,7 @@ ghost use Rattle.trace_words.specs.Plans.{IsPlan};
 use crate::given::is_given;
 use crate::kept::{Asked, Kept, Known};
 use clap::ArgMatches;
-use front_end::{Fault, Program};
+use front_end::{Fault, Leavings, Program};
 use std::alloc::{AllocError, Global};
 use std::io::{IsTerminal, Read, Write};
 use std::rt::Files;
@@ -33,6 +33,7 @@ fn asked_by(matches: &ArgMatches, options: TraceOptions) -> Asked
 {
     Asked {
         events: is_given(matches, "turns-out"),
+        files: Leavings::of(matches).are_wanted(),
         waits: options.explain,
         limit: options.limit,
     }

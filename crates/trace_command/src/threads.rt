@@ -88,9 +88,9 @@ fn make_on_threads<R: Threads + Wait + Sync + AllocGlobal>(
 {
     let alloc = rt.alloc();
     let (count, limit) = (workers.count, workers.limit);
-    let notes = asked.events;
+    let (notes, lists) = (asked.events, asked.files);
     match run_threads_noting(
-        rt, alloc, boot, count, limit, script, options, &Always, notes, keeper,
+        rt, alloc, boot, count, limit, script, options, &Always, notes, lists, keeper,
     ) {
         Ok(made) => Ok(made),
         Err(fault) => Err(threads_fault(alloc, fault)),

@@ -74,12 +74,14 @@ fn link_to(alloc: Global, host: Host, schedule: Schedule, notes: bool) -> LocalL
     }
 }
 
-/// A link to a host that this boot began, which notes the events of the run if they are asked for.
+/// A link to a host that this boot began, which notes the events of the run if they are asked for, and lists the files
+/// of its outcome if they are.
 fn booted_link(
     alloc: Global,
     boot: Boot,
     schedule: Schedule,
     notes: bool,
+    lists: bool,
 ) -> Result<LocalLink, BootFault>
     ensures link { IfOk result (IsBooted boot schedule) }
     ensures noted { IfOk result (λ link. noted_of link ≡ noted_if notes []) }
@@ -87,7 +89,8 @@ fn booted_link(
     ensures fault { IfErr result (Refuses boot) }
     ensures refused { (e : BootFault) → fault_of boot ≡ Some e → result ≡ Err e }
 {
-    let host = Host::boot(alloc, boot)?;
+    let mut host = Host::boot(alloc, boot)?;
+    host.list_files(lists);
     let link = link_to(alloc, host, schedule, notes);
     Ok(link)
 }
@@ -146,7 +149,7 @@ pub fn run_local(
 {
     let mut options = options;
     options.follow = boot.follow;
-    let mut link = booted_link(alloc, boot, schedule, false)?;
+    let mut link = booted_link(alloc, boot, schedule, false, true)?;
     booted_runs_tell();
     let mut trace = Written::new(alloc);
     match kept_run(alloc, &mut link, &mut trace, script, options) {
@@ -163,13 +166,14 @@ pub fn run_local(
 }
 
 /// Boots a guest, and traces it in this process to any writer, as the trace comes; notes the events of the run if they
-/// are asked for. The boot's follow counts, not that of the options. The outer fault is the boot's, or Memory where
+/// are asked for, and lists the files of its outcome if they are. The boot's follow counts, not that of the options. The outer fault is the boot's, or Memory where
 /// memory runs out in booting.
 pub fn trace_local<W: TraceSink>(
     alloc: Global,
     boot: Boot,
     schedule: Schedule,
     notes: bool,
+    lists: bool,
     script: Script,
     options: Options,
     writer: &mut W,
@@ -194,7 +198,7 @@ pub fn trace_local<W: TraceSink>(
 {
     let mut options = options;
     options.follow = boot.follow;
-    let mut local = booted_link(alloc, boot, schedule, notes)?;
+    let mut local = booted_link(alloc, boot, schedule, notes, lists)?;
     booted_runs_tell();
     booted_runs_leave();
     let (ended, counts) = run_counting(alloc, &mut local, writer, script, options);

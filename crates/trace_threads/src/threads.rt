@@ -41,6 +41,7 @@ fn run_in_record<J: Naming + Send + Sync, G: Gate, O: Onlooker, R: Threads + Wai
     options: Options,
     gate: &G,
     notes: bool,
+    lists: bool,
     onlooker: &mut O,
 ) -> Result<NotedRun, ThreadsFault>
     requires book { book_of opened ≡ J.book }
@@ -61,7 +62,7 @@ fn run_in_record<J: Naming + Send + Sync, G: Gate, O: Onlooker, R: Threads + Wai
     let copy = boot.copy(alloc);
     let (book, said) = opened.named::<J>();
     let mine = said.again();
-    let shared = match Held::new(alloc, boot, limit, said, notes) {
+    let shared = match Held::new(alloc, boot, limit, said, notes, lists) {
         Ok(held) => SharedHost::new(held, book),
         Err(fault) => {
             drop(copy);
@@ -95,8 +96,8 @@ fn run_in_record<J: Naming + Send + Sync, G: Gate, O: Onlooker, R: Threads + Wai
 
 /// Boots a guest and traces it, its turns made by so many threads, one under each holding of a lock; a worker asks the
 /// gate before each. The boot's follow counts, not that of the options. At most `limit` turns and requests are made.
-/// Its events are noted if they are asked for. The onlooker sees what it left, also where it isn't the one that is told
-/// of.
+/// Its events are noted if they are asked for, and so are the files of its outcome listed. The onlooker sees what it
+/// left, also where it isn't the one that is told of.
 pub fn run_threads_noting<G: Gate, O: Onlooker, R: Threads + Wait + Sync>(
     rt: &R,
     alloc: Global,
@@ -107,6 +108,7 @@ pub fn run_threads_noting<G: Gate, O: Onlooker, R: Threads + Wait + Sync>(
     options: Options,
     gate: &G,
     notes: bool,
+    lists: bool,
     onlooker: &mut O,
 ) -> Result<NotedRun, ThreadsFault>
     requires some_workers { 1 ≤ workers }
@@ -131,11 +133,12 @@ pub fn run_threads_noting<G: Gate, O: Onlooker, R: Threads + Wait + Sync>(
         options,
         gate,
         notes,
+        lists,
         onlooker,
     )
 }
 
-/// The same, where nothing is noted and nobody looks.
+/// The same, where nothing is noted, files are listed and nobody looks.
 pub fn run_threads<G: Gate, R: Threads + Wait + Sync>(
     rt: &R,
     alloc: Global,
@@ -159,7 +162,7 @@ pub fn run_threads<G: Gate, R: Threads + Wait + Sync>(
 {
     let mut blind = Blind;
     match run_threads_noting(
-        rt, alloc, boot, workers, limit, script, options, gate, false, &mut blind,
+        rt, alloc, boot, workers, limit, script, options, gate, false, true, &mut blind,
     ) {
         Ok(noted) => Ok(noted.run),
         Err(fault) => Err(fault),

@@ -3,7 +3,7 @@ use Rattle.std.specs.List.{filter}
 use Rattle.std.specs.FinMap as maps
 use Rattle.lx_files.specs.Listing.{is_named, file_of}
 use Rattle.lx_files.proofs.Texts.{entries-texts}
-use Rattle.lx_files.proofs.path_map.PathMap.list.Goals as goal
+use Rattle.lx_files.proofs.path_map.PathMap.into_list.Goals as goal
 
 pub returns : goal.returns
 returns c = subst (λ es. IfOk c.list_files.result (λ l. l ≡ map (file_of c.args.nodes.now) (filter is_named es)))
