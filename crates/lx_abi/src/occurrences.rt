@@ -33,11 +33,18 @@ impl Occurrences {
         ensures { OnOk result ((p n : ℕ)
             → count_of self.new p n ≡ (if (p == pid) && (n == number) then 1 else 0) + count_of self.old p n) }
     {
-        // More entries than 64 bits count are more than any memory holds in the log.
-        let Some(next) = self.latest(pid, number).checked_add(1) else {
-            return Err(AllocError);
-        };
-        self.counts.insert((pid, number), next)?;
+        match self.counts.get_mut(&(pid, number)) {
+            Some(count) => {
+                // More entries than 64 bits count are more than any memory holds in the log.
+                let Some(next) = count.checked_add(1) else {
+                    return Err(AllocError);
+                };
+                *count = next;
+            }
+            None => {
+                self.counts.insert((pid, number), 1)?;
+            }
+        }
         Ok(())
     }
 }
