@@ -691,19 +691,44 @@ impl Kernel {
     }
 }
 
+fn copy_log(log: &Log, occurrences: &Occurrences) -> Result<(Log, Occurrences), AllocError>
+    ensures log { IfOk result (λ c. c.0 ≡ log.now) }
+    ensures occurrences { IfOk result
+        (λ c. (pid number : ℕ) → count_of c.1 pid number ≡ count_of occurrences.now pid number) }
+{
+    let occurrences = occurrences.clone()?;
+    let log = log.clone()?;
+    Ok((log, occurrences))
+}
+
+fn copy_processes(
+    shared: &Shared,
+    tasks: &Shelf<Task<UserState>>,
+) -> Result<(Shared, Shelf<Task<UserState>>), AllocError>
+    ensures { IfOk result (λ c. (c.0 ≡ shared.now) × (c.1 ≡ tasks.now)) }
+{
+    let tasks = tasks.clone()?;
+    let shared = shared.clone()?;
+    Ok((shared, tasks))
+}
+
 impl Clone for Kernel {
     ghost is_clone = { λ a b. b ≡ a };
 
     fn clone(&self) -> Result<Self, AllocError> {
+        let script = self.script.clone()?;
+        let run_queue = self.run_queue.clone()?;
+        let (log, occurrences) = copy_log(&self.log, &self.occurrences)?;
+        let (shared, tasks) = copy_processes(&self.shared, &self.tasks)?;
         Ok(Kernel {
             alloc: self.alloc,
-            shared: self.shared.clone()?,
-            tasks: self.tasks.clone()?,
-            run_queue: self.run_queue.clone()?,
+            shared,
+            tasks,
+            run_queue,
             child: self.child,
-            log: self.log.clone()?,
-            occurrences: self.occurrences.clone()?,
-            script: self.script.clone()?,
+            log,
+            occurrences,
+            script,
             follow: self.follow,
             failed: self.failed,
         })

@@ -1,6 +1,6 @@
 //! What processes share, and what each has to itself.
 
-ghost use Rattle.std.specs.Prelude.{◌≡◌, IsTrue};
+ghost use Rattle.std.specs.Prelude.{◌≡◌, IsTrue, IfOk};
 ghost use Rattle.lx_abi.specs.Limits.{are_limits};
 ghost use Rattle.lx_proc.specs.State.{limits_of};
 
@@ -109,18 +109,45 @@ impl Clone for Entry {
     }
 }
 
+fn copy_streams(shared: &Shared) -> Result<(PipeBuffer, Bytes), AllocError>
+    ensures { IfOk result (λ c. (c.0 ≡ shared.now.input) × (c.1 ≡ shared.now.console)) }
+{
+    let input = shared.input.clone()?;
+    let console = shared.console.clone()?;
+    Ok((input, console))
+}
+
+fn copy_processes(shared: &Shared) -> Result<(Table, WaitWords), AllocError>
+    ensures { IfOk result (λ c. (c.0 ≡ shared.now.entries) × (c.1 ≡ shared.now.ended)) }
+{
+    let ended = shared.ended.clone()?;
+    let entries = shared.entries.clone()?;
+    Ok((entries, ended))
+}
+
+fn copy_files(shared: &Shared) -> Result<(Tree, FdTable), AllocError>
+    ensures { IfOk result (λ c. (c.0 ≡ shared.now.tree) × (c.1 ≡ shared.now.fds)) }
+{
+    let fds = shared.fds.clone()?;
+    let tree = shared.tree.clone()?;
+    Ok((tree, fds))
+}
+
 impl Clone for Shared {
     ghost is_clone = { λ a b. b ≡ a };
 
     fn clone(&self) -> Result<Self, AllocError> {
+        let (input, console) = copy_streams(self)?;
+        let (entries, ended) = copy_processes(self)?;
+        let (tree, fds) = copy_files(self)?;
         Ok(Shared {
             limits: self.limits,
-            tree: self.tree.clone()?,
-            fds: self.fds.clone()?,
-            input: self.input.clone()?,
-            console: self.console.clone()?,
-            entries: self.entries.clone()?,
-            ended: self.ended.clone()?,
+            tree,
+            fds,
+            input,
+            console,
+            entries,
+            ended,
         })
     }
 }
