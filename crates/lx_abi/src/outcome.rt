@@ -1,6 +1,6 @@
 //! What is left of a run.
 
-use crate::listing::Listing;
+use crate::outcome_files::OutcomeFiles;
 use containers::{Bytes, Content, Seq};
 
 /// What stands at a path.
@@ -27,6 +27,6 @@ pub struct Ended {
 #[derive(Drop)]
 pub struct Outcome {
     pub console: Bytes,
-    pub files: Listing,
+    pub files: OutcomeFiles,
     pub ended: Seq<Ended>,
 }
