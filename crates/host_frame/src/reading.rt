@@ -11,7 +11,7 @@ use byteorder::{BigEndian, ByteOrder};
 use host_values::{
     Bad, byte_at, double_at, list_of, paths_rise, pids_rise, registers_of, text_of, word_at,
 };
-use lx_abi::{Ask, Boot, Boxed, Info, Limits, Listing, Outcome, Reply, Request, Status};
+use lx_abi::{Ask, Boot, Boxed, Info, Limits, Outcome, OutcomeFiles, Reply, Request, Status};
 use std::alloc::Global;
 
 /// Those of a boot that doesn't say its limits.
@@ -246,7 +246,7 @@ fn outcome(alloc: Global, bytes: &[u8]) -> Result<(Reply, &[u8]), Bad>
     }
     let outcome = Outcome {
         console,
-        files: Listing::new(files),
+        files: OutcomeFiles::new(files),
         ended,
     };
     let outcome = Boxed::new(alloc, outcome)?;

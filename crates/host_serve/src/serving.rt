@@ -11,7 +11,7 @@ use crate::requests::{is_boot, next_request};
 use crate::session::{Phase, Session};
 use containers::{Bytes, Seq};
 use host_wire::Feed;
-use lx_abi::{Listing, Outcome, Reply, Request};
+use lx_abi::{Outcome, OutcomeFiles, Reply, Request};
 use lx_kernel::Failed;
 use std::alloc::Global;
 
@@ -94,7 +94,7 @@ fn outcome_of<S: Session + Drop>(alloc: Global, phase: &Phase<S>) -> Result<Outc
     match phase {
         Phase::Waiting | Phase::Refused => Ok(Outcome {
             console: Bytes::new(alloc),
-            files: Listing::new(Seq::new(alloc)),
+            files: OutcomeFiles::new(Seq::new(alloc)),
             ended: Seq::new(alloc),
         }),
         Phase::Serving(session) => match session.outcome() {

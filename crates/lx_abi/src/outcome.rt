@@ -2,7 +2,7 @@
 
 ghost use Rattle.std.specs.Prelude.{◌≡◌};
 
-use crate::listing::Listing;
+use crate::outcome_files::OutcomeFiles;
 use containers::{Bytes, Content, Seq};
 use std::alloc::AllocError;
 
@@ -30,7 +30,7 @@ pub struct Ended {
 #[derive(Drop)]
 pub struct Outcome {
     pub console: Bytes,
-    pub files: Listing,
+    pub files: OutcomeFiles,
     pub ended: Seq<Ended>,
 }
 

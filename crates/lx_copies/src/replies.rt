@@ -2,7 +2,7 @@
 
 use crate::copied::{Copied, copy_list};
 use crate::same::Same;
-use lx_abi::{Ended, Listing, Node, Outcome, OutcomeFile, Reply, Status};
+use lx_abi::{Ended, Node, Outcome, OutcomeFile, OutcomeFiles, Reply, Status};
 use std::alloc::{AllocError, Global};
 
 impl Copied for Node {
@@ -47,15 +47,15 @@ impl Copied for Ended {
     }
 }
 
-/// A list that was left unlisted stays so.
-impl Copied for Listing {
-    fn copy(&self, alloc: Global) -> Result<Listing, AllocError> {
+/// Files that were left unlisted stay so.
+impl Copied for OutcomeFiles {
+    fn copy(&self, alloc: Global) -> Result<OutcomeFiles, AllocError> {
         match self.as_slice() {
             Ok(files) => match copy_list(alloc, files) {
-                Ok(files) => Ok(Listing::new(files)),
+                Ok(files) => Ok(OutcomeFiles::new(files)),
                 Err(refused) => Err(refused),
             },
-            Err(_) => Ok(Listing::unlisted(self)),
+            Err(_) => Ok(OutcomeFiles::unlisted(self)),
         }
     }
 }

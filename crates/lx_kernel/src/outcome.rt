@@ -4,7 +4,7 @@ ghost use Rattle.std.specs.Prelude.{◌≡◌, IfOk};
 ghost use Rattle.lx_kernel.specs.Outcomes.{outcome_in};
 
 use containers::Bytes;
-use lx_abi::{Listing, Outcome};
+use lx_abi::{Outcome, OutcomeFiles};
 use lx_proc::Shared;
 use std::alloc::{AllocError, Global};
 
@@ -14,7 +14,7 @@ pub fn outcome(alloc: Global, shared: &Shared) -> Result<Outcome, AllocError>
 {
     Ok(Outcome {
         console: Bytes::from_slice(alloc, shared.console.as_slice())?,
-        files: Listing::new(shared.tree.list(alloc)?),
+        files: OutcomeFiles::new(shared.tree.list(alloc)?),
         ended: shared.ended.list(alloc)?,
     })
 }
@@ -25,7 +25,7 @@ pub fn outcome_unlisted(alloc: Global, shared: &Shared) -> Result<Outcome, Alloc
 {
     Ok(Outcome {
         console: Bytes::from_slice(alloc, shared.console.as_slice())?,
-        files: Listing::unlisted(&shared.tree),
+        files: OutcomeFiles::unlisted(&shared.tree),
         ended: shared.ended.list(alloc)?,
     })
 }

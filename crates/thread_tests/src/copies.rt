@@ -3,7 +3,7 @@
 
 use containers::{Bytes, Content, Seq};
 use lx_abi::{
-    Ask, Boot, Boxed, Ended, GuestFile, Info, Limits, Listing, Node, Outcome, OutcomeFile,
+    Ask, Boot, Boxed, Ended, GuestFile, Info, Limits, Node, Outcome, OutcomeFile, OutcomeFiles,
     RegisterSet, Reply, Request, Status, Word,
 };
 use lx_copies::{Copied, Same};
@@ -126,7 +126,7 @@ fn outcome(alloc: Global, content: Option<&str>) -> Result<Reply, AllocError> {
     let ended = alone(alloc, Ended { pid: 1, word: 256 })?;
     let outcome = Outcome {
         console,
-        files: Listing::new(files),
+        files: OutcomeFiles::new(files),
         ended,
     };
     Ok(Reply::Outcome {

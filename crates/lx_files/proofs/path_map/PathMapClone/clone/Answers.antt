@@ -26,7 +26,7 @@ pub returns : goal.returns
 returns c = record {
   cases =
       let same = same_entries (λ k. k.items) (λ v w. AllZip (λ x y. y ≡ x) v.items w.items × (vec_len w ≡ vec_len v)) (λ x y h. each_same x.items y.items h.0)
-          c.self.inside.tree.entries c.in_ok-clone.field-0.entries c.in_ok-clone.ensures.cases in
+      c.self.inside.tree.entries c.in_ok-clone.field-0.entries c.in_ok-clone.ensures.cases in
       let map_of : List (List ℕ × ℕ) → NameMap = λ l. maps.from_entries l in
       ap map_of same ∙ c.self.view_is;
 }

@@ -11,12 +11,12 @@ use std::marker::Model;
 /// What stands at each path, in byte order. Contracts see all of it. Programs can read it where it was listed, and not
 /// where it was left unlisted, as is done where nobody asks for files: then no path is made, and no content shared.
 #[derive(Drop)]
-pub struct Listing {
+pub struct OutcomeFiles {
     all: History<OutcomeFile>,
     listed: Option<Seq<OutcomeFile>>,
 }
 
-impl Model for Listing {
+impl Model for OutcomeFiles {
     ghost use Rattle.std.specs.Prelude.{◌≡◌, List, IfSome};
     ghost use Rattle.lx_abi.specs.declared.outcome.OutcomeFile.{OutcomeFile};
 
@@ -31,16 +31,16 @@ impl Tells<OutcomeFile> for Seq<OutcomeFile> {
     ghost told = { λ files. files };
 }
 
-impl Tells<OutcomeFile> for Listing {
+impl Tells<OutcomeFile> for OutcomeFiles {
     ghost told = { λ files. files };
 }
 
-impl Listing {
+impl OutcomeFiles {
     /// A list that programs can read.
     pub fn new(files: Seq<OutcomeFile>) -> Self
         ensures { result ≡ files }
     {
-        Listing {
+        OutcomeFiles {
             all: History::of(&files),
             listed: Some(files),
         }
@@ -50,7 +50,7 @@ impl Listing {
     pub fn unlisted<T: Tells<OutcomeFile>>(of: &T) -> Self
         ensures { result ≡ T.told of.now }
     {
-        Listing {
+        OutcomeFiles {
             all: History::of(of),
             listed: None,
         }
