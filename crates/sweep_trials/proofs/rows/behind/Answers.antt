@@ -10,6 +10,6 @@ returns c = record {
   run = c.in_ok-run.run';
   left = subst (λ (f : Fault). FaultReaches c.args.setup.now f c.in_ok-run.run') c.fault.ensures c.in_ok-run.ensures;
   ends =
-      subst (λ (files : List OutcomeFile). EndsOn c.args.setup.now c.args.second.now files c.in_ok-end.end) c.as_slice.ensures
+      subst (λ (files : List OutcomeFile). EndsOn c.args.setup.now c.args.second.now files c.in_ok-end.end) c.in_ok-left.ensures
       c.in_ok-end.ensures;
 }
