@@ -137,8 +137,8 @@ pub enum Change {
 }
 
 /// The stage so changed; none where it can't be.
-fn change_stage(stage: Stage, change: Change) -> Option<Stage>
-    ensures { result ≡ changed change stage }
+fn change_stage(stage: &Stage, change: Change) -> Option<Stage>
+    ensures { result ≡ changed change stage.now }
 {
     match (change, stage) {
         (Change::Join { signal }, Stage::Entered { .. }) => Some(Stage::Entered { joined: signal }),
@@ -153,7 +153,7 @@ fn change_task(task: &mut Task<UserState>, change: Change) -> bool
     ensures { IsPart (with_change change task.old) task.old task.new result }
 {
     match task {
-        Task::Alive { stage, .. } => match change_stage(*stage, change) {
+        Task::Alive { stage, .. } => match change_stage(stage, change) {
             None => false,
             Some(changed) => {
                 *stage = changed;
