@@ -5,6 +5,7 @@ ghost use Rattle.std.specs.List.{slice_get};
 ghost use Rattle.pt_schedule.specs.Turns.{from_turn, turns_from};
 
 use lx_abi::{Event, Word};
+use std::alloc::AllocError;
 use std::collections::VecDeque;
 use std::marker::Model;
 
@@ -20,6 +21,17 @@ impl<V> Model for TurnQueue<V> {
     ghost Value = { List V };
 
     ghost view = { λ q. q.items.items };
+}
+
+impl<V: Clone> Clone for TurnQueue<V> {
+    // Where the copies of values are the same, the queue is.
+    ghost is_clone = { λ a b. ((v w : V) → V.is_clone v w → w ≡ v) → b ≡ a };
+
+    fn clone(&self) -> Result<Self, AllocError> {
+        Ok(TurnQueue {
+            items: self.items.clone()?,
+        })
+    }
 }
 
 impl<V> TurnQueue<V> {

@@ -12,7 +12,7 @@ use crate::system::Schedulable;
 use crate::worded::Worded;
 use lx_abi::{Event, ScheduleFault, Word, parse_words};
 use lx_kernel::Kernel;
-use std::alloc::Global;
+use std::alloc::{AllocError, Global};
 
 /// No schedule gives more events.
 const MOST_EVENTS: u64 = 1 << 39;
@@ -35,6 +35,28 @@ struct Listed {
 enum Order {
     Listed(Listed),
     Worded(Worded),
+}
+
+impl Clone for Listed {
+    ghost is_clone = { λ a b. b ≡ a };
+
+    fn clone(&self) -> Result<Self, AllocError> {
+        Ok(Listed {
+            events: self.events.clone()?,
+            left: self.left,
+        })
+    }
+}
+
+impl Clone for Order {
+    ghost is_clone = { λ a b. b ≡ a };
+
+    fn clone(&self) -> Result<Self, AllocError> {
+        match self {
+            Order::Listed(listed) => Ok(Order::Listed(listed.clone()?)),
+            Order::Worded(worded) => Ok(Order::Worded(worded.clone()?)),
+        }
+    }
 }
 
 impl Listed {
@@ -68,6 +90,16 @@ impl Listed {
 #[derive(Drop)]
 pub struct Schedule {
     order: Order,
+}
+
+impl Clone for Schedule {
+    ghost is_clone = { λ a b. b ≡ a };
+
+    fn clone(&self) -> Result<Self, AllocError> {
+        Ok(Schedule {
+            order: self.order.clone()?,
+        })
+    }
 }
 
 impl Schedule {

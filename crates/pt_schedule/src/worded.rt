@@ -10,6 +10,7 @@ use crate::queue::TurnQueue;
 use crate::schedule::TurnRun;
 use crate::system::Schedulable;
 use lx_abi::{Event, Word};
+use std::alloc::AllocError;
 
 /// The most turns in a row that one process has while another is able.
 const MOST_IN_A_ROW: u32 = 1000;
@@ -38,6 +39,20 @@ pub struct Worded {
     pub row: Option<Row>,
     /// How many events may still come.
     pub left: u64,
+}
+
+impl Clone for Worded {
+    ghost is_clone = { λ a b. b ≡ a };
+
+    fn clone(&self) -> Result<Self, AllocError> {
+        Ok(Worded {
+            words: self.words.clone()?,
+            serving: self.serving,
+            returning: self.returning,
+            row: self.row,
+            left: self.left,
+        })
+    }
 }
 
 impl Worded {
