@@ -110,22 +110,15 @@ fn sig_info(kernel: &Kernel, pid: u32) -> Reply
 }
 
 #[inline(always)]
-fn syscall(
-    kernel: &mut Kernel,
-    tracees: &mut Tracees,
-    pid: u32,
-    traced: Traced,
-    signal: u32,
-) -> Result<Reply, AllocError>
-    requires { maps.get tracees.old.traced pid ≡ Some traced }
-    ensures { IfOk result
-        (λ r. Answers kernel.old tracees.old pid traced (Asks.Syscall signal) r kernel.new tracees.new) }
+fn syscall(kernel: &mut Kernel, tracees: &mut Tracees, pid: u32, signal: u32) -> Reply
+    ensures { (traced : Traced) → maps.get tracees.old.traced pid ≡ Some traced
+        → Answers kernel.old tracees.old pid traced (Asks.Syscall signal) result kernel.new tracees.new }
 {
     if !kernel.resume(pid, signal) {
-        return Ok(refusal(Errno::EIO));
+        return refusal(Errno::EIO);
     }
-    tracees.let_go(pid, traced)?;
-    Ok(Reply::Done)
+    tracees.let_go(pid);
+    Reply::Done
 }
 
 fn set_options(
@@ -154,21 +147,15 @@ fn set_options(
 }
 
 /// A tracee at a group stop is let go, and stays stopped.
-fn listen(
-    kernel: &Kernel,
-    tracees: &mut Tracees,
-    pid: u32,
-    traced: Traced,
-) -> Result<Reply, AllocError>
-    requires { maps.get tracees.old.traced pid ≡ Some traced }
-    ensures { IfOk result
-        (λ r. Answers kernel.now tracees.old pid traced Asks.Listen r kernel.now tracees.new) }
+fn listen(kernel: &Kernel, tracees: &mut Tracees, pid: u32) -> Reply
+    ensures { (traced : Traced) → maps.get tracees.old.traced pid ≡ Some traced
+        → Answers kernel.now tracees.old pid traced Asks.Listen result kernel.now tracees.new }
 {
     if !kernel.listens(pid) {
-        return Ok(refusal(Errno::EIO));
+        return refusal(Errno::EIO);
     }
-    tracees.let_go(pid, traced)?;
-    Ok(Reply::Done)
+    tracees.let_go(pid);
+    Reply::Done
 }
 
 /// A held tracee that lives is answered.
@@ -201,18 +188,12 @@ fn answer_stopped(
             let reply = peek(kernel, pid, *address, *length)?;
             Ok(reply)
         }
-        Ask::Syscall { signal } => {
-            let reply = syscall(kernel, tracees, pid, traced, *signal)?;
-            Ok(reply)
-        }
+        Ask::Syscall { signal } => Ok(syscall(kernel, tracees, pid, *signal)),
         Ask::EventMsg => Ok(Reply::Message {
             pid: u64::from(traced.message),
         }),
         Ask::SigInfo => Ok(sig_info(kernel, pid)),
-        Ask::Listen => {
-            let reply = listen(kernel, tracees, pid, traced)?;
-            Ok(reply)
-        }
+        Ask::Listen => Ok(listen(kernel, tracees, pid)),
     }
 }
 

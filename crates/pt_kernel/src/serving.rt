@@ -44,10 +44,7 @@ fn answer_asked(
     ensures script { OnOk result ((kernel.new.script ≡ kernel.old.script) × (kernel.new.follow ≡ kernel.old.follow)) }
 {
     match asked {
-        Asked::Wait => {
-            let reply = tracees.wait()?;
-            Ok(reply)
-        }
+        Asked::Wait => Ok(tracees.wait()),
         Asked::To { pid, ask } => {
             let reply = answer(kernel, tracees, *pid, ask)?;
             Ok(Some(reply))

@@ -64,6 +64,16 @@ fn keep(kept: &mut Shelf<Traced>, pid: u32, traced: Traced) -> Result<(), AllocE
     }
 }
 
+/// What is kept of a process that is held no more.
+#[inline(always)]
+fn release(kept: &mut Shelf<Traced>, pid: u32)
+    ensures { kept.new ≡ released kept.old pid (maps.get kept.old pid) }
+{
+    if let Some(traced) = kept.get_mut(pid) {
+        traced.held = false;
+    }
+}
+
 impl Tracees {
     /// Process 1 is held from the boot, and no tracee yet.
     pub fn new(alloc: Global) -> Result<Self, AllocError>
@@ -113,17 +123,13 @@ impl Tracees {
     }
 
     /// A process is held no more.
-    pub fn let_go(&mut self, pid: u32, traced: Traced) -> Result<(), AllocError>
-        ensures { OnOk result
-            (self.new ≡ record self.old { traced = released self.old.traced pid (Some traced) }) }
+    #[inline(always)]
+    pub fn let_go(&mut self, pid: u32)
+        ensures { self.new ≡ record self.old {
+          traced = released self.old.traced pid (maps.get self.old.traced pid);
+        } }
     {
-        let released = Traced {
-            held: false,
-            options: traced.options,
-            message: traced.message,
-        };
-        self.set(pid, released)?;
-        Ok(())
+        release(&mut self.traced, pid);
     }
 
     /// A tracee that has come to a stop is held.
@@ -259,57 +265,46 @@ impl Tracees {
 
     /// Who was waited for is held no more, and no tracee.
     #[inline(always)]
-    fn release(&mut self, pid: u32) -> Result<(), AllocError>
-        ensures { OnOk result
-            (self.new ≡ record self.old {
-              traced = released self.old.traced pid (maps.get self.old.traced pid);
-              pids = filter (λ q. not (pid == q)) self.old.pids;
-            }) }
+    fn leave(&mut self, pid: u32)
+        ensures { self.new ≡ record self.old {
+          traced = released self.old.traced pid (maps.get self.old.traced pid);
+          pids = filter (λ q. not (pid == q)) self.old.pids;
+        } }
     {
         self.pids.leave(pid);
-        match self.traced.get(pid).copied() {
-            None => Ok(()),
-            Some(traced) => {
-                self.let_go(pid, traced)?;
-                Ok(())
-            }
-        }
+        self.let_go(pid);
     }
 
     #[inline(always)]
-    fn tell(&mut self, report: Report) -> Result<Reply, AllocError>
-        ensures { IfOk result
-            (λ r. tells self.new (Some r)
-            ≡ tells (took self.old self.old.queue report.pid report.stop) (Some (told report.pid report.stop))) }
+    fn tell(&mut self, report: Report) -> Reply
+        ensures { tells self.new (Some result)
+            ≡ tells (took self.old self.old.queue report.pid report.stop) (Some (told report.pid report.stop)) }
     {
         if let Stop::Ended { .. } = report.stop {
-            self.release(report.pid)?;
+            self.leave(report.pid);
         }
-        Ok(Reply::Status {
+        Reply::Status {
             pid: report.pid,
             status: report.stop.status(),
-        })
+        }
     }
 
     /// Wait is answered with the first report, or ECHILD where no tracee is left; else it stays pending.
     #[inline(always)]
-    pub fn wait(&mut self) -> Result<Option<Reply>, AllocError>
-        ensures { IfOk result (λ r. tells self.new r ≡ waited self.old self.old.queue self.old.pids) }
+    pub fn wait(&mut self) -> Option<Reply>
+        ensures { tells self.new result ≡ waited self.old self.old.queue self.old.pids }
     {
         match self.queue.pop() {
             None => {
                 if self.pids.is_empty() {
-                    Ok(Some(Reply::Errno {
+                    Some(Reply::Errno {
                         number: u32::from(Errno::ECHILD.number),
-                    }))
+                    })
                 } else {
-                    Ok(None)
+                    None
                 }
             }
-            Some(report) => {
-                let reply = self.tell(report)?;
-                Ok(Some(reply))
-            }
+            Some(report) => Some(self.tell(report)),
         }
     }
 

@@ -1,4 +1,4 @@
-use Rattle.std.proofs.Common.{sym, ap, ◌∙◌}
+use Rattle.std.proofs.Common.{sym, ap, subst, ◌∙◌}
 use Rattle.lx_abi.specs.declared.ptrace.Reply.TheVariants.{Done as Agreed, Message as Message_is}
 use Rattle.lx_model.specs.declared.stage.Task.TheVariants.{Alive}
 use Rattle.lx_proc.specs.declared.state.UserState.{UserState}
@@ -6,6 +6,7 @@ use Rattle.lx_turn.specs.Linux.{linux}
 use Rattle.lx_kernel.specs.Tracing.{task_in, with_part, with_regs}
 use Rattle.pt_model.specs.Requests.{says, stopped}
 use Rattle.pt_model.specs.Hosting.{as_proc}
+use Rattle.pt_kernel.specs.Hosts.{IsAnswer}
 use Rattle.pt_kernel.proofs.Answering.{answer_reads, answer_writes}
 use Rattle.pt_kernel.proofs.answers.answer_stopped.Goals as goal
 
@@ -45,3 +46,15 @@ returns-in-SigInfo c = λ b stage e.
     let t = as_proc {B = UserState} (Alive b stage) c.args.traced in
     answer_reads c.args.kernel.now c.args.tracees.now c.args.pid c.args.traced c.requires b stage e _ c.sig_info.result
     (ap (stopped linux t b stage c.args.traced.message) c.in-SigInfo.is ∙ ap (says t) (sym (c.sig_info.ensures b stage e)))
+
+pub returns-in-Syscall : goal.returns-in-Syscall
+returns-in-Syscall c = λ b stage e.
+    let a = c.args in
+    subst (λ q. IsAnswer a.kernel.now a.tracees.now a.pid a.traced.message (stopped linux (as_proc (Alive b stage) a.traced) b stage a.traced.message q) c.syscall.result c.syscall.new.kernel c.syscall.new.tracees)
+    (sym c.in-Syscall.is) (c.syscall.ensures a.traced c.requires b stage e)
+
+pub returns-in-Listen : goal.returns-in-Listen
+returns-in-Listen c = λ b stage e.
+    let a = c.args in
+    subst (λ q. IsAnswer a.kernel.now a.tracees.now a.pid a.traced.message (stopped linux (as_proc (Alive b stage) a.traced) b stage a.traced.message q) c.listen.result a.kernel.now c.listen.new.tracees)
+    (sym c.in-Listen.is) (c.listen.ensures a.traced c.requires b stage e)
