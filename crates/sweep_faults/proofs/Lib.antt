@@ -2,3 +2,4 @@ pub mod Standing
 pub mod Rows
 pub mod Wording
 pub mod Fewer
+pub mod Ahead

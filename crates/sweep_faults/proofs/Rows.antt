@@ -300,11 +300,19 @@ failing_keeps kind.Killed k p = refl
 failing_keeps kind.Stop k p = refl
 failing_keeps (kind.World w) k p = asking_keeps (error_asked w k.running.log p (regs_of (task_in k p))) k p
 
+fault_keeps : (f : Fault) (k : Run) (p : ℕ) → (after_fault f k p).keeps_log ≡ k.keeps_log
+fault_keeps f k p = keeps_by (is_at f k p) (after_failing f.kind k p) (after_turn k p) k (failing_keeps f.kind k p) refl
+
 keeps : (f : Fault) (k : Run) (s : Schedule) (pids : List ℕ) (z : Run) → IsFaulted f k s pids z → z.keeps_log ≡ k.keeps_log
 keeps f k s [] z h = ap (λ (r : Run). r.keeps_log) h.1
 keeps f k s (p ∷ ps) z h =
     keeps f (after_fault f k p) (next_turn_of s (readiness_of k)).schedule ps z h.1
-    ∙ keeps_by (is_at f k p) (after_failing f.kind k p) (after_turn k p) k (failing_keeps f.kind k p) refl
+    ∙ fault_keeps f k p
 
 pub runs_keep_logs : RunsKeepLogs
 runs_keep_logs f k s z to = keeps f k s to.pids z to.is_run
+
+pub row_keeps : (f : Fault) (n : ℕ) (k k' : Run) (p : ℕ) → InRow f k p n k' → k'.keeps_log ≡ k.keeps_log
+unfolding InRow
+row_keeps f zero k k' p row = ap (λ (r : Run). r.keeps_log) row ∙ fault_keeps f k p
+row_keeps f (suc n) k k' p row = row_keeps f n (after_fault f k p) k' p row.1 ∙ fault_keeps f k p

@@ -249,7 +249,8 @@ pub known_still : (log : List Item) (known : Known) → IsKnown log known → Is
 known_still log known h = subst (λ l. IsKnown l known) (sym (append-nil log)) h
 
 pub heard_awaits : (a a' : Awaited) (log : List Item) (item : Option Item) → a'.fault ≡ a.fault → a'.left ≡ left_after a item → a'.was_last ≡ last_after a item → a'.asked ≡ asked_after a item
-    → (IsKnown log a.known → IsKnown (log ++ option_to_list item) a'.known) → Awaits a log → Awaits a' (log ++ option_to_list item)
+    → ((is_world a.fault.kind ≡ true → IsKnown log a.known) → is_world a.fault.kind ≡ true → IsKnown (log ++ option_to_list item) a'.known)
+    → Awaits a log → Awaits a' (log ++ option_to_list item)
 heard_awaits a a' log item same left last asked known h =
     let log' : List Item = log ++ option_to_list item in (
       subst (λ (f : Fault). IsLeft f.n (entries f.pid f.call log') a'.left) (sym same)
@@ -260,5 +261,5 @@ heard_awaits a a' log item same left last asked known h =
       asked
           ∙ heard_asked a log log' item h.2 refl
           ∙ ap (λ (f : Fault). last_asked f.pid 0 log') (sym same),
-      known h.3,
+      λ e. known h.3 (ap (λ (f : Fault). is_world f.kind) (sym same) ∙ e),
     )

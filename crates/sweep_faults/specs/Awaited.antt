@@ -15,13 +15,14 @@ abbrev pub IsLeft : ℕ → ℕ → Option ℕ → Type 0
 IsLeft n entered (Some left) = left + entered ≡ n
 IsLeft n entered None = n < entered
 
--- the process of the failure has entered its call so often by this log, and done it last or another
+-- the process of the failure has entered its call so often by this log, and done it last or another; of a world it is
+-- known what the log tells
 abbrev pub Awaits : Awaited → List Item → Type 0
 Awaits a log =
     IsLeft a.fault.n (entries a.fault.pid a.fault.call log) a.left
     × (a.was_last ≡ was_last a.fault.pid a.fault.call false log)
     × (a.asked ≡ last_asked a.fault.pid 0 log)
-    × IsKnown log a.known
+    × (is_world a.fault.kind ≡ true → IsKnown log a.known)
 
 -- after one entry more
 unfoldable pub passed : Option ℕ → Option ℕ

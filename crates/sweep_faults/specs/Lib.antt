@@ -3,3 +3,4 @@ pub mod Words
 pub mod Runs
 pub mod InRows
 pub mod Awaited
+pub mod Led

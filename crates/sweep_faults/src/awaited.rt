@@ -1,6 +1,6 @@
 //! Whether a process stands where its call fails.
 
-ghost use Rattle.std.specs.Prelude.{◌≡◌, ◌&&◌, ◌||◌, ◌++◌, [], List, OnOk};
+ghost use Rattle.std.specs.Prelude.{◌≡◌, ◌&&◌, ◌||◌, ◌++◌, [], List, true, IfOk, OnOk};
 ghost use Rattle.std.specs.Option.{option_to_list};
 ghost use Rattle.lx_abi.specs.declared.log.Item.{Item as LogItem};
 ghost use Rattle.lx_abi.specs.Log.{is_entry};
@@ -9,7 +9,7 @@ ghost use Rattle.lx_kernel.specs.Tracing.{task_in, regs_of};
 ghost use Rattle.sweep_faults.specs.Awaited.{Awaits, asked_after, is_awaited_at, is_due_by, is_next, is_past};
 ghost use Rattle.sweep_faults.specs.Awaited.{last_after, left_after, passed};
 ghost use Rattle.sweep_faults.specs.Faults.{asked_last, asks_for, done_last, ends_at, has_entered, is_ended};
-ghost use Rattle.sweep_faults.specs.Faults.{is_entered};
+ghost use Rattle.sweep_faults.specs.Faults.{is_entered, is_world};
 ghost use Rattle.sweep_rows.specs.Known.{IsKnown};
 
 use crate::faults::{Fault, Kind};
@@ -32,11 +32,12 @@ pub(crate) struct Awaited {
     pub was_last: bool,
     /// The count, a2, that the process's last entry into a call asks for.
     pub asked: u64,
-    /// What the log tells.
+    /// What the log tells, if the failure is a world.
     pub known: Known,
 }
 
-fn is_entry(item: &Item, pid: u32, number: u64) -> bool
+/// The item is an entry of this process into the call with this number.
+pub(crate) fn is_entry(item: &Item, pid: u32, number: u64) -> bool
     ensures { result ≡ is_entry pid number item.now }
 {
     match item {
@@ -141,6 +142,18 @@ fn learn(known: &mut Known, item: &Option<Item>) -> Result<(), AllocError>
     }
 }
 
+/// The same, where a failure of this kind asks for it.
+fn learn_for(kind: Kind, known: &mut Known, item: &Option<Item>) -> Result<(), AllocError>
+    ensures { OnOk result ((log : List LogItem) → (is_world kind ≡ true → IsKnown log known.old)
+        → is_world kind ≡ true → IsKnown (log ++ option_to_list item.now) known.new) }
+{
+    if !kind.is_world() {
+        return Ok(());
+    }
+    learn(known, item)?;
+    Ok(())
+}
+
 impl Awaited {
     /// A failure of a process that has entered no call.
     pub(crate) fn new(alloc: Global, fault: Fault) -> Self
@@ -154,6 +167,20 @@ impl Awaited {
             asked: 0,
             known: Known::new(alloc),
         }
+    }
+
+    /// A failure of a process that has done so much.
+    pub(crate) fn after(alloc: Global, fault: Fault, log: &[Item]) -> Result<Self, AllocError>
+        ensures fault { IfOk result (λ awaited. awaited.fault ≡ fault) }
+        ensures awaits { IfOk result (λ awaited. Awaits awaited log.now) }
+    {
+        let mut awaited = Awaited::new(alloc, fault);
+        let mut left = log;
+        while let Some((item, rest)) = left.split_first() {
+            awaited.hear(&Some(*item))?;
+            left = rest;
+        }
+        Ok(awaited)
     }
 
     /// The process has entered the call for the nth time, and not again.
@@ -269,7 +296,7 @@ impl Awaited {
         let left = self.left_after(item);
         let was_last = self.last_after(item);
         let asked = self.asked_after(item);
-        learn(&mut self.known, item)?;
+        learn_for(self.fault.kind, &mut self.known, item)?;
         self.left = left;
         self.was_last = was_last;
         self.asked = asked;

@@ -1,6 +1,6 @@
 //! The turn in which a call fails.
 
-ghost use Rattle.std.specs.Prelude.{◌≡◌, ◌<◌, ◌++◌, None, false, IfOk, OnOk, OnErr};
+ghost use Rattle.std.specs.Prelude.{◌≡◌, ◌<◌, ◌++◌, None, true, false, IfOk, OnOk, OnErr};
 ghost use Rattle.std.specs.Option.{option_to_list};
 ghost use Rattle.lx_kernel.specs.Choices.{after_choosing};
 ghost use Rattle.lx_kernel.specs.Runs.{after_turn, mode_in};
@@ -212,7 +212,7 @@ pub(crate) fn fail(
     known: &Known,
 ) -> Result<Moved, Failed>
     requires asked { is_world kind ≡ false → asked ≡ last_asked pid 0 kernel.old.running.log }
-    requires known { IsKnown kernel.old.running.log known.now }
+    requires known { is_world kind ≡ true → IsKnown kernel.old.running.log known.now }
     ensures turned { OnOk result (kernel.new ≡ after_failing kind kernel.old pid) }
     ensures one { IfOk result (λ m. m.turns ≡ 1) }
     ensures after { IfOk result (λ m. m.after ≡ mode_in kernel.new pid) }

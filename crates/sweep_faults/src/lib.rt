@@ -5,10 +5,12 @@ pub mod awaited;
 pub mod failing;
 pub mod faults;
 pub mod laws;
+pub mod leading;
 pub mod moving;
 pub mod running;
 pub mod words;
 
-pub use faults::{Fault, Kind};
-pub use running::run_faulted;
+pub use faults::{Fault, Kind, Place};
+pub use leading::run_up_to;
+pub use running::{run_faulted, run_faulted_on};
 pub use words::{failure_of, has_words};

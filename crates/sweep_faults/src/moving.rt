@@ -26,7 +26,7 @@ pub(crate) struct Moved {
 
 /// Turns of a process that doesn't stand where its call fails, `most` at most.
 #[tactic(auto, using(crate::proofs::Rows::row_of_others))]
-fn go_on(kernel: &mut Kernel, pid: u32, most: u64) -> Result<Moved, Failed>
+pub(crate) fn go_on(kernel: &mut Kernel, pid: u32, most: u64) -> Result<Moved, Failed>
     requires { 0 < most }
     ensures row { (f : Failing) → is_at f kernel.old pid ≡ false
         → IfOk result (λ m. InRow f kernel.old pid (m.turns - 1) kernel.new) }

@@ -1,6 +1,6 @@
 //! Turns by a schedule, up to its end, where one call of one process fails.
 
-ghost use Rattle.std.specs.Prelude.{◌≡◌, ◌≤◌, ◌++◌, [], OnOk, IfOk, IfErr, IsTrue};
+ghost use Rattle.std.specs.Prelude.{◌≡◌, ◌≤◌, ◌++◌, [], true, OnOk, IfOk, IfErr, IsTrue};
 ghost use Rattle.lx_kernel.specs.Runs.{Run as KernelRun, mode_in};
 ghost use Rattle.pt_schedule.specs.Schedules.{events_left, next_turn_of};
 ghost use Rattle.pt_schedule.specs.Untraced.{readiness_of};
@@ -109,6 +109,30 @@ fn next_turn(kernel: &Kernel, schedule: &mut Schedule, awaited: &Awaited) -> Opt
     Some(pid)
 }
 
+/// Makes the turns that a schedule gives, up to its end, or to where everything ends, where an awaited call fails; the
+/// watcher is told of each.
+fn run_awaited<W: Watch>(
+    kernel: &mut Kernel,
+    schedule: &mut Schedule,
+    awaited: &mut Awaited,
+    watch: &mut W,
+) -> Result<(), Halt>
+    requires { Awaits awaited.old kernel.old.running.log }
+    ensures to { OnOk result (RunsFaulted awaited.old.fault kernel.old schedule.old kernel.new) }
+    ensures told { Tells kernel.old (W.told watch.old) kernel.new (W.told watch.new) }
+    ensures begun { W.begun watch.new ≡ W.begun watch.old }
+    ensures weary { IfErr result (λ halt. halt ≡ Weary → IsTrue (W.weary watch.new)) }
+{
+    'turns: loop {
+        let Some(pid) = next_turn(kernel, schedule, awaited) else {
+            return Ok(());
+        };
+        if let Err(halt) = turn(kernel, schedule, pid, awaited, watch) {
+            return Err(halt);
+        }
+    }
+}
+
 /// Makes the turns that a schedule gives, up to its end, or to where everything ends, where one call of one process
 /// fails; the watcher is told of each.
 pub fn run_faulted<W: Watch>(
@@ -127,12 +151,27 @@ pub fn run_faulted<W: Watch>(
     ensures weary { IfErr result (λ halt. halt ≡ Weary → IsTrue (W.weary watch.new)) }
 {
     let mut awaited = Awaited::new(alloc, fault);
-    'turns: loop {
-        let Some(pid) = next_turn(kernel, schedule, &awaited) else {
-            return Ok(());
-        };
-        if let Err(halt) = turn(kernel, schedule, pid, &mut awaited, watch) {
-            return Err(halt);
-        }
-    }
+    run_awaited(kernel, schedule, &mut awaited, watch)
+}
+
+/// The same from where a kernel stands whose log is kept.
+#[tactic(auto, using(crate::proofs::Rows::told_same))]
+pub fn run_faulted_on<W: Watch>(
+    alloc: Global,
+    kernel: &mut Kernel,
+    schedule: &mut Schedule,
+    fault: Fault,
+    watch: &mut W,
+) -> Result<(), Halt>
+    requires { kernel.old.keeps_log ≡ true }
+    ensures to { OnOk result (RunsFaulted fault kernel.old schedule.old kernel.new) }
+    ensures told { Tells kernel.old (W.told watch.old) kernel.new (W.told watch.new) }
+    ensures begun { W.begun watch.new ≡ W.begun watch.old }
+    ensures weary { IfErr result (λ halt. halt ≡ Weary → IsTrue (W.weary watch.new)) }
+{
+    let mut awaited = match Awaited::after(alloc, fault, kernel.log()) {
+        Ok(awaited) => awaited,
+        Err(_) => return Err(Halt::Memory),
+    };
+    run_awaited(kernel, schedule, &mut awaited, watch)
 }

@@ -4,15 +4,16 @@ use Rattle.pt_schedule.specs.Schedules.{events_left}
 use Rattle.plain_run.specs.Watched.{Tells}
 use Rattle.sweep_faults.specs.Awaited.{Awaits}
 use Rattle.sweep_faults.specs.Runs.{RunsFaulted}
-use Rattle.sweep_faults.proofs.running.run_faulted.Given as goal
+use Rattle.sweep_faults.proofs.running.run_awaited.Given as goal
 
 -- where a run from here on ends is where the run ends
 abbrev pub invariant-turns : goal.invariant-turns
 invariant-turns g l =
-    ((z : Run) → RunsFaulted l.fn.fault l.kernel l.schedule z → RunsFaulted l.fn.fault l.initial.kernel l.initial.schedule z)
+    ((z : Run) → RunsFaulted l.initial.awaited.fault l.kernel l.schedule z
+    → RunsFaulted l.initial.awaited.fault l.initial.kernel l.initial.schedule z)
     × Tells l.initial.kernel (g.W.Watch.told l.initial.watch) l.kernel (g.W.Watch.told l.watch)
     × (g.W.Watch.begun l.watch ≡ g.W.Watch.begun l.initial.watch) × Awaits l.awaited l.kernel.running.log
-    × (l.awaited.fault ≡ l.fn.fault)
+    × (l.awaited.fault ≡ l.initial.awaited.fault)
 
 abbrev pub decreases-turns : goal.decreases-turns
 decreases-turns g l = events_left l.schedule
