@@ -12,7 +12,7 @@ use crate::context::Context;
 use crate::kinds::begin;
 use crate::lists::{Listing, list_on};
 use containers::Bytes;
-use lx_abi::Argument;
+use lx_abi::{Argument, Boxed};
 use std::alloc::{AllocError, Global};
 use tr_values::calls::name;
 use tr_values::{Needed, Sheet};
@@ -35,7 +35,8 @@ pub(crate) struct Row {
 #[derive(Drop)]
 pub(crate) enum Stage {
     Unbegun,
-    Under(Row),
+    /// In a place of its own: a text for which nothing is read is never left under way.
+    Under(Boxed<Row>),
     Whole,
 }
 
@@ -154,6 +155,7 @@ fn begun(sheet: &mut Sheet<'_>, context: &Context) -> Result<Row, Needed>
 /// What is made with this much of a row left, and what is read next.
 #[inline(always)]
 fn made_with(
+    alloc: Global,
     sheet: Sheet<'_>,
     context: &Context,
     row: Row,
@@ -179,6 +181,7 @@ fn made_with(
         }
         Err(Needed::Wants { address, length }) => {
             let used = count - sheet.unread();
+            let row = Boxed::new(alloc, row)?;
             let made = Made {
                 text: sheet.into_text(),
                 used,
@@ -203,7 +206,7 @@ pub(crate) fn make_first(
 {
     let mut sheet = Sheet::new(alloc, read);
     match begun(&mut sheet, context) {
-        Ok(row) => made_with(sheet, context, row, read.len()),
+        Ok(row) => made_with(alloc, sheet, context, row, read.len()),
         Err(_) => Err(AllocError),
     }
 }
@@ -233,7 +236,7 @@ pub(crate) fn go_on(
         )),
         Stage::Under(row) => {
             let sheet = Sheet::with(alloc, text, read.split_at(used).1);
-            made_with(sheet, context, row, read.len())
+            made_with(alloc, sheet, context, row.into_inner(), read.len())
         }
         Stage::Unbegun => make_first(alloc, context, read),
     }

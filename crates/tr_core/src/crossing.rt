@@ -243,30 +243,33 @@ fn read(
     }
 }
 
-/// The same of a decoder that was begun, which takes a place of its own where something is wanted.
-fn read_first(
+/// A call that is shown is entered or left. Its decoder takes a place of its own where something is wanted.
+#[inline(never)]
+fn cross_shown(
     session: &mut Session,
     pid: u32,
     tracee: &mut Tracee,
     crossing: Crossing,
-    decoder: Decoder,
 ) -> Result<Heard, AllocError>
-    requires { IsOf session.old.settings.options (half_at tracee.old.called crossing) decoder }
+    requires { includes session.old.settings.options.shown (call_at (half_at tracee.old.called crossing)).number
+        ≡ true }
     ensures { IfOk result
         (λ h. Comes
-        (reads_at (options_of session.old.settings) (script_of session.old.settings) pid crossing
-        decoder.got (known_at session.old pid tracee.old) true) h session.old session.new pid tracee.old tracee.new) }
+        (reads_at (options_of session.old.settings) (script_of session.old.settings) pid crossing []
+        (known_at session.old pid tracee.old) true) h session.old session.new pid tracee.old tracee.new) }
 {
-    match decoder.wants() {
-        None => tell(session, pid, tracee, crossing, Some(&decoder)),
-        Some(_) => {
-            let boxed = Box::new(session.settings.alloc, decoder)?;
-            read(session, pid, tracee, crossing, boxed)
-        }
+    let alloc = session.settings.alloc;
+    let half = half(&crossing, tracee.called);
+    let decoder = half.begin(alloc, session.settings.options.string_limit)?;
+    if decoder.wants().is_none() {
+        return tell(session, pid, tracee, crossing, Some(&decoder));
     }
+    let boxed = Box::new(alloc, decoder)?;
+    read(session, pid, tracee, crossing, boxed)
 }
 
 /// A call is entered or left, whose text is read where it is shown.
+#[inline(always)]
 pub fn cross(
     session: &mut Session,
     pid: u32,
@@ -284,10 +287,7 @@ pub fn cross(
     if !shown {
         return tell(session, pid, tracee, crossing, None);
     }
-    let alloc = session.settings.alloc;
-    let half = half(&crossing, tracee.called);
-    let decoder = half.begin(alloc, session.settings.options.string_limit)?;
-    read_first(session, pid, tracee, crossing, decoder)
+    cross_shown(session, pid, tracee, crossing)
 }
 
 /// The decoder once it was given what was read.
