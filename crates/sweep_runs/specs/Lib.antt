@@ -1,4 +1,5 @@
 pub mod Runs
+pub mod Leaders
 pub mod Cases
 pub mod Rows
 pub mod Trials

@@ -3,7 +3,6 @@ use Rattle.std.specs.Prelude.{◌≡◌, cond, if◌then◌else◌, false, Optio
 use Rattle.sweep_faults.specs.Faults.{is_stop}
 use Rattle.sweep_faults.specs.declared.faults.Fault.{Fault}
 use Rattle.sweep_faults.specs.declared.faults.Kind.{Kind}
-use Rattle.sweep_faults.specs.declared.faults.Kind.TheVariants as kind
 use Rattle.sweep_rows.specs.Endings.{first_word}
 use Rattle.sweep_rows.specs.Files.{file_notes}
 use Rattle.sweep_rows.specs.Verdicts.{facts_of, verdict_of}

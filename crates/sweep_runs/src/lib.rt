@@ -4,6 +4,7 @@
 pub mod chosen;
 pub mod ends;
 pub mod laws;
+pub mod leading;
 pub mod progress;
 pub mod runs;
 pub mod second;
@@ -12,8 +13,9 @@ pub mod trials;
 
 pub use chosen::{Case, Errors, Wanted, cases};
 pub use ends::ending;
+pub use leading::Leader;
 pub use progress::{Progress, Silent};
 pub use runs::{Setup, reach, reach_failing, refer, run_accepted, run_by, run_failing, run_under};
 pub use second::boot_on;
-pub use sweeping::{Report, Row, fault_of, run_case, run_cases, script_of, sweep};
-pub use trials::{Trial, TrialRow, run_trial};
+pub use sweeping::{Report, Row, fault_of, run_case, run_cases, run_led_cases, script_of, sweep};
+pub use trials::{Trial, TrialRow, run_led_trial, run_trial};

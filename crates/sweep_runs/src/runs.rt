@@ -37,7 +37,7 @@ fn copy<T: Copy + Drop>(alloc: Global, items: &[T]) -> Result<Vec<T>, AllocError
 }
 
 /// The kernel of a boot under a script, and the schedule of these words. The fault is the boot's, or Memory.
-fn begin(
+pub(crate) fn begin(
     alloc: Global,
     boot: &Boot,
     words: &[Word],
@@ -154,7 +154,7 @@ fn reached(alloc: Global, kernel: &mut Kernel) -> Result<Reached, AllocError>
 }
 
 /// What a run left, logged and said, which does not go on.
-fn reached_by(alloc: Global, mut kernel: Kernel) -> Result<Reached, AllocError>
+pub(crate) fn reached_by(alloc: Global, mut kernel: Kernel) -> Result<Reached, AllocError>
     requires { kernel.keeps_log ≡ true }
     ensures { IfOk result (IsReached kernel) }
 {

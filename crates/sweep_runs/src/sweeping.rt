@@ -9,9 +9,12 @@ ghost use Rattle.sweep_rows.specs.Failures.{FailsAlone};
 ghost use Rattle.sweep_runs.specs.Cases.{cases_of};
 ghost use Rattle.sweep_rows.specs.Files.{file_notes};
 ghost use Rattle.sweep_rows.specs.Verdicts.{facts_of, verdict_of};
+ghost use Rattle.sweep_runs.specs.Leaders.{IsLed};
+ghost use Rattle.sweep_runs.specs.Runs.{FaultReaches};
 ghost use Rattle.sweep_runs.specs.Rows.{fault_of as fault_of_case, kind_of, IsRow, AreRows, IsReport};
 
 use crate::chosen::{Case, Wanted, cases};
+use crate::leading::Leader;
 use crate::progress::Progress;
 use crate::runs::{Setup, reach_failing, refer};
 use containers::Seq;
@@ -161,6 +164,22 @@ fn compare(
     Ok(row_of(case, verdict, files, run, has_words))
 }
 
+/// The row of a case whose run came to this.
+fn row_reached(
+    alloc: Global,
+    setup: &Setup,
+    reference: &Reached,
+    case: Case,
+    reached: Reached,
+) -> Result<Row, AllocError>
+    requires { FaultReaches setup.now (fault_of_case case) reached }
+    ensures row { IfOk result (IsRow setup.now reference.now) }
+    ensures case { IfOk result (λ r. r.case ≡ case) }
+{
+    let row = compare(alloc, &setup.boot, reference, reached, case)?;
+    Ok(row)
+}
+
 /// Makes the run of a case, of a boot that is accepted.
 pub fn run_case(
     alloc: Global,
@@ -172,8 +191,50 @@ pub fn run_case(
     ensures case { IfOk result (λ r. r.case ≡ case) }
 {
     let reached = reach_failing(alloc, setup, fault_of(case))?;
-    let row = compare(alloc, &setup.boot, reference, reached, case)?;
+    let row = row_reached(alloc, setup, reference, case, reached)?;
     Ok(row)
+}
+
+/// The same, from where a leader stands.
+fn run_led(
+    alloc: Global,
+    setup: &Setup,
+    leader: &mut Leader,
+    reference: &Reached,
+    case: Case,
+) -> Result<Row, AllocError>
+    requires { IsLed setup.now leader.old }
+    ensures row { IfOk result (IsRow setup.now reference.now) }
+    ensures case { IfOk result (λ r. r.case ≡ case) }
+    ensures led { OnOk result (IsLed setup.now leader.new) }
+{
+    let reached = leader.reach_failing(alloc, setup, fault_of(case))?;
+    let row = row_reached(alloc, setup, reference, case, reached)?;
+    Ok(row)
+}
+
+/// Makes the run of each case, each from where a leader stands.
+pub fn run_led_cases<P: Progress>(
+    alloc: Global,
+    setup: &Setup,
+    leader: &mut Leader,
+    reference: &Reached,
+    cases: &[Case],
+    progress: &mut P,
+) -> Result<Vec<Row>, AllocError>
+    requires { IsLed setup.now leader.old }
+    ensures rows { IfOk result (λ rows. AreRows setup.now reference.now cases.now rows.items) }
+    ensures led { OnOk result (IsLed setup.now leader.new) }
+{
+    let mut rows = Vec::new(alloc);
+    let mut left = cases;
+    while let Some((case, rest)) = left.split_first() {
+        let row = run_led(alloc, setup, leader, reference, *case)?;
+        rows.push(row)?;
+        left = rest;
+        progress.tell(rows.len(), cases.len());
+    }
+    Ok(rows)
 }
 
 /// Makes the run of each case, of a boot that is accepted.
@@ -186,15 +247,10 @@ pub fn run_cases<P: Progress>(
 ) -> Result<Vec<Row>, AllocError>
     ensures { IfOk result (λ rows. AreRows setup.now reference.now cases.now rows.items) }
 {
-    let mut rows = Vec::new(alloc);
-    let mut left = cases;
-    while let Some((case, rest)) = left.split_first() {
-        let row = run_case(alloc, setup, reference, *case)?;
-        rows.push(row)?;
-        left = rest;
-        progress.tell(rows.len(), cases.len());
-    }
-    Ok(rows)
+    let mut leader = Leader::new(alloc, setup)?;
+    let rows = run_led_cases(alloc, setup, &mut leader, reference, cases, progress);
+    drop(leader);
+    rows
 }
 
 /// Makes the run of each case that is wanted of the reference's log. The boot is that of the reference, so no run is

@@ -1,11 +1,14 @@
 //! Runs in which an occurrence of a call fails in one way or another.
 
-ghost use Rattle.std.specs.Prelude.{◌≡◌, false, IfOk};
+ghost use Rattle.std.specs.Prelude.{◌≡◌, false, IfOk, OnOk};
 ghost use Rattle.sweep_rows.specs.Endings.{first_word as first_word_of};
 ghost use Rattle.sweep_rows.specs.Files.{file_notes};
 ghost use Rattle.sweep_rows.specs.Verdicts.{facts_of as facts};
+ghost use Rattle.sweep_runs.specs.Leaders.{IsLed};
+ghost use Rattle.sweep_runs.specs.Runs.{FaultReaches};
 ghost use Rattle.sweep_runs.specs.Trials.{fault_of, verdict_by as verdict_by_kind, verdict_by_files, IsTrialRow};
 
+use crate::leading::Leader;
 use crate::runs::{Setup, reach_failing};
 use crate::sweeping::notes_of;
 use containers::Seq;
@@ -119,6 +122,23 @@ fn row_of(trial: Trial, verdict: Option<Verdict>, files: Vec<FileNote>, run: Rea
     }
 }
 
+/// The row of a trial whose run came to this.
+fn row_reached(
+    alloc: Global,
+    setup: &Setup,
+    reference: &Reached,
+    trial: Trial,
+    reached: Reached,
+) -> Result<TrialRow, AllocError>
+    requires { FaultReaches setup.now (fault_of trial) reached }
+    ensures row { IfOk result (IsTrialRow setup.now reference.now) }
+    ensures trial { IfOk result (λ r. r.trial ≡ trial) }
+{
+    let files = notes_of(alloc, &setup.boot, reference, &reached)?;
+    let verdict = judge(alloc, trial.kind, reference, &reached, files.as_slice())?;
+    Ok(row_of(trial, verdict, files, reached))
+}
+
 /// Makes the run of a trial, of a boot that is accepted.
 pub fn run_trial(
     alloc: Global,
@@ -130,7 +150,24 @@ pub fn run_trial(
     ensures trial { IfOk result (λ r. r.trial ≡ trial) }
 {
     let reached = reach_failing(alloc, setup, trial.fault())?;
-    let files = notes_of(alloc, &setup.boot, reference, &reached)?;
-    let verdict = judge(alloc, trial.kind, reference, &reached, files.as_slice())?;
-    Ok(row_of(trial, verdict, files, reached))
+    let row = row_reached(alloc, setup, reference, trial, reached)?;
+    Ok(row)
+}
+
+/// The same, from where a leader stands.
+pub fn run_led_trial(
+    alloc: Global,
+    setup: &Setup,
+    leader: &mut Leader,
+    reference: &Reached,
+    trial: Trial,
+) -> Result<TrialRow, AllocError>
+    requires { IsLed setup.now leader.old }
+    ensures row { IfOk result (IsTrialRow setup.now reference.now) }
+    ensures trial { IfOk result (λ r. r.trial ≡ trial) }
+    ensures led { OnOk result (IsLed setup.now leader.new) }
+{
+    let reached = leader.reach_failing(alloc, setup, trial.fault())?;
+    let row = row_reached(alloc, setup, reference, trial, reached)?;
+    Ok(row)
 }

@@ -1,25 +1,23 @@
 use Rattle.std.proofs.Common.{◌↔◌, IsTrue, ap, subst, sym, ◌∙◌}
 use Rattle.sweep_faults.specs.Words.{HasWords}
-use Rattle.sweep_faults.specs.declared.faults.Fault.{Fault}
 use Rattle.sweep_rows.specs.Verdicts.{facts_of, verdict_of}
 use Rattle.sweep_runs.specs.Rows.{fault_of}
 use Rattle.sweep_runs.specs.Runs.{FaultReaches}
 use Rattle.sweep_runs.specs.declared.chosen.Case.{Case}
-use Rattle.sweep_runs.proofs.sweeping.run_case.Goals as goal
+use Rattle.sweep_runs.proofs.sweeping.row_reached.Goals as goal
 
 pub returns-clause-row : goal.returns-clause-row
 returns-clause-row c =
     let row = c.in_ok-row.ensures in
     record {
-      reached = c.in_ok-reached.reached;
+      reached = c.args.reached;
       run =
-          subst (λ (f : Fault). FaultReaches c.args.setup.now f c.in_ok-reached.reached) (c.fault_of.ensures ∙ ap fault_of (sym row.case))
-          c.in_ok-reached.ensures;
+          subst (λ (k : Case). FaultReaches c.args.setup.now (fault_of k) c.args.reached) (sym row.case) c.requires;
       compared = record {
         files = row.files;
         verdict =
             row.verdict
-            ∙ ap (λ (k : Case). verdict_of (facts_of c.args.reference.now c.in_ok-reached.reached c.in_ok-row.row.files.items k.tells))
+            ∙ ap (λ (k : Case). verdict_of (facts_of c.args.reference.now c.args.reached c.in_ok-row.row.files.items k.tells))
             (sym row.case);
         word = row.word;
         ended = row.ended;
@@ -27,6 +25,6 @@ returns-clause-row c =
         words =
             subst
             (λ (k : Case). IsTrue c.in_ok-row.row.has_words
-            ↔ HasWords c.args.setup.now.boot.follow (fault_of k) c.in_ok-reached.reached.log.items) (sym row.case) row.words;
+            ↔ HasWords c.args.setup.now.boot.follow (fault_of k) c.args.reached.log.items) (sym row.case) row.words;
       };
     }
