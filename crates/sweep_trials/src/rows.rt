@@ -1,6 +1,7 @@
 //! What came of the runs.
 
-ghost use Rattle.std.specs.Prelude.{◌≡◌, IfOk};
+ghost use Rattle.std.specs.Prelude.{◌≡◌, IfOk, OnOk};
+ghost use Rattle.sweep_runs.specs.Leaders.{IsLed};
 ghost use Rattle.sweep_trials.specs.Rows.{AreTriedRows, EndsBehind, IsSecondEnd, IsTriedRow};
 ghost use Rattle.sweep_trials.specs.Trials.{trials_of};
 
@@ -9,7 +10,7 @@ use crate::trials::trials_in;
 use front_end::Fault;
 use std::alloc::Global;
 use sweep_rows::Reached;
-use sweep_runs::{Setup, Trial, TrialRow, reach_failing, run_trial};
+use sweep_runs::{Leader, Setup, Trial, TrialRow, run_led_trial};
 use sweep_words::plan::Plan;
 use sweep_words::trials::{Second, Tried};
 
@@ -22,26 +23,59 @@ pub struct TriedRow {
 }
 
 /// How a second program ends behind a trial, whose run is made again for it.
-fn behind(alloc: Global, setup: &Setup, second: &Second, trial: Trial) -> Result<SecondEnd, Fault>
-    ensures { IfOk result (EndsBehind setup.now second.now trial) }
+fn behind(
+    alloc: Global,
+    setup: &Setup,
+    leader: &mut Leader,
+    second: &Second,
+    trial: Trial,
+) -> Result<SecondEnd, Fault>
+    requires { IsLed setup.now leader.old }
+    ensures ends { IfOk result (EndsBehind setup.now second.now trial) }
+    ensures led { OnOk result (IsLed setup.now leader.new) }
 {
-    let run = reach_failing(alloc, setup, trial.fault())?;
+    let run = leader.reach_failing(alloc, setup, trial.fault())?;
     let left = run.ending.outcome.files.as_slice()?;
     let end = end_on(alloc, setup, second, left)?;
     Ok(end)
 }
 
 /// How that of a plan ends, where there is one.
-fn second_end(alloc: Global, plan: &Plan, trial: Trial) -> Result<Option<SecondEnd>, Fault>
-    ensures { IfOk result (IsSecondEnd plan.now.setup plan.now.second trial) }
+fn second_end(
+    alloc: Global,
+    plan: &Plan,
+    leader: &mut Leader,
+    trial: Trial,
+) -> Result<Option<SecondEnd>, Fault>
+    requires { IsLed plan.now.setup leader.old }
+    ensures ends { IfOk result (IsSecondEnd plan.now.setup plan.now.second trial) }
+    ensures led { OnOk result (IsLed plan.now.setup leader.new) }
 {
     match &plan.second {
         None => Ok(None),
         Some(second) => {
-            let end = behind(alloc, &plan.setup, second, trial)?;
+            let end = behind(alloc, &plan.setup, leader, second, trial)?;
             Ok(Some(end))
         }
     }
+}
+
+/// Makes the run of a trial, of a boot that is accepted, and that of the second program, from where a leader stands.
+fn run_led_tried(
+    alloc: Global,
+    plan: &Plan,
+    leader: &mut Leader,
+    reference: &Reached,
+    trial: Trial,
+) -> Result<TriedRow, Fault>
+    requires { IsLed plan.now.setup leader.old }
+    ensures row { IfOk result (IsTriedRow plan.now reference.now) }
+    ensures trial { IfOk result (λ r. r.made.trial ≡ trial) }
+    ensures led { OnOk result (IsLed plan.now.setup leader.new) }
+{
+    let made = run_led_trial(alloc, &plan.setup, leader, reference, trial)?;
+    let second = second_end(alloc, plan, leader, trial)?;
+    Ok(TriedRow { made, second })
 }
 
 /// Makes the run of a trial, of a boot that is accepted, and that of the second program.
@@ -54,9 +88,31 @@ pub fn run_tried(
     ensures row { IfOk result (IsTriedRow plan.now reference.now) }
     ensures trial { IfOk result (λ r. r.made.trial ≡ trial) }
 {
-    let made = run_trial(alloc, &plan.setup, reference, trial)?;
-    let second = second_end(alloc, plan, trial)?;
-    Ok(TriedRow { made, second })
+    let mut leader = Leader::new(alloc, &plan.setup)?;
+    let row = run_led_tried(alloc, plan, &mut leader, reference, trial);
+    drop(leader);
+    row
+}
+
+/// Makes those of each trial, each from where a leader stands.
+fn run_led_each(
+    alloc: Global,
+    plan: &Plan,
+    leader: &mut Leader,
+    reference: &Reached,
+    trials: &[Trial],
+) -> Result<Vec<TriedRow>, Fault>
+    requires { IsLed plan.now.setup leader.old }
+    ensures { IfOk result (λ rows. AreTriedRows plan.now reference.now trials.now rows.items) }
+{
+    let mut rows = Vec::new(alloc);
+    let mut left = trials;
+    while let Some((trial, rest)) = left.split_first() {
+        let row = run_led_tried(alloc, plan, leader, reference, *trial)?;
+        rows.push(row)?;
+        left = rest;
+    }
+    Ok(rows)
 }
 
 /// Makes those of each trial.
@@ -68,14 +124,10 @@ fn run_each(
 ) -> Result<Vec<TriedRow>, Fault>
     ensures { IfOk result (λ rows. AreTriedRows plan.now reference.now trials.now rows.items) }
 {
-    let mut rows = Vec::new(alloc);
-    let mut left = trials;
-    while let Some((trial, rest)) = left.split_first() {
-        let row = run_tried(alloc, plan, reference, *trial)?;
-        rows.push(row)?;
-        left = rest;
-    }
-    Ok(rows)
+    let mut leader = Leader::new(alloc, &plan.setup)?;
+    let rows = run_led_each(alloc, plan, &mut leader, reference, trials);
+    drop(leader);
+    rows
 }
 
 /// Makes the runs of the trials of calls, and those of the second program.

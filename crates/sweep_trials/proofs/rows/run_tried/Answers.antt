@@ -1,12 +1,5 @@
-use Rattle.std.proofs.Common.{subst, sym}
-use Rattle.sweep_runs.specs.declared.trials.Trial.{Trial}
-use Rattle.sweep_trials.specs.Rows.{IsSecondEnd}
+use Rattle.sweep_runs.proofs.Leaders.{boot_led}
 use Rattle.sweep_trials.proofs.rows.run_tried.Goals as goal
 
-pub returns-clause-row : goal.returns-clause-row
-returns-clause-row c = record {
-  made = c.in_ok-made.ensures.row;
-  second =
-      subst (λ (t : Trial). IsSecondEnd c.args.plan.now.setup c.args.plan.now.second t c.in_ok-second.second)
-      (sym c.in_ok-made.ensures.trial) c.in_ok-second.ensures;
-}
+pub run_led_tried-row-requires : goal.run_led_tried-row-requires
+run_led_tried-row-requires c = boot_led c.args.plan.now.setup c.in_ok-leader.leader c.in_ok-leader.ensures
