@@ -1,7 +1,6 @@
 //! The runs with a failure, and what is written of them as they are made.
 
 ghost use Rattle.std.specs.Prelude.{◌≡◌, ◌<◌, ◌≤◌, ◌++◌, [], true, false, length, map, take, IfOk, OnOk};
-ghost use Rattle.sweep_runs.specs.Leaders.{IsLed};
 ghost use Rattle.sweep_runs.specs.Rows.{fault_of};
 ghost use Rattle.sweep_command.specs.Reports.{taken, waits, every, part_of, AreAll, AreWanted, AreBegun, IsFound};
 ghost use Rattle.sweep_command.specs.Reports.{IsCut};
@@ -27,7 +26,7 @@ use sweep_report::sites::is_kept;
 use sweep_report::traced::TracedCalls;
 use sweep_report::untried::SiteCalls;
 use sweep_rows::Reached;
-use sweep_runs::{Case, Leader, Progress, Row, cases};
+use sweep_runs::{Case, Progress, Row, cases};
 use sweep_words::plan::Plan;
 use sweep_words::words::{Format, Shard, Words};
 
@@ -286,12 +285,10 @@ fn make_batches<R: Files + Processes + Threads + Sync + AllocGlobal, C: Clock, W
     reference: &Reached,
     calls: &TracedCalls,
     cases: &[Case],
-    leader: &mut Leader,
     checks: &mut Checks,
     writer: &mut W,
     progress: &mut ShownProgress<C, E>,
 ) -> Result<Vec<Row>, Fault>
-    requires { IsLed plan.now.setup leader.old }
     ensures { IfOk result (λ rows. AreBegun plan.now.strict plan.now.setup reference.now words cases.now rows.items) }
 {
     let size = batch_size(words.jobs, words.seconds.is_some());
@@ -300,7 +297,7 @@ fn make_batches<R: Files + Processes + Threads + Sync + AllocGlobal, C: Clock, W
     let mut left = cases;
     while goes_on(left, ended, progress.is_past(words.seconds)) {
         let (first, _) = left.split_at(size.min(left.len()));
-        let mut more = told_rows(rt, words, checks, &plan.setup, leader, reference, first)?;
+        let mut more = told_rows(rt, words, checks, &plan.setup, reference, first)?;
         ended = cut(
             rt.alloc(),
             plan,
@@ -348,7 +345,6 @@ pub fn make<
 ) -> Result<Vec<Row>, Fault>
     ensures { IfOk result (λ rows. AreBegun plan.now.strict plan.now.setup reference.now words cases.now rows.items) }
 {
-    let mut leader = Leader::new(rt.alloc(), &plan.setup)?;
     let is_shown = err.is_terminal();
     let mut progress = ShownProgress::new(rt.alloc(), rt, err, is_shown);
     let made = make_batches(
@@ -359,12 +355,10 @@ pub fn make<
         reference,
         calls,
         cases,
-        &mut leader,
         checks,
         writer,
         &mut progress,
     );
-    drop(leader);
     progress.end();
     made
 }
