@@ -23,8 +23,10 @@ impl<T> Model for History<T> {
     ghost also_owns = { λ _. ftrue };
 }
 
-// It owns nothing.
+// It owns nothing, and there is nothing in it to read.
 unsafe impl<T: Send> Send for History<T> {}
+
+unsafe impl<T: Sync> Sync for History<T> {}
 
 impl<T> History<T> {
     pub fn new() -> History<T>

@@ -31,7 +31,7 @@ use Rattle.pt_model.specs.Hosting.{Hosting, hosting_asked, hosting_event, hostin
 use Rattle.pt_schedule.specs.declared.schedule.Schedule.{Schedule}
 use Rattle.pt_schedule.specs.Schedules.{next_of}
 use Rattle.pt_kernel.specs.Attends.{Attended, GoesOn, IsFed}
-use Rattle.pt_kernel.specs.Bursts.{after as host_then}
+use Rattle.pt_kernel.specs.AfterEvents.{after as host_then}
 use Rattle.pt_kernel.specs.Hosts.{HostState, event_of, readiness_of}
 use Rattle.pt_sound.specs.Traced.{Deed, Puts, Comes, after, after_all}
 use Rattle.host_frame.specs.Reading.{frame_at}

@@ -9,7 +9,7 @@ use Rattle.pt_model.specs.Attending.{left_pending}
 use Rattle.pt_model.specs.Hosting.{with_pending}
 use Rattle.pt_model.specs.Ptrace.{is_there}
 use Rattle.pt_kernel.specs.Attends.{Attended, GoesOn, IsFed}
-use Rattle.pt_kernel.specs.Bursts.{after}
+use Rattle.pt_kernel.specs.AfterEvents.{after}
 use Rattle.pt_kernel.specs.Hosts.{HostState, event_of, is_boot, readiness_of}
 use Rattle.pt_schedule.specs.Schedules.{next_of}
 use Rattle.pt_schedule.specs.declared.schedule.Schedule.{Schedule}

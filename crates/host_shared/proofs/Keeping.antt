@@ -12,7 +12,7 @@ use Rattle.lx_turn.specs.Linux.{linux}
 use Rattle.pt_model.specs.declared.ptrace.Report.{Report}
 use Rattle.pt_model.specs.Hosting.{with_pending, hosting_event, ready_in}
 use Rattle.pt_model.specs.Ptrace.{is_there}
-use Rattle.pt_kernel.specs.Bursts.{after}
+use Rattle.pt_kernel.specs.AfterEvents.{after}
 use Rattle.pt_kernel.specs.Hosts.{HostState, Linux_host, readiness_of, event_of}
 use Rattle.pt_journal.specs.Journals.{is_over, is_outcome, IsServed, Follows, Replays, last_from, after_entry}
 use Rattle.pt_journal.specs.declared.entry.Entry.{Entry}

@@ -3,7 +3,7 @@ use Rattle.std.proofs.Common.{◌≡◌, ◌⊎◌, ℕ, zero, suc, ◌%◌, Lis
 use Rattle.lx_abi.specs.declared.schedule.Event.TheVariants.{Turn}
 use Rattle.pt_schedule.specs.Cycle.{next_able}
 use Rattle.pt_kernel.specs.Hosts.{HostState, readiness_of}
-use Rattle.pt_kernel.specs.Bursts.{after, AreAlike, RunsOn, RunsLeaveAlike}
+use Rattle.pt_kernel.specs.AfterEvents.{after, AreAlike, RunsOn, RunsLeaveAlike}
 use Rattle.host_shared.specs.declared.followers.Follower.{Follower}
 use Rattle.host_shared.specs.Following.{Follows, Tells, Knows}
 

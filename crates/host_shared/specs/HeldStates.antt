@@ -13,7 +13,7 @@ use Rattle.lx_turn.specs.Linux.{linux}
 use Rattle.pt_model.specs.Hosting.{first_hosting, with_pending}
 use Rattle.pt_model.specs.Ptrace.{is_there}
 use Rattle.pt_schedule.specs.Cycle.{next_able}
-use Rattle.pt_kernel.specs.Bursts.{after}
+use Rattle.pt_kernel.specs.AfterEvents.{after}
 use Rattle.pt_kernel.specs.Hosts.{HostState, Linux_host, readiness_of, event_of}
 use Rattle.pt_journal.specs.Journals.{events_of, last_turn, last_from, after_entry, is_outcome, is_over, Replays}
 use Rattle.pt_journal.specs.declared.entry.Entry.{Entry}

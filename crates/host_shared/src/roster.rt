@@ -5,7 +5,7 @@
 
 ghost use Rattle.std.specs.Prelude.{◌≡◌, false, None, Some, IfOk, OnOk};
 ghost use Rattle.lx_abi.specs.declared.schedule.Event.TheVariants as event;
-ghost use Rattle.pt_kernel.specs.Bursts.{after};
+ghost use Rattle.pt_kernel.specs.AfterEvents.{after};
 ghost use Rattle.pt_kernel.specs.Hosts.{event_of, is_boot, readiness_of};
 ghost use Rattle.pt_model.specs.Hosting.{with_pending};
 ghost use Rattle.pt_schedule.specs.Cycle.{next_able};

@@ -4,7 +4,7 @@ ghost use Rattle.std.specs.Prelude.{◌≡◌, ◌++◌, ◌∷◌, [], true, fa
 ghost use Rattle.lx_abi.specs.declared.schedule.Event.TheVariants as event;
 ghost use Rattle.pt_model.specs.Hosting.{with_pending};
 ghost use Rattle.pt_kernel.specs.Hosts.{readiness_of, event_of, is_boot};
-ghost use Rattle.pt_kernel.specs.Bursts.{after};
+ghost use Rattle.pt_kernel.specs.AfterEvents.{after};
 ghost use Rattle.pt_journal.specs.declared.entry.Entry.TheVariants as entry;
 ghost use Rattle.transcript.specs.declared.said.Said.TheVariants.{Asked, Answered};
 ghost use Rattle.host_shared.specs.Following.{Follows};

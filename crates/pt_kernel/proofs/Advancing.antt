@@ -35,7 +35,7 @@ use Rattle.pt_schedule.specs.Rows.{Continues}
 use Rattle.pt_schedule.proofs.Modes.{able_by_modes}
 use Rattle.pt_kernel.specs.declared.tracees.Tracees.{Tracees}
 use Rattle.pt_kernel.specs.Advances.{Leads}
-use Rattle.pt_kernel.specs.Bursts.{after}
+use Rattle.pt_kernel.specs.AfterEvents.{after}
 use Rattle.pt_kernel.specs.Hosts.{HostState, IsSwept, able_in, hosting_by, readiness_of}
 use Rattle.pt_kernel.specs.Stops.{stop_after, dies_after}
 use Rattle.pt_kernel.specs.Tracees.{stopped_at, after_turn as tracees_after}

@@ -37,7 +37,7 @@ use Rattle.pt_model.specs.Hosting.{as_proc, no_script, untraced, traced_at, trac
 use Rattle.pt_model.proofs.Hosts.{empty_script_is_none}
 use Rattle.pt_schedule.specs.Modes.{moves}
 use Rattle.pt_kernel.specs.Hosts.{Linux_host, HostState, able_in}
-use Rattle.pt_kernel.specs.Bursts.{after, mode_at, IsRunning, RunsOn, AreAlike, RunsLeaveAlike}
+use Rattle.pt_kernel.specs.AfterEvents.{after, mode_at, IsRunning, RunsOn, AreAlike, RunsLeaveAlike}
 use Rattle.pt_kernel.proofs.Telling.{left_at}
 
 -- Where a process stands that runs

@@ -28,7 +28,7 @@ use Rattle.pt_schedule.specs.Modes.{is_finished, moves}
 use Rattle.pt_schedule.specs.Schedules.{Readiness, next_of}
 use Rattle.pt_schedule.specs.declared.schedule.Schedule.{Schedule}
 use Rattle.pt_kernel.specs.Attends.{Attended, GoesOn, IsFed}
-use Rattle.pt_kernel.specs.Bursts.{after}
+use Rattle.pt_kernel.specs.AfterEvents.{after}
 use Rattle.pt_kernel.specs.Hosts.{HostState, able_in, readiness_of, event_of}
 use Rattle.pt_kernel.specs.Seen.{is_able, sees, given, next_of_host, IsCalled, HostsAreCalled}
 

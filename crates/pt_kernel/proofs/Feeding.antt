@@ -9,7 +9,7 @@ use Rattle.pt_schedule.specs.Schedules.{Given, next_of}
 use Rattle.pt_schedule.proofs.Rowing.{runs_are_turns, none_after, more_after}
 use Rattle.pt_kernel.specs.Hosts.{HostState, readiness_of, event_of}
 use Rattle.pt_kernel.specs.Advances.{Leads}
-use Rattle.pt_kernel.specs.Bursts.{after}
+use Rattle.pt_kernel.specs.AfterEvents.{after}
 use Rattle.pt_kernel.specs.Attends.{Attended, GoesOn, IsFed, Notes}
 use Rattle.pt_kernel.specs.Noted.{noting}
 use Rattle.pt_kernel.proofs.Noting.{noting_nothing, noting_on}

@@ -5,7 +5,7 @@ use Rattle.lx_abi.specs.declared.schedule.Event.{Event}
 use Rattle.pt_schedule.specs.declared.schedule.Schedule.{Schedule}
 use Rattle.pt_schedule.specs.Schedules.{next_of}
 use Rattle.pt_kernel.specs.Hosts.{HostState, readiness_of, event_of}
-use Rattle.pt_kernel.specs.Bursts.{after}
+use Rattle.pt_kernel.specs.AfterEvents.{after}
 use Rattle.pt_kernel.specs.Noted.{noting}
 
 -- where host and schedule stand in the end, and what was answered: none where the schedule ended before

@@ -4,7 +4,7 @@ pub mod Stops
 pub mod Left
 pub mod Asking
 pub mod Hosts
-pub mod Bursts
+pub mod AfterEvents
 pub mod Advances
 pub mod Noted
 pub mod Attends

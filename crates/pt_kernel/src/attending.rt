@@ -5,7 +5,7 @@ ghost use Rattle.lx_abi.specs.declared.schedule.Event.{Event as HostEvent};
 ghost use Rattle.pt_schedule.specs.Schedules.{events_left};
 ghost use Rattle.pt_schedule.specs.Rows.{run_of};
 ghost use Rattle.pt_kernel.specs.Attends.{Attended, Notes};
-ghost use Rattle.pt_kernel.specs.Bursts.{after};
+ghost use Rattle.pt_kernel.specs.AfterEvents.{after};
 ghost use Rattle.pt_kernel.specs.Hosts.{event_of};
 ghost use Rattle.pt_kernel.specs.Noted.{noting};
 

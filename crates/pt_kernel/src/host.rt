@@ -10,7 +10,7 @@ ghost use Rattle.lx_exec.specs.Programs.{booted};
 ghost use Rattle.pt_model.specs.Hosting.{first_hosting, hosting_asked, ready_in};
 ghost use Rattle.pt_kernel.specs.Hosts.{able_in, event_of, hosting_by, is_boot, readiness_of};
 ghost use Rattle.pt_kernel.specs.Advances.{Leads};
-ghost use Rattle.pt_kernel.specs.Bursts.{after, mode_at, IsRunning, RunsOn};
+ghost use Rattle.pt_kernel.specs.AfterEvents.{after, mode_at, IsRunning, RunsOn};
 
 use crate::pending::{Asked, Pending};
 use crate::serving::{outcome, serve};

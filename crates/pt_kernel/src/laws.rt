@@ -1,6 +1,6 @@
 //! Laws of the definitions.
 
-ghost use Rattle.pt_kernel.specs.Bursts.{RunsLeaveAlike};
+ghost use Rattle.pt_kernel.specs.AfterEvents.{RunsLeaveAlike};
 ghost use Rattle.pt_kernel.specs.Left.{BootsLeaveAsPlain};
 ghost use Rattle.pt_kernel.specs.Seen.{HostsAreCalled};
 ghost use Rattle.pt_model.specs.Headline.{IsTold, HeadlineAt};

@@ -1,3 +1,4 @@
+mod Calls
 mod Forms
 mod InPage
 mod Prefixes

@@ -1,20 +1,22 @@
 //! Rows whose files a command has judged.
 
-ghost use Rattle.std.specs.Prelude.{◌≡◌, [], true, IfOk};
+ghost use Rattle.std.specs.Prelude.{◌≡◌, [], true, IfOk, OnOk};
 ghost use Rattle.sweep_rows.specs.Summary.{checked as checked_by};
 ghost use Rattle.sweep_rows.specs.Verdicts.{facts_of as facts, verdict_of as verdict};
+ghost use Rattle.sweep_runs.specs.Leaders.{IsLed};
+ghost use Rattle.sweep_runs.specs.Rows.{AreRows};
 ghost use Rattle.sweep_command.specs.Checks.{is_asked, with_verdict, IsJudged, AreJudged, AreTold};
 
 use crate::checking::Checks;
 use clap::ArgMatches;
 use front_end::{Fault, Shown};
-use std::alloc::Global;
+use std::alloc::{AllocError, Global};
 use std::env::{self, Env};
 use std::process::Processes;
 use std::rt::Files;
 use std::thread::Threads;
 use sweep_rows::{Reached, Verdict, checked, facts_of, rank, verdict_of};
-use sweep_runs::{Case, Row, Setup, Silent, fault_of, reach_failing};
+use sweep_runs::{Case, Leader, Row, Setup, Silent, fault_of, reach_failing, run_led_cases};
 use sweep_threads::rows_on_threads;
 use sweep_words::words::Words;
 
@@ -134,19 +136,41 @@ fn judge_rows<R: Files + Processes + AllocGlobal>(
     Ok(told)
 }
 
+/// Makes the run of each case: on one thread from where a leader stands.
+fn made_rows<R: Threads + Sync + AllocGlobal>(
+    rt: &R,
+    jobs: u8,
+    setup: &Setup,
+    leader: &mut Leader,
+    reference: &Reached,
+    cases: &[Case],
+) -> Result<Vec<Row>, AllocError>
+    requires { IsLed setup.now leader.old }
+    ensures rows { IfOk result (λ rows. AreRows setup.now reference.now cases.now rows.items) }
+    ensures led { OnOk result (IsLed setup.now leader.new) }
+{
+    if jobs < 2 {
+        return run_led_cases(rt.alloc(), setup, leader, reference, cases, &mut Silent);
+    }
+    let rows = rows_on_threads(rt, rt.alloc(), jobs, setup, reference, cases, &mut Silent)?;
+    Ok(rows)
+}
+
 /// Makes the run of each case, and has the command judge their files, where the words name one.
 pub fn told_rows<R: Files + Processes + Threads + Sync + AllocGlobal>(
     rt: &R,
     words: Words,
     checks: &mut Checks,
     setup: &Setup,
+    leader: &mut Leader,
     reference: &Reached,
     cases: &[Case],
 ) -> Result<Vec<Row>, Fault>
-    ensures { IfOk result (λ rows. AreTold words.is_checked setup.now reference.now cases.now rows.items) }
+    requires { IsLed setup.now leader.old }
+    ensures told { IfOk result (λ rows. AreTold words.is_checked setup.now reference.now cases.now rows.items) }
+    ensures led { OnOk result (IsLed setup.now leader.new) }
 {
-    let jobs = words.jobs;
-    let rows = rows_on_threads(rt, rt.alloc(), jobs, setup, reference, cases, &mut Silent)?;
+    let rows = made_rows(rt, words.jobs, setup, leader, reference, cases)?;
     let is_checked = words.is_checked;
     if !is_checked {
         return Ok(rows);

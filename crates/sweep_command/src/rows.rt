@@ -1,6 +1,7 @@
 //! The runs with a failure, and what is written of them as they are made.
 
 ghost use Rattle.std.specs.Prelude.{◌≡◌, ◌<◌, ◌≤◌, ◌++◌, [], true, false, length, map, take, IfOk, OnOk};
+ghost use Rattle.sweep_runs.specs.Leaders.{IsLed};
 ghost use Rattle.sweep_runs.specs.Rows.{fault_of};
 ghost use Rattle.sweep_command.specs.Reports.{taken, waits, every, part_of, AreAll, AreWanted, AreBegun, IsFound};
 ghost use Rattle.sweep_command.specs.Reports.{IsCut};
@@ -26,7 +27,7 @@ use sweep_report::sites::is_kept;
 use sweep_report::traced::TracedCalls;
 use sweep_report::untried::SiteCalls;
 use sweep_rows::Reached;
-use sweep_runs::{Case, Progress, Row, cases};
+use sweep_runs::{Case, Leader, Progress, Row, Setup, cases};
 use sweep_words::plan::Plan;
 use sweep_words::words::{Format, Shard, Words};
 
@@ -285,10 +286,12 @@ fn make_batches<R: Files + Processes + Threads + Sync + AllocGlobal, C: Clock, W
     reference: &Reached,
     calls: &TracedCalls,
     cases: &[Case],
+    leader: &mut Leader,
     checks: &mut Checks,
     writer: &mut W,
     progress: &mut ShownProgress<C, E>,
 ) -> Result<Vec<Row>, Fault>
+    requires { IsLed plan.now.setup leader.old }
     ensures { IfOk result (λ rows. AreBegun plan.now.strict plan.now.setup reference.now words cases.now rows.items) }
 {
     let size = batch_size(words.jobs, words.seconds.is_some());
@@ -297,7 +300,7 @@ fn make_batches<R: Files + Processes + Threads + Sync + AllocGlobal, C: Clock, W
     let mut left = cases;
     while goes_on(left, ended, progress.is_past(words.seconds)) {
         let (first, _) = left.split_at(size.min(left.len()));
-        let mut more = told_rows(rt, words, checks, &plan.setup, reference, first)?;
+        let mut more = told_rows(rt, words, checks, &plan.setup, leader, reference, first)?;
         ended = cut(
             rt.alloc(),
             plan,
@@ -325,6 +328,47 @@ fn make_batches<R: Files + Processes + Threads + Sync + AllocGlobal, C: Clock, W
     Ok(rows)
 }
 
+/// One that stands at the boot, which is accepted.
+fn first_leader(alloc: Global, setup: &Setup) -> Result<Leader, AllocError>
+    ensures { IfOk result (IsLed setup.now) }
+{
+    let leader = Leader::new(alloc, setup)?;
+    Ok(leader)
+}
+
+/// Makes the runs, batch by batch, all of which one leader serves on one thread.
+fn make_led<R: Files + Processes + Threads + Sync + AllocGlobal, C: Clock, W: Write, E: Write>(
+    rt: &R,
+    matches: &ArgMatches,
+    words: Words,
+    plan: &Plan,
+    reference: &Reached,
+    calls: &TracedCalls,
+    cases: &[Case],
+    checks: &mut Checks,
+    writer: &mut W,
+    progress: &mut ShownProgress<C, E>,
+) -> Result<Vec<Row>, Fault>
+    ensures { IfOk result (λ rows. AreBegun plan.now.strict plan.now.setup reference.now words cases.now rows.items) }
+{
+    let mut leader = first_leader(rt.alloc(), &plan.setup)?;
+    let made = make_batches(
+        rt,
+        matches,
+        words,
+        plan,
+        reference,
+        calls,
+        cases,
+        &mut leader,
+        checks,
+        writer,
+        progress,
+    );
+    drop(leader);
+    made
+}
+
 /// Makes the runs, and writes each row as it is known, where the words ask for it. Where `err` is a terminal it shows
 /// how far they are.
 pub fn make<
@@ -347,7 +391,7 @@ pub fn make<
 {
     let is_shown = err.is_terminal();
     let mut progress = ShownProgress::new(rt.alloc(), rt, err, is_shown);
-    let made = make_batches(
+    let made = make_led(
         rt,
         matches,
         words,

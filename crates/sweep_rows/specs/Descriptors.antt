@@ -10,7 +10,6 @@ use Rattle.sweep_rows.specs.declared.descriptors.Target.{Target}
 use Rattle.sweep_rows.specs.declared.descriptors.Target.TheVariants.{Input, Output, Error, File, Other}
 use Rattle.sweep_rows.specs.declared.descriptors.Use.{Use}
 use Rattle.sweep_rows.specs.declared.descriptors.Held.{Held}
-use Rattle.sweep_rows.specs.declared.descriptors.Own.{Own}
 use Rattle.sweep_rows.specs.declared.descriptors.Descriptors.{Descriptors}
 
 abbrev pub argument : Call → ℕ → ℕ
@@ -84,9 +83,9 @@ abbrev pub use_in : List Held → ℕ → Use
 use_in [] number = unwritten (standard number)
 use_in (h ∷ hs) number = cond (number == h.number) h.used (use_in hs number)
 
-abbrev pub held_of : Option Own → List Held
+abbrev pub held_of : Option (List Held) → List Held
 held_of None = []
-held_of (Some own) = own.held.items
+held_of (Some held) = held
 
 abbrev pub uses_in : Descriptors → ℕ → ℕ → Use
 uses_in d pid number = use_in (held_of (maps.get d.processes pid)) number

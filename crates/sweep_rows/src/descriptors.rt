@@ -1,6 +1,6 @@
 //! What each descriptor of each process stands for, as a log tells it.
 
-ghost use Rattle.std.specs.Prelude.{◌≡◌, ◌++◌, ◌∷◌, ◌==◌, [], ℕ, suc, not, filter, IfOk, OnOk};
+ghost use Rattle.std.specs.Prelude.{◌≡◌, ◌++◌, ◌∷◌, ◌==◌, [], ℕ, suc, true, not, filter, IfOk, OnOk};
 ghost use Rattle.std.specs.FinMap as maps;
 ghost use Rattle.sweep_rows.specs.Descriptors.{low, descriptor, is_failure, is_dup, unwritten, standard, at_boot};
 ghost use Rattle.sweep_rows.specs.Descriptors.{with_use, with_child, after_call, after_item, use_in, held_of};
@@ -9,6 +9,7 @@ ghost use Rattle.sweep_rows.specs.Descriptors.{uses_in};
 use containers::Map;
 use lx_abi::{Call, Item, sys};
 use std::alloc::{AllocError, Global};
+use std::marker::Model;
 
 /// What a descriptor stands for.
 #[derive(Clone, Copy, Debug, PartialEq, Eq)]
@@ -40,6 +41,15 @@ pub struct Held {
 #[derive(Drop)]
 pub(crate) struct Own {
     held: Vec<Held>,
+}
+
+impl Model for Own {
+    ghost use Rattle.std.specs.Prelude.{List};
+    ghost use Rattle.sweep_rows.specs.declared.descriptors.Held.{Held};
+
+    ghost Value = { List Held };
+
+    ghost view = { λ o. o.held.items };
 }
 
 /// What each descriptor of each process stands for after so many items of a log.
@@ -114,32 +124,48 @@ fn find(held: &[Held], number: u32) -> Use
     unwritten(standard(number))
 }
 
+/// A descriptor stands for this from now on.
+fn set_in(held: &mut Vec<Held>, number: u32, used: Use) -> Result<(), AllocError>
+    ensures { OnOk result (held.new.items ≡ filter (λ h. not (number == h.number)) held.old.items
+        ++ (record { number = number; used = used }) ∷ []) }
+{
+    held.retain(|one| number != one.number);
+    held.push(Held { number, used })?;
+    Ok(())
+}
+
 impl Own {
     fn new(alloc: Global) -> Self
-        ensures { result.held.items ≡ [] }
+        ensures { result ≡ [] }
     {
         Own {
             held: Vec::new(alloc),
         }
     }
 
-    fn copy(&self, alloc: Global) -> Result<Self, AllocError>
-        ensures { IfOk result (λ own. own.held.items ≡ self.now.held.items) }
+    fn as_slice(&self) -> &[Held]
+        ensures { result.now ≡ self.now }
     {
-        let mut held = Vec::new(alloc);
-        held.extend_from_slice(self.held.as_slice())?;
-        Ok(Own { held })
+        self.held.as_slice()
     }
 
     /// A descriptor stands for this from now on.
     fn set(&mut self, number: u32, used: Use) -> Result<(), AllocError>
-        ensures { OnOk result (self.new.held.items
-            ≡ filter (λ h. not (number == h.number)) self.old.held.items
-            ++ (record { number = number; used = used }) ∷ []) }
+        ensures { OnOk result (self.new
+            ≡ filter (λ h. not (number == h.number)) self.old ++ (record { number = number; used = used }) ∷ []) }
     {
-        self.held.retain(|one| number != one.number);
-        self.held.push(Held { number, used })?;
+        set_in(&mut self.held, number, used)?;
         Ok(())
+    }
+}
+
+impl Clone for Own {
+    ghost is_clone = { λ a b. b ≡ a };
+
+    fn clone(&self) -> Result<Self, AllocError> {
+        Ok(Own {
+            held: self.held.clone()?,
+        })
     }
 }
 
@@ -160,14 +186,14 @@ impl Descriptors {
         ensures { result ≡ uses_in self.now pid number }
     {
         match self.processes.get(pid) {
-            Some(own) => find(own.held.as_slice(), number),
+            Some(own) => find(own.as_slice(), number),
             None => unwritten(standard(number)),
         }
     }
 
     /// Takes the descriptors of a process out.
     fn take(&mut self, pid: u32) -> Own
-        ensures own { result.held.items ≡ held_of (maps.get self.old.processes pid) }
+        ensures own { result ≡ held_of (maps.get self.old.processes pid) }
         ensures rest { self.new.processes ≡ maps.remove self.old.processes pid }
         ensures at { self.new.at ≡ self.old.at }
     {
@@ -188,12 +214,27 @@ impl Descriptors {
         Ok(())
     }
 
+    /// A descriptor of a process was written to, for the first time or again.
+    fn write(&mut self, pid: u32, number: u32) -> Result<(), AllocError>
+        ensures uses { OnOk result (uses_in self.new
+            ≡ with_use pid number (record (uses_in self.old pid number) { wrote = true }) (uses_in self.old)) }
+        ensures at { self.new.at ≡ self.old.at }
+    {
+        let used = self.use_of(pid, number);
+        if used.wrote {
+            return Ok(());
+        }
+        let wrote = true;
+        self.set(pid, number, Use { wrote, ..used })?;
+        Ok(())
+    }
+
     /// A copy of the descriptors of a process.
     fn copy_of(&self, pid: u32) -> Result<Own, AllocError>
-        ensures { IfOk result (λ own. own.held.items ≡ held_of (maps.get self.now.processes pid)) }
+        ensures { IfOk result (λ own. own ≡ held_of (maps.get self.now.processes pid)) }
     {
         match self.processes.get(pid) {
-            Some(own) => own.copy(self.alloc),
+            Some(own) => own.clone(),
             None => Ok(Own::new(self.alloc)),
         }
     }
@@ -230,9 +271,7 @@ impl Descriptors {
             return Ok(());
         }
         if call.number == sys::SYS_WRITE {
-            let target = self.use_of(pid, number).target;
-            let wrote = true;
-            self.set(pid, number, Use { target, wrote })?;
+            self.write(pid, number)?;
             return Ok(());
         }
         if call.number == sys::SYS_CLONE {

@@ -132,6 +132,27 @@ fn attend(living: &mut Living, pid: u32, stop: Stop) -> Result<(), AllocError>
     Ok(())
 }
 
+/// What the first status of a process makes of it. Apart, since it comes once a process.
+#[inline(never)]
+fn take_first_stop(
+    session: &mut Session,
+    known: &mut Shelf<Tracee>,
+    pid: u32,
+    stop: Stop,
+) -> Result<Heard, AllocError>
+    ensures { IfOk result
+        (λ h. ComesIn
+        (stop_heard (options_of session.old.settings) pid
+        (known_at session.old pid (at new_tracee known.old pid)) stop)
+        h session.old session.new pid known.old known.new) }
+{
+    meet(known, pid)?;
+    match known.get_mut(pid) {
+        Some(met) => take_stop(session, pid, met, stop),
+        None => unreachable!(),
+    }
+}
+
 /// What a status makes of a tracee, in the place where it is known.
 #[inline(always)]
 fn take_stop_in(
@@ -146,10 +167,9 @@ fn take_stop_in(
         (known_at session.old pid (at new_tracee known.old pid)) stop)
         h session.old session.new pid known.old known.new) }
 {
-    meet(known, pid)?;
     match known.get_mut(pid) {
         Some(tracee) => take_stop(session, pid, tracee, stop),
-        None => unreachable!(),
+        None => take_first_stop(session, known, pid, stop),
     }
 }
 
@@ -164,6 +184,29 @@ fn hear_status(core: &mut Core, pid: u32, stop: Stop) -> Result<Bytes, AllocErro
     attend(&mut core.living, pid, stop)?;
     core.focus = focus_at(pid, heard.next);
     Ok(heard.bytes)
+}
+
+/// What a reply makes of a process of which nothing was known. Apart, since none is asked before its first status.
+#[inline(never)]
+fn hear_first(
+    session: &mut Session,
+    known: &mut Shelf<Tracee>,
+    pid: u32,
+    place: Awaiting,
+    reply: Reply,
+) -> Result<Heard, AllocError>
+    requires { IsHeld session.old.settings.options (at new_tracee known.old pid).called place }
+    ensures { IfOk result
+        (λ h. ComesIn
+        (hears (options_of session.old.settings) (script_of session.old.settings) pid
+        (known_at session.old pid (at new_tracee known.old pid)) (place_of place) reply) h session.old
+        session.new pid known.old known.new) }
+{
+    meet(known, pid)?;
+    match known.get_mut(pid) {
+        Some(met) => hear(session, pid, met, place, reply),
+        None => unreachable!(),
+    }
 }
 
 /// What a reply makes of a tracee, in the place where it is known.
@@ -182,10 +225,9 @@ fn hear_in(
         (known_at session.old pid (at new_tracee known.old pid)) (place_of place) reply) h session.old
         session.new pid known.old known.new) }
 {
-    meet(known, pid)?;
     match known.get_mut(pid) {
         Some(tracee) => hear(session, pid, tracee, place, reply),
-        None => unreachable!(),
+        None => hear_first(session, known, pid, place, reply),
     }
 }
 

@@ -2,7 +2,7 @@ use Rattle.std.proofs.Common.{[], ◌∷◌, refl}
 use Rattle.lx_abi.specs.declared.schedule.Event.TheVariants.{Serve, Turn}
 use Rattle.pt_schedule.specs.Schedules.{events_left}
 use Rattle.pt_schedule.proofs.Spending.{next_less}
-use Rattle.pt_kernel.specs.Bursts.{after}
+use Rattle.pt_kernel.specs.AfterEvents.{after}
 use Rattle.pt_kernel.specs.Hosts.{readiness_of}
 use Rattle.pt_kernel.specs.Noted.{noting}
 use Rattle.pt_kernel.proofs.Feeding.{answered_is, ended_is, noted_on, fewer_still}

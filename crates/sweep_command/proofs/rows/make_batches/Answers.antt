@@ -19,7 +19,7 @@ behind-left-requires g c =
     let batch = c.in_ok-more.more.items in
     let told = c.cut.new.batch.items in
     let len : c.len.result ≡ length told = search rules in
-    let within = rows_within k s r c.min.result left first batch told c.split_at.ensures.front c.in_ok-ended.ensures.first c.in_ok-more.ensures in
+    let within = rows_within k s r c.min.result left first batch told c.split_at.ensures.front c.in_ok-ended.ensures.first c.in_ok-more.ensures.told in
     omega (arith, len, within)
 
 pub loop-left-smaller : goal.loop-left-smaller
@@ -36,12 +36,12 @@ loop-left-smaller g c =
     let least = c.batch_size-size.ensures in
     let some = c.goes_on.ensures.some c.loop-left-test.true in
     let any = some_told k s r c.args.plan.now.strict c.args.words.fail_fast c.in_ok-ended.ended c.min.result left first batch told c.split_at.ensures.front
-    (omega (arith, size, least, some)) some c.in_ok-more.ensures c.in_ok-ended.ensures in
+    (omega (arith, size, least, some)) some c.in_ok-more.ensures.told c.in_ok-ended.ensures in
     let len : c.len.result ≡ length told = search rules in
     let rest : take (length told) left ++ c.behind-left.result.now ≡ left =
     subst (λ m. take m left ++ c.behind-left.result.now ≡ left) len c.behind-left.ensures in
     fewer_left (length told) left c.behind-left.result.now rest any
-    (rows_within k s r c.min.result left first batch told c.split_at.ensures.front c.in_ok-ended.ensures.first c.in_ok-more.ensures)
+    (rows_within k s r c.min.result left first batch told c.split_at.ensures.front c.in_ok-ended.ensures.first c.in_ok-more.ensures.told)
 
 pub loop-left-preserved : goal.loop-left-preserved
 loop-left-preserved g c =
@@ -57,7 +57,7 @@ loop-left-preserved g c =
     let least = c.batch_size-size.ensures in
     let some = c.goes_on.ensures.some c.loop-left-test.true in
     let any = some_told k s r c.args.plan.now.strict c.args.words.fail_fast c.in_ok-ended.ended c.min.result left first batch told c.split_at.ensures.front
-    (omega (arith, size, least, some)) some c.in_ok-more.ensures c.in_ok-ended.ensures in
+    (omega (arith, size, least, some)) some c.in_ok-more.ensures.told c.in_ok-ended.ensures in
     let len : c.len.result ≡ length told = search rules in
     let rest : take (length told) left ++ c.behind-left.result.now ≡ left =
     subst (λ m. take m left ++ c.behind-left.result.now ≡ left) len c.behind-left.ensures in
@@ -68,9 +68,10 @@ loop-left-preserved g c =
       grouped done more c.behind-left.result.now c.args.cases.now (ap (λ (cases : List Case). done ++ cases) rest ∙ l.invariant.1),
       subst (λ (all : List Row). AreTold k s r (done ++ more) all) (sym items)
           (told_are_joined k s r done more l.rows.items told l.invariant.2
-          (first_rows k s r c.min.result left first batch told c.split_at.ensures.front c.in_ok-ended.ensures.first c.in_ok-more.ensures)),
+          (first_rows k s r c.min.result left first batch told c.split_at.ensures.front c.in_ok-ended.ensures.first c.in_ok-more.ensures.told)),
       λ e. subst (λ (all : List Row). (c.args.words.fail_fast && ends_found c.args.plan.now.strict false all) ≡ true) (sym items)
           (ended_behind c.args.plan.now.strict c.args.words.fail_fast l.rows.items told any (c.in_ok-ended.ensures.found e)),
+      c.in_ok-more.ensures.led,
     )
 
 pub returns : goal.returns

@@ -1,7 +1,7 @@
 use Rattle.std.proofs.Common.{◌≡◌, ◌-◌, ◌<◌, suc, Bool, false, replicate, refl, sym, ap, subst, ◌∙◌, ◌++◌, arith}
 use Rattle.lx_abi.specs.declared.schedule.Event.TheVariants.{Turn}
 use Rattle.pt_kernel.specs.Advances.{Leads}
-use Rattle.pt_kernel.specs.Bursts.{after}
+use Rattle.pt_kernel.specs.AfterEvents.{after}
 use Rattle.pt_kernel.specs.Hosts.{HostState, hosting_by, readiness_of, state_by}
 use Rattle.lx_kernel.specs.Advances.{Leads as KernelLeads}
 use Rattle.pt_kernel.specs.Stops.{stop_after, dies_after}

@@ -4,7 +4,7 @@ use Rattle.lx_proc.specs.declared.state.Shared.{Shared}
 use Rattle.lx_proc.specs.declared.state.UserState.{UserState}
 use Rattle.pt_model.specs.Hosting.{Hosted}
 use Rattle.pt_kernel.specs.Hosts.{event_of, hosting_by}
-use Rattle.pt_kernel.specs.Bursts.{after}
+use Rattle.pt_kernel.specs.AfterEvents.{after}
 use Rattle.pt_kernel.proofs.Keeping.{sound_event}
 use Rattle.pt_kernel.proofs.host.Host.serve.Goals as goal
 

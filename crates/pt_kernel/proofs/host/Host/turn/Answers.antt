@@ -2,7 +2,7 @@ use Rattle.std.proofs.Common.{◌≡◌, ℕ, Some, subst, arith}
 use Rattle.lx_abi.specs.declared.log.Mode.TheVariants as modes
 use Rattle.lx_abi.specs.declared.schedule.Event.TheVariants.{Turn}
 use Rattle.pt_kernel.specs.Advances.{Leads}
-use Rattle.pt_kernel.specs.Bursts.{after, mode_at}
+use Rattle.pt_kernel.specs.AfterEvents.{after, mode_at}
 use Rattle.pt_kernel.specs.Hosts.{HostState}
 use Rattle.pt_kernel.proofs.Advancing.{led_none}
 use Rattle.pt_kernel.proofs.host.Host.turn.Goals as goal

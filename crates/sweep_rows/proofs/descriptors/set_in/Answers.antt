@@ -1,7 +1,7 @@
 use Rattle.std.proofs.Common.{[], ◌∷◌, ◌++◌, ap, ◌∙◌, not, rules}
 use Rattle.std.specs.Prelude.{◌==◌}
 use Rattle.std.proofs.lemmas.Fn.{filter_same}
-use Rattle.sweep_rows.proofs.descriptors.Own.set.Goals as goal
+use Rattle.sweep_rows.proofs.descriptors.set_in.Goals as goal
 
 pub returns : goal.returns
 returns c =
