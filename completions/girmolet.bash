@@ -44,11 +44,11 @@ _girmolet_expression() {
 _girmolet_faults() {
     local word=$1
     case $word in
-        fault=*:error=*,*) compgen -P "${word%,*}," -W "$_girmolet_errors" -- "${word##*,}" ;;
-        fault=*:error=*) compgen -P "${word%=*}=" -W "$_girmolet_errors" -- "${word##*=}" ;;
-        fault=*:*) compgen -P "${word%:*}:" -W 'error=' -- "${word##*:}" ;;
+        fault=*:error=*,*|deep=*:error=*,*) compgen -P "${word%,*}," -W "$_girmolet_errors" -- "${word##*,}" ;;
+        fault=*:error=*|deep=*:error=*) compgen -P "${word%=*}=" -W "$_girmolet_errors" -- "${word##*=}" ;;
+        fault=*:*|deep=*:*) compgen -P "${word%:*}:" -W 'error=' -- "${word##*:}" ;;
         *=*) _girmolet_expression "$word" ;;
-        *) compgen -W 'fault= stop= kill= short= full= broken= read-only= no-files= no-memory=' -- "$word" ;;
+        *) compgen -W 'fault= deep= stop= kill= short= full= broken= read-only= no-files= no-memory=' -- "$word" ;;
     esac
 }
 

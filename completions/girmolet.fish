@@ -45,13 +45,13 @@ function __girmolet_faults
         set option $argv[1]=
     end
     set -l whole $option$word
-    set -l found fault= stop= kill= short= full= broken= read-only= no-files= no-memory=
-    if string match -qr '^fault=.*:error=.*' -- $whole
+    set -l found fault= deep= stop= kill= short= full= broken= read-only= no-files= no-memory=
+    if string match -qr '^(fault|deep)=.*:error=.*' -- $whole
         set found (string replace -r '[^=,]*$' '' -- $whole)$__girmolet_errors
-    else if string match -qr '^fault=.*:' -- $whole
+    else if string match -qr '^(fault|deep)=.*:' -- $whole
         set found (string replace -r '[^:]*$' '' -- $whole)error=
-    else if string match -qr '^(fault|stop|kill|short|full|broken|read-only|no-files|no-memory)=' -- $whole
-        set found (string match -r '^(?:fault|stop|kill|short|full|broken|read-only|no-files|no-memory)=(?:.*,)?[!?]?' -- $whole)$__girmolet_calls
+    else if string match -qr '^(fault|deep|stop|kill|short|full|broken|read-only|no-files|no-memory)=' -- $whole
+        set found (string match -r '^(?:fault|deep|stop|kill|short|full|broken|read-only|no-files|no-memory)=(?:.*,)?[!?]?' -- $whole)$__girmolet_calls
     end
     string replace -- $option '' $found
 end

@@ -6,6 +6,7 @@ use Rattle.front_end.specs.Statuses.{IsStatusOf}
 use Rattle.front_end.specs.declared.fault.Fault.{Fault}
 use Rattle.sweep_command.specs.Checks.{AreTold}
 use Rattle.sweep_command.specs.Choosing.{AreChosen}
+use Rattle.sweep_command.specs.Deep.{IsOfDeep, IsOfDeepRun}
 use Rattle.sweep_command.specs.Naming.{listed, names}
 use Rattle.sweep_command.specs.Trials.{IsOfTrial, IsOfTrials}
 use Rattle.sweep_orders.specs.Orders.{AreOrders}
@@ -19,13 +20,14 @@ use Rattle.sweep_runs.specs.Cases.{cases_of}
 use Rattle.sweep_runs.specs.Rows.{fault_of, IsRow}
 use Rattle.sweep_runs.specs.Runs.{Reaches}
 use Rattle.sweep_runs.specs.declared.chosen.Case.{Case}
+use Rattle.sweep_runs.specs.declared.chosen.Wanted.{Wanted}
 use Rattle.sweep_runs.specs.declared.runs.Setup.{Setup}
 use Rattle.sweep_runs.specs.declared.sweeping.Row.{Row}
 use Rattle.sweep_words.specs.Known.{IsKnown}
 use Rattle.sweep_words.specs.declared.cases.NamedCase.{NamedCase}
 use Rattle.sweep_words.specs.declared.plan.Plan.{Plan}
 use Rattle.sweep_words.specs.declared.show.NamedRow.{NamedRow}
-use Rattle.sweep_words.specs.declared.show.NamedRow.TheVariants.{Failure, Trial}
+use Rattle.sweep_words.specs.declared.show.NamedRow.TheVariants.{Failure, Deep, Trial}
 use Rattle.sweep_words.specs.declared.show.NamedRun.{NamedRun}
 use Rattle.sweep_words.specs.declared.trials.Tried.{Tried}
 use Rattle.sweep_words.specs.declared.words.Orders.{Orders}
@@ -159,14 +161,20 @@ pub record IsOfRun (plan : Plan) (reference : Reached) (run : NamedRun) (s : ℕ
   pub made : IsRow plan.setup reference row
   pub status_is : s ≡ status_of plan.strict (row.verdict ∷ [])
 
--- with a failure, or in which something else happens
+-- with a failure, or with two, or in which something else happens
 abbrev pub IsOfShown : Plan → Reached → NamedRow → ℕ → Type 0
 IsOfShown plan reference (Failure run) s = IsOfRun plan reference run s
+IsOfShown plan reference (Deep named) s = IsOfDeepRun plan reference named s
 IsOfShown plan reference (Trial named) s = IsOfTrial plan reference named s
 
--- .. or of the runs with a failure, or those in which something else happens at calls
+-- .. or of the runs with a failure, or those with another behind it
+abbrev pub IsOfFailures : Plan → Words → Reached → Option Wanted → ℕ → Type 0
+IsOfFailures plan words reference None s = IsOfRows plan words reference s
+IsOfFailures plan words reference (Some wanted) s = IsOfDeep plan reference wanted s
+
+-- .. or of those in which something else happens at calls
 abbrev pub IsOfEnds : Plan → Words → Reached → Option Tried → ℕ → Type 0
-IsOfEnds plan words reference None s = IsOfRows plan words reference s
+IsOfEnds plan words reference None s = IsOfFailures plan words reference plan.deep s
 IsOfEnds plan words reference (Some tried) s = IsOfTrials plan reference tried s
 
 -- .. or of those by orders of turns

@@ -5,6 +5,7 @@
 mod cases;
 mod checking;
 mod choosing;
+mod deep;
 mod entry;
 mod judging;
 mod keeping;

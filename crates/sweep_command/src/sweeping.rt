@@ -4,8 +4,10 @@ ghost use Rattle.std.specs.Prelude.{◌≡◌, [], IfOk};
 ghost use Rattle.sweep_runs.specs.Runs.{Reaches};
 ghost use Rattle.sweep_report.specs.Tallies.{unmarked};
 ghost use Rattle.sweep_report.specs.Findings.{status_of as status_by};
-ghost use Rattle.sweep_command.specs.Reports.{IsCounted, IsOfRows, IsOfEnds, IsOfAll, IsOfShown, IsOfReport, IsOfSweep};
+ghost use Rattle.sweep_command.specs.Reports.{IsCounted, IsOfRows, IsOfFailures, IsOfEnds, IsOfAll, IsOfShown};
+ghost use Rattle.sweep_command.specs.Reports.{IsOfReport, IsOfSweep};
 
+use crate::deep::{deep_reported, deep_shown};
 use crate::judging::begin_checks;
 use crate::knowing::{add_found, check_known, finish_known, marks_of};
 use crate::naming::check_named;
@@ -232,6 +234,37 @@ fn failures<
     Ok(status)
 }
 
+/// Reports the runs with a failure, or those with another behind it, where the words ask for these; gives the exit
+/// status.
+fn report_failures<
+    R: Env + Files + Clock + Processes + Threads + Sync + AllocGlobal,
+    W: Write,
+    E: Write + IsTerminal,
+>(
+    rt: &R,
+    matches: &ArgMatches,
+    words: Words,
+    plan: &Plan,
+    reference: &Reached,
+    found: &mut Vec<String>,
+    writer: &mut W,
+    err: &mut E,
+) -> Result<u8, Fault>
+    ensures { IfOk result (IsOfFailures plan.now words reference.now plan.now.deep) }
+{
+    match &plan.deep {
+        Some(wanted) => {
+            let alloc = rt.alloc();
+            let of_deep = deep_reported(alloc, matches, words, plan, wanted, reference, writer)?;
+            Ok(of_deep)
+        }
+        None => {
+            let of_rows = failures(rt, matches, words, plan, reference, found, writer, err)?;
+            Ok(of_rows)
+        }
+    }
+}
+
 /// Reports the runs in which something else happens to calls, where the words ask for these, or else those with a
 /// failure; gives the exit status.
 fn report_ends<
@@ -257,8 +290,9 @@ fn report_ends<
             Ok(of_trials)
         }
         None => {
-            let of_rows = failures(rt, matches, words, plan, reference, found, writer, err)?;
-            Ok(of_rows)
+            let of_failures =
+                report_failures(rt, matches, words, plan, reference, found, writer, err)?;
+            Ok(of_failures)
         }
     }
 }
@@ -309,6 +343,10 @@ fn report_shown<W: Write>(
         NamedRow::Failure(run) => {
             let of_run = show(alloc, matches, plan, reference, run, writer)?;
             Ok(of_run)
+        }
+        NamedRow::Deep(named) => {
+            let of_deep = deep_shown(alloc, matches, plan, reference, named, writer)?;
+            Ok(of_deep)
         }
         NamedRow::Trial(named) => {
             let of_trial = show_trial(alloc, matches, plan, reference, named, writer)?;

@@ -3,3 +3,4 @@ pub mod Rows
 pub mod Wording
 pub mod Fewer
 pub mod Ahead
+pub mod Deeper

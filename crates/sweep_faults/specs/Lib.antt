@@ -4,3 +4,4 @@ pub mod Runs
 pub mod InRows
 pub mod Awaited
 pub mod Led
+pub mod Deep

@@ -80,7 +80,7 @@ fn write(kernel: &mut Kernel, pid: u32, number: usize, value: u64) -> Result<(),
 }
 
 /// A turn of a process.
-fn turn(kernel: &mut Kernel, pid: u32) -> Result<Moved, Failed>
+pub(crate) fn turn(kernel: &mut Kernel, pid: u32) -> Result<Moved, Failed>
     ensures turned { OnOk result (kernel.new ≡ after_turn kernel.old pid) }
     ensures one { IfOk result (λ m. m.turns ≡ 1) }
     ensures after { IfOk result (λ m. m.after ≡ mode_in kernel.new pid) }

@@ -2,6 +2,7 @@
 #![tactic(auto)]
 
 pub mod awaited;
+pub mod deep;
 pub mod failing;
 pub mod faults;
 pub mod laws;
@@ -10,6 +11,7 @@ pub mod moving;
 pub mod running;
 pub mod words;
 
+pub use deep::{Deep, run_deep};
 pub use faults::{Fault, Kind, Place};
 pub use leading::run_up_to;
 pub use running::{run_faulted, run_faulted_on};

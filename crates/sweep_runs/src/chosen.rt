@@ -34,7 +34,7 @@ pub struct Case {
 }
 
 /// Adds a case for each error.
-fn add_errors(
+pub(crate) fn add_errors(
     cases: &mut Vec<Case>,
     occurrence: Occurrence,
     errors: &[Errno],

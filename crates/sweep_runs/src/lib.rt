@@ -1,7 +1,9 @@
 //! The runs of a sweep: the one without a failure, and one for each failure of an occurrence of a call.
 #![tactic(auto)]
 
+pub mod behind;
 pub mod chosen;
+pub mod deep;
 pub mod ends;
 pub mod laws;
 pub mod leading;
@@ -11,7 +13,9 @@ pub mod second;
 pub mod sweeping;
 pub mod trials;
 
+pub use behind::{is_borne, seconds};
 pub use chosen::{Case, Errors, Wanted, cases};
+pub use deep::{DeepCase, DeepRow, reach_deep, run_deep_case, run_deep_row};
 pub use ends::ending;
 pub use leading::Leader;
 pub use progress::{Progress, Silent};

@@ -140,7 +140,7 @@ fn judge(
 }
 
 /// What a run came to, beside the reference.
-fn compare(
+pub(crate) fn compare(
     alloc: Global,
     boot: &Boot,
     reference: &Reached,

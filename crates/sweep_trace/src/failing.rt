@@ -41,7 +41,7 @@ fn run_shown(
 }
 
 /// What is shown of a run with this trace and this console.
-fn shown_with(trace: Trace, console: Bytes) -> Result<ShownRun, AllocError>
+pub(crate) fn shown_with(trace: Trace, console: Bytes) -> Result<ShownRun, AllocError>
     ensures { IfOk result (λ shown. shown.console ≡ console) }
 {
     let trace = trace.into_bytes()?;

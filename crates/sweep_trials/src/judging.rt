@@ -93,8 +93,9 @@ pub fn own_verdict(row: &TrialRow) -> Option<Verdict>
     }
 }
 
-/// What is told where the run itself tells this.
-fn told_by(own: Option<Verdict>, second: Option<SecondEnd>) -> Option<Verdict>
+/// What is told where the run itself tells this: by the second program, where there is one and the run ended. None where
+/// the second program is fine.
+pub fn told_by(own: Option<Verdict>, second: Option<SecondEnd>) -> Option<Verdict>
     ensures { result ≡ told_by_end own second }
 {
     match second {

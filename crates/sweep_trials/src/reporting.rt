@@ -26,24 +26,18 @@ use sweep_words::worlds::world_text;
 /// So many bytes are shown of the console.
 const MOST_PRINTED: usize = 4096;
 
-/// How many trials came to what is counted; nothing is, where there is no trial.
-fn shown_tally(
-    alloc: Global,
-    plan: &Plan,
-    deed: Deed,
-    rows: &[TriedRow],
-) -> Result<Tally, AllocError> {
-    let tally = tally_of(alloc, plan, deed, rows)?;
-    if rows.is_empty() {
-        return Ok(Tally {
-            kinds: Vec::new(alloc),
-            ..tally
-        });
+/// What is counted; nothing is, where there is no run.
+fn shown_tally(alloc: Global, tally: Tally) -> Tally {
+    if tally.runs > 0 {
+        return tally;
     }
-    Ok(tally)
+    Tally {
+        kinds: Vec::new(alloc),
+        ..tally
+    }
 }
 
-/// An object a trial, and one with the counts.
+/// An object a run, and one with the counts.
 fn objects(alloc: Global, told: &[Told], tally: &Tally) -> Result<String, Fault> {
     let mut text = String::new(alloc);
     for one in told {
@@ -59,7 +53,7 @@ fn objects(alloc: Global, told: &[Told], tally: &Tally) -> Result<String, Fault>
     Ok(text)
 }
 
-/// A line a trial.
+/// A line a run.
 fn lines(
     alloc: Global,
     plan: &Plan,
@@ -77,20 +71,16 @@ fn lines(
     Ok(text)
 }
 
-/// The report on these trials, in the format that the words ask for.
-pub fn text_of(
+/// The report on runs that are told so, in the format that the words ask for.
+pub fn report_of(
     alloc: Global,
-    matches: &ArgMatches,
     words: Words,
     plan: &Plan,
-    deed: Deed,
     reference: &Reached,
-    calls: &TracedCalls,
-    rows: &[TriedRow],
+    told: &[Told],
+    tally: Tally,
 ) -> Result<String, Fault> {
-    let tally = shown_tally(alloc, plan, deed, rows)?;
-    let told = all_told(alloc, matches, plan, reference, calls, rows)?;
-    let told = told.as_slice();
+    let tally = shown_tally(alloc, tally);
     let style = words.style;
     match words.format {
         Format::Json => objects(alloc, told, &tally),
@@ -104,6 +94,22 @@ pub fn text_of(
             Ok(table(alloc, &plan.setup, reference, told, &tally, style, &untried)?)
         }
     }
+}
+
+/// The report on these trials.
+pub fn text_of(
+    alloc: Global,
+    matches: &ArgMatches,
+    words: Words,
+    plan: &Plan,
+    deed: Deed,
+    reference: &Reached,
+    calls: &TracedCalls,
+    rows: &[TriedRow],
+) -> Result<String, Fault> {
+    let tally = tally_of(alloc, plan, deed, rows)?;
+    let told = all_told(alloc, matches, plan, reference, calls, rows)?;
+    report_of(alloc, words, plan, reference, told.as_slice(), tally)
 }
 
 /// What happens to the call of a trial.

@@ -90,7 +90,7 @@ fn run_second(alloc: Global, start: &Setup) -> Result<Reached, Fault>
 }
 
 /// How it ends on these files.
-pub(crate) fn end_on(
+pub fn end_on(
     alloc: Global,
     setup: &Setup,
     second: &Second,

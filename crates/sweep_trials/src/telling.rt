@@ -21,10 +21,10 @@ use sweep_words::plan::Plan;
 use sweep_words::shell::{Shower, trial_words, typed, words_with};
 use sweep_words::worlds::world_word;
 
-/// The word of a trial that leaves each file whole.
+/// The word of a run that leaves each file whole.
 const WHOLE: &str = "whole";
 
-fn word_of(verdict: Option<Verdict>) -> &'static str {
+pub fn word_of(verdict: Option<Verdict>) -> &'static str {
     match verdict {
         Some(verdict) => verdict_name(verdict),
         None => WHOLE,
@@ -32,7 +32,7 @@ fn word_of(verdict: Option<Verdict>) -> &'static str {
 }
 
 /// A trial's place among all, the worst being 0.
-fn rank_of(verdict: Option<Verdict>) -> u8 {
+pub fn rank_of(verdict: Option<Verdict>) -> u8 {
     rank(verdict.unwrap_or(Verdict::Ignored))
 }
 
@@ -48,7 +48,7 @@ fn kind_text(alloc: Global, kind: Kind) -> Result<String, AllocError> {
 }
 
 /// How the second program ended.
-fn second_text(alloc: Global, end: SecondEnd) -> Result<String, AllocError> {
+pub fn second_text(alloc: Global, end: SecondEnd) -> Result<String, AllocError> {
     match end.word {
         Some(word) => format!(in alloc; "then {}", end_text(alloc, word)?),
         None => format!(in alloc; "then doesn't end"),

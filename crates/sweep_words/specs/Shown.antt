@@ -1,5 +1,5 @@
 -- The run that --show names: CALL:ERROR:N, of process 1, or CALL@PID:ERROR:N; or with `stop`, `kill`, a world's word or
--- `short=COUNT` in the place of the error.
+-- `short=COUNT` in the place of the error; or two failures, the second behind a +.
 use Rattle.std.specs.Prelude.{ℕ, ◌==◌, List, Option, Some, None, if◌then◌else◌, bytes_eq, codes}
 use Rattle.std.specs.Option.{option_and_then}
 use Rattle.std.specs.Result.{result_ok}
@@ -13,8 +13,9 @@ use Rattle.tr_expr.specs.Parts.{errno_value}
 use Rattle.tr_expr.specs.Texts.{has_mark, before_mark, after_mark}
 use Rattle.sweep_rows.specs.declared.worlds.World.{World}
 use Rattle.sweep_words.specs.Worlds.{world_in}
+use Rattle.sweep_words.specs.declared.show.NamedDeep.{NamedDeep}
 use Rattle.sweep_words.specs.declared.show.NamedRow.{NamedRow}
-use Rattle.sweep_words.specs.declared.show.NamedRow.TheVariants.{Failure, Trial}
+use Rattle.sweep_words.specs.declared.show.NamedRow.TheVariants.{Failure, Deep, Trial}
 use Rattle.sweep_words.specs.declared.show.NamedRun.{NamedRun}
 use Rattle.sweep_words.specs.declared.show.NamedTrial.{NamedTrial}
 
@@ -89,11 +90,29 @@ named_trial text =
     then trial_of (before_mark 58 text) (before_mark 58 (after_mark 58 text)) (after_mark 58 (after_mark 58 text))
     else None) else None
 
--- a trial, or else a failure; no error has the name of a trial
-abbrev pub row_by : Option NamedTrial → Option NamedRun → Option NamedRow
-row_by (Some t) run = Some (Trial t)
-row_by None (Some run) = Some (Failure run)
-row_by None None = None
+-- two failures are named where each is; they stand before and behind a + (character 43)
+abbrev pub both : Option NamedRun → Option NamedRun → Option NamedDeep
+both (Some first) (Some second) = Some (record { first = first; second = second })
+both (Some first) None = None
+both None second = None
+
+unfoldable pub named_deep : List ℕ → Option NamedDeep
+named_deep text =
+    if has_mark 43 text then both (named_run (before_mark 43 text)) (named_run (after_mark 43 text)) else None
+
+-- two failures, or else one
+abbrev pub failing_by : Option NamedDeep → Option NamedRun → Option NamedRow
+failing_by (Some deep) run = Some (Deep deep)
+failing_by None (Some run) = Some (Failure run)
+failing_by None None = None
+
+unfoldable pub failing_row : List ℕ → Option NamedRow
+failing_row text = failing_by (named_deep text) (named_run text)
+
+-- a trial, or else failures; no error has the name of a trial
+abbrev pub row_by : Option NamedTrial → Option NamedRow → Option NamedRow
+row_by (Some t) row = Some (Trial t)
+row_by None row = row
 
 unfoldable pub named_row : List ℕ → Option NamedRow
-named_row text = row_by (named_trial text) (named_run text)
+named_row text = row_by (named_trial text) (failing_row text)

@@ -3,6 +3,7 @@
 
 pub mod calls;
 pub mod cases;
+pub mod deep;
 pub mod known;
 pub mod named;
 pub mod plan;

@@ -3,6 +3,7 @@
 ghost use Rattle.std.specs.Prelude.{IfOk};
 ghost use Rattle.sweep_words.specs.Plans.{IsPlan};
 
+use crate::deep::read_deep;
 use crate::known::read_known;
 use crate::named::{NamedLine, read_named};
 use crate::trials::{Second, Tried, read_second, read_tried};
@@ -22,6 +23,8 @@ pub struct Plan {
     pub named: Vec<NamedLine>,
     /// No call has an error: this happens at each entry into one of these.
     pub tried: Option<Tried>,
+    /// Behind a failure that the program bore one of these fails too.
+    pub deep: Option<Wanted>,
     /// It is started then on the files that are left.
     pub second: Option<Second>,
     /// The findings that are known, as lines of a file name them.
@@ -47,7 +50,9 @@ pub fn read_plan<R: Files + AllocGlobal, I: Read + IsTerminal, E: Write + IsTerm
     let is_listed = matches.get_str("runs").is_some();
     let tried = read_tried(rt.alloc(), matches)?;
     let wanted = read_calls(rt.alloc(), matches, named.as_slice(), tried.is_some())?;
-    let second = read_second(rt.alloc(), matches, tried.is_some(), limit)?;
+    let deep = read_deep(rt.alloc(), matches)?;
+    let is_tried = tried.is_some() || deep.is_some();
+    let second = read_second(rt.alloc(), matches, is_tried, limit)?;
     let known = read_known(rt, matches)?;
     let turns = read_turns(rt, matches.get_str("turns"))?;
     let follow = matches.get_flag("follow");
@@ -58,6 +63,7 @@ pub fn read_plan<R: Files + AllocGlobal, I: Read + IsTerminal, E: Write + IsTerm
         is_listed,
         named,
         tried,
+        deep,
         second,
         known,
         strict: matches.get_flag("strict"),

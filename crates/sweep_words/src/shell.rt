@@ -107,16 +107,14 @@ fn row_of(
     }
 }
 
-/// The words by which the sweep itself shows the run in which this happens to an occurrence; none, where the call has
-/// no name.
+/// The words by which the sweep itself shows this row; none, where there is none.
 fn row_words(
     alloc: Global,
     matches: &ArgMatches,
-    occurrence: &Occurrence,
-    what: &str,
+    row: Option<String>,
 ) -> Result<Vec<String>, AllocError> {
     let mut words = Vec::new(alloc);
-    let Some(row) = row_of(alloc, occurrence, what)? else {
+    let Some(row) = row else {
         return Ok(words);
     };
     push_each(alloc, &mut words, "--show", &[row.as_str()])?;
@@ -126,14 +124,35 @@ fn row_words(
     Ok(words)
 }
 
-/// The same of the run of a case.
+/// The row of a case.
+fn failure_row(alloc: Global, case: &Case) -> Result<Option<String>, AllocError> {
+    let error = error_name(alloc, case.error)?;
+    row_of(alloc, &case.occurrence, error.as_str())
+}
+
+/// The words by which the sweep itself shows the run of a case; none, where the call has no name.
 pub fn show_words(
     alloc: Global,
     matches: &ArgMatches,
     case: &Case,
 ) -> Result<Vec<String>, AllocError> {
-    let error = error_name(alloc, case.error)?;
-    row_words(alloc, matches, &case.occurrence, error.as_str())
+    let row = failure_row(alloc, case)?;
+    row_words(alloc, matches, row)
+}
+
+/// Adds the second program, to words that show a run.
+fn push_then(
+    alloc: Global,
+    words: &mut Vec<String>,
+    matches: &ArgMatches,
+) -> Result<(), AllocError> {
+    if words.is_empty() {
+        return Ok(());
+    }
+    if let Some(program) = matches.get_str("then") {
+        push_each(alloc, words, "--then", &[program])?;
+    }
+    Ok(())
 }
 
 /// The same of the run in which this happens to an occurrence in the place of an error, with the second program.
@@ -143,12 +162,33 @@ pub fn trial_words(
     occurrence: &Occurrence,
     what: &str,
 ) -> Result<Vec<String>, AllocError> {
-    let mut words = row_words(alloc, matches, occurrence, what)?;
-    if !words.is_empty() {
-        if let Some(program) = matches.get_str("then") {
-            push_each(alloc, &mut words, "--then", &[program])?;
-        }
+    let row = row_of(alloc, occurrence, what)?;
+    let mut words = row_words(alloc, matches, row)?;
+    push_then(alloc, &mut words, matches)?;
+    Ok(words)
+}
+
+/// The row of two cases, one behind the other.
+fn deep_row(alloc: Global, first: &Case, second: &Case) -> Result<Option<String>, AllocError> {
+    let Some(first) = failure_row(alloc, first)? else {
+        return Ok(None);
+    };
+    match failure_row(alloc, second)? {
+        Some(second) => Ok(Some(format!(in alloc; "{first}+{second}")?)),
+        None => Ok(None),
     }
+}
+
+/// The same of the run in which the second case fails behind the first, with the second program.
+pub fn deep_words(
+    alloc: Global,
+    matches: &ArgMatches,
+    first: &Case,
+    second: &Case,
+) -> Result<Vec<String>, AllocError> {
+    let row = deep_row(alloc, first, second)?;
+    let mut words = row_words(alloc, matches, row)?;
+    push_then(alloc, &mut words, matches)?;
     Ok(words)
 }
 

@@ -1,4 +1,5 @@
-//! The run that `--show` names: one in which a call has an error, or in which something else happens to it.
+//! The run that `--show` names: one in which a call has an error, or then one behind it too, or in which something else
+//! happens to it.
 
 ghost use Rattle.std.specs.Prelude.{◌≡◌};
 ghost use Rattle.sweep_words.specs.Shown as spec;
@@ -52,10 +53,18 @@ pub struct NamedTrial {
     pub n: u64,
 }
 
-/// A run of either kind.
+/// A call fails, and then one behind it.
+#[derive(Clone, Copy, Debug, PartialEq, Eq)]
+pub struct NamedDeep {
+    pub first: NamedRun,
+    pub second: NamedRun,
+}
+
+/// A run of one of these kinds.
 #[derive(Clone, Copy, Debug, PartialEq, Eq)]
 pub enum NamedRow {
     Failure(NamedRun),
+    Deep(NamedDeep),
     Trial(NamedTrial),
 }
 
@@ -184,17 +193,39 @@ pub fn named_trial(text: &str) -> Option<NamedTrial>
     trial_of(call, kind, n)
 }
 
-/// The run of either kind of these words, if they name one.
+/// The run of two failures that these words name, if they do.
+#[tactic(auto, unfolding(crate::specs::Shown::named_deep))]
+pub fn named_deep(text: &str) -> Option<NamedDeep>
+    ensures { result ≡ spec.named_deep text.now }
+{
+    let (first, second) = text.split_once('+')?;
+    let first = named_run(first)?;
+    let second = named_run(second)?;
+    Some(NamedDeep { first, second })
+}
+
+/// The run that these words name, if they name one in which calls have errors.
+#[tactic(auto, unfolding(crate::specs::Shown::failing_row))]
+fn failing_row(text: &str) -> Option<NamedRow>
+    ensures { result ≡ spec.failing_row text.now }
+{
+    match named_deep(text) {
+        Some(deep) => Some(NamedRow::Deep(deep)),
+        None => match named_run(text) {
+            Some(run) => Some(NamedRow::Failure(run)),
+            None => None,
+        },
+    }
+}
+
+/// The run of any kind of these words, if they name one.
 #[tactic(auto, unfolding(crate::specs::Shown::named_row))]
 fn named_row(text: &str) -> Option<NamedRow>
     ensures { result ≡ spec.named_row text.now }
 {
     match named_trial(text) {
         Some(trial) => Some(NamedRow::Trial(trial)),
-        None => match named_run(text) {
-            Some(run) => Some(NamedRow::Failure(run)),
-            None => None,
-        },
+        None => failing_row(text),
     }
 }
 

@@ -1,6 +1,6 @@
 //! What happens at calls in the place of one error, and what is started then on the files that are left.
 
-use crate::show::named_trial;
+use crate::show::{named_deep, named_trial};
 use crate::worlds::{world_in, world_word};
 use clap::ArgMatches;
 use containers::{Bytes, Seq};
@@ -163,16 +163,16 @@ fn words_of(alloc: Global, text: &str) -> Result<Seq<Bytes>, AllocError> {
     Ok(words)
 }
 
-/// In the run that the words show no call has an error.
+/// In the run that the words show no call has an error, or two have.
 fn shows_trial(matches: &ArgMatches) -> bool {
     match matches.get_str("show") {
-        Some(text) => named_trial(text).is_some(),
+        Some(text) => named_trial(text).is_some() || named_deep(text).is_some(),
         None => false,
     }
 }
 
 /// The second program that the words name, if they do: `is_tried` where they say at which calls something else than an
-/// error happens.
+/// error happens, or that a call fails behind a failure.
 pub fn read_second(
     alloc: Global,
     matches: &ArgMatches,
@@ -184,7 +184,7 @@ pub fn read_second(
     };
     if !is_tried && !shows_trial(matches) {
         return Err(Fault::usage(format!(in alloc;
-            "--then: stands beside -e stop=, kill=, short= or a world, or --show of such a run"
+            "--then: stands beside -e stop=, kill=, short=, deep= or a world, or --show of such a run"
         )));
     }
     let argv = words_of(alloc, text)?;

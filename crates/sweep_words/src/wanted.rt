@@ -1,5 +1,6 @@
 //! Which calls are to fail, and with which errors.
 
+use crate::deep::deep_rule;
 use crate::named::NamedLine;
 use crate::show::NamedRun;
 use call_errors::{errors_of, rows};
@@ -13,9 +14,9 @@ use tr_expr::{ExprFault, errno, parse_trace};
 
 /// A set's text, and the names of errors behind it.
 #[derive(Clone, Copy)]
-struct Pieces<'a> {
-    set: &'a str,
-    errors: Option<&'a str>,
+pub(crate) struct Pieces<'a> {
+    pub set: &'a str,
+    pub errors: Option<&'a str>,
 }
 
 /// The fault of an expression that a sweep doesn't take: its own, if it has one.
@@ -23,15 +24,14 @@ fn refuse(alloc: Global, text: &str) -> Fault {
     match read_expression(alloc, text) {
         Err(fault) => fault,
         Ok(_) => Fault::usage(format!(in alloc;
-            "-e {}: a sweep takes fault=SET, fault=SET:error=E,.., stop=SET, kill=SET, short=SET or WORLD=SET",
+            "-e {}: a sweep takes fault=SET, fault=SET:error=E,.., deep=SET, stop=SET, kill=SET, short=SET or WORLD=SET",
             Shown(text)
         )),
     }
 }
 
-/// The pieces of `fault=SET[:error=E[,E..]]`.
-fn cut(text: &str) -> Option<Pieces<'_>> {
-    let rule = text.strip_prefix("fault=")?;
+/// The pieces of `SET[:error=E[,E..]]`.
+pub(crate) fn split(rule: &str) -> Option<Pieces<'_>> {
     let Some((set, part)) = rule.split_once(':') else {
         return Some(Pieces {
             set: rule,
@@ -48,6 +48,11 @@ fn cut(text: &str) -> Option<Pieces<'_>> {
     })
 }
 
+/// Those behind `fault=`.
+fn cut(text: &str) -> Option<Pieces<'_>> {
+    split(text.strip_prefix("fault=")?)
+}
+
 /// The fault of the expression with this set and error.
 fn refuse_error(alloc: Global, set: &str, name: &str) -> Fault {
     match format!(in alloc; "fault={set}:error={name}") {
@@ -57,7 +62,7 @@ fn refuse_error(alloc: Global, set: &str, name: &str) -> Fault {
 }
 
 /// The calls that a set names, unless it is refused.
-fn calls_of(alloc: Global, set: &str) -> Result<Option<Set>, AllocError> {
+pub(crate) fn set_of(alloc: Global, set: &str) -> Result<Option<Set>, AllocError> {
     match parse_trace(alloc, set) {
         Ok(calls) => Ok(Some(calls)),
         Err(ExprFault::Memory) => Err(AllocError),
@@ -71,9 +76,9 @@ fn error_of(name: &str) -> Option<Errno> {
 }
 
 /// Calls with the errors that are named. A fault names the one error that it is found beside.
-fn named(alloc: Global, set: &str, names: &str) -> Result<Wanted, Fault> {
+pub(crate) fn named(alloc: Global, set: &str, names: &str) -> Result<Wanted, Fault> {
     let (first, _) = names.split_once(',').unwrap_or((names, ""));
-    let Some(calls) = calls_of(alloc, set)? else {
+    let Some(calls) = set_of(alloc, set)? else {
         return Err(refuse_error(alloc, set, first));
     };
     let mut errors = Vec::new(alloc);
@@ -144,7 +149,7 @@ fn add(
     };
     match pieces.errors {
         Some(names) => wanted.push(named(alloc, pieces.set, names)?)?,
-        None => match calls_of(alloc, pieces.set)? {
+        None => match set_of(alloc, pieces.set)? {
             Some(calls) => add_set(alloc, wanted, calls, every_error)?,
             None => return Err(refuse(alloc, text)),
         },
@@ -193,15 +198,19 @@ fn every_error(alloc: Global, matches: &ArgMatches) -> Result<bool, Fault> {
     }
 }
 
-/// What the expressions ask for, in their order; every call, where there are none.
+/// What the expressions ask for, in their order; every call, where there are none but for what fails behind a failure.
 fn read_wanted(alloc: Global, matches: &ArgMatches) -> Result<Vec<Wanted>, Fault> {
     let every_error = every_error(alloc, matches)?;
     let words = expression_words(alloc, matches)?;
     let mut wanted = Vec::new(alloc);
+    let mut is_any = false;
     for word in &words {
-        add(alloc, &mut wanted, word.as_str(), every_error)?;
+        if deep_rule(word.as_str()).is_none() {
+            add(alloc, &mut wanted, word.as_str(), every_error)?;
+            is_any = true;
+        }
     }
-    if words.is_empty() {
+    if !is_any {
         let every_call = Set::AllBut(Seq::new(alloc));
         add_set(alloc, &mut wanted, every_call, every_error)?;
     }

@@ -7,6 +7,8 @@ use std::alloc::Global;
 const NOTES: &str = "Which calls are to fail, after -e:
   fault=SET               with each error that the call can have there, by its descriptor and its flags
   fault=SET:error=E,..    with these errors (a name, or 1 to 4095)
+  deep=SET[:error=E,..]   behind a failure which the program bore one of these fails too, with each of these errors, or
+                          with the first that it can have there
   stop=SET                no call has an error: all ends as one of these is entered, as where the power fails
   kill=SET                likewise, but SIGKILL ends its process there, and others go on
   short=SET               likewise, but a read or write is done with one byte, and with half of its bytes

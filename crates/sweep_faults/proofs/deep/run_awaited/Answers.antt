@@ -1,0 +1,42 @@
+use Rattle.std.proofs.Common.{◌∙◌, refl, subst, sym}
+use Rattle.pt_schedule.specs.Schedules.{events_left}
+use Rattle.plain_run.proofs.Turning.{told_both, told_nothing}
+use Rattle.sweep_faults.specs.declared.deep.Deep.{Deep}
+use Rattle.sweep_faults.specs.Deep.{RunsDeep, deep_of}
+use Rattle.sweep_faults.proofs.Deeper.{next_less, turn_is}
+use Rattle.sweep_faults.proofs.deep.run_awaited.Goals as goal
+
+pub turns-init : goal.turns-init
+turns-init g c = (
+  λ z rest. rest,
+  told_nothing c.args.kernel.now (g.W.Watch.told c.args.watch.now),
+  refl,
+  c.requires,
+  refl,
+)
+
+pub returns-in_default-clause-told : goal.returns-in_default-clause-told
+returns-in_default-clause-told g c = c.turns.invariant.1
+
+pub returns-in-Err-clause-told : goal.returns-in-Err-clause-told
+returns-in-Err-clause-told g c = told_both _ _ _ _ _ _ c.turns.invariant.1 c.in-Err.ensures.told
+
+pub turns-smaller : goal.turns-smaller
+turns-smaller g c =
+    next_less (deep_of c.turns.both) c.turns.kernel c.turns.schedule c.in-Some.pid c.next_turn.new.schedule
+    (sym c.in-Some.is ∙ c.next_turn.ensures.next) c.next_turn.ensures.rest
+
+pub turns-preserved : goal.turns-preserved
+turns-preserved g c =
+    let deep = deep_of c.turns.both in
+    let same = c.turns.invariant.4 in (
+      λ z rest. c.turns.invariant.0 z
+          (subst (λ (d : Deep). RunsDeep d c.turns.kernel c.turns.schedule z) same
+          (turn_is deep c.turns.kernel c.turns.schedule c.in-Some.pid c.next_turn.new.schedule c.advance.new.kernel z
+          (sym c.in-Some.is ∙ c.next_turn.ensures.next) c.next_turn.ensures.rest c.in_default-advance.ensures.turned
+          (subst (λ (d : Deep). RunsDeep d c.advance.new.kernel c.next_turn.new.schedule z) (sym same) rest))),
+      told_both _ _ _ _ _ _ c.turns.invariant.1 c.in_default-advance.ensures.told,
+      c.in_default-advance.ensures.begun ∙ c.turns.invariant.2,
+      c.in_default-advance.ensures.awaits,
+      c.in_default-advance.ensures.deep ∙ c.turns.invariant.4,
+    )

@@ -1,0 +1,39 @@
+use Rattle.std.proofs.Common.{◌↔◌, IsTrue, ap, ap₂, subst, sym, ◌∙◌}
+use Rattle.sweep_faults.specs.Words.{HasWords}
+use Rattle.sweep_rows.specs.Verdicts.{facts_of, verdict_of}
+use Rattle.sweep_runs.specs.Deep.{DeepReaches, deep_of}
+use Rattle.sweep_runs.specs.Rows.{fault_of}
+use Rattle.sweep_runs.specs.declared.chosen.Case.{Case}
+use Rattle.sweep_runs.specs.declared.deep.DeepCase.{DeepCase}
+use Rattle.sweep_runs.proofs.deep.row_reached.Goals as goal
+
+-- both cases of a run
+both : Case → Case → DeepCase
+both first second = record { first = first; second = second }
+
+pub returns-clause-case : goal.returns-clause-case
+returns-clause-case c = ap (both c.args.case.first) c.in_ok-row.ensures.case
+
+pub returns-clause-row : goal.returns-clause-row
+returns-clause-row c =
+    let row = c.in_ok-row.ensures in
+    record {
+      reached = c.args.reached;
+      run =
+          subst (λ (k : Case). DeepReaches c.args.setup.now (deep_of (both c.args.case.first k)) c.args.reached) (sym row.case)
+          c.requires;
+      compared = record {
+        files = row.files;
+        verdict =
+            row.verdict
+            ∙ ap (λ (k : Case). verdict_of (facts_of c.args.reference.now c.args.reached c.in_ok-row.row.files.items k.tells))
+            (sym row.case);
+        word = row.word;
+        ended = row.ended;
+        streams = row.streams;
+        words =
+            subst
+            (λ (k : Case). IsTrue c.in_ok-row.row.has_words
+            ↔ HasWords c.args.setup.now.boot.follow (fault_of k) c.args.reached.log.items) (sym row.case) row.words;
+      };
+    }
