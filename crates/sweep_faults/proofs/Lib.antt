@@ -3,3 +3,5 @@ pub mod Rows
 pub mod Wording
 pub mod Fewer
 pub mod Ahead
+pub mod Coursing
+pub mod Hearing

@@ -1,9 +1,12 @@
 //! A run of the untraced kernel by a schedule in which one call of one process fails.
 #![tactic(auto)]
 
-pub mod awaited;
+pub mod courses;
+pub mod due;
+pub mod entries;
 pub mod failing;
 pub mod faults;
+pub mod heard;
 pub mod laws;
 pub mod leading;
 pub mod moving;
@@ -11,6 +14,7 @@ pub mod running;
 pub mod words;
 
 pub use faults::{Fault, Kind, Place};
+pub use heard::Heard;
 pub use leading::run_up_to;
-pub use running::{run_faulted, run_faulted_on};
+pub use running::run_faulted;
 pub use words::{failure_of, has_words};
