@@ -60,7 +60,7 @@ fn is_due(heard: &Heard, kernel: &Kernel, pid: u32, kind: Kind, call: u64) -> bo
     match kind {
         Kind::Undone(_) | Kind::Killed | Kind::Stop => has_entered(kernel, pid, call),
         Kind::Done(_) => has_ended(heard, kernel, pid, call),
-        Kind::Short(_) => { has_entered(kernel, pid, call) || has_ended(heard, kernel, pid, call) }
+        Kind::Short(_) => has_entered(kernel, pid, call) || has_ended(heard, kernel, pid, call),
         Kind::World(_) => is_entered(kernel.mode(pid)),
     }
 }
