@@ -33,7 +33,7 @@ pub fn deep_reported<W: Write>(
     ensures { IfOk result (IsOfDeep plan.now reference.now wanted.now) }
 {
     check_second(alloc, plan, reference)?;
-    let calls = traced_calls(alloc, &plan.setup, reference.log.as_slice())?;
+    let calls = traced_calls(alloc, &plan.setup, reference.log.as_slice()?)?;
     let all = deep_rows(alloc, plan, reference, wanted)?;
     let all = all.as_slice();
     let text = text_of(alloc, matches, words, plan, reference, &calls, all)?;
@@ -62,7 +62,7 @@ pub fn deep_shown<W: Write>(
     check_second(alloc, plan, reference)?;
     let case = named_case(alloc, plan, reference, named)?;
     let row = run_tried_deep(alloc, plan, reference, case)?;
-    let calls = traced_calls(alloc, &plan.setup, reference.log.as_slice())?;
+    let calls = traced_calls(alloc, &plan.setup, reference.log.as_slice()?)?;
     let shown = shown(alloc, plan, case)?;
     write_trace(alloc, shown.trace.as_slice(), writer)?;
     let console = shown.console.as_slice();

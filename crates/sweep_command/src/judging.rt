@@ -2,6 +2,7 @@
 
 ghost use Rattle.std.specs.Prelude.{◌≡◌, [], true, IfOk, OnOk};
 ghost use Rattle.sweep_rows.specs.Summary.{checked as checked_by};
+ghost use Rattle.sweep_rows.specs.Calls.{same_calls};
 ghost use Rattle.sweep_rows.specs.Verdicts.{facts_of as facts, verdict_of as verdict};
 ghost use Rattle.sweep_runs.specs.Leaders.{IsLed};
 ghost use Rattle.sweep_runs.specs.Rows.{AreRows};
@@ -16,7 +17,9 @@ use std::process::Processes;
 use std::rt::Files;
 use std::thread::Threads;
 use sweep_rows::{Reached, Verdict, checked, facts_of, rank, verdict_of};
-use sweep_runs::{Case, Leader, Row, Setup, Silent, fault_of, reach_failing, run_led_cases};
+use sweep_runs::{
+    Case, Compared, Leader, Row, Setup, Silent, fault_of, reach_failing, run_led_cases,
+};
 use sweep_threads::rows_on_threads;
 use sweep_words::words::Words;
 
@@ -63,17 +66,13 @@ fn is_asked(row: &Row) -> bool
 }
 
 /// What came of a run that left files which are fine or aren't, but for them.
-fn judged(
-    alloc: Global,
-    reference: &Reached,
-    run: &Reached,
-    tells: bool,
-    fine: bool,
-) -> Result<Verdict, Fault>
-    ensures { IfOk result (λ v. v ≡ checked_by fine (verdict (facts reference.now run.now [] tells))) }
+fn judged(reference: &Reached, run: &Compared, tells: bool, fine: bool) -> Verdict
+    requires { run.now.alike
+        ≡ same_calls reference.now.log.items run.now.reached.log.items reference.now.ending.outcome.ended }
+    ensures { result ≡ checked_by fine (verdict (facts reference.now run.now.reached [] tells)) }
 {
-    let facts = facts_of(alloc, reference, run, &[], tells)?;
-    Ok(checked(fine, verdict_of(facts)))
+    let facts = facts_of(reference, &run.reached, run.alike, &[], tells);
+    checked(fine, verdict_of(facts))
 }
 
 fn with_verdict(row: Row, verdict: Verdict) -> Row
@@ -93,11 +92,11 @@ fn ask<R: Files + Processes + AllocGlobal>(
     requires { is_asked row ≡ true }
     ensures { IfOk result (IsJudged setup.now reference.now row) }
 {
-    let run = reach_failing(rt.alloc(), setup, fault_of(row.case))?;
+    let run = reach_failing(rt.alloc(), setup, reference, fault_of(row.case))?;
     let others = reference.ending.outcome.files.as_slice()?;
-    let left = run.ending.outcome.files.as_slice()?;
+    let left = run.reached.ending.outcome.files.as_slice()?;
     let fine = checks.are_fine(rt, others, left)?;
-    let verdict = judged(rt.alloc(), reference, &run, row.case.tells, fine)?;
+    let verdict = judged(reference, &run, row.case.tells, fine);
     Ok(with_verdict(row, verdict))
 }
 
@@ -145,9 +144,9 @@ fn made_rows<R: Threads + Sync + AllocGlobal>(
     reference: &Reached,
     cases: &[Case],
 ) -> Result<Vec<Row>, AllocError>
-    requires { IsLed setup.now leader.old }
+    requires { IsLed setup.now reference.now leader.old }
     ensures rows { IfOk result (λ rows. AreRows setup.now reference.now cases.now rows.items) }
-    ensures led { OnOk result (IsLed setup.now leader.new) }
+    ensures led { OnOk result (IsLed setup.now reference.now leader.new) }
 {
     if jobs < 2 {
         return run_led_cases(rt.alloc(), setup, leader, reference, cases, &mut Silent);
@@ -166,9 +165,9 @@ pub fn told_rows<R: Files + Processes + Threads + Sync + AllocGlobal>(
     reference: &Reached,
     cases: &[Case],
 ) -> Result<Vec<Row>, Fault>
-    requires { IsLed setup.now leader.old }
+    requires { IsLed setup.now reference.now leader.old }
     ensures told { IfOk result (λ rows. AreTold words.is_checked setup.now reference.now cases.now rows.items) }
-    ensures led { OnOk result (IsLed setup.now leader.new) }
+    ensures led { OnOk result (IsLed setup.now reference.now leader.new) }
 {
     let rows = made_rows(rt, words.jobs, setup, leader, reference, cases)?;
     let is_checked = words.is_checked;

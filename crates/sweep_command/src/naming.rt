@@ -88,7 +88,7 @@ pub fn check_named(
     let Some(path) = matches.get_str("runs") else {
         return Ok(());
     };
-    let log = reference.log.as_slice();
+    let log = reference.log.as_slice()?;
     let cases = cases(alloc, log, plan.wanted.as_slice(), plan.setup.boot.follow)?;
     for one in plan.named.as_slice() {
         if !cases.iter().any(|case| names(one.run, case)) {

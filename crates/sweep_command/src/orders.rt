@@ -71,7 +71,7 @@ fn find<R: Clock + Threads + Sync + AllocGlobal, E: Write + IsTerminal>(
 {
     let is_shown = err.is_terminal();
     let mut progress = ShownProgress::new(rt.alloc(), rt, err, is_shown);
-    let log = reference.log.as_slice();
+    let log = reference.log.as_slice()?;
     let found = explore_on_threads(
         rt,
         rt.alloc(),

@@ -44,7 +44,7 @@ pub fn by_the_end(
     ensures { IfOk result (λ r. map fault_of r.items ≡ map fault_of cases.now) }
 {
     let mut all = Vec::new(alloc);
-    let log = reference.log.as_slice();
+    let log = reference.log.as_slice()?;
     let files = reference.ending.outcome.files.as_slice()?;
     let mut left = cases;
     while let Some((case, rest)) = left.split_first() {
@@ -109,7 +109,7 @@ fn all_cases(
 ) -> Result<Vec<Case>, AllocError>
     ensures { IfOk result (λ r. AreAll plan.now shard reference.now r.items) }
 {
-    let log = reference.log.as_slice();
+    let log = reference.log.as_slice()?;
     let cases = cases(alloc, log, plan.wanted.as_slice(), plan.setup.boot.follow)?;
     let cases = listed(alloc, plan, cases)?;
     let cases = part_of(alloc, shard, cases.as_slice())?;
@@ -291,7 +291,7 @@ fn make_batches<R: Files + Processes + Threads + Sync + AllocGlobal, C: Clock, W
     writer: &mut W,
     progress: &mut ShownProgress<C, E>,
 ) -> Result<Vec<Row>, Fault>
-    requires { IsLed plan.now.setup leader.old }
+    requires { IsLed plan.now.setup reference.now leader.old }
     ensures { IfOk result (λ rows. AreBegun plan.now.strict plan.now.setup reference.now words cases.now rows.items) }
 {
     let size = batch_size(words.jobs, words.seconds.is_some());
@@ -329,11 +329,10 @@ fn make_batches<R: Files + Processes + Threads + Sync + AllocGlobal, C: Clock, W
 }
 
 /// One that stands at the boot, which is accepted.
-fn first_leader(alloc: Global, setup: &Setup) -> Result<Leader, AllocError>
-    ensures { IfOk result (IsLed setup.now) }
+fn first_leader(alloc: Global, setup: &Setup, reference: &Reached) -> Result<Leader, AllocError>
+    ensures { IfOk result (IsLed setup.now reference.now) }
 {
-    let leader = Leader::new(alloc, setup)?;
-    Ok(leader)
+    Leader::new(alloc, setup, reference)
 }
 
 /// Makes the runs, batch by batch, all of which one leader serves on one thread.
@@ -351,7 +350,7 @@ fn make_led<R: Files + Processes + Threads + Sync + AllocGlobal, C: Clock, W: Wr
 ) -> Result<Vec<Row>, Fault>
     ensures { IfOk result (λ rows. AreBegun plan.now.strict plan.now.setup reference.now words cases.now rows.items) }
 {
-    let mut leader = first_leader(rt.alloc(), &plan.setup)?;
+    let mut leader = first_leader(rt.alloc(), &plan.setup, reference)?;
     let made = make_batches(
         rt,
         matches,

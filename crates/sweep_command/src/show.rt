@@ -50,7 +50,7 @@ fn case_of(
     ensures { IfOk result (λ case. IfSome case (λ case. names_case run case ≡ true)) }
 {
     let wanted = wanted_by(alloc, run)?;
-    let log = reference.log.as_slice();
+    let log = reference.log.as_slice()?;
     let cases = cases(alloc, log, &[wanted], plan.setup.boot.follow)?;
     let cases = by_the_end(alloc, reference, calls, cases.as_slice())?;
     Ok(first_named(cases.as_slice(), run))
@@ -130,7 +130,7 @@ pub fn show<W: Write>(
 ) -> Result<u8, Fault>
     ensures { IfOk result (IsOfRun plan.now reference.now run) }
 {
-    let calls = traced_calls(alloc, &plan.setup, reference.log.as_slice())?;
+    let calls = traced_calls(alloc, &plan.setup, reference.log.as_slice()?)?;
     let Some(case) = case_of(alloc, plan, reference, &calls, run)? else {
         return Err(absent(alloc, run));
     };

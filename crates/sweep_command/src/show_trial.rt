@@ -45,7 +45,7 @@ pub fn show_trial<W: Write>(
     check_second(alloc, plan, reference)?;
     let trial = named_trial(alloc, plan, reference, named)?;
     let row = run_tried(alloc, plan, reference, trial)?;
-    let calls = traced_calls(alloc, &plan.setup, reference.log.as_slice())?;
+    let calls = traced_calls(alloc, &plan.setup, reference.log.as_slice()?)?;
     let shown = shown(alloc, plan, trial)?;
     write_trace(alloc, shown.trace.as_slice(), writer)?;
     write(alloc, end_of(shown.trace.as_slice()), writer)?;

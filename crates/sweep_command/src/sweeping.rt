@@ -210,7 +210,7 @@ fn failures<
 {
     let alloc = rt.alloc();
     let mut checks = begin_checks(rt, matches, words, reference)?;
-    let calls = traced_calls(alloc, &plan.setup, reference.log.as_slice())?;
+    let calls = traced_calls(alloc, &plan.setup, reference.log.as_slice()?)?;
     let choice = wanted_cases(alloc, plan, words, reference, &calls)?;
     let cases = choice.cases.as_slice();
     write_head(alloc, words, plan, reference, cases.len(), writer)?;

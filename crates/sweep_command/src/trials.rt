@@ -28,7 +28,7 @@ pub fn trials_reported<W: Write>(
     ensures { IfOk result (IsOfTrials plan.now reference.now tried.now) }
 {
     check_second(alloc, plan, reference)?;
-    let calls = traced_calls(alloc, &plan.setup, reference.log.as_slice())?;
+    let calls = traced_calls(alloc, &plan.setup, reference.log.as_slice()?)?;
     let rows = tried_rows(alloc, plan, tried, reference)?;
     let rows = rows.as_slice();
     let text = text_of(

@@ -1,11 +1,11 @@
 -- What came of the runs in which a call fails behind another that fails.
 use Rattle.std.specs.Prelude.{◌≡◌, ⊤, Bool, true, false, List, [], map, All, Option, Some, None}
+use Rattle.lx_abi.specs.declared.log.Item.{Item}
 use Rattle.sweep_faults.specs.Led.{place_of}
 use Rattle.sweep_rows.specs.declared.verdicts.Reached.{Reached}
 use Rattle.sweep_runs.specs.Behind.{is_borne, seconds_of}
-use Rattle.sweep_runs.specs.Deep.{case_in, deep_of, DeepReaches, IsDeepRow}
+use Rattle.sweep_runs.specs.Deep.{case_in, deep_of, DeepReaches, FailingLogs, IsDeepRow}
 use Rattle.sweep_runs.specs.Rows.{fault_of, IsRow}
-use Rattle.sweep_runs.specs.Runs.{FaultReaches}
 use Rattle.sweep_runs.specs.declared.chosen.Case.{Case}
 use Rattle.sweep_runs.specs.declared.chosen.Wanted.{Wanted}
 use Rattle.sweep_runs.specs.declared.deep.DeepCase.{DeepCase}
@@ -47,9 +47,9 @@ pub record AreTriedDeep (plan : Plan) (reference : Reached) (first : Case) (seco
 
 -- these calls are those that the run with a failure has behind it
 pub record AreLogged (setup : Setup) (wanted : Wanted) (first : Case) (seconds : List Case) : Type 0 where
-  pub reached : Reached
-  pub run : FaultReaches setup (fault_of first) reached
-  pub all : seconds ≡ seconds_of wanted setup.boot.follow (place_of (fault_of first)) reached.log.items
+  pub log : List Item
+  pub run : FailingLogs setup (fault_of first) log
+  pub all : seconds ≡ seconds_of wanted setup.boot.follow (place_of (fault_of first)) log
 
 -- they fail behind it, where the program has borne it
 abbrev pub SecondsBy : Bool → Setup → Wanted → Case → List Case → Type 0

@@ -44,7 +44,7 @@ fn first_case(
     ensures { IfOk result (λ case. IfSome case (λ case. names run case ≡ true)) }
 {
     let wanted = wanted_by(alloc, run)?;
-    let log = reference.log.as_slice();
+    let log = reference.log.as_slice()?;
     let cases = cases(alloc, log, &[wanted], plan.setup.boot.follow)?;
     Ok(first_named(run, cases.as_slice()))
 }

@@ -10,8 +10,8 @@ use front_end::Fault;
 use std::alloc::{AllocError, Global};
 use sweep_rows::Reached;
 use sweep_runs::{
-    Case, DeepCase, DeepRow, Row, Setup, Wanted, cases, fault_of, is_borne, reach_deep,
-    reach_failing, run_case, run_deep_row, seconds,
+    Case, DeepCase, DeepRow, Row, Setup, Wanted, cases, fault_of, is_borne, log_failing,
+    reach_deep, run_case, run_deep_row, seconds,
 };
 use sweep_trials::second::{SecondEnd, end_on};
 use sweep_words::plan::Plan;
@@ -36,25 +36,31 @@ pub struct Behind {
 fn end_behind(
     alloc: Global,
     setup: &Setup,
+    reference: &Reached,
     second: &Second,
     case: DeepCase,
 ) -> Result<SecondEnd, Fault>
     ensures { IfOk result (EndsBehind setup.now second.now case) }
 {
-    let run = reach_deep(alloc, setup, case)?;
-    let left = run.ending.outcome.files.as_slice()?;
+    let run = reach_deep(alloc, setup, reference, case)?;
+    let left = run.reached.ending.outcome.files.as_slice()?;
     let end = end_on(alloc, setup, second, left)?;
     Ok(end)
 }
 
 /// How that of a plan ends, where there is one.
-fn second_end(alloc: Global, plan: &Plan, case: DeepCase) -> Result<Option<SecondEnd>, Fault>
+fn second_end(
+    alloc: Global,
+    plan: &Plan,
+    reference: &Reached,
+    case: DeepCase,
+) -> Result<Option<SecondEnd>, Fault>
     ensures { IfOk result (IsSecondEnd plan.now.setup plan.now.second case) }
 {
     match &plan.second {
         None => Ok(None),
         Some(second) => {
-            let end = end_behind(alloc, &plan.setup, second, case)?;
+            let end = end_behind(alloc, &plan.setup, reference, second, case)?;
             Ok(Some(end))
         }
     }
@@ -71,7 +77,7 @@ pub fn run_tried_deep(
     ensures case { IfOk result (λ r. case_in r.made ≡ case) }
 {
     let made = run_deep_row(alloc, &plan.setup, reference, case)?;
-    let second = second_end(alloc, plan, case)?;
+    let second = second_end(alloc, plan, reference, case)?;
     Ok(TriedDeep { made, second })
 }
 
@@ -85,9 +91,9 @@ pub fn logged(
     ensures { IfOk result (λ cases. AreLogged setup.now wanted.now first cases.items) }
 {
     let fault = fault_of(first);
-    let run = reach_failing(alloc, setup, fault)?;
+    let log = log_failing(alloc, setup, fault)?;
     let follow = setup.boot.follow;
-    let cases = seconds(alloc, run.log.as_slice(), wanted, fault.place(), follow)?;
+    let cases = seconds(alloc, log.as_slice(), wanted, fault.place(), follow)?;
     Ok(cases)
 }
 
@@ -178,7 +184,7 @@ pub fn deep_rows(
     ensures { IfOk result (λ all. AreBehind plan.now reference.now wanted.now
         (cases_of plan.now.wanted.items plan.now.setup.boot.follow reference.now.log.items) all.items) }
 {
-    let log = reference.log.as_slice();
+    let log = reference.log.as_slice()?;
     let cases = cases(alloc, log, plan.wanted.as_slice(), plan.setup.boot.follow)?;
     let all = run_each(alloc, plan, reference, wanted, cases.as_slice())?;
     Ok(all)

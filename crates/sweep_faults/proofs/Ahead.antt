@@ -5,34 +5,22 @@ use Rattle.std.specs.Option.{option_to_list}
 use Rattle.std.proofs.lemmas.Bool.Decides.{nat_tests}
 use Rattle.lx_abi.specs.declared.log.Item.{Item}
 use Rattle.lx_abi.specs.Log.{entries, is_entry}
-use Rattle.lx_kernel.specs.Runs.{Run, kept_log}
-use Rattle.lx_kernel.specs.Logs.{kept_of}
+use Rattle.lx_kernel.specs.Runs.{Run}
 use Rattle.pt_schedule.specs.Rows.{Continues}
 use Rattle.pt_schedule.specs.Schedules.{GivenTurn, next_turn_of}
 use Rattle.pt_schedule.specs.Untraced.{readiness_of}
 use Rattle.pt_schedule.specs.declared.schedule.Schedule.{Schedule}
 use Rattle.sweep_rows.proofs.Counting.{entries_more}
-use Rattle.sweep_faults.specs.declared.awaited.Awaited.{Awaited}
 use Rattle.sweep_faults.specs.declared.faults.Fault.{Fault}
 use Rattle.sweep_faults.specs.declared.faults.Kind.{Kind}
 use Rattle.sweep_faults.specs.declared.faults.Kind.TheVariants as kind
 use Rattle.sweep_faults.specs.declared.faults.Place.{Place}
-use Rattle.sweep_faults.specs.Awaited.{Awaits}
 use Rattle.sweep_faults.specs.Faults.{after_fault, ends_at, has_begun, is_at, is_due, is_stop, is_world}
 use Rattle.sweep_faults.specs.InRows.{InRow}
 use Rattle.sweep_faults.specs.Led.{Before, EndsBefore, IsAhead, LeadsOn, RunsThrough, StandsAt, entered, fault_at, left_of}
 use Rattle.sweep_faults.specs.Runs.{RunsFaulted}
-use Rattle.sweep_faults.proofs.Rows.{Made, ended_is, made_more, made_now, next_is, nobody_next, row_keeps, turn_is}
+use Rattle.sweep_faults.proofs.Rows.{Made, ended_is, made_more, made_now, next_is, nobody_next, turn_is}
 use Rattle.sweep_faults.proofs.Wording.{more_still}
-
--- What was logged
-
-pub kept_all : (k : Run) → k.keeps_log ≡ true → kept_log k ≡ k.running.log
-kept_all k h = ap (λ b. kept_of b k.running.log) h
-
-pub awaits_all : (a : Awaited) (past rest log : List Item) → length rest ≡ 0 → past ++ rest ≡ log → Awaits a past → Awaits a log
-awaits_all a past [] log none is h = subst (λ l. Awaits a l) (sym (append-nil past) ∙ is) h
-awaits_all a past (item ∷ rest) log none is h = absurd (omega (arith, none))
 
 -- How many entries are left
 
@@ -58,29 +46,6 @@ left_more place left left' (Some item) log log' some is e h =
         entries_more place.pid place.call log item ∙ ap (λ b. (if b then 1 else 0) + entries place.pid place.call log) f
         ∙ no_more (entries place.pid place.call log) in
         omega (arith, h, more)
-
-pub none_less : (n : ℕ) → n ≡ n - 0
-none_less n = omega arith
-
-pub left_less : (place : Place) (left left' : ℕ) (past : List Item) (item : Item) → left' ≡ left_of place left (Some item) → left ≡ place.n - entered place past
-    → left' ≡ place.n - entered place (past ++ item ∷ [])
-unfolding left_of
-left_less place left left' past item is h = is ∙ of (is_entry place.pid place.call item) refl
-  where
-    of : (b : Bool) → is_entry place.pid place.call item ≡ b → cond b (left - 1) left ≡ place.n - entered place (past ++ item ∷ [])
-    of true f =
-        let more : entered place (past ++ item ∷ []) ≡ 1 + entered place past =
-        entries_more place.pid place.call past item ∙ ap (λ b. (if b then 1 else 0) + entries place.pid place.call past) f in
-        omega (arith, h, more)
-    of false f =
-        let more : entered place (past ++ item ∷ []) ≡ entered place past =
-        entries_more place.pid place.call past item ∙ ap (λ b. (if b then 1 else 0) + entries place.pid place.call past) f
-        ∙ no_more (entries place.pid place.call past) in
-        omega (arith, h, more)
-
-pub left_all : (place : Place) (left : ℕ) (past rest log : List Item) → length rest ≡ 0 → past ++ rest ≡ log → left ≡ place.n - entered place past → left ≡ place.n - entered place log
-left_all place left past [] log none is h = subst (λ l. left ≡ place.n - entered place l) (sym (append-nil past) ∙ is) h
-left_all place left past (item ∷ rest) log none is h = absurd (omega (arith, none))
 
 pub is_ahead : (place : Place) (left : ℕ) (log : List Item) → left ≡ place.n - entered place log → 0 < left → IsAhead place left log
 is_ahead place left log h some = omega (arith, h, some)
@@ -175,11 +140,6 @@ module _ (k b k' : Run) (p made turns : ℕ) (item : Option Item)
             (made_more f f made (turns - 1) k b k' p refl (before f early).1 (row f (at_none f b p early)))
             (on, ends_none f k' p waits),
       )
-
-pub before_keeps : (place : Place) (n : ℕ) (k k' : Run) (p : ℕ) → Before place k'.running.log (λ f. (has_begun f k.running.log ≡ false) × InRow f k p n k') → k'.keeps_log ≡ k.keeps_log
-before_keeps place n k k' p h =
-    row_keeps (fault_at place kind.Killed) n k k' p
-    (h.holds (fault_at place kind.Killed) (not_begun place kind.Killed h.past h.ahead)).1
 
 -- A run
 

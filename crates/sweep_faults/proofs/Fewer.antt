@@ -1,20 +1,21 @@
 -- Entries of other processes into the call that fails.
-use Rattle.std.proofs.Common.{◌≡◌, ◌↔◌, Bool, ℕ, suc, ◌+◌, ◌<◌, ◌≤◌, true, false, not, ◌&&◌, List, [], ◌∷◌, ◌++◌, length, refl, sym, ap, subst, ◌∙◌, append-nil, append_assoc, arith}
+use Rattle.std.proofs.Common.{◌≡◌, ◌↔◌, Bool, ℕ, zero, suc, ◌+◌, ◌<◌, ◌≤◌, true, false, not, ◌&&◌, ◌||◌, List, [], ◌∷◌, ◌++◌, refl, sym, ap, subst, ◌∙◌, arith}
 use Rattle.std.specs.Prelude.{◌==◌, IsTrue, nat_le, if◌then◌else◌}
+use Rattle.std.specs.List.{list_any, range_with_len}
 use Rattle.std.proofs.lemmas.Bool.Decides.{nat_tests}
 use Rattle.lx_abi.specs.declared.log.Call.{Call}
 use Rattle.lx_abi.specs.declared.log.Item.{Item}
-use Rattle.lx_abi.specs.declared.log.Item.TheVariants.{Enter, Done, Taken, Stopped, Exit}
-use Rattle.lx_abi.specs.declared.occurrences.Occurrences.{Occurrences}
+use Rattle.lx_abi.specs.declared.log.Item.TheVariants.{Enter}
 use Rattle.lx_abi.specs.Log.{entries, is_entry}
 use Rattle.lx_abi.specs.Occurrences.{count_of}
 use Rattle.lx_model.specs.Kernel.{traces}
 use Rattle.lx_kernel.specs.Occurrences.{Agree}
 use Rattle.sweep_rows.proofs.Counting.{entries_more}
+use Rattle.sweep_faults.specs.declared.entries.Entries.{Entries}
 use Rattle.sweep_faults.specs.declared.faults.Fault.{Fault}
+use Rattle.sweep_faults.specs.Entries.{AreEntries}
 use Rattle.sweep_faults.specs.Faults.{is_undone}
-use Rattle.sweep_faults.specs.Words.{AreFewer, HasWords, is_again}
-use Rattle.sweep_faults.proofs.Wording.{more_still}
+use Rattle.sweep_faults.specs.Words.{AreFewer, HasWords, is_others}
 
 no_more : (n : ℕ) → 0 + n ≡ n
 no_more n = omega arith
@@ -25,71 +26,100 @@ entries_same p number past item other =
 
 -- Counts, one item more
 
-pub agree_other : (entered : Occurrences) (item : Item) → ((p number : ℕ) → is_entry p number item ≡ false) → (past : List Item) → Agree entered past → Agree entered (past ++ item ∷ [])
-agree_other entered item other past h p number = h p number ∙ sym (entries_same p number past item (other p number))
+pub still_agree : (item : Item) → ((p number : ℕ) → is_entry p number item ≡ false) → (e : Entries) (past : List Item) → AreEntries e past → Agree e.counts (past ++ item ∷ [])
+still_agree item other e past h p number = h.agree p number ∙ sym (entries_same p number past item (other p number))
 
-pub agree_entry : (entered entered' : Occurrences) (pid : ℕ) (call : Call) → ((p n : ℕ) → count_of entered' p n ≡ (if (p == pid) && (n == call.number) then 1 else 0) + count_of entered p n)
-    → (past : List Item) → Agree entered past → Agree entered' (past ++ Enter pid call ∷ [])
-agree_entry entered entered' pid call counts past h p n =
-    counts p n ∙ ap (λ x. (if (p == pid) && (n == call.number) then 1 else 0) + x) (h p n) ∙ sym (entries_more p n past (Enter pid call))
+pub still_within : (item : Item) → ((p number : ℕ) → is_entry p number item ≡ false) → (e : Entries) (past : List Item) → AreEntries e past
+    → (p number : ℕ) → e.above ≤ p → entries p number (past ++ item ∷ []) ≡ 0
+still_within item other e past h p number far = entries_same p number past item (other p number) ∙ h.within p number far
 
--- An item by which another process enters the call so often, and one that isn't
+pub entries_entry : (e e' : Entries) (pid : ℕ) (call : Call) → ((p n : ℕ) → count_of e'.counts p n ≡ (if (p == pid) && (n == call.number) then 1 else 0) + count_of e.counts p n)
+    → e.above ≤ e'.above → pid < e'.above → (past : List Item) → AreEntries e past → AreEntries e' (past ++ Enter pid call ∷ [])
+entries_entry e e' pid call counts before above past h = record {
+  agree = λ p n.
+      counts p n ∙ ap (λ x. (if (p == pid) && (n == call.number) then 1 else 0) + x) (h.agree p n) ∙ sym (entries_more p n past (Enter pid call));
+  within = λ p number far.
+      let earlier : e.above ≤ p = omega (arith, before, far) in
+      entries_same p number past (Enter pid call) (of p number (p == pid) refl far) ∙ h.within p number earlier;
+}
+  where
+    of : (p number : ℕ) (b : Bool) → (p == pid) ≡ b → e'.above ≤ p → (b && (number == call.number)) ≡ false
+    of p number true is far = absurd (grind (arith, nat_tests, is, above, far))
+    of p number false is far = refl
 
-module _ (f : Fault) (past : List Item) (entered : Occurrences) where
-  not_fewer_by : (pid : ℕ) (call : Call) (rest log : List Item) (a b c : Bool) → (call.number == f.call) ≡ a → (pid == f.pid) ≡ b → nat_le f.n (count_of entered pid f.call) ≡ c → (a && (not b && c)) ≡ true
-      → Agree entered (past ++ Enter pid call ∷ []) → (past ++ Enter pid call ∷ []) ++ rest ≡ log → AreFewer f log → ⊥
-  not_fewer_by pid call rest log true false true ea eb ec h agree is fewer =
-      let others : pid ≡ f.pid → ⊥ = λ same. grind (arith, nat_tests, eb, same) in
-      let enough : f.n ≤ count_of entered pid f.call = grind (arith, nat_tests, ec) in
-      let counted : count_of entered pid f.call ≡ entries pid f.call (past ++ Enter pid call ∷ []) = agree pid f.call in
-      let more : entries pid f.call (past ++ Enter pid call ∷ []) ≤ entries pid f.call log =
-      subst (λ l. entries pid f.call (past ++ Enter pid call ∷ []) ≤ entries pid f.call l) is (more_still (is_entry pid f.call) (past ++ Enter pid call ∷ []) rest) in
-      let less : entries pid f.call log < f.n = fewer pid others in
-      omega (arith, enough, counted, more, less)
-  not_fewer_by pid call rest log true false false ea eb ec h agree is fewer = absurd (cc h)
-  not_fewer_by pid call rest log true true c ea eb ec h agree is fewer = absurd (cc h)
-  not_fewer_by pid call rest log false b c ea eb ec h agree is fewer = absurd (cc h)
+pub first_entries : (e : Entries) → ((p n : ℕ) → count_of e.counts p n ≡ 0) → AreEntries e []
+first_entries e none = record { agree = none; within = λ p n far. refl }
 
-  pub not_fewer : (item : Item) (rest log : List Item) → is_again f entered item ≡ true → Agree entered (past ++ item ∷ []) → (past ++ item ∷ []) ++ rest ≡ log → AreFewer f log → ⊥
-  not_fewer (Enter pid call) rest log h agree is fewer =
-      not_fewer_by pid call rest log (call.number == f.call) (pid == f.pid) (nat_le f.n (count_of entered pid f.call)) refl refl refl h agree is fewer
-  not_fewer (Done pid call result replaced) rest log h agree is fewer = absurd (cc h)
-  not_fewer (Taken pid signal cause) rest log h agree is fewer = absurd (cc h)
-  not_fewer (Stopped pid signal) rest log h agree is fewer = absurd (cc h)
-  not_fewer (Exit pid word left) rest log h agree is fewer = absurd (cc h)
+pub clone_entries : (e e' : Entries) → ((p n : ℕ) → count_of e'.counts p n ≡ count_of e.counts p n) → e'.above ≡ e.above → (log : List Item) → AreEntries e log → AreEntries e' log
+clone_entries e e' counts above log h = record {
+  agree = λ p n. counts p n ∙ h.agree p n;
+  within = λ p n far. h.within p n (subst (λ x. x ≤ p) above far);
+}
 
-  other_item : (item : Item) → ((p : ℕ) → is_entry p f.call item ≡ false) → AreFewer f past → AreFewer f (past ++ item ∷ [])
-  other_item item other fewer q others = subst (λ n. n < f.n) (sym (entries_same q f.call past item (other q))) (fewer q others)
+-- Processes that have entered it so often
 
-  entry_by : (pid : ℕ) (call : Call) (q : ℕ) (a b c d : Bool) → (call.number == f.call) ≡ a → (pid == f.pid) ≡ b → nat_le f.n (count_of entered pid f.call) ≡ c → (q == pid) ≡ d → (a && (not b && c)) ≡ false
-      → Agree entered (past ++ Enter pid call ∷ []) → AreFewer f past → (q ≡ f.pid → ⊥) → entries q f.call (past ++ Enter pid call ∷ []) < f.n
-  entry_by pid call q true false true d ea eb ec ed h agree fewer others = absurd (cc h)
-  entry_by pid call q true false false true ea eb ec ed h agree fewer others =
-      let same : q ≡ pid = grind (arith, nat_tests, ed) in
-      let less : count_of entered pid f.call < f.n = grind (arith, nat_tests, ec) in
-      let counted : count_of entered pid f.call ≡ entries pid f.call (past ++ Enter pid call ∷ []) = agree pid f.call in
-      subst (λ p. entries p f.call (past ++ Enter pid call ∷ []) < f.n) (sym same) (subst (λ n. n < f.n) counted less)
-  entry_by pid call q true true c true ea eb ec ed h agree fewer others =
-      let same : q ≡ pid = grind (arith, nat_tests, ed) in
-      let here : pid ≡ f.pid = grind (arith, nat_tests, eb) in
-      absurd (others (same ∙ here))
-  entry_by pid call q true b c false ea eb ec ed h agree fewer others =
-      subst (λ n. n < f.n) (sym (entries_same q f.call past (Enter pid call) (ap (λ x. x && (f.call == call.number)) ed))) (fewer q others)
-  entry_by pid call q false b c d ea eb ec ed h agree fewer others =
-      subst (λ n. n < f.n) (sym (entries_same q f.call past (Enter pid call) (of (q == pid) (f.call == call.number) refl))) (fewer q others)
+none_of : (g : ℕ → Bool) (n a p : ℕ) → list_any g (range_with_len a n) ≡ false → a ≤ p → p < a + n → g p ≡ false
+none_of g zero a p none least most = absurd (omega (arith, least, most))
+none_of g (suc n) a p none least most =
+    let within : p < (a + 1) + n = omega (arith, most) in
+    of (g a) refl none (a == p) refl (λ behind later. none_of g n (a + 1) p behind later within)
+  where
+    of : (b : Bool) → g a ≡ b → (b || list_any g (range_with_len (a + 1) n)) ≡ false → (c : Bool) → (a == p) ≡ c →
+        (list_any g (range_with_len (a + 1) n) ≡ false → a + 1 ≤ p → g p ≡ false) → g p ≡ false
+    of true is none c e next = absurd (cc none)
+    of false is none true e next =
+        let same : a ≡ p = grind (arith, nat_tests, e) in
+        subst (λ x. g x ≡ false) same is
+    of false is none false e next =
+        let later : a + 1 ≤ p = grind (arith, nat_tests, e, least) in
+        next none later
+
+all_none : (g : ℕ → Bool) (n a : ℕ) → ((p : ℕ) → g p ≡ false) → list_any g (range_with_len a n) ≡ false
+all_none g zero a none = refl
+all_none g (suc n) a none = ap (λ b. b || list_any g (range_with_len (a + 1) n)) (none a) ∙ all_none g n (a + 1) none
+
+module _ (f : Fault) (e : Entries) (log : List Item) (h : AreEntries e log) where
+  seldom : (p : ℕ) (a b : Bool) → (p == f.pid) ≡ a → nat_le f.n (count_of e.counts p f.call) ≡ b → (not a && b) ≡ false → (p ≡ f.pid → ⊥) → entries p f.call log < f.n
+  seldom p true b ea eb none others =
+      let same : p ≡ f.pid = grind (arith, nat_tests, ea) in
+      absurd (others same)
+  seldom p false true ea eb none others = absurd (cc none)
+  seldom p false false ea eb none others =
+      let less : count_of e.counts p f.call < f.n = grind (arith, nat_tests, eb) in
+      subst (λ n. n < f.n) (h.agree p f.call) less
+
+  fewer_all : (n : ℕ) → n ≡ e.above → list_any (is_others f e.counts) (range_with_len 0 n) ≡ false → 0 < f.n → AreFewer f log
+  fewer_all n is none some p others = of (nat_le e.above p) refl
     where
-      of : (x y : Bool) → (f.call == call.number) ≡ y → (x && y) ≡ false
-      of true true e = absurd (grind (arith, nat_tests, ea, e))
-      of true false e = refl
-      of false y e = refl
+      of : (far : Bool) → nat_le e.above p ≡ far → entries p f.call log < f.n
+      of true far =
+          let beyond : e.above ≤ p = grind (arith, nat_tests, far) in
+          let never : entries p f.call log ≡ 0 = h.within p f.call beyond in
+          omega (arith, never, some)
+      of false far =
+          let most : p < 0 + n = grind (arith, nat_tests, far, is) in
+          seldom p (p == f.pid) (nat_le f.n (count_of e.counts p f.call)) refl refl
+          (none_of (is_others f e.counts) n 0 p none (omega arith) most) others
 
-  pub still_fewer : (item : Item) → is_again f entered item ≡ false → Agree entered (past ++ item ∷ []) → AreFewer f past → AreFewer f (past ++ item ∷ [])
-  still_fewer (Enter pid call) h agree fewer q others =
-      entry_by pid call q (call.number == f.call) (pid == f.pid) (nat_le f.n (count_of entered pid f.call)) (q == pid) refl refl refl refl h agree fewer others
-  still_fewer (Done pid call result replaced) h agree fewer q others = other_item (Done pid call result replaced) (λ p. refl) fewer q others
-  still_fewer (Taken pid signal cause) h agree fewer q others = other_item (Taken pid signal cause) (λ p. refl) fewer q others
-  still_fewer (Stopped pid signal) h agree fewer q others = other_item (Stopped pid signal) (λ p. refl) fewer q others
-  still_fewer (Exit pid word left) h agree fewer q others = other_item (Exit pid word left) (λ p. refl) fewer q others
+  none_often : AreFewer f log → (p : ℕ) → is_others f e.counts p ≡ false
+  none_often fewer p = of (p == f.pid) refl (nat_le f.n (count_of e.counts p f.call)) refl
+    where
+      of : (a : Bool) → (p == f.pid) ≡ a → (b : Bool) → nat_le f.n (count_of e.counts p f.call) ≡ b → (not a && b) ≡ false
+      of true ea b eb = refl
+      of false ea false eb = refl
+      of false ea true eb =
+          let others : p ≡ f.pid → ⊥ = λ same. grind (arith, nat_tests, ea, same) in
+          let less : count_of e.counts p f.call < f.n = subst (λ n. n < f.n) (sym (h.agree p f.call)) (fewer p others) in
+          absurd (grind (arith, nat_tests, eb, less))
+
+  pub fewer_is : (any : Bool) (n : ℕ) → n ≡ e.above → any ≡ list_any (is_others f e.counts) (range_with_len 0 n) → (f.n ≡ 0 → ⊥) → IsTrue (not any) ↔ AreFewer f log
+  fewer_is true n is any some = (
+    λ no_one. absurd (cc no_one),
+    λ fewer. absurd (cc (any ∙ all_none (is_others f e.counts) n 0 (none_often fewer))),
+  )
+  fewer_is false n is any some =
+      let more : 0 < f.n = grind (arith, nat_tests, some) in
+      (λ t. fewer_all n is (sym any) more, λ fewer. refl)
 
 -- What is answered
 
@@ -101,19 +131,6 @@ never_fewer f log none = (
       let less : entries (suc f.pid) f.call log < f.n = fewer (suc f.pid) another in
       absurd (omega (arith, none, less)),
 )
-
-pub others_enter : (f : Fault) (log : List Item) → (AreFewer f log → ⊥) → IsTrue false ↔ AreFewer f log
-others_enter f log none = (λ h. absurd (cc h), λ fewer. absurd (none fewer))
-
-pub none_enters : (f : Fault) (past left log : List Item) → length left ≡ 0 → past ++ left ≡ log → AreFewer f past → IsTrue true ↔ AreFewer f log
-none_enters f past [] log none is fewer = (λ h. subst (λ l. AreFewer f l) (sym (append-nil past) ∙ is) fewer, λ h. refl)
-none_enters f past (item ∷ left) log none is fewer = absurd (omega (arith, none))
-
-pub first_fewer : (f : Fault) → 0 < f.n → AreFewer f []
-first_fewer f some q others = some
-
-pub grouped : (xs : List Item) (item : Item) (ys zs log : List Item) → xs ++ ys ≡ log → ys ≡ item ∷ zs → (xs ++ item ∷ []) ++ zs ≡ log
-grouped xs item ys zs log e h = append_assoc xs (item ∷ []) zs ∙ ap (λ l. xs ++ l) (sym h) ∙ e
 
 pub done_words : (follow : Bool) (f : Fault) (log : List Item) → is_undone f.kind ≡ false → IsTrue false ↔ HasWords follow f log
 done_words follow f log h = (λ e. absurd (cc e), λ words. absurd (cc (sym words.undone ∙ h)))

@@ -311,8 +311,3 @@ keeps f k s (p ∷ ps) z h =
 
 pub runs_keep_logs : RunsKeepLogs
 runs_keep_logs f k s z to = keeps f k s to.pids z to.is_run
-
-pub row_keeps : (f : Fault) (n : ℕ) (k k' : Run) (p : ℕ) → InRow f k p n k' → k'.keeps_log ≡ k.keeps_log
-unfolding InRow
-row_keeps f zero k k' p row = ap (λ (r : Run). r.keeps_log) row ∙ fault_keeps f k p
-row_keeps f (suc n) k k' p row = row_keeps f n (after_fault f k p) k' p row.1 ∙ fault_keeps f k p

@@ -2,6 +2,8 @@ pub mod Faults
 pub mod Words
 pub mod Runs
 pub mod InRows
-pub mod Awaited
+pub mod Entries
+pub mod Courses
+pub mod Heard
 pub mod Led
 pub mod Deep

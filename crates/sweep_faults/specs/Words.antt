@@ -2,7 +2,6 @@
 use Rattle.std.specs.Prelude.{◌≡◌, ◌<◌, ℕ, ◌==◌, ◌&&◌, not, nat_le, Bool, true, false, List}
 use Rattle.lx_abi.specs.declared.errno.Errno.{Errno}
 use Rattle.lx_abi.specs.declared.log.Item.{Item}
-use Rattle.lx_abi.specs.declared.log.Item.TheVariants.{Enter, Done, Taken, Stopped, Exit}
 use Rattle.lx_abi.specs.declared.occurrences.Occurrences.{Occurrences}
 use Rattle.lx_abi.specs.Log.{entries}
 use Rattle.lx_abi.specs.Occurrences.{count_of}
@@ -25,11 +24,6 @@ pub record HasWords (follow : Bool) (f : Fault) (log : List Item) : Type 0 where
 abbrev pub AreFewer : Fault → List Item → Type 0
 AreFewer f log = (pid : ℕ) → (pid ≡ f.pid → ⊥) → entries pid f.call log < f.n
 
--- an item by which another process enters it for the nth time or later, by what is counted
-abbrev pub is_again : Fault → Occurrences → Item → Bool
-is_again f entered (Enter pid call) =
-    (call.number == f.call) && (not (pid == f.pid) && nat_le f.n (count_of entered pid f.call))
-is_again f entered (Done pid call result replaced) = false
-is_again f entered (Taken pid signal cause) = false
-is_again f entered (Stopped pid signal) = false
-is_again f entered (Exit pid word left) = false
+-- it is another process, and has entered it so often, by what is counted
+abbrev pub is_others : Fault → Occurrences → ℕ → Bool
+is_others f entered pid = not (pid == f.pid) && nat_le f.n (count_of entered pid f.call)

@@ -1,26 +1,25 @@
 //! A run of the untraced kernel by a schedule in which a call fails, and another behind it.
 
-ghost use Rattle.std.specs.Prelude.{◌≡◌, ◌≤◌, ◌++◌, [], List, OnOk, OnErr, IfOk, IfErr, IsTrue};
+ghost use Rattle.std.specs.Prelude.{◌≡◌, ◌++◌, OnOk, OnErr, IfOk, IfErr, IsTrue};
 ghost use Rattle.std.specs.Option.{option_to_list};
-ghost use Rattle.lx_abi.specs.declared.log.Item.{Item as LogItem};
 ghost use Rattle.pt_schedule.specs.Schedules.{next_turn_of};
 ghost use Rattle.pt_schedule.specs.Untraced.{readiness_of};
 ghost use Rattle.plain_run.specs.Watched.{Tells};
 ghost use Rattle.plain_run.specs.declared.running.Halt.TheVariants.{Weary};
-ghost use Rattle.sweep_faults.specs.Awaited.{Awaits};
-ghost use Rattle.sweep_faults.specs.Deep.{AwaitsBoth, DeepEndsAreSettled, DeepIsFaulted, DeepRunsKeepLogs, RunsDeep};
-ghost use Rattle.sweep_faults.specs.Deep.{after_deep, deep_ends_at, deep_of, next_deep};
+ghost use Rattle.sweep_faults.specs.Deep.{DeepEndsAreSettled, DeepIsFaulted, DeepRunsKeepLogs, RunsDeep};
+ghost use Rattle.sweep_faults.specs.Deep.{after_deep, deep_ends_at, next_deep};
 ghost use Rattle.sweep_faults.specs.Faults.{after_fault};
+ghost use Rattle.sweep_faults.specs.Heard.{Hears, HearsBeside};
 
-use crate::awaited::Awaited;
+use crate::due::{ends_at, is_at};
 use crate::failing::{fail, turn};
 use crate::faults::Fault;
+use crate::heard::Heard;
 use crate::moving::Moved;
-use lx_abi::Item;
 use lx_kernel::{Failed, Kernel};
 use plain_run::{Halt, Watch, tell};
 use pt_schedule::Schedule;
-use std::alloc::{AllocError, Global};
+use sweep_rows::Calls;
 
 /// A call fails, and then another that is entered behind it.
 #[derive(Clone, Copy, Debug, PartialEq, Eq)]
@@ -29,72 +28,36 @@ pub struct Deep {
     pub second: Fault,
 }
 
-/// Both failures, and what their processes have done so far.
-#[derive(Drop)]
-pub(crate) struct Both {
-    pub first: Awaited,
-    pub second: Awaited,
-}
-
-impl Both {
-    fn new(alloc: Global, deep: Deep) -> Self
-        ensures deep { deep_of result ≡ deep }
-        ensures none { AwaitsBoth result [] }
-    {
-        Both {
-            first: Awaited::new(alloc, deep.first),
-            second: Awaited::new(alloc, deep.second),
-        }
-    }
-
-    /// A turn has logged this.
-    fn hear(&mut self, item: &Option<Item>) -> Result<(), AllocError>
-        ensures awaits { OnOk result ((log : List LogItem) → AwaitsBoth self.old log
-            → AwaitsBoth self.new (log ++ option_to_list item.now)) }
-        ensures deep { deep_of self.new ≡ deep_of self.old }
-    {
-        self.first.hear(item)?;
-        self.second.hear(item)?;
-        Ok(())
-    }
-
-    /// Everything ends where the process stands.
-    fn ends_at(&self, kernel: &Kernel, pid: u32) -> bool
-        requires { AwaitsBoth self.now kernel.now.running.log }
-        ensures { result ≡ deep_ends_at (deep_of self.now) kernel.now pid }
-    {
-        self.first.ends_at(kernel, pid) || self.second.ends_at(kernel, pid)
-    }
-}
-
-/// The turn of a process in which the call of this failure fails, or another.
-#[tactic(auto, using(crate::proofs::Standing::awaited_at_is, crate::proofs::Standing::asked_there))]
-fn turn_first(kernel: &mut Kernel, pid: u32, first: &Awaited) -> Result<Moved, Failed>
-    requires { Awaits first.now kernel.old.running.log }
-    ensures turned { OnOk result (kernel.new ≡ after_fault first.now.fault kernel.old pid) }
+/// The turn of a process in which its call fails so, or another.
+fn turn_first(
+    kernel: &mut Kernel,
+    pid: u32,
+    first: Fault,
+    heard: &Heard,
+) -> Result<Moved, Failed>
+    requires { Hears heard.now kernel.old.running.log }
+    ensures turned { OnOk result (kernel.new ≡ after_fault first kernel.old pid) }
     ensures logged { IfOk result (λ m. kernel.new.running.log ≡ kernel.old.running.log ++ option_to_list m.item) }
     ensures log { OnErr result (kernel.new.running.log ≡ kernel.old.running.log) }
 {
-    if first.is_at(kernel, pid) {
-        fail(kernel, pid, first.fault.kind, first.asked, &first.known)
+    if is_at(heard, kernel, pid, first) {
+        fail(kernel, pid, first.kind, heard.asked(pid), heard.known())
     } else {
         turn(kernel, pid)
     }
 }
 
 /// The turn of a process in which one of both calls fails, or another.
-#[tactic(auto, using(crate::proofs::Standing::awaited_at_is, crate::proofs::Standing::asked_there))]
-fn turn_either(kernel: &mut Kernel, pid: u32, both: &Both) -> Result<Moved, Failed>
-    requires { AwaitsBoth both.now kernel.old.running.log }
-    ensures turned { OnOk result (kernel.new ≡ after_deep (deep_of both.now) kernel.old pid) }
+fn turn_either(kernel: &mut Kernel, pid: u32, deep: Deep, heard: &Heard) -> Result<Moved, Failed>
+    requires { Hears heard.now kernel.old.running.log }
+    ensures turned { OnOk result (kernel.new ≡ after_deep deep kernel.old pid) }
     ensures logged { IfOk result (λ m. kernel.new.running.log ≡ kernel.old.running.log ++ option_to_list m.item) }
     ensures log { OnErr result (kernel.new.running.log ≡ kernel.old.running.log) }
 {
-    let second = &both.second;
-    if second.is_at(kernel, pid) {
-        fail(kernel, pid, second.fault.kind, second.asked, &second.known)
+    if is_at(heard, kernel, pid, deep.second) {
+        fail(kernel, pid, deep.second.kind, heard.asked(pid), heard.known())
     } else {
-        turn_first(kernel, pid, &both.first)
+        turn_first(kernel, pid, deep.first, heard)
     }
 }
 
@@ -103,86 +66,81 @@ fn turn_either(kernel: &mut Kernel, pid: u32, both: &Both) -> Result<Moved, Fail
 fn advance<W: Watch>(
     kernel: &mut Kernel,
     pid: u32,
-    both: &mut Both,
+    deep: Deep,
+    heard: &mut Heard,
+    calls: &Calls,
     watch: &mut W,
 ) -> Result<(), Halt>
-    requires { AwaitsBoth both.old kernel.old.running.log }
-    ensures turned { OnOk result (kernel.new ≡ after_deep (deep_of both.old) kernel.old pid) }
-    ensures awaits { OnOk result (AwaitsBoth both.new kernel.new.running.log) }
-    ensures deep { deep_of both.new ≡ deep_of both.old }
+    requires { HearsBeside calls.now heard.old kernel.old.running.log }
+    ensures turned { OnOk result (kernel.new ≡ after_deep deep kernel.old pid) }
+    ensures heard { OnOk result (HearsBeside calls.now heard.new kernel.new.running.log) }
     ensures told { Tells kernel.old (W.told watch.old) kernel.new (W.told watch.new) }
     ensures begun { W.begun watch.new ≡ W.begun watch.old }
     ensures weary { IfErr result (λ halt. halt ≡ Weary → IsTrue (W.weary watch.new)) }
 {
-    let moved = match turn_either(kernel, pid, both) {
+    let moved = match turn_either(kernel, pid, deep, heard) {
         Ok(moved) => moved,
         Err(_) => return Err(Halt::Memory),
     };
     if let Err(halt) = tell(kernel, moved.turns, &moved.item, watch) {
         return Err(halt);
     }
-    match both.hear(&moved.item) {
+    match heard.hear(&moved.item, calls) {
         Ok(()) => Ok(()),
         Err(_) => Err(Halt::Memory),
     }
 }
 
+/// Everything ends where the process stands.
+fn deep_ends_at(heard: &Heard, kernel: &Kernel, pid: u32, deep: Deep) -> bool
+    requires { Hears heard.now kernel.now.running.log }
+    ensures { result ≡ deep_ends_at deep kernel.now pid }
+{
+    ends_at(heard, kernel, pid, deep.first) || ends_at(heard, kernel, pid, deep.second)
+}
+
 /// Whose turn comes next: nobody's at the schedule's end, or where everything ends.
-fn next_turn(kernel: &Kernel, schedule: &mut Schedule, both: &Both) -> Option<u32>
-    requires { AwaitsBoth both.now kernel.now.running.log }
-    ensures next { result ≡ next_deep (deep_of both.now) kernel.now schedule.old }
+fn next_turn(kernel: &Kernel, schedule: &mut Schedule, deep: Deep, heard: &Heard) -> Option<u32>
+    requires { Hears heard.now kernel.now.running.log }
+    ensures next { result ≡ next_deep deep kernel.now schedule.old }
     ensures rest { schedule.new ≡ (next_turn_of schedule.old (readiness_of kernel.now)).schedule }
 {
     let Some(pid) = schedule.next_plain(kernel) else {
         return None;
     };
-    if both.ends_at(kernel, pid) {
+    if deep_ends_at(heard, kernel, pid, deep) {
         return None;
     }
     Some(pid)
 }
 
-/// Makes the turns that a schedule gives, up to its end, or to where everything ends.
-fn run_awaited<W: Watch>(
-    kernel: &mut Kernel,
-    schedule: &mut Schedule,
-    both: &mut Both,
-    watch: &mut W,
-) -> Result<(), Halt>
-    requires { AwaitsBoth both.old kernel.old.running.log }
-    ensures to { OnOk result (RunsDeep (deep_of both.old) kernel.old schedule.old kernel.new) }
-    ensures told { Tells kernel.old (W.told watch.old) kernel.new (W.told watch.new) }
-    ensures begun { W.begun watch.new ≡ W.begun watch.old }
-    ensures weary { IfErr result (λ halt. halt ≡ Weary → IsTrue (W.weary watch.new)) }
-{
-    'turns: loop {
-        let Some(pid) = next_turn(kernel, schedule, both) else {
-            return Ok(());
-        };
-        if let Err(halt) = advance(kernel, pid, both, watch) {
-            return Err(halt);
-        }
-    }
-}
-
-/// Makes the turns that a schedule gives, up to its end, where two calls fail; the watcher is told of each.
+/// Makes the turns that a schedule gives, up to its end, or to where everything ends, where two calls fail; the watcher
+/// is told of each, and what is logged is heard.
 pub fn run_deep<W: Watch>(
-    alloc: Global,
     kernel: &mut Kernel,
     schedule: &mut Schedule,
     deep: Deep,
+    heard: &mut Heard,
+    calls: &Calls,
     watch: &mut W,
 ) -> Result<(), Halt>
-    requires { kernel.old.running.log ≡ [] }
+    requires { HearsBeside calls.now heard.old kernel.old.running.log }
     ensures to { OnOk result (RunsDeep deep kernel.old schedule.old kernel.new) }
+    ensures heard { OnOk result (HearsBeside calls.now heard.new kernel.new.running.log) }
 
     // What was logged was told, in order, also where the run ended before its schedule.
     ensures told { Tells kernel.old (W.told watch.old) kernel.new (W.told watch.new) }
     ensures begun { W.begun watch.new ≡ W.begun watch.old }
     ensures weary { IfErr result (λ halt. halt ≡ Weary → IsTrue (W.weary watch.new)) }
 {
-    let mut both = Both::new(alloc, deep);
-    run_awaited(kernel, schedule, &mut both, watch)
+    'turns: loop {
+        let Some(pid) = next_turn(kernel, schedule, deep, heard) else {
+            return Ok(());
+        };
+        if let Err(halt) = advance(kernel, pid, deep, heard, calls, watch) {
+            return Err(halt);
+        }
+    }
 }
 
 /// Where such a run ends is settled by where it begins, its schedule and the two failures, and a log that is kept at its

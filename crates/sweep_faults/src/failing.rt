@@ -4,13 +4,13 @@ ghost use Rattle.std.specs.Prelude.{◌≡◌, ◌<◌, ◌++◌, None, true, fa
 ghost use Rattle.std.specs.Option.{option_to_list};
 ghost use Rattle.lx_kernel.specs.Choices.{after_choosing};
 ghost use Rattle.lx_kernel.specs.Runs.{after_turn, mode_in};
-ghost use Rattle.sweep_faults.specs.Faults.{after_asking, after_failing, after_short, error_asked, failing, is_world};
+ghost use Rattle.sweep_faults.specs.Faults.{after_asking, after_failing, after_short, error_asked, failing};
 ghost use Rattle.sweep_faults.specs.Faults.{killing, last_asked, writing};
 ghost use Rattle.lx_kernel.specs.Tracing.{regs_of, task_in};
 ghost use Rattle.lx_model.specs.Machine.{call_of};
 ghost use Rattle.sweep_rows.specs.Known.{IsKnown};
 
-use crate::awaited::is_entered;
+use crate::due::is_entered;
 use crate::faults::Kind;
 use crate::moving::Moved;
 use lx_abi::{Call, Choice, Errno, Registers, Signal};
@@ -211,8 +211,8 @@ pub(crate) fn fail(
     asked: u64,
     known: &Known,
 ) -> Result<Moved, Failed>
-    requires asked { is_world kind ≡ false → asked ≡ last_asked pid 0 kernel.old.running.log }
-    requires known { is_world kind ≡ true → IsKnown kernel.old.running.log known.now }
+    requires asked { asked ≡ last_asked pid 0 kernel.old.running.log }
+    requires known { IsKnown kernel.old.running.log known.now }
     ensures turned { OnOk result (kernel.new ≡ after_failing kind kernel.old pid) }
     ensures one { IfOk result (λ m. m.turns ≡ 1) }
     ensures after { IfOk result (λ m. m.after ≡ mode_in kernel.new pid) }

@@ -3,18 +3,21 @@
 ghost use Rattle.std.specs.Prelude.{◌≡◌, ◌≤◌, ◌<◌, ◌-◌, ◌++◌, IfOk, IfErr, OnOk, OnErr, IsTrue, false};
 ghost use Rattle.std.specs.Option.{option_to_list};
 ghost use Rattle.lx_kernel.specs.Runs.{mode_in};
-ghost use Rattle.sweep_faults.specs.Awaited.{Awaits};
 ghost use Rattle.sweep_faults.specs.Faults.{is_at};
+ghost use Rattle.sweep_faults.specs.Heard.{Hears, HearsBeside};
 ghost use Rattle.sweep_faults.specs.InRows.{InRow};
 ghost use Rattle.sweep_faults.specs.declared.faults.Fault.{Fault as Failing};
 ghost use Rattle.plain_run.specs.Watched.{Tells};
 ghost use Rattle.plain_run.specs.declared.running.Halt.TheVariants.{Weary};
 
-use crate::awaited::Awaited;
+use crate::due::is_at;
 use crate::failing::fail;
+use crate::faults::Fault;
+use crate::heard::Heard;
 use lx_abi::{Item, Mode};
 use lx_kernel::{Failed, Kernel};
 use plain_run::{Halt, Watch, tell};
+use sweep_rows::Calls;
 
 /// How many turns there were in a row, where they leave the process, and what the last has logged.
 #[derive(Clone, Copy, Debug, PartialEq, Eq)]
@@ -48,25 +51,25 @@ pub(crate) fn go_on(kernel: &mut Kernel, pid: u32, most: u64) -> Result<Moved, F
 }
 
 /// Turns of a process that are made at once, `most` at most: the one in which its call fails, or others.
-#[tactic(auto, using(crate::proofs::Rows::row_failing, crate::proofs::Standing::awaited_at_is, crate::proofs::Standing::asked_there))]
-fn move_on(kernel: &mut Kernel, pid: u32, most: u64, awaited: &Awaited) -> Result<Moved, Failed>
+#[tactic(auto, using(crate::proofs::Rows::row_failing))]
+fn move_on(
+    kernel: &mut Kernel,
+    pid: u32,
+    most: u64,
+    fault: Fault,
+    heard: &Heard,
+) -> Result<Moved, Failed>
     requires some { 0 < most }
-    requires awaits { Awaits awaited.now kernel.old.running.log }
-    ensures row { IfOk result (λ m. InRow awaited.now.fault kernel.old pid (m.turns - 1) kernel.new) }
+    requires heard { Hears heard.now kernel.old.running.log }
+    ensures row { IfOk result (λ m. InRow fault kernel.old pid (m.turns - 1) kernel.new) }
     ensures some { IfOk result (λ m. 0 < m.turns) }
     ensures within { IfOk result (λ m. m.turns ≤ most) }
     ensures after { IfOk result (λ m. m.after ≡ mode_in kernel.new pid) }
     ensures logged { IfOk result (λ m. kernel.new.running.log ≡ kernel.old.running.log ++ option_to_list m.item) }
     ensures log { OnErr result (kernel.new.running.log ≡ kernel.old.running.log) }
 {
-    if awaited.is_at(kernel, pid) {
-        fail(
-            kernel,
-            pid,
-            awaited.fault.kind,
-            awaited.asked,
-            &awaited.known,
-        )
+    if is_at(heard, kernel, pid, fault) {
+        fail(kernel, pid, fault.kind, heard.asked(pid), heard.known())
     } else {
         go_on(kernel, pid, most)
     }
@@ -78,29 +81,30 @@ pub(crate) fn advance<W: Watch>(
     kernel: &mut Kernel,
     pid: u32,
     most: u64,
-    awaited: &mut Awaited,
+    fault: Fault,
+    heard: &mut Heard,
+    calls: &Calls,
     watch: &mut W,
 ) -> Result<Moved, Halt>
     requires some { 0 < most }
-    requires awaits { Awaits awaited.old kernel.old.running.log }
-    ensures row { IfOk result (λ m. InRow awaited.old.fault kernel.old pid (m.turns - 1) kernel.new) }
+    requires heard { HearsBeside calls.now heard.old kernel.old.running.log }
+    ensures row { IfOk result (λ m. InRow fault kernel.old pid (m.turns - 1) kernel.new) }
     ensures some { IfOk result (λ m. 0 < m.turns) }
     ensures within { IfOk result (λ m. m.turns ≤ most) }
     ensures after { IfOk result (λ m. m.after ≡ mode_in kernel.new pid) }
-    ensures awaits { OnOk result (Awaits awaited.new kernel.new.running.log) }
-    ensures fault { awaited.new.fault ≡ awaited.old.fault }
+    ensures heard { OnOk result (HearsBeside calls.now heard.new kernel.new.running.log) }
     ensures told { Tells kernel.old (W.told watch.old) kernel.new (W.told watch.new) }
     ensures begun { W.begun watch.new ≡ W.begun watch.old }
     ensures weary { IfErr result (λ halt. halt ≡ Weary → IsTrue (W.weary watch.new)) }
 {
-    let moved = match move_on(kernel, pid, most, awaited) {
+    let moved = match move_on(kernel, pid, most, fault, heard) {
         Ok(moved) => moved,
         Err(_) => return Err(Halt::Memory),
     };
     if let Err(halt) = tell(kernel, moved.turns, &moved.item, watch) {
         return Err(halt);
     }
-    match awaited.hear(&moved.item) {
+    match heard.hear(&moved.item, calls) {
         Ok(()) => Ok(moved),
         Err(_) => Err(Halt::Memory),
     }

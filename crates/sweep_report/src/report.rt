@@ -95,8 +95,8 @@ pub fn head(
     reference: &Reached,
     runs: usize,
 ) -> Result<String, AllocError> {
-    let calls = reference
-        .log
+    let log = reference.log.as_slice()?;
+    let calls = log
         .iter()
         .filter(|item| matches!(item, Item::Enter { .. }))
         .count();

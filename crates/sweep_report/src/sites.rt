@@ -115,7 +115,7 @@ pub fn place_of(
             function,
         });
     }
-    let log = reference.log.as_slice();
+    let log = reference.log.as_slice()?;
     let target = target_text(calls, log, occurrence.used.target);
     let target = target.unwrap_or("pipe");
     let name = match text.as_str().split_once('(') {

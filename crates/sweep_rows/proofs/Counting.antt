@@ -1,5 +1,5 @@
 -- Counts, one item of a log more.
-use Rattle.std.proofs.Common.{◌≡◌, ℕ, suc, ◌+◌, Bool, true, false, cond, ◌&&◌, List, [], ◌∷◌, ◌++◌, length, filter, refl, sym, ap, ap₂, ◌∙◌, append-nil, arith}
+use Rattle.std.proofs.Common.{◌≡◌, ℕ, suc, ◌+◌, Bool, true, false, cond, ◌&&◌, List, [], ◌∷◌, ◌++◌, length, filter, refl, sym, ap, ◌∙◌, append-nil, arith}
 use Rattle.std.specs.Prelude.{◌==◌, if◌then◌else◌}
 use Rattle.std.proofs.lemmas.Bool.Decides.{nat_tests}
 use Rattle.lx_abi.specs.declared.log.Call.{Call}
@@ -10,7 +10,6 @@ use Rattle.lx_abi.specs.Log.{is_entry, entries}
 use Rattle.lx_abi.specs.Occurrences.{count_of}
 use Rattle.lx_abi.specs.Scripts.{includes}
 use Rattle.lx_model.specs.Kernel.{traces}
-use Rattle.sweep_rows.specs.declared.known.Occurrence.{Occurrence}
 use Rattle.sweep_rows.specs.declared.known.Known.{Known}
 use Rattle.sweep_rows.specs.declared.entries.Rows.{Rows}
 use Rattle.sweep_rows.specs.Entries.{more}

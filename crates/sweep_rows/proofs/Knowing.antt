@@ -1,6 +1,5 @@
 -- What a log tells, one item more.
 use Rattle.std.proofs.Common.{◌≡◌, ℕ, suc, ◌+◌, ◌||◌, Bool, true, false, List, [], ◌∷◌, ◌++◌, length, refl, sym, ap, ap₂, ◌∙◌, arith}
-use Rattle.std.specs.List.{list_any}
 use Rattle.std.proofs.lemmas.List.Folds.{list_any-append}
 use Rattle.lx_abi.specs.declared.log.Call.{Call}
 use Rattle.lx_abi.specs.declared.log.Item.{Item}

@@ -1,5 +1,5 @@
 -- Which occurrences of calls a log has: the nth entry of each process into a call is its nth occurrence.
-use Rattle.std.specs.Prelude.{ℕ, suc, Bool, ◌&&◌, cond, List, [], ◌∷◌, ◌++◌}
+use Rattle.std.specs.Prelude.{suc, Bool, ◌&&◌, cond, List, [], ◌∷◌, ◌++◌}
 use Rattle.lx_abi.specs.declared.log.Item.{Item}
 use Rattle.lx_abi.specs.declared.log.Item.TheVariants.{Enter, Done, Taken, Stopped, Exit}
 use Rattle.lx_abi.specs.declared.script.Set.{Set}

@@ -4,6 +4,7 @@ pub mod Descriptors
 pub mod Known
 pub mod Streams
 pub mod Calls
+pub mod Likeness
 pub mod Endings
 pub mod Files
 pub mod Index
@@ -12,3 +13,5 @@ pub mod Summary
 pub mod Possible
 pub mod Failures
 pub mod Worlds
+pub mod Logs
+pub mod Said

@@ -6,7 +6,7 @@ use Rattle.std.specs.List.{flat_map}
 use Rattle.lx_abi.specs.Errnos.{enoent, esrch, eintr, eio, eagain, enomem, eacces, emfile, enospc, epipe}
 use Rattle.lx_abi.specs.Errors.{errno_numbered}
 use Rattle.lx_abi.specs.Sys.{sys_openat, sys_read, sys_write, sys_close, sys_brk, sys_mmap, sys_clone, sys_pipe2}
-use Rattle.lx_abi.specs.Sys.{sys_dup, sys_dup3, sys_unlinkat, sys_mkdirat, sys_execve, sys_newfstatat, sys_chdir}
+use Rattle.lx_abi.specs.Sys.{sys_unlinkat, sys_mkdirat, sys_execve, sys_newfstatat, sys_chdir}
 use Rattle.lx_abi.specs.Sys.{sys_getcwd, sys_ftruncate, sys_kill, sys_wait4}
 use Rattle.lx_abi.specs.declared.errno.Errno.{Errno}
 use Rattle.lx_abi.specs.declared.log.Call.{Call}

@@ -1,70 +1,87 @@
 //! Which calls the processes of a run made.
 
-ghost use Rattle.std.specs.Prelude.{◌≡◌, ◌++◌, IfOk, OnOk};
-ghost use Rattle.std.specs.List.{flat_map};
-ghost use Rattle.sweep_rows.specs.Calls.{entered_by, calls_by, calls_alike, same_calls};
+ghost use Rattle.std.specs.Prelude.{◌≡◌, ◌==◌, ◌++◌, ◌∷◌, [], List, ℕ, cond, IfOk, OnOk};
+ghost use Rattle.std.specs.FinMap as maps;
+ghost use Rattle.lx_abi.specs.declared.log.Item.{Item as LogItem};
+ghost use Rattle.sweep_rows.specs.Calls.{calls_in, numbers_in, AreCalls};
 
-use lx_abi::{Ended, Item};
+use containers::{Map, Seq};
+use lx_abi::Item;
 use std::alloc::{AllocError, Global};
 
-/// Adds the call that an item enters, if it is this process's.
-fn add_entered(numbers: &mut Vec<u64>, pid: u32, item: &Item) -> Result<(), AllocError>
-    ensures { OnOk result (numbers.new.items ≡ numbers.old.items ++ entered_by pid item.now) }
-{
-    match item {
-        Item::Enter {
-            pid: entering,
-            call,
-        } => {
-            if *entering == pid {
-                numbers.push(call.number)?;
-            }
-            Ok(())
-        }
-        _ => Ok(()),
-    }
-}
-
-/// The numbers of a process's calls.
-#[tactic(auto, unfolding(crate::specs::Calls::calls_by))]
-fn calls_by(alloc: Global, log: &[Item], pid: u32) -> Result<Vec<u64>, AllocError>
-    ensures { IfOk result (λ numbers. numbers.items ≡ calls_by pid log.now) }
-{
-    let mut numbers = Vec::new(alloc);
-    let mut left = log;
-    while let Some((item, rest)) = left.split_first() {
-        add_entered(&mut numbers, pid, item)?;
-        left = rest;
-    }
-    Ok(numbers)
-}
-
-#[tactic(auto, unfolding(crate::specs::Calls::calls_alike))]
-fn calls_alike(alloc: Global, a: &[Item], b: &[Item], pid: u32) -> Result<bool, AllocError>
-    ensures { IfOk result (λ alike. alike ≡ calls_alike a.now b.now pid) }
-{
-    let one = calls_by(alloc, a, pid)?;
-    let other = calls_by(alloc, b, pid)?;
-    Ok(one.as_slice() == other.as_slice())
-}
-
-/// Each of these processes made the same calls in both runs, one after the other.
-#[tactic(auto, unfolding(crate::specs::Calls::same_calls))]
-pub fn same_calls(
+/// The numbers of each process's calls, in their order.
+#[derive(Drop)]
+pub struct Calls {
     alloc: Global,
-    ended: &[Ended],
-    a: &[Item],
-    b: &[Item],
-) -> Result<bool, AllocError>
-    ensures { IfOk result (λ same. same ≡ same_calls a.now b.now ended.now) }
-{
-    let mut left = ended;
-    while let Some((one, rest)) = left.split_first() {
-        let alike = calls_alike(alloc, a, b, one.pid)?;
-        if !alike {
-            return Ok(false);
+    made: Map<Seq<u64>>,
+}
+
+impl Calls {
+    /// Those of a run that begins.
+    pub fn new(alloc: Global) -> Self
+        ensures { AreCalls result [] }
+    {
+        Calls {
+            alloc,
+            made: Map::new(alloc),
         }
-        left = rest;
     }
-    Ok(true)
+
+    /// Those of a log.
+    pub fn of(alloc: Global, log: &[Item]) -> Result<Self, AllocError>
+        ensures { IfOk result (λ calls. AreCalls calls log.now) }
+    {
+        let mut calls = Calls::new(alloc);
+        let mut left = log;
+        while let Some((item, rest)) = left.split_first() {
+            calls.add(item)?;
+            left = rest;
+        }
+        Ok(calls)
+    }
+
+    /// Those of a process.
+    pub(crate) fn by(&self, pid: u32) -> &[u64]
+        ensures { result.now ≡ calls_in self.now pid }
+    {
+        match self.made.get(pid) {
+            Some(numbers) => numbers.as_slice(),
+            None => &[],
+        }
+    }
+
+    /// Takes those of a process out.
+    fn take(&mut self, pid: u32) -> Seq<u64>
+        ensures numbers { result ≡ calls_in self.old pid }
+        ensures rest { self.new.made ≡ maps.remove self.old.made pid }
+    {
+        match self.made.remove(pid) {
+            Some(numbers) => numbers,
+            None => Seq::new(self.alloc),
+        }
+    }
+
+    /// A process has made one more.
+    fn push(&mut self, pid: u32, number: u64) -> Result<(), AllocError>
+        ensures { OnOk result ((p : ℕ)
+            → calls_in self.new p ≡ calls_in self.old p ++ cond (pid == p) (number ∷ []) []) }
+    {
+        let mut numbers = self.take(pid);
+        numbers.push(number)?;
+        self.made.insert(pid, numbers)?;
+        Ok(())
+    }
+
+    /// One item more of the log.
+    #[tactic(auto, using(crate::proofs::Numbers::none_more))]
+    fn add(&mut self, item: &Item) -> Result<(), AllocError>
+        ensures { OnOk result
+            ((past : List LogItem) → AreCalls self.old past → AreCalls self.new (past ++ item.now ∷ [])) }
+    {
+        let Item::Enter { pid, call } = item else {
+            return Ok(());
+        };
+        self.push(*pid, call.number)?;
+        Ok(())
+    }
 }

@@ -315,3 +315,15 @@ impl Descriptors {
         Ok(())
     }
 }
+
+impl Clone for Descriptors {
+    ghost is_clone = { λ a b. b ≡ a };
+
+    fn clone(&self) -> Result<Self, AllocError> {
+        Ok(Descriptors {
+            alloc: self.alloc,
+            at: self.at,
+            processes: self.processes.clone()?,
+        })
+    }
+}

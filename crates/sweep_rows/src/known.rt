@@ -28,7 +28,7 @@ pub struct Occurrence {
 /// What a log tells.
 #[derive(Drop)]
 pub struct Known {
-    descriptors: Descriptors,
+    pub(crate) descriptors: Descriptors,
     piped: bool,
     handled: bool,
 }
@@ -103,5 +103,17 @@ impl Known {
         self.piped = or_sets(self.piped, item, true);
         self.handled = or_sets(self.handled, item, false);
         Ok(())
+    }
+}
+
+impl Clone for Known {
+    ghost is_clone = { λ a b. b ≡ a };
+
+    fn clone(&self) -> Result<Self, AllocError> {
+        Ok(Known {
+            descriptors: self.descriptors.clone()?,
+            piped: self.piped,
+            handled: self.handled,
+        })
     }
 }

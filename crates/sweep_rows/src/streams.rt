@@ -2,7 +2,7 @@
 
 ghost use Rattle.std.specs.Prelude.{◌≡◌, IfOk, OnOk};
 ghost use Rattle.sweep_rows.specs.Descriptors.{uses_in};
-ghost use Rattle.sweep_rows.specs.Streams.{no_piece, piece_to, piece_of, with_piece, streams_of};
+ghost use Rattle.sweep_rows.specs.Streams.{no_piece, piece_to, piece_of, silent, with_piece, streams_of};
 
 use crate::descriptors::{Descriptors, Target, descriptor, is_failure};
 use containers::Bytes;
@@ -47,7 +47,7 @@ fn piece_to(target: Target, number: u32, length: u64) -> Piece
 
 /// What an item has written, where descriptors stand for this.
 #[tactic(auto, unfolding(crate::specs::Streams::piece_of))]
-fn piece_of(descriptors: &Descriptors, item: &Item) -> Piece
+pub(crate) fn piece_of(descriptors: &Descriptors, item: &Item) -> Piece
     ensures { result ≡ piece_of (uses_in descriptors.now) item.now }
 {
     let Item::Done {
@@ -67,8 +67,18 @@ fn piece_of(descriptors: &Descriptors, item: &Item) -> Piece
 }
 
 impl Streams {
+    /// Nothing was written.
+    pub(crate) fn new(alloc: Global) -> Self
+        ensures { result ≡ silent }
+    {
+        Streams {
+            out: Bytes::new(alloc),
+            err: Bytes::new(alloc),
+        }
+    }
+
     /// Adds what a piece has of a text.
-    fn add(&mut self, error: bool, text: &[u8]) -> Result<(), AllocError>
+    pub(crate) fn add(&mut self, error: bool, text: &[u8]) -> Result<(), AllocError>
         ensures { OnOk result (self.new ≡ with_piece error text.now self.old) }
     {
         if error {
@@ -85,10 +95,7 @@ impl Streams {
 pub fn streams_of(alloc: Global, log: &[Item], console: &[u8]) -> Result<Streams, AllocError>
     ensures { IfOk result (λ s. s ≡ streams_of log.now console.now) }
 {
-    let mut streams = Streams {
-        out: Bytes::new(alloc),
-        err: Bytes::new(alloc),
-    };
+    let mut streams = Streams::new(alloc);
     let mut descriptors = Descriptors::new(alloc);
     let mut text = console;
     let mut left = log;

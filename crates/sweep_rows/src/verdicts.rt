@@ -1,16 +1,15 @@
 //! What came of a run, beside the reference.
 
-ghost use Rattle.std.specs.Prelude.{◌≡◌, IfOk};
+ghost use Rattle.std.specs.Prelude.{◌≡◌};
+ghost use Rattle.sweep_rows.specs.Calls.{same_calls};
 ghost use Rattle.sweep_rows.specs.Verdicts.{same_word, is_killed, is_torn, end_of, differs, said_of, has_torn};
 ghost use Rattle.sweep_rows.specs.Verdicts.{has_saved, left_of, speaks, worst, ended_otherwise, ended_so, verdict_of};
 ghost use Rattle.sweep_rows.specs.Verdicts.{is_finding, facts_of};
 
-use crate::calls::same_calls;
 use crate::endings::{Ending, first_word};
 use crate::files::{FileNote, Word, file_notes};
+use crate::run_log::RunLog;
 use crate::streams::Streams;
-use lx_abi::Item;
-use std::alloc::{AllocError, Global};
 
 /// What came of a run, the worst first.
 #[derive(Clone, Copy, Debug, PartialEq, Eq, PartialOrd, Ord)]
@@ -90,7 +89,7 @@ pub struct Facts {
 #[derive(Drop)]
 pub struct Reached {
     pub ending: Ending,
-    pub log: Vec<Item>,
+    pub log: RunLog,
     pub streams: Streams,
 }
 
@@ -265,25 +264,24 @@ fn left_of(notes: &[FileNote]) -> Left
     }
 }
 
-/// What is true of a run that has these files otherwise, beside the reference.
+/// What is true of a run that has these files otherwise, beside the reference, and whose calls are alike or aren't.
 #[tactic(auto, unfolding(crate::specs::Verdicts::facts_of))]
 pub fn facts_of(
-    alloc: Global,
     reference: &Reached,
     run: &Reached,
+    alike: bool,
     notes: &[FileNote],
     tells: bool,
-) -> Result<Facts, AllocError>
-    ensures { IfOk result (λ facts. facts ≡ facts_of reference.now run.now notes.now tells) }
+) -> Facts
+    requires { alike ≡ same_calls reference.now.log.items run.now.log.items reference.now.ending.outcome.ended }
+    ensures { result ≡ facts_of reference.now run.now notes.now tells }
 {
-    let ended = reference.ending.outcome.ended.as_slice();
-    let alike = same_calls(alloc, ended, reference.log.as_slice(), run.log.as_slice())?;
-    Ok(Facts {
+    Facts {
         alive: run.ending.alive,
         end: end_of(reference, run),
         said: said_of(&reference.streams, &run.streams),
         left: left_of(notes),
         alike,
         tells,
-    })
+    }
 }

@@ -5,10 +5,11 @@ use Rattle.lx_abi.specs.declared.errno.Errno.{Errno}
 use Rattle.lx_abi.specs.Sys.{sys_close}
 use Rattle.lx_abi.specs.declared.log.Item.{Item}
 use Rattle.lx_abi.specs.declared.script.Rule.{Rule}
-use Rattle.lx_kernel.specs.First.{first_run}
+use Rattle.lx_kernel.specs.First.{first_run_without_log}
 use Rattle.lx_kernel.specs.Outcomes.{outcome_in}
 use Rattle.lx_kernel.specs.Runs.{Run}
 use Rattle.pt_schedule.specs.Schedules.{worded}
+use Rattle.plain_run.proofs.Turning.{with_log}
 use Rattle.sweep_faults.specs.Faults.{error_of}
 use Rattle.sweep_faults.specs.Words.{HasWords}
 use Rattle.sweep_faults.specs.declared.faults.Kind.TheVariants as kind
@@ -17,7 +18,7 @@ use Rattle.sweep_rows.specs.declared.endings.Ending.{Ending}
 use Rattle.sweep_runs.specs.Rows.{WordsReach, fault_of, kind_of}
 use Rattle.sweep_runs.specs.Runs.{ending_of, is_alive}
 
-endings_alike : (k : Run) (script : List Rule) → ending_of k ≡ ending_of (record k { script = script })
+endings_alike : (k : Run) (script : List Rule) → ending_of k ≡ ending_of (record k { script = script; keeps_log = true })
 unfolding is_alive
 endings_alike k script = refl
 
@@ -30,10 +31,11 @@ has_error call error = of (call == sys_close)
 
 pub words_reach : WordsReach
 words_reach setup case script r alone words to = record {
-  kernel = record to.kernel { script = script };
-  run = words_give (fault_of case) case.error script (first_run setup.boot []) (worded setup.turns.items setup.limit) to.kernel refl
+  kernel = record to.kernel { script = script; keeps_log = true };
+  run = with_log true (record (first_run_without_log setup.boot []) { script = script }) (worded setup.turns.items setup.limit) (record to.kernel { script = script })
+      (words_give (fault_of case) case.error script (first_run_without_log setup.boot []) (worded setup.turns.items setup.limit) to.kernel refl
       (has_error case.occurrence.call.number case.error) alone
-      (subst (λ (log : List Item). HasWords setup.boot.follow (fault_of case) log) to.reached.log words) to.run;
+      (subst (λ (log : List Item). HasWords setup.boot.follow (fault_of case) log) to.reached.log words) to.run);
   reached = record {
     ending = to.reached.ending ∙ endings_alike to.kernel script;
     log = to.reached.log;

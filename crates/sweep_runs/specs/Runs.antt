@@ -3,7 +3,7 @@ use Rattle.std.specs.Prelude.{◌≡◌, ◌-◌, Bool, List, []}
 use Rattle.std.specs.List.{list_any, range_with_len}
 use Rattle.lx_abi.specs.Modes.{lives_in}
 use Rattle.lx_abi.specs.declared.script.Rule.{Rule}
-use Rattle.lx_kernel.specs.First.{first_run}
+use Rattle.lx_kernel.specs.First.{first_run, first_run_without_log}
 use Rattle.lx_kernel.specs.Outcomes.{outcome_in}
 use Rattle.lx_kernel.specs.Runs.{Run, mode_in}
 use Rattle.pt_schedule.specs.Schedules.{worded}
@@ -27,9 +27,10 @@ ending_of k = record { outcome = outcome_in k.running.shared; alive = is_alive k
 abbrev pub ComesTo : Setup → List Rule → Run → Type 0
 ComesTo setup script k = RunsTo (first_run setup.boot script) (worded setup.turns.items setup.limit) k
 
--- a run in which this call of this process fails
+-- a run in which this call of this process fails, whose log isn't kept
 abbrev pub FaultComesTo : Setup → Fault → Run → Type 0
-FaultComesTo setup fault k = RunsFaulted fault (first_run setup.boot []) (worded setup.turns.items setup.limit) k
+FaultComesTo setup fault k =
+    RunsFaulted fault (first_run_without_log setup.boot []) (worded setup.turns.items setup.limit) k
 
 -- what a run left, logged and said
 pub record IsReached (k : Run) (r : Reached) : Type 0 where

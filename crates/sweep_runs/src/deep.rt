@@ -1,20 +1,24 @@
 //! Runs in which an occurrence of a call fails, and one behind it.
 
-ghost use Rattle.std.specs.Prelude.{◌≡◌, [], IfOk};
+ghost use Rattle.std.specs.Prelude.{◌≡◌, true, [], IfOk};
 ghost use Rattle.lx_kernel.specs.First.{first_run};
 ghost use Rattle.pt_schedule.specs.Schedules.{worded};
 ghost use Rattle.sweep_faults.specs.Deep.{RunsDeep};
-ghost use Rattle.sweep_runs.specs.Deep.{DeepComesTo, DeepReaches, IsDeepRow, deep_of, case_in};
+ghost use Rattle.sweep_faults.specs.Heard.{HearsBeside};
+ghost use Rattle.sweep_runs.specs.Deep.{DeepComesTo, DeepComparesTo, FailingLogs, FaultLogs, IsDeepRow};
+ghost use Rattle.sweep_runs.specs.Deep.{case_in, deep_of};
 
 use crate::chosen::Case;
-use crate::runs::{Setup, begin, reached_by};
-use crate::sweeping::{Row, compare, fault_of};
-use lx_abi::{Boot, Script, Word};
+use crate::leading::{Compared, compare};
+use crate::runs::{Setup, begin, begin_without_log, run_on};
+use crate::sweeping::{Row, compare as row_by, fault_of};
+use lx_abi::{Item, Script};
 use lx_kernel::Kernel;
 use plain_run::Unwatched;
+use pt_schedule::Schedule;
 use std::alloc::{AllocError, Global};
-use sweep_faults::{Deep, run_deep};
-use sweep_rows::Reached;
+use sweep_faults::{Deep, Fault, Heard, run_deep};
+use sweep_rows::{Calls, Reached};
 
 /// An occurrence that fails, and one that the run with this failure has behind it.
 #[derive(Clone, Copy, Debug, PartialEq, Eq)]
@@ -42,25 +46,65 @@ impl DeepCase {
     }
 }
 
-/// The kernel at the end of the run of a boot that is accepted, in which these calls fail.
-fn run_by(
-    alloc: Global,
-    boot: &Boot,
-    words: &[Word],
-    limit: u64,
-    deep: Deep,
-) -> Result<Kernel, AllocError>
-    ensures { IfOk result (RunsDeep deep (first_run boot.now []) (worded words.now limit)) }
+/// The log of a kernel that keeps it, and does not go on.
+fn log_of(mut kernel: Kernel) -> Vec<Item>
+    requires { kernel.keeps_log ≡ true }
+    ensures { result.items ≡ kernel.running.log }
 {
-    let (mut kernel, mut schedule) = match begin(alloc, boot, words, limit, Script::empty(alloc)) {
-        Ok(begun) => begun,
-        Err(_) => return Err(AllocError),
-    };
+    let log = kernel.take_log();
+    drop(kernel);
+    log
+}
+
+/// The kernel of a boot that is accepted, which keeps its log, and the schedule of its words.
+fn begin_with_log(alloc: Global, setup: &Setup) -> Result<(Kernel, Schedule), AllocError>
+    ensures kernel { IfOk result (λ begun. begun.0 ≡ first_run setup.now.boot []) }
+    ensures schedule { IfOk result (λ begun. begun.1 ≡ worded setup.now.turns.items setup.now.limit) }
+{
+    let words = setup.turns.as_slice();
+    match begin(alloc, &setup.boot, words, setup.limit, Script::empty(alloc)) {
+        Ok(begun) => Ok(begun),
+        Err(_) => Err(AllocError),
+    }
+}
+
+/// The kernel at the end of the run in which this call of this process fails, of a boot that is accepted.
+fn run_with_log(alloc: Global, setup: &Setup, fault: Fault) -> Result<Kernel, AllocError>
+    ensures { IfOk result (FaultLogs setup.now fault) }
+{
+    let mut heard = Heard::new(alloc);
+    let calls = Calls::new(alloc);
+    let (kernel, schedule) = begin_with_log(alloc, setup)?;
+    let kernel = run_on(kernel, schedule, fault, &mut heard, &calls)?;
+    Ok(kernel)
+}
+
+/// What the run logs in which this call of this process fails, of a boot that is accepted.
+pub fn log_failing(alloc: Global, setup: &Setup, fault: Fault) -> Result<Vec<Item>, AllocError>
+    ensures { IfOk result (λ log. FailingLogs setup.now fault log.items) }
+{
+    let kernel = run_with_log(alloc, setup, fault)?;
+    Ok(log_of(kernel))
+}
+
+/// Makes the run on of which this was heard, in which these calls fail.
+fn run_deep_on(
+    mut kernel: Kernel,
+    mut schedule: Schedule,
+    deep: Deep,
+    heard: &mut Heard,
+    calls: &Calls,
+) -> Result<Kernel, AllocError>
+    requires { HearsBeside calls.now heard.old kernel.running.log }
+    ensures run { IfOk result (RunsDeep deep kernel schedule) }
+    ensures heard { IfOk result (λ k. HearsBeside calls.now heard.new k.running.log) }
+{
     match run_deep(
-        alloc,
         &mut kernel,
         &mut schedule,
         deep,
+        heard,
+        calls,
         &mut Unwatched::new(),
     ) {
         Ok(()) => Ok(kernel),
@@ -71,26 +115,49 @@ fn run_by(
     }
 }
 
-/// The kernel at the end of the run of a setup, whose boot is accepted, in which both calls fail.
-pub fn run_deep_case(
+/// The kernel at the end of the run in which both calls fail, of a boot that is accepted, and what was heard of it beside
+/// a reference that made these calls.
+fn run_both(
     alloc: Global,
     setup: &Setup,
-    case: DeepCase,
-) -> Result<Kernel, AllocError>
+    deep: Deep,
+    calls: &Calls,
+) -> Result<(Kernel, Heard), AllocError>
+    ensures run { IfOk result (λ end. DeepComesTo setup.now deep end.0) }
+    ensures heard { IfOk result (λ end. HearsBeside calls.now end.1 end.0.running.log) }
+{
+    let mut heard = Heard::new(alloc);
+    let (kernel, schedule) = begin_without_log(alloc, setup)?;
+    let end = run_deep_on(kernel, schedule, deep, &mut heard, calls)?;
+    Ok((end, heard))
+}
+
+/// The kernel at the end of the run in which both calls fail, of a boot that is accepted. Its log isn't kept.
+pub fn run_deep_case(alloc: Global, setup: &Setup, case: DeepCase) -> Result<Kernel, AllocError>
     ensures { IfOk result (DeepComesTo setup.now (deep_of case)) }
 {
-    let words = setup.turns.as_slice();
-    let kernel = run_by(alloc, &setup.boot, words, setup.limit, case.deep())?;
+    let calls = Calls::new(alloc);
+    let (kernel, heard) = run_both(alloc, setup, case.deep(), &calls)?;
+    drop(heard);
     Ok(kernel)
 }
 
-/// What it came to.
-pub fn reach_deep(alloc: Global, setup: &Setup, case: DeepCase) -> Result<Reached, AllocError>
-    ensures { IfOk result (DeepReaches setup.now (deep_of case)) }
+/// What it came to, beside the reference.
+pub fn reach_deep(
+    alloc: Global,
+    setup: &Setup,
+    reference: &Reached,
+    case: DeepCase,
+) -> Result<Compared, AllocError>
+    ensures { IfOk result (DeepComparesTo setup.now reference.now case) }
 {
-    let kernel = run_deep_case(alloc, setup, case)?;
-    let reached = reached_by(alloc, kernel)?;
-    Ok(reached)
+    let calls = Calls::of(alloc, reference.log.as_slice()?)?;
+    let (kernel, heard) = run_both(alloc, setup, case.deep(), &calls)?;
+    let (follow, second) = (setup.boot.follow, fault_of(case.second));
+    let compared = compare(alloc, &kernel, &heard, &calls, follow, reference, second);
+    drop(heard);
+    drop(kernel);
+    compared
 }
 
 /// The row of a run that came to this.
@@ -99,20 +166,20 @@ fn row_reached(
     setup: &Setup,
     reference: &Reached,
     case: DeepCase,
-    reached: Reached,
+    run: Compared,
 ) -> Result<DeepRow, AllocError>
-    requires { DeepReaches setup.now (deep_of case) reached }
+    requires { DeepComparesTo setup.now reference.now case run }
     ensures row { IfOk result (IsDeepRow setup.now reference.now) }
     ensures case { IfOk result (λ r. case_in r ≡ case) }
 {
-    let row = compare(alloc, &setup.boot, reference, reached, case.second)?;
+    let row = row_by(alloc, &setup.boot, reference, run, case.second)?;
     Ok(DeepRow {
         first: case.first,
         row,
     })
 }
 
-/// What came of it, beside the run without a failure.
+/// What came of the run in which both calls fail, beside the run without a failure.
 pub fn run_deep_row(
     alloc: Global,
     setup: &Setup,
@@ -122,7 +189,7 @@ pub fn run_deep_row(
     ensures row { IfOk result (IsDeepRow setup.now reference.now) }
     ensures case { IfOk result (λ r. case_in r ≡ case) }
 {
-    let reached = reach_deep(alloc, setup, case)?;
-    let row = row_reached(alloc, setup, reference, case, reached)?;
+    let run = reach_deep(alloc, setup, reference, case)?;
+    let row = row_reached(alloc, setup, reference, case, run)?;
     Ok(row)
 }

@@ -3,11 +3,12 @@
 ghost use Rattle.std.specs.Prelude.{◌≡◌, true, [], IfOk, IfErr, OnOk, None, Some, Err};
 ghost use Rattle.lx_boot.specs.Boots.{Refuses, fault_of};
 ghost use Rattle.lx_boot.specs.declared.boots.BootFault.{BootFault as BootRefusal};
-ghost use Rattle.lx_kernel.specs.First.{first_run};
+ghost use Rattle.lx_kernel.specs.First.{first_run, first_run_without_log};
 ghost use Rattle.plain_run.specs.Runs.{RunsTo};
 ghost use Rattle.pt_schedule.specs.Schedules.{worded};
+ghost use Rattle.sweep_faults.specs.Heard.{HearsBeside};
 ghost use Rattle.sweep_faults.specs.Runs.{RunsFaulted};
-ghost use Rattle.sweep_runs.specs.Runs.{ComesTo, FaultComesTo, FaultReaches, IsReached, Reaches};
+ghost use Rattle.sweep_runs.specs.Runs.{ComesTo, FaultComesTo, IsReached, Reaches};
 
 use crate::ends::ending;
 use lx_abi::{Boot, Script, Word};
@@ -17,8 +18,8 @@ use lx_kernel::Kernel;
 use plain_run::{Unwatched, run};
 use pt_schedule::Schedule;
 use std::alloc::{AllocError, Global};
-use sweep_faults::{Fault, run_faulted};
-use sweep_rows::{Reached, streams_of};
+use sweep_faults::{Fault, Heard, run_faulted};
+use sweep_rows::{Calls, Reached, RunLog, streams_of};
 
 /// What all runs of a sweep begin with: a boot, the words of a schedule, and the most turns of each.
 #[derive(Drop)]
@@ -80,25 +81,41 @@ pub fn run_by(
     }
 }
 
-/// The same, where this call of this process fails and no script does anything, of a boot that is accepted.
-fn run_failing_by(
+/// The kernel of a boot that is accepted, which keeps no log, and the schedule of its words.
+pub(crate) fn begin_without_log(
     alloc: Global,
-    boot: &Boot,
-    words: &[Word],
-    limit: u64,
-    fault: Fault,
-) -> Result<Kernel, AllocError>
-    ensures { IfOk result (RunsFaulted fault (first_run boot.now []) (worded words.now limit)) }
+    setup: &Setup,
+) -> Result<(Kernel, Schedule), AllocError>
+    ensures kernel { IfOk result (λ begun. begun.0 ≡ first_run_without_log setup.now.boot []) }
+    ensures schedule { IfOk result (λ begun. begun.1 ≡ worded setup.now.turns.items setup.now.limit) }
 {
-    let (mut kernel, mut schedule) = match begin(alloc, boot, words, limit, Script::empty(alloc)) {
-        Ok(begun) => begun,
-        Err(_) => return Err(AllocError),
-    };
+    let boot = setup.boot.copy(alloc)?;
+    let words = copy(alloc, setup.turns.as_slice())?;
+    let schedule = Schedule::words(words, setup.limit);
+    match Kernel::boot_without_log(alloc, boot, Script::empty(alloc)) {
+        Ok(kernel) => Ok((kernel, schedule)),
+        Err(_) => Err(AllocError),
+    }
+}
+
+/// Makes the run on of which this was heard, in which this call of this process fails.
+pub(crate) fn run_on(
+    mut kernel: Kernel,
+    mut schedule: Schedule,
+    fault: Fault,
+    heard: &mut Heard,
+    calls: &Calls,
+) -> Result<Kernel, AllocError>
+    requires { HearsBeside calls.now heard.old kernel.running.log }
+    ensures run { IfOk result (RunsFaulted fault kernel schedule) }
+    ensures heard { IfOk result (λ k. HearsBeside calls.now heard.new k.running.log) }
+{
     match run_faulted(
-        alloc,
         &mut kernel,
         &mut schedule,
         fault,
+        heard,
+        calls,
         &mut Unwatched::new(),
     ) {
         Ok(()) => Ok(kernel),
@@ -109,12 +126,15 @@ fn run_failing_by(
     }
 }
 
-/// The kernel at the end of the run in which this call of this process fails, of a boot that is accepted.
+/// The kernel at the end of the run in which this call of this process fails, of a boot that is accepted. Its log isn't
+/// kept.
 pub fn run_failing(alloc: Global, setup: &Setup, fault: Fault) -> Result<Kernel, AllocError>
     ensures { IfOk result (FaultComesTo setup.now fault) }
 {
-    let words = setup.turns.as_slice();
-    let kernel = run_failing_by(alloc, &setup.boot, words, setup.limit, fault)?;
+    let mut heard = Heard::new(alloc);
+    let calls = Calls::new(alloc);
+    let (kernel, schedule) = begin_without_log(alloc, setup)?;
+    let kernel = run_on(kernel, schedule, fault, &mut heard, &calls)?;
     Ok(kernel)
 }
 
@@ -144,17 +164,17 @@ fn reached(alloc: Global, kernel: &mut Kernel) -> Result<Reached, AllocError>
     ensures { IfOk result (IsReached kernel.old) }
 {
     let ending = ending(kernel)?;
-    let log = kernel.take_log();
-    let streams = streams_of(alloc, log.as_slice(), ending.outcome.console.as_slice())?;
+    let items = kernel.take_log();
+    let streams = streams_of(alloc, items.as_slice(), ending.outcome.console.as_slice())?;
     Ok(Reached {
         ending,
-        log,
+        log: RunLog::kept(items),
         streams,
     })
 }
 
 /// What a run left, logged and said, which does not go on.
-pub(crate) fn reached_by(alloc: Global, mut kernel: Kernel) -> Result<Reached, AllocError>
+fn reached_by(alloc: Global, mut kernel: Kernel) -> Result<Reached, AllocError>
     requires { kernel.keeps_log ≡ true }
     ensures { IfOk result (IsReached kernel) }
 {
@@ -168,15 +188,6 @@ pub fn reach(alloc: Global, setup: &Setup, script: Script) -> Result<Reached, Al
     ensures { IfOk result (Reaches setup.now script) }
 {
     let kernel = run_accepted(alloc, setup, script)?;
-    let reached = reached_by(alloc, kernel)?;
-    Ok(reached)
-}
-
-/// What the run came to in which this call of this process fails, of a boot that is accepted.
-pub fn reach_failing(alloc: Global, setup: &Setup, fault: Fault) -> Result<Reached, AllocError>
-    ensures { IfOk result (FaultReaches setup.now fault) }
-{
-    let kernel = run_failing(alloc, setup, fault)?;
     let reached = reached_by(alloc, kernel)?;
     Ok(reached)
 }

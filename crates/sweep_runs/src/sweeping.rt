@@ -4,24 +4,24 @@ ghost use Rattle.std.specs.Prelude.{◌≡◌, ◌↔◌, None, Some, Err, IfOk,
 ghost use Rattle.lx_boot.specs.Boots.{Refuses, fault_of};
 ghost use Rattle.lx_boot.specs.declared.boots.BootFault.{BootFault as BootRefusal};
 ghost use Rattle.sweep_rows.specs.Endings.{first_word};
-ghost use Rattle.sweep_faults.specs.Words.{failure_of, HasWords};
+ghost use Rattle.sweep_faults.specs.Words.{failure_of};
 ghost use Rattle.sweep_rows.specs.Failures.{FailsAlone};
 ghost use Rattle.sweep_runs.specs.Cases.{cases_of};
 ghost use Rattle.sweep_rows.specs.Files.{file_notes};
 ghost use Rattle.sweep_rows.specs.Verdicts.{facts_of, verdict_of};
-ghost use Rattle.sweep_runs.specs.Leaders.{IsLed};
-ghost use Rattle.sweep_runs.specs.Runs.{FaultReaches};
+ghost use Rattle.sweep_rows.specs.Calls.{same_calls};
+ghost use Rattle.sweep_runs.specs.Leaders.{ComparesTo, IsLed};
 ghost use Rattle.sweep_runs.specs.Rows.{fault_of as fault_of_case, kind_of, IsRow, AreRows, IsReport};
 
 use crate::chosen::{Case, Wanted, cases};
-use crate::leading::Leader;
+use crate::leading::{Compared, Leader, reach_failing};
 use crate::progress::Progress;
-use crate::runs::{Setup, reach_failing, refer};
+use crate::runs::{Setup, refer};
 use containers::Seq;
 use lx_abi::{Boot, Ended, Errno, Outcome, Script, sys};
 use lx_boot::BootFault;
 use std::alloc::{AllocError, Global};
-use sweep_faults::{Fault, Kind, failure_of, has_words};
+use sweep_faults::{Fault, Kind, failure_of};
 use sweep_rows::{
     Ending, FileNote, Reached, Streams, Verdict, facts_of, failing, file_notes, first_word,
     verdict_of,
@@ -125,18 +125,18 @@ pub(crate) fn notes_of(
     file_notes(alloc, given, expected, left)
 }
 
-/// What came of a run that leaves these files otherwise.
+/// What came of a run that leaves these files otherwise, and whose calls are alike or aren't.
 fn judge(
-    alloc: Global,
     reference: &Reached,
     run: &Reached,
+    alike: bool,
     notes: &[FileNote],
     tells: bool,
-) -> Result<Verdict, AllocError>
-    ensures { IfOk result (λ v. v ≡ verdict_of (facts_of reference.now run.now notes.now tells)) }
+) -> Verdict
+    requires { alike ≡ same_calls reference.now.log.items run.now.log.items reference.now.ending.outcome.ended }
+    ensures { result ≡ verdict_of (facts_of reference.now run.now notes.now tells) }
 {
-    let facts = facts_of(alloc, reference, run, notes, tells)?;
-    Ok(verdict_of(facts))
+    verdict_of(facts_of(reference, run, alike, notes, tells))
 }
 
 /// What a run came to, beside the reference.
@@ -144,24 +144,29 @@ pub(crate) fn compare(
     alloc: Global,
     boot: &Boot,
     reference: &Reached,
-    run: Reached,
+    run: Compared,
     case: Case,
 ) -> Result<Row, AllocError>
+    requires { run.alike
+        ≡ same_calls reference.now.log.items run.reached.log.items reference.now.ending.outcome.ended }
     ensures case { IfOk result (λ r. r.case ≡ case) }
     ensures files { IfOk result (λ r. r.files.items
-        ≡ file_notes boot.now.files reference.now.ending.outcome.files run.ending.outcome.files) }
+        ≡ file_notes boot.now.files reference.now.ending.outcome.files run.reached.ending.outcome.files) }
     ensures verdict { IfOk result (λ r. r.verdict
-        ≡ verdict_of (facts_of reference.now run r.files.items case.tells)) }
-    ensures word { IfOk result (λ r. r.word ≡ first_word run.ending.outcome) }
-    ensures ended { IfOk result (λ r. r.ended ≡ run.ending.outcome.ended) }
-    ensures streams { IfOk result (λ r. r.streams ≡ run.streams) }
-    ensures words { IfOk result (λ r. IsTrue r.has_words
-        ↔ HasWords boot.now.follow (fault_of_case case) run.log.items) }
+        ≡ verdict_of (facts_of reference.now run.reached r.files.items case.tells)) }
+    ensures word { IfOk result (λ r. r.word ≡ first_word run.reached.ending.outcome) }
+    ensures ended { IfOk result (λ r. r.ended ≡ run.reached.ending.outcome.ended) }
+    ensures streams { IfOk result (λ r. r.streams ≡ run.reached.streams) }
+    ensures words { IfOk result (λ r. r.has_words ≡ run.has_words) }
 {
-    let files = notes_of(alloc, boot, reference, &run)?;
-    let verdict = judge(alloc, reference, &run, files.as_slice(), case.tells)?;
-    let has_words = has_words(alloc, fault_of(case), boot.follow, run.log.as_slice())?;
-    Ok(row_of(case, verdict, files, run, has_words))
+    let Compared {
+        reached,
+        alike,
+        has_words,
+    } = run;
+    let files = notes_of(alloc, boot, reference, &reached)?;
+    let verdict = judge(reference, &reached, alike, files.as_slice(), case.tells);
+    Ok(row_of(case, verdict, files, reached, has_words))
 }
 
 /// The row of a case whose run came to this.
@@ -170,13 +175,13 @@ fn row_reached(
     setup: &Setup,
     reference: &Reached,
     case: Case,
-    reached: Reached,
+    run: Compared,
 ) -> Result<Row, AllocError>
-    requires { FaultReaches setup.now (fault_of_case case) reached }
+    requires { ComparesTo setup.now reference.now (fault_of_case case) run }
     ensures row { IfOk result (IsRow setup.now reference.now) }
     ensures case { IfOk result (λ r. r.case ≡ case) }
 {
-    let row = compare(alloc, &setup.boot, reference, reached, case)?;
+    let row = compare(alloc, &setup.boot, reference, run, case)?;
     Ok(row)
 }
 
@@ -190,8 +195,8 @@ pub fn run_case(
     ensures row { IfOk result (IsRow setup.now reference.now) }
     ensures case { IfOk result (λ r. r.case ≡ case) }
 {
-    let reached = reach_failing(alloc, setup, fault_of(case))?;
-    let row = row_reached(alloc, setup, reference, case, reached)?;
+    let run = reach_failing(alloc, setup, reference, fault_of(case))?;
+    let row = row_reached(alloc, setup, reference, case, run)?;
     Ok(row)
 }
 
@@ -203,13 +208,13 @@ fn run_led(
     reference: &Reached,
     case: Case,
 ) -> Result<Row, AllocError>
-    requires { IsLed setup.now leader.old }
+    requires { IsLed setup.now reference.now leader.old }
     ensures row { IfOk result (IsRow setup.now reference.now) }
     ensures case { IfOk result (λ r. r.case ≡ case) }
-    ensures led { OnOk result (IsLed setup.now leader.new) }
+    ensures led { OnOk result (IsLed setup.now reference.now leader.new) }
 {
-    let reached = leader.reach_failing(alloc, setup, fault_of(case))?;
-    let row = row_reached(alloc, setup, reference, case, reached)?;
+    let run = leader.reach_failing(alloc, setup, reference, fault_of(case))?;
+    let row = row_reached(alloc, setup, reference, case, run)?;
     Ok(row)
 }
 
@@ -222,9 +227,9 @@ pub fn run_led_cases<P: Progress>(
     cases: &[Case],
     progress: &mut P,
 ) -> Result<Vec<Row>, AllocError>
-    requires { IsLed setup.now leader.old }
+    requires { IsLed setup.now reference.now leader.old }
     ensures rows { IfOk result (λ rows. AreRows setup.now reference.now cases.now rows.items) }
-    ensures led { OnOk result (IsLed setup.now leader.new) }
+    ensures led { OnOk result (IsLed setup.now reference.now leader.new) }
 {
     let mut rows = Vec::new(alloc);
     let mut left = cases;
@@ -247,7 +252,7 @@ pub fn run_cases<P: Progress>(
 ) -> Result<Vec<Row>, AllocError>
     ensures { IfOk result (λ rows. AreRows setup.now reference.now cases.now rows.items) }
 {
-    let mut leader = Leader::new(alloc, setup)?;
+    let mut leader = Leader::new(alloc, setup, reference)?;
     let rows = run_led_cases(alloc, setup, &mut leader, reference, cases, progress);
     drop(leader);
     rows
@@ -265,7 +270,7 @@ fn rows<P: Progress>(
     ensures { IfOk result (λ rows. AreRows setup.now reference.now
         (cases_of wanted.now setup.now.boot.follow reference.now.log.items) rows.items) }
 {
-    let log = reference.log.as_slice();
+    let log = reference.log.as_slice()?;
     let cases = cases(alloc, log, wanted, setup.boot.follow)?;
     let rows = run_cases(alloc, setup, reference, cases.as_slice(), progress)?;
     Ok(rows)

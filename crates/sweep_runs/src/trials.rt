@@ -4,12 +4,12 @@ ghost use Rattle.std.specs.Prelude.{◌≡◌, false, IfOk, OnOk};
 ghost use Rattle.sweep_rows.specs.Endings.{first_word as first_word_of};
 ghost use Rattle.sweep_rows.specs.Files.{file_notes};
 ghost use Rattle.sweep_rows.specs.Verdicts.{facts_of as facts};
-ghost use Rattle.sweep_runs.specs.Leaders.{IsLed};
-ghost use Rattle.sweep_runs.specs.Runs.{FaultReaches};
+ghost use Rattle.sweep_rows.specs.Calls.{same_calls};
+ghost use Rattle.sweep_runs.specs.Leaders.{ComparesTo, IsLed};
 ghost use Rattle.sweep_runs.specs.Trials.{fault_of, verdict_by as verdict_by_kind, verdict_by_files, IsTrialRow};
 
-use crate::leading::Leader;
-use crate::runs::{Setup, reach_failing};
+use crate::leading::{Compared, Leader, reach_failing};
+use crate::runs::Setup;
 use crate::sweeping::notes_of;
 use containers::Seq;
 use lx_abi::{Ended, Outcome};
@@ -81,18 +81,18 @@ fn verdict_by(kind: Kind, facts: Facts) -> Option<Verdict>
     }
 }
 
-/// What came of a run that leaves these files otherwise.
+/// What came of a run that leaves these files otherwise, and whose calls are alike or aren't.
 fn judge(
-    alloc: Global,
     kind: Kind,
     reference: &Reached,
     run: &Reached,
+    alike: bool,
     notes: &[FileNote],
-) -> Result<Option<Verdict>, AllocError>
-    ensures { IfOk result (λ v. v ≡ verdict_by_kind kind (facts reference.now run.now notes.now false)) }
+) -> Option<Verdict>
+    requires { alike ≡ same_calls reference.now.log.items run.now.log.items reference.now.ending.outcome.ended }
+    ensures { result ≡ verdict_by_kind kind (facts reference.now run.now notes.now false) }
 {
-    let facts = facts_of(alloc, reference, run, notes, false)?;
-    Ok(verdict_by(kind, facts))
+    verdict_by(kind, facts_of(reference, run, alike, notes, false))
 }
 
 /// What of a run is told.
@@ -128,14 +128,15 @@ fn row_reached(
     setup: &Setup,
     reference: &Reached,
     trial: Trial,
-    reached: Reached,
+    run: Compared,
 ) -> Result<TrialRow, AllocError>
-    requires { FaultReaches setup.now (fault_of trial) reached }
+    requires { ComparesTo setup.now reference.now (fault_of trial) run }
     ensures row { IfOk result (IsTrialRow setup.now reference.now) }
     ensures trial { IfOk result (λ r. r.trial ≡ trial) }
 {
+    let Compared { reached, alike, .. } = run;
     let files = notes_of(alloc, &setup.boot, reference, &reached)?;
-    let verdict = judge(alloc, trial.kind, reference, &reached, files.as_slice())?;
+    let verdict = judge(trial.kind, reference, &reached, alike, files.as_slice());
     Ok(row_of(trial, verdict, files, reached))
 }
 
@@ -149,8 +150,8 @@ pub fn run_trial(
     ensures row { IfOk result (IsTrialRow setup.now reference.now) }
     ensures trial { IfOk result (λ r. r.trial ≡ trial) }
 {
-    let reached = reach_failing(alloc, setup, trial.fault())?;
-    let row = row_reached(alloc, setup, reference, trial, reached)?;
+    let run = reach_failing(alloc, setup, reference, trial.fault())?;
+    let row = row_reached(alloc, setup, reference, trial, run)?;
     Ok(row)
 }
 
@@ -162,12 +163,12 @@ pub fn run_led_trial(
     reference: &Reached,
     trial: Trial,
 ) -> Result<TrialRow, AllocError>
-    requires { IsLed setup.now leader.old }
+    requires { IsLed setup.now reference.now leader.old }
     ensures row { IfOk result (IsTrialRow setup.now reference.now) }
     ensures trial { IfOk result (λ r. r.trial ≡ trial) }
-    ensures led { OnOk result (IsLed setup.now leader.new) }
+    ensures led { OnOk result (IsLed setup.now reference.now leader.new) }
 {
-    let reached = leader.reach_failing(alloc, setup, trial.fault())?;
-    let row = row_reached(alloc, setup, reference, trial, reached)?;
+    let run = leader.reach_failing(alloc, setup, reference, trial.fault())?;
+    let row = row_reached(alloc, setup, reference, trial, run)?;
     Ok(row)
 }

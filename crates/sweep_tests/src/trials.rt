@@ -77,7 +77,8 @@ fn reference_of(alloc: Global, setup: &Setup) -> Result<Reached, Fail> {
 fn stops_of(alloc: Global, reference: &Reached) -> Result<Vec<Trial>, Fail> {
     let all = Set::AllBut(Seq::new(alloc));
     let mut trials = Vec::new(alloc);
-    for occurrence in occurrences(alloc, reference.log.as_slice(), &all, false)?.as_slice() {
+    let log = reference.log.as_slice()?;
+    for occurrence in occurrences(alloc, log, &all, false)?.as_slice() {
         trials.push(Trial {
             occurrence: *occurrence,
             kind: Kind::Stop,
@@ -148,9 +149,14 @@ fn second(alloc: Global, left: &[OutcomeFile]) -> Result<Option<u32>, Fail> {
 }
 
 /// How it ends on the files of the run of a trial, without clauses.
-fn second_behind(alloc: Global, setup: &Setup, trial: Trial) -> Result<Option<u32>, Fail> {
-    let run = reach_failing(alloc, setup, trial.fault())?;
-    let word = match run.ending.outcome.files.as_slice() {
+fn second_behind(
+    alloc: Global,
+    setup: &Setup,
+    reference: &Reached,
+    trial: Trial,
+) -> Result<Option<u32>, Fail> {
+    let run = reach_failing(alloc, setup, reference, trial.fault())?;
+    let word = match run.reached.ending.outcome.files.as_slice() {
         Ok(left) => second(alloc, left),
         Err(refused) => Err(refused.into()),
     };
@@ -169,10 +175,15 @@ fn digit(word: Option<u32>) -> char {
     }
 }
 
-fn digits_behind(alloc: Global, setup: &Setup, trials: &[Trial]) -> Result<String, Fail> {
+fn digits_behind(
+    alloc: Global,
+    setup: &Setup,
+    reference: &Reached,
+    trials: &[Trial],
+) -> Result<String, Fail> {
     let mut digits = String::new(alloc);
     for trial in trials {
-        digits.push(digit(second_behind(alloc, setup, *trial)?))?;
+        digits.push(digit(second_behind(alloc, setup, reference, *trial)?))?;
     }
     Ok(digits)
 }
@@ -180,9 +191,12 @@ fn digits_behind(alloc: Global, setup: &Setup, trials: &[Trial]) -> Result<Strin
 /// A digit for a stop at each occurrence of each call.
 fn digits_of_stops(alloc: Global, setup: &Setup) -> Result<String, Fail> {
     let reference = reference_of(alloc, setup)?;
-    let trials = stops_of(alloc, &reference);
+    let digits = match stops_of(alloc, &reference) {
+        Ok(trials) => digits_behind(alloc, setup, &reference, trials.as_slice()),
+        Err(fail) => Err(fail),
+    };
     drop(reference);
-    digits_behind(alloc, setup, trials?.as_slice())
+    digits
 }
 
 /// The reader finds 8 bytes and more of the old note, then none, three and all six of the new one.

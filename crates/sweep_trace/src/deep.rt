@@ -11,7 +11,8 @@ use lx_kernel::Kernel;
 use plain_trace::Trace;
 use pt_schedule::Schedule;
 use std::alloc::{AllocError, Global};
-use sweep_faults::{Deep, run_deep};
+use sweep_faults::{Deep, Heard, run_deep};
+use sweep_rows::Calls;
 use sweep_runs::Setup;
 use tr_core::Options;
 
@@ -27,7 +28,9 @@ fn run_shown(
     ensures to { OnOk result (RunsDeep deep kernel.old schedule.old kernel.new) }
     ensures console { IfOk result (λ console. console ≡ kernel.new.running.shared.console) }
 {
-    if run_deep(alloc, kernel, schedule, deep, trace).is_err() {
+    let mut heard = Heard::new(alloc);
+    let calls = Calls::new(alloc);
+    if run_deep(kernel, schedule, deep, &mut heard, &calls, trace).is_err() {
         return Err(AllocError);
     }
     let console = Bytes::from_slice(alloc, kernel.console())?;

@@ -10,7 +10,8 @@ use lx_kernel::Kernel;
 use plain_trace::Trace;
 use pt_schedule::Schedule;
 use std::alloc::{AllocError, Global};
-use sweep_faults::{Fault, run_faulted};
+use sweep_faults::{Fault, Heard, run_faulted};
+use sweep_rows::Calls;
 use sweep_runs::Setup;
 use tr_core::Options;
 
@@ -33,7 +34,9 @@ fn run_shown(
     ensures to { OnOk result (RunsFaulted fault kernel.old schedule.old kernel.new) }
     ensures console { IfOk result (λ console. console ≡ kernel.new.running.shared.console) }
 {
-    if run_faulted(alloc, kernel, schedule, fault, trace).is_err() {
+    let mut heard = Heard::new(alloc);
+    let calls = Calls::new(alloc);
+    if run_faulted(kernel, schedule, fault, &mut heard, &calls, trace).is_err() {
         return Err(AllocError);
     }
     let console = Bytes::from_slice(alloc, kernel.console())?;

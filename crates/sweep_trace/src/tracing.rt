@@ -1,7 +1,7 @@
 //! The trace of the run without a failure.
 
 ghost use Rattle.std.specs.Prelude.{◌≡◌, [], IfOk};
-ghost use Rattle.lx_kernel.specs.First.{first_run};
+ghost use Rattle.lx_kernel.specs.First.{first_run_without_log};
 ghost use Rattle.pt_schedule.specs.Schedules.{worded};
 
 use crate::calling::callers;
@@ -53,13 +53,13 @@ pub fn schedule(alloc: Global, turns: &[Word], limit: u64) -> Result<Schedule, A
     Ok(Schedule::words(words, limit))
 }
 
-/// The kernel of a boot that is accepted, which no script changes.
+/// The kernel of a boot that is accepted, which no script changes. It keeps no log.
 pub fn kernel(alloc: Global, boot: &Boot) -> Result<Kernel, AllocError>
-    ensures first { IfOk result (λ k. k ≡ first_run boot.now []) }
+    ensures first { IfOk result (λ k. k ≡ first_run_without_log boot.now []) }
     ensures log { IfOk result (λ k. k.running.log ≡ []) }
 {
     let boot = boot.copy(alloc)?;
-    match Kernel::boot(alloc, boot, Script::empty(alloc)) {
+    match Kernel::boot_without_log(alloc, boot, Script::empty(alloc)) {
         Ok(kernel) => Ok(kernel),
         Err(_) => Err(AllocError),
     }

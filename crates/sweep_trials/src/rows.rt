@@ -27,15 +27,16 @@ fn behind(
     alloc: Global,
     setup: &Setup,
     leader: &mut Leader,
+    reference: &Reached,
     second: &Second,
     trial: Trial,
 ) -> Result<SecondEnd, Fault>
-    requires { IsLed setup.now leader.old }
+    requires { IsLed setup.now reference.now leader.old }
     ensures ends { IfOk result (EndsBehind setup.now second.now trial) }
-    ensures led { OnOk result (IsLed setup.now leader.new) }
+    ensures led { OnOk result (IsLed setup.now reference.now leader.new) }
 {
-    let run = leader.reach_failing(alloc, setup, trial.fault())?;
-    let left = run.ending.outcome.files.as_slice()?;
+    let run = leader.reach_failing(alloc, setup, reference, trial.fault())?;
+    let left = run.reached.ending.outcome.files.as_slice()?;
     let end = end_on(alloc, setup, second, left)?;
     Ok(end)
 }
@@ -45,16 +46,17 @@ fn second_end(
     alloc: Global,
     plan: &Plan,
     leader: &mut Leader,
+    reference: &Reached,
     trial: Trial,
 ) -> Result<Option<SecondEnd>, Fault>
-    requires { IsLed plan.now.setup leader.old }
+    requires { IsLed plan.now.setup reference.now leader.old }
     ensures ends { IfOk result (IsSecondEnd plan.now.setup plan.now.second trial) }
-    ensures led { OnOk result (IsLed plan.now.setup leader.new) }
+    ensures led { OnOk result (IsLed plan.now.setup reference.now leader.new) }
 {
     match &plan.second {
         None => Ok(None),
         Some(second) => {
-            let end = behind(alloc, &plan.setup, leader, second, trial)?;
+            let end = behind(alloc, &plan.setup, leader, reference, second, trial)?;
             Ok(Some(end))
         }
     }
@@ -68,13 +70,13 @@ fn run_led_tried(
     reference: &Reached,
     trial: Trial,
 ) -> Result<TriedRow, Fault>
-    requires { IsLed plan.now.setup leader.old }
+    requires { IsLed plan.now.setup reference.now leader.old }
     ensures row { IfOk result (IsTriedRow plan.now reference.now) }
     ensures trial { IfOk result (λ r. r.made.trial ≡ trial) }
-    ensures led { OnOk result (IsLed plan.now.setup leader.new) }
+    ensures led { OnOk result (IsLed plan.now.setup reference.now leader.new) }
 {
     let made = run_led_trial(alloc, &plan.setup, leader, reference, trial)?;
-    let second = second_end(alloc, plan, leader, trial)?;
+    let second = second_end(alloc, plan, leader, reference, trial)?;
     Ok(TriedRow { made, second })
 }
 
@@ -88,7 +90,7 @@ pub fn run_tried(
     ensures row { IfOk result (IsTriedRow plan.now reference.now) }
     ensures trial { IfOk result (λ r. r.made.trial ≡ trial) }
 {
-    let mut leader = Leader::new(alloc, &plan.setup)?;
+    let mut leader = Leader::new(alloc, &plan.setup, reference)?;
     let row = run_led_tried(alloc, plan, &mut leader, reference, trial);
     drop(leader);
     row
@@ -102,7 +104,7 @@ fn run_led_each(
     reference: &Reached,
     trials: &[Trial],
 ) -> Result<Vec<TriedRow>, Fault>
-    requires { IsLed plan.now.setup leader.old }
+    requires { IsLed plan.now.setup reference.now leader.old }
     ensures { IfOk result (λ rows. AreTriedRows plan.now reference.now trials.now rows.items) }
 {
     let mut rows = Vec::new(alloc);
@@ -124,7 +126,7 @@ fn run_each(
 ) -> Result<Vec<TriedRow>, Fault>
     ensures { IfOk result (λ rows. AreTriedRows plan.now reference.now trials.now rows.items) }
 {
-    let mut leader = Leader::new(alloc, &plan.setup)?;
+    let mut leader = Leader::new(alloc, &plan.setup, reference)?;
     let rows = run_led_each(alloc, plan, &mut leader, reference, trials);
     drop(leader);
     rows

@@ -125,7 +125,7 @@ pub fn trials_in(
     ensures { IfOk result (λ trials.
         trials.items ≡ trials_of tried.now setup.now.boot.follow reference.now.log.items) }
 {
-    let log = reference.log.as_slice();
+    let log = reference.log.as_slice()?;
     let found = occurrences(alloc, log, &tried.calls, setup.boot.follow)?;
     let trials = trials_by(alloc, tried.deed, found.as_slice())?;
     Ok(trials)
@@ -172,7 +172,7 @@ fn entry_of(
 {
     let mut calls = Seq::new(alloc);
     calls.push(named.call)?;
-    let log = reference.log.as_slice();
+    let log = reference.log.as_slice()?;
     let found = occurrences(alloc, log, &Set::Only(calls), plan.setup.boot.follow)?;
     Ok(first_entry(named, found.as_slice()))
 }

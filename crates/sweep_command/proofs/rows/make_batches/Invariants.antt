@@ -10,7 +10,7 @@ abbrev pub invariant-loop-left : goal.invariant-loop-left
 invariant-loop-left g l =
     (done : List Case) × (done ++ l.left ≡ l.cases) × AreTold l.words.is_checked l.plan.setup l.reference done l.rows.items
     × (l.ended ≡ true → (l.words.fail_fast && ends_found l.plan.strict false l.rows.items) ≡ true)
-    × IsLed l.plan.setup l.leader
+    × IsLed l.plan.setup l.reference l.leader
 
 abbrev pub decreases-loop-left : goal.decreases-loop-left
 decreases-loop-left g l = length l.left

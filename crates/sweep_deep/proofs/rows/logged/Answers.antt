@@ -4,18 +4,18 @@ use Rattle.sweep_faults.specs.declared.faults.Fault.{Fault}
 use Rattle.sweep_faults.specs.declared.faults.Place.{Place}
 use Rattle.sweep_faults.specs.Led.{place_of}
 use Rattle.sweep_runs.specs.Behind.{seconds_of}
-use Rattle.sweep_runs.specs.Runs.{FaultReaches}
+use Rattle.sweep_runs.specs.Deep.{FailingLogs}
 use Rattle.sweep_deep.proofs.rows.logged.Goals as goal
 
 pub returns : goal.returns
 returns c =
     let setup = c.args.setup.now in
     let wanted = c.args.wanted.now in
-    let log = c.in_ok-run.run'.log.items in
+    let log = c.in_ok-log.log'.items in
     let follow = setup.boot.follow in
     record {
-      reached = c.in_ok-run.run';
-      run = subst (λ (f : Fault). FaultReaches setup f c.in_ok-run.run') c.fault_of-fault.ensures c.in_ok-run.ensures;
+      log = log;
+      run = subst (λ (f : Fault). FailingLogs setup f log) c.fault_of-fault.ensures c.in_ok-log.ensures;
       all =
           subst (λ (f : Fault). c.in_ok-cases.cases.items ≡ seconds_of wanted follow (place_of f) log) c.fault_of-fault.ensures
           (subst (λ (p : Place). c.in_ok-cases.cases.items ≡ seconds_of wanted follow p log) c.place.ensures

@@ -1,9 +1,12 @@
 use Rattle.std.proofs.Common.{List, sym, subst}
 use Rattle.lx_abi.specs.declared.log.Item.{Item}
-use Rattle.sweep_faults.specs.Deep.{AwaitsBoth}
+use Rattle.sweep_faults.specs.Heard.{HearsBeside}
 use Rattle.sweep_faults.proofs.deep.advance.Goals as goal
 
-pub returns-in-Ok-hear-clause-awaits : goal.returns-in-Ok-hear-clause-awaits
-returns-in-Ok-hear-clause-awaits g c =
-    subst (λ (log : List Item). AwaitsBoth c.hear.new.self log) (sym c.in-Ok.ensures.logged)
-    (c.in-Ok-hear.ensures.awaits c.args.kernel.now.running.log c.requires)
+pub turn_either-requires : goal.turn_either-requires
+turn_either-requires g c = c.requires.heard
+
+pub returns-in-Ok-hear-clause-heard : goal.returns-in-Ok-hear-clause-heard
+returns-in-Ok-hear-clause-heard g c =
+    subst (λ (log : List Item). HearsBeside c.args.calls.now c.hear.new.self log) (sym c.in-Ok.ensures.logged)
+    (c.in-Ok-hear.ensures c.args.kernel.now.running.log c.requires)

@@ -1,19 +1,16 @@
-use Rattle.std.proofs.Common.{List, ◌≡◌, ◌<◌, ◌-◌, ◌∙◌, subst, arith}
+use Rattle.std.proofs.Common.{◌<◌, arith}
 use Rattle.std.proofs.lemmas.Bool.Decides.{nat_tests}
-use Rattle.lx_abi.specs.declared.log.Item.{Item}
 use Rattle.pt_schedule.specs.Schedules.{events_left}
 use Rattle.pt_schedule.specs.Untraced.{readiness_of}
 use Rattle.plain_run.proofs.Turning.{fewer_still, turn_less}
-use Rattle.sweep_faults.specs.Led.{entered}
-use Rattle.sweep_faults.proofs.Ahead.{comes_first, comes_later, ends_there, is_ahead, is_past, kept_all, leads_later, leads_nowhere, stands_there}
+use Rattle.sweep_faults.proofs.Ahead.{comes_first, comes_later, ends_there, is_ahead, is_past, leads_later, leads_nowhere, stands_there}
 use Rattle.sweep_faults.proofs.leading.run_up_to.Goals as goal
 
 pub returns-then-ahead-eq0-clause-ends : goal.returns-then-ahead-eq0-clause-ends
 returns-then-ahead-eq0-clause-ends c = λ e ahead.
     let none = c.if-ahead-eq0.true in
     is_past c.args.place c.left_to-ahead.result c.args.kernel.now.running.log
-    (subst (λ (log : List Item). c.left_to-ahead.result ≡ c.args.place.n - entered c.args.place log)
-    (c.log.ensures ∙ kept_all c.args.kernel.now c.requires) c.left_to-ahead.ensures)
+    (c.left_to-ahead.ensures c.args.kernel.now.running.log c.requires.heard)
     (grind (arith, nat_tests, none)) ahead
 
 pub turns-init : goal.turns-init
@@ -22,8 +19,7 @@ turns-init c =
     let more : 0 < c.left_to-ahead.result = grind (arith, nat_tests, some) in (
       leads_nowhere c.args.kernel.now c.args.schedule.now,
       is_ahead c.args.place c.left_to-ahead.result c.args.kernel.now.running.log
-          (subst (λ (log : List Item). c.left_to-ahead.result ≡ c.args.place.n - entered c.args.place log)
-          (c.log.ensures ∙ kept_all c.args.kernel.now c.requires) c.left_to-ahead.ensures)
+          (c.left_to-ahead.ensures c.args.kernel.now.running.log c.requires.heard)
           more,
       more,
       c.requires,
@@ -43,8 +39,7 @@ returns-then-left-eq0-clause-stands c = λ e.
     c.in-Some.pid c.next_plain.new.self c.turn.new.schedule c.turn.new.kernel c.in-Some.ensures c.in_default-turn.ensures.on
     c.turn.new.left
     (comes_first c.args.place c.left_to-ahead.result c.args.kernel.now.running.log
-    (subst (λ (log : List Item). c.left_to-ahead.result ≡ c.args.place.n - entered c.args.place log)
-    (c.log.ensures ∙ kept_all c.args.kernel.now c.requires) c.left_to-ahead.ensures)
+    (c.left_to-ahead.ensures c.args.kernel.now.running.log c.requires.heard)
     c.if-ahead-eq0.false)
     c.in_default-turn.ensures.ahead (grind (arith, nat_tests, none))
 
@@ -61,5 +56,8 @@ turns-preserved c =
           c.in-Some.pid c.next_plain.new.self c.turn.new.schedule c.turn.new.kernel c.in-Some.ensures c.in_default-turn.ensures.on,
       c.in_default-turn.ensures.ahead,
       grind (arith, nat_tests, some),
-      c.in_default-turn.ensures.keeps ∙ c.turns.invariant.3,
+      c.in_default-turn.ensures.heard,
     )
+
+pub returns-in_default-clause-heard : goal.returns-in_default-clause-heard
+returns-in_default-clause-heard c = c.turns.invariant.3

@@ -2,7 +2,6 @@ use Rattle.std.proofs.Common.{◌≤◌, sym, subst}
 use Rattle.pt_schedule.specs.Schedules.{events_left}
 use Rattle.pt_schedule.proofs.Rowing.{left_after}
 use Rattle.sweep_faults.specs.Runs.{RunsFaulted}
-use Rattle.sweep_faults.proofs.Ahead.{before_keeps}
 use Rattle.sweep_faults.proofs.Rows.{row_run}
 use Rattle.sweep_faults.proofs.leading.turn.Goals as goal
 
@@ -26,6 +25,3 @@ returns-clause-on c =
 pub returns-clause-fewer : goal.returns-clause-fewer
 returns-clause-fewer c =
     subst (λ t. events_left t ≤ events_left c.args.schedule.now) (sym c.pass.ensures) (left_after c.args.schedule.now c.in-Ok.made)
-
-pub returns-clause-keeps : goal.returns-clause-keeps
-returns-clause-keeps c = before_keeps c.args.place c.in-Ok.made c.args.kernel.now c.turn_row.new.kernel c.args.pid c.in-Ok.ensures.row

@@ -1,13 +1,32 @@
-use Rattle.std.proofs.Common.{OnOk, subst, sym}
-use Rattle.sweep_faults.specs.declared.faults.Fault.{Fault}
-use Rattle.sweep_faults.specs.Awaited.{Awaits}
-use Rattle.sweep_faults.specs.Runs.{RunsFaulted}
+use Rattle.std.proofs.Common.{◌∙◌, refl, sym}
+use Rattle.pt_schedule.specs.Schedules.{events_left}
+use Rattle.plain_run.proofs.Turning.{fewer_still, told_both, told_nothing}
+use Rattle.sweep_faults.proofs.Rows.{next_less, turn_is}
 use Rattle.sweep_faults.proofs.running.run_faulted.Goals as goal
 
-pub run_awaited-requires : goal.run_awaited-requires
-run_awaited-requires g c = subst (λ log. Awaits c.new-awaited.result log) (sym c.requires) c.new-awaited.ensures.none
+pub turns-init : goal.turns-init
+turns-init g c = (λ z rest. rest, told_nothing c.args.kernel.now (g.W.Watch.told c.args.watch.now), refl, c.requires)
 
-pub returns-clause-to : goal.returns-clause-to
-returns-clause-to g c =
-    subst (λ (f : Fault). OnOk c.run_awaited.result (RunsFaulted f c.args.kernel.now c.args.schedule.now c.run_awaited.new.kernel))
-    c.new-awaited.ensures.fault c.run_awaited.ensures.to
+pub returns-in_default-clause-told : goal.returns-in_default-clause-told
+returns-in_default-clause-told g c = c.turns.invariant.1
+
+pub returns-in_default-clause-heard : goal.returns-in_default-clause-heard
+returns-in_default-clause-heard g c = c.turns.invariant.3
+
+pub returns-in-Err-clause-told : goal.returns-in-Err-clause-told
+returns-in-Err-clause-told g c = told_both _ _ _ _ _ _ c.turns.invariant.1 c.in-Err.ensures.told
+
+pub turns-smaller : goal.turns-smaller
+turns-smaller g c = fewer_still (events_left c.turn.new.schedule) (events_left c.next_turn.new.schedule) (events_left c.turns.schedule) c.in_default-turn.ensures.fewer
+    (next_less c.args.fault c.turns.kernel c.turns.schedule c.in-Some.pid c.next_turn.new.schedule (sym c.in-Some.is ∙ c.next_turn.ensures.next) c.next_turn.ensures.rest)
+
+pub turns-preserved : goal.turns-preserved
+turns-preserved g c = (
+  λ z rest. c.turns.invariant.0 z
+      (turn_is c.args.fault c.turns.kernel c.turns.schedule c.in-Some.pid c.next_turn.new.schedule z
+      (sym c.in-Some.is ∙ c.next_turn.ensures.next) c.next_turn.ensures.rest
+      (c.in_default-turn.ensures.on z rest)),
+  told_both _ _ _ _ _ _ c.turns.invariant.1 c.in_default-turn.ensures.told,
+  c.in_default-turn.ensures.begun ∙ c.turns.invariant.2,
+  c.in_default-turn.ensures.heard,
+)

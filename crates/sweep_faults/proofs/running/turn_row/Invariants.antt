@@ -1,16 +1,15 @@
 use Rattle.std.specs.Prelude.{◌≡◌, ◌≤◌, ◌-◌}
 use Rattle.plain_run.specs.Watched.{Tells}
-use Rattle.sweep_faults.specs.Awaited.{Awaits}
+use Rattle.sweep_faults.specs.Heard.{HearsBeside}
 use Rattle.sweep_faults.proofs.Rows.{Made}
 use Rattle.sweep_faults.proofs.running.turn_row.Given as goal
 
 -- so many turns of the row were made, and there is another; what they logged was told
 abbrev pub invariant-row : goal.invariant-row
 invariant-row g l =
-    (l.made ≤ l.fn.more) × Made l.initial.awaited.fault l.initial.kernel l.fn.pid l.made l.kernel
+    (l.made ≤ l.fn.more) × Made l.fn.fault l.initial.kernel l.fn.pid l.made l.kernel
     × Tells l.initial.kernel (g.W.Watch.told l.initial.watch) l.kernel (g.W.Watch.told l.watch)
-    × (g.W.Watch.begun l.watch ≡ g.W.Watch.begun l.initial.watch) × Awaits l.awaited l.kernel.running.log
-    × (l.awaited.fault ≡ l.initial.awaited.fault)
+    × (g.W.Watch.begun l.watch ≡ g.W.Watch.begun l.initial.watch) × HearsBeside l.fn.calls l.heard l.kernel.running.log
 
 abbrev pub decreases-row : goal.decreases-row
 decreases-row g l = l.fn.more - l.made

@@ -1,19 +1,19 @@
 use Rattle.std.proofs.Common.{rules, ◌≡◌, List, ◌++◌, sym, subst}
 use denote.Param.Send.{IsSend, sendable, param_send}
 use Rattle.std.proofs.alloc.Global.TheSendSync as heap
+use Rattle.sweep_rows.proofs.verdicts.Reached.TheSendSync as reached
 use Rattle.sweep_runs.proofs.chosen.Case.TheSendSync as case
 use Rattle.sweep_runs.proofs.runs.Setup.TheSendSync as setup
 use Rattle.sweep_runs.specs.Rows.{AreRows}
 use Rattle.sweep_runs.specs.declared.chosen.Case.{Case}
 use Rattle.sweep_runs.specs.declared.sweeping.Row.{Row}
 use Rattle.sweep_threads.proofs.Joining.{rows_are_joined}
-use Rattle.sweep_threads.proofs.Shared.{reached_sync}
 use Rattle.sweep_threads.proofs.splitting.+split.Goals as goal
 use Rattle.sweep_threads.proofs.splitting.+split.Lts-run_split as lts
 
 pub join-front-requires-send-F : goal.join-front-requires-send-F
 join-front-requires-send-F g t c κs within =
-    let sent : IsSend (lts.arg-3-1 g.row.R g.R.laws g.R.Threads-dict κs) = search (sendable, heap.the_sync, reached_sync, setup.the_sync, case.the_sync) depth 20 in
+    let sent : IsSend (lts.arg-3-1 g.row.R g.R.laws g.R.Threads-dict κs) = search (sendable, heap.the_sync, reached.the_sync, setup.the_sync, case.the_sync) depth 20 in
     param_send 1 (lts.arg-3-1 g.row.R g.R.laws g.R.Threads-dict κs) sent
 
 pub returns : goal.returns

@@ -6,7 +6,7 @@ use Rattle.sweep_trials.proofs.rows.run_led_each.Given as goal
 abbrev pub invariant-loop-trial : goal.invariant-loop-trial
 invariant-loop-trial l =
     (map (λ r. r.made.trial) l.rows.items ++ l.left ≡ l.trials) × All (IsTriedRow l.plan l.reference) l.rows.items
-    × IsLed l.plan.setup l.leader
+    × IsLed l.plan.setup l.reference l.leader
 
 abbrev pub decreases-loop-trial : goal.decreases-loop-trial
 decreases-loop-trial l = length l.left

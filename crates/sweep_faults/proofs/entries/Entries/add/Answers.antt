@@ -1,0 +1,10 @@
+use Rattle.std.proofs.Common.{[], ◌∷◌, ◌++◌, sym, subst}
+use Rattle.sweep_faults.specs.Entries.{AreEntries}
+use Rattle.sweep_faults.proofs.Fewer.{entries_entry}
+use Rattle.sweep_faults.proofs.entries.Entries.add.Goals as goal
+
+pub returns : goal.returns
+returns c = λ past h.
+    subst (λ item. AreEntries c.count.new.self (past ++ item ∷ [])) (sym c.in-Enter.is)
+    (entries_entry c.args.self.now c.count.new.self c.in-Enter.pid c.in-Enter.call c.in_ok-count.ensures.counts c.in_ok-count.ensures.before
+    c.in_ok-count.ensures.above past h)

@@ -1,0 +1,105 @@
+//! Whether a process stands where its call fails.
+
+ghost use Rattle.std.specs.Prelude.{◌≡◌, ◌==◌, ◌&&◌, false};
+ghost use Rattle.lx_abi.specs.Log.{entries};
+ghost use Rattle.lx_kernel.specs.Runs.{mode_in};
+ghost use Rattle.lx_kernel.specs.Tracing.{task_in, regs_of};
+ghost use Rattle.sweep_faults.specs.Faults.{asks_for, ends_at, has_begun, has_entered, is_at, is_due, is_ended};
+ghost use Rattle.sweep_faults.specs.Faults.{is_entered, was_last};
+ghost use Rattle.sweep_faults.specs.Heard.{Hears};
+
+use crate::faults::{Fault, Kind};
+use crate::heard::Heard;
+use lx_abi::Mode;
+use lx_kernel::Kernel;
+
+/// Where a process stands that has entered a call.
+pub(crate) fn is_entered(mode: Option<Mode>) -> bool
+    ensures { result ≡ is_entered mode }
+{
+    matches!(mode, Some(Mode::Entered))
+}
+
+/// Where a process stands that has done a call.
+fn is_ended(mode: Option<Mode>) -> bool
+    ensures { result ≡ is_ended mode }
+{
+    matches!(mode, Some(Mode::Finished))
+}
+
+/// The registers of a process ask for the call.
+fn asks_for(kernel: &Kernel, pid: u32, call: u64) -> bool
+    ensures { result ≡ asks_for call (regs_of (task_in kernel.now pid)) }
+{
+    match kernel.asked_call(pid) {
+        Some(number) => number == call,
+        None => false,
+    }
+}
+
+/// A process that has entered a call asks for this one.
+fn has_entered(kernel: &Kernel, pid: u32, call: u64) -> bool
+    ensures { result ≡ has_entered call kernel.now pid }
+{
+    is_entered(kernel.mode(pid)) && asks_for(kernel, pid, call)
+}
+
+/// A process that has done a call has done this one.
+fn has_ended(heard: &Heard, kernel: &Kernel, pid: u32, call: u64) -> bool
+    requires { Hears heard.now kernel.now.running.log }
+    ensures { result ≡ (is_ended (mode_in kernel.now pid) && was_last pid call false kernel.now.running.log) }
+{
+    is_ended(kernel.mode(pid)) && heard.was_last(pid, call)
+}
+
+/// The process stands where a call fails so.
+fn is_due(heard: &Heard, kernel: &Kernel, pid: u32, kind: Kind, call: u64) -> bool
+    requires { Hears heard.now kernel.now.running.log }
+    ensures { result ≡ is_due kind call kernel.now pid }
+{
+    match kind {
+        Kind::Undone(_) | Kind::Killed | Kind::Stop => has_entered(kernel, pid, call),
+        Kind::Done(_) => has_ended(heard, kernel, pid, call),
+        Kind::Short(_) => has_entered(kernel, pid, call) || has_ended(heard, kernel, pid, call),
+        Kind::World(_) => is_entered(kernel.mode(pid)),
+    }
+}
+
+/// The process of the failure has entered the call for the nth time, and again or not.
+fn has_begun(heard: &Heard, kernel: &Kernel, fault: Fault) -> bool
+    requires { Hears heard.now kernel.now.running.log }
+    ensures { result ≡ has_begun fault kernel.now.running.log }
+{
+    fault.n <= heard.entries(fault.pid, fault.call)
+}
+
+/// It has entered it for the nth time, and not again.
+fn has_come(heard: &Heard, kernel: &Kernel, fault: Fault) -> bool
+    requires { Hears heard.now kernel.now.running.log }
+    ensures { result ≡ (entries fault.pid fault.call kernel.now.running.log == fault.n) }
+{
+    heard.entries(fault.pid, fault.call) == fault.n
+}
+
+/// The process stands where its call fails.
+#[tactic(auto, unfolding(crate::specs::Faults::is_at))]
+pub(crate) fn is_at(heard: &Heard, kernel: &Kernel, pid: u32, fault: Fault) -> bool
+    requires { Hears heard.now kernel.now.running.log }
+    ensures { result ≡ is_at fault kernel.now pid }
+{
+    if fault.kind.is_world() {
+        has_begun(heard, kernel, fault) && is_due(heard, kernel, pid, fault.kind, fault.call)
+    } else {
+        pid == fault.pid
+            && has_come(heard, kernel, fault)
+            && is_due(heard, kernel, pid, fault.kind, fault.call)
+    }
+}
+
+/// Everything ends where the process stands.
+pub(crate) fn ends_at(heard: &Heard, kernel: &Kernel, pid: u32, fault: Fault) -> bool
+    requires { Hears heard.now kernel.now.running.log }
+    ensures { result ≡ ends_at fault kernel.now pid }
+{
+    fault.kind.is_stop() && is_at(heard, kernel, pid, fault)
+}
