@@ -23,11 +23,10 @@ use Rattle.sweep_faults.specs.declared.deep.Deep.{Deep}
 use Rattle.sweep_faults.specs.declared.faults.Fault.{Fault}
 use Rattle.sweep_faults.specs.declared.faults.Kind.{Kind}
 use Rattle.sweep_faults.specs.declared.faults.Kind.TheVariants as kind
-use Rattle.sweep_faults.specs.Deep.{after_deep, deep_ends_at, IsDeep, RunsDeep, DeepEndsAreSettled, DeepIsFaulted, DeepRunsKeepLogs, next_deep, unless_deep_ended}
+use Rattle.sweep_faults.specs.Deep.{after_deep, deep_ends_at, IsDeep, RunsDeep, DeepEndsAreSettled, DeepIsFaulted, next_deep, unless_deep_ended}
 use Rattle.sweep_faults.specs.Faults.{after_asking, after_failing, after_fault, counting, ends_at, error_asked, failing, has_begun, is_at, is_due, is_entered, is_stop, is_world, killing, last_asked, with_register, writing}
 use Rattle.sweep_faults.specs.Runs.{IsFaulted, RunsFaulted, next_pid, unless_ended}
 use Rattle.plain_run.proofs.Turning.{bore_log, turn_less}
-use Rattle.sweep_faults.proofs.Rows.{failing_keeps, fault_keeps, keeps_by}
 use Rattle.sweep_faults.proofs.Wording.{more_still}
 
 -- An end is settled
@@ -45,15 +44,6 @@ settled d (p ∷ ps) (q ∷ qs) k s y z h g =
 
 pub deep_settled : DeepEndsAreSettled
 deep_settled d k s y z h g = settled d h.pids g.pids k s y z h.is_run g.is_run
-
-keeps : (d : Deep) (k : Run) (s : Schedule) (pids : List ℕ) (z : Run) → IsDeep d k s pids z → z.keeps_log ≡ k.keeps_log
-keeps d k s [] z h = ap (λ (r : Run). r.keeps_log) h.1
-keeps d k s (p ∷ ps) z h =
-    keeps d (after_deep d k p) (next_turn_of s (readiness_of k)).schedule ps z h.1
-    ∙ keeps_by (is_at d.second k p) (after_failing d.second.kind k p) (after_fault d.first k p) k (failing_keeps d.second.kind k p) (fault_keeps d.first k p)
-
-pub deep_keeps : DeepRunsKeepLogs
-deep_keeps d k s z to = keeps d k s to.pids z to.is_run
 
 -- One turn more
 

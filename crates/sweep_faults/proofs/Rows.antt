@@ -275,7 +275,7 @@ settled f (p ∷ ps) (q ∷ qs) k s y z h g =
 pub ends_settled : EndsAreSettled
 ends_settled f k s y z h g = settled f h.pids g.pids k s y z h.is_run g.is_run
 
-pub keeps_by : (b : Bool) (x y k : Run) → x.keeps_log ≡ k.keeps_log → y.keeps_log ≡ k.keeps_log → (cond b x y).keeps_log ≡ k.keeps_log
+keeps_by : (b : Bool) (x y k : Run) → x.keeps_log ≡ k.keeps_log → y.keeps_log ≡ k.keeps_log → (cond b x y).keeps_log ≡ k.keeps_log
 keeps_by true x y k h g = h
 keeps_by false x y k h g = g
 
@@ -290,7 +290,7 @@ asking_keeps : (error : Option Errno) (k : Run) (p : ℕ) → (after_asking erro
 asking_keeps None k p = refl
 asking_keeps (Some error) k p = refl
 
-pub failing_keeps : (x : Kind) (k : Run) (p : ℕ) → (after_failing x k p).keeps_log ≡ k.keeps_log
+failing_keeps : (x : Kind) (k : Run) (p : ℕ) → (after_failing x k p).keeps_log ≡ k.keeps_log
 failing_keeps (kind.Undone error) k p = refl
 failing_keeps (kind.Done error) k p = writing_keeps k p 10 (error_word error.number)
 failing_keeps (kind.Short count) k p =
@@ -300,7 +300,7 @@ failing_keeps kind.Killed k p = refl
 failing_keeps kind.Stop k p = refl
 failing_keeps (kind.World w) k p = asking_keeps (error_asked w k.running.log p (regs_of (task_in k p))) k p
 
-pub fault_keeps : (f : Fault) (k : Run) (p : ℕ) → (after_fault f k p).keeps_log ≡ k.keeps_log
+fault_keeps : (f : Fault) (k : Run) (p : ℕ) → (after_fault f k p).keeps_log ≡ k.keeps_log
 fault_keeps f k p = keeps_by (is_at f k p) (after_failing f.kind k p) (after_turn k p) k (failing_keeps f.kind k p) refl
 
 keeps : (f : Fault) (k : Run) (s : Schedule) (pids : List ℕ) (z : Run) → IsFaulted f k s pids z → z.keeps_log ≡ k.keeps_log

@@ -1,14 +1,11 @@
 -- A run in which two calls fail: the first, and another that is entered behind it.
 use Rattle.std.specs.Prelude.{◌≡◌, ◌<◌, ◌||◌, ℕ, Bool, cond, List, [], ◌∷◌, Option, Some, None}
-use Rattle.lx_abi.specs.declared.log.Item.{Item}
 use Rattle.lx_abi.specs.Log.{entries}
 use Rattle.lx_kernel.specs.Runs.{Run}
 use Rattle.pt_schedule.specs.declared.schedule.Schedule.{Schedule}
 use Rattle.pt_schedule.specs.Schedules.{next_turn_of}
 use Rattle.pt_schedule.specs.Untraced.{readiness_of}
-use Rattle.sweep_faults.specs.declared.deep.Both.{Both}
 use Rattle.sweep_faults.specs.declared.deep.Deep.{Deep}
-use Rattle.sweep_faults.specs.Awaited.{Awaits}
 use Rattle.sweep_faults.specs.Faults.{after_failing, after_fault, ends_at, is_at}
 use Rattle.sweep_faults.specs.Runs.{RunsFaulted}
 
@@ -40,21 +37,10 @@ pub record RunsDeep (d : Deep) (k : Run) (s : Schedule) (z : Run) : Type 0 where
   pub pids : List ℕ
   pub is_run : IsDeep d k s pids z
 
--- both failures are awaited by this log
-abbrev pub deep_of : Both → Deep
-deep_of b = record { first = b.first.fault; second = b.second.fault }
-
-abbrev pub AwaitsBoth : Both → List Item → Type 0
-AwaitsBoth b log = Awaits b.first log × Awaits b.second log
-
 -- The laws
 
 abbrev pub DeepEndsAreSettled : Type 0
 DeepEndsAreSettled = (d : Deep) (k : Run) (s : Schedule) (y z : Run) → RunsDeep d k s y → RunsDeep d k s z → y ≡ z
-
--- a kernel that keeps its log keeps it to the end
-abbrev pub DeepRunsKeepLogs : Type 0
-DeepRunsKeepLogs = (d : Deep) (k : Run) (s : Schedule) (z : Run) → RunsDeep d k s z → z.keeps_log ≡ k.keeps_log
 
 -- where the second never comes, it is the run in which the first fails alone
 abbrev pub DeepIsFaulted : Type 0

@@ -6,7 +6,7 @@ ghost use Rattle.pt_schedule.specs.Schedules.{next_turn_of};
 ghost use Rattle.pt_schedule.specs.Untraced.{readiness_of};
 ghost use Rattle.plain_run.specs.Watched.{Tells};
 ghost use Rattle.plain_run.specs.declared.running.Halt.TheVariants.{Weary};
-ghost use Rattle.sweep_faults.specs.Deep.{DeepEndsAreSettled, DeepIsFaulted, DeepRunsKeepLogs, RunsDeep};
+ghost use Rattle.sweep_faults.specs.Deep.{DeepEndsAreSettled, DeepIsFaulted, RunsDeep};
 ghost use Rattle.sweep_faults.specs.Deep.{after_deep, deep_ends_at, next_deep};
 ghost use Rattle.sweep_faults.specs.Faults.{after_fault};
 ghost use Rattle.sweep_faults.specs.Heard.{Hears, HearsBeside};
@@ -143,10 +143,9 @@ pub fn run_deep<W: Watch>(
     }
 }
 
-/// Where such a run ends is settled by where it begins, its schedule and the two failures, and a log that is kept at its
-/// beginning is kept at its end; where the second doesn't come, it is the run of the first alone.
+/// Where such a run ends is settled by where it begins, its schedule and the two failures; where the second doesn't
+/// come, it is the run of the first alone.
 pub fn deep_runs_are_settled()
     ensures settled { DeepEndsAreSettled }
-    ensures kept { DeepRunsKeepLogs }
     ensures alone { DeepIsFaulted }
 {}
