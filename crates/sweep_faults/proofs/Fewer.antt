@@ -5,11 +5,10 @@ use Rattle.std.specs.List.{list_any, range_with_len}
 use Rattle.std.proofs.lemmas.Bool.Decides.{nat_tests}
 use Rattle.lx_abi.specs.declared.log.Call.{Call}
 use Rattle.lx_abi.specs.declared.log.Item.{Item}
-use Rattle.lx_abi.specs.declared.log.Item.TheVariants.{Enter}
+use Rattle.lx_abi.specs.declared.log.Item.TheVariants.{Enter, Done, Taken, Stopped, Exit}
 use Rattle.lx_abi.specs.Log.{entries, is_entry}
 use Rattle.lx_abi.specs.Occurrences.{count_of}
 use Rattle.lx_model.specs.Kernel.{traces}
-use Rattle.lx_kernel.specs.Occurrences.{Agree}
 use Rattle.sweep_rows.proofs.Counting.{entries_more}
 use Rattle.sweep_faults.specs.declared.entries.Entries.{Entries}
 use Rattle.sweep_faults.specs.declared.faults.Fault.{Fault}
@@ -26,12 +25,18 @@ entries_same p number past item other =
 
 -- Counts, one item more
 
-pub still_agree : (item : Item) → ((p number : ℕ) → is_entry p number item ≡ false) → (e : Entries) (past : List Item) → AreEntries e past → Agree e.counts (past ++ item ∷ [])
-still_agree item other e past h p number = h.agree p number ∙ sym (entries_same p number past item (other p number))
+no_entry : (item : Item) → ((pid : ℕ) (call : Call) → item ≡ Enter pid call → ⊥) → (p number : ℕ) → is_entry p number item ≡ false
+no_entry (Enter pid call) other p number = absurd (other pid call refl)
+no_entry (Done pid call word replaced) other p number = refl
+no_entry (Taken pid signal cause) other p number = refl
+no_entry (Stopped pid signal) other p number = refl
+no_entry (Exit pid word left) other p number = refl
 
-pub still_within : (item : Item) → ((p number : ℕ) → is_entry p number item ≡ false) → (e : Entries) (past : List Item) → AreEntries e past
-    → (p number : ℕ) → e.above ≤ p → entries p number (past ++ item ∷ []) ≡ 0
-still_within item other e past h p number far = entries_same p number past item (other p number) ∙ h.within p number far
+pub entries_other : (item : Item) → ((pid : ℕ) (call : Call) → item ≡ Enter pid call → ⊥) → (e : Entries) (past : List Item) → AreEntries e past → AreEntries e (past ++ item ∷ [])
+entries_other item other e past h = record {
+  agree = λ p number. h.agree p number ∙ sym (entries_same p number past item (no_entry item other p number));
+  within = λ p number far. entries_same p number past item (no_entry item other p number) ∙ h.within p number far;
+}
 
 pub entries_entry : (e e' : Entries) (pid : ℕ) (call : Call) → ((p n : ℕ) → count_of e'.counts p n ≡ (if (p == pid) && (n == call.number) then 1 else 0) + count_of e.counts p n)
     → e.above ≤ e'.above → pid < e'.above → (past : List Item) → AreEntries e past → AreEntries e' (past ++ Enter pid call ∷ [])

@@ -1,5 +1,5 @@
 -- What is heard of a run, where nothing more is logged.
-use Rattle.std.proofs.Common.{◌≡◌, List, ◌++◌, None, sym, subst, append-nil}
+use Rattle.std.proofs.Common.{List, ◌++◌, None, sym, subst, append-nil}
 use Rattle.std.specs.Option.{option_to_list}
 use Rattle.lx_abi.specs.declared.log.Item.{Item}
 use Rattle.sweep_rows.specs.declared.calls.Calls.{Calls}

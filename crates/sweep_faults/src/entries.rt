@@ -55,7 +55,6 @@ impl Entries {
     }
 
     /// One item more of the log.
-    #[tactic(auto, using(crate::proofs::Fewer::still_agree, crate::proofs::Fewer::still_within))]
     pub(crate) fn add(&mut self, item: &Item) -> Result<(), AllocError>
         ensures { OnOk result
             ((past : List LogItem) → AreEntries self.old past → AreEntries self.new (past ++ item.now ∷ [])) }

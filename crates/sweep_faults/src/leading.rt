@@ -87,7 +87,7 @@ fn turn_row(
             Ok(moved) => moved,
             Err(failed) => return Err(failed),
         };
-        if heard.hear(&moved.item, calls).is_err() {
+        if let Err(_) = heard.hear(&moved.item, calls) {
             return Err(Failed);
         }
         *left = left_after(place, *left, &moved.item);

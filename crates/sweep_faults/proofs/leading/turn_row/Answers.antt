@@ -15,7 +15,7 @@ returns-then-behind-more-clause-row c =
 pub returns-then-behind-more-clause-heard : goal.returns-then-behind-more-clause-heard
 returns-then-behind-more-clause-heard c =
     subst (λ (log : List Item). HearsBeside c.args.calls.now c.hear.new.self log) (sym c.in-Ok.ensures.logged)
-    (c.hear.ensures c.row.kernel.running.log c.row.invariant.4)
+    (c.in_default.ensures c.row.kernel.running.log c.row.invariant.4)
 
 pub returns-then-behind-more-clause-ahead : goal.returns-then-behind-more-clause-ahead
 returns-then-behind-more-clause-ahead c =
@@ -30,7 +30,7 @@ returns-then-not-next-clause-row c =
 pub returns-then-not-next-clause-heard : goal.returns-then-not-next-clause-heard
 returns-then-not-next-clause-heard c =
     subst (λ (log : List Item). HearsBeside c.args.calls.now c.hear.new.self log) (sym c.in-Ok.ensures.logged)
-    (c.hear.ensures c.row.kernel.running.log c.row.invariant.4)
+    (c.in_default.ensures c.row.kernel.running.log c.row.invariant.4)
 
 pub returns-then-not-next-clause-ahead : goal.returns-then-not-next-clause-ahead
 returns-then-not-next-clause-ahead c =
@@ -47,5 +47,5 @@ row-preserved c =
           c.row.invariant.3 c.left_after.ensures c.in-Ok.ensures.logged c.row.invariant.2,
       c.has_next-next.ensures.ahead c.if-not-next.false,
       subst (λ (log : List Item). HearsBeside c.args.calls.now c.hear.new.self log) (sym c.in-Ok.ensures.logged)
-          (c.hear.ensures c.row.kernel.running.log c.row.invariant.4),
+          (c.in_default.ensures c.row.kernel.running.log c.row.invariant.4),
     )

@@ -1,7 +1,10 @@
 use Rattle.std.proofs.Common.{[], ◌∷◌, ◌++◌, sym, subst}
 use Rattle.sweep_faults.specs.Entries.{AreEntries}
-use Rattle.sweep_faults.proofs.Fewer.{entries_entry}
+use Rattle.sweep_faults.proofs.Fewer.{entries_entry, entries_other}
 use Rattle.sweep_faults.proofs.entries.Entries.add.Goals as goal
+
+pub returns-in_default : goal.returns-in_default
+returns-in_default c = entries_other c.args.item.now c.in_default.not-Enter c.args.self.now
 
 pub returns : goal.returns
 returns c = λ past h.
