@@ -9,8 +9,10 @@ use clap::ArgMatches;
 use front_end::Fault;
 use std::alloc::{AllocError, Global};
 use std::io::Write;
-use sweep_deep::{deep_rows, named_case, run_tried_deep, shown_text, status_of, status_of_one};
-use sweep_deep::{text_of, verdict_of};
+use sweep_deep::{
+    deep_rows, named_case, run_tried_deep, shown_text, status_of, status_of_one, text_of,
+    verdict_of,
+};
 use sweep_rows::Reached;
 use sweep_runs::{DeepCase, Wanted};
 use sweep_trace::{ShownRun, show_deep, shown_options, traced_calls};

@@ -290,8 +290,9 @@ fn report_ends<
             Ok(of_trials)
         }
         None => {
-            let of_failures =
-                report_failures(rt, matches, words, plan, reference, found, writer, err)?;
+            let of_failures = report_failures(
+                rt, matches, words, plan, reference, found, writer, err,
+            )?;
             Ok(of_failures)
         }
     }

@@ -14,10 +14,9 @@ use sweep_report::findings;
 use sweep_report::tally::{Tally, findings_in, kinds_with};
 use sweep_rows::Verdict;
 use sweep_trials::judging::told_by;
+pub use sweep_trials::status_of_one;
 use sweep_words::plan::Plan;
 use sweep_words::trials::Second;
-
-pub use sweep_trials::status_of_one;
 
 /// What is counted where a second program tells it.
 const BY_SECOND: [Verdict; 1] = [Verdict::Broken];

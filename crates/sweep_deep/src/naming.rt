@@ -66,7 +66,10 @@ fn second_case(
 /// The process doesn't make the call so often.
 fn absent(alloc: Global, run: NamedRun) -> Result<String, AllocError> {
     let name = name_of(alloc, run.call)?;
-    format!(in alloc; "--show: process {} has no call {} of {name}", run.pid, run.n)
+    format!(in alloc;
+        "--show: process {} has no call {} of {name}",
+        run.pid, run.n
+    )
 }
 
 /// It doesn't make it so often behind the failure.

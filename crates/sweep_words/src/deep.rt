@@ -38,7 +38,10 @@ fn excluded(alloc: Global, option: &str) -> Fault {
 
 /// Nothing stands beside it that has no meaning there.
 fn check(alloc: Global, matches: &ArgMatches, words: &[String]) -> Result<(), Fault> {
-    let count = words.iter().filter(|word| deep_rule(word.as_str()).is_some()).count();
+    let count = words
+        .iter()
+        .filter(|word| deep_rule(word.as_str()).is_some())
+        .count();
     if count > 1 {
         return Err(Fault::usage(format!(in alloc;
             "-e deep= stands once: a set joins names by commas"
