@@ -1,5 +1,6 @@
 -- Where a leader stands.
-use Rattle.std.proofs.Common.{◌≡◌, List, [], true, false, Some, sym, ap, subst, ◌∙◌}
+use Rattle.std.proofs.Common.{◌≡◌, ◌↔◌, List, false, Some, IfOk, IsTrue, Result, Ok, Err, sym, ap, subst, ◌∙◌}
+use Rattle.std.specs.declared.alloc.AllocError.{AllocError}
 use Rattle.lx_abi.specs.declared.log.Item.{Item}
 use Rattle.lx_kernel.specs.Runs.{Run}
 use Rattle.pt_schedule.specs.declared.schedule.Schedule.{Schedule}
@@ -10,8 +11,12 @@ use Rattle.sweep_faults.specs.Heard.{HearsBeside}
 use Rattle.sweep_faults.specs.Led.{StandsAt, fault_at, place_of}
 use Rattle.sweep_faults.specs.Runs.{RunsFaulted}
 use Rattle.sweep_faults.proofs.Ahead.{not_begun}
-use Rattle.sweep_runs.specs.Leaders.{GoesOnAt, IsAtBoot, IsOn, StandsIn, first_of, words_of}
-use Rattle.sweep_runs.specs.Runs.{FaultComesTo}
+use Rattle.sweep_faults.specs.Words.{HasWords}
+use Rattle.sweep_rows.specs.Calls.{same_calls}
+use Rattle.sweep_rows.specs.declared.verdicts.Reached.{Reached}
+use Rattle.sweep_runs.specs.Leaders.{ComparesTo, GoesOnAt, IsAtBoot, IsOn, StandsIn, first_of, words_of}
+use Rattle.sweep_runs.specs.Runs.{FaultComesTo, IsReached}
+use Rattle.sweep_runs.specs.declared.leading.Compared.{Compared}
 use Rattle.sweep_runs.specs.declared.leading.Leader.{Leader}
 use Rattle.sweep_runs.specs.declared.runs.Setup.{Setup}
 
@@ -56,3 +61,16 @@ pub copy_comes : (setup : Setup) (place : Place) (l : Leader) (k : Run) (s : Sch
 copy_comes setup place l k s f z here is same_kernel same_schedule run =
     subst (λ (p : Place). GoesOnAt setup p l) is here f.kind z
     (subst (λ (t : Schedule). RunsFaulted f l.kernel t z) same_schedule (subst (λ (x : Run). RunsFaulted f x s z) same_kernel run))
+
+-- What a run came to, beside the reference
+
+pub compares : (setup : Setup) (reference : Reached) (fault : Fault) (k : Run) (r : Result Compared AllocError) → FaultComesTo setup fault k
+    → IfOk r (λ c. IsReached k c.reached)
+    → IfOk r (λ c. c.alike ≡ same_calls reference.log.items k.running.log reference.ending.outcome.ended)
+    → IfOk r (λ c. IsTrue c.has_words ↔ HasWords setup.boot.follow fault k.running.log) → IfOk r (ComparesTo setup reference fault)
+compares setup reference fault k (Ok c) run reached alike words = record {
+  run = record { kernel = k; run = run; reached = reached };
+  alike = alike ∙ ap (λ (log : List Item). same_calls reference.log.items log reference.ending.outcome.ended) (sym reached.log);
+  words = subst (λ (log : List Item). IsTrue c.has_words ↔ HasWords setup.boot.follow fault log) (sym reached.log) words;
+}
+compares setup reference fault k (Err e) run reached alike words = tt

@@ -1,12 +1,11 @@
 -- What runs come to by words.
-use Rattle.std.proofs.Common.{◌≡◌, ℕ, Bool, true, false, cond, List, [], Some, refl, ap, subst, ◌∙◌}
+use Rattle.std.proofs.Common.{◌≡◌, ℕ, Bool, true, false, cond, List, [], Some, refl, subst, ◌∙◌}
 use Rattle.std.specs.Prelude.{◌==◌}
 use Rattle.lx_abi.specs.declared.errno.Errno.{Errno}
 use Rattle.lx_abi.specs.Sys.{sys_close}
 use Rattle.lx_abi.specs.declared.log.Item.{Item}
 use Rattle.lx_abi.specs.declared.script.Rule.{Rule}
 use Rattle.lx_kernel.specs.First.{first_run_without_log}
-use Rattle.lx_kernel.specs.Outcomes.{outcome_in}
 use Rattle.lx_kernel.specs.Runs.{Run}
 use Rattle.pt_schedule.specs.Schedules.{worded}
 use Rattle.plain_run.proofs.Turning.{with_log}
@@ -14,7 +13,6 @@ use Rattle.sweep_faults.specs.Faults.{error_of}
 use Rattle.sweep_faults.specs.Words.{HasWords}
 use Rattle.sweep_faults.specs.declared.faults.Kind.TheVariants as kind
 use Rattle.sweep_faults.proofs.Wording.{words_give}
-use Rattle.sweep_rows.specs.declared.endings.Ending.{Ending}
 use Rattle.sweep_runs.specs.Rows.{WordsReach, fault_of, kind_of}
 use Rattle.sweep_runs.specs.Runs.{ending_of, is_alive}
 

@@ -9,13 +9,13 @@ use Rattle.sweep_command.proofs.judging.ask.Goals as goal
 pub returns : goal.returns
 returns g c =
     let made = c.args.row in
-    let run = c.in_ok-run.run' in
+    let run = c.in_ok-run.run'.reached in
     let fine = c.in_ok-fine.fine in
     let told = checked fine (verdict_of (facts_of c.args.reference.now run [] made.case.tells)) in
     record {
       fine = fine;
       run = run;
-      reached = λ _. subst (λ (f : Fault). FaultReaches c.args.setup.now f run) c.fault_of.ensures c.in_ok-run.ensures;
+      reached = λ _. subst (λ (f : Fault). FaultReaches c.args.setup.now f run) c.fault_of.ensures c.in_ok-run.ensures.run;
       row_is = c.with_verdict.ensures
-          ∙ ap (with_verdict made) (c.in_ok-verdict.ensures ∙ sym (ap (λ b. cond b told made.verdict) c.requires));
+          ∙ ap (with_verdict made) (c.judged-verdict.ensures ∙ sym (ap (λ b. cond b told made.verdict) c.requires));
     }

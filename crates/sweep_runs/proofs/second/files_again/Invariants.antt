@@ -1,6 +1,6 @@
 use Rattle.std.proofs.Common.{◌≡◌, ◌++◌, length}
 use Rattle.std.specs.List.{flat_map}
-use Rattle.sweep_runs.specs.Seconds.{files_again, given_again}
+use Rattle.sweep_runs.specs.Seconds.{given_again}
 use Rattle.sweep_runs.proofs.second.files_again.Given as goal
 
 abbrev pub invariant-loop-file : goal.invariant-loop-file

@@ -9,14 +9,14 @@ use Rattle.sweep_runs.proofs.trials.row_reached.Goals as goal
 pub returns-clause-row : goal.returns-clause-row
 returns-clause-row c =
     let row = c.row_of.ensures in
+    let reached = c.args.run.reached in
     record {
-      reached = c.args.reached;
-      run =
-          subst (λ (t : Trial). FaultReaches c.args.setup.now (fault_of t) c.args.reached) (sym row.trial) c.requires;
+      reached = reached;
+      run = subst (λ (t : Trial). FaultReaches c.args.setup.now (fault_of t) reached) (sym row.trial) c.requires.run;
       files = ap (λ f. f.items) row.files ∙ c.in_ok-files.ensures;
       verdict =
-          row.verdict ∙ c.in_ok-verdict.ensures
-          ∙ ap₂ (λ (t : Trial) (notes : List FileNote). verdict_by t.kind (facts_of c.args.reference.now c.args.reached notes false))
+          row.verdict ∙ c.judge-verdict.ensures
+          ∙ ap₂ (λ (t : Trial) (notes : List FileNote). verdict_by t.kind (facts_of c.args.reference.now reached notes false))
           (sym row.trial) (c.as_slice.ensures.value ∙ ap (λ f. f.items) (sym row.files));
       word = row.word;
       ended = row.ended;

@@ -9,7 +9,7 @@ pub run_on-requires : goal.run_on-requires
 run_on-requires c =
     let leader = c.stand_at.new.self in
     subst (λ (log : List Item). HearsBeside leader.calls c.in_ok-heard.heard log) (sym (ap (λ (k : Run). k.running.log) c.in_ok-kernel.ensures.cases))
-    (c.in_ok-heard.ensures leader.calls leader.kernel.running.log c.in_ok-stand_at.ensures.stands.is_on.heard)
+    (c.in_ok-heard.ensures.cases leader.calls leader.kernel.running.log c.in_ok-stand_at.ensures.stands.is_on.heard)
 
 pub returns-clause-run : goal.returns-clause-run
 returns-clause-run c =
