@@ -29,12 +29,7 @@ pub struct Deep {
 }
 
 /// The turn of a process in which its call fails so, or another.
-fn turn_first(
-    kernel: &mut Kernel,
-    pid: u32,
-    first: Fault,
-    heard: &Heard,
-) -> Result<Moved, Failed>
+fn turn_first(kernel: &mut Kernel, pid: u32, first: Fault, heard: &Heard) -> Result<Moved, Failed>
     requires { Hears heard.now kernel.old.running.log }
     ensures turned { OnOk result (kernel.new ≡ after_fault first kernel.old pid) }
     ensures logged { IfOk result (λ m. kernel.new.running.log ≡ kernel.old.running.log ++ option_to_list m.item) }
@@ -55,7 +50,13 @@ fn turn_either(kernel: &mut Kernel, pid: u32, deep: Deep, heard: &Heard) -> Resu
     ensures log { OnErr result (kernel.new.running.log ≡ kernel.old.running.log) }
 {
     if is_at(heard, kernel, pid, deep.second) {
-        fail(kernel, pid, deep.second.kind, heard.asked(pid), heard.known())
+        fail(
+            kernel,
+            pid,
+            deep.second.kind,
+            heard.asked(pid),
+            heard.known(),
+        )
     } else {
         turn_first(kernel, pid, deep.first, heard)
     }

@@ -24,9 +24,7 @@ pub fn is_borne(verdict: Verdict) -> bool
 fn is_there(place: Place, occurrence: &Occurrence) -> bool
     ensures { result ≡ is_there place occurrence.now }
 {
-    place.pid == occurrence.pid
-        && place.call == occurrence.call.number
-        && place.n == occurrence.n
+    place.pid == occurrence.pid && place.call == occurrence.call.number && place.n == occurrence.n
 }
 
 /// The occurrences behind a place.
@@ -83,11 +81,7 @@ fn add_second(
 }
 
 /// The cases of these occurrences.
-fn seconds_by(
-    alloc: Global,
-    found: &[Occurrence],
-    wanted: &Wanted,
-) -> Result<Vec<Case>, AllocError>
+fn seconds_by(alloc: Global, found: &[Occurrence], wanted: &Wanted) -> Result<Vec<Case>, AllocError>
     ensures { IfOk result (λ cases. cases.items ≡ flat_map (second_at wanted.now) found.now) }
 {
     let mut cases = Vec::new(alloc);
