@@ -2,7 +2,7 @@
 
 ghost use Rattle.std.specs.Prelude.{◌≡◌, IfOk};
 ghost use Rattle.sweep_deep.specs.Rows.{AreBehind, AreLogged, AreSeconds, AreTriedDeep, EndsBehind, IsBehind};
-ghost use Rattle.sweep_deep.specs.Rows.{IsSecondEnd, IsTriedDeep};
+ghost use Rattle.sweep_deep.specs.Rows.{IsSecondEnd, IsTriedDeep, SecondsBy};
 ghost use Rattle.sweep_runs.specs.Cases.{cases_of};
 ghost use Rattle.sweep_runs.specs.Deep.{case_in};
 
@@ -42,8 +42,8 @@ fn end_behind(
 ) -> Result<SecondEnd, Fault>
     ensures { IfOk result (EndsBehind setup.now second.now case) }
 {
-    let run = reach_deep(alloc, setup, reference, case)?;
-    let left = run.reached.ending.outcome.files.as_slice()?;
+    let compared = reach_deep(alloc, setup, reference, case)?;
+    let left = compared.reached.ending.outcome.files.as_slice()?;
     let end = end_on(alloc, setup, second, left)?;
     Ok(end)
 }
@@ -91,9 +91,26 @@ pub fn logged(
     ensures { IfOk result (λ cases. AreLogged setup.now wanted.now first cases.items) }
 {
     let fault = fault_of(first);
-    let log = log_failing(alloc, setup, fault)?;
+    let items = log_failing(alloc, setup, fault)?;
     let follow = setup.boot.follow;
-    let cases = seconds(alloc, log.as_slice(), wanted, fault.place(), follow)?;
+    let cases = seconds(alloc, items.as_slice(), wanted, fault.place(), follow)?;
+    Ok(cases)
+}
+
+/// Those that fail behind it, where the program has borne it.
+fn seconds_if(
+    alloc: Global,
+    setup: &Setup,
+    wanted: &Wanted,
+    first: Case,
+    borne: bool,
+) -> Result<Vec<Case>, AllocError>
+    ensures { IfOk result (λ cases. SecondsBy borne setup.now wanted.now first cases.items) }
+{
+    if !borne {
+        return Ok(Vec::new(alloc));
+    }
+    let cases = logged(alloc, setup, wanted, first)?;
     Ok(cases)
 }
 
@@ -106,10 +123,8 @@ fn seconds_of(
 ) -> Result<Vec<Case>, AllocError>
     ensures { IfOk result (λ cases. AreSeconds setup.now wanted.now first.now cases.items) }
 {
-    if !is_borne(first.verdict) {
-        return Ok(Vec::new(alloc));
-    }
-    let cases = logged(alloc, setup, wanted, first.case)?;
+    let borne = is_borne(first.verdict);
+    let cases = seconds_if(alloc, setup, wanted, first.case, borne)?;
     Ok(cases)
 }
 

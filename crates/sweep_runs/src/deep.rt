@@ -151,7 +151,8 @@ pub fn reach_deep(
 ) -> Result<Compared, AllocError>
     ensures { IfOk result (DeepComparesTo setup.now reference.now case) }
 {
-    let calls = Calls::of(alloc, reference.log.as_slice()?)?;
+    let log = reference.log.as_slice()?;
+    let calls = Calls::of(alloc, log)?;
     let (kernel, heard) = run_both(alloc, setup, case.deep(), &calls)?;
     let (follow, second) = (setup.boot.follow, fault_of(case.second));
     let compared = compare(alloc, &kernel, &heard, &calls, follow, reference, second);

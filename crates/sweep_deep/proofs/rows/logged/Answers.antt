@@ -11,11 +11,11 @@ pub returns : goal.returns
 returns c =
     let setup = c.args.setup.now in
     let wanted = c.args.wanted.now in
-    let log = c.in_ok-log.log'.items in
+    let log = c.in_ok-items.items.items in
     let follow = setup.boot.follow in
     record {
       log = log;
-      run = subst (λ (f : Fault). FailingLogs setup f log) c.fault_of-fault.ensures c.in_ok-log.ensures;
+      run = subst (λ (f : Fault). FailingLogs setup f log) c.fault_of-fault.ensures c.in_ok-items.ensures;
       all =
           subst (λ (f : Fault). c.in_ok-cases.cases.items ≡ seconds_of wanted follow (place_of f) log) c.fault_of-fault.ensures
           (subst (λ (p : Place). c.in_ok-cases.cases.items ≡ seconds_of wanted follow p log) c.place.ensures

@@ -8,7 +8,7 @@ use Rattle.sweep_runs.specs.declared.deep.DeepCase.{DeepCase}
 use Rattle.sweep_runs.proofs.deep.row_reached.Goals as goal
 
 -- both cases of a run
-both : Case → Case → DeepCase
+abbrev both : Case → Case → DeepCase
 both first second = record { first = first; second = second }
 
 pub returns-clause-case : goal.returns-clause-case
