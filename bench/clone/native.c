@@ -1,7 +1,8 @@
 // The work of the guest of `run` by this machine's own kernel: native KIB DESCRIPTORS ROUNDS CHILDREN writes to each
 // page of so many KiB and has so many descriptors, then ROUNDS times makes a child that ends at once and waits for it,
 // and then has CHILDREN children at once. It prints the microseconds of processor time that a round takes, and the KiB
-// that all processes had in RAM in the end, what they share counted once.
+// that all processes had in RAM in the end, what they share counted once. `native peak PROGRAM WORDS..` runs a program and
+// prints the most KiB that it had in RAM: a child of python would be told to have had python's.
 #define _GNU_SOURCE
 #include <stdio.h>
 #include <stdlib.h>
@@ -42,7 +43,23 @@ static pid_t begin(void) {
     return pid;
 }
 
+static int peak_of(char **words) {
+    int status;
+    struct rusage usage;
+    pid_t pid = begin();
+    if (pid == 0) {
+        execv(words[0], words);
+        _exit(127);
+    }
+    if (wait4(pid, &status, 0, &usage) != pid || status != 0)
+        return 1;
+    printf("%ld\n", usage.ru_maxrss);
+    return 0;
+}
+
 int main(int count, char **words) {
+    if (count > 2 && strcmp(words[1], "peak") == 0)
+        return peak_of(words + 2);
     if (count != 5)
         return 2;
     size_t size = (size_t)atol(words[1]) * 1024;
