@@ -115,8 +115,8 @@ fn next_turn(kernel: &Kernel, schedule: &mut Schedule, deep: Deep, heard: &Heard
     Some(pid)
 }
 
-/// Makes the turns that a schedule gives, up to its end, or to where everything ends, where two calls fail; the watcher
-/// is told of each, and what is logged is heard.
+/// Makes the turns that a schedule gives, up to its end, or to where everything ends, where two calls fail; the
+/// watcher is told of each, and what is logged is heard.
 pub fn run_deep<W: Watch>(
     kernel: &mut Kernel,
     schedule: &mut Schedule,

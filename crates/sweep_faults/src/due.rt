@@ -81,18 +81,18 @@ fn has_come(heard: &Heard, kernel: &Kernel, fault: Fault) -> bool
     heard.entries(fault.pid, fault.call) == fault.n
 }
 
-/// The process stands where its call fails.
+/// The process stands where its call fails. Where it stands is asked first: entries are looked up.
 #[tactic(auto, unfolding(crate::specs::Faults::is_at))]
 pub(crate) fn is_at(heard: &Heard, kernel: &Kernel, pid: u32, fault: Fault) -> bool
     requires { Hears heard.now kernel.now.running.log }
     ensures { result ≡ is_at fault kernel.now pid }
 {
     if fault.kind.is_world() {
-        has_begun(heard, kernel, fault) && is_due(heard, kernel, pid, fault.kind, fault.call)
+        is_due(heard, kernel, pid, fault.kind, fault.call) && has_begun(heard, kernel, fault)
     } else {
         pid == fault.pid
-            && has_come(heard, kernel, fault)
             && is_due(heard, kernel, pid, fault.kind, fault.call)
+            && has_come(heard, kernel, fault)
     }
 }
 
