@@ -52,7 +52,8 @@ impl Process {
     }
 }
 
-/// A process enters its first call.
+/// A process enters its first call. Apart, since it comes once a process.
+#[inline(never)]
 fn enter_first(
     of: &mut Shelf<Process>,
     pid: u32,
@@ -81,7 +82,8 @@ fn enter(of: &mut Shelf<Process>, pid: u32, call: &Call, calls: &Calls) -> Resul
     }
 }
 
-/// A process of which nothing was told has done a call.
+/// A process of which nothing was told has done a call. Apart, as above.
+#[inline(never)]
 fn end_first(of: &mut Shelf<Process>, pid: u32, call: &Call) -> Result<(), AllocError>
     ensures { OnOk result (of.new ≡ maps.insert of.old pid (after_end call.now first_process)) }
 {

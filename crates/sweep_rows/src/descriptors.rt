@@ -281,6 +281,7 @@ impl Descriptors {
     }
 
     /// One item more, wherever it stands.
+    #[inline(always)]
     #[tactic(auto, unfolding(crate::specs::Descriptors::after_item))]
     fn add_item(&mut self, item: &Item) -> Result<(), AllocError>
         ensures uses { OnOk result (uses_in self.new ≡ after_item self.old.at item.now (uses_in self.old)) }
@@ -302,6 +303,7 @@ impl Descriptors {
     }
 
     /// One item more of the log.
+    #[inline(always)]
     pub fn add(&mut self, item: &Item) -> Result<(), AllocError>
         ensures uses { OnOk result (uses_in self.new ≡ after_item self.old.at item.now (uses_in self.old)) }
         ensures at { OnOk result (self.new.at ≡ suc self.old.at) }
