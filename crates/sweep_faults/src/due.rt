@@ -121,6 +121,7 @@ pub(crate) fn is_at(
 }
 
 /// Everything ends where the process stands.
+#[inline(always)]
 pub(crate) fn ends_at(heard: &Heard, kernel: &Kernel, pid: u32, fault: Fault) -> bool
     requires { Hears heard.now kernel.now.running.log }
     ensures { result ≡ ends_at fault kernel.now pid }

@@ -45,6 +45,7 @@ impl Heard {
         }
     }
 
+    #[inline(always)]
     fn hear_item(&mut self, item: &Item, calls: &Calls) -> Result<(), AllocError>
         ensures { OnOk result ((log : List LogItem) → HearsBeside calls.now self.old log
             → HearsBeside calls.now self.new (log ++ item.now ∷ [])) }
@@ -58,6 +59,7 @@ impl Heard {
     }
 
     /// A turn has logged this, beside a reference that made these calls.
+    #[inline(always)]
     #[tactic(auto, using(crate::proofs::Hearing::still_heard))]
     pub(crate) fn hear(&mut self, item: &Option<Item>, calls: &Calls) -> Result<(), AllocError>
         ensures { OnOk result ((log : List LogItem) → HearsBeside calls.now self.old log

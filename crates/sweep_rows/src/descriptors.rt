@@ -250,6 +250,7 @@ impl Descriptors {
     }
 
     /// A call of a process was done, and has given this word.
+    #[inline(always)]
     #[tactic(auto, unfolding(crate::specs::Descriptors::after_call))]
     fn add_call(&mut self, pid: u32, call: &Call, word: u64) -> Result<(), AllocError>
         ensures uses { OnOk result (uses_in self.new
