@@ -69,6 +69,7 @@ fn enter_first(
 }
 
 /// A process enters a call.
+#[inline(always)]
 fn enter(of: &mut Shelf<Process>, pid: u32, call: &Call, calls: &Calls) -> Result<(), AllocError>
     ensures { OnOk result (of.new
         ≡ maps.insert of.old pid (after_entry calls.now pid call.now (process_at of.old pid))) }
@@ -94,6 +95,7 @@ fn end_first(of: &mut Shelf<Process>, pid: u32, call: &Call) -> Result<(), Alloc
 }
 
 /// A process has done a call.
+#[inline(always)]
 fn end(of: &mut Shelf<Process>, pid: u32, call: &Call) -> Result<(), AllocError>
     ensures { OnOk result (of.new ≡ maps.insert of.old pid (after_end call.now (process_at of.old pid))) }
 {
@@ -134,6 +136,7 @@ impl Processes {
     }
 
     /// One item more of the log, beside the calls of the reference.
+    #[inline(always)]
     pub(crate) fn add(&mut self, calls: &Calls, item: &Item) -> Result<(), AllocError>
         ensures courses { OnOk result ((past : List LogItem) → AreCourses (course_in self.old) past
             → AreCourses (course_in self.new) (past ++ item.now ∷ [])) }

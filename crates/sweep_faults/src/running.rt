@@ -100,6 +100,7 @@ fn turn<W: Watch>(
 }
 
 /// Whose turn comes next: nobody's at the schedule's end, or where everything ends.
+#[inline(always)]
 fn next_turn(kernel: &Kernel, schedule: &mut Schedule, fault: Fault, heard: &Heard) -> Option<u32>
     requires { Hears heard.now kernel.now.running.log }
     ensures next { result ≡ next_pid fault kernel.now schedule.old }
