@@ -6,7 +6,7 @@ ghost use Rattle.host_wire.specs.Ends.{AppendsPart};
 
 use crate::ends::{Broken, Sink, Source};
 use history::History;
-use std::io::{ErrorKind, Read, Write};
+use std::io::{self, ErrorKind, Read, Write};
 
 /// A reader or writer of std that counts its failure, and fails for good once it has. What a signal interrupts is no
 /// failure. Behind each put what the writer kept back goes out.
@@ -116,22 +116,34 @@ pub fn write_whole<W: Write>(writer: &mut W, bytes: &[u8]) -> Result<(), Broken>
     Err(Broken)
 }
 
-/// Hands on what was kept back. A flush that a signal interrupts is made again.
-#[inline(always)]
-fn flush_again<W: Write>(writer: &mut W) -> Result<(), Broken>
+/// Hands on what was kept back, where a flush has failed so. One that a signal interrupts is made again.
+#[cold]
+#[inline(never)]
+fn flush_after<W: Write>(writer: &mut W, fault: io::Error) -> Result<(), Broken>
     ensures { Keeps (W.contents writer.old) (W.contents writer.new) }
 {
+    let mut last = fault;
     for _ in 0..u64::MAX {
+        if last.kind() != ErrorKind::Interrupted {
+            return Err(Broken);
+        }
         match writer.flush() {
             Ok(()) => return Ok(()),
-            Err(fault) => {
-                if fault.kind() != ErrorKind::Interrupted {
-                    return Err(Broken);
-                }
-            }
+            Err(fault) => last = fault,
         }
     }
     Err(Broken)
+}
+
+/// Hands on what was kept back.
+#[inline(always)]
+fn flush<W: Write>(writer: &mut W) -> Result<(), Broken>
+    ensures { Keeps (W.contents writer.old) (W.contents writer.new) }
+{
+    match writer.flush() {
+        Ok(()) => Ok(()),
+        Err(fault) => flush_after(writer, fault),
+    }
 }
 
 /// Writes all of the bytes, and hands on what was kept back.
@@ -140,8 +152,11 @@ fn write_out<W: Write>(writer: &mut W, bytes: &[u8]) -> Result<(), Broken>
     ensures whole { OnOk result (Appends (W.contents writer.old) (W.contents writer.new) bytes.now) }
     ensures part { OnErr result (AppendsPart (W.contents writer.old) (W.contents writer.new) bytes.now) }
 {
+    if bytes.is_empty() {
+        return flush(writer);
+    }
     match write_whole(writer, bytes) {
-        Ok(()) => flush_again(writer),
+        Ok(()) => flush(writer),
         Err(Broken) => Err(Broken),
     }
 }

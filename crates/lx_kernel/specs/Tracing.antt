@@ -92,7 +92,11 @@ abbrev pub with_part : KernelRun → ℕ → Option (Task UserState) → KernelR
 with_part k pid None = k
 with_part k pid (Some task) = record k { running = with_task k.running pid task }
 
--- Of one part, and of the table of parts: what is left, and whether it was changed.
+-- Of a stage, of one part, and of the table of parts: what is left, and whether it was changed.
+
+abbrev pub IsChanged : Option Stage → Stage → Stage → Bool → Type 0
+IsChanged None stage stage' changed = (stage' ≡ stage) × (changed ≡ false)
+IsChanged (Some other) stage stage' changed = (stage' ≡ other) × (changed ≡ true)
 
 abbrev pub IsPart : Option (Task UserState) → Task UserState → Task UserState → Bool → Type 0
 IsPart None task task' changed = (task' ≡ task) × (changed ≡ false)

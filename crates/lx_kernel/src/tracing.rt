@@ -1,11 +1,12 @@
 //! One process as a tracer reaches it: its registers, its memory, and the signal of a call or of a stop.
 
-ghost use Rattle.std.specs.Prelude.{◌≡◌, IfOk, is_some, option_map};
+ghost use Rattle.std.specs.Prelude.{◌≡◌, IfOk, IsTrue, Some, is_some, option_map};
 ghost use Rattle.lx_model.specs.Finite.{at};
 ghost use Rattle.lx_model.specs.Machine.{a7_of};
+ghost use Rattle.lx_model.specs.Rows.{row};
 ghost use Rattle.lx_model.specs.declared.stage.Task.TheVariants.{Gone};
 ghost use Rattle.lx_kernel.specs.Tracing.{regs_of, peek_of, call_of, call_at, signal_of, listens_of, with_regs, with_change};
-ghost use Rattle.lx_kernel.specs.Tracing.{with_part_at, IsPart, changed};
+ghost use Rattle.lx_kernel.specs.Tracing.{with_part_at, IsPart, IsChanged, changed};
 
 use containers::Bytes;
 use lx_abi::{Call, Cause, RegisterSet, Registers, Signal};
@@ -149,17 +150,48 @@ fn change_stage(stage: &Stage, change: Change) -> Option<Stage>
     }
 }
 
+/// The stop of a call to which no signal is joined.
+#[tactic(auto, unfolding(lx_abi::specs::Signals::signal_numbered))]
+fn is_at_call(stage: &Stage) -> bool
+    ensures { IsTrue result → (row stage.now).resume 0 ≡ Some stage.now }
+{
+    match stage {
+        Stage::Finished => true,
+        Stage::Entered { joined: None } => true,
+        _ => false,
+    }
+}
+
+/// The process stands already where the change sets it.
+fn is_there_already(stage: &Stage, change: Change) -> bool
+    ensures { IsTrue result → changed change stage.now ≡ Some stage.now }
+{
+    match change {
+        Change::Resume { number: 0 } => is_at_call(stage),
+        Change::Resume { .. } | Change::Join { .. } | Change::Skip => false,
+    }
+}
+
+fn change_live(stage: &mut Stage, change: Change) -> bool
+    ensures { IsChanged (changed change stage.old) stage.old stage.new result }
+{
+    if is_there_already(stage, change) {
+        return true;
+    }
+    match change_stage(stage, change) {
+        None => false,
+        Some(changed) => {
+            *stage = changed;
+            true
+        }
+    }
+}
+
 fn change_task(task: &mut Task<UserState>, change: Change) -> bool
     ensures { IsPart (with_change change task.old) task.old task.new result }
 {
     match task {
-        Task::Alive { stage, .. } => match change_stage(stage, change) {
-            None => false,
-            Some(changed) => {
-                *stage = changed;
-                true
-            }
-        },
+        Task::Alive { stage, .. } => change_live(stage, change),
         Task::Dying { .. } | Task::Gone => false,
     }
 }

@@ -84,6 +84,7 @@ fn peeked(bytes: Bytes) -> Reply
     }
 }
 
+#[inline(never)]
 fn peek(kernel: &Kernel, pid: u32, address: u64, length: u32) -> Result<Reply, AllocError>
     ensures { IfOk result
         (λ r. (b : UserState) (stage : Stage) → task_in kernel.now pid ≡ Tasks.Alive b stage
@@ -98,6 +99,7 @@ fn peek(kernel: &Kernel, pid: u32, address: u64, length: u32) -> Result<Reply, A
     }
 }
 
+#[inline(never)]
 fn sig_info(kernel: &Kernel, pid: u32) -> Reply
     ensures { (b : UserState) (stage : Stage) → task_in kernel.now pid ≡ Tasks.Alive b stage → result ≡ info_at stage }
 {
@@ -121,6 +123,7 @@ fn syscall(kernel: &mut Kernel, tracees: &mut Tracees, pid: u32, signal: u32) ->
     Reply::Done
 }
 
+#[inline(never)]
 fn set_options(
     kernel: &Kernel,
     tracees: &mut Tracees,
@@ -147,6 +150,7 @@ fn set_options(
 }
 
 /// A tracee at a group stop is let go, and stays stopped.
+#[inline(never)]
 fn listen(kernel: &Kernel, tracees: &mut Tracees, pid: u32) -> Reply
     ensures { (traced : Traced) → maps.get tracees.old.traced pid ≡ Some traced
         → Answers kernel.now tracees.old pid traced Asks.Listen result kernel.now tracees.new }
@@ -224,6 +228,7 @@ fn seize(tracees: &mut Tracees, pid: u32, traced: Traced, bits: u32) -> Result<R
 }
 
 /// Process 1 before Seize is answered: it can be seized, and nothing else.
+#[inline(never)]
 fn answer_unseized(
     tracees: &mut Tracees,
     pid: u32,

@@ -1,6 +1,7 @@
 //! How the pending request is served.
 
 ghost use Rattle.std.specs.Prelude.{◌≡◌, OnOk, IfOk, ℕ, List, Option};
+ghost use Rattle.lx_abi.specs.declared.ptrace.Reply.{Reply};
 ghost use Rattle.lx_abi.specs.declared.ptrace.Request.{Request};
 ghost use Rattle.lx_turn.specs.Linux.{linux};
 ghost use Rattle.lx_kernel.specs.Outcomes.{outcome_in};
@@ -24,6 +25,15 @@ pub fn outcome(kernel: &Kernel, lists_files: bool) -> Result<Outcome, AllocError
     } else {
         kernel.outcome_unlisted()
     }
+}
+
+/// The answer to Outcome. Apart, since a function pays at its entry for the size of its locals.
+#[inline(never)]
+fn tell_outcome(alloc: Global, kernel: &Kernel, lists_files: bool) -> Result<Reply, AllocError>
+    ensures { IfOk result (λ r. r ≡ Reply.Outcome (outcome_in kernel.now.running.shared)) }
+{
+    let outcome = Boxed::new(alloc, outcome(kernel, lists_files)?)?;
+    Ok(Reply::Outcome { outcome })
 }
 
 /// A request is answered; none where Wait stays pending.
@@ -50,8 +60,8 @@ fn answer_asked(
             Ok(Some(reply))
         }
         Asked::Outcome => {
-            let outcome = Boxed::new(alloc, outcome(kernel, lists_files)?)?;
-            Ok(Some(Reply::Outcome { outcome }))
+            let reply = tell_outcome(alloc, kernel, lists_files)?;
+            Ok(Some(reply))
         }
     }
 }

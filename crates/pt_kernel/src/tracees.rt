@@ -192,6 +192,7 @@ impl Tracees {
         Ok(())
     }
 
+    #[inline(never)]
     fn adopt(&mut self, child: u32, options: Option<TraceOptions>) -> Result<(), AllocError>
         ensures { OnOk result (self.new ≡ with_newborn self.old child options) }
     {
@@ -264,7 +265,7 @@ impl Tracees {
     }
 
     /// Who was waited for is held no more, and no tracee.
-    #[inline(always)]
+    #[inline(never)]
     fn leave(&mut self, pid: u32)
         ensures { self.new ≡ record self.old {
           traced = released self.old.traced pid (maps.get self.old.traced pid);

@@ -300,6 +300,7 @@ fn fed(decoder: Box<Decoder>, bytes: Bytes) -> Result<Box<Decoder>, AllocError>
 }
 
 /// A string of a text came, or not.
+#[inline(never)]
 pub fn hear_bytes(
     session: &mut Session,
     pid: u32,

@@ -118,6 +118,7 @@ fn hear_exit_regs(
 }
 
 /// The registers of a replaced call were put back, or not.
+#[inline(never)]
 fn hear_put_back(
     session: &mut Session,
     pid: u32,
@@ -151,6 +152,7 @@ fn hear_set(alloc: Global, signal: u32, done: bool) -> Heard
 
 /// What is told of a signal, where it came.
 #[tactic(auto, unfolding(crate::specs::Pens::wrote, crate::specs::Pens::pen_after))]
+#[inline(never)]
 fn hear_info(
     session: &mut Session,
     pid: u32,

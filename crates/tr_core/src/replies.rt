@@ -18,6 +18,7 @@ pub fn registers_in(reply: Reply) -> Option<RegisterSet>
 }
 
 /// What Peek read; none where that isn't known.
+#[inline(never)]
 pub fn bytes_in(alloc: Global, reply: Reply) -> Option<Bytes>
     ensures { result ≡ bytes_of reply }
 {
