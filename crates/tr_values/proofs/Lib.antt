@@ -1,2 +1,3 @@
 pub mod Places
-pub mod Octal
+pub mod Spelled
+pub mod Texts

@@ -1,11 +1,13 @@
 //! Bytes between quotes.
 
-ghost use Rattle.std.specs.Prelude.{◌≡◌, ◌≤◌, ◌<◌, ◌+◌, ◌/◌, ◌%◌, ◌∷◌, [], length, take, false};
-ghost use Rattle.std.specs.Fmt.{digits};
+ghost use Rattle.std.specs.Prelude.{◌≡◌, ◌++◌, ◌+◌, ◌≤◌, OnOk, length, string_bytes, take};
 ghost use Rattle.tr_values.specs.Escapes as spec;
-ghost use Rattle.tr_values.specs.Sheets.{Leaves, put};
+ghost use Rattle.tr_values.specs.Sheets.{Leaves};
 
+use crate::buffer::Buffer;
 use crate::sheet::{Needed, Sheet};
+use crate::spellings::spell;
+use std::alloc::AllocError;
 
 fn begins_with_digit(bytes: &[u8]) -> bool
     ensures { result ≡ spec.begins_with_digit bytes.now }
@@ -16,80 +18,64 @@ fn begins_with_digit(bytes: &[u8]) -> bool
     }
 }
 
-fn digit(sheet: &mut Sheet<'_>, d: u8) -> Result<(), Needed>
-    requires { d < 10 }
-    ensures { Leaves result sheet.new (put ((48 + d) ∷ []) sheet.old) }
+/// Makes place for two spellings more.
+fn make_place(text: &mut String, buffer: &mut Buffer) -> Result<(), AllocError>
+    ensures kept { OnOk result (string_bytes text.new ++ buffer.new ≡ string_bytes text.old ++ buffer.old) }
+    ensures place { OnOk result (length buffer.new + 8 ≤ 256) }
 {
-    sheet.byte(b'0' + d)
-}
-
-/// The last two octal digits.
-fn two_digits(sheet: &mut Sheet<'_>, byte: u8) -> Result<(), Needed>
-    ensures { Leaves result sheet.new (put ((48 + byte / 8 % 8) ∷ (48 + byte % 8) ∷ []) sheet.old) }
-{
-    digit(sheet, byte / 8 % 8)?;
-    digit(sheet, byte % 8)
-}
-
-fn three_digits(sheet: &mut Sheet<'_>, byte: u8) -> Result<(), Needed>
-    ensures { Leaves result sheet.new
-        (put ((48 + byte / 64) ∷ (48 + byte / 8 % 8) ∷ (48 + byte % 8) ∷ []) sheet.old) }
-{
-    digit(sheet, byte / 64)?;
-    two_digits(sheet, byte)
-}
-
-/// A number in octal, as short as can be.
-fn octal(sheet: &mut Sheet<'_>, byte: u8) -> Result<(), Needed>
-    ensures { Leaves result sheet.new (put (digits 8 false byte) sheet.old) }
-{
-    if byte < 8 {
-        digit(sheet, byte)
-    } else if byte < 64 {
-        two_digits(sheet, byte)
-    } else {
-        three_digits(sheet, byte)
+    if buffer.is_full() {
+        text.push_str(buffer.as_str())?;
+        buffer.clear();
     }
+    Ok(())
 }
 
-/// The shortest octal escape, and one of three digits before a digit.
-fn octal_escape(sheet: &mut Sheet<'_>, byte: u8, digit_next: bool) -> Result<(), Needed>
-    ensures { Leaves result sheet.new (put (spec.octal_escape byte digit_next) sheet.old) }
+/// Two bytes in front of others. What waits is put first where it leaves no place.
+fn push_two(
+    text: &mut String,
+    buffer: &mut Buffer,
+    byte: u8,
+    next: u8,
+    more: &[u8],
+) -> Result<(), AllocError>
+    ensures { OnOk result
+        (string_bytes text.new ++ buffer.new
+        ≡ (string_bytes text.old ++ buffer.old) ++ (spec.escape byte (spec.is_digit next)
+        ++ spec.escape next (spec.begins_with_digit more.now))) }
 {
-    sheet.byte(b'\\')?;
-    if digit_next {
-        three_digits(sheet, byte)
-    } else {
-        octal(sheet, byte)
-    }
+    make_place(text, buffer)?;
+    buffer.add(spell(byte, next.is_ascii_digit()));
+    buffer.add(spell(next, begins_with_digit(more)));
+    Ok(())
 }
 
-fn escape(sheet: &mut Sheet<'_>, byte: u8, digit_next: bool) -> Result<(), Needed>
-    ensures { Leaves result sheet.new (put (spec.escape byte digit_next) sheet.old) }
+/// The last byte, if there is one.
+#[tactic(auto, unfolding(crate::specs::Escapes::escaped))]
+fn push_last(text: &mut String, buffer: &mut Buffer, left: &[u8]) -> Result<(), AllocError>
+    requires { length left.now ≤ 1 }
+    ensures { OnOk result
+        (string_bytes text.new ++ buffer.new ≡ (string_bytes text.old ++ buffer.old) ++ spec.escaped left.now) }
 {
-    match byte {
-        b'\t' => sheet.put("\\t"),
-        b'\n' => sheet.put("\\n"),
-        11 => sheet.put("\\v"),
-        12 => sheet.put("\\f"),
-        b'\r' => sheet.put("\\r"),
-        b'"' => sheet.put("\\\""),
-        b'\\' => sheet.put("\\\\"),
-        b' '..=b'~' => sheet.byte(byte),
-        _ => octal_escape(sheet, byte, digit_next),
-    }
+    let [byte, ..] = left else {
+        return Ok(());
+    };
+    make_place(text, buffer)?;
+    buffer.add(spell(*byte, false));
+    Ok(())
 }
 
 #[tactic(auto, unfolding(crate::specs::Escapes::escaped))]
-fn escaped(sheet: &mut Sheet<'_>, bytes: &[u8]) -> Result<(), Needed>
-    ensures { Leaves result sheet.new (put (spec.escaped bytes.now) sheet.old) }
+pub(crate) fn push_escaped(text: &mut String, bytes: &[u8]) -> Result<(), AllocError>
+    ensures { OnOk result (string_bytes text.new ≡ string_bytes text.old ++ spec.escaped bytes.now) }
 {
+    let mut buffer = Buffer::new();
     let mut left = bytes;
-    while let [byte, more @ ..] = left {
-        escape(sheet, *byte, begins_with_digit(more))?;
+    while let [byte, next, more @ ..] = left {
+        push_two(text, &mut buffer, *byte, *next, more)?;
         left = more;
     }
-    Ok(())
+    push_last(text, &mut buffer, left)?;
+    text.push_str(buffer.as_str())
 }
 
 #[tactic(auto, unfolding(crate::specs::Escapes::quoted))]
@@ -97,7 +83,7 @@ pub fn quoted(sheet: &mut Sheet<'_>, bytes: &[u8]) -> Result<(), Needed>
     ensures { Leaves result sheet.new (spec.quoted bytes.now sheet.old) }
 {
     sheet.put("\"")?;
-    escaped(sheet, bytes)?;
+    sheet.escaped(bytes)?;
     sheet.put("\"")
 }
 

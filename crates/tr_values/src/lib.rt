@@ -4,6 +4,7 @@
 #![tactic(auto)]
 
 pub mod actions;
+mod buffer;
 pub mod calls;
 pub mod children;
 pub mod descriptors;
@@ -13,6 +14,7 @@ pub mod flags;
 pub mod numbers;
 pub mod sheet;
 pub mod signals;
+mod spellings;
 mod structs;
 pub mod wait_words;
 

@@ -1,10 +1,12 @@
 //! Text under way.
 
-ghost use Rattle.std.specs.Prelude.{◌≡◌, ◌<◌, ℕ, List, ◌++◌, ◌∷◌, [], OnOk, OnErr, IfErr, IfOk, decimal, codes, string_bytes, false, length};
+ghost use Rattle.std.specs.Prelude.{◌≡◌, ℕ, List, ◌++◌, [], OnOk, OnErr, IfErr, IfOk, decimal, codes, string_bytes, false, length};
 ghost use Rattle.std.specs.Fmt.{digits};
+ghost use Rattle.tr_values.specs.Escapes.{escaped};
 ghost use Rattle.tr_values.specs.Sheets as spec;
 ghost use Rattle.tr_values.specs.declared.sheet.Needed.TheVariants.{Memory};
 
+use crate::escapes::push_escaped;
 use containers::Bytes;
 use std::alloc::{AllocError, Global};
 use std::marker::Model;
@@ -110,11 +112,11 @@ impl<'a> Sheet<'a> {
         Ok(())
     }
 
-    pub(crate) fn byte(&mut self, byte: u8) -> Result<(), Needed>
-        requires { byte < 128 }
-        ensures { spec.Leaves result self.new (spec.put (byte ∷ []) self.old) }
+    /// Bytes as they are written between quotes.
+    pub(crate) fn escaped(&mut self, bytes: &[u8]) -> Result<(), Needed>
+        ensures { spec.Leaves result self.new (spec.put (escaped bytes.now) self.old) }
     {
-        self.text.push(char::from(byte))?;
+        push_escaped(&mut self.text, bytes)?;
         Ok(())
     }
 
