@@ -76,7 +76,7 @@ find b (suc i) (text ∷ texts) (n ∷ ns) h lt =
     let k = both (row b text n) (rows (suc b) texts ns) h in
     let e : suc b + i ≡ b + suc i = omega arith in
     subst (λ a. Row a (slice_index_or texts i []) (slice_index_or ns i 0)) e
-        (find (suc b) i texts ns k.1 (omega (arith, lt)))
+    (find (suc b) i texts ns k.1 (omega (arith, lt)))
 
 tried : rows 0 TEXTS LENGTHS ≡ true
 unfolding rows row same digits
