@@ -5,9 +5,12 @@ use Rattle.std.specs.Fmt.{digits}
 use Rattle.std.specs.List.{position_or_len}
 use Rattle.tr_values.specs.Sheets.{Sheet, Shown, put, ◌>>=◌}
 
+abbrev pub is_digit : ℕ → Bool
+is_digit b = nat_le 48 b && nat_le b 57
+
 abbrev pub begins_with_digit : List ℕ → Bool
 begins_with_digit [] = false
-begins_with_digit (b ∷ bs) = nat_le 48 b && nat_le b 57
+begins_with_digit (b ∷ bs) = is_digit b
 
 -- in octal, as short as can be; in three digits where a digit follows
 abbrev pub octal_escape : ℕ → Bool → List ℕ

@@ -43,11 +43,11 @@ impl Buffer {
         }
     }
 
-    /// Has no place for one spelling more.
+    /// Has no place for two spellings more.
     pub(crate) fn is_full(&self) -> bool
-        ensures { result ≡ false → length self.now + 4 ≤ 256 }
+        ensures { result ≡ false → length self.now + 8 ≤ 256 }
     {
-        self.length > SIZE - 4
+        self.length > SIZE - 8
     }
 
     pub(crate) fn as_str(&self) -> &str

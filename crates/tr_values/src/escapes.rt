@@ -18,10 +18,10 @@ fn begins_with_digit(bytes: &[u8]) -> bool
     }
 }
 
-/// Makes place for one spelling more.
+/// Makes place for two spellings more.
 fn make_place(text: &mut String, buffer: &mut Buffer) -> Result<(), AllocError>
     ensures kept { OnOk result (string_bytes text.new ++ buffer.new ≡ string_bytes text.old ++ buffer.old) }
-    ensures place { OnOk result (length buffer.new + 4 ≤ 256) }
+    ensures place { OnOk result (length buffer.new + 8 ≤ 256) }
 {
     if buffer.is_full() {
         text.push_str(buffer.as_str())?;
@@ -30,20 +30,51 @@ fn make_place(text: &mut String, buffer: &mut Buffer) -> Result<(), AllocError>
     Ok(())
 }
 
-/// What waits is put first where it leaves no place.
-fn push_byte(
+/// Two bytes in front of others. What waits is put first where it leaves no place.
+fn push_two(
     text: &mut String,
     buffer: &mut Buffer,
     byte: u8,
+    next: u8,
     more: &[u8],
 ) -> Result<(), AllocError>
     ensures { OnOk result
         (string_bytes text.new ++ buffer.new
-        ≡ (string_bytes text.old ++ buffer.old) ++ spec.escape byte (spec.begins_with_digit more.now)) }
+        ≡ (string_bytes text.old ++ buffer.old) ++ (spec.escape byte (spec.is_digit next)
+        ++ spec.escape next (spec.begins_with_digit more.now))) }
 {
     make_place(text, buffer)?;
-    buffer.add(spell(byte, begins_with_digit(more)));
+    buffer.add(spell(byte, next.is_ascii_digit()));
+    buffer.add(spell(next, begins_with_digit(more)));
     Ok(())
+}
+
+/// The last byte, if there is one.
+#[tactic(auto, unfolding(crate::specs::Escapes::escaped))]
+fn push_last(text: &mut String, buffer: &mut Buffer, left: &[u8]) -> Result<(), AllocError>
+    requires { length left.now ≤ 1 }
+    ensures { OnOk result
+        (string_bytes text.new ++ buffer.new ≡ (string_bytes text.old ++ buffer.old) ++ spec.escaped left.now) }
+{
+    let [byte, ..] = left else {
+        return Ok(());
+    };
+    make_place(text, buffer)?;
+    buffer.add(spell(*byte, false));
+    Ok(())
+}
+
+#[tactic(auto, unfolding(crate::specs::Escapes::escaped))]
+fn push_escaped(text: &mut String, buffer: &mut Buffer, bytes: &[u8]) -> Result<(), AllocError>
+    ensures { OnOk result
+        (string_bytes text.new ++ buffer.new ≡ (string_bytes text.old ++ buffer.old) ++ spec.escaped bytes.now) }
+{
+    let mut left = bytes;
+    while let [byte, next, more @ ..] = left {
+        push_two(text, buffer, *byte, *next, more)?;
+        left = more;
+    }
+    push_last(text, buffer, left)
 }
 
 fn push_quote(text: &mut String, buffer: &mut Buffer) -> Result<(), AllocError>
@@ -55,20 +86,7 @@ fn push_quote(text: &mut String, buffer: &mut Buffer) -> Result<(), AllocError>
     Ok(())
 }
 
-#[tactic(auto, unfolding(crate::specs::Escapes::escaped))]
-fn push_escaped(text: &mut String, buffer: &mut Buffer, bytes: &[u8]) -> Result<(), AllocError>
-    ensures { OnOk result
-        (string_bytes text.new ++ buffer.new ≡ (string_bytes text.old ++ buffer.old) ++ spec.escaped bytes.now) }
-{
-    let mut left = bytes;
-    while let [byte, more @ ..] = left {
-        push_byte(text, buffer, *byte, more)?;
-        left = more;
-    }
-    Ok(())
-}
-
-/// Bytes between quotes.
+/// The bytes with their quotes.
 pub(crate) fn push_quoted(text: &mut String, bytes: &[u8]) -> Result<(), AllocError>
     ensures { OnOk result
         (string_bytes text.new ≡ string_bytes text.old ++ (codes "\"" ++ (spec.escaped bytes.now ++ codes "\""))) }
