@@ -34,7 +34,8 @@ pub(crate) struct Stretch {
     pub after: Option<Mode>,
 }
 
-/// Turns of a process that doesn't stand where its call fails, `most` at most; what the last has logged is put in `item`.
+/// Turns of a process that doesn't stand where its call fails, `most` at most. What the last has logged is put in
+/// `item`.
 #[inline(always)]
 #[tactic(auto, using(crate::proofs::Rows::row_of_others))]
 pub(crate) fn go_on(
