@@ -182,11 +182,6 @@ impl Link for LocalLink {
         }
     }
 
-    #[inline(always)]
-    fn call_before_wait(&mut self, request: Request) -> Result<Reply, LinkFault> {
-        self.call(request)
-    }
-
     fn asked(&self) -> u64 {
         self.given
     }

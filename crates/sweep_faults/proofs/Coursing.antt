@@ -1,17 +1,12 @@
 -- What each process has done last, and asked for last, one item of a log more.
-use Rattle.std.proofs.Common.{◌≡◌, Bool, ℕ, true, false, cond, List, [], ◌∷◌, ◌++◌, Some, refl, sym, ap, ◌∙◌, arith}
+use Rattle.std.proofs.Common.{◌≡◌, Bool, ℕ, true, false, cond, List, [], ◌∷◌, ◌++◌, refl, sym, ap, ◌∙◌, arith}
 use Rattle.std.specs.Prelude.{◌==◌}
-use Rattle.std.specs.Cmp.{nat_cmp_total, unsigned_tied}
-use Rattle.std.specs.FinMap as maps
-use Rattle.std.specs.FinMap.{FinMap}
-use Rattle.std.specs.Ordering.{nat_cmp}
 use Rattle.std.proofs.lemmas.Bool.Decides.{nat_tests}
 use Rattle.lx_abi.specs.declared.log.Call.{Call}
 use Rattle.lx_abi.specs.declared.log.Item.{Item}
 use Rattle.lx_abi.specs.declared.log.Item.TheVariants.{Enter, Done, Taken, Stopped, Exit}
 use Rattle.sweep_faults.specs.declared.courses.Course.{Course}
-use Rattle.sweep_faults.specs.declared.courses.Courses.{Courses}
-use Rattle.sweep_faults.specs.Courses.{course_by, course_in, first_course, is_done, next_course, or_first, with_end, with_entry, AreCourses}
+use Rattle.sweep_faults.specs.Courses.{course_by, first_course, is_done, next_course, with_end, with_entry, AreCourses}
 use Rattle.sweep_faults.specs.Faults.{asked_last, done_last, last_asked, was_last}
 
 one_more : (pid : ℕ) (course : Course) (log : List Item) (item : Item) → course_by pid course (log ++ item ∷ []) ≡ next_course pid (course_by pid course log) item
@@ -19,28 +14,25 @@ unfolding course_by
 one_more pid course [] item = refl
 one_more pid course (first ∷ log) item = one_more pid (next_course pid course first) log item
 
-pub first_courses : (courses : Courses) → courses.of ≡ maps.empty → AreCourses courses []
+pub first_courses : (course : ℕ → Course) → ((p : ℕ) → course p ≡ first_course) → AreCourses course []
 unfolding course_by
-first_courses courses none pid = ap (λ m. or_first (maps.get m pid)) none ∙ ap or_first (maps.get-empty nat_cmp pid)
+first_courses course none pid = none pid
 
--- an item that is no entry, and no end of a call
-pub course_same : (item : Item) → ((p : ℕ) (course : Course) → next_course p course item ≡ course) → (courses : Courses) (past : List Item) → AreCourses courses past → AreCourses courses (past ++ item ∷ [])
-course_same item other courses past h pid =
+-- an item by which none has another
+pub course_same : (item : Item) → ((p : ℕ) (c : Course) → next_course p c item ≡ c) → (course : ℕ → Course) (past : List Item) → AreCourses course past → AreCourses course (past ++ item ∷ [])
+course_same item other course past h pid =
     h pid ∙ sym (other pid (course_by pid first_course past)) ∙ sym (one_more pid first_course past item)
 
-got_insert : (m : FinMap nat_cmp Course) (k : ℕ) (v : Course) (q : ℕ) → maps.get (maps.insert m k v) q ≡ cond (q == k) (Some v) (maps.get m q)
-got_insert m k v q = maps.get-insert nat_cmp_total m k v q ∙ ap (λ b. cond b (Some v) (maps.get m q)) (unsigned_tied q k)
-
-module _ (old new : Courses) (pid : ℕ) (course : Course) (put : new.of ≡ maps.insert old.of pid course) (item : Item)
-    (is : course ≡ next_course pid (course_in old pid) item)
+module _ (old new : ℕ → Course) (pid : ℕ) (course : Course) (put : (p : ℕ) → new p ≡ cond (p == pid) course (old p)) (item : Item)
+    (is : course ≡ next_course pid (old pid) item)
     (other : (p : ℕ) → (p == pid) ≡ false → (c : Course) → next_course p c item ≡ c) (past : List Item) (h : AreCourses old past) where
   put_more : AreCourses new (past ++ item ∷ [])
-  put_more p = ap (λ m. or_first (maps.get m p)) put ∙ ap or_first (got_insert old.of pid course p) ∙ of (p == pid) refl
+  put_more p = put p ∙ of (p == pid) refl
     where
-      of : (b : Bool) → (p == pid) ≡ b → or_first (cond b (Some course) (maps.get old.of p)) ≡ course_by p first_course (past ++ item ∷ [])
+      of : (b : Bool) → (p == pid) ≡ b → cond b course (old p) ≡ course_by p first_course (past ++ item ∷ [])
       of true e =
           let same : pid ≡ p = grind (arith, nat_tests, e) in
-          is ∙ ap (λ q. next_course q (course_in old q) item) same ∙ ap (λ c. next_course p c item) (h p)
+          is ∙ ap (λ q. next_course q (old q) item) same ∙ ap (λ c. next_course p c item) (h p)
           ∙ sym (one_more p first_course past item)
       of false e = h p ∙ sym (other p e (course_by p first_course past)) ∙ sym (one_more p first_course past item)
 
@@ -54,18 +46,18 @@ other_way p pid e = of (pid == p) refl
     of true f = absurd (grind (arith, nat_tests, e, f))
     of false f = refl
 
-pub course_entered : (old new : Courses) (pid : ℕ) (call : Call) (course : Course) → course ≡ with_entry call (course_in old pid) → new.of ≡ maps.insert old.of pid course
+pub course_entered : (old new : ℕ → Course) (pid : ℕ) (call : Call) → ((p : ℕ) → new p ≡ cond (p == pid) (with_entry call (old pid)) (old p))
     → (past : List Item) → AreCourses old past → AreCourses new (past ++ Enter pid call ∷ [])
-course_entered old new pid call course is put past h =
-    put_more old new pid course put (Enter pid call)
-    (is ∙ ap (λ b. cond b (with_entry call (course_in old pid)) (course_in old pid)) (sym (itself pid)))
+course_entered old new pid call put past h =
+    put_more old new pid (with_entry call (old pid)) put (Enter pid call)
+    (ap (λ b. cond b (with_entry call (old pid)) (old pid)) (sym (itself pid)))
     (λ p e c. ap (λ b. cond b (with_entry call c) c) (other_way p pid e)) past h
 
-pub course_ended : (old new : Courses) (pid : ℕ) (call : Call) (word : ℕ) (replaced : Bool) (course : Course) → course ≡ with_end call (course_in old pid) → new.of ≡ maps.insert old.of pid course
+pub course_ended : (old new : ℕ → Course) (pid : ℕ) (call : Call) (word : ℕ) (replaced : Bool) → ((p : ℕ) → new p ≡ cond (p == pid) (with_end call (old pid)) (old p))
     → (past : List Item) → AreCourses old past → AreCourses new (past ++ Done pid call word replaced ∷ [])
-course_ended old new pid call word replaced course is put past h =
-    put_more old new pid course put (Done pid call word replaced)
-    (is ∙ ap (λ b. cond b (with_end call (course_in old pid)) (course_in old pid)) (sym (itself pid)))
+course_ended old new pid call word replaced put past h =
+    put_more old new pid (with_end call (old pid)) put (Done pid call word replaced)
+    (ap (λ b. cond b (with_end call (old pid)) (old pid)) (sym (itself pid)))
     (λ p e c. ap (λ b. cond b (with_end call c) c) (other_way p pid e)) past h
 
 -- What is asked of them
@@ -112,9 +104,9 @@ asked_by pid course [] = refl
 asked_by pid course (item ∷ log) =
     ap (λ n. last_asked pid n log) (asked_next pid course item) ∙ asked_by pid (next_course pid course item) log
 
-pub last_is : (courses : Courses) (log : List Item) → AreCourses courses log → (pid call : ℕ) → is_done call (course_in courses pid).done ≡ was_last pid call false log
-last_is courses log h pid call =
+pub last_is : (course : ℕ → Course) (log : List Item) → AreCourses course log → (pid call : ℕ) → is_done call (course pid).done ≡ was_last pid call false log
+last_is course log h pid call =
     ap (λ (c : Course). is_done call c.done) (h pid) ∙ sym (done_by pid call first_course log)
 
-pub asked_is : (courses : Courses) (log : List Item) → AreCourses courses log → (pid : ℕ) → (course_in courses pid).asked ≡ last_asked pid 0 log
-asked_is courses log h pid = ap (λ (c : Course). c.asked) (h pid) ∙ sym (asked_by pid first_course log)
+pub asked_is : (course : ℕ → Course) (log : List Item) → AreCourses course log → (pid : ℕ) → (course pid).asked ≡ last_asked pid 0 log
+asked_is course log h pid = ap (λ (c : Course). c.asked) (h pid) ∙ sym (asked_by pid first_course log)

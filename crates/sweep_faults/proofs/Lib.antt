@@ -4,5 +4,6 @@ pub mod Wording
 pub mod Fewer
 pub mod Ahead
 pub mod Coursing
+pub mod Processing
 pub mod Hearing
 pub mod Deeper

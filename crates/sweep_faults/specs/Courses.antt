@@ -1,12 +1,10 @@
 -- What each process of a log has done last, and asked for last.
 use Rattle.std.specs.Prelude.{◌≡◌, ℕ, ◌==◌, Bool, false, cond, List, [], ◌∷◌, Option, Some, None}
-use Rattle.std.specs.FinMap as maps
 use Rattle.lx_abi.specs.declared.log.Call.{Call}
 use Rattle.lx_abi.specs.declared.log.Item.{Item}
 use Rattle.lx_abi.specs.declared.log.Item.TheVariants as items
 use Rattle.sweep_rows.specs.Descriptors.{argument}
 use Rattle.sweep_faults.specs.declared.courses.Course.{Course}
-use Rattle.sweep_faults.specs.declared.courses.Courses.{Courses}
 
 abbrev pub first_course : Course
 first_course = record { done = None; asked = 0 }
@@ -35,15 +33,6 @@ abbrev pub is_done : ℕ → Option ℕ → Bool
 is_done call None = false
 is_done call (Some done) = done == call
 
--- How they are kept: that of each process that has entered a call
-
-abbrev pub or_first : Option Course → Course
-or_first None = first_course
-or_first (Some course) = course
-
-abbrev pub course_in : Courses → ℕ → Course
-course_in courses pid = or_first (maps.get courses.of pid)
-
--- they are those of this log
-abbrev pub AreCourses : Courses → List Item → Type 0
-AreCourses courses log = (pid : ℕ) → course_in courses pid ≡ course_by pid first_course log
+-- those of this log are these, by process
+abbrev pub AreCourses : (ℕ → Course) → List Item → Type 0
+AreCourses course log = (pid : ℕ) → course pid ≡ course_by pid first_course log

@@ -9,8 +9,8 @@ use Rattle.sweep_faults.specs.declared.deep.Deep.{Deep}
 use Rattle.sweep_faults.specs.Faults.{after_failing, after_fault, ends_at, is_at}
 use Rattle.sweep_faults.specs.Runs.{RunsFaulted}
 
--- A turn of the process: what happens to the second call, where the process stands at it, and otherwise the turn of a run
--- in which the first fails alone
+-- A turn of the process: what happens to the second call, where the process stands at it, and otherwise the turn of a
+-- run in which the first fails alone
 abbrev pub after_deep : Deep → Run → ℕ → Run
 after_deep d k pid = cond (is_at d.second k pid) (after_failing d.second.kind k pid) (after_fault d.first k pid)
 

@@ -1,7 +1,8 @@
--- A failure of one process at its nth entry into a call. The call has an error for its result, and isn't done; or it is
--- done, and has the error for its result then; or it is done with another count; or its process is killed there; or
+-- A failure of one process at its nth entry into a call. The call has an error for its result, and isn't done; or it
+-- is done, and has the error for its result then; or it is done with another count; or its process is killed there; or
 -- everything ends there, as where the power fails; or a world begins there, in which calls of every process fail.
-use Rattle.std.specs.Prelude.{ℕ, pos, neg_ℤ, ◌==◌, ◌&&◌, ◌||◌, Bool, true, false, cond, List, [], ◌∷◌, Option, Some, None, nat_le, set}
+use Rattle.std.specs.Prelude.{ℕ, pos, neg_ℤ, ◌==◌, ◌&&◌, ◌||◌, Bool, true, false, cond, List, [], ◌∷◌, nat_le, set}
+use Rattle.std.specs.Prelude.{Option, Some, None}
 use Rattle.lx_abi.specs.declared.errno.Errno.{Errno}
 use Rattle.lx_abi.specs.declared.log.Item.{Item}
 use Rattle.lx_abi.specs.declared.log.Item.TheVariants as items
@@ -179,8 +180,9 @@ is_at f k pid =
 abbrev pub ends_at : Fault → Run → ℕ → Bool
 ends_at f k pid = is_stop f.kind && is_at f k pid
 
--- the call has the error for its result, whatever the script does to it; or has it now that it is done; or is done with
--- another count; or its process is killed; or nothing is done any more; or the call has the world's error, if it has one
+-- the call has the error for its result, whatever the script does to it; or has it now that it is done; or is done
+-- with another count; or its process is killed; or nothing is done any more; or the call has the world's error, if it
+-- has one
 abbrev pub after_failing : Kind → Run → ℕ → Run
 after_failing (kind.Undone error) k pid = after_choosing k pid (failing error)
 after_failing (kind.Done error) k pid = after_turn (reporting k pid error) pid

@@ -1,4 +1,5 @@
--- A kernel that its schedule's own turns lead to where a call is entered. A run in which that call fails goes on there.
+-- A kernel that its schedule's own turns lead to where a call is entered. A run in which that call fails goes on
+-- there.
 use Rattle.std.specs.Prelude.{◌≡◌, ◌<◌, ◌+◌, ◌-◌, ◌++◌, ℕ, false, cond, List, Option, Some, None}
 use Rattle.lx_abi.specs.declared.log.Item.{Item}
 use Rattle.lx_abi.specs.Log.{entries, is_entry}
@@ -55,7 +56,8 @@ unfoldable pub left_of : Place → ℕ → Option Item → ℕ
 left_of place left None = left
 left_of place left (Some item) = cond (is_entry place.pid place.call item) (left - 1) left
 
--- The place hadn't come by what was logged before the last turn; this holds for each failure that hadn't begun by that.
+-- The place hadn't come by what was logged before the last turn; this holds for each failure that hadn't begun by
+-- that.
 pub record Before (place : Place) (log : List Item) (P : Fault → Type 0) : Type 0 where
   pub past : List Item
   pub last : List Item

@@ -4,6 +4,7 @@ pub mod Runs
 pub mod InRows
 pub mod Entries
 pub mod Courses
+pub mod Processes
 pub mod Heard
 pub mod Led
 pub mod Deep

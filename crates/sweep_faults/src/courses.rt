@@ -1,12 +1,9 @@
-//! What each process has done last, and asked for last.
+//! What a process has done last, and asked for last.
 
-ghost use Rattle.std.specs.Prelude.{◌≡◌, ◌++◌, ◌∷◌, [], List, OnOk};
-ghost use Rattle.lx_abi.specs.declared.log.Item.{Item as LogItem};
-ghost use Rattle.sweep_faults.specs.Courses.{course_in, first_course, is_done, with_end, with_entry, AreCourses};
+ghost use Rattle.std.specs.Prelude.{◌≡◌};
+ghost use Rattle.sweep_faults.specs.Courses.{is_done, with_end, with_entry};
 
-use containers::Map;
-use lx_abi::{Call, Item};
-use std::alloc::{AllocError, Global};
+use lx_abi::Call;
 
 /// The place of a count among the arguments of read and write.
 const A2_ARGUMENT: usize = 2;
@@ -20,19 +17,14 @@ pub struct Course {
     pub asked: u64,
 }
 
-/// What each process has.
-#[derive(Drop)]
-pub struct Courses {
-    of: Map<Course>,
-}
-
-const FIRST: Course = Course {
+/// That of a process that has entered no call.
+pub(crate) const FIRST_COURSE: Course = Course {
     done: None,
     asked: 0,
 };
 
 impl Course {
-    fn entered(self, call: &Call) -> Course
+    pub(crate) fn entered(self, call: &Call) -> Course
         ensures { result ≡ with_entry call.now self }
     {
         Course {
@@ -41,7 +33,7 @@ impl Course {
         }
     }
 
-    fn ended(self, call: &Call) -> Course
+    pub(crate) fn ended(self, call: &Call) -> Course
         ensures { result ≡ with_end call.now self }
     {
         Course {
@@ -58,57 +50,5 @@ impl Course {
             Some(done) => done == number,
             None => false,
         }
-    }
-}
-
-impl Courses {
-    /// Those of processes that have entered no call.
-    pub(crate) fn new(alloc: Global) -> Self
-        ensures { AreCourses result [] }
-    {
-        Courses {
-            of: Map::new(alloc),
-        }
-    }
-
-    /// That of a process.
-    pub(crate) fn of(&self, pid: u32) -> Course
-        ensures { result ≡ course_in self.now pid }
-    {
-        match self.of.get(pid) {
-            Some(course) => *course,
-            None => FIRST,
-        }
-    }
-
-    /// One item more of the log.
-    #[tactic(auto, using(crate::proofs::Coursing::course_same, crate::proofs::Coursing::course_entered, crate::proofs::Coursing::course_ended))]
-    pub(crate) fn add(&mut self, item: &Item) -> Result<(), AllocError>
-        ensures { OnOk result
-            ((past : List LogItem) → AreCourses self.old past → AreCourses self.new (past ++ item.now ∷ [])) }
-    {
-        match item {
-            Item::Enter { pid, call } => {
-                let course = self.of(*pid).entered(call);
-                self.of.insert(*pid, course)?;
-                Ok(())
-            }
-            Item::Done { pid, call, .. } => {
-                let course = self.of(*pid).ended(call);
-                self.of.insert(*pid, course)?;
-                Ok(())
-            }
-            _ => Ok(()),
-        }
-    }
-}
-
-impl Clone for Courses {
-    ghost is_clone = { λ a b. b ≡ a };
-
-    fn clone(&self) -> Result<Self, AllocError> {
-        Ok(Courses {
-            of: self.of.clone()?,
-        })
     }
 }

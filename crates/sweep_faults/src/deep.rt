@@ -35,7 +35,7 @@ fn turn_first(kernel: &mut Kernel, pid: u32, first: Fault, heard: &Heard) -> Res
     ensures logged { IfOk result (λ m. kernel.new.running.log ≡ kernel.old.running.log ++ option_to_list m.item) }
     ensures log { OnErr result (kernel.new.running.log ≡ kernel.old.running.log) }
 {
-    if is_at(heard, kernel, pid, first) {
+    if is_at(heard, kernel, pid, kernel.mode(pid), first) {
         fail(kernel, pid, first.kind, heard.asked(pid), heard.known())
     } else {
         turn(kernel, pid)
@@ -49,7 +49,7 @@ fn turn_either(kernel: &mut Kernel, pid: u32, deep: Deep, heard: &Heard) -> Resu
     ensures logged { IfOk result (λ m. kernel.new.running.log ≡ kernel.old.running.log ++ option_to_list m.item) }
     ensures log { OnErr result (kernel.new.running.log ≡ kernel.old.running.log) }
 {
-    if is_at(heard, kernel, pid, deep.second) {
+    if is_at(heard, kernel, pid, kernel.mode(pid), deep.second) {
         fail(
             kernel,
             pid,
@@ -115,8 +115,8 @@ fn next_turn(kernel: &Kernel, schedule: &mut Schedule, deep: Deep, heard: &Heard
     Some(pid)
 }
 
-/// Makes the turns that a schedule gives, up to its end, or to where everything ends, where two calls fail; the watcher
-/// is told of each, and what is logged is heard.
+/// Makes the turns that a schedule gives, up to its end, or to where everything ends, where two calls fail; the
+/// watcher is told of each, and what is logged is heard.
 pub fn run_deep<W: Watch>(
     kernel: &mut Kernel,
     schedule: &mut Schedule,

@@ -28,6 +28,7 @@ fn is_ended(mode: Option<Mode>) -> bool
 }
 
 /// The registers of a process ask for the call.
+#[inline(always)]
 fn asks_for(kernel: &Kernel, pid: u32, call: u64) -> bool
     ensures { result ≡ asks_for call (regs_of (task_in kernel.now pid)) }
 {
@@ -37,31 +38,46 @@ fn asks_for(kernel: &Kernel, pid: u32, call: u64) -> bool
     }
 }
 
-/// A process that has entered a call asks for this one.
-fn has_entered(kernel: &Kernel, pid: u32, call: u64) -> bool
+/// A process that stands so has entered this call.
+#[inline(always)]
+fn has_entered(kernel: &Kernel, pid: u32, mode: Option<Mode>, call: u64) -> bool
+    requires { mode ≡ mode_in kernel.now pid }
     ensures { result ≡ has_entered call kernel.now pid }
 {
-    is_entered(kernel.mode(pid)) && asks_for(kernel, pid, call)
+    is_entered(mode) && asks_for(kernel, pid, call)
 }
 
-/// A process that has done a call has done this one.
-fn has_ended(heard: &Heard, kernel: &Kernel, pid: u32, call: u64) -> bool
-    requires { Hears heard.now kernel.now.running.log }
+/// A process that stands so has done this call.
+#[inline(always)]
+fn has_ended(heard: &Heard, kernel: &Kernel, pid: u32, mode: Option<Mode>, call: u64) -> bool
+    requires stands { mode ≡ mode_in kernel.now pid }
+    requires heard { Hears heard.now kernel.now.running.log }
     ensures { result ≡ (is_ended (mode_in kernel.now pid) && was_last pid call false kernel.now.running.log) }
 {
-    is_ended(kernel.mode(pid)) && heard.was_last(pid, call)
+    is_ended(mode) && heard.was_last(pid, call)
 }
 
-/// The process stands where a call fails so.
-fn is_due(heard: &Heard, kernel: &Kernel, pid: u32, kind: Kind, call: u64) -> bool
-    requires { Hears heard.now kernel.now.running.log }
+/// The process, which stands so, stands where a call fails in this way.
+#[inline(always)]
+fn is_due(
+    heard: &Heard,
+    kernel: &Kernel,
+    pid: u32,
+    mode: Option<Mode>,
+    kind: Kind,
+    call: u64,
+) -> bool
+    requires stands { mode ≡ mode_in kernel.now pid }
+    requires heard { Hears heard.now kernel.now.running.log }
     ensures { result ≡ is_due kind call kernel.now pid }
 {
     match kind {
-        Kind::Undone(_) | Kind::Killed | Kind::Stop => has_entered(kernel, pid, call),
-        Kind::Done(_) => has_ended(heard, kernel, pid, call),
-        Kind::Short(_) => has_entered(kernel, pid, call) || has_ended(heard, kernel, pid, call),
-        Kind::World(_) => is_entered(kernel.mode(pid)),
+        Kind::Undone(_) | Kind::Killed | Kind::Stop => has_entered(kernel, pid, mode, call),
+        Kind::Done(_) => has_ended(heard, kernel, pid, mode, call),
+        Kind::Short(_) => {
+            has_entered(kernel, pid, mode, call) || has_ended(heard, kernel, pid, mode, call)
+        }
+        Kind::World(_) => is_entered(mode),
     }
 }
 
@@ -81,25 +97,34 @@ fn has_come(heard: &Heard, kernel: &Kernel, fault: Fault) -> bool
     heard.entries(fault.pid, fault.call) == fault.n
 }
 
-/// The process stands where its call fails.
+/// The process, which stands so, stands where its call fails. Entries are looked up last.
+#[inline(always)]
 #[tactic(auto, unfolding(crate::specs::Faults::is_at))]
-pub(crate) fn is_at(heard: &Heard, kernel: &Kernel, pid: u32, fault: Fault) -> bool
-    requires { Hears heard.now kernel.now.running.log }
+pub(crate) fn is_at(
+    heard: &Heard,
+    kernel: &Kernel,
+    pid: u32,
+    mode: Option<Mode>,
+    fault: Fault,
+) -> bool
+    requires stands { mode ≡ mode_in kernel.now pid }
+    requires heard { Hears heard.now kernel.now.running.log }
     ensures { result ≡ is_at fault kernel.now pid }
 {
     if fault.kind.is_world() {
-        has_begun(heard, kernel, fault) && is_due(heard, kernel, pid, fault.kind, fault.call)
+        is_due(heard, kernel, pid, mode, fault.kind, fault.call) && has_begun(heard, kernel, fault)
     } else {
         pid == fault.pid
+            && is_due(heard, kernel, pid, mode, fault.kind, fault.call)
             && has_come(heard, kernel, fault)
-            && is_due(heard, kernel, pid, fault.kind, fault.call)
     }
 }
 
 /// Everything ends where the process stands.
+#[inline(always)]
 pub(crate) fn ends_at(heard: &Heard, kernel: &Kernel, pid: u32, fault: Fault) -> bool
     requires { Hears heard.now kernel.now.running.log }
     ensures { result ≡ ends_at fault kernel.now pid }
 {
-    fault.kind.is_stop() && is_at(heard, kernel, pid, fault)
+    fault.kind.is_stop() && is_at(heard, kernel, pid, kernel.mode(pid), fault)
 }

@@ -13,23 +13,22 @@ ghost use Rattle.sweep_faults.specs.Heard.{Hears, HearsBeside};
 ghost use Rattle.sweep_faults.specs.Led.{entered};
 ghost use Rattle.sweep_faults.specs.Words.{AreFewer};
 
-use crate::courses::Courses;
 use crate::entries::Entries;
 use crate::faults::{Fault, Place};
+use crate::processes::Processes;
 use history::History;
 use lx_abi::{Ended, Item};
 use std::alloc::{AllocError, Global};
-use sweep_rows::{Calls, Known, Likenesses, RunLog, Said, Streams};
+use sweep_rows::{Calls, Known, RunLog, Said, Streams};
 
 /// What a run has told so far, whichever failure it has.
 #[derive(Drop)]
 pub struct Heard {
     log: History<Item>,
     entries: Entries,
-    courses: Courses,
+    processes: Processes,
     known: Known,
     said: Said,
-    likenesses: Likenesses,
 }
 
 impl Heard {
@@ -40,27 +39,27 @@ impl Heard {
         Heard {
             log: History::new(),
             entries: Entries::new(alloc),
-            courses: Courses::new(alloc),
+            processes: Processes::new(alloc),
             known: Known::new(alloc),
             said: Said::new(alloc),
-            likenesses: Likenesses::new(alloc),
         }
     }
 
+    #[inline(always)]
     fn hear_item(&mut self, item: &Item, calls: &Calls) -> Result<(), AllocError>
         ensures { OnOk result ((log : List LogItem) → HearsBeside calls.now self.old log
             → HearsBeside calls.now self.new (log ++ item.now ∷ [])) }
     {
         self.entries.add(item)?;
-        self.courses.add(item)?;
+        self.processes.add(calls, item)?;
         self.said.add(&self.known, item)?;
         self.known.add(item)?;
-        self.likenesses.add(calls, item)?;
         self.log = self.log.and(item);
         Ok(())
     }
 
     /// A turn has logged this, beside a reference that made these calls.
+    #[inline(always)]
     #[tactic(auto, using(crate::proofs::Hearing::still_heard))]
     pub(crate) fn hear(&mut self, item: &Option<Item>, calls: &Calls) -> Result<(), AllocError>
         ensures { OnOk result ((log : List LogItem) → HearsBeside calls.now self.old log
@@ -90,14 +89,14 @@ impl Heard {
     pub(crate) fn was_last(&self, pid: u32, call: u64) -> bool
         ensures { (log : List LogItem) → Hears self.now log → result ≡ was_last pid call false log }
     {
-        self.courses.of(pid).is_done(call)
+        self.processes.course(pid).is_done(call)
     }
 
     /// The count that a process's last entry into a call asks for.
     pub(crate) fn asked(&self, pid: u32) -> u64
         ensures { (log : List LogItem) → Hears self.now log → result ≡ last_asked pid 0 log }
     {
-        self.courses.of(pid).asked
+        self.processes.course(pid).asked
     }
 
     pub(crate) fn known(&self) -> &Known
@@ -133,7 +132,7 @@ impl Heard {
         ensures { (reference log : List LogItem) → AreCalls calls.now reference → HearsBeside calls.now self.now log
             → result ≡ same_calls reference log ended.now }
     {
-        self.likenesses.are_whole(calls, ended)
+        self.processes.are_whole(calls, ended)
     }
 }
 
@@ -143,16 +142,16 @@ impl Clone for Heard {
     ghost use Rattle.sweep_rows.specs.declared.calls.Calls.{Calls as CallsMade};
     ghost use Rattle.sweep_faults.specs.Heard.{HearsBeside};
 
-    ghost is_clone = { λ a b. (calls : CallsMade) (log : List LogItem) → HearsBeside calls a log → HearsBeside calls b log };
+    ghost is_clone = { λ a b. (calls : CallsMade) (log : List LogItem)
+        → HearsBeside calls a log → HearsBeside calls b log };
 
     fn clone(&self) -> Result<Self, AllocError> {
         Ok(Heard {
             log: self.log.again(),
             entries: self.entries.clone()?,
-            courses: self.courses.clone()?,
+            processes: self.processes.clone()?,
             known: self.known.clone()?,
             said: self.said.clone()?,
-            likenesses: self.likenesses.clone()?,
         })
     }
 }

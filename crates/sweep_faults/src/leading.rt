@@ -83,14 +83,15 @@ fn turn_row(
     let mut made = 0;
     'row: loop {
         let most = (more - made).saturating_add(1);
-        let moved = match go_on(kernel, pid, most) {
+        let mut item = None;
+        let moved = match go_on(kernel, pid, most, &mut item) {
             Ok(moved) => moved,
             Err(failed) => return Err(failed),
         };
-        if let Err(_) = heard.hear(&moved.item, calls) {
+        if let Err(_) = heard.hear(&item, calls) {
             return Err(Failed);
         }
-        *left = left_after(place, *left, &moved.item);
+        *left = left_after(place, *left, &item);
         let behind = made + (moved.turns - 1);
         if behind >= more {
             return Ok(behind);

@@ -11,6 +11,7 @@ pub mod heard;
 pub mod laws;
 pub mod leading;
 pub mod moving;
+pub mod processes;
 pub mod running;
 pub mod words;
 

@@ -51,9 +51,10 @@ fn turn_row<W: Watch>(
     ensures weary { IfErr result (λ halt. halt ≡ Weary → IsTrue (W.weary watch.new)) }
 {
     let mut made = 0;
+    let mut mode = kernel.mode(pid);
     'row: loop {
         let most = (more - made).min(watch.patience()).saturating_add(1);
-        let moved = match advance(kernel, pid, most, fault, heard, calls, watch) {
+        let moved = match advance(kernel, pid, mode, most, fault, heard, calls, watch) {
             Ok(moved) => moved,
             Err(halt) => return Err(halt),
         };
@@ -66,6 +67,7 @@ fn turn_row<W: Watch>(
             return Ok(behind);
         }
         made = behind + 1;
+        mode = moved.after;
     }
 }
 
@@ -98,6 +100,7 @@ fn turn<W: Watch>(
 }
 
 /// Whose turn comes next: nobody's at the schedule's end, or where everything ends.
+#[inline(always)]
 fn next_turn(kernel: &Kernel, schedule: &mut Schedule, fault: Fault, heard: &Heard) -> Option<u32>
     requires { Hears heard.now kernel.now.running.log }
     ensures next { result ≡ next_pid fault kernel.now schedule.old }

@@ -1,11 +1,7 @@
 -- How a run's calls go beside those of a reference, one item more.
 use Rattle.std.proofs.Common.{◌≡◌, ℕ, suc, ◌<◌, ◌&&◌, Bool, true, false, cond, Some, None, List, [], ◌∷◌, ◌++◌, length, refl, sym, ap, ap₂, ◌∙◌, append-nil, append_assoc, arith}
 use Rattle.std.specs.Prelude.{◌==◌}
-use Rattle.std.specs.Cmp.{nat_cmp_total, unsigned_tied}
-use Rattle.std.specs.FinMap as maps
-use Rattle.std.specs.FinMap.{FinMap}
 use Rattle.std.specs.List.{slice_get}
-use Rattle.std.specs.Ordering.{nat_cmp}
 use Rattle.std.specs.Str.{bytes_eq}
 use Rattle.std.proofs.lemmas.Bool.Decides.{nat_tests}
 use Rattle.lx_abi.specs.declared.log.Call.{Call}
@@ -13,11 +9,10 @@ use Rattle.lx_abi.specs.declared.log.Item.{Item}
 use Rattle.lx_abi.specs.declared.log.Item.TheVariants.{Enter}
 use Rattle.lx_abi.specs.declared.outcome.Ended.{Ended}
 use Rattle.sweep_rows.specs.Calls.{calls_alike, calls_by, calls_in, entered_by, same_calls, AreCalls}
-use Rattle.sweep_rows.specs.Likeness.{are_whole, is_call, is_whole, likeness_by, likeness_in, next_likeness, or_first, GoBeside}
+use Rattle.sweep_rows.specs.Likeness.{are_whole, is_call, is_whole, likeness_by, next_likeness, GoBeside}
 use Rattle.sweep_rows.specs.declared.calls.Calls.{Calls}
 use Rattle.sweep_rows.specs.declared.likeness.Likeness.{Likeness}
 use Rattle.sweep_rows.specs.declared.likeness.Likeness.TheVariants.{Same, Other}
-use Rattle.sweep_rows.specs.declared.likeness.Likenesses.{Likenesses}
 use Rattle.sweep_rows.proofs.Numbers.{made_more, made_still}
 
 -- One call more
@@ -26,32 +21,28 @@ one_more : (expected : List ℕ) (l : Likeness) (calls : List ℕ) (call : ℕ) 
 one_more expected l [] call = refl
 one_more expected l (c ∷ calls) call = one_more expected (next_likeness expected l c) calls call
 
-pub first_beside : (l : Likenesses) → l.of ≡ maps.empty → (calls : Calls) → GoBeside calls l []
+pub first_beside : (likeness : ℕ → Likeness) → ((p : ℕ) → likeness p ≡ Same 0) → (calls : Calls) → GoBeside calls likeness []
 unfolding calls_by
-first_beside l none calls pid = ap (λ m. or_first (maps.get m pid)) none ∙ ap or_first (maps.get-empty nat_cmp pid)
+first_beside likeness none calls pid = none pid
 
-pub still_beside : (item : Item) → ((p : ℕ) → entered_by p item ≡ []) → (calls : Calls) (l : Likenesses) (past : List Item) → GoBeside calls l past → GoBeside calls l (past ++ item ∷ [])
-still_beside item other calls l past h pid = h pid ∙ ap (likeness_by (calls_in calls pid) (Same 0)) (made_still item other past pid)
+pub still_beside : (item : Item) → ((p : ℕ) → entered_by p item ≡ []) → (calls : Calls) (old new : ℕ → Likeness) → ((p : ℕ) → new p ≡ old p) → (past : List Item) → GoBeside calls old past → GoBeside calls new (past ++ item ∷ [])
+still_beside item other calls old new same past h pid = same pid ∙ h pid ∙ ap (likeness_by (calls_in calls pid) (Same 0)) (made_still item other past pid)
 
-got_insert : (m : FinMap nat_cmp Likeness) (k : ℕ) (v : Likeness) (q : ℕ) → maps.get (maps.insert m k v) q ≡ cond (q == k) (Some v) (maps.get m q)
-got_insert m k v q = maps.get-insert nat_cmp_total m k v q ∙ ap (λ b. cond b (Some v) (maps.get m q)) (unsigned_tied q k)
-
-module _ (calls : Calls) (old new : Likenesses) (pid : ℕ) (call : Call) (next : Likeness)
-    (is : next ≡ next_likeness (calls_in calls pid) (likeness_in old pid) call.number) (put : new.of ≡ maps.insert old.of pid next)
+module _ (calls : Calls) (old new : ℕ → Likeness) (pid : ℕ) (call : Call) (next : Likeness)
+    (is : next ≡ next_likeness (calls_in calls pid) (old pid) call.number) (put : (p : ℕ) → new p ≡ cond (p == pid) next (old p))
     (past : List Item) (h : GoBeside calls old past) where
   made : (p : ℕ) → likeness_by (calls_in calls p) (Same 0) (calls_by p (past ++ Enter pid call ∷ []))
       ≡ likeness_by (calls_in calls p) (Same 0) (calls_by p past ++ cond (pid == p) (call.number ∷ []) [])
   made p = ap (likeness_by (calls_in calls p) (Same 0)) (made_more p past (Enter pid call))
 
   pub beside_more : GoBeside calls new (past ++ Enter pid call ∷ [])
-  beside_more p =
-      ap (λ m. or_first (maps.get m p)) put ∙ ap or_first (got_insert old.of pid next p) ∙ of (p == pid) (pid == p) refl refl ∙ sym (made p)
+  beside_more p = put p ∙ of (p == pid) (pid == p) refl refl ∙ sym (made p)
     where
       of : (a b : Bool) → (p == pid) ≡ a → (pid == p) ≡ b →
-          or_first (cond a (Some next) (maps.get old.of p)) ≡ likeness_by (calls_in calls p) (Same 0) (calls_by p past ++ cond b (call.number ∷ []) [])
+          cond a next (old p) ≡ likeness_by (calls_in calls p) (Same 0) (calls_by p past ++ cond b (call.number ∷ []) [])
       of true true e f =
           let same : pid ≡ p = grind (arith, nat_tests, e) in
-          is ∙ ap (λ q. next_likeness (calls_in calls q) (likeness_in old q) call.number) same
+          is ∙ ap (λ q. next_likeness (calls_in calls q) (old q) call.number) same
           ∙ ap (λ l. next_likeness (calls_in calls p) l call.number) (h p)
           ∙ sym (one_more (calls_in calls p) (Same 0) (calls_by p past) call.number)
       of false false e f = h p ∙ ap (likeness_by (calls_in calls p) (Same 0)) (sym (append-nil (calls_by p past)))
@@ -112,13 +103,13 @@ whole_behind done (r ∷ rest) (c ∷ made) =
     of true next =
         ap₂ (λ xs n. is_whole xs (likeness_by xs (Same n) made)) (sym (append_assoc done (r ∷ []) rest)) (longer done r) ∙ next
 
-module _ (calls : Calls) (l : Likenesses) (reference log : List Item) (g : AreCalls calls reference) (h : GoBeside calls l log) where
-  whole_is : (pid : ℕ) → is_whole (calls_in calls pid) (likeness_in l pid) ≡ bytes_eq (calls_by pid reference) (calls_by pid log)
+module _ (calls : Calls) (likeness : ℕ → Likeness) (reference log : List Item) (g : AreCalls calls reference) (h : GoBeside calls likeness log) where
+  whole_is : (pid : ℕ) → is_whole (calls_in calls pid) (likeness pid) ≡ bytes_eq (calls_by pid reference) (calls_by pid log)
   whole_is pid =
       ap (is_whole (calls_in calls pid)) (h pid) ∙ whole_behind [] (calls_in calls pid) (calls_by pid log)
       ∙ ap (λ x. bytes_eq x (calls_by pid log)) (g pid)
 
-  pub whole_are : (ended : List Ended) → are_whole calls l ended ≡ same_calls reference log ended
+  pub whole_are : (ended : List Ended) → are_whole calls likeness ended ≡ same_calls reference log ended
   unfolding are_whole same_calls calls_alike
   whole_are [] = refl
   whole_are (e ∷ ended) = ap₂ (λ a b. a && b) (whole_is e.pid) (whole_are ended)

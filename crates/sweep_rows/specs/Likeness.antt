@@ -1,6 +1,5 @@
 -- How a run's calls go beside those of a reference.
 use Rattle.std.specs.Prelude.{◌≡◌, ℕ, suc, ◌==◌, Bool, false, cond, List, [], ◌∷◌, length, Option, Some, None}
-use Rattle.std.specs.FinMap as maps
 use Rattle.std.specs.List.{list_all, slice_get}
 use Rattle.lx_abi.specs.declared.log.Item.{Item}
 use Rattle.lx_abi.specs.declared.outcome.Ended.{Ended}
@@ -8,7 +7,6 @@ use Rattle.sweep_rows.specs.Calls.{calls_by, calls_in}
 use Rattle.sweep_rows.specs.declared.calls.Calls.{Calls}
 use Rattle.sweep_rows.specs.declared.likeness.Likeness.{Likeness}
 use Rattle.sweep_rows.specs.declared.likeness.Likeness.TheVariants.{Same, Other}
-use Rattle.sweep_rows.specs.declared.likeness.Likenesses.{Likenesses}
 
 abbrev pub is_call : Option ℕ → ℕ → Bool
 is_call None call = false
@@ -29,20 +27,10 @@ abbrev pub is_whole : List ℕ → Likeness → Bool
 is_whole expected (Same n) = n == length expected
 is_whole expected Other = false
 
--- How they are kept: that of each process that has made a call
-
-abbrev pub or_first : Option Likeness → Likeness
-or_first None = Same 0
-or_first (Some likeness) = likeness
-
-abbrev pub likeness_in : Likenesses → ℕ → Likeness
-likeness_in l pid = or_first (maps.get l.of pid)
-
--- those of this log's calls
-abbrev pub GoBeside : Calls → Likenesses → List Item → Type 0
-GoBeside calls l log =
-    (pid : ℕ) → likeness_in l pid ≡ likeness_by (calls_in calls pid) (Same 0) (calls_by pid log)
+-- those of this log's calls are these, by process
+abbrev pub GoBeside : Calls → (ℕ → Likeness) → List Item → Type 0
+GoBeside calls likeness log = (pid : ℕ) → likeness pid ≡ likeness_by (calls_in calls pid) (Same 0) (calls_by pid log)
 
 -- each of these processes has made all calls of the reference's, and no other
-unfoldable pub are_whole : Calls → Likenesses → List Ended → Bool
-are_whole calls l ended = list_all (λ e. is_whole (calls_in calls e.pid) (likeness_in l e.pid)) ended
+unfoldable pub are_whole : Calls → (ℕ → Likeness) → List Ended → Bool
+are_whole calls likeness ended = list_all (λ e. is_whole (calls_in calls e.pid) (likeness e.pid)) ended

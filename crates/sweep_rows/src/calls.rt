@@ -5,15 +5,16 @@ ghost use Rattle.std.specs.FinMap as maps;
 ghost use Rattle.lx_abi.specs.declared.log.Item.{Item as LogItem};
 ghost use Rattle.sweep_rows.specs.Calls.{calls_in, numbers_in, AreCalls};
 
-use containers::{Map, Seq};
+use containers::Seq;
 use lx_abi::Item;
+use shelves::Shelf;
 use std::alloc::{AllocError, Global};
 
 /// The numbers of each process's calls, in their order.
 #[derive(Drop)]
 pub struct Calls {
     alloc: Global,
-    made: Map<Seq<u64>>,
+    made: Shelf<Seq<u64>>,
 }
 
 impl Calls {
@@ -23,7 +24,7 @@ impl Calls {
     {
         Calls {
             alloc,
-            made: Map::new(alloc),
+            made: Shelf::new(alloc),
         }
     }
 

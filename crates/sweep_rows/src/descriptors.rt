@@ -250,6 +250,7 @@ impl Descriptors {
     }
 
     /// A call of a process was done, and has given this word.
+    #[inline(always)]
     #[tactic(auto, unfolding(crate::specs::Descriptors::after_call))]
     fn add_call(&mut self, pid: u32, call: &Call, word: u64) -> Result<(), AllocError>
         ensures uses { OnOk result (uses_in self.new
@@ -281,6 +282,7 @@ impl Descriptors {
     }
 
     /// One item more, wherever it stands.
+    #[inline(always)]
     #[tactic(auto, unfolding(crate::specs::Descriptors::after_item))]
     fn add_item(&mut self, item: &Item) -> Result<(), AllocError>
         ensures uses { OnOk result (uses_in self.new ≡ after_item self.old.at item.now (uses_in self.old)) }
@@ -302,6 +304,7 @@ impl Descriptors {
     }
 
     /// One item more of the log.
+    #[inline(always)]
     pub fn add(&mut self, item: &Item) -> Result<(), AllocError>
         ensures uses { OnOk result (uses_in self.new ≡ after_item self.old.at item.now (uses_in self.old)) }
         ensures at { OnOk result (self.new.at ≡ suc self.old.at) }

@@ -34,6 +34,7 @@ pub struct Known {
 }
 
 /// A process has set what SIGPIPE does, or another signal.
+#[inline(always)]
 #[tactic(auto, unfolding(crate::specs::Known::sets_action))]
 fn sets_action(item: &Item, pipe: bool) -> bool
     ensures { result ≡ sets_action pipe item.now }
@@ -56,10 +57,13 @@ fn sets_action(item: &Item, pipe: bool) -> bool
 }
 
 /// A process has, or had before.
-fn or_sets(before: bool, item: &Item, pipe: bool) -> bool
-    ensures { result ≡ (before || sets_action pipe item.now) }
+#[inline(always)]
+fn note_action(has_set: &mut bool, item: &Item, pipe: bool)
+    ensures { has_set.new ≡ (has_set.old || sets_action pipe item.now) }
 {
-    before || sets_action(item, pipe)
+    if sets_action(item, pipe) {
+        *has_set = true;
+    }
 }
 
 impl Known {
@@ -95,13 +99,14 @@ impl Known {
     }
 
     /// One item more of the log.
+    #[inline(always)]
     pub fn add(&mut self, item: &Item) -> Result<(), AllocError>
         ensures { OnOk result
             ((past : List LogItem) → IsKnown past self.old → IsKnown (past ++ item.now ∷ []) self.new) }
     {
         self.descriptors.add(item)?;
-        self.piped = or_sets(self.piped, item, true);
-        self.handled = or_sets(self.handled, item, false);
+        note_action(&mut self.piped, item, true);
+        note_action(&mut self.handled, item, false);
         Ok(())
     }
 }

@@ -26,7 +26,7 @@ pub use entries::occurrences;
 pub use failures::{Failure, failing};
 pub use files::{FileNote, Word, file_notes};
 pub use known::{Known, Occurrence};
-pub use likeness::Likenesses;
+pub use likeness::Likeness;
 pub use possible::{possible_errors, tells_of_loss};
 pub use run_log::RunLog;
 pub use said::Said;

@@ -1,16 +1,12 @@
-//! How a run's calls go beside those of a reference.
+//! How a process's calls go beside those of a reference.
 
-ghost use Rattle.std.specs.Prelude.{◌≡◌, ◌++◌, ◌∷◌, [], List, suc, cond, IfOk, OnOk};
-ghost use Rattle.lx_abi.specs.declared.log.Item.{Item as LogItem};
+ghost use Rattle.std.specs.Prelude.{◌≡◌, suc, cond, IfOk};
 ghost use Rattle.sweep_rows.specs.Calls.{calls_in};
-ghost use Rattle.sweep_rows.specs.Likeness.{are_whole, is_whole, likeness_in, next_likeness, GoBeside};
-ghost use Rattle.sweep_rows.specs.declared.calls.Calls.{Calls as CallsMade};
+ghost use Rattle.sweep_rows.specs.Likeness.{is_whole, next_likeness};
 ghost use Rattle.sweep_rows.specs.declared.likeness.Likeness.TheVariants.{Same, Other};
 
 use crate::calls::Calls;
-use containers::Map;
-use lx_abi::{Ended, Item};
-use std::alloc::{AllocError, Global};
+use std::alloc::AllocError;
 
 /// How a process's calls go beside those of a reference.
 #[derive(Clone, Copy, Debug, PartialEq, Eq)]
@@ -19,12 +15,6 @@ pub enum Likeness {
     Same(usize),
     /// It has made another.
     Other,
-}
-
-/// How the calls of each process go beside those of a reference.
-#[derive(Drop)]
-pub struct Likenesses {
-    of: Map<Likeness>,
 }
 
 /// After a call more behind so many, which is that of the reference or isn't.
@@ -54,71 +44,21 @@ fn next_likeness(expected: &[u64], likeness: Likeness, call: u64) -> Result<Like
     }
 }
 
-impl Likenesses {
-    /// Those of a run that begins.
-    pub fn new(alloc: Global) -> Self
-        ensures { (calls : CallsMade) → GoBeside calls result [] }
+impl Likeness {
+    /// After a call more of a process.
+    pub fn next(self, calls: &Calls, pid: u32, call: u64) -> Result<Self, AllocError>
+        ensures { IfOk result (λ next. next ≡ next_likeness (calls_in calls.now pid) self call) }
     {
-        Likenesses {
-            of: Map::new(alloc),
-        }
-    }
-
-    fn by(&self, pid: u32) -> Likeness
-        ensures { result ≡ likeness_in self.now pid }
-    {
-        match self.of.get(pid) {
-            Some(likeness) => *likeness,
-            None => Likeness::Same(0),
-        }
-    }
-
-    /// One item more of the log, beside the calls of the reference.
-    #[tactic(auto, using(crate::proofs::Likening::still_beside))]
-    pub fn add(&mut self, calls: &Calls, item: &Item) -> Result<(), AllocError>
-        ensures { OnOk result ((past : List LogItem)
-            → GoBeside calls.now self.old past → GoBeside calls.now self.new (past ++ item.now ∷ [])) }
-    {
-        let Item::Enter { pid, call } = item else {
-            return Ok(());
-        };
-        let next = next_likeness(calls.by(*pid), self.by(*pid), call.number)?;
-        self.of.insert(*pid, next)?;
-        Ok(())
+        next_likeness(calls.by(pid), self, call)
     }
 
     /// The process has made all calls of the reference's, and no other.
-    fn is_whole(&self, calls: &Calls, pid: u32) -> bool
-        ensures { result ≡ is_whole (calls_in calls.now pid) (likeness_in self.now pid) }
+    pub fn is_whole(self, calls: &Calls, pid: u32) -> bool
+        ensures { result ≡ is_whole (calls_in calls.now pid) self }
     {
-        match self.by(pid) {
+        match self {
             Likeness::Same(made) => made == calls.by(pid).len(),
             Likeness::Other => false,
         }
-    }
-
-    /// Each of these processes has.
-    #[tactic(auto, unfolding(crate::specs::Likeness::are_whole))]
-    pub fn are_whole(&self, calls: &Calls, ended: &[Ended]) -> bool
-        ensures { result ≡ are_whole calls.now self.now ended.now }
-    {
-        let mut left = ended;
-        while let Some((one, rest)) = left.split_first() {
-            if !self.is_whole(calls, one.pid) {
-                return false;
-            }
-            left = rest;
-        }
-        true
-    }
-}
-
-impl Clone for Likenesses {
-    ghost is_clone = { λ a b. b ≡ a };
-
-    fn clone(&self) -> Result<Self, AllocError> {
-        Ok(Likenesses {
-            of: self.of.clone()?,
-        })
     }
 }

@@ -55,13 +55,12 @@ impl Said {
         Ok(())
     }
 
+    /// A piece that has bytes. Apart, since few items have any.
+    #[inline(never)]
     fn push(&mut self, piece: Piece) -> Result<(), AllocError>
         ensures { OnOk result ((p : Parting) → by_pieces self.new.pieces.items p
             ≡ with_said piece (by_pieces self.old.pieces.items p)) }
     {
-        if piece.length == 0 {
-            return Ok(());
-        }
         match self.pieces.pop() {
             Some(last) => self.add_behind(last, piece)?,
             None => self.pieces.push(piece)?,
@@ -69,12 +68,25 @@ impl Said {
         Ok(())
     }
 
+    #[inline(always)]
+    fn say(&mut self, piece: Piece) -> Result<(), AllocError>
+        ensures { OnOk result ((p : Parting) → by_pieces self.new.pieces.items p
+            ≡ with_said piece (by_pieces self.old.pieces.items p)) }
+    {
+        if piece.length == 0 {
+            return Ok(());
+        }
+        self.push(piece)?;
+        Ok(())
+    }
+
     /// One item more of a log that tells this.
+    #[inline(always)]
     pub fn add(&mut self, known: &Known, item: &Item) -> Result<(), AllocError>
         ensures { OnOk result ((past : List LogItem) → IsKnown past known.now
             → Says self.old.pieces.items past → Says self.new.pieces.items (past ++ item.now ∷ [])) }
     {
-        self.push(piece_of(&known.descriptors, item))?;
+        self.say(piece_of(&known.descriptors, item))?;
         Ok(())
     }
 

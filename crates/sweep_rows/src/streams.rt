@@ -46,6 +46,7 @@ fn piece_to(target: Target, number: u32, length: u64) -> Piece
 }
 
 /// What an item has written, where descriptors stand for this.
+#[inline(always)]
 #[tactic(auto, unfolding(crate::specs::Streams::piece_of))]
 pub(crate) fn piece_of(descriptors: &Descriptors, item: &Item) -> Piece
     ensures { result ≡ piece_of (uses_in descriptors.now) item.now }

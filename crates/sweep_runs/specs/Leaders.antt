@@ -1,5 +1,5 @@
--- A kernel that is led from place to place: where it stands, each run in which a call fails there goes on, as does each
--- in which one fails later.
+-- A kernel that is led from place to place: where it stands, each run in which a call fails there goes on, as does
+-- each in which one fails later.
 use Rattle.std.specs.Prelude.{◌≡◌, ◌↔◌, IsTrue, [], Some, None}
 use Rattle.lx_kernel.specs.First.{first_run_without_log}
 use Rattle.lx_kernel.specs.Runs.{Run}

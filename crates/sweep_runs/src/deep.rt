@@ -115,8 +115,8 @@ fn run_deep_on(
     }
 }
 
-/// The kernel at the end of the run in which both calls fail, of a boot that is accepted, and what was heard of it beside
-/// a reference that made these calls.
+/// The kernel at the end of the run in which both calls fail, of a boot that is accepted, and what was heard of it
+/// beside a reference that made these calls.
 fn run_both(
     alloc: Global,
     setup: &Setup,

@@ -181,7 +181,8 @@ impl Leader {
         Ok((end, heard))
     }
 
-    /// What the run came to in which this call of this process fails, of a boot that is accepted, beside the reference.
+    /// What the run came to in which this call of this process fails, of a boot that is accepted, beside the
+    /// reference.
     pub fn reach_failing(
         &mut self,
         alloc: Global,

@@ -126,8 +126,8 @@ pub(crate) fn run_on(
     }
 }
 
-/// The kernel at the end of the run in which this call of this process fails, of a boot that is accepted. Its log isn't
-/// kept.
+/// The kernel at the end of the run in which this call of this process fails, of a boot that is accepted. Its log
+/// isn't kept.
 pub fn run_failing(alloc: Global, setup: &Setup, fault: Fault) -> Result<Kernel, AllocError>
     ensures { IfOk result (FaultComesTo setup.now fault) }
 {

@@ -276,8 +276,8 @@ fn rows<P: Progress>(
     Ok(rows)
 }
 
-/// Makes the run without a failure, and then one for each occurrence in its log of a call that is wanted and each error
-/// that is wanted of it. The fault is the boot's, or Memory where memory runs out, in a run too.
+/// Makes the run without a failure, and then one for each occurrence in its log of a call that is wanted and each
+/// error that is wanted of it. The fault is the boot's, or Memory where memory runs out, in a run too.
 pub fn sweep<P: Progress>(
     alloc: Global,
     setup: &Setup,

@@ -47,7 +47,8 @@ RefusesBeside words fault =
     ⊎ (((texts : List (List ℕ))
     × (AreExpressions words texts
     × ((texts ≢ []) × Says (codes "--runs excludes -e: the file names the runs") fault)))
-    ⊎ (IsSome (value_of words (codes "errors")) × Says (codes "--runs excludes --errors: the file names the runs") fault))
+    ⊎ (IsSome (value_of words (codes "errors"))
+    × Says (codes "--runs excludes --errors: the file names the runs") fault))
 
 -- where one is named: such words, the file, or one of its lines
 abbrev pub RefusesNamed : ArgMatches → Fault → Type 0

@@ -1,5 +1,5 @@
--- The run that --show names: CALL:ERROR:N, of process 1, or CALL@PID:ERROR:N; or with `stop`, `kill`, a world's word or
--- `short=COUNT` in the place of the error; or two failures, the second behind a +.
+-- The run that --show names: CALL:ERROR:N, of process 1, or CALL@PID:ERROR:N; or with `stop`, `kill`, a world's word
+-- or `short=COUNT` in the place of the error; or two failures, the second behind a +.
 use Rattle.std.specs.Prelude.{ℕ, ◌==◌, List, Option, Some, None, if◌then◌else◌, bytes_eq, codes}
 use Rattle.std.specs.Option.{option_and_then}
 use Rattle.std.specs.Result.{result_ok}

@@ -20,7 +20,8 @@ const LAST_OCCURRENCE: u64 = 65_535;
 /// How many events the program that shows a run may need for a turn.
 const EVENTS_OF_A_TURN: u64 = 1000;
 
-/// The expression by which an occurrence fails, if there is one: the call has a name, and `when=` takes the occurrence.
+/// The expression by which an occurrence fails, if there is one: the call has a name, and `when=` takes the
+/// occurrence.
 fn expression(alloc: Global, case: &Case) -> Result<Option<String>, AllocError> {
     let n = case.occurrence.n;
     match call_name(case.occurrence.call.number) {

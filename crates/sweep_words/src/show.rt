@@ -1,5 +1,5 @@
-//! The run that `--show` names: one in which a call has an error, or then one behind it too, or in which something else
-//! happens to it.
+//! The run that `--show` names: one in which a call has an error, or then one behind it too, or in which something
+//! else happens to it.
 
 ghost use Rattle.std.specs.Prelude.{◌≡◌};
 ghost use Rattle.sweep_words.specs.Shown as spec;

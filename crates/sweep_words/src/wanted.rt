@@ -217,8 +217,8 @@ fn read_wanted(alloc: Global, matches: &ArgMatches) -> Result<Vec<Wanted>, Fault
     Ok(wanted)
 }
 
-/// The calls that are to fail: those that a file names, or else what the expressions ask for; none where something else
-/// is tried.
+/// The calls that are to fail: those that a file names, or else what the expressions ask for; none where something
+/// else is tried.
 pub fn read_calls(
     alloc: Global,
     matches: &ArgMatches,

@@ -1,12 +1,12 @@
 //! Bytes between quotes.
 
-ghost use Rattle.std.specs.Prelude.{◌≡◌, ◌++◌, ◌+◌, ◌≤◌, OnOk, length, string_bytes, take};
+ghost use Rattle.std.specs.Prelude.{◌≡◌, ◌++◌, ◌+◌, ◌≤◌, OnOk, codes, length, string_bytes, take};
 ghost use Rattle.tr_values.specs.Escapes as spec;
 ghost use Rattle.tr_values.specs.Sheets.{Leaves};
 
 use crate::buffer::Buffer;
 use crate::sheet::{Needed, Sheet};
-use crate::spellings::spell;
+use crate::spellings::{quote, spell};
 use std::alloc::AllocError;
 
 fn begins_with_digit(bytes: &[u8]) -> bool
@@ -65,16 +65,36 @@ fn push_last(text: &mut String, buffer: &mut Buffer, left: &[u8]) -> Result<(), 
 }
 
 #[tactic(auto, unfolding(crate::specs::Escapes::escaped))]
-pub(crate) fn push_escaped(text: &mut String, bytes: &[u8]) -> Result<(), AllocError>
-    ensures { OnOk result (string_bytes text.new ≡ string_bytes text.old ++ spec.escaped bytes.now) }
+fn push_escaped(text: &mut String, buffer: &mut Buffer, bytes: &[u8]) -> Result<(), AllocError>
+    ensures { OnOk result
+        (string_bytes text.new ++ buffer.new ≡ (string_bytes text.old ++ buffer.old) ++ spec.escaped bytes.now) }
 {
-    let mut buffer = Buffer::new();
     let mut left = bytes;
     while let [byte, next, more @ ..] = left {
-        push_two(text, &mut buffer, *byte, *next, more)?;
+        push_two(text, buffer, *byte, *next, more)?;
         left = more;
     }
-    push_last(text, &mut buffer, left)?;
+    push_last(text, buffer, left)
+}
+
+fn push_quote(text: &mut String, buffer: &mut Buffer) -> Result<(), AllocError>
+    ensures { OnOk result
+        (string_bytes text.new ++ buffer.new ≡ (string_bytes text.old ++ buffer.old) ++ codes "\"") }
+{
+    make_place(text, buffer)?;
+    buffer.add(quote());
+    Ok(())
+}
+
+/// The bytes with their quotes.
+pub(crate) fn push_quoted(text: &mut String, bytes: &[u8]) -> Result<(), AllocError>
+    ensures { OnOk result
+        (string_bytes text.new ≡ string_bytes text.old ++ (codes "\"" ++ (spec.escaped bytes.now ++ codes "\""))) }
+{
+    let mut buffer = Buffer::new();
+    push_quote(text, &mut buffer)?;
+    push_escaped(text, &mut buffer, bytes)?;
+    push_quote(text, &mut buffer)?;
     text.push_str(buffer.as_str())
 }
 
@@ -82,9 +102,7 @@ pub(crate) fn push_escaped(text: &mut String, bytes: &[u8]) -> Result<(), AllocE
 pub fn quoted(sheet: &mut Sheet<'_>, bytes: &[u8]) -> Result<(), Needed>
     ensures { Leaves result sheet.new (spec.quoted bytes.now sheet.old) }
 {
-    sheet.put("\"")?;
-    sheet.escaped(bytes)?;
-    sheet.put("\"")
+    sheet.quoted(bytes)
 }
 
 /// Bytes of which there are more.

@@ -2,11 +2,11 @@
 
 ghost use Rattle.std.specs.Prelude.{◌≡◌, ℕ, List, ◌++◌, [], OnOk, OnErr, IfErr, IfOk, decimal, codes, string_bytes, false, length};
 ghost use Rattle.std.specs.Fmt.{digits};
-ghost use Rattle.tr_values.specs.Escapes.{escaped};
+ghost use Rattle.tr_values.specs.Escapes.{quoted};
 ghost use Rattle.tr_values.specs.Sheets as spec;
 ghost use Rattle.tr_values.specs.declared.sheet.Needed.TheVariants.{Memory};
 
-use crate::escapes::push_escaped;
+use crate::escapes::push_quoted;
 use containers::Bytes;
 use std::alloc::{AllocError, Global};
 use std::marker::Model;
@@ -112,11 +112,11 @@ impl<'a> Sheet<'a> {
         Ok(())
     }
 
-    /// Bytes as they are written between quotes.
-    pub(crate) fn escaped(&mut self, bytes: &[u8]) -> Result<(), Needed>
-        ensures { spec.Leaves result self.new (spec.put (escaped bytes.now) self.old) }
+    #[tactic(auto, unfolding(crate::specs::Escapes::quoted))]
+    pub(crate) fn quoted(&mut self, bytes: &[u8]) -> Result<(), Needed>
+        ensures { spec.Leaves result self.new (quoted bytes.now self.old) }
     {
-        push_escaped(&mut self.text, bytes)?;
+        push_quoted(&mut self.text, bytes)?;
         Ok(())
     }
 

@@ -1,6 +1,6 @@
 //! How bytes are spelled between quotes.
 
-ghost use Rattle.std.specs.Prelude.{[], length, slice_index_or, take, true, false, ◌%◌, ◌+◌, ◌/◌, ◌<◌, ◌≡◌, ◌≤◌, ◌∷◌};
+ghost use Rattle.std.specs.Prelude.{[], codes, length, slice_index_or, take, true, false, ◌%◌, ◌+◌, ◌/◌, ◌<◌, ◌≡◌, ◌≤◌, ◌∷◌};
 ghost use Rattle.std.specs.Str.{IsAscii};
 ghost use Rattle.tr_values.specs.Escapes as spec;
 
@@ -116,5 +116,16 @@ pub(crate) fn spell(byte: u8, digit_next: bool) -> Spelling
         before_digit(byte)
     } else {
         shortest(byte)
+    }
+}
+
+pub(crate) fn quote() -> Spelling
+    ensures spelled { take result.length result.text ≡ codes "\"" }
+    ensures short { result.length ≤ 4 }
+    ensures ascii { IsAscii result.text }
+{
+    Spelling {
+        text: *b"\"   ",
+        length: 1,
     }
 }

@@ -23,4 +23,5 @@ row-preserved g c =
       told_both _ _ _ _ _ _ c.row.invariant.2 c.in-Ok.ensures.told,
       c.in-Ok.ensures.begun ∙ c.row.invariant.3,
       c.in-Ok.ensures.heard,
+      c.in-Ok.ensures.after,
     )

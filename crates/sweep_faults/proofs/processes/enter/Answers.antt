@@ -1,0 +1,12 @@
+use Rattle.std.proofs.Common.{◌≡◌, ap, subst, ◌∙◌}
+use Rattle.std.specs.Prelude.{OnSome}
+use Rattle.std.specs.FinMap as maps
+use Rattle.sweep_faults.specs.Processes.{after_entry, or_first}
+use Rattle.sweep_faults.proofs.processes.enter.Goals as goal
+
+pub returns-in_ok-enter-in-Some : goal.returns-in_ok-enter-in-Some
+returns-in_ok-enter-in-Some c =
+    let w = c.enter.new.self in
+    let h = subst (λ r. OnSome r (c.get_mut.follows.lender w ≡ maps.insert c.args.of.now c.args.pid w)) c.in-Some.is (c.get_mut.follows.holds w) in
+    h ∙ ap (maps.insert c.args.of.now c.args.pid)
+    (c.in_ok-enter-in-Some.ensures ∙ ap (λ o. after_entry c.args.calls.now c.args.pid c.args.call.now (or_first o)) c.in-Some.ensures.value)
