@@ -55,12 +55,7 @@ fn push_four(
 }
 
 /// One byte in front of others.
-fn push_one(
-    text: &mut String,
-    buffer: &mut Buffer,
-    byte: u8,
-    more: &[u8],
-) -> Result<(), AllocError>
+fn push_one(text: &mut String, buffer: &mut Buffer, byte: u8, more: &[u8]) -> Result<(), AllocError>
     ensures { OnOk result
         (string_bytes text.new ++ buffer.new
         ≡ (string_bytes text.old ++ buffer.old) ++ spec.escape byte (spec.begins_with_digit more.now)) }
