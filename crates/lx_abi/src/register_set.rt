@@ -1,6 +1,6 @@
 //! Registers in a place of their own.
 
-ghost use Rattle.std.specs.Prelude.{◌≡◌, ◌<◌, slice_set, IfOk};
+ghost use Rattle.std.specs.Prelude.{◌≡◌, ◌<◌, length, slice_set, IfOk};
 
 use crate::ptrace::Registers;
 use std::alloc::{AllocError, Global};
@@ -37,7 +37,8 @@ impl RegisterSet {
     /// Sets pc, at 0, or the register with this number.
     pub fn set(&mut self, number: usize, value: u64)
         requires { number < 32 }
-        ensures { self.new ≡ slice_set self.old number value }
+        ensures set { self.new ≡ slice_set self.old number value }
+        ensures length { length self.old ≡ 32 }
     {
         self.registers[number] = value;
     }

@@ -11,7 +11,7 @@ ghost use Rattle.lx_kernel.specs.Tracing.{with_part_at, IsPart, IsChanged, chang
 use containers::Bytes;
 use lx_abi::{Call, Cause, RegisterSet, Registers, Signal};
 use lx_model::{Stage, Task};
-use lx_proc::{UserState, registers_of, set_registers};
+use lx_proc::{UserState, call as asked, registers_of, set_registers};
 use shelves::Shelf;
 use std::alloc::{AllocError, Global};
 
@@ -25,22 +25,19 @@ pub fn regs(
 {
     match tasks.get(pid) {
         Some(Task::Alive { user, .. }) => {
-            let registers = RegisterSet::new(alloc, &registers_of(user))?;
+            let registers = registers_of(alloc, user)?;
             Ok(Some(registers))
         }
         Some(Task::Dying { .. } | Task::Gone) | None => Ok(None),
     }
 }
 
-/// The register a7, where the number of a call stands.
-const A7: usize = 17;
-
 /// The number of the call that the registers of a process ask for, if it lives.
 pub fn asked_call(tasks: &Shelf<Task<UserState>>, pid: u32) -> Option<u64>
     ensures { result ≡ option_map a7_of (regs_of (at Gone tasks.now pid)) }
 {
     match tasks.get(pid) {
-        Some(Task::Alive { user, .. }) => Some(registers_of(user)[A7]),
+        Some(Task::Alive { user, .. }) => Some(asked(user).number),
         Some(Task::Dying { .. } | Task::Gone) | None => None,
     }
 }

@@ -1,12 +1,13 @@
 //! Registers of a process at its calls.
 
-ghost use Rattle.std.specs.Prelude.{◌≡◌, slice_set, length};
+ghost use Rattle.std.specs.Prelude.{◌≡◌, slice_set, length, IfOk};
 ghost use Rattle.lx_model.specs.Machine.{call_of, a0_of};
 ghost use Rattle.lx_proc.specs.Registers.{regs, with_regs, with_returned, made_again};
 
 use crate::state::UserState;
-use lx_abi::{Call, Registers};
+use lx_abi::{Call, RegisterSet, Registers};
 use lx_sig::Interrupted;
+use std::alloc::{AllocError, Global};
 
 /// The call that the registers ask for.
 pub fn call(user: &UserState) -> Call
@@ -51,21 +52,13 @@ pub fn make_again(user: &mut UserState, at: Interrupted)
     user.interrupted = None;
 }
 
-/// Sets the place of x0.
-fn set_first(registers: &mut [u64; 32], value: u64)
-    ensures first { registers.new ≡ slice_set registers.old 0 value }
-    ensures length { length registers.old ≡ 32 }
-{
-    registers[0] = value;
-}
-
 /// pc and x1 to x31.
-pub fn registers_of(user: &UserState) -> Registers
-    ensures { result ≡ regs user.now }
+pub fn registers_of(alloc: Global, user: &UserState) -> Result<RegisterSet, AllocError>
+    ensures { IfOk result (λ r. r ≡ regs user.now) }
 {
-    let mut registers = user.hart.registers;
-    set_first(&mut registers, user.hart.pc);
-    registers
+    let mut registers = RegisterSet::new(alloc, &user.hart.registers)?;
+    registers.set(0, user.hart.pc);
+    Ok(registers)
 }
 
 /// Sets pc and x1 to x31.
