@@ -4,7 +4,7 @@ use Rattle.std.specs.Prelude.{MatchResult, IsOk}
 use Rattle.std.specs.Str.{IsUtf8}
 
 -- a reader of texts takes them
-pub is_text : {S E : Type 0} (bs : List ℕ) (P : S → Type 0) (Q : E → Type 0) (r : Result S E)
-    → MatchResult r P (λ e. (¬ (IsUtf8 bs)) × Q e) → IsUtf8 bs → IsOk r
-is_text bs P Q (Ok s) h u = refl
-is_text bs P Q (Err e) h u = absurd (h.0 u)
+pub is_text : {S E : Type 0} (bs : List ℕ) (P : S → Type 0) (r : Result S E)
+    → MatchResult r P (λ _. ¬ (IsUtf8 bs)) → IsUtf8 bs → IsOk r
+is_text bs P (Ok s) h u = refl
+is_text bs P (Err e) h u = absurd (h u)

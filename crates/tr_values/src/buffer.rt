@@ -4,8 +4,8 @@ ghost use Rattle.std.specs.Prelude.{◌≡◌, ◌≤◌, ◌+◌, ◌++◌, [],
 ghost use Rattle.std.specs.Str.{IsAscii};
 
 use crate::spellings::Spelling;
+use simdutf8::basic::from_utf8;
 use std::marker::Model;
-use std::str;
 
 /// How many bytes a buffer holds.
 const SIZE: usize = 256;
@@ -43,17 +43,17 @@ impl Buffer {
         }
     }
 
-    /// Has no place for two spellings more.
+    /// Has no place for four spellings more.
     pub(crate) fn is_full(&self) -> bool
-        ensures { result ≡ false → length self.now + 8 ≤ 256 }
+        ensures { result ≡ false → length self.now + 16 ≤ 256 }
     {
-        self.length > SIZE - 8
+        self.length > SIZE - 16
     }
 
     pub(crate) fn as_str(&self) -> &str
         ensures { result.now ≡ self.now }
     {
-        str::from_utf8(&self.bytes[..self.length]).unwrap()
+        from_utf8(&self.bytes[..self.length]).unwrap()
     }
 
     pub(crate) fn clear(&mut self)

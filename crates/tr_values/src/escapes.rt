@@ -9,19 +9,20 @@ use crate::sheet::{Needed, Sheet};
 use crate::spellings::{quote, spell};
 use std::alloc::AllocError;
 
-fn begins_with_digit(bytes: &[u8]) -> bool
-    ensures { result ≡ spec.begins_with_digit bytes.now }
+/// What stands behind a byte: the next one, or the quote.
+fn next_of(more: &[u8]) -> u8
+    ensures { spec.is_digit result ≡ spec.begins_with_digit more.now }
 {
-    match bytes {
-        [] => false,
-        [byte, ..] => byte.is_ascii_digit(),
+    match more {
+        [] => b'"',
+        [byte, ..] => *byte,
     }
 }
 
-/// Makes place for two spellings more.
+/// Makes place for four spellings more.
 fn make_place(text: &mut String, buffer: &mut Buffer) -> Result<(), AllocError>
     ensures kept { OnOk result (string_bytes text.new ++ buffer.new ≡ string_bytes text.old ++ buffer.old) }
-    ensures place { OnOk result (length buffer.new + 8 ≤ 256) }
+    ensures place { OnOk result (length buffer.new + 16 ≤ 256) }
 {
     if buffer.is_full() {
         text.push_str(buffer.as_str())?;
@@ -30,37 +31,50 @@ fn make_place(text: &mut String, buffer: &mut Buffer) -> Result<(), AllocError>
     Ok(())
 }
 
-/// Two bytes in front of others. What waits is put first where it leaves no place.
-fn push_two(
+/// Four bytes in front of others. What waits is put first where it leaves no place.
+fn push_four(
     text: &mut String,
     buffer: &mut Buffer,
-    byte: u8,
-    next: u8,
+    first: u8,
+    second: u8,
+    third: u8,
+    fourth: u8,
     more: &[u8],
 ) -> Result<(), AllocError>
     ensures { OnOk result
-        (string_bytes text.new ++ buffer.new
-        ≡ (string_bytes text.old ++ buffer.old) ++ (spec.escape byte (spec.is_digit next)
-        ++ spec.escape next (spec.begins_with_digit more.now))) }
+        (string_bytes text.new ++ buffer.new ≡ (string_bytes text.old ++ buffer.old)
+        ++ (spec.escape first (spec.is_digit second) ++ (spec.escape second (spec.is_digit third)
+        ++ (spec.escape third (spec.is_digit fourth) ++ spec.escape fourth (spec.begins_with_digit more.now))))) }
 {
     make_place(text, buffer)?;
-    buffer.add(spell(byte, next.is_ascii_digit()));
-    buffer.add(spell(next, begins_with_digit(more)));
+    buffer.add(spell(first, second));
+    buffer.add(spell(second, third));
+    buffer.add(spell(third, fourth));
+    buffer.add(spell(fourth, next_of(more)));
     Ok(())
 }
 
-/// The last byte, if there is one.
-#[tactic(auto, unfolding(crate::specs::Escapes::escaped))]
-fn push_last(text: &mut String, buffer: &mut Buffer, left: &[u8]) -> Result<(), AllocError>
-    requires { length left.now ≤ 1 }
+/// One byte in front of others.
+fn push_one(text: &mut String, buffer: &mut Buffer, byte: u8, more: &[u8]) -> Result<(), AllocError>
     ensures { OnOk result
-        (string_bytes text.new ++ buffer.new ≡ (string_bytes text.old ++ buffer.old) ++ spec.escaped left.now) }
+        (string_bytes text.new ++ buffer.new
+        ≡ (string_bytes text.old ++ buffer.old) ++ spec.escape byte (spec.begins_with_digit more.now)) }
 {
-    let [byte, ..] = left else {
-        return Ok(());
-    };
     make_place(text, buffer)?;
-    buffer.add(spell(*byte, false));
+    buffer.add(spell(byte, next_of(more)));
+    Ok(())
+}
+
+#[tactic(auto, unfolding(crate::specs::Escapes::escaped))]
+fn push_each(text: &mut String, buffer: &mut Buffer, bytes: &[u8]) -> Result<(), AllocError>
+    ensures { OnOk result
+        (string_bytes text.new ++ buffer.new ≡ (string_bytes text.old ++ buffer.old) ++ spec.escaped bytes.now) }
+{
+    let mut left = bytes;
+    while let [byte, more @ ..] = left {
+        push_one(text, buffer, *byte, more)?;
+        left = more;
+    }
     Ok(())
 }
 
@@ -70,11 +84,11 @@ fn push_escaped(text: &mut String, buffer: &mut Buffer, bytes: &[u8]) -> Result<
         (string_bytes text.new ++ buffer.new ≡ (string_bytes text.old ++ buffer.old) ++ spec.escaped bytes.now) }
 {
     let mut left = bytes;
-    while let [byte, next, more @ ..] = left {
-        push_two(text, buffer, *byte, *next, more)?;
+    while let [first, second, third, fourth, more @ ..] = left {
+        push_four(text, buffer, *first, *second, *third, *fourth, more)?;
         left = more;
     }
-    push_last(text, buffer, left)
+    push_each(text, buffer, left)
 }
 
 fn push_quote(text: &mut String, buffer: &mut Buffer) -> Result<(), AllocError>
