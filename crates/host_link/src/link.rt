@@ -42,7 +42,6 @@ pub trait Link {
 
     /// Asks a request that Wait is asked behind, whatever it is replied: a link may send both at once. The next call is
     /// to ask Wait, else it fails.
-    #[inline(always)]
     fn call_before_wait(&mut self, request: Request) -> Result<Reply, LinkFault>
         ensures answered { answers self.old request result self.new }
         ensures counted { given self.new ≡ given self.old + (if is_ok result then 1 else 0) }

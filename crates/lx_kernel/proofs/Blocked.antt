@@ -56,7 +56,7 @@ abbrev pub StaysQuiet : Option Entry → Option Entry → Type 0
 StaysQuiet o o' = (stopped : Bool) → is_quiet stopped o ≡ true → is_quiet stopped o' ≡ true
 
 -- of a call that waits, unless a signal interrupts it or SIGKILL is pending
-no_turn : (waits killed interrupted : Bool) → (not (waits && not interrupted) || killed) ≡ false → (waits && (not killed && not interrupted)) ≡ true
+pub no_turn : (waits killed interrupted : Bool) → (not (waits && not interrupted) || killed) ≡ false → (waits && (not killed && not interrupted)) ≡ true
 no_turn false killed interrupted e = absurd (cc e)
 no_turn true true true e = absurd (cc e)
 no_turn true true false e = absurd (cc e)

@@ -1,6 +1,7 @@
 -- Turns that wake none but one that is told and those who are in a call on a pipe that was changed.
 use Rattle.std.proofs.Common.{◌≡◌, ℕ, Bool, true, false, cond, List, [], ◌++◌, take, drop, length, Option, Some, None, refl, ap, sym, subst, ◌∙◌}
 use Rattle.std.specs.Prelude.{◌==◌, ◌||◌, ◌&&◌, ◌^◌, ◌+◌, not, nat_lt, nat_le, min, is_some}
+use Rattle.std.specs.Int.{w32, to_le_bytes}
 use Rattle.std.specs.Option.{unwrap_or, option_and_then}
 use Rattle.std.specs.FinMap as maps
 use Rattle.containers.specs.Vacant.{vacant}
@@ -59,6 +60,7 @@ use Rattle.lx_fcalls.specs.Mkdirat.{mkdirat, makes}
 use Rattle.lx_fcalls.specs.Moving.{has_space}
 use Rattle.lx_fcalls.specs.Newfstatat.{newfstatat, tells}
 use Rattle.lx_fcalls.specs.Openat.{openat, opens_seen, opening, emptied_if}
+use Rattle.lx_fcalls.specs.Pipe2.{pipe2, pipes, end_of, with_end}
 use Rattle.lx_fcalls.specs.Read.{read, reads_object, waits as reading_waits}
 use Rattle.lx_fcalls.specs.Unlinkat.{unlinkat, unlinks, removes_file, removes_directory, is_used, nameless, unless_nameless}
 use Rattle.lx_fcalls.specs.Write.{write, writes_object, start_of, sigpipe}
@@ -74,7 +76,8 @@ use Rattle.lx_kernel.proofs.Awaiting.{AreSpared, awaits_on, all_same, directory_
 use Rattle.lx_kernel.proofs.Blocked.{blocked_still, entry_other, quiet_same}
 use Rattle.lx_kernel.proofs.Calming.{AnswerCalms, same_calm, ends_calm, lives_calm, does_calm, or_else, numbered}
 use Rattle.lx_kernel.proofs.Ending.{burial_calm}
-use Rattle.lx_kernel.proofs.Narrowing.{AreLeft, waits_on, free_small, same_left, offset_left, slot_left, opened_left, held_left, closed_left}
+use Rattle.lx_kernel.proofs.Filing.{used_same}
+use Rattle.lx_kernel.proofs.Narrowing.{AreLeft, waits_on, uses_on, free_small, same_left, then_left, offset_left, slot_left, opened_left, pipe_left, held_left, closed_left}
 
 module _ (s : Shared) (child p told : ℕ) (changes : Option ℕ) where
   abbrev Leaves : Shared → PtraceEvent UserState → Type 0
@@ -84,7 +87,7 @@ module _ (s : Shared) (child p told : ℕ) (changes : Option ℕ) where
   pub calm_few : (t : Shared) (event : PtraceEvent UserState) → Calms s t child p told event → Leaves t event
   calm_few t event calm = record {
     blocked = λ q up ne still unborn task apart h. calm.blocked q up ne still unborn task h;
-    pipes = calm.pipes;
+    uses = λ q ne unborn task h. used_same s t q (λ fd. calm.pipes q fd ne unborn) task;
   }
 
   pub same_few : (event : PtraceEvent UserState) → Leaves s event
@@ -97,7 +100,7 @@ module _ (s : Shared) (child p told : ℕ) (changes : Option ℕ) where
         blocked_still s t q task
         (λ call b is. waits_on p changes s t left q ne call b (λ pipe c u. apart pipe c (ap (used s q) is ∙ u)))
         (awaits_on s t q (spared q)) (quiet_same (maps.get s.entries q) (maps.get t.entries q) (same q ne)) h;
-    pipes = λ q fd ne unborn. left.pipes_are q fd ne;
+    uses = λ q ne unborn task h. uses_on p changes s t left q ne task h;
   }
 
   -- a call on files changed no entry
@@ -192,6 +195,26 @@ module _ (s : Shared) (child p : ℕ) (call : Call) (b : UserState) where
       let copy : Slot = record { description = named.description; closes_on_exec = false } in
       files_few s child p told changes s.tree (opens.with_slot s.fds p to copy) s.input s.console (slot_left p changes s.fds to copy (free_small s.fds.slots p to free))))
 
+  -- two new descriptions, and their pipe
+  pipes_few : (at : ℕ) (closes : Bool) → P (pipes s p b at closes (vacant s.fds.pipes))
+  pipes_few at closes =
+      let pipe = vacant s.fds.pipes in
+      let piped : FdTable = opens.with_pipe s.fds pipe [] in
+      checks.named P (opens.free s.fds.slots p) _ _ tt (λ first free.
+      let one : FdTable = with_end piped p first (ReadEnd pipe) true closes in
+      checks.named P (opens.free one.slots p) _ _ tt (λ second also_free.
+      let two : FdTable = with_end one p second (WriteEnd pipe) false closes in
+      given_few (with_fds s two) at (to_le_bytes w32 first ++ to_le_bytes w32 second) 0
+      (files_few s child p told changes s.tree two s.input s.console
+      (then_left p changes s.fds piped two (pipe_left p changes s.fds)
+      (then_left p changes piped one two
+      (opened_left p changes piped first (end_of (ReadEnd pipe) true) closes (free_small s.fds.slots p first free))
+      (opened_left p changes one second (end_of (WriteEnd pipe) false) closes (free_small one.slots p second also_free)))))))
+
+  pipe2_few : P (pipe2 s p call b)
+  unfolding pipe2
+  pipe2_few = checks.checked P (is_within (argument call 1) o_cloexec) _ _ tt (λ known. pipes_few (argument call 0) (has (argument call 1) o_cloexec))
+
   moved_few : (named : Slot) (offset x : ℕ) (tree : Tree) → P (Returns (with_files s tree (opens.with_offset s.fds named.description offset) s.input s.console) b x)
   moved_few named offset x tree = files_few s child p told changes tree (opens.with_offset s.fds named.description offset) s.input s.console (offset_left p changes s.fds named.description offset)
 
@@ -258,7 +281,7 @@ module _ (s : Shared) (child p : ℕ) (call : Call) (b : UserState) where
       → P (Returns (record s { tree = tree; fds = opens.opened s.fds p to (opening node flags) (has flags o_cloexec) }) b to)
   opens_few flags tree node to free =
       files_few s child p told changes tree (opens.opened s.fds p to (opening node flags) (has flags o_cloexec)) s.input s.console
-      (opened_left p changes s.fds to (opening node flags) node (has flags o_cloexec) (free_small s.fds.slots p to free) refl)
+      (opened_left p changes s.fds to (opening node flags) (has flags o_cloexec) (free_small s.fds.slots p to free))
 
   seen_few : (flags : ℕ) (place : Place) (sight : Lookup) → P (opens_seen s p b flags place sight)
   seen_few flags place Absent =
@@ -388,11 +411,12 @@ module _ (s : Shared) (child p : ℕ) (call : Call) (b : UserState) where
       or_else Goal (N == 79) _ e (λ h. let is = numbered N 79 h in by_number (newfstatat s p call b) (rw is refl) newfstatat_few) (λ e.
       or_else Goal (N == 80) _ e (λ h. let is = numbered N 80 h in by_number (fstat s p call b) (rw is refl) fstat_few) (λ e.
       or_else Goal (N == 23) _ e (λ h. let is = numbered N 23 h in by_number (dup s p call b) (rw is refl) dup_few) (λ e.
+      or_else Goal (N == 59) _ e (λ h. let is = numbered N 59 h in by_number (pipe2 s p call b) (rw is refl) pipe2_few) (λ e.
       or_else Goal (N == 17) _ e (λ h. let is = numbered N 17 h in by_number (getcwd s p call b) (rw is refl) getcwd_few) (λ e.
       or_else Goal (N == 49) _ e (λ h. let is = numbered N 49 h in by_number (chdir s p call b) (rw is refl) chdir_few) (λ e.
       or_else Goal (N == 34) _ e (λ h. let is = numbered N 34 h in by_number (mkdirat s p call b) (rw is refl) mkdirat_few) (λ e.
       or_else Goal (N == 35) _ e (λ h. let is = numbered N 35 h in by_number (unlinkat s p call b) (rw is refl) unlinkat_few) (λ h.
-      let is = numbered N 46 h in by_number (ftruncate s p call b) (rw is refl) ftruncate_few))))))))))))
+      let is = numbered N 46 h in by_number (ftruncate s p call b) (rw is refl) ftruncate_few)))))))))))))
 
   pub narrow_does : is_narrow N ≡ true → P (does s child p call b)
   unfolding does

@@ -16,7 +16,7 @@ use Rattle.lx_files.specs.declared.tree.Tree.{Tree}
 use Rattle.lx_files.specs.Tallies.{how_many, holds, one_if, weight}
 use Rattle.lx_files.proofs.Totals.{total-insert, total-remove}
 use Rattle.lx_open.specs.Kinds.{SlotMap, names_description, is_reading, is_writing, reads_pipe, writes_pipe, moved}
-use Rattle.lx_open.specs.Opens.{pair, slot, description, free, is_named, has_readers, has_writers, held, opened, with_slot, with_offset, with_held, pipe_changed}
+use Rattle.lx_open.specs.Opens.{pair, slot, description, free, is_named, has_readers, has_writers, held, opened, with_pipe, with_slot, with_offset, with_held, pipe_changed}
 use Rattle.lx_open.specs.Releases.{object_released, description_dropped, description_released, pipe_released, slot_closed, closed}
 use Rattle.lx_open.specs.declared.description.Description.{Description}
 use Rattle.lx_open.specs.declared.description.Object.{Object}
@@ -27,20 +27,41 @@ use Rattle.lx_proc.specs.Answers.{argument, low_argument}
 use Rattle.lx_proc.specs.declared.state.Shared.{Shared}
 use Rattle.lx_proc.specs.declared.state.UserState.{UserState}
 use Rattle.lx_fcalls.specs.Blocking.{would_block, read_would_block, write_would_block, open_passes, passes, read_waits, write_waits, reading_waits, writing_waits}
+use Rattle.lx_model.specs.declared.stage.Stage.TheVariants.{Born, Run, Faulting, Entered, Doing, Replaced, Acted, Finished, Taken, Dropped, Stopped, Released, Woken}
+use Rattle.lx_model.specs.declared.stage.Task.{Task}
+use Rattle.lx_model.specs.declared.stage.Task.TheVariants.{Alive, Dying, Gone}
 use Rattle.lx_pcalls.proofs.Children.{unequal}
-use Rattle.lx_kernel.specs.Pipes.{pipe_of, pipe_in, pipe_at, used_by}
-use Rattle.lx_kernel.proofs.Blocked.{AllSmall, small_range, other_pair}
+use Rattle.lx_pcalls.specs.Calls.{would_block as process_would_block}
+use Rattle.lx_pcalls.specs.Interruption.{is_interrupted}
+use Rattle.lx_pcalls.specs.Wait4.{wait4_would_block}
+use Rattle.lx_turn.specs.Reactions.{is_killed}
+use Rattle.lx_kernel.specs.Blocking.{IsBlocked, can_turn, would_block as blocks}
+use Rattle.lx_kernel.specs.Pipes.{pipe_of, pipe_in, pipe_at, used, used_by}
+use Rattle.lx_kernel.proofs.Blocked.{AllSmall, small_range, other_pair, is_quiet, both, no_turn}
+use Rattle.lx_kernel.proofs.Calming.{numbered}
 use Rattle.lx_kernel.proofs.Placed.{either, get_put, other_put, other_left}
 
--- what each process but p uses is as before, but for offsets and for a pipe that was changed
+-- what each process but p has is there as before, but for offsets, and each pipe but one that was changed: it holds
+-- what it held, and has readers and writers where it had some
 pub record AreLeft (p : ℕ) (changed : Option ℕ) (fds fds' : FdTable) : Type 0 where
   pub slots_are : (q fd : ℕ) → (q ≡ p → ⊥) → slot fds' q fd ≡ slot fds q fd
   pub named_are : (q fd : ℕ) → (q ≡ p → ⊥) → (s : Slot) (d : Description) → slot fds q fd ≡ Some s → description fds s.description ≡ Some d
       → (offset : ℕ) × (description fds' s.description ≡ Some (record d { offset = offset }))
-  pub pipes_are : (q fd : ℕ) → (q ≡ p → ⊥) → pipe_at fds' q fd ≡ pipe_at fds q fd
   pub held_is : (pipe : ℕ) → (changed ≡ Some pipe → ⊥) → held fds' pipe ≡ held fds pipe
-  pub readers_are : (pipe : ℕ) → (changed ≡ Some pipe → ⊥) → has_readers fds' pipe ≡ has_readers fds pipe
-  pub writers_are : (pipe : ℕ) → (changed ≡ Some pipe → ⊥) → has_writers fds' pipe ≡ has_writers fds pipe
+  pub readers_are : (pipe : ℕ) → (changed ≡ Some pipe → ⊥) → has_readers fds pipe ≡ true → has_readers fds' pipe ≡ true
+  pub writers_are : (pipe : ℕ) → (changed ≡ Some pipe → ⊥) → has_writers fds pipe ≡ true → has_writers fds' pipe ≡ true
+
+second_kept : (a b b' : Bool) → (b ≡ true → b' ≡ true) → (a && b) ≡ true → (a && b') ≡ true
+second_kept true b b' kept e = kept e
+second_kept false b b' kept e = absurd (cc e)
+
+first_kept : (a a' b : Bool) → (a ≡ true → a' ≡ true) → (a && b) ≡ true → (a' && b) ≡ true
+first_kept true a' b kept e = ap (λ x. x && b) (kept refl) ∙ e
+first_kept false a' b kept e = absurd (cc e)
+
+first_of : (a b : Bool) → b ≡ false → (a || b) ≡ true → a ≡ true
+first_of true b none e = refl
+first_of false b none e = sym none ∙ e
 
 -- Who waits waits on.
 
@@ -64,32 +85,52 @@ module _ (p q fd : ℕ) (changed : Option ℕ) (fds fds' : FdTable) (left : AreL
       slotted None is e = absurd (cc e)
       slotted (Some s) is e = described s is (description fds s.description) refl e
 
-  reading_same : (n : ℕ) (o : Object) → ((pipe : ℕ) → changed ≡ Some pipe → pipe_of o ≡ Some pipe → ⊥) → reading_waits fds' n o ≡ reading_waits fds n o
-  reading_same n Input other = refl
-  reading_same n Console other = refl
-  reading_same n (ReadEnd pipe) other =
+  reading_on : (n : ℕ) (o : Object) → ((pipe : ℕ) → changed ≡ Some pipe → pipe_of o ≡ Some pipe → ⊥) → reading_waits fds n o ≡ true → reading_waits fds' n o ≡ true
+  reading_on n Input other e = absurd (cc e)
+  reading_on n Console other e = absurd (cc e)
+  reading_on n (ReadEnd pipe) other e =
       let far = λ (c : changed ≡ Some pipe). other pipe c refl in
       ap (λ bytes. (length bytes == 0) && nat_lt 0 n && has_writers fds' pipe) (left.held_is pipe far)
-      ∙ ap (λ writers. (length (held fds pipe) == 0) && nat_lt 0 n && writers) (left.writers_are pipe far)
-  reading_same n (WriteEnd pipe) other = refl
-  reading_same n (Opened node) other = refl
+      ∙ second_kept ((length (held fds pipe) == 0) && nat_lt 0 n) (has_writers fds pipe) (has_writers fds' pipe) (left.writers_are pipe far) e
+  reading_on n (WriteEnd pipe) other e = absurd (cc e)
+  reading_on n (Opened node) other e = absurd (cc e)
 
-  writing_same : (n : ℕ) (o : Object) → ((pipe : ℕ) → changed ≡ Some pipe → pipe_of o ≡ Some pipe → ⊥) → writing_waits fds' n o ≡ writing_waits fds n o
-  writing_same n Input other = refl
-  writing_same n Console other = refl
-  writing_same n (ReadEnd pipe) other = refl
-  writing_same n (WriteEnd pipe) other =
+  writing_on : (n : ℕ) (o : Object) → ((pipe : ℕ) → changed ≡ Some pipe → pipe_of o ≡ Some pipe → ⊥) → writing_waits fds n o ≡ true → writing_waits fds' n o ≡ true
+  writing_on n Input other e = absurd (cc e)
+  writing_on n Console other e = absurd (cc e)
+  writing_on n (ReadEnd pipe) other e = absurd (cc e)
+  writing_on n (WriteEnd pipe) other e =
       let far = λ (c : changed ≡ Some pipe). other pipe c refl in
       ap (λ bytes. has_readers fds' pipe && nat_lt pipe_size (length bytes + n)) (left.held_is pipe far)
-      ∙ ap (λ readers. readers && nat_lt pipe_size (length (held fds pipe) + n)) (left.readers_are pipe far)
-  writing_same n (Opened node) other = refl
+      ∙ first_kept (has_readers fds pipe) (has_readers fds' pipe) (nat_lt pipe_size (length (held fds pipe) + n)) (left.readers_are pipe far) e
+  writing_on n (Opened node) other e = absurd (cc e)
 
   pub read_on : (n : ℕ) → open_passes fds q fd (read_waits fds n) ≡ true → open_passes fds' q fd (read_waits fds' n) ≡ true
-  read_on n = passed (read_waits fds n) (read_waits fds' n) (λ d offset other e. ap (λ b. d.may_read && b) (reading_same n d.object other) ∙ e)
+  read_on n = passed (read_waits fds n) (read_waits fds' n) (λ d offset other e. second_kept d.may_read (reading_waits fds n d.object) (reading_waits fds' n d.object) (reading_on n d.object other) e)
 
   pub write_on : (b : UserState) (at n : ℕ) → open_passes fds q fd (write_waits fds b.memory at n) ≡ true → open_passes fds' q fd (write_waits fds' b.memory at n) ≡ true
   write_on b at n = passed (write_waits fds b.memory at n) (write_waits fds' b.memory at n) (λ d offset other e.
-      ap (λ w. d.may_write && (is_none (first_fault access.Read b.memory at n) && w)) (writing_same n d.object other) ∙ e)
+      let readable = is_none (first_fault access.Read b.memory at n) in
+      second_kept d.may_write (readable && writing_waits fds n d.object) (readable && writing_waits fds' n d.object)
+      (second_kept readable (writing_waits fds n d.object) (writing_waits fds' n d.object) (writing_on n d.object other)) e)
+
+-- and is in a call on the same pipe.
+
+module _ (p q fd : ℕ) (changed : Option ℕ) (fds fds' : FdTable) (left : AreLeft p changed fds fds') (ne : q ≡ p → ⊥) where
+  pipe_on : (test : Description → Bool) → open_passes fds q fd test ≡ true → pipe_at fds' q fd ≡ pipe_at fds q fd
+  unfolding pipe_at
+  pipe_on test e = slotted (slot fds q fd) refl e
+    where
+      described : (s : Slot) → slot fds q fd ≡ Some s → (o : Option Description) → description fds s.description ≡ o → passes test o ≡ true → pipe_at fds' q fd ≡ pipe_at fds q fd
+      described s is None there e = absurd (cc e)
+      described s is (Some d) there e =
+          ap (option_and_then (λ (named : Slot). pipe_in (description fds' named.description))) (left.slots_are q fd ne ∙ is)
+          ∙ ap pipe_in (left.named_are q fd ne s d is there).1
+          ∙ sym (ap (option_and_then (λ (named : Slot). pipe_in (description fds named.description))) is ∙ ap pipe_in there)
+
+      slotted : (o : Option Slot) → slot fds q fd ≡ o → passes (λ (named : Slot). passes test (description fds named.description)) o ≡ true → pipe_at fds' q fd ≡ pipe_at fds q fd
+      slotted None is e = absurd (cc e)
+      slotted (Some s) is e = described s is (description fds s.description) refl e
 
 pub waits_on : (p : ℕ) (changed : Option ℕ) (s s' : Shared) → AreLeft p changed s.fds s'.fds → (q : ℕ) → (q ≡ p → ⊥) → (call : Call) (b : UserState)
     → ((pipe : ℕ) → changed ≡ Some pipe → used_by s.fds q call ≡ Some pipe → ⊥) → would_block s q call b ≡ true → would_block s' q call b ≡ true
@@ -107,6 +148,54 @@ waits_on p changed s s' left q ne call b apart = go (call.number == 63) (call.nu
         (λ pipe c u. apart pipe c (ap (λ x. cond (x || (call.number == 64)) (pipe_at s.fds q (low_argument call 0)) None) reads ∙ ap (λ y. cond y (pipe_at s.fds q (low_argument call 0)) None) writes ∙ u))
         b (argument call 1) (min (argument call 2) most_moved) e
     go false false reads writes e = absurd (cc e)
+
+-- who waits in a read or a write is in that call on the same pipe
+uses_by : (p : ℕ) (changed : Option ℕ) (s s' : Shared) → AreLeft p changed s.fds s'.fds → (q : ℕ) → (q ≡ p → ⊥) → (call : Call) (b : UserState)
+    → (would_block s q call b || process_would_block s q call) ≡ true → used_by s'.fds q call ≡ used_by s.fds q call
+unfolding would_block read_would_block write_would_block process_would_block
+uses_by p changed s s' left q ne call b = go (call.number == 63) (call.number == 64) refl refl
+  where
+    fd : ℕ
+    fd = low_argument call 0
+
+    n : ℕ
+    n = min (argument call 2) most_moved
+
+    no_child : (m : ℕ) → call.number ≡ m → (m == 260) ≡ false → process_would_block s q call ≡ false
+    no_child m is other = ap (λ x. cond (x == 260) (wait4_would_block s q call) false) is ∙ ap (λ x. cond x (wait4_would_block s q call) false) other
+
+    go : (x y : Bool) → (call.number == 63) ≡ x → (call.number == 64) ≡ y
+        → (cond x (read_would_block s q call) (cond y (write_would_block s q call b) false) || process_would_block s q call) ≡ true
+        → cond (x || y) (pipe_at s'.fds q fd) None ≡ cond (x || y) (pipe_at s.fds q fd) None
+    go true y reads writes e =
+        pipe_on p q fd changed s.fds s'.fds left ne (read_waits s.fds n)
+        (first_of (read_would_block s q call) (process_would_block s q call) (no_child 63 (numbered call.number 63 reads) refl) e)
+    go false true reads writes e =
+        pipe_on p q fd changed s.fds s'.fds left ne (write_waits s.fds b.memory (argument call 1) n)
+        (first_of (write_would_block s q call b) (process_would_block s q call) (no_child 64 (numbered call.number 64 writes) refl) e)
+    go false false reads writes e = refl
+
+pub uses_on : (p : ℕ) (changed : Option ℕ) (s s' : Shared) → AreLeft p changed s.fds s'.fds → (q : ℕ) → (q ≡ p → ⊥) → (task : Task UserState)
+    → IsBlocked s q task → used s' q task ≡ used s q task
+unfolding can_turn blocks
+uses_on p changed s s' left q ne (Alive b Born) e = refl
+uses_on p changed s s' left q ne (Alive b Run) e = refl
+uses_on p changed s s' left q ne (Alive b (Faulting signal cause)) e = refl
+uses_on p changed s s' left q ne (Alive b (Entered joined)) e = refl
+uses_on p changed s s' left q ne (Alive b (Doing call)) e =
+    let waits = would_block s q call b || process_would_block s q call in
+    let entry = maps.get s.entries q in
+    uses_by p changed s s' left q ne call b (both waits (is_quiet false entry) (no_turn waits (is_killed entry) (is_interrupted entry) e)).0
+uses_on p changed s s' left q ne (Alive b (Replaced call x)) e = refl
+uses_on p changed s s' left q ne (Alive b (Acted call x replaced)) e = refl
+uses_on p changed s s' left q ne (Alive b Finished) e = refl
+uses_on p changed s s' left q ne (Alive b (Taken signal cause)) e = refl
+uses_on p changed s s' left q ne (Alive b Dropped) e = refl
+uses_on p changed s s' left q ne (Alive b (Stopped signal)) e = refl
+uses_on p changed s s' left q ne (Alive b Released) e = refl
+uses_on p changed s s' left q ne (Alive b Woken) e = refl
+uses_on p changed s s' left q ne (Dying w) e = refl
+uses_on p changed s s' left q ne Gone e = refl
 
 -- Descriptors below the limit
 
@@ -135,21 +224,13 @@ slots_by : (slots slots' : SlotMap) (q fd : ℕ) → (fd < 256 → maps.get slot
 slots_by slots slots' q fd same true e = same (let lt : fd < 256 = grind (arith, nat_tests, e) in lt)
 slots_by slots slots' q fd same false e = refl
 
--- the pipe that a descriptor names, by the description of its slot
-pipes_by : (fds fds' : FdTable) (q fd : ℕ) → slot fds' q fd ≡ slot fds q fd
-    → ((s : Slot) → slot fds q fd ≡ Some s → pipe_in (description fds' s.description) ≡ pipe_in (description fds s.description)) → pipe_at fds' q fd ≡ pipe_at fds q fd
-unfolding pipe_at
-pipes_by fds fds' q fd same each = ap (option_and_then (λ (named : Slot). pipe_in (description fds' named.description))) same ∙ go (slot fds q fd) refl
-  where
-    go : (o : Option Slot) → slot fds q fd ≡ o
-        → option_and_then (λ (named : Slot). pipe_in (description fds' named.description)) o ≡ option_and_then (λ (named : Slot). pipe_in (description fds named.description)) o
-    go None is = refl
-    go (Some s) is = each s is
-
 -- Some value of a map passes
 
 some_one : (n : ℕ) → 0 < n → nat_lt 0 n ≡ true
 some_one n h = grind (arith, nat_tests)
+
+some_are : (n : ℕ) → nat_lt 0 n ≡ true → 0 < n
+some_are n h = grind (arith, nat_tests)
 
 named_here : (slots : SlotMap) (k : ℕ) (s : Slot) → maps.get slots k ≡ Some s → holds (names_description s.description) slots ≡ true
 named_here slots k s is =
@@ -189,13 +270,13 @@ module _ (fds : FdTable) (test : Description → Bool) where
       let alike = ap one_if (blind d offset) in
       ap (nat_lt 0) (omega (arith, sum, it, alike))
 
-  -- of one that is new, and doesn't pass
-  more_holds : (n : ℕ) (d : Description) → maps.get fds.descriptions n ≡ None → test d ≡ false → holds test (maps.insert fds.descriptions n d) ≡ holds test fds.descriptions
-  more_holds n d vacant_is fails =
+  -- of one that is new
+  more_holds : (n : ℕ) (d : Description) → maps.get fds.descriptions n ≡ None → holds test fds.descriptions ≡ true → holds test (maps.insert fds.descriptions n d) ≡ true
+  more_holds n d vacant_is there =
       let sum : how_many test (maps.insert fds.descriptions n d) + weight (λ x. one_if (test x)) (maps.get fds.descriptions n) ≡ how_many test fds.descriptions + one_if (test d) = total-insert nat_cmp_total (λ x. one_if (test x)) fds.descriptions n d in
       let it : weight (λ x. one_if (test x)) (maps.get fds.descriptions n) ≡ 0 = ap (weight (λ x. one_if (test x))) vacant_is in
-      let none : one_if (test d) ≡ 0 = ap one_if fails in
-      ap (nat_lt 0) (omega (arith, sum, it, none))
+      let some : 0 < how_many test fds.descriptions = some_are _ there in
+      some_one _ (omega (arith, sum, it, some))
 
   -- and of one that goes, and didn't pass
   less_holds : (n : ℕ) (d : Description) → maps.get fds.descriptions n ≡ Some d → test d ≡ false → holds test (maps.remove fds.descriptions n) ≡ holds test fds.descriptions
@@ -212,10 +293,21 @@ module _ (p : ℕ) (changed : Option ℕ) (fds : FdTable) where
   same_left = record {
     slots_are = λ q fd ne. refl;
     named_are = λ q fd ne s d is there. (d.offset, there);
-    pipes_are = λ q fd ne. refl;
     held_is = λ pipe far. refl;
-    readers_are = λ pipe far. refl;
-    writers_are = λ pipe far. refl;
+    readers_are = λ pipe far there. there;
+    writers_are = λ pipe far there. there;
+  }
+
+  -- what two changes leave
+  pub then_left : (one two : FdTable) → AreLeft p changed fds one → AreLeft p changed one two → AreLeft p changed fds two
+  then_left one two first second = record {
+    slots_are = λ q fd ne. second.slots_are q fd ne ∙ first.slots_are q fd ne;
+    named_are = λ q fd ne s d is there.
+        let now = first.named_are q fd ne s d is there in
+        second.named_are q fd ne s (record d { offset = now.0 }) (first.slots_are q fd ne ∙ is) now.1;
+    held_is = λ pipe far. second.held_is pipe far ∙ first.held_is pipe far;
+    readers_are = λ pipe far there. second.readers_are pipe far (first.readers_are pipe far there);
+    writers_are = λ pipe far there. second.writers_are pipe far (first.writers_are pipe far there);
   }
 
   -- an offset
@@ -231,24 +323,15 @@ module _ (p : ℕ) (changed : Option ℕ) (fds : FdTable) where
         (offset, ap (maps.get (maps.insert fds.descriptions n next)) e ∙ get_put fds.descriptions n next ∙ ap (λ (y : Description). Some (record y { offset = offset })) one))
         (λ ne. (d.offset, other_put fds.descriptions n m ne next ∙ there))
 
-    moved_pipe : (m : ℕ) (o : Option Description) → maps.get fds.descriptions n ≡ o → pipe_in (maps.get (moved fds.descriptions n offset o) m) ≡ pipe_in (maps.get fds.descriptions m)
-    moved_pipe m None is = refl
-    moved_pipe m (Some x) is =
-        let next : Description = record x { offset = offset } in
-        either m n (pipe_in (maps.get (maps.insert fds.descriptions n next) m) ≡ pipe_in (maps.get fds.descriptions m)) (m == n) refl
-        (λ e. ap pipe_in (ap (maps.get (maps.insert fds.descriptions n next)) e ∙ get_put fds.descriptions n next) ∙ sym (ap pipe_in (ap (maps.get fds.descriptions) e ∙ is)))
-        (λ ne. ap pipe_in (other_put fds.descriptions n m ne next))
-
     pub offset_left : AreLeft p changed fds (with_offset fds n offset)
     offset_left =
         let there = maps.get fds.descriptions n in
         record {
           slots_are = λ q fd ne. refl;
           named_are = λ q fd ne s d is here. moved_at s.description d there refl here;
-          pipes_are = λ q fd ne. pipes_by fds (with_offset fds n offset) q fd refl (λ s is. moved_pipe s.description there refl);
           held_is = λ pipe far. refl;
-          readers_are = λ pipe far. moved_holds fds (reads_pipe pipe) (λ d o. refl) n offset there refl;
-          writers_are = λ pipe far. moved_holds fds (writes_pipe pipe) (λ d o. refl) n offset there refl;
+          readers_are = λ pipe far some. moved_holds fds (reads_pipe pipe) (λ d o. refl) n offset there refl ∙ some;
+          writers_are = λ pipe far some. moved_holds fds (writes_pipe pipe) (λ d o. refl) n offset there refl ∙ some;
         }
 
   -- a slot of the process's own
@@ -259,35 +342,43 @@ module _ (p : ℕ) (changed : Option ℕ) (fds : FdTable) where
   slot_left fd s small = record {
     slots_are = own_slot fd s small;
     named_are = λ q at ne x d is there. (d.offset, there);
-    pipes_are = λ q at ne. pipes_by fds (with_slot fds p fd s) q at (own_slot fd s small q at ne) (λ x is. refl);
     held_is = λ pipe far. refl;
-    readers_are = λ pipe far. refl;
-    writers_are = λ pipe far. refl;
+    readers_are = λ pipe far there. there;
+    writers_are = λ pipe far there. there;
   }
 
-  -- a new description, of a file
-  pub opened_left : (fd : ℕ) (d : Description) (node : ℕ) (closes : Bool) → fd < 256 → d.object ≡ Opened node → AreLeft p changed fds (opened fds p fd d closes)
-  opened_left fd d node closes small file =
+  -- a new description
+  pub opened_left : (fd : ℕ) (d : Description) (closes : Bool) → fd < 256 → AreLeft p changed fds (opened fds p fd d closes)
+  opened_left fd d closes small =
       let v = vacant fds.descriptions in
       let none : maps.get fds.descriptions v ≡ None = (vacant_is_least fds.descriptions).0 in
       let own : Slot = record { description = v; closes_on_exec = closes } in
-      let after : FdTable = opened fds p fd d closes in
       record {
         slots_are = own_slot fd own small;
         named_are = λ q at ne s x is there.
             (x.offset, other_put fds.descriptions v s.description (λ e. let absent : ◌≡◌ {A = Option Description} None (Some x) = sym none ∙ ap (maps.get fds.descriptions) (sym e) ∙ there in cc absent) d ∙ there);
-        pipes_are = λ q at ne. pipes_by fds after q at (own_slot fd own small q at ne) (λ s is.
-            either s.description v (pipe_in (maps.get (maps.insert fds.descriptions v d) s.description) ≡ pipe_in (maps.get fds.descriptions s.description)) (s.description == v) refl
-            (λ e. ap pipe_in (ap (maps.get (maps.insert fds.descriptions v d)) e ∙ get_put fds.descriptions v d) ∙ ap pipe_of file ∙ sym (ap pipe_in (ap (maps.get fds.descriptions) e ∙ none)))
-            (λ apart. ap pipe_in (other_put fds.descriptions v s.description apart d)));
         held_is = λ pipe far. refl;
-        readers_are = λ pipe far. more_holds fds (reads_pipe pipe) v d none (ap (is_reading pipe) file);
-        writers_are = λ pipe far. more_holds fds (writes_pipe pipe) v d none (ap (is_writing pipe) file);
+        readers_are = λ pipe far there. more_holds fds (reads_pipe pipe) v d none there;
+        writers_are = λ pipe far there. more_holds fds (writes_pipe pipe) v d none there;
+      }
+
+  -- a new pipe, which holds nothing
+  pub pipe_left : AreLeft p changed fds (with_pipe fds (vacant fds.pipes) [])
+  pipe_left =
+      let v = vacant fds.pipes in
+      let none : maps.get fds.pipes v ≡ None = (vacant_is_least fds.pipes).0 in
+      record {
+        slots_are = λ q fd ne. refl;
+        named_are = λ q fd ne s d is there. (d.offset, there);
+        held_is = λ pipe far. either pipe v (held (with_pipe fds v []) pipe ≡ held fds pipe) (pipe == v) refl
+            (λ e. ap (λ o. unwrap_or o []) (ap (maps.get (maps.insert fds.pipes v [])) e ∙ get_put fds.pipes v []) ∙ sym (ap (λ o. unwrap_or o []) (ap (maps.get fds.pipes) e ∙ none)))
+            (λ other. ap (λ o. unwrap_or o []) (other_put fds.pipes v pipe other []));
+        readers_are = λ pipe far there. there;
+        writers_are = λ pipe far there. there;
       }
 
 -- what a pipe holds
 pub held_left : (p : ℕ) (fds : FdTable) (pipe : ℕ) (f : List ℕ → List ℕ) → AreLeft p (Some pipe) fds (with_held fds pipe f)
-unfolding pipe_at
 held_left p fds pipe f = go (maps.get fds.pipes pipe)
   where
     go : (o : Option (List ℕ)) → AreLeft p (Some pipe) fds (pipe_changed fds pipe f o)
@@ -295,10 +386,9 @@ held_left p fds pipe f = go (maps.get fds.pipes pipe)
     go (Some bytes) = record {
       slots_are = λ q fd ne. refl;
       named_are = λ q fd ne s d is there. (d.offset, there);
-      pipes_are = λ q fd ne. refl;
       held_is = λ other far. ap (λ o. unwrap_or o []) (other_put fds.pipes pipe other (λ e. far (ap (λ n. Some n) (sym e))) (f bytes));
-      readers_are = λ other far. refl;
-      writers_are = λ other far. refl;
+      readers_are = λ other far there. there;
+      writers_are = λ other far there. there;
     }
 
 -- a descriptor of the process's own is closed
@@ -313,10 +403,9 @@ module _ (p : ℕ) (fds : FdTable) (tree : Tree) (fd : ℕ) (small : fd < 256) (
   rest_left changed = record {
     slots_are = rest_slot;
     named_are = λ q at ne s d is there. (d.offset, there);
-    pipes_are = λ q at ne. pipes_by fds Rest q at (rest_slot q at ne) (λ s is. refl);
     held_is = λ pipe far. refl;
-    readers_are = λ pipe far. refl;
-    writers_are = λ pipe far. refl;
+    readers_are = λ pipe far there. there;
+    writers_are = λ pipe far there. there;
   }
 
   -- its description goes, which no other names
@@ -333,15 +422,13 @@ module _ (p : ℕ) (fds : FdTable) (tree : Tree) (fd : ℕ) (small : fd < 256) (
   less_left d there unnamed = record {
     slots_are = rest_slot;
     named_are = λ q at ne s x is here. (x.offset, other_left fds.descriptions own.description s.description (other_named unnamed q at ne s is) ∙ here);
-    pipes_are = λ q at ne. pipes_by fds Less q at (rest_slot q at ne) (λ s is. ap pipe_in (other_left fds.descriptions own.description s.description (other_named unnamed q at ne s is)));
     held_is = λ pipe far. refl;
-    readers_are = λ pipe far. less_holds fds (reads_pipe pipe) own.description d there (unread pipe d.object far);
-    writers_are = λ pipe far. less_holds fds (writes_pipe pipe) own.description d there (unwritten pipe d.object far);
+    readers_are = λ pipe far some. less_holds fds (reads_pipe pipe) own.description d there (unread pipe d.object far) ∙ some;
+    writers_are = λ pipe far some. less_holds fds (writes_pipe pipe) own.description d there (unwritten pipe d.object far) ∙ some;
   }
 
   -- and its pipe, where that was the last end
   gone_left : (pipe : ℕ) → AreLeft p (Some pipe) fds Less → AreLeft p (Some pipe) fds (pipe_released Less pipe)
-  unfolding pipe_at
   gone_left pipe left = go (has_readers Less pipe || has_writers Less pipe)
     where
       go : (b : Bool) → AreLeft p (Some pipe) fds (cond b Less (record Less { pipes = maps.remove fds.pipes pipe }))
@@ -349,7 +436,6 @@ module _ (p : ℕ) (fds : FdTable) (tree : Tree) (fd : ℕ) (small : fd < 256) (
       go false = record {
         slots_are = left.slots_are;
         named_are = left.named_are;
-        pipes_are = left.pipes_are;
         held_is = λ other far. ap (λ o. unwrap_or o []) (other_left fds.pipes pipe other (λ e. far (ap (λ n. Some n) (sym e))));
         readers_are = left.readers_are;
         writers_are = left.writers_are;

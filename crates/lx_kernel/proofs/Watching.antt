@@ -36,7 +36,7 @@ use Rattle.lx_kernel.proofs.Placed.{get_put}
 use Rattle.lx_kernel.proofs.Placing.{at_placed}
 use Rattle.lx_kernel.proofs.Placed.{either, other_put, other_left}
 use Rattle.lx_kernel.proofs.Sleeping.{put_there, gone_blocked, watched_but}
-use Rattle.lx_kernel.proofs.Filing.{rests_by, used_same, filed_beside, watched_beside, filed_but, filed_on}
+use Rattle.lx_kernel.proofs.Filing.{rests_by, filed_beside, watched_beside, filed_but, filed_on}
 use Rattle.lx_kernel.proofs.Stopping.{still_turn}
 
 kept_same : (s : Shared) (q : ℕ) (task : Task UserState) → IsKept s q task task
@@ -212,8 +212,9 @@ module _ (v : Running Shared UserState) (rules : List Rule) (follow : Bool) (p :
     task_same : (q : ℕ) → (q ≡ p → ⊥) → (IsBirth event → q ≡ v.child → ⊥) → at Gone (tasks_with tasks v.child event) q ≡ at Gone v.tasks q
     task_same q ne other = with_child tasks v.child q event other ∙ other_is q ne
 
-    uses_same : (q : ℕ) → (q ≡ p → ⊥) → (IsBirth event → q ≡ v.child → ⊥) → used s q (at Gone (tasks_with tasks v.child event) q) ≡ used v.shared q (at Gone v.tasks q)
-    uses_same q ne other = ap (used s q) (task_same q ne other) ∙ used_same v.shared s q (λ fd. few.pipes q fd ne other) (at Gone v.tasks q)
+    uses_same : (q : ℕ) → (q ≡ p → ⊥) → (IsBirth event → q ≡ v.child → ⊥) → IsBlocked v.shared q (at Gone v.tasks q)
+        → used s q (at Gone (tasks_with tasks v.child event) q) ≡ used v.shared q (at Gone v.tasks q)
+    uses_same q ne other blocked = ap (used s q) (task_same q ne other) ∙ few.uses q ne other (at Gone v.tasks q) blocked
 
     -- after a turn that wakes few, all but those on the pipe that was changed are watched
     pub turn_watched : (q : ℕ) → 0 < q → (q ≡ p → ⊥) → (q ≡ told → ⊥) → IsApart changed s q (at Gone (tasks_with tasks v.child event) q)
@@ -221,7 +222,7 @@ module _ (v : Running Shared UserState) (rules : List Rule) (follow : Bool) (p :
     turn_watched q up ne still apart unwatched =
         let other = unwelcomed sets v.child q event unwatched in
         let h = watched q up (unwatched_before sets v.child q event other unwatched) in (
-          ap (can_turn s q) (task_same q ne other) ∙ few.blocked q up ne still other (at Gone v.tasks q) (λ n c u. apart n c (uses_same q ne other ∙ u)) h.0,
+          ap (can_turn s q) (task_same q ne other) ∙ few.blocked q up ne still other (at Gone v.tasks q) (λ n c u. apart n c (uses_same q ne other h.0 ∙ u)) h.0,
           λ unslept. ap rests (task_same q ne other) ∙ h.1 (unslept_before sets v.child q event other unslept),
         )
 
@@ -230,7 +231,8 @@ module _ (v : Running Shared UserState) (rules : List Rule) (follow : Bool) (p :
     turn_filed filed q up ne unwatched =
         let other = unwelcomed sets v.child q event unwatched in
         filed_on sets v.child event v.shared s q (at Gone v.tasks q) (at Gone (tasks_with tasks v.child event) q)
-        (λ unwatched. filed q up (unwatched_before sets v.child q event other unwatched)) (task_same q ne other) (used_same v.shared s q (λ fd. few.pipes q fd ne other) (at Gone v.tasks q)) unwatched
+        (λ unwatched. filed q up (unwatched_before sets v.child q event other unwatched)) (task_same q ne other)
+        (few.uses q ne other (at Gone v.tasks q) (watched q up (unwatched_before sets v.child q event other unwatched)).0) unwatched
 
 module _ (sets sets' : RunQueue) (s : Shared) (tasks : Tasks) (p told : ℕ) (same : IsSameBut sets sets' told) where
   -- after one that was told is looked at, beside the others

@@ -2,7 +2,7 @@
 use Rattle.std.specs.Prelude.{◌≡◌, ℕ, ◌==◌, ◌||◌, Bool, Option, Some, None, if◌then◌else◌}
 use Rattle.std.specs.Option.{option_and_then}
 use Rattle.lx_abi.specs.Sys.{sys_getcwd, sys_dup, sys_mkdirat, sys_unlinkat, sys_ftruncate, sys_chdir, sys_openat}
-use Rattle.lx_abi.specs.Sys.{sys_close, sys_lseek, sys_read, sys_write, sys_newfstatat, sys_fstat}
+use Rattle.lx_abi.specs.Sys.{sys_close, sys_pipe2, sys_lseek, sys_read, sys_write, sys_newfstatat, sys_fstat}
 use Rattle.lx_abi.specs.declared.log.Call.{Call}
 use Rattle.lx_model.specs.declared.stage.Stage.{Stage}
 use Rattle.lx_model.specs.declared.stage.Stage.TheVariants.{Born, Run, Faulting, Entered, Doing, Replaced, Acted, Finished, Taken, Dropped, Stopped, Released, Woken}
@@ -59,12 +59,12 @@ used s p (Alive b stage) = used_at s.fds p stage
 used s p (Dying w) = None
 used s p Gone = None
 
--- a call that leaves every pipe but the one whose end its first argument names
+-- a call that leaves every pipe that was there, but for the one whose end its first argument names
 abbrev pub is_narrow : ℕ → Bool
 is_narrow n =
     (n == sys_read) || ((n == sys_write) || ((n == sys_close) || ((n == sys_openat) || ((n == sys_lseek)
-    || ((n == sys_newfstatat) || ((n == sys_fstat) || ((n == sys_dup) || ((n == sys_getcwd) || ((n == sys_chdir)
-    || ((n == sys_mkdirat) || ((n == sys_unlinkat) || (n == sys_ftruncate))))))))))))
+    || ((n == sys_newfstatat) || ((n == sys_fstat) || ((n == sys_dup) || ((n == sys_pipe2) || ((n == sys_getcwd)
+    || ((n == sys_chdir) || ((n == sys_mkdirat) || ((n == sys_unlinkat) || (n == sys_ftruncate)))))))))))))
 
 -- the pipe whose end the first argument of a process's call names, the only one that such a call may change
 abbrev pub changed_at : FdTable → ℕ → Stage → Option ℕ

@@ -23,7 +23,7 @@ use Rattle.lx_proc.specs.declared.state.UserState.{UserState}
 use Rattle.lx_turn.specs.Linux.{linux}
 use Rattle.lx_turn.specs.Turned.{IsBirth}
 use Rattle.lx_kernel.specs.Blocking.{IsBlocked, rests}
-use Rattle.lx_kernel.specs.Pipes.{is_narrow, changed_in, pipe_at, IsApart}
+use Rattle.lx_kernel.specs.Pipes.{is_narrow, changed_in, pipe_at, used, IsApart}
 
 -- From where a process stands.
 
@@ -118,7 +118,7 @@ CalmTurnsWakeNobody = (c : Choice) (s : Shared) (child p : ℕ) (task : Task Use
 
 -- Of those that change a pipe at most.
 
--- a call that leaves every pipe but one, or that is calm
+-- a call that leaves every pipe that was there but one, or that is calm
 abbrev pub is_few_number : Shared → ℕ → ℕ → Bool
 is_few_number s child n = is_narrow n || is_calm_number s child n
 
@@ -152,12 +152,13 @@ few_after (Dying w) few ends_kept = ends_kept
 few_after Gone few ends_kept = true
 
 -- each other process that was blocked is blocked, but for one that is told, a child that is born, and those that are in
--- a call on the pipe that was changed; the descriptors of each but the child name the ends of pipes as before
+-- a call on the pipe that was changed; each but the child that was blocked is in a call on the same pipe, or on none
 pub record WakesFew (s s' : Shared) (child p told : ℕ) (changed : Option ℕ) (event : PtraceEvent UserState)
     : Type 0 where
   pub blocked : (q : ℕ) → 0 < q → (q ≡ p → ⊥) → (q ≡ told → ⊥) → (IsBirth event → q ≡ child → ⊥)
       → (task : Task UserState) → IsApart changed s q task → IsBlocked s q task → IsBlocked s' q task
-  pub pipes : (q fd : ℕ) → (q ≡ p → ⊥) → (IsBirth event → q ≡ child → ⊥) → pipe_at s'.fds q fd ≡ pipe_at s.fds q fd
+  pub uses : (q : ℕ) → (q ≡ p → ⊥) → (IsBirth event → q ≡ child → ⊥)
+      → (task : Task UserState) → IsBlocked s q task → used s' q task ≡ used s q task
 
 abbrev pub FewTurnsWakeFew : Type 0
 FewTurnsWakeFew = (c : Choice) (s : Shared) (child p : ℕ) (task : Task UserState) →

@@ -69,7 +69,7 @@ pub fn used(shared: &Shared, tasks: &Shelf<Task<UserState>>, pid: u32) -> Option
     }
 }
 
-/// A call that leaves every pipe but the one whose end its first argument names.
+/// A call that leaves every pipe that was there, but for the one whose end its first argument names.
 pub fn is_narrow(number: u64) -> bool
     ensures { result ≡ is_narrow_number number }
 {
@@ -81,6 +81,7 @@ pub fn is_narrow(number: u64) -> bool
         || number == sys::SYS_NEWFSTATAT
         || number == sys::SYS_FSTAT
         || number == sys::SYS_DUP
+        || number == sys::SYS_PIPE2
         || number == sys::SYS_GETCWD
         || number == sys::SYS_CHDIR
         || number == sys::SYS_MKDIRAT

@@ -1,16 +1,11 @@
 -- The runs that a file names, a line each.
-use Rattle.std.specs.Prelude.{◌==◌, ◌&&◌, cond, Bool, List, [], ◌∷◌, ◌++◌}
+use Rattle.std.specs.Prelude.{cond, Bool, List, [], ◌∷◌, ◌++◌}
 use Rattle.std.specs.List.{list_any}
 use Rattle.sweep_runs.specs.declared.chosen.Case.{Case}
+use Rattle.sweep_deep.specs.Naming.{names}
 use Rattle.sweep_words.specs.declared.named.NamedLine.{NamedLine}
-use Rattle.sweep_words.specs.declared.show.NamedRun.{NamedRun}
 
--- the run is that of this case: of its process and call, at that entry, with its error
-abbrev pub names : NamedRun → Case → Bool
-names r c =
-    (((r.pid == c.occurrence.pid) && (r.call == c.occurrence.call.number)) && (r.n == c.occurrence.n))
-    && (r.error.number == c.error.number)
-
+-- a line names the run of this case
 abbrev pub is_named : List NamedLine → Case → Bool
 is_named lines c = list_any (λ l. names l.run c) lines
 

@@ -7,7 +7,8 @@ use Rattle.front_end.specs.declared.fault.Fault.{Fault}
 use Rattle.sweep_command.specs.Checks.{AreTold}
 use Rattle.sweep_command.specs.Choosing.{AreChosen}
 use Rattle.sweep_command.specs.Deep.{IsOfDeep, IsOfDeepRun}
-use Rattle.sweep_command.specs.Naming.{listed, names}
+use Rattle.sweep_command.specs.Naming.{listed}
+use Rattle.sweep_deep.specs.Naming.{names}
 use Rattle.sweep_command.specs.Trials.{IsOfTrial, IsOfTrials}
 use Rattle.sweep_orders.specs.Orders.{AreOrders}
 use Rattle.sweep_orders.specs.declared.exploring.Explored.{Explored}

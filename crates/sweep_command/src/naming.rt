@@ -1,28 +1,18 @@
 //! The runs that a file names.
 
 ghost use Rattle.std.specs.Prelude.{◌≡◌, ◌++◌, IfOk, OnOk};
-ghost use Rattle.sweep_command.specs.Naming.{names, is_named, kept_if, only_named, listed};
+ghost use Rattle.sweep_command.specs.Naming.{is_named, kept_if, only_named, listed};
 
 use clap::ArgMatches;
 use front_end::Fault;
 use std::alloc::{AllocError, Global};
+use sweep_deep::naming::names;
 use sweep_rows::Reached;
 use sweep_runs::{Case, cases};
 use sweep_words::calls::name_of;
 use sweep_words::named::{NamedLine, refuse_line};
 use sweep_words::plan::Plan;
 use sweep_words::show::NamedRun;
-
-/// The run is that of this case.
-pub fn names(run: NamedRun, case: &Case) -> bool
-    ensures { result ≡ names run case.now }
-{
-    let occurrence = &case.occurrence;
-    run.pid == u64::from(occurrence.pid)
-        && run.call == occurrence.call.number
-        && run.n == occurrence.n
-        && run.error.number == case.error.number
-}
 
 /// A line names this case.
 fn is_named(named: &[NamedLine], case: &Case) -> bool

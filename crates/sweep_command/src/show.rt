@@ -1,11 +1,11 @@
 //! One run with a failure as strace(1) shows it, and what it leaves.
 
 ghost use Rattle.std.specs.Prelude.{◌≡◌, [], ◌∷◌, true, IfOk, IfSome};
-ghost use Rattle.sweep_command.specs.Naming.{names as names_case};
+ghost use Rattle.sweep_deep.specs.Naming.{names as names_case};
 ghost use Rattle.sweep_command.specs.Reports.{IsOfRun};
 ghost use Rattle.sweep_report.specs.Findings.{status_of as status_by};
 
-use crate::naming::{absence_of, names};
+use crate::naming::absence_of;
 use crate::outputs::write;
 use crate::rows::by_the_end;
 use crate::telling::told;

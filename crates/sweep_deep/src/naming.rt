@@ -14,7 +14,7 @@ use sweep_words::show::{NamedDeep, NamedRun};
 use sweep_words::wanted::wanted_by;
 
 /// The words name this case.
-fn names(run: NamedRun, case: &Case) -> bool
+pub fn names(run: NamedRun, case: &Case) -> bool
     ensures { result ≡ names run case.now }
 {
     run.pid == u64::from(case.occurrence.pid)

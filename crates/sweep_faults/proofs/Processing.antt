@@ -29,37 +29,30 @@ module _ (old new : Processes) (pid : ℕ) (process : Process) (put : new.of ≡
       ap (λ m. maps.get m p) put ∙ maps.get-insert nat_cmp_total old.of pid process p
       ∙ ap (λ b. cond b (Some process) (maps.get old.of p)) (unsigned_tied p pid)
 
-  course_put : (p : ℕ) → course_in new p ≡ cond (p == pid) process.course (course_in old p)
-  course_put p = ap (λ o. (or_first o).course) (got p) ∙ of (p == pid)
+  field_put : {X : Type 0} (field : Process → X) (p : ℕ) → field (process_at new.of p) ≡ cond (p == pid) (field process) (field (process_at old.of p))
+  field_put field p = ap (λ o. field (or_first o)) (got p) ∙ of (p == pid)
     where
-      of : (b : Bool) → (or_first (cond b (Some process) (maps.get old.of p))).course ≡ cond b process.course (course_in old p)
-      of true = refl
-      of false = refl
-
-  likeness_put : (p : ℕ) → likeness_in new p ≡ cond (p == pid) process.likeness (likeness_in old p)
-  likeness_put p = ap (λ o. (or_first o).likeness) (got p) ∙ of (p == pid)
-    where
-      of : (b : Bool) → (or_first (cond b (Some process) (maps.get old.of p))).likeness ≡ cond b process.likeness (likeness_in old p)
+      of : (b : Bool) → field (or_first (cond b (Some process) (maps.get old.of p))) ≡ cond b (field process) (field (process_at old.of p))
       of true = refl
       of false = refl
 
 module _ (calls : Calls) (old new : Processes) (pid : ℕ) (call : Call) (put : new.of ≡ maps.insert old.of pid (after_entry calls pid call (process_at old.of pid))) where
   pub courses_entered : (past : List Item) → AreCourses (course_in old) past → AreCourses (course_in new) (past ++ Enter pid call ∷ [])
   courses_entered past h =
-      course_entered (course_in old) (course_in new) pid call (course_put old new pid (after_entry calls pid call (process_at old.of pid)) put) past h
+      course_entered (course_in old) (course_in new) pid call (field_put old new pid (after_entry calls pid call (process_at old.of pid)) put (λ x. x.course)) past h
 
   pub beside_entered : (past : List Item) → GoBeside calls (likeness_in old) past → GoBeside calls (likeness_in new) (past ++ Enter pid call ∷ [])
   beside_entered past h =
       let next = after_entry calls pid call (process_at old.of pid) in
-      beside_more calls (likeness_in old) (likeness_in new) pid call next.likeness refl (likeness_put old new pid next put) past h
+      beside_more calls (likeness_in old) (likeness_in new) pid call next.likeness refl (field_put old new pid next put (λ x. x.likeness)) past h
 
 module _ (old new : Processes) (pid : ℕ) (call : Call) (word : ℕ) (replaced : Bool) (put : new.of ≡ maps.insert old.of pid (after_end call (process_at old.of pid))) where
   pub courses_ended : (past : List Item) → AreCourses (course_in old) past → AreCourses (course_in new) (past ++ Done pid call word replaced ∷ [])
   courses_ended past h =
-      course_ended (course_in old) (course_in new) pid call word replaced (course_put old new pid (after_end call (process_at old.of pid)) put) past h
+      course_ended (course_in old) (course_in new) pid call word replaced (field_put old new pid (after_end call (process_at old.of pid)) put (λ x. x.course)) past h
 
   same_likeness : (p : ℕ) → likeness_in new p ≡ likeness_in old p
-  same_likeness p = likeness_put old new pid (after_end call (process_at old.of pid)) put p ∙ of (p == pid) refl
+  same_likeness p = field_put old new pid (after_end call (process_at old.of pid)) put (λ x. x.likeness) p ∙ of (p == pid) refl
     where
       of : (b : Bool) → (p == pid) ≡ b → cond b (likeness_in old pid) (likeness_in old p) ≡ likeness_in old p
       of true e =

@@ -1,6 +1,6 @@
 //! What a reply makes of what a tracer keeps.
 
-ghost use Rattle.std.specs.Prelude.{◌≡◌, ◌&&◌, ℕ, IfOk, IsSome, OnOk, OnErr, Some, is_some, true};
+ghost use Rattle.std.specs.Prelude.{◌≡◌, ◌&&◌, ℕ, IfOk, IsSome, OnOk, OnErr, Some, is_some, true, false};
 ghost use Rattle.lx_abi.specs.declared.log.Call.{Call as CallOf};
 ghost use Rattle.lx_model.specs.Finite.{at};
 ghost use Rattle.std.specs.FinMap as maps;
@@ -257,6 +257,17 @@ fn stay(core: &mut Core, focus: Focus) -> Bytes
     Bytes::new(core.session.settings.alloc)
 }
 
+/// The same, apart, since it comes at a run's beginning or its end.
+#[inline(never)]
+#[tactic(auto, unfolding(crate::specs::Pens::wrote, crate::specs::Pens::pen_after))]
+fn stay_apart(core: &mut Core, focus: Focus) -> Bytes
+    requires { FocusHolds core.old.session.settings.options (λ pid. (at new_tracee core.old.known pid).called) focus }
+    ensures { Goes (stays (known_in core.old) (focus_of focus)) core.old.living result core.old core.new }
+{
+    core.focus = focus;
+    Bytes::new(core.session.settings.alloc)
+}
+
 /// What is asked after a reply to Wait that tells of no tracee.
 fn after_wait(childless: bool, out: bool) -> Focus
     ensures asks { (o : Options) (known : ℕ → Known)
@@ -286,8 +297,8 @@ fn hear_wait(
 {
     match told {
         Some((pid, Some(stop))) => hear_status(core, pid, stop),
-        Some((_, None)) => Ok(stay(core, Focus::Waiting)),
-        None => Ok(stay(core, after_wait(childless, out))),
+        Some((_, None)) => Ok(stay_apart(core, Focus::Waiting)),
+        None => Ok(stay_apart(core, after_wait(childless, out))),
     }
 }
 
@@ -332,9 +343,9 @@ fn hear_served(
         (place_of place) reply out) core.old.living b core.old core.new) }
 {
     if out {
-        Ok(stay(core, Focus::TurnsOver))
+        Ok(stay_apart(core, Focus::TurnsOver))
     } else if is_let_go(&place) {
-        Ok(stay(core, Focus::Waiting))
+        Ok(stay_apart(core, Focus::Waiting))
     } else {
         hear_reply(core, pid, place, reply)
     }
@@ -358,7 +369,7 @@ fn hear_outcome(core: &mut Core, reply: Reply) -> Result<Bytes, AllocError>
             }
         }
     };
-    Ok(stay(core, focus))
+    Ok(stay_apart(core, focus))
 }
 
 /// Process 1 is known from its Seize on.
@@ -399,10 +410,12 @@ fn hear_serving(
     Ok(bytes)
 }
 
-/// A reply that is admitted, with what was asked taken out.
+/// A reply that is admitted to anything but Wait, with what was asked taken out.
 #[inline(always)]
 fn go_from(core: &mut Core, focus: Focus, reply: Reply) -> Result<Bytes, AllocError>
-    requires { FocusHolds core.old.session.settings.options (λ pid. (at new_tracee core.old.known pid).called) focus }
+    requires holds { FocusHolds core.old.session.settings.options
+        (λ pid. (at new_tracee core.old.known pid).called) focus }
+    requires other { waits focus ≡ false }
     ensures { IfOk result
         (λ b. Goes
         (next_by (options_of core.old.session.settings) (script_of core.old.session.settings) (known_in core.old) focus
@@ -410,17 +423,17 @@ fn go_from(core: &mut Core, focus: Focus, reply: Reply) -> Result<Bytes, AllocEr
         (tracees_by core.old.living focus reply) b core.old core.new) }
 {
     match focus {
-        Focus::Waiting => hear_waiting(core, &reply),
+        Focus::Waiting => unreachable!(),
         Focus::Serving { pid, place } => hear_serving(core, pid, place, reply),
         Focus::AskingOutcome => hear_outcome(core, reply),
-        Focus::Booting => Ok(stay(
+        Focus::Booting => Ok(stay_apart(
             core,
             Focus::Serving {
                 pid: 1,
                 place: Awaiting::Seizing,
             },
         )),
-        Focus::Over(_) | Focus::TurnsOver | Focus::Faulted => Ok(stay(core, Focus::Faulted)),
+        Focus::Over(_) | Focus::TurnsOver | Focus::Faulted => Ok(stay_apart(core, Focus::Faulted)),
     }
 }
 

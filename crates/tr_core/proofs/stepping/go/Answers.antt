@@ -1,4 +1,4 @@
-use Rattle.std.proofs.Common.{◌≡◌, ◌∙◌, true, IfOk, ap, subst, rules}
+use Rattle.std.proofs.Common.{◌≡◌, ◌∙◌, true, false, IfOk, ap, subst, rules}
 use Rattle.tr_core.specs.Admitted.{focus_after_resuming, resumed, waits}
 use Rattle.tr_core.specs.Tracers.{Goes, known_in}
 use Rattle.pt_model.specs.Tracer.{stays}
@@ -6,7 +6,10 @@ use Rattle.tr_core.proofs.Steps.{GoesBy, is_wait, by_resumption, by_focus}
 use Rattle.tr_core.proofs.stepping.go.Goals as goal
 
 pub go_from-requires : goal.go_from-requires
-go_from-requires c = rw c.replace-focus.ensures.value c.requires
+go_from-requires c = rw c.replace-focus.ensures.value record {
+  holds = c.requires;
+  other = let e : waits c.args.core.now.focus ≡ false = search rules in e;
+}
 
 pub returns-then-is_waiting : goal.returns-then-is_waiting
 returns-then-is_waiting c =

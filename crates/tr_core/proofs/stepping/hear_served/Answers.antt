@@ -13,7 +13,7 @@ returns-then-is_let_go c =
     let o = options_of old.session.settings in
     let script = script_of old.session.settings in
     let e : lets_go (place_of c.args.place) ≡ true = search rules in
-    subst (λ u. Goes (serves_by o script (known_in old) c.args.pid (place_of c.args.place) c.args.reply u) old.living c.stay-then-is_let_go.result old c.stay-then-is_let_go.new.core)
+    subst (λ u. Goes (serves_by o script (known_in old) c.args.pid (place_of c.args.place) c.args.reply u) old.living c.stay_apart-then-is_let_go.result old c.stay_apart-then-is_let_go.new.core)
     (sym c.if-out.false)
-    (subst (λ (n : Next). Goes n old.living c.stay-then-is_let_go.result old c.stay-then-is_let_go.new.core)
-    (goes_on o script (known_in old) c.args.pid (place_of c.args.place) c.args.reply e) c.stay-then-is_let_go.ensures)
+    (subst (λ (n : Next). Goes n old.living c.stay_apart-then-is_let_go.result old c.stay_apart-then-is_let_go.new.core)
+    (goes_on o script (known_in old) c.args.pid (place_of c.args.place) c.args.reply e) c.stay_apart-then-is_let_go.ensures)
