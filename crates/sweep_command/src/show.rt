@@ -12,6 +12,7 @@ use crate::telling::told;
 use clap::ArgMatches;
 use front_end::Fault;
 use std::alloc::{AllocError, Global};
+use sweep_deep::naming::names;
 use std::io::Write;
 use sweep_report::findings;
 use sweep_report::texts::quoted_bytes;
