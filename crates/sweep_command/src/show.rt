@@ -13,6 +13,7 @@ use clap::ArgMatches;
 use front_end::Fault;
 use std::alloc::{AllocError, Global};
 use std::io::Write;
+use sweep_deep::naming::names;
 use sweep_report::findings;
 use sweep_report::texts::quoted_bytes;
 use sweep_report::told::Told;
