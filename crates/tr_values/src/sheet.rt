@@ -78,12 +78,11 @@ impl<'a> Sheet<'a> {
         })
     }
 
-    /// What was put to a part, with room for one more.
+    /// What was put to a part.
     pub fn take(&mut self, part: Sheet<'a>) -> Result<(), Needed>
         ensures { spec.Leaves result self.new
             (spec.put part.entry.out (record { out = self.old.out; left = part.entry.left })) }
     {
-        self.text.reserve(part.text.len().saturating_add(PART))?;
         self.text.push_str(part.text.as_str())?;
         self.unread = part.unread;
         Ok(())
