@@ -100,15 +100,11 @@ fn push_quote(text: &mut String, buffer: &mut Buffer) -> Result<(), AllocError>
     Ok(())
 }
 
-/// How long a spelling is at most.
-const LONGEST: usize = 4;
-
 /// The bytes with their quotes.
 pub(crate) fn push_quoted(text: &mut String, bytes: &[u8]) -> Result<(), AllocError>
     ensures { OnOk result
         (string_bytes text.new ≡ string_bytes text.old ++ (codes "\"" ++ (spec.escaped bytes.now ++ codes "\""))) }
 {
-    text.reserve(bytes.len().saturating_mul(LONGEST))?;
     let mut buffer = Buffer::new();
     push_quote(text, &mut buffer)?;
     push_escaped(text, &mut buffer, bytes)?;
