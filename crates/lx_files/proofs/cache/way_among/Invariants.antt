@@ -1,0 +1,9 @@
+use Rattle.std.proofs.Common.{length}
+use Rattle.lx_files.specs.Ways.{AreKnown}
+use Rattle.lx_files.proofs.cache.way_among.Given as goal
+
+abbrev pub invariant-loop-known : goal.invariant-loop-known
+invariant-loop-known l = AreKnown l.folders.children l.left
+
+abbrev pub decreases-loop-known : goal.decreases-loop-known
+decreases-loop-known l = length l.left
