@@ -1,4 +1,4 @@
-use Rattle.std.proofs.Common.{◌≡◌, ◌∷◌, ap, subst, rules, ◌∙◌}
+use Rattle.std.proofs.Common.{◌≡◌, ap, subst, rules, ◌∙◌}
 use Rattle.lx_files.specs.Folders.{at, names_of}
 use Rattle.lx_files.specs.Ways.{AreKnown}
 use Rattle.lx_files.proofs.cache.folder_of.Goals as goal

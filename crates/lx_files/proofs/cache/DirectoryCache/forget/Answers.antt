@@ -1,4 +1,4 @@
-use Rattle.std.proofs.Common.{◌≡◌, ◌==◌, Some, false, not, sym, subst, filter, rules}
+use Rattle.std.proofs.Common.{◌≡◌, ◌==◌, Some, false, not, sym, subst, rules}
 use Rattle.std.specs.Prelude.{IfSome}
 use Rattle.std.proofs.lemmas.Fn.{filter_same}
 use Rattle.lx_files.specs.Folders.{names_of}
