@@ -87,3 +87,7 @@ known_less children (suc n) (k ∷ ks) h = known_less children n ks h.1
 pub known_pushed : (children : Children) (ks more : List Known) (k : Known) (pushed : Bool) → more ≡ cond pushed (ks ++ k ∷ []) ks → AreKnown children ks → IsKnown children k → AreKnown children more
 known_pushed children ks more k true e h is = subst (AreKnown children) (sym e) (known_more children ks k h is)
 known_pushed children ks more k false e h is = subst (AreKnown children) (sym e) h
+
+pub known_last : (children : Children) (ks : List Known) (k : Known) → AreKnown children (ks ++ k ∷ []) → AreKnown children ks × IsKnown children k
+known_last children [] k h = (tt, h.0)
+known_last children (j ∷ ks) k h = let rest = known_last children ks k h.1 in ((h.0, rest.0), rest.1)

@@ -1,7 +1,7 @@
 //! Which directories' folders are known.
 
-ghost use Rattle.std.specs.Prelude.{◌≡◌, ◌==◌, Some, IfSome, true, false};
-ghost use Rattle.lx_files.specs.Folders.{Children, at as at_names, names_of, IsTree, StaysBeside};
+ghost use Rattle.std.specs.Prelude.{◌≡◌, ◌==◌, ℕ, List, Some, IfSome, true, false};
+ghost use Rattle.lx_files.specs.Folders.{Children, Standings, at as at_names, names_of, IsTree, StaysBeside};
 ghost use Rattle.lx_files.specs.Ways.{AreKnown, IsCached, IsKnown, IsWay};
 
 use crate::folder::Folders;
@@ -14,6 +14,9 @@ use std::alloc::{AllocError, Global};
 
 /// The most directories that are known since a process went into them.
 const MOST_ENTERED: usize = 8;
+
+/// So few bytes have few names.
+const NEAR: usize = 32;
 
 /// The directory above the path that was made last, and those that processes went into lately.
 #[derive(Drop)]
@@ -37,20 +40,51 @@ fn folder_of(entered: &[Known], path: &[u8]) -> Option<u32>
     None
 }
 
-/// From one of these directories, or from one above it.
+/// A way of which little is left.
+fn is_near(way: &Option<Way>) -> bool {
+    match way {
+        None => false,
+        Some(way) => way.rest.len() <= NEAR,
+    }
+}
+
+/// That of which less is left.
+fn nearer<'a>(one: Option<Way<'a>>, other: Option<Way<'a>>) -> Option<Way<'a>>
+    ensures { (children : Children) (standings : Standings) (path : List ℕ)
+        → IfSome one.entry (λ w. IsWay children standings w.folder w.rest.now path)
+        → IfSome other.entry (λ w. IsWay children standings w.folder w.rest.now path)
+        → IfSome result (λ w. IsWay children standings w.folder w.rest.now path) }
+{
+    match (one, other) {
+        (Some(first), Some(second)) => {
+            if first.rest.len() <= second.rest.len() {
+                one
+            } else {
+                other
+            }
+        }
+        (Some(_), None) => one,
+        (None, _) => other,
+    }
+}
+
+/// From one of these directories, or from one above it: the first that is near, of those that were entered last, or the
+/// nearest.
 fn way_among<'a>(folders: &Folders, entered: &[Known], path: &'a [u8]) -> Option<Way<'a>>
     requires tree { IsTree folders.now.children folders.now.standings folders.now.full_below }
     requires known { AreKnown folders.now.children entered.now }
     ensures { IfSome result (λ w. IsWay folders.now.children folders.now.standings w.folder w.rest.now path.now) }
 {
+    let mut best = None;
     let mut left = entered;
-    while let Some((known, rest)) = left.split_first() {
-        if let Some(way) = way_from(folders, known, path) {
-            return Some(way);
+    while let Some((known, before)) = left.split_last() {
+        best = nearer(best, way_from(folders, known, path));
+        if is_near(&best) {
+            return best;
         }
-        left = rest;
+        left = before;
     }
-    None
+    best
 }
 
 /// From the directory above the path that was made last, or from one above it.
@@ -65,21 +99,31 @@ fn way_made<'a>(folders: &Folders, made: &Option<Known>, path: &'a [u8]) -> Opti
     }
 }
 
-/// From where a path is looked up: from a directory that is known, or from the top.
+/// From a directory that is known, or from one above it.
+fn way_known<'a>(folders: &Folders, cache: &DirectoryCache, path: &'a [u8]) -> Option<Way<'a>>
+    requires tree { IsTree folders.now.children folders.now.standings folders.now.full_below }
+    requires cached { IsCached folders.now.children cache.now }
+    ensures { IfSome result (λ w. IsWay folders.now.children folders.now.standings w.folder w.rest.now path.now) }
+{
+    let entered = way_among(folders, cache.entered.as_slice(), path);
+    if is_near(&entered) {
+        return entered;
+    }
+    nearer(entered, way_made(folders, &cache.made, path))
+}
+
+/// From where a path is looked up: from near a directory that is known, or from the top.
 pub fn way_to<'a>(folders: &Folders, cache: &DirectoryCache, path: &'a [u8]) -> Way<'a>
     requires tree { IsTree folders.now.children folders.now.standings folders.now.full_below }
     requires cached { IsCached folders.now.children cache.now }
     ensures { IsWay folders.now.children folders.now.standings result.folder result.rest.now path.now }
 {
-    if let Some(way) = way_made(folders, &cache.made, path) {
-        return way;
-    }
-    if let Some(way) = way_among(folders, cache.entered.as_slice(), path) {
-        return way;
-    }
-    Way {
-        folder: TOP,
-        rest: path,
+    match way_known(folders, cache, path) {
+        Some(way) => way,
+        None => Way {
+            folder: TOP,
+            rest: path,
+        },
     }
 }
 

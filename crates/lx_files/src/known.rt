@@ -59,23 +59,20 @@ fn parent(path: &[u8]) -> &[u8]
     left
 }
 
-/// From a directory that is known, or from one above it, where a path leads on from there and begins as half of that
-/// directory's path does: else it is nearer from the top.
+/// From a directory that is known, or from one above it, where a path leads on from there. A path that doesn't begin as
+/// half of the directory's does is nearer from the top.
 pub fn way_from<'a>(folders: &Folders, known: &Known, path: &'a [u8]) -> Option<Way<'a>>
     requires tree { IsTree folders.now.children folders.now.standings folders.now.full_below }
     requires known { IsKnown folders.now.children known.now }
     ensures { IfSome result (λ w. IsWay folders.now.children folders.now.standings w.folder w.rest.now path.now) }
 {
     let mut over = known.path.as_slice();
-    if !path.starts_with(&over[..over.len() / 2]) {
-        return None;
-    }
     let mut folder = known.folder;
     'up: loop {
         if let Some(rest) = below(path, over) {
             return Some(Way { folder, rest });
         }
-        if over.is_empty() {
+        if over.is_empty() || !path.starts_with(&over[..over.len() / 2]) {
             return None;
         }
         over = parent(over);
