@@ -217,11 +217,12 @@ fn reason(alloc: Global, refused: RefusedExpression<'_>) -> Result<String, Alloc
     }
 }
 
-/// Why an expression is refused, in one line that names it: `in 'TEXT': REASON`.
+/// Why an expression is refused, in one line that names what was typed for it: `in 'TYPED': REASON`.
 pub fn explain_expression(
     alloc: Global,
     refused: RefusedExpression<'_>,
+    typed: &str,
 ) -> Result<String, AllocError> {
     let reason = reason(alloc, refused)?;
-    format!(in alloc; "in '{}': {reason}", Escaped(refused.text))
+    format!(in alloc; "in '{}': {reason}", Escaped(typed))
 }

@@ -206,13 +206,14 @@ fn parse_expressions<'a>(
     })
 }
 
-fn refusal(alloc: Global, refused: RefusedExpression<'_>) -> Fault
+/// `typed`: the words that stand for it on the command line.
+fn refusal(alloc: Global, refused: RefusedExpression<'_>, typed: &str) -> Fault
     ensures { IsRefusal refused.entry.fault result }
 {
     if refused.fault == ExprFault::Memory {
         return Fault::Memory;
     }
-    match explain_expression(alloc, refused) {
+    match explain_expression(alloc, refused, typed) {
         Ok(reason) => Fault::Expression {
             fault: refused.fault,
             reason,
@@ -221,14 +222,14 @@ fn refusal(alloc: Global, refused: RefusedExpression<'_>) -> Fault
     }
 }
 
-/// One expression.
-pub fn read_expression(alloc: Global, text: &str) -> Result<Expr, Fault>
+/// One expression. A refusal names the words that were typed for it.
+pub fn read_expression(alloc: Global, text: &str, typed: &str) -> Result<Expr, Fault>
     ensures said { IfOk result (SaysText text.now) }
     ensures refused { IfErr result (RefusesText text.now) }
 {
     match parse_expr(alloc, text) {
         Ok(expression) => Ok(expression),
-        Err(fault) => Err(refusal(alloc, RefusedExpression { text, fault })),
+        Err(fault) => Err(refusal(alloc, RefusedExpression { text, fault }, typed)),
     }
 }
 
@@ -242,6 +243,6 @@ pub fn read_expressions(alloc: Global, matches: &ArgMatches) -> Result<Expressio
     };
     match parse_expressions(alloc, words.as_slice()) {
         Ok(expressions) => Ok(expressions),
-        Err(refused) => Err(refusal(alloc, refused)),
+        Err(refused) => Err(refusal(alloc, refused, refused.text)),
     }
 }

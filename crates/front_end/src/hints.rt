@@ -190,7 +190,8 @@ fn when_text(alloc: Global, when: When) -> Result<String, AllocError> {
 fn read_rules(alloc: Global, matches: &ArgMatches) -> Result<Vec<Rule>, Fault> {
     let mut rules = Vec::new(alloc);
     for word in expression_words(alloc, matches)? {
-        if let Expr::Inject(rule) = read_expression(alloc, word.as_str())? {
+        let text = word.as_str();
+        if let Expr::Inject(rule) = read_expression(alloc, text, text)? {
             rules.push(rule)?;
         }
     }

@@ -270,7 +270,7 @@ pub const OPTIONS: [OptionRow; 50] = [
         short: None,
         long: Some("known"),
         takes: Takes::Value("FILE"),
-        help: "A line a known finding, which doesn't count: its word and its call, as LOST write /b; * is any text",
+        help: "A line a finding that doesn't count: word, call, function or -, and path, as LOST write - /b; * is any text",
     },
     OptionRow {
         tools: &[Tool::Sweep],
@@ -294,7 +294,7 @@ pub const OPTIONS: [OptionRow; 50] = [
         short: None,
         long: Some("fail-fast"),
         takes: Takes::Nothing,
-        help: "Makes no more runs once one is a finding",
+        help: "Makes no more runs once one is a finding that isn't known",
     },
     OptionRow {
         tools: &[Tool::Sweep],

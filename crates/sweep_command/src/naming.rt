@@ -55,14 +55,24 @@ pub fn listed(alloc: Global, plan: &Plan, cases: Vec<Case>) -> Result<Vec<Case>,
     }
 }
 
-/// What is said of a run whose process doesn't make the call so often.
-pub fn absence_of(alloc: Global, run: NamedRun) -> Result<String, AllocError> {
-    let name = name_of(alloc, run.call)?;
-    format!(in alloc; "process {} has no call {} of {name}", run.pid, run.n)
+/// That calls of children don't fail without `-f`, where they don't and one is named.
+fn hint(plan: &Plan, run: NamedRun) -> &'static str {
+    if plan.setup.boot.follow || run.pid == 1 {
+        ""
+    } else {
+        "; without -f no call of a child fails"
+    }
 }
 
-fn absent(alloc: Global, path: &str, one: NamedLine) -> Fault {
-    match absence_of(alloc, one.run) {
+/// What is said of a run whose process doesn't make the call so often.
+pub fn absence_of(alloc: Global, plan: &Plan, run: NamedRun) -> Result<String, AllocError> {
+    let name = name_of(alloc, run.call)?;
+    let hint = hint(plan, run);
+    format!(in alloc; "process {} has no call {} of {name}{hint}", run.pid, run.n)
+}
+
+fn absent(alloc: Global, path: &str, plan: &Plan, one: NamedLine) -> Fault {
+    match absence_of(alloc, plan, one.run) {
         Ok(reason) => refuse_line(alloc, path, one.line, reason.as_str()),
         Err(error) => Fault::from(error),
     }
@@ -82,7 +92,7 @@ pub fn check_named(
     let cases = cases(alloc, log, plan.wanted.as_slice(), plan.setup.boot.follow)?;
     for one in plan.named.as_slice() {
         if !cases.iter().any(|case| names(one.run, case)) {
-            return Err(absent(alloc, path, *one));
+            return Err(absent(alloc, path, plan, *one));
         }
     }
     Ok(())

@@ -58,8 +58,8 @@ fn case_of(
 }
 
 /// Its process doesn't make the call so often.
-fn absent(alloc: Global, run: NamedRun) -> Fault {
-    match absence_of(alloc, run) {
+fn absent(alloc: Global, plan: &Plan, run: NamedRun) -> Fault {
+    match absence_of(alloc, plan, run) {
         Ok(reason) => Fault::usage(format!(in alloc; "--show: {reason}")),
         Err(error) => Fault::from(error),
     }
@@ -133,7 +133,7 @@ pub fn show<W: Write>(
 {
     let calls = traced_calls(alloc, &plan.setup, reference.log.as_slice()?)?;
     let Some(case) = case_of(alloc, plan, reference, &calls, run)? else {
-        return Err(absent(alloc, run));
+        return Err(absent(alloc, plan, run));
     };
     let row = run_case(alloc, &plan.setup, reference, case)?;
     let shown = shown(alloc, plan, case)?;

@@ -1,8 +1,8 @@
 //! The calls that are to fail behind a failure.
 
-use crate::wanted::{named, set_of, split};
+use crate::wanted::{Pieces, named, refuse, set_of, split};
 use clap::ArgMatches;
-use front_end::{Fault, Shown, expression_words, read_expression};
+use front_end::{Fault, Shown, expression_words};
 use std::alloc::Global;
 use sweep_runs::{Errors, Wanted};
 
@@ -22,14 +22,19 @@ pub fn deep_rule(text: &str) -> Option<&str> {
     text.strip_prefix("deep=")
 }
 
-/// What stands behind the first `deep=` of these words.
-fn first_rule(words: &[String]) -> Option<&str> {
+/// The first of these words that begins so.
+fn first_deep(words: &[String]) -> Option<&str> {
     for word in words {
-        if let Some(rule) = deep_rule(word.as_str()) {
-            return Some(rule);
+        if deep_rule(word.as_str()).is_some() {
+            return Some(word.as_str());
         }
     }
     None
+}
+
+/// The pieces behind `deep=`.
+fn cut(text: &str) -> Option<Pieces<'_>> {
+    split(deep_rule(text)?)
 }
 
 fn excluded(alloc: Global, option: &str) -> Fault {
@@ -58,44 +63,33 @@ fn check(alloc: Global, matches: &ArgMatches, words: &[String]) -> Result<(), Fa
     Ok(())
 }
 
-/// The fault of what stands behind `deep=`: the one that it has behind `fault=`.
-fn refuse(alloc: Global, rule: &str) -> Fault {
-    let Ok(text) = format!(in alloc; "fault={rule}") else {
-        return Fault::Memory;
-    };
-    match read_expression(alloc, text.as_str()) {
-        Err(fault) => fault,
-        Ok(_) => Fault::usage(format!(in alloc;
-            "-e deep={}: not SET or SET:error=E,..",
-            Shown(rule)
-        )),
-    }
-}
-
-/// The calls of a rule, with the errors that it names, or with one that an occurrence can have.
-fn wanted_behind(alloc: Global, rule: &str) -> Result<Wanted, Fault> {
-    let Some(pieces) = split(rule) else {
-        return Err(refuse(alloc, rule));
+/// The calls of such an expression, with the errors that it names, or with one that an occurrence can have.
+fn wanted_behind(alloc: Global, text: &str) -> Result<Wanted, Fault> {
+    let Some(pieces) = cut(text) else {
+        return Err(Fault::usage(format!(in alloc;
+            "-e {}: not deep=SET or deep=SET:error=E,..",
+            Shown(text)
+        )));
     };
     if let Some(names) = pieces.errors {
-        return named(alloc, pieces.set, names);
+        return named(alloc, text, pieces.set, names);
     }
     match set_of(alloc, pieces.set)? {
         Some(calls) => Ok(Wanted {
             calls,
             errors: Errors::Possible,
         }),
-        None => Err(refuse(alloc, rule)),
+        None => Err(refuse(alloc, text, pieces.set)),
     }
 }
 
 /// The calls that are to fail behind a failure, if the words ask for that.
 pub fn read_deep(alloc: Global, matches: &ArgMatches) -> Result<Option<Wanted>, Fault> {
     let words = expression_words(alloc, matches)?;
-    let Some(rule) = first_rule(words.as_slice()) else {
+    let Some(text) = first_deep(words.as_slice()) else {
         return Ok(None);
     };
     check(alloc, matches, words.as_slice())?;
-    let wanted = wanted_behind(alloc, rule)?;
+    let wanted = wanted_behind(alloc, text)?;
     Ok(Some(wanted))
 }

@@ -1,10 +1,11 @@
 //! What happens at calls in the place of one error, and what is started then on the files that are left.
 
 use crate::show::{named_deep, named_trial};
+use crate::wanted::refuse;
 use crate::worlds::{world_in, world_word};
 use clap::ArgMatches;
 use containers::{Bytes, Seq};
-use front_end::{Fault, Shown, expression_words, read_expression};
+use front_end::{Fault, Shown, expression_words};
 use lx_abi::Set;
 use std::alloc::{AllocError, Global};
 use sweep_rows::World;
@@ -53,6 +54,7 @@ pub struct Second {
 /// A set as a word has it, and what happens at its calls.
 #[derive(Clone, Copy)]
 struct Asked<'a> {
+    text: &'a str,
     word: &'static str,
     deed: Deed,
     set: &'a str,
@@ -95,19 +97,13 @@ fn check(
     Ok(())
 }
 
-/// The fault of a set: the one that it has behind `fault=`.
+/// The fault of a set: something stands behind it, or else the one that it has behind `fault=`.
 fn refuse_set(alloc: Global, asked: Asked<'_>) -> Fault {
-    let Ok(text) = format!(in alloc; "fault={}:error=EIO", asked.set) else {
-        return Fault::Memory;
-    };
-    match read_expression(alloc, text.as_str()) {
-        Err(fault) => fault,
-        Ok(_) => Fault::usage(format!(in alloc;
-            "-e {}={}: not a set of calls",
-            asked.word,
-            Shown(asked.set)
-        )),
+    if asked.set.contains(':') {
+        let (text, word) = (Shown(asked.text), asked.word);
+        return Fault::usage(format!(in alloc; "-e {text}: not {word}=SET"));
     }
+    refuse(alloc, asked.text, asked.set)
 }
 
 /// What `DEED=SET` asks for.
@@ -122,7 +118,12 @@ fn asked_by(text: &str) -> Option<Asked<'_>> {
             (world_word(world), Deed::Begin(world))
         }
     };
-    Some(Asked { word, deed, set })
+    Some(Asked {
+        text,
+        word,
+        deed,
+        set,
+    })
 }
 
 /// What the first such word asks for.

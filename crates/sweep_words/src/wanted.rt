@@ -12,6 +12,11 @@ use std::alloc::{AllocError, Global};
 use sweep_runs::{Errors, Wanted};
 use tr_expr::{ExprFault, errno, parse_trace};
 
+/// What may stand after `-e`.
+const TAKEN: &str =
+    "fault=SET[:error=E,..], deep=SET[:error=E,..], or SET behind stop=, kill=, short=, full=, \
+broken=, read-only=, no-files= or no-memory=";
+
 /// A set's text, and the names of errors behind it.
 #[derive(Clone, Copy)]
 pub(crate) struct Pieces<'a> {
@@ -19,14 +24,19 @@ pub(crate) struct Pieces<'a> {
     pub errors: Option<&'a str>,
 }
 
-/// The fault of an expression that a sweep doesn't take: its own, if it has one.
-fn refuse(alloc: Global, text: &str) -> Fault {
-    match read_expression(alloc, text) {
+/// The fault of an expression that a sweep doesn't take.
+fn untaken(alloc: Global, text: &str) -> Fault {
+    Fault::usage(format!(in alloc; "-e {}: a sweep takes {TAKEN}", Shown(text)))
+}
+
+/// The fault that a rule has behind `fault=`, told of the words that were typed for it.
+pub(crate) fn refuse(alloc: Global, typed: &str, rule: &str) -> Fault {
+    let Ok(text) = format!(in alloc; "fault={rule}") else {
+        return Fault::Memory;
+    };
+    match read_expression(alloc, text.as_str(), typed) {
         Err(fault) => fault,
-        Ok(_) => Fault::usage(format!(in alloc;
-            "-e {}: a sweep takes fault=SET, fault=SET:error=E,.., deep=SET, stop=SET, kill=SET, short=SET or WORLD=SET",
-            Shown(text)
-        )),
+        Ok(_) => untaken(alloc, typed),
     }
 }
 
@@ -53,10 +63,10 @@ fn cut(text: &str) -> Option<Pieces<'_>> {
     split(text.strip_prefix("fault=")?)
 }
 
-/// The fault of the expression with this set and error.
-fn refuse_error(alloc: Global, set: &str, name: &str) -> Fault {
-    match format!(in alloc; "fault={set}:error={name}") {
-        Ok(text) => refuse(alloc, text.as_str()),
+/// The fault of a set with one of the errors that stand behind it.
+fn refuse_error(alloc: Global, typed: &str, set: &str, name: &str) -> Fault {
+    match format!(in alloc; "{set}:error={name}") {
+        Ok(rule) => refuse(alloc, typed, rule.as_str()),
         Err(_) => Fault::Memory,
     }
 }
@@ -75,17 +85,17 @@ fn error_of(name: &str) -> Option<Errno> {
     Errno::from_number(errno(name).ok()?)
 }
 
-/// Calls with the errors that are named. A fault names the one error that it is found beside.
-pub(crate) fn named(alloc: Global, set: &str, names: &str) -> Result<Wanted, Fault> {
+/// Calls with the errors that are named. A fault tells of the words that were typed.
+pub(crate) fn named(alloc: Global, typed: &str, set: &str, names: &str) -> Result<Wanted, Fault> {
     let (first, _) = names.split_once(',').unwrap_or((names, ""));
     let Some(calls) = set_of(alloc, set)? else {
-        return Err(refuse_error(alloc, set, first));
+        return Err(refuse_error(alloc, typed, set, first));
     };
     let mut errors = Vec::new(alloc);
     for name in names.split(',') {
         match error_of(name) {
             Some(error) => errors.push(error)?,
-            None => return Err(refuse_error(alloc, set, name)),
+            None => return Err(refuse_error(alloc, typed, set, name)),
         }
     }
     Ok(Wanted {
@@ -145,13 +155,13 @@ fn add(
     every_error: bool,
 ) -> Result<(), Fault> {
     let Some(pieces) = cut(text) else {
-        return Err(refuse(alloc, text));
+        return Err(untaken(alloc, text));
     };
     match pieces.errors {
-        Some(names) => wanted.push(named(alloc, pieces.set, names)?)?,
+        Some(names) => wanted.push(named(alloc, text, pieces.set, names)?)?,
         None => match set_of(alloc, pieces.set)? {
             Some(calls) => add_set(alloc, wanted, calls, every_error)?,
-            None => return Err(refuse(alloc, text)),
+            None => return Err(refuse(alloc, text, pieces.set)),
         },
     }
     Ok(())

@@ -19,7 +19,8 @@ const NOTES: &str = "Which calls are to fail, after -e:
          a ! in front takes all others
 Without -e it is fault=all.
 
-In each run one occurrence of one call fails, and nothing else. What came of it, the findings first, in capitals:
+In each run one occurrence of one call fails, with deep= two, and nothing else is changed. What came of it, the findings
+first, in capitals:
   HUNG       a process did not end
   KILLED     a signal ended process 1
   BROKEN     the check of the files that were left failed
@@ -31,6 +32,7 @@ In each run one occurrence of one call fails, and nothing else. What came of it,
   reported   process 1 ended with another code
   recovered  all is as without the failure, by other calls
   ignored    and by the same calls
+  whole      with stop= or kill= no file that was there is destroyed, or the program of --then exits with 0
 The report has the calls with findings, damaged and warned runs: each with its occurrences, what came of which errors,
 and the words by which the first of these runs is shown. Below stand the command that shows the first
 finding, and in the last line how many runs came to what: a report without it was cut.
