@@ -38,6 +38,7 @@ fn go_at(
         Lookup::Absent => Ok(CallReply::Refused(Errno::ENOENT)),
         Lookup::IsFile | Lookup::NotDirectory => Ok(CallReply::Refused(Errno::ENOTDIR)),
         Lookup::IsDirectory => {
+            shared.tree.names.enter(alloc, path.as_slice());
             enter(&mut shared.entries, pid, path);
             Ok(CallReply::Returned(0))
         }

@@ -11,13 +11,13 @@ use Rattle.containers.specs.Vacant.{vacant, IsFullBelow}
 use Rattle.containers.proofs.Vacant.{vacant_is_least}
 use Rattle.lx_files.specs.Paths.{path_cmp, has_slash}
 use Rattle.lx_files.specs.Kinds.{NameMap}
-use Rattle.lx_files.specs.Folders.{Children, Standings, child, child_of, at, top, depth_below, stands, IsTree, HasMore, HasLess, Keeps, KeepsBeside, Stays}
+use Rattle.lx_files.specs.Folders.{Children, Standings, child, child_of, at, top, depth_below, stands, IsTree, HasMore, HasLess, Keeps, KeepsBeside, Stays, StaysBeside}
 use Rattle.lx_files.specs.declared.folder.Standing.{Standing}
 use Rattle.lx_files.proofs.Full.{full_next, full_remove}
 use Rattle.lx_files.proofs.Totals.{insert-same}
 use Rattle.lx_files.proofs.Naming.{at-next, at-top}
 use Rattle.lx_files.proofs.Growing.{grown, grown_keeps, differs, at_stays, more_here, stands_now, got_insert, got_remove}
-use Rattle.lx_files.proofs.Pruned.{pruned, pruned_keeps}
+use Rattle.lx_files.proofs.Pruned.{pruned, pruned_keeps, pruned_stays}
 
 module _ (children : Children) (folder : ℕ) where
   child_at : (a : ℕ) (q : List ℕ) → (a == folder) ≡ true → child children a q ≡ option_and_then (λ (m : NameMap). maps.get m q) (maps.get children folder)
@@ -142,3 +142,6 @@ module _ (old mid new : Children) (s s' : Standings) (full full' k : ℕ) (x : S
 
   pub gone_keeps : KeepsBeside k s s'
   gone_keeps = subst (λ z. KeepsBeside k s z) (sym gone) (pruned_keeps new old s full full' k x t (sym is) empty has_old filled')
+
+  pub gone_stays : StaysBeside k old new
+  gone_stays = pruned_stays new old s full full' k x t (sym is) empty has_old

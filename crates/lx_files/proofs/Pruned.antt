@@ -1,5 +1,5 @@
 -- A folder that is taken away.
-use Rattle.std.proofs.Common.{◌≡◌, ℕ, ◌||◌, ◌&&◌, Bool, true, false, cond, List, Option, Some, None, refl, ap, sym, subst, ◌∙◌, arith}
+use Rattle.std.proofs.Common.{◌≡◌, ℕ, ◌||◌, ◌&&◌, Bool, true, false, cond, List, [], ◌∷◌, Option, Some, None, refl, ap, sym, subst, ◌∙◌, arith}
 use Rattle.std.proofs.lemmas.Bool.Decides.{nat_tests}
 use Rattle.std.proofs.lemmas.Cmp.{nat_list_cmp_total}
 use Rattle.std.specs.Prelude.{◌==◌, IsSome, is_some}
@@ -8,8 +8,9 @@ use Rattle.std.specs.Cmp.{tied_itself}
 use Rattle.std.specs.FinMap as maps
 use Rattle.containers.specs.Vacant.{IsFullBelow}
 use Rattle.lx_files.specs.Paths.{path_cmp}
-use Rattle.lx_files.specs.Folders.{Children, Standings, Numbers, child, top, above_in, name_in, depth_below, stands, IsTree, AreThere, HasLess, named}
+use Rattle.lx_files.specs.Folders.{Children, Standings, Numbers, child, child_of, at, top, above_in, name_in, depth_below, stands, IsTree, AreThere, HasLess, StaysBeside, named}
 use Rattle.lx_files.specs.declared.folder.Standing.{Standing}
+use Rattle.lx_files.proofs.Naming.{at-next, at-top}
 use Rattle.lx_files.proofs.Texts.{equal_is}
 use Rattle.lx_files.proofs.Climbing.{same_some}
 use Rattle.lx_files.proofs.Growing.{Differs, same_names, got_remove}
@@ -74,23 +75,29 @@ module _ (less more : Children) (s : Standings) (full full' : ℕ) (k : ℕ) (x 
       go true e h' = absurd (cc h')
       go false e h' = (h', e)
 
-  still_up : (i : ℕ) (y : Standing) → maps.get s' i ≡ Some y → child less y.above y.name ≡ Some i
-  still_up i y h = go ((y.above == x.above) && eq_by_cmp path_cmp y.name x.name) refl
+  leads_still : (a i : ℕ) (q : List ℕ) → child more a q ≡ Some i → (i == k) ≡ false → child less a q ≡ Some i
+  leads_still a i q leads other = go ((a == x.above) && eq_by_cmp path_cmp q x.name) refl
     where
-      o : (maps.get s i ≡ Some y) × ((i == k) ≡ false)
-      o = old i y h
-
-      go : (b : Bool) → ((y.above == x.above) && eq_by_cmp path_cmp y.name x.name) ≡ b → child less y.above y.name ≡ Some i
-      go false e = has y.above y.name ∙ ap (λ b. cond b None (child more y.above y.name)) e ∙ t.up i y o.0
+      go : (b : Bool) → ((a == x.above) && eq_by_cmp path_cmp q x.name) ≡ b → child less a q ≡ Some i
+      go false e = has a q ∙ ap (λ b. cond b None (child more a q)) e ∙ leads
       go true e =
-          let two = both_true (y.above == x.above) (eq_by_cmp path_cmp y.name x.name) e in
-          let number : (y.above == x.above) ≡ true = two.0 in
-          let above : y.above ≡ x.above = grind (arith, nat_tests, number) in
-          let name : y.name ≡ x.name = equal_is y.name x.name two.1 in
-          let to : Some i ≡ Some k = sym (t.up i y o.0) ∙ ap (λ z. child more z y.name) above ∙ ap (child more x.above) name ∙ here in
+          let two = both_true (a == x.above) (eq_by_cmp path_cmp q x.name) e in
+          let number : (a == x.above) ≡ true = two.0 in
+          let above : a ≡ x.above = grind (arith, nat_tests, number) in
+          let to : Some i ≡ Some k = sym leads ∙ ap (λ z. child more z q) above ∙ ap (child more x.above) (equal_is q x.name two.1) ∙ here in
           let same : i ≡ k = same_some i k to in
-          let other : (i == k) ≡ false = o.1 in
           absurd (grind (arith, nat_tests, same, other))
+
+  pub pruned_stays : StaysBeside k more less
+  pruned_stays [] i h other = at-top less ∙ sym (at-top more) ∙ h
+  pruned_stays (q ∷ names) i h other = at-next less q names ∙ go (pruned_stays names) (at more names) refl (sym (at-next more q names) ∙ h)
+    where
+      go : ((j : ℕ) → at more names ≡ Some j → (j == k) ≡ false → at less names ≡ Some j) → (o : Option ℕ) → at more names ≡ o → child_of more q o ≡ Some i → child_of less q (at less names) ≡ Some i
+      go on None e leads = absurd (cc leads)
+      go on (Some a) e leads = ap (child_of less q) (on a e (not_above a i q leads)) ∙ leads_still a i q leads other
+
+  still_up : (i : ℕ) (y : Standing) → maps.get s' i ≡ Some y → child less y.above y.name ≡ Some i
+  still_up i y h = let o = old i y h in leads_still y.above i y.name (t.up i y o.0) o.1
 
   stands_still : (a i : ℕ) (q : List ℕ) → child more a q ≡ Some i → stands s a ≡ true → stands s' a ≡ true
   stands_still a i q leads there = ap (λ (o : Option Standing). (a == top) || is_some o) (as_before a (not_above a i q leads)) ∙ there

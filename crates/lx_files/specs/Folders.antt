@@ -150,3 +150,8 @@ abbrev pub KeepsBeside : ℕ → Standings → Standings → Type 0
 KeepsBeside folder old new =
     (numbers : Numbers) → AreThere old numbers → maps.get numbers folder ≡ None
     → AreThere new numbers × (named new numbers ≡ named old numbers)
+
+-- names that lead to another folder lead there still
+abbrev pub StaysBeside : ℕ → Children → Children → Type 0
+StaysBeside folder old new =
+    (names : List (List ℕ)) (i : ℕ) → at old names ≡ Some i → (i == folder) ≡ false → at new names ≡ Some i

@@ -5,10 +5,12 @@ ghost use Rattle.std.specs.FinMap as maps;
 ghost use Rattle.lx_files.specs.Folders.{above_in, depth_in, name_in, climbed, path_of as path_in, named};
 ghost use Rattle.lx_files.specs.Folders.{with_path, IsTree, AreThere, IsAnyChild};
 ghost use Rattle.lx_files.specs.Paths.{is_under};
+ghost use Rattle.lx_files.specs.Ways.{IsCached};
 ghost use Rattle.std.specs.List.{list_any};
 
+use crate::cache::{DirectoryCache, find};
 use crate::folder::{Folders, Standing};
-use crate::folders::{TOP, walk};
+use crate::folders::TOP;
 use crate::path_map::PathMap;
 use shelves::Shelf;
 use std::alloc::{AllocError, Global};
@@ -131,15 +133,17 @@ fn any_starts(
 pub fn any_under(
     alloc: Global,
     folders: &Folders,
+    cache: &DirectoryCache,
     numbers: &Shelf<u32>,
     path: &[u8],
 ) -> Result<bool, AllocError>
     requires tree { IsTree folders.now.children folders.now.standings folders.now.full_below }
+    requires cached { IsCached folders.now.children cache.now }
     requires there { AreThere folders.now.standings numbers.now }
     ensures { IfOk result (λ a. a
         ≡ list_any (is_under path.now) (maps.keys (named folders.now.standings numbers.now))) }
 {
-    match walk(&folders.children, TOP, path) {
+    match find(folders, cache, path) {
         None => Ok(false),
         Some(folder) => match any_child(folders, folder) {
             None => Ok(false),

@@ -235,6 +235,7 @@ pub fn enter_path(
     requires there { stands folders.old.standings start ≡ true }
     ensures tree { IsTree folders.new.children folders.new.standings folders.new.full_below }
     ensures keeps { Keeps folders.old.standings folders.new.standings }
+    ensures stays { Stays folders.old.children folders.new.children }
     ensures leads { IfOk result (λ k. (path : List ℕ) → Entered folders.old.children start text.now path
         → at_names folders.new.children (names_of path) ≡ Some k) }
     ensures there { IfOk result (λ k. stands folders.new.standings k ≡ true) }

@@ -1,16 +1,14 @@
-//! A directory whose folder is known, so that what is in it isn't looked up from the top.
+//! A directory whose folder is known, so that what is in it, or near it, isn't looked up from the top.
 
-ghost use Rattle.std.specs.Prelude.{◌≡◌, ◌++◌, ◌∷◌, Some, IfSome};
-ghost use Rattle.lx_files.specs.Paths.{slash};
-ghost use Rattle.lx_files.specs.Folders.{Children, Standings, at as at_names, names_of, IsTree};
+ghost use Rattle.std.specs.Prelude.{◌≡◌, ◌<◌, ◌++◌, ◌∷◌, length, IfSome};
+ghost use Rattle.lx_files.specs.Paths.{slash, parent as parent_of};
+ghost use Rattle.lx_files.specs.Folders.{IsTree};
 ghost use Rattle.lx_files.specs.Ways.{IsKnown, IsWay};
 
 use crate::folder::Folders;
-use crate::folders::{TOP, walk};
-use crate::places::ascend;
 use crate::reaching::go_up;
 use containers::Bytes;
-use std::alloc::{AllocError, Global};
+use std::alloc::AllocError;
 
 /// The path of a directory, and the folder that it leads to.
 #[derive(Drop)]
@@ -46,76 +44,42 @@ fn below<'a>(path: &'a [u8], directory: &[u8]) -> Option<&'a [u8]>
     }
 }
 
-/// From where a path is looked up: from the directory that is known, if it is above the path, or from the top.
-pub fn way_to<'a>(known: &Option<Known>, path: &'a [u8]) -> Way<'a>
-    ensures { (children : Children) (standings : Standings) → IsKnown children standings known.now
-        → IsWay children standings result.folder result.rest.now path.now }
+/// The path without its last name.
+fn parent(path: &[u8]) -> &[u8]
+    ensures parent { result.now ≡ parent_of path.now }
+    ensures shorter { 0 < length path.now → length result.now < length path.now }
 {
-    match known {
-        None => Way {
-            folder: TOP,
-            rest: path,
-        },
-        Some(known) => match below(path, known.path.as_slice()) {
-            None => Way {
-                folder: TOP,
-                rest: path,
-            },
-            Some(rest) => Way {
-                folder: known.folder,
-                rest,
-            },
-        },
-    }
-}
-
-/// The folder of a path that is known itself.
-fn folder_of(known: &Option<Known>, path: &[u8]) -> Option<u32>
-    ensures { IfSome result (λ folder. (children : Children) (standings : Standings)
-        → IsKnown children standings known.now → at_names children (names_of path.now) ≡ Some folder) }
-{
-    match known {
-        None => None,
-        Some(known) => {
-            if path == known.path.as_slice() {
-                Some(known.folder)
-            } else {
-                None
-            }
+    let mut left = path;
+    while let Some((byte, before)) = left.split_last() {
+        left = before;
+        if *byte == b'/' {
+            return left;
         }
     }
+    left
 }
 
-/// Where a path leads.
-pub fn find(folders: &Folders, known: &Option<Known>, path: &[u8]) -> Option<u32>
-    requires { IsKnown folders.now.children folders.now.standings known.now }
-    ensures { result ≡ at_names folders.now.children (names_of path.now) }
+/// From a directory that is known, or from one above it, where a path leads on from there. A path that doesn't begin as
+/// half of the directory's does is nearer from the top.
+pub fn way_from<'a>(folders: &Folders, known: &Known, path: &'a [u8]) -> Option<Way<'a>>
+    requires tree { IsTree folders.now.children folders.now.standings folders.now.full_below }
+    requires known { IsKnown folders.now.children known.now }
+    ensures { IfSome result (λ w. IsWay folders.now.children folders.now.standings w.folder w.rest.now path.now) }
 {
-    match folder_of(known, path) {
-        Some(folder) => Some(folder),
-        None => {
-            let way = way_to(known, path);
-            walk(&folders.children, way.folder, way.rest)
+    let mut over = known.path.as_slice();
+    let mut folder = known.folder;
+    'up: loop {
+        if let Some(rest) = below(path, over) {
+            return Some(Way { folder, rest });
         }
-    }
-}
-
-/// The directory above a path that leads to a folder, where there is memory for it.
-pub fn learn(alloc: Global, folders: &Folders, folder: u32, path: &[u8]) -> Option<Known>
-    requires { IsTree folders.now.children folders.now.standings folders.now.full_below }
-    ensures { at_names folders.now.children (names_of path.now) ≡ Some folder
-        → IsKnown folders.now.children folders.now.standings result }
-{
-    let Ok(mut above) = path.to_vec(alloc) else {
-        return None;
-    };
-    ascend(&mut above);
-    match go_up(folders, Some(folder), above.as_slice()) {
-        None => None,
-        Some(over) => Some(Known {
-            path: Bytes::from_vec(above),
-            folder: over,
-        }),
+        if over.is_empty() || !path.starts_with(&over[..over.len() / 2]) {
+            return None;
+        }
+        over = parent(over);
+        let Some(above) = go_up(folders, Some(folder), over) else {
+            return None;
+        };
+        folder = above;
     }
 }
 

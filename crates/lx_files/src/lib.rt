@@ -2,6 +2,7 @@
 #![tactic(auto)]
 
 pub mod boots;
+pub mod cache;
 pub mod counts;
 mod flat;
 pub mod folder;

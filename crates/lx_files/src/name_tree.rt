@@ -1,10 +1,11 @@
 //! Numbers by path, in folders.
 //!
 //! A path is looked up name by name from the top, each in the folder above it, so it takes time with its names, and a
-//! part of it from its folder one look-up. Of the directory above the path that was made last the folder is known: what
-//! is in it, or below, is looked up from there. A name is kept twice: in the folder above, and where its own folder
-//! stands. Whole paths are made where they are listed, and for `any_under` where a folder without a number is all there
-//! is in another, as is so only where a path was given a number before the path above it.
+//! part of it from its folder one look-up. Of the directories that processes went into lately, and of that above the path
+//! that was made last, the folders are known: what is in them, or near them, is looked up from there. A name is kept
+//! twice: in the folder above, and where its own folder stands. Whole paths are made where they are listed, and for
+//! `any_under` where a folder without a number is all there is in another, as is so only where a path was given a number
+//! before the path above it.
 
 ghost use Rattle.std.specs.Prelude.{◌≡◌, ◌<◌, ◌≤◌, take, length, is_some, true, OnOk, OnErr, IfOk, map, []};
 ghost use Rattle.std.specs.FinMap as maps;
@@ -13,10 +14,10 @@ ghost use Rattle.lx_files.specs.Listing.{is_named, file_of};
 ghost use Rattle.lx_files.specs.Paths.{is_under};
 ghost use Rattle.lx_files.specs.Places.{numbered, parts as parts_of, reached};
 
+use crate::cache::{DirectoryCache, find, way_to};
 use crate::flat::{any_under, flatten};
 use crate::folder::Folders;
 use crate::folders::{enter_path, known_part};
-use crate::known::{Known, find, learn, way_to};
 use crate::nodes::Nodes;
 use crate::places::Place;
 use crate::pruning::prune;
@@ -32,7 +33,7 @@ use std::marker::Model;
 pub struct NameTree {
     folders: Folders,
     numbers: Shelf<u32>,
-    known: Option<Known>,
+    cache: DirectoryCache,
 }
 
 impl Model for NameTree {
@@ -40,7 +41,7 @@ impl Model for NameTree {
     ghost use Rattle.std.specs.FinMap as maps;
     ghost use Rattle.lx_files.specs.Kinds.{NameMap};
     ghost use Rattle.lx_files.specs.Folders.{named, IsTree, AreThere};
-    ghost use Rattle.lx_files.specs.Ways.{IsKnown};
+    ghost use Rattle.lx_files.specs.Ways.{IsCached};
 
     ghost Value = { NameMap };
 
@@ -50,7 +51,7 @@ impl Model for NameTree {
 
     ghost invariant = { λ n. IsTree n.folders.children n.folders.standings n.folders.full_below
         × AreThere n.folders.standings n.numbers
-        × IsKnown n.folders.children n.folders.standings n.known };
+        × IsCached n.folders.children n.cache };
 }
 
 impl NameTree {
@@ -64,14 +65,14 @@ impl NameTree {
                 full_below: 0,
             },
             numbers: Shelf::new(alloc),
-            known: None,
+            cache: DirectoryCache::new(alloc),
         }
     }
 
     pub fn get(&self, path: &[u8]) -> Option<u32>
         ensures { result ≡ maps.get self.now path.now }
     {
-        match find(&self.folders, &self.known, path) {
+        match find(&self.folders, &self.cache, path) {
             None => None,
             Some(folder) => self.numbers.get(folder).copied(),
         }
@@ -97,12 +98,11 @@ impl NameTree {
         ensures ok { OnOk result (self.new ≡ maps.insert self.old path.now number) }
         ensures err { OnErr result (self.new ≡ self.old) }
     {
-        let way = way_to(&self.known, path);
-        self.known = None;
+        let way = way_to(&self.folders, &self.cache, path);
         let folder = enter_path(alloc, &mut self.folders, way.folder, way.rest)?;
         let was = self.numbers.get(folder).copied();
         self.numbers.insert(folder, number)?;
-        self.known = learn(alloc, &self.folders, folder, path);
+        self.cache.make(alloc, &self.folders, folder, path);
         Ok(was)
     }
 
@@ -110,15 +110,22 @@ impl NameTree {
         ensures value { result ≡ maps.get self.old path.now }
         ensures rest { self.new ≡ maps.remove self.old path.now }
     {
-        match find(&self.folders, &self.known, path) {
+        match find(&self.folders, &self.cache, path) {
             None => None,
             Some(folder) => {
                 let number = self.numbers.remove(folder);
-                self.known = None;
+                self.cache.forget(folder);
                 prune(&mut self.folders, folder);
                 number
             }
         }
+    }
+
+    /// A process went into a directory, so that what is in it, or near it, is looked up from there.
+    pub fn enter(&mut self, alloc: Global, path: &[u8])
+        ensures { self.new ≡ self.old }
+    {
+        self.cache.enter(alloc, &self.folders, path);
     }
 
     /// What stands at each path but the root, in byte order.
@@ -133,7 +140,7 @@ impl NameTree {
     pub fn any_under(&self, alloc: Global, path: &[u8]) -> Result<bool, AllocError>
         ensures { IfOk result (λ a. a ≡ list_any (is_under path.now) (maps.keys self.now)) }
     {
-        any_under(alloc, &self.folders, &self.numbers, path)
+        any_under(alloc, &self.folders, &self.cache, &self.numbers, path)
     }
 
     /// The place of the last of the pieces of a text, once those before it are entered, from a path on.
@@ -151,7 +158,7 @@ impl NameTree {
         reach(
             alloc,
             &self.folders,
-            &self.known,
+            &self.cache,
             &self.numbers,
             nodes,
             slashed,
@@ -168,7 +175,7 @@ impl Clone for NameTree {
         Ok(NameTree {
             folders: self.folders.clone()?,
             numbers: self.numbers.clone()?,
-            known: self.known.clone()?,
+            cache: self.cache.clone()?,
         })
     }
 }

@@ -75,6 +75,13 @@ impl Names {
         self.map.known_part(path)
     }
 
+    /// A process went into a directory, so that what is in it, or near it, is looked up from there.
+    pub fn enter(&mut self, alloc: Global, path: &[u8])
+        ensures { self.new ≡ self.old }
+    {
+        self.map.enter(alloc, path);
+    }
+
     /// Some path names the node.
     pub fn has(&self, node: u32) -> bool
         ensures { result ≡ holds (is_number node) self.now }

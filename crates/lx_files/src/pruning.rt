@@ -2,7 +2,7 @@
 
 ghost use Rattle.std.specs.Prelude.{◌≡◌, ℕ, List, None};
 ghost use Rattle.std.specs.FinMap as maps;
-ghost use Rattle.lx_files.specs.Folders.{child as child_in, IsTree, HasLess, KeepsBeside};
+ghost use Rattle.lx_files.specs.Folders.{child as child_in, IsTree, HasLess, KeepsBeside, StaysBeside};
 
 use crate::flat::any_child;
 use crate::folder::Folders;
@@ -32,6 +32,7 @@ fn take_away(folders: &mut Folders, folder: u32)
     requires empty { (q : List ℕ) → child_in folders.old.children folder q ≡ None }
     ensures tree { IsTree folders.new.children folders.new.standings folders.new.full_below }
     ensures keeps { KeepsBeside folder folders.old.standings folders.new.standings }
+    ensures stays { StaysBeside folder folders.old.children folders.new.children }
 {
     match folders.standings.remove(folder) {
         None => {}
@@ -52,6 +53,7 @@ pub fn prune(folders: &mut Folders, folder: u32)
     requires { IsTree folders.old.children folders.old.standings folders.old.full_below }
     ensures tree { IsTree folders.new.children folders.new.standings folders.new.full_below }
     ensures keeps { KeepsBeside folder folders.old.standings folders.new.standings }
+    ensures stays { StaysBeside folder folders.old.children folders.new.children }
 {
     match any_child(folders, folder) {
         Some(_) => {}

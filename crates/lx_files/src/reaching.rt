@@ -7,12 +7,12 @@ ghost use Rattle.lx_files.specs.Paths.{parent as parent_of};
 ghost use Rattle.lx_files.specs.Folders.{led, split, names_of, at as at_names, named, above_in, IsTree, AreThere};
 ghost use Rattle.lx_files.specs.Places.{beyond as beyond_of, bar as bar_of, numbered, parts as parts_of, reached};
 ghost use Rattle.lx_files.specs.Places.{is_dot, is_dot_dot};
-ghost use Rattle.lx_files.specs.Ways.{IsKnown};
+ghost use Rattle.lx_files.specs.Ways.{IsCached};
 
+use crate::cache::{DirectoryCache, find};
 use crate::flat::above;
 use crate::folder::{Folders, Standing};
 use crate::folders::{TOP, walk};
-use crate::known::{Known, find};
 use crate::nodes::Nodes;
 use crate::places::{Place, go_beyond};
 use containers::Bytes;
@@ -110,7 +110,7 @@ fn bar(numbers: &Shelf<u32>, nodes: &Nodes, folder: Option<u32>) -> Option<Errno
 pub fn reach(
     alloc: Global,
     folders: &Folders,
-    known: &Option<Known>,
+    cache: &DirectoryCache,
     numbers: &Shelf<u32>,
     nodes: &Nodes,
     slashed: bool,
@@ -118,14 +118,14 @@ pub fn reach(
     pieces: &[&[u8]],
 ) -> Result<Result<Place, Errno>, AllocError>
     requires tree { IsTree folders.now.children folders.now.standings folders.now.full_below }
-    requires known { IsKnown folders.now.children folders.now.standings known.now }
+    requires cached { IsCached folders.now.children cache.now }
     requires there { AreThere folders.now.standings numbers.now }
     ensures { IfOk result (λ r. numbered r
         ≡ reached (record { names = named folders.now.standings numbers.now; nodes = nodes.now }) slashed start.items []
         (parts_of (map (λ p. p.now) pieces.now))) }
 {
     let mut at = start;
-    let mut folder = find(folders, known, at.as_slice());
+    let mut folder = find(folders, cache, at.as_slice());
     let mut last: &[u8] = b"".as_slice();
     for part in pieces {
         if part.len() == 0 {

@@ -7,7 +7,7 @@ use Rattle.lx_files.proofs.Numbering.{got, none_removed, taken_there, taken_name
 use Rattle.lx_files.proofs.name_tree.NameTree.remove.Goals as goal
 
 pub invariant_of-self : goal.invariant_of-self
-invariant_of-self c = (c.prune.ensures.tree, (c.prune.ensures.keeps c.remove-number.new.self (subst (λ n. AreThere c.self.inside.folders.standings n) (sym c.remove-number.ensures.rest) (taken_there c.self.inside.folders.children c.self.inside.folders.standings c.self.inside.folders.full_below c.self.invariant.0 c.args.path.now c.self.inside.numbers c.self.invariant.1 c.in-Some.folder (sym c.in-Some.ensures))) (ap (λ n. maps.get n c.in-Some.folder) c.remove-number.ensures.rest ∙ get-removed nat_cmp_total maps.nat_cmp-IsAntisymmetric (λ x. 0) c.self.inside.numbers c.in-Some.folder)).0, tt)
+invariant_of-self c = (c.prune.ensures.tree, (c.prune.ensures.keeps c.remove-number.new.self (subst (λ n. AreThere c.self.inside.folders.standings n) (sym c.remove-number.ensures.rest) (taken_there c.self.inside.folders.children c.self.inside.folders.standings c.self.inside.folders.full_below c.self.invariant.0 c.args.path.now c.self.inside.numbers c.self.invariant.1 c.in-Some.folder (sym c.in-Some.ensures))) (ap (λ n. maps.get n c.in-Some.folder) c.remove-number.ensures.rest ∙ get-removed nat_cmp_total maps.nat_cmp-IsAntisymmetric (λ x. 0) c.self.inside.numbers c.in-Some.folder)).0, c.forget.ensures c.self.inside.folders.children c.prune.new.folders.children c.prune.ensures.stays c.self.invariant.2)
 
 pub returns-in-None-clause-value : goal.returns-in-None-clause-value
 returns-in-None-clause-value c = sym (got c.self.inside.folders.children c.self.inside.folders.standings c.self.inside.folders.full_below c.self.invariant.0 c.args.path.now c.self.inside.numbers c.self.invariant.1 None (sym c.in-None.ensures)) ∙ ap (λ m. maps.get m c.args.path.now) c.self.view_is
