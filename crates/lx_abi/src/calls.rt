@@ -169,28 +169,28 @@ pub struct Format {
 pub fn call_number(name: &str) -> Option<u64>
     ensures { result ≡ spec.call_number name.now }
 {
-    row_named(&CALLS, name).map(|row| row.0)
+    row_named(rows(), name).map(|row| row.0)
 }
 
 /// The name of the call with this number.
 pub fn call_name(number: u64) -> Option<&'static str>
     ensures { option_map (λ t. t.now) result ≡ spec.call_name number }
 {
-    row_numbered(&CALLS, number).map(|row| row.1)
+    row_numbered(rows(), number).map(|row| row.1)
 }
 
 /// The classes that the call with this number is in.
 pub fn call_classes(number: u64) -> Option<&'static [Class]>
     ensures { option_map (λ c. c.now) result ≡ spec.call_classes number }
 {
-    row_numbered(&CALLS, number).map(|row| row.2)
+    row_numbered(rows(), number).map(|row| row.2)
 }
 
 /// How the arguments of the call with this number are shown.
 pub fn call_format(number: u64) -> Option<Format>
     ensures { option_map (λ f. (f.entry.now, f.rest.now)) result ≡ spec.call_format number }
 {
-    row_numbered(&CALLS, number).map(|row| Format {
+    row_numbered(rows(), number).map(|row| Format {
         entry: row.4,
         rest: row.5,
     })
@@ -200,7 +200,7 @@ pub fn call_format(number: u64) -> Option<Format>
 pub fn has_effects(number: u64, effects: Effects) -> bool
     ensures { result ≡ spec.has_effects number effects.0 }
 {
-    effects_in(&CALLS, number, effects)
+    effects_in(rows(), number, effects)
 }
 
 /// [`Effects::CALM`] without a walk through the table, for each turn.

@@ -6,6 +6,7 @@ pub mod boxed;
 pub mod calls;
 pub mod effects;
 pub mod errno;
+mod errno_table;
 pub mod flags;
 pub mod limits;
 pub mod log;

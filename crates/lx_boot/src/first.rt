@@ -62,9 +62,18 @@ fn first_fds(alloc: Global) -> Result<FdTable, AllocError>
     ensures { IfOk result (λ f. f ≡ fds_at_first) }
 {
     let mut fds = FdTable::new(alloc);
-    fds.open(1, 0, reading(Object::Input), false)?;
-    fds.open(1, 1, writing(Object::Console), false)?;
-    fds.open(1, 2, writing(Object::Console), false)?;
+    if let Err(error) = fds.open(1, 0, reading(Object::Input), false) {
+        drop(fds);
+        return Err(error);
+    }
+    if let Err(error) = fds.open(1, 1, writing(Object::Console), false) {
+        drop(fds);
+        return Err(error);
+    }
+    if let Err(error) = fds.open(1, 2, writing(Object::Console), false) {
+        drop(fds);
+        return Err(error);
+    }
     Ok(fds)
 }
 
@@ -87,9 +96,30 @@ pub fn first_shared(
     requires { IsTrue (are_limits limits) }
     ensures { IfOk result (λ s. s ≡ shared_at_first limits files.now input) }
 {
-    let tree = plant(alloc, files)?;
-    let entries = first_entries(alloc)?;
-    let fds = first_fds(alloc)?;
+    let tree = match plant(alloc, files) {
+        Ok(tree) => tree,
+        Err(error) => {
+            drop(input);
+            return Err(error);
+        }
+    };
+    let entries = match first_entries(alloc) {
+        Ok(entries) => entries,
+        Err(error) => {
+            drop(tree);
+            drop(input);
+            return Err(error);
+        }
+    };
+    let fds = match first_fds(alloc) {
+        Ok(fds) => fds,
+        Err(error) => {
+            drop(entries);
+            drop(tree);
+            drop(input);
+            return Err(error);
+        }
+    };
     Ok(Shared {
         limits: ProcessLimits::new(limits),
         tree,

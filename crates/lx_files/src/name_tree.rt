@@ -172,10 +172,26 @@ impl Clone for NameTree {
     ghost is_clone = { λ a b. b ≡ a };
 
     fn clone(&self) -> Result<Self, AllocError> {
+        let folders = self.folders.clone()?;
+        let numbers = match self.numbers.clone() {
+            Ok(numbers) => numbers,
+            Err(error) => {
+                drop(folders);
+                return Err(error);
+            }
+        };
+        let cache = match self.cache.clone() {
+            Ok(cache) => cache,
+            Err(error) => {
+                drop(numbers);
+                drop(folders);
+                return Err(error);
+            }
+        };
         Ok(NameTree {
-            folders: self.folders.clone()?,
-            numbers: self.numbers.clone()?,
-            cache: self.cache.clone()?,
+            folders,
+            numbers,
+            cache,
         })
     }
 }

@@ -708,8 +708,13 @@ fn copy_processes(
     ensures { IfOk result (λ c. (c.0 ≡ shared.now) × (c.1 ≡ tasks.now)) }
 {
     let tasks = tasks.clone()?;
-    let shared = shared.clone()?;
-    Ok((shared, tasks))
+    match shared.clone() {
+        Ok(shared) => Ok((shared, tasks)),
+        Err(error) => {
+            drop(tasks);
+            Err(error)
+        }
+    }
 }
 
 impl Clone for Kernel {
@@ -717,9 +722,31 @@ impl Clone for Kernel {
 
     fn clone(&self) -> Result<Self, AllocError> {
         let script = self.script.clone()?;
-        let run_queue = self.run_queue.clone()?;
-        let (log, occurrences) = copy_log(&self.log, &self.occurrences)?;
-        let (shared, tasks) = copy_processes(&self.shared, &self.tasks)?;
+        let run_queue = match self.run_queue.clone() {
+            Ok(run_queue) => run_queue,
+            Err(error) => {
+                drop(script);
+                return Err(error);
+            }
+        };
+        let (log, occurrences) = match copy_log(&self.log, &self.occurrences) {
+            Ok(copies) => copies,
+            Err(error) => {
+                drop(run_queue);
+                drop(script);
+                return Err(error);
+            }
+        };
+        let (shared, tasks) = match copy_processes(&self.shared, &self.tasks) {
+            Ok(copies) => copies,
+            Err(error) => {
+                drop(occurrences);
+                drop(log);
+                drop(run_queue);
+                drop(script);
+                return Err(error);
+            }
+        };
         Ok(Kernel {
             alloc: self.alloc,
             shared,

@@ -345,10 +345,26 @@ impl Clone for RunQueue {
     ghost is_clone = { λ a b. b ≡ a };
 
     fn clone(&self) -> Result<Self, AllocError> {
+        let awake = self.awake.clone()?;
+        let asleep = match self.asleep.clone() {
+            Ok(asleep) => asleep,
+            Err(error) => {
+                drop(awake);
+                return Err(error);
+            }
+        };
+        let by_pipe = match self.by_pipe.clone() {
+            Ok(by_pipe) => by_pipe,
+            Err(error) => {
+                drop(asleep);
+                drop(awake);
+                return Err(error);
+            }
+        };
         Ok(RunQueue {
-            awake: self.awake.clone()?,
-            asleep: self.asleep.clone()?,
-            by_pipe: self.by_pipe.clone()?,
+            awake,
+            asleep,
+            by_pipe,
             known: self.known,
         })
     }

@@ -235,10 +235,26 @@ impl Clone for FdTable {
     ghost is_clone = { λ a b. b ≡ a };
 
     fn clone(&self) -> Result<Self, AllocError> {
+        let slots = self.slots.clone()?;
+        let descriptions = match self.descriptions.clone() {
+            Ok(descriptions) => descriptions,
+            Err(error) => {
+                drop(slots);
+                return Err(error);
+            }
+        };
+        let pipes = match self.pipes.clone() {
+            Ok(pipes) => pipes,
+            Err(error) => {
+                drop(descriptions);
+                drop(slots);
+                return Err(error);
+            }
+        };
         Ok(FdTable {
-            slots: self.slots.clone()?,
-            descriptions: self.descriptions.clone()?,
-            pipes: self.pipes.clone()?,
+            slots,
+            descriptions,
+            pipes,
         })
     }
 }

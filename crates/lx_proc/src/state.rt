@@ -121,16 +121,26 @@ fn copy_processes(shared: &Shared) -> Result<(Table, WaitWords), AllocError>
     ensures { IfOk result (λ c. (c.0 ≡ shared.now.entries) × (c.1 ≡ shared.now.ended)) }
 {
     let ended = shared.ended.clone()?;
-    let entries = shared.entries.clone()?;
-    Ok((entries, ended))
+    match shared.entries.clone() {
+        Ok(entries) => Ok((entries, ended)),
+        Err(error) => {
+            drop(ended);
+            Err(error)
+        }
+    }
 }
 
 fn copy_files(shared: &Shared) -> Result<(Tree, FdTable), AllocError>
     ensures { IfOk result (λ c. (c.0 ≡ shared.now.tree) × (c.1 ≡ shared.now.fds)) }
 {
     let fds = shared.fds.clone()?;
-    let tree = shared.tree.clone()?;
-    Ok((tree, fds))
+    match shared.tree.clone() {
+        Ok(tree) => Ok((tree, fds)),
+        Err(error) => {
+            drop(fds);
+            Err(error)
+        }
+    }
 }
 
 impl Clone for Shared {
@@ -138,8 +148,24 @@ impl Clone for Shared {
 
     fn clone(&self) -> Result<Self, AllocError> {
         let (input, console) = copy_streams(self)?;
-        let (entries, ended) = copy_processes(self)?;
-        let (tree, fds) = copy_files(self)?;
+        let (entries, ended) = match copy_processes(self) {
+            Ok(copies) => copies,
+            Err(error) => {
+                drop(console);
+                drop(input);
+                return Err(error);
+            }
+        };
+        let (tree, fds) = match copy_files(self) {
+            Ok(copies) => copies,
+            Err(error) => {
+                drop(ended);
+                drop(entries);
+                drop(console);
+                drop(input);
+                return Err(error);
+            }
+        };
         Ok(Shared {
             limits: self.limits,
             tree,

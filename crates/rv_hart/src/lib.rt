@@ -15,11 +15,9 @@ mod perform;
 mod place;
 mod running;
 mod straight;
-#[cfg(test)]
-mod tests;
 mod transfer;
 
 pub use execute::step;
 pub use hart::Hart;
 pub use outcome::{FaultKind, Step};
-pub use running::{Progress, run};
+pub use running::{Progress, run, run_near};

@@ -11,3 +11,5 @@ mod instructions;
 mod listings;
 #[cfg(test)]
 mod memory;
+#[cfg(test)]
+mod near;

@@ -1,6 +1,5 @@
 //! Which instructions run near, a matter of speed that no clause speaks of. What they do is compared with `step`.
-use crate::running::run_near;
-use crate::*;
+use rv_hart::{Hart, run, run_near, step};
 use rv_mem::{Rights, Space};
 use std::alloc::Global;
 use std::test::Fail;
