@@ -1,9 +1,5 @@
-pub mod Boots
 pub mod CommandLines
-pub mod Directories
-pub mod Environment
 pub mod Expressions
-pub mod Files
 pub mod Leavings
 pub mod Numbers
 pub mod Reading

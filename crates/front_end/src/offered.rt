@@ -1,6 +1,6 @@
 //! Commands, as the parser of words is to offer them.
 
-use crate::option_table::{OPTIONS, OptionRow, Takes, Tool};
+use crate::option_table::{OptionRow, Takes, Tool, options};
 use clap::{Arg, ArgAction, Command};
 use std::alloc::{AllocError, Global};
 
@@ -66,7 +66,7 @@ fn with_options<'a>(
     mut command: Command<'a>,
     tool: Tool,
 ) -> Result<Command<'a>, AllocError> {
-    for row in &OPTIONS {
+    for row in options() {
         if row.tools.contains(&tool) {
             command = command.arg(option(alloc, row))?;
         }

@@ -39,7 +39,7 @@ pub struct OptionRow {
 }
 
 /// Completions are made of these rows, and the documents are compared with them.
-pub const OPTIONS: [OptionRow; 50] = [
+static OPTIONS: [OptionRow; 50] = [
     OptionRow {
         tools: &[Tool::Trace],
         id: "follow",
@@ -441,3 +441,8 @@ pub const OPTIONS: [OptionRow; 50] = [
         help: "Lists the files that a complete run leaves, each as its length and its path",
     },
 ];
+
+/// The rows.
+pub fn options() -> &'static [OptionRow] {
+    &OPTIONS
+}

@@ -3,10 +3,11 @@ use Rattle.std.proofs.Common.{◌≡◌, ◌⊎◌, ℕ, true, List, Option, Som
 use Rattle.std.specs.Prelude.{IsSome, codes}
 use Rattle.clap.specs.declared.parser.matches.ArgMatches.{ArgMatches}
 use Rattle.lx_abi.specs.declared.schedule.Word.{Word}
-use Rattle.front_end.specs.Boots.{given_words}
+use Rattle.front_boot.specs.Boots.{given_words}
 use Rattle.front_end.specs.Expressions.{AskFor}
 use Rattle.front_end.specs.Numbers.{limit_of}
-use Rattle.front_end.specs.Refusals.{RefusesAsked, RefusesOutputs}
+use Rattle.front_boot.specs.Refusals.{RefusesAsked}
+use Rattle.front_end.specs.Refusals.{RefusesOutputs}
 use Rattle.front_end.specs.Schedules.{IsSchedule}
 use Rattle.front_end.specs.Values.{value_of}
 use Rattle.front_end.specs.declared.expressions.Expressions.{Expressions}

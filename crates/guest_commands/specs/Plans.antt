@@ -8,10 +8,10 @@ use Rattle.lx_kernel.specs.First.{first_run_without_log}
 use Rattle.lx_kernel.specs.Runs.{Run}
 use Rattle.pt_schedule.specs.Schedules.{worded}
 use Rattle.plain_run.specs.Runs.{RunsTo}
-use Rattle.front_end.specs.Boots.{AsksBoot, given_words}
+use Rattle.front_boot.specs.Boots.{AsksBoot, given_words}
 use Rattle.front_end.specs.Expressions.{AskFor, RefusesExpressions}
 use Rattle.front_end.specs.Numbers.{limit_of}
-use Rattle.front_end.specs.Refusals.{RefusesRun}
+use Rattle.front_boot.specs.Refusals.{RefusesRun}
 use Rattle.front_end.specs.Schedules.{IsSchedule}
 use Rattle.front_end.specs.Texts.{IsAbout}
 use Rattle.front_end.specs.Values.{value_of}

@@ -10,7 +10,8 @@ ghost use Rattle.front_end.specs.Values.{value_of};
 ghost use Rattle.guest_commands.specs.Plans.{IsPlan, RefusesPlan};
 
 use clap::ArgMatches;
-use front_end::{Fault, Program, check_outputs, read_boot, read_expressions, read_turns};
+use front_boot::read_boot;
+use front_end::{Fault, Program, check_outputs, read_expressions, read_turns};
 use lx_abi::{Boot, Script};
 use lx_kernel::Kernel;
 use pt_schedule::Schedule;

@@ -7,9 +7,9 @@ use Rattle.std.proofs.lemmas.List.{map-append, take-map, length-take, length-map
 use Rattle.std.proofs.lemmas.List.Elements.{All-take, All-append}
 use Rattle.sweep_report.specs.Findings.{counts}
 use Rattle.sweep_rows.specs.declared.verdicts.Reached.{Reached}
-use Rattle.sweep_runs.specs.declared.chosen.Case.{Case}
-use Rattle.sweep_runs.specs.declared.runs.Setup.{Setup}
-use Rattle.sweep_runs.specs.declared.sweeping.Row.{Row}
+use Rattle.sweep_rows.specs.declared.wanted.Case.{Case}
+use Rattle.sweep_rows.specs.declared.setup.Setup.{Setup}
+use Rattle.sweep_rows.specs.declared.row.Row.{Row}
 use Rattle.sweep_words.specs.declared.words.Words.{Words}
 use Rattle.sweep_command.specs.Checks.{AreTold, IsTold}
 use Rattle.sweep_command.specs.Reports.{ends_found, is_given, IsFound, IsCut, IsEnd}

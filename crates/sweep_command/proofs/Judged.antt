@@ -3,9 +3,9 @@ use Rattle.std.proofs.Common.{◌≡◌, List, [], ◌∷◌, true, false, map, 
 use Rattle.std.proofs.lemmas.List.Elements.{All-nil, All-cons, All-head, All-tail}
 use Rattle.sweep_rows.specs.declared.verdicts.Reached.{Reached}
 use Rattle.sweep_runs.specs.Rows.{AreRows, IsRow}
-use Rattle.sweep_runs.specs.declared.chosen.Case.{Case}
-use Rattle.sweep_runs.specs.declared.runs.Setup.{Setup}
-use Rattle.sweep_runs.specs.declared.sweeping.Row.{Row}
+use Rattle.sweep_rows.specs.declared.wanted.Case.{Case}
+use Rattle.sweep_rows.specs.declared.setup.Setup.{Setup}
+use Rattle.sweep_rows.specs.declared.row.Row.{Row}
 use Rattle.sweep_command.specs.Checks.{AreJudged, IsTold, AreTold}
 
 module _ (setup : Setup) (reference : Reached) where

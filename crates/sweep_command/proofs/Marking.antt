@@ -5,7 +5,7 @@ use Rattle.std.proofs.lemmas.List.{nil_from_length}
 use Rattle.std.specs.Prelude.{◌==◌, String}
 use Rattle.sweep_report.specs.Findings.{counts}
 use Rattle.sweep_report.specs.Keys.{marked, fields}
-use Rattle.sweep_runs.specs.declared.sweeping.Row.{Row}
+use Rattle.sweep_rows.specs.declared.row.Row.{Row}
 use Rattle.sweep_words.specs.Known.{IsKnown}
 use Rattle.sweep_command.specs.Reports.{IsMark, AreMarks}
 

@@ -7,9 +7,9 @@ use Rattle.sweep_rows.specs.declared.verdicts.Verdict.{Verdict}
 use Rattle.sweep_rows.specs.declared.verdicts.Verdict.TheVariants.{Killed}
 use Rattle.sweep_runs.specs.Rows.{fault_of, IsRow}
 use Rattle.sweep_runs.specs.Runs.{FaultReaches}
-use Rattle.sweep_runs.specs.declared.chosen.Case.{Case}
-use Rattle.sweep_runs.specs.declared.runs.Setup.{Setup}
-use Rattle.sweep_runs.specs.declared.sweeping.Row.{Row}
+use Rattle.sweep_rows.specs.declared.wanted.Case.{Case}
+use Rattle.sweep_rows.specs.declared.setup.Setup.{Setup}
+use Rattle.sweep_rows.specs.declared.row.Row.{Row}
 
 -- the command is asked about a run that left other files than the reference, and was neither hung nor killed
 abbrev pub is_asked : Row → Bool

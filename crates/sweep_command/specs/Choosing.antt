@@ -4,7 +4,7 @@ use Rattle.std.specs.Prelude.{take, Option, None, Some, IsPermutation}
 use Rattle.std.specs.List.{flat_map, slice_get}
 use Rattle.std.specs.Option.{option_to_list}
 use Rattle.sweep_command.specs.declared.choosing.Kind.{Kind}
-use Rattle.sweep_runs.specs.declared.chosen.Case.{Case}
+use Rattle.sweep_rows.specs.declared.wanted.Case.{Case}
 use Rattle.turn_orders.specs.Novelty.{novel}
 
 -- cases are of one kind that have the same error, and calls of one site

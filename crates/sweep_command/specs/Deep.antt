@@ -10,7 +10,7 @@ use Rattle.sweep_report.specs.Findings.{status_of}
 use Rattle.sweep_rows.specs.declared.verdicts.Reached.{Reached}
 use Rattle.sweep_runs.specs.Cases.{cases_of}
 use Rattle.sweep_runs.specs.Deep.{case_in}
-use Rattle.sweep_runs.specs.declared.chosen.Wanted.{Wanted}
+use Rattle.sweep_rows.specs.declared.wanted.Wanted.{Wanted}
 use Rattle.sweep_words.specs.declared.plan.Plan.{Plan}
 use Rattle.sweep_words.specs.declared.show.NamedDeep.{NamedDeep}
 

@@ -1,7 +1,7 @@
 -- The runs that a file names, a line each.
 use Rattle.std.specs.Prelude.{cond, Bool, List, [], ◌∷◌, ◌++◌}
 use Rattle.std.specs.List.{list_any}
-use Rattle.sweep_runs.specs.declared.chosen.Case.{Case}
+use Rattle.sweep_rows.specs.declared.wanted.Case.{Case}
 use Rattle.sweep_deep.specs.Naming.{names}
 use Rattle.sweep_words.specs.declared.named.NamedLine.{NamedLine}
 

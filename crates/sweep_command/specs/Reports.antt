@@ -20,10 +20,10 @@ use Rattle.sweep_rows.specs.declared.verdicts.Reached.{Reached}
 use Rattle.sweep_runs.specs.Cases.{cases_of}
 use Rattle.sweep_runs.specs.Rows.{fault_of, IsRow}
 use Rattle.sweep_runs.specs.Runs.{Reaches}
-use Rattle.sweep_runs.specs.declared.chosen.Case.{Case}
-use Rattle.sweep_runs.specs.declared.chosen.Wanted.{Wanted}
-use Rattle.sweep_runs.specs.declared.runs.Setup.{Setup}
-use Rattle.sweep_runs.specs.declared.sweeping.Row.{Row}
+use Rattle.sweep_rows.specs.declared.wanted.Case.{Case}
+use Rattle.sweep_rows.specs.declared.wanted.Wanted.{Wanted}
+use Rattle.sweep_rows.specs.declared.setup.Setup.{Setup}
+use Rattle.sweep_rows.specs.declared.row.Row.{Row}
 use Rattle.sweep_words.specs.Known.{IsKnown}
 use Rattle.sweep_words.specs.declared.cases.NamedCase.{NamedCase}
 use Rattle.sweep_words.specs.declared.plan.Plan.{Plan}

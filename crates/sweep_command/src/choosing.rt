@@ -10,8 +10,7 @@ use std::collections::BTreeMap;
 use sweep_report::sites::{place_of, site_of};
 use sweep_report::traced::TracedCalls;
 use sweep_report::untried::SiteCalls;
-use sweep_rows::Reached;
-use sweep_runs::Case;
+use sweep_rows::{Case, Reached};
 use turn_orders::novel;
 
 /// Cases of one kind have the same error, and calls of one site: each site has a number.

@@ -13,8 +13,8 @@ use sweep_deep::{
     deep_rows, named_case, run_tried_deep, shown_text, status_of, status_of_one, text_of,
     verdict_of,
 };
-use sweep_rows::Reached;
-use sweep_runs::{DeepCase, Wanted};
+use sweep_rows::{Reached, Wanted};
+use sweep_runs::DeepCase;
 use sweep_trace::{ShownRun, show_deep, shown_options, traced_calls};
 use sweep_trials::check_second;
 use sweep_words::plan::Plan;

@@ -16,10 +16,8 @@ use std::env::{self, Env};
 use std::process::Processes;
 use std::rt::Files;
 use std::thread::Threads;
-use sweep_rows::{Reached, Verdict, checked, facts_of, rank, verdict_of};
-use sweep_runs::{
-    Case, Compared, Leader, Row, Setup, Silent, fault_of, reach_failing, run_led_cases,
-};
+use sweep_rows::{Case, Reached, Row, Setup, Verdict, checked, facts_of, rank, verdict_of};
+use sweep_runs::{Compared, Leader, Silent, fault_of, reach_failing, run_led_cases};
 use sweep_threads::rows_on_threads;
 use sweep_words::words::Words;
 

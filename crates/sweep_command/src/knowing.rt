@@ -16,8 +16,7 @@ use std::rt::Files;
 use sweep_report::findings::counts;
 use sweep_report::sites::{key_of, older_of, place_of, without_function};
 use sweep_report::traced::TracedCalls;
-use sweep_rows::Reached;
-use sweep_runs::Row;
+use sweep_rows::{Reached, Row};
 use sweep_words::known::{is_known, is_like};
 use sweep_words::plan::Plan;
 

@@ -4,13 +4,14 @@ ghost use Rattle.std.specs.Prelude.{[], IfOk};
 ghost use Rattle.sweep_runs.specs.Runs.{Reaches};
 
 use clap::ArgMatches;
-use front_end::{Fault, refuse_boot};
+use front_boot::refuse_boot;
+use front_end::Fault;
 use lx_abi::Script;
 use lx_boot::BootFault;
 use lx_kernel::Kernel;
 use std::alloc::{AllocError, Global};
-use sweep_rows::Reached;
-use sweep_runs::{Case, Setup, fault_of, refer, run_accepted, run_failing};
+use sweep_rows::{Case, Reached, Setup};
+use sweep_runs::{fault_of, refer, run_accepted, run_failing};
 use sweep_trials::explain;
 use sweep_words::plan::Plan;
 use sweep_words::words::Words;

@@ -26,8 +26,8 @@ use sweep_report::report::{line, object};
 use sweep_report::sites::is_kept;
 use sweep_report::traced::TracedCalls;
 use sweep_report::untried::SiteCalls;
-use sweep_rows::Reached;
-use sweep_runs::{Case, Leader, Progress, Row, Setup, cases};
+use sweep_rows::{Case, Reached, Row, Setup};
+use sweep_runs::{Leader, Progress, cases};
 use sweep_words::plan::Plan;
 use sweep_words::words::{Format, Shard, Words};
 

@@ -7,8 +7,7 @@ use std::alloc::{AllocError, Global};
 use sweep_report::sites::place_of;
 use sweep_report::told::{Told, tell_row};
 use sweep_report::traced::TracedCalls;
-use sweep_rows::{Reached, Verdict, rank};
-use sweep_runs::Row;
+use sweep_rows::{Reached, Row, Verdict, rank};
 use sweep_trials::hung_by;
 use sweep_words::plan::Plan;
 

@@ -1,6 +1,6 @@
 -- The run that words name, in which a call fails behind another that fails.
 use Rattle.std.specs.Prelude.{◌≡◌, ◌==◌, ◌&&◌, Bool, true}
-use Rattle.sweep_runs.specs.declared.chosen.Case.{Case}
+use Rattle.sweep_rows.specs.declared.wanted.Case.{Case}
 use Rattle.sweep_runs.specs.declared.deep.DeepCase.{DeepCase}
 use Rattle.sweep_words.specs.declared.show.NamedDeep.{NamedDeep}
 use Rattle.sweep_words.specs.declared.show.NamedRun.{NamedRun}

@@ -6,11 +6,11 @@ use Rattle.sweep_rows.specs.declared.verdicts.Reached.{Reached}
 use Rattle.sweep_runs.specs.Behind.{is_borne, seconds_of}
 use Rattle.sweep_runs.specs.Deep.{case_in, deep_of, DeepReaches, FailingLogs, IsDeepRow}
 use Rattle.sweep_runs.specs.Rows.{fault_of, IsRow}
-use Rattle.sweep_runs.specs.declared.chosen.Case.{Case}
-use Rattle.sweep_runs.specs.declared.chosen.Wanted.{Wanted}
+use Rattle.sweep_rows.specs.declared.wanted.Case.{Case}
+use Rattle.sweep_rows.specs.declared.wanted.Wanted.{Wanted}
 use Rattle.sweep_runs.specs.declared.deep.DeepCase.{DeepCase}
-use Rattle.sweep_runs.specs.declared.runs.Setup.{Setup}
-use Rattle.sweep_runs.specs.declared.sweeping.Row.{Row}
+use Rattle.sweep_rows.specs.declared.setup.Setup.{Setup}
+use Rattle.sweep_rows.specs.declared.row.Row.{Row}
 use Rattle.sweep_trials.specs.Ends.{EndsOn}
 use Rattle.sweep_trials.specs.declared.second.SecondEnd.{SecondEnd}
 use Rattle.sweep_words.specs.declared.plan.Plan.{Plan}

@@ -8,10 +8,10 @@ ghost use Rattle.sweep_runs.specs.Deep.{case_in};
 
 use front_end::Fault;
 use std::alloc::{AllocError, Global};
-use sweep_rows::Reached;
+use sweep_rows::{Case, Reached, Row, Setup, Wanted};
 use sweep_runs::{
-    Case, DeepCase, DeepRow, Row, Setup, Wanted, cases, fault_of, is_borne, log_failing,
-    reach_deep, run_case, run_deep_row, seconds,
+    DeepCase, DeepRow, cases, fault_of, is_borne, log_failing, reach_deep, run_case, run_deep_row,
+    seconds,
 };
 use sweep_trials::second::{SecondEnd, end_on};
 use sweep_words::plan::Plan;

@@ -12,7 +12,7 @@ use Rattle.pt_schedule.specs.Untraced.{readiness_of}
 use Rattle.pt_schedule.specs.declared.schedule.Schedule.{Schedule}
 use Rattle.sweep_rows.proofs.Counting.{entries_more}
 use Rattle.sweep_faults.specs.declared.faults.Fault.{Fault}
-use Rattle.sweep_faults.specs.declared.faults.Kind.{Kind}
+use Rattle.sweep_rows.specs.declared.kinds.Kind.{Kind}
 use Rattle.sweep_faults.specs.declared.faults.Place.{Place}
 use Rattle.sweep_faults.specs.Faults.{after_fault, ends_at, has_begun, is_at, is_due, is_stop, is_world}
 use Rattle.sweep_faults.specs.InRows.{InRow}

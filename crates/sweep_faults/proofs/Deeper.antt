@@ -21,8 +21,8 @@ use Rattle.pt_schedule.specs.Schedules.{events_left, next_turn_of, GivenTurn}
 use Rattle.pt_schedule.specs.Untraced.{readiness_of}
 use Rattle.sweep_faults.specs.declared.deep.Deep.{Deep}
 use Rattle.sweep_faults.specs.declared.faults.Fault.{Fault}
-use Rattle.sweep_faults.specs.declared.faults.Kind.{Kind}
-use Rattle.sweep_faults.specs.declared.faults.Kind.TheVariants as kind
+use Rattle.sweep_rows.specs.declared.kinds.Kind.{Kind}
+use Rattle.sweep_rows.specs.declared.kinds.Kind.TheVariants as kind
 use Rattle.sweep_faults.specs.Deep.{after_deep, deep_ends_at, IsDeep, RunsDeep, DeepEndsAreSettled, DeepIsFaulted, next_deep, unless_deep_ended}
 use Rattle.sweep_faults.specs.Faults.{after_asking, after_failing, after_fault, counting, ends_at, error_asked, failing, has_begun, is_at, is_due, is_entered, is_stop, is_world, killing, last_asked, with_register, writing}
 use Rattle.sweep_faults.specs.Runs.{IsFaulted, RunsFaulted, next_pid, unless_ended}

@@ -35,8 +35,8 @@ use Rattle.sweep_rows.specs.declared.descriptors.Use.{Use}
 use Rattle.sweep_rows.specs.declared.known.Known.{Known}
 use Rattle.sweep_rows.specs.declared.worlds.World.{World}
 use Rattle.sweep_faults.specs.declared.faults.Fault.{Fault}
-use Rattle.sweep_faults.specs.declared.faults.Kind.{Kind}
-use Rattle.sweep_faults.specs.declared.faults.Kind.TheVariants as kind
+use Rattle.sweep_rows.specs.declared.kinds.Kind.{Kind}
+use Rattle.sweep_rows.specs.declared.kinds.Kind.TheVariants as kind
 use Rattle.sweep_faults.specs.Faults.{after_asking, after_failing, after_fault, counting, ends_at, error_asked, is_at, is_entered, is_stop, last_asked, with_register, writing}
 use Rattle.sweep_faults.specs.InRows.{HasNext, InRow}
 use Rattle.sweep_faults.specs.Runs.{IsFaulted, RunsFaulted, EndsAreSettled, RunsKeepLogs, StopsAreTurns, next_pid, unless_ended}

@@ -8,8 +8,8 @@ use Rattle.lx_kernel.specs.Advances.{is_under_way, GoesOn}
 use Rattle.lx_kernel.specs.Runs.{Run, mode_in}
 use Rattle.lx_kernel.specs.Tracing.{task_in, regs_of}
 use Rattle.sweep_faults.specs.declared.faults.Fault.{Fault}
-use Rattle.sweep_faults.specs.declared.faults.Kind.{Kind}
-use Rattle.sweep_faults.specs.declared.faults.Kind.TheVariants as kind
+use Rattle.sweep_rows.specs.declared.kinds.Kind.{Kind}
+use Rattle.sweep_rows.specs.declared.kinds.Kind.TheVariants as kind
 use Rattle.sweep_faults.specs.Faults.{asks_for, has_begun, has_entered, is_at, is_due, is_ended, is_entered, is_world, was_last}
 
 -- A process that goes on by itself has entered no call, and ended none

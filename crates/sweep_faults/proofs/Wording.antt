@@ -36,8 +36,8 @@ use Rattle.plain_run.specs.Runs.{IsRun}
 use Rattle.plain_run.proofs.Turning.{bore_log}
 use Rattle.sweep_rows.specs.Failures.{FailsAlone}
 use Rattle.sweep_faults.specs.declared.faults.Fault.{Fault}
-use Rattle.sweep_faults.specs.declared.faults.Kind.{Kind}
-use Rattle.sweep_faults.specs.declared.faults.Kind.TheVariants as kind
+use Rattle.sweep_rows.specs.declared.kinds.Kind.{Kind}
+use Rattle.sweep_rows.specs.declared.kinds.Kind.TheVariants as kind
 use Rattle.sweep_faults.specs.Faults.{after_fault, asks_for, error_of, failing, is_at, is_entered, is_undone}
 use Rattle.sweep_faults.specs.Runs.{IsFaulted, WordsGiveRuns, unless_ended}
 use Rattle.sweep_faults.specs.Words.{failure_of}

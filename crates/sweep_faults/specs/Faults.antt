@@ -22,42 +22,9 @@ use Rattle.sweep_rows.specs.Descriptors.{argument, descriptor, uses_of}
 use Rattle.sweep_rows.specs.Worlds.{error_in}
 use Rattle.sweep_rows.specs.declared.worlds.World.{World}
 use Rattle.sweep_faults.specs.declared.faults.Fault.{Fault}
-use Rattle.sweep_faults.specs.declared.faults.Kind.{Kind}
-use Rattle.sweep_faults.specs.declared.faults.Kind.TheVariants as kind
-
--- the error that the call has
-abbrev pub error_of : Kind → Option Errno
-error_of (kind.Undone error) = Some error
-error_of (kind.Done error) = Some error
-error_of (kind.Short count) = None
-error_of kind.Killed = None
-error_of kind.Stop = None
-error_of (kind.World w) = None
-
-abbrev pub is_undone : Kind → Bool
-is_undone (kind.Undone error) = true
-is_undone (kind.Done error) = false
-is_undone (kind.Short count) = false
-is_undone kind.Killed = false
-is_undone kind.Stop = false
-is_undone (kind.World w) = false
-
-abbrev pub is_stop : Kind → Bool
-is_stop (kind.Undone error) = false
-is_stop (kind.Done error) = false
-is_stop (kind.Short count) = false
-is_stop kind.Killed = false
-is_stop kind.Stop = true
-is_stop (kind.World w) = false
-
--- of every process, from the entry on
-abbrev pub is_world : Kind → Bool
-is_world (kind.Undone error) = false
-is_world (kind.Done error) = false
-is_world (kind.Short count) = false
-is_world kind.Killed = false
-is_world kind.Stop = false
-is_world (kind.World w) = true
+pub use Rattle.sweep_rows.specs.Kinds.{error_of, is_stop, is_undone, is_world}
+use Rattle.sweep_rows.specs.declared.kinds.Kind.{Kind}
+use Rattle.sweep_rows.specs.declared.kinds.Kind.TheVariants as kind
 
 -- Of a call that isn't done.
 

@@ -6,7 +6,7 @@ use Rattle.lx_abi.specs.Log.{entries, is_entry}
 use Rattle.lx_kernel.specs.Runs.{Run}
 use Rattle.pt_schedule.specs.declared.schedule.Schedule.{Schedule}
 use Rattle.sweep_faults.specs.declared.faults.Fault.{Fault}
-use Rattle.sweep_faults.specs.declared.faults.Kind.{Kind}
+use Rattle.sweep_rows.specs.declared.kinds.Kind.{Kind}
 use Rattle.sweep_faults.specs.declared.faults.Place.{Place}
 use Rattle.sweep_faults.specs.Faults.{has_begun}
 use Rattle.sweep_faults.specs.Runs.{RunsFaulted}

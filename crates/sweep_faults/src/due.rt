@@ -8,10 +8,11 @@ ghost use Rattle.sweep_faults.specs.Faults.{asks_for, ends_at, has_begun, has_en
 ghost use Rattle.sweep_faults.specs.Faults.{is_entered, was_last};
 ghost use Rattle.sweep_faults.specs.Heard.{Hears};
 
-use crate::faults::{Fault, Kind};
+use crate::faults::Fault;
 use crate::heard::Heard;
 use lx_abi::Mode;
 use lx_kernel::Kernel;
+use sweep_rows::Kind;
 
 /// Where a process stands that has entered a call.
 pub(crate) fn is_entered(mode: Option<Mode>) -> bool

@@ -11,12 +11,11 @@ ghost use Rattle.lx_model.specs.Machine.{call_of};
 ghost use Rattle.sweep_rows.specs.Known.{IsKnown};
 
 use crate::due::is_entered;
-use crate::faults::Kind;
 use crate::moving::Moved;
 use lx_abi::{Call, Choice, Errno, Registers, Signal};
 use lx_kernel::{Failed, Kernel};
 use std::alloc::AllocError;
-use sweep_rows::{Known, World};
+use sweep_rows::{Kind, Known, World};
 
 /// The register a0, where a call's result stands.
 const A0: usize = 10;

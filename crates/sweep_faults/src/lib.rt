@@ -16,7 +16,7 @@ pub mod running;
 pub mod words;
 
 pub use deep::{Deep, run_deep};
-pub use faults::{Fault, Kind, Place};
+pub use faults::{Fault, Place};
 pub use heard::Heard;
 pub use leading::run_up_to;
 pub use running::run_faulted;

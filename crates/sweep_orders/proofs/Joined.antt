@@ -1,6 +1,6 @@
 -- Runs, some behind others.
 use Rattle.std.proofs.Common.{◌≡◌, ◌-◌, ◌+◌, ℕ, suc, List, [], ◌∷◌, ◌++◌, length, subst, arith, length-append}
-use Rattle.sweep_runs.specs.declared.runs.Setup.{Setup}
+use Rattle.sweep_rows.specs.declared.setup.Setup.{Setup}
 use Rattle.sweep_orders.specs.Found.{Told, CountsAll}
 use Rattle.sweep_orders.specs.Orders.{AreMade, Explores}
 use Rattle.turn_orders.specs.Plans.{plan_of}

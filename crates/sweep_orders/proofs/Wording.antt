@@ -23,7 +23,7 @@ use Rattle.turn_orders.specs.Plans.{words_of}
 use Rattle.turn_orders.specs.declared.plans.Plan.{Plan}
 use Rattle.turn_orders.specs.declared.plans.Plan.TheVariants.{ByChance}
 use Rattle.turn_orders.specs.declared.plans.Source.{Source}
-use Rattle.sweep_runs.specs.declared.runs.Setup.{Setup}
+use Rattle.sweep_rows.specs.declared.setup.Setup.{Setup}
 use Rattle.sweep_orders.specs.Trials.{first_of, IsPlanned, IsTrial, IsRunBy, IsRunDrawn}
 use Rattle.sweep_orders.specs.declared.trials.Trial.{Trial}
 use Rattle.sweep_orders.proofs.Able.{chosen_above}

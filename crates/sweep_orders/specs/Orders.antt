@@ -1,7 +1,7 @@
 -- What is told of so many orders, each of which has a run of its own.
 use Rattle.std.specs.Prelude.{◌≡◌, ℕ, List, length}
 use Rattle.lx_abi.specs.declared.log.Item.{Item}
-use Rattle.sweep_runs.specs.declared.runs.Setup.{Setup}
+use Rattle.sweep_rows.specs.declared.setup.Setup.{Setup}
 use Rattle.sweep_orders.specs.Found.{Told, none_told, CountsAll}
 use Rattle.turn_orders.specs.Plans.{IsSource, switched_of}
 use Rattle.sweep_orders.specs.Trials.{AreTrials}

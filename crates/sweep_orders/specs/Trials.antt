@@ -7,7 +7,7 @@ use Rattle.plain_run.specs.Runs.{RunsTo}
 use Rattle.pt_schedule.specs.Schedules.{worded, most_events}
 use Rattle.rand_pcg.specs.Lcg.{Lcg}
 use Rattle.sweep_runs.specs.Runs.{ending_of}
-use Rattle.sweep_runs.specs.declared.runs.Setup.{Setup}
+use Rattle.sweep_rows.specs.declared.setup.Setup.{Setup}
 use Rattle.sweep_orders.specs.Draws.{chance_of, IsDrawn}
 use Rattle.turn_orders.specs.Plans.{plan_of, switched, words_of}
 use Rattle.turn_orders.specs.Steps.{steps_of}

@@ -11,7 +11,8 @@ use lx_abi::Item;
 use std::alloc::{AllocError, Global};
 use std::collections::VecDeque;
 use std::thread::{Threads, join};
-use sweep_runs::{Progress, Setup};
+use sweep_rows::Setup;
+use sweep_runs::Progress;
 use turn_orders::{Source, switched_of};
 
 /// A thread makes so many runs of a batch.

@@ -17,8 +17,8 @@ use lx_copies::Copied;
 use lx_kernel::Kernel;
 use rand_pcg::Pcg32;
 use std::alloc::{AllocError, Global};
-use sweep_rows::Ending;
-use sweep_runs::{Setup, ending, run_by};
+use sweep_rows::{Ending, Setup};
+use sweep_runs::{ending, run_by};
 use turn_orders::{Plan, Source, plan_of, steps_of, switched, words_of};
 
 /// No schedule gives more turns.

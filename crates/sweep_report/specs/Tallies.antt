@@ -6,7 +6,7 @@ use Rattle.sweep_report.specs.Findings.{counts}
 use Rattle.sweep_rows.specs.declared.verdicts.Verdict.{Verdict}
 use Rattle.sweep_rows.specs.declared.verdicts.Verdict.TheVariants.{Hung, Killed, Broken, Torn, Lost, Dropped, Damaged}
 use Rattle.sweep_rows.specs.declared.verdicts.Verdict.TheVariants.{Warned, Reported, Recovered, Ignored}
-use Rattle.sweep_runs.specs.declared.sweeping.Row.{Row}
+use Rattle.sweep_rows.specs.declared.row.Row.{Row}
 use Rattle.sweep_report.specs.declared.tally.Kind.{Kind}
 
 abbrev pub verdicts_in : List Row → List Verdict

@@ -5,7 +5,7 @@ use crate::entries::Entry;
 use crate::report::{outcome_text, push_command, verdict_text};
 use crate::told::Told;
 use std::alloc::{AllocError, Global};
-use sweep_runs::Setup;
+use sweep_rows::Setup;
 
 /// A text as XML has it within quotes.
 fn escaped_text(alloc: Global, text: &str) -> Result<String, AllocError> {

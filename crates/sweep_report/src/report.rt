@@ -10,8 +10,7 @@ use front_end::escaped;
 use lx_abi::{Item, Node, OutcomeFile};
 use serde::Serialize;
 use std::alloc::{AllocError, Global};
-use sweep_rows::{Reached, Verdict, first_word, name_of, rank};
-use sweep_runs::Setup;
+use sweep_rows::{Reached, Setup, Verdict, first_word, name_of, rank};
 use sweep_words::shell::{input_text, typed};
 use sweep_words::words::Style;
 

@@ -6,8 +6,7 @@ ghost use Rattle.sweep_report.specs.Tallies.{is_among, is_told, kinds_of, kinds_
 
 use crate::findings::counts;
 use std::alloc::{AllocError, Global};
-use sweep_rows::{Verdict, count, rank};
-use sweep_runs::Row;
+use sweep_rows::{Row, Verdict, count, rank};
 
 /// All verdicts, the worst first.
 const VERDICTS: [Verdict; 11] = [

@@ -10,9 +10,8 @@ use lx_abi::{Ended, Signal, Status};
 use serde::Serialize;
 use std::alloc::{AllocError, Global};
 use sweep_rows::{
-    FileNote, Reached, Streams, Verdict, Word, first_word, name_of as verdict_name, rank,
+    FileNote, Reached, Row, Streams, Verdict, Word, first_word, name_of as verdict_name, rank,
 };
-use sweep_runs::Row;
 use sweep_words::calls::{error_name, name_of};
 use sweep_words::shell::{Shower, failure_words, show_words, typed, words_with};
 

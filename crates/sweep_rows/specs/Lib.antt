@@ -15,3 +15,4 @@ pub mod Failures
 pub mod Worlds
 pub mod Logs
 pub mod Said
+pub mod Kinds

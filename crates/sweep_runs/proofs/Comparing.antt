@@ -13,7 +13,7 @@ use Rattle.sweep_runs.specs.Rows.{fault_of}
 use Rattle.sweep_runs.specs.Runs.{IsReached}
 use Rattle.sweep_runs.specs.declared.deep.DeepCase.{DeepCase}
 use Rattle.sweep_runs.specs.declared.leading.Compared.{Compared}
-use Rattle.sweep_runs.specs.declared.runs.Setup.{Setup}
+use Rattle.sweep_rows.specs.declared.setup.Setup.{Setup}
 
 pub deep_compares : (setup : Setup) (reference : Reached) (case : DeepCase) (deep : Deep) (second : Fault) (k : Run) (r : Result Compared AllocError) → deep ≡ deep_of case → second ≡ fault_of case.second
     → DeepComesTo setup deep k → IfOk r (λ c. IsReached k c.reached)

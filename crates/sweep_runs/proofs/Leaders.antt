@@ -18,7 +18,7 @@ use Rattle.sweep_runs.specs.Leaders.{ComparesTo, GoesOnAt, IsAtBoot, IsOn, Stand
 use Rattle.sweep_runs.specs.Runs.{FaultComesTo, IsReached}
 use Rattle.sweep_runs.specs.declared.leading.Compared.{Compared}
 use Rattle.sweep_runs.specs.declared.leading.Leader.{Leader}
-use Rattle.sweep_runs.specs.declared.runs.Setup.{Setup}
+use Rattle.sweep_rows.specs.declared.setup.Setup.{Setup}
 
 module _ (setup : Setup) (l : Leader) (boot : IsAtBoot setup l) where
   boots : (f : Fault) (z : Run) → RunsFaulted f l.kernel l.schedule z → RunsFaulted f (first_of setup) (words_of setup) z

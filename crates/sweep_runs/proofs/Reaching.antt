@@ -11,7 +11,7 @@ use Rattle.pt_schedule.specs.Schedules.{worded}
 use Rattle.plain_run.proofs.Turning.{with_log}
 use Rattle.sweep_faults.specs.Faults.{error_of}
 use Rattle.sweep_faults.specs.Words.{HasWords}
-use Rattle.sweep_faults.specs.declared.faults.Kind.TheVariants as kind
+use Rattle.sweep_rows.specs.declared.kinds.Kind.TheVariants as kind
 use Rattle.sweep_faults.proofs.Wording.{words_give}
 use Rattle.sweep_runs.specs.Rows.{WordsReach, fault_of, kind_of}
 use Rattle.sweep_runs.specs.Runs.{ending_of, is_alive}

@@ -12,10 +12,10 @@ use Rattle.sweep_rows.specs.declared.verdicts.Verdict.{Verdict}
 use Rattle.sweep_rows.specs.declared.verdicts.Verdict.TheVariants.{Hung, Killed, Broken, Torn, Lost, Dropped, Damaged}
 use Rattle.sweep_rows.specs.declared.verdicts.Verdict.TheVariants.{Warned, Reported, Recovered, Ignored}
 use Rattle.sweep_runs.specs.Cases.{cases_at, every_call}
-use Rattle.sweep_runs.specs.declared.chosen.Case.{Case}
-use Rattle.sweep_runs.specs.declared.chosen.Errors.{Errors}
-use Rattle.sweep_runs.specs.declared.chosen.Errors.TheVariants.{Possible, These}
-use Rattle.sweep_runs.specs.declared.chosen.Wanted.{Wanted}
+use Rattle.sweep_rows.specs.declared.wanted.Case.{Case}
+use Rattle.sweep_rows.specs.declared.wanted.Errors.{Errors}
+use Rattle.sweep_rows.specs.declared.wanted.Errors.TheVariants.{Possible, These}
+use Rattle.sweep_rows.specs.declared.wanted.Wanted.{Wanted}
 
 -- the program bore a failure: its run went another way, and is no finding
 abbrev pub is_borne : Verdict → Bool

@@ -9,10 +9,10 @@ use Rattle.lx_abi.specs.Scripts.{includes}
 use Rattle.sweep_rows.specs.Entries.{rows_of}
 use Rattle.sweep_rows.specs.Possible.{possible_errors, tells_of_loss}
 use Rattle.sweep_rows.specs.declared.known.Occurrence.{Occurrence}
-use Rattle.sweep_runs.specs.declared.chosen.Case.{Case}
-use Rattle.sweep_runs.specs.declared.chosen.Errors.{Errors}
-use Rattle.sweep_runs.specs.declared.chosen.Errors.TheVariants.{Possible, These}
-use Rattle.sweep_runs.specs.declared.chosen.Wanted.{Wanted}
+use Rattle.sweep_rows.specs.declared.wanted.Case.{Case}
+use Rattle.sweep_rows.specs.declared.wanted.Errors.{Errors}
+use Rattle.sweep_rows.specs.declared.wanted.Errors.TheVariants.{Possible, These}
+use Rattle.sweep_rows.specs.declared.wanted.Wanted.{Wanted}
 
 abbrev pub case_of : Occurrence → Errno → Case
 case_of o error = record { occurrence = o; error = error; tells = tells_of_loss o error }

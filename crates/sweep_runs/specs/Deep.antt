@@ -16,7 +16,7 @@ use Rattle.sweep_runs.specs.Runs.{IsReached}
 use Rattle.sweep_runs.specs.declared.deep.DeepCase.{DeepCase}
 use Rattle.sweep_runs.specs.declared.deep.DeepRow.{DeepRow}
 use Rattle.sweep_runs.specs.declared.leading.Compared.{Compared}
-use Rattle.sweep_runs.specs.declared.runs.Setup.{Setup}
+use Rattle.sweep_rows.specs.declared.setup.Setup.{Setup}
 
 -- a run in which this call of this process fails, whose log is kept
 abbrev pub FaultLogs : Setup → Fault → Run → Type 0

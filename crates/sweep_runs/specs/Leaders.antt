@@ -16,7 +16,7 @@ use Rattle.sweep_rows.specs.declared.verdicts.Reached.{Reached}
 use Rattle.sweep_runs.specs.Runs.{FaultReaches}
 use Rattle.sweep_runs.specs.declared.leading.Compared.{Compared}
 use Rattle.sweep_runs.specs.declared.leading.Leader.{Leader}
-use Rattle.sweep_runs.specs.declared.runs.Setup.{Setup}
+use Rattle.sweep_rows.specs.declared.setup.Setup.{Setup}
 
 -- where each run of a setup in which a call fails begins
 abbrev pub first_of : Setup → Run

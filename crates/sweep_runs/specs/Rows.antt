@@ -6,8 +6,8 @@ use Rattle.lx_abi.specs.declared.script.Rule.{Rule}
 use Rattle.lx_abi.specs.Sys.{sys_close}
 use Rattle.sweep_faults.specs.Words.{failure_of, HasWords}
 use Rattle.sweep_faults.specs.declared.faults.Fault.{Fault}
-use Rattle.sweep_faults.specs.declared.faults.Kind.{Kind}
-use Rattle.sweep_faults.specs.declared.faults.Kind.TheVariants as kind
+use Rattle.sweep_rows.specs.declared.kinds.Kind.{Kind}
+use Rattle.sweep_rows.specs.declared.kinds.Kind.TheVariants as kind
 use Rattle.sweep_rows.specs.Failures.{FailsAlone}
 use Rattle.sweep_rows.specs.Files.{file_notes}
 use Rattle.sweep_rows.specs.Endings.{first_word}
@@ -15,11 +15,11 @@ use Rattle.sweep_rows.specs.Verdicts.{facts_of, verdict_of}
 use Rattle.sweep_rows.specs.declared.verdicts.Reached.{Reached}
 use Rattle.sweep_runs.specs.Cases.{cases_of}
 use Rattle.sweep_runs.specs.Runs.{FaultReaches, Reaches}
-use Rattle.sweep_runs.specs.declared.chosen.Case.{Case}
-use Rattle.sweep_runs.specs.declared.chosen.Wanted.{Wanted}
-use Rattle.sweep_runs.specs.declared.sweeping.Row.{Row}
+use Rattle.sweep_rows.specs.declared.wanted.Case.{Case}
+use Rattle.sweep_rows.specs.declared.wanted.Wanted.{Wanted}
+use Rattle.sweep_rows.specs.declared.row.Row.{Row}
 use Rattle.sweep_runs.specs.declared.sweeping.Report.{Report}
-use Rattle.sweep_runs.specs.declared.runs.Setup.{Setup}
+use Rattle.sweep_rows.specs.declared.setup.Setup.{Setup}
 
 -- how a call fails with an error: close is done all the same (close(2))
 abbrev pub kind_of : ℕ → Errno → Kind

@@ -13,7 +13,7 @@ use Rattle.sweep_faults.specs.declared.faults.Fault.{Fault}
 use Rattle.sweep_rows.specs.Streams.{streams_of}
 use Rattle.sweep_rows.specs.declared.endings.Ending.{Ending}
 use Rattle.sweep_rows.specs.declared.verdicts.Reached.{Reached}
-use Rattle.sweep_runs.specs.declared.runs.Setup.{Setup}
+use Rattle.sweep_rows.specs.declared.setup.Setup.{Setup}
 
 -- some process has not ended
 unfoldable pub is_alive : Run → Bool

@@ -2,7 +2,7 @@
 use Rattle.std.specs.Prelude.{◌≡◌, cond, if◌then◌else◌, false, Option, Some, None}
 use Rattle.sweep_faults.specs.Faults.{is_stop}
 use Rattle.sweep_faults.specs.declared.faults.Fault.{Fault}
-use Rattle.sweep_faults.specs.declared.faults.Kind.{Kind}
+use Rattle.sweep_rows.specs.declared.kinds.Kind.{Kind}
 use Rattle.sweep_rows.specs.Endings.{first_word}
 use Rattle.sweep_rows.specs.Files.{file_notes}
 use Rattle.sweep_rows.specs.Verdicts.{facts_of, verdict_of}
@@ -12,7 +12,7 @@ use Rattle.sweep_rows.specs.declared.verdicts.Reached.{Reached}
 use Rattle.sweep_rows.specs.declared.verdicts.Verdict.{Verdict}
 use Rattle.sweep_rows.specs.declared.verdicts.Verdict.TheVariants.{Damaged, Torn}
 use Rattle.sweep_runs.specs.Runs.{FaultReaches}
-use Rattle.sweep_runs.specs.declared.runs.Setup.{Setup}
+use Rattle.sweep_rows.specs.declared.setup.Setup.{Setup}
 use Rattle.sweep_runs.specs.declared.trials.Trial.{Trial}
 use Rattle.sweep_runs.specs.declared.trials.TrialRow.{TrialRow}
 

@@ -4,12 +4,12 @@ ghost use Rattle.std.specs.Prelude.{◌≡◌, ◌++◌, IfOk, OnOk};
 ghost use Rattle.std.specs.List.{flat_map};
 ghost use Rattle.sweep_runs.specs.Behind.{behind, errors_behind, is_borne, is_there, second_at, seconds_of};
 
-use crate::chosen::{Case, Errors, Wanted, add_errors};
+use crate::chosen::add_errors;
 use containers::Seq;
 use lx_abi::{Errno, Item, Set};
 use std::alloc::{AllocError, Global};
 use sweep_faults::Place;
-use sweep_rows::{Occurrence, Verdict, occurrences, possible_errors};
+use sweep_rows::{Case, Errors, Occurrence, Verdict, Wanted, occurrences, possible_errors};
 
 /// The program bore a failure: its run went another way, and is no finding.
 pub fn is_borne(verdict: Verdict) -> bool

@@ -7,31 +7,7 @@ ghost use Rattle.sweep_runs.specs.Cases.{cases_of, case_of, cases_at, wanted_at,
 use containers::Seq;
 use lx_abi::{Errno, Item, Set};
 use std::alloc::{AllocError, Global};
-use sweep_rows::{Occurrence, occurrences, possible_errors, tells_of_loss};
-
-/// The errors that calls are to fail with.
-#[derive(Drop)]
-pub enum Errors {
-    /// Those that an occurrence can have.
-    Possible,
-    These(Vec<Errno>),
-}
-
-/// Calls that are to fail, and the errors that they are to fail with.
-#[derive(Drop)]
-pub struct Wanted {
-    pub calls: Set,
-    pub errors: Errors,
-}
-
-/// An occurrence of a call, and the error that it fails with.
-#[derive(Clone, Copy, Debug, PartialEq, Eq)]
-pub struct Case {
-    pub occurrence: Occurrence,
-    pub error: Errno,
-    /// The error tells that data was lost.
-    pub tells: bool,
-}
+use sweep_rows::{Case, Errors, Occurrence, Wanted, occurrences, possible_errors, tells_of_loss};
 
 /// Adds a case for each error.
 pub(crate) fn add_errors(

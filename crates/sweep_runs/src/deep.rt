@@ -8,17 +8,16 @@ ghost use Rattle.sweep_faults.specs.Heard.{HearsBeside};
 ghost use Rattle.sweep_runs.specs.Deep.{DeepComesTo, DeepComparesTo, FailingLogs, FaultLogs, IsDeepRow};
 ghost use Rattle.sweep_runs.specs.Deep.{case_in, deep_of};
 
-use crate::chosen::Case;
 use crate::leading::{Compared, compare};
-use crate::runs::{Setup, begin, begin_without_log, run_on};
-use crate::sweeping::{Row, compare as row_by, fault_of};
+use crate::runs::{begin, begin_without_log, run_on};
+use crate::sweeping::{compare as row_by, fault_of};
 use lx_abi::{Item, Script};
 use lx_kernel::Kernel;
 use plain_run::Unwatched;
 use pt_schedule::Schedule;
 use std::alloc::{AllocError, Global};
 use sweep_faults::{Deep, Fault, Heard, run_deep};
-use sweep_rows::{Calls, Reached};
+use sweep_rows::{Calls, Case, Reached, Row, Setup};
 
 /// An occurrence that fails, and one that the run with this failure has behind it.
 #[derive(Clone, Copy, Debug, PartialEq, Eq)]

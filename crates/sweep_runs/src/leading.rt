@@ -8,13 +8,13 @@ ghost use Rattle.sweep_runs.specs.Leaders.{ComparesTo, IsAtBoot, IsLed, IsOn, St
 ghost use Rattle.sweep_runs.specs.Runs.{FaultComesTo, IsReached};
 
 use crate::ends::ending;
-use crate::runs::{Setup, begin_without_log, run_on};
+use crate::runs::{begin_without_log, run_on};
 use lx_kernel::Kernel;
 use pt_schedule::Schedule;
 use std::alloc::{AllocError, Global};
 use std::mem;
 use sweep_faults::{Fault, Heard, Place, has_words, run_up_to};
-use sweep_rows::{Calls, Reached};
+use sweep_rows::{Calls, Reached, Setup};
 
 /// A kernel that a boot's own turns have led to where a call is entered.
 #[derive(Drop)]

@@ -14,12 +14,12 @@ pub mod sweeping;
 pub mod trials;
 
 pub use behind::{is_borne, seconds};
-pub use chosen::{Case, Errors, Wanted, cases};
+pub use chosen::cases;
 pub use deep::{DeepCase, DeepRow, log_failing, reach_deep, run_deep_case, run_deep_row};
 pub use ends::ending;
 pub use leading::{Compared, Leader, reach_failing};
 pub use progress::{Progress, Silent};
-pub use runs::{Setup, reach, refer, run_accepted, run_by, run_failing, run_under};
+pub use runs::{reach, refer, run_accepted, run_by, run_failing, run_under};
 pub use second::boot_on;
-pub use sweeping::{Report, Row, fault_of, run_case, run_cases, run_led_cases, script_of, sweep};
+pub use sweeping::{Report, fault_of, run_case, run_cases, run_led_cases, script_of, sweep};
 pub use trials::{Trial, TrialRow, run_led_trial, run_trial};

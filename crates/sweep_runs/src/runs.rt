@@ -19,15 +19,7 @@ use plain_run::{Unwatched, run};
 use pt_schedule::Schedule;
 use std::alloc::{AllocError, Global};
 use sweep_faults::{Fault, Heard, run_faulted};
-use sweep_rows::{Calls, Reached, RunLog, streams_of};
-
-/// What all runs of a sweep begin with: a boot, the words of a schedule, and the most turns of each.
-#[derive(Drop)]
-pub struct Setup {
-    pub boot: Boot,
-    pub turns: Vec<Word>,
-    pub limit: u64,
-}
+use sweep_rows::{Calls, Reached, RunLog, Setup, streams_of};
 
 fn copy<T: Copy + Drop>(alloc: Global, items: &[T]) -> Result<Vec<T>, AllocError>
     ensures { IfOk result (λ copy. copy.items ≡ items.now) }

@@ -13,35 +13,19 @@ ghost use Rattle.sweep_rows.specs.Calls.{same_calls};
 ghost use Rattle.sweep_runs.specs.Leaders.{ComparesTo, IsLed};
 ghost use Rattle.sweep_runs.specs.Rows.{fault_of as fault_of_case, kind_of, IsRow, AreRows, IsReport};
 
-use crate::chosen::{Case, Wanted, cases};
+use crate::chosen::cases;
 use crate::leading::{Compared, Leader, reach_failing};
 use crate::progress::Progress;
-use crate::runs::{Setup, refer};
+use crate::runs::refer;
 use containers::Seq;
 use lx_abi::{Boot, Ended, Errno, Outcome, Script, sys};
 use lx_boot::BootFault;
 use std::alloc::{AllocError, Global};
-use sweep_faults::{Fault, Kind, failure_of};
+use sweep_faults::{Fault, failure_of};
 use sweep_rows::{
-    Ending, FileNote, Reached, Streams, Verdict, facts_of, failing, file_notes, first_word,
-    verdict_of,
+    Case, Ending, FileNote, Kind, Reached, Row, Setup, Streams, Verdict, Wanted, facts_of, failing,
+    file_notes, first_word, verdict_of,
 };
-
-/// A case, and what came of its run.
-#[derive(Drop)]
-pub struct Row {
-    pub case: Case,
-    pub verdict: Verdict,
-    /// The wait word of process 1, if it ended.
-    pub word: Option<u32>,
-    /// The processes that ended.
-    pub ended: Seq<Ended>,
-    /// The files that the run leaves otherwise than the reference.
-    pub files: Vec<FileNote>,
-    pub streams: Streams,
-    /// A rule of a script, which is for each tracee, comes to the same run.
-    pub has_words: bool,
-}
 
 /// The run without a failure, and a row for each case.
 #[derive(Drop)]

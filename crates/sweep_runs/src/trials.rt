@@ -9,16 +9,15 @@ ghost use Rattle.sweep_runs.specs.Leaders.{ComparesTo, IsLed};
 ghost use Rattle.sweep_runs.specs.Trials.{fault_of, verdict_by as verdict_by_kind, verdict_by_files, IsTrialRow};
 
 use crate::leading::{Compared, Leader, reach_failing};
-use crate::runs::Setup;
 use crate::sweeping::notes_of;
 use containers::Seq;
 use lx_abi::{Ended, Outcome};
 use std::alloc::{AllocError, Global};
-use sweep_faults::{Fault, Kind};
+use sweep_faults::Fault;
 use sweep_rows::verdicts::Left;
 use sweep_rows::{
-    Ending, Facts, FileNote, Occurrence, Reached, Streams, Verdict, facts_of, first_word,
-    verdict_of,
+    Ending, Facts, FileNote, Kind, Occurrence, Reached, Setup, Streams, Verdict, facts_of,
+    first_word, verdict_of,
 };
 
 /// An occurrence of a call, and how it fails.

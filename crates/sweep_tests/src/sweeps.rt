@@ -6,8 +6,8 @@ use lx_boot::BootFault;
 use rv_asm::assemble;
 use std::alloc::Global;
 use std::test::Fail;
-use sweep_rows::Verdict;
-use sweep_runs::{Errors, Report, Setup, Silent, Wanted, sweep};
+use sweep_rows::{Errors, Setup, Verdict, Wanted};
+use sweep_runs::{Report, Silent, sweep};
 use tr_expr::parse_trace;
 
 /// Writes twice whatever comes of it, and exits.

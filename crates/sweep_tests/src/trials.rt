@@ -5,9 +5,8 @@ use lx_abi::{Boot, GuestFile, Limits, OutcomeFile, Script, Set};
 use rv_asm::assemble;
 use std::alloc::Global;
 use std::test::Fail;
-use sweep_faults::Kind;
-use sweep_rows::{Reached, Verdict, first_word, occurrences};
-use sweep_runs::{Setup, Trial, boot_on, reach, reach_failing, run_trial};
+use sweep_rows::{Kind, Reached, Setup, Verdict, first_word, occurrences};
+use sweep_runs::{Trial, boot_on, reach, reach_failing, run_trial};
 
 /// Writes `newer` to /note, which it empties first, by two calls.
 const SAVER: &str = "_start: li a0, -100\nla a1, path\nli a2, 0x201\nli a7, 56\necall\nmv s0, a0\n\

@@ -6,8 +6,8 @@ ghost use Rattle.sweep_runs.specs.Rows.{AreRows};
 use crate::splitting::run_split;
 use std::alloc::{AllocError, Global};
 use std::thread::Threads;
-use sweep_rows::Reached;
-use sweep_runs::{Case, Progress, Row, Setup, run_cases};
+use sweep_rows::{Case, Reached, Row, Setup};
+use sweep_runs::{Progress, run_cases};
 
 /// A batch has this share of all cases, and so many more.
 const BATCHES: usize = 32;

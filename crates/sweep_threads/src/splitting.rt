@@ -6,8 +6,8 @@ ghost use Rattle.sweep_runs.specs.Rows.{AreRows};
 
 use std::alloc::{AllocError, Global};
 use std::thread::{Threads, join};
-use sweep_rows::Reached;
-use sweep_runs::{Case, Row, Setup, Silent, run_cases};
+use sweep_rows::{Case, Reached, Row, Setup};
+use sweep_runs::{Silent, run_cases};
 
 /// Makes the run of each case, of a boot that is accepted, in so many threads: those of the first cases in one, and the
 /// others in the rest.

@@ -5,7 +5,7 @@ use Rattle.sweep_faults.specs.declared.deep.Deep.{Deep}
 use Rattle.sweep_faults.specs.declared.faults.Fault.{Fault}
 use Rattle.sweep_runs.specs.Deep.{DeepComesTo}
 use Rattle.sweep_runs.specs.Runs.{FaultComesTo}
-use Rattle.sweep_runs.specs.declared.runs.Setup.{Setup}
+use Rattle.sweep_rows.specs.declared.setup.Setup.{Setup}
 use Rattle.sweep_trace.specs.declared.failing.ShownRun.{ShownRun}
 
 -- the console is that of the run in which this call of this process fails

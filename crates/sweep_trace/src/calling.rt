@@ -9,7 +9,7 @@ use lx_abi::calls::call_name;
 use plain_run::run;
 use std::alloc::{AllocError, Global};
 use sweep_report::callers::Callers;
-use sweep_runs::Setup;
+use sweep_rows::Setup;
 
 /// From where a call is made, and the place of its function's name.
 #[derive(Clone, Copy, Debug, PartialEq, Eq)]

@@ -12,8 +12,7 @@ use plain_trace::Trace;
 use pt_schedule::Schedule;
 use std::alloc::{AllocError, Global};
 use sweep_faults::{Deep, Heard, run_deep};
-use sweep_rows::Calls;
-use sweep_runs::Setup;
+use sweep_rows::{Calls, Setup};
 use tr_core::Options;
 
 /// Makes the run with both failures, and gives its console.

@@ -11,8 +11,7 @@ use plain_trace::Trace;
 use pt_schedule::Schedule;
 use std::alloc::{AllocError, Global};
 use sweep_faults::{Fault, Heard, run_faulted};
-use sweep_rows::Calls;
-use sweep_runs::Setup;
+use sweep_rows::{Calls, Setup};
 use tr_core::Options;
 
 /// A run as it is shown.

@@ -13,7 +13,7 @@ use lx_kernel::Kernel;
 use pt_schedule::Schedule;
 use std::alloc::{AllocError, Global};
 use sweep_report::traced::TracedCalls;
-use sweep_runs::Setup;
+use sweep_rows::Setup;
 use tr_core::Options;
 
 /// The most bytes of a string that a report shows.

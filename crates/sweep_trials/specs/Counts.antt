@@ -2,8 +2,8 @@
 use Rattle.std.specs.Prelude.{◌==◌, ◌&&◌, not, cond, Bool, true, false, List, [], ◌∷◌, Option, Some, None}
 use Rattle.std.specs.List.{flat_map, list_any}
 use Rattle.std.specs.Option.{option_to_list}
-use Rattle.sweep_faults.specs.declared.faults.Kind.{Kind}
-use Rattle.sweep_faults.specs.declared.faults.Kind.TheVariants as kinds
+use Rattle.sweep_rows.specs.declared.kinds.Kind.{Kind}
+use Rattle.sweep_rows.specs.declared.kinds.Kind.TheVariants as kinds
 use Rattle.sweep_rows.specs.Verdicts.{is_torn}
 use Rattle.sweep_rows.specs.declared.files.FileNote.{FileNote}
 use Rattle.sweep_rows.specs.declared.verdicts.Verdict.{Verdict}

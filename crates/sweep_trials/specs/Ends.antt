@@ -6,7 +6,7 @@ use Rattle.sweep_rows.specs.Endings.{first_word}
 use Rattle.sweep_rows.specs.declared.verdicts.Reached.{Reached}
 use Rattle.sweep_runs.specs.Runs.{Reaches}
 use Rattle.sweep_runs.specs.Seconds.{boot_on}
-use Rattle.sweep_runs.specs.declared.runs.Setup.{Setup}
+use Rattle.sweep_rows.specs.declared.setup.Setup.{Setup}
 use Rattle.sweep_trials.specs.declared.second.SecondEnd.{SecondEnd}
 use Rattle.sweep_words.specs.declared.trials.Second.{Second}
 

@@ -3,7 +3,7 @@ use Rattle.std.specs.Prelude.{◌≡◌, ⊤, List, map, All, Option, Some, None
 use Rattle.sweep_rows.specs.declared.verdicts.Reached.{Reached}
 use Rattle.sweep_runs.specs.Runs.{FaultReaches}
 use Rattle.sweep_runs.specs.Trials.{fault_of, IsTrialRow}
-use Rattle.sweep_runs.specs.declared.runs.Setup.{Setup}
+use Rattle.sweep_rows.specs.declared.setup.Setup.{Setup}
 use Rattle.sweep_runs.specs.declared.trials.Trial.{Trial}
 use Rattle.sweep_trials.specs.Ends.{EndsOn}
 use Rattle.sweep_trials.specs.declared.rows.TriedRow.{TriedRow}

@@ -3,8 +3,8 @@ use Rattle.std.specs.Prelude.{◌≡◌, ℕ, ◌==◌, ◌&&◌, ◌||◌, ◌/
 use Rattle.std.specs.List.{flat_map}
 use Rattle.lx_abi.specs.declared.log.Item.{Item}
 use Rattle.lx_abi.specs.Sys.{sys_read, sys_write}
-use Rattle.sweep_faults.specs.declared.faults.Kind.{Kind}
-use Rattle.sweep_faults.specs.declared.faults.Kind.TheVariants as kinds
+use Rattle.sweep_rows.specs.declared.kinds.Kind.{Kind}
+use Rattle.sweep_rows.specs.declared.kinds.Kind.TheVariants as kinds
 use Rattle.sweep_rows.specs.Descriptors.{argument}
 use Rattle.sweep_rows.specs.Entries.{rows_of}
 use Rattle.sweep_rows.specs.Worlds.{error_in}

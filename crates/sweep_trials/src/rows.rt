@@ -9,8 +9,8 @@ use crate::second::{SecondEnd, end_on};
 use crate::trials::trials_in;
 use front_end::Fault;
 use std::alloc::Global;
-use sweep_rows::Reached;
-use sweep_runs::{Leader, Setup, Trial, TrialRow, run_led_trial};
+use sweep_rows::{Reached, Setup};
+use sweep_runs::{Leader, Trial, TrialRow, run_led_trial};
 use sweep_words::plan::Plan;
 use sweep_words::trials::{Second, Tried};
 

@@ -6,12 +6,13 @@ ghost use Rattle.sweep_trials.specs.Ends.{EndsOn, IsSecond, exits_well, is_fine 
 ghost use Rattle.sweep_trials.specs.Ends.{second_boot as second_boot_on};
 
 use containers::{Bytes, Seq};
-use front_end::{Fault, Program, refuse_boot};
+use front_boot::refuse_boot;
+use front_end::{Fault, Program};
 use lx_abi::{Boot, OutcomeFile, Status};
 use lx_copies::copied::copy_list;
 use std::alloc::{AllocError, Global};
-use sweep_rows::{Reached, first_word};
-use sweep_runs::{Setup, boot_on, refer};
+use sweep_rows::{Reached, Setup, first_word};
+use sweep_runs::{boot_on, refer};
 use sweep_words::plan::Plan;
 use sweep_words::trials::Second;
 

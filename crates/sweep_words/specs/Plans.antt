@@ -3,7 +3,7 @@ use Rattle.std.specs.Prelude.{◌≡◌, ℕ, Bool, true, false, List, Option, N
 use Rattle.clap.specs.Words.{found_of, one_text}
 use Rattle.clap.specs.declared.parser.matches.ArgMatches.{ArgMatches}
 use Rattle.lx_boot.specs.Boots.{fault_of}
-use Rattle.front_end.specs.Boots.{AsksBoot, given_words}
+use Rattle.front_boot.specs.Boots.{AsksBoot, given_words}
 use Rattle.front_end.specs.Numbers.{limit_of}
 use Rattle.front_end.specs.Schedules.{IsSchedule}
 use Rattle.front_end.specs.Values.{value_of}

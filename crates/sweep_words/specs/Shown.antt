@@ -7,8 +7,8 @@ use Rattle.front_end.specs.Numbers.{decimal}
 use Rattle.lx_abi.specs.Calls.{call_number}
 use Rattle.lx_abi.specs.Errors.{errno_numbered}
 use Rattle.lx_abi.specs.declared.errno.Errno.{Errno}
-use Rattle.sweep_faults.specs.declared.faults.Kind.{Kind}
-use Rattle.sweep_faults.specs.declared.faults.Kind.TheVariants as kinds
+use Rattle.sweep_rows.specs.declared.kinds.Kind.{Kind}
+use Rattle.sweep_rows.specs.declared.kinds.Kind.TheVariants as kinds
 use Rattle.tr_expr.specs.Parts.{errno_value}
 use Rattle.tr_expr.specs.Texts.{has_mark, before_mark, after_mark}
 use Rattle.sweep_rows.specs.declared.worlds.World.{World}

@@ -4,7 +4,7 @@ use crate::wanted::{Pieces, named, refuse, set_of, split};
 use clap::ArgMatches;
 use front_end::{Fault, Shown, expression_words};
 use std::alloc::Global;
-use sweep_runs::{Errors, Wanted};
+use sweep_rows::{Errors, Wanted};
 
 /// Options that have no meaning where two calls fail, each as it is written.
 const VALUES: [(&str, &str); 7] = [

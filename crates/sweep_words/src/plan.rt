@@ -9,10 +9,11 @@ use crate::named::{NamedLine, read_named};
 use crate::trials::{Second, Tried, read_second, read_tried};
 use crate::wanted::read_calls;
 use clap::ArgMatches;
-use front_end::{Fault, limit, read_boot, read_turns};
+use front_boot::read_boot;
+use front_end::{Fault, limit, read_turns};
 use std::io::{IsTerminal, Read, Write};
 use std::rt::Files;
-use sweep_runs::{Setup, Wanted};
+use sweep_rows::{Setup, Wanted};
 
 #[derive(Drop)]
 pub struct Plan {

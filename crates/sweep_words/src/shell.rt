@@ -4,8 +4,7 @@ use crate::calls::error_name;
 use clap::ArgMatches;
 use lx_abi::calls::call_name;
 use std::alloc::{AllocError, Global};
-use sweep_rows::{Occurrence, Verdict};
-use sweep_runs::{Case, Setup};
+use sweep_rows::{Case, Occurrence, Setup, Verdict};
 
 /// The program that shows a run.
 #[derive(Clone, Copy, Debug, PartialEq, Eq)]

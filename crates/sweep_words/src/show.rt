@@ -10,7 +10,7 @@ use front_end::{Fault, Shown, decimal, expression_words};
 use lx_abi::Errno;
 use lx_abi::calls::call_number;
 use std::alloc::Global;
-use sweep_faults::Kind;
+use sweep_rows::Kind;
 use tr_expr::errno;
 
 /// Options that have no meaning where one run is shown, each as it is written.

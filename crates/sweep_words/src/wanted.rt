@@ -9,7 +9,7 @@ use containers::Seq;
 use front_end::{Fault, Shown, expression_words, read_expression};
 use lx_abi::{Errno, Set};
 use std::alloc::{AllocError, Global};
-use sweep_runs::{Errors, Wanted};
+use sweep_rows::{Errors, Wanted};
 use tr_expr::{ExprFault, errno, parse_trace};
 
 /// What may stand after `-e`.

@@ -3,7 +3,8 @@
 ghost use Rattle.std.specs.Prelude.{◌⊎◌};
 ghost use Rattle.trace_command.specs.Faults.{IsHostFault, IsUnhosted, IsUnopened};
 
-use front_end::{Fault, refuse_boot};
+use front_boot::refuse_boot;
+use front_end::Fault;
 use host_link::LinkFault;
 use std::alloc::{AllocError, Global};
 use std::io;

@@ -2,9 +2,9 @@
 use Rattle.std.specs.Prelude.{◌≡◌, ◌⊎◌, ℕ, List, Option, None, codes}
 use Rattle.clap.specs.declared.parser.matches.ArgMatches.{ArgMatches}
 use Rattle.lx_boot.specs.Boots.{fault_of}
-use Rattle.front_end.specs.Boots.{AsksBoot, given_words}
+use Rattle.front_boot.specs.Boots.{AsksBoot, given_words}
 use Rattle.front_end.specs.Expressions.{AskFor, RefusesExpressions}
-use Rattle.front_end.specs.Refusals.{RefusesRun}
+use Rattle.front_boot.specs.Refusals.{RefusesRun}
 use Rattle.front_end.specs.Schedules.{IsSchedule}
 use Rattle.front_end.specs.Values.{value_of}
 use Rattle.front_end.specs.declared.expressions.Expressions.{Expressions}

@@ -1,6 +1,6 @@
 use Rattle.std.proofs.Common.{◌≡◌, ◌++◌, List, length}
 use Rattle.std.specs.Vec.Iter.{into_iter_items, into_iter_len}
-use Rattle.sweep_runs.specs.declared.sweeping.Row.{Row}
+use Rattle.sweep_rows.specs.declared.row.Row.{Row}
 use Rattle.sweep_command.specs.Checks.{AreJudged}
 use Rattle.sweep_command.proofs.judging.judge_rows.Given as goal
 

@@ -1,6 +1,6 @@
 use Rattle.std.proofs.Common.{rules, ◌≡◌, List, true, sym, subst}
 use Rattle.std.specs.Prelude.{Some}
-use Rattle.sweep_runs.specs.declared.sweeping.Row.{Row}
+use Rattle.sweep_rows.specs.declared.row.Row.{Row}
 use Rattle.sweep_command.specs.Reports.{IsFound, IsCut}
 use Rattle.sweep_command.proofs.Cutting.{first_told}
 use Rattle.sweep_command.proofs.rows.cut.Goals as goal

@@ -1,6 +1,6 @@
 use Rattle.std.proofs.Common.{◌≡◌, ◌++◌, List, length, true, false}
 use Rattle.std.specs.Prelude.{◌&&◌}
-use Rattle.sweep_runs.specs.declared.chosen.Case.{Case}
+use Rattle.sweep_rows.specs.declared.wanted.Case.{Case}
 use Rattle.sweep_runs.specs.Leaders.{IsLed}
 use Rattle.sweep_command.specs.Checks.{AreTold}
 use Rattle.sweep_command.specs.Reports.{ends_found}

@@ -1,5 +1,5 @@
 use Rattle.std.proofs.Common.{List, subst}
-use Rattle.sweep_runs.specs.declared.chosen.Case.{Case}
+use Rattle.sweep_rows.specs.declared.wanted.Case.{Case}
 use Rattle.sweep_command.specs.Choosing.{AreChosen}
 use Rattle.sweep_command.proofs.rows.wanted_cases.Goals as goal
 

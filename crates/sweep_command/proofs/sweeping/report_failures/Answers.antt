@@ -1,5 +1,5 @@
 use Rattle.std.proofs.Common.{Option, sym, subst}
-use Rattle.sweep_runs.specs.declared.chosen.Wanted.{Wanted}
+use Rattle.sweep_rows.specs.declared.wanted.Wanted.{Wanted}
 use Rattle.sweep_command.specs.Reports.{IsOfFailures}
 use Rattle.sweep_command.proofs.sweeping.report_failures.Goals as goal
 

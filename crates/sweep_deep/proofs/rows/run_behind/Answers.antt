@@ -1,5 +1,5 @@
 use Rattle.std.proofs.Common.{List, subst, sym}
-use Rattle.sweep_runs.specs.declared.chosen.Case.{Case}
+use Rattle.sweep_rows.specs.declared.wanted.Case.{Case}
 use Rattle.sweep_deep.specs.Rows.{AreTriedDeep}
 use Rattle.sweep_deep.proofs.rows.run_behind.Goals as goal
 

@@ -1,6 +1,6 @@
 use Rattle.std.proofs.Common.{◌≡◌, List, [], ◌∷◌, ◌++◌, map, All, ap, refl, subst, sym, ◌∙◌}
 use Rattle.std.proofs.lemmas.List.Elements.{All-push}
-use Rattle.sweep_runs.specs.declared.chosen.Case.{Case}
+use Rattle.sweep_rows.specs.declared.wanted.Case.{Case}
 use Rattle.sweep_deep.specs.Rows.{IsBehind}
 use Rattle.sweep_deep.specs.declared.rows.Behind.{Behind}
 use Rattle.sweep_deep.proofs.rows.run_each.Goals as goal

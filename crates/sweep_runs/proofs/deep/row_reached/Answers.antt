@@ -3,7 +3,7 @@ use Rattle.sweep_faults.specs.Words.{HasWords}
 use Rattle.sweep_rows.specs.Verdicts.{facts_of, verdict_of}
 use Rattle.sweep_runs.specs.Deep.{DeepReaches, deep_of}
 use Rattle.sweep_runs.specs.Rows.{fault_of}
-use Rattle.sweep_runs.specs.declared.chosen.Case.{Case}
+use Rattle.sweep_rows.specs.declared.wanted.Case.{Case}
 use Rattle.sweep_runs.specs.declared.deep.DeepCase.{DeepCase}
 use Rattle.sweep_runs.proofs.deep.row_reached.Goals as goal
 

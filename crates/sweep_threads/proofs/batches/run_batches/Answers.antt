@@ -1,7 +1,7 @@
 use Rattle.std.proofs.Common.{rules, ◌≡◌, List, ◌++◌, ap, sym, subst, ◌∙◌}
 use Rattle.sweep_runs.specs.Rows.{AreRows}
-use Rattle.sweep_runs.specs.declared.chosen.Case.{Case}
-use Rattle.sweep_runs.specs.declared.sweeping.Row.{Row}
+use Rattle.sweep_rows.specs.declared.wanted.Case.{Case}
+use Rattle.sweep_rows.specs.declared.row.Row.{Row}
 use Rattle.sweep_threads.proofs.Joining.{rows_are_joined, grouped}
 use Rattle.sweep_threads.proofs.batches.run_batches.Goals as goal
 

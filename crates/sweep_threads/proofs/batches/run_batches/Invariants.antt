@@ -1,6 +1,6 @@
 use Rattle.std.proofs.Common.{◌≡◌, ◌++◌, List, length}
 use Rattle.sweep_runs.specs.Rows.{AreRows}
-use Rattle.sweep_runs.specs.declared.chosen.Case.{Case}
+use Rattle.sweep_rows.specs.declared.wanted.Case.{Case}
 use Rattle.sweep_threads.proofs.batches.run_batches.Given as goal
 
 abbrev pub invariant-loop-left : goal.invariant-loop-left

@@ -5,8 +5,8 @@ use Rattle.sweep_rows.proofs.verdicts.Reached.TheSendSync as reached
 use Rattle.sweep_runs.proofs.chosen.Case.TheSendSync as case
 use Rattle.sweep_runs.proofs.runs.Setup.TheSendSync as setup
 use Rattle.sweep_runs.specs.Rows.{AreRows}
-use Rattle.sweep_runs.specs.declared.chosen.Case.{Case}
-use Rattle.sweep_runs.specs.declared.sweeping.Row.{Row}
+use Rattle.sweep_rows.specs.declared.wanted.Case.{Case}
+use Rattle.sweep_rows.specs.declared.row.Row.{Row}
 use Rattle.sweep_threads.proofs.Joining.{rows_are_joined}
 use Rattle.sweep_threads.proofs.splitting.+split.Goals as goal
 use Rattle.sweep_threads.proofs.splitting.+split.Lts-run_split as lts

@@ -1,5 +1,0 @@
-use Rattle.front_end.specs.Files.{StartWith}
-use Rattle.front_end.proofs.directories.add_places.Given as goal
-
-abbrev pub invariant-loop-place : goal.invariant-loop-place
-invariant-loop-place g l = StartWith l.files l.fn.files
