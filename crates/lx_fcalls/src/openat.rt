@@ -58,9 +58,13 @@ fn open_new(
     }
     let node = shared.tree.nodes.vacant()?;
     let content = Content::new(alloc)?;
-    shared
+    let opened = shared
         .fds
-        .open(pid, fd, opening(node, flags), has(flags, O_CLOEXEC))?;
+        .open(pid, fd, opening(node, flags), has(flags, O_CLOEXEC));
+    if let Err(error) = opened {
+        drop(content);
+        return Err(error);
+    }
     match shared.tree.create(alloc, path, Node::File(content)) {
         Ok(_) => Ok(CallReply::Returned(u64::from(fd))),
         Err(error) => {

@@ -3,7 +3,7 @@
 use host_link::ChildLink;
 use lx_abi::Occurrences;
 use lx_kernel::Kernel;
-use out_of_turns::explain_turns;
+use plain_run::explain_turns;
 use pt_kernel::Events;
 use std::alloc::Global;
 use std::process::OpenProcess;
