@@ -1,4 +1,16 @@
 //! The calls on files: what each does, and whether it would block.
+//!
+//! A module has a call, by its page of manual section 2; `file_call` finds it by its number. A refusal leaves files,
+//! descriptors and the process as they were, and so does want of memory.
+//!
+//! ```text
+//! match file_call(alloc, &mut shared, pid, &call, &mut user)? {
+//!     Some(CallReply::Returned(value)) => ..,    // a0 is to have it
+//!     Some(CallReply::Refused(error)) => ..,     // a0 is to have its negative
+//!     Some(CallReply::Blocked) => ..,            // it can't be done yet
+//!     _ => ..,                                   // none: another's call
+//! }
+//! ```
 #![tactic(auto)]
 
 mod arguments;

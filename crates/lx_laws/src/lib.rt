@@ -1,4 +1,5 @@
-//! More laws of all reachable states, and of calls by what they do to a state that is sound.
+//! Laws of reachable states that stand on their soundness: parents and children agree, nothing is left open behind a
+//! process that ended, and calls do to a sound state what their pages of the manual say.
 #![tactic(auto)]
 
 pub mod laws;

@@ -1,4 +1,13 @@
 //! A whole run of the untraced kernel by a schedule, and why one is out of turns.
+//!
+//! Whoever watches hears each item of the log as it is made, and may end the run.
+//!
+//! ```text
+//! let mut kernel = Kernel::boot(alloc, boot, script)?;
+//! let mut schedule = Schedule::words(words, limit);
+//! run(&mut kernel, &mut schedule, &mut Unwatched::new())?;
+//! let outcome = kernel.outcome()?;
+//! ```
 #![tactic(auto)]
 
 pub mod laws;

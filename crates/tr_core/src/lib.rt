@@ -1,4 +1,16 @@
 //! The tracer: from each reply, what is printed and what is asked next.
+//!
+//! It holds no host and no writer. Whoever drives it puts the text out and carries each request to a host; a reply that
+//! no request allows is refused, and changes nothing.
+//!
+//! ```text
+//! let mut tracer = Tracer::new(alloc, script, options);
+//! let mut reply = Reply::Done;
+//! while let Act::Ask { bytes, request, .. } = tracer.next(reply)? {
+//!     out.write_all(bytes.as_slice())?;
+//!     reply = ask(request)?;
+//! }
+//! ```
 #![tactic(auto)]
 
 mod admission;
