@@ -282,26 +282,10 @@ fn begin(alloc: Global, image: &Image, start: &Start) -> Result<UserState, Alloc
     ensures { IfOk result (λ b. b ≡ begun image.now start.now) }
 {
     let mut memory = bare(alloc)?;
-    if let Err(error) = load_segments(&mut memory, image.segments.as_slice()) {
-        drop(memory);
-        return Err(error);
-    }
-    if let Err(error) = load(&mut memory, start.address, start.strings.as_slice()) {
-        drop(memory);
-        return Err(error);
-    }
-    let vector = match doublewords(alloc, start.vector.as_slice()) {
-        Ok(vector) => vector,
-        Err(error) => {
-            drop(memory);
-            return Err(error);
-        }
-    };
-    if let Err(error) = load(&mut memory, start.sp, vector.as_slice()) {
-        drop(vector);
-        drop(memory);
-        return Err(error);
-    }
+    load_segments(&mut memory, image.segments.as_slice())?;
+    load(&mut memory, start.address, start.strings.as_slice())?;
+    let vector = doublewords(alloc, start.vector.as_slice())?;
+    load(&mut memory, start.sp, vector.as_slice())?;
     let mut hart = Hart::new(image.entry);
     hart.registers[2] = start.sp;
     Ok(UserState {
