@@ -39,17 +39,16 @@ install:
 	install -m 644 completions/_girmolet $(DESTDIR)$(PREFIX)/share/zsh/site-functions/
 	cp -R guests/picolibc guests/musl guests/recipes $(DESTDIR)$(PREFIX)/share/girmolet/
 
-# The gate: every proof from nothing, the edits that must fail, the tests and the stored runs; then the suites of tests/
-# over the proved programs.
+# The gate: every proof from nothing, the tests and the stored runs; the wrong bodies of gate-edits.tsv, each of which must be
+# refused; the suites of tests/ over the proved programs. Tells at the end what each crate and function has cost.
 test:
-	rt ci
-	tests/run --proved
+	tests/gate 'rt ci' 'tests/wrong-bodies --gate' 'tests/run --proved'
 
 # Proves what an edit changed.
 check:
 	rt all check
 
-# Tries the wrong bodies that the gate leaves out, crate by crate.
+# Tries all wrong bodies, crate by crate.
 wrong-bodies:
 	@for folder in crates/*/wrong-bodies; do tests/wrong-bodies $$(basename $$(dirname $$folder)) || failed=1; done; \
 	test -z "$$failed"
