@@ -201,14 +201,22 @@ static void processes(void) {
 }
 
 #ifdef PICOLIBC
-static void others(void) { // errors of a kernel without the call
+static void others(void) { // what the kit makes up, and errors of a kernel without the call
+    struct stat st;
     char b[8];
     OK("strerror of an error without a name", !strcmp(strerror(2117), "Linux error 117"));
-    FAILS("rename: ENOSYS", rename("/s", "/r"), ENOSYS);
-    FAILS("fsync: ENOSYS", fsync(1), ENOSYS);
-    FAILS("pread: ENOSYS", pread(0, b, 8, 0), ENOSYS);
-    FAILS("link: ENOSYS", link("/s", "/r"), ENOSYS);
-    FAILS("truncate: ENOSYS", truncate("/s", 0), ENOSYS);
+    int f = open("/v", O_RDWR | O_CREAT, 0644);
+    OK("pwrite", pwrite(f, "abcd", 4, 2) == 4 && lseek(f, 0, SEEK_CUR) == 0);
+    OK("pread", pread(f, b, 8, 3) == 3 && !memcmp(b, "bcd", 3) && lseek(f, 0, SEEK_CUR) == 0);
+    OK("fsync, fdatasync, chmod", fsync(f) == 0 && fdatasync(f) == 0 && chmod("/v", 0600) == 0 && close(f) == 0);
+    OK("rename", rename("/v", "/w") == 0 && access("/v", F_OK) == -1 && stat("/w", &st) == 0 && st.st_size == 6);
+    OK("rename to itself", rename("/w", "w") == 0 && rename("w", ".//x/../w") == 0 && stat("/w", &st) == 0
+        && st.st_size == 6);
+    FAILS("rename: ENOENT", rename("/v", "/w"), ENOENT);
+    FAILS("rename of a directory: EXDEV", (mkdir("/i", 0755), rename("/i", "/j")), EXDEV);
+    OK("truncate", truncate("/w", 2) == 0 && stat("/w", &st) == 0 && st.st_size == 2);
+    FAILS("link: EPERM", link("/w", "/x"), EPERM);
+    FAILS("readlink: EINVAL", readlink("/w", b, 8), EINVAL);
     OK("time: -1", time(NULL) == -1);
 }
 #else

@@ -1,27 +1,11 @@
-// What the modelled Linux hasn't. Where a program has to expect an error the call is made all the same: the trace shows
-// syscall_0x114(..) = -1 ENOSYS, the program sees ENOSYS, and a kernel that has the call will be used. Where it can't,
-// linking ends, and the linker says why.
-#include <fcntl.h>
-#include <stdio.h>
-#include <sys/stat.h>
+// What the modelled Linux hasn't and nothing here makes up (made_up.c has the rest). Where a program has to expect an
+// error the call is made all the same: the trace shows syscall_0x71(..) = -1 ENOSYS, the program sees ENOSYS, and a kernel
+// that has the call will be used. Where it can't, linking ends, and the linker says why.
 #include <sys/time.h>
 #include <sys/times.h>
 #include <unistd.h>
 #include "linux.h"
 
-#define HERE LINUX_AT_FDCWD
-
-int rename(const char *from, const char *to) { return LINUX(renameat2, HERE, from, HERE, to, 0); }
-int link(const char *from, const char *to) { return LINUX(linkat, HERE, from, HERE, to, 0); }
-int symlink(const char *to, const char *path) { return LINUX(symlinkat, to, HERE, path); }
-ssize_t readlink(const char *path, char *to, size_t size) { return LINUX(readlinkat, HERE, path, to, size); }
-int truncate(const char *path, off_t length) { return LINUX(truncate, path, length); }
-int fsync(int fd) { return LINUX(fsync, fd); }
-int fdatasync(int fd) { return LINUX(fdatasync, fd); }
-ssize_t pread(int fd, void *to, size_t count, off_t at) { return LINUX(pread64, fd, to, count, at); }
-ssize_t pwrite(int fd, const void *from, size_t count, off_t at) { return LINUX(pwrite64, fd, from, count, at); }
-int chmod(const char *path, mode_t mode) { return LINUX(fchmodat, HERE, path, mode); }
-int fchmod(int fd, mode_t mode) { return LINUX(fchmod, fd, mode); }
 int getentropy(void *to, size_t size) { return LINUX(getrandom, to, size, 0) == (long)size ? 0 : -1; }
 clock_t times(struct tms *to) { return LINUX(times, to); }
 int gettimeofday(struct timeval *to, void *zone) { // so time() is -1

@@ -58,10 +58,9 @@ static long copy(long from, long to)
 {
     char bytes[4096];
     long count;
-    while ((count = CALL(read, from, bytes, sizeof bytes)) > 0) {
-        count = CALL(write, to, bytes, count);
-        if (count < 0) return count;
-    }
+    while ((count = CALL(read, from, bytes, sizeof bytes)) > 0)
+        for (long at = 0, done; at < count; at += done)
+            if ((done = CALL(write, to, bytes + at, count - at)) <= 0) return done < 0 ? done : -EIO;
     return count;
 }
 
