@@ -13,7 +13,7 @@ use front_end::{Fault, Leavings};
 use lx_abi::{Ended, Mode, Status};
 use lx_kernel::Kernel;
 use plain_log::LogFault;
-use plain_run::explain_turns;
+use pt_schedule::explain_turns;
 use std::alloc::{AllocError, Global};
 use std::io::{self, IsTerminal, Read, Write};
 use std::rt::Files;

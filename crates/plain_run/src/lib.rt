@@ -1,4 +1,4 @@
-//! A whole run of the untraced kernel by a schedule, and why one is out of turns.
+//! A whole run of the untraced kernel by a schedule.
 //!
 //! Whoever watches hears each item of the log as it is made, and may end the run.
 //!
@@ -12,9 +12,7 @@
 
 pub mod laws;
 pub mod running;
-mod waits;
 pub mod watch;
 
 pub use running::{Halt, goes_on, run, tell, turns_in_row};
-pub use waits::{explain_limit, explain_turns, explain_waits};
 pub use watch::{Unwatched, Watch, Weary};

@@ -1,4 +1,4 @@
-//! Schedules: which event of a traced host, or turn of an untraced kernel, comes next.
+//! Schedules: which event of a traced host, or turn of an untraced kernel, comes next; and why a run is out of turns.
 #![tactic(auto)]
 
 pub mod cycle;
@@ -7,6 +7,7 @@ pub mod queue;
 pub mod schedule;
 pub mod system;
 mod untraced;
+mod waits;
 mod worded;
 pub mod written;
 
@@ -14,4 +15,5 @@ pub use cycle::next_able;
 pub use queue::TurnQueue;
 pub use schedule::{Schedule, TurnRun};
 pub use system::Schedulable;
+pub use waits::{explain_limit, explain_turns, explain_waits};
 pub use written::{WordText, event_word, write_word, written_words};

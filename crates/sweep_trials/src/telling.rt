@@ -6,7 +6,7 @@ use crate::second::SecondEnd;
 use clap::ArgMatches;
 use lx_abi::Status;
 use lx_kernel::Kernel;
-use plain_run::explain_turns;
+use pt_schedule::explain_turns;
 use std::alloc::{AllocError, Global};
 use sweep_report::findings::counts;
 use sweep_report::sites::{place_of, site_of};

@@ -3,8 +3,8 @@
 use host_link::ChildLink;
 use lx_abi::Occurrences;
 use lx_kernel::Kernel;
-use plain_run::explain_turns;
 use pt_kernel::Events;
+use pt_schedule::explain_turns;
 use std::alloc::Global;
 use std::process::OpenProcess;
 use trace_run::{Ended, RunFault};

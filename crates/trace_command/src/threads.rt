@@ -15,7 +15,7 @@ use host_shared::{Cut, Gate};
 use host_wire::Broken;
 use lx_abi::{Boot, Script};
 use lx_kernel::Kernel;
-use plain_run::{explain_limit, explain_waits};
+use pt_schedule::{explain_limit, explain_waits};
 use std::alloc::Global;
 use std::sync::Wait;
 use std::thread::Threads;
