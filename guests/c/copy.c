@@ -13,6 +13,6 @@ int main(int argc, char **argv) {
         if (fwrite(room, 1, count, to) != count) { perror(argv[2]); return 1; }
     if (ferror(from)) { perror(argv[1]); return 1; }
     if (fclose(to) != 0) { perror(argv[2]); return 1; }
-    printf("done\n");
+    if (printf("done\n") < 0 || fflush(stdout) != 0) { perror("standard output"); return 1; }
     return 0;
 }

@@ -1,5 +1,5 @@
 /* In the place of musl's arch/riscv64/crt_arch.h: the start of a program, where sp is the address of argc, argv, 0, the
-   environment, 0, and the auxiliary vector (psABI; docs/BEHAVIOUR.md). It sets gp, aligns the stack, and calls the C
+   environment, 0, and the auxiliary vector (psABI; docs/LINUX.md). It sets gp, aligns the stack, and calls the C
    below.
 
    Linux tells a program by the auxiliary vector where its program headers are, from which musl takes the first values
