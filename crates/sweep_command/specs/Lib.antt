@@ -4,3 +4,4 @@ pub mod Checks
 pub mod Trials
 pub mod Deep
 pub mod Reports
+pub mod Started

@@ -9,6 +9,7 @@ use Rattle.sweep_command.specs.Choosing.{AreChosen}
 use Rattle.sweep_command.specs.Deep.{IsOfDeep, IsOfDeepRun}
 use Rattle.sweep_command.specs.Naming.{listed}
 use Rattle.sweep_deep.specs.Naming.{names}
+use Rattle.sweep_command.specs.Started.{Ran}
 use Rattle.sweep_command.specs.Trials.{IsOfTrial, IsOfTrials}
 use Rattle.sweep_orders.specs.Orders.{AreOrders}
 use Rattle.sweep_orders.specs.declared.exploring.Explored.{Explored}
@@ -123,13 +124,16 @@ pub record IsCounted (plan : Plan) (rows : List Row) (s : ℕ) : Type 0 where
   pub none_known : plan.known.items ≡ [] → marks ≡ []
   pub status_is : s ≡ status_of plan.strict (unmarked marks rows)
 
--- .. which are a row for each failure
+-- .. which are a row for each failure; 5 where no failure is asked for
 pub record IsOfRows (plan : Plan) (words : Words) (reference : Reached) (s : ℕ) : Type 0 where
   pub cases : List Case
   pub rows : List Row
   pub wanted : AreWanted plan words reference cases
   pub made : AreBegun plan.strict plan.setup reference words cases rows
-  pub counted : IsCounted plan rows s
+  pub status : ℕ
+  pub counted : IsCounted plan rows status
+  pub status_is : s ≡ cond (nat_lt 0 (length (listed plan.is_listed plan.named.items
+      (cases_of plan.wanted.items plan.setup.boot.follow reference.log.items)))) status 5
 
 -- The report on orders of turns.
 
@@ -187,12 +191,13 @@ abbrev pub IsOfReport : Plan → Words → Reached → ℕ → Type 0
 IsOfReport plan words reference s =
     ((row : NamedRow) × IsOfShown plan reference row s) ⊎ IsOfAll plan words reference words.orders s
 
--- the status of a sweep is that of its report, beside the run without a failure
+-- the status of a sweep is that of its report, beside the run without a failure, whose program began and ended by itself
 pub record IsOfSweep (s : ℕ) : Type 0 where
   pub plan : Plan
   pub words : Words
   pub reference : Reached
   pub runs : Reaches plan.setup [] reference
+  pub ran : Ran reference
   pub of_report : IsOfReport plan words reference s
 
 -- The report on the cases that a file names, each of which is a sweep.
@@ -204,12 +209,16 @@ AreOfSweeps (c ∷ cs) [] = ⊥
 AreOfSweeps [] (s ∷ ss) = ⊥
 AreOfSweeps (c ∷ cs) (s ∷ ss) = IsOfSweep s × AreOfSweeps cs ss
 
--- the status is 0 only where that of each case is
+-- 1 where that of some case is; and else 0 where that of some case is, or 5, where nothing was tried in any
+abbrev pub cases_status : List ℕ → ℕ
+cases_status each = cond (list_any (λ one. one == 1) each) 1 (cond (list_any (λ one. one == 0) each) 0 5)
+
+-- the status is that of the cases
 pub record IsOfCases (s : ℕ) : Type 0 where
   pub cases : List NamedCase
   pub each : List ℕ
   pub are : AreOfSweeps cases each
-  pub status_is : s ≡ cond (list_any (λ one. nat_lt 0 one) each) 1 0
+  pub status_is : s ≡ cases_status each
 
 -- .. of the cases, likewise
 abbrev pub AreSwept : ℕ → Type 0

@@ -1,10 +1,11 @@
 //! The sweeps of the cases that a file names, in one report.
 
-ghost use Rattle.std.specs.Prelude.{◌≡◌, nat_lt, cond, IfOk};
+ghost use Rattle.std.specs.Prelude.{◌≡◌, ◌==◌, IfOk};
 ghost use Rattle.std.specs.List.{list_any};
-ghost use Rattle.sweep_command.specs.Reports.{AreOfSweeps, IsOfCases, IsOfSweep};
+ghost use Rattle.sweep_command.specs.Reports.{AreOfSweeps, IsOfCases, IsOfSweep, cases_status};
 
 use crate::knowing::finish_known;
+use crate::nothing::{NOTHING, tell_nothing};
 use crate::outputs::{create, path_of, replace, write};
 use crate::sweeping::{begin, report, words_at};
 use clap::ArgMatches;
@@ -116,6 +117,7 @@ fn sweep_case<
         writer,
         err,
     )?;
+    tell_nothing(alloc, status, &begun.reference, err)?;
     Ok(status)
 }
 
@@ -257,24 +259,32 @@ fn report_where<
     Ok(statuses)
 }
 
-fn fails(status: u8) -> bool
-    ensures { result ≡ nat_lt 0 status }
+/// The sweep of some case has this status.
+fn has(statuses: &[u8], wanted: u8) -> bool
+    ensures { result ≡ list_any (λ one. one == wanted) statuses.now }
 {
-    status > 0
+    statuses.iter().any(|status| *status == wanted)
 }
 
-/// The sweep of some case fails.
-fn has_failing(statuses: &[u8]) -> bool
-    ensures { result ≡ list_any (λ one. nat_lt 0 one) statuses.now }
-{
-    statuses.iter().any(|status| fails(*status))
-}
-
-/// 0 only where that of each case is.
+/// 1 where that of some case is, and else 0 where that of some case is: nothing was tried where none has either.
 fn status_of(statuses: &[u8]) -> u8
-    ensures { result ≡ cond (list_any (λ one. nat_lt 0 one) statuses.now) 1 0 }
+    ensures { result ≡ cases_status statuses.now }
 {
-    if has_failing(statuses) { 1 } else { 0 }
+    if has(statuses, 1) {
+        1
+    } else if has(statuses, 0) {
+        0
+    } else {
+        NOTHING
+    }
+}
+
+/// That a file has no case, where it is so, on `err`.
+fn tell_no_case<E: Write>(path: &str, cases: &[NamedCase], err: &mut E) {
+    if cases.is_empty() {
+        // The status says it too, whether this can be written or not.
+        let _written = writeln!(err, "strace_sweep: {} has no case", Shown(path));
+    }
 }
 
 /// Makes the sweep of each case that the file of this path has, where the command line has these words, and gives the
@@ -305,5 +315,6 @@ pub fn sweep_cases<
     )?;
     let statuses = statuses.as_slice();
     finish_known(rt, matches, known.as_slice(), found, err)?;
+    tell_no_case(path, all, err);
     Ok(status_of(statuses))
 }

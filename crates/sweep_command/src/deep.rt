@@ -1,8 +1,10 @@
 //! The report on runs in which a call fails behind another, and one of these, as strace(1) shows it.
 
-ghost use Rattle.std.specs.Prelude.{IfOk};
-ghost use Rattle.sweep_command.specs.Deep.{IsOfDeep, IsOfDeepRun};
+ghost use Rattle.std.specs.Prelude.{◌≡◌, IfOk};
+ghost use Rattle.std.specs.List.{list_any};
+ghost use Rattle.sweep_command.specs.Deep.{IsOfDeep, IsOfDeepRun, has_runs};
 
+use crate::nothing::{is_some, status_if};
 use crate::outputs::write;
 use crate::show::write_trace;
 use clap::ArgMatches;
@@ -10,7 +12,7 @@ use front_end::Fault;
 use std::alloc::{AllocError, Global};
 use std::io::Write;
 use sweep_deep::{
-    deep_rows, named_case, run_tried_deep, shown_text, status_of, status_of_one, text_of,
+    Behind, deep_rows, named_case, run_tried_deep, shown_text, status_of, status_of_one, text_of,
     verdict_of,
 };
 use sweep_rows::{Reached, Wanted};
@@ -20,6 +22,19 @@ use sweep_trials::check_second;
 use sweep_words::plan::Plan;
 use sweep_words::show::NamedDeep;
 use sweep_words::words::Words;
+
+/// Some run was made behind this failure.
+fn has_runs(behind: &Behind) -> bool
+    ensures { result ≡ has_runs behind.now }
+{
+    is_some(behind.rows.len())
+}
+
+fn tries_some(all: &[Behind]) -> bool
+    ensures { result ≡ list_any has_runs all.now }
+{
+    all.iter().any(|behind| has_runs(behind))
+}
 
 /// Makes the runs of failures, and those of the calls that fail behind them, and reports the latter; gives the exit
 /// status.
@@ -41,7 +56,7 @@ pub fn deep_reported<W: Write>(
     let text = text_of(alloc, matches, words, plan, reference, &calls, all)?;
     write(alloc, text.as_str(), writer)?;
     let status = status_of(alloc, plan.strict, all)?;
-    Ok(status)
+    Ok(status_if(tries_some(all), status))
 }
 
 /// The run as strace shows it.

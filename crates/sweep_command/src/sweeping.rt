@@ -6,22 +6,24 @@ ghost use Rattle.sweep_report.specs.Tallies.{unmarked};
 ghost use Rattle.sweep_report.specs.Findings.{status_of as status_by};
 ghost use Rattle.sweep_command.specs.Reports.{IsCounted, IsOfRows, IsOfFailures, IsOfEnds, IsOfAll, IsOfShown};
 ghost use Rattle.sweep_command.specs.Reports.{IsOfReport, IsOfSweep};
+ghost use Rattle.sweep_command.specs.Started.{Ran};
 
 use crate::deep::{deep_reported, deep_shown};
 use crate::judging::begin_checks;
 use crate::knowing::{add_found, check_known, finish_known, marks_of};
 use crate::naming::check_named;
+use crate::nothing::{status_if, tell_nothing, tries_failures};
 use crate::orders::orders_reported;
 use crate::outputs::{check, create, path_of, replace, write};
 use crate::reference::{limited, reference};
 use crate::rows::{Choice, make, wanted_cases};
 use crate::show::show;
 use crate::show_trial::show_trial;
+use crate::started::check_ran;
 use crate::telling::{all_told, told, worst};
 use crate::trials::trials_reported;
 use clap::ArgMatches;
-use front_end::{Fault, Program, check_outputs};
-use lx_abi::Status;
+use front_end::{Fault, check_outputs};
 use std::alloc::Global;
 use std::env::{self, Env};
 use std::io::{IsTerminal, Read, Write};
@@ -35,29 +37,11 @@ use sweep_report::report::{counts_object, foot, head, table};
 use sweep_report::tally::{Tally, tally_of, unmarked, verdicts_of};
 use sweep_report::traced::TracedCalls;
 use sweep_report::untried::Untried;
-use sweep_rows::{Reached, Row, first_word};
+use sweep_rows::{Reached, Row};
 use sweep_trace::traced_calls;
 use sweep_words::plan::{Plan, read_plan};
 use sweep_words::show::{NamedRow, shown_run};
 use sweep_words::words::{Format, Words, words_of};
-
-/// Why a program that can't be run wasn't, on `err`.
-fn explain<E: Write>(
-    alloc: Global,
-    plan: &Plan,
-    reference: &Reached,
-    err: &mut E,
-) -> Result<(), Fault> {
-    let Some(word) = first_word(&reference.ending.outcome) else {
-        return Ok(());
-    };
-    let program = Program::of(alloc, &plan.setup.boot)?;
-    if let Some(reason) = program.reason(alloc, Status { word }.shell_status())? {
-        // The sweep goes on, whether this can be written or not.
-        let _written = writeln!(err, "strace_sweep: {reason}");
-    }
-    Ok(())
-}
 
 /// Writes what stands above the runs, where each of them is a line.
 fn write_head<W: Write>(
@@ -118,7 +102,7 @@ fn rest_of(
     let told = all_told(alloc, matches, plan, reference, calls, rows)?;
     let told = told.as_slice();
     match words.format {
-        Format::Junit => Ok(junit(alloc, plan.case.as_ref(), &plan.setup, told)?),
+        Format::Junit => Ok(junit(alloc, plan.case.as_ref(), &plan.setup, told, untried.runs)?),
         _ => Ok(table(
             alloc,
             &plan.setup,
@@ -230,7 +214,8 @@ fn failures<
     let status = conclude(
         alloc, matches, words, plan, reference, &calls, rows, &untried, found, writer,
     )?;
-    Ok(status)
+    let tries = tries_failures(alloc, plan, reference)?;
+    Ok(status_if(tries, status))
 }
 
 /// Reports the runs with a failure, or those with another behind it, where the words ask for these; gives the exit
@@ -459,7 +444,8 @@ pub fn begin<R: Files + AllocGlobal, I: Read + IsTerminal, E: Write + IsTerminal
     input: &mut I,
     err: &mut E,
 ) -> Result<Begun, Fault>
-    ensures { IfOk result (λ begun. Reaches begun.plan.setup [] begun.reference) }
+    ensures reaches { IfOk result (λ begun. Reaches begun.plan.setup [] begun.reference) }
+    ensures ran { IfOk result (λ begun. Ran begun.reference) }
 {
     let alloc = rt.alloc();
     let mut asked = read_plan(rt, matches, input, err)?;
@@ -469,9 +455,7 @@ pub fn begin<R: Files + AllocGlobal, I: Read + IsTerminal, E: Write + IsTerminal
     check_known(rt, matches)?;
     let plan = limited(alloc, matches, words, asked)?;
     let reference = reference(alloc, &plan.setup, explained)?;
-    if explained {
-        explain(alloc, &plan, &reference, err)?;
-    }
+    check_ran(alloc, &plan.setup, &reference)?;
     check_named(alloc, matches, &plan, &reference)?;
     Ok(Begun { plan, reference })
 }
@@ -508,5 +492,6 @@ pub fn sweep<
     let (plan, reference) = (&begun.plan, &begun.reference);
     let status = report_where(rt, matches, words, plan, reference, &mut found, out, err)?;
     finish_known(rt, matches, begun.plan.known.as_slice(), found, err)?;
+    tell_nothing(rt.alloc(), status, reference, err)?;
     Ok(status)
 }

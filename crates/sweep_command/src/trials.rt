@@ -3,6 +3,7 @@
 ghost use Rattle.std.specs.Prelude.{IfOk};
 ghost use Rattle.sweep_command.specs.Trials.{IsOfTrials};
 
+use crate::nothing::{is_some, status_if};
 use crate::outputs::write;
 use clap::ArgMatches;
 use front_end::Fault;
@@ -36,5 +37,5 @@ pub fn trials_reported<W: Write>(
     )?;
     write(alloc, text.as_str(), writer)?;
     let status = status_of(alloc, plan.strict, rows)?;
-    Ok(status)
+    Ok(status_if(is_some(rows.len()), status))
 }

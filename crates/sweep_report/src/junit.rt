@@ -101,8 +101,25 @@ fn case_of(
 /// What stands before a text in XML.
 pub const PROLOG: &str = "<?xml version=\"1.0\" encoding=\"UTF-8\"?>\n";
 
+/// The case that stands for the runs that weren't made, if there are any.
+fn unmade_case(alloc: Global, unmade: usize) -> Result<String, AllocError> {
+    if unmade == 0 {
+        return Ok(String::new(alloc));
+    }
+    format!(in alloc;
+        "  <testcase classname=\"strace_sweep\" name=\"{unmade} runs\">\n    <skipped message=\"not made\"/>\n  </testcase>\n"
+    )
+}
+
 /// What stands before the cases of a suite.
-fn head(alloc: Global, name: &str, rows: &[Told], blocks: &[Block]) -> Result<String, AllocError> {
+fn head(
+    alloc: Global,
+    name: &str,
+    rows: &[Told],
+    blocks: &[Block],
+    unmade: usize,
+) -> Result<String, AllocError> {
+    let others = usize::from(unmade > 0);
     let failed = blocks
         .iter()
         .filter(|block| has_finding(rows, *block))
@@ -112,36 +129,46 @@ fn head(alloc: Global, name: &str, rows: &[Told], blocks: &[Block]) -> Result<St
         .filter(|block| is_skipped(rows, *block))
         .count();
     let counts = format!(in alloc;
-        "tests=\"{}\" failures=\"{failed}\" skipped=\"{skipped}\"",
-        blocks.len()
+        "tests=\"{}\" failures=\"{failed}\" skipped=\"{}\"",
+        blocks.len().saturating_add(others),
+        skipped.saturating_add(others)
     )?;
     let name = escaped_text(alloc, name)?;
     format!(in alloc; "<testsuite name=\"{name}\" {counts}>\n")
 }
 
 /// A suite of this name.
-fn suite(alloc: Global, name: &str, setup: &Setup, rows: &[Told]) -> Result<String, AllocError> {
+fn suite(
+    alloc: Global,
+    name: &str,
+    setup: &Setup,
+    rows: &[Told],
+    unmade: usize,
+) -> Result<String, AllocError> {
     let blocks = blocks_of(alloc, rows)?;
-    let mut text = head(alloc, name, rows, blocks.as_slice())?;
+    let mut text = head(alloc, name, rows, blocks.as_slice(), unmade)?;
     for block in &blocks {
         text.push_str(case_of(alloc, setup, rows, block)?.as_str())?;
     }
+    text.push_str(unmade_case(alloc, unmade)?.as_str())?;
     text.push_str("</testsuite>\n")?;
     Ok(text)
 }
 
-/// The whole report, or the suite of a case of this name, of which the report has several.
+/// The whole report, or the suite of a case of this name, of which the report has several. `unmade`: how many runs a
+/// limit left out.
 pub fn junit(
     alloc: Global,
     case: Option<&String>,
     setup: &Setup,
     rows: &[Told],
+    unmade: usize,
 ) -> Result<String, AllocError> {
     match case {
-        Some(name) => suite(alloc, name.as_str(), setup, rows),
+        Some(name) => suite(alloc, name.as_str(), setup, rows, unmade),
         None => {
             let mut text = String::from_str(alloc, PROLOG)?;
-            text.push_str(suite(alloc, "strace_sweep", setup, rows)?.as_str())?;
+            text.push_str(suite(alloc, "strace_sweep", setup, rows, unmade)?.as_str())?;
             Ok(text)
         }
     }

@@ -83,7 +83,7 @@ pub fn report_of(
     let style = words.style;
     match words.format {
         Format::Json => objects(alloc, told, &tally),
-        Format::Junit => Ok(junit(alloc, plan.case.as_ref(), &plan.setup, told)?),
+        Format::Junit => Ok(junit(alloc, plan.case.as_ref(), &plan.setup, told, 0)?),
         Format::Table if style.each => Ok(lines(alloc, plan, reference, told, &tally, style)?),
         Format::Table => {
             let untried = Untried {

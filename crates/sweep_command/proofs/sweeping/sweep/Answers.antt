@@ -5,6 +5,7 @@ returns g c = record {
   plan = c.in_ok-begun.begun.plan;
   words = c.in_ok-words.words;
   reference = c.in_ok-begun.begun.reference;
-  runs = c.in_ok-begun.ensures;
+  runs = c.in_ok-begun.ensures.reaches;
+  ran = c.in_ok-begun.ensures.ran;
   of_report = c.in_ok-status.ensures;
 }
