@@ -17,7 +17,11 @@ is_function bytes names at =
     (number_at 1 (at + 4) bytes % 16 == 2) && nat_lt 0 (number_at 4 at bytes)
     && nat_lt (number_at 4 at bytes) names.size
 
--- it: st_value, st_size, and its name, which ends before a zero or with all names
+-- how many bytes are looked at for a name, where so many are left: of a longer name the first 4,096 are told
+abbrev pub room_of : ℕ → ℕ
+room_of left = if nat_lt left 4096 then left else 4096
+
+-- it: st_value, st_size, and its name, which ends before a zero, with all names or after 4,096 bytes
 abbrev pub function_of : List ℕ → Content → ℕ → Function
 function_of bytes names at = record {
   start = number_at 8 (at + 8) bytes;
@@ -25,7 +29,7 @@ function_of bytes names at = record {
   name = names.start + number_at 4 at bytes;
   length =
       text_length
-      (take (names.size - number_at 4 at bytes) (drop (names.start + number_at 4 at bytes) bytes));
+      (take (room_of (names.size - number_at 4 at bytes)) (drop (names.start + number_at 4 at bytes) bytes));
 }
 
 -- the functions among n symbols, of 24 bytes each, from an offset on

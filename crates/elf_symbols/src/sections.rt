@@ -20,7 +20,7 @@ pub struct SymbolTable {
 }
 
 /// The size of the ELF header, and that of a section's header.
-const HEADER_SIZE: usize = 64;
+pub const HEADER_SIZE: usize = 64;
 
 /// 7F 45 4C 46, the lowest byte first.
 const MAGIC: u32 = 0x464c_457f;
@@ -33,7 +33,8 @@ const TEXTS: u32 = 3;
 /// The size of a symbol.
 pub const SYMBOL_SIZE: usize = 24;
 
-fn passes_end(bytes: &[u8], at: u64, size: u64) -> bool
+/// Whether so many bytes from an offset on pass the end of these.
+pub fn passes_end(bytes: &[u8], at: u64, size: u64) -> bool
     ensures { result ≡ spec.passes_end bytes.now at size }
 {
     let length = bytes.len() as u64;
@@ -51,8 +52,9 @@ fn is_wide(bytes: &[u8]) -> bool
         && half_at(bytes, 58) == 64
 }
 
+/// Whether this is a file of 64 bits, the lowest byte first, whose section headers have 64 bytes each.
 #[tactic(auto, unfolding(crate::specs::Sections::has_headers))]
-fn has_headers(bytes: &[u8]) -> bool
+pub fn has_headers(bytes: &[u8]) -> bool
     ensures has { result ≡ spec.has_headers bytes.now }
     ensures long { result ≡ true → 64 ≤ length bytes.now }
 {
@@ -89,8 +91,9 @@ fn header_of(bytes: &[u8]) -> Option<usize>
     header_from(bytes, double_at(bytes, 40), half_at(bytes, 60))
 }
 
+/// What the section with the header at an offset has.
 #[tactic(auto, unfolding(crate::specs::Sections::content_at))]
-fn content_at(bytes: &[u8], at: usize) -> Option<Content>
+pub fn content_at(bytes: &[u8], at: usize) -> Option<Content>
     requires { at + 64 ≤ length bytes.now }
     ensures found { result ≡ spec.content_at bytes.now at }
     ensures inside { IfSome result (λ c. c.start + c.size ≤ length bytes.now) }
@@ -120,7 +123,7 @@ fn texts_at(bytes: &[u8], at: usize) -> Option<Content>
 
 /// What the section of texts with this number has.
 #[tactic(auto, unfolding(crate::specs::Sections::texts_of))]
-fn texts_of(bytes: &[u8], number: u32) -> Option<Content>
+pub fn texts_of(bytes: &[u8], number: u32) -> Option<Content>
     requires { 64 ≤ length bytes.now }
     ensures found { result ≡ spec.texts_of bytes.now number }
     ensures inside { IfSome result (λ c. c.start + c.size ≤ length bytes.now) }

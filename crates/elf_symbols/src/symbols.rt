@@ -19,6 +19,9 @@ pub struct Function {
 /// The type of a function's symbol, STT_FUNC.
 const FUNCTION_TYPE: u8 = 2;
 
+/// The most bytes of a name that are told.
+const MOST: usize = 4096;
+
 /// How many bytes stand before the first zero.
 fn text_length(bytes: &[u8]) -> usize
     ensures { result ≡ spec.text_length bytes.now }
@@ -33,6 +36,14 @@ fn text_length(bytes: &[u8]) -> usize
         left = rest;
     }
     length
+}
+
+/// How many bytes are looked at for a name, where so many are left.
+fn room_of(left: usize) -> usize
+    ensures of { result ≡ spec.room_of left }
+    ensures within { result ≤ left }
+{
+    if left < MOST { left } else { MOST }
 }
 
 /// The function of the symbol at an offset, if it is one's that has a name.
@@ -51,7 +62,7 @@ fn symbol_at(bytes: &[u8], names: Content, at: usize) -> Option<Function>
         start: double_at(bytes, at + 8),
         size: double_at(bytes, at + 16),
         name,
-        length: text_length(&bytes[name..names.start + names.size]),
+        length: text_length(&bytes[name..name + room_of(names.size - place)]),
     })
 }
 

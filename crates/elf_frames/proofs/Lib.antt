@@ -1,0 +1,4 @@
+pub mod Runs
+pub mod Fdes
+pub mod Values
+pub mod Stacks
