@@ -6,7 +6,7 @@ PREFIX = /usr/local
 
 .PHONY: try run build install test check wrong-bodies
 
-# Builds the programs of these sources unproved, in some five minutes, into out-try/.
+# Builds the programs of these sources unproved, by eight minutes of a processor, into out-try/.
 try:
 	@tests/try
 
