@@ -192,6 +192,7 @@ fn failures<
     ensures { IfOk result (IsOfRows plan.now words reference.now) }
 {
     let alloc = rt.alloc();
+    let tries = tries_failures(alloc, plan, reference)?;
     let mut checks = begin_checks(rt, matches, words, reference)?;
     let calls = traced_calls(alloc, &plan.setup, reference.log.as_slice()?)?;
     let choice = wanted_cases(alloc, plan, words, reference, &calls)?;
@@ -214,7 +215,6 @@ fn failures<
     let status = conclude(
         alloc, matches, words, plan, reference, &calls, rows, &untried, found, writer,
     )?;
-    let tries = tries_failures(alloc, plan, reference)?;
     Ok(status_if(tries, status))
 }
 
