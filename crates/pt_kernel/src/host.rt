@@ -297,7 +297,17 @@ impl Host {
     pub fn into_turns(self) -> Turns
         ensures { result ≡ self.hosting.turns }
     {
-        self.turns
+        let Host {
+            kernel,
+            tracees,
+            turns,
+            pending,
+            ..
+        } = self;
+        drop(kernel);
+        drop(tracees);
+        drop(pending);
+        turns
     }
 
     /// What is left of the run so far.
