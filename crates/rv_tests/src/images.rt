@@ -1,5 +1,7 @@
+//! Files of programs: what is read of them, what they are refused for, and that an image is written as its file.
+
 use elf_image::{FaultyField, Image, Rights, content_of, faulty_field, is_compressed, read, write};
-use std::alloc::Global;
+use std::alloc::{AllocError, Global};
 use std::test::Fail;
 
 /// A program of one segment, the whole file at 0x10000, which writes `hi` and ends.
@@ -22,203 +24,225 @@ static FILE: [u8; 159] = [
     b'h', b'i', b'\n',
 ];
 
-/// The number of the fault, or 0.
-fn fault_in(rt: &HostRuntime, file: &[u8]) -> u8 {
-    match read(rt.alloc(), file) {
+/// So many of its first bytes.
+fn first(length: usize) -> &'static [u8] {
+    FILE.get(..length).unwrap_or(&[])
+}
+
+/// So many of its first bytes, with these at these places.
+fn changed(alloc: Global, length: usize, changes: &[(usize, u8)]) -> Result<Vec<u8>, AllocError> {
+    let mut file = first(length).to_vec(alloc)?;
+    for (place, value) in changes {
+        if let Some(byte) = file.get_mut(*place) {
+            *byte = *value;
+        }
+    }
+    Ok(file)
+}
+
+/// The number of the fault that a file is refused for, 0 if it is read, and the field.
+fn refusal(alloc: Global, file: &[u8]) -> (u8, Option<FaultyField>) {
+    match read(alloc, file) {
         Ok(image) => {
             drop(image);
-            0
+            (0, None)
         }
-        Err(fault) => fault.number(),
+        Err(fault) => (fault.number(), faulty_field(file, fault)),
     }
 }
 
-/// What an image says, but for its contents: the entry, how many segments there are, and address, size and length of
-/// the content of the first.
-fn outline(image: &Image) -> (u64, usize, Option<(u64, u64, usize)>) {
-    let segments = image.segments.as_slice();
-    let first = match segments.first() {
-        Some(segment) => Some((segment.address, segment.size, segment.bytes.len())),
-        None => None,
-    };
-    (image.entry, segments.len(), first)
-}
-
-#[test]
-fn cut_files_are_refused(rt: HostRuntime) {
+/// The first length at which the file isn't refused as it should be.
+fn wrong_length(alloc: Global) -> Option<usize> {
     for length in 0..160 {
         let wanted = match length {
             0..=3 => 1,
             4..=158 => 4,
             _ => 0,
         };
-        assert_eq!(rt; fault_in(&rt, &FILE[..length]), wanted, "at {length}");
+        let (number, _) = refusal(alloc, first(length));
+        if number != wanted {
+            return Some(length);
+        }
     }
+    None
+}
+
+#[test]
+fn cut_files_are_refused(rt: HostRuntime) {
+    assert_eq!(rt; wrong_length(rt.alloc()), None);
+}
+
+/// How many bytes there are, one of them changed, the number of the fault, and the field.
+type Row = (usize, (usize, u8), u8, Option<FaultyField>);
+
+/// Fields with the values that files of other systems and linkers have there, among others.
+const ROWS: &[Row] = &[
+    (159, (0, 0x7e), 1, None),
+    (159, (4, 1), 2, Some(FaultyField::Class(1))),
+    (159, (5, 2), 2, Some(FaultyField::Encoding(2))),
+    (159, (18, 62), 2, Some(FaultyField::Machine(62))),
+    (159, (19, 1), 2, Some(FaultyField::Machine(499))),
+    (159, (16, 3), 3, Some(FaultyField::FileType(3))),
+    (159, (54, 32), 3, Some(FaultyField::HeaderSize(32))),
+    (159, (56, 0), 3, Some(FaultyField::HeaderCount(0))),
+    (159, (64, 2), 3, None),
+    (159, (104, 0), 3, None),
+    (159, (56, 2), 4, Some(FaultyField::HeaderTable(64))),
+    (159, (96, 160), 4, None),
+    (159, (104, 158), 5, None),
+    (159, (56, 65), 6, Some(FaultyField::HeaderCount(65))),
+    // Too many headers come before a table that is cut.
+    (64, (56, 65), 6, Some(FaultyField::HeaderCount(65))),
+    (159, (33, 1), 4, Some(FaultyField::HeaderTable(320))),
+    (159, (82, 0), 6, None),
+    (159, (84, 0x20), 6, None),
+    (159, (107, 2), 6, None),
+    (159, (9, 1), 0, None),
+];
+
+fn is_refused_so(alloc: Global, row: Row) -> Result<bool, AllocError> {
+    let (length, change, number, field) = row;
+    let file = changed(alloc, length, &[change])?;
+    Ok(refusal(alloc, file.as_slice()) == (number, field))
+}
+
+/// The first row whose file isn't refused so.
+fn wrong_row(alloc: Global) -> Result<Option<Row>, AllocError> {
+    for row in ROWS {
+        if !is_refused_so(alloc, *row)? {
+            return Ok(Some(*row));
+        }
+    }
+    Ok(None)
 }
 
 #[test]
 fn changed_bytes_are_refused(rt: HostRuntime) -> Result<(), Fail> {
-    let changes = [
-        (0, 0x7e, 1),
-        (4, 1, 2),
-        (5, 2, 2),
-        (18, 62, 2),
-        (16, 3, 3),
-        (54, 32, 3),
-        (56, 0, 3),
-        (64, 2, 3),
-        (104, 0, 3),
-        (56, 2, 4),
-        (96, 160, 4),
-        (104, 158, 5),
-        (56, 65, 6),
-        (82, 0, 6),
-        (84, 0x20, 6),
-        (107, 2, 6),
-        (9, 1, 0),
-    ];
-    for (place, value, wanted) in changes {
-        let mut file = FILE.to_vec(rt.alloc())?;
-        assert!(rt; place < file.len());
-        file[place] = value;
-        assert_eq!(rt; fault_in(&rt, &file), wanted, "{value} at {place}");
-    }
+    assert_eq!(rt; wrong_row(rt.alloc())?, None);
     Ok(())
 }
 
-/// The field that a file is refused for, if it is refused for one.
-fn field_of(alloc: Global, file: &[u8]) -> Option<FaultyField> {
-    match read(alloc, file) {
-        Ok(image) => {
-            drop(image);
-            None
+/// Whether a file with these `e_flags` is said to be compressed.
+fn compressed(alloc: Global, flags: u8) -> Result<bool, AllocError> {
+    let file = changed(alloc, 159, &[(48, flags)])?;
+    Ok(is_compressed(file.as_slice()))
+}
+
+/// The first `e_flags` of which a bit isn't read as it should be.
+fn wrong_flags(alloc: Global) -> Result<Option<u8>, AllocError> {
+    for (flags, wanted) in [(0, false), (1, true), (4, false), (5, true)] {
+        if compressed(alloc, flags)? != wanted {
+            return Ok(Some(flags));
         }
-        Err(fault) => faulty_field(file, fault),
     }
+    Ok(None)
 }
 
-/// Fields with the values that files of other systems and linkers have there.
-#[test]
-fn faulty_fields(rt: HostRuntime) -> Result<(), Fail> {
-    let changes = [
-        (0, 0x7e, None),
-        (18, 62, Some(FaultyField::Machine(62))),
-        (19, 1, Some(FaultyField::Machine(499))),
-        (4, 1, Some(FaultyField::Class(1))),
-        (5, 2, Some(FaultyField::Encoding(2))),
-        (16, 3, Some(FaultyField::FileType(3))),
-        (54, 32, Some(FaultyField::HeaderSize(32))),
-        (56, 0, Some(FaultyField::HeaderCount(0))),
-        (56, 65, Some(FaultyField::HeaderCount(65))),
-        (33, 1, Some(FaultyField::HeaderTable(320))),
-        (64, 2, None),
-        (96, 160, None),
-        (104, 158, None),
-    ];
-    for (place, value, wanted) in changes {
-        let mut file = FILE.to_vec(rt.alloc())?;
-        assert!(rt; place < file.len());
-        file[place] = value;
-        assert_eq!(rt; field_of(rt.alloc(), &file), wanted, "{value} at {place}");
-    }
-    Ok(())
-}
-
-/// A bit of `e_flags`.
 #[test]
 fn compressed_programs_say_so(rt: HostRuntime) -> Result<(), Fail> {
-    for (flags, wanted) in [(0, false), (1, true), (4, false), (5, true)] {
-        let mut file = FILE.to_vec(rt.alloc())?;
-        assert!(rt; file.len() > 48);
-        file[48] = flags;
-        assert_eq!(rt; is_compressed(&file), wanted, "{flags}");
-    }
+    assert_eq!(rt; wrong_flags(rt.alloc())?, None);
     Ok(())
 }
 
-/// What the program header of a type leads to: the last 3 bytes of the file, nothing past its end.
-#[test]
-fn contents_of_headers(rt: HostRuntime) -> Result<(), Fail> {
+/// The program header of this type has this content, where the header of the file leads to so many bytes from its last
+/// three on.
+fn has_content(
+    alloc: Global,
+    kind: u32,
+    size: u8,
+    content: Option<&[u8]>,
+) -> Result<bool, AllocError> {
+    let file = changed(alloc, 159, &[(72, 156), (96, size)])?;
+    Ok(content_of(file.as_slice(), kind) == content)
+}
+
+/// The last three bytes, nothing past the file's end, no content of a type that isn't there: of these the first that isn't
+/// so, by its type and size.
+fn wrong_content(alloc: Global) -> Result<Option<(u32, u8)>, AllocError> {
     let rows: [(u32, u8, Option<&[u8]>); 3] = [
         (1, 3, Some(b"hi\n")),
         (1, 4, Some(b"")),
         (3, 3, None),
     ];
-    for (kind, size, wanted) in rows {
-        let mut file = FILE.to_vec(rt.alloc())?;
-        assert!(rt; file.len() > 96);
-        file[72] = 156;
-        file[96] = size;
-        assert_eq!(rt; content_of(&file, kind), wanted, "{kind} {size}");
+    for (kind, size, content) in rows {
+        if !has_content(alloc, kind, size, content)? {
+            return Ok(Some((kind, size)));
+        }
     }
-    Ok(())
+    Ok(None)
 }
 
 #[test]
-fn too_many_headers_come_before_a_cut_table(rt: HostRuntime) -> Result<(), Fail> {
-    let mut file = FILE[..64].to_vec(rt.alloc())?;
-    assert_eq!(rt; file.len(), 64);
-    file[56] = 65;
-    assert_eq!(rt; fault_in(&rt, &file), 6);
+fn contents_of_headers(rt: HostRuntime) -> Result<(), Fail> {
+    assert_eq!(rt; wrong_content(rt.alloc())?, None);
     Ok(())
 }
 
-/// The file with its header twice, the second for a segment of 8 bytes at this place of the page.
-fn with_two_segments(alloc: Global, place: u8) -> Result<Vec<u8>, Fail> {
-    let mut file = FILE[..120].to_vec(alloc)?;
-    file.extend_from_slice(&FILE[64..120])?;
-    for (at, value) in [(56, 2), (136, place), (152, 8), (160, 8)] {
-        if let Some(byte) = file.get_mut(at) {
-            *byte = value;
-        }
-    }
-    Ok(file)
+/// The fault of the file with its header twice, the second for a segment of 8 bytes at this place of the page.
+fn fault_of_two(alloc: Global, place: u8) -> Result<u8, AllocError> {
+    let mut file = changed(alloc, 120, &[(56, 2)])?;
+    let second = changed(alloc, 120, &[(80, place), (96, 8), (104, 8)])?;
+    file.extend_from_slice(second.get(64..).unwrap_or(&[]))?;
+    let (number, _) = refusal(alloc, file.as_slice());
+    Ok(number)
+}
+
+fn faults_of_two(alloc: Global) -> Result<[u8; 2], AllocError> {
+    Ok([fault_of_two(alloc, 0x9e)?, fault_of_two(alloc, 0x9f)?])
 }
 
 #[test]
 fn segments_share_pages_but_no_byte(rt: HostRuntime) -> Result<(), Fail> {
-    for (place, wanted) in [(0x9e, 5), (0x9f, 0)] {
-        let file = with_two_segments(rt.alloc(), place)?;
-        assert_eq!(rt; fault_in(&rt, &file), wanted, "at {place}");
-    }
+    assert_eq!(rt; faults_of_two(rt.alloc())?, [5, 0]);
     Ok(())
 }
 
-/// Each segment is the whole file, to be read and executed.
-fn has_the_file(image: &Image) -> bool {
+/// The entry is that of the file, and the only segment is the file at 0x10000, to be read and executed.
+fn is_of_the_file(image: &Image) -> bool {
     let rights = Rights {
         read: true,
         write: false,
         execute: true,
     };
-    image.segments.as_slice().iter().all(|segment| segment.bytes.as_slice() == FILE.as_slice()
-        && segment.rights == rights)
+    match image.segments.as_slice() {
+        [segment] => {
+            (image.entry, segment.address, segment.size) == (0x10078, 0x10000, 159)
+                && segment.rights == rights
+                && segment.bytes.as_slice() == first(159)
+        }
+        _ => false,
+    }
 }
 
-/// What the image of a file says, and whether it has the file.
-fn seen(
-    alloc: Global,
-    file: &[u8],
-) -> Result<((u64, usize, Option<(u64, u64, usize)>), bool), Fail> {
-    let image = read(alloc, file)?;
-    let seen = (outline(&image), has_the_file(&image));
-    drop(image);
-    Ok(seen)
+/// The file is read as what it is.
+fn is_read(alloc: Global, file: &[u8]) -> bool {
+    match read(alloc, file) {
+        Ok(image) => {
+            let is_so = is_of_the_file(&image);
+            drop(image);
+            is_so
+        }
+        Err(_) => false,
+    }
 }
 
+/// The file of the file's image.
 fn written(alloc: Global) -> Result<Vec<u8>, Fail> {
-    let image = read(alloc, &FILE)?;
+    let image = read(alloc, first(159))?;
     let written = write(alloc, &image);
     drop(image);
     Ok(written?)
 }
 
+/// What is written of the file's image is as long as a header, a program header and the file, and is read as the file is.
+fn is_written(alloc: Global) -> Result<bool, Fail> {
+    let written = written(alloc)?;
+    Ok(written.len() == 64 + 56 + 159 && is_read(alloc, written.as_slice()))
+}
+
 #[test]
 fn a_file_is_read_and_written(rt: HostRuntime) -> Result<(), Fail> {
-    let wanted = ((0x10078, 1, Some((0x10000, 159, 159))), true);
-    assert_eq!(rt; seen(rt.alloc(), &FILE)?, wanted);
-    let written = written(rt.alloc())?;
-    assert_eq!(rt; written.len(), 64 + 56 + 159);
-    assert_eq!(rt; seen(rt.alloc(), written.as_slice())?, wanted);
+    assert!(rt; is_read(rt.alloc(), first(159)));
+    assert!(rt; is_written(rt.alloc())?);
     Ok(())
 }
