@@ -1,8 +1,8 @@
 """What the suites of tests/ share: the programs that they are given, which rows are run, and how each row ended.
 
-A suite asks `chosen` of a row's words before it runs the row, then says `passed`, `failed` or `skipped`, and at its last
-`end`s. ONLY in the environment is what tests/run --only sets: the rows are run alone whose words have that text. ROWS names
-a file that gets a line of JSON a row, for tests/run, and UPDATE one that gets a patch of expected texts.
+A suite asks `chosen` of a row's words before it runs the row, then says `passed`, `failed` or `skipped`, and at its
+last `end`s. ONLY in the environment is what tests/run --only sets: the rows are run alone whose words have that text.
+ROWS names a file that gets a line of JSON a row, for tests/run, and UPDATE one that gets a patch of expected texts.
 """
 import difflib
 import json
@@ -31,8 +31,8 @@ last = time.monotonic()
 
 
 def hear_signals():
-    """Suites end programs by signals, which nohup, or a shell that runs a suite beside itself, has them ignore: programs
-    would inherit that."""
+    """Suites end programs by signals, which nohup, or a shell that runs a suite beside itself, has them ignore:
+    programs would inherit that."""
     for number in signal.valid_signals() - {signal.SIGPIPE, signal.SIGXFSZ}:
         if signal.getsignal(number) == signal.SIG_IGN:
             signal.signal(number, signal.default_int_handler if number == signal.SIGINT else signal.SIG_DFL)
