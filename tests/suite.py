@@ -16,7 +16,7 @@ import time
 # No suite leaves anything beside the scripts.
 sys.dont_write_bytecode = True
 TOP = os.path.dirname(os.path.dirname(os.path.abspath(__file__)))
-NAME = os.environ.get("SUITE") or os.path.basename(sys.argv[0])
+NAME = os.path.basename(sys.argv[0])
 ONLY = os.environ.get("ONLY", "")
 ROWS = os.environ.get("ROWS")
 UPDATE = os.environ.get("UPDATE")
@@ -51,7 +51,7 @@ def built(*names):
 def programs(*names, given=None):
     """The paths of programs by their names: those of a suite's words, in order, or each where it was built last."""
     given = sys.argv[1:] if given is None else given
-    if len(given) not in (0, len(names)):
+    if len(given) not in (0, len(names)) or any(it.startswith("-") for it in given):
         sys.exit(sys.modules["__main__"].__doc__)
     return dict(zip(names, map(os.path.abspath, given or built(*names))))
 
