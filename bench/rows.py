@@ -3,9 +3,9 @@
 
     NAME TAB VALUE TAB UNIT
 
-STRACE_CLI, GUEST_HOST and STRACE_SWEEP in the environment name programs; else they are those that make build leaves. Run as
-a script, it reads what a program of a folder prints, `NAME N ns` or `NAME: N in N us` under heads such as `N pages`, and prints
-it in this form: bench/rows.py [PREFIX].
+STRACE_CLI, GUEST_HOST and STRACE_SWEEP in the environment name programs; else they are those that make build leaves.
+Run as a script, it reads what a program of a folder prints, `NAME N ns` or `NAME: N in N us` under heads such as `N
+pages`, and prints it in this form: bench/rows.py [PREFIX].
 """
 import os
 import re

@@ -1,8 +1,8 @@
 """What the suites of tests/ share: the programs that they are given, which rows are run, and how each row ended.
 
-A suite asks `chosen` of a row's words before it runs the row, then says `passed`, `failed` or `skipped`, and at its last
-`end`s. ONLY in the environment is what tests/run --only sets: the rows are run alone whose words have that text. ROWS names
-a file that gets a line of JSON a row, for tests/run, and UPDATE one that gets a patch of expected texts.
+A suite asks `chosen` of a row's words before it runs the row, then says `passed`, `failed` or `skipped`, and at its
+last `end`s. ONLY in the environment is what tests/run --only sets: the rows are run alone whose words have that text.
+ROWS names a file that gets a line of JSON a row, for tests/run, and UPDATE one that gets a patch of expected texts.
 """
 import difflib
 import json
@@ -16,7 +16,7 @@ import time
 # No suite leaves anything beside the scripts.
 sys.dont_write_bytecode = True
 TOP = os.path.dirname(os.path.dirname(os.path.abspath(__file__)))
-NAME = os.environ.get("SUITE") or os.path.basename(sys.argv[0])
+NAME = os.path.basename(sys.argv[0])
 ONLY = os.environ.get("ONLY", "")
 ROWS = os.environ.get("ROWS")
 UPDATE = os.environ.get("UPDATE")
@@ -31,8 +31,8 @@ last = time.monotonic()
 
 
 def hear_signals():
-    """Suites end programs by signals, which nohup, or a shell that runs a suite beside itself, has them ignore: programs
-    would inherit that."""
+    """Suites end programs by signals, which nohup, or a shell that runs a suite beside itself, has them ignore:
+    programs would inherit that."""
     for number in signal.valid_signals() - {signal.SIGPIPE, signal.SIGXFSZ}:
         if signal.getsignal(number) == signal.SIG_IGN:
             signal.signal(number, signal.default_int_handler if number == signal.SIGINT else signal.SIG_DFL)
@@ -51,7 +51,7 @@ def built(*names):
 def programs(*names, given=None):
     """The paths of programs by their names: those of a suite's words, in order, or each where it was built last."""
     given = sys.argv[1:] if given is None else given
-    if len(given) not in (0, len(names)):
+    if len(given) not in (0, len(names)) or any(it.startswith("-") for it in given):
         sys.exit(sys.modules["__main__"].__doc__)
     return dict(zip(names, map(os.path.abspath, given or built(*names))))
 
