@@ -1,16 +1,19 @@
 # Completion of strace_cli, strace_sweep and guest_host for fish: put it into ~/.config/fish/completions, under each name.
 # Written by completions/make.
-set -g __girmolet_calls all none %file %desc %process %signal %memory brk chdir clone close dup dup3 execve exit exit_group fstat ftruncate getcwd getpid getppid gettid kill lseek mkdirat mmap munmap newfstatat openat pipe2 read rt_sigaction rt_sigprocmask rt_sigreturn sched_yield unlinkat wait4 write
+set -g __girmolet_names brk chdir clone close dup dup3 execve exit exit_group fstat ftruncate getcwd getpid getppid gettid kill lseek mkdirat mmap munmap newfstatat openat pipe2 read rt_sigaction rt_sigprocmask rt_sigreturn sched_yield unlinkat wait4 write
+set -g __girmolet_calls all none %file %desc %process %signal %memory $__girmolet_names
 set -g __girmolet_errors E2BIG EACCES EADDRINUSE EADDRNOTAVAIL EADV EAFNOSUPPORT EAGAIN EALREADY EBADE EBADF EBADFD EBADMSG EBADR EBADRQC EBADSLT EBFONT EBUSY ECANCELED ECHILD ECHRNG ECOMM ECONNABORTED ECONNREFUSED ECONNRESET EDEADLK EDEADLOCK EDESTADDRREQ EDOM EDOTDOT EDQUOT EEXIST EFAULT EFBIG EHOSTDOWN EHOSTUNREACH EHWPOISON EIDRM EILSEQ EINPROGRESS EINTR EINVAL EIO EISCONN EISDIR EISNAM EKEYEXPIRED EKEYREJECTED EKEYREVOKED EL2HLT EL2NSYNC EL3HLT EL3RST ELIBACC ELIBBAD ELIBEXEC ELIBMAX ELIBSCN ELNRNG ELOOP EMEDIUMTYPE EMFILE EMLINK EMSGSIZE EMULTIHOP ENAMETOOLONG ENAVAIL ENETDOWN ENETRESET ENETUNREACH ENFILE ENOANO ENOBUFS ENOCSI ENODATA ENODEV ENOENT ENOEXEC ENOKEY ENOLCK ENOLINK ENOMEDIUM ENOMEM ENOMSG ENONET ENOPKG ENOPROTOOPT ENOSPC ENOSR ENOSTR ENOSYS ENOTBLK ENOTCONN ENOTDIR ENOTEMPTY ENOTNAM ENOTRECOVERABLE ENOTSOCK ENOTSUP ENOTTY ENOTUNIQ ENXIO EOPNOTSUPP EOVERFLOW EOWNERDEAD EPERM EPFNOSUPPORT EPIPE EPROTO EPROTONOSUPPORT EPROTOTYPE ERANGE EREMCHG EREMOTE EREMOTEIO ERESTART ERFKILL EROFS ESHUTDOWN ESOCKTNOSUPPORT ESPIPE ESRCH ESRMNT ESTALE ESTRPIPE ETIME ETIMEDOUT ETOOMANYREFS ETXTBSY EUCLEAN EUNATCH EUSERS EWOULDBLOCK EXDEV EXFULL
 set -g __girmolet_signals HUP INT QUIT ILL TRAP ABRT BUS FPE KILL USR1 SEGV USR2 PIPE ALRM TERM STKFLT CHLD CONT STOP TSTP TTIN TTOU URG XCPU XFSZ VTALRM PROF WINCH IO PWR SYS
+
+# The value under way: without the option that stands in the same word, and without a quote that begins it.
+function __girmolet_value
+    commandline -ct | string replace -r '^["\']' '' | string replace -r '^--[a-z-]+=["\']?' ''
+end
 
 # Candidates for an expression, of this qualifier or with its own.
 function __girmolet_expression
     set -l option ''
-    set -l word (commandline -ct)
-    if string match -qr '^--[a-z]+=' -- $word
-        set word (string replace -r '^--[a-z]+=' '' -- $word)
-    end
+    set -l word (__girmolet_value)
     if test -n "$argv[1]"
         set option $argv[1]=
     end
@@ -37,10 +40,7 @@ end
 # Candidates for an expression of a sweep, of this qualifier or with its own.
 function __girmolet_faults
     set -l option ''
-    set -l word (commandline -ct)
-    if string match -qr '^--[a-z]+=' -- $word
-        set word (string replace -r '^--[a-z]+=' '' -- $word)
-    end
+    set -l word (__girmolet_value)
     if test -n "$argv[1]"
         set option $argv[1]=
     end
@@ -58,10 +58,27 @@ end
 
 # The path of the guest stays before the path of the file.
 function __girmolet_file
-    set -l word (commandline -ct)
+    set -l word (__girmolet_value)
     if string match -q '*=*' -- $word
         set -l guest (string replace -r '=.*' '=' -- $word)
         printf '%s\n' $guest(__fish_complete_path (string replace -r '^[^=]*=' '' -- $word))
+    end
+end
+
+# A row of --show: a call, and then what happens there.
+function __girmolet_row
+    set -l word (__girmolet_value)
+    set -l before (string match -r '^(?:.*\+)?' -- $word)
+    set -l rest (string replace -r '^.*\+' '' -- $word)
+    if string match -q '*:*:*' -- $rest
+        return
+    else if string match -q '*:*' -- $rest
+        set before $before(string replace -r ':.*' ':' -- $rest)
+        printf '%s
+' $before{$__girmolet_errors,stop,kill,full,broken,read-only,no-files,no-memory}: $before'short='
+    else
+        printf '%s
+' $before$__girmolet_names:
     end
 end
 
@@ -69,8 +86,8 @@ end
 function __girmolet_guests
     set -l before
     for word in (commandline -opc)
-        if test "$before" = --file
-            string replace -r '=.*' '' -- $word
+        if test "$before" = --file; or string match -q -- '--file=*' $word
+            string replace -r '^--file=' '' -- $word | string replace -r '=.*' ''
         end
         set before $word
     end
@@ -123,7 +140,7 @@ complete -c strace_sweep -l then -x -d 'Starts this program on the files that st
 complete -c strace_sweep -l strict -d 'Takes runs that were damaged or warned for findings too'
 complete -c strace_sweep -l cases -r -F -d 'Sweeps a case a line: its name, its input as <PATH, further options, and further words behind --'
 complete -c strace_sweep -l runs -r -F -d 'Makes those runs alone that this file names, a line each, as write:EIO:2'
-complete -c strace_sweep -l show -x -d 'Shows one run as strace shows it, as write:EIO:2, and what it leaves'
+complete -c strace_sweep -l show -x -a '(__girmolet_row)' -d 'Shows one run as strace shows it, as write:EIO:2, and what it leaves'
 complete -c strace_sweep -l jobs -x -d 'Makes the runs on N threads, 1 to 8'
 complete -c strace_sweep -l limit -x -d 'Ends each run after N turns'
 complete -c strace_sweep -l explain -d 'Explains faults in further lines, as at a terminal'
