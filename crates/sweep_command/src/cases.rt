@@ -117,7 +117,7 @@ fn sweep_case<
         writer,
         err,
     )?;
-    tell_nothing(alloc, status, &begun.reference, err)?;
+    tell_nothing(alloc, status, &begun.plan, &begun.reference, err)?;
     Ok(status)
 }
 

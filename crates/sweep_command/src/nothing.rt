@@ -5,6 +5,7 @@ ghost use Rattle.sweep_runs.specs.Cases.{cases_of};
 ghost use Rattle.sweep_command.specs.Naming.{listed};
 
 use crate::naming::listed;
+use front_end::Shown;
 use lx_abi::Item;
 use lx_abi::calls::call_name;
 use std::alloc::{AllocError, Global};
@@ -62,19 +63,29 @@ fn names_of(alloc: Global, log: &[Item]) -> Result<String, AllocError> {
     Ok(text)
 }
 
+/// The name of a sweep's case, where it is one's, as it stands before what is said of it.
+fn case_text(alloc: Global, plan: &Plan) -> Result<String, AllocError> {
+    match plan.case.as_ref() {
+        Some(name) => format!(in alloc; "{}: ", Shown(name.as_str())),
+        None => Ok(String::new(alloc)),
+    }
+}
+
 /// That a sweep of this status tried nothing, where it is so, and what its program calls, on `err`.
 pub fn tell_nothing<E: Write>(
     alloc: Global,
     status: u8,
+    plan: &Plan,
     reference: &Reached,
     err: &mut E,
 ) -> Result<(), AllocError> {
     if status == NOTHING {
+        let case = case_text(alloc, plan)?;
         let names = names_of(alloc, reference.log.as_slice()?)?;
         // The status says it too, whether this can be written or not.
         let _written = writeln!(
             err,
-            "strace_sweep: nothing is tried; the program calls {names}"
+            "strace_sweep: {case}nothing is tried; the program calls {names}"
         );
     }
     Ok(())

@@ -492,6 +492,6 @@ pub fn sweep<
     let (plan, reference) = (&begun.plan, &begun.reference);
     let status = report_where(rt, matches, words, plan, reference, &mut found, out, err)?;
     finish_known(rt, matches, begun.plan.known.as_slice(), found, err)?;
-    tell_nothing(rt.alloc(), status, reference, err)?;
+    tell_nothing(rt.alloc(), status, plan, reference, err)?;
     Ok(status)
 }
