@@ -2,8 +2,8 @@ use Rattle.std.proofs.Common.{rules, ◌≡◌, List, ◌++◌, sym, subst}
 use denote.Param.Send.{IsSend, sendable, param_send}
 use Rattle.std.proofs.alloc.Global.TheSendSync as heap
 use Rattle.sweep_rows.proofs.verdicts.Reached.TheSendSync as reached
-use Rattle.sweep_runs.proofs.chosen.Case.TheSendSync as case
-use Rattle.sweep_runs.proofs.runs.Setup.TheSendSync as setup
+use Rattle.sweep_rows.proofs.wanted.Case.TheSendSync as case
+use Rattle.sweep_rows.proofs.setup.Setup.TheSendSync as setup
 use Rattle.sweep_runs.specs.Rows.{AreRows}
 use Rattle.sweep_rows.specs.declared.wanted.Case.{Case}
 use Rattle.sweep_rows.specs.declared.row.Row.{Row}
