@@ -10,21 +10,26 @@ const NONE: Rights = Rights {
     execute: false,
 };
 
-const READ: Rights = Rights { read: true, ..NONE };
+pub(crate) const READ: Rights = Rights { read: true, ..NONE };
 
-const READ_WRITE: Rights = Rights {
+pub(crate) const READ_WRITE: Rights = Rights {
     write: true,
     ..READ
 };
 
-const EXECUTE: Rights = Rights {
+pub(crate) const EXECUTE: Rights = Rights {
     execute: true,
     ..NONE
 };
 
 // The calls again without what they promise, so that a test may make many.
 
-fn map(space: &mut Space, first: u16, pages: u16, rights: Rights) -> Result<(), MemFault> {
+pub(crate) fn map(
+    space: &mut Space,
+    first: u16,
+    pages: u16,
+    rights: Rights,
+) -> Result<(), MemFault> {
     space.map(4096 * u64::from(first), u64::from(pages), rights)
 }
 
@@ -57,7 +62,7 @@ fn fill(
     }
 }
 
-fn load(space: &mut Space, address: u64, bytes: &[u8]) -> Result<(), MemFault> {
+pub(crate) fn load(space: &mut Space, address: u64, bytes: &[u8]) -> Result<(), MemFault> {
     space.load(address, bytes)
 }
 
