@@ -2,12 +2,12 @@
 
 ghost use Rattle.std.specs.Prelude.{◌≡◌, ◌==◌, IfOk};
 ghost use Rattle.std.specs.List.{list_any};
-ghost use Rattle.sweep_command.specs.Reports.{AreOfSweeps, IsOfCases, IsOfSweep, cases_status};
+ghost use Rattle.sweep_command.specs.Reports.{AreOfSweeps, IsOfCases, IsOfReport, IsOfSweep, cases_status};
 
 use crate::knowing::finish_known;
 use crate::nothing::{NOTHING, tell_nothing};
 use crate::outputs::{create, path_of, replace, write};
-use crate::sweeping::{begin, report, words_at};
+use crate::sweeping::{Begun, begin, report, words_at};
 use clap::ArgMatches;
 use front_end::{Fault, Shown};
 use std::alloc::Global;
@@ -82,6 +82,31 @@ fn parse_case<'a>(alloc: Global, words: &'a [String]) -> Result<ArgMatches<'a>, 
     }
 }
 
+/// Reports on a case that has begun, and adds the lines of its findings; gives its status.
+fn report_case<
+    R: Env + Files + Clock + Processes + Threads + Sync + AllocGlobal,
+    W: Write,
+    E: Write + IsTerminal,
+>(
+    rt: &R,
+    matches: &ArgMatches,
+    words: Words,
+    begun: &Begun,
+    case: &NamedCase,
+    found: &mut Vec<String>,
+    writer: &mut W,
+    err: &mut E,
+) -> Result<u8, Fault>
+    ensures { IfOk result (IsOfReport begun.now.plan words begun.now.reference) }
+{
+    let alloc = rt.alloc();
+    let (plan, reference) = (&begun.plan, &begun.reference);
+    write(alloc, heading(alloc, words.format, case)?.as_str(), writer)?;
+    let status = report(rt, matches, words, plan, reference, found, writer, err)?;
+    tell_nothing(alloc, status, plan, reference, err)?;
+    Ok(status)
+}
+
 /// Sweeps a case, by words in which `all` stand too, and adds the lines of its findings; gives its status.
 fn sweep_case<
     R: Env + Files + Clock + Processes + Threads + Sync + AllocGlobal,
@@ -106,19 +131,14 @@ fn sweep_case<
     let mut input = input_of(rt, case)?;
     let name = String::from_str(alloc, case.name.as_str())?;
     let begun = begin(rt, &matches, words, Some(name), explained, &mut input, err)?;
-    write(alloc, heading(alloc, words.format, case)?.as_str(), writer)?;
-    let status = report(
-        rt,
-        &matches,
-        words,
-        &begun.plan,
-        &begun.reference,
-        found,
-        writer,
-        err,
-    )?;
-    tell_nothing(alloc, status, &begun.plan, &begun.reference, err)?;
-    Ok(status)
+    drop(input);
+    match report_case(rt, &matches, words, &begun, case, found, writer, err) {
+        Ok(status) => Ok(status),
+        Err(fault) => {
+            drop(begun);
+            Err(fault)
+        }
+    }
 }
 
 /// Tells in which case there is a fault.
