@@ -13,6 +13,6 @@ returns g c = record {
       subst (λ (rs : List TriedRow). c.status_if.result ≡ cond (nat_lt 0 (length rs)) (status_of c.args.plan.now.strict (verdicts_of rs)) 5)
       c.as_slice-rows.ensures.value
       (c.status_if.ensures
-      ∙ (ap (λ tries. cond tries c.in_ok-status.status 5) (c.is_some.ensures ∙ ap (λ n. nat_lt 0 n) c.len.ensures)
+      ∙ (ap (λ tries. cond tries c.in_ok-status.status 5) c.is_some.ensures
       ∙ ap (λ s. cond (nat_lt 0 (length c.as_slice-rows.result.now)) s 5) c.in_ok-status.ensures));
 }
